@@ -1,0 +1,2 @@
+pub mod SigningLemmas
+pub mod SealingLemmas

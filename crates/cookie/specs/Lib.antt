@@ -1,0 +1,4 @@
+pub mod Key
+pub mod Base64
+pub mod Signing
+pub mod Sealing

@@ -1,0 +1,21 @@
+-- The text of a sealed value: AES-256-GCM (SP 800-38D) with a nonce of 12 bytes and a tag of 16, the cookie's name as
+-- the additional data, and the base64 of nonce, ciphertext and tag.
+use Rattle.std.specs.Prelude.{◌≡◌, ℕ, List, ◌++◌, length}
+use Rattle.seal.specs.Gcm.{Sealed}
+use Rattle.cookie.specs.Key.{encryption_half}
+use Rattle.cookie.specs.Base64.{IsBase64}
+
+-- the bytes are nonce, ciphertext and tag of the value, sealed under the half of the key that encrypts
+pub record IsSealedAs (key name value nonce bytes : List ℕ) : Type 0 where
+  pub ciphertext : List ℕ
+  pub tag : List ℕ
+  pub sealed : Sealed (encryption_half key) nonce name value ciphertext tag
+  pub bytes_are : bytes ≡ nonce ++ (ciphertext ++ tag)
+
+-- text is the sealing of the value under the nonce
+abbrev pub IsSealingUnder : List ℕ → List ℕ → List ℕ → List ℕ → List ℕ → Type 0
+IsSealingUnder key name value nonce text = (bytes : List ℕ) × IsSealedAs key name value nonce bytes × IsBase64 bytes text
+
+-- text is a sealing of the value: the one under some nonce of 12 bytes
+abbrev pub IsSealing : List ℕ → List ℕ → List ℕ → List ℕ → Type 0
+IsSealing key name value text = (nonce : List ℕ) × (length nonce ≡ 12) × IsSealingUnder key name value nonce text

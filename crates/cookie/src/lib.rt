@@ -1,0 +1,16 @@
+//! HTTP cookies (RFC 6265): the record, its reader and its printer, keys, and the texts of signed and
+//! of sealed values.
+//!
+//! ```
+//! let key = Key::try_from(&bytes)?;
+//! let text = signed_text(alloc, &key, "value")?;
+//! assert_eq!(verified_value(&key, &text), Some("value"));
+//! ```
+#![tactic(auto)]
+
+pub mod secure;
+
+pub use cookie_text::{
+    Cookie, CookieBuilder, Display, Expiration, ParseError, SameSite, SplitCookies,
+};
+pub use secure::{Key, KeyError, PrivateError};

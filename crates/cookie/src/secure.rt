@@ -1,0 +1,12 @@
+//! Keys, and what the signed and the private jars write.
+
+mod encoding;
+mod key;
+mod private_error;
+mod sealing;
+mod signing;
+
+pub use key::{Key, KeyError};
+pub use private_error::PrivateError;
+pub use sealing::{is_sealable, nonce, opened_value, sealed_by, sealed_text};
+pub use signing::{signed_text, verified_value};

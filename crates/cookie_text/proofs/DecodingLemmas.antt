@@ -1,0 +1,48 @@
+-- Reading with percent-decoding goes on after the first piece.
+use Rattle.std.proofs.Common.{◌≡◌, ℕ, ◌<◌, ◌==◌, length, Result, Ok, List, refl, sym, subst, ◌∙◌}
+use Rattle.std.specs.List.{after_first, position_or_len}
+use Rattle.std.proofs.lemmas.Result.{IfOk-weaker}
+use Rattle.cookie_text.specs.declared.error.ParseError.{ParseError}
+use Rattle.cookie_text.specs.Pieces.{pieces, semicolon}
+use Rattle.cookie_text.specs.Record.{Seen}
+use Rattle.cookie_text.specs.Reading.{ReadsFurther, first_piece}
+use Rattle.cookie_text.specs.Decoding.{IsDecoded, ReadsFirstEncoded, ReadsEncoded}
+use Rattle.cookie_text.proofs.ReadingLemmas.{rest_of, no_rest, one_piece, not_empty}
+
+-- attributes change nothing of what was decoded
+IsDecoded-further : (before after : List ℕ) (ps : List (List ℕ)) (s t : Seen) → IsDecoded before after s → ReadsFurther ps s t → IsDecoded before after t
+IsDecoded-further before after ps s t h f = record {
+  name = f.name ∙ h.name;
+  value = f.value ∙ h.value;
+  kept = λ same. let k = h.kept same in (f.name_raw ∙ k.0, f.value_raw ∙ k.1);
+  changed = λ other. let k = h.changed other in (f.name_raw ∙ k.0, f.value_raw ∙ k.1);
+}
+
+pub ReadsEncoded-further : (text first rest : List ℕ) (s t : Seen) → position_or_len (λ b. b == semicolon) text < length text → first ≡ first_piece text → rest ≡ after_first (λ b. b == semicolon) text → ReadsFirstEncoded first (Ok s) → ReadsFurther (pieces rest) s t → ReadsEncoded text (Ok t)
+ReadsEncoded-further text first rest s t holds is_first is_rest h f =
+    let k = subst (λ p. ReadsFirstEncoded p (Ok s)) is_first h in
+    let pair = k.accepted refl in
+    record {
+      accepted = λ _. pair;
+      owed = λ p u. tt;
+      decoded = IsDecoded-further _ _ (pieces rest) s t k.decoded f;
+      attributes = rest_of text first rest t.cookie holds is_rest f.attributes;
+      sliced = f.sliced;
+      missing_pair = (λ e. cc, λ no. absurd (no pair.0.0));
+      empty_name = (λ e. cc, λ both. absurd (not_empty _ pair.0.1 both.1));
+      utf8_error = λ e. cc;
+    }
+
+pub ReadsEncoded-whole : (text : List ℕ) (r : Result Seen ParseError) → position_or_len (λ b. b == semicolon) text ≡ length text → ReadsFirstEncoded text r → ReadsEncoded text r
+ReadsEncoded-whole text r none h =
+    let k = subst (λ p. ReadsFirstEncoded p r) (sym (one_piece text none)) h in
+    record {
+      accepted = k.accepted;
+      owed = k.owed;
+      decoded = k.decoded;
+      attributes = IfOk-weaker r _ _ (λ s a. no_rest text s.cookie none a) k.attributes;
+      sliced = k.sliced;
+      missing_pair = k.missing_pair;
+      empty_name = k.empty_name;
+      utf8_error = k.utf8_error;
+    }

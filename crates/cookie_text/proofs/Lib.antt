@@ -1,0 +1,17 @@
+pub mod DateNumbers
+pub mod DateLemmas
+pub mod DecodingLemmas
+pub mod ExpiryLemmas
+pub mod PieceLemmas
+pub mod AttributeLemmas
+pub mod ReadingLemmas
+pub mod SameLemmas
+pub mod SplittingLemmas
+pub mod PrintedDates
+pub mod PrintedPieces
+pub mod NormalLemmas
+pub mod PrintedAttributes
+pub mod PrintedCookies
+pub mod UniqueLemmas
+pub mod ReadsBack
+pub mod PairsBack

@@ -1,0 +1,170 @@
+//! A cookie that is being built.
+ghost use Rattle.std.specs.Prelude.{◌≡◌, Some, IfOk};
+ghost use Rattle.jiff.specs.Words.{signed_nanos};
+ghost use Rattle.cookie_text.specs.Printing.{printed};
+ghost use Rattle.cookie_text.specs.Record.{bare, unsliced};
+ghost use Rattle.cookie_text.specs.Setting as spec;
+
+use crate::cookie::Cookie;
+use crate::draft::SameSite;
+use crate::expiration::Expiration;
+use jiff::SignedDuration;
+use jiff::civil::DateTime;
+use std::alloc::{AllocError, Global};
+use std::fmt;
+use std::marker::Model;
+
+/// A cookie that is being built, attribute by attribute. It prints as its cookie does.
+#[derive(Debug, Drop)]
+pub struct CookieBuilder<'c> {
+    cookie: Cookie<'c>,
+}
+
+impl<'c> Model for CookieBuilder<'c> {
+    ghost use Rattle.cookie_text.specs.Record.{Seen};
+
+    ghost Value = { Seen };
+
+    ghost view = { λ b. b.cookie };
+}
+
+impl<'c> CookieBuilder<'c> {
+    /// Starts from a cookie of this name and value, with no attribute.
+    pub fn new(name: &'c str, value: &'c str) -> CookieBuilder<'c>
+        ensures { result ≡ unsliced (bare name.now value.now) }
+    {
+        CookieBuilder::from_cookie(Cookie::new(name, value))
+    }
+
+    // Starts from this cookie.
+    pub(crate) fn from_cookie(cookie: Cookie<'c>) -> CookieBuilder<'c>
+        ensures { result ≡ cookie.entry }
+    {
+        CookieBuilder { cookie }
+    }
+
+    /// Sets when the cookie ends; a moment after 9999-12-31T23:59:59.999999 counts as that one.
+    pub fn expires(mut self, when: Expiration) -> CookieBuilder<'c>
+        ensures { spec.SetsExpires self.entry when result }
+    {
+        self.cookie.set_expires(when);
+        self
+    }
+
+    /// Sets how long the cookie lives.
+    pub fn max_age(mut self, value: SignedDuration) -> CookieBuilder<'c>
+        ensures { result ≡ spec.with_max_age self.entry (Some (signed_nanos value)) }
+    {
+        self.cookie.set_max_age(Some(value));
+        self
+    }
+
+    /// Sets the domain.
+    pub fn domain(mut self, value: &'c str) -> CookieBuilder<'c>
+        ensures { result ≡ spec.with_domain self.entry (Some value.now) }
+    {
+        self.cookie.set_domain(value);
+        self
+    }
+
+    /// Sets the path.
+    pub fn path(mut self, value: &'c str) -> CookieBuilder<'c>
+        ensures { result ≡ spec.with_path self.entry (Some value.now) }
+    {
+        self.cookie.set_path(value);
+        self
+    }
+
+    /// Sets whether the cookie is for secure requests alone.
+    pub fn secure(mut self, value: bool) -> CookieBuilder<'c>
+        ensures { result ≡ spec.with_secure self.entry (Some value) }
+    {
+        self.cookie.set_secure(Some(value));
+        self
+    }
+
+    /// Sets whether scripts are to be kept from the cookie.
+    pub fn http_only(mut self, value: bool) -> CookieBuilder<'c>
+        ensures { result ≡ spec.with_http_only self.entry (Some value) }
+    {
+        self.cookie.set_http_only(Some(value));
+        self
+    }
+
+    /// Sets which requests from other sites carry the cookie.
+    pub fn same_site(mut self, value: SameSite) -> CookieBuilder<'c>
+        ensures { result ≡ spec.with_same_site self.entry (Some value) }
+    {
+        self.cookie.set_same_site(Some(value));
+        self
+    }
+
+    /// Sets whether the cookie is kept apart for each top-level site.
+    pub fn partitioned(mut self, value: bool) -> CookieBuilder<'c>
+        ensures { result ≡ spec.with_partitioned self.entry (Some value) }
+    {
+        self.cookie.set_partitioned(Some(value));
+        self
+    }
+
+    /// Makes the cookie live for twenty years of 365 days from `now` on.
+    pub fn permanent(mut self, now: DateTime) -> CookieBuilder<'c>
+        ensures { spec.MakesPermanent self.entry now result }
+    {
+        self.cookie.make_permanent(now);
+        self
+    }
+
+    /// Makes the cookie one that takes a cookie of its name out of a client.
+    pub fn removal(mut self, now: DateTime) -> CookieBuilder<'c>
+        ensures { spec.MakesRemoval self.entry now result }
+    {
+        self.cookie.make_removal(now);
+        self
+    }
+
+    /// The cookie so far.
+    pub fn inner(&self) -> &Cookie<'c>
+        ensures { result.now ≡ self.now }
+    {
+        &self.cookie
+    }
+
+    /// The cookie so far, to be changed.
+    pub fn inner_mut(&mut self) -> &mut Cookie<'c>
+        ensures { result.now ≡ self.old }
+    {
+        &mut self.cookie
+    }
+
+    /// The cookie.
+    pub fn build(self) -> Cookie<'c>
+        ensures { result ≡ self.entry }
+    {
+        let CookieBuilder { cookie } = self;
+        cookie
+    }
+
+    /// The cookie, as `build` gives it.
+    pub fn finish(self) -> Cookie<'c>
+        ensures { result ≡ self.entry }
+    {
+        self.build()
+    }
+
+    /// A copy.
+    pub fn clone(&self, alloc: Global) -> Result<CookieBuilder<'c>, AllocError>
+        ensures { IfOk result (λ builder. builder ≡ self.now) }
+    {
+        Ok(CookieBuilder::from_cookie(self.cookie.clone(alloc)?))
+    }
+}
+
+impl fmt::Display for CookieBuilder<'_> {
+    ghost output = { λ b. Some (printed b.cookie) };
+
+    fn fmt<W: fmt::Write>(&self, f: &mut fmt::Formatter<W>) -> fmt::Result {
+        let cookie = &self.cookie;
+        write!(f, "{cookie}")
+    }
+}

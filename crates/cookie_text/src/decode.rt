@@ -1,0 +1,47 @@
+//! Percent-decoding of name and value (RFC 3986, section 2.1).
+ghost use Rattle.std.specs.Prelude.{◌≡◌, Some, None, option_map, unwrap_or, string_bytes};
+ghost use Rattle.cookie_text.specs.PartText.{part_text, raw_text};
+ghost use Rattle.cookie_text.specs.Decoding.{Decodes, DecodesPair};
+
+use crate::error::ParseError;
+use crate::part::Part;
+use percent_encoding::{DecodeError, percent_decode};
+use std::alloc::Global;
+
+/// Name and value percent-decoded: the slices themselves where that changes neither.
+pub fn decoded_pair<'c>(
+    alloc: Global,
+    name: &'c str,
+    value: &'c str,
+) -> Result<(Part<'c>, Part<'c>), ParseError>
+    ensures { DecodesPair name.now value.now result }
+{
+    let decoded_name = decoded(alloc, name)?;
+    let decoded_value = decoded(alloc, value)?;
+    match (decoded_name, decoded_value) {
+        (None, None) => Ok((Part::Source(name), Part::Source(value))),
+        (Some(decoded_name), None) => Ok((Part::Own(decoded_name), Part::Given(value))),
+        (None, Some(decoded_value)) => Ok((Part::Given(name), Part::Own(decoded_value))),
+        (Some(decoded_name), Some(decoded_value)) => {
+            Ok((Part::Own(decoded_name), Part::Own(decoded_value)))
+        }
+    }
+}
+
+// The text percent-decoded, where that changes it.
+fn decoded(alloc: Global, text: &str) -> Result<Option<String>, ParseError>
+    ensures { Decodes text.now result }
+{
+    let decoded = match percent_decode(text.as_bytes()).decode_utf8(alloc) {
+        Ok(decoded) => decoded,
+        Err(DecodeError::Utf8(_)) => return Err(ParseError::Utf8Error),
+        Err(DecodeError::OutOfMemory) => return Err(ParseError::OutOfMemory),
+    };
+    if decoded.as_str() == text {
+        return Ok(None);
+    }
+    match decoded.into_owned(alloc) {
+        Ok(decoded) => Ok(Some(decoded)),
+        Err(_) => Err(ParseError::OutOfMemory),
+    }
+}

@@ -1,0 +1,65 @@
+//! Laws that join reading and printing. Each function changes nothing: its contract is the law.
+ghost use Rattle.std.specs.Prelude.{ℕ, ◌≡◌, ◌<◌, List, All, Result, length, true, IsTrue};
+ghost use Rattle.cookie_text.specs.declared.error.ParseError.{ParseError as Refusals};
+ghost use Rattle.cookie_text.specs.Decoding.{ReadsEncoded};
+ghost use Rattle.cookie_text.specs.Normal.{IsReadable};
+ghost use Rattle.percent_encoding.specs.AsciiSet.{should_percent_encode};
+ghost use Rattle.cookie_text.specs.declared.escape.TheConstants.{PROFILE};
+ghost use Rattle.cookie_text.specs.Printing.{encoded, is_escaped, shown_text};
+ghost use Rattle.cookie_text.specs.Reading.{ReadsPlain};
+ghost use Rattle.cookie_text.specs.ReadingBack.{GivesPair, IsNamed, Pairwise, ReadsBack, joined};
+ghost use Rattle.cookie_text.specs.Record.{Seen};
+ghost use Rattle.cookie_text.specs.Splitting.{cookie_texts};
+
+use crate::cookie::Cookie;
+use crate::expiration::Expiration;
+use jiff::civil::DateTime;
+
+/// The bytes that [`Cookie::encoded`] escapes in a name or value: the control characters, every
+/// byte past ASCII, the space, and `` " < > ` # ? { } / : ; = @ [ \ ] ^ | % ( ) , ``.
+pub fn profile_is_the_list()
+    ensures { (b : ℕ) → should_percent_encode PROFILE b ≡ is_escaped b }
+{}
+
+/// What [`Cookie::encoded`] prints reads back, by [`Cookie::parse`], as the cookie's normal form
+/// with its name and value still escaped.
+///
+/// The name isn't empty, path and `domain()` hold no semicolon and no white space at an end,
+/// `domain()` isn't empty and begins with no dot, and the expiry is of the year 100 or later.
+pub fn encoded_reads_back(cookie: &Cookie<'_>)
+    requires { IsReadable cookie.now.cookie }
+    ensures { (o : Result Seen Refusals) → ReadsPlain (encoded cookie.now.cookie) o
+        → ReadsBack cookie.now.cookie o }
+{
+    // The length's type bounds its seconds, and so the digits that are read.
+    let _ = cookie.max_age();
+}
+
+/// What `encoded().stripped()` prints of a cookie whose name isn't empty reads, by
+/// [`Cookie::parse_encoded`], as a cookie of that name and value.
+pub fn encoded_pair_reads_back(cookie: &Cookie<'_>)
+    requires { 0 < length cookie.now.cookie.name }
+    ensures { (o : Result Seen Refusals)
+        → ReadsEncoded (shown_text (record { cookie = cookie.now.cookie; encode = true; strip = true })) o
+        → GivesPair cookie.now.cookie.name cookie.now.cookie.value o }
+{
+    // Both are texts, which is why they decode to UTF-8.
+    let _ = cookie.name();
+    let _ = cookie.value();
+}
+
+/// Such texts, joined by `; `, give by `Cookie::split_parse_encoded` the same names and values in
+/// their order, and no error but want of memory.
+pub fn joined_pairs_split()
+    ensures { (pairs : List (List ℕ × List ℕ)) → All (λ p. IsNamed p.0 p.1) pairs
+        → (outcomes : List (Result Seen Refusals))
+        → Pairwise ReadsEncoded (cookie_texts (joined pairs)) outcomes
+        → Pairwise (λ p o. GivesPair p.0 p.1 o) pairs outcomes }
+{}
+
+/// The end of the session is after every moment.
+pub fn session_is_last(moment: DateTime) -> bool
+    ensures { IsTrue result }
+{
+    Expiration::DateTime(moment) < Expiration::Session
+}

@@ -1,0 +1,6 @@
+mod LineLemmas
+mod NameLemmas
+mod PrevailingLemmas
+mod ReadingLemmas
+mod RuleLemmas
+mod TextLemmas

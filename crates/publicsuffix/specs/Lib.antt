@@ -1,0 +1,4 @@
+pub mod Lines
+pub mod Prevailing
+pub mod Rules
+pub mod View

@@ -1,0 +1,15 @@
+pub mod Sums
+pub mod AesFacts
+pub mod GcmFacts
+pub mod MacFacts
+pub mod ByteFacts
+pub mod FieldLaws
+pub mod ByteLists
+pub mod ScheduleLemmas
+pub mod GhashLemmas
+pub mod GhashLaws
+pub mod BlockLemmas
+pub mod GcmLemmas
+pub mod TagLemmas
+pub mod MacLemmas
+pub mod HkdfLemmas

@@ -1,0 +1,205 @@
+//! AES-256-GCM with nonces of 12 bytes and tags of 16 (SP 800-38D).
+
+ghost use Rattle.std.specs.Prelude.{◌≡◌, ◌≤◌, ◌<◌, ◌↔◌, ◌⊎◌, ℕ, List, length, IfOk, OnOk, OnErr, IsErrOf, IsOk, IsTrue, ◌++◌, ◌+◌, ◌*◌, ◌^◌};
+ghost use Rattle.std.specs.Int.{w64, to_be_bytes};
+ghost use Rattle.std.specs.List.{slice_range};
+ghost use Rattle.seal.specs.Ghash.{ghash, blocks, blocks_of};
+ghost use Rattle.seal.specs.Aes.{schedule as words};
+ghost use Rattle.seal.specs.Gcm as spec;
+ghost use Rattle.seal.specs.Bytes.{xored_front};
+ghost use Rattle.seal.specs.declared.error.SealError.TheVariants.{TooLong, Refused};
+
+use crate::aes::{encipher, schedule, xor_block};
+use crate::error::SealError;
+use crate::ghash::step;
+
+const BLOCK_LEN: usize = 16;
+
+// The counter has 2^32 - 2 blocks to give to a text.
+const MAX_TEXT_LEN: usize = (1 << 36) - 32;
+
+// Its length in bits stands in 64 bits.
+const MAX_AAD_LEN: usize = (1 << 61) - 1;
+
+// Whether text and aad are of lengths that can be sealed.
+fn is_sealable(aad: &[u8], text: &[u8]) -> bool
+    ensures { IsTrue result ↔ spec.IsSealable aad.now text.now }
+{
+    text.len() <= MAX_TEXT_LEN && aad.len() <= MAX_AAD_LEN
+}
+
+// Adds a block to the text from `at` on, as far as the text goes: ys is what was added before.
+fn add_block(text: &mut [u8], at: usize, block: &[u8; 16])
+    requires { at < length text.old }
+    ensures { (xs ys : List ℕ) → length xs ≡ length text.old → length ys ≡ at
+        → text.old ≡ xored_front xs ys
+        → text.new ≡ xored_front xs (ys ++ block.now) }
+{
+    let length = text.len();
+    for i in 0..16usize {
+        if i < length - at {
+            text[at + i] ^= block[i];
+        }
+    }
+}
+
+// The standard's J0.
+fn first_counter(nonce: &[u8; 12]) -> [u8; 16]
+    ensures { result ≡ spec.first_counter nonce.now }
+{
+    let [a, b, c, d, e, f, g, h, i, j, k, l] = *nonce;
+    [a, b, c, d, e, f, g, h, i, j, k, l, 0, 0, 0, 1]
+}
+
+// The counter block after this one: the standard's inc32.
+fn next_counter(block: &[u8; 16]) -> [u8; 16]
+    ensures { result ≡ spec.inc32 block.now }
+{
+    let [a, b, c, d, e, f, g, h, i, j, k, l, m, n, o, p] = *block;
+    let [q, r, s, t] = u32::from_be_bytes([m, n, o, p])
+        .wrapping_add(1)
+        .to_be_bytes();
+    [a, b, c, d, e, f, g, h, i, j, k, l, q, r, s, t]
+}
+
+// Adds the key stream to `text`: w is the schedule of the key.
+fn cipher(w: &[u8; 240], nonce: &[u8; 12], text: &mut [u8])
+    requires { length text.old ≤ 2 ^ 36 }
+    ensures { (key : List ℕ) → length key ≡ 32 → w.now ≡ words key 52
+        → text.new ≡ spec.ciphered key nonce.now text.old }
+{
+    let mut block = first_counter(nonce);
+    for n in 0..text.len().div_ceil(BLOCK_LEN) {
+        let next = next_counter(&block);
+        block = next;
+        add_block(text, BLOCK_LEN * n, &encipher(w, next));
+    }
+}
+
+// Block n of a text that is filled with zeros to whole blocks.
+fn whole_block(text: &[u8], n: usize) -> [u8; 16]
+    requires { 16 * n < length text.now }
+    ensures { result ≡ slice_range (spec.whole_blocks text.now) (16 * n) (16 * n + 16) }
+{
+    let at = BLOCK_LEN * n;
+    let left = text.len() - at;
+    let count = left.min(BLOCK_LEN);
+    let mut block = [0; 16];
+    block[..count].copy_from_slice(&text[at..at + count]);
+    block
+}
+
+// GHASH of the blocks that `before` is the hash of, and of those of a text, filled with zeros.
+fn hash_text(h: u128, before: u128, text: &[u8]) -> u128
+    requires { length text.now < 2 ^ 61 }
+    ensures { (bs : List ℕ) → before ≡ ghash h bs
+        → result ≡ ghash h (bs
+        ++ blocks (spec.blocks_begun (length text.now)) (spec.whole_blocks text.now)) }
+{
+    let mut sum = before;
+    for n in 0..text.len().div_ceil(BLOCK_LEN) {
+        let next = step(h, sum, &whole_block(text, n));
+        sum = next;
+    }
+    sum
+}
+
+// The block of both lengths, in bits.
+fn length_block(aad: usize, text: usize) -> [u8; 16]
+    requires { (aad < 2 ^ 61) × (text < 2 ^ 61) }
+    ensures { result ≡ to_be_bytes w64 (aad * 8) ++ to_be_bytes w64 (text * 8) }
+{
+    let [a, b, c, d, e, f, g, h] = (aad as u64 * 8).to_be_bytes();
+    let [i, j, k, l, m, n, o, p] = (text as u64 * 8).to_be_bytes();
+    [a, b, c, d, e, f, g, h, i, j, k, l, m, n, o, p]
+}
+
+// GHASH of the two texts and their lengths.
+fn hash_of(h: u128, aad: &[u8], ciphertext: &[u8]) -> u128
+    requires { spec.IsSealable aad.now ciphertext.now }
+    ensures { result ≡ ghash h (blocks_of (spec.hashed aad.now ciphertext.now)) }
+{
+    let sum = hash_text(h, 0, aad);
+    let sum = hash_text(h, sum, ciphertext);
+    step(h, sum, &length_block(aad.len(), ciphertext.len()))
+}
+
+// The tag of a ciphertext: w is the schedule of the key.
+fn tag_of(w: &[u8; 240], nonce: &[u8; 12], aad: &[u8], ciphertext: &[u8]) -> [u8; 16]
+    requires { spec.IsSealable aad.now ciphertext.now }
+    ensures { (key : List ℕ) → w.now ≡ words key 52
+        → result ≡ spec.tag key nonce.now aad.now ciphertext.now }
+{
+    let h = u128::from_be_bytes(encipher(w, [0; 16]));
+    let hash = hash_of(h, aad, ciphertext);
+    xor_block(encipher(w, first_counter(nonce)), &hash.to_be_bytes())
+}
+
+// Whether this is the tag of the ciphertext.
+fn has_tag(w: &[u8; 240], nonce: &[u8; 12], aad: &[u8], ciphertext: &[u8], tag: &[u8; 16]) -> bool
+    requires { spec.IsSealable aad.now ciphertext.now }
+    ensures { (key : List ℕ) → w.now ≡ words key 52
+        → (IsTrue result ↔ (tag.now ≡ spec.tag key nonce.now aad.now ciphertext.now)) }
+{
+    tag_of(w, nonce, aad, ciphertext) == *tag
+}
+
+/// Seals `text` in place under AES-256-GCM, and returns its tag (SP 800-38D, section 7.1).
+///
+/// `aad`, the additional data, is covered by the tag and stays as it is. A nonce serves for one
+/// text under a key: that is the caller's care.
+///
+/// # Errors
+///
+/// `TooLong` where `text` has over 2^36 - 32 bytes or `aad` 2^61 bytes or more. `text` is then as
+/// it was.
+pub fn seal(
+    key: &[u8; 32],
+    nonce: &[u8; 12],
+    aad: &[u8],
+    text: &mut [u8],
+) -> Result<[u8; 16], SealError>
+    ensures ok { IfOk result (λ tag. spec.Sealed key.now nonce.now aad.now text.old text.new tag) }
+    ensures err { OnErr result (text.new ≡ text.old) }
+    ensures accepted { IsOk result ↔ spec.IsSealable aad.now text.old }
+    ensures too_long { IsErrOf result TooLong ↔ (¬ spec.IsSealable aad.now text.old) }
+{
+    if !is_sealable(aad, text) {
+        return Err(SealError::TooLong);
+    }
+    let w = schedule(key);
+    cipher(&w, nonce, text);
+    Ok(tag_of(&w, nonce, aad, text))
+}
+
+/// Opens a sealed `text` in place, where `tag` is its tag (SP 800-38D, section 7.2).
+///
+/// # Errors
+///
+/// `TooLong` past the limits of [`seal`], else `Refused` where the tag isn't that of `text` and
+/// `aad` under `key` and `nonce`. `text` is then as it was, byte for byte.
+pub fn open(
+    key: &[u8; 32],
+    nonce: &[u8; 12],
+    aad: &[u8],
+    text: &mut [u8],
+    tag: &[u8; 16],
+) -> Result<(), SealError>
+    ensures ok { OnOk result (spec.Opens key.now nonce.now aad.now text.old tag.now text.new) }
+    ensures err { OnErr result (text.new ≡ text.old) }
+    ensures accepted { IsOk result
+        ↔ ((plain : List ℕ) × spec.Opens key.now nonce.now aad.now text.old tag.now plain) }
+    ensures too_long { IsErrOf result TooLong ↔ (¬ spec.IsSealable aad.now text.old) }
+    ensures refused { IsErrOf result Refused ↔ (spec.IsSealable aad.now text.old
+        × ((plain : List ℕ) → ¬ spec.Opens key.now nonce.now aad.now text.old tag.now plain)) }
+{
+    if !is_sealable(aad, text) {
+        return Err(SealError::TooLong);
+    }
+    let w = schedule(key);
+    if !has_tag(&w, nonce, aad, text, tag) {
+        return Err(SealError::Refused);
+    }
+    cipher(&w, nonce, text);
+    Ok(())
+}

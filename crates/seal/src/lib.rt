@@ -1,0 +1,23 @@
+//! Ciphers over plain bytes: HMAC with SHA-256 (RFC 2104), HKDF's expansion (RFC 5869), and
+//! AES-256-GCM (FIPS 197, SP 800-38D). No call takes memory.
+//!
+//! ```
+//! let mut text = *b"attack at dawn";
+//! let tag = seal::seal(&key, &nonce, b"aad", &mut text)?;
+//! seal::open(&key, &nonce, b"aad", &mut text, &tag)?;
+//! ```
+#![tactic(auto)]
+
+mod aes;
+mod derive;
+mod error;
+mod field;
+mod gcm;
+mod ghash;
+pub mod laws;
+mod mac;
+
+pub use derive::expand;
+pub use error::SealError;
+pub use gcm::{open, seal};
+pub use mac::hmac;

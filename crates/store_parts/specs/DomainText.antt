@@ -1,0 +1,34 @@
+-- The domain that a text gives (RFC 6265, 5.2.3, and 5.3, steps 4 to 6).
+use Rattle.std.specs.Prelude.{◌≡◌, ◌⊎◌, ℕ, List, [], ◌∷◌, ◌==◌, Option, Some, None, option_map, Result, MatchResult, if◌then◌else◌}
+use Rattle.std.specs.Str.{trim}
+use Rattle.idna.specs.declared.Errors.TheVariants.{Invalid}
+use Rattle.idna.specs.declared.deny_list.TheConstants.AsciiDenyList.{EMPTY}
+use Rattle.idna.specs.Uts46.{domain_to_ascii}
+use Rattle.store_parts.specs.declared.cookie_domain.CookieDomain.{CookieDomain}
+use Rattle.store_parts.specs.declared.error.Error.{Error}
+use Rattle.store_parts.specs.declared.error.Error.TheVariants.{Idna, OutOfMemory}
+use Rattle.store_parts.specs.DomainMatch.{Domain, suffix, empty, dot, domain_of}
+
+-- the IDNA form of a text, white space at its ends left out
+abbrev pub idna_form : List ℕ → Option (List ℕ)
+idna_form text = domain_to_ascii EMPTY (trim text)
+
+-- the text without one dot in front
+abbrev pub without_leading_dot : List ℕ → List ℕ
+without_leading_dot [] = []
+without_leading_dot (b ∷ bs) = if b == dot then bs else (b ∷ bs)
+
+-- the suffix of this text, or the empty domain
+abbrev pub suffix_or_empty : List ℕ → Domain
+suffix_or_empty [] = empty
+suffix_or_empty (b ∷ bs) = suffix (b ∷ bs)
+
+-- the domain of a text: none where it has no IDNA form
+abbrev pub read_domain : List ℕ → Option Domain
+read_domain text = option_map (λ form. suffix_or_empty (without_leading_dot form)) (idna_form text)
+
+-- the answer is the domain, or `Idna` where there is none; want of memory aside
+abbrev pub Reads : Option Domain → Result CookieDomain Error → Type 0
+Reads domain answer =
+    MatchResult answer (λ d. domain ≡ Some (domain_of d))
+    (λ e. ((domain ≡ None) × (e ≡ Idna (record { 0 = Invalid }))) ⊎ (e ≡ OutOfMemory))

@@ -1,0 +1,9 @@
+pub mod DomainMatch
+pub mod DomainOrder
+pub mod DomainText
+pub mod Expiry
+pub mod HostName
+pub mod PathMatch
+pub mod PathOrder
+pub mod Refusals
+pub mod Schemes
