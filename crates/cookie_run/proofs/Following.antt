@@ -1,0 +1,106 @@
+-- A line of a script is read, and then done.
+use Rattle.std.proofs.Common.{◌≡◌, ◌≢◌, ◌⊎◌, ℕ, ℤ, ◌<◌, arith, Bool, true, false, List, [], ◌∷◌, ◌++◌, length, Option, Result, Ok, Err, inl, inr, sym, refl, ap, ◌∙◌, subst, append-nil}
+use Rattle.std.specs.Prelude.{if◌then◌else◌, IfOk, IfErr, OnOk, IsErrOf, is_err, ◌==◌}
+use Rattle.std.specs.Str.{bytes_eq}
+use Rattle.std.proofs.lemmas.Bool.Decides.{nat_tests}
+use Rattle.std.proofs.lemmas.Bool.{false≢true}
+use Rattle.cookie_run.specs.ScriptLine as spec
+use Rattle.cookie_run.specs.ScriptText.{Reached, obeyed, goes_back, done, after_line, readings_text, HalfLine}
+use Rattle.cookie_run.specs.Standing.{Stands, Goes, Halts}
+use Rattle.cookie_run.specs.ScriptRead.{line_of}
+use Rattle.cookie_run.specs.declared.row.Row.{Row}
+use Rattle.cookie_run.specs.declared.script.cause.Cause.{Cause}
+use Rattle.cookie_run.specs.declared.script.cause.Cause.TheVariants.{Back, Memory}
+use Rattle.cookie_run.specs.declared.script.line.Line.{Line}
+use Rattle.cookie_run.specs.declared.script.visit.Visit.{Visit}
+use Rattle.cookie_run.specs.declared.step.SessionError.{SessionError}
+
+empty_line : (line : List ℕ) → line ≡ [] → bytes_eq line [] ≡ true
+empty_line line e = ap (λ l. bytes_eq l []) e
+
+some_line : (line : List ℕ) → 0 < length line → bytes_eq line [] ≡ false
+some_line [] h = absurd (omega (arith, h))
+some_line (b ∷ bs) h = refl
+
+picks : {A : Type 0} (t : Bool) (x y : A) → t ≡ true → (if t then x else y) ≡ x
+picks true x y e = refl
+picks false x y e = absurd (false≢true e)
+
+skips : {A : Type 0} (t : Bool) (x y : A) → t ≡ false → (if t then x else y) ≡ y
+skips true x y e = absurd (false≢true (sym e))
+skips false x y e = refl
+
+-- an empty line is passed over
+pub passes_over : (line : List ℕ) (rows : List Row) (last : ℤ) (visit : Option Visit) (text : List ℕ) → line ≡ [] → text ≡ [] → Goes (λ r. after_line r line) rows last visit rows last visit text
+passes_over line rows last visit text e empty start r output s = (
+  r,
+  picks (bytes_eq line []) (Ok r) (done r (spec.read_line line)) (empty_line line e),
+  record {
+    told = s.told;
+    plays = s.plays;
+    is_open = s.is_open;
+    prints = ap (λ t. output ++ t) empty ∙ (append-nil output ∙ s.prints);
+    moment = s.moment;
+  },
+)
+
+read_led : (r : Reached) (line : List ℕ) (read : Result spec.Line Cause) → 0 < length line → spec.read_line line ≡ read → after_line r line ≡ done r read
+read_led r line read some e = skips (bytes_eq line []) (Ok r) (done r (spec.read_line line)) (some_line line some) ∙ ap (done r) e
+
+-- its text has a fault
+pub misreads : (line : List ℕ) (rows : List Row) (last : ℤ) (visit : Option Visit) (cause : Cause) → 0 < length line → (spec.read_line line ≡ Err cause) ⊎ (cause ≡ Memory)
+    → Halts (λ r. after_line r line) rows last visit cause rows
+misreads line rows last visit cause some (inl e) start r output s = inl (read_led r line (Err cause) some e, refl)
+misreads line rows last visit cause some (inr e) start r output s = inr (e, inl refl)
+
+-- its moment is before the last
+pub comes_back : (line : List ℕ) (rows : List Row) (last : ℤ) (visit : Option Visit) (read : Line) → 0 < length line → spec.read_line line ≡ Ok (line_of read) → goes_back last (line_of read) ≡ true
+    → Halts (λ r. after_line r line) rows last visit Back rows
+comes_back line rows last visit read some e back start r output s =
+    inl (read_led r line (Ok (line_of read)) some e ∙ picks (goes_back r.last (line_of read)) (Err Back) (obeyed r.acts r.last r.now (line_of read)) (subst (λ m. goes_back m (line_of read) ≡ true) s.moment back), refl)
+
+led : (start rows : List Row) (r : Reached) (last : ℤ) (visit : Option Visit) (output line : List ℕ) (read : Line) → Stands start r rows last visit output → 0 < length line → spec.read_line line ≡ Ok (line_of read) → goes_back last (line_of read) ≡ false
+    → after_line r line ≡ obeyed r.acts r.last r.now (line_of read)
+led start rows r last visit output line read s some e forth =
+    read_led r line (Ok (line_of read)) some e ∙ skips (goes_back r.last (line_of read)) (Err Back) (obeyed r.acts r.last r.now (line_of read)) (subst (λ m. goes_back m (line_of read) ≡ false) s.moment forth)
+
+pub goes_on : (line : List ℕ) (rows new_rows : List Row) (last new_last : ℤ) (visit new_visit : Option Visit) (read : Line) (text : List ℕ) → 0 < length line → spec.read_line line ≡ Ok (line_of read) → goes_back last (line_of read) ≡ false
+    → Goes (λ r. obeyed r.acts r.last r.now (line_of read)) rows last visit new_rows new_last new_visit text
+    → Goes (λ r. after_line r line) rows last visit new_rows new_last new_visit text
+goes_on line rows new_rows last new_last visit new_visit read text some e forth goes start r output s =
+    let g = goes start r output s in
+    (g.0, led start rows r last visit output line read s some e forth ∙ g.1, g.2)
+
+pub halts_there : (line : List ℕ) (rows new_rows : List Row) (last : ℤ) (visit : Option Visit) (read : Line) (cause : Cause) → 0 < length line → spec.read_line line ≡ Ok (line_of read) → goes_back last (line_of read) ≡ false
+    → Halts (λ r. obeyed r.acts r.last r.now (line_of read)) rows last visit cause new_rows
+    → Halts (λ r. after_line r line) rows last visit cause new_rows
+halts_there line rows new_rows last visit read cause some e forth halts start r output s =
+    subst (λ l. ((l ≡ Err cause) × (new_rows ≡ rows)) ⊎ ((cause ≡ Memory) × HalfLine rows r l new_rows)) (sym (led start rows r last visit output line read s some e forth)) (halts start r output s)
+
+-- ---- results
+
+pub if_ok : {A E : Type 0} (r : Result A E) {P Q : A → Type 0} → ((x : A) → P x → Q x) → IfOk r P → IfOk r Q
+if_ok (Ok x) f h = f x h
+if_ok (Err e) f h = tt
+
+pub if_err : {A E : Type 0} (r : Result A E) {P Q : E → Type 0} → ((e : E) → P e → Q e) → IfErr r P → IfErr r Q
+if_err (Ok x) f h = tt
+if_err (Err e) f h = f e h
+
+pub ok_gives : {A E : Type 0} (r : Result A E) (P : Type 0) → false ≡ is_err r → OnOk r P → P
+ok_gives (Ok x) P e h = h
+ok_gives (Err x) P e h = absurd (false≢true e)
+
+pub no_bytes : (bs : List ℕ) → true ≡ (length bs == 0) → bs ≡ []
+no_bytes [] e = refl
+no_bytes (b ∷ bs) e = absurd (grind (arith, nat_tests))
+
+pub some_bytes : (bs : List ℕ) → false ≡ (length bs == 0) → 0 < length bs
+some_bytes bs e = grind (arith, nat_tests)
+
+-- what was accepted isn't refused for its name
+pub accepted_name : {A : Type 0} (x : A) (e : SessionError) (name : List ℕ) → (name ≡ [] → IsErrOf (Ok x) e) → name ≢ []
+accepted_name x e name h empty = ok_err x e (h empty)
+  where
+    ok_err : {A : Type 0} (x : A) (e : SessionError) → Ok x ≡ Err e → ⊥
+    ok_err x e p = cc

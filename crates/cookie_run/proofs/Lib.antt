@@ -1,0 +1,26 @@
+pub mod Escaped
+pub mod ReadBack
+pub mod HeaderBack
+pub mod Records
+pub mod SiteStep
+pub mod Puts
+pub mod Parts
+pub mod Runs
+pub mod Headers
+pub mod Shapes
+pub mod Lines
+pub mod ScriptLines
+pub mod Shown
+pub mod Pouring
+pub mod MomentText
+pub mod Reached
+pub mod Calendar
+pub mod Ends
+pub mod ReadCode
+pub mod OpenCode
+pub mod AcceptCode
+pub mod Standings
+pub mod Halting
+pub mod ScriptRun
+pub mod Following
+mod Facts

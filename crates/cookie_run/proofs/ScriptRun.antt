@@ -1,0 +1,183 @@
+-- The run of a whole text.
+use Rattle.std.proofs.Common.{◌≡◌, ◌⊎◌, ℕ, ℤ, ◌+◌, ◌≤◌, ◌<◌, List, [], ◌∷◌, ◌++◌, length, Option, None, Result, Ok, Err, inl, inr, sym, refl, ap, ◌∙◌, subst, append_assoc, append-nil, arith, length-append}
+use Rattle.std.specs.Prelude.{IfOk, IfErr, OnOk, IsErrOf, IfSome, Some}
+use Rattle.std.specs.Str.Lines.{lines}
+use Rattle.std.specs.Io.KnownBytes.{Appends}
+use Rattle.std.proofs.KnownBytes.{Appends-trans, Appends-nil}
+use Rattle.cookie_run.specs.ScriptText.{Reached, begun, LeadsTo, after_line, ScriptText, EndsForMemory, HalfLine, IsWhole, IsFaulty, MemoryText, IsLine, fault_text, Prints}
+use Rattle.cookie_run.specs.Standing.{Stands}
+use Rattle.cookie_run.specs.Program.{begins_at, IsScriptOf}
+use Rattle.cookie_run.specs.declared.row.Row.{Row}
+use Rattle.cookie_run.specs.declared.script.cause.Cause.{Cause}
+use Rattle.cookie_run.specs.declared.script.cause.Cause.TheVariants.{Memory}
+use Rattle.cookie_run.specs.declared.script.ended.Ended.{Ended}
+use Rattle.cookie_run.specs.declared.script.ended.Ended.TheVariants.{Whole, Faulty}
+use Rattle.cookie_run.specs.declared.script.ended.RunError.{RunError}
+use Rattle.cookie_run.specs.declared.script.ended.RunError.TheVariants.{Read, Write}
+use Rattle.cookie_run.proofs.ScriptLines.{lines_some}
+use Rattle.cookie_run.specs.declared.script.visit.Visit.{Visit}
+use Rattle.cookie_run.proofs.Halting.{prints_all}
+
+-- how far the run has come: the lines done, where they led, and what was printed for them
+pub record Come (start : List Row) (first : ℤ) (text rest : List ℕ) (rows : List Row) (last : ℤ) (visit : Option Visit) (done : ℕ) (old new : Option (List ℕ)) : Type 0 where
+  pub r : Reached
+  pub before : List (List ℕ)
+  pub output : List ℕ
+  pub leads : LeadsTo (begun first) before r
+  pub whole : lines text ≡ before ++ lines rest
+  pub stands : Stands start r rows last visit output
+  pub written : Appends old new output
+  pub count : done ≡ length before
+
+pub come_first : (start : List Row) (first : ℤ) (text : List ℕ) (w : Option (List ℕ)) → Come start first text text start first None 0 w w
+come_first start first text w = record {
+  r = begun first;
+  before = [];
+  output = [];
+  leads = refl;
+  whole = refl;
+  stands = record { told = []; plays = refl; is_open = tt; prints = refl; moment = refl };
+  written = Appends-nil w;
+  count = refl;
+}
+
+leads_more : (start : Reached) (before : List (List ℕ)) (r next : Reached) (line : List ℕ) → LeadsTo start before r → after_line r line ≡ Ok next → LeadsTo start (before ++ line ∷ []) next
+leads_more start [] r next line h e = (next, subst (λ s. after_line s line ≡ Ok next) h e, refl)
+leads_more start (l ∷ before) r next line h e = (h.0, h.1, leads_more h.0 before r next line h.2 e)
+
+pub come_more : (start : List Row) (first : ℤ) (text rest line more : List ℕ) (rows new_rows : List Row) (last new_last : ℤ) (visit new_visit : Option Visit) (done : ℕ) (old mid new : Option (List ℕ)) (printed : List ℕ)
+    → (come : Come start first text rest rows last visit done old mid) → lines rest ≡ line ∷ lines more
+    → ((next : Reached) × (after_line come.r line ≡ Ok next) × Stands start next new_rows new_last new_visit (come.output ++ printed))
+    → Appends mid new printed
+    → Come start first text more new_rows new_last new_visit (done + 1) old new
+come_more start first text rest line more rows new_rows last new_last visit new_visit done old mid new printed come cut goes written = record {
+  r = goes.0;
+  before = come.before ++ line ∷ [];
+  output = come.output ++ printed;
+  leads = leads_more (begun first) come.before come.r goes.0 line come.leads goes.1;
+  whole = come.whole ∙ (ap (λ ls. come.before ++ ls) cut ∙ sym (append_assoc come.before (line ∷ []) (lines more)));
+  stands = goes.2;
+  written = Appends-trans old mid new come.output printed come.written written;
+  count = ap (λ n. n + 1) come.count ∙ sym (length-append come.before (line ∷ []));
+}
+
+-- what the text prints, and how it ends
+abbrev pub Ends : List Row → ℤ → List ℕ → Option (List ℕ) → Option (List ℕ) → List Row → ℤ → Ended → Type 0
+Ends start first text old new rows last ended = (output : List ℕ) × Appends old new output
+    × (ScriptText start first text output rows last ended ⊎ EndsForMemory start first text output rows last ended)
+
+pub come_whole : (start : List Row) (first : ℤ) (text rest : List ℕ) (rows : List Row) (last : ℤ) (visit : Option Visit) (done : ℕ) (old new : Option (List ℕ))
+    → Come start first text rest rows last visit done old new → rest ≡ [] → Ends start first text old new rows last Whole
+come_whole start first text rest rows last visit done old new come e =
+    let all : lines text ≡ come.before = come.whole ∙ (ap (λ x. come.before ++ lines x) e ∙ append-nil come.before) in (
+      come.output,
+      come.written,
+      inl (record {
+        r = come.r;
+        leads = subst (λ ls. LeadsTo (begun first) ls come.r) (sym all) come.leads;
+        prints = prints_all start rows come.r last visit come.output come.stands;
+        moment = come.stands.moment;
+      }),
+    )
+
+pub come_fault : (start : List Row) (first : ℤ) (text rest line more : List ℕ) (rows new_rows : List Row) (last new_last : ℤ) (visit : Option Visit) (done : ℕ) (old mid new : Option (List ℕ)) (cause : Cause)
+    → (come : Come start first text rest rows last visit done old mid) → lines rest ≡ line ∷ lines more
+    → ((after_line come.r line ≡ Err cause) × (new_rows ≡ rows)) ⊎ ((cause ≡ Memory) × HalfLine rows come.r (after_line come.r line) new_rows)
+    → new_last ≡ last → Appends mid new (fault_text (done + 1) cause)
+    → Ends start first text old new new_rows new_last (Faulty (done + 1))
+come_fault start first text rest line more rows new_rows last new_last visit done old mid new cause come cut (inl fault) kept written = (
+  come.output ++ fault_text (done + 1) cause,
+  Appends-trans old mid new come.output _ come.written written,
+  inl (record {
+    r = come.r;
+    before = come.before;
+    line = line;
+    cause = cause;
+    readings = come.output;
+    place = record { after = lines more; whole = come.whole ∙ ap (λ ls. come.before ++ ls) cut; number = ap (λ n. n + 1) come.count };
+    leads = come.leads;
+    fault = fault.0;
+    prints = subst (Prints start come.r come.output) (sym fault.1) (prints_all start rows come.r last visit come.output come.stands);
+    text = refl;
+    moment = kept ∙ come.stands.moment;
+  }),
+)
+come_fault start first text rest line more rows new_rows last new_last visit done old mid new cause come cut (inr half) kept written = (
+  come.output ++ fault_text (done + 1) cause,
+  Appends-trans old mid new come.output _ come.written written,
+  inr (record {
+    r = come.r;
+    before = come.before;
+    line = line;
+    readings = come.output;
+    mid = rows;
+    place = record { after = lines more; whole = come.whole ∙ ap (λ ls. come.before ++ ls) cut; number = ap (λ n. n + 1) come.count };
+    leads = come.leads;
+    prints = prints_all start rows come.r last visit come.output come.stands;
+    half = half.1;
+    text = ap (λ x. come.output ++ fault_text (done + 1) x) half.0;
+    moment = kept ∙ come.stands.moment;
+  }),
+)
+
+-- ---- where memory is refused while the text is read
+
+pub memory_first : (start : List Row) (first : ℤ) (text : List ℕ) (old new : Option (List ℕ)) → 0 < length text → Appends old new (fault_text 1 Memory) → Ends start first text old new start first (Faulty 1)
+memory_first start first text old new some written =
+    let l = lines_some text some in (
+      fault_text 1 Memory,
+      written,
+      inr (record {
+        r = begun first;
+        before = [];
+        line = l.0;
+        readings = [];
+        mid = start;
+        place = record { after = l.1; whole = l.2; number = refl };
+        leads = refl;
+        prints = ([], refl, refl);
+        half = inl refl;
+        text = refl;
+        moment = refl;
+      }),
+    )
+
+pub known_text : {A E : Type 0} (r : Result A E) (left : Option (List ℕ)) (P : List ℕ → A → Type 0) (items : List ℕ) → IfSome left (λ input. items ≡ input) → IfOk r (λ a. P items a) → IfOk r (λ a. IfSome left (λ input. P input a))
+known_text (Ok a) None P items e h = tt
+known_text (Ok a) (Some input) P items e h = subst (λ i. P i a) e h
+known_text (Err x) left P items e h = tt
+
+pub for_all : {A E : Type 0} (r : Result A E) (left : Option (List ℕ)) (P : List ℕ → A → Type 0) (Q : List ℕ → Type 0) (R : Type 0) (a : A) → IfSome left Q → OnOk r R → IfOk r (λ x. x ≡ a) → ((input : List ℕ) → Q input → R → P input a) → IfOk r (λ x. IfSome left (λ input. P input x))
+for_all (Ok x) None P Q R a q h is f = tt
+for_all (Ok x) (Some input) P Q R a q h is f = subst (λ y. P input y) (sym is) (f input q h)
+for_all (Err e) left P Q R a q h is f = tt
+
+pub for_one : {A E : Type 0} (r : Result A E) (P : A → Type 0) (R : Type 0) (a : A) → OnOk r R → IfOk r (λ x. x ≡ a) → (R → P a) → IfOk r P
+for_one (Ok x) P R a h is f = subst P (sym is) (f h)
+for_one (Err e) P R a h is f = tt
+
+pub only_write : {A : Type 0} (r : Result A RunError) (P : Type 0) → IfErr r (λ e. e ≡ Write) → IsErrOf r Read → P
+only_write (Ok x) P only e = absurd (ok_err x e)
+  where
+    ok_err : {A : Type 0} (x : A) → Ok x ≡ Err Read → ⊥
+    ok_err x e = cc
+only_write (Err x) P only e = absurd (read_write (sym only ∙ same x e))
+  where
+    same : {A : Type 0} (x : RunError) → (let r : Result A RunError = Err x in r ≡ Err Read) → x ≡ Read
+    same x e = cc
+
+    read_write : Write ≡ Read → ⊥
+    read_write e = cc
+
+-- ---- the program
+
+-- a run from no rows and the program's first moment is a script's
+pub script_of : (left old new : Option (List ℕ)) (start rows : List Row) (first last : ℤ) (ended same : Ended) → start ≡ [] → first ≡ begins_at → ended ≡ same
+    → IfSome left (λ input. Ends start first input old new rows last ended)
+    → IfSome left (λ input. (output : List ℕ) × Appends old new output × IsScriptOf input output same)
+script_of None old new start rows first last ended same none begins is h = tt
+script_of (Some input) old new start rows first last ended same none begins is h =
+    let from_none = subst (λ s. Ends s first input old new rows last ended) none h in
+    let from_first = subst (λ f. Ends [] f input old new rows last ended) begins from_none in
+    let ends = subst (λ e. Ends [] begins_at input old new rows last e) is from_first in
+    (ends.0, ends.1, (rows, last, ends.2))

@@ -1,0 +1,14 @@
+use Rattle.std.proofs.Common.{◌≡◌, ◌++◌, ◌∙◌, take, length, arith}
+use Rattle.std.proofs.KnownBytes.{Appends-trans}
+use Rattle.cookie_run.proofs.Pouring.{moves_front, wrote}
+use Rattle.cookie_run.proofs.pour.write_all.Goals as goal
+
+pub loop-rest-preserved : goal.loop-rest-preserved
+loop-rest-preserved g c =
+    let (done, split, appended) = c.loop-rest.invariant.bytes in
+    let rest = c.loop-rest.rest.now in
+    let n = c.in-Ok.n in
+    record {
+      bytes = (done ++ take n rest, moves_front _ done rest n split, Appends-trans _ _ _ _ _ appended c.in-Ok.ensures.bytes);
+      failures = wrote n (length rest) _ _ (omega arith) c.in-Ok.ensures.failures ∙ c.loop-rest.invariant.failures;
+    }

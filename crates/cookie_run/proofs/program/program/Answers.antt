@@ -1,0 +1,11 @@
+use Rattle.std.proofs.Common.{◌≡◌, refl, inl, inr}
+use Rattle.jiff.specs.Words.{civil_nanos}
+use Rattle.cookie_run.specs.declared.script.ended.Ended.TheVariants.{Faulty}
+use Rattle.cookie_run.proofs.ScriptRun.{script_of}
+use Rattle.cookie_run.proofs.program.program.Goals as goal
+
+pub returns-in-Ok-Faulty : goal.returns-in-Ok-Faulty
+returns-in-Ok-Faulty g c =
+    let n = c.in-Ok-Faulty.field-0-0 in
+    let is : c.in-Ok-Faulty.field-0 ≡ Faulty n = cc in
+    inr (inl (refl, refl, (n, script_of (g.R.Source.left c.args.reader.now) (g.W.Sink.written c.args.writer.now) (g.W.Sink.written c.run.new.writer) c.new-client.result c.run.new.client (civil_nanos c.begin_1971-last.result) (civil_nanos c.run.new.last) c.in-Ok-Faulty.field-0 (Faulty n) c.new-client.ensures c.begin_1971-last.ensures is c.in-Ok-Faulty.ensures.text)))

@@ -1,0 +1,59 @@
+use Rattle.std.proofs.Common.{◌≡◌, ◌+◌, ap, refl, subst, ◌∙◌, arith}
+use Rattle.std.specs.Prelude.{string_bytes}
+use Rattle.std.specs.Io.KnownBytes.{Appends}
+use Rattle.std.proofs.KnownBytes.{Appends-kept}
+use Rattle.jiff.specs.Words.{civil_nanos}
+use Rattle.cookie_run.specs.ScriptText.{fault_text}
+use Rattle.cookie_run.specs.declared.script.ended.Ended.TheVariants.{Faulty}
+use Rattle.cookie_run.proofs.ScriptRun.{Ends, come_first, come_more, come_whole, come_fault, for_one}
+use Rattle.std.proofs.lemmas.List.{nil_from_length}
+use Rattle.std.proofs.lemmas.Bool.Decides.{nat_tests}
+use Rattle.cookie_run.proofs.script.run.play_text.Goals as goal
+
+pub loop-rest-init : goal.loop-rest-init
+loop-rest-init g c = record {
+  come = come_first c.args.client.now (civil_nanos c.args.last.now) c.args.text.now (g.W.Sink.written c.args.writer.now);
+  failures = refl;
+  room = omega arith;
+}
+
+pub returns-in-Err-clause-text : goal.returns-in-Err-clause-text
+returns-in-Err-clause-text g c =
+    let start = c.args.client.now in
+    let first = civil_nanos c.args.last.now in
+    let text = c.args.text.now in
+    let old = g.W.Sink.written c.args.writer.now in
+    let mid = g.W.Sink.written c.loop-rest.writer in
+    let new = g.W.Sink.written c.stop_at.new.writer in
+    let done = c.loop-rest.done in
+    let last = civil_nanos c.follow.new.last in
+    let come = c.loop-rest.invariant.come in
+    let said = c.in-Err.ensures.err start come.r come.output come.stands in
+    for_one c.stop_at.result (Ends start first text old new c.follow.new.client last) (Appends mid new (fault_text (done + 1) c.in-Err.cause)) (Faulty (done + 1)) c.stop_at.ensures.text c.stop_at.ensures.ended
+    (λ written. come_fault start first text c.loop-rest.rest.now c.cut_line.result.0.now c.cut_line.result.1.now c.loop-rest.client c.follow.new.client (civil_nanos c.loop-rest.last) last c.loop-rest.visit done old mid new c.in-Err.cause come c.cut_line.ensures.line said (ap civil_nanos c.in-Err.ensures.last) written)
+
+pub loop-rest-preserved : goal.loop-rest-preserved
+loop-rest-preserved g c =
+    let start = c.args.client.now in
+    let first = civil_nanos c.args.last.now in
+    let text = c.args.text.now in
+    let old = g.W.Sink.written c.args.writer.now in
+    let mid = g.W.Sink.written c.loop-rest.writer in
+    let new = g.W.Sink.written c.write_all.new.writer in
+    let come = c.loop-rest.invariant.come in
+    let printed = string_bytes c.in-Ok.printed in
+    let goes = c.in-Ok.ensures.ok start come.r come.output come.stands in
+    let same : c.as_bytes.result.now ≡ printed = cc in
+    record {
+      come = come_more start first text c.loop-rest.rest.now c.cut_line.result.0.now c.cut_line.result.1.now c.loop-rest.client c.follow.new.client (civil_nanos c.loop-rest.last) (civil_nanos c.follow.new.last) c.loop-rest.visit c.follow.new.visit c.loop-rest.done old mid new printed come c.cut_line.ensures.line goes (subst (Appends mid new) same c.in_ok-write_all-in-Ok.ensures.bytes);
+      failures = c.in_ok-write_all-in-Ok.ensures.failures ∙ c.loop-rest.invariant.failures;
+      room = omega (arith, c.loop-rest.invariant.room, c.cut_line.ensures.shorter);
+    }
+
+pub returns-clause-text : goal.returns-clause-text
+returns-clause-text g c =
+    let old = g.W.Sink.written c.args.writer.now in
+    let mid = g.W.Sink.written c.loop-rest.writer in
+    let new = g.W.Sink.written c.flush.new.writer in
+    let ends = come_whole c.args.client.now (civil_nanos c.args.last.now) c.args.text.now c.loop-rest.rest.now c.loop-rest.client (civil_nanos c.loop-rest.last) c.loop-rest.visit c.loop-rest.done old mid c.loop-rest.invariant.come (nil_from_length c.loop-rest.rest.now (grind (arith, nat_tests, c.is_empty.ensures, c.loop-rest-test.false))) in
+    (ends.0, Appends-kept old mid new ends.0 ends.1 c.in_ok-flush.ensures.bytes, ends.2)

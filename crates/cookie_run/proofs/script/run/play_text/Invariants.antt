@@ -1,0 +1,14 @@
+use Rattle.std.proofs.Common.{◌≡◌, ◌+◌, ◌≤◌, length}
+use Rattle.jiff.specs.Words.{civil_nanos}
+use Rattle.cookie_run.proofs.ScriptRun.{Come}
+use Rattle.cookie_run.proofs.script.run.play_text.Given as goal
+
+abbrev pub invariant-loop-rest : goal.invariant-loop-rest
+invariant-loop-rest g l = record {
+  come : Come l.fn.client (civil_nanos l.fn.last) l.text l.rest l.client (civil_nanos l.last) l.visit l.done (g.W.Sink.written l.fn.writer) (g.W.Sink.written l.writer);
+  failures : g.W.Failing.failures l.writer ≡ g.W.Failing.failures l.fn.writer;
+  room : l.done + length l.rest ≤ length l.text;
+}
+
+abbrev pub decreases-loop-rest : goal.decreases-loop-rest
+decreases-loop-rest g l = length l.rest

@@ -1,0 +1,30 @@
+use Rattle.std.proofs.Common.{◌≡◌, ◌<◌, length, subst}
+use Rattle.std.specs.Prelude.{IfOk}
+use Rattle.std.specs.Io.KnownBytes.{Appends}
+use Rattle.jiff.specs.Words.{civil_nanos}
+use Rattle.cookie_run.specs.ScriptText.{fault_text}
+use Rattle.cookie_run.specs.declared.script.cause.Cause.TheVariants.{Memory}
+use Rattle.cookie_run.specs.declared.script.ended.Ended.TheVariants.{Faulty}
+use Rattle.cookie_run.proofs.ScriptRun.{Ends, known_text, for_all, memory_first}
+use Rattle.cookie_run.proofs.script.run.run.Goals as goal
+
+pub returns-in-Ok-clause-text : goal.returns-in-Ok-clause-text
+returns-in-Ok-clause-text g c =
+    let start = c.args.client.now in
+    let first = civil_nanos c.args.last.now in
+    let old = g.W.Sink.written c.args.writer.now in
+    let new = g.W.Sink.written c.play_text.new.writer in
+    let last = civil_nanos c.play_text.new.last in
+    let same : c.deref.result.now ≡ c.in-Ok.input.items = cc in
+    known_text c.play_text.result (g.R.Source.left c.args.reader.now) (λ input ended. Ends start first input old new c.play_text.new.client last ended) c.in-Ok.input.items c.in-Ok.ensures.bytes
+    (subst (λ items. IfOk c.play_text.result (λ ended. Ends start first items old new c.play_text.new.client last ended)) same c.play_text.ensures.text)
+
+pub returns-in-Err-Memory-clause-text : goal.returns-in-Err-Memory-clause-text
+returns-in-Err-Memory-clause-text g c =
+    let start = c.args.client.now in
+    let first = civil_nanos c.args.last.now in
+    let old = g.W.Sink.written c.args.writer.now in
+    let new = g.W.Sink.written c.stop_at.new.writer in
+    for_all c.stop_at.result (g.R.Source.left c.args.reader.now) (λ input ended. Ends start first input old new start first ended) (λ input. 0 < length input) (Appends old new (fault_text 1 Memory)) (Faulty 1)
+    (c.in-Err-Memory.ensures.memory cc) c.stop_at.ensures.text c.stop_at.ensures.ended
+    (λ input some written. memory_first start first input old new some written)

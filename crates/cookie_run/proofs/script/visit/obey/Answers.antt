@@ -1,0 +1,40 @@
+use Rattle.std.proofs.Common.{sym}
+use Rattle.jiff.specs.Words.{civil_nanos}
+use Rattle.cookie_run.proofs.Following.{if_ok, if_err}
+use Rattle.cookie_run.proofs.script.visit.obey.Goals as goal
+
+pub returns-in-Open-clause-ok : goal.returns-in-Open-clause-ok
+returns-in-Open-clause-ok c = rw c.in-Open.is c.begin.ensures.ok
+
+pub returns-in-Open-clause-err : goal.returns-in-Open-clause-err
+returns-in-Open-clause-err c = rw c.in-Open.is c.begin.ensures.err
+
+pub returns-in-Command-clause-ok : goal.returns-in-Command-clause-ok
+returns-in-Command-clause-ok c = rw c.in-Command.is (if_ok c.command_of.result (λ text h. h c.args.client.now (civil_nanos c.args.last.now)) c.command_of.ensures.ok)
+
+pub returns-in-Command-clause-err : goal.returns-in-Command-clause-err
+returns-in-Command-clause-err c = rw c.in-Command.is (if_err c.command_of.result (λ cause h. h c.args.client.now (civil_nanos c.args.last.now)) c.command_of.ensures.err)
+
+pub returns-in-Deliver-clause-ok : goal.returns-in-Deliver-clause-ok
+returns-in-Deliver-clause-ok c = rw c.in-Deliver.is c.deliver.ensures.ok
+
+pub returns-in-Deliver-clause-err : goal.returns-in-Deliver-clause-err
+returns-in-Deliver-clause-err c = rw c.in-Deliver.is c.deliver.ensures.err
+
+pub returns-in-Lose-clause-ok : goal.returns-in-Lose-clause-ok
+returns-in-Lose-clause-ok c = rw c.in-Lose.is (if_ok c.lose.result (λ text h. h c.args.client.now (civil_nanos c.args.last.now)) c.lose.ensures.ok)
+
+pub returns-in-Lose-clause-err : goal.returns-in-Lose-clause-err
+returns-in-Lose-clause-err c = rw c.in-Lose.is (if_err c.lose.result (λ cause h. h c.args.client.now (civil_nanos c.args.last.now)) c.lose.ensures.err)
+
+pub returns-in-Receive-clause-ok : goal.returns-in-Receive-clause-ok
+returns-in-Receive-clause-ok c = rw (c.in-Receive.is, sym c.deref.ensures.value) c.receive.ensures.ok
+
+pub returns-in-Receive-clause-err : goal.returns-in-Receive-clause-err
+returns-in-Receive-clause-err c = rw (c.in-Receive.is, sym c.deref.ensures.value) c.receive.ensures.err
+
+pub returns-in-Header-clause-ok : goal.returns-in-Header-clause-ok
+returns-in-Header-clause-ok c = rw c.in-Header.is c.header.ensures.ok
+
+pub returns-in-Header-clause-err : goal.returns-in-Header-clause-err
+returns-in-Header-clause-err c = rw c.in-Header.is c.header.ensures.err

@@ -1,0 +1,24 @@
+-- What the program answers.
+use Rattle.std.specs.Prelude.{ℕ, ℤ, pos, List, [], ◌*◌, Option, Some, None, codes, ◌≡◌, ◌⊎◌}
+use Rattle.cookie_run.specs.Moments.{second_1971}
+use Rattle.cookie_run.specs.ScriptText.{ScriptText, EndsForMemory}
+use Rattle.cookie_run.specs.declared.row.Row.{Row}
+use Rattle.cookie_run.specs.declared.script.ended.Ended.{Ended}
+use Rattle.cookie_run.specs.declared.script.ended.Ended.TheVariants.{Whole, Faulty}
+
+-- 1971-01-01T00:00:00, in nanoseconds since 1970
+abbrev pub begins_at : ℤ
+begins_at = pos (second_1971 * 1_000_000_000)
+
+-- From a client without a row and from this moment on, a script prints this, and ends so.
+abbrev pub IsScriptOf : List ℕ → List ℕ → Ended → Type 0
+IsScriptOf input output ended = (new : List Row) × (end : ℤ)
+    × (ScriptText [] begins_at input output new end ended ⊎ EndsForMemory [] begins_at input output new end ended)
+
+-- the exit status and what goes to standard error: of a script that ends so, of a reader and of a writer that failed
+abbrev pub Answers : ℕ → Option (List ℕ) → (Ended → Type 0) → Type 0 → Type 0 → Type 0
+Answers status said Ends Unread Unwritten =
+    ((status ≡ 0) × (said ≡ None) × Ends Whole)
+    ⊎ (((status ≡ 1) × (said ≡ None) × ((n : ℕ) × Ends (Faulty n)))
+    ⊎ (((status ≡ 2) × (said ≡ Some (codes "input")) × Unread)
+    ⊎ ((status ≡ 2) × (said ≡ Some (codes "output")) × Unwritten)))

@@ -1,0 +1,22 @@
+-- What the code reads of a line, beside the definition.
+use Rattle.std.specs.Prelude.{map, Result, Ok, Err, ◌≡◌, ◌⊎◌}
+use Rattle.jiff.specs.Words.{civil_nanos}
+use Rattle.cookie_run.specs.ScriptLine as spec
+use Rattle.cookie_run.specs.declared.script.cause.Cause.{Cause}
+use Rattle.cookie_run.specs.declared.script.cause.Cause.TheVariants.{Memory}
+use Rattle.cookie_run.specs.declared.script.line.Line.{Line}
+use Rattle.cookie_run.specs.declared.script.line.Line.TheVariants.{Open, Command, Deliver, Lose, Receive, Header}
+
+-- the line as a plain value
+abbrev pub line_of : Line → spec.Line
+line_of (Open url at) = spec.Opens url (civil_nanos at)
+line_of (Command command) = spec.Commands command
+line_of (Deliver at) = spec.Delivers (civil_nanos at)
+line_of Lose = spec.Loses
+line_of (Receive url lines at) = spec.Receives url (map (λ line. line.items) lines.items) (civil_nanos at)
+line_of (Header url at) = spec.Heads url (civil_nanos at)
+
+-- the line that its text gives, or that text's fault, or want of memory
+abbrev pub Reads : Result Line Cause → Result spec.Line Cause → Type 0
+Reads (Ok line) read = read ≡ Ok (line_of line)
+Reads (Err cause) read = (read ≡ Err cause) ⊎ (cause ≡ Memory)

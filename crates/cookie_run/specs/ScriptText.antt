@@ -1,0 +1,214 @@
+-- A script: its lines up to the first faulty one as steps of a play, what is printed for them, and what they leave.
+use Rattle.std.specs.Prelude.{ℕ, ℤ, ◌+◌, ◌-◌, ◌≤◌, List, [], ◌∷◌, ◌++◌, map, take, length, Bool, ◌||◌, ◌==◌, nat_lt, codes, decimal, Option, Some, None, Result, Ok, Err, ◌≡◌, ◌⊎◌, false, if◌then◌else◌}
+use Rattle.std.specs.List.{flat_map}
+use Rattle.std.specs.Str.{bytes_eq}
+use Rattle.std.specs.Str.Lines.{lines}
+use Rattle.std.specs.Ordering.{int_cmp, is_lt}
+use Rattle.std.specs.FinMap as finmap
+use Rattle.percent_encoding.specs.Percent.{percent_encode_byte}
+use Rattle.url.specs.Parts.{Parts}
+use Rattle.cookie_run.specs.Record.{Record}
+use Rattle.cookie_run.specs.Escape.{printed}
+use Rattle.cookie_run.specs.Rows.{given, header_of, accept_all}
+use Rattle.cookie_run.specs.Jar.{Lists}
+use Rattle.cookie_run.specs.Acts.{Act, Visits, Answers, Asks, Arrives, Never}
+use Rattle.cookie_run.specs.Play.{Plays, all_told, opened, jar_after_all}
+use Rattle.cookie_run.specs.ScriptLine.{Line, Opens, Commands, Delivers, Loses, Receives, Heads, read_line}
+use Rattle.cookie_run.specs.declared.row.Row.{Row}
+use Rattle.cookie_run.specs.declared.step.Way.{Way}
+use Rattle.cookie_run.specs.declared.step.Way.TheVariants.{Plain}
+use Rattle.cookie_run.specs.declared.step.Command.{Command}
+use Rattle.cookie_run.specs.declared.step.Command.TheVariants.{Set, Get}
+use Rattle.cookie_run.specs.declared.step.Reading.{Reading}
+use Rattle.cookie_run.specs.declared.step.Reading.TheVariants.{Value, Refused, Header}
+use Rattle.cookie_run.specs.declared.script.ended.Ended.{Ended}
+use Rattle.cookie_run.specs.declared.script.ended.Ended.TheVariants.{Whole, Faulty}
+use Rattle.cookie_run.specs.declared.script.cause.Cause.{Cause}
+use Rattle.cookie_run.specs.declared.script.cause.Cause.TheVariants.{Word, Text, Fields, Url, Moment, Back, NoSession, Open, EmptyName, Memory}
+
+-- ---- where a script is after some of its lines
+
+-- the session that is open, with the commands that it was given
+pub data Now : Type 0 where
+  Closed : Now
+  Within : (url : Parts) (at : ℤ) (commands : List Command) → Now
+
+-- the steps that have ended, the session that is open, and the last moment
+pub record Reached : Type 0 where
+  pub acts : List Act
+  pub now : Now
+  pub last : ℤ
+
+abbrev pub begun : ℤ → Reached
+begun last = record { acts = []; now = Closed; last = last }
+
+abbrev pub name_of : Command → List ℕ
+name_of (Set way cookie) = cookie.name
+name_of (Get way name) = name
+
+-- a line whose moment isn't before an earlier one
+abbrev pub obeyed : List Act → ℤ → Now → Line → Result Reached Cause
+obeyed acts last Closed (Opens url at) = Ok (record { acts = acts; now = Within url at []; last = at })
+obeyed acts last (Within u m cs) (Opens url at) = Err Open
+obeyed acts last Closed (Commands command) = Err NoSession
+obeyed acts last (Within url at cs) (Commands command) =
+    if bytes_eq (name_of command) [] then Err EmptyName else Ok (record { acts = acts; now = Within url at (cs ++ command ∷ []); last = last })
+obeyed acts last Closed (Delivers at) = Err NoSession
+obeyed acts last (Within url start cs) (Delivers at) = Ok (record { acts = acts ++ Visits url start cs (Arrives at) ∷ []; now = Closed; last = at })
+obeyed acts last Closed Loses = Err NoSession
+obeyed acts last (Within url start cs) Loses = Ok (record { acts = acts ++ Visits url start cs Never ∷ []; now = Closed; last = last })
+obeyed acts last Closed (Receives url lines at) = Ok (record { acts = acts ++ Answers url lines at ∷ []; now = Closed; last = at })
+obeyed acts last (Within u m cs) (Receives url lines at) = Err Open
+obeyed acts last Closed (Heads url at) = Ok (record { acts = acts ++ Asks url at ∷ []; now = Closed; last = at })
+obeyed acts last (Within u m cs) (Heads url at) = Err Open
+
+abbrev pub is_before : ℤ → ℤ → Bool
+is_before at last = is_lt (int_cmp at last)
+
+-- the moment of the line, where it has one, is before the last
+abbrev pub goes_back : ℤ → Line → Bool
+goes_back last (Opens url at) = is_before at last
+goes_back last (Commands command) = false
+goes_back last (Delivers at) = is_before at last
+goes_back last Loses = false
+goes_back last (Receives url lines at) = is_before at last
+goes_back last (Heads url at) = is_before at last
+
+abbrev pub done : Reached → Result Line Cause → Result Reached Cause
+done r (Err cause) = Err cause
+done r (Ok line) = if goes_back r.last line then Err Back else obeyed r.acts r.last r.now line
+
+-- where one more line leads, or its fault; an empty line is passed over
+abbrev pub after_line : Reached → List ℕ → Result Reached Cause
+after_line r line = if bytes_eq line [] then Ok r else done r (read_line line)
+
+-- each of the lines is done in turn, without a fault
+abbrev pub LeadsTo : Reached → List (List ℕ) → Reached → Type 0
+LeadsTo r [] end = end ≡ r
+LeadsTo r (line ∷ later) end = (mid : Reached) × (after_line r line ≡ Ok mid) × LeadsTo mid later end
+
+-- ---- what is printed
+
+-- every byte that isn't graphic ASCII, and `%`
+abbrev pub is_shown_escaped : ℕ → Bool
+is_shown_escaped b = nat_lt b 33 || nat_lt 126 b || b == 37
+
+-- the text with each such byte as `%` and two upper-case digits
+abbrev pub shown : List ℕ → List ℕ
+shown text = flat_map (λ b. if is_shown_escaped b then percent_encode_byte b else b ∷ []) text
+
+abbrev pub shown_value : Option (List ℕ) → List ℕ
+shown_value None = codes "-"
+shown_value (Some value) = codes "=" ++ shown value
+
+abbrev pub way_text : Way → List ℕ
+way_text Plain = codes "plain"
+
+-- the line of a reading, its fields parted by tabs; no command of a script is refused
+abbrev pub reading_text : Reading → List ℕ
+reading_text (Value way name value) = way_text way ++ 9 ∷ shown name ++ 9 ∷ shown_value value ++ 10 ∷ []
+reading_text (Refused error) = []
+reading_text (Header header) = codes "header" ++ 9 ∷ shown header ++ 10 ∷ []
+
+abbrev pub readings_text : List Reading → List ℕ
+readings_text readings = flat_map reading_text readings
+
+abbrev pub cause_text : Cause → List ℕ
+cause_text Word = codes "Word"
+cause_text Text = codes "Text"
+cause_text Fields = codes "Fields"
+cause_text Url = codes "Url"
+cause_text Moment = codes "Moment"
+cause_text Back = codes "Back"
+cause_text NoSession = codes "NoSession"
+cause_text Open = codes "Open"
+cause_text EmptyName = codes "EmptyName"
+cause_text Memory = codes "Memory"
+
+-- `line N: Name`
+abbrev pub fault_text : ℕ → Cause → List ℕ
+fault_text n cause = codes "line " ++ decimal n ++ codes ": " ++ cause_text cause ++ 10 ∷ []
+
+-- ---- a whole script
+
+-- a session that is open in the end is an exchange whose answer never comes
+abbrev pub left_open : Now → List Act
+left_open Closed = []
+left_open (Within url at commands) = Visits url at commands Never ∷ []
+
+abbrev pub all_acts : Reached → List Act
+all_acts r = r.acts ++ left_open r.now
+
+-- the steps, played on these rows, print this and leave those rows
+abbrev pub Prints : List Row → Reached → List ℕ → List Row → Type 0
+Prints rows r output new = (told : List (List Reading)) × Plays rows (all_acts r) told new × (output ≡ readings_text (all_told told))
+
+-- where line n stands in a text, counted from 1
+pub record IsLine (all : List (List ℕ)) (n : ℕ) (before : List (List ℕ)) (line : List ℕ) : Type 0 where
+  pub after : List (List ℕ)
+  pub whole : all ≡ before ++ line ∷ after
+  pub number : n ≡ length before + 1
+
+-- each line is done
+pub record IsWhole (rows : List Row) (last : ℤ) (all : List (List ℕ)) (output : List ℕ) (new : List Row) (end : ℤ) : Type 0 where
+  pub r : Reached
+  pub leads : LeadsTo (begun last) all r
+  pub prints : Prints rows r output new
+  pub moment : end ≡ r.last
+
+-- the lines before line n are done, and line n is the first faulty one
+pub record IsFaulty (rows : List Row) (last : ℤ) (all : List (List ℕ)) (output : List ℕ) (new : List Row) (end : ℤ) (n : ℕ) : Type 0 where
+  pub r : Reached
+  pub before : List (List ℕ)
+  pub line : List ℕ
+  pub cause : Cause
+  pub readings : List ℕ
+  pub place : IsLine all n before line
+  pub leads : LeadsTo (begun last) before r
+  pub fault : after_line r line ≡ Err cause
+  pub prints : Prints rows r readings new
+  pub text : output ≡ readings ++ fault_text n cause
+  pub moment : end ≡ r.last
+
+-- From these rows and this last moment a script prints this, leaves those rows and that moment, and ends so.
+abbrev pub ScriptText : List Row → ℤ → List ℕ → List ℕ → List Row → ℤ → Ended → Type 0
+ScriptText rows last input output new end Whole = IsWhole rows last (lines input) output new end
+ScriptText rows last input output new end (Faulty n) = IsFaulty rows last (lines input) output new end n
+
+-- ---- where memory is refused in a line
+
+-- an answer's lines are taken up to one at which memory is refused
+abbrev pub TakesFront : List Row → Parts → List (List ℕ) → List Row → Type 0
+TakesFront rows url answer new = (k : ℕ) × (k ≤ length answer - 1) × (new ≡ accept_all rows url (take k answer))
+
+-- the step begins so, whatever the order of a session's lines
+abbrev pub HalfStep : List Row → Act → List Row → Type 0
+HalfStep rows (Visits url at commands (Arrives moment)) new =
+    (changes : List Record) × Lists changes (finmap.get (jar_after_all (opened (header_of (given rows url))) commands).changes)
+    × TakesFront rows url (map printed changes) new
+HalfStep rows (Visits url at commands Never) new = new ≡ rows
+HalfStep rows (Answers url answer at) new = TakesFront rows url answer new
+HalfStep rows (Asks url at) new = new ≡ rows
+
+-- a line that isn't done leaves the rows as they were, or as the step that it ends leaves them half-way
+abbrev pub HalfLine : List Row → Reached → Result Reached Cause → List Row → Type 0
+HalfLine rows r led new = (new ≡ rows)
+    ⊎ ((next : Reached) × (act : Act) × (led ≡ Ok next) × (next.acts ≡ r.acts ++ act ∷ []) × HalfStep rows act new)
+
+-- The lines before line n are done and print what they print alone; then comes the fault.
+pub record MemoryText (rows : List Row) (last : ℤ) (input : List ℕ) (output : List ℕ) (new : List Row) (end : ℤ) (n : ℕ) : Type 0 where
+  pub r : Reached
+  pub before : List (List ℕ)
+  pub line : List ℕ
+  pub readings : List ℕ
+  pub mid : List Row
+  pub place : IsLine (lines input) n before line
+  pub leads : LeadsTo (begun last) before r
+  pub prints : Prints rows r readings mid
+  pub half : HalfLine mid r (after_line r line) new
+  pub text : output ≡ readings ++ fault_text n Memory
+  pub moment : end ≡ r.last
+
+abbrev pub EndsForMemory : List Row → ℤ → List ℕ → List ℕ → List Row → ℤ → Ended → Type 0
+EndsForMemory rows last input output new end Whole = ⊥
+EndsForMemory rows last input output new end (Faulty n) = MemoryText rows last input output new end n

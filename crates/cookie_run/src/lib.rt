@@ -1,0 +1,35 @@
+//! Cookies from a site's session to a client and back (RFC 6265), with the proof that a site reads
+//! what it set.
+//!
+//! A [`session::Session`] reads the cookies of a request's header and closes with the lines of
+//! those that were set. A [`client::Client`] keeps the lines that it receives and gives each request
+//! the header of its host. [`play::play`] runs steps of sites against one client; its contract is
+//! that each site reads what its own delivered commands leave.
+#![tactic(auto)]
+
+pub mod client;
+pub mod cookie;
+pub mod device;
+pub mod escape;
+pub mod moment;
+pub mod play;
+pub mod pour;
+pub mod program;
+pub mod reading;
+pub mod row;
+pub mod script;
+pub mod session;
+pub mod step;
+pub mod text;
+
+pub use client::Client;
+pub use cookie::Cookie;
+pub use device::{Counting, Failing, Sink, Source};
+pub use script::ended::{Ended, RunError};
+pub use script::run::run;
+pub use session::Session;
+pub use step::{
+    Command, CookieError, Delivery, Fault, FaultKind, LineEnd, Reading, SessionError, Step,
+    Stopped, StoreAction, Way,
+};
+pub use text::Text;

@@ -1,0 +1,39 @@
+//! The program: a script from a reader, played to a writer.
+ghost use Rattle.std.specs.Prelude.{◌≡◌, ◌⊎◌, ◌^◌, ◌-◌, ℕ, List, IfSome};
+ghost use Rattle.std.specs.Option.{option_map};
+ghost use Rattle.std.specs.Io.KnownBytes.{Appends};
+ghost use Rattle.cookie_run.specs.Device.{Rose};
+ghost use Rattle.cookie_run.specs.Program.{Answers, IsScriptOf};
+
+use crate::client::Client;
+use crate::device::{Sink, Source};
+use crate::moment::begin_1971;
+use crate::script::ended::{Ended, RunError};
+use crate::script::run::run;
+
+/// Runs the script of a reader on a client without a row, from 1971-01-01T00:00:00 on, and answers
+/// the program's exit status, with what goes to standard error at status 2.
+///
+/// The status is 0 where every line was done and 1 after the fault of a line. At 2 the reader failed
+/// (`input`) or the writer (`output`). The words behind the program's name are not looked at.
+pub fn program<R: Source, W: Sink>(
+    rt: &impl AllocGlobal,
+    _words: &[String],
+    reader: &mut R,
+    writer: &mut W,
+) -> (u8, Option<&'static str>)
+    ensures { Answers result.0 (option_map (λ words. words.now) result.1)
+        (λ ended. IfSome (R.left reader.old) (λ input. (output : List ℕ)
+        × Appends (W.written writer.old) (W.written writer.new) output × IsScriptOf input output ended))
+        (Rose (R.failures reader.old) (R.failures reader.new) ⊎ (R.reads reader.new ≡ 2 ^ 64 - 1))
+        (Rose (W.failures writer.old) (W.failures writer.new)) }
+{
+    let mut client = Client::new(rt.alloc());
+    let mut last = begin_1971();
+    match run(rt.alloc(), reader, writer, &mut client, &mut last) {
+        Ok(Ended::Whole) => (0, None),
+        Ok(Ended::Faulty(_)) => (1, None),
+        Err(RunError::Read) => (2, Some("input")),
+        Err(RunError::Write) => (2, Some("output")),
+    }
+}

@@ -1,0 +1,97 @@
+//! The moments of a script.
+ghost use Rattle.std.specs.Prelude.{◌≡◌, ◌≤◌, ◌<◌, ◌^◌, length, option_map};
+ghost use Rattle.std.specs.Str.Parse.{digits_value, AllDigits};
+ghost use Rattle.jiff.specs.Words.{civil_nanos};
+ghost use Rattle.cookie_run.specs.ScriptMoment as spec;
+
+use jiff::civil::DateTime;
+
+/// A moment with each digit blanked to `0`.
+const SHAPE: [u8; 20] = *b"0000-00-00T00:00:00Z";
+
+/// The moment that a text names in the form `YYYY-MM-DDThh:mm:ssZ`, to be read as UTC, where the
+/// day exists and is of the years 1971 to 9998.
+#[tactic(auto, unfolding(crate::specs::ScriptMoment::moment_of))]
+pub fn moment_of(text: &str) -> Option<DateTime>
+    ensures { option_map civil_nanos result ≡ spec.moment_of text.now }
+{
+    let text = text.as_bytes();
+    if !has_shape(text) {
+        return None;
+    }
+    let year = number(&text[0..4]);
+    let month = number(&text[5..7]);
+    let day = number(&text[8..10]);
+    let hour = number(&text[11..13]);
+    let minute = number(&text[14..16]);
+    let second = number(&text[17..19]);
+    moment_at(year, month, day, hour, minute, second)
+}
+
+// The moment of a calendar and a clock that show these numbers.
+fn moment_at(
+    year: u16,
+    month: u16,
+    day: u16,
+    hour: u16,
+    minute: u16,
+    second: u16,
+) -> Option<DateTime>
+    requires year { year < 10000 }
+    requires month { month < 100 }
+    requires day { day < 100 }
+    requires hour { hour < 100 }
+    requires minute { minute < 100 }
+    requires second { second < 100 }
+    ensures { option_map civil_nanos result ≡ spec.moment_if year month day hour minute second }
+{
+    if year < 1971 || 9998 < year {
+        return None;
+    }
+    DateTime::new(
+        year as i16,
+        month as i8,
+        day as i8,
+        hour as i8,
+        minute as i8,
+        second as i8,
+        0,
+    )
+    .ok()
+}
+
+// Whether digits and signs stand in their places.
+fn has_shape(text: &[u8]) -> bool
+    ensures { result ≡ spec.has_shape text.now }
+{
+    if text.len() != SHAPE.len() {
+        return false;
+    }
+    for (i, b) in text.iter().enumerate() {
+        if blanked(*b) != SHAPE[i] {
+            return false;
+        }
+    }
+    true
+}
+
+// `0` for a digit, and every other byte as it is.
+fn blanked(b: u8) -> u8
+    ensures { result ≡ spec.blanked b }
+{
+    if b.is_ascii_digit() { b'0' } else { b }
+}
+
+// The number that a few digits spell.
+fn number(digits: &[u8]) -> u16
+    requires digits { AllDigits 10 digits.now }
+    requires few { length digits.now ≤ 4 }
+    ensures value { result ≡ digits_value 10 digits.now }
+    ensures bound { result < 10 ^ length digits.now }
+{
+    let mut n = 0;
+    for digit in digits {
+        n = n * 10 + u16::from(*digit - b'0');
+    }
+    n
+}

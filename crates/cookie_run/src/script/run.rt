@@ -1,0 +1,96 @@
+//! The run of a script.
+ghost use Rattle.std.specs.Prelude.{◌≡◌, ◌⊎◌, ◌^◌, ◌-◌, ℕ, List, IfOk, OnOk, OnErr, IfErr, IfSome, IsErrOf};
+ghost use Rattle.std.specs.Io.KnownBytes.{Appends};
+ghost use Rattle.jiff.specs.Words.{civil_nanos};
+ghost use Rattle.cookie_run.specs.Device.{Rose};
+ghost use Rattle.cookie_run.specs.ScriptText.{ScriptText, EndsForMemory, fault_text};
+
+use crate::client::Client;
+use crate::device::{Sink, Source};
+use crate::pour::{Stop, flush, read_all, write_all, write_number};
+use crate::script::cause::Cause;
+use crate::script::ended::{Ended, RunError};
+use crate::script::field::cut_line;
+use crate::script::visit::follow;
+use jiff::civil::DateTime;
+use std::alloc::Global;
+
+/// Plays the script that is read, line by line, on the client, and writes what it prints.
+///
+/// `last` is the last moment so far, in UTC; afterwards it is that of the last line done that has
+/// one. The first line with a fault ends the run with `line N: Name` as the last thing printed, and
+/// what was done before it stands. The writer is flushed once, before the run ends.
+///
+/// # Errors
+///
+/// `Read` where a call of the reader failed, or 2^64 - 1 reads met no end, and `Write` where a call of
+/// the writer failed.
+pub fn run<R: Source, W: Sink>(
+    alloc: Global,
+    reader: &mut R,
+    writer: &mut W,
+    client: &mut Client,
+    last: &mut DateTime,
+) -> Result<Ended, RunError>
+    ensures text { IfOk result (λ ended. IfSome (R.left reader.old) (λ input. (output : List ℕ)
+        × Appends (W.written writer.old) (W.written writer.new) output
+        × (ScriptText client.old (civil_nanos last.old) input output client.new (civil_nanos last.new) ended
+        ⊎ EndsForMemory client.old (civil_nanos last.old) input output client.new (civil_nanos last.new) ended))) }
+    ensures read { IsErrOf result RunError.Read → Rose (R.failures reader.old) (R.failures reader.new) ⊎ (R.reads reader.new ≡ 2 ^ 64 - 1) }
+    ensures write { IsErrOf result RunError.Write → Rose (W.failures writer.old) (W.failures writer.new) }
+{
+    match read_all(alloc, reader) {
+        Ok(input) => play_text(alloc, &input, writer, client, last),
+        Err(Stop::Memory) => stop_at(writer, 1, Cause::Memory),
+        Err(Stop::Read) => Err(RunError::Read),
+    }
+}
+
+// Plays the lines of a text, and flushes.
+fn play_text<W: Sink>(
+    alloc: Global,
+    text: &[u8],
+    writer: &mut W,
+    client: &mut Client,
+    last: &mut DateTime,
+) -> Result<Ended, RunError>
+    ensures text { IfOk result (λ ended. (output : List ℕ)
+        × Appends (W.written writer.old) (W.written writer.new) output
+        × (ScriptText client.old (civil_nanos last.old) text.now output client.new (civil_nanos last.new) ended
+        ⊎ EndsForMemory client.old (civil_nanos last.old) text.now output client.new (civil_nanos last.new) ended)) }
+    ensures failures { OnOk result (W.failures writer.new ≡ W.failures writer.old) }
+    ensures write { OnErr result (Rose (W.failures writer.old) (W.failures writer.new)) }
+    ensures only { IfErr result (λ e. e ≡ RunError.Write) }
+{
+    let mut visit = None;
+    let mut done = 0;
+    let mut rest = text;
+    while !rest.is_empty() {
+        let (line, more) = cut_line(rest);
+        match follow(alloc, line, client, last, &mut visit) {
+            Ok(printed) => write_all(writer, printed.as_str().as_bytes())?,
+            Err(cause) => return stop_at(writer, done + 1, cause),
+        }
+        done += 1;
+        rest = more;
+    }
+    flush(writer)?;
+    Ok(Ended::Whole)
+}
+
+// Writes the line of a fault, which takes no memory, and flushes.
+fn stop_at<W: Sink>(writer: &mut W, line: u64, cause: Cause) -> Result<Ended, RunError>
+    ensures text { OnOk result (Appends (W.written writer.old) (W.written writer.new) (fault_text line cause)) }
+    ensures ended { IfOk result (λ ended. ended ≡ Ended.Faulty line) }
+    ensures failures { OnOk result (W.failures writer.new ≡ W.failures writer.old) }
+    ensures write { OnErr result (Rose (W.failures writer.old) (W.failures writer.new)) }
+    ensures only { IfErr result (λ e. e ≡ RunError.Write) }
+{
+    write_all(writer, b"line ")?;
+    write_number(writer, line)?;
+    write_all(writer, b": ")?;
+    write_all(writer, cause.name().as_bytes())?;
+    write_all(writer, b"\n")?;
+    flush(writer)?;
+    Ok(Ended::Faulty(line))
+}

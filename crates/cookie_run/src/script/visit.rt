@@ -1,0 +1,246 @@
+//! The lines of a script, done one at a time.
+//!
+//! Each function answers what its line prints. A line with a fault is not done: the last moment
+//! stays, and so do the rows, but for the lines of an answer before the one at which memory was
+//! refused.
+ghost use Rattle.std.specs.Prelude.{◌≡◌, ℤ, List, IfOk, IfErr, OnErr, string_bytes, map};
+ghost use Rattle.std.specs.FinMap as finmap;
+ghost use Rattle.jiff.specs.Words.{civil_nanos};
+ghost use Rattle.cookie_run.specs.Record.{Record};
+ghost use Rattle.cookie_run.specs.Escape.{printed};
+ghost use Rattle.cookie_run.specs.Jar.{Lists};
+ghost use Rattle.cookie_run.specs.declared.row.Row.{Row};
+ghost use Rattle.cookie_run.specs.ScriptLine as spec;
+ghost use Rattle.cookie_run.specs.ScriptText.{obeyed, after_line, done};
+ghost use Rattle.cookie_run.specs.Standing.{Goes, Halts};
+ghost use Rattle.cookie_run.specs.ScriptRead.{line_of};
+ghost use Rattle.cookie_run.specs.declared.step.Command.TheVariants.{Set, Get};
+
+use crate::client::Client;
+use crate::cookie::Cookie;
+use crate::play::{bytes_of, views_of};
+use crate::script::cause::Cause;
+use crate::script::line::{Line, read_line};
+use crate::script::print::{header_line, value_line};
+use crate::session::Session;
+use crate::step::{Command, SessionError, Way};
+use crate::text::Text;
+use jiff::civil::DateTime;
+use std::alloc::Global;
+use url::Url;
+
+/// The session that is open, and the URL of its request.
+#[derive(Drop)]
+pub struct Visit {
+    pub url: Url,
+    pub session: Session,
+}
+
+/// Does a line of a script. An empty one is passed over.
+pub fn follow(
+    alloc: Global,
+    line: &[u8],
+    client: &mut Client,
+    last: &mut DateTime,
+    visit: &mut Option<Visit>,
+) -> Result<String, Cause>
+    ensures ok { IfOk result (λ text. Goes (λ r. after_line r line.now) client.old (civil_nanos last.old) visit.old client.new (civil_nanos last.new) visit.new (string_bytes text)) }
+    ensures err { IfErr result (λ cause. Halts (λ r. after_line r line.now) client.old (civil_nanos last.old) visit.old cause client.new) }
+    ensures last { OnErr result (last.new ≡ last.old) }
+{
+    if line.is_empty() {
+        return Ok(String::new(alloc));
+    }
+    let asked = match read_line(alloc, line) {
+        Ok(asked) => asked,
+        Err(cause) => return Err(cause),
+    };
+    if asked.goes_back(*last) {
+        return Err(Cause::Back);
+    }
+    obey(alloc, asked, client, last, visit)
+}
+
+// Does what a line asks for, whose moment isn't before the last.
+fn obey(
+    alloc: Global,
+    line: Line,
+    client: &mut Client,
+    last: &mut DateTime,
+    visit: &mut Option<Visit>,
+) -> Result<String, Cause>
+    ensures ok { IfOk result (λ text. Goes (λ r. obeyed r.acts r.last r.now (line_of line)) client.old (civil_nanos last.old) visit.old client.new (civil_nanos last.new) visit.new (string_bytes text)) }
+    ensures err { IfErr result (λ cause. Halts (λ r. obeyed r.acts r.last r.now (line_of line)) client.old (civil_nanos last.old) visit.old cause client.new) }
+    ensures last { OnErr result (last.new ≡ last.old) }
+{
+    match line {
+        Line::Open { url, at } => begin(alloc, url, at, client, last, visit),
+        Line::Command(command) => command_of(alloc, command, visit),
+        Line::Deliver(at) => deliver(alloc, at, client, last, visit),
+        Line::Lose => lose(alloc, visit),
+        Line::Receive { url, lines, at } => receive(alloc, &url, &lines, at, client, last, visit),
+        Line::Header { url, at } => header(alloc, &url, at, client, last, visit),
+    }
+}
+
+// `set` and `get`.
+fn command_of(alloc: Global, command: Command, visit: &mut Option<Visit>) -> Result<String, Cause>
+    ensures ok { IfOk result (λ text. (rows : List Row) (last : ℤ) → Goes (λ r. obeyed r.acts r.last r.now (spec.Commands command)) rows last visit.old rows last visit.new (string_bytes text)) }
+    ensures err { IfErr result (λ cause. (rows : List Row) (last : ℤ) → Halts (λ r. obeyed r.acts r.last r.now (spec.Commands command)) rows last visit.old cause rows) }
+{
+    match command {
+        Command::Set(way, cookie) => set(alloc, way, cookie, visit),
+        Command::Get(way, name) => get(alloc, way, &name, visit),
+    }
+}
+
+// `open`: a session on the client's header.
+fn begin(
+    alloc: Global,
+    url: Url,
+    at: DateTime,
+    client: &Client,
+    last: &mut DateTime,
+    visit: &mut Option<Visit>,
+) -> Result<String, Cause>
+    ensures ok { IfOk result (λ text. Goes (λ r. obeyed r.acts r.last r.now (spec.Opens url (civil_nanos at))) client.now (civil_nanos last.old) visit.old client.now (civil_nanos last.new) visit.new (string_bytes text)) }
+    ensures err { IfErr result (λ cause. Halts (λ r. obeyed r.acts r.last r.now (spec.Opens url (civil_nanos at))) client.now (civil_nanos last.old) visit.old cause client.now) }
+    ensures last { OnErr result (last.new ≡ last.old) }
+{
+    if visit.is_some() {
+        return Err(Cause::Open);
+    }
+    let header = client.header(&url, at)?;
+    let session = Session::open(alloc, header.as_str().as_bytes())?;
+    *visit = Some(Visit { url, session });
+    *last = at;
+    Ok(String::new(alloc))
+}
+
+// `set`.
+fn set(alloc: Global, way: Way, cookie: Cookie, visit: &mut Option<Visit>) -> Result<String, Cause>
+    ensures ok { IfOk result (λ text. (rows : List Row) (last : ℤ) → Goes (λ r. obeyed r.acts r.last r.now (spec.Commands (Set way cookie))) rows last visit.old rows last visit.new (string_bytes text)) }
+    ensures err { IfErr result (λ cause. (rows : List Row) (last : ℤ) → Halts (λ r. obeyed r.acts r.last r.now (spec.Commands (Set way cookie))) rows last visit.old cause rows) }
+{
+    let Some(Visit { url, mut session }) = visit.take() else {
+        return Err(Cause::NoSession);
+    };
+    let end = session.set(way, cookie);
+    *visit = Some(Visit { url, session });
+    match end {
+        Ok(()) => Ok(String::new(alloc)),
+        Err(SessionError::EmptyName) => Err(Cause::EmptyName),
+        Err(SessionError::OutOfMemory) => Err(Cause::Memory),
+    }
+}
+
+// `get`.
+fn get(alloc: Global, way: Way, name: &Text, visit: &Option<Visit>) -> Result<String, Cause>
+    ensures ok { IfOk result (λ text. (rows : List Row) (last : ℤ) → Goes (λ r. obeyed r.acts r.last r.now (spec.Commands (Get way name.now))) rows last visit.now rows last visit.now (string_bytes text)) }
+    ensures err { IfErr result (λ cause. (rows : List Row) (last : ℤ) → Halts (λ r. obeyed r.acts r.last r.now (spec.Commands (Get way name.now))) rows last visit.now cause rows) }
+{
+    let Some(open) = visit else {
+        return Err(Cause::NoSession);
+    };
+    match open.session.get(way, name.as_str()) {
+        Ok(value) => Ok(value_line(alloc, way, name.as_str(), &value)?),
+        Err(SessionError::EmptyName) => Err(Cause::EmptyName),
+        Err(SessionError::OutOfMemory) => Err(Cause::Memory),
+    }
+}
+
+// `deliver`: the lines that the session closes with come to the client.
+fn deliver(
+    alloc: Global,
+    at: DateTime,
+    client: &mut Client,
+    last: &mut DateTime,
+    visit: &mut Option<Visit>,
+) -> Result<String, Cause>
+    ensures ok { IfOk result (λ text. Goes (λ r. obeyed r.acts r.last r.now (spec.Delivers (civil_nanos at))) client.old (civil_nanos last.old) visit.old client.new (civil_nanos last.new) visit.new (string_bytes text)) }
+    ensures err { IfErr result (λ cause. Halts (λ r. obeyed r.acts r.last r.now (spec.Delivers (civil_nanos at))) client.old (civil_nanos last.old) visit.old cause client.new) }
+    ensures last { OnErr result (last.new ≡ last.old) }
+{
+    let Some(open) = visit else {
+        return Err(Cause::NoSession);
+    };
+    let lines = closed_lines(&open.session)?;
+    let views = bytes_of(alloc, &lines)?;
+    if client.receive(&open.url, &views, at).is_err() {
+        return Err(Cause::Memory);
+    }
+    *visit = None;
+    *last = at;
+    Ok(String::new(alloc))
+}
+
+// `lose`: they don't.
+fn lose(alloc: Global, visit: &mut Option<Visit>) -> Result<String, Cause>
+    ensures ok { IfOk result (λ text. (rows : List Row) (last : ℤ) → Goes (λ r. obeyed r.acts r.last r.now spec.Loses) rows last visit.old rows last visit.new (string_bytes text)) }
+    ensures err { IfErr result (λ cause. (rows : List Row) (last : ℤ) → Halts (λ r. obeyed r.acts r.last r.now spec.Loses) rows last visit.old cause rows) }
+{
+    if visit.is_none() {
+        return Err(Cause::NoSession);
+    }
+    *visit = None;
+    Ok(String::new(alloc))
+}
+
+// `receive`: an answer that no session made.
+fn receive(
+    alloc: Global,
+    url: &Url,
+    lines: &[Vec<u8>],
+    at: DateTime,
+    client: &mut Client,
+    last: &mut DateTime,
+    visit: &Option<Visit>,
+) -> Result<String, Cause>
+    ensures ok { IfOk result (λ text. Goes (λ r. obeyed r.acts r.last r.now (spec.Receives url.now (map (λ line. line.items) lines.now) (civil_nanos at))) client.old (civil_nanos last.old) visit.now client.new (civil_nanos last.new) visit.now (string_bytes text)) }
+    ensures err { IfErr result (λ cause. Halts (λ r. obeyed r.acts r.last r.now (spec.Receives url.now (map (λ line. line.items) lines.now) (civil_nanos at))) client.old (civil_nanos last.old) visit.now cause client.new) }
+    ensures last { OnErr result (last.new ≡ last.old) }
+{
+    if visit.is_some() {
+        return Err(Cause::Open);
+    }
+    let views = views_of(alloc, lines)?;
+    if client.receive(url, &views, at).is_err() {
+        return Err(Cause::Memory);
+    }
+    *last = at;
+    Ok(String::new(alloc))
+}
+
+// `header`: a look at the header of a request.
+fn header(
+    alloc: Global,
+    url: &Url,
+    at: DateTime,
+    client: &Client,
+    last: &mut DateTime,
+    visit: &Option<Visit>,
+) -> Result<String, Cause>
+    ensures ok { IfOk result (λ text. Goes (λ r. obeyed r.acts r.last r.now (spec.Heads url.now (civil_nanos at))) client.now (civil_nanos last.old) visit.now client.now (civil_nanos last.new) visit.now (string_bytes text)) }
+    ensures err { IfErr result (λ cause. Halts (λ r. obeyed r.acts r.last r.now (spec.Heads url.now (civil_nanos at))) client.now (civil_nanos last.old) visit.now cause client.now) }
+    ensures last { OnErr result (last.new ≡ last.old) }
+{
+    if visit.is_some() {
+        return Err(Cause::Open);
+    }
+    let header = client.header(url, at)?;
+    let line = header_line(alloc, header.as_str())?;
+    *last = at;
+    Ok(line)
+}
+
+// The lines that a session closes with.
+fn closed_lines(session: &Session) -> Result<Vec<String>, Cause>
+    ensures lines { IfOk result (λ lines. (changes : List Record) × Lists changes (finmap.get session.now.changes)
+        × (map string_bytes lines.items ≡ map printed changes)) }
+    ensures err { IfErr result (λ cause. cause ≡ Cause.Memory) }
+{
+    match session.close() {
+        Ok(lines) => Ok(lines),
+        Err(_) => Err(Cause::Memory),
+    }
+}
