@@ -1,0 +1,9 @@
+//! Tests of the crates below the store: vectors and examples from public documents.
+#![tactic(auto)]
+
+#[cfg(test)]
+mod parts_tests;
+#[cfg(test)]
+mod seal_tests;
+#[cfg(test)]
+mod suffix_tests;

@@ -1,0 +1,370 @@
+//! Tests of `seal`. Expected values are those that the standards print.
+
+ghost use Rattle.std.specs.Prelude.{◌≡◌, ◌≤◌, ◌<◌, length};
+
+use hex::FromHex;
+use seal::{SealError, expand, hmac, open, seal};
+use sha2::{Digest, Sha256};
+use std::process::Abort;
+use std::test::Fail;
+
+// RFC 4231, section 4, test cases 1 to 4, 6 and 7: key, data and code.
+#[test]
+fn codes_as_rfc_4231(rt: HostRuntime) -> Result<(), Fail> {
+    let larger_than_a_block =
+        b"This is a test using a larger than block-size key and a larger than \
+block-size data. The key needs to be hashed before being used by the HMAC algorithm.";
+    let cases = [
+        (
+            [0x0Bu8; 20].as_slice(),
+            b"Hi There".as_slice(),
+            "b0344c61d8db38535ca8afceaf0bf12b881dc200c9833da726e9376c2e32cff7",
+        ),
+        (
+            b"Jefe".as_slice(),
+            b"what do ya want for nothing?".as_slice(),
+            "5bdcc146bf60754e6a042426089575c75a003f089d2739839dec58b964ec3843",
+        ),
+        (
+            [0xAA; 20].as_slice(),
+            [0xDD; 50].as_slice(),
+            "773ea91e36800e46854db8ebd09181a72959098b3ef8c122d9635514ced565fe",
+        ),
+        (
+            [
+                1, 2, 3, 4, 5, 6, 7, 8, 9, 10, 11, 12, 13, 14, 15, 16, 17, 18, 19, 20, 21, 22, 23,
+                24, 25,
+            ]
+            .as_slice(),
+            [0xCD; 50].as_slice(),
+            "82558a389a443c0ea4cc819899f2083a85f0faa3e578f8077a2e3ff46729665b",
+        ),
+        (
+            [0xAA; 131].as_slice(),
+            b"Test Using Larger Than Block-Size Key - Hash Key First".as_slice(),
+            "60e431591ee0b67f0d8a26aacbf5b77f8e0bc6213728c5140546040f0ee37f54",
+        ),
+        (
+            [0xAA; 131].as_slice(),
+            larger_than_a_block.as_slice(),
+            "9b09ffa71b942fcb27635fbcd5b0e944bfdc63644f0713938a7f51535c3a35e2",
+        ),
+    ];
+    for (key, data, code) in cases {
+        assert_eq!(rt;
+            hmac(key, data),
+            <[u8; 32] as FromHex>::from_hex(code)?,
+            "{code}"
+        );
+    }
+    Ok(())
+}
+
+// RFC 4231, section 4.6, test case 5: the first half of the code.
+#[test]
+fn codes_as_rfc_4231_cut_short(rt: HostRuntime) -> Result<(), Fail> {
+    let code = hmac(&[0x0C; 20], b"Test With Truncation");
+    let wanted = <[u8; 16] as FromHex>::from_hex("a3b6167473100ee06e0c796c2955552b")?;
+    assert_eq!(rt; &code[..16], &wanted[..]);
+    Ok(())
+}
+
+// RFC 2104, section 2: a key longer than a block stands for its digest, one of a block for itself.
+#[test]
+fn codes_long_keys_by_their_digest(rt: HostRuntime) {
+    let key = [0x61; 65];
+    assert_eq!(rt; hmac(&key, b"text"), hmac(&Sha256::digest(&key), b"text"));
+    assert_ne!(rt;
+        hmac(&key[..64], b"text"),
+        hmac(&Sha256::digest(&key[..64]), b"text")
+    );
+}
+
+// RFC 5869, appendix A.1 to A.3: prk, info and okm.
+#[test]
+fn expands_as_rfc_5869(rt: HostRuntime) -> Result<(), Fail> {
+    let cases = [
+        (
+            "077709362c2e32df0ddc3f0dc47bba6390b6c73bb50f9c3122ec844ad7c2b3e5",
+            "f0f1f2f3f4f5f6f7f8f9",
+            "3cb25f25faacd57a90434f64d0362f2a2d2d0a90cf1a5a4c5db02d56ecc4c5bf34007208d5b887185865",
+        ),
+        (
+            "06a6b88c5853361a06104c9ceb35b45cef760014904671014a193f40c15fc244",
+            "b0b1b2b3b4b5b6b7b8b9babbbcbdbebfc0c1c2c3c4c5c6c7c8c9cacbcccdcecfd0d1d2d3d4d5d6d7d8d9dadbdcdd\
+dedfe0e1e2e3e4e5e6e7e8e9eaebecedeeeff0f1f2f3f4f5f6f7f8f9fafbfcfdfeff",
+            "b11e398dc80327a1c8e7f78c596a49344f012eda2d4efad8a050cc4c19afa97c59045a99cac7827271cb41c65e59\
+0e09da3275600c2f09b8367793a9aca3db71cc30c58179ec3e87c14c01d5c1f3434f1d87",
+        ),
+        (
+            "19ef24a32c717b167f33a91d6f648bdf96596776afdb6377ac434c1c293ccb04",
+            "",
+            "8da4e775a563c18f715f802a063c5a31b8a11f5c5ee1879ec3454e5f3c738d2d9d201395faa4b61a96c8",
+        ),
+    ];
+    for (prk, info, okm) in cases {
+        let prk = hex::decode(rt.alloc(), prk)?;
+        let info = hex::decode(rt.alloc(), info)?;
+        let okm = hex::decode(rt.alloc(), okm)?;
+        let mut out = vec![in rt.alloc(); 0u8; okm.len()]?;
+        assert_eq!(rt; expand(&prk, &info, &mut out), Ok(()));
+        assert_eq!(rt; out, okm);
+    }
+    Ok(())
+}
+
+// RFC 5869, section 2.3: at most 255 digests, and a key of a digest at least.
+#[test]
+fn expands_within_limits(rt: HostRuntime) -> Result<(), Fail> {
+    let cases = [
+        (31, 8161, Err(SealError::ShortKey)),
+        (31, 0, Err(SealError::ShortKey)),
+        (32, 8161, Err(SealError::TooLong)),
+        (32, 8160, Ok(())),
+        (32, 0, Ok(())),
+        (33, 1, Ok(())),
+    ];
+    for (key_len, len, answer) in cases {
+        let prk = vec![in rt.alloc(); 0u8; key_len]?;
+        let mut out = vec![in rt.alloc(); 0x5Au8; len]?;
+        let untouched = vec![in rt.alloc(); 0x5Au8; len]?;
+        assert_eq!(rt;
+            expand(&prk, b"info", &mut out),
+            answer,
+            "{key_len} and {len}"
+        );
+        assert_eq!(rt;
+            out == untouched,
+            answer.is_err() || len == 0,
+            "{key_len} and {len}"
+        );
+    }
+    Ok(())
+}
+
+#[test]
+fn prints_each_error_as_its_name(rt: HostRuntime) -> Result<(), Fail> {
+    let cases = [
+        (SealError::ShortKey, "ShortKey"),
+        (SealError::TooLong, "TooLong"),
+        (SealError::Refused, "Refused"),
+    ];
+    for (error, name) in cases {
+        assert_eq!(rt; format!(in rt.alloc(); "{error}")?.as_str(), name);
+        assert_eq!(rt; format!(in rt.alloc(); "{error:?}")?.as_str(), name);
+    }
+    Ok(())
+}
+
+// One sealing that a public document prints, in hexadecimal.
+struct Vector {
+    key: &'static str,
+    nonce: &'static str,
+    aad: &'static str,
+    text: &'static str,
+    ciphertext: &'static str,
+    tag: &'static str,
+}
+
+// Test cases 13 to 16 of "The Galois/Counter Mode of Operation (GCM)" (McGrew and Viega), which
+// SP 800-38D takes up.
+const ALGORITHM: [Vector; 4] = [
+    Vector {
+        key: "0000000000000000000000000000000000000000000000000000000000000000",
+        nonce: "000000000000000000000000",
+        aad: "",
+        text: "",
+        ciphertext: "",
+        tag: "530f8afbc74536b9a963b4f1c4cb738b",
+    },
+    Vector {
+        key: "0000000000000000000000000000000000000000000000000000000000000000",
+        nonce: "000000000000000000000000",
+        aad: "",
+        text: "00000000000000000000000000000000",
+        ciphertext: "cea7403d4d606b6e074ec5d3baf39d18",
+        tag: "d0d1c8a799996bf0265b98b5d48ab919",
+    },
+    Vector {
+        key: "feffe9928665731c6d6a8f9467308308feffe9928665731c6d6a8f9467308308",
+        nonce: "cafebabefacedbaddecaf888",
+        aad: "",
+        text: "d9313225f88406e5a55909c5aff5269a86a7a9531534f7da2e4c303d8a318a721c3c0c95956809532fcf0e24\
+49a6b525b16aedf5aa0de657ba637b391aafd255",
+        ciphertext: "522dc1f099567d07f47f37a32a84427d643a8cdcbfe5c0c97598a2bd2555d1aa8cb08e48590dbb3da7b0\
+8b1056828838c5f61e6393ba7a0abcc9f662898015ad",
+        tag: "b094dac5d93471bdec1a502270e3cc6c",
+    },
+    Vector {
+        key: "feffe9928665731c6d6a8f9467308308feffe9928665731c6d6a8f9467308308",
+        nonce: "cafebabefacedbaddecaf888",
+        aad: "feedfacedeadbeeffeedfacedeadbeefabaddad2",
+        text: "d9313225f88406e5a55909c5aff5269a86a7a9531534f7da2e4c303d8a318a721c3c0c95956809532fcf0e24\
+49a6b525b16aedf5aa0de657ba637b39",
+        ciphertext: "522dc1f099567d07f47f37a32a84427d643a8cdcbfe5c0c97598a2bd2555d1aa8cb08e48590dbb3da7b0\
+8b1056828838c5f61e6393ba7a0abcc9f662",
+        tag: "76fc6ece0f4e1768cddf8853bb2d551b",
+    },
+];
+
+// NIST's CAVP file gcmEncryptExtIV256.rsp: nonces of 96 bits, tags of 128.
+const VALIDATION: [Vector; 5] = [
+    Vector {
+        key: "b52c505a37d78eda5dd34f20c22540ea1b58963cf8e5bf8ffa85f9f2492505b4",
+        nonce: "516c33929df5a3284ff463d7",
+        aad: "",
+        text: "",
+        ciphertext: "",
+        tag: "bdc1ac884d332457a1d2664f168c76f0",
+    },
+    Vector {
+        key: "5fe0861cdc2690ce69b3658c7f26f8458eec1c9243c5ba0845305d897e96ca0f",
+        nonce: "770ac1a5a3d476d5d96944a1",
+        aad: "",
+        text: "",
+        ciphertext: "",
+        tag: "196d691e1047093ca4b3d2ef4baba216",
+    },
+    Vector {
+        key: "31bdadd96698c204aa9ce1448ea94ae1fb4a9a0b3c9d773b51bb1822666b8f22",
+        nonce: "0d18e06c7c725ac9e362e1ce",
+        aad: "",
+        text: "2db5168e932556f8089a0622981d017d",
+        ciphertext: "fa4362189661d163fcd6a56d8bf0405a",
+        tag: "d636ac1bbedd5cc3ee727dc2ab4a9489",
+    },
+    Vector {
+        key: "78dc4e0aaf52d935c3c01eea57428f00ca1fd475f5da86a49c8dd73d68c8e223",
+        nonce: "d79cf22d504cc793c3fb6c8a",
+        aad: "b96baa8c1c75a671bfb2d08d06be5f36",
+        text: "",
+        ciphertext: "",
+        tag: "3e5d486aa2e30b22e040b85723a06e76",
+    },
+    Vector {
+        key: "92e11dcdaa866f5ce790fd24501f92509aacf4cb8b1339d50c9c1240935dd08b",
+        nonce: "ac93a1a6145299bde902f21a",
+        aad: "1e0889016f67601c8ebea4943bc23ad6",
+        text: "2d71bcfa914e4ac045b2aa60955fad24",
+        ciphertext: "8995ae2e6df3dbf96fac7b7137bae67f",
+        tag: "eca5aa77d51d4a0a14d9c51e1da474ab",
+    },
+];
+
+#[test]
+fn seals_and_opens_as_published(rt: HostRuntime) -> Result<(), Fail> {
+    for vector in ALGORITHM.iter().chain(VALIDATION.iter()) {
+        let key = <[u8; 32] as FromHex>::from_hex(vector.key)?;
+        let nonce = <[u8; 12] as FromHex>::from_hex(vector.nonce)?;
+        let tag = <[u8; 16] as FromHex>::from_hex(vector.tag)?;
+        let aad = hex::decode(rt.alloc(), vector.aad)?;
+        let plain = hex::decode(rt.alloc(), vector.text)?;
+        let ciphertext = hex::decode(rt.alloc(), vector.ciphertext)?;
+        let mut text = hex::decode(rt.alloc(), vector.text)?;
+        assert_eq!(rt;
+            seal(&key, &nonce, &aad, &mut text),
+            Ok(tag),
+            "{}",
+            vector.tag
+        );
+        assert_eq!(rt; text, ciphertext, "{}", vector.tag);
+        assert_eq!(rt;
+            open(&key, &nonce, &aad, &mut text, &tag),
+            Ok(()),
+            "{}",
+            vector.tag
+        );
+        assert_eq!(rt; text, plain, "{}", vector.tag);
+    }
+    Ok(())
+}
+
+// The second vector above, with one bit of its tag turned.
+#[test]
+fn refuses_a_turned_tag(rt: HostRuntime) -> Result<(), Fail> {
+    let ciphertext = <[u8; 16] as FromHex>::from_hex("cea7403d4d606b6e074ec5d3baf39d18")?;
+    let tag = <[u8; 16] as FromHex>::from_hex("d0d1c8a799996bf0265b98b5d48ab919")?;
+    for bit in 0..128usize {
+        let mut turned = tag;
+        turned[bit / 8] = turned[bit / 8] ^ (1 << (bit % 8));
+        assert!(rt;
+            refuses(&[0; 32], &[0; 12], &[], &ciphertext, &turned),
+            "bit {bit}"
+        );
+    }
+    assert!(rt; !refuses(&[0; 32], &[0; 12], &[], &ciphertext, &tag));
+    Ok(())
+}
+
+// Whether opening is refused and leaves the text as it was.
+fn refuses(key: &[u8; 32], nonce: &[u8; 12], aad: &[u8], ciphertext: &[u8], tag: &[u8; 16]) -> bool
+    requires { length ciphertext.now ≤ 64 }
+{
+    let mut text = [0; 64];
+    let text = &mut text[..ciphertext.len()];
+    text.copy_from_slice(ciphertext);
+    let answer = open(key, nonce, aad, text, tag);
+    answer == Err(SealError::Refused) && *text == *ciphertext
+}
+
+// Every length of text up to 64 beside some of aad, and the other way round.
+#[test]
+fn opens_what_was_sealed_and_nothing_else(rt: HostRuntime) {
+    for length in 0..65usize {
+        for other in [0usize, 1, 15, 16, 17, 33, 64] {
+            seals_and_opens(&rt, length, other);
+            seals_and_opens(&rt, other, length);
+        }
+    }
+}
+
+// Seals, turns one bit of each part in turn, and opens.
+fn seals_and_opens(rt: &impl Abort, text_len: usize, aad_len: usize)
+    requires { (text_len ≤ 64) × (aad_len ≤ 64) }
+{
+    let place = 5 * text_len + 3 * aad_len;
+    let mut key = [0x11; 32];
+    let mut nonce = [0x22; 12];
+    let mut aad = [0x33; 64];
+    let plain = [0x44; 64];
+    let mut text = plain;
+    let sealed = seal(&key, &nonce, &aad[..aad_len], &mut text[..text_len]);
+    assert!(rt; sealed.is_ok(), "{text_len} and {aad_len}");
+    let mut tag = sealed.unwrap_or([0; 16]);
+    let mut ciphertext = text;
+    let opened = open(&key, &nonce, &aad[..aad_len], &mut text[..text_len], &tag);
+    assert_eq!(rt; opened, Ok(()), "{text_len} and {aad_len}");
+    assert_eq!(rt; text, plain, "{text_len} and {aad_len}");
+    if text_len > 0 {
+        turn(&mut ciphertext[..text_len], place);
+        let refused = refuses(&key, &nonce, &aad[..aad_len], &ciphertext[..text_len], &tag);
+        assert!(rt; refused, "{text_len} and {aad_len}, text");
+        turn(&mut ciphertext[..text_len], place);
+    }
+    if aad_len > 0 {
+        turn(&mut aad[..aad_len], place);
+        let refused = refuses(&key, &nonce, &aad[..aad_len], &ciphertext[..text_len], &tag);
+        assert!(rt; refused, "{text_len} and {aad_len}, aad");
+        turn(&mut aad[..aad_len], place);
+    }
+    turn(&mut tag, place);
+    let refused = refuses(&key, &nonce, &aad[..aad_len], &ciphertext[..text_len], &tag);
+    assert!(rt; refused, "{text_len} and {aad_len}, tag");
+    turn(&mut tag, place);
+    turn(&mut nonce, place);
+    let refused = refuses(&key, &nonce, &aad[..aad_len], &ciphertext[..text_len], &tag);
+    assert!(rt; refused, "{text_len} and {aad_len}, nonce");
+    turn(&mut nonce, place);
+    turn(&mut key, place);
+    let refused = refuses(&key, &nonce, &aad[..aad_len], &ciphertext[..text_len], &tag);
+    assert!(rt; refused, "{text_len} and {aad_len}, key");
+}
+
+// Turns one bit.
+fn turn(bytes: &mut [u8], place: usize)
+    requires { 0 < length bytes.old }
+    ensures { length bytes.new ≡ length bytes.old }
+{
+    let at = place % bytes.len();
+    bytes[at] = bytes[at] ^ (1 << (place % 8));
+}

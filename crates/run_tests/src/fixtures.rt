@@ -1,0 +1,28 @@
+//! What several tests begin with.
+use cookie_run::{Cookie, Text};
+use jiff::SignedDuration;
+use jiff::civil::{DateTime, datetime};
+use std::alloc::{AllocError, Global};
+
+/// So many seconds after the beginning of 2024.
+pub fn second(n: i64) -> DateTime {
+    datetime(2024, 1, 1, 0, 0, 0, 0).saturating_add(SignedDuration::from_secs(n))
+}
+
+/// Where a run begins.
+pub fn beginning() -> DateTime {
+    datetime(1971, 1, 1, 0, 0, 0, 0)
+}
+
+/// A cookie of this name and value.
+pub fn cookie(alloc: Global, name: &str, value: &str) -> Result<Cookie, AllocError> {
+    Ok(Cookie::new_owned(
+        String::from_str(alloc, name)?,
+        String::from_str(alloc, value)?,
+    ))
+}
+
+/// An owned text.
+pub fn text(alloc: Global, text: &str) -> Result<Text, AllocError> {
+    Ok(Text::of(String::from_str(alloc, text)?))
+}

@@ -1,0 +1,21 @@
+//! Tests of `cookie_run` by its public calls.
+//!
+//! Expected values come from RFC 6265, from the script's grammar and from worked examples, none from
+//! the library's own output. What the contracts say for every input is not tested again: these tests
+//! show that the calls succeed, that the clauses mean what was meant, and what no clause says.
+#![tactic(auto)]
+
+#[cfg(test)]
+mod client_tests;
+#[cfg(test)]
+mod devices;
+#[cfg(test)]
+mod fixtures;
+#[cfg(test)]
+mod memory;
+#[cfg(test)]
+mod play_tests;
+#[cfg(test)]
+mod script_tests;
+#[cfg(test)]
+mod stream_tests;
