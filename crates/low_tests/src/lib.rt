@@ -2,6 +2,10 @@
 #![tactic(auto)]
 
 #[cfg(test)]
+mod cookie_tests;
+#[cfg(test)]
+mod date_tests;
+#[cfg(test)]
 mod parts_tests;
 #[cfg(test)]
 mod seal_tests;
