@@ -8,6 +8,10 @@ mod date_tests;
 #[cfg(test)]
 mod parts_tests;
 #[cfg(test)]
+mod print_tests;
+#[cfg(test)]
+mod record_tests;
+#[cfg(test)]
 mod seal_tests;
 #[cfg(test)]
 mod suffix_tests;
