@@ -6,6 +6,10 @@ mod cookie_tests;
 #[cfg(test)]
 mod date_tests;
 #[cfg(test)]
+mod key_tests;
+#[cfg(test)]
+mod memory;
+#[cfg(test)]
 mod parts_tests;
 #[cfg(test)]
 mod print_tests;

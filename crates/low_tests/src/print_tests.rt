@@ -1,134 +1,119 @@
 //! What cookies print that were set, and the escapes.
-use cookie_text::{Cookie, CookieBuilder, Expiration, SameSite};
+use cookie_text::{Cookie, CookieBuilder, Expiration, ParseError, SameSite};
 use jiff::SignedDuration;
 use jiff::civil::DateTime;
-use std::alloc::Global;
-use std::process::Abort;
+use std::alloc::{AllocError, Global};
+use std::fmt::Display;
 use std::test::Fail;
 
-fn check(rt: &impl Abort, alloc: Global, cookie: &Cookie<'_>, wanted: &str) -> Result<(), Fail> {
-    let printed = cookie.to_string(alloc)?;
-    assert_eq!(rt; printed.as_str(), wanted);
-    Ok(())
+// Whether this is what is printed.
+pub fn prints<D: Display>(alloc: Global, shown: &D, wanted: &str) -> bool {
+    match format!(in alloc; "{shown}") {
+        Ok(printed) => printed.as_str() == wanted,
+        Err(_) => false,
+    }
 }
 
 // `Secure` where it is true, or `SameSite=None` stands and nothing is said of it, or `Partitioned`.
 #[test]
-fn prints_secure(rt: HostRuntime) -> Result<(), Fail> {
-    let mut cookie = Cookie::build(Cookie::new("foo", "bar"))
-        .same_site(SameSite::None)
-        .build();
-    check(&rt, rt.alloc(), &cookie, "foo=bar; SameSite=None; Secure")?;
+fn prints_secure(rt: HostRuntime) {
+    let alloc = rt.alloc();
+    let base = Cookie::new("foo", "bar");
+    let mut cookie = Cookie::build(base).same_site(SameSite::None).build();
+    assert!(rt; prints(alloc, &cookie, "foo=bar; SameSite=None; Secure"));
     cookie.set_secure(Some(false));
-    check(&rt, rt.alloc(), &cookie, "foo=bar; SameSite=None")?;
+    assert!(rt; prints(alloc, &cookie, "foo=bar; SameSite=None"));
     cookie.set_secure(Some(true));
-    check(&rt, rt.alloc(), &cookie, "foo=bar; SameSite=None; Secure")?;
+    assert!(rt; prints(alloc, &cookie, "foo=bar; SameSite=None; Secure"));
     cookie.set_same_site(Some(SameSite::Strict));
-    check(&rt, rt.alloc(), &cookie, "foo=bar; SameSite=Strict; Secure")?;
+    assert!(rt; prints(alloc, &cookie, "foo=bar; SameSite=Strict; Secure"));
     cookie.set_secure(Some(false));
     cookie.set_partitioned(Some(true));
-    check(
-        &rt,
-        rt.alloc(),
-        &cookie,
-        "foo=bar; SameSite=Strict; Partitioned; Secure",
-    )?;
+    assert!(rt;
+        prints(
+            alloc,
+            &cookie,
+            "foo=bar; SameSite=Strict; Partitioned; Secure"
+        )
+    );
     cookie.set_partitioned(Some(false));
     cookie.set_http_only(Some(false));
-    check(&rt, rt.alloc(), &cookie, "foo=bar; SameSite=Strict")
+    assert!(rt; prints(alloc, &cookie, "foo=bar; SameSite=Strict"));
+}
+
+// Whether a cookie with this max-age prints it so.
+fn prints_length(alloc: Global, max_age: SignedDuration, wanted: &str) -> bool {
+    prints(
+        alloc,
+        &CookieBuilder::new("a", "1").max_age(max_age),
+        wanted,
+    )
 }
 
 // The fraction of a length is dropped, and the minus where nothing is left.
 #[test]
-fn prints_lengths(rt: HostRuntime) -> Result<(), Fail> {
-    let mut cookie = Cookie::new("a", "1");
-    cookie.set_max_age(Some(SignedDuration::new(7, 900_000_000)));
-    check(&rt, rt.alloc(), &cookie, "a=1; Max-Age=7")?;
-    cookie.set_max_age(Some(SignedDuration::new(-1, -900_000_000)));
-    check(&rt, rt.alloc(), &cookie, "a=1; Max-Age=-1")?;
-    cookie.set_max_age(Some(SignedDuration::new(0, -900_000_000)));
-    check(&rt, rt.alloc(), &cookie, "a=1; Max-Age=0")?;
-    cookie.set_max_age(Some(SignedDuration::MAX));
-    check(&rt, rt.alloc(), &cookie, "a=1; Max-Age=9223372036854775807")?;
-    cookie.set_max_age(Some(SignedDuration::MIN));
-    check(
-        &rt,
-        rt.alloc(),
-        &cookie,
-        "a=1; Max-Age=-9223372036854775808",
-    )
+fn prints_lengths(rt: HostRuntime) {
+    let alloc = rt.alloc();
+    let length = SignedDuration::new(7, 900_000_000);
+    assert!(rt; prints_length(alloc, length, "a=1; Max-Age=7"));
+    let length = SignedDuration::new(-1, -900_000_000);
+    assert!(rt; prints_length(alloc, length, "a=1; Max-Age=-1"));
+    let length = SignedDuration::new(0, -900_000_000);
+    assert!(rt; prints_length(alloc, length, "a=1; Max-Age=0"));
+    let longest = "a=1; Max-Age=9223372036854775807";
+    assert!(rt; prints_length(alloc, SignedDuration::MAX, longest));
+    let lowest = "a=1; Max-Age=-9223372036854775808";
+    assert!(rt; prints_length(alloc, SignedDuration::MIN, lowest));
+}
+
+// Whether a cookie that ends then prints it so.
+fn prints_end(alloc: Global, end: Expiration, wanted: &str) -> bool {
+    prints(alloc, &CookieBuilder::new("a", "1").expires(end), wanted)
 }
 
 // Years have no leading zeros, and below zero a minus; the end of the session isn't printed.
 #[test]
-fn prints_ends(rt: HostRuntime) -> Result<(), Fail> {
-    let mut cookie = Cookie::new("a", "1");
-    cookie.set_expires(Expiration::DateTime(DateTime::constant(-1, 1, 1, 0, 0, 0, 0)));
-    check(
-        &rt,
-        rt.alloc(),
-        &cookie,
-        "a=1; Expires=Fri, 01 Jan -1 00:00:00 GMT",
-    )?;
-    cookie.set_expires(Expiration::DateTime(DateTime::constant(0, 2, 29, 0, 0, 0, 0)));
-    check(
-        &rt,
-        rt.alloc(),
-        &cookie,
-        "a=1; Expires=Tue, 29 Feb 0 00:00:00 GMT",
-    )?;
-    cookie.set_expires(Expiration::DateTime(DateTime::constant(
-        99,
-        12,
-        31,
-        23,
-        59,
-        59,
-        999_999_999,
-    )));
-    check(
-        &rt,
-        rt.alloc(),
-        &cookie,
-        "a=1; Expires=Thu, 31 Dec 99 23:59:59 GMT",
-    )?;
-    cookie.set_expires(Expiration::DateTime(DateTime::MAX));
-    check(
-        &rt,
-        rt.alloc(),
-        &cookie,
-        "a=1; Expires=Fri, 31 Dec 9999 23:59:59 GMT",
-    )?;
-    cookie.set_expires(Expiration::Session);
-    check(&rt, rt.alloc(), &cookie, "a=1")
+fn prints_ends(rt: HostRuntime) {
+    let alloc = rt.alloc();
+    let end = Expiration::DateTime(DateTime::constant(-1, 1, 1, 0, 0, 0, 0));
+    assert!(rt; prints_end(alloc, end, "a=1; Expires=Fri, 01 Jan -1 00:00:00 GMT"));
+    let end = Expiration::DateTime(DateTime::constant(0, 2, 29, 0, 0, 0, 0));
+    assert!(rt; prints_end(alloc, end, "a=1; Expires=Tue, 29 Feb 0 00:00:00 GMT"));
+    let end = Expiration::DateTime(DateTime::constant(99, 12, 31, 23, 59, 59, 999_999_999));
+    assert!(rt; prints_end(alloc, end, "a=1; Expires=Thu, 31 Dec 99 23:59:59 GMT"));
+    let end = Expiration::DateTime(DateTime::MAX);
+    assert!(rt; prints_end(alloc, end, "a=1; Expires=Fri, 31 Dec 9999 23:59:59 GMT"));
+    assert!(rt; prints_end(alloc, Expiration::Session, "a=1"));
 }
 
 // The four views of one cookie.
 #[test]
-fn prints_escaped_and_stripped(rt: HostRuntime) -> Result<(), Fail> {
+fn prints_escaped_and_stripped(rt: HostRuntime) {
     let alloc = rt.alloc();
-    let cookie = CookieBuilder::new("my name", "this; value?")
-        .secure(true)
-        .build();
-    let text = format!(in alloc; "{cookie}")?;
-    assert_eq!(rt; text.as_str(), "my name=this; value?; Secure");
-    let view = cookie.encoded();
-    let text = format!(in alloc; "<{view}>")?;
-    assert_eq!(rt; text.as_str(), "<my%20name=this%3B%20value%3F; Secure>");
-    let text = cookie.stripped().to_string(alloc)?;
-    assert_eq!(rt; text.as_str(), "my name=this; value?");
-    let text = cookie.stripped().encoded().to_string(alloc)?;
-    assert_eq!(rt; text.as_str(), "my%20name=this%3B%20value%3F");
-    let text = cookie.encoded().stripped().to_string(alloc)?;
-    assert_eq!(rt; text.as_str(), "my%20name=this%3B%20value%3F");
-    Ok(())
+    let builder = CookieBuilder::new("my name", "this; value?").secure(true);
+    let cookie = builder.inner();
+    assert!(rt; prints(alloc, cookie, "my name=this; value?; Secure"));
+    assert!(rt;
+        prints(
+            alloc,
+            &cookie.encoded(),
+            "my%20name=this%3B%20value%3F; Secure"
+        )
+    );
+    assert!(rt; prints(alloc, &cookie.stripped(), "my name=this; value?"));
+    let both = "my%20name=this%3B%20value%3F";
+    assert!(rt; prints(alloc, &cookie.stripped().encoded(), both));
+    assert!(rt; prints(alloc, &cookie.encoded().stripped(), both));
+    assert!(rt; prints(alloc, &SameSite::Strict, "Strict"));
 }
 
-fn check_escapes(rt: &impl Abort, alloc: Global, text: &str, wanted: &str) -> Result<(), Fail> {
-    let printed = Cookie::new(text, text).encoded().to_string(alloc)?;
-    let wanted = format!(in alloc; "{wanted}={wanted}")?;
-    assert_eq!(rt; printed.as_str(), wanted.as_str());
-    Ok(())
+// Whether a text is escaped so, as a name and as a value.
+fn is_escaped(alloc: Global, text: &str, wanted: &str) -> bool {
+    let cookie = Cookie::new(text, text);
+    match format!(in alloc; "{wanted}={wanted}") {
+        Ok(wanted) => prints(alloc, &cookie.encoded(), &wanted),
+        Err(_) => false,
+    }
 }
 
 const ASCII_ESCAPED: &str = "%00%01%02%03%04%05%06%07%08%09%0A%0B%0C%0D%0E%0F\
@@ -144,7 +129,8 @@ fn escapes_ascii(rt: HostRuntime) -> Result<(), Fail> {
     for byte in 0..128u8 {
         text.push(byte as char)?;
     }
-    check_escapes(&rt, rt.alloc(), &text, ASCII_ESCAPED)
+    assert!(rt; is_escaped(rt.alloc(), &text, ASCII_ESCAPED));
+    Ok(())
 }
 
 // Characters that have each byte past ASCII which UTF-8 knows (RFC 3629, section 3): each second
@@ -174,14 +160,11 @@ const PAST_ASCII: &str =
 \u{c0000} %F3%80%80%80\n\u{100000} %F4%80%80%80\n\u{10ffff} %F4%8F%BF%BF";
 
 #[test]
-fn escapes_past_ascii(rt: HostRuntime) -> Result<(), Fail> {
+fn escapes_past_ascii(rt: HostRuntime) {
     for row in PAST_ASCII.split('\n') {
-        match row.split_once(' ') {
-            Some((text, wanted)) => check_escapes(&rt, rt.alloc(), text, wanted)?,
-            None => panic!(rt; "{row} is no row"),
-        }
+        let (text, wanted) = row.split_once(' ').unwrap_or(("", "no row"));
+        assert!(rt; is_escaped(rt.alloc(), text, wanted), "{row}");
     }
-    Ok(())
 }
 
 // An upper-case hexadecimal digit.
@@ -192,18 +175,18 @@ fn digit(number: u8) -> char {
         .unwrap_or('0')
 }
 
-// The escape of each byte reads as that byte, where it is UTF-8 alone.
-#[test]
-fn reads_each_escape(rt: HostRuntime) -> Result<(), Fail> {
-    for byte in 0..=255u8 {
-        let text = format!(in rt.alloc(); "a=%{}{}", digit(byte / 16), digit(byte % 16))?;
-        match Cookie::parse_encoded(rt.alloc(), &text) {
-            Ok(cookie) => assert!(rt;
-                cookie.value().as_bytes() == [byte].as_slice() && byte < 128,
-                "{byte}"
-            ),
-            Err(error) => assert!(rt; error.as_str() == "Utf8Error" && byte >= 128, "{byte}"),
-        }
+// Whether the escape of the byte reads as that byte, or is refused where it isn't UTF-8 alone.
+fn reads_escape(alloc: Global, byte: u8) -> Result<bool, AllocError> {
+    let text = format!(in alloc; "a=%{}{}", digit(byte / 16), digit(byte % 16))?;
+    match Cookie::parse_encoded(alloc, &text) {
+        Ok(cookie) => Ok(byte < 128 && cookie.value().as_bytes() == [byte].as_slice()),
+        Err(error) => Ok(byte >= 128 && error == ParseError::Utf8Error),
     }
-    Ok(())
+}
+
+#[test]
+fn reads_each_escape(rt: HostRuntime) {
+    for byte in 0..=255u8 {
+        assert!(rt; reads_escape(rt.alloc(), byte) == Ok(true), "{byte}");
+    }
 }

@@ -1,9 +1,10 @@
 //! What getters, setters, copies and the builder make of a cookie.
+use crate::print_tests::prints;
 use cookie_text::{Cookie, CookieBuilder, Expiration, ParseError, SameSite};
 use jiff::SignedDuration;
 use jiff::civil::DateTime;
+use std::alloc::{AllocError, Global};
 use std::process::Abort;
-use std::test::Fail;
 
 // Whether the raw forms of name, value, path and domain are these; `-` stands for none.
 fn are_raw(cookie: &Cookie<'_>, name: &str, value: &str, path: &str, domain: &str) -> bool {
@@ -13,36 +14,31 @@ fn are_raw(cookie: &Cookie<'_>, name: &str, value: &str, path: &str, domain: &st
         && cookie.domain_raw().unwrap_or("-") == domain
 }
 
-// Raw forms are slices of a borrowed text.
-#[test]
-fn hands_out_slices(rt: HostRuntime) -> Result<(), Fail> {
-    let cookie = Cookie::parse(" a = 1 ; Domain=.x.com; Path=/y")?;
-    assert!(rt; are_raw(&cookie, "a", "1", "/y", "x.com"));
-    let copy = cookie.clone(rt.alloc())?;
-    assert!(rt; are_raw(&copy, "a", "1", "/y", "x.com"));
-    assert!(rt; are_raw(&Cookie::parse("a=1; Domain=..x")?, "a", "1", "-", ".x"));
-    Ok(())
+// Whether the cookie is read and has these raw forms.
+fn is_raw(
+    read: Result<Cookie<'_>, ParseError>,
+    name: &str,
+    value: &str,
+    path: &str,
+    domain: &str,
+) -> bool {
+    match read {
+        Ok(cookie) => are_raw(&cookie, name, value, path, domain),
+        Err(_) => false,
+    }
 }
 
-// They are gone where the text is owned.
+// Raw forms are slices of a borrowed text; name and value are gone where reading decoded either.
 #[test]
-fn has_no_slices_of_owned_texts(rt: HostRuntime) -> Result<(), Fail> {
-    let text = "a=1; Domain=.x.com; Path=/y";
-    let owned = Cookie::parse(text)?.into_owned(rt.alloc())?;
-    assert!(rt; are_raw(&owned, "-", "-", "-", "-"));
-    assert!(rt; owned == Cookie::parse(text)?);
-    assert!(rt; are_raw(&Cookie::from_str(rt.alloc(), text)?, "-", "-", "-", "-"));
-    assert!(rt; are_raw(&Cookie::new("a", "1"), "-", "-", "-", "-"));
-    Ok(())
-}
-
-// Name and value are gone where reading decoded either of them.
-#[test]
-fn has_no_slices_of_decoded_texts(rt: HostRuntime) -> Result<(), Fail> {
+fn hands_out_slices(rt: HostRuntime) {
     let alloc = rt.alloc();
+    let text = " a = 1 ; Domain=.x.com; Path=/y";
+    assert!(rt; is_raw(Cookie::parse(text), "a", "1", "/y", "x.com"));
+    assert!(rt; is_raw(Cookie::parse("a=1; Domain=..x"), "a", "1", "-", ".x"));
+    assert!(rt; is_raw(Cookie::from_str(alloc, text), "-", "-", "-", "-"));
     assert!(rt;
-        are_raw(
-            &Cookie::parse_encoded(alloc, "a=%31; Path=/y")?,
+        is_raw(
+            Cookie::parse_encoded(alloc, "a=%31; Path=/y"),
             "-",
             "-",
             "/y",
@@ -50,8 +46,8 @@ fn has_no_slices_of_decoded_texts(rt: HostRuntime) -> Result<(), Fail> {
         )
     );
     assert!(rt;
-        are_raw(
-            &Cookie::parse_encoded(alloc, "%61=1; Domain=x")?,
+        is_raw(
+            Cookie::parse_encoded(alloc, "%61=1; Domain=x"),
             "-",
             "-",
             "-",
@@ -59,49 +55,70 @@ fn has_no_slices_of_decoded_texts(rt: HostRuntime) -> Result<(), Fail> {
         )
     );
     assert!(rt;
-        are_raw(
-            &Cookie::parse_encoded(alloc, "a=%; Path=/y")?,
+        is_raw(
+            Cookie::parse_encoded(alloc, "a=%; Path=/y"),
             "a",
             "%",
             "/y",
             "-"
         )
     );
-    Ok(())
+    assert!(rt; are_raw(&Cookie::new("a", "1"), "-", "-", "-", "-"));
 }
 
-// Each is gone where its part was set.
-#[test]
-fn has_no_slices_of_parts_that_were_set(rt: HostRuntime) -> Result<(), Fail> {
-    let mut cookie = Cookie::parse("a=1; Domain=x; Path=/y")?;
+// The raw forms are gone where the part was set.
+fn sets_what_was_read(cookie: Cookie<'_>) -> bool {
+    let mut cookie = cookie;
     cookie.set_name("a");
-    assert!(rt; are_raw(&cookie, "-", "1", "/y", "x"));
+    let name = are_raw(&cookie, "-", "1", "/y", "x");
     cookie.set_value("1");
-    assert!(rt; are_raw(&cookie, "-", "-", "/y", "x"));
+    let value = are_raw(&cookie, "-", "-", "/y", "x");
     cookie.set_path("/y");
-    assert!(rt; are_raw(&cookie, "-", "-", "-", "x"));
+    let path = are_raw(&cookie, "-", "-", "-", "x");
     cookie.set_domain("x");
-    assert!(rt; are_raw(&cookie, "-", "-", "-", "-"));
-    Ok(())
+    let domain = are_raw(&cookie, "-", "-", "-", "-");
+    name && value && path && domain
+}
+
+// A copy has the raw forms of the cookie, and a cookie that owns its texts none.
+fn copies(alloc: Global, cookie: Cookie<'_>) -> Result<bool, AllocError> {
+    let copy = cookie.clone(alloc)?;
+    let same = copy == cookie && are_raw(&copy, "a", "1", "/y", "x");
+    let owned = cookie.into_owned(alloc)?;
+    Ok(same && owned == copy && are_raw(&owned, "-", "-", "-", "-"))
 }
 
 #[test]
-fn has_what_was_read(rt: HostRuntime) -> Result<(), Fail> {
-    let cookie = Cookie::parse("a=1; HttpOnly; Secure; SameSite=Lax; Partitioned")?;
-    assert!(rt; cookie.name() == "a" && cookie.value() == "1");
-    assert!(rt; cookie.name_value() == ("a", "1"));
-    assert!(rt; cookie.http_only() == Some(true));
-    assert!(rt; cookie.secure() == Some(true));
-    assert!(rt; cookie.same_site() == Some(SameSite::Lax));
-    assert!(rt; cookie.partitioned() == Some(true));
-    assert!(rt; cookie.path().is_none() && cookie.domain().is_none());
-    assert!(rt; cookie.max_age().is_none() && cookie.expires().is_none());
-    let placed = Cookie::parse("a=1; Path=/x; Domain=.x; Max-Age=5")?;
-    assert!(rt; placed.path() == Some("/x") && placed.domain() == Some("x"));
-    assert!(rt; placed.max_age() == Some(SignedDuration::from_secs(5)));
-    assert!(rt; placed.http_only().is_none() && placed.secure().is_none());
-    assert!(rt; placed.same_site().is_none() && placed.partitioned().is_none());
-    Ok(())
+fn keeps_slices_in_copies_alone(rt: HostRuntime) {
+    let text = "a=1; Domain=x; Path=/y";
+    assert!(rt; Cookie::parse(text).is_ok_and(|cookie| sets_what_was_read(cookie)));
+    let copied = Cookie::parse(text).is_ok_and(|cookie| copies(rt.alloc(), cookie) == Ok(true));
+    assert!(rt; copied);
+}
+
+// Whether the getters answer what was read.
+fn has_flags(cookie: &Cookie<'_>) -> bool {
+    cookie.name_value() == ("a", "1")
+        && cookie.http_only() == Some(true)
+        && cookie.secure() == Some(true)
+        && cookie.partitioned() == Some(true)
+        && cookie.same_site() == Some(SameSite::Lax)
+}
+
+fn has_place(cookie: &Cookie<'_>) -> bool {
+    cookie.name() == "a"
+        && cookie.value() == "1"
+        && cookie.path() == Some("/x")
+        && cookie.domain() == Some("x")
+        && cookie.max_age() == Some(SignedDuration::from_secs(5))
+}
+
+#[test]
+fn has_what_was_read(rt: HostRuntime) {
+    let flags = Cookie::parse("a=1; HttpOnly; Secure; SameSite=Lax; Partitioned");
+    assert!(rt; flags.is_ok_and(|cookie| has_flags(&cookie)));
+    let place = Cookie::parse("a=1; Path=/x; Domain=.x; Max-Age=5");
+    assert!(rt; place.is_ok_and(|cookie| has_place(&cookie)));
 }
 
 const WHOLE: &str =
@@ -122,41 +139,8 @@ fn set_attributes(cookie: &mut Cookie<'_>) {
     cookie.set_expires(Expiration::from(Some(new_year())));
 }
 
-#[test]
-fn sets_borrowed_parts(rt: HostRuntime) -> Result<(), Fail> {
-    let mut cookie = Cookie::named("a");
-    cookie.set_name("b");
-    cookie.set_value("2");
-    cookie.set_path("/p");
-    cookie.set_domain(".d");
-    set_attributes(&mut cookie);
-    assert!(rt; cookie.to_string(rt.alloc())?.as_str() == WHOLE);
-    Ok(())
-}
-
-#[test]
-fn sets_owned_parts(rt: HostRuntime) -> Result<(), Fail> {
-    let alloc = rt.alloc();
-    let mut cookie = Cookie::new_owned(
-        String::from_str(alloc, "x")?,
-        String::from_str(alloc, "y")?,
-    );
-    assert!(rt; cookie.name_value() == ("x", "y"));
-    cookie.set_name_owned(String::from_str(alloc, "b")?);
-    cookie.set_value_owned(String::from_str(alloc, "2")?);
-    cookie.set_path_owned(String::from_str(alloc, "/p")?);
-    cookie.set_domain_owned(String::from_str(alloc, ".d")?);
-    set_attributes(&mut cookie);
-    assert!(rt; cookie.to_string(alloc)?.as_str() == WHOLE);
-    Ok(())
-}
-
-#[test]
-fn takes_parts_away(rt: HostRuntime) -> Result<(), Fail> {
-    let mut cookie = Cookie::new("b", "2");
-    cookie.set_path("/p");
-    cookie.set_domain(".d");
-    set_attributes(&mut cookie);
+// Takes away each part but name and value.
+fn unset_attributes(cookie: &mut Cookie<'_>) {
     cookie.unset_path();
     cookie.unset_domain();
     cookie.unset_expires();
@@ -165,8 +149,40 @@ fn takes_parts_away(rt: HostRuntime) -> Result<(), Fail> {
     cookie.set_partitioned(None);
     cookie.set_same_site(None);
     cookie.set_max_age(None);
+}
+
+#[test]
+fn sets_borrowed_parts(rt: HostRuntime) {
+    let mut cookie = Cookie::named("a");
+    cookie.set_name("b");
+    cookie.set_value("2");
+    cookie.set_path("/p");
+    cookie.set_domain(".d");
+    set_attributes(&mut cookie);
+    assert!(rt; prints(rt.alloc(), &cookie, WHOLE));
+    unset_attributes(&mut cookie);
     assert!(rt; cookie == Cookie::new("b", "2") && cookie.same_site().is_none());
-    Ok(())
+}
+
+// A copy in memory of its own.
+fn text(rt: &impl Abort, alloc: Global, text: &str) -> String {
+    match String::from_str(alloc, text) {
+        Ok(text) => text,
+        Err(_) => panic!(rt; "no memory for {text}"),
+    }
+}
+
+#[test]
+fn sets_owned_parts(rt: HostRuntime) {
+    let alloc = rt.alloc();
+    let mut cookie = Cookie::new_owned(text(&rt, alloc, "x"), text(&rt, alloc, "y"));
+    assert!(rt; prints(alloc, &cookie, "x=y"));
+    cookie.set_name_owned(text(&rt, alloc, "b"));
+    cookie.set_value_owned(text(&rt, alloc, "2"));
+    cookie.set_path_owned(text(&rt, alloc, "/p"));
+    cookie.set_domain_owned(text(&rt, alloc, ".d"));
+    set_attributes(&mut cookie);
+    assert!(rt; prints(alloc, &cookie, WHOLE));
 }
 
 fn built() -> CookieBuilder<'static> {
@@ -182,13 +198,13 @@ fn built() -> CookieBuilder<'static> {
 }
 
 #[test]
-fn builds(rt: HostRuntime) -> Result<(), Fail> {
+fn builds(rt: HostRuntime) {
     let builder = built();
-    assert!(rt; builder.to_string(rt.alloc())?.as_str() == WHOLE);
-    assert!(rt; builder.inner().to_string(rt.alloc())?.as_str() == WHOLE);
-    let copy = builder.clone(rt.alloc())?.finish();
-    assert!(rt; copy == builder.build());
-    Ok(())
+    assert!(rt; prints(rt.alloc(), builder.inner(), WHOLE));
+    assert!(rt; prints(rt.alloc(), &builder, WHOLE));
+    let copy = builder.clone(rt.alloc());
+    assert!(rt; copy.is_ok_and(|copy| prints(rt.alloc(), &copy.finish(), WHOLE)));
+    assert!(rt; prints(rt.alloc(), &builder.build(), WHOLE));
 }
 
 // What is written through the reference is in the cookie that is built.
@@ -197,22 +213,23 @@ fn builds_what_was_written(rt: HostRuntime) {
     let mut builder = Cookie::build(Cookie::new("a", "1"));
     builder.inner_mut().set_name("c");
     builder.inner_mut().set_secure(Some(true));
-    assert!(rt; builder.inner().name_value() == ("c", "1"));
-    let cookie = builder.removal(new_year()).build();
-    assert!(rt; cookie.name_value() == ("c", "") && cookie.secure() == Some(true));
+    assert!(rt; prints(rt.alloc(), &builder.build(), "c=1; Secure"));
 }
 
+const PERMANENT: &str = "a=1; Max-Age=630720000; Expires=Sun, 27 Dec 2043 00:00:00 GMT";
+
+const REMOVAL: &str = "a=; Max-Age=0; Expires=Sun, 01 Jan 2023 00:00:00 GMT";
+
 #[test]
-fn makes_permanent_and_removal(rt: HostRuntime) -> Result<(), Fail> {
+fn makes_permanent_and_removal(rt: HostRuntime) {
     let mut cookie = Cookie::new("a", "1");
     cookie.make_permanent(new_year());
-    let permanent = "a=1; Max-Age=630720000; Expires=Sun, 27 Dec 2043 00:00:00 GMT";
-    assert!(rt; cookie.to_string(rt.alloc())?.as_str() == permanent);
-    assert!(rt; CookieBuilder::new("a", "1").permanent(new_year()).build() == cookie);
+    assert!(rt; prints(rt.alloc(), &cookie, PERMANENT));
     cookie.make_removal(new_year());
-    let removal = "a=; Max-Age=0; Expires=Sun, 01 Jan 2023 00:00:00 GMT";
-    assert!(rt; cookie.to_string(rt.alloc())?.as_str() == removal);
-    Ok(())
+    assert!(rt; prints(rt.alloc(), &cookie, REMOVAL));
+    let builder = CookieBuilder::new("a", "1").permanent(new_year());
+    assert!(rt; prints(rt.alloc(), builder.inner(), PERMANENT));
+    assert!(rt; prints(rt.alloc(), builder.removal(new_year()).inner(), REMOVAL));
 }
 
 // The latest expiry is 9999-12-31T23:59:59.999999, and sums stop at the ends of the calendar.
@@ -230,7 +247,6 @@ fn cuts_late_expiries(rt: HostRuntime) {
     assert!(rt; cookie.expires_datetime() == Some(DateTime::MIN));
     cookie.set_expires(Expiration::Session);
     assert!(rt; cookie.expires() == Some(Expiration::Session));
-    assert!(rt; cookie.expires_datetime().is_none());
 }
 
 // The session is after every moment, and mapping leaves it.
@@ -239,30 +255,11 @@ fn orders_expiries(rt: HostRuntime) {
     let first = Expiration::DateTime(DateTime::MIN);
     let last = Expiration::DateTime(DateTime::MAX);
     assert!(rt; first < last && last < Expiration::Session);
-    assert!(rt; last.is_datetime() && !last.is_session());
-    assert!(rt; Expiration::Session.is_session() && !Expiration::Session.is_datetime());
+    assert!(rt; last.is_datetime() && Expiration::Session.is_session());
     assert!(rt; last.datetime() == Some(DateTime::MAX));
     assert!(rt; Expiration::from(None) == Expiration::Session);
     assert!(rt; last.map(|_| DateTime::MIN) == first);
     assert!(rt; Expiration::Session.map(|_| DateTime::MIN) == Expiration::Session);
-}
-
-fn check_error(rt: &impl Abort, error: ParseError, printed: &str, name: &str) {
-    assert!(rt; error.as_str() == name && printed == name, "{name}");
-}
-
-// Each error prints its variant's name.
-#[test]
-fn names_errors(rt: HostRuntime) -> Result<(), Fail> {
-    for (error, name) in [
-        (ParseError::MissingPair, "MissingPair"),
-        (ParseError::EmptyName, "EmptyName"),
-        (ParseError::Utf8Error, "Utf8Error"),
-        (ParseError::OutOfMemory, "OutOfMemory"),
-    ] {
-        check_error(&rt, error, error.to_string(rt.alloc())?.as_str(), name);
-    }
-    Ok(())
 }
 
 #[test]
@@ -270,4 +267,18 @@ fn tells_sites_apart(rt: HostRuntime) {
     assert!(rt; SameSite::Strict.is_strict() && !SameSite::Lax.is_strict());
     assert!(rt; SameSite::Lax.is_lax() && !SameSite::None.is_lax());
     assert!(rt; SameSite::None.is_none() && !SameSite::Strict.is_none());
+}
+
+// Whether the error has this name, and prints it.
+fn is_named(alloc: Global, error: ParseError, name: &str) -> bool {
+    error.as_str() == name && prints(alloc, &error, name)
+}
+
+#[test]
+fn names_errors(rt: HostRuntime) {
+    let alloc = rt.alloc();
+    assert!(rt; is_named(alloc, ParseError::MissingPair, "MissingPair"));
+    assert!(rt; is_named(alloc, ParseError::EmptyName, "EmptyName"));
+    assert!(rt; is_named(alloc, ParseError::Utf8Error, "Utf8Error"));
+    assert!(rt; is_named(alloc, ParseError::OutOfMemory, "OutOfMemory"));
 }
