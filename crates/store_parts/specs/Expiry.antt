@@ -1,7 +1,8 @@
 -- When a cookie ends (RFC 6265, 5.2.1, 5.2.2 and 5.3, step 3). Moments and lengths are counted in
 -- nanoseconds, moments from 1970-01-01T00:00:00 in UTC.
-use Rattle.std.specs.Prelude.{ℤ, pos, ◌+ℤ◌, ◌*ℤ◌, ◌≤ℤ◌, ℕ, Option, Some, None, IsSomeAnd, int_lt, if◌then◌else◌}
+use Rattle.std.specs.Prelude.{ℤ, pos, ◌+ℤ◌, ◌*ℤ◌, ◌≤ℤ◌, ℕ, Option, Some, None, IsSomeAnd, int_lt, option_map, if◌then◌else◌}
 use Rattle.std.specs.Int.{int_min}
+use Rattle.cookie_text.specs.Record.{Record, moment_of}
 use Rattle.jiff.specs.Words.{civil_nanos, civil_seconds}
 use Rattle.store_parts.specs.declared.cookie_expiration.CookieExpiration.{CookieExpiration}
 use Rattle.store_parts.specs.declared.cookie_expiration.CookieExpiration.TheVariants.{AtUtc, SessionEnd}
@@ -28,6 +29,15 @@ expiry_after length now =
 abbrev pub death_of : CookieExpiration → Option ℤ
 death_of (AtUtc moment) = Some (civil_nanos moment)
 death_of SessionEnd = None
+
+-- the death of a cookie that is received at a moment: by its max-age, fraction kept; without one
+-- its expiry, fraction kept and uncut; else none
+abbrev pub death : Record → ℤ → Option ℤ
+death cookie now = death_by cookie.max_age
+  where
+    death_by : Option ℤ → Option ℤ
+    death_by (Some length) = Some (expiry_after length now)
+    death_by None = option_map civil_nanos (moment_of cookie.expires)
 
 -- dead at the moment: the death is at or before it
 abbrev pub IsDeadAt : Option ℤ → ℤ → Type 0

@@ -1,4 +1,6 @@
--- Which `Error` another refusal becomes: want of memory keeps its name.
+-- Which `CookieError` or `Error` another refusal becomes: want of memory keeps its name.
+use Rattle.cookie_text.specs.declared.error.ParseError.{ParseError}
+use Rattle.cookie_text.specs.declared.error.ParseError.TheVariants as unread
 use Rattle.idna.specs.declared.Errors.{Errors}
 use Rattle.idna.specs.declared.Errors.TheVariants.{Invalid, OutOfMemory as IdnaOutOfMemory}
 use Rattle.store_parts.specs.declared.error.CookieError.{CookieError}
@@ -6,6 +8,11 @@ use Rattle.store_parts.specs.declared.error.CookieError.TheVariants as refused
 use Rattle.store_parts.specs.declared.error.IdnaErrors.{IdnaErrors}
 use Rattle.store_parts.specs.declared.error.Error.{Error}
 use Rattle.store_parts.specs.declared.error.Error.TheVariants.{Idna, Cookie, OutOfMemory}
+
+-- a text that is no cookie
+abbrev pub of_parse : ParseError → CookieError
+of_parse unread.OutOfMemory = refused.OutOfMemory
+of_parse cause = refused.Parse
 
 -- a refused cookie
 abbrev pub of_cookie : CookieError → Error

@@ -1,5 +1,6 @@
 //! The domain of a cookie, and which hosts it covers (RFC 6265, section 5.1.3).
 ghost use Rattle.std.specs.Prelude.{◌≡◌, ◌↔◌, [], IsTrue, IfOk, IsSomeAnd, MatchOption, MatchResult, option_copied, string_bytes, unwrap_or};
+ghost use Rattle.cookie_text.specs.Record.{domain_of as domain_attribute};
 ghost use Rattle.store_parts.specs.DomainMatch as spec;
 ghost use Rattle.store_parts.specs.DomainMatch.{domain_of};
 ghost use Rattle.store_parts.specs.DomainOrder as order;
@@ -12,9 +13,11 @@ ghost use Rattle.std.specs.Ordering.{as_partial_cmp};
 
 use crate::error::{CookieError, Error, IdnaErrors};
 use crate::utils::is_host_name;
+use cookie::Cookie as RawCookie;
 use idna::{AsciiDenyList, domain_to_ascii_cow};
 use publicsuffix::List;
 use std::alloc::{AllocError, Global};
+use std::borrow::CowStr;
 use std::cmp::Ordering;
 use std::hash::{Hash, Hasher};
 use url::Url;
@@ -124,9 +127,27 @@ impl CookieDomain {
     pub fn from_text(alloc: Global, text: &str) -> Result<CookieDomain, Error>
         ensures { text_spec.Reads (text_spec.read_domain text.now) result }
     {
-        match domain_to_ascii_cow(alloc, text.trim().as_bytes(), AsciiDenyList::EMPTY) {
-            Ok(form) => Ok(suffix_or_empty(alloc, without_leading_dot(form.as_str()))?),
-            Err(refusal) => Err(Error::from(IdnaErrors::from(refusal))),
+        let form = idna_form(alloc, text)?;
+        Ok(suffix_or_empty(alloc, without_leading_dot(form.as_str()))?)
+    }
+
+    /// The domain of a cookie's Domain attribute: `NotPresent` where there is none, else the IDNA
+    /// form of what `domain()` answers, from which no further dot is taken. That is a `Suffix`, or
+    /// `Empty`.
+    ///
+    /// # Errors
+    ///
+    /// `Idna` where the attribute has no IDNA form, else only `OutOfMemory`.
+    pub fn from_raw(alloc: Global, raw_cookie: &RawCookie<'_>) -> Result<CookieDomain, Error>
+        ensures { text_spec.Reads
+            (text_spec.attribute_domain (domain_attribute raw_cookie.now.cookie)) result }
+    {
+        match raw_cookie.domain() {
+            Some(domain) => {
+                let form = idna_form(alloc, domain)?;
+                Ok(suffix_or_empty(alloc, form.as_str())?)
+            }
+            None => Ok(CookieDomain::NotPresent),
         }
     }
 
@@ -240,6 +261,16 @@ fn ends_after_dot(host: &str, domain: &str) -> bool
     match host.as_bytes().strip_suffix(domain.as_bytes()) {
         Some(before) => before.ends_with(b"."),
         None => false,
+    }
+}
+
+// The IDNA form of the text, without white space at its ends.
+fn idna_form(alloc: Global, text: &str) -> Result<CowStr<'_>, Error>
+    ensures { text_spec.GivesForm (text_spec.idna_form text.now) result }
+{
+    match domain_to_ascii_cow(alloc, text.trim().as_bytes(), AsciiDenyList::EMPTY) {
+        Ok(form) => Ok(form),
+        Err(refusal) => Err(Error::from(IdnaErrors::from(refusal))),
     }
 }
 

@@ -1,14 +1,16 @@
 //! When a cookie of a store ends (RFC 6265, section 5.3, step 3).
-ghost use Rattle.std.specs.Prelude.{◌≡◌, ◌↔◌, IsTrue, Some, int_lt};
+ghost use Rattle.std.specs.Prelude.{◌≡◌, ◌↔◌, IsTrue, Some, int_lt, option_map};
 ghost use Rattle.std.specs.Int.{int_min};
 ghost use Rattle.std.specs.Option.{option_eq};
 ghost use Rattle.std.specs.Ordering.{on, int_eq};
 ghost use Rattle.std.specs.Cmp.Rules.{comparing};
 ghost use Rattle.std.proofs.Common.{rules};
+ghost use Rattle.cookie_text.specs.Record.{moment_of};
 ghost use Rattle.jiff.specs.Words.{civil_nanos, signed_nanos};
 ghost use Rattle.store_parts.specs.Expiry as spec;
 ghost use Rattle.store_parts.specs.Expiry.{death_of};
 
+use cookie::{Cookie as RawCookie, Expiration};
 use jiff::SignedDuration;
 use jiff::civil::{DateTime, datetime};
 
@@ -45,6 +47,20 @@ impl CookieExpiration {
         }
     }
 
+    /// The expiry of a cookie that is received at `now`: that of its Max-Age where it has one, else
+    /// of its Expires, else the session's end.
+    pub fn from_raw(raw_cookie: &RawCookie<'_>, now: DateTime) -> CookieExpiration
+        ensures { death_of result ≡ spec.death raw_cookie.now.cookie (civil_nanos now) }
+    {
+        if let Some(max_age) = raw_cookie.max_age() {
+            CookieExpiration::from_duration(max_age, now)
+        } else if let Some(expires) = raw_cookie.expires() {
+            CookieExpiration::from(expires)
+        } else {
+            CookieExpiration::SessionEnd
+        }
+    }
+
     /// Whether the expiry is at or before `now`.
     pub fn is_expired(&self, now: DateTime) -> bool
         ensures { IsTrue result ↔ spec.IsDeadAt (death_of self.now) (civil_nanos now) }
@@ -71,6 +87,19 @@ impl From<DateTime> for CookieExpiration {
     fn from(moment: DateTime) -> CookieExpiration {
         let latest = latest();
         CookieExpiration::AtUtc(if moment < latest { moment } else { latest })
+    }
+}
+
+/// The expiry that an Expires attribute gives, as it stands.
+impl From<Expiration> for CookieExpiration {
+    ghost from_gives = { λ expires e. death_of e
+        ≡ option_map civil_nanos (moment_of (Some expires)) };
+
+    fn from(expires: Expiration) -> CookieExpiration {
+        match expires {
+            Expiration::DateTime(moment) => CookieExpiration::AtUtc(moment),
+            Expiration::Session => CookieExpiration::SessionEnd,
+        }
     }
 }
 

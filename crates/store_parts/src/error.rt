@@ -4,6 +4,7 @@ ghost use Rattle.store_parts.specs.declared.error.CookieError.TheVariants as coo
 ghost use Rattle.store_parts.specs.declared.error.Error.TheVariants as error;
 ghost use Rattle.store_parts.specs.Refusals as refusals;
 
+use cookie::ParseError;
 use std::alloc::AllocError;
 
 /// Why a cookie is refused.
@@ -40,6 +41,18 @@ impl From<AllocError> for CookieError {
 
     fn from(_: AllocError) -> CookieError {
         CookieError::OutOfMemory
+    }
+}
+
+/// A text that is no cookie as `Parse`, and want of memory by its own name.
+impl From<ParseError> for CookieError {
+    ghost from_gives = { λ cause e. e ≡ refusals.of_parse cause };
+
+    fn from(cause: ParseError) -> CookieError {
+        match cause {
+            ParseError::OutOfMemory => CookieError::OutOfMemory,
+            _ => CookieError::Parse,
+        }
     }
 }
 
