@@ -1,0 +1,4 @@
+pub mod Giving
+pub mod Making
+pub mod StoredCookie
+pub mod Stripped

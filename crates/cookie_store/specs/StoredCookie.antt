@@ -1,0 +1,24 @@
+-- The cookie of a store as contracts see it (RFC 6265, 5.3, step 2).
+use Rattle.std.specs.Prelude.{ℤ, Option}
+use Rattle.cookie_text.specs.Record.{Seen}
+use Rattle.store_parts.specs.DomainMatch.{Domain, domain_of}
+use Rattle.store_parts.specs.Expiry.{death_of}
+use Rattle.store_parts.specs.PathMatch.{Path, path_of}
+use Rattle.cookie_store.specs.declared.stored_cookie.Cookie.{Cookie}
+
+-- the cookie as it was received, its path and domain, and the moment at which it ends, where that
+-- is not the session's end, in nanoseconds from 1970-01-01T00:00:00 in UTC
+pub record StoredCookie : Type 0 where
+  pub raw : Seen
+  pub path : Path
+  pub domain : Domain
+  pub death : Option ℤ
+
+-- what contracts see of a `Cookie`
+abbrev pub stored_of : Cookie → StoredCookie
+stored_of c = record {
+  raw = c.raw_cookie;
+  path = path_of c.path;
+  domain = domain_of c.domain;
+  death = death_of c.expires;
+}
