@@ -1,4 +1,5 @@
 pub mod Giving
 pub mod Making
+pub mod Same
 pub mod StoredCookie
 pub mod Stripped

@@ -1,5 +1,6 @@
 //! The cookie of a store.
 ghost use Rattle.std.specs.Prelude.{◌≡◌, ◌↔◌, IsTrue, IsSome, IfOk, Some};
+ghost use Rattle.std.specs.Cmp.{partial_equiv_from_equiv};
 ghost use Rattle.cookie_text.specs.Record.{unsliced};
 ghost use Rattle.cookie_text.specs.Setting.{with_path, with_domain};
 ghost use Rattle.jiff.specs.Words.{civil_nanos};
@@ -8,6 +9,7 @@ ghost use Rattle.store_parts.specs.Expiry.{death_of, IsDeadAt, epoch};
 ghost use Rattle.store_parts.specs.PathMatch.{path_of};
 ghost use Rattle.cookie_store.specs.Giving.{GoesWith};
 ghost use Rattle.cookie_store.specs.Making as making;
+ghost use Rattle.cookie_store.specs.Same as same;
 ghost use Rattle.cookie_store.specs.Stripped as stripped;
 ghost use Rattle.cookie_store.specs.StoredCookie.{stored_of};
 
@@ -189,6 +191,24 @@ impl<'a> Cookie<'a> {
             domain: self.domain.clone(alloc)?,
             expires: self.expires,
         })
+    }
+}
+
+/// Cookies are equal where the received ones are, their paths and their domains, and their ends to
+/// the second.
+impl<'a> PartialEq for Cookie<'a> {
+    ghost eq = { same.same_stored };
+
+    ghost laws = { partial_equiv_from_equiv same.same_stored_equiv };
+
+    fn eq(&self, other: &Cookie<'a>) -> bool
+        ensures value { result ≡ same.same_stored self.now other.now }
+        ensures same { IsTrue result ↔ same.AreSame self.now other.now }
+    {
+        self.raw_cookie == other.raw_cookie
+            && self.path == other.path
+            && self.domain == other.domain
+            && self.expires == other.expires
     }
 }
 

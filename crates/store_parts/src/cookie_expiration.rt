@@ -108,7 +108,11 @@ impl PartialEq for CookieExpiration {
 
     ghost laws = { Prim.search (comparing, rules) };
 
-    fn eq(&self, other: &CookieExpiration) -> bool {
+    fn eq(&self, other: &CookieExpiration) -> bool
+        ensures value { result ≡ on spec.death_second (option_eq int_eq) self.now other.now }
+        ensures same { IsTrue result
+            ↔ (spec.death_second self.now ≡ spec.death_second other.now) }
+    {
         match (self, other) {
             (CookieExpiration::AtUtc(this), CookieExpiration::AtUtc(other)) => {
                 this.to_plain().to_second() == other.to_plain().to_second()
