@@ -18,4 +18,6 @@ mod record_tests;
 #[cfg(test)]
 mod seal_tests;
 #[cfg(test)]
+mod store_cookie_tests;
+#[cfg(test)]
 mod suffix_tests;
