@@ -1,2 +1,4 @@
 pub mod SigningLemmas
 pub mod SealingLemmas
+pub mod NameMaps
+pub mod JarLemmas

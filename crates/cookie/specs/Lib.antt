@@ -1,3 +1,5 @@
+pub mod ByName
+pub mod Jar
 pub mod Key
 pub mod Base64
 pub mod Signing

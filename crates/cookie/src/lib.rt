@@ -8,9 +8,13 @@
 //! ```
 #![tactic(auto)]
 
+mod delta;
+mod jar;
+mod name_map;
 pub mod secure;
 
 pub use cookie_text::{
     Cookie, CookieBuilder, Display, Expiration, ParseError, SameSite, SplitCookies,
 };
+pub use jar::{CookieJar, Delta, Iter};
 pub use secure::{Key, KeyError, PrivateError};
