@@ -1,7 +1,7 @@
 -- A jar's cookies under their names.
-use Rattle.std.proofs.Common.{◌≡◌, ◌≢◌, ℕ, Bool, true, false, not, cond, List, [], ◌∷◌, ◌++◌, map, sym, refl, ap, ◌∙◌, subst, ⊎_elim, Option, Some, None, Result, Ok, Err, OnOk, OnErr}
+use Rattle.std.proofs.Common.{◌≡◌, ◌≢◌, ℕ, Bool, true, false, not, cond, List, [], ◌∷◌, ◌++◌, map, sym, refl, ap, ◌∙◌, subst, ⊎_elim, Option, Some, None, Result, Ok, Err, OnOk, OnErr, IfSome, Bor}
 use Rattle.std.specs.Prelude.{string_bytes, is_some, if◌then◌else◌}
-use Rattle.std.specs.Option.{option_map, option_or, option_and_then}
+use Rattle.std.specs.Option.{option_map, option_copied, option_or, option_and_then}
 use Rattle.std.specs.List.{filter, cons_option}
 use Rattle.std.specs.Str.{bytes_eq}
 use Rattle.std.specs.declared.string.String.{String}
@@ -283,3 +283,14 @@ lists_view es os jar le lo he ho =
       each = λ q. ap (λ fs. value_in fs q) same ∙ value_append first second q ∙ (λ i. option_or (at_first q i) (at_second q i))
           ∙ overlay (finmap.get jar.changes q) (finmap.get jar.originals q);
     }
+
+-- ---- what `get` finds has the name that was asked for
+
+standing_is : (change : Change) (c : Seen) → standing change ≡ Some c → cookie_of change ≡ c
+standing_is (Added d) c e = same_some d c e
+standing_is (Removed d) c e = absurd (some_is_not_none c e)
+
+pub added_named : (m : ByName Change) (name : List ℕ) (change : Change) (r : Option (Bor Seen)) → AreUnderTheirNames cookie_of m → finmap.get m name ≡ Some change
+    → option_copied r ≡ standing change → IfSome r (λ c. c.now.cookie.name ≡ name)
+added_named m name change None h found is = tt
+added_named m name change (Some c) h found is = ap (λ d. d.cookie.name) (sym (standing_is change c.now (sym is))) ∙ h name change found

@@ -1,6 +1,6 @@
 //! A jar of cookies that keeps track of what was changed.
 
-ghost use Rattle.std.specs.Prelude.{◌≡◌, ℕ, List, length, None, IsOk, IfOk, OnOk, OnErr, option_copied};
+ghost use Rattle.std.specs.Prelude.{◌≡◌, ℕ, List, length, None, IsOk, IfOk, IfSome, OnOk, OnErr, option_copied};
 ghost use Rattle.std.specs.Iterator.{at_most};
 ghost use Rattle.std.specs.Map.Iter.{TakesFirst, deref};
 ghost use Rattle.std.specs.FinMap as finmap;
@@ -61,10 +61,16 @@ impl CookieJar {
         }
     }
 
+    // The allocator that the jar was made with.
+    pub(crate) fn alloc(&self) -> Global {
+        self.alloc
+    }
+
     /// The cookie of a name: the one that was added last, else the original, and none where it was
     /// removed.
     pub fn get(&self, name: &str) -> Option<&Cookie<'static>>
-        ensures { option_copied result ≡ spec.view self.now name.now }
+        ensures cookie { option_copied result ≡ spec.view self.now name.now }
+        ensures named { IfSome result (λ c. c.now.cookie.name ≡ name.now) }
     {
         match self.delta_cookies.get(name) {
             Some(change) => change.added(),

@@ -11,10 +11,14 @@
 mod delta;
 mod jar;
 mod name_map;
+mod prefix;
+mod prefixed_jar;
 pub mod secure;
 
 pub use cookie_text::{
     Cookie, CookieBuilder, Display, Expiration, ParseError, SameSite, SplitCookies,
 };
 pub use jar::{CookieJar, Delta, Iter};
+pub use prefix::{Host, Prefix, Secure};
+pub use prefixed_jar::{PrefixedJar, PrefixedJarMut};
 pub use secure::{Key, KeyError, PrivateError};
