@@ -2,3 +2,4 @@ pub mod SigningLemmas
 pub mod SealingLemmas
 pub mod NameMaps
 pub mod JarLemmas
+pub mod ReadingLemmas

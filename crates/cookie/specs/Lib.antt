@@ -5,3 +5,4 @@ pub mod Key
 pub mod Base64
 pub mod Signing
 pub mod Sealing
+pub mod Reading

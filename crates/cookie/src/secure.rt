@@ -4,9 +4,11 @@ mod encoding;
 mod key;
 mod private_error;
 mod sealing;
+mod signed_jar;
 mod signing;
 
 pub use key::{Key, KeyError};
 pub use private_error::PrivateError;
 pub use sealing::{is_sealable, nonce, opened_value, sealed_by, sealed_text};
+pub use signed_jar::{SignedJar, SignedJarMut};
 pub use signing::{signed_text, verified_value};

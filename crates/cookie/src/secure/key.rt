@@ -118,6 +118,13 @@ impl Key {
         Key { bytes }
     }
 
+    // The same key, for a child jar to keep.
+    pub(crate) fn copied(&self) -> Key
+        ensures { result ≡ self.now }
+    {
+        Key { bytes: self.bytes }
+    }
+
     /// The 32 bytes that sign.
     pub fn signing(&self) -> &[u8; 32]
         ensures half { result.now ≡ spec.signing_half self.now }
