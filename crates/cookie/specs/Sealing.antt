@@ -2,6 +2,8 @@
 -- the additional data, and the base64 of nonce, ciphertext and tag.
 use Rattle.std.specs.Prelude.{◌≡◌, ℕ, List, ◌++◌, length}
 use Rattle.seal.specs.Gcm.{Sealed}
+use Rattle.cookie_text.specs.Record.{Seen}
+use Rattle.cookie_text.specs.Setting.{with_value}
 use Rattle.cookie.specs.Key.{encryption_half}
 use Rattle.cookie.specs.Base64.{IsBase64}
 
@@ -19,3 +21,8 @@ IsSealingUnder key name value nonce text = (bytes : List ℕ) × IsSealedAs key 
 -- text is a sealing of the value: the one under some nonce of 12 bytes
 abbrev pub IsSealing : List ℕ → List ℕ → List ℕ → List ℕ → Type 0
 IsSealing key name value text = (nonce : List ℕ) × (length nonce ≡ 12) × IsSealingUnder key name value nonce text
+
+-- a cookie is stored with the sealing of its value under its name and this nonce in the value's place
+abbrev pub SealsAs : List ℕ → List ℕ → Seen → Seen → Type 0
+SealsAs key nonce c stored = (text : List ℕ) × (length nonce ≡ 12)
+    × IsSealingUnder key c.cookie.name c.cookie.value nonce text × (stored ≡ with_value c text)

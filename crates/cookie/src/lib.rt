@@ -21,4 +21,4 @@ pub use cookie_text::{
 pub use jar::{CookieJar, Delta, Iter};
 pub use prefix::{Host, Prefix, Secure};
 pub use prefixed_jar::{PrefixedJar, PrefixedJarMut};
-pub use secure::{Key, KeyError, PrivateError, SignedJar, SignedJarMut};
+pub use secure::{Key, KeyError, PrivateError, PrivateJar, PrivateJarMut, SignedJar, SignedJarMut};
