@@ -3,3 +3,4 @@ pub mod SealingLemmas
 pub mod NameMaps
 pub mod JarLemmas
 pub mod ReadingLemmas
+pub mod LawLemmas

@@ -38,7 +38,7 @@ take-signing sizes key value text e =
     ap (take 44) e ∙ (λ i. take (sym (length-code sizes key value) i) (signing key value))
     ∙ take-append_seam (code key value) value
 
-drop-signing : CodesHave32 → (key value text : List ℕ) → text ≡ signing key value → drop 44 text ≡ value
+pub drop-signing : CodesHave32 → (key value text : List ℕ) → text ≡ signing key value → drop 44 text ≡ value
 drop-signing sizes key value text e =
     ap (drop 44) e ∙ (λ i. drop (sym (length-code sizes key value) i) (signing key value))
     ∙ drop-append_seam (code key value) value

@@ -6,3 +6,4 @@ pub mod Base64
 pub mod Signing
 pub mod Sealing
 pub mod Reading
+pub mod Laws

@@ -10,6 +10,7 @@
 
 mod delta;
 mod jar;
+pub mod laws;
 mod name_map;
 mod prefix;
 mod prefixed_jar;
