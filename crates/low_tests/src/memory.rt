@@ -78,21 +78,31 @@ fn splits_escaped_owned(alloc: Global) -> Result<bool, ParseError> {
     }
 }
 
-// A copy of a copy, and of its builder. A cookie of which no copy could be made is as it was.
-fn copies(alloc: Global) -> Result<bool, AllocError> {
+fn placed() -> Cookie<'static> {
     let mut cookie = Cookie::new("a", "1");
     cookie.set_path("/");
     cookie.set_domain("x.com");
-    let owned = cookie.clone(alloc)?.into_owned(alloc)?;
-    let Ok(copy) = owned.clone(alloc) else {
-        return if owned == cookie {
-            Err(AllocError)
-        } else {
-            Ok(false)
-        };
-    };
-    let builder = Cookie::build(copy).clone(alloc)?;
-    Ok(builder.build() == owned && owned == cookie)
+    cookie
+}
+
+fn owns(alloc: Global) -> Result<bool, AllocError> {
+    Ok(placed().into_owned(alloc)? == placed())
+}
+
+fn is_copied(alloc: Global, cookie: &Cookie<'_>) -> Result<bool, AllocError> {
+    Ok(cookie.clone(alloc)? == placed())
+}
+
+// A cookie of which no copy could be made is as it was.
+fn copies(alloc: Global) -> Result<bool, AllocError> {
+    let owned = placed().into_owned(alloc)?;
+    let copied = is_copied(alloc, &owned);
+    if owned == placed() { copied } else { Ok(false) }
+}
+
+fn copies_a_builder(alloc: Global) -> Result<bool, AllocError> {
+    let builder = Cookie::build(placed().into_owned(alloc)?);
+    Ok(builder.clone(alloc)?.build() == placed())
 }
 
 // Whether the words are listed that the rules say.
@@ -202,6 +212,16 @@ fn owned_escaped_texts_are_split_with_ample_memory(rt: HostRuntime) {
 }
 
 #[test]
+fn cookies_are_made_to_own(rt: HostRuntime) {
+    assert!(rt; owns(rt.alloc()).unwrap_or(true));
+}
+
+#[test]
+fn cookies_are_made_to_own_with_ample_memory(rt: HostRuntime) {
+    assert!(rt; owns(rt.alloc()).unwrap_or(false));
+}
+
+#[test]
 fn cookies_are_copied(rt: HostRuntime) {
     assert!(rt; copies(rt.alloc()).unwrap_or(true));
 }
@@ -209,6 +229,16 @@ fn cookies_are_copied(rt: HostRuntime) {
 #[test]
 fn cookies_are_copied_with_ample_memory(rt: HostRuntime) {
     assert!(rt; copies(rt.alloc()).unwrap_or(false));
+}
+
+#[test]
+fn builders_are_copied(rt: HostRuntime) {
+    assert!(rt; copies_a_builder(rt.alloc()).unwrap_or(true));
+}
+
+#[test]
+fn builders_are_copied_with_ample_memory(rt: HostRuntime) {
+    assert!(rt; copies_a_builder(rt.alloc()).unwrap_or(false));
 }
 
 #[test]

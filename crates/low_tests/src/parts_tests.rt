@@ -1,10 +1,14 @@
 //! Tests of `store_parts`. Expected values come from RFC 6265 and from the Rust crate's behaviour.
+//!
+//! A table is a text: a row a line, its sides parted by ` -> ` or ` at `.
 
+use crate::print_tests::prints;
 use jiff::SignedDuration;
 use jiff::civil::{DateTime, datetime};
 use publicsuffix::List;
-use std::alloc::Global;
+use std::alloc::{AllocError, Global};
 use std::cmp::Ordering;
+use std::process::Abort;
 use std::test::Fail;
 use store_parts::utils::{is_host_name, is_http_scheme, is_secure};
 use store_parts::{
@@ -12,224 +16,250 @@ use store_parts::{
 };
 use url::Url;
 
+// The URL of a text.
+fn url_of(rt: &impl Abort, alloc: Global, text: &str) -> Url {
+    match Url::parse(alloc, text) {
+        Ok(url) => url,
+        Err(_) => panic!(rt; "{text} is no URL"),
+    }
+}
+
 #[test]
 fn tells_host_names_from_addresses(rt: HostRuntime) {
-    let cases = [
-        ("127.0.0.1", false),
-        ("0.0.1", true),
-        ("::1", false),
-        ("[::1]", true),
-        ("::ffff:1.2.3.4", false),
-        ("1:2:3:4:5:6:7:8", false),
-        ("1:2:3:4:5:6:7", true),
-        ("::1%1", true),
-        ("256.0.0.1", true),
-        ("127.0.0.01", true),
-        ("example.com", true),
-        ("", true),
-    ];
-    for (host, is_name) in cases {
-        assert_eq!(rt; is_host_name(host), is_name, "{host}");
+    let names = "0.0.1\n[::1]\n1:2:3:4:5:6:7\n::1%1\n256.0.0.1\n127.0.0.01\nexample.com\n";
+    for host in names.split('\n') {
+        assert!(rt; is_host_name(host), "{host}");
+    }
+    let addresses = "127.0.0.1\n::1\n::ffff:1.2.3.4\n1:2:3:4:5:6:7:8";
+    for host in addresses.split('\n') {
+        assert!(rt; !is_host_name(host), "{host}");
+    }
+}
+
+const ALLOWED: &str = "http://localhost:1234 -> http and secure\n\
+http://127.1.0.1 -> http and secure\n\
+http://[::1] -> http and secure\n\
+http://example.com -> http\n\
+https://example.com -> http and secure\n\
+ftp://example.com -> neither\n\
+ftp://127.0.0.1 -> secure\n\
+data:text -> neither";
+
+fn allowed(url: &Url) -> &'static str {
+    match (is_http_scheme(url), is_secure(url)) {
+        (true, true) => "http and secure",
+        (true, false) => "http",
+        (false, true) => "secure",
+        (false, false) => "neither",
     }
 }
 
 #[test]
-fn tells_what_a_url_allows(rt: HostRuntime) -> Result<(), Fail> {
-    let cases = [
-        ("http://localhost:1234", true, true),
-        ("http://127.1.0.1", true, true),
-        ("http://[::1]", true, true),
-        ("http://example.com", true, false),
-        ("https://example.com", true, true),
-        ("ftp://example.com", false, false),
-        ("ftp://127.0.0.1", false, true),
-        ("data:text", false, false),
-    ];
-    for (text, is_http, secure) in cases {
-        let url = Url::parse(rt.alloc(), text)?;
-        assert_eq!(rt; is_http_scheme(&url), is_http, "{text}");
-        assert_eq!(rt; is_secure(&url), secure, "{text}");
+fn tells_what_a_url_allows(rt: HostRuntime) {
+    for row in ALLOWED.split('\n') {
+        let (text, wanted) = row.split_once(" -> ").unwrap_or(("", ""));
+        assert!(rt; allowed(&url_of(&rt, rt.alloc(), text)) == wanted, "{row}");
     }
-    Ok(())
+}
+
+const DEFAULT_PATHS: &str = "http://example.com/foo/bus/bar -> /foo/bus\n\
+http://example.com/foo/ -> /foo\n\
+http://example.com//foo/ -> //foo\n\
+http://example.com/foo// -> /foo/\n\
+http://example.com/foo//bus/bar -> /foo//bus\n\
+http://example.com/foo -> /\n\
+http://example.com -> /\n\
+data:foobusbar -> /\n\
+data:foo/bus/bar -> /";
+
+// Whether this is the path, from an attribute or not.
+fn is_path(path: Result<CookiePath, AllocError>, text: &str, from_attribute: bool) -> bool {
+    match path {
+        Ok(path) => path.as_str() == text && path.is_from_path_attr() == from_attribute,
+        Err(_) => false,
+    }
 }
 
 #[test]
-fn takes_default_paths(rt: HostRuntime) -> Result<(), Fail> {
-    let cases = [
-        ("http://example.com/foo/bus/bar", "/foo/bus"),
-        ("http://example.com/foo/", "/foo"),
-        ("http://example.com//foo/", "//foo"),
-        ("http://example.com/foo//", "/foo/"),
-        ("http://example.com/foo//bus/bar", "/foo//bus"),
-        ("http://example.com/foo", "/"),
-        ("http://example.com", "/"),
-        ("data:foobusbar", "/"),
-        ("data:foo/bus/bar", "/"),
-    ];
-    for (text, path) in cases {
-        let url = Url::parse(rt.alloc(), text)?;
-        let default_path = CookiePath::default_path(rt.alloc(), &url)?;
-        assert_eq!(rt; default_path.as_str(), path, "{text}");
-        assert!(rt; !default_path.is_from_path_attr(), "{text}");
+fn takes_default_paths(rt: HostRuntime) {
+    for row in DEFAULT_PATHS.split('\n') {
+        let (text, wanted) = row.split_once(" -> ").unwrap_or(("", ""));
+        let url = url_of(&rt, rt.alloc(), text);
+        let path = CookiePath::default_path(rt.alloc(), &url);
+        assert!(rt; is_path(path, wanted, false), "{row}");
     }
-    Ok(())
 }
 
 #[test]
-fn reads_paths(rt: HostRuntime) -> Result<(), Fail> {
-    let url = Url::parse(rt.alloc(), "http://example.com/foo/bar/")?;
-    for text in ["", "a/foo"] {
-        assert!(rt; CookiePath::parse(rt.alloc(), text)?.is_none(), "{text}");
-        let path = CookiePath::new(rt.alloc(), text, &url)?;
-        assert_eq!(rt; path.as_str(), "/foo/bar", "{text}");
-        assert!(rt; !path.is_from_path_attr(), "{text}");
-    }
-    let path = CookiePath::new(rt.alloc(), "/a", &url)?.clone(rt.alloc())?;
-    assert_eq!(rt; path.to_text(rt.alloc())?.as_str(), "/a");
-    assert!(rt; path.is_from_path_attr());
-    Ok(())
+fn reads_paths(rt: HostRuntime) {
+    let alloc = rt.alloc();
+    let url = url_of(&rt, alloc, "http://example.com/foo/bar/");
+    assert!(rt; matches!(CookiePath::parse(alloc, ""), Ok(None)));
+    assert!(rt; matches!(CookiePath::parse(alloc, "a/foo"), Ok(None)));
+    assert!(rt; is_path(CookiePath::new(alloc, "", &url), "/foo/bar", false));
+    assert!(rt; is_path(CookiePath::new(alloc, "a/foo", &url), "/foo/bar", false));
+    assert!(rt; is_path(CookiePath::new(alloc, "/a", &url), "/a", true));
+}
+
+const PATH_MATCHES: &str = "/foo/bus at http://example.com/foo/bus\n\
+/foo at http://example.com/foo/bus\n\
+/foo/ at http://example.com/foo/bus\n\
+/ at http://example.com/\n\
+/ at data:/";
+
+const PATH_MISSES: &str = "/foo/bus at http://example.com/foo/buss\n\
+/foo/bus at http://example.com/zoo/bus\n\
+/foo/bus at http://example.com/zfoo/bus\n\
+/fo at http://example.com/foo/bus\n\
+/bar at http://example.com/foo/bus\n\
+/foo/bus/bar at http://example.com/foo/bus\n\
+/ at data:text\n\
+\x20at http://example.com/";
+
+// Whether the path matches, as a text and as a path that was read; some text is no path.
+fn path_matches(rt: &impl Abort, alloc: Global, row: &str) -> (bool, bool) {
+    let (text, url) = row.split_once(" at ").unwrap_or(("", ""));
+    let url = url_of(rt, alloc, url);
+    let read = match CookiePath::parse(alloc, text) {
+        Ok(Some(path)) => path.matches(&url),
+        _ => false,
+    };
+    (cookie_path::is_match(text, &url), read)
 }
 
 #[test]
-fn matches_paths(rt: HostRuntime) -> Result<(), Fail> {
-    let cases = [
-        ("/foo/bus", "http://example.com/foo/bus", true),
-        ("/foo/bus", "http://example.com/foo/buss", false),
-        ("/foo/bus", "http://example.com/zoo/bus", false),
-        ("/foo/bus", "http://example.com/zfoo/bus", false),
-        ("/foo", "http://example.com/foo/bus", true),
-        ("/foo/", "http://example.com/foo/bus", true),
-        ("/fo", "http://example.com/foo/bus", false),
-        ("/bar", "http://example.com/foo/bus", false),
-        ("/foo/bus/bar", "http://example.com/foo/bus", false),
-        ("/", "http://example.com/", true),
-        ("/", "data:/", true),
-        ("/", "data:text", false),
-    ];
-    for (path, text, matches) in cases {
-        let url = Url::parse(rt.alloc(), text)?;
-        assert_eq!(rt;
-            cookie_path::is_match(path, &url),
-            matches,
-            "{path} at {text}"
+fn matches_paths(rt: HostRuntime) {
+    for row in PATH_MATCHES.split('\n') {
+        assert!(rt; path_matches(&rt, rt.alloc(), row) == (true, true), "{row}");
+    }
+    for row in PATH_MISSES.split('\n') {
+        assert!(rt;
+            path_matches(&rt, rt.alloc(), row) == (false, false),
+            "{row}"
         );
-        match CookiePath::parse(rt.alloc(), path)? {
-            Some(read) => assert_eq!(rt; read.matches(&url), matches, "{path} at {text}"),
-            None => assert!(rt; false, "{path}"),
-        }
     }
-    let url = Url::parse(rt.alloc(), "http://example.com/")?;
-    assert!(rt; !cookie_path::is_match("", &url));
-    Ok(())
+}
+
+const DOMAIN_MATCHES: &str = "example.com at http://example.com\n\
+example.com at http://www.example.com\n\
+example.com at http://www.corp.example.com\n\
+..example.com at http://.example.com\n\
+..example.com at http://foo..example.com\n\
+127.0.0.1 at http://127.0.0.1\n\
+[::1] at http://[::1]\n\
+\x20.EXAMPLE.com  at http://example.com";
+
+const DOMAIN_MISSES: &str = "example.com at http://example.org\n\
+example.com at http://xample.com\n\
+example.com at http://fooexample.com\n\
+example.com at http://example.com.\n\
+..example.com at http://example.com\n\
+..example.com at http://foo.example.com\n\
+0.0.1 at http://127.0.0.1\n\
+\x20at http://example.com\n\
+example.com at data:example.com";
+
+fn domain_matches(rt: &impl Abort, alloc: Global, row: &str) -> Option<bool> {
+    let (text, url) = row.split_once(" at ").unwrap_or(("", ""));
+    cookie_domain::is_match(alloc, text, &url_of(rt, alloc, url)).ok()
 }
 
 #[test]
-fn matches_domains(rt: HostRuntime) -> Result<(), Fail> {
-    let cases = [
-        ("example.com", "http://example.com", true),
-        ("example.com", "http://www.example.com", true),
-        ("example.com", "http://www.corp.example.com", true),
-        ("example.com", "http://example.org", false),
-        ("example.com", "http://xample.com", false),
-        ("example.com", "http://fooexample.com", false),
-        ("example.com", "http://example.com.", false),
-        ("..example.com", "http://.example.com", true),
-        ("..example.com", "http://foo..example.com", true),
-        ("..example.com", "http://example.com", false),
-        ("..example.com", "http://foo.example.com", false),
-        ("127.0.0.1", "http://127.0.0.1", true),
-        ("[::1]", "http://[::1]", true),
-        ("0.0.1", "http://127.0.0.1", false),
-        (" .EXAMPLE.com ", "http://example.com", true),
-        ("", "http://example.com", false),
-        ("example.com", "data:example.com", false),
-    ];
-    for (domain, text, matches) in cases {
-        let url = Url::parse(rt.alloc(), text)?;
-        let is_match = cookie_domain::is_match(rt.alloc(), domain, &url)?;
-        assert_eq!(rt; is_match, matches, "{domain} at {text}");
+fn matches_domains(rt: HostRuntime) {
+    for row in DOMAIN_MATCHES.split('\n') {
+        assert!(rt; domain_matches(&rt, rt.alloc(), row) == Some(true), "{row}");
     }
-    Ok(())
-}
-
-#[test]
-fn reads_domains(rt: HostRuntime) -> Result<(), Fail> {
-    let cases = [
-        ("..example.com", Some(".example.com")),
-        (".", None),
-        ("..", Some(".")),
-        ("", None),
-        ("\t.Example.Com ", Some("example.com")),
-        ("b\u{fc}cher.example", Some("xn--bcher-kva.example")),
-        ("xn--bcher-kva.example", Some("xn--bcher-kva.example")),
-    ];
-    for (text, suffix) in cases {
-        let domain = CookieDomain::from_text(rt.alloc(), text)?.clone(rt.alloc())?;
-        assert_eq!(rt; domain.as_cow(), suffix, "{text}");
-        assert_eq!(rt;
-            domain.to_text(rt.alloc())?.as_str(),
-            suffix.unwrap_or(""),
-            "{text}"
+    for row in DOMAIN_MISSES.split('\n') {
+        assert!(rt;
+            domain_matches(&rt, rt.alloc(), row) == Some(false),
+            "{row}"
         );
-        let is_suffix = matches!(domain, CookieDomain::Suffix(_));
-        assert_eq!(rt; is_suffix, suffix.is_some(), "{text}");
     }
-    match CookieDomain::from_text(rt.alloc(), "xn--a.com") {
-        Err(Error::Idna(_)) => {}
-        _ => assert!(rt; false, "a label that stands for a control character"),
+}
+
+// Texts and their domains, which are suffixes or, where nothing follows, empty.
+const DOMAINS: &str = "..example.com -> .example.com\n\
+. -> \n\
+.. -> .\n\
+\x20-> \n\
+\t.Example.Com  -> example.com\n\
+b\u{fc}cher.example -> xn--bcher-kva.example\n\
+xn--bcher-kva.example -> xn--bcher-kva.example";
+
+// Whether this is the domain of the text.
+fn is_domain(alloc: Global, text: &str, wanted: &str) -> bool {
+    match CookieDomain::from_text(alloc, text) {
+        Ok(CookieDomain::Suffix(suffix)) => suffix.as_str() == wanted,
+        Ok(CookieDomain::Empty) => wanted.is_empty(),
+        _ => false,
     }
-    Ok(())
 }
 
 #[test]
-fn takes_hosts(rt: HostRuntime) -> Result<(), Fail> {
-    let cases = [
-        (
-            "http://example.com/a",
-            "example.com",
-            "http://www.example.com",
-        ),
-        ("http://[::1]:80", "[::1]", "http://[::2]"),
-        ("http://127.0.0.1", "127.0.0.1", "http://127.0.0.2"),
-        ("http://localhost.", "localhost.", "http://localhost"),
-    ];
-    for (text, host, other) in cases {
-        let url = Url::parse(rt.alloc(), text)?;
-        let other = Url::parse(rt.alloc(), other)?;
-        let domain = host_of(rt.alloc(), &url)?;
-        assert_eq!(rt; domain.as_cow(), Some(host), "{text}");
-        assert!(rt; domain.matches(&url) && !domain.matches(&other), "{text}");
-        assert!(rt; domain.host_is_identical(&url), "{text}");
-        assert!(rt; !domain.host_is_identical(&other), "{text}");
+fn reads_domains(rt: HostRuntime) {
+    for row in DOMAINS.split('\n') {
+        let (text, wanted) = row.split_once(" -> ").unwrap_or(("", "no row"));
+        assert!(rt; is_domain(rt.alloc(), text, wanted), "{row}");
     }
-    let url = Url::parse(rt.alloc(), "data:nonrelativescheme")?;
-    match CookieDomain::host_only(rt.alloc(), &url) {
-        Err(cause) => assert_eq!(rt; cause, CookieError::NonRelativeScheme),
-        Ok(_) => assert!(rt; false),
+    // A label that stands for a control character.
+    let refused = CookieDomain::from_text(rt.alloc(), "xn--a.com");
+    assert!(rt; matches!(refused, Err(Error::Idna(_))));
+}
+
+// A URL, its host, and a URL of another host.
+const HOSTS: &str = "http://example.com/a example.com http://www.example.com\n\
+http://[::1]:80 [::1] http://[::2]\n\
+http://127.0.0.1 127.0.0.1 http://127.0.0.2\n\
+http://localhost. localhost. http://localhost";
+
+// Whether this is the URL's host, which covers the one URL and not the other.
+fn is_host(url: &Url, host: &str, other: &Url, domain: &CookieDomain) -> bool {
+    domain.as_cow() == Some(host)
+        && domain.matches(url)
+        && domain.host_is_identical(url)
+        && !domain.matches(other)
+        && !domain.host_is_identical(other)
+}
+
+fn takes_host(rt: &impl Abort, alloc: Global, row: &str) -> bool {
+    let (text, rest) = row.split_once(' ').unwrap_or(("", ""));
+    let (host, other) = rest.split_once(' ').unwrap_or(("", ""));
+    let url = url_of(rt, alloc, text);
+    match CookieDomain::host_only(alloc, &url) {
+        Ok(domain) => is_host(&url, host, &url_of(rt, alloc, other), &domain),
+        Err(_) => false,
     }
-    Ok(())
+}
+
+#[test]
+fn takes_hosts(rt: HostRuntime) {
+    for row in HOSTS.split('\n') {
+        assert!(rt; takes_host(&rt, rt.alloc(), row), "{row}");
+    }
+    let url = url_of(&rt, rt.alloc(), "data:nonrelativescheme");
+    let refused = CookieDomain::host_only(rt.alloc(), &url);
+    assert!(rt; refused.is_err_and(|cause| cause == CookieError::NonRelativeScheme));
+}
+
+// Whether the domain of the text is on the list.
+fn is_listed(alloc: Global, text: &str, list: &List) -> Option<bool> {
+    match CookieDomain::from_text(alloc, text) {
+        Ok(domain) => Some(domain.is_public_suffix(list)),
+        Err(_) => None,
+    }
 }
 
 #[test]
 fn asks_a_suffix_list(rt: HostRuntime) -> Result<(), Fail> {
-    let list = List::parse(rt.alloc(), b"com\n*.ck\n!www.ck")?;
-    let cases = [
-        ("com", true),
-        ("example.com", false),
-        ("foo.ck", true),
-        ("www.ck", false),
-        ("ck", false),
-        ("", false),
-    ];
-    for (text, listed) in cases {
-        let domain = CookieDomain::from_text(rt.alloc(), text)?;
-        assert_eq!(rt; domain.is_public_suffix(&list), listed, "{text}");
+    let alloc = rt.alloc();
+    let list = List::parse(alloc, b"com\n*.ck\n!www.ck")?;
+    for text in ["com", "foo.ck"] {
+        assert!(rt; is_listed(alloc, text, &list) == Some(true), "{text}");
+    }
+    for text in ["example.com", "www.ck", "ck", ""] {
+        assert!(rt; is_listed(alloc, text, &list) == Some(false), "{text}");
     }
     Ok(())
-}
-
-fn host_of(alloc: Global, url: &Url) -> Result<CookieDomain, Error> {
-    Ok(CookieDomain::host_only(alloc, url)?)
 }
 
 #[test]
@@ -281,19 +311,16 @@ fn is_at(expiration: CookieExpiration, moment: DateTime) -> bool {
 fn expires_at_its_moment(rt: HostRuntime) {
     let now = datetime(2024, 1, 1, 0, 0, 0, 0);
     let tenth = CookieExpiration::from_max_age(10, now);
-    let cases = [
-        (datetime(2024, 1, 1, 0, 0, 9, 999_999_999), false),
-        (datetime(2024, 1, 1, 0, 0, 10, 0), true),
-        (datetime(2024, 1, 1, 0, 0, 11, 0), true),
-    ];
-    for (moment, expired) in cases {
-        assert_eq!(rt; tenth.is_expired(moment), expired, "{moment:?}");
-        assert_eq!(rt; tenth.expires_by(&moment), expired, "{moment:?}");
-        assert!(rt; !CookieExpiration::SessionEnd.is_expired(moment));
-    }
+    let before = datetime(2024, 1, 1, 0, 0, 9, 999_999_999);
+    let then = datetime(2024, 1, 1, 0, 0, 10, 0);
+    let after = datetime(2024, 1, 1, 0, 0, 11, 0);
+    assert!(rt; !tenth.is_expired(before) && !tenth.expires_by(&before));
+    assert!(rt; tenth.is_expired(then) && tenth.expires_by(&then));
+    assert!(rt; tenth.is_expired(after) && tenth.expires_by(&after));
+    assert!(rt; !CookieExpiration::SessionEnd.is_expired(after));
     let later = CookieExpiration::AtUtc(datetime(2024, 1, 1, 0, 0, 10, 999_999_999));
     assert!(rt; tenth == later);
-    assert!(rt; tenth != CookieExpiration::AtUtc(datetime(2024, 1, 1, 0, 0, 11, 0)));
+    assert!(rt; tenth != CookieExpiration::AtUtc(after));
     assert!(rt; tenth != CookieExpiration::SessionEnd);
     assert!(rt; CookieExpiration::SessionEnd == CookieExpiration::SessionEnd);
 }
@@ -330,62 +357,44 @@ fn is_strictly_rising<T: Ord>(items: &[T]) -> bool {
     true
 }
 
+// Whether the cause prints this, by itself and as an error.
+fn tells(alloc: Global, cause: CookieError, text: &str) -> bool {
+    prints(alloc, &cause, text) && prints(alloc, &Error::from(cause), text)
+}
+
 #[test]
-fn prints_errors(rt: HostRuntime) -> Result<(), Fail> {
-    let causes = [
-        (
-            CookieError::NonHttpScheme,
-            "request-uri is not an http scheme but HttpOnly attribute set",
-        ),
-        (
-            CookieError::NonRelativeScheme,
-            "request-uri is not a relative scheme; cannot determine host",
-        ),
-        (
-            CookieError::DomainMismatch,
-            "request-uri does not domain-match the cookie",
-        ),
-        (
-            CookieError::Expired,
-            "attempted to utilize an Expired Cookie",
-        ),
-        (
-            CookieError::Parse,
-            "unable to parse string as cookie::Cookie",
-        ),
-        (
-            CookieError::PublicSuffix,
-            "domain-attribute value is a public suffix",
-        ),
-        (
-            CookieError::UnspecifiedDomain,
-            "domain-attribute is not specified",
-        ),
-        (CookieError::OutOfMemory, "OutOfMemory"),
-    ];
-    for (cause, text) in causes {
-        assert_eq!(rt; format!(in rt.alloc(); "{cause}")?.as_str(), text);
-        let error = Error::from(cause);
-        assert_eq!(rt; format!(in rt.alloc(); "{error}")?.as_str(), text);
-    }
-    let errors = [
-        (Error::Io, "Io"),
-        (Error::NotText, "NotText"),
-        (Error::Json, "Json"),
-        (Error::Ron(30), "Ron(30)"),
-        (Error::Shape, "Shape"),
-        (Error::Year, "Year"),
-        (Error::Text, "Text"),
-        (Error::OutOfMemory, "OutOfMemory"),
-    ];
-    for (error, text) in errors {
-        assert_eq!(rt; format!(in rt.alloc(); "{error}")?.as_str(), text);
-    }
-    match CookieDomain::from_text(rt.alloc(), "xn--a") {
-        Err(error) => assert_eq!(rt; format!(in rt.alloc(); "{error}")?.as_str(), "Idna"),
-        Ok(_) => assert!(rt; false),
-    }
-    Ok(())
+fn prints_causes(rt: HostRuntime) {
+    let alloc = rt.alloc();
+    let text = "request-uri is not an http scheme but HttpOnly attribute set";
+    assert!(rt; tells(alloc, CookieError::NonHttpScheme, text));
+    let text = "request-uri is not a relative scheme; cannot determine host";
+    assert!(rt; tells(alloc, CookieError::NonRelativeScheme, text));
+    let text = "request-uri does not domain-match the cookie";
+    assert!(rt; tells(alloc, CookieError::DomainMismatch, text));
+    let text = "attempted to utilize an Expired Cookie";
+    assert!(rt; tells(alloc, CookieError::Expired, text));
+    let text = "unable to parse string as cookie::Cookie";
+    assert!(rt; tells(alloc, CookieError::Parse, text));
+    let text = "domain-attribute value is a public suffix";
+    assert!(rt; tells(alloc, CookieError::PublicSuffix, text));
+    let text = "domain-attribute is not specified";
+    assert!(rt; tells(alloc, CookieError::UnspecifiedDomain, text));
+    assert!(rt; tells(alloc, CookieError::OutOfMemory, "OutOfMemory"));
+}
+
+#[test]
+fn prints_errors(rt: HostRuntime) {
+    let alloc = rt.alloc();
+    assert!(rt; prints(alloc, &Error::Io, "Io"));
+    assert!(rt; prints(alloc, &Error::NotText, "NotText"));
+    assert!(rt; prints(alloc, &Error::Json, "Json"));
+    assert!(rt; prints(alloc, &Error::Ron(30), "Ron(30)"));
+    assert!(rt; prints(alloc, &Error::Shape, "Shape"));
+    assert!(rt; prints(alloc, &Error::Year, "Year"));
+    assert!(rt; prints(alloc, &Error::Text, "Text"));
+    assert!(rt; prints(alloc, &Error::OutOfMemory, "OutOfMemory"));
+    let refused = CookieDomain::from_text(alloc, "xn--a");
+    assert!(rt; refused.is_err_and(|error| prints(alloc, &error, "Idna")));
 }
 
 // Scenarios over calls that take memory, of which each growth is refused in turn.
