@@ -1,21 +1,27 @@
 -- The code's way through the acceptance of a line.
-use Rattle.std.proofs.Common.{◌≡◌, ℕ, List, sym, ap, ◌∙◌, Option, Some}
+use Rattle.std.proofs.Common.{◌≡◌, ℕ, List, refl, subst, inl, inr, Some, None, Result, Err}
 use Rattle.std.specs.Str.{IsUtf8}
-use Rattle.std.proofs.lemmas.Bool.{cond-true, cond-false}
-use Rattle.std.proofs.lemmas.Str.{is_utf8-from_IsUtf8}
 use Rattle.url.specs.Parts.{Parts}
-use Rattle.cookie_run.specs.Record.{Record}
+use Rattle.cookie_text.specs.declared.error.ParseError.{ParseError}
+use Rattle.cookie_text.specs.Reading.{ReadsPlain}
+use Rattle.cookie_text.specs.Record.{Seen}
 use Rattle.cookie_run.specs.Reading.{kept_cookie}
 use Rattle.cookie_run.specs.declared.row.Row.{Row}
-use Rattle.cookie_run.specs.declared.step.LineEnd.TheVariants.{NotText}
-use Rattle.cookie_run.specs.Rows.{accept, accept_at, stored, secure_host}
-use Rattle.cookie_run.proofs.ReadCode.{not_utf8}
+use Rattle.cookie_run.specs.declared.step.LineEnd.{LineEnd}
+use Rattle.cookie_run.specs.declared.step.LineEnd.TheVariants.{Refused, NotText}
+use Rattle.cookie_run.specs.declared.step.CookieError.TheVariants.{NonHttpScheme, Parse}
+use Rattle.cookie_run.specs.Rows.{Accepts, AcceptsAt, stored, secure_host}
 
-pub accept_no_text : (rows : List Row) (url : Parts) (line host : List ℕ) → Some host ≡ secure_host url → ¬ IsUtf8 line → (NotText, rows) ≡ accept rows url line
-accept_no_text rows url line host secure h =
-    sym (ap (λ o. accept_at o rows line) (sym secure) ∙ cond-false _ _ _ (not_utf8 line h))
+pub accept_nowhere : (rows : List Row) (url : Parts) (line : List ℕ) → None ≡ secure_host url → Accepts rows url line (Refused NonHttpScheme) rows
+accept_nowhere rows url line secure = subst (λ h. AcceptsAt h rows line (Refused NonHttpScheme, rows)) secure refl
 
-pub accept_text : (rows : List Row) (url : Parts) (line text host : List ℕ) (o : Option Record) → Some host ≡ secure_host url → text ≡ line → IsUtf8 line → o ≡ kept_cookie text → stored rows host o ≡ accept rows url line
-accept_text rows url line text host o secure same utf8 reads =
-    ap (stored rows host) (reads ∙ ap kept_cookie same)
-    ∙ sym (ap (λ h. accept_at h rows line) (sym secure) ∙ cond-true _ _ _ (is_utf8-from_IsUtf8 line utf8))
+pub accept_no_text : (rows : List Row) (url : Parts) (line host : List ℕ) → Some host ≡ secure_host url → ¬ IsUtf8 line → Accepts rows url line NotText rows
+accept_no_text rows url line host secure h = subst (λ o. AcceptsAt o rows line (NotText, rows)) secure (inl (h, refl))
+
+accept_text : (rows new : List Row) (url : Parts) (line text host : List ℕ) (r : Result Seen ParseError) (end : LineEnd) → Some host ≡ secure_host url → text ≡ line → IsUtf8 line → ReadsPlain text r
+    → (end, new) ≡ stored rows host (kept_cookie r) → Accepts rows url line end new
+accept_text rows new url line text host r end secure same utf8 reads is =
+    subst (λ o. AcceptsAt o rows line (end, new)) secure (inr (utf8, (r, subst (λ t. ReadsPlain t r) same reads, is)))
+
+pub accept_unread : (rows : List Row) (url : Parts) (line text host : List ℕ) (e : ParseError) → Some host ≡ secure_host url → text ≡ line → IsUtf8 line → ReadsPlain text (Err e) → Accepts rows url line (Refused Parse) rows
+accept_unread rows url line text host e secure same utf8 reads = accept_text rows rows url line text host (Err e) (Refused Parse) secure same utf8 reads refl

@@ -15,7 +15,7 @@ use Rattle.cookie_run.specs.Play.{Plays, all_told, told_of, IsRunUntil}
 use Rattle.cookie_run.specs.Headline.{after_acts, SitesReadTheirOwn, SitesReadTheirOwnUntil}
 use Rattle.cookie_run.proofs.Runs.{acts_more, readings_nil}
 use Rattle.cookie_run.proofs.Shapes.{plays_answer}
-use Rattle.cookie_run.proofs.SiteStep.{each_reads, all_agree, act_stops, begins}
+use Rattle.cookie_run.proofs.SiteStep.{ReadingBack, each_reads, all_agree, act_stops, begins}
 
 -- ---- moments
 
@@ -101,9 +101,9 @@ front_inside old told readings kind last act stops =
       ]
     ]
 
-pub sites_until : (steps : List Step) (i : ℕ) (s : Step) (rows : List Row) (now later : List Reading) (last : ℤ) (kind : FaultKind) → i < length steps → s ≡ get_or steps i s → Before steps i rows now last →
+pub sites_until : (law : ReadingBack) (steps : List Step) (i : ℕ) (s : Step) (rows : List Row) (now later : List Reading) (last : ℤ) (kind : FaultKind) → i < length steps → s ≡ get_or steps i s → Before steps i rows now last →
     StopsFrom kind last (act_of s) now (told_of rows (act_of s)) later → SitesReadTheirOwnUntil (acts_of steps) (i + 1) kind later
-sites_until steps i s rows now later last kind h is b stops =
+sites_until law steps i s rows now later last kind h is b stops =
     let before = acts_of (take i steps) in
     let there = stops_there steps i s rows now later last kind b stops in
     let front = front_inside (all_told b.run.0) _ later kind _ (act_of s) there in
@@ -117,24 +117,24 @@ sites_until steps i s rows now later last kind h is b stops =
       front = front.0;
       read = front.1;
       own = plays_answer [] rows before b.run.0 b.run.2;
-      sites = λ host answers. each_reads host before nothing [] b.run.0 rows answers b.text (begins host) b.run.2;
-      stops = λ host answers here.
+      sites = λ host answers lives. each_reads law host before nothing [] b.run.0 rows answers lives b.text (begins host) b.run.2;
+      stops = λ host answers lives here.
           act_stops host (act_of s) (after_acts host nothing before) rows kind _ (all_told b.run.0) later here
-          (all_agree host before nothing [] b.run.0 rows answers b.text (begins host) b.run.2) there;
+          (all_agree law host before nothing [] b.run.0 rows answers lives b.text (begins host) b.run.2) there;
     }
 
-pub sites_read : (acts : List Act) (readings : List Reading) (rows : List Row) (told : List (List Reading)) → AllByRecursion StepSetsText acts → readings ≡ all_told told → Plays [] acts told rows → SitesReadTheirOwn acts readings
-sites_read acts readings rows told text is ran = record {
+pub sites_read : (law : ReadingBack) (acts : List Act) (readings : List Reading) (rows : List Row) (told : List (List Reading)) → AllByRecursion StepSetsText acts → readings ≡ all_told told → Plays [] acts told rows → SitesReadTheirOwn acts readings
+sites_read law acts readings rows told text is ran = record {
   told = told;
   read = is;
   own = plays_answer [] rows acts told ran;
-  sites = λ host answers. each_reads host acts nothing [] told rows answers text (begins host) ran;
+  sites = λ host answers lives. each_reads law host acts nothing [] told rows answers lives text (begins host) ran;
 }
 
 -- a play that came to its end
-pub sites_all : (steps : List Step) (i : ℕ) (rows : List Row) (now : List Reading) (moment : ℤ) → length steps ≤ i → Before steps i rows now moment → SitesReadTheirOwn (acts_of steps) now
-sites_all steps i rows now moment h b =
+pub sites_all : (law : ReadingBack) (steps : List Step) (i : ℕ) (rows : List Row) (now : List Reading) (moment : ℤ) → length steps ≤ i → Before steps i rows now moment → SitesReadTheirOwn (acts_of steps) now
+sites_all law steps i rows now moment h b =
     let all = take_all i steps h in
-    sites_read (acts_of steps) now rows b.run.0
+    sites_read law (acts_of steps) now rows b.run.0
     (subst (λ ss. AllByRecursion StepSetsText (acts_of ss)) all b.text) b.run.1
     (subst (λ ss. Plays [] (acts_of ss) b.run.0 rows) all b.run.2)

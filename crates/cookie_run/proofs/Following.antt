@@ -1,11 +1,14 @@
 -- A line of a script is read, and then done.
-use Rattle.std.proofs.Common.{◌≡◌, ◌≢◌, ◌⊎◌, ℕ, ℤ, ◌<◌, arith, Bool, true, false, List, [], ◌∷◌, ◌++◌, length, Option, Result, Ok, Err, inl, inr, sym, refl, ap, ◌∙◌, subst, append-nil}
-use Rattle.std.specs.Prelude.{if◌then◌else◌, IfOk, IfErr, OnOk, IsErrOf, is_err, ◌==◌}
+use Rattle.std.proofs.Common.{Vec, Global, ◌≡◌, ◌≢◌, ◌⊎◌, ℕ, ℤ, ◌<◌, arith, Bool, true, false, List, [], ◌∷◌, ◌++◌, length, Option, Result, Ok, Err, inl, inr, sym, refl, ap, ◌∙◌, subst, append-nil}
+use Rattle.std.specs.Prelude.{if◌then◌else◌, IfOk, IfErr, IsErrOf, is_err, ◌==◌}
 use Rattle.std.specs.Str.{bytes_eq}
 use Rattle.std.proofs.lemmas.Bool.Decides.{nat_tests}
 use Rattle.std.proofs.lemmas.Bool.{false≢true}
+use Rattle.url.specs.Parts.{Parts}
+use Rattle.cookie_run.specs.declared.step.LineEnd.{LineEnd}
+use Rattle.cookie_run.specs.Rows.{AcceptsAll, Takes}
 use Rattle.cookie_run.specs.ScriptLine as spec
-use Rattle.cookie_run.specs.ScriptText.{Reached, obeyed, goes_back, done, after_line, readings_text, HalfLine}
+use Rattle.cookie_run.specs.ScriptText.{Reached, obeyed, goes_back, done, after_line, HalfLine}
 use Rattle.cookie_run.specs.Standing.{Stands, Goes, Halts}
 use Rattle.cookie_run.specs.ScriptRead.{line_of}
 use Rattle.cookie_run.specs.declared.row.Row.{Row}
@@ -87,9 +90,9 @@ pub if_err : {A E : Type 0} (r : Result A E) {P Q : E → Type 0} → ((e : E) �
 if_err (Ok x) f h = tt
 if_err (Err e) f h = f e h
 
-pub ok_gives : {A E : Type 0} (r : Result A E) (P : Type 0) → false ≡ is_err r → OnOk r P → P
-ok_gives (Ok x) P e h = h
-ok_gives (Err x) P e h = absurd (false≢true e)
+pub takes_of : {E : Type 0} (rows new : List Row) (url : Parts) (lines : List (List ℕ)) (r : Result (Vec LineEnd Global) E) → false ≡ is_err r → IfOk r (λ ends. AcceptsAll rows url lines ends.items new) → Takes rows url lines new
+takes_of rows new url lines (Ok ends) e h = (ends.items, h)
+takes_of rows new url lines (Err x) e h = absurd (false≢true e)
 
 pub no_bytes : (bs : List ℕ) → true ≡ (length bs == 0) → bs ≡ []
 no_bytes [] e = refl

@@ -4,7 +4,6 @@ pub mod HeaderBack
 pub mod Records
 pub mod SiteStep
 pub mod Puts
-pub mod Parts
 pub mod Runs
 pub mod Headers
 pub mod Shapes
@@ -23,4 +22,3 @@ pub mod Standings
 pub mod Halting
 pub mod ScriptRun
 pub mod Following
-mod Facts

@@ -1,35 +1,38 @@
--- What the code reads is what a text reads as.
-use Rattle.std.proofs.Common.{◌≡◌, ℕ, ◌+◌, Bool, true, false, ◌&&◌, ◌||◌, List, [], ◌∷◌, suc, sym, refl, ap, ◌∙◌, subst, ⊎_elim, arith, Option, Some, None, Result, Ok, Err}
-use Rattle.std.specs.Prelude.{if◌then◌else◌, map}
+-- What the code reads of a piece of a header.
+use Rattle.std.proofs.Common.{◌≡◌, ◌≢◌, ℕ, ◌<◌, Bool, true, false, ltb, List, [], ◌∷◌, ◌++◌, length, suc, sym, refl, ap, ◌∙◌, subst, ⊎_elim, arith, All, Option, Some, None, Result, Ok, Err}
+use Rattle.std.specs.Prelude.{◌==◌, ◌+◌, map, IfOk, OnOk, IsOkUnless}
 use Rattle.std.specs.Borrow.{Bor}
-use Rattle.std.specs.List.{slice_split, onto_first, before_first, position_or_len, list_all, list_any}
-use Rattle.std.specs.Result.{result_ok}
-use Rattle.std.specs.Str.{trim, is_utf8, IsUtf8}
-use Rattle.std.proofs.lemmas.Bool.{cases_Bool, cond-true, cond-false}
+use Rattle.std.specs.List.{AllByRecursion, slice_split, onto_first, before_first, position_or_len}
+use Rattle.std.specs.Str.{is_utf8, IsUtf8}
+use Rattle.std.proofs.lemmas.Bool.{cases_Bool, cond-true, cond-false, ltb-true}
+use Rattle.std.proofs.lemmas.Bool.Decides.{nat_tests}
+use Rattle.std.proofs.lemmas.List.Elements.{All-from_recursion}
+use Rattle.std.proofs.lemmas.List.Splits.{slice_split_none}
 use Rattle.std.proofs.lemmas.Str.{is_utf8-from_IsUtf8, IsUtf8-from_is_utf8}
 use Rattle.percent_encoding.specs.Percent.{percent_decode}
-use Rattle.cookie_run.specs.Record.{Record}
-use Rattle.cookie_run.specs.Pieces.{is_semicolon, pieces, part_of}
-use Rattle.cookie_run.specs.Reading.{ReadFault, pair_of, pair_in, attributes_in, decoded, read_pair, cookie_of, is_kept, is_root_path, are_kept, kept_cookie}
+use Rattle.cookie_text.specs.declared.error.ParseError.{ParseError}
+use Rattle.cookie_text.specs.declared.error.ParseError.TheVariants.{OutOfMemory}
+use Rattle.cookie_text.specs.Decoding.{ReadsEncoded, AreUtf8}
+use Rattle.cookie_text.specs.Pieces.{semicolon, equals, pieces, HasEquals, name_of, text_after, value_of}
+use Rattle.cookie_text.specs.Reading.{HasAttributes, HasLast, IsPair, first_piece}
+use Rattle.cookie_text.specs.Record.{Record, Seen, bare}
+use Rattle.cookie_run.specs.Jar.{record_in}
+use Rattle.cookie_run.specs.Reading.{cookie_of, decoded, pair_in}
 
 -- ---- texts
 
 pub not_utf8 : (bs : List ℕ) → ¬ IsUtf8 bs → is_utf8 bs ≡ false
 not_utf8 bs h = ⊎_elim (λ e. absurd (h (IsUtf8-from_is_utf8 bs e))) (λ e. e) (cases_Bool (is_utf8 bs))
 
-pub text_decodes : (text cow bytes input bs : List ℕ) → text ≡ cow → cow ≡ bytes → IsUtf8 bytes → bytes ≡ percent_decode input → input ≡ bs → Some text ≡ (if is_utf8 (percent_decode bs) then Some (percent_decode bs) else None)
-text_decodes text cow bytes input bs e1 e2 utf8 e3 e4 =
-    let is : bytes ≡ percent_decode bs = e3 ∙ ap percent_decode e4 in
-    ap Some (e1 ∙ (e2 ∙ is)) ∙ sym (cond-true _ _ _ (is_utf8-from_IsUtf8 (percent_decode bs) (subst IsUtf8 is utf8)))
+pub piece_no_text : (piece : List ℕ) → ¬ IsUtf8 piece → None ≡ cookie_of piece
+piece_no_text piece h = sym (cond-false _ _ _ (not_utf8 piece h))
 
-pub text_is_none : (bytes input bs : List ℕ) → ¬ IsUtf8 bytes → bytes ≡ percent_decode input → input ≡ bs → None ≡ (if is_utf8 (percent_decode bs) then Some (percent_decode bs) else None)
-text_is_none bytes input bs h e3 e4 =
-    let is : bytes ≡ percent_decode bs = e3 ∙ ap percent_decode e4 in
-    sym (cond-false _ _ _ (not_utf8 (percent_decode bs) (λ u. h (subst IsUtf8 (sym is) u))))
+-- ---- a text without a semicolon
 
--- ---- the first piece
+abbrev pub IsClean : List ℕ → Type 0
+IsClean text = All (λ b. (b == semicolon) ≡ false) text
 
-pub first_split : (p : ℕ → Bool) (xs : List ℕ) → (rest : List (List ℕ)) × (slice_split p xs ≡ before_first p xs ∷ rest)
+first_split : (p : ℕ → Bool) (xs : List ℕ) → (rest : List (List ℕ)) × (slice_split p xs ≡ before_first p xs ∷ rest)
 first_split p [] = ([], refl)
 first_split p (x ∷ xs) =
     let more = first_split p xs in
@@ -40,62 +43,138 @@ first_split p (x ∷ xs) =
     (more.0, rw (no, next) (ap (onto_first x) more.1)))
     (cases_Bool (p x))
 
-pair_of_first : (text first : List ℕ) → first ≡ before_first is_semicolon text → read_pair text ≡ pair_of (part_of (trim first)).name (part_of (trim first)).value
-pair_of_first text first e =
-    ap (λ ps. pair_in (map trim ps)) (first_split is_semicolon text).1
-    ∙ ap (λ f. pair_of (part_of (trim f)).name (part_of (trim f)).value) (sym e)
+first_of : (x y : List ℕ) (xs ys : List (List ℕ)) → x ∷ xs ≡ y ∷ ys → x ≡ y
+first_of x y xs ys e = cc
 
-is_read : (x : Result Record ReadFault) (r : Record) → Some r ≡ result_ok x → x ≡ Ok r
-is_read (Ok c) r e = let same : r ≡ c = cc in ap Ok (sym same)
-is_read (Err f) r e = let clash : Some r ≡ None = e in absurd (cc)
+rest_of : (x y : List ℕ) (xs ys : List (List ℕ)) → x ∷ xs ≡ y ∷ ys → xs ≡ ys
+rest_of x y xs ys e = cc
 
-not_read : (x : Result Record ReadFault) → None ≡ result_ok x → None ≡ result_ok (decoded x)
-not_read (Ok c) e = let clash : None ≡ Some c = e in absurd (cc)
-not_read (Err f) e = refl
+whole : (text : List ℕ) → IsClean text → pieces text ≡ text ∷ []
+whole text clean = slice_split_none (λ b. b == semicolon) text clean
 
--- ---- a piece of a header
+first_is : (text : List ℕ) → IsClean text → first_piece text ≡ text
+first_is text clean = let f = first_split (λ b. b == semicolon) text in first_of _ _ f.0 [] (sym f.1 ∙ whole text clean)
 
-pub piece_no_text : (piece : List ℕ) → ¬ IsUtf8 piece → None ≡ cookie_of piece
-piece_no_text piece h = sym (cond-false _ _ _ (not_utf8 piece h))
+-- ---- no attribute of no piece
 
-cookie_of_text : (piece text first : List ℕ) → text ≡ piece → IsUtf8 piece → first ≡ before_first is_semicolon text → cookie_of piece ≡ result_ok (decoded (pair_of (part_of (trim first)).name (part_of (trim first)).value))
-cookie_of_text piece text first same utf8 e =
-    cond-true _ _ _ (is_utf8-from_IsUtf8 piece utf8)
-    ∙ ap (λ x. result_ok (decoded x)) (ap read_pair (sym same) ∙ pair_of_first text first e)
+not_in_none : (before after : List (List ℕ)) (piece : List ℕ) → [] ≡ before ++ piece ∷ after → ⊥
+not_in_none [] after piece e = cc
+not_in_none (b ∷ before) after piece e = cc
 
-pub piece_read : (piece text first : List ℕ) (r : Record) (cookie : Option Record) → text ≡ piece → IsUtf8 piece → first ≡ before_first is_semicolon text →
-    Some r ≡ result_ok (pair_of (part_of (trim first)).name (part_of (trim first)).value) → cookie ≡ result_ok (decoded (Ok r)) → cookie ≡ cookie_of piece
-piece_read piece text first r cookie same utf8 e read is =
-    is ∙ sym (cookie_of_text piece text first same utf8 e ∙ ap (λ x. result_ok (decoded x)) (is_read _ r read))
+none_last : {A : Type 0} (gives : List ℕ → A → Type 0) (o : Option A) → HasLast gives [] o → o ≡ None
+none_last gives None h = refl
+none_last gives (Some a) h = absurd (not_in_none h.before h.after h.piece h.split)
 
-pub piece_unread : (piece text first : List ℕ) → text ≡ piece → IsUtf8 piece → first ≡ before_first is_semicolon text →
-    None ≡ result_ok (pair_of (part_of (trim first)).name (part_of (trim first)).value) → None ≡ cookie_of piece
-piece_unread piece text first same utf8 e unread = not_read _ unread ∙ sym (cookie_of_text piece text first same utf8 e)
+bare_is : (r : Record) → HasAttributes [] r → r ≡ bare r.name r.value
+bare_is r h = λ i. record {
+  name = r.name;
+  value = r.value;
+  http_only = none_last _ r.http_only h.http_only i;
+  secure = none_last _ r.secure h.secure i;
+  partitioned = none_last _ r.partitioned h.partitioned i;
+  same_site = none_last _ r.same_site h.same_site i;
+  max_age = none_last _ r.max_age h.max_age i;
+  path = none_last _ r.path h.path i;
+  domain = none_last _ r.domain h.domain i;
+  expires = none_last _ r.expires h.expires i;
+}
 
--- ---- a line
+-- ---- what is read of a piece
 
-all_kept : (xs : List (Bor (List ℕ))) → list_all is_kept (map part_of (map trim (map (λ x. x.now) xs))) ≡ list_all (λ x. is_kept (part_of (trim x.now))) xs
-all_kept [] = refl
-all_kept (x ∷ xs) = ap (λ b. is_kept (part_of (trim x.now)) && b) (all_kept xs)
+value_there : (text : List ℕ) → HasEquals text → value_of text ≡ Some (text_after text)
+unfolding value_of
+value_there text h =
+    let t : ltb (position_or_len (λ b. b == equals) text) (length text) ≡ true = grind (arith, nat_tests, h) in
+    cond-true _ _ _ t
 
-any_root : (xs : List (Bor (List ℕ))) → list_any is_root_path (map part_of (map trim (map (λ x. x.now) xs))) ≡ list_any (λ x. is_root_path (part_of (trim x.now))) xs
-any_root [] = refl
-any_root (x ∷ xs) = ap (λ b. is_root_path (part_of (trim x.now)) || b) (any_root xs)
+value_missing : (text : List ℕ) → ltb (position_or_len (λ b. b == equals) text) (length text) ≡ false → value_of text ≡ None
+unfolding value_of
+value_missing text h = cond-false _ _ _ h
 
-are_kept_is : (xs : List (Bor (List ℕ))) → are_kept (map part_of (map trim (map (λ x. x.now) xs))) ≡ (list_all (λ x. is_kept (part_of (trim x.now))) xs && list_any (λ x. is_root_path (part_of (trim x.now))) xs)
-are_kept_is xs = λ i. all_kept xs i && any_root xs i
+pair_some : (n v : List ℕ) → 0 < length n → pair_in n (Some v) ≡ decoded n v
+pair_some [] v h = absurd (omega (arith, h))
+pair_some (b ∷ bs) v h = refl
 
-line_is : (line : List ℕ) (items : List (Bor (List ℕ))) (first : Bor (List ℕ)) (rest : List (Bor (List ℕ))) → map (λ x. x.now) items ≡ slice_split is_semicolon line → items ≡ first ∷ rest → pieces line ≡ trim first.now ∷ map trim (map (λ x. x.now) rest)
-line_is line items first rest cut is = ap (map trim) (sym cut ∙ ap (map (λ x. x.now)) is)
+decoded_some : (n v : List ℕ) → AreUtf8 n v → decoded n v ≡ Some (bare (percent_decode n) (percent_decode v))
+decoded_some n v u = rw (is_utf8-from_IsUtf8 (percent_decode n) u.0, is_utf8-from_IsUtf8 (percent_decode v) u.1) refl
 
-pub line_not_kept : (line : List ℕ) (items : List (Bor (List ℕ))) (first : Bor (List ℕ)) (rest : List (Bor (List ℕ))) → map (λ x. x.now) items ≡ slice_split is_semicolon line → items ≡ first ∷ rest →
-    (list_all (λ x. is_kept (part_of (trim x.now))) rest && list_any (λ x. is_root_path (part_of (trim x.now))) rest) ≡ false → None ≡ kept_cookie line
-line_not_kept line items first rest cut is lost =
-    sym (cond-false _ _ _ (ap (λ ps. are_kept (attributes_in ps)) (line_is line items first rest cut is) ∙ (are_kept_is rest ∙ lost)))
+pub piece_read : (text : List ℕ) (s : Seen) → IsClean text → IsUtf8 text → ReadsEncoded text (Ok s) → Some s.cookie ≡ cookie_of text
+piece_read text s clean utf8 reads =
+    let first = first_is text clean in
+    let fit = reads.accepted refl in
+    let pair = subst IsPair first fit.0 in
+    let texts : AreUtf8 (name_of text) (text_after text) = subst (λ t. AreUtf8 (name_of t) (text_after t)) first fit.1 in
+    let rest = reads.attributes in
+    let none : rest.0 ≡ [] = rest_of _ _ rest.0 [] (sym rest.1 ∙ whole text clean) in
+    let attributes : HasAttributes [] s.cookie = subst (λ ps. HasAttributes ps s.cookie) none rest.2 in
+    let name : s.cookie.name ≡ percent_decode (name_of text) = reads.decoded.name ∙ ap (λ t. percent_decode (name_of t)) first in
+    let value : s.cookie.value ≡ percent_decode (text_after text) = reads.decoded.value ∙ ap (λ t. percent_decode (text_after t)) first in
+    ap Some (bare_is s.cookie attributes ∙ λ i. bare (name i) (value i))
+    ∙ sym (cond-true _ _ _ (is_utf8-from_IsUtf8 text utf8) ∙ (ap (pair_in (name_of text)) (value_there text pair.0) ∙ (pair_some (name_of text) (text_after text) pair.1 ∙ decoded_some (name_of text) (text_after text) texts)))
 
-pub line_kept : (line : List ℕ) (items : List (Bor (List ℕ))) (first : Bor (List ℕ)) (rest : List (Bor (List ℕ))) (cookie : Option Record) → map (λ x. x.now) items ≡ slice_split is_semicolon line → items ≡ first ∷ rest →
-    (list_all (λ x. is_kept (part_of (trim x.now))) rest && list_any (λ x. is_root_path (part_of (trim x.now))) rest) ≡ true →
-    cookie ≡ result_ok (pair_of (part_of (trim first.now)).name (part_of (trim first.now)).value) → cookie ≡ kept_cookie line
-line_kept line items first rest cookie cut is kept read =
-    let parts = line_is line items first rest cut is in
-    read ∙ sym (cond-true _ _ _ (ap (λ ps. are_kept (attributes_in ps)) parts ∙ (are_kept_is rest ∙ kept)) ∙ ap (λ ps. result_ok (pair_in ps)) parts)
+-- a piece that doesn't
+pair_none : (text : List ℕ) → ¬ (IsPair text × AreUtf8 (name_of text) (text_after text)) → pair_in (name_of text) (value_of text) ≡ None
+pair_none text h =
+    ⊎_elim
+    (λ (there : ltb (position_or_len (λ b. b == equals) text) (length text) ≡ true).
+    let has : HasEquals text = ltb-true _ _ there in
+    ap (pair_in (name_of text)) (value_there text has) ∙ unread (name_of text) (text_after text) (λ some texts. h ((has, some), texts)))
+    (λ (none : ltb (position_or_len (λ b. b == equals) text) (length text) ≡ false). ap (pair_in (name_of text)) (value_missing text none))
+    (cases_Bool _)
+  where
+    undecoded : (n v : List ℕ) → ¬ (AreUtf8 n v) → decoded n v ≡ None
+    undecoded n v h =
+        ⊎_elim
+        (λ (en : is_utf8 (percent_decode n) ≡ true).
+        ⊎_elim
+        (λ (ev : is_utf8 (percent_decode v) ≡ true). absurd (h (IsUtf8-from_is_utf8 _ en, IsUtf8-from_is_utf8 _ ev)))
+        (λ (ev : is_utf8 (percent_decode v) ≡ false). rw (en, ev) refl)
+        (cases_Bool (is_utf8 (percent_decode v))))
+        (λ (en : is_utf8 (percent_decode n) ≡ false). rw en refl)
+        (cases_Bool (is_utf8 (percent_decode n)))
+
+    unread : (n v : List ℕ) → (0 < length n → AreUtf8 n v → ⊥) → pair_in n (Some v) ≡ None
+    unread [] v h = refl
+    unread (b ∷ bs) v h = undecoded (b ∷ bs) v (h (omega arith))
+
+pub piece_unread : (text : List ℕ) (e : ParseError) → e ≢ OutOfMemory → IsClean text → IsUtf8 text → ReadsEncoded text (Err e) → None ≡ cookie_of text
+piece_unread text e other clean utf8 reads =
+    let first = first_is text clean in
+    let unfit : ¬ (IsPair text × AreUtf8 (name_of text) (text_after text)) = λ p.
+    other (error_is e (reads.owed (subst IsPair (sym first) p.0) (subst (λ t. AreUtf8 (name_of t) (text_after t)) (sym first) p.1))) in
+    sym (cond-true _ _ _ (is_utf8-from_IsUtf8 text utf8) ∙ pair_none text unfit)
+  where
+    error_is : (e : ParseError) → IsOkUnless {T = Seen} (Err e) OutOfMemory → e ≡ OutOfMemory
+    error_is e h = h
+
+-- ---- the pieces of a header
+
+clean_front : (p : ℕ → Bool) (x : ℕ) (parts : List (List ℕ)) → p x ≡ false → AllByRecursion (λ t. AllByRecursion (λ b. p b ≡ false) t) parts → AllByRecursion (λ t. AllByRecursion (λ b. p b ≡ false) t) (onto_first x parts)
+clean_front p x [] e h = ((e, tt), tt)
+clean_front p x (t ∷ ts) e h = ((e, h.0), h.1)
+
+parts_clean : (p : ℕ → Bool) (xs : List ℕ) → AllByRecursion (λ t. AllByRecursion (λ b. p b ≡ false) t) (slice_split p xs)
+parts_clean p [] = (tt, tt)
+parts_clean p (x ∷ xs) =
+    ⊎_elim
+    (λ (yes : p x ≡ true). rw yes (tt, parts_clean p xs))
+    (λ (no : p x ≡ false). rw no (clean_front p x (slice_split p xs) no (parts_clean p xs)))
+    (cases_Bool (p x))
+
+pub unread_gives : {E : Type 0} (r : Result (Option Seen) E) (text piece : List ℕ) (e : ParseError) → IfOk r (λ o. o ≡ None) → OnOk r (e ≢ OutOfMemory) → text ≡ piece → IsClean piece → IsUtf8 piece → ReadsEncoded text (Err e) → IfOk r (λ o. record_in o ≡ cookie_of piece)
+unread_gives (Err x) text piece e none other same clean utf8 reads = tt
+unread_gives (Ok o) text piece e none other same clean utf8 reads =
+    ap record_in none ∙ piece_unread piece e other clean utf8 (subst (λ t. ReadsEncoded t (Err e)) same reads)
+
+-- each of the borrowed pieces is clean
+all_mapped : (P : List ℕ → Type 0) (xs : List (Bor (List ℕ))) → AllByRecursion P (map (λ x. x.now) xs) → AllByRecursion (λ x. P x.now) xs
+all_mapped P [] h = tt
+all_mapped P (x ∷ xs) h = (h.0, all_mapped P xs h.1)
+
+all_clean : (parts : List (List ℕ)) → AllByRecursion (λ t. AllByRecursion (λ b. (b == semicolon) ≡ false) t) parts → AllByRecursion IsClean parts
+all_clean [] h = tt
+all_clean (t ∷ ts) h = (All-from_recursion (λ b. (b == semicolon) ≡ false) t h.0, all_clean ts h.1)
+
+pub pieces_clean : (header : List ℕ) (xs : List (Bor (List ℕ))) → map (λ x. x.now) xs ≡ pieces header → AllByRecursion (λ x. IsClean x.now) xs
+pieces_clean header xs e =
+    all_mapped IsClean xs (subst (AllByRecursion IsClean) (sym e) (all_clean (pieces header) (parts_clean (λ b. b == semicolon) header)))

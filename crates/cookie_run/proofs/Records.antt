@@ -9,11 +9,11 @@ use Rattle.std.proofs.lemmas.Cmp.{nat_list_cmp_total}
 use Rattle.std.specs.Cmp.Lexicographic.{texts_ties}
 use Rattle.std.proofs.lemmas.Bool.{cases_Bool, cond-true, cond-false, both_ways}
 use Rattle.std.proofs.lemmas.Slice.Eq.{bytes_eq-Decides}
-use Rattle.percent_encoding.specs.Percent.{percent_decode}
+use Rattle.percent_encoding.specs.Percent.{percent_encode, percent_decode}
 use Rattle.percent_encoding.proofs.PercentLemmas.{IsByte}
-use Rattle.cookie_run.specs.Record.{Record}
-use Rattle.cookie_run.specs.Escape.{escaped}
-use Rattle.cookie_run.specs.Jar.{Values, put_record, or_else, value_in, with_all, lacks, AreApart}
+use Rattle.cookie_text.specs.declared.escape.TheConstants.{PROFILE}
+use Rattle.cookie_text.specs.Record.{Record}
+use Rattle.cookie_run.specs.Jar.{Cookies, put_record, or_else, value_in, found_in, with_all, lacks, AreApart}
 use Rattle.cookie_run.specs.declared.row.Row.{Row}
 use Rattle.cookie_run.specs.Rows.{has_key_of, put, rows_of}
 use Rattle.cookie_run.proofs.Escaped.{decoded_escaped}
@@ -39,7 +39,7 @@ pub turned : (x y : List ℕ) (b : Bool) → bytes_eq x y ≡ b → bytes_eq y x
 turned x y true e = text_is y x (sym (same_text x y e))
 turned x y false e = other_text y x (λ same. texts_differ x y e (sym same))
 
-pub some_is_not_none : (v : List ℕ) → Some v ≢ None
+pub some_is_not_none : {A : Type 0} (v : A) → Some v ≢ None
 some_is_not_none v e = cc
 
 -- ---- a cookie in a list
@@ -48,21 +48,28 @@ some_is_not_none v e = cc
 abbrev pub written : (List ℕ → Option (List ℕ)) → Record → List ℕ → Option (List ℕ)
 written at c name = if bytes_eq name c.name then Some c.value else at name
 
-pub value_in_put : (c : Record) (cs : List Record) (q : List ℕ) → value_in (put_record c cs) q ≡ written (value_in cs) c q
-value_in_put c [] q = refl
-value_in_put c (d ∷ ds) q =
+pub found_in_put : (c : Record) (cs : List Record) (q : List ℕ) → found_in (put_record c cs) q ≡ (if bytes_eq q c.name then Some c else found_in cs q)
+found_in_put c [] q = refl
+found_in_put c (d ∷ ds) q =
     ⊎_elim
-    (λ same. ap (λ b. value_in (cond b (c ∷ ds) (d ∷ put_record c ds)) q) same
+    (λ same. ap (λ b. found_in (cond b (c ∷ ds) (d ∷ put_record c ds)) q) same
     ∙ ⊎_elim
     (λ (e : bytes_eq q c.name ≡ true). cond-true _ _ _ e ∙ sym (cond-true _ _ _ e))
-    (λ (e : bytes_eq q c.name ≡ false). ap (λ b. cond b (Some c.value) (value_in ds q)) e ∙ sym (ap (λ b. cond b (Some c.value) (value_in (d ∷ ds) q)) e ∙ cond-false _ _ _ (subst (λ n. bytes_eq q n ≡ false) (same_text c.name d.name same) e)))
+    (λ (e : bytes_eq q c.name ≡ false). ap (λ b. cond b (Some c) (found_in ds q)) e ∙ sym (ap (λ b. cond b (Some c) (found_in (d ∷ ds) q)) e ∙ cond-false _ _ _ (subst (λ n. bytes_eq q n ≡ false) (same_text c.name d.name same) e)))
     (cases_Bool (bytes_eq q c.name)))
-    (λ differ. ap (λ b. value_in (cond b (c ∷ ds) (d ∷ put_record c ds)) q) differ
+    (λ differ. ap (λ b. found_in (cond b (c ∷ ds) (d ∷ put_record c ds)) q) differ
     ∙ ⊎_elim
     (λ (e : bytes_eq q d.name ≡ true). cond-true _ _ _ e ∙ sym (cond-false _ _ _ (subst (λ n. bytes_eq n c.name ≡ false) (sym (same_text q d.name e)) (turned c.name d.name false differ)) ∙ cond-true _ _ _ e))
-    (λ (e : bytes_eq q d.name ≡ false). cond-false _ _ _ e ∙ value_in_put c ds q ∙ ap (cond (bytes_eq q c.name) (Some c.value)) (sym (cond-false _ _ _ e)))
+    (λ (e : bytes_eq q d.name ≡ false). cond-false _ _ _ e ∙ found_in_put c ds q ∙ ap (cond (bytes_eq q c.name) (Some c)) (sym (cond-false _ _ _ e)))
     (cases_Bool (bytes_eq q d.name)))
     (cases_Bool (bytes_eq c.name d.name))
+
+value_cond : (b : Bool) (c : Record) (o : Option Record) → value_in (cond b (Some c) o) ≡ cond b (Some c.value) (value_in o)
+value_cond true c o = refl
+value_cond false c o = refl
+
+pub value_in_put : (c : Record) (cs : List Record) (q : List ℕ) → value_in (found_in (put_record c cs) q) ≡ written (λ n. value_in (found_in cs n)) c q
+value_in_put c cs q = ap value_in (found_in_put c cs q) ∙ value_cond (bytes_eq q c.name) c (found_in cs q)
 
 pub apart_put : (c : Record) (cs : List Record) → AreApart cs → AreApart (put_record c cs)
 apart_put c [] h = (refl, tt)
@@ -70,60 +77,68 @@ apart_put c (d ∷ ds) h =
     ⊎_elim
     (λ same. subst (λ b. AreApart (cond b (c ∷ ds) (d ∷ put_record c ds))) (sym same) (subst (lacks ds) (sym (same_text c.name d.name same)) h.0, h.1))
     (λ differ. subst (λ b. AreApart (cond b (c ∷ ds) (d ∷ put_record c ds))) (sym differ)
-    (value_in_put c ds d.name ∙ (cond-false _ _ _ (turned c.name d.name false differ) ∙ h.0), apart_put c ds h.1))
+    (found_in_put c ds d.name ∙ (cond-false _ _ _ (turned c.name d.name false differ) ∙ h.0), apart_put c ds h.1))
     (cases_Bool (bytes_eq c.name d.name))
 
-pub good_put : (c : Record) (cs : List Record) → IsGood c → AllByRecursion IsGood cs → AllByRecursion IsGood (put_record c cs)
-good_put c [] g h = (g, tt)
-good_put c (d ∷ ds) g h =
+pub all_put : (P : Record → Type 0) (c : Record) (cs : List Record) → P c → AllByRecursion P cs → AllByRecursion P (put_record c cs)
+all_put P c [] g h = (g, tt)
+all_put P c (d ∷ ds) g h =
     ⊎_elim
-    (λ same. subst (λ b. AllByRecursion IsGood (cond b (c ∷ ds) (d ∷ put_record c ds))) (sym same) (g, h.1))
-    (λ differ. subst (λ b. AllByRecursion IsGood (cond b (c ∷ ds) (d ∷ put_record c ds))) (sym differ) (h.0, good_put c ds g h.1))
+    (λ same. subst (λ b. AllByRecursion P (cond b (c ∷ ds) (d ∷ put_record c ds))) (sym same) (g, h.1))
+    (λ differ. subst (λ b. AllByRecursion P (cond b (c ∷ ds) (d ∷ put_record c ds))) (sym differ) (h.0, all_put P c ds g h.1))
     (cases_Bool (bytes_eq c.name d.name))
 
 -- in a list of names apart, a name past the first is another
-pub behind : (c : Record) (cs : List Record) (q : List ℕ) (v : List ℕ) → lacks cs c.name → value_in cs q ≡ Some v → bytes_eq q c.name ≡ false
-behind c cs q v none some =
+behind : (c d : Record) (cs : List Record) (q : List ℕ) → lacks cs c.name → found_in cs q ≡ Some d → bytes_eq q c.name ≡ false
+behind c d cs q none some =
     ⊎_elim
-    (λ same. absurd (some_is_not_none v (sym some ∙ (ap (value_in cs) (same_text q c.name same) ∙ none))))
+    (λ same. absurd (some_is_not_none d (sym some ∙ (ap (found_in cs) (same_text q c.name same) ∙ none))))
     (λ e. e)
     (cases_Bool (bytes_eq q c.name))
 
--- what holds of each value that is read holds of each cookie
-pub each_of : (P : Record → Type 0) (cs : List Record) → AreApart cs → ((q v : List ℕ) → value_in cs q ≡ Some v → P (record { name = q; value = v })) → AllByRecursion P cs
+-- what holds of each cookie that is found holds of each cookie
+pub each_of : (P : Record → Type 0) (cs : List Record) → AreApart cs → ((q : List ℕ) (c : Record) → found_in cs q ≡ Some c → P c) → AllByRecursion P cs
 each_of P [] apart h = tt
 each_of P (c ∷ cs) apart h = (
-  h c.name c.value (cond-true _ _ _ (text_is c.name c.name refl)),
-  each_of P cs apart.1 (λ q v is. h q v (cond-false _ _ _ (behind c cs q v apart.0 is) ∙ is)),
+  h c.name c (cond-true _ _ _ (text_is c.name c.name refl)),
+  each_of P cs apart.1 (λ q d is. h q d (cond-false _ _ _ (behind c d cs q apart.0 is) ∙ is)),
 )
 
 -- ---- written one after another
 
-pub get_insert : (m : Values) (k v q : List ℕ) → finmap.get (finmap.insert m k v) q ≡ (if bytes_eq q k then Some v else finmap.get m q)
-get_insert m k v q = get-insert nat_list_cmp_total m k v q ∙ ap (λ b. cond b (Some v) (finmap.get m q)) (sym (texts_ties q k))
+pub get_insert : (m : Cookies) (k : List ℕ) (c : Record) (q : List ℕ) → finmap.get (finmap.insert m k c) q ≡ (if bytes_eq q k then Some c else finmap.get m q)
+get_insert m k c q = get-insert nat_list_cmp_total m k c q ∙ ap (λ b. cond b (Some c) (finmap.get m q)) (sym (texts_ties q k))
 
 -- the later cookies first, then this one: where names are apart, the order is no matter
-pub moved : (c : Record) (cs : List Record) (q : List ℕ) (d : Option (List ℕ)) → lacks cs c.name → or_else (value_in cs q) (if bytes_eq q c.name then Some c.value else d) ≡ or_else (value_in (c ∷ cs) q) d
+moved : (c : Record) (cs : List Record) (q : List ℕ) (d : Option Record) → lacks cs c.name → or_else (found_in cs q) (if bytes_eq q c.name then Some c else d) ≡ or_else (found_in (c ∷ cs) q) d
 moved c cs q d none =
     ⊎_elim
     (λ (e : bytes_eq q c.name ≡ true). rw (e, same_text q c.name e, none) refl)
     (λ (e : bytes_eq q c.name ≡ false). rw e refl)
     (cases_Bool (bytes_eq q c.name))
 
-pub get_with_all : (m : Values) (cs : List Record) (q : List ℕ) → AreApart cs → finmap.get (with_all m cs) q ≡ or_else (value_in cs q) (finmap.get m q)
+-- the same of their values
+pub value_moved : (c : Record) (cs : List Record) (q : List ℕ) (d : Option (List ℕ)) → lacks cs c.name → or_else (value_in (found_in cs q)) (if bytes_eq q c.name then Some c.value else d) ≡ or_else (value_in (found_in (c ∷ cs) q)) d
+value_moved c cs q d none =
+    ⊎_elim
+    (λ (e : bytes_eq q c.name ≡ true). rw (e, same_text q c.name e, none) refl)
+    (λ (e : bytes_eq q c.name ≡ false). rw e refl)
+    (cases_Bool (bytes_eq q c.name))
+
+pub get_with_all : (m : Cookies) (cs : List Record) (q : List ℕ) → AreApart cs → finmap.get (with_all m cs) q ≡ or_else (found_in cs q) (finmap.get m q)
 get_with_all m [] q apart = refl
 get_with_all m (c ∷ cs) q apart =
-    get_with_all (finmap.insert m c.name c.value) cs q apart.1
-    ∙ (ap (or_else (value_in cs q)) (get_insert m c.name c.value q) ∙ moved c cs q (finmap.get m q) apart.0)
+    get_with_all (finmap.insert m c.name c) cs q apart.1
+    ∙ (ap (or_else (found_in cs q)) (get_insert m c.name c q) ∙ moved c cs q (finmap.get m q) apart.0)
 
 -- ---- the rows of a host
 
-pub same_escaped : (x y : List ℕ) → All IsByte x → All IsByte y → bytes_eq (escaped x) (escaped y) ≡ bytes_eq x y
+pub same_escaped : (x y : List ℕ) → All IsByte x → All IsByte y → bytes_eq (percent_encode PROFILE x) (percent_encode PROFILE y) ≡ bytes_eq x y
 same_escaped x y hx hy =
     ⊎_elim
     (λ e. e ∙ sym (text_is x y (sym (decoded_escaped x hx) ∙ (ap percent_decode (same_text _ _ e) ∙ decoded_escaped y hy))))
-    (λ e. e ∙ sym (other_text x y (λ same. texts_differ _ _ e (ap escaped same))))
-    (cases_Bool (bytes_eq (escaped x) (escaped y)))
+    (λ e. e ∙ sym (other_text x y (λ same. texts_differ _ _ e (ap (percent_encode PROFILE) same))))
+    (cases_Bool (bytes_eq (percent_encode PROFILE x) (percent_encode PROFILE y)))
 
 pub put_map : (host : List ℕ) (c : Record) (cs : List Record) → IsGood c → AllByRecursion IsGood cs → put (row_at host c) (map (row_at host) cs) ≡ map (row_at host) (put_record c cs)
 put_map host c [] g h = refl

@@ -3,7 +3,7 @@ use Rattle.std.proofs.lemmas.List.{take_more}
 use Rattle.std.specs.Prelude.{IsErr, IsErrAnd, IfErr}
 use Rattle.cookie_run.specs.declared.step.Step.{Step}
 use Rattle.cookie_run.specs.Acts.{act_of, acts_of}
-use Rattle.std.proofs.Common.{◌≡◌, ℕ, ◌+◌, ◌<◌, length, take, get_or, Result, Ok, Err, OnErr, List, [], ◌∷◌, ◌++◌, sym, refl, ap, ◌∙◌, subst, append_assoc}
+use Rattle.std.proofs.Common.{◌≡◌, ℕ, ◌+◌, ◌<◌, length, take, get_or, Result, Ok, Err, OnOk, OnErr, List, [], ◌∷◌, ◌++◌, sym, refl, ap, ◌∙◌, subst, append_assoc}
 use Rattle.std.specs.List.{AllByRecursion}
 use Rattle.cookie_run.specs.Acts.{Act}
 use Rattle.cookie_run.specs.Texts.{StepSetsText}
@@ -47,6 +47,10 @@ run_more rows mid new steps i s start now later t h is run e step = (
 
 pub texts_next : (steps : List Step) (i : ℕ) (s : Step) → i < length steps → s ≡ get_or steps i s → AllByRecursion StepSetsText (acts_of (take i steps)) → StepSetsText (act_of s) → AllByRecursion StepSetsText (acts_of (take (i + 1) steps))
 texts_next steps i s h is all one = subst (AllByRecursion StepSetsText) (sym (acts_more steps i s h is)) (texts_more (acts_of (take i steps)) (act_of s) all one)
+
+pub on_ok : {A E : Type 0} (r : Result A E) (P Q : Type 0) → (P → Q) → OnOk r P → OnOk r Q
+on_ok (Ok x) P Q f h = f h
+on_ok (Err e) P Q f h = tt
 
 pub on_err_any : {A E : Type 0} (r : Result A E) (P : Type 0) → P → OnErr r P
 on_err_any (Ok x) P p = tt

@@ -1,7 +1,7 @@
 -- The lines of a text, and the fields of a line.
-use Rattle.std.proofs.Common.{◌≡◌, ℕ, zero, suc, ◌+◌, ◌-◌, ◌<◌, ◌≤◌, Bool, true, false, cond, ◌&&◌, List, [], ◌∷◌, length, take, drop, get_or, Option, Some, None, ℤ, Ok, sym, refl, ap, ◌∙◌, subst, ⊎_elim, arith, rules, All, length-drop, drop_of_length-le}
+use Rattle.std.proofs.Common.{◌≡◌, ℕ, zero, suc, ◌+◌, ◌-◌, ◌<◌, ◌≤◌, Bool, true, false, cond, ◌&&◌, List, [], ◌∷◌, length, take, drop, get_or, Option, Some, None, ℤ, Ok, sym, refl, ap, ◌∙◌, subst, ⊎_elim, arith, All, drop_of_length-le}
 use Rattle.std.specs.Prelude.{map, ◌==◌, nat_lt, position, if◌then◌else◌}
-use Rattle.std.specs.List.{slice_split, position_or_len, before_first, after_first, list_all}
+use Rattle.std.specs.List.{slice_split, position_or_len, list_all}
 use Rattle.std.specs.Str.{is_utf8, IsUtf8}
 use Rattle.std.specs.Str.Lines.{lines, lines_of_parts, strip_carriage_return}
 use Rattle.std.proofs.lemmas.Bool.{cases_Bool}

@@ -1,10 +1,10 @@
 -- The run of a whole text.
-use Rattle.std.proofs.Common.{◌≡◌, ◌⊎◌, ℕ, ℤ, ◌+◌, ◌≤◌, ◌<◌, List, [], ◌∷◌, ◌++◌, length, Option, None, Result, Ok, Err, inl, inr, sym, refl, ap, ◌∙◌, subst, append_assoc, append-nil, arith, length-append}
+use Rattle.std.proofs.Common.{◌≡◌, ◌⊎◌, ℕ, ℤ, ◌+◌, ◌<◌, List, [], ◌∷◌, ◌++◌, length, Option, None, Result, Ok, Err, inl, inr, sym, refl, ap, ◌∙◌, subst, append_assoc, append-nil, length-append}
 use Rattle.std.specs.Prelude.{IfOk, IfErr, OnOk, IsErrOf, IfSome, Some}
 use Rattle.std.specs.Str.Lines.{lines}
 use Rattle.std.specs.Io.KnownBytes.{Appends}
 use Rattle.std.proofs.KnownBytes.{Appends-trans, Appends-nil}
-use Rattle.cookie_run.specs.ScriptText.{Reached, begun, LeadsTo, after_line, ScriptText, EndsForMemory, HalfLine, IsWhole, IsFaulty, MemoryText, IsLine, fault_text, Prints}
+use Rattle.cookie_run.specs.ScriptText.{Reached, begun, LeadsTo, after_line, ScriptText, EndsForMemory, HalfLine, fault_text, Prints}
 use Rattle.cookie_run.specs.Standing.{Stands}
 use Rattle.cookie_run.specs.Program.{begins_at, IsScriptOf}
 use Rattle.cookie_run.specs.declared.row.Row.{Row}

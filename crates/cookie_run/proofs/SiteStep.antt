@@ -1,8 +1,8 @@
 -- One exchange, delivered or lost.
-use Rattle.std.proofs.Common.{◌≡◌, ◌≢◌, ℕ, ℤ, ◌<◌, Bool, true, false, cond, ltb, List, All, [], ◌∷◌, ◌++◌, sym, refl, ap, ◌∙◌, subst, ⊎_elim, arith, Option, Some, None}
-use Rattle.std.specs.Prelude.{map, codes}
+use Rattle.std.proofs.Common.{◌≡◌, ◌≢◌, ℕ, ℤ, ◌<◌, Bool, true, false, cond, ltb, List, All, [], ◌∷◌, ◌++◌, length, sym, refl, ap, ◌∙◌, subst, ⊎_elim, arith, Option, Some, None, Result, inl, inr}
+use Rattle.std.specs.Prelude.{map, codes, is_none, IfSome}
 use Rattle.std.specs.List.{AllByRecursion}
-use Rattle.std.specs.Str.{bytes_eq, is_utf8, IsUtf8}
+use Rattle.std.specs.Str.{bytes_eq, IsUtf8}
 use Rattle.std.specs.FinMap as finmap
 use Rattle.std.specs.Ordering.{nat_cmp}
 use Rattle.std.specs.Cmp.Lexicographic.{slice_cmp}
@@ -11,11 +11,16 @@ use Rattle.std.proofs.lemmas.List.Elements.{All-nil, All-append, All-from_recurs
 use Rattle.std.specs.Cmp.{first_so, second_so}
 use lib.Utf8.{scalar, scalars, encode, encodes, scalar_cases}
 use Rattle.percent_encoding.proofs.PercentLemmas.{IsByte}
+use Rattle.jiff_core.specs.Timestamp.{IsDurationNanos}
 use Rattle.url.specs.Parts.{Parts}
-use Rattle.cookie_run.specs.Record.{Record}
-use Rattle.cookie_run.specs.Escape.{printed}
+use Rattle.cookie_text.specs.declared.error.ParseError.{ParseError}
+use Rattle.cookie_text.specs.Normal.{IsReadable}
+use Rattle.cookie_text.specs.Printing.{encoded}
+use Rattle.cookie_text.specs.Reading.{ReadsPlain}
+use Rattle.cookie_text.specs.ReadingBack.{ReadsBack}
+use Rattle.cookie_text.specs.Record.{Record, Seen}
 use Rattle.cookie_run.specs.Reading.{cookies_of, kept_cookie}
-use Rattle.cookie_run.specs.Jar.{Jar, put_record, Values, or_else, seen, value_in, with_all, AreApart, Lists}
+use Rattle.cookie_run.specs.Jar.{Jar, Cookies, put_record, or_else, seen, sent, value_in, found_in, with_all, lacks, AreApart}
 use Rattle.cookie_run.specs.declared.row.Row.{Row}
 use Rattle.cookie_run.specs.declared.step.Way.{Way}
 use Rattle.cookie_run.specs.declared.step.Way.TheVariants.{Plain}
@@ -24,17 +29,23 @@ use Rattle.cookie_run.specs.declared.step.Command.TheVariants.{Set, Get}
 use Rattle.cookie_run.specs.declared.step.Reading.{Reading}
 use Rattle.cookie_run.specs.declared.step.Reading.TheVariants.{Value}
 use Rattle.cookie_run.specs.declared.step.LineEnd.{LineEnd}
-use Rattle.cookie_run.specs.Rows.{put, rows_of, given, given_at, header_of, accept, accept_at, accept_all, stored, secure_host}
-use Rattle.cookie_run.specs.Site.{Site, Entry, Open, nothing, set_in, after_command, after_commands, value_at, told_by, told_in, told_by_get, after_exchange}
+use Rattle.cookie_run.specs.declared.step.SessionError.{SessionError}
+use Rattle.cookie_run.specs.Rows.{put, rows_of, row_of, given, given_at, header_of, Accepts, AcceptsAt, AcceptsAll, stored, secure_host}
+use Rattle.cookie_run.specs.Site.{Site, Entry, Open, nothing, with_entry, set_refusal, set_in, after_command, after_commands, value_at, told_by, told_in, told_by_get, after_exchange}
 use Rattle.cookie_run.specs.Texts.{IsText, SetsText, StepSetsText}
 use Rattle.cookie_run.specs.Stops.{StopsFrom}
 use Rattle.cookie_run.specs.declared.step.FaultKind.{FaultKind}
-use Rattle.cookie_run.specs.Headline.{host_of, is_text, AnswersBySessions, EachAnswersBySessions, after_act, after_acts, ReadsOn, EachReadsOn, StopsOn}
+use Rattle.cookie_run.specs.Headline.{host_of, is_text, AnswersBySessions, EachAnswersBySessions, HasNoDeath, SetsNoDeath, IsDeathless, EachDeathless, after_act, after_acts, ReadsOn, EachReadsOn, StopsOn}
 use Rattle.cookie_run.specs.Acts.{Act, Visits, Answers, Asks, Arrival, Arrives, Never}
 use Rattle.cookie_run.specs.Play.{Plays, OneStep, told_of, opened, jar_set, jar_after, jar_after_all, jar_get, jar_tells, jar_tells_all, Delivers}
-use Rattle.cookie_run.proofs.ReadBack.{IsGood}
-use Rattle.cookie_run.proofs.HeaderBack.{row_at, cookies_of_header, kept_printed, printed_utf8}
-use Rattle.cookie_run.proofs.Records.{same_text, text_is, some_is_not_none, written, value_in_put, apart_put, good_put, each_of, get_insert, moved, get_with_all, put_map, rows_put_own, rows_put_other}
+use Rattle.cookie_run.proofs.ReadBack.{IsGood, bare_of}
+use Rattle.cookie_run.proofs.HeaderBack.{row_at, cookies_of_header, IsSent, encoded_utf8, line_stored}
+use Rattle.cookie_run.proofs.Puts.{sent_readable, is_named}
+use Rattle.cookie_run.proofs.Records.{same_text, text_is, some_is_not_none, written, value_in_put, apart_put, all_put, each_of, get_insert, value_moved, get_with_all, put_map, rows_put_own, rows_put_other}
+
+-- what a line reads as, as the crate of cookies promises it
+abbrev pub ReadingBack : Type 0
+ReadingBack = (r : Record) → IsReadable r → IfSome r.max_age IsDurationNanos → (o : Result Seen ParseError) → ReadsPlain (encoded r) o → ReadsBack r o
 
 -- what is read under each name of a site
 abbrev pub value_of : Site → List ℕ → Option (List ℕ)
@@ -45,40 +56,69 @@ pub record Agrees (host : List ℕ) (rows : List Row) (at : List ℕ → Option 
   pub cookies : List Record
   pub good : AllByRecursion IsGood cookies
   pub are : rows_of host rows ≡ map (row_at host) cookies
-  pub lists : Lists cookies at
+  pub apart : AreApart cookies
+  pub each : (name : List ℕ) → value_in (found_in cookies name) ≡ at name
 
 -- ---- the session opens on the site
 
-pub header_is : (host : List ℕ) (rows : List Row) (url : Parts) (at : List ℕ → Option (List ℕ)) → secure_host url ≡ Some host → (a : Agrees host rows at) → cookies_of (header_of (given rows url)) ≡ a.cookies
+header_is : (host : List ℕ) (rows : List Row) (url : Parts) (at : List ℕ → Option (List ℕ)) → secure_host url ≡ Some host → (a : Agrees host rows at) → cookies_of (header_of (given rows url)) ≡ map bare_of a.cookies
 header_is host rows url at secure a =
     ap (λ h. cookies_of (header_of (given_at h rows))) secure ∙ (ap (λ rs. cookies_of (header_of rs)) a.are ∙ cookies_of_header host a.cookies a.good)
 
-or_none : (o : Option (List ℕ)) → or_else o None ≡ o
+-- the attributes of a cookie don't show there
+found_bare : (cs : List Record) (q : List ℕ) → value_in (found_in (map bare_of cs) q) ≡ value_in (found_in cs q)
+found_bare [] q = refl
+found_bare (c ∷ cs) q =
+    ⊎_elim
+    (λ (e : bytes_eq q c.name ≡ true). rw e refl)
+    (λ (e : bytes_eq q c.name ≡ false). rw e (found_bare cs q))
+    (cases_Bool (bytes_eq q c.name))
+
+lacks_bare : (cs : List Record) (q : List ℕ) → lacks cs q → lacks (map bare_of cs) q
+lacks_bare [] q h = refl
+lacks_bare (c ∷ cs) q h =
+    ⊎_elim
+    (λ (e : bytes_eq q c.name ≡ true). absurd (some_is_not_none c (sym (cond-true _ _ _ e) ∙ h)))
+    (λ (e : bytes_eq q c.name ≡ false). cond-false _ _ _ e ∙ lacks_bare cs q (sym (cond-false _ _ _ e) ∙ h))
+    (cases_Bool (bytes_eq q c.name))
+
+apart_bare : (cs : List Record) → AreApart cs → AreApart (map bare_of cs)
+apart_bare [] h = tt
+apart_bare (c ∷ cs) h = (lacks_bare cs c.name h.0, apart_bare cs h.1)
+
+none_get : (q : List ℕ) → finmap.get (finmap.empty {X = Record} {R = slice_cmp nat_cmp}) q ≡ None
+none_get q = finmap.get-empty (slice_cmp nat_cmp) q
+
+or_none : {A : Type 0} (o : Option A) → or_else o None ≡ o
 or_none None = refl
 or_none (Some v) = refl
 
-opened_at : (cs : List Record) (q : List ℕ) → AreApart cs → or_else (finmap.get (finmap.empty {X = List ℕ} {R = slice_cmp nat_cmp}) q) (finmap.get (with_all finmap.empty cs) q) ≡ value_in cs q
-opened_at cs q apart = rw (get_with_all finmap.empty cs q apart, finmap.get-empty) (or_none (value_in cs q))
+opened_at : (cs : List Record) (q : List ℕ) → AreApart cs → value_in (or_else (finmap.get (finmap.empty {X = Record} {R = slice_cmp nat_cmp}) q) (finmap.get (with_all finmap.empty cs) q)) ≡ value_in (found_in cs q)
+opened_at cs q apart = rw (get_with_all finmap.empty cs q apart, none_get q) (ap value_in (or_none (found_in cs q)))
 
 pub opens : (host : List ℕ) (rows : List Row) (url : Parts) (at : List ℕ → Option (List ℕ)) → secure_host url ≡ Some host → Agrees host rows at → (q : List ℕ) → seen (opened (header_of (given rows url))) q ≡ at q
 opens host rows url at secure a q =
     ap (λ (cs : List Record). seen (record { originals = with_all finmap.empty cs; changes = finmap.empty }) q) (header_is host rows url at secure a)
-    ∙ opened_at a.cookies q a.lists.apart ∙ a.lists.each q
+    ∙ (opened_at (map bare_of a.cookies) q (apart_bare a.cookies a.apart) ∙ (found_bare a.cookies q ∙ a.each q))
 
 -- ---- the commands
 
-option_cases : (b : Bool) (v : List ℕ) (o p : Option (List ℕ)) (e : Option Entry) → or_else o p ≡ value_at Open e → or_else (cond b (Some v) o) p ≡ value_at Open (cond b (Some (record { kind = Open; value = v })) e)
-option_cases true v o p e h = refl
-option_cases false v o p e h = h
+option_cases : (b : Bool) (c : Record) (o p : Option Record) (e : Option Entry) → value_in (or_else o p) ≡ value_at Open e → value_in (or_else (cond b (Some c) o) p) ≡ value_at Open (cond b (Some (record { kind = Open; value = c.value })) e)
+option_cases true c o p e h = refl
+option_cases false c o p e h = h
 
-pub set_seen : (jar : Jar) (site : Site) (way : Way) (n v : List ℕ) → ((q : List ℕ) → seen jar q ≡ value_of site q) → (q : List ℕ) → seen (jar_set jar n v) q ≡ value_of (set_in site way n v) q
-set_seen jar site way [] v h q = h q
-set_seen jar site Plain (b ∷ bs) v h q =
-    ap (λ o. or_else o (finmap.get jar.originals q)) (get_insert jar.changes (b ∷ bs) v q)
-    ∙ option_cases (bytes_eq q (b ∷ bs)) v (finmap.get jar.changes q) (finmap.get jar.originals q) (site q) (h q)
+set_if : (accepted : Bool) (jar : Jar) (site : Site) (c : Record) → ((q : List ℕ) → seen jar q ≡ value_of site q) → (q : List ℕ) →
+    seen (cond accepted (record jar { changes = finmap.insert jar.changes c.name (sent c) }) jar) q ≡ value_of (cond accepted (with_entry site c.name (record { kind = Open; value = c.value })) site) q
+set_if true jar site c h q =
+    ap (λ o. value_in (or_else o (finmap.get jar.originals q))) (get_insert jar.changes c.name (sent c) q)
+    ∙ option_cases (bytes_eq q c.name) (sent c) (finmap.get jar.changes q) (finmap.get jar.originals q) (site q) (h q)
+set_if false jar site c h q = h q
+
+set_seen : (jar : Jar) (site : Site) (way : Way) (c : Record) → ((q : List ℕ) → seen jar q ≡ value_of site q) → (q : List ℕ) → seen (jar_set jar c) q ≡ value_of (set_in site way c) q
+set_seen jar site Plain c h = set_if (is_none (set_refusal c)) jar site c h
 
 pub after_seen : (jar : Jar) (site : Site) (c : Command) → ((q : List ℕ) → seen jar q ≡ value_of site q) → (q : List ℕ) → seen (jar_after jar c) q ≡ value_of (after_command site c) q
-after_seen jar site (Set way cookie) h = set_seen jar site way cookie.name cookie.value h
+after_seen jar site (Set way cookie) h = set_seen jar site way cookie.cookie h
 after_seen jar site (Get way name) h = h
 
 get_told : (jar : Jar) (site : Site) (way : Way) (n : List ℕ) → ((q : List ℕ) → seen jar q ≡ value_of site q) → jar_get jar way n ≡ told_by_get site way n
@@ -101,21 +141,17 @@ all_after_seen jar site [] h = h
 all_after_seen jar site (c ∷ cs) h = all_after_seen (jar_after jar c) (after_command site c) cs (after_seen jar site c h)
 
 -- the originals stay
-set_keeps : (jar : Jar) (n v : List ℕ) → (jar_set jar n v).originals ≡ jar.originals
-set_keeps jar [] v = refl
-set_keeps jar (b ∷ bs) v = refl
+keeps_if : (accepted : Bool) (jar : Jar) (m : Cookies) → (cond accepted (record jar { changes = m }) jar).originals ≡ jar.originals
+keeps_if true jar m = refl
+keeps_if false jar m = refl
 
 after_keeps : (jar : Jar) (c : Command) → (jar_after jar c).originals ≡ jar.originals
-after_keeps jar (Set way cookie) = set_keeps jar cookie.name cookie.value
+after_keeps jar (Set way cookie) = keeps_if (is_none (set_refusal cookie.cookie)) jar (finmap.insert jar.changes cookie.cookie.name (sent cookie.cookie))
 after_keeps jar (Get way name) = refl
 
 pub all_keeps : (jar : Jar) (cs : List Command) → (jar_after_all jar cs).originals ≡ jar.originals
 all_keeps jar [] = refl
 all_keeps jar (c ∷ cs) = all_keeps (jar_after jar c) cs ∙ after_keeps jar c
-
--- each value that is set is a text, under a name that isn't empty
-abbrev pub AllGood : Values → Type 0
-AllGood m = (q v : List ℕ) → finmap.get m q ≡ Some v → IsGood (record { name = q; value = v })
 
 -- ---- a text is bytes
 
@@ -135,118 +171,156 @@ encodes_bytes (c ∷ cs) h = All-append IsByte (encode c) (encodes cs) (All-from
 pub utf8_bytes : (bs : List ℕ) → IsUtf8 bs → All IsByte bs
 utf8_bytes bs h = subst (All IsByte) h.1.1 (encodes_bytes h.0 h.1.0)
 
-good_set : (b : ℕ) (bs v : List ℕ) → IsText (record { name = b ∷ bs; value = v }) → IsGood (record { name = b ∷ bs; value = v })
-good_set b bs v t = record {
-  named = λ e. cc;
-  name = t.name;
-  value = t.value;
-  name_bytes = utf8_bytes (b ∷ bs) t.name;
-  value_bytes = utf8_bytes v t.value;
+-- ---- what is set
+
+-- a cookie that a session closes with: a text under a name that isn't empty, sent without a death
+pub record IsClosed (c : Record) : Type 0 where
+  pub good : IsGood c
+  pub is_sent : IsSent c
+  pub readable : IsReadable c
+
+abbrev pub AllClosed : Cookies → Type 0
+AllClosed m = (q : List ℕ) (c : Record) → finmap.get m q ≡ Some c → IsClosed c
+
+not_nil : (n : List ℕ) → 0 < length n → n ≢ []
+not_nil [] h e = omega (arith, h)
+not_nil (b ∷ bs) h e = cc
+
+none_is : (o : Option SessionError) → is_none o ≡ true → o ≡ None
+none_is None e = refl
+none_is (Some x) e = absurd (cc)
+
+closed_sent : (c : Record) → set_refusal c ≡ None → IsText c → HasNoDeath c → IsClosed (sent c)
+closed_sent c accepted text lives = record {
+  good = record {
+    named = not_nil c.name (is_named c accepted);
+    name = text.name;
+    value = text.value;
+    name_bytes = utf8_bytes c.name text.name;
+    value_bytes = utf8_bytes c.value text.value;
+  };
+  is_sent = record { path = refl; secure = refl; domain = refl; max_age = lives.max_age; expires = lives.expires };
+  readable = sent_readable c accepted;
 }
 
-good_at : (n v q w : List ℕ) → n ≡ q → v ≡ w → IsGood (record { name = n; value = v }) → IsGood (record { name = q; value = w })
-good_at n v q w en ev g = subst (λ (x : List ℕ). IsGood (record { name = x; value = w })) en (subst (λ (x : List ℕ). IsGood (record { name = n; value = x })) ev g)
-
-set_good : (jar : Jar) (n v : List ℕ) → AllGood jar.changes → IsText (record { name = n; value = v }) → AllGood (jar_set jar n v).changes
-set_good jar [] v h t = h
-set_good jar (b ∷ bs) v h t = λ q w is.
-    let found : cond (bytes_eq q (b ∷ bs)) (Some v) (finmap.get jar.changes q) ≡ Some w = sym (get_insert jar.changes (b ∷ bs) v q) ∙ is in
+insert_closed : (m : Cookies) (n : List ℕ) (c : Record) → AllClosed m → IsClosed c → AllClosed (finmap.insert m n c)
+insert_closed m n c h closed q d is =
+    let found : cond (bytes_eq q n) (Some c) (finmap.get m q) ≡ Some d = sym (get_insert m n c q) ∙ is in
     ⊎_elim
-    (λ (e : bytes_eq q (b ∷ bs) ≡ true).
-    let same : Some v ≡ Some w = sym (cond-true _ _ _ e) ∙ found in
-    good_at (b ∷ bs) v q w (sym (same_text q (b ∷ bs) e)) (cc) (good_set b bs v t))
-    (λ (e : bytes_eq q (b ∷ bs) ≡ false). h q w (sym (cond-false _ _ _ e) ∙ found))
-    (cases_Bool (bytes_eq q (b ∷ bs)))
+    (λ (e : bytes_eq q n ≡ true).
+    let same : Some c ≡ Some d = sym (cond-true _ _ _ e) ∙ found in
+    subst IsClosed (some_same c d same) closed)
+    (λ (e : bytes_eq q n ≡ false). h q d (sym (cond-false _ _ _ e) ∙ found))
+    (cases_Bool (bytes_eq q n))
+  where
+    some_same : (c d : Record) → Some c ≡ Some d → c ≡ d
+    some_same c d e = cc
 
-after_good : (jar : Jar) (c : Command) → AllGood jar.changes → SetsText c → AllGood (jar_after jar c).changes
-after_good jar (Set way cookie) h t = set_good jar cookie.name cookie.value h t
-after_good jar (Get way name) h t = h
+set_closed : (jar : Jar) (c : Record) → AllClosed jar.changes → IsText c → HasNoDeath c → AllClosed (jar_set jar c).changes
+set_closed jar c h text lives =
+    let accepted : Bool → Type 0 = λ b. AllClosed (cond b (record jar { changes = finmap.insert jar.changes c.name (sent c) }) jar).changes in
+    ⊎_elim
+    (λ (e : is_none (set_refusal c) ≡ true). subst accepted (sym e) (insert_closed jar.changes c.name (sent c) h (closed_sent c (none_is (set_refusal c) e) text lives)))
+    (λ (e : is_none (set_refusal c) ≡ false). subst accepted (sym e) h)
+    (cases_Bool (is_none (set_refusal c)))
 
-pub all_good : (jar : Jar) (cs : List Command) → AllGood jar.changes → AllByRecursion SetsText cs → AllGood (jar_after_all jar cs).changes
-all_good jar [] h t = h
-all_good jar (c ∷ cs) h t = all_good (jar_after jar c) cs (after_good jar c h t.0) t.1
+after_closed : (jar : Jar) (c : Command) → AllClosed jar.changes → SetsText c → SetsNoDeath c → AllClosed (jar_after jar c).changes
+after_closed jar (Set way cookie) h text lives = set_closed jar cookie.cookie h text lives
+after_closed jar (Get way name) h text lives = h
 
-none_good : AllGood finmap.empty
-none_good q v is = absurd (some_is_not_none v (sym is ∙ finmap.get-empty (slice_cmp nat_cmp) q))
+all_closed : (jar : Jar) (cs : List Command) → AllClosed jar.changes → AllByRecursion SetsText cs → AllByRecursion SetsNoDeath cs → AllClosed (jar_after_all jar cs).changes
+all_closed jar [] h texts lives = h
+all_closed jar (c ∷ cs) h texts lives = all_closed (jar_after jar c) cs (after_closed jar c h texts.0 lives.0) texts.1 lives.1
+
+none_closed : AllClosed finmap.empty
+none_closed q c is = absurd (some_is_not_none c (sym is ∙ none_get q))
 
 -- ---- the lines come
 
-accept_printed : (host : List ℕ) (rows : List Row) (url : Parts) (c : Record) → secure_host url ≡ Some host → IsGood c → (accept rows url (printed c)).1 ≡ put (row_at host c) rows
-accept_printed host rows url c secure good =
-    ap (λ h. (accept_at h rows (printed c)).1) secure
-    ∙ (ap (λ (x : LineEnd × List Row). x.1) (cond-true _ _ _ (printed_utf8 c))
-    ∙ ap (λ k. (stored rows host k).1) (kept_printed c good))
+accept_encoded : (law : ReadingBack) (host : List ℕ) (rows new : List Row) (url : Parts) (c : Record) (end : LineEnd) → secure_host url ≡ Some host → IsClosed c → Accepts rows url (encoded c) end new → new ≡ put (row_at host c) rows
+accept_encoded law host rows new url c end secure closed accepts =
+    elim (subst (λ o. AcceptsAt o rows (encoded c) (end, new)) secure accepts) [
+      | inl wrong ↦ absurd (wrong.0 (encoded_utf8 c closed.is_sent))
+      | inr right ↦
+          let age : IfSome c.max_age IsDurationNanos = subst (λ o. IfSome o IsDurationNanos) (sym closed.is_sent.max_age) tt in
+          ap (λ (p : LineEnd × List Row). p.1) right.1.2 ∙ line_stored host rows c right.1.0 closed.is_sent (law c closed.readable age right.1.0 right.1.1)
+    ]
 
-one_received : (host : List ℕ) (rows : List Row) (url : Parts) (at : List ℕ → Option (List ℕ)) (c : Record) → secure_host url ≡ Some host → IsGood c → Agrees host rows at → Agrees host (accept rows url (printed c)).1 (written at c)
-one_received host rows url at c secure good a = record {
+one_received : (law : ReadingBack) (host : List ℕ) (rows new : List Row) (url : Parts) (at : List ℕ → Option (List ℕ)) (c : Record) (end : LineEnd) → secure_host url ≡ Some host → IsClosed c → Agrees host rows at → Accepts rows url (encoded c) end new → Agrees host new (written at c)
+one_received law host rows new url at c end secure closed a accepts = record {
   cookies = put_record c a.cookies;
-  good = good_put c a.cookies good a.good;
-  are = ap (rows_of host) (accept_printed host rows url c secure good)
-      ∙ (rows_put_own host (row_at host c) rows refl ∙ (ap (put (row_at host c)) a.are ∙ put_map host c a.cookies good a.good));
-  lists = record {
-    apart = apart_put c a.cookies a.lists.apart;
-    each = λ q. value_in_put c a.cookies q ∙ ap (cond (bytes_eq q c.name) (Some c.value)) (a.lists.each q);
-  };
+  good = all_put IsGood c a.cookies closed.good a.good;
+  are = ap (rows_of host) (accept_encoded law host rows new url c end secure closed accepts)
+      ∙ (rows_put_own host (row_at host c) rows refl ∙ (ap (put (row_at host c)) a.are ∙ put_map host c a.cookies closed.good a.good));
+  apart = apart_put c a.cookies a.apart;
+  each = λ q. value_in_put c a.cookies q ∙ ap (cond (bytes_eq q c.name) (Some c.value)) (a.each q);
 }
 
-pub same_agrees : (host : List ℕ) (rows : List Row) (f g : List ℕ → Option (List ℕ)) → ((q : List ℕ) → f q ≡ g q) → Agrees host rows f → Agrees host rows g
+same_agrees : (host : List ℕ) (rows : List Row) (f g : List ℕ → Option (List ℕ)) → ((q : List ℕ) → f q ≡ g q) → Agrees host rows f → Agrees host rows g
 same_agrees host rows f g h a = record {
   cookies = a.cookies;
   good = a.good;
   are = a.are;
-  lists = record { apart = a.lists.apart; each = λ q. a.lists.each q ∙ h q };
+  apart = a.apart;
+  each = λ q. a.each q ∙ h q;
 }
 
-pub all_received : (host : List ℕ) (rows : List Row) (url : Parts) (at : List ℕ → Option (List ℕ)) (cs : List Record) → secure_host url ≡ Some host → AllByRecursion IsGood cs → AreApart cs → Agrees host rows at → Agrees host (accept_all rows url (map printed cs)) (λ q. or_else (value_in cs q) (at q))
-all_received host rows url at [] secure good apart a = a
-all_received host rows url at (c ∷ cs) secure good apart a =
-    same_agrees host _ (λ q. or_else (value_in cs q) (written at c q)) _ (λ q. moved c cs q (at q) apart.0)
-    (all_received host (accept rows url (printed c)).1 url (written at c) cs secure good.1 apart.1 (one_received host rows url at c secure good.0 a))
+all_received : (law : ReadingBack) (host : List ℕ) (rows new : List Row) (url : Parts) (at : List ℕ → Option (List ℕ)) (cs : List Record) (ends : List LineEnd) → secure_host url ≡ Some host → AllByRecursion IsClosed cs → AreApart cs → Agrees host rows at → AcceptsAll rows url (map encoded cs) ends new → Agrees host new (λ q. or_else (value_in (found_in cs q)) (at q))
+all_received law host rows new url at [] ends secure closed apart a accepts = subst (λ rs. Agrees host rs at) (sym accepts.1) a
+all_received law host rows new url at (c ∷ cs) [] secure closed apart a accepts = absurd accepts
+all_received law host rows new url at (c ∷ cs) (e ∷ ends) secure closed apart a accepts =
+    same_agrees host new (λ q. or_else (value_in (found_in cs q)) (written at c q)) _ (λ q. value_moved c cs q (at q) apart.0)
+    (all_received law host accepts.0 new url (written at c) cs ends secure closed.1 apart.1 (one_received law host rows accepts.0 url at c e secure closed.0 a accepts.1) accepts.2)
 
 -- ---- what comes from elsewhere
 
 stored_other : (host h : List ℕ) (rows : List Row) (k : Option Record) → h ≢ host → rows_of host (stored rows h k).1 ≡ rows_of host rows
 stored_other host h rows None other = refl
-stored_other host h rows (Some c) other = rows_put_other host (record { host = h; cookie = c }) rows other
+stored_other host h rows (Some c) other = rows_put_other host (row_of h c) rows other
 
-accept_other : (host : List ℕ) (from : Option (List ℕ)) (rows : List Row) (line : List ℕ) → from ≢ Some host → rows_of host (accept_at from rows line).1 ≡ rows_of host rows
-accept_other host None rows line other = refl
-accept_other host (Some h) rows line other =
-    ⊎_elim
-    (λ (e : is_utf8 line ≡ true). ap (λ (x : LineEnd × List Row). rows_of host x.1) (cond-true _ _ _ e) ∙ stored_other host h rows (kept_cookie line) (λ same. other (ap Some same)))
-    (λ (e : is_utf8 line ≡ false). ap (λ (x : LineEnd × List Row). rows_of host x.1) (cond-false _ _ _ e))
-    (cases_Bool (is_utf8 line))
+accept_other : (host : List ℕ) (from : Option (List ℕ)) (rows new : List Row) (line : List ℕ) (end : LineEnd) → from ≢ Some host → AcceptsAt from rows line (end, new) → rows_of host new ≡ rows_of host rows
+accept_other host None rows new line end other accepts = ap (λ (p : LineEnd × List Row). rows_of host p.1) accepts
+accept_other host (Some h) rows new line end other accepts =
+    elim accepts [
+      | inl wrong ↦ ap (λ (p : LineEnd × List Row). rows_of host p.1) wrong.1
+      | inr right ↦ ap (λ (p : LineEnd × List Row). rows_of host p.1) right.1.2 ∙ stored_other host h rows (kept_cookie right.1.0) (λ same. other (ap Some same))
+    ]
 
-pub all_other : (host : List ℕ) (rows : List Row) (url : Parts) (lines : List (List ℕ)) → secure_host url ≢ Some host → rows_of host (accept_all rows url lines) ≡ rows_of host rows
-all_other host rows url [] other = refl
-all_other host rows url (line ∷ lines) other = all_other host (accept rows url line).1 url lines other ∙ accept_other host (secure_host url) rows line other
+all_other : (host : List ℕ) (rows new : List Row) (url : Parts) (lines : List (List ℕ)) (ends : List LineEnd) → secure_host url ≢ Some host → AcceptsAll rows url lines ends new → rows_of host new ≡ rows_of host rows
+all_other host rows new url [] ends other accepts = ap (rows_of host) accepts.1
+all_other host rows new url (line ∷ lines) [] other accepts = absurd accepts
+all_other host rows new url (line ∷ lines) (e ∷ ends) other accepts =
+    all_other host accepts.0 new url lines ends other accepts.2 ∙ accept_other host (secure_host url) rows accepts.0 line e other accepts.1
 
-pub kept_agrees : (host : List ℕ) (rows new : List Row) (at : List ℕ → Option (List ℕ)) → rows_of host new ≡ rows_of host rows → Agrees host rows at → Agrees host new at
-kept_agrees host rows new at same a = record { cookies = a.cookies; good = a.good; are = same ∙ a.are; lists = a.lists }
+kept_agrees : (host : List ℕ) (rows new : List Row) (at : List ℕ → Option (List ℕ)) → rows_of host new ≡ rows_of host rows → Agrees host rows at → Agrees host new at
+kept_agrees host rows new at same a = record { cookies = a.cookies; good = a.good; are = same ∙ a.are; apart = a.apart; each = a.each }
 
 -- ---- ONE EXCHANGE, arrived or lost
 
+value_or : (o p : Option Record) → value_in (or_else o p) ≡ or_else (value_in o) (value_in p)
+value_or None p = refl
+value_or (Some c) p = refl
+
 seen_first : (host : List ℕ) (rows : List Row) (url : Parts) (site : Site) (cs : List Command) → secure_host url ≡ Some host → Agrees host rows (value_of site) → (q : List ℕ) →
-    or_else (finmap.get (jar_after_all (opened (header_of (given rows url))) cs).changes q) (value_of site q) ≡ value_of (after_commands site cs) q
+    or_else (value_in (finmap.get (jar_after_all (opened (header_of (given rows url))) cs).changes q)) (value_of site q) ≡ value_of (after_commands site cs) q
 seen_first host rows url site cs secure a q =
     let jar = opened (header_of (given rows url)) in
     let start : (x : List ℕ) → seen jar x ≡ value_of site x = opens host rows url (value_of site) secure a in
-    let first : finmap.get jar.originals q ≡ value_of site q = sym (ap (λ o. or_else o (finmap.get jar.originals q)) (finmap.get-empty (slice_cmp nat_cmp) q)) ∙ start q in
-    ap (or_else (finmap.get (jar_after_all jar cs).changes q)) (sym first ∙ ap (λ m. finmap.get m q) (sym (all_keeps jar cs)))
-    ∙ all_after_seen jar site cs start q
+    let first : value_in (finmap.get jar.originals q) ≡ value_of site q = sym (ap (λ o. value_in (or_else o (finmap.get jar.originals q))) (none_get q)) ∙ start q in
+    ap (or_else (value_in (finmap.get (jar_after_all jar cs).changes q))) (sym first ∙ ap (λ m. value_in (finmap.get m q)) (sym (all_keeps jar cs)))
+    ∙ (sym (value_or (finmap.get (jar_after_all jar cs).changes q) (finmap.get (jar_after_all jar cs).originals q)) ∙ all_after_seen jar site cs start q)
 
-pub delivered : (host : List ℕ) (rows : List Row) (url : Parts) (site : Site) (cs : List Command) (arrival : Arrival) (new : List Row) → secure_host url ≡ Some host → AllByRecursion SetsText cs → Agrees host rows (value_of site) →
+delivered : (law : ReadingBack) (host : List ℕ) (rows : List Row) (url : Parts) (site : Site) (cs : List Command) (arrival : Arrival) (new : List Row) → secure_host url ≡ Some host → AllByRecursion SetsText cs → AllByRecursion SetsNoDeath cs → Agrees host rows (value_of site) →
     Delivers rows url (jar_after_all (opened (header_of (given rows url))) cs) arrival new → Agrees host new (value_of (after_exchange site cs arrival))
-delivered host rows url site cs Never new secure texts a d = subst (λ rs. Agrees host rs (value_of site)) (sym d) a
-delivered host rows url site cs (Arrives at) new secure texts a d =
+delivered law host rows url site cs Never new secure texts lives a d = subst (λ rs. Agrees host rs (value_of site)) (sym d) a
+delivered law host rows url site cs (Arrives at) new secure texts lives a d =
     let jar = opened (header_of (given rows url)) in
     let changes = d.0 in
-    let good : AllByRecursion IsGood changes = each_of IsGood changes d.1.apart (λ q v is. all_good jar cs none_good texts q v (sym (d.1.each q) ∙ is)) in
-    subst (λ rs. Agrees host rs (value_of (after_commands site cs))) (sym d.2)
-    (same_agrees host _ (λ q. or_else (value_in changes q) (value_of site q)) _ (λ q. ap (λ o. or_else o (value_of site q)) (d.1.each q) ∙ seen_first host rows url site cs secure a q)
-    (all_received host rows url (value_of site) changes secure good d.1.apart a))
+    let closed : AllByRecursion IsClosed changes = each_of IsClosed changes d.1.apart (λ q c is. all_closed jar cs none_closed texts lives q c (sym (d.1.each q) ∙ is)) in
+    same_agrees host new (λ q. or_else (value_in (found_in changes q)) (value_of site q)) _ (λ q. ap (λ o. or_else (value_in o) (value_of site q)) (d.1.each q) ∙ seen_first host rows url site cs secure a q)
+    (all_received law host rows new url (value_of site) changes d.2.0 secure closed d.1.apart a d.2.1)
 
-pub told_is : (host : List ℕ) (rows : List Row) (url : Parts) (site : Site) (cs : List Command) → secure_host url ≡ Some host → Agrees host rows (value_of site) → jar_tells_all (opened (header_of (given rows url))) cs ≡ told_in site cs
+told_is : (host : List ℕ) (rows : List Row) (url : Parts) (site : Site) (cs : List Command) → secure_host url ≡ Some host → Agrees host rows (value_of site) → jar_tells_all (opened (header_of (given rows url))) cs ≡ told_in site cs
 told_is host rows url site cs secure a = all_told_seen (opened (header_of (given rows url))) site cs (opens host rows url (value_of site) secure a)
 
 -- ---- THE HEADLINE
@@ -260,7 +334,7 @@ secure_is_host host url e =
 
 delivered_other : (host : List ℕ) (rows : List Row) (url : Parts) (jar : Jar) (arrival : Arrival) (new : List Row) → host_of url ≢ Some host → Delivers rows url jar arrival new → rows_of host new ≡ rows_of host rows
 delivered_other host rows url jar Never new other d = ap (rows_of host) d
-delivered_other host rows url jar (Arrives at) new other d = ap (rows_of host) d.2 ∙ all_other host rows url (map printed d.0) (λ e. other (secure_is_host host url e))
+delivered_other host rows url jar (Arrives at) new other d = all_other host rows new url (map encoded d.0) d.2.0 (λ e. other (secure_is_host host url e)) d.2.1
 
 -- ---- the host of a URL, as a test and as an equation
 
@@ -285,19 +359,19 @@ act_reads host (Answers url lines at) site rows new told answers a p = tt
 act_reads host (Asks url at) site rows new told answers a p = tt
 
 -- the rows of the host go on to agree with its site
-pub act_agrees : (host : List ℕ) (act : Act) (site : Site) (rows new : List Row) (told : List Reading) →
-    AnswersBySessions host act → StepSetsText act → Agrees host rows (value_of site) → OneStep rows act told new → Agrees host new (value_of (after_act host site act))
-act_agrees host (Visits url at commands arrival) site rows new told answers texts a p =
+pub act_agrees : (law : ReadingBack) (host : List ℕ) (act : Act) (site : Site) (rows new : List Row) (told : List Reading) →
+    AnswersBySessions host act → IsDeathless host act → StepSetsText act → Agrees host rows (value_of site) → OneStep rows act told new → Agrees host new (value_of (after_act host site act))
+act_agrees law host (Visits url at commands arrival) site rows new told answers lives texts a p =
     let moved : Bool → Type 0 = λ b. Agrees host new (value_of (cond b (after_exchange site commands arrival) site)) in
     ⊎_elim
     (λ (e : is_text host (host_of url) ≡ true).
-    subst moved (sym e) (delivered host rows url site commands arrival new (answers (host_is host (host_of url) e)) texts a p.1))
+    subst moved (sym e) (delivered law host rows url site commands arrival new (answers (host_is host (host_of url) e)) texts (lives (host_is host (host_of url) e)) a p.1))
     (λ (e : is_text host (host_of url) ≡ false).
     subst moved (sym e) (kept_agrees host rows new (value_of site) (delivered_other host rows url (jar_after_all (opened (header_of (given rows url))) commands) arrival new (other_host host (host_of url) e) p.1) a))
     (cases_Bool (is_text host (host_of url)))
-act_agrees host (Answers url lines at) site rows new told answers texts a p =
-    kept_agrees host rows new (value_of site) (ap (rows_of host) p.1 ∙ all_other host rows url lines (λ e. answers (secure_is_host host url e))) a
-act_agrees host (Asks url at) site rows new told answers texts a p =
+act_agrees law host (Answers url lines at) site rows new told answers lives texts a p =
+    kept_agrees host rows new (value_of site) (all_other host rows new url lines p.1.0 (λ e. answers (secure_is_host host url e)) p.1.1) a
+act_agrees law host (Asks url at) site rows new told answers lives texts a p =
     kept_agrees host rows new (value_of site) (ap (rows_of host) p.1) a
 
 -- what an exchange of the host reads until the play stops in it
@@ -310,22 +384,22 @@ act_stops host (Asks url at) site rows kind last old readings answers a s = tt
 
 -- ---- all acts
 
-pub each_reads : (host : List ℕ) (acts : List Act) (site : Site) (rows : List Row) (told : List (List Reading)) (new : List Row) →
-    EachAnswersBySessions host acts → AllByRecursion StepSetsText acts → Agrees host rows (value_of site) → Plays rows acts told new → EachReadsOn host site acts told
-each_reads host [] site rows told new answers texts a p = tt
-each_reads host (act ∷ acts) site rows [] new answers texts a p = absurd p
-each_reads host (act ∷ acts) site rows (told ∷ later) new answers texts a p = (
+pub each_reads : (law : ReadingBack) (host : List ℕ) (acts : List Act) (site : Site) (rows : List Row) (told : List (List Reading)) (new : List Row) →
+    EachAnswersBySessions host acts → EachDeathless host acts → AllByRecursion StepSetsText acts → Agrees host rows (value_of site) → Plays rows acts told new → EachReadsOn host site acts told
+each_reads law host [] site rows told new answers lives texts a p = tt
+each_reads law host (act ∷ acts) site rows [] new answers lives texts a p = absurd p
+each_reads law host (act ∷ acts) site rows (told ∷ later) new answers lives texts a p = (
   act_reads host act site rows p.0 told answers.0 a p.1,
-  each_reads host acts (after_act host site act) p.0 later new answers.1 texts.1 (act_agrees host act site rows p.0 told answers.0 texts.0 a p.1) p.2,
+  each_reads law host acts (after_act host site act) p.0 later new answers.1 lives.1 texts.1 (act_agrees law host act site rows p.0 told answers.0 lives.0 texts.0 a p.1) p.2,
 )
 
-pub all_agree : (host : List ℕ) (acts : List Act) (site : Site) (rows : List Row) (told : List (List Reading)) (new : List Row) →
-    EachAnswersBySessions host acts → AllByRecursion StepSetsText acts → Agrees host rows (value_of site) → Plays rows acts told new → Agrees host new (value_of (after_acts host site acts))
-all_agree host [] site rows [] new answers texts a p = subst (λ rs. Agrees host rs (value_of site)) (sym p) a
-all_agree host [] site rows (told ∷ later) new answers texts a p = absurd p
-all_agree host (act ∷ acts) site rows [] new answers texts a p = absurd p
-all_agree host (act ∷ acts) site rows (told ∷ later) new answers texts a p =
-    all_agree host acts (after_act host site act) p.0 later new answers.1 texts.1 (act_agrees host act site rows p.0 told answers.0 texts.0 a p.1) p.2
+pub all_agree : (law : ReadingBack) (host : List ℕ) (acts : List Act) (site : Site) (rows : List Row) (told : List (List Reading)) (new : List Row) →
+    EachAnswersBySessions host acts → EachDeathless host acts → AllByRecursion StepSetsText acts → Agrees host rows (value_of site) → Plays rows acts told new → Agrees host new (value_of (after_acts host site acts))
+all_agree law host [] site rows [] new answers lives texts a p = subst (λ rs. Agrees host rs (value_of site)) (sym p) a
+all_agree law host [] site rows (told ∷ later) new answers lives texts a p = absurd p
+all_agree law host (act ∷ acts) site rows [] new answers lives texts a p = absurd p
+all_agree law host (act ∷ acts) site rows (told ∷ later) new answers lives texts a p =
+    all_agree law host acts (after_act host site act) p.0 later new answers.1 lives.1 texts.1 (act_agrees law host act site rows p.0 told answers.0 lives.0 texts.0 a p.1) p.2
 
 pub begins : (host : List ℕ) → Agrees host [] (value_of nothing)
-begins host = record { cookies = []; good = tt; are = refl; lists = record { apart = tt; each = λ q. refl } }
+begins host = record { cookies = []; good = tt; are = refl; apart = tt; each = λ q. refl }

@@ -1,15 +1,15 @@
 -- The run of a script goes on by one line.
-use Rattle.std.proofs.Common.{◌≡◌, ◌≢◌, ◌⊎◌, ℕ, ℤ, ◌+◌, Bool, true, false, cond, List, [], ◌∷◌, ◌++◌, length, Option, Some, None, Result, Ok, Err, inl, inr, sym, refl, ap, ◌∙◌, subst, append_assoc, append-nil, arith}
-use Rattle.std.specs.Prelude.{map, is_some, is_none, if◌then◌else◌}
-use Rattle.std.specs.List.{flat_map}
+use Rattle.std.proofs.Common.{◌≡◌, ◌≢◌, ℕ, ℤ, Bool, true, false, List, [], ◌∷◌, ◌++◌, Option, Some, None, Result, Ok, sym, refl, ap, ◌∙◌, subst, append_assoc, append-nil}
+use Rattle.std.specs.Prelude.{is_some, is_none, if◌then◌else◌}
 use Rattle.std.specs.Str.{bytes_eq}
 use Rattle.std.specs.FinMap as finmap
 use Rattle.url.specs.Parts.{Parts}
-use Rattle.cookie_run.specs.Record.{Record}
-use Rattle.cookie_run.specs.Escape.{printed}
-use Rattle.cookie_run.specs.Jar.{Jar, Lists, seen}
-use Rattle.cookie_run.specs.Rows.{given, header_of, accept_all}
-use Rattle.cookie_run.specs.Site.{told_by_set}
+use Rattle.cookie_text.specs.Record.{Record, bare, unsliced}
+use Rattle.cookie_run.specs.declared.step.SessionError.{SessionError}
+use Rattle.cookie_run.specs.declared.step.SessionError.TheVariants as refusals
+use Rattle.cookie_run.specs.Jar.{Jar, ClosesWith, Lists, seen}
+use Rattle.cookie_run.specs.Rows.{given, header_of, Takes}
+use Rattle.cookie_run.specs.Site.{set_refusal, told_by_refusal, told_by_set}
 use Rattle.cookie_run.specs.Acts.{Act, Visits, Answers, Asks, Arrival, Arrives, Never}
 use Rattle.cookie_run.specs.Play.{Plays, OneStep, Delivers as DeliversRows, all_told, opened, jar_set, jar_get, jar_after, jar_after_all, jar_tells, jar_tells_all}
 use Rattle.cookie_run.specs.ScriptLine as spec
@@ -74,9 +74,20 @@ unnamed (b ∷ bs) e = absurd (not_empty b bs e)
     not_empty : (b : ℕ) (bs : List ℕ) → b ∷ bs ≡ [] → ⊥
     not_empty b bs e = cc
 
-set_tells : (n : List ℕ) → n ≢ [] → told_by_set n ≡ []
-set_tells [] h = absurd (h refl)
-set_tells (b ∷ bs) h = refl
+set_tells : (c : Record) → set_refusal c ≡ None → told_by_set c ≡ []
+set_tells c accepted = ap told_by_refusal accepted
+
+-- a cookie without an expiry is refused for its name alone
+pub bare_accepted : (n v : List ℕ) → n ≢ [] → set_refusal (bare n v) ≡ None
+bare_accepted [] v h = absurd (h refl)
+bare_accepted (b ∷ bs) v h = refl
+
+pub bare_refused : (n v : List ℕ) → n ≡ [] → set_refusal (bare n v) ≡ Some refusals.EmptyName
+bare_refused n v e = ap (λ m. set_refusal (bare m v)) e
+
+pub bare_named : (n v : List ℕ) (e : SessionError) → set_refusal (bare n v) ≡ Some e → n ≡ []
+bare_named [] v e h = refl
+bare_named (b ∷ bs) v e h = let none : None ≡ Some e = h in absurd (cc)
 
 get_tells : (jar : Jar) (way : Way) (n : List ℕ) → n ≢ [] → jar_get jar way n ≡ Value way n (seen jar n) ∷ []
 get_tells jar way [] h = absurd (h refl)
@@ -151,11 +162,11 @@ pub commands : (start rows : List Row) (r : Reached) (last : ℤ) (visit : Optio
 commands start rows r last visit v w output text command s is name same_url same shown =
     command_at start rows r.acts r.last r.now v w s.told output text last command s.plays (subst (IsOpen rows r.now) is s.is_open) s.prints s.moment name same_url same shown
 
-pub sets : (start rows : List Row) (r : Reached) (last : ℤ) (visit : Option Visit) (open_visit new_visit : Visit) (output text : List ℕ) (way : Way) (cookie : Record) → Stands start r rows last visit output
-    → visit ≡ Some open_visit → cookie.name ≢ [] → new_visit.url ≡ open_visit.url → new_visit.session ≡ jar_set open_visit.session cookie.name cookie.value → text ≡ []
-    → LeadsOn start (obeyed r.acts r.last r.now (spec.Commands (Set way cookie))) rows last (Some new_visit) (output ++ text)
-sets start rows r last visit v w output text way cookie s is name same_url same empty =
-    commands start rows r last visit v w output text (Set way cookie) s is (named cookie.name name) same_url same (empty ∙ ap readings_text (sym (set_tells cookie.name name)))
+pub sets : (start rows : List Row) (r : Reached) (last : ℤ) (visit : Option Visit) (open_visit new_visit : Visit) (output text : List ℕ) (way : Way) (n v : List ℕ) → Stands start r rows last visit output
+    → visit ≡ Some open_visit → n ≢ [] → new_visit.url ≡ open_visit.url → new_visit.session ≡ jar_set open_visit.session (bare n v) → text ≡ []
+    → LeadsOn start (obeyed r.acts r.last r.now (spec.Commands (Set way (unsliced (bare n v))))) rows last (Some new_visit) (output ++ text)
+sets start rows r last visit v w output text way n value s is name same_url same empty =
+    commands start rows r last visit v w output text (Set way (unsliced (bare n value))) s is (named n name) same_url same (empty ∙ ap readings_text (sym (set_tells (bare n value) (bare_accepted n value name))))
 
 pub gets : (start rows : List Row) (r : Reached) (last : ℤ) (visit : Option Visit) (v : Visit) (output text : List ℕ) (way : Way) (name : List ℕ) (value : Option (List ℕ)) → Stands start r rows last visit output
     → visit ≡ Some v → name ≢ [] → value ≡ seen v.session name → text ≡ reading_text (Value way name value)
@@ -207,27 +218,23 @@ pub loses : (start rows : List Row) (r : Reached) (last : ℤ) (visit : Option V
     → LeadsOn start (obeyed r.acts r.last r.now spec.Loses) rows last None (output ++ text)
 loses start rows r last visit output text s some empty = lose_at start rows r.acts r.last r.now visit s.told output text last s.plays s.is_open s.prints s.moment (none_or_some visit some) empty
 
--- the lines that an open session closes with
-abbrev pub ClosesWith : Visit → List (List ℕ) → Type 0
-ClosesWith visit answer = (changes : List Record) × Lists changes (finmap.get visit.session.changes) × (answer ≡ map printed changes)
-
 deliver_at : (start rows new : List Row) (acts : List Act) (m : ℤ) (now : Now) (v : Visit) (answer : List (List ℕ)) (told : List (List Reading)) (output text : List ℕ) (at last : ℤ)
     → Plays start acts told rows → IsOpen rows now (Some v) → output ≡ readings_text (all_told told ++ open_tells rows now)
-    → ClosesWith v answer → new ≡ accept_all rows v.url answer → text ≡ [] → last ≡ at
+    → ClosesWith v.session.changes answer → Takes rows v.url answer new → text ≡ [] → last ≡ at
     → LeadsOn start (obeyed acts m now (spec.Delivers at)) new last None (output ++ text)
 deliver_at start rows new acts m Closed v answer told output text at last plays is_open prints closes taken empty moment = absurd is_open
 deliver_at start rows new acts m (Within url a cs) v answer told output text at last plays is_open prints closes taken empty moment = (
   record { acts = acts ++ Visits url a cs (Arrives at) ∷ []; now = Closed; last = at },
   refl,
   ends_at start rows new acts m url a cs (Arrives at) told output text last at plays prints (
-    closes.0,
-    subst (λ (j : Jar). Lists closes.0 (finmap.get j.changes)) is_open.1 closes.1,
-    taken ∙ ap (λ u. accept_all rows u answer) is_open.0 ∙ ap (accept_all rows url) closes.2,
+    closes.cookies,
+    subst (λ (j : Jar). Lists closes.cookies (finmap.get j.changes)) is_open.1 closes.lists,
+    subst (λ ls. Takes rows url ls new) closes.printed (subst (λ u. Takes rows u answer new) is_open.0 taken),
   ) empty moment,
 )
 
 pub delivers : (start rows new : List Row) (r : Reached) (old_last : ℤ) (visit : Option Visit) (v : Visit) (answer : List (List ℕ)) (output text : List ℕ) (at last : ℤ) → Stands start r rows old_last visit output
-    → visit ≡ Some v → ClosesWith v answer → new ≡ accept_all rows v.url answer → text ≡ [] → last ≡ at
+    → visit ≡ Some v → ClosesWith v.session.changes answer → Takes rows v.url answer new → text ≡ [] → last ≡ at
     → LeadsOn start (obeyed r.acts r.last r.now (spec.Delivers at)) new last None (output ++ text)
 delivers start rows new r old_last visit v answer output text at last s is closes taken empty moment =
     deliver_at start rows new r.acts r.last r.now v answer s.told output text at last s.plays (subst (IsOpen rows r.now) is s.is_open) s.prints closes taken empty moment
@@ -260,7 +267,7 @@ alone_at start rows new acts m (Within u a cs) (Some v) told output text line ac
     true_false e = cc
 
 pub receives : (start rows new : List Row) (r : Reached) (old_last : ℤ) (visit : Option Visit) (output text : List ℕ) (url : Parts) (answer : List (List ℕ)) (at last : ℤ) → Stands start r rows old_last visit output
-    → is_some visit ≡ false → new ≡ accept_all rows url answer → text ≡ [] → last ≡ at
+    → is_some visit ≡ false → Takes rows url answer new → text ≡ [] → last ≡ at
     → LeadsOn start (obeyed r.acts r.last r.now (spec.Receives url answer at)) new last visit (output ++ text)
 receives start rows new r old_last visit output text url answer at last s none taken empty moment =
     alone_at start rows new r.acts r.last r.now visit s.told output text (spec.Receives url answer at) (Answers url answer at) [] last at s.plays s.is_open s.prints none refl (refl, taken) empty moment

@@ -2,6 +2,8 @@
 -- header or a line of a session.
 use Rattle.std.specs.Prelude.{ℕ, ℤ, ◌+◌, List, [], ◌∷◌, ◌++◌, length, Option, Some, None, ◌≡◌, ◌≢◌, option_map, Bool, false, ⊤, if◌then◌else◌}
 use Rattle.std.specs.Str.{bytes_eq}
+use Rattle.std.specs.List.{AllByRecursion}
+use Rattle.cookie_text.specs.Record.{Record, moment_of}
 use Rattle.url.specs.Parts.{Parts, nonempty_host}
 use Rattle.url.specs.Host.{host_text}
 use Rattle.cookie_run.specs.Rows.{secure_host}
@@ -17,7 +19,7 @@ use Rattle.cookie_run.specs.Moments.{last_of, the_beginning}
 use Rattle.cookie_run.specs.Stops.{StopsFrom}
 use Rattle.cookie_run.specs.Play.{all_told}
 
--- ---- the premise
+-- ---- the premises
 
 -- the host of a URL, where it has one
 abbrev pub host_of : Parts → Option (List ℕ)
@@ -32,6 +34,25 @@ AnswersBySessions host (Asks url at) = ⊤
 abbrev pub EachAnswersBySessions : List ℕ → List Act → Type 0
 EachAnswersBySessions host [] = ⊤
 EachAnswersBySessions host (act ∷ acts) = AnswersBySessions host act × EachAnswersBySessions host acts
+
+-- a cookie has no death: no max-age, and no expiry but the end of the session
+pub record HasNoDeath (cookie : Record) : Type 0 where
+  pub max_age : cookie.max_age ≡ None
+  pub expires : moment_of cookie.expires ≡ None
+
+abbrev pub SetsNoDeath : Command → Type 0
+SetsNoDeath (Set way cookie) = HasNoDeath cookie.cookie
+SetsNoDeath (Get way name) = Unit {0}
+
+-- what is set in the host's own exchanges has no death
+abbrev pub IsDeathless : List ℕ → Act → Type 0
+IsDeathless host (Visits url at commands arrival) = host_of url ≡ Some host → AllByRecursion SetsNoDeath commands
+IsDeathless host (Answers url lines at) = ⊤
+IsDeathless host (Asks url at) = ⊤
+
+abbrev pub EachDeathless : List ℕ → List Act → Type 0
+EachDeathless host [] = ⊤
+EachDeathless host (act ∷ acts) = IsDeathless host act × EachDeathless host acts
 
 -- ---- the site through a play
 
@@ -79,7 +100,7 @@ IsAnswer way name (ReadHeader header) = ⊥
 -- a set reads nothing, or its refusal; a get reads one answer, under its way and name
 abbrev pub AnswersTo : List Command → List Reading → Type 0
 AnswersTo [] told = told ≡ []
-AnswersTo (Set way cookie ∷ cs) told = (later : List Reading) × (told ≡ told_by_set cookie.name ++ later) × AnswersTo cs later
+AnswersTo (Set way cookie ∷ cs) told = (later : List Reading) × (told ≡ told_by_set cookie.cookie ++ later) × AnswersTo cs later
 AnswersTo (Get way name ∷ cs) told = (answer : Reading) × (later : List Reading) × (told ≡ answer ∷ later) × IsAnswer way name answer × AnswersTo cs later
 
 -- an exchange reads what answers its commands, other answers nothing, a look at a header that header
@@ -94,13 +115,14 @@ AnswersEach (act ∷ acts) (told ∷ later) = AnswersAct act told × AnswersEach
 AnswersEach [] (told ∷ later) = ⊥
 AnswersEach (act ∷ acts) [] = ⊥
 
--- THE HEADLINE: for every host that answers by sessions alone, each of its exchanges reads what its
--- own delivered commands before it leave, and what its own commands so far set.
+-- THE HEADLINE: for every host that answers by sessions alone and sets nothing with a death, each of
+-- its exchanges reads what its own delivered commands before it leave, and what its own commands so
+-- far set.
 pub record SitesReadTheirOwn (acts : List Act) (readings : List Reading) : Type 0 where
   pub told : List (List Reading)
   pub read : readings ≡ all_told told
   pub own : AnswersEach acts told
-  pub sites : (host : List ℕ) → EachAnswersBySessions host acts → EachReadsOn host nothing acts told
+  pub sites : (host : List ℕ) → EachAnswersBySessions host acts → EachDeathless host acts → EachReadsOn host nothing acts told
 
 -- The same as far as a play came that stopped in a step, counted from 1.
 pub record SitesReadTheirOwnUntil (acts : List Act) (step : ℕ) (kind : FaultKind) (readings : List Reading) : Type 0 where
@@ -113,6 +135,6 @@ pub record SitesReadTheirOwnUntil (acts : List Act) (step : ℕ) (kind : FaultKi
   pub front : List Reading
   pub read : readings ≡ all_told told ++ front
   pub own : AnswersEach before told
-  pub sites : (host : List ℕ) → EachAnswersBySessions host before → EachReadsOn host nothing before told
-  pub stops : (host : List ℕ) → EachAnswersBySessions host before → AnswersBySessions host act
+  pub sites : (host : List ℕ) → EachAnswersBySessions host before → EachDeathless host before → EachReadsOn host nothing before told
+  pub stops : (host : List ℕ) → EachAnswersBySessions host before → EachDeathless host before → AnswersBySessions host act
       → StopsOn host (after_acts host nothing before) kind (last_of the_beginning (moments_of before)) act (all_told told) readings

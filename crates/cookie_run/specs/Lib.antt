@@ -1,7 +1,4 @@
-pub mod Record
 pub mod Put
-pub mod Pieces
-pub mod Escape
 pub mod Reading
 pub mod Rows
 pub mod Acts

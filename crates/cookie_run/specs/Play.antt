@@ -1,14 +1,14 @@
 -- A play on the rows of a client, step by step, whatever the order of a session's lines.
-use Rattle.std.specs.Prelude.{ℕ, ◌+◌, List, [], ◌∷◌, ◌++◌, length, map, ◌≡◌}
+use Rattle.std.specs.Prelude.{ℕ, ◌+◌, List, [], ◌∷◌, ◌++◌, length, map, ◌≡◌, is_none, if◌then◌else◌}
 use Rattle.url.specs.Parts.{Parts}
 use Rattle.std.specs.FinMap as map
-use Rattle.cookie_run.specs.Record.{Record}
-use Rattle.cookie_run.specs.Escape.{printed}
+use Rattle.cookie_text.specs.Printing.{encoded}
+use Rattle.cookie_text.specs.Record.{Record}
 use Rattle.cookie_run.specs.Reading.{cookies_of}
-use Rattle.cookie_run.specs.Rows.{given, header_of, accept_all}
+use Rattle.cookie_run.specs.Rows.{given, header_of, Takes}
 use Rattle.cookie_run.specs.declared.row.Row.{Row}
-use Rattle.cookie_run.specs.Site.{told_by_set}
-use Rattle.cookie_run.specs.Jar.{Jar, with_all, seen, Lists}
+use Rattle.cookie_run.specs.Site.{set_refusal, told_by_set}
+use Rattle.cookie_run.specs.Jar.{Jar, with_all, sent, seen, Lists}
 use Rattle.cookie_run.specs.declared.step.Way.{Way}
 use Rattle.cookie_run.specs.declared.step.Command.{Command}
 use Rattle.cookie_run.specs.declared.step.Command.TheVariants.{Set, Get}
@@ -25,12 +25,14 @@ abbrev pub opened : List ℕ → Jar
 opened header = record { originals = with_all map.empty (cookies_of header); changes = map.empty }
 
 -- what a command leaves, and what it reads
-abbrev pub jar_set : Jar → List ℕ → List ℕ → Jar
-jar_set jar [] value = jar
-jar_set jar (b ∷ bs) value = record jar { changes = map.insert jar.changes (b ∷ bs) value }
+abbrev pub jar_set : Jar → Record → Jar
+jar_set jar cookie =
+    if is_none (set_refusal cookie)
+    then record jar { changes = map.insert jar.changes cookie.name (sent cookie) }
+    else jar
 
 abbrev pub jar_after : Jar → Command → Jar
-jar_after jar (Set way cookie) = jar_set jar cookie.name cookie.value
+jar_after jar (Set way cookie) = jar_set jar cookie.cookie
 jar_after jar (Get way name) = jar
 
 abbrev pub jar_after_all : Jar → List Command → Jar
@@ -42,7 +44,7 @@ jar_get jar way [] = Refused EmptyName ∷ []
 jar_get jar way (b ∷ bs) = Value way (b ∷ bs) (seen jar (b ∷ bs)) ∷ []
 
 abbrev pub jar_tells : Jar → Command → List Reading
-jar_tells jar (Set way cookie) = told_by_set cookie.name
+jar_tells jar (Set way cookie) = told_by_set cookie.cookie
 jar_tells jar (Get way name) = jar_get jar way name
 
 abbrev pub jar_tells_all : Jar → List Command → List Reading
@@ -52,7 +54,7 @@ jar_tells_all jar (c ∷ cs) = jar_tells jar c ++ jar_tells_all (jar_after jar c
 -- the answer with the lines of these changes comes, or doesn't
 abbrev pub Delivers : List Row → Parts → Jar → Arrival → List Row → Type 0
 Delivers rows url jar (Arrives at) new =
-    (changes : List Record) × Lists changes (map.get jar.changes) × (new ≡ accept_all rows url (map printed changes))
+    (changes : List Record) × Lists changes (map.get jar.changes) × Takes rows url (map encoded changes) new
 Delivers rows url jar Never new = new ≡ rows
 
 -- from these rows the step reads this and leaves those rows
@@ -61,7 +63,7 @@ OneStep rows (Visits url at commands arrival) told new =
     let jar = opened (header_of (given rows url)) in
     (told ≡ jar_tells_all jar commands) × Delivers rows url (jar_after_all jar commands) arrival new
 OneStep rows (Answers url lines at) told new =
-    (told ≡ []) × (new ≡ accept_all rows url lines)
+    (told ≡ []) × Takes rows url lines new
 OneStep rows (Asks url at) told new =
     (told ≡ Header (header_of (given rows url)) ∷ []) × (new ≡ rows)
 

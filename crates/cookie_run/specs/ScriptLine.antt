@@ -6,6 +6,7 @@ use Rattle.std.specs.Result.{result_ok}
 use Rattle.percent_encoding.specs.Percent.{percent_decode}
 use Rattle.url.specs.Parts.{Parts}
 use Rattle.url.specs.Parser.{parse_url}
+use Rattle.cookie_text.specs.Record.{bare, unsliced}
 use Rattle.cookie_run.specs.ScriptMoment.{moment_of}
 use Rattle.cookie_run.specs.declared.step.Way.TheVariants.{Plain}
 use Rattle.cookie_run.specs.declared.step.Command.{Command}
@@ -59,7 +60,7 @@ read_header fields = Err Fields
 abbrev pub read_set : List (List ℕ) → Result Line Cause
 read_set (way ∷ name ∷ value ∷ max_age ∷ expires ∷ []) =
     if bytes_eq way (codes "plain") && bytes_eq max_age (codes "-") && bytes_eq expires (codes "-")
-    then Ok (Commands (Set Plain (record { name = name; value = value })))
+    then Ok (Commands (Set Plain (unsliced (bare name value))))
     else Err Fields
 read_set fields = Err Fields
 

@@ -7,9 +7,9 @@ use Rattle.std.specs.Ordering.{int_cmp, is_lt}
 use Rattle.std.specs.FinMap as finmap
 use Rattle.percent_encoding.specs.Percent.{percent_encode_byte}
 use Rattle.url.specs.Parts.{Parts}
-use Rattle.cookie_run.specs.Record.{Record}
-use Rattle.cookie_run.specs.Escape.{printed}
-use Rattle.cookie_run.specs.Rows.{given, header_of, accept_all}
+use Rattle.cookie_text.specs.Printing.{encoded}
+use Rattle.cookie_text.specs.Record.{Record}
+use Rattle.cookie_run.specs.Rows.{given, header_of, Takes}
 use Rattle.cookie_run.specs.Jar.{Lists}
 use Rattle.cookie_run.specs.Acts.{Act, Visits, Answers, Asks, Arrives, Never}
 use Rattle.cookie_run.specs.Play.{Plays, all_told, opened, jar_after_all}
@@ -43,7 +43,7 @@ abbrev pub begun : ℤ → Reached
 begun last = record { acts = []; now = Closed; last = last }
 
 abbrev pub name_of : Command → List ℕ
-name_of (Set way cookie) = cookie.name
+name_of (Set way cookie) = cookie.cookie.name
 name_of (Get way name) = name
 
 -- a line whose moment isn't before an earlier one
@@ -179,13 +179,13 @@ ScriptText rows last input output new end (Faulty n) = IsFaulty rows last (lines
 
 -- an answer's lines are taken up to one at which memory is refused
 abbrev pub TakesFront : List Row → Parts → List (List ℕ) → List Row → Type 0
-TakesFront rows url answer new = (k : ℕ) × (k ≤ length answer - 1) × (new ≡ accept_all rows url (take k answer))
+TakesFront rows url answer new = (k : ℕ) × (k ≤ length answer - 1) × Takes rows url (take k answer) new
 
 -- the step begins so, whatever the order of a session's lines
 abbrev pub HalfStep : List Row → Act → List Row → Type 0
 HalfStep rows (Visits url at commands (Arrives moment)) new =
     (changes : List Record) × Lists changes (finmap.get (jar_after_all (opened (header_of (given rows url))) commands).changes)
-    × TakesFront rows url (map printed changes) new
+    × TakesFront rows url (map encoded changes) new
 HalfStep rows (Visits url at commands Never) new = new ≡ rows
 HalfStep rows (Answers url answer at) new = TakesFront rows url answer new
 HalfStep rows (Asks url at) new = new ≡ rows

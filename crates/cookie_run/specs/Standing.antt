@@ -1,5 +1,5 @@
 -- Where the code of a run stands, beside the place that the script has reached.
-use Rattle.std.specs.Prelude.{ℕ, ℤ, List, [], ◌++◌, map, Option, Some, None, Result, Ok, Err, ◌≡◌, ◌⊎◌, ⊤}
+use Rattle.std.specs.Prelude.{ℕ, ℤ, List, [], ◌++◌, Option, Some, None, Result, Ok, Err, ◌≡◌, ◌⊎◌, ⊤}
 use Rattle.cookie_run.specs.Rows.{given, header_of}
 use Rattle.cookie_run.specs.Play.{Plays, all_told, opened, jar_tells_all, jar_after_all}
 use Rattle.cookie_run.specs.ScriptText.{Now, Closed, Within, Reached, readings_text, HalfLine}

@@ -1,7 +1,7 @@
 -- What is set is text: what the code learns of the commands that it carries out.
 use Rattle.std.specs.List.{AllByRecursion}
 use Rattle.std.specs.Str.{IsUtf8}
-use Rattle.cookie_run.specs.Record.{Record}
+use Rattle.cookie_text.specs.Record.{Record}
 use Rattle.cookie_run.specs.declared.step.Command.{Command}
 use Rattle.cookie_run.specs.declared.step.Command.TheVariants.{Set, Get}
 use Rattle.cookie_run.specs.Acts.{Act, Visits, Answers, Asks}
@@ -11,7 +11,7 @@ pub record IsText (cookie : Record) : Type 0 where
   pub value : IsUtf8 cookie.value
 
 abbrev pub SetsText : Command → Type 0
-SetsText (Set way cookie) = IsText cookie
+SetsText (Set way cookie) = IsText cookie.cookie
 SetsText (Get way name) = Unit {0}
 
 abbrev pub StepSetsText : Act → Type 0

@@ -8,9 +8,7 @@
 #![tactic(auto)]
 
 pub mod client;
-pub mod cookie;
 pub mod device;
-pub mod escape;
 pub mod moment;
 pub mod play;
 pub mod pour;
@@ -23,7 +21,6 @@ pub mod step;
 pub mod text;
 
 pub use client::Client;
-pub use cookie::Cookie;
 pub use device::{Counting, Failing, Sink, Source};
 pub use script::ended::{Ended, RunError};
 pub use script::run::run;

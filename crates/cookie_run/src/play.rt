@@ -3,19 +3,22 @@ ghost use Rattle.std.specs.Prelude.{◌≡◌, ◌++◌, List, [], map, string_b
 ghost use Rattle.std.specs.Option.{option_to_list};
 ghost use Rattle.std.specs.List.{AllByRecursion};
 ghost use Rattle.jiff.specs.Words.{civil_nanos};
-ghost use Rattle.cookie_run.specs.Texts.{SetsText, StepSetsText};
+ghost use Rattle.cookie_run.specs.Texts.{IsText, SetsText, StepSetsText};
 ghost use Rattle.cookie_run.specs.Moments.{AllFollow, last_of, the_beginning};
-ghost use Rattle.cookie_run.specs.Rows.{given, header_of, accept_all};
+ghost use Rattle.cookie_run.specs.Rows.{given, header_of, Takes};
 ghost use Rattle.cookie_run.specs.Acts.{acts_of, act_of, arrival_of, Arrives, moments_in, moments_of, arrival_moments};
 ghost use Rattle.cookie_run.specs.Stops.{StopsFrom, StopsInside, Reaches};
-ghost use Rattle.cookie_run.specs.Play.{IsRun, IsRunUntil, opened, jar_tells, jar_after, jar_tells_all, jar_after_all, OneStep, Delivers, told_of};
+ghost use Rattle.cookie_run.specs.Play.{IsRun, IsRunUntil, opened, jar_set, jar_tells, jar_after, jar_tells_all, jar_after_all, OneStep, Delivers, told_of};
+ghost use Rattle.cookie_run.specs.Site.{told_by_set};
 ghost use Rattle.cookie_run.specs.Headline.{SitesReadTheirOwn, SitesReadTheirOwnUntil};
 
 use crate::client::Client;
 use crate::moment::{beginning, come_to};
 use crate::session::Session;
-use crate::step::{Command, Delivery, Fault, FaultKind, Reading, SessionError, Step};
+use crate::step::{Command, Delivery, Fault, FaultKind, Reading, SessionError, Step, Way};
 use crate::text::Text;
+use cookie::Cookie;
+use cookie_text::laws::encoded_records_read_back;
 use jiff::civil::DateTime;
 use std::alloc::{AllocError, Global};
 use url::Url;
@@ -39,6 +42,7 @@ pub fn play(alloc: Global, steps: &[Step]) -> Result<Vec<Reading>, Fault>
     ensures run_until { IfErr result (λ fault. IsRunUntil (acts_of steps.now) fault.step fault.kind fault.readings.items) }
     ensures sites_until { IfErr result (λ fault. SitesReadTheirOwnUntil (acts_of steps.now) fault.step fault.kind fault.readings.items) }
 {
+    encoded_records_read_back();
     let mut client = Client::new(alloc);
     let mut last = beginning();
     let mut readings = Vec::new(alloc);
@@ -117,7 +121,7 @@ fn exchange(
 {
     let header = client.header(url, *last)?;
     let mut session = Session::open(alloc, header.as_bytes())?;
-    obey_all(&mut session, commands, readings)?;
+    obey_all(alloc, &mut session, commands, readings)?;
     match delivery {
         Delivery::Lost => Ok(()),
         Delivery::At(moment) => {
@@ -152,7 +156,7 @@ fn receive(
     lines: &[&[u8]],
     moment: DateTime,
 ) -> Result<(), FaultKind>
-    ensures rows { OnOk result (client.new ≡ accept_all client.old url.now (map (λ line. line.now) lines.now)) }
+    ensures rows { OnOk result (Takes client.old url.now (map (λ line. line.now) lines.now) client.new) }
     ensures err { IfErr result (λ kind. kind ≡ FaultKind.Memory) }
 {
     match client.receive(url, lines, moment) {
@@ -185,6 +189,7 @@ pub(crate) fn bytes_of(alloc: Global, lines: &[String]) -> Result<Vec<&[u8]>, Al
 
 // The commands of a session in their order.
 fn obey_all(
+    alloc: Global,
     session: &mut Session,
     commands: &[Command],
     readings: &mut Vec<Reading>,
@@ -195,7 +200,7 @@ fn obey_all(
     ensures err { OnErr result (Reaches readings.old.items (jar_tells_all session.old commands.now) readings.new.items) }
 {
     for command in commands {
-        if let Some(reading) = obey(session, command)? {
+        if let Some(reading) = obey(alloc, session, command)? {
             readings.push(reading)?;
         }
     }
@@ -203,21 +208,42 @@ fn obey_all(
 }
 
 // One command of a session, and what it reads.
-fn obey(session: &mut Session, command: &Command) -> Result<Option<Reading>, AllocError>
+fn obey(
+    alloc: Global,
+    session: &mut Session,
+    command: &Command,
+) -> Result<Option<Reading>, AllocError>
     ensures told { IfOk result (λ reading. option_to_list reading ≡ jar_tells session.old command.now) }
     ensures jar { OnOk result (session.new ≡ jar_after session.old command.now) }
     ensures text { OnOk result (SetsText command.now) }
 {
     match command {
-        Command::Set(way, cookie) => match session.set(*way, cookie.clone()?) {
-            Ok(()) => Ok(None),
-            Err(SessionError::OutOfMemory) => Err(AllocError),
-            Err(error) => Ok(Some(Reading::Refused(error))),
-        },
+        Command::Set(way, cookie) => set(alloc, session, *way, cookie),
         Command::Get(way, name) => match session.get(*way, name.as_str()) {
             Ok(value) => Ok(Some(Reading::Value(*way, name.clone()?, value.map(Text::of)))),
             Err(SessionError::OutOfMemory) => Err(AllocError),
             Err(error) => Ok(Some(Reading::Refused(error))),
         },
+    }
+}
+
+// Sets a copy of a cookie, and gives what that reads.
+fn set(
+    alloc: Global,
+    session: &mut Session,
+    way: Way,
+    cookie: &Cookie<'static>,
+) -> Result<Option<Reading>, AllocError>
+    ensures told { IfOk result (λ reading. option_to_list reading ≡ told_by_set cookie.now.cookie) }
+    ensures jar { OnOk result (session.new ≡ jar_set session.old cookie.now.cookie) }
+    ensures text { OnOk result (IsText cookie.now.cookie) }
+{
+    // Both are UTF-8, whatever is done with them.
+    let _name = cookie.name();
+    let _value = cookie.value();
+    match session.set(way, cookie.clone(alloc)?) {
+        Ok(()) => Ok(None),
+        Err(SessionError::OutOfMemory) => Err(AllocError),
+        Err(error) => Ok(Some(Reading::Refused(error))),
     }
 }

@@ -1,5 +1,4 @@
 //! A row of a client.
-use crate::cookie::Cookie;
 use crate::text::Text;
 
 /// A cookie as a client holds it: its name and value as the line had them, still escaped, under
@@ -7,5 +6,6 @@ use crate::text::Text;
 #[derive(Drop, Debug)]
 pub struct Row {
     pub host: Text,
-    pub cookie: Cookie,
+    pub name: Text,
+    pub value: Text,
 }

@@ -3,8 +3,8 @@ ghost use Rattle.std.specs.Prelude.{◌≡◌};
 ghost use Rattle.cookie_run.specs.declared.step.SessionError.TheVariants.{OutOfMemory};
 ghost use Rattle.cookie_run.specs.declared.step.FaultKind.TheVariants.{Memory};
 
-use crate::cookie::Cookie;
 use crate::text::Text;
+use cookie::Cookie;
 use jiff::civil::DateTime;
 use std::alloc::{AllocError, AllocFailed};
 use thiserror::Error;
@@ -21,7 +21,7 @@ pub enum Way {
 #[derive(Drop, Debug)]
 pub enum Command {
     /// Sets a cookie in a way.
-    Set(Way, Cookie),
+    Set(Way, Cookie<'static>),
     /// Reads the value of a name, as set in a way.
     Get(Way, Text),
 }
@@ -75,6 +75,9 @@ pub enum SessionError {
     /// The name is empty.
     #[error("EmptyName")]
     EmptyName,
+    /// The expiry is of a year below 100.
+    #[error("Year")]
+    Year,
     /// Memory was refused.
     #[error("OutOfMemory")]
     OutOfMemory,

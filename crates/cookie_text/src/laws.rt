@@ -1,5 +1,6 @@
 //! Laws that join reading and printing. Each function changes nothing: its contract is the law.
-ghost use Rattle.std.specs.Prelude.{ℕ, ◌≡◌, ◌<◌, List, All, Result, length, true, IsTrue};
+ghost use Rattle.std.specs.Prelude.{ℕ, ◌≡◌, ◌<◌, List, All, Result, length, true, IsTrue, IfSome};
+ghost use Rattle.jiff_core.specs.Timestamp.{IsDurationNanos};
 ghost use Rattle.cookie_text.specs.declared.error.ParseError.{ParseError as Refusals};
 ghost use Rattle.cookie_text.specs.Decoding.{ReadsEncoded};
 ghost use Rattle.cookie_text.specs.Normal.{IsReadable};
@@ -8,7 +9,7 @@ ghost use Rattle.cookie_text.specs.declared.escape.TheConstants.{PROFILE};
 ghost use Rattle.cookie_text.specs.Printing.{encoded, is_escaped, shown_text};
 ghost use Rattle.cookie_text.specs.Reading.{ReadsPlain};
 ghost use Rattle.cookie_text.specs.ReadingBack.{GivesPair, IsNamed, Pairwise, ReadsBack, joined};
-ghost use Rattle.cookie_text.specs.Record.{Seen};
+ghost use Rattle.cookie_text.specs.Record.{Record, Seen};
 ghost use Rattle.cookie_text.specs.Splitting.{cookie_texts};
 
 use crate::cookie::Cookie;
@@ -34,6 +35,13 @@ pub fn encoded_reads_back(cookie: &Cookie<'_>)
     // The length's type bounds its seconds, and so the digits that are read.
     let _ = cookie.max_age();
 }
+
+/// The same of every record, where its max-age, if it has one, is a length that a
+/// [`jiff::SignedDuration`] can be: for proofs that have no cookie at hand.
+pub fn encoded_records_read_back()
+    ensures { (r : Record) → IsReadable r → IfSome r.max_age IsDurationNanos
+        → (o : Result Seen Refusals) → ReadsPlain (encoded r) o → ReadsBack r o }
+{}
 
 /// What `encoded().stripped()` prints of a cookie whose name isn't empty reads, by
 /// [`Cookie::parse_encoded`], as a cookie of that name and value.

@@ -6,11 +6,10 @@ ghost use Rattle.cookie_run.specs.ScriptMoment as moments;
 ghost use Rattle.cookie_run.specs.ScriptText as text_spec;
 ghost use Rattle.cookie_run.specs.ScriptRead.{Reads, line_of};
 
-use crate::cookie::Cookie;
 use crate::script::cause::Cause;
 use crate::script::field::{fields_of, text_of, texts_of};
 use crate::script::moment::moment_of;
-use crate::step::{Command, Way};
+use crate::step::Way;
 use crate::text::Text;
 use jiff::civil::DateTime;
 use std::alloc::Global;
@@ -24,8 +23,17 @@ pub enum Line {
         url: Url,
         at: DateTime,
     },
-    /// `set` and `get`: a command of the session.
-    Command(Command),
+    /// `set`: a cookie with no attribute is set.
+    Set {
+        way: Way,
+        name: Text,
+        value: Text,
+    },
+    /// `get`: the value of a name is read.
+    Get {
+        way: Way,
+        name: Text,
+    },
     /// `deliver`: the session's answer comes.
     Deliver(DateTime),
     /// `lose`: it doesn't.
@@ -52,7 +60,7 @@ impl Line {
             Line::Open { at, .. } | Line::Receive { at, .. } | Line::Header { at, .. } => *at
                 < last,
             Line::Deliver(at) => *at < last,
-            Line::Command(_) | Line::Lose => false,
+            Line::Set { .. } | Line::Get { .. } | Line::Lose => false,
         }
     }
 }
@@ -122,9 +130,11 @@ fn read_set(alloc: Global, fields: &[&str]) -> Result<Line, Cause>
     if *way != "plain" || *max_age != "-" || *expires != "-" {
         return Err(Cause::Fields);
     }
-    let name = String::from_str(alloc, name)?;
-    let value = String::from_str(alloc, value)?;
-    Ok(Line::Command(Command::Set(Way::Plain, Cookie::new_owned(name, value))))
+    Ok(Line::Set {
+        way: Way::Plain,
+        name: Text::from_str(alloc, name)?,
+        value: Text::from_str(alloc, value)?,
+    })
 }
 
 fn read_get(alloc: Global, fields: &[&str]) -> Result<Line, Cause>
@@ -136,7 +146,10 @@ fn read_get(alloc: Global, fields: &[&str]) -> Result<Line, Cause>
     if *way != "plain" {
         return Err(Cause::Fields);
     }
-    Ok(Line::Command(Command::Get(Way::Plain, Text::from_str(alloc, name)?)))
+    Ok(Line::Get {
+        way: Way::Plain,
+        name: Text::from_str(alloc, name)?,
+    })
 }
 
 fn read_deliver(fields: &[&str]) -> Result<Line, Cause>

@@ -3,12 +3,10 @@
 //! Each function answers what its line prints. A line with a fault is not done: the last moment
 //! stays, and so do the rows, but for the lines of an answer before the one at which memory was
 //! refused.
-ghost use Rattle.std.specs.Prelude.{◌≡◌, ℤ, List, IfOk, IfErr, OnErr, string_bytes, map};
-ghost use Rattle.std.specs.FinMap as finmap;
+ghost use Rattle.std.specs.Prelude.{◌≡◌, ◌≢◌, ◌⊎◌, ℤ, List, IfOk, IfErr, OnErr, string_bytes, map};
 ghost use Rattle.jiff.specs.Words.{civil_nanos};
-ghost use Rattle.cookie_run.specs.Record.{Record};
-ghost use Rattle.cookie_run.specs.Escape.{printed};
-ghost use Rattle.cookie_run.specs.Jar.{Lists};
+ghost use Rattle.cookie_text.specs.Record.{bare, unsliced};
+ghost use Rattle.cookie_run.specs.Jar.{ClosesWith};
 ghost use Rattle.cookie_run.specs.declared.row.Row.{Row};
 ghost use Rattle.cookie_run.specs.ScriptLine as spec;
 ghost use Rattle.cookie_run.specs.ScriptText.{obeyed, after_line, done};
@@ -17,14 +15,14 @@ ghost use Rattle.cookie_run.specs.ScriptRead.{line_of};
 ghost use Rattle.cookie_run.specs.declared.step.Command.TheVariants.{Set, Get};
 
 use crate::client::Client;
-use crate::cookie::Cookie;
 use crate::play::{bytes_of, views_of};
 use crate::script::cause::Cause;
 use crate::script::line::{Line, read_line};
 use crate::script::print::{header_line, value_line};
 use crate::session::Session;
-use crate::step::{Command, SessionError, Way};
+use crate::step::{SessionError, Way};
 use crate::text::Text;
+use cookie::Cookie;
 use jiff::civil::DateTime;
 use std::alloc::Global;
 use url::Url;
@@ -75,22 +73,12 @@ fn obey(
 {
     match line {
         Line::Open { url, at } => begin(alloc, url, at, client, last, visit),
-        Line::Command(command) => command_of(alloc, command, visit),
+        Line::Set { way, name, value } => set(alloc, way, name, value, visit),
+        Line::Get { way, name } => get(alloc, way, &name, visit),
         Line::Deliver(at) => deliver(alloc, at, client, last, visit),
         Line::Lose => lose(alloc, visit),
         Line::Receive { url, lines, at } => receive(alloc, &url, &lines, at, client, last, visit),
         Line::Header { url, at } => header(alloc, &url, at, client, last, visit),
-    }
-}
-
-// `set` and `get`.
-fn command_of(alloc: Global, command: Command, visit: &mut Option<Visit>) -> Result<String, Cause>
-    ensures ok { IfOk result (λ text. (rows : List Row) (last : ℤ) → Goes (λ r. obeyed r.acts r.last r.now (spec.Commands command)) rows last visit.old rows last visit.new (string_bytes text)) }
-    ensures err { IfErr result (λ cause. (rows : List Row) (last : ℤ) → Halts (λ r. obeyed r.acts r.last r.now (spec.Commands command)) rows last visit.old cause rows) }
-{
-    match command {
-        Command::Set(way, cookie) => set(alloc, way, cookie, visit),
-        Command::Get(way, name) => get(alloc, way, &name, visit),
     }
 }
 
@@ -118,19 +106,27 @@ fn begin(
 }
 
 // `set`.
-fn set(alloc: Global, way: Way, cookie: Cookie, visit: &mut Option<Visit>) -> Result<String, Cause>
-    ensures ok { IfOk result (λ text. (rows : List Row) (last : ℤ) → Goes (λ r. obeyed r.acts r.last r.now (spec.Commands (Set way cookie))) rows last visit.old rows last visit.new (string_bytes text)) }
-    ensures err { IfErr result (λ cause. (rows : List Row) (last : ℤ) → Halts (λ r. obeyed r.acts r.last r.now (spec.Commands (Set way cookie))) rows last visit.old cause rows) }
+fn set(
+    alloc: Global,
+    way: Way,
+    name: Text,
+    value: Text,
+    visit: &mut Option<Visit>,
+) -> Result<String, Cause>
+    ensures ok { IfOk result (λ text. (rows : List Row) (last : ℤ) → Goes (λ r. obeyed r.acts r.last r.now (spec.Commands (Set way (unsliced (bare name value))))) rows last visit.old rows last visit.new (string_bytes text)) }
+    ensures err { IfErr result (λ cause. (rows : List Row) (last : ℤ) → Halts (λ r. obeyed r.acts r.last r.now (spec.Commands (Set way (unsliced (bare name value))))) rows last visit.old cause rows) }
 {
     let Some(Visit { url, mut session }) = visit.take() else {
         return Err(Cause::NoSession);
     };
-    let end = session.set(way, cookie);
+    let end = session.set(
+        way,
+        Cookie::new_owned(name.into_string(), value.into_string()),
+    );
     *visit = Some(Visit { url, session });
     match end {
         Ok(()) => Ok(String::new(alloc)),
-        Err(SessionError::EmptyName) => Err(Cause::EmptyName),
-        Err(SessionError::OutOfMemory) => Err(Cause::Memory),
+        Err(error) => Err(refused(error)),
     }
 }
 
@@ -144,8 +140,20 @@ fn get(alloc: Global, way: Way, name: &Text, visit: &Option<Visit>) -> Result<St
     };
     match open.session.get(way, name.as_str()) {
         Ok(value) => Ok(value_line(alloc, way, name.as_str(), &value)?),
-        Err(SessionError::EmptyName) => Err(Cause::EmptyName),
-        Err(SessionError::OutOfMemory) => Err(Cause::Memory),
+        Err(error) => Err(refused(error)),
+    }
+}
+
+// The fault of a command that the session refused. The cookies of a script have no expiry, so it is
+// never refused for its year.
+fn refused(error: SessionError) -> Cause
+    ensures { ((error ≡ SessionError.OutOfMemory) × (result ≡ Cause.Memory))
+        ⊎ ((error ≢ SessionError.OutOfMemory) × (result ≡ Cause.EmptyName)) }
+{
+    match error {
+        SessionError::OutOfMemory => Cause::Memory,
+        SessionError::EmptyName => Cause::EmptyName,
+        SessionError::Year => Cause::EmptyName,
     }
 }
 
@@ -235,8 +243,7 @@ fn header(
 
 // The lines that a session closes with.
 fn closed_lines(session: &Session) -> Result<Vec<String>, Cause>
-    ensures lines { IfOk result (λ lines. (changes : List Record) × Lists changes (finmap.get session.now.changes)
-        × (map string_bytes lines.items ≡ map printed changes)) }
+    ensures lines { IfOk result (λ lines. ClosesWith session.now.changes (map string_bytes lines.items)) }
     ensures err { IfErr result (λ cause. cause ≡ Cause.Memory) }
 {
     match session.close() {

@@ -19,7 +19,7 @@ returns-in-Err-clause-run_until c =
 
 pub returns-in-Err-clause-sites_until : goal.returns-in-Err-clause-sites_until
 returns-in-Err-clause-sites_until c =
-    sites_until c.args.steps.now c.loop-i.i c.index-steps-i.result c.loop-i.client c.loop-i.readings.items c.act.new.readings.items (civil_nanos c.loop-i.last) c.in-Err.kind
+    sites_until c.encoded_records_read_back.ensures c.args.steps.now c.loop-i.i c.index-steps-i.result c.loop-i.client c.loop-i.readings.items c.act.new.readings.items (civil_nanos c.loop-i.last) c.in-Err.kind
     c.loop-i-test.true c.index-steps-i.is c.loop-i.invariant c.in-Err.ensures.err
 
 pub loop-i-preserved : goal.loop-i-preserved
@@ -36,4 +36,4 @@ loop-i-preserved c =
 
 pub returns-clause-sites : goal.returns-clause-sites
 returns-clause-sites c =
-    sites_all c.args.steps.now c.loop-i.i c.loop-i.client c.loop-i.readings.items _ c.loop-i-test.false c.loop-i.invariant
+    sites_all c.encoded_records_read_back.ensures c.args.steps.now c.loop-i.i c.loop-i.client c.loop-i.readings.items _ c.loop-i-test.false c.loop-i.invariant

@@ -1,4 +1,4 @@
-use Rattle.std.proofs.Common.{◌≡◌, ◌++◌, ◌∙◌, take, length, arith}
+use Rattle.std.proofs.Common.{◌++◌, ◌∙◌, take, length, arith}
 use Rattle.std.proofs.KnownBytes.{Appends-trans}
 use Rattle.cookie_run.proofs.Pouring.{moves_front, wrote}
 use Rattle.cookie_run.proofs.pour.write_all.Goals as goal

@@ -1,7 +1,12 @@
-use Rattle.std.proofs.Common.{◌∙◌, ap}
-use Rattle.cookie_run.proofs.OpenCode.{open_next, open_past}
+use Rattle.std.proofs.Common.{ℕ, List, ◌∙◌, ap}
+use Rattle.std.specs.Borrow.{Bor}
+use Rattle.cookie_run.proofs.ReadCode.{IsClean}
+use Rattle.cookie_run.proofs.OpenCode.{all_at, open_next, open_past}
 use Rattle.cookie_run.proofs.session.read_all.Goals as goal
 use Rattle.cookie_run.proofs.session.read_all.Goals.{in-Some+in_ok-put_cookie, in_default}
+
+pub header_cookie-requires : goal.header_cookie-requires
+header_cookie-requires c = all_at (λ (x : Bor (List ℕ)). IsClean x.now) c.args.pieces.now c.loop-piece.piece-index _ c.requires c.loop-piece-test.true
 
 pub loop-piece-preserved : goal.loop-piece-preserved
 loop-piece-preserved c =

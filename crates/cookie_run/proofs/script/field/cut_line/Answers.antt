@@ -1,4 +1,4 @@
-use Rattle.std.proofs.Common.{◌≡◌, ◌∙◌, sym}
+use Rattle.std.proofs.Common.{sym}
 use Rattle.cookie_run.proofs.ScriptLines.{cut_some, cut_none}
 use Rattle.cookie_run.proofs.script.field.cut_line.Goals as goal
 

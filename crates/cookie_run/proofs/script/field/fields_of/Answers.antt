@@ -1,4 +1,4 @@
-use Rattle.std.proofs.Common.{◌≡◌, ◌∙◌, ap}
+use Rattle.std.proofs.Common.{◌∙◌, ap}
 use Rattle.std.specs.Prelude.{map}
 use Rattle.percent_encoding.specs.Percent.{percent_decode}
 use Rattle.cookie_run.proofs.ScriptLines.{decoded_parts, take_done}

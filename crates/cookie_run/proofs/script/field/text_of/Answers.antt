@@ -1,4 +1,4 @@
-use Rattle.std.proofs.Common.{◌≡◌, refl}
+use Rattle.std.proofs.Common.{refl}
 use Rattle.std.proofs.lemmas.Str.{is_utf8-from_IsUtf8}
 use Rattle.cookie_run.proofs.ScriptLines.{not_utf8}
 use Rattle.cookie_run.proofs.script.field.text_of.Goals as goal

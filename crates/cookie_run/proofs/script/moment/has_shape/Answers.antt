@@ -1,4 +1,4 @@
-use Rattle.std.proofs.Common.{◌≡◌, ◌∙◌, length, subst, arith, sym}
+use Rattle.std.proofs.Common.{◌∙◌, arith}
 use Rattle.cookie_run.proofs.MomentText.{shape_wrong, shape_right}
 use Rattle.cookie_run.proofs.script.moment.has_shape.Goals as goal
 

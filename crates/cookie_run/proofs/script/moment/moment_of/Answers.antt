@@ -1,5 +1,5 @@
-use Rattle.std.proofs.Common.{◌≡◌, refl, true, sym}
-use Rattle.cookie_run.proofs.MomentText.{digits_at, Zeros}
+use Rattle.std.proofs.Common.{refl, sym}
+use Rattle.cookie_run.proofs.MomentText.{digits_at}
 use Rattle.cookie_run.proofs.script.moment.moment_of.Goals as goal
 
 pub number-year-requires-clause-digits : goal.number-year-requires-clause-digits

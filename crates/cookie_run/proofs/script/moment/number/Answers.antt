@@ -1,6 +1,5 @@
-use Rattle.std.proofs.Common.{◌≡◌, ◌∙◌, ◌+◌, ◌*◌, ◌-◌, ◌≤◌, ◌<◌, ◌^◌, get_or, length, take, ap, arith, sym, subst}
-use Rattle.std.specs.Str.Parse.{digits_value}
-use Rattle.cookie_run.proofs.MomentText.{digit_bounds, few_digits, number_step, number_grows}
+use Rattle.std.proofs.Common.{◌≡◌, ◌∙◌, ◌+◌, ◌*◌, ◌-◌, get_or, ap, arith}
+use Rattle.cookie_run.proofs.MomentText.{digit_bounds, number_step, number_grows}
 use Rattle.cookie_run.proofs.script.moment.number.Goals as goal
 
 pub overflow_sub-digit : goal.overflow_sub-digit

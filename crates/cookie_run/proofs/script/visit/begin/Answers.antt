@@ -1,4 +1,4 @@
-use Rattle.std.proofs.Common.{◌≡◌, ◌∙◌, ap, refl}
+use Rattle.std.proofs.Common.{◌∙◌, ap, refl}
 use Rattle.std.specs.Prelude.{string_bytes}
 use Rattle.jiff.specs.Words.{civil_nanos}
 use Rattle.cookie_run.specs.Play.{opened}

@@ -1,4 +1,4 @@
-use Rattle.std.proofs.Common.{◌≡◌, ◌∙◌, sym, arith}
+use Rattle.std.proofs.Common.{sym}
 use Rattle.std.specs.Prelude.{string_bytes}
 use Rattle.jiff.specs.Words.{civil_nanos}
 use Rattle.cookie_run.proofs.Following.{passes_over, misreads, comes_back, goes_on, halts_there, if_ok, if_err, no_bytes, some_bytes}

@@ -1,4 +1,4 @@
-use Rattle.std.proofs.Common.{◌≡◌, ◌≢◌, ◌∙◌, [], ap, subst}
+use Rattle.std.proofs.Common.{◌≢◌, ◌∙◌, [], ap, subst}
 use Rattle.std.specs.Prelude.{string_bytes, option_map}
 use Rattle.cookie_run.specs.Jar.{seen}
 use Rattle.cookie_run.specs.ScriptText.{reading_text}

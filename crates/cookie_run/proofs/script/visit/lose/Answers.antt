@@ -1,4 +1,4 @@
-use Rattle.std.proofs.Common.{◌≡◌, sym}
+use Rattle.std.proofs.Common.{sym}
 use Rattle.std.specs.Prelude.{string_bytes}
 use Rattle.cookie_run.proofs.Standings.{loses}
 use Rattle.cookie_run.proofs.script.visit.lose.Goals as goal

@@ -9,11 +9,17 @@ returns-in-Open-clause-ok c = rw c.in-Open.is c.begin.ensures.ok
 pub returns-in-Open-clause-err : goal.returns-in-Open-clause-err
 returns-in-Open-clause-err c = rw c.in-Open.is c.begin.ensures.err
 
-pub returns-in-Command-clause-ok : goal.returns-in-Command-clause-ok
-returns-in-Command-clause-ok c = rw c.in-Command.is (if_ok c.command_of.result (λ text h. h c.args.client.now (civil_nanos c.args.last.now)) c.command_of.ensures.ok)
+pub returns-in-Set-clause-ok : goal.returns-in-Set-clause-ok
+returns-in-Set-clause-ok c = rw c.in-Set.is (if_ok c.set.result (λ text h. h c.args.client.now (civil_nanos c.args.last.now)) c.set.ensures.ok)
 
-pub returns-in-Command-clause-err : goal.returns-in-Command-clause-err
-returns-in-Command-clause-err c = rw c.in-Command.is (if_err c.command_of.result (λ cause h. h c.args.client.now (civil_nanos c.args.last.now)) c.command_of.ensures.err)
+pub returns-in-Set-clause-err : goal.returns-in-Set-clause-err
+returns-in-Set-clause-err c = rw c.in-Set.is (if_err c.set.result (λ cause h. h c.args.client.now (civil_nanos c.args.last.now)) c.set.ensures.err)
+
+pub returns-in-Get-clause-ok : goal.returns-in-Get-clause-ok
+returns-in-Get-clause-ok c = rw c.in-Get.is (if_ok c.get.result (λ text h. h c.args.client.now (civil_nanos c.args.last.now)) c.get.ensures.ok)
+
+pub returns-in-Get-clause-err : goal.returns-in-Get-clause-err
+returns-in-Get-clause-err c = rw c.in-Get.is (if_err c.get.result (λ cause h. h c.args.client.now (civil_nanos c.args.last.now)) c.get.ensures.err)
 
 pub returns-in-Deliver-clause-ok : goal.returns-in-Deliver-clause-ok
 returns-in-Deliver-clause-ok c = rw c.in-Deliver.is c.deliver.ensures.ok
