@@ -9,6 +9,7 @@ pub mod Jar
 pub mod Play
 pub mod Headline
 pub mod Texts
+pub mod Counted
 pub mod Device
 pub mod ScriptMoment
 pub mod ScriptLine

@@ -1,7 +1,7 @@
 //! All that a source has, and all of a text to a sink. A call that fails isn't tried again.
 ghost use Rattle.std.specs.Prelude.{◌≡◌, ◌⊎◌, ◌^◌, ◌-◌, IfOk, OnOk, OnErr, IfSome, IsErrOf, decimal, length, ◌<◌};
 ghost use Rattle.std.specs.Io.KnownBytes.{Appends, Keeps};
-ghost use Rattle.cookie_run.specs.Device.{Rose};
+ghost use Rattle.cookie_run.specs.Device.{Rose, one_more};
 
 use crate::device::{Sink, Source};
 use std::alloc::Global;
@@ -45,6 +45,7 @@ pub fn write_all<W: Sink>(writer: &mut W, bytes: &[u8]) -> Result<(), WriteFaile
     ensures bytes { OnOk result (Appends (W.written writer.old) (W.written writer.new) bytes.now) }
     ensures failures { OnOk result (W.failures writer.new ≡ W.failures writer.old) }
     ensures err { OnErr result (Rose (W.failures writer.old) (W.failures writer.new)) }
+    ensures flushes { W.flushes writer.new ≡ W.flushes writer.old }
 {
     let mut rest = bytes;
     while !rest.is_empty() {
@@ -64,6 +65,7 @@ pub fn write_number<W: Sink>(writer: &mut W, n: u64) -> Result<(), WriteFailed>
     ensures bytes { OnOk result (Appends (W.written writer.old) (W.written writer.new) (decimal n)) }
     ensures failures { OnOk result (W.failures writer.new ≡ W.failures writer.old) }
     ensures err { OnErr result (Rose (W.failures writer.old) (W.failures writer.new)) }
+    ensures flushes { W.flushes writer.new ≡ W.flushes writer.old }
 {
     if n >= 10 {
         write_number(writer, n / 10)?;
@@ -77,6 +79,7 @@ pub fn flush<W: Sink>(writer: &mut W) -> Result<(), WriteFailed>
     ensures bytes { OnOk result (Keeps (W.written writer.old) (W.written writer.new)) }
     ensures failures { OnOk result (W.failures writer.new ≡ W.failures writer.old) }
     ensures err { OnErr result (Rose (W.failures writer.old) (W.failures writer.new)) }
+    ensures flushes { W.flushes writer.new ≡ one_more (W.flushes writer.old) }
 {
     match writer.flush() {
         Ok(()) => Ok(()),

@@ -59,3 +59,21 @@ impl<T: Write> Write for FailsAt<T> {
         self.inner.flush()
     }
 }
+
+/// Counts how often it is flushed, and else does as `inner`.
+#[derive(Drop)]
+pub struct CountsFlushes<T> {
+    pub inner: T,
+    pub flushes: u64,
+}
+
+impl<T: Write> Write for CountsFlushes<T> {
+    fn write(&mut self, buf: &[u8]) -> io::Result<usize> {
+        self.inner.write(buf)
+    }
+
+    fn flush(&mut self) -> io::Result<()> {
+        self.flushes = self.flushes.saturating_add(1);
+        self.inner.flush()
+    }
+}

@@ -16,6 +16,8 @@ mod memory;
 #[cfg(test)]
 mod play_tests;
 #[cfg(test)]
+mod program_tests;
+#[cfg(test)]
 mod script_tests;
 #[cfg(test)]
 mod stream_tests;

@@ -1,5 +1,5 @@
 //! Readers and writers that are slow, or fail in mid-stream.
-use crate::devices::{ByteByByte, FailsAt};
+use crate::devices::{ByteByByte, CountsFlushes, FailsAt};
 use crate::fixtures::{beginning, second};
 use crate::script_tests::{VISIT, VISIT_PRINTS};
 use cookie_run::{Client, Counting, Ended, RunError, run};
@@ -35,6 +35,21 @@ fn reads_a_byte_a_call(rt: HostRuntime) -> Result<(), Fail> {
     let ended = run_over(alloc, reader, &mut output, &mut client)?;
     assert_eq!(rt; ended, Ended::Faulty(9));
     assert_eq!(rt; output.as_slice(), VISIT_PRINTS.as_bytes());
+    Ok(())
+}
+
+#[test]
+fn flushes_once(rt: HostRuntime) -> Result<(), Fail> {
+    let alloc = rt.alloc();
+    let mut output = Vec::new(alloc);
+    let mut client = Client::new(alloc);
+    let mut writer = CountsFlushes {
+        inner: &mut output,
+        flushes: 0,
+    };
+    let ended = run_over(alloc, VISIT.as_bytes(), &mut writer, &mut client)?;
+    assert_eq!(rt; ended, Ended::Faulty(9));
+    assert_eq!(rt; writer.flushes, 1);
     Ok(())
 }
 

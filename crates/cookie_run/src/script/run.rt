@@ -2,7 +2,7 @@
 ghost use Rattle.std.specs.Prelude.{◌≡◌, ◌⊎◌, ◌^◌, ◌-◌, ℕ, List, IfOk, OnOk, OnErr, IfErr, IfSome, IsErrOf};
 ghost use Rattle.std.specs.Io.KnownBytes.{Appends};
 ghost use Rattle.jiff.specs.Words.{civil_nanos};
-ghost use Rattle.cookie_run.specs.Device.{Rose};
+ghost use Rattle.cookie_run.specs.Device.{Rose, one_more};
 ghost use Rattle.cookie_run.specs.ScriptText.{ScriptText, EndsForMemory, fault_text};
 
 use crate::client::Client;
@@ -38,6 +38,7 @@ pub fn run<R: Source, W: Sink>(
         ⊎ EndsForMemory client.old (civil_nanos last.old) input output client.new (civil_nanos last.new) ended))) }
     ensures read { IsErrOf result RunError.Read → Rose (R.failures reader.old) (R.failures reader.new) ⊎ (R.reads reader.new ≡ 2 ^ 64 - 1) }
     ensures write { IsErrOf result RunError.Write → Rose (W.failures writer.old) (W.failures writer.new) }
+    ensures flushed { OnOk result (W.flushes writer.new ≡ one_more (W.flushes writer.old)) }
 {
     match read_all(alloc, reader) {
         Ok(input) => play_text(alloc, &input, writer, client, last),
@@ -61,6 +62,7 @@ fn play_text<W: Sink>(
     ensures failures { OnOk result (W.failures writer.new ≡ W.failures writer.old) }
     ensures write { OnErr result (Rose (W.failures writer.old) (W.failures writer.new)) }
     ensures only { IfErr result (λ e. e ≡ RunError.Write) }
+    ensures flushed { OnOk result (W.flushes writer.new ≡ one_more (W.flushes writer.old)) }
 {
     let mut visit = None;
     let mut done = 0;
@@ -85,6 +87,7 @@ fn stop_at<W: Sink>(writer: &mut W, line: u64, cause: Cause) -> Result<Ended, Ru
     ensures failures { OnOk result (W.failures writer.new ≡ W.failures writer.old) }
     ensures write { OnErr result (Rose (W.failures writer.old) (W.failures writer.new)) }
     ensures only { IfErr result (λ e. e ≡ RunError.Write) }
+    ensures flushed { OnOk result (W.flushes writer.new ≡ one_more (W.flushes writer.old)) }
 {
     write_all(writer, b"line ")?;
     write_number(writer, line)?;

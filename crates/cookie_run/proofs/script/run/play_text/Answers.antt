@@ -1,8 +1,9 @@
 use Rattle.std.proofs.Common.{◌≡◌, ◌+◌, ap, refl, subst, ◌∙◌, arith}
-use Rattle.std.specs.Prelude.{string_bytes}
+use Rattle.std.specs.Prelude.{string_bytes, OnOk}
 use Rattle.std.specs.Io.KnownBytes.{Appends}
 use Rattle.std.proofs.KnownBytes.{Appends-kept}
 use Rattle.jiff.specs.Words.{civil_nanos}
+use Rattle.cookie_run.specs.Device.{one_more}
 use Rattle.cookie_run.specs.ScriptText.{fault_text}
 use Rattle.cookie_run.specs.declared.script.ended.Ended.TheVariants.{Faulty}
 use Rattle.cookie_run.proofs.ScriptRun.{Ends, come_first, come_more, come_whole, come_fault, for_one}
@@ -14,8 +15,12 @@ pub loop-rest-init : goal.loop-rest-init
 loop-rest-init g c = record {
   come = come_first c.args.client.now (civil_nanos c.args.last.now) c.args.text.now (g.W.Sink.written c.args.writer.now);
   failures = refl;
+  flushes = refl;
   room = omega arith;
 }
+
+pub returns-in-Err-clause-flushed : goal.returns-in-Err-clause-flushed
+returns-in-Err-clause-flushed g c = subst (λ n. OnOk c.stop_at.result (g.W.Sink.flushes c.stop_at.new.writer ≡ one_more n)) c.loop-rest.invariant.flushes c.stop_at.ensures.flushed
 
 pub returns-in-Err-clause-text : goal.returns-in-Err-clause-text
 returns-in-Err-clause-text g c =
@@ -47,6 +52,7 @@ loop-rest-preserved g c =
     record {
       come = come_more start first text c.loop-rest.rest.now c.cut_line.result.0.now c.cut_line.result.1.now c.loop-rest.client c.follow.new.client (civil_nanos c.loop-rest.last) (civil_nanos c.follow.new.last) c.loop-rest.visit c.follow.new.visit c.loop-rest.done old mid new printed come c.cut_line.ensures.line goes (subst (Appends mid new) same c.in_ok-write_all-in-Ok.ensures.bytes);
       failures = c.in_ok-write_all-in-Ok.ensures.failures ∙ c.loop-rest.invariant.failures;
+      flushes = c.write_all.ensures.flushes ∙ c.loop-rest.invariant.flushes;
       room = omega (arith, c.loop-rest.invariant.room, c.cut_line.ensures.shorter);
     }
 
@@ -57,3 +63,6 @@ returns-clause-text g c =
     let new = g.W.Sink.written c.flush.new.writer in
     let ends = come_whole c.args.client.now (civil_nanos c.args.last.now) c.args.text.now c.loop-rest.rest.now c.loop-rest.client (civil_nanos c.loop-rest.last) c.loop-rest.visit c.loop-rest.done old mid c.loop-rest.invariant.come (nil_from_length c.loop-rest.rest.now (grind (arith, nat_tests, c.is_empty.ensures, c.loop-rest-test.false))) in
     (ends.0, Appends-kept old mid new ends.0 ends.1 c.in_ok-flush.ensures.bytes, ends.2)
+
+pub returns-clause-flushed : goal.returns-clause-flushed
+returns-clause-flushed g c = c.flush.ensures.flushes ∙ ap one_more c.loop-rest.invariant.flushes
