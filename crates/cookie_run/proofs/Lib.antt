@@ -22,3 +22,4 @@ pub mod Standings
 pub mod Halting
 pub mod ScriptRun
 pub mod Following
+mod Facts

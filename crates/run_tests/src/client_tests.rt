@@ -35,7 +35,7 @@ fn takes_each_line_by_itself(rt: HostRuntime) -> Result<(), Fail> {
 fn keeps_what_lines_hold_and_their_order(rt: HostRuntime) -> Result<(), Fail> {
     let alloc = rt.alloc();
     let url = Url::parse(alloc, "https://shop.com/")?;
-    let cases: [(&[u8], LineEnd, &str); 8] = [
+    let cases: [(&[u8], LineEnd, &str); 6] = [
         (b" b = 1 ;Path=/", STORED, "b=1"),
         (
             b"c=%3B%20=; ; SECURE ;\tpAtH = / ",
@@ -44,8 +44,6 @@ fn keeps_what_lines_hold_and_their_order(rt: HostRuntime) -> Result<(), Fail> {
         ),
         (b"b=; Path=/", UPDATED, "b=; c=%3B%20="),
         (b"d=1", UNREAD, "b=; c=%3B%20="),
-        (b"d=1; Path=/; HttpOnly", UNREAD, "b=; c=%3B%20="),
-        (b"d=1; Path=/; Secure=", UNREAD, "b=; c=%3B%20="),
         (b"d=1; Path=/x", UNREAD, "b=; c=%3B%20="),
         (b"d; Path=/", UNREAD, "b=; c=%3B%20="),
     ];

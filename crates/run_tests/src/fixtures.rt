@@ -1,5 +1,6 @@
 //! What several tests begin with.
-use cookie_run::{Cookie, Text};
+use cookie::Cookie;
+use cookie_run::Text;
 use jiff::SignedDuration;
 use jiff::civil::{DateTime, datetime};
 use std::alloc::{AllocError, Global};
@@ -15,7 +16,7 @@ pub fn beginning() -> DateTime {
 }
 
 /// A cookie of this name and value.
-pub fn cookie(alloc: Global, name: &str, value: &str) -> Result<Cookie, AllocError> {
+pub fn cookie(alloc: Global, name: &str, value: &str) -> Result<Cookie<'static>, AllocError> {
     Ok(Cookie::new_owned(
         String::from_str(alloc, name)?,
         String::from_str(alloc, value)?,

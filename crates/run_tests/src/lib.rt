@@ -6,6 +6,8 @@
 #![tactic(auto)]
 
 #[cfg(test)]
+mod attribute_tests;
+#[cfg(test)]
 mod client_tests;
 #[cfg(test)]
 mod devices;

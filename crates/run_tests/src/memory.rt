@@ -34,7 +34,7 @@ fn opens(rt: &impl Abort, alloc: Global) -> bool {
 }
 
 fn sets(rt: &impl Abort, alloc: Global) -> bool {
-    let (Ok(mut session), Ok(b), Ok(empty)) = (
+    let (Ok(mut session), Ok(mut b), Ok(empty)) = (
         Session::open(alloc, b"a=1"),
         cookie(alloc, "b", "2"),
         cookie(alloc, "", "2"),
@@ -45,8 +45,9 @@ fn sets(rt: &impl Abort, alloc: Global) -> bool {
         session.set(Way::Plain, empty),
         Err(SessionError::EmptyName)
     );
+    b.set_http_only(Some(true));
     let set = session.set(Way::Plain, b);
-    let line = "b=2; Secure; Path=/";
+    let line = "b=2; HttpOnly; Secure; Path=/";
     match session.close() {
         Ok(lines) => {
             assert_eq!(rt; lines.len(), if set.is_ok() { 1 } else { 0 });
@@ -67,7 +68,7 @@ fn receives(rt: &impl Abort, alloc: Global) -> bool {
     let Ok(url) = Url::parse(alloc, SHOP) else {
         return true;
     };
-    let lines: [&[u8]; 3] = [b"a=1; Path=/", b"a=2; Path=/", b"b=%33; Path=/"];
+    let lines: [&[u8]; 3] = [b"a=1; Path=/", b"a=2; HttpOnly; Path=/", b"b=%33; Path=/"];
     let headers = ["", "a=1", "a=2", "a=2; b=%33"];
     let mut client = Client::new(alloc);
     let applied = match client.receive(&url, &lines, second(0)) {

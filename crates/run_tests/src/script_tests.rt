@@ -122,6 +122,10 @@ fn plays_what_is_delivered_and_forgets_what_is_lost(rt: HostRuntime) -> Result<(
             "plain\ta\t=\nheader\t\n",
         ),
         (
+            "set\tplain\tn%00%1F%7F%20%22%25%3B%3D%C3%A9\tv%0A%0D%3B%2C%22=%E2%82%AC\t-\t-\ndeliver\t2024-01-01T00:00:00Z\nopen\thttps://shop.com/x\t2024-01-01T00:00:00Z\nget\tplain\tn%00%1F%7F%20%22%25%3B%3D%C3%A9\n",
+            "plain\tn%00%1F%7F%20\"%25;=%C3%A9\t=v%0A%0D;,\"=%E2%82%AC\n",
+        ),
+        (
             "lose\nreceive\thttps://shop.com/\t2024-01-01T00:00:00Z\ta=%09%C3%A9;path=/\t%FF\t=\theader=1\nheader\thttps://shop.com/\t2024-01-01T00:00:00Z\n",
             "header\ta=%C3%A9\n",
         ),

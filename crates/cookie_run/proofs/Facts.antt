@@ -1,0 +1,86 @@
+-- The definitions at small inputs, by computation.
+use Rattle.std.proofs.Common.{◌≡◌, ℕ, List, [], ◌∷◌, true, false, refl, Some, None, pos}
+use Rattle.std.specs.Prelude.{codes}
+use Rattle.std.specs.Str.{trim_start, trim_end, chars, is_utf8}
+use Rattle.percent_encoding.specs.AsciiSet.{should_percent_encode}
+use Rattle.percent_encoding.specs.Percent.{percent_decode, percent_encode, percent_encode_byte}
+use Rattle.cookie_text.specs.declared.draft.SameSite.TheVariants.{Lax}
+use Rattle.cookie_text.specs.declared.expiration.Expiration.TheVariants.{Session}
+use Rattle.cookie_text.specs.Pieces.{name_of, text_after, value_of}
+use Rattle.cookie_text.specs.Printing.{encoded}
+use Rattle.cookie_text.specs.Record.{Record, bare, unsliced}
+use Rattle.cookie_run.specs.Jar.{sent}
+use Rattle.cookie_run.specs.Reading.{cookies_of, is_kept}
+use Rattle.cookie_run.specs.declared.row.Row.{Row}
+use Rattle.cookie_run.specs.Rows.{header_of, row_of}
+use Rattle.cookie_run.specs.declared.step.Way.TheVariants.{Plain}
+use Rattle.cookie_run.specs.declared.step.Command.{Command}
+use Rattle.cookie_run.specs.declared.step.Command.TheVariants.{Set, Get}
+use Rattle.cookie_run.specs.declared.step.Reading.TheVariants.{Value, Refused}
+use Rattle.cookie_run.specs.declared.step.SessionError.TheVariants.{EmptyName}
+use Rattle.cookie_run.specs.Acts.{Arrives, Never}
+use Rattle.cookie_run.specs.Site.{nothing, told_in, after_exchange}
+
+-- ---- what is sent
+
+-- the cookie `foo !%?=` with the value `bar;;, a`
+sent_line : encoded (sent (bare (codes "foo !%?=") (codes "bar;;, a"))) ≡ codes "foo%20!%25%3F%3D=bar%3B%3B%2C%20a; Secure; Path=/"
+unfolding percent_encode percent_encode_byte should_percent_encode
+sent_line = refl
+
+abbrev attributed : Record
+attributed = record (bare (codes "a") (codes "1")) { http_only = Some true; secure = Some false; same_site = Some Lax; path = Some (codes "/p"); domain = Some (codes "com"); expires = Some Session }
+
+-- path, Secure and domain are the session's, the other attributes the cookie's
+sent_attributes : encoded (sent attributed) ≡ codes "a=1; HttpOnly; SameSite=Lax; Secure; Path=/"
+unfolding percent_encode percent_encode_byte should_percent_encode
+sent_attributes = refl
+
+-- ---- what is read
+
+a_header : cookies_of (codes "a=1; b = %32 ;=x; c;a==") ≡ bare (codes "a") (codes "1") ∷ bare (codes "b") (codes "2") ∷ bare (codes "a") (codes "=") ∷ []
+unfolding trim_start trim_end chars lib.Utf8.encode is_utf8 name_of value_of text_after percent_decode
+a_header = refl
+
+kept_line : is_kept (record (bare (codes "a") (codes "1")) { path = Some (codes "/"); http_only = Some true; same_site = Some Lax }) ≡ true
+kept_line = refl
+
+no_path : is_kept (bare (codes "a") (codes "1")) ≡ false
+no_path = refl
+
+a_domain : is_kept (record (bare (codes "a") (codes "1")) { path = Some (codes "/"); domain = Some (codes "com") }) ≡ false
+a_domain = refl
+
+a_length : is_kept (record (bare (codes "a") (codes "1")) { path = Some (codes "/"); max_age = Some (pos 0) }) ≡ false
+a_length = refl
+
+-- ---- a header
+
+abbrev row_at : List ℕ → List ℕ → Row
+row_at name value = row_of (codes "shop.com") (bare name value)
+
+two_pairs : header_of (row_at (codes "a") (codes "1") ∷ row_at (codes "b") (codes "2") ∷ []) ≡ codes "a=1; b=2"
+two_pairs = refl
+
+-- ---- a site
+
+abbrev sets_a : List ℕ → Command
+sets_a value = Set Plain (unsliced (bare (codes "a") value))
+
+abbrev gets_a : Command
+gets_a = Get Plain (codes "a")
+
+-- a request reads what it has set so far
+reads_its_own : told_in nothing (gets_a ∷ sets_a (codes "1") ∷ gets_a ∷ []) ≡ Value Plain (codes "a") None ∷ Value Plain (codes "a") (Some (codes "1")) ∷ []
+reads_its_own = refl
+
+-- what was set stays where the answer came, and doesn't where it was lost
+came : told_in (after_exchange nothing (sets_a (codes "1") ∷ []) (Arrives (pos 0))) (gets_a ∷ []) ≡ Value Plain (codes "a") (Some (codes "1")) ∷ []
+came = refl
+
+lost : told_in (after_exchange nothing (sets_a (codes "1") ∷ []) Never) (gets_a ∷ []) ≡ Value Plain (codes "a") None ∷ []
+lost = refl
+
+-- an empty name is refused
+refused : told_in nothing (Set Plain (unsliced (bare [] [])) ∷ Get Plain [] ∷ []) ≡ Refused EmptyName ∷ Refused EmptyName ∷ []
+refused = refl
