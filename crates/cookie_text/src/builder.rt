@@ -1,6 +1,8 @@
 //! A cookie that is being built.
 ghost use Rattle.std.specs.Prelude.{◌≡◌, Some, IfOk};
+ghost use Rattle.std.specs.Borrow.{Lends, sem};
 ghost use Rattle.jiff.specs.Words.{signed_nanos};
+ghost use Rattle.cookie_text.specs.contracts.builder.Builder.{the_row};
 ghost use Rattle.cookie_text.specs.Printing.{printed};
 ghost use Rattle.cookie_text.specs.Record.{bare, unsliced};
 ghost use Rattle.cookie_text.specs.Setting as spec;
@@ -14,21 +16,42 @@ use std::alloc::{AllocError, Global};
 use std::fmt;
 use std::marker::Model;
 
-/// A cookie that is being built, attribute by attribute. It prints as its cookie does.
+/// What is being built, part by part.
 #[derive(Debug, Drop)]
-pub struct CookieBuilder<'c> {
-    cookie: Cookie<'c>,
+pub struct Builder<T> {
+    inner: T,
 }
 
-impl<'c> Model for CookieBuilder<'c> {
-    ghost use Rattle.cookie_text.specs.Record.{Seen};
+/// A cookie that is being built, attribute by attribute. It prints as its cookie does.
+pub type CookieBuilder<'c> = Builder<Cookie<'c>>;
 
-    ghost Value = { Seen };
+// An import of its own, since this file's lend the struct.
+impl<T> Model for Builder<T> {
+    ghost use Rattle.std.specs.Prelude.{ℕ};
 
-    ghost view = { λ b. b.cookie };
+    ghost Value = { T };
+
+    ghost view = { λ b. b.inner };
 }
 
-impl<'c> CookieBuilder<'c> {
+impl<T> Builder<T> {
+    /// What was built so far.
+    pub fn inner(&self) -> &T
+        ensures { result.now ≡ self.now }
+    {
+        &self.inner
+    }
+
+    /// What was built so far, to be changed. What is written through the reference stays.
+    pub fn inner_mut(&mut self) -> &mut T
+        ensures* writes_back { sem 𝓛 (Lends (the_row T.row) T.row self.entry result (λ w. w)) }
+        ensures value { result.now ≡ self.old }
+    {
+        &mut self.inner
+    }
+}
+
+impl<'c> Builder<Cookie<'c>> {
     /// Starts from a cookie of this name and value, with no attribute.
     pub fn new(name: &'c str, value: &'c str) -> CookieBuilder<'c>
         ensures { result ≡ unsliced (bare name.now value.now) }
@@ -40,14 +63,14 @@ impl<'c> CookieBuilder<'c> {
     pub(crate) fn from_cookie(cookie: Cookie<'c>) -> CookieBuilder<'c>
         ensures { result ≡ cookie.entry }
     {
-        CookieBuilder { cookie }
+        Builder { inner: cookie }
     }
 
     /// Sets when the cookie ends; a moment after 9999-12-31T23:59:59.999999 counts as that one.
     pub fn expires(mut self, when: Expiration) -> CookieBuilder<'c>
         ensures { spec.SetsExpires self.entry when result }
     {
-        self.cookie.set_expires(when);
+        self.inner.set_expires(when);
         self
     }
 
@@ -55,7 +78,7 @@ impl<'c> CookieBuilder<'c> {
     pub fn max_age(mut self, value: SignedDuration) -> CookieBuilder<'c>
         ensures { result ≡ spec.with_max_age self.entry (Some (signed_nanos value)) }
     {
-        self.cookie.set_max_age(Some(value));
+        self.inner.set_max_age(Some(value));
         self
     }
 
@@ -63,7 +86,7 @@ impl<'c> CookieBuilder<'c> {
     pub fn domain(mut self, value: &'c str) -> CookieBuilder<'c>
         ensures { result ≡ spec.with_domain self.entry (Some value.now) }
     {
-        self.cookie.set_domain(value);
+        self.inner.set_domain(value);
         self
     }
 
@@ -71,7 +94,7 @@ impl<'c> CookieBuilder<'c> {
     pub fn path(mut self, value: &'c str) -> CookieBuilder<'c>
         ensures { result ≡ spec.with_path self.entry (Some value.now) }
     {
-        self.cookie.set_path(value);
+        self.inner.set_path(value);
         self
     }
 
@@ -79,7 +102,7 @@ impl<'c> CookieBuilder<'c> {
     pub fn secure(mut self, value: bool) -> CookieBuilder<'c>
         ensures { result ≡ spec.with_secure self.entry (Some value) }
     {
-        self.cookie.set_secure(Some(value));
+        self.inner.set_secure(Some(value));
         self
     }
 
@@ -87,7 +110,7 @@ impl<'c> CookieBuilder<'c> {
     pub fn http_only(mut self, value: bool) -> CookieBuilder<'c>
         ensures { result ≡ spec.with_http_only self.entry (Some value) }
     {
-        self.cookie.set_http_only(Some(value));
+        self.inner.set_http_only(Some(value));
         self
     }
 
@@ -95,7 +118,7 @@ impl<'c> CookieBuilder<'c> {
     pub fn same_site(mut self, value: SameSite) -> CookieBuilder<'c>
         ensures { result ≡ spec.with_same_site self.entry (Some value) }
     {
-        self.cookie.set_same_site(Some(value));
+        self.inner.set_same_site(Some(value));
         self
     }
 
@@ -103,7 +126,7 @@ impl<'c> CookieBuilder<'c> {
     pub fn partitioned(mut self, value: bool) -> CookieBuilder<'c>
         ensures { result ≡ spec.with_partitioned self.entry (Some value) }
     {
-        self.cookie.set_partitioned(Some(value));
+        self.inner.set_partitioned(Some(value));
         self
     }
 
@@ -111,7 +134,7 @@ impl<'c> CookieBuilder<'c> {
     pub fn permanent(mut self, now: DateTime) -> CookieBuilder<'c>
         ensures { spec.MakesPermanent self.entry now result }
     {
-        self.cookie.make_permanent(now);
+        self.inner.make_permanent(now);
         self
     }
 
@@ -119,30 +142,16 @@ impl<'c> CookieBuilder<'c> {
     pub fn removal(mut self, now: DateTime) -> CookieBuilder<'c>
         ensures { spec.MakesRemoval self.entry now result }
     {
-        self.cookie.make_removal(now);
+        self.inner.make_removal(now);
         self
-    }
-
-    /// The cookie so far.
-    pub fn inner(&self) -> &Cookie<'c>
-        ensures { result.now ≡ self.now }
-    {
-        &self.cookie
-    }
-
-    /// The cookie so far, to be changed.
-    pub fn inner_mut(&mut self) -> &mut Cookie<'c>
-        ensures { result.now ≡ self.old }
-    {
-        &mut self.cookie
     }
 
     /// The cookie.
     pub fn build(self) -> Cookie<'c>
         ensures { result ≡ self.entry }
     {
-        let CookieBuilder { cookie } = self;
-        cookie
+        let Builder { inner } = self;
+        inner
     }
 
     /// The cookie, as `build` gives it.
@@ -156,15 +165,15 @@ impl<'c> CookieBuilder<'c> {
     pub fn clone(&self, alloc: Global) -> Result<CookieBuilder<'c>, AllocError>
         ensures { IfOk result (λ builder. builder ≡ self.now) }
     {
-        Ok(CookieBuilder::from_cookie(self.cookie.clone(alloc)?))
+        Ok(CookieBuilder::from_cookie(self.inner.clone(alloc)?))
     }
 }
 
-impl fmt::Display for CookieBuilder<'_> {
+impl fmt::Display for Builder<Cookie<'_>> {
     ghost output = { λ b. Some (printed b.cookie) };
 
     fn fmt<W: fmt::Write>(&self, f: &mut fmt::Formatter<W>) -> fmt::Result {
-        let cookie = &self.cookie;
+        let cookie = &self.inner;
         write!(f, "{cookie}")
     }
 }

@@ -20,7 +20,7 @@ mod parse;
 mod part;
 mod split;
 
-pub use builder::CookieBuilder;
+pub use builder::{Builder, CookieBuilder};
 pub use cookie::Cookie;
 pub use display::Display;
 pub use draft::SameSite;

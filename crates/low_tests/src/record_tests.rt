@@ -1,4 +1,7 @@
 //! What getters, setters, copies and the builder make of a cookie.
+ghost use Rattle.std.specs.Prelude.{◌≡◌, Some, true};
+ghost use Rattle.cookie_text.specs.Setting.{with_secure};
+
 use crate::print_tests::prints;
 use cookie_text::{Cookie, CookieBuilder, Expiration, ParseError, SameSite};
 use jiff::SignedDuration;
@@ -207,12 +210,18 @@ fn builds(rt: HostRuntime) {
     assert!(rt; prints(rt.alloc(), &builder.build(), WHOLE));
 }
 
-// What is written through the reference is in the cookie that is built.
+// The contract of `inner_mut` shows a caller what it wrote.
+fn write_secure(builder: &mut CookieBuilder<'_>)
+    ensures { builder.new ≡ with_secure builder.old (Some true) }
+{
+    builder.inner_mut().set_secure(Some(true));
+}
+
 #[test]
 fn builds_what_was_written(rt: HostRuntime) {
     let mut builder = Cookie::build(Cookie::new("a", "1"));
     builder.inner_mut().set_name("c");
-    builder.inner_mut().set_secure(Some(true));
+    write_secure(&mut builder);
     assert!(rt; prints(rt.alloc(), &builder.build(), "c=1; Secure"));
 }
 

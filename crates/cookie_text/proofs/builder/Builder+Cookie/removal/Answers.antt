@@ -1,7 +1,7 @@
 use Rattle.std.proofs.Common.{subst}
 use Rattle.cookie_text.specs.Record.{Seen}
 use Rattle.cookie_text.specs.Setting.{MakesRemoval}
-use Rattle.cookie_text.proofs.builder.CookieBuilder.removal.Goals as goal
+use Rattle.cookie_text.proofs.builder.Builder+Cookie.removal.Goals as goal
 
 pub returns : goal.returns
 returns c =

@@ -1,7 +1,7 @@
 use Rattle.std.proofs.Common.{subst}
 use Rattle.cookie_text.specs.Record.{Seen}
 use Rattle.cookie_text.specs.Setting.{MakesPermanent}
-use Rattle.cookie_text.proofs.builder.CookieBuilder.permanent.Goals as goal
+use Rattle.cookie_text.proofs.builder.Builder+Cookie.permanent.Goals as goal
 
 pub returns : goal.returns
 returns c =
