@@ -28,11 +28,11 @@ pub type CookieResult<'a> = std::result::Result<Cookie<'a>, CookieError>;
 #[derive(Debug, Drop)]
 pub struct Cookie<'a> {
     raw_cookie: RawCookie<'a>,
-    /// The requests' paths: the Path attribute's, or the default-path of the URL.
+    /// That of the Path attribute where it begins with `/`, else the default-path of the URL.
     pub path: CookiePath,
-    /// The requests' hosts: the Domain attribute's, or the URL's host alone where there is none.
+    /// That of the Domain attribute, or the URL's host alone where there is none or an empty one.
     pub domain: CookieDomain,
-    /// When the cookie ends, by Max-Age or Expires.
+    /// When the cookie ends: by Max-Age, else by Expires, else with the session.
     pub expires: CookieExpiration,
 }
 
@@ -61,6 +61,7 @@ impl<'a> Cookie<'a> {
     pub fn expire(&mut self)
         ensures { stored_of self.new ≡ record (stored_of self.old) { death = Some epoch } }
     {
+        // A length of zero ends at the epoch, whatever the moment.
         self.expires = CookieExpiration::from_max_age(0, DateTime::MIN);
     }
 
@@ -80,7 +81,7 @@ impl<'a> Cookie<'a> {
     }
 
     /// Reads a cookie that was received from the URL at `now`. Its texts are then slices of
-    /// `cookie_str`.
+    /// `cookie_str`; nothing is percent-decoded.
     ///
     /// # Errors
     ///
