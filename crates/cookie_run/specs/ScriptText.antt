@@ -46,7 +46,8 @@ abbrev pub name_of : Command → List ℕ
 name_of (Set way cookie) = cookie.cookie.name
 name_of (Get way name) = name
 
--- a line whose moment isn't before an earlier one
+-- a line whose moment isn't before an earlier one; a command is refused for its name alone, since no
+-- cookie of a script has an expiry
 abbrev pub obeyed : List Act → ℤ → Now → Line → Result Reached Cause
 obeyed acts last Closed (Opens url at) = Ok (record { acts = acts; now = Within url at []; last = at })
 obeyed acts last (Within u m cs) (Opens url at) = Err Open
