@@ -11,10 +11,12 @@ ghost use Rattle.cookie_text.specs.Reading.{ReadsPlain};
 ghost use Rattle.cookie_text.specs.ReadingBack.{GivesPair, IsNamed, Pairwise, ReadsBack, joined};
 ghost use Rattle.cookie_text.specs.Record.{Record, Seen};
 ghost use Rattle.cookie_text.specs.Splitting.{cookie_texts};
+ghost use Rattle.cookie_text.specs.declared.expiration.Expiration.TheVariants as ends;
+ghost use Rattle.jiff.specs.Types.{DateTime as Moment};
+ghost use Rattle.std.specs.declared.cmp.Ordering.TheVariants.{Less};
 
 use crate::cookie::Cookie;
 use crate::expiration::Expiration;
-use jiff::civil::DateTime;
 
 /// The bytes that [`Cookie::encoded`] escapes in a name or value: the control characters, every
 /// byte past ASCII, the space, and `` " < > ` # ? { } / : ; = @ [ \ ] ^ | % ( ) , ``.
@@ -65,9 +67,7 @@ pub fn joined_pairs_split()
         → Pairwise (λ p o. GivesPair p.0 p.1 o) pairs outcomes }
 {}
 
-/// The end of the session is after every moment.
-pub fn session_is_last(moment: DateTime) -> bool
-    ensures { IsTrue result }
-{
-    Expiration::DateTime(moment) < Expiration::Session
-}
+/// The end of the session is after every moment, in the order of [`Expiration`].
+pub fn session_is_last()
+    ensures { (moment : Moment) → ⟦<Expiration as Ord>⟧.cmp (ends.DateTime moment) ends.Session ≡ Less }
+{}
