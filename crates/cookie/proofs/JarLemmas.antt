@@ -12,7 +12,7 @@ use Rattle.std.specs.Cmp.Lexicographic.{slice_cmp}
 use Rattle.std.proofs.lemmas.Bool.{cases_Bool, cond-true, cond-false}
 use Rattle.cookie_text.specs.Record.{Seen}
 use Rattle.cookie.specs.ByName.{ByName, Lists, AreApart, value_in, by_bytes}
-use Rattle.cookie.specs.Jar.{Jar, Change, Added, Removed, AreUnderTheirNames, cookie_of, standing, overlaid, view, delta, under_names, changed, added, unchanged}
+use Rattle.cookie.specs.Jar.{Jar, Change, Added, Removed, AreUnderTheirNames, cookie_of, standing, overlaid, view, delta, under_names, changed, added, unchanged, with_added}
 use Rattle.cookie.proofs.NameMaps.{same_name, name_is, get_insert, get_remove, same_by_name}
 
 -- ---- the names stay in their places
@@ -294,3 +294,21 @@ pub added_named : (m : ByName Change) (name : List ℕ) (change : Change) (r : O
     → option_copied r ≡ standing change → IfSome r (λ c. c.now.cookie.name ≡ name)
 added_named m name change None h found is = tt
 added_named m name change (Some c) h found is = ap (λ d. d.cookie.name) (sym (standing_is change c.now (sym is))) ∙ h name change found
+
+-- ---- what a caller reads of a jar that was changed
+
+pub view-with_added : (jar : Jar) (c : Seen) (q : List ℕ) → view (with_added jar c) q ≡ cond (bytes_eq q c.cookie.name) (Some c) (view jar q)
+view-with_added jar c q =
+    ap (λ o. overlaid o (finmap.get jar.originals q)) (get_insert jar.changes c.cookie.name (Added c) q)
+    ∙ ⊎_elim
+    (λ (yes : bytes_eq q c.cookie.name ≡ true). rw yes refl)
+    (λ (no : bytes_eq q c.cookie.name ≡ false). rw no refl)
+    (cases_Bool (bytes_eq q c.cookie.name))
+
+pub delta-with_added : (jar : Jar) (c : Seen) (q : List ℕ) → delta (with_added jar c) q ≡ cond (bytes_eq q c.cookie.name) (Some c) (delta jar q)
+delta-with_added jar c q =
+    ap (option_map cookie_of) (get_insert jar.changes c.cookie.name (Added c) q)
+    ∙ ⊎_elim
+    (λ (yes : bytes_eq q c.cookie.name ≡ true). rw yes refl)
+    (λ (no : bytes_eq q c.cookie.name ≡ false). rw no refl)
+    (cases_Bool (bytes_eq q c.cookie.name))

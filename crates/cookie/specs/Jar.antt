@@ -10,7 +10,7 @@ pub use Rattle.cookie.specs.declared.delta.DeltaCookie.{DeltaCookie as Change}
 pub use Rattle.cookie.specs.declared.delta.DeltaCookie.TheVariants.{Added, Removed}
 use Rattle.cookie.specs.ByName.{ByName}
 
--- a change is a cookie that was added, or the removal of one
+-- two finite maps from name; a change is a cookie that was added, or the removal of one
 pub record Jar : Type 0 where
   pub originals : ByName Seen
   pub changes : ByName Change
@@ -48,6 +48,9 @@ abbrev pub with_change : Jar → Change → Jar
 with_change jar change =
     record jar { changes = finmap.insert jar.changes (cookie_of change).cookie.name change }
 
+abbrev pub with_added : Jar → Seen → Jar
+with_added jar c = with_change jar (Added c)
+
 abbrev pub without_change : Jar → List ℕ → Jar
 without_change jar name = record jar { changes = finmap.remove jar.changes name }
 
@@ -61,7 +64,8 @@ without jar name = record {
   changes = finmap.remove jar.changes name;
 }
 
--- a cookie is removed: where an original has its name, the removal is the change of that name, else no change of that name is left
+-- a cookie is removed: where an original has its name, the removal is the change of that name, else no
+-- change of that name is left
 abbrev pub Removes : Jar → Seen → DateTime → Jar → Type 0
 Removes old c now new =
     MatchOption (finmap.get old.originals c.cookie.name)
@@ -74,7 +78,8 @@ under_names cs = map (λ c. (c.cookie.name, c)) cs
 
 -- each value is under the name of its cookie
 abbrev pub AreUnderTheirNames : {X : Type 0} → (X → Seen) → ByName X → Type 0
-AreUnderTheirNames {X} cookie m = (name : List ℕ) (x : X) → finmap.get m name ≡ Some x → (cookie x).cookie.name ≡ name
+AreUnderTheirNames {X} cookie m =
+    (name : List ℕ) (x : X) → finmap.get m name ≡ Some x → (cookie x).cookie.name ≡ name
 
 -- ---- what is left of an iteration
 

@@ -6,7 +6,8 @@ use Rattle.cookie_text.specs.Setting.{with_value}
 use Rattle.cookie.specs.Signing.{signing}
 use Rattle.cookie.specs.Sealing.{IsSealing}
 
--- where the stored cookie stands for a value, it is read with that value in the place of its own; where it stands for none, there is no answer
+-- where the stored cookie stands for a value, it is read with that value in the place of its own; where
+-- it stands for none, there is no answer
 abbrev pub Reads : (List ℕ → Type 0) → Seen → Option Seen → Type 0
 Reads StandsFor stored answer = MatchOption answer
     ((value : List ℕ) → ¬ (StandsFor value))
@@ -22,4 +23,5 @@ IsSealed key stored value = IsUtf8 value × IsSealing key stored.cookie.name val
 
 -- the same of the cookie that a jar gives, where it gives one
 abbrev pub ReadsFound : (Seen → List ℕ → Type 0) → Option Seen → Option Seen → Type 0
-ReadsFound StandsFor found answer = MatchOption found (answer ≡ None) (λ stored. Reads (StandsFor stored) stored answer)
+ReadsFound StandsFor found answer =
+    MatchOption found (answer ≡ None) (λ stored. Reads (StandsFor stored) stored answer)

@@ -22,7 +22,7 @@ IsSealingUnder key name value nonce text = (bytes : List ℕ) × IsSealedAs key 
 abbrev pub IsSealing : List ℕ → List ℕ → List ℕ → List ℕ → Type 0
 IsSealing key name value text = (nonce : List ℕ) × (length nonce ≡ 12) × IsSealingUnder key name value nonce text
 
--- a cookie is stored with the sealing of its value under its name and this nonce in the value's place
+-- a cookie is stored with a sealing in the place of its value: the one under its name and this nonce of 12 bytes
 abbrev pub SealsAs : List ℕ → List ℕ → Seen → Seen → Type 0
 SealsAs key nonce c stored = (text : List ℕ) × (length nonce ≡ 12)
     × IsSealingUnder key c.cookie.name c.cookie.value nonce text × (stored ≡ with_value c text)

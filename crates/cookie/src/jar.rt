@@ -6,7 +6,6 @@ ghost use Rattle.std.specs.Map.Iter.{TakesFirst, deref};
 ghost use Rattle.std.specs.FinMap as finmap;
 ghost use Rattle.cookie.specs.ByName.{Lists};
 ghost use Rattle.cookie.specs.Jar as spec;
-ghost use Rattle.cookie.specs.Jar.{Added};
 
 use crate::delta::DeltaCookie;
 use crate::name_map::NameMap;
@@ -41,12 +40,14 @@ impl Model for CookieJar {
     ghost Value = { Jar };
 
     ghost coded = { code_by (ByName Seen × ByName Change)
-        (coded× (finmap.code (coded_list coded_ℕ) (held.the_row (record { mir = erased; lft = [] })).coded) (finmap.code (coded_list coded_ℕ) change.the_row.coded))
+        (coded× (finmap.code (coded_list coded_ℕ) (held.the_row (record { mir = erased; lft = [] })).coded)
+        (finmap.code (coded_list coded_ℕ) change.the_row.coded))
         (λ j. (j.originals, j.changes)) (λ p. record { originals = p.0; changes = p.1 }) (λ _. refl) };
 
     ghost view = { λ j. record { originals = j.original_cookies; changes = j.delta_cookies } };
 
-    ghost invariant = { λ j. AreUnderTheirNames (λ c. c) j.original_cookies × AreUnderTheirNames cookie_of j.delta_cookies };
+    ghost invariant = { λ j. AreUnderTheirNames (λ c. c) j.original_cookies
+        × AreUnderTheirNames cookie_of j.delta_cookies };
 }
 
 impl CookieJar {
@@ -90,7 +91,7 @@ impl CookieJar {
 
     /// Adds a cookie to the delta, in the place of the change of its name.
     pub fn add(&mut self, cookie: Cookie<'static>) -> Result<(), AllocError>
-        ensures ok { OnOk result (self.new ≡ spec.with_change self.old (Added cookie.entry)) }
+        ensures ok { OnOk result (self.new ≡ spec.with_added self.old cookie.entry) }
         ensures err { OnErr result (self.new ≡ self.old) }
     {
         let name = String::from_str(self.alloc, cookie.name())?;
@@ -105,7 +106,8 @@ impl CookieJar {
     pub fn remove(&mut self, cookie: Cookie<'static>, now: DateTime) -> Result<(), AllocError>
         ensures ok { OnOk result (spec.Removes self.old cookie.entry now self.new) }
         ensures err { OnErr result (self.new ≡ self.old) }
-        ensures succeeds { finmap.get self.old.originals cookie.entry.cookie.name ≡ None → IsOk result }
+        ensures succeeds { finmap.get self.old.originals cookie.entry.cookie.name ≡ None
+            → IsOk result }
     {
         if !self.original_cookies.contains(cookie.name()) {
             self.delta_cookies.remove(cookie.name());

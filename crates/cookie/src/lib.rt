@@ -1,10 +1,11 @@
-//! HTTP cookies (RFC 6265): the record, its reader and its printer, keys, and the texts of signed and
-//! of sealed values.
+//! HTTP cookies (RFC 6265): the record, its reader and its printer, jars that keep track of changes,
+//! child jars that prefix, sign or seal, keys, and the texts of signed and of sealed values.
 //!
 //! ```
-//! let key = Key::try_from(&bytes)?;
-//! let text = signed_text(alloc, &key, "value")?;
-//! assert_eq!(verified_value(&key, &text), Some("value"));
+//! let mut jar = CookieJar::new(alloc);
+//! jar.add_original(Cookie::new("theme", "dark"))?;
+//! jar.signed_mut(&key).add(Cookie::new("user", "7"))?;
+//! let user = jar.signed(&key).get("user")?;
 //! ```
 #![tactic(auto)]
 
@@ -12,7 +13,7 @@ mod delta;
 mod jar;
 pub mod laws;
 mod name_map;
-mod prefix;
+pub mod prefix;
 mod prefixed_jar;
 pub mod secure;
 

@@ -48,7 +48,8 @@ pub trait Prefix: Drop {
     /// no memory is taken then.
     fn clip<'c>(alloc: Global, cookie: Cookie<'c>) -> Result<Cookie<'c>, AllocError>
         ensures clipped { IfOk result (λ clipped. spec.IsClipped text cookie.entry clipped) }
-        ensures succeeds { ((rest : List ℕ) → cookie.entry.cookie.name ≢ text ++ rest) → IsOk result }
+        ensures succeeds { ((rest : List ℕ) → cookie.entry.cookie.name ≢ text ++ rest)
+            → IsOk result }
     {
         let mut cookie = cookie;
         let Some(name) = without(cookie.name(), Self::text()) else {
@@ -62,7 +63,8 @@ pub trait Prefix: Drop {
     /// The cookie with the prefix before its name, and with its attributes as the prefix promises
     /// them.
     fn apply<'c>(alloc: Global, cookie: Cookie<'c>) -> Result<Cookie<'c>, AllocError>
-        ensures applied { IfOk result (λ applied. applied ≡ conformed (spec.prefixed text cookie.entry)) }
+        ensures applied { IfOk result
+            (λ applied. applied ≡ conformed (spec.prefixed text cookie.entry)) }
         ensures conforms { IfOk result Conforms }
     {
         Ok(Self::conform(Self::prefix(alloc, cookie)?))
@@ -72,7 +74,8 @@ pub trait Prefix: Drop {
 
     ghost keeps_pair: { (s : Seen) → spec.KeepsPair s (conformed s) };
 
-    ghost clips: { (s clipped : Seen) → spec.IsClipped text (spec.prefixed text s) clipped → clipped.cookie.name ≡ s.cookie.name };
+    ghost clips: { (s clipped : Seen) → spec.IsClipped text (spec.prefixed text s) clipped
+        → clipped.cookie.name ≡ s.cookie.name };
 }
 
 // The name without the prefix, where it has it.

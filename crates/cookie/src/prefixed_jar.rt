@@ -5,7 +5,6 @@ ghost use Rattle.std.specs.Option.{option_map};
 ghost use Rattle.cookie_text.specs.Setting.{with_name};
 ghost use Rattle.cookie.specs.Prefix.{prefixed};
 ghost use Rattle.cookie.specs.Jar as spec;
-ghost use Rattle.cookie.specs.Jar.{Added};
 
 use crate::jar::CookieJar;
 use crate::prefix::Prefix;
@@ -50,7 +49,8 @@ impl<'a, P: Prefix> PrefixedJar<'a, P> {
     /// A copy of the cookie that the jar gives under prefix and name, with the name alone.
     pub fn get(&self, name: &str) -> Result<Option<Cookie<'static>>, AllocError>
         ensures { IfOk result (λ cookie. cookie
-            ≡ option_map (λ c. with_name c name.now) (spec.view self.now.parent.now (P.text ++ name.now))) }
+            ≡ option_map (λ c. with_name c name.now)
+            (spec.view self.now.parent.now (P.text ++ name.now))) }
     {
         found::<P>(self.parent, name)
     }
@@ -67,7 +67,8 @@ impl<'a, P: Prefix> PrefixedJarMut<'a, P> {
     /// A copy of the cookie that the jar gives under prefix and name, with the name alone.
     pub fn get(&self, name: &str) -> Result<Option<Cookie<'static>>, AllocError>
         ensures { IfOk result (λ cookie. cookie
-            ≡ option_map (λ c. with_name c name.now) (spec.view self.now.parent.now (P.text ++ name.now))) }
+            ≡ option_map (λ c. with_name c name.now)
+            (spec.view self.now.parent.now (P.text ++ name.now))) }
     {
         found::<P>(self.parent, name)
     }
@@ -77,7 +78,7 @@ impl<'a, P: Prefix> PrefixedJarMut<'a, P> {
     pub fn add(&mut self, cookie: Cookie<'static>) -> Result<(), AllocError>
         ensures same_reference { self.new.parent.ghost_name ≡ self.old.parent.ghost_name }
         ensures ok { OnOk result (self.new.parent.now
-            ≡ spec.with_change self.old.parent.now (Added (P.conformed (prefixed P.text cookie.entry)))) }
+            ≡ spec.with_added self.old.parent.now (P.conformed (prefixed P.text cookie.entry))) }
         ensures err { OnErr result (self.new.parent.now ≡ self.old.parent.now) }
     {
         let cookie = P::apply(self.parent.alloc(), cookie)?;
@@ -100,8 +101,8 @@ impl<'a, P: Prefix> PrefixedJarMut<'a, P> {
     /// cookie's name. The removal's attributes are as the prefix promises them.
     pub fn remove(&mut self, cookie: Cookie<'static>, now: DateTime) -> Result<(), AllocError>
         ensures same_reference { self.new.parent.ghost_name ≡ self.old.parent.ghost_name }
-        ensures ok { OnOk result (spec.Removes self.old.parent.now (P.conformed (prefixed P.text cookie.entry))
-            now self.new.parent.now) }
+        ensures ok { OnOk result (spec.Removes self.old.parent.now
+            (P.conformed (prefixed P.text cookie.entry)) now self.new.parent.now) }
         ensures err { OnErr result (self.new.parent.now ≡ self.old.parent.now) }
     {
         let cookie = P::apply(self.parent.alloc(), cookie)?;

@@ -7,7 +7,6 @@ ghost use Rattle.cookie.specs.Sealing.{SealsAs};
 ghost use Rattle.cookie.specs.Reading.{Reads, ReadsFound, IsSealed};
 ghost use Rattle.cookie_text.specs.Record.{Seen};
 ghost use Rattle.cookie.specs.Jar as spec;
-ghost use Rattle.cookie.specs.Jar.{Added};
 
 use super::key::Key;
 use super::private_error::PrivateError;
@@ -61,7 +60,8 @@ impl<'a> PrivateJar<'a> {
 
     /// A copy of the jar's cookie of this name as [`PrivateJar::decrypt`] reads it.
     pub fn get(&self, name: &str) -> Result<Option<Cookie<'static>>, AllocError>
-        ensures { IfOk result (λ read. ReadsFound (IsSealed self.now.key) (spec.view self.now.parent.now name.now) read) }
+        ensures { IfOk result (λ read. ReadsFound (IsSealed self.now.key)
+            (spec.view self.now.parent.now name.now) read) }
     {
         found(self.parent, &self.key, name)
     }
@@ -85,7 +85,8 @@ impl<'a> PrivateJarMut<'a> {
 
     /// A copy of the jar's cookie of this name as [`PrivateJarMut::decrypt`] reads it.
     pub fn get(&self, name: &str) -> Result<Option<Cookie<'static>>, AllocError>
-        ensures { IfOk result (λ read. ReadsFound (IsSealed self.now.key) (spec.view self.now.parent.now name.now) read) }
+        ensures { IfOk result (λ read. ReadsFound (IsSealed self.now.key)
+            (spec.view self.now.parent.now name.now) read) }
     {
         found(self.parent, &self.key, name)
     }
@@ -102,15 +103,17 @@ impl<'a> PrivateJarMut<'a> {
         cookie: Cookie<'static>,
         rng: &mut R,
     ) -> Result<(), PrivateError>
-        ensures same { (self.new.parent.ghost_name ≡ self.old.parent.ghost_name) × (self.new.key ≡ self.old.key) }
-        ensures ok { OnOk result ((nonce : List ℕ) × (stored : Seen) × R.may_fill rng.old nonce rng.new
-            × SealsAs self.old.key nonce cookie.entry stored
-            × (self.new.parent.now ≡ spec.with_change self.old.parent.now (Added stored))) }
+        ensures same { (self.new.parent.ghost_name ≡ self.old.parent.ghost_name)
+            × (self.new.key ≡ self.old.key) }
+        ensures ok { OnOk result ((nonce : List ℕ) × (stored : Seen)
+            × R.may_fill rng.old nonce rng.new × SealsAs self.old.key nonce cookie.entry stored
+            × (self.new.parent.now ≡ spec.with_added self.old.parent.now stored)) }
         ensures err { OnErr result (self.new.parent.now ≡ self.old.parent.now) }
         ensures too_long { IsErrOf result PrivateError.TooLong
             ↔ (¬ (IsSealable cookie.entry.cookie.name cookie.entry.cookie.value)) }
         ensures asked { (IsErrOf result PrivateError.TooLong → rng.new ≡ rng.old)
-            × (IsErrOf result PrivateError.OutOfMemory → (nonce : List ℕ) × (length nonce ≡ 12) × R.may_fill rng.old nonce rng.new) }
+            × (IsErrOf result PrivateError.OutOfMemory
+            → (nonce : List ℕ) × (length nonce ≡ 12) × R.may_fill rng.old nonce rng.new) }
     {
         let cookie = sealed(self.parent.alloc(), &self.key, cookie, rng)?;
         self.parent.add(cookie)?;
@@ -129,15 +132,17 @@ impl<'a> PrivateJarMut<'a> {
         cookie: Cookie<'static>,
         rng: &mut R,
     ) -> Result<(), PrivateError>
-        ensures same { (self.new.parent.ghost_name ≡ self.old.parent.ghost_name) × (self.new.key ≡ self.old.key) }
-        ensures ok { OnOk result ((nonce : List ℕ) × (stored : Seen) × R.may_fill rng.old nonce rng.new
-            × SealsAs self.old.key nonce cookie.entry stored
+        ensures same { (self.new.parent.ghost_name ≡ self.old.parent.ghost_name)
+            × (self.new.key ≡ self.old.key) }
+        ensures ok { OnOk result ((nonce : List ℕ) × (stored : Seen)
+            × R.may_fill rng.old nonce rng.new × SealsAs self.old.key nonce cookie.entry stored
             × (self.new.parent.now ≡ spec.with_original self.old.parent.now stored)) }
         ensures err { OnErr result (self.new.parent.now ≡ self.old.parent.now) }
         ensures too_long { IsErrOf result PrivateError.TooLong
             ↔ (¬ (IsSealable cookie.entry.cookie.name cookie.entry.cookie.value)) }
         ensures asked { (IsErrOf result PrivateError.TooLong → rng.new ≡ rng.old)
-            × (IsErrOf result PrivateError.OutOfMemory → (nonce : List ℕ) × (length nonce ≡ 12) × R.may_fill rng.old nonce rng.new) }
+            × (IsErrOf result PrivateError.OutOfMemory
+            → (nonce : List ℕ) × (length nonce ≡ 12) × R.may_fill rng.old nonce rng.new) }
     {
         let cookie = sealed(self.parent.alloc(), &self.key, cookie, rng)?;
         self.parent.add_original(cookie)?;
@@ -146,8 +151,10 @@ impl<'a> PrivateJarMut<'a> {
 
     /// Removes the jar's cookie of this cookie's name, as [`CookieJar::remove`] does.
     pub fn remove(&mut self, cookie: Cookie<'static>, now: DateTime) -> Result<(), AllocError>
-        ensures same { (self.new.parent.ghost_name ≡ self.old.parent.ghost_name) × (self.new.key ≡ self.old.key) }
-        ensures ok { OnOk result (spec.Removes self.old.parent.now cookie.entry now self.new.parent.now) }
+        ensures same { (self.new.parent.ghost_name ≡ self.old.parent.ghost_name)
+            × (self.new.key ≡ self.old.key) }
+        ensures ok { OnOk result
+            (spec.Removes self.old.parent.now cookie.entry now self.new.parent.now) }
         ensures err { OnErr result (self.new.parent.now ≡ self.old.parent.now) }
     {
         self.parent.remove(cookie, now)
@@ -166,7 +173,8 @@ fn sealed<R: TryRng>(
     ensures too_long { IsErrOf result PrivateError.TooLong
         ↔ (¬ (IsSealable cookie.entry.cookie.name cookie.entry.cookie.value)) }
     ensures asked { (IsErrOf result PrivateError.TooLong → rng.new ≡ rng.old)
-        × (IsErrOf result PrivateError.OutOfMemory → (nonce : List ℕ) × (length nonce ≡ 12) × R.may_fill rng.old nonce rng.new) }
+        × (IsErrOf result PrivateError.OutOfMemory
+        → (nonce : List ℕ) × (length nonce ≡ 12) × R.may_fill rng.old nonce rng.new) }
 {
     let mut cookie = cookie;
     let text = sealed_by(alloc, key, cookie.name(), cookie.value(), rng)?;

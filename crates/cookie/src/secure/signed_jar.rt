@@ -5,7 +5,6 @@ ghost use Rattle.cookie_text.specs.Setting.{with_value};
 ghost use Rattle.cookie.specs.Signing.{signing};
 ghost use Rattle.cookie.specs.Reading.{Reads, ReadsFound, IsSigned};
 ghost use Rattle.cookie.specs.Jar as spec;
-ghost use Rattle.cookie.specs.Jar.{Added};
 
 use super::key::Key;
 use super::signing::{signed_text, verified_value};
@@ -57,7 +56,8 @@ impl<'a> SignedJar<'a> {
 
     /// A copy of the jar's cookie of this name as [`SignedJar::verify`] reads it.
     pub fn get(&self, name: &str) -> Result<Option<Cookie<'static>>, AllocError>
-        ensures { IfOk result (λ read. ReadsFound (IsSigned self.now.key) (spec.view self.now.parent.now name.now) read) }
+        ensures { IfOk result (λ read. ReadsFound (IsSigned self.now.key)
+            (spec.view self.now.parent.now name.now) read) }
     {
         found(self.parent, &self.key, name)
     }
@@ -81,16 +81,18 @@ impl<'a> SignedJarMut<'a> {
 
     /// A copy of the jar's cookie of this name as [`SignedJarMut::verify`] reads it.
     pub fn get(&self, name: &str) -> Result<Option<Cookie<'static>>, AllocError>
-        ensures { IfOk result (λ read. ReadsFound (IsSigned self.now.key) (spec.view self.now.parent.now name.now) read) }
+        ensures { IfOk result (λ read. ReadsFound (IsSigned self.now.key)
+            (spec.view self.now.parent.now name.now) read) }
     {
         found(self.parent, &self.key, name)
     }
 
     /// Adds the cookie to the jar's delta, with the signing of its value in the value's place.
     pub fn add(&mut self, cookie: Cookie<'static>) -> Result<(), AllocError>
-        ensures same { (self.new.parent.ghost_name ≡ self.old.parent.ghost_name) × (self.new.key ≡ self.old.key) }
-        ensures ok { OnOk result (self.new.parent.now ≡ spec.with_change self.old.parent.now
-            (Added (with_value cookie.entry (signing self.old.key cookie.entry.cookie.value)))) }
+        ensures same { (self.new.parent.ghost_name ≡ self.old.parent.ghost_name)
+            × (self.new.key ≡ self.old.key) }
+        ensures ok { OnOk result (self.new.parent.now ≡ spec.with_added self.old.parent.now
+            (with_value cookie.entry (signing self.old.key cookie.entry.cookie.value))) }
         ensures err { OnErr result (self.new.parent.now ≡ self.old.parent.now) }
     {
         let cookie = signed(self.parent.alloc(), &self.key, cookie)?;
@@ -99,7 +101,8 @@ impl<'a> SignedJarMut<'a> {
 
     /// Adds the cookie to the jar's originals, with the signing of its value in the value's place.
     pub fn add_original(&mut self, cookie: Cookie<'static>) -> Result<(), AllocError>
-        ensures same { (self.new.parent.ghost_name ≡ self.old.parent.ghost_name) × (self.new.key ≡ self.old.key) }
+        ensures same { (self.new.parent.ghost_name ≡ self.old.parent.ghost_name)
+            × (self.new.key ≡ self.old.key) }
         ensures ok { OnOk result (self.new.parent.now ≡ spec.with_original self.old.parent.now
             (with_value cookie.entry (signing self.old.key cookie.entry.cookie.value))) }
         ensures err { OnErr result (self.new.parent.now ≡ self.old.parent.now) }
@@ -110,8 +113,10 @@ impl<'a> SignedJarMut<'a> {
 
     /// Removes the jar's cookie of this cookie's name, as [`CookieJar::remove`] does.
     pub fn remove(&mut self, cookie: Cookie<'static>, now: DateTime) -> Result<(), AllocError>
-        ensures same { (self.new.parent.ghost_name ≡ self.old.parent.ghost_name) × (self.new.key ≡ self.old.key) }
-        ensures ok { OnOk result (spec.Removes self.old.parent.now cookie.entry now self.new.parent.now) }
+        ensures same { (self.new.parent.ghost_name ≡ self.old.parent.ghost_name)
+            × (self.new.key ≡ self.old.key) }
+        ensures ok { OnOk result
+            (spec.Removes self.old.parent.now cookie.entry now self.new.parent.now) }
         ensures err { OnErr result (self.new.parent.now ≡ self.old.parent.now) }
     {
         self.parent.remove(cookie, now)
