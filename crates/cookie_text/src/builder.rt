@@ -25,7 +25,7 @@ pub struct Builder<T> {
 /// A cookie that is being built, attribute by attribute. It prints as its cookie does.
 pub type CookieBuilder<'c> = Builder<Cookie<'c>>;
 
-// An import of its own, since this file's lend the struct.
+// With no import of its own it would take the file's, of which `the_row` rests on this very impl.
 impl<T> Model for Builder<T> {
     ghost use Rattle.std.specs.Prelude.{ℕ};
 
