@@ -20,7 +20,7 @@ pub const SEALED: &str = "AAAAAAAAAAAAAAAAUw+K+8dFNrmpY7TxxMtziw==";
 
 // A fill failed.
 #[derive(Debug, Drop)]
-struct Failed;
+pub struct Failed;
 
 impl Display for Failed {
     fn fmt<W: Write>(&self, f: &mut Formatter<W>) -> fmt::Result {
@@ -32,7 +32,7 @@ impl Error for Failed {}
 
 // A generator that counts up from `next` by `step`, or fails at its first fill.
 #[derive(Drop)]
-struct Counting {
+pub struct Counting {
     next: u8,
     step: u8,
     fails: bool,
@@ -62,7 +62,7 @@ impl TryRng for Counting {
 }
 
 // One that counts from zero.
-fn counter(step: u8, fails: bool) -> Counting {
+pub fn counter(step: u8, fails: bool) -> Counting {
     Counting {
         next: 0,
         step,
@@ -165,10 +165,11 @@ fn prints_no_byte_of_a_key(rt: HostRuntime) {
 
 // One character changed, of the code or of the value; padding dropped; bits left over behind the
 // code's last byte; too short; cut inside a character; none.
-const NO_SIGNINGS: &str =
+pub const NO_SIGNINGS: &str =
     "X9zBRr9gdU5qBCQmCJV1x1oAPwidJzmDnexYuWTsOEM=what do ya want for nothing?\n\
 W9zBRr9gdU5qBCQmCJV1x1oAPwidJzmDnexYuWTsOEM=what do ya want for nothing!\n\
 W9zBRr9gdU5qBCQmCJV1x1oAPwidJzmDnexYuWTsOEMwhat do ya want for nothing?\n\
+W9zBRr9gdU5qBCQmCJV1x1oAPwidJzmDnexYuWTsOEM-what do ya want for nothing?\n\
 W9zBRr9gdU5qBCQmCJV1x1oAPwidJzmDnexYuWTsOEN=what do ya want for nothing?\n\
 W9zBRr9gdU5qBCQmCJV1x1oAPwidJzmDnexYuWTsOEM=\n\
 W9zBRr9gdU5qBCQmCJV1x1oAPwidJzmDnexYuWTsOEM\n\
@@ -196,7 +197,7 @@ fn opens_as(alloc: Global, key: &Key, name: &str, text: &str, wanted: Option<&st
 }
 
 // One character changed; padding dropped; the URL alphabet; bits left over; cut short; no base64.
-const NO_SEALINGS: &str = "BAAAAAAAAAAAAAAAUw+K+8dFNrmpY7TxxMtziw==\n\
+pub const NO_SEALINGS: &str = "BAAAAAAAAAAAAAAAUw+K+8dFNrmpY7TxxMtziw==\n\
 AAAAAAAAAAAAAAAAUw+K+8dFNrmpY7TxxMtziA==\n\
 AAAAAAAAAAAAAAAAUw+K+8dFNrmpY7TxxMtziw\n\
 AAAAAAAAAAAAAAAAUw+K+8dFNrmpY7TxxMtziw=\n\
@@ -204,6 +205,7 @@ AAAAAAAAAAAAAAAAUw-K-8dFNrmpY7TxxMtziw==\n\
 AAAAAAAAAAAAAAAAUw+K+8dFNrmpY7TxxMtzix==\n\
 AAAAAAAAAAAAAAAAUw+K+8dFNrmpY7TxxMtz\n\
 AAAAAAAAAAAAAAAA\n\
+what do ya want for nothing?\n\
 \x20AAAAAAAAAAAAAAAAUw+K+8dFNrmpY7TxxMtziw==\n\
 ";
 

@@ -6,6 +6,8 @@ mod cookie_tests;
 #[cfg(test)]
 mod date_tests;
 #[cfg(test)]
+mod jar_tests;
+#[cfg(test)]
 mod key_tests;
 #[cfg(test)]
 mod memory;
