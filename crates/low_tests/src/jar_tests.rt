@@ -1,7 +1,9 @@
 //! Jars, and the child jars that prefix, sign or seal.
 //!
 //! A scenario answers whether all came out right, or want of memory.
-use crate::key_tests::{DATA, NO_SEALINGS, NO_SIGNINGS, SEALED, SIGNED, counter, jefe, zero_key};
+use crate::key_tests::{
+    Counting, DATA, NO_SEALINGS, NO_SIGNINGS, SEALED, SIGNED, counter, jefe, zero_key,
+};
 use crate::print_tests::prints;
 use cookie::{Cookie, CookieJar, Host, Key, Prefix, PrivateError, Secure};
 use jiff::civil::DateTime;
@@ -63,6 +65,14 @@ fn is_read(
         Some(cookie) => Ok(cookie.value() == wanted),
         None => Ok(wanted == "-"),
     }
+}
+
+fn gives_signed(jar: &CookieJar, key: &Key, name: &str, wanted: &str) -> Result<bool, AllocError> {
+    is_read(jar.signed(key).get(name), wanted)
+}
+
+fn gives_sealed(jar: &CookieJar, key: &Key, name: &str, wanted: &str) -> Result<bool, AllocError> {
+    is_read(jar.private(key).get(name), wanted)
 }
 
 // Whether the name has the value that it has after what was done. Where that was refused, it has the
@@ -151,10 +161,14 @@ fn keeps_track_of_changes(rt: HostRuntime) {
     assert!(rt; copies(rt.alloc()).unwrap_or(false));
 }
 
+fn add_and_remove(jar: &mut CookieJar) -> Result<(), AllocError> {
+    jar.add(Cookie::new("a", "1"))?;
+    jar.remove(Cookie::new("a", ""), new_year())
+}
+
 fn tells_no_removal_of_an_addition(alloc: Global) -> Result<bool, AllocError> {
     let mut jar = CookieJar::new(alloc);
-    jar.add(Cookie::new("a", "1"))?;
-    jar.remove(Cookie::new("a", ""), new_year())?;
+    add_and_remove(&mut jar)?;
     Ok(value(&jar, "a") == "-" && has_counts(&jar, 0, 0))
 }
 
@@ -246,13 +260,22 @@ fn reads_alone<P: Prefix + Copy>(
     Ok(plain && is_read(jar.prefixed(prefix).get(whole), "-")?)
 }
 
-fn removes<P: Prefix + Copy>(alloc: Global, prefix: P) -> Result<bool, AllocError> {
+fn remove<P: Prefix>(jar: &mut CookieJar, prefix: P) -> Result<(), AllocError> {
+    let removal = Cookie::new("sid", "");
+    jar.prefixed_mut(prefix).remove(removal, new_year())
+}
+
+fn prefixed_original<P: Prefix>(alloc: Global, prefix: P) -> Result<CookieJar, AllocError> {
     let mut jar = CookieJar::new(alloc);
-    jar.prefixed_mut(prefix)
-        .add_original(Cookie::new("sid", "2"))?;
+    let original = Cookie::new("sid", "2");
+    jar.prefixed_mut(prefix).add_original(original)?;
+    Ok(jar)
+}
+
+fn removes<P: Prefix + Copy>(alloc: Global, prefix: P) -> Result<bool, AllocError> {
+    let mut jar = prefixed_original(alloc, prefix)?;
     let before = is_read(jar.prefixed(prefix).get("sid"), "2")?;
-    jar.prefixed_mut(prefix)
-        .remove(Cookie::new("sid", ""), new_year())?;
+    remove(&mut jar, prefix)?;
     Ok(before && has_counts(&jar, 0, 1))
 }
 
@@ -313,9 +336,9 @@ fn removes_signed(alloc: Global) -> Result<bool, AllocError> {
 
 fn reads_signed(alloc: Global) -> Result<bool, AllocError> {
     let jar = with_original(alloc, "a", SIGNED)?;
-    let own = is_read(jar.signed(&jefe()).get("a"), DATA)?;
-    let other = is_read(jar.signed(&zero_key()).get("a"), "-")?;
-    Ok(own && other && is_read(jar.signed(&jefe()).get("b"), "-")?)
+    let own = gives_signed(&jar, &jefe(), "a", DATA)?;
+    let other = gives_signed(&jar, &zero_key(), "a", "-")?;
+    Ok(own && other && gives_signed(&jar, &jefe(), "b", "-")?)
 }
 
 fn reads_signed_of_mut(alloc: Global) -> Result<bool, AllocError> {
@@ -338,7 +361,7 @@ fn signs_as_rfc_4231(rt: HostRuntime) {
 fn is_no_signing(alloc: Global, text: &'static str) -> Result<bool, AllocError> {
     let jar = with_original(alloc, "a", text)?;
     let alone = is_read(jar.signed(&jefe()).verify(Cookie::new("a", text)), "-")?;
-    Ok(alone && is_read(jar.signed(&jefe()).get("a"), "-")?)
+    Ok(alone && gives_signed(&jar, &jefe(), "a", "-")?)
 }
 
 #[test]
@@ -376,8 +399,8 @@ fn removes_sealed(alloc: Global) -> Result<bool, AllocError> {
 
 fn reads_sealed(alloc: Global) -> Result<bool, AllocError> {
     let jar = with_original(alloc, "", SEALED)?;
-    let own = is_read(jar.private(&zero_key()).get(""), "")?;
-    Ok(own && is_read(jar.private(&Key::from(&[1; 64])).get(""), "-")?)
+    let own = gives_sealed(&jar, &zero_key(), "", "")?;
+    Ok(own && gives_sealed(&jar, &Key::from(&[1; 64]), "", "-")?)
 }
 
 fn reads_sealed_of_mut(alloc: Global) -> Result<bool, AllocError> {
@@ -396,14 +419,26 @@ fn seals_as_the_specification_of_gcm(rt: HostRuntime) {
     assert!(rt; reads_sealed_of_mut(rt.alloc()).unwrap_or(false));
 }
 
+fn seal(jar: &mut CookieJar, name: &'static str, rng: &mut Counting) -> Result<(), PrivateError> {
+    jar.private_mut(&zero_key())
+        .add(Cookie::new(name, "1"), rng)
+}
+
+fn seal_original(
+    jar: &mut CookieJar,
+    name: &'static str,
+    rng: &mut Counting,
+) -> Result<(), PrivateError> {
+    jar.private_mut(&zero_key())
+        .add_original(Cookie::new(name, "1"), rng)
+}
+
 // A jar with two cookies that were sealed under one fill after the other.
 fn sealed_by_fills(alloc: Global) -> Result<CookieJar, PrivateError> {
     let mut jar = CookieJar::new(alloc);
     let mut rng = counter(1, false);
-    jar.private_mut(&zero_key())
-        .add(Cookie::new("a", "1"), &mut rng)?;
-    jar.private_mut(&zero_key())
-        .add_original(Cookie::new("b", "1"), &mut rng)?;
+    seal(&mut jar, "a", &mut rng)?;
+    seal_original(&mut jar, "b", &mut rng)?;
     Ok(jar)
 }
 
@@ -415,8 +450,8 @@ fn seals_under_fills(alloc: Global) -> Result<bool, PrivateError> {
 
 fn reads_what_it_sealed(alloc: Global) -> Result<bool, PrivateError> {
     let jar = sealed_by_fills(alloc)?;
-    let first = is_read(jar.private(&zero_key()).get("a"), "1")?;
-    Ok(first && is_read(jar.private(&zero_key()).get("b"), "1")?)
+    let first = gives_sealed(&jar, &zero_key(), "a", "1")?;
+    Ok(first && gives_sealed(&jar, &zero_key(), "b", "1")?)
 }
 
 // Each sealing takes the next twelve bytes.
@@ -430,14 +465,8 @@ fn seals_under_the_bytes_of_a_fill(rt: HostRuntime) {
 fn seals_nothing_where_a_fill_fails(rt: HostRuntime) {
     let mut jar = CookieJar::new(rt.alloc());
     let mut rng = counter(0, true);
-    let added = jar
-        .private_mut(&zero_key())
-        .add(Cookie::new("a", "1"), &mut rng);
-    assert!(rt; added == Err(PrivateError::Rng));
-    let added = jar
-        .private_mut(&zero_key())
-        .add_original(Cookie::new("a", "1"), &mut rng);
-    assert!(rt; added == Err(PrivateError::Rng));
+    assert!(rt; seal(&mut jar, "a", &mut rng) == Err(PrivateError::Rng));
+    assert!(rt; seal_original(&mut jar, "a", &mut rng) == Err(PrivateError::Rng));
     assert!(rt; value(&jar, "a") == "-" && has_counts(&jar, 0, 0));
 }
 
@@ -456,11 +485,10 @@ fn moves(
 
 fn seals_the_name(alloc: Global) -> Result<bool, PrivateError> {
     let mut jar = CookieJar::new(alloc);
-    jar.private_mut(&zero_key())
-        .add(Cookie::new("a b", "1"), &mut counter(1, false))?;
+    seal(&mut jar, "a b", &mut counter(1, false))?;
     moves(alloc, &mut jar, "a b", "a%20b")?;
-    let own = is_read(jar.private(&zero_key()).get("a b"), "1")?;
-    Ok(own && is_read(jar.private(&zero_key()).get("a%20b"), "-")?)
+    let own = gives_sealed(&jar, &zero_key(), "a b", "1")?;
+    Ok(own && gives_sealed(&jar, &zero_key(), "a%20b", "-")?)
 }
 
 // A sealed value that is moved under the name as it is escaped opens no more.
@@ -473,7 +501,7 @@ fn reads_sealings_of_the_name_alone(rt: HostRuntime) {
 fn is_no_sealing(alloc: Global, text: &'static str) -> Result<bool, AllocError> {
     let jar = with_original(alloc, "", text)?;
     let alone = is_read(jar.private(&zero_key()).decrypt(Cookie::new("", text)), "-")?;
-    Ok(alone && is_read(jar.private(&zero_key()).get(""), "-")?)
+    Ok(alone && gives_sealed(&jar, &zero_key(), "", "-")?)
 }
 
 #[test]
