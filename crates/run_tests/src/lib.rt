@@ -22,4 +22,6 @@ mod program_tests;
 #[cfg(test)]
 mod script_tests;
 #[cfg(test)]
+mod session_tests;
+#[cfg(test)]
 mod stream_tests;
