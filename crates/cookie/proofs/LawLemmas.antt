@@ -57,7 +57,7 @@ one_base64 b d text hb hd =
 abbrev pub OpensOne : Type 0
 OpensOne = (key nonce aad ciphertext tag x y : List ℕ) → length key ≡ 32 → gcm.Opens key nonce aad ciphertext tag x → gcm.Opens key nonce aad ciphertext tag y → x ≡ y
 
-one_value : (key name v w text : List ℕ) → TagsHave16 → OpensOne → length (encryption_half key) ≡ 32 → IsSealing key name v text → IsSealing key name w text → v ≡ w
+pub one_value : (key name v w text : List ℕ) → TagsHave16 → OpensOne → length (encryption_half key) ≡ 32 → IsSealing key name v text → IsSealing key name w text → v ≡ w
 one_value key name v w text sizes one half hv hw =
     let bytes : List ℕ = hv.2.0 in
     let same : hw.2.0 ≡ bytes = one_base64 hw.2.0 bytes text hw.2.2 hv.2.2 in

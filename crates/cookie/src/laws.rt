@@ -1,6 +1,10 @@
-//! Laws of the child jars: what is read of a cookie right after it was added through the same child
-//! jar. Each function changes nothing: its contract is the law.
+//! Laws of the child jars, as what is read of a cookie right after it was added through the same
+//! child jar. Each function changes nothing: its contract is the law.
 
+ghost use Rattle.std.specs.Prelude.{◌≡◌, ℕ, List, length};
+ghost use Rattle.cookie.specs.Key.{encryption_half};
+ghost use Rattle.cookie.specs.Signing.{signing};
+ghost use Rattle.cookie.specs.Sealing.{IsSealing};
 ghost use Rattle.cookie.specs.Laws as spec;
 
 use crate::prefix::Prefix;
@@ -29,4 +33,15 @@ pub fn private_reads_back(key: &Key, cookie: &Cookie<'_>)
     seal::laws::opening_is_the_converse();
     let _ = key.encryption();
     let _ = cookie.value();
+}
+
+/// A text is the signing of one value at most, and a sealing of one value at most under a key and
+/// a name, whatever the nonce was.
+pub fn one_value()
+    ensures signed { (key v w : List ℕ) → signing key v ≡ signing key w → v ≡ w }
+    ensures sealed { (key name v w text : List ℕ) → length (encryption_half key) ≡ 32
+        → IsSealing key name v text → IsSealing key name w text → v ≡ w }
+{
+    seal::laws::lengths();
+    seal::laws::opening_is_the_converse();
 }
