@@ -1,6 +1,5 @@
 -- A play that goes on by one step, or stops in it.
 use Rattle.std.proofs.Common.{◌≡◌, ℕ, ℤ, ◌+◌, ◌<◌, ◌≤◌, zero, suc, length, inl, inr, take, drop, get_or, List, [], ◌∷◌, ◌++◌, sym, refl, ap, ◌∙◌, subst, arith, append_assoc}
-use Rattle.std.specs.List.{AllByRecursion}
 use Rattle.std.proofs.lemmas.List.{take_all}
 use Rattle.cookie_run.specs.declared.step.Step.{Step}
 use Rattle.cookie_run.specs.declared.step.Reading.{Reading}
@@ -8,14 +7,13 @@ use Rattle.cookie_run.specs.declared.step.FaultKind.{FaultKind}
 use Rattle.cookie_run.specs.declared.row.Row.{Row}
 use Rattle.cookie_run.specs.Acts.{Act, act_of, acts_of, moments_in, moments_of}
 use Rattle.cookie_run.specs.Moments.{AllFollow, last_of, the_beginning}
-use Rattle.cookie_run.specs.Texts.{StepSetsText}
 use Rattle.cookie_run.specs.Site.{nothing}
 use Rattle.cookie_run.specs.Stops.{StopsFrom}
-use Rattle.cookie_run.specs.Play.{Plays, all_told, told_of, IsRunUntil}
-use Rattle.cookie_run.specs.Headline.{after_acts, SitesReadTheirOwn, SitesReadTheirOwnUntil}
+use Rattle.cookie_run.specs.Play.{Plays, ReadsAll, ReadsFront, all_told, IsRunUntil}
+use Rattle.cookie_run.specs.Headline.{SitesReadTheirOwn, SitesReadTheirOwnUntil}
 use Rattle.cookie_run.proofs.Runs.{acts_more, readings_nil}
 use Rattle.cookie_run.proofs.Shapes.{plays_answer}
-use Rattle.cookie_run.proofs.SiteStep.{ReadingBack, each_reads, all_agree, act_stops, begins}
+use Rattle.cookie_run.proofs.SiteStep.{ReadingBack, OnlyOne, each_leads, act_stops, begins}
 
 -- ---- moments
 
@@ -63,22 +61,24 @@ before_count (x ∷ xs) zero h = refl
 before_count (x ∷ xs) (suc i) h = let rest = before_count xs i (omega arith) in omega arith
 
 -- what the loop knows before a step
-pub record Before (steps : List Step) (i : ℕ) (rows : List Row) (now : List Reading) (moment : ℤ) : Type 0 where
-  pub run : (told : List (List Reading)) × (now ≡ all_told told) × Plays [] (acts_of (take i steps)) told rows
-  pub text : AllByRecursion StepSetsText (acts_of (take i steps))
+pub record Before (key : List ℕ) (steps : List Step) (i : ℕ) (rows : List Row) (now : List Reading) (moment : ℤ) : Type 0 where
+  pub run : (told : List (List Reading)) × (now ≡ all_told told) × Plays key [] (acts_of (take i steps)) told rows
   pub moments : AllFollow the_beginning (moments_of (acts_of (take i steps)))
   pub last : moment ≡ last_of the_beginning (moments_of (acts_of (take i steps)))
 
-stops_there : (steps : List Step) (i : ℕ) (s : Step) (rows : List Row) (now later : List Reading) (last : ℤ) (kind : FaultKind) → (b : Before steps i rows now last) →
-    StopsFrom kind last (act_of s) now (told_of rows (act_of s)) later →
-    StopsFrom kind (last_of the_beginning (moments_of (acts_of (take i steps)))) (act_of s) (all_told b.run.0) (told_of rows (act_of s)) later
-stops_there steps i s rows now later last kind b stops =
-    subst (λ m. StopsFrom kind m (act_of s) (all_told b.run.0) (told_of rows (act_of s)) later) b.last
-    (subst (λ old. StopsFrom kind last (act_of s) old (told_of rows (act_of s)) later) b.run.1 stops)
+-- the step stops so
+abbrev pub Stops : List ℕ → List Row → FaultKind → ℤ → Act → List Reading → List Reading → Type 0
+Stops key rows kind last act old readings = StopsFrom kind last act old (ReadsFront key rows act) (ReadsAll key rows act) readings
 
-pub run_until : (steps : List Step) (i : ℕ) (s : Step) (rows : List Row) (now later : List Reading) (last : ℤ) (kind : FaultKind) → i < length steps → s ≡ get_or steps i s → Before steps i rows now last →
-    StopsFrom kind last (act_of s) now (told_of rows (act_of s)) later → IsRunUntil (acts_of steps) (i + 1) kind later
-run_until steps i s rows now later last kind h is b stops = record {
+stops_there : (key : List ℕ) (steps : List Step) (i : ℕ) (s : Step) (rows : List Row) (now later : List Reading) (last : ℤ) (kind : FaultKind) → (b : Before key steps i rows now last) →
+    Stops key rows kind last (act_of s) now later → Stops key rows kind (last_of the_beginning (moments_of (acts_of (take i steps)))) (act_of s) (all_told b.run.0) later
+stops_there key steps i s rows now later last kind b stops =
+    subst (λ m. Stops key rows kind m (act_of s) (all_told b.run.0) later) b.last
+    (subst (λ old. Stops key rows kind last (act_of s) old later) b.run.1 stops)
+
+pub run_until : (key : List ℕ) (steps : List Step) (i : ℕ) (s : Step) (rows : List Row) (now later : List Reading) (last : ℤ) (kind : FaultKind) → i < length steps → s ≡ get_or steps i s → Before key steps i rows now last →
+    Stops key rows kind last (act_of s) now later → IsRunUntil key (acts_of steps) (i + 1) kind later
+run_until key steps i s rows now later last kind h is b stops = record {
   before = acts_of (take i steps);
   act = act_of s;
   after = acts_of (drop (suc i) steps);
@@ -88,25 +88,25 @@ run_until steps i s rows now later last kind h is b stops = record {
   rows = rows;
   ran = b.run.2;
   in_order = b.moments;
-  stops = stops_there steps i s rows now later last kind b stops;
+  stops = stops_there key steps i s rows now later last kind b stops;
 }
 
-front_inside : (old told readings : List Reading) (kind : FaultKind) (last : ℤ) (act : Act) → StopsFrom kind last act old told readings → (front : List Reading) × (readings ≡ old ++ front)
-front_inside old told readings kind last act stops =
+front_inside : (key : List ℕ) (rows : List Row) (old readings : List Reading) (kind : FaultKind) (last : ℤ) (act : Act) → Stops key rows kind last act old readings → (front : List Reading) × (readings ≡ old ++ front)
+front_inside key rows old readings kind last act stops =
     elim stops [
       | inl opening ↦ ([], opening.1 ∙ sym (readings_nil old))
       | inr past ↦ elim (past.1) [
-        | inl memory ↦ (memory.1.front, memory.1.read)
-        | inr delivery ↦ (told, delivery.1)
+        | inl memory ↦ (memory.1.0, memory.1.2)
+        | inr delivery ↦ (delivery.1.0, delivery.1.2)
       ]
     ]
 
-pub sites_until : (law : ReadingBack) (steps : List Step) (i : ℕ) (s : Step) (rows : List Row) (now later : List Reading) (last : ℤ) (kind : FaultKind) → i < length steps → s ≡ get_or steps i s → Before steps i rows now last →
-    StopsFrom kind last (act_of s) now (told_of rows (act_of s)) later → SitesReadTheirOwnUntil (acts_of steps) (i + 1) kind later
-sites_until law steps i s rows now later last kind h is b stops =
+pub sites_until : (law : ReadingBack) (key : List ℕ) (steps : List Step) (i : ℕ) (s : Step) (rows : List Row) (now later : List Reading) (last : ℤ) (kind : FaultKind) → OnlyOne key → i < length steps → s ≡ get_or steps i s → Before key steps i rows now last →
+    Stops key rows kind last (act_of s) now later → SitesReadTheirOwnUntil (acts_of steps) (i + 1) kind later
+sites_until law key steps i s rows now later last kind one h is b stops =
     let before = acts_of (take i steps) in
-    let there = stops_there steps i s rows now later last kind b stops in
-    let front = front_inside (all_told b.run.0) _ later kind _ (act_of s) there in
+    let there = stops_there key steps i s rows now later last kind b stops in
+    let front = front_inside key rows (all_told b.run.0) later kind _ (act_of s) there in
     record {
       before = before;
       act = act_of s;
@@ -116,25 +116,24 @@ sites_until law steps i s rows now later last kind h is b stops =
       told = b.run.0;
       front = front.0;
       read = front.1;
-      own = plays_answer [] rows before b.run.0 b.run.2;
-      sites = λ host answers lives. each_reads law host before nothing [] b.run.0 rows answers lives b.text (begins host) b.run.2;
-      stops = λ host answers lives here.
-          act_stops host (act_of s) (after_acts host nothing before) rows kind _ (all_told b.run.0) later here
-          (all_agree law host before nothing [] b.run.0 rows answers lives b.text (begins host) b.run.2) there;
+      own = plays_answer key [] rows before b.run.0 b.run.2;
+      sites = λ host answers lives.
+          let led = each_leads law key host before nothing [] b.run.0 rows one answers lives (begins key host) b.run.2 in
+          (led.0, led.1, λ here. act_stops key host (act_of s) led.0 rows kind _ (all_told b.run.0) later one here led.2 there);
     }
 
-pub sites_read : (law : ReadingBack) (acts : List Act) (readings : List Reading) (rows : List Row) (told : List (List Reading)) → AllByRecursion StepSetsText acts → readings ≡ all_told told → Plays [] acts told rows → SitesReadTheirOwn acts readings
-sites_read law acts readings rows told text is ran = record {
+pub sites_read : (law : ReadingBack) (key : List ℕ) (acts : List Act) (readings : List Reading) (rows : List Row) (told : List (List Reading)) → OnlyOne key → readings ≡ all_told told → Plays key [] acts told rows → SitesReadTheirOwn acts readings
+sites_read law key acts readings rows told one is ran = record {
   told = told;
   read = is;
-  own = plays_answer [] rows acts told ran;
-  sites = λ host answers lives. each_reads law host acts nothing [] told rows answers lives text (begins host) ran;
+  own = plays_answer key [] rows acts told ran;
+  sites = λ host answers lives.
+      let led = each_leads law key host acts nothing [] told rows one answers lives (begins key host) ran in
+      (led.0, led.1);
 }
 
 -- a play that came to its end
-pub sites_all : (law : ReadingBack) (steps : List Step) (i : ℕ) (rows : List Row) (now : List Reading) (moment : ℤ) → length steps ≤ i → Before steps i rows now moment → SitesReadTheirOwn (acts_of steps) now
-sites_all law steps i rows now moment h b =
-    let all = take_all i steps h in
-    sites_read law (acts_of steps) now rows b.run.0
-    (subst (λ ss. AllByRecursion StepSetsText (acts_of ss)) all b.text) b.run.1
-    (subst (λ ss. Plays [] (acts_of ss) b.run.0 rows) all b.run.2)
+pub sites_all : (law : ReadingBack) (key : List ℕ) (steps : List Step) (i : ℕ) (rows : List Row) (now : List Reading) (moment : ℤ) → OnlyOne key → length steps ≤ i → Before key steps i rows now moment → SitesReadTheirOwn (acts_of steps) now
+sites_all law key steps i rows now moment one h b =
+    sites_read law key (acts_of steps) now rows b.run.0 one b.run.1
+    (subst (λ ss. Plays key [] (acts_of ss) b.run.0 rows) (take_all i steps h) b.run.2)

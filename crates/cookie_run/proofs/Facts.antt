@@ -1,5 +1,5 @@
 -- The definitions at small inputs, by computation.
-use Rattle.std.proofs.Common.{◌≡◌, ℕ, List, [], ◌∷◌, true, false, refl, Some, None, pos}
+use Rattle.std.proofs.Common.{◌≡◌, ℕ, List, [], ◌∷◌, true, false, refl, ap, ◌∙◌, inl, Some, None, pos}
 use Rattle.std.specs.Prelude.{codes}
 use Rattle.std.specs.Str.{trim_start, trim_end, chars, is_utf8}
 use Rattle.percent_encoding.specs.AsciiSet.{should_percent_encode}
@@ -13,18 +13,18 @@ use Rattle.cookie_run.specs.Jar.{sent}
 use Rattle.cookie_run.specs.Reading.{cookies_of, is_kept}
 use Rattle.cookie_run.specs.declared.row.Row.{Row}
 use Rattle.cookie_run.specs.Rows.{header_of, row_of}
-use Rattle.cookie_run.specs.declared.step.Way.TheVariants.{Plain}
-use Rattle.cookie_run.specs.declared.step.Command.{Command}
-use Rattle.cookie_run.specs.declared.step.Command.TheVariants.{Set, Get}
+use Rattle.cookie_run.specs.declared.step.Way.TheVariants.{Plain, Host, Sealed}
+use Rattle.cookie_run.specs.declared.step.Reading.{Reading}
 use Rattle.cookie_run.specs.declared.step.Reading.TheVariants.{Value, Refused}
 use Rattle.cookie_run.specs.declared.step.SessionError.TheVariants.{EmptyName}
 use Rattle.cookie_run.specs.Acts.{Arrives, Never}
-use Rattle.cookie_run.specs.Site.{nothing, told_in, after_exchange}
+use Rattle.cookie_run.specs.Site as kinds
+use Rattle.cookie_run.specs.Site.{Site, nothing, with_entry, stored_name, set_refusal, SetOn, GetOn, after_arrival}
 
 -- ---- what is sent
 
 -- the cookie `foo !%?=` with the value `bar;;, a`
-sent_line : encoded (sent (bare (codes "foo !%?=") (codes "bar;;, a"))) ≡ codes "foo%20!%25%3F%3D=bar%3B%3B%2C%20a; Secure; Path=/"
+sent_line : encoded (sent (unsliced (bare (codes "foo !%?=") (codes "bar;;, a")))).cookie ≡ codes "foo%20!%25%3F%3D=bar%3B%3B%2C%20a; Secure; Path=/"
 unfolding percent_encode percent_encode_byte should_percent_encode
 sent_line = refl
 
@@ -32,7 +32,7 @@ abbrev attributed : Record
 attributed = record (bare (codes "a") (codes "1")) { http_only = Some true; secure = Some false; same_site = Some Lax; path = Some (codes "/p"); domain = Some (codes "com"); expires = Some Session }
 
 -- path, Secure and domain are the session's, the other attributes the cookie's
-sent_attributes : encoded (sent attributed) ≡ codes "a=1; HttpOnly; SameSite=Lax; Secure; Path=/"
+sent_attributes : encoded (sent (unsliced attributed)).cookie ≡ codes "a=1; HttpOnly; SameSite=Lax; Secure; Path=/"
 unfolding percent_encode percent_encode_byte should_percent_encode
 sent_attributes = refl
 
@@ -64,23 +64,36 @@ two_pairs = refl
 
 -- ---- a site
 
-abbrev sets_a : List ℕ → Command
-sets_a value = Set Plain (unsliced (bare (codes "a") value))
+an_entry : Site
+an_entry = with_entry nothing (codes "a") (record { kind = kinds.Plain; value = codes "1" })
 
-abbrev gets_a : Command
-gets_a = Get Plain (codes "a")
+-- an accepted set writes its entry
+written : SetOn nothing Plain (bare (codes "a") (codes "1")) [] an_entry
+unfolding an_entry
+written = inl (refl, refl, refl)
 
--- a request reads what it has set so far
-reads_its_own : told_in nothing (gets_a ∷ sets_a (codes "1") ∷ gets_a ∷ []) ≡ Value Plain (codes "a") None ∷ Value Plain (codes "a") (Some (codes "1")) ∷ []
-reads_its_own = refl
+-- that value is read in its way, and no other
+read_back : (told : List Reading) → GetOn an_entry Plain (codes "a") told → told ≡ Value Plain (codes "a") (Some (codes "1")) ∷ []
+unfolding an_entry
+read_back told t = t.1 ∙ ap (λ v. Value Plain (codes "a") v ∷ []) (t.2 refl)
+
+-- where there is no entry, none is read
+missing : (told : List Reading) → GetOn nothing Sealed (codes "a") told → told ≡ Value Sealed (codes "a") None ∷ []
+missing told t = t.1 ∙ ap (λ v. Value Sealed (codes "a") v ∷ []) t.2
+
+prefixed_name : stored_name Host (codes "a") ≡ codes "__Host-a"
+prefixed_name = refl
 
 -- what was set stays where the answer came, and doesn't where it was lost
-came : told_in (after_exchange nothing (sets_a (codes "1") ∷ []) (Arrives (pos 0))) (gets_a ∷ []) ≡ Value Plain (codes "a") (Some (codes "1")) ∷ []
+came : after_arrival (Arrives (pos 0)) nothing an_entry ≡ an_entry
 came = refl
 
-lost : told_in (after_exchange nothing (sets_a (codes "1") ∷ []) Never) (gets_a ∷ []) ≡ Value Plain (codes "a") None ∷ []
+lost : after_arrival Never nothing an_entry ≡ nothing
 lost = refl
 
 -- an empty name is refused
-refused : told_in nothing (Set Plain (unsliced (bare [] [])) ∷ Get Plain [] ∷ []) ≡ Refused EmptyName ∷ Refused EmptyName ∷ []
+refused : set_refusal Plain (bare [] []) ≡ Some EmptyName
 refused = refl
+
+refused_get : (told : List Reading) → GetOn nothing Plain [] told → told ≡ Refused EmptyName ∷ []
+refused_get told t = t

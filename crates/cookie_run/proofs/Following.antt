@@ -8,7 +8,7 @@ use Rattle.url.specs.Parts.{Parts}
 use Rattle.cookie_run.specs.declared.step.LineEnd.{LineEnd}
 use Rattle.cookie_run.specs.Rows.{AcceptsAll, Takes}
 use Rattle.cookie_run.specs.ScriptLine as spec
-use Rattle.cookie_run.specs.ScriptText.{Reached, obeyed, goes_back, done, after_line, HalfLine}
+use Rattle.cookie_run.specs.ScriptText.{Reached, obeyed, goes_back, done, after_line, HasFault, HalfLine}
 use Rattle.cookie_run.specs.Standing.{Stands, Goes, Halts}
 use Rattle.cookie_run.specs.ScriptRead.{line_of}
 use Rattle.cookie_run.specs.declared.row.Row.{Row}
@@ -17,6 +17,7 @@ use Rattle.cookie_run.specs.declared.script.cause.Cause.TheVariants.{Back, Memor
 use Rattle.cookie_run.specs.declared.script.line.Line.{Line}
 use Rattle.cookie_run.specs.declared.script.visit.Visit.{Visit}
 use Rattle.cookie_run.specs.declared.step.SessionError.{SessionError}
+use Rattle.cookie_run.specs.declared.step.Stopped.{Stopped}
 
 empty_line : (line : List ℕ) → line ≡ [] → bytes_eq line [] ≡ true
 empty_line line e = ap (λ l. bytes_eq l []) e
@@ -34,14 +35,16 @@ skips true x y e = absurd (false≢true (sym e))
 skips false x y e = refl
 
 -- an empty line is passed over
-pub passes_over : (line : List ℕ) (rows : List Row) (last : ℤ) (visit : Option Visit) (text : List ℕ) → line ≡ [] → text ≡ [] → Goes (λ r. after_line r line) rows last visit rows last visit text
-passes_over line rows last visit text e empty start r output s = (
+pub passes_over : (key : List ℕ) (line : List ℕ) (rows : List Row) (last : ℤ) (visit : Option Visit) (text : List ℕ) → line ≡ [] → text ≡ [] → Goes key (λ r. after_line r line) rows last visit rows last visit text
+passes_over key line rows last visit text e empty start r output s = (
   r,
   picks (bytes_eq line []) (Ok r) (done r (spec.read_line line)) (empty_line line e),
   record {
     told = s.told;
+    front = s.front;
     plays = s.plays;
     is_open = s.is_open;
+    answered = s.answered;
     prints = ap (λ t. output ++ t) empty ∙ (append-nil output ∙ s.prints);
     moment = s.moment;
   },
@@ -51,34 +54,34 @@ read_led : (r : Reached) (line : List ℕ) (read : Result spec.Line Cause) → 0
 read_led r line read some e = skips (bytes_eq line []) (Ok r) (done r (spec.read_line line)) (some_line line some) ∙ ap (done r) e
 
 -- its text has a fault
-pub misreads : (line : List ℕ) (rows : List Row) (last : ℤ) (visit : Option Visit) (cause : Cause) → 0 < length line → (spec.read_line line ≡ Err cause) ⊎ (cause ≡ Memory)
-    → Halts (λ r. after_line r line) rows last visit cause rows
-misreads line rows last visit cause some (inl e) start r output s = inl (read_led r line (Err cause) some e, refl)
-misreads line rows last visit cause some (inr e) start r output s = inr (e, inl refl)
+pub misreads : (key : List ℕ) (line : List ℕ) (rows : List Row) (last : ℤ) (visit : Option Visit) (cause : Cause) → 0 < length line → (spec.read_line line ≡ Err cause) ⊎ (cause ≡ Memory)
+    → Halts key (λ r. after_line r line) rows last visit cause rows
+misreads key line rows last visit cause some (inl e) start r output s = inl (inl (read_led r line (Err cause) some e), refl)
+misreads key line rows last visit cause some (inr e) start r output s = inr (e, inl refl)
 
 -- its moment is before the last
-pub comes_back : (line : List ℕ) (rows : List Row) (last : ℤ) (visit : Option Visit) (read : Line) → 0 < length line → spec.read_line line ≡ Ok (line_of read) → goes_back last (line_of read) ≡ true
-    → Halts (λ r. after_line r line) rows last visit Back rows
-comes_back line rows last visit read some e back start r output s =
-    inl (read_led r line (Ok (line_of read)) some e ∙ picks (goes_back r.last (line_of read)) (Err Back) (obeyed r.acts r.last r.now (line_of read)) (subst (λ m. goes_back m (line_of read) ≡ true) s.moment back), refl)
+pub comes_back : (key : List ℕ) (line : List ℕ) (rows : List Row) (last : ℤ) (visit : Option Visit) (read : Line) → 0 < length line → spec.read_line line ≡ Ok (line_of read) → goes_back last (line_of read) ≡ true
+    → Halts key (λ r. after_line r line) rows last visit Back rows
+comes_back key line rows last visit read some e back start r output s =
+    inl (inl (read_led r line (Ok (line_of read)) some e ∙ picks (goes_back r.last (line_of read)) (Err Back) (obeyed r.acts r.last r.now (line_of read)) (subst (λ m. goes_back m (line_of read) ≡ true) s.moment back)), refl)
 
-led : (start rows : List Row) (r : Reached) (last : ℤ) (visit : Option Visit) (output line : List ℕ) (read : Line) → Stands start r rows last visit output → 0 < length line → spec.read_line line ≡ Ok (line_of read) → goes_back last (line_of read) ≡ false
+led : (key : List ℕ) (start rows : List Row) (r : Reached) (last : ℤ) (visit : Option Visit) (output line : List ℕ) (read : Line) → Stands key start r rows last visit output → 0 < length line → spec.read_line line ≡ Ok (line_of read) → goes_back last (line_of read) ≡ false
     → after_line r line ≡ obeyed r.acts r.last r.now (line_of read)
-led start rows r last visit output line read s some e forth =
+led key start rows r last visit output line read s some e forth =
     read_led r line (Ok (line_of read)) some e ∙ skips (goes_back r.last (line_of read)) (Err Back) (obeyed r.acts r.last r.now (line_of read)) (subst (λ m. goes_back m (line_of read) ≡ false) s.moment forth)
 
-pub goes_on : (line : List ℕ) (rows new_rows : List Row) (last new_last : ℤ) (visit new_visit : Option Visit) (read : Line) (text : List ℕ) → 0 < length line → spec.read_line line ≡ Ok (line_of read) → goes_back last (line_of read) ≡ false
-    → Goes (λ r. obeyed r.acts r.last r.now (line_of read)) rows last visit new_rows new_last new_visit text
-    → Goes (λ r. after_line r line) rows last visit new_rows new_last new_visit text
-goes_on line rows new_rows last new_last visit new_visit read text some e forth goes start r output s =
+pub goes_on : (key : List ℕ) (line : List ℕ) (rows new_rows : List Row) (last new_last : ℤ) (visit new_visit : Option Visit) (read : Line) (text : List ℕ) → 0 < length line → spec.read_line line ≡ Ok (line_of read) → goes_back last (line_of read) ≡ false
+    → Goes key (λ r. obeyed r.acts r.last r.now (line_of read)) rows last visit new_rows new_last new_visit text
+    → Goes key (λ r. after_line r line) rows last visit new_rows new_last new_visit text
+goes_on key line rows new_rows last new_last visit new_visit read text some e forth goes start r output s =
     let g = goes start r output s in
-    (g.0, led start rows r last visit output line read s some e forth ∙ g.1, g.2)
+    (g.0, led key start rows r last visit output line read s some e forth ∙ g.1, g.2)
 
-pub halts_there : (line : List ℕ) (rows new_rows : List Row) (last : ℤ) (visit : Option Visit) (read : Line) (cause : Cause) → 0 < length line → spec.read_line line ≡ Ok (line_of read) → goes_back last (line_of read) ≡ false
-    → Halts (λ r. obeyed r.acts r.last r.now (line_of read)) rows last visit cause new_rows
-    → Halts (λ r. after_line r line) rows last visit cause new_rows
-halts_there line rows new_rows last visit read cause some e forth halts start r output s =
-    subst (λ l. ((l ≡ Err cause) × (new_rows ≡ rows)) ⊎ ((cause ≡ Memory) × HalfLine rows r l new_rows)) (sym (led start rows r last visit output line read s some e forth)) (halts start r output s)
+pub halts_there : (key : List ℕ) (line : List ℕ) (rows new_rows : List Row) (last : ℤ) (visit : Option Visit) (read : Line) (cause : Cause) → 0 < length line → spec.read_line line ≡ Ok (line_of read) → goes_back last (line_of read) ≡ false
+    → Halts key (λ r. obeyed r.acts r.last r.now (line_of read)) rows last visit cause new_rows
+    → Halts key (λ r. after_line r line) rows last visit cause new_rows
+halts_there key line rows new_rows last visit read cause some e forth halts start r output s =
+    subst (λ l. (HasFault r l cause × (new_rows ≡ rows)) ⊎ ((cause ≡ Memory) × HalfLine key rows r l new_rows)) (sym (led key start rows r last visit output line read s some e forth)) (halts start r output s)
 
 -- ---- results
 
@@ -107,3 +110,8 @@ accepted_name x e name h empty = ok_err x e (h empty)
   where
     ok_err : {A : Type 0} (x : A) (e : SessionError) → Ok x ≡ Err e → ⊥
     ok_err x e p = cc
+
+-- memory was refused at a line
+pub stopped_at : {A : Type 0} (r : Result A Stopped) (P : Stopped → Type 0) → true ≡ is_err r → IfErr r P → (stopped : Stopped) × P stopped
+stopped_at (Ok x) P e h = absurd (false≢true (sym e))
+stopped_at (Err x) P e h = (x, h)

@@ -1,6 +1,8 @@
 pub mod Escaped
 pub mod ReadBack
 pub mod HeaderBack
+pub mod Texts
+pub mod Sessions
 pub mod Records
 pub mod SiteStep
 pub mod Puts
@@ -12,7 +14,6 @@ pub mod ScriptLines
 pub mod Shown
 pub mod Pouring
 pub mod MomentText
-pub mod Reached
 pub mod Calendar
 pub mod Ends
 pub mod ReadCode

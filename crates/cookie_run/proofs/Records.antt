@@ -1,46 +1,20 @@
 -- Lists of cookies, each name once, and the rows that they make.
-use Rattle.std.proofs.Common.{◌≡◌, ◌≢◌, ℕ, Bool, true, false, cond, ◌&&◌, List, [], ◌∷◌, All, sym, refl, ap, ◌∙◌, subst, ⊎_elim, Option, Some, None}
+use Rattle.std.proofs.Common.{◌≡◌, ◌≢◌, ℕ, Bool, true, false, cond, ◌&&◌, List, [], ◌∷◌, All, sym, refl, ap, ◌∙◌, subst, ⊎_elim, Option, Some}
 use Rattle.std.specs.Prelude.{if◌then◌else◌, map}
 use Rattle.std.specs.List.{AllByRecursion}
 use Rattle.std.specs.Str.{bytes_eq}
-use Rattle.std.specs.FinMap as finmap
-use Rattle.std.specs.FinMap.{get-insert}
-use Rattle.std.proofs.lemmas.Cmp.{nat_list_cmp_total}
-use Rattle.std.specs.Cmp.Lexicographic.{texts_ties}
-use Rattle.std.proofs.lemmas.Bool.{cases_Bool, cond-true, cond-false, both_ways}
-use Rattle.std.proofs.lemmas.Slice.Eq.{bytes_eq-Decides}
+use Rattle.std.proofs.lemmas.Bool.{cases_Bool, cond-true, cond-false}
 use Rattle.percent_encoding.specs.Percent.{percent_encode, percent_decode}
 use Rattle.percent_encoding.proofs.PercentLemmas.{IsByte}
 use Rattle.cookie_text.specs.declared.escape.TheConstants.{PROFILE}
 use Rattle.cookie_text.specs.Record.{Record}
-use Rattle.cookie_run.specs.Jar.{Cookies, put_record, or_else, value_in, found_in, with_all, lacks, AreApart}
+use Rattle.cookie_run.specs.Jar.{put_record, or_else, value_in, found_in, lacks, AreApart}
 use Rattle.cookie_run.specs.declared.row.Row.{Row}
 use Rattle.cookie_run.specs.Rows.{has_key_of, put, rows_of}
+use Rattle.cookie_run.proofs.Texts.{same_text, text_is, other_text, texts_differ, turned, some_is_not_none}
 use Rattle.cookie_run.proofs.Escaped.{decoded_escaped}
 use Rattle.cookie_run.proofs.ReadBack.{IsGood}
 use Rattle.cookie_run.proofs.HeaderBack.{row_at}
-
--- ---- texts that are one or two
-
-pub same_text : (x y : List ℕ) → bytes_eq x y ≡ true → x ≡ y
-same_text x y e = (bytes_eq-Decides x y).0 e
-
-pub text_is : (x y : List ℕ) → x ≡ y → bytes_eq x y ≡ true
-text_is x y e = (bytes_eq-Decides x y).1 e
-
-pub other_text : (x y : List ℕ) → x ≢ y → bytes_eq x y ≡ false
-other_text x y h = ⊎_elim (λ e. absurd (h (same_text x y e))) (λ e. e) (cases_Bool (bytes_eq x y))
-
-pub texts_differ : (x y : List ℕ) → bytes_eq x y ≡ false → x ≢ y
-texts_differ x y e same = both_ways _ e (text_is x y same)
-
--- the other way round
-pub turned : (x y : List ℕ) (b : Bool) → bytes_eq x y ≡ b → bytes_eq y x ≡ b
-turned x y true e = text_is y x (sym (same_text x y e))
-turned x y false e = other_text y x (λ same. texts_differ x y e (sym same))
-
-pub some_is_not_none : {A : Type 0} (v : A) → Some v ≢ None
-some_is_not_none v e = cc
 
 -- ---- a cookie in a list
 
@@ -106,30 +80,13 @@ each_of P (c ∷ cs) apart h = (
 
 -- ---- written one after another
 
-pub get_insert : (m : Cookies) (k : List ℕ) (c : Record) (q : List ℕ) → finmap.get (finmap.insert m k c) q ≡ (if bytes_eq q k then Some c else finmap.get m q)
-get_insert m k c q = get-insert nat_list_cmp_total m k c q ∙ ap (λ b. cond b (Some c) (finmap.get m q)) (sym (texts_ties q k))
-
 -- the later cookies first, then this one: where names are apart, the order is no matter
-moved : (c : Record) (cs : List Record) (q : List ℕ) (d : Option Record) → lacks cs c.name → or_else (found_in cs q) (if bytes_eq q c.name then Some c else d) ≡ or_else (found_in (c ∷ cs) q) d
-moved c cs q d none =
-    ⊎_elim
-    (λ (e : bytes_eq q c.name ≡ true). rw (e, same_text q c.name e, none) refl)
-    (λ (e : bytes_eq q c.name ≡ false). rw e refl)
-    (cases_Bool (bytes_eq q c.name))
-
--- the same of their values
 pub value_moved : (c : Record) (cs : List Record) (q : List ℕ) (d : Option (List ℕ)) → lacks cs c.name → or_else (value_in (found_in cs q)) (if bytes_eq q c.name then Some c.value else d) ≡ or_else (value_in (found_in (c ∷ cs) q)) d
 value_moved c cs q d none =
     ⊎_elim
     (λ (e : bytes_eq q c.name ≡ true). rw (e, same_text q c.name e, none) refl)
     (λ (e : bytes_eq q c.name ≡ false). rw e refl)
     (cases_Bool (bytes_eq q c.name))
-
-pub get_with_all : (m : Cookies) (cs : List Record) (q : List ℕ) → AreApart cs → finmap.get (with_all m cs) q ≡ or_else (found_in cs q) (finmap.get m q)
-get_with_all m [] q apart = refl
-get_with_all m (c ∷ cs) q apart =
-    get_with_all (finmap.insert m c.name c) cs q apart.1
-    ∙ (ap (or_else (found_in cs q)) (get_insert m c.name c q) ∙ moved c cs q (finmap.get m q) apart.0)
 
 -- ---- the rows of a host
 

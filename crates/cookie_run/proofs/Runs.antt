@@ -1,21 +1,26 @@
 -- A play goes on by one step.
-use Rattle.std.proofs.lemmas.List.{take_more}
+use Rattle.std.proofs.lemmas.List.{take_more, take_all, take-append-drop}
 use Rattle.std.specs.Prelude.{IsErr, IsErrAnd, IfErr}
 use Rattle.cookie_run.specs.declared.step.Step.{Step}
 use Rattle.cookie_run.specs.Acts.{act_of, acts_of}
-use Rattle.std.proofs.Common.{◌≡◌, ℕ, ◌+◌, ◌<◌, length, take, get_or, Result, Ok, Err, OnOk, OnErr, List, [], ◌∷◌, ◌++◌, sym, refl, ap, ◌∙◌, subst, append_assoc}
-use Rattle.std.specs.List.{AllByRecursion}
+use Rattle.std.proofs.Common.{◌≡◌, ℕ, ◌+◌, ◌<◌, ◌≤◌, length, take, drop, get_or, Result, Ok, Err, OnOk, OnErr, List, [], ◌∷◌, ◌++◌, sym, refl, ap, ◌∙◌, subst, append_assoc}
 use Rattle.cookie_run.specs.Acts.{Act}
-use Rattle.cookie_run.specs.Texts.{StepSetsText}
 use Rattle.cookie_run.specs.declared.row.Row.{Row}
 use Rattle.cookie_run.specs.declared.step.Reading.{Reading}
-use Rattle.cookie_run.specs.Play.{Plays, OneStep, all_told}
+use Rattle.cookie_run.specs.declared.step.Command.{Command}
+use Rattle.cookie_text.specs.Record.{Seen}
+use Rattle.cookie_run.specs.declared.step.Way.{Way}
+use Rattle.cookie_run.specs.declared.step.Way.TheVariants.{Plain, Host, Secure, Signed, Sealed}
+use Rattle.cookie_run.specs.Jar.{Keyed, IsOpened, IsKeptAs, Sets, sent}
+use Rattle.cookie_run.specs.Stops.{GoesOnBy}
+use Rattle.cookie_run.proofs.Sessions.{some_opened}
+use Rattle.cookie_run.specs.Play.{Plays, OneStep, CommandTells, Tells, TellsFront, ServesAll, ServesFront, any_nonce, all_told}
 
-pub plays_more : (rows mid new : List Row) (acts : List Act) (told : List (List Reading)) (act : Act) (t : List Reading) → Plays rows acts told mid → OneStep mid act t new → Plays rows (acts ++ act ∷ []) (told ++ t ∷ []) new
-plays_more rows mid new [] [] act t p s = (new, subst (λ rs. OneStep rs act t new) p s, refl)
-plays_more rows mid new [] (u ∷ us) act t p s = absurd p
-plays_more rows mid new (a ∷ acts) [] act t p s = absurd p
-plays_more rows mid new (a ∷ acts) (u ∷ us) act t p s = (p.0, p.1, plays_more p.0 mid new acts us act t p.2 s)
+pub plays_more : (key : List ℕ) (rows mid new : List Row) (acts : List Act) (told : List (List Reading)) (act : Act) (t : List Reading) → Plays key rows acts told mid → OneStep key mid act t new → Plays key rows (acts ++ act ∷ []) (told ++ t ∷ []) new
+plays_more key rows mid new [] [] act t p s = (new, subst (λ rs. OneStep key rs act t new) p s, refl)
+plays_more key rows mid new [] (u ∷ us) act t p s = absurd p
+plays_more key rows mid new (a ∷ acts) [] act t p s = absurd p
+plays_more key rows mid new (a ∷ acts) (u ∷ us) act t p s = (p.0, p.1, plays_more key p.0 mid new acts us act t p.2 s)
 
 pub told_more : (told : List (List Reading)) (t : List Reading) → all_told (told ++ t ∷ []) ≡ all_told told ++ t
 told_more [] t = append_nil t
@@ -25,10 +30,6 @@ told_more [] t = append_nil t
     append_nil (x ∷ xs) = ap (λ ys. x ∷ ys) (append_nil xs)
 told_more (u ∷ us) t = ap (λ x. u ++ x) (told_more us t) ∙ sym (append_assoc u (all_told us) t)
 
-pub texts_more : (acts : List Act) (act : Act) → AllByRecursion StepSetsText acts → StepSetsText act → AllByRecursion StepSetsText (acts ++ act ∷ [])
-texts_more [] act h s = (s, tt)
-texts_more (a ∷ acts) act h s = (h.0, texts_more acts act h.1 s)
-
 acts_append : (xs ys : List Step) → acts_of (xs ++ ys) ≡ acts_of xs ++ acts_of ys
 acts_append [] ys = refl
 acts_append (x ∷ xs) ys = ap (λ zs. act_of x ∷ zs) (acts_append xs ys)
@@ -36,17 +37,14 @@ acts_append (x ∷ xs) ys = ap (λ zs. act_of x ∷ zs) (acts_append xs ys)
 pub acts_more : (steps : List Step) (i : ℕ) (s : Step) → i < length steps → s ≡ get_or steps i s → acts_of (take (i + 1) steps) ≡ acts_of (take i steps) ++ act_of s ∷ []
 acts_more steps i s h is = ap acts_of (take_more steps i s h) ∙ (acts_append (take i steps) (get_or steps i s ∷ []) ∙ ap (λ x. acts_of (take i steps) ++ act_of x ∷ []) (sym is))
 
-pub run_more : (rows mid new : List Row) (steps : List Step) (i : ℕ) (s : Step) (start now later : List Reading) (t : List Reading) → i < length steps → s ≡ get_or steps i s →
-    ((told : List (List Reading)) × (now ≡ start ++ all_told told) × Plays rows (acts_of (take i steps)) told mid) → later ≡ now ++ t → OneStep mid (act_of s) t new →
-    (told : List (List Reading)) × (later ≡ start ++ all_told told) × Plays rows (acts_of (take (i + 1) steps)) told new
-run_more rows mid new steps i s start now later t h is run e step = (
-  run.0 ++ t ∷ [],
-  e ∙ (ap (λ x. x ++ t) run.1 ∙ (append_assoc start (all_told run.0) t ∙ ap (λ x. start ++ x) (sym (told_more run.0 t)))),
-  subst (λ acts. Plays rows acts (run.0 ++ t ∷ []) new) (sym (acts_more steps i s h is)) (plays_more rows mid new (acts_of (take i steps)) run.0 (act_of s) t run.2 step),
+pub run_more : (key : List ℕ) (rows mid new : List Row) (steps : List Step) (i : ℕ) (s : Step) (start now later : List Reading) → i < length steps → s ≡ get_or steps i s →
+    ((told : List (List Reading)) × (now ≡ start ++ all_told told) × Plays key rows (acts_of (take i steps)) told mid) → ((t : List Reading) × (later ≡ now ++ t) × OneStep key mid (act_of s) t new) →
+    (told : List (List Reading)) × (later ≡ start ++ all_told told) × Plays key rows (acts_of (take (i + 1) steps)) told new
+run_more key rows mid new steps i s start now later h is run step = (
+  run.0 ++ step.0 ∷ [],
+  step.1 ∙ (ap (λ x. x ++ step.0) run.1 ∙ (append_assoc start (all_told run.0) step.0 ∙ ap (λ x. start ++ x) (sym (told_more run.0 step.0)))),
+  subst (λ acts. Plays key rows acts (run.0 ++ step.0 ∷ []) new) (sym (acts_more steps i s h is)) (plays_more key rows mid new (acts_of (take i steps)) run.0 (act_of s) step.0 run.2 step.2),
 )
-
-pub texts_next : (steps : List Step) (i : ℕ) (s : Step) → i < length steps → s ≡ get_or steps i s → AllByRecursion StepSetsText (acts_of (take i steps)) → StepSetsText (act_of s) → AllByRecursion StepSetsText (acts_of (take (i + 1) steps))
-texts_next steps i s h is all one = subst (AllByRecursion StepSetsText) (sym (acts_more steps i s h is)) (texts_more (acts_of (take i steps)) (act_of s) all one)
 
 pub on_ok : {A E : Type 0} (r : Result A E) (P Q : Type 0) → (P → Q) → OnOk r P → OnOk r Q
 on_ok (Ok x) P Q f h = f h
@@ -64,3 +62,69 @@ err_gives (Err e) Q P h f = f e h.1
 pub readings_nil : (xs : List Reading) → xs ++ [] ≡ xs
 readings_nil [] = refl
 readings_nil (x ∷ xs) = ap (λ ys. x ∷ ys) (readings_nil xs)
+
+-- ---- one more command
+
+pub tells_more : (s mid new : Keyed) (cs : List Command) (c : Command) (told t : List Reading) → Tells s cs told mid → CommandTells mid c t new → Tells s (cs ++ c ∷ []) (told ++ t) new
+tells_more s mid new [] c told t p one =
+    (t, [], new, subst (λ k. CommandTells k c t new) p.1 one, (refl, refl), ap (λ x. x ++ t) p.0 ∙ sym (readings_nil t))
+tells_more s mid new (d ∷ cs) c told t p one =
+    (p.0, p.1 ++ t, p.2, p.3, tells_more p.2 mid new cs c p.1 t p.4 one, ap (λ x. x ++ t) p.5 ∙ append_assoc p.0 p.1 t)
+
+-- what was read by the first of the commands
+abbrev pub ToldBy : Keyed → List Command → ℕ → List Reading → List Reading → Keyed → Type 0
+ToldBy old cs i start now new = (told : List Reading) × (now ≡ start ++ told) × Tells old (take i cs) told new
+
+pub told_next : (old mid new : Keyed) (cs : List Command) (i : ℕ) (c : Command) (start now later t : List Reading) → i < length cs → c ≡ get_or cs i c → ToldBy old cs i start now mid → CommandTells mid c t new → later ≡ now ++ t → ToldBy old cs (i + 1) start later new
+told_next old mid new cs i c start now later t h is so one e = (
+  so.0 ++ t,
+  e ∙ (ap (λ x. x ++ t) so.1 ∙ append_assoc start so.0 t),
+  subst (λ ds. Tells old ds (so.0 ++ t) new) (sym (take_more cs i c h ∙ ap (λ d. take i cs ++ d ∷ []) (sym is))) (tells_more old mid new (take i cs) c so.0 t so.2 one),
+)
+
+pub told_all : (old new : Keyed) (cs : List Command) (i : ℕ) (start now : List Reading) → length cs ≤ i → ToldBy old cs i start now new → (told : List Reading) × (now ≡ start ++ told) × Tells old cs told new
+told_all old new cs i start now h so = (so.0, so.1, subst (λ ds. Tells old ds so.0 new) (take_all i cs h) so.2)
+
+pub told_front : (old mid : Keyed) (cs : List Command) (i : ℕ) (start now later : List Reading) → ToldBy old cs i start now mid → later ≡ now → GoesOnBy start (TellsFront old cs) later
+told_front old mid cs i start now later so e = (so.0, (take i cs, drop i cs, sym (take-append-drop i cs), mid, so.2), e ∙ so.1)
+
+pub told_first : (old : Keyed) (cs : List Command) (start : List Reading) → ToldBy old cs 0 start start old
+told_first old cs start = ([], sym (readings_nil start), (refl, refl))
+
+-- a session that was opened serves so
+pub serves_front : (key header : List ℕ) (opened : Keyed) (cs : List Command) (old readings : List Reading) → IsOpened key header opened → GoesOnBy old (TellsFront opened cs) readings → GoesOnBy old (ServesFront key header cs) readings
+serves_front key header opened cs old readings is g = (g.0, (g.1.0, g.1.1, g.1.2, (g.1.3, (opened, is, g.1.4))), g.2)
+
+pub serves_whole : (key header : List ℕ) (opened new : Keyed) (cs : List Command) (old readings : List Reading) → IsOpened key header opened → ((told : List Reading) × (readings ≡ old ++ told) × Tells opened cs told new) → GoesOnBy old (ServesFront key header cs) readings
+serves_whole key header opened new cs old readings is g = (g.0, (cs, [], sym (commands_nil cs), (new, (opened, is, g.2))), g.1)
+  where
+    commands_nil : (ds : List Command) → ds ++ [] ≡ ds
+    commands_nil [] = refl
+    commands_nil (d ∷ ds) = ap (λ x. d ∷ x) (commands_nil ds)
+
+-- none of the commands was done
+pub serves_none : (key header : List ℕ) (cs : List Command) (old readings : List Reading) → readings ≡ old → GoesOnBy old (ServesFront key header cs) readings
+serves_none key header cs old readings e =
+    let opened = some_opened key header in
+    ([], ([], cs, refl, (opened.0, (opened.0, opened.1, (refl, refl)))), e ∙ sym (readings_nil old))
+
+pub serves_all : (key header : List ℕ) (opened new : Keyed) (cs : List Command) (old readings : List Reading) → IsOpened key header opened → ((told : List Reading) × (readings ≡ old ++ told) × Tells opened cs told new) → GoesOnBy old (ServesAll key header cs) readings
+serves_all key header opened new cs old readings is g = (g.0, (new, (opened, is, g.2)), g.1)
+
+-- ---- whatever the nonces
+
+kept_any : (May : List ℕ → Type 0) (key : List ℕ) (way : Way) (s kept : Seen) → IsKeptAs May key way s kept → IsKeptAs any_nonce key way s kept
+kept_any May key Plain s kept k = k
+kept_any May key Host s kept k = k
+kept_any May key Secure s kept k = k
+kept_any May key Signed s kept k = k
+kept_any May key Sealed s kept k = (k.0, tt, k.2)
+
+pub sets_any : (May : List ℕ → Type 0) (old : Keyed) (way : Way) (s : Seen) (new : Keyed) → Sets May old way s new → Sets any_nonce old way s new
+sets_any May old way s new h = record {
+  name = h.name;
+  value = h.value;
+  accepted = h.accepted;
+  key_is = h.key_is;
+  keeps = (h.keeps.0, kept_any May old.key way (sent s) h.keeps.0 h.keeps.1, h.keeps.2);
+}

@@ -4,9 +4,9 @@ use Rattle.std.specs.Prelude.{IfOk, IfErr, OnOk, IsErrOf, IfSome, Some}
 use Rattle.std.specs.Str.Lines.{lines}
 use Rattle.std.specs.Io.KnownBytes.{Appends}
 use Rattle.std.proofs.KnownBytes.{Appends-trans, Appends-nil}
-use Rattle.cookie_run.specs.ScriptText.{Reached, begun, LeadsTo, after_line, ScriptText, EndsForMemory, HalfLine, fault_text, Prints}
+use Rattle.cookie_run.specs.ScriptText.{Reached, begun, LeadsTo, after_line, ScriptText, EndsForMemory, HasFault, HalfLine, fault_text, Prints}
 use Rattle.cookie_run.specs.Standing.{Stands}
-use Rattle.cookie_run.specs.Program.{begins_at, IsScriptOf}
+use Rattle.cookie_run.specs.Program.{begins_at, program_key, IsScriptOf}
 use Rattle.cookie_run.specs.declared.row.Row.{Row}
 use Rattle.cookie_run.specs.declared.script.cause.Cause.{Cause}
 use Rattle.cookie_run.specs.declared.script.cause.Cause.TheVariants.{Memory}
@@ -19,24 +19,24 @@ use Rattle.cookie_run.specs.declared.script.visit.Visit.{Visit}
 use Rattle.cookie_run.proofs.Halting.{prints_all}
 
 -- how far the run has come: the lines done, where they led, and what was printed for them
-pub record Come (start : List Row) (first : ℤ) (text rest : List ℕ) (rows : List Row) (last : ℤ) (visit : Option Visit) (done : ℕ) (old new : Option (List ℕ)) : Type 0 where
+pub record Come (key : List ℕ) (start : List Row) (first : ℤ) (text rest : List ℕ) (rows : List Row) (last : ℤ) (visit : Option Visit) (done : ℕ) (old new : Option (List ℕ)) : Type 0 where
   pub r : Reached
   pub before : List (List ℕ)
   pub output : List ℕ
   pub leads : LeadsTo (begun first) before r
   pub whole : lines text ≡ before ++ lines rest
-  pub stands : Stands start r rows last visit output
+  pub stands : Stands key start r rows last visit output
   pub written : Appends old new output
   pub count : done ≡ length before
 
-pub come_first : (start : List Row) (first : ℤ) (text : List ℕ) (w : Option (List ℕ)) → Come start first text text start first None 0 w w
-come_first start first text w = record {
+pub come_first : (key : List ℕ) (start : List Row) (first : ℤ) (text : List ℕ) (w : Option (List ℕ)) → Come key start first text text start first None 0 w w
+come_first key start first text w = record {
   r = begun first;
   before = [];
   output = [];
   leads = refl;
   whole = refl;
-  stands = record { told = []; plays = refl; is_open = tt; prints = refl; moment = refl };
+  stands = record { told = []; front = []; plays = refl; is_open = refl; answered = tt; prints = refl; moment = refl };
   written = Appends-nil w;
   count = refl;
 }
@@ -45,12 +45,12 @@ leads_more : (start : Reached) (before : List (List ℕ)) (r next : Reached) (li
 leads_more start [] r next line h e = (next, subst (λ s. after_line s line ≡ Ok next) h e, refl)
 leads_more start (l ∷ before) r next line h e = (h.0, h.1, leads_more h.0 before r next line h.2 e)
 
-pub come_more : (start : List Row) (first : ℤ) (text rest line more : List ℕ) (rows new_rows : List Row) (last new_last : ℤ) (visit new_visit : Option Visit) (done : ℕ) (old mid new : Option (List ℕ)) (printed : List ℕ)
-    → (come : Come start first text rest rows last visit done old mid) → lines rest ≡ line ∷ lines more
-    → ((next : Reached) × (after_line come.r line ≡ Ok next) × Stands start next new_rows new_last new_visit (come.output ++ printed))
+pub come_more : (key : List ℕ) (start : List Row) (first : ℤ) (text rest line more : List ℕ) (rows new_rows : List Row) (last new_last : ℤ) (visit new_visit : Option Visit) (done : ℕ) (old mid new : Option (List ℕ)) (printed : List ℕ)
+    → (come : Come key start first text rest rows last visit done old mid) → lines rest ≡ line ∷ lines more
+    → ((next : Reached) × (after_line come.r line ≡ Ok next) × Stands key start next new_rows new_last new_visit (come.output ++ printed))
     → Appends mid new printed
-    → Come start first text more new_rows new_last new_visit (done + 1) old new
-come_more start first text rest line more rows new_rows last new_last visit new_visit done old mid new printed come cut goes written = record {
+    → Come key start first text more new_rows new_last new_visit (done + 1) old new
+come_more key start first text rest line more rows new_rows last new_last visit new_visit done old mid new printed come cut goes written = record {
   r = goes.0;
   before = come.before ++ line ∷ [];
   output = come.output ++ printed;
@@ -62,30 +62,30 @@ come_more start first text rest line more rows new_rows last new_last visit new_
 }
 
 -- what the text prints, and how it ends
-abbrev pub Ends : List Row → ℤ → List ℕ → Option (List ℕ) → Option (List ℕ) → List Row → ℤ → Ended → Type 0
-Ends start first text old new rows last ended = (output : List ℕ) × Appends old new output
-    × (ScriptText start first text output rows last ended ⊎ EndsForMemory start first text output rows last ended)
+abbrev pub Ends : List ℕ → List Row → ℤ → List ℕ → Option (List ℕ) → Option (List ℕ) → List Row → ℤ → Ended → Type 0
+Ends key start first text old new rows last ended = (output : List ℕ) × Appends old new output
+    × (ScriptText key start first text output rows last ended ⊎ EndsForMemory key start first text output rows last ended)
 
-pub come_whole : (start : List Row) (first : ℤ) (text rest : List ℕ) (rows : List Row) (last : ℤ) (visit : Option Visit) (done : ℕ) (old new : Option (List ℕ))
-    → Come start first text rest rows last visit done old new → rest ≡ [] → Ends start first text old new rows last Whole
-come_whole start first text rest rows last visit done old new come e =
+pub come_whole : (key : List ℕ) (start : List Row) (first : ℤ) (text rest : List ℕ) (rows : List Row) (last : ℤ) (visit : Option Visit) (done : ℕ) (old new : Option (List ℕ))
+    → Come key start first text rest rows last visit done old new → rest ≡ [] → Ends key start first text old new rows last Whole
+come_whole key start first text rest rows last visit done old new come e =
     let all : lines text ≡ come.before = come.whole ∙ (ap (λ x. come.before ++ lines x) e ∙ append-nil come.before) in (
       come.output,
       come.written,
       inl (record {
         r = come.r;
         leads = subst (λ ls. LeadsTo (begun first) ls come.r) (sym all) come.leads;
-        prints = prints_all start rows come.r last visit come.output come.stands;
+        prints = prints_all key start rows come.r last visit come.output come.stands;
         moment = come.stands.moment;
       }),
     )
 
-pub come_fault : (start : List Row) (first : ℤ) (text rest line more : List ℕ) (rows new_rows : List Row) (last new_last : ℤ) (visit : Option Visit) (done : ℕ) (old mid new : Option (List ℕ)) (cause : Cause)
-    → (come : Come start first text rest rows last visit done old mid) → lines rest ≡ line ∷ lines more
-    → ((after_line come.r line ≡ Err cause) × (new_rows ≡ rows)) ⊎ ((cause ≡ Memory) × HalfLine rows come.r (after_line come.r line) new_rows)
+pub come_fault : (key : List ℕ) (start : List Row) (first : ℤ) (text rest line more : List ℕ) (rows new_rows : List Row) (last new_last : ℤ) (visit : Option Visit) (done : ℕ) (old mid new : Option (List ℕ)) (cause : Cause)
+    → (come : Come key start first text rest rows last visit done old mid) → lines rest ≡ line ∷ lines more
+    → (HasFault come.r (after_line come.r line) cause × (new_rows ≡ rows)) ⊎ ((cause ≡ Memory) × HalfLine key rows come.r (after_line come.r line) new_rows)
     → new_last ≡ last → Appends mid new (fault_text (done + 1) cause)
-    → Ends start first text old new new_rows new_last (Faulty (done + 1))
-come_fault start first text rest line more rows new_rows last new_last visit done old mid new cause come cut (inl fault) kept written = (
+    → Ends key start first text old new new_rows new_last (Faulty (done + 1))
+come_fault key start first text rest line more rows new_rows last new_last visit done old mid new cause come cut (inl fault) kept written = (
   come.output ++ fault_text (done + 1) cause,
   Appends-trans old mid new come.output _ come.written written,
   inl (record {
@@ -97,12 +97,12 @@ come_fault start first text rest line more rows new_rows last new_last visit don
     place = record { after = lines more; whole = come.whole ∙ ap (λ ls. come.before ++ ls) cut; number = ap (λ n. n + 1) come.count };
     leads = come.leads;
     fault = fault.0;
-    prints = subst (Prints start come.r come.output) (sym fault.1) (prints_all start rows come.r last visit come.output come.stands);
+    prints = subst (Prints key start come.r come.output) (sym fault.1) (prints_all key start rows come.r last visit come.output come.stands);
     text = refl;
     moment = kept ∙ come.stands.moment;
   }),
 )
-come_fault start first text rest line more rows new_rows last new_last visit done old mid new cause come cut (inr half) kept written = (
+come_fault key start first text rest line more rows new_rows last new_last visit done old mid new cause come cut (inr half) kept written = (
   come.output ++ fault_text (done + 1) cause,
   Appends-trans old mid new come.output _ come.written written,
   inr (record {
@@ -113,7 +113,7 @@ come_fault start first text rest line more rows new_rows last new_last visit don
     mid = rows;
     place = record { after = lines more; whole = come.whole ∙ ap (λ ls. come.before ++ ls) cut; number = ap (λ n. n + 1) come.count };
     leads = come.leads;
-    prints = prints_all start rows come.r last visit come.output come.stands;
+    prints = prints_all key start rows come.r last visit come.output come.stands;
     half = half.1;
     text = ap (λ x. come.output ++ fault_text (done + 1) x) half.0;
     moment = kept ∙ come.stands.moment;
@@ -122,8 +122,8 @@ come_fault start first text rest line more rows new_rows last new_last visit don
 
 -- ---- where memory is refused while the text is read
 
-pub memory_first : (start : List Row) (first : ℤ) (text : List ℕ) (old new : Option (List ℕ)) → 0 < length text → Appends old new (fault_text 1 Memory) → Ends start first text old new start first (Faulty 1)
-memory_first start first text old new some written =
+pub memory_first : (key : List ℕ) (start : List Row) (first : ℤ) (text : List ℕ) (old new : Option (List ℕ)) → 0 < length text → Appends old new (fault_text 1 Memory) → Ends key start first text old new start first (Faulty 1)
+memory_first key start first text old new some written =
     let l = lines_some text some in (
       fault_text 1 Memory,
       written,
@@ -135,7 +135,7 @@ memory_first start first text old new some written =
         mid = start;
         place = record { after = l.1; whole = l.2; number = refl };
         leads = refl;
-        prints = ([], refl, refl);
+        prints = ([], refl, tt, refl);
         half = inl refl;
         text = refl;
         moment = refl;
@@ -172,12 +172,13 @@ only_write (Err x) P only e = absurd (read_write (sym only ∙ same x e))
 -- ---- the program
 
 -- a run from no rows and the program's first moment is a script's
-pub script_of : (left old new : Option (List ℕ)) (start rows : List Row) (first last : ℤ) (ended same : Ended) → start ≡ [] → first ≡ begins_at → ended ≡ same
-    → IfSome left (λ input. Ends start first input old new rows last ended)
+pub script_of : (left old new : Option (List ℕ)) (key : List ℕ) (start rows : List Row) (first last : ℤ) (ended same : Ended) → key ≡ program_key → start ≡ [] → first ≡ begins_at → ended ≡ same
+    → IfSome left (λ input. Ends key start first input old new rows last ended)
     → IfSome left (λ input. (output : List ℕ) × Appends old new output × IsScriptOf input output same)
-script_of None old new start rows first last ended same none begins is h = tt
-script_of (Some input) old new start rows first last ended same none begins is h =
-    let from_none = subst (λ s. Ends s first input old new rows last ended) none h in
-    let from_first = subst (λ f. Ends [] f input old new rows last ended) begins from_none in
-    let ends = subst (λ e. Ends [] begins_at input old new rows last e) is from_first in
+script_of None old new key start rows first last ended same with_key none begins is h = tt
+script_of (Some input) old new key start rows first last ended same with_key none begins is h =
+    let from_key = subst (λ k. Ends k start first input old new rows last ended) with_key h in
+    let from_none = subst (λ s. Ends program_key s first input old new rows last ended) none from_key in
+    let from_first = subst (λ f. Ends program_key [] f input old new rows last ended) begins from_none in
+    let ends = subst (λ e. Ends program_key [] begins_at input old new rows last e) is from_first in
     (ends.0, ends.1, (rows, last, ends.2))

@@ -1,15 +1,17 @@
 -- One exchange, delivered or lost.
 use Rattle.std.proofs.Common.{◌≡◌, ◌≢◌, ℕ, ℤ, ◌<◌, Bool, true, false, cond, ltb, List, All, [], ◌∷◌, ◌++◌, length, sym, refl, ap, ◌∙◌, subst, ⊎_elim, arith, Option, Some, None, Result, inl, inr}
-use Rattle.std.specs.Prelude.{map, codes, is_none, IfSome}
+use Rattle.std.specs.Prelude.{map, codes, option_map, IfSome, ⊤}
 use Rattle.std.specs.List.{AllByRecursion}
 use Rattle.std.specs.Str.{bytes_eq, IsUtf8}
 use Rattle.std.specs.FinMap as finmap
-use Rattle.std.specs.Ordering.{nat_cmp}
-use Rattle.std.specs.Cmp.Lexicographic.{slice_cmp}
 use Rattle.std.proofs.lemmas.Bool.{cases_Bool, cond-true, cond-false, cond_both, both_ways, ltb-true}
 use Rattle.std.proofs.lemmas.List.Elements.{All-nil, All-append, All-from_recursion}
+use Rattle.std.proofs.lemmas.Str.{IsUtf8-append, IsUtf8-from_ascii}
+use Rattle.std.proofs.lemmas.Str.Ascii.{IsAscii-from_all}
 use Rattle.std.specs.Cmp.{first_so, second_so}
 use lib.Utf8.{scalar, scalars, encode, encodes, scalar_cases}
+use Rattle.base64.specs.Engines.{standard}
+use Rattle.base64.proofs.EngineFacts.{IsAscii-encode_of}
 use Rattle.percent_encoding.proofs.PercentLemmas.{IsByte}
 use Rattle.jiff_core.specs.Timestamp.{IsDurationNanos}
 use Rattle.url.specs.Parts.{Parts}
@@ -19,37 +21,43 @@ use Rattle.cookie_text.specs.Printing.{encoded}
 use Rattle.cookie_text.specs.Reading.{ReadsPlain}
 use Rattle.cookie_text.specs.ReadingBack.{ReadsBack}
 use Rattle.cookie_text.specs.Record.{Record, Seen}
+use Rattle.cookie.specs.declared.delta.DeltaCookie.{DeltaCookie as Change}
+use Rattle.cookie.specs.declared.delta.DeltaCookie.TheVariants.{Added, Removed}
+use Rattle.cookie.specs.ByName.{ByName, Lists, AreApart as EntriesApart, value_in as entry_in}
+use Rattle.cookie.specs.Jar.{Jar, cookie_of as cookie_in, delta, overlaid, under_names, view, with_change}
+use Rattle.cookie.specs.Reading.{Reads, ReadsFound, IsSigned, IsSealed}
+use Rattle.cookie.specs.Sealing.{IsSealing}
+use Rattle.cookie.specs.Signing.{signing}
 use Rattle.cookie_run.specs.Reading.{cookies_of, kept_cookie}
-use Rattle.cookie_run.specs.Jar.{Jar, Cookies, put_record, or_else, seen, sent, value_in, found_in, with_all, lacks, AreApart}
+use Rattle.cookie_run.specs.Jar.{Keyed, IsOpened, IsKeptAs, ReadsIn, Sets, put_record, or_else, sent, value_in, record_in, found_in, last_in, lacks, lines_of, AreApart}
 use Rattle.cookie_run.specs.declared.row.Row.{Row}
 use Rattle.cookie_run.specs.declared.step.Way.{Way}
-use Rattle.cookie_run.specs.declared.step.Way.TheVariants.{Plain}
+use Rattle.cookie_run.specs.declared.step.Way.TheVariants as ways
 use Rattle.cookie_run.specs.declared.step.Command.{Command}
 use Rattle.cookie_run.specs.declared.step.Command.TheVariants.{Set, Get}
 use Rattle.cookie_run.specs.declared.step.Reading.{Reading}
-use Rattle.cookie_run.specs.declared.step.Reading.TheVariants.{Value}
 use Rattle.cookie_run.specs.declared.step.LineEnd.{LineEnd}
-use Rattle.cookie_run.specs.declared.step.SessionError.{SessionError}
 use Rattle.cookie_run.specs.Rows.{put, rows_of, row_of, given, given_at, header_of, Accepts, AcceptsAt, AcceptsAll, stored, secure_host}
-use Rattle.cookie_run.specs.Site.{Site, Entry, Open, nothing, with_entry, set_refusal, set_in, after_command, after_commands, value_at, told_by, told_in, told_by_get, after_exchange}
-use Rattle.cookie_run.specs.Texts.{IsText, SetsText, StepSetsText}
-use Rattle.cookie_run.specs.Stops.{StopsFrom}
+use Rattle.cookie_run.specs.Site.{Site, Entry, Kind, Plain, Signed, Sealed, nothing, kind_of, stored_name, with_entry, set_refusal, is_too_long, IsReadAt, GetOn, CommandOn, CommandsOn, ExchangeOn, after_arrival}
+use Rattle.cookie_run.specs.Stops.{StopsFrom, StopsInside, GoesOnBy}
 use Rattle.cookie_run.specs.declared.step.FaultKind.{FaultKind}
-use Rattle.cookie_run.specs.Headline.{host_of, is_text, AnswersBySessions, EachAnswersBySessions, HasNoDeath, SetsNoDeath, IsDeathless, EachDeathless, after_act, after_acts, ReadsOn, EachReadsOn, StopsOn}
+use Rattle.cookie_run.specs.Headline.{host_of, AnswersBySessions, EachAnswersBySessions, HasNoDeath, SetsNoDeath, IsDeathless, EachDeathless, ReadsOn, EachReadsOn, StopsOn, AllOn}
 use Rattle.cookie_run.specs.Acts.{Act, Visits, Answers, Asks, Arrival, Arrives, Never}
-use Rattle.cookie_run.specs.Play.{Plays, OneStep, told_of, opened, jar_set, jar_after, jar_after_all, jar_get, jar_tells, jar_tells_all, Delivers}
+use Rattle.cookie_run.specs.Play.{Plays, OneStep, GetTells, CommandTells, Tells, Serves, ServesAll, ReadsAll, ReadsFront, Delivers, any_nonce}
+use Rattle.cookie_run.proofs.Texts.{same_text, text_is, some_is_not_none}
 use Rattle.cookie_run.proofs.ReadBack.{IsGood, bare_of}
 use Rattle.cookie_run.proofs.HeaderBack.{row_at, cookies_of_header, IsSent, encoded_utf8, line_stored}
-use Rattle.cookie_run.proofs.Puts.{sent_readable, is_named}
-use Rattle.cookie_run.proofs.Records.{same_text, text_is, some_is_not_none, written, value_in_put, apart_put, all_put, each_of, get_insert, value_moved, get_with_all, put_map, rows_put_own, rows_put_other}
+use Rattle.cookie_run.proofs.Sessions.{none_at, get_insert, then_none, kept_readable, each_of_names, of_change}
+use Rattle.cookie_run.proofs.Records.{value_in_put, apart_put, all_put, written, value_moved, put_map, rows_put_own, rows_put_other}
 
 -- what a line reads as, as the crate of cookies promises it
 abbrev pub ReadingBack : Type 0
 ReadingBack = (r : Record) → IsReadable r → IfSome r.max_age IsDurationNanos → (o : Result Seen ParseError) → ReadsPlain (encoded r) o → ReadsBack r o
 
--- what is read under each name of a site
-abbrev pub value_of : Site → List ℕ → Option (List ℕ)
-value_of site name = value_at Open (site name)
+-- a text is the signing and a sealing of one value at most, as the crate of jars promises it
+pub record OnlyOne (key : List ℕ) : Type 0 where
+  pub signed : (v w : List ℕ) → signing key v ≡ signing key w → v ≡ w
+  pub sealed : (name v w text : List ℕ) → IsSealing key name v text → IsSealing key name w text → v ≡ w
 
 -- the rows of a host are those of its cookies, escaped, each name once
 pub record Agrees (host : List ℕ) (rows : List Row) (at : List ℕ → Option (List ℕ)) : Type 0 where
@@ -58,6 +66,31 @@ pub record Agrees (host : List ℕ) (rows : List Row) (at : List ℕ → Option 
   pub are : rows_of host rows ≡ map (row_at host) cookies
   pub apart : AreApart cookies
   pub each : (name : List ℕ) → value_in (found_in cookies name) ≡ at name
+
+-- ---- what stands for an entry
+
+abbrev pub StandsAs : List ℕ → List ℕ → Kind → List ℕ → List ℕ → Type 0
+StandsAs key name Plain value text = text ≡ value
+StandsAs key name Signed value text = text ≡ signing key value
+StandsAs key name Sealed value text = IsUtf8 value × IsSealing key name value text
+
+abbrev pub Matches : List ℕ → List ℕ → Option (List ℕ) → Option Entry → Type 0
+Matches key name None None = ⊤
+Matches key name None (Some e) = ⊥
+Matches key name (Some text) None = ⊥
+Matches key name (Some text) (Some e) = StandsAs key name e.kind e.value text
+
+-- the rows of a host hold what stands for the entries of its site
+pub record SiteAgrees (key host : List ℕ) (rows : List Row) (site : Site) : Type 0 where
+  pub at : List ℕ → Option (List ℕ)
+  pub agrees : Agrees host rows at
+  pub each : (q : List ℕ) → Matches key q (at q) (site q)
+
+-- so does a session
+pub record Shows (key : List ℕ) (session : Keyed) (site : Site) : Type 0 where
+  pub key_is : session.key ≡ key
+  pub named : (q : List ℕ) → IfSome (view session.jar q) (λ s. s.cookie.name ≡ q)
+  pub each : (q : List ℕ) → Matches key q (value_in (record_in (view session.jar q))) (site q)
 
 -- ---- the session opens on the site
 
@@ -86,72 +119,185 @@ apart_bare : (cs : List Record) → AreApart cs → AreApart (map bare_of cs)
 apart_bare [] h = tt
 apart_bare (c ∷ cs) h = (lacks_bare cs c.name h.0, apart_bare cs h.1)
 
-none_get : (q : List ℕ) → finmap.get (finmap.empty {X = Record} {R = slice_cmp nat_cmp}) q ≡ None
-none_get q = finmap.get-empty (slice_cmp nat_cmp) q
-
 or_none : {A : Type 0} (o : Option A) → or_else o None ≡ o
 or_none None = refl
 or_none (Some v) = refl
 
-opened_at : (cs : List Record) (q : List ℕ) → AreApart cs → value_in (or_else (finmap.get (finmap.empty {X = Record} {R = slice_cmp nat_cmp}) q) (finmap.get (with_all finmap.empty cs) q)) ≡ value_in (found_in cs q)
-opened_at cs q apart = rw (get_with_all finmap.empty cs q apart, none_get q) (ap value_in (or_none (found_in cs q)))
+-- where names are apart, the last cookie of a name is the first
+last_found : (cs : List Record) (q : List ℕ) → AreApart cs → last_in cs q ≡ found_in cs q
+last_found [] q apart = refl
+last_found (c ∷ cs) q apart =
+    ⊎_elim
+    (λ (e : bytes_eq q c.name ≡ true).
+    let none : last_in cs q ≡ None = last_found cs q apart.1 ∙ (ap (found_in cs) (same_text q c.name e) ∙ apart.0) in
+    ap (λ o. or_else o (cond (bytes_eq q c.name) (Some c) None)) none
+    ∙ (cond-true _ _ _ e ∙ sym (cond-true (bytes_eq q c.name) (Some c) (found_in cs q) e)))
+    (λ (e : bytes_eq q c.name ≡ false).
+    ap (or_else (last_in cs q)) (cond-false (bytes_eq q c.name) (Some c) None e)
+    ∙ (or_none (last_in cs q) ∙ (last_found cs q apart.1 ∙ sym (cond-false (bytes_eq q c.name) (Some c) (found_in cs q) e))))
+    (cases_Bool (bytes_eq q c.name))
 
-pub opens : (host : List ℕ) (rows : List Row) (url : Parts) (at : List ℕ → Option (List ℕ)) → secure_host url ≡ Some host → Agrees host rows at → (q : List ℕ) → seen (opened (header_of (given rows url))) q ≡ at q
-opens host rows url at secure a q =
-    ap (λ (cs : List Record). seen (record { originals = with_all finmap.empty cs; changes = finmap.empty }) q) (header_is host rows url at secure a)
-    ∙ (opened_at (map bare_of a.cookies) q (apart_bare a.cookies a.apart) ∙ (found_bare a.cookies q ∙ a.each q))
+or_named : (o p : Option Record) (q : List ℕ) → IfSome o (λ c. c.name ≡ q) → IfSome p (λ c. c.name ≡ q) → IfSome (or_else o p) (λ c. c.name ≡ q)
+or_named None p q ho hp = hp
+or_named (Some c) p q ho hp = ho
+
+cond_named : (b : Bool) (c : Record) (q : List ℕ) → (b ≡ true → c.name ≡ q) → IfSome (cond b (Some c) None) (λ d. d.name ≡ q)
+cond_named true c q h = h refl
+cond_named false c q h = tt
+
+last_named : (cs : List Record) (q : List ℕ) → IfSome (last_in cs q) (λ c. c.name ≡ q)
+last_named [] q = tt
+last_named (c ∷ cs) q = or_named (last_in cs q) _ q (last_named cs q) (cond_named (bytes_eq q c.name) c q (λ e. sym (same_text q c.name e)))
+
+seen_named : (o : Option Seen) (q : List ℕ) → IfSome (record_in o) (λ c. c.name ≡ q) → IfSome o (λ s. s.cookie.name ≡ q)
+seen_named None q h = tt
+seen_named (Some s) q h = h
+
+-- nothing was changed yet
+view_original : (jar : Jar) (q : List ℕ) → jar.changes ≡ finmap.empty → view jar q ≡ finmap.get jar.originals q
+view_original jar q e = ap (λ o. overlaid o (finmap.get jar.originals q)) (ap (λ m. finmap.get m q) e ∙ none_at q)
+
+-- what a session's header brought
+abbrev pub Brings : (List ℕ → Option (List ℕ)) → Keyed → Type 0
+Brings at session = (q : List ℕ) → value_in (record_in (finmap.get session.jar.originals q)) ≡ at q
+
+brings : (key host : List ℕ) (rows : List Row) (url : Parts) (at : List ℕ → Option (List ℕ)) (session : Keyed) → secure_host url ≡ Some host → Agrees host rows at → IsOpened key (header_of (given rows url)) session → Brings at session
+brings key host rows url at session secure a opened q =
+    ap value_in (opened.holds.originals q ∙ ap (λ cs. last_in cs q) (header_is host rows url at secure a) ∙ last_found (map bare_of a.cookies) q (apart_bare a.cookies a.apart))
+    ∙ (found_bare a.cookies q ∙ a.each q)
+
+pub opens : (key host : List ℕ) (rows : List Row) (url : Parts) (site : Site) (session : Keyed) → secure_host url ≡ Some host → SiteAgrees key host rows site → IsOpened key (header_of (given rows url)) session → Shows key session site
+opens key host rows url site session secure a opened = record {
+  key_is = opened.key_is;
+  named = λ q. subst (λ (o : Option Seen). IfSome o (λ s. s.cookie.name ≡ q)) (sym (view_original session.jar q opened.holds.changes))
+      (seen_named (finmap.get session.jar.originals q) q (subst (λ (o : Option Record). IfSome o (λ c. c.name ≡ q)) (sym (opened.holds.originals q)) (last_named (cookies_of (header_of (given rows url))) q)));
+  each = λ q. subst (λ (o : Option (List ℕ)). Matches key q o (site q))
+      (sym (ap (λ o. value_in (record_in o)) (view_original session.jar q opened.holds.changes) ∙ brings key host rows url a.at session secure a.agrees opened q)) (a.each q);
+}
+
+-- ---- a set
+
+kept_named : (May : List ℕ → Type 0) (key : List ℕ) (way : Way) (s kept : Seen) → IsKeptAs May key way s kept → kept.cookie.name ≡ stored_name way s.cookie.name
+kept_named May key ways.Plain s kept k = ap (λ (x : Seen). x.cookie.name) k
+kept_named May key ways.Host s kept k = ap (λ (x : Seen). x.cookie.name) k
+kept_named May key ways.Secure s kept k = ap (λ (x : Seen). x.cookie.name) k
+kept_named May key ways.Signed s kept k = ap (λ (x : Seen). x.cookie.name) k
+kept_named May key ways.Sealed s kept k = ap (λ (x : Seen). x.cookie.name) k.2.3
+
+kept_stands : (May : List ℕ → Type 0) (key : List ℕ) (way : Way) (s kept : Seen) → IsUtf8 s.cookie.value → IsKeptAs May key way s kept → StandsAs key (stored_name way s.cookie.name) (kind_of way) s.cookie.value kept.cookie.value
+kept_stands May key ways.Plain s kept utf8 k = ap (λ (x : Seen). x.cookie.value) k
+kept_stands May key ways.Host s kept utf8 k = ap (λ (x : Seen). x.cookie.value) k
+kept_stands May key ways.Secure s kept utf8 k = ap (λ (x : Seen). x.cookie.value) k
+kept_stands May key ways.Signed s kept utf8 k = ap (λ (x : Seen). x.cookie.value) k
+kept_stands May key ways.Sealed s kept utf8 k =
+    (utf8, subst (IsSealing key s.cookie.name s.cookie.value) (sym (ap (λ (x : Seen). x.cookie.value) k.2.3)) (k.0, k.2.1, k.2.2))
+
+overlaid_cond : (b : Bool) (kept : Seen) (o : Option Change) (p : Option Seen) → overlaid (cond b (Some (Added kept)) o) p ≡ cond b (Some kept) (overlaid o p)
+overlaid_cond true kept o p = refl
+overlaid_cond false kept o p = refl
+
+view_change : (jar : Jar) (kept : Seen) (q : List ℕ) → view (with_change jar (Added kept)) q ≡ cond (bytes_eq q kept.cookie.name) (Some kept) (view jar q)
+view_change jar kept q =
+    ap (λ o. overlaid o (finmap.get jar.originals q)) (get_insert jar.changes kept.cookie.name (Added kept) q)
+    ∙ overlaid_cond (bytes_eq q kept.cookie.name) kept (finmap.get jar.changes q) (finmap.get jar.originals q)
+
+matches_cond : (key q : List ℕ) (b : Bool) (kept : Seen) (o : Option Seen) (entry : Entry) (e : Option Entry) → (b ≡ true → StandsAs key q entry.kind entry.value kept.cookie.value)
+    → Matches key q (value_in (record_in o)) e → Matches key q (value_in (record_in (cond b (Some kept) o))) (cond b (Some entry) e)
+matches_cond key q true kept o entry e h g = h refl
+matches_cond key q false kept o entry e h g = g
+
+named_cond : (q : List ℕ) (b : Bool) (kept : Seen) (o : Option Seen) → (b ≡ true → kept.cookie.name ≡ q) → IfSome o (λ s. s.cookie.name ≡ q) → IfSome (cond b (Some kept) o) (λ s. s.cookie.name ≡ q)
+named_cond q true kept o h g = h refl
+named_cond q false kept o h g = g
+
+entry_for : Way → Record → Entry
+entry_for way c = record { kind = kind_of way; value = c.value }
+
+kept_shows : (key : List ℕ) (old new : Keyed) (site : Site) (way : Way) (s kept : Seen) → Shows key old site → new.key ≡ old.key → new.jar ≡ with_change old.jar (Added kept)
+    → kept.cookie.name ≡ stored_name way s.cookie.name → StandsAs key (stored_name way s.cookie.name) (kind_of way) s.cookie.value kept.cookie.value
+    → Shows key new (with_entry site (stored_name way s.cookie.name) (entry_for way s.cookie))
+unfolding entry_for
+kept_shows key old new site way s kept h same_key changed name stands =
+    let n : List ℕ = stored_name way s.cookie.name in
+    let seen : (q : List ℕ) → view new.jar q ≡ cond (bytes_eq q n) (Some kept) (view old.jar q) =
+    λ q. ap (λ j. view j q) changed ∙ (view_change old.jar kept q ∙ ap (λ m. cond (bytes_eq q m) (Some kept) (view old.jar q)) name) in
+    record {
+      key_is = same_key ∙ h.key_is;
+      named = λ q. subst (λ (o : Option Seen). IfSome o (λ x. x.cookie.name ≡ q)) (sym (seen q)) (named_cond q (bytes_eq q n) kept (view old.jar q) (λ e. name ∙ sym (same_text q n e)) (h.named q));
+      each = λ q. subst (λ (o : Option Seen). Matches key q (value_in (record_in o)) (cond (bytes_eq q n) (Some (entry_for way s.cookie)) (site q))) (sym (seen q))
+          (matches_cond key q (bytes_eq q n) kept (view old.jar q) (entry_for way s.cookie) (site q)
+          (λ e. subst (λ (m : List ℕ). StandsAs key m (kind_of way) s.cookie.value kept.cookie.value) (sym (same_text q n e)) stands) (h.each q));
+    }
+
+set_shows : (key : List ℕ) (old new : Keyed) (site : Site) (way : Way) (s : Seen) → Shows key old site → Sets any_nonce old way s new → Shows key new (with_entry site (stored_name way s.cookie.name) (entry_for way s.cookie))
+set_shows key old new site way s h sets =
+    let kept = subst (λ (k : List ℕ). IsKeptAs any_nonce k way (sent s) sets.keeps.0) h.key_is sets.keeps.1 in
+    kept_shows key old new site way s sets.keeps.0 h sets.key_is sets.keeps.2 (kept_named any_nonce key way (sent s) sets.keeps.0 kept) (kept_stands any_nonce key way (sent s) sets.keeps.0 sets.value kept)
+
+-- ---- a get
+
+plain_read : (key q : List ℕ) (o : Option Seen) (e : Option Entry) (v : Option (List ℕ)) → Matches key q (value_in (record_in o)) e → v ≡ value_in (record_in o) → IsReadAt Plain e v
+plain_read key q None None v h is = is
+plain_read key q None (Some e) v h is = absurd h
+plain_read key q (Some s) None v h is = absurd h
+plain_read key q (Some s) (Some e) v h is = λ kind. is ∙ ap (λ x. Some x) (subst (λ (k : Kind). StandsAs key q k e.value s.cookie.value) kind h)
+
+-- what stands for one value is read as that value
+only_read : (StandsFor : List ℕ → Type 0) (s : Seen) (value : List ℕ) (read : Option Seen) → StandsFor value → ((v : List ℕ) → StandsFor v → v ≡ value) → Reads StandsFor s read → value_in (record_in read) ≡ Some value
+only_read StandsFor s value None holds only reads = absurd (reads value holds)
+only_read StandsFor s value (Some r) holds only reads = ap (λ (x : Seen). Some x.cookie.value) reads.2 ∙ ap (λ x. Some x) (only reads.0 reads.1)
+
+signed_read : (key q : List ℕ) (o : Option Seen) (e : Option Entry) (v : Option (List ℕ)) (read : Option Seen) → OnlyOne key → Matches key q (value_in (record_in o)) e → ReadsFound (IsSigned key) o read → v ≡ value_in (record_in read) → IsReadAt Signed e v
+signed_read key q None None v read law h found is = is ∙ ap (λ o. value_in (record_in o)) found
+signed_read key q None (Some e) v read law h found is = absurd h
+signed_read key q (Some s) None v read law h found is = absurd h
+signed_read key q (Some s) (Some e) v read law h found is = λ kind.
+    let stands : s.cookie.value ≡ signing key e.value = subst (λ (k : Kind). StandsAs key q k e.value s.cookie.value) kind h in
+    is ∙ only_read (IsSigned key s) s e.value read stands (λ w other. law.signed w e.value (sym other ∙ stands)) found
+
+sealed_read : (key q : List ℕ) (o : Option Seen) (e : Option Entry) (v : Option (List ℕ)) (read : Option Seen) → OnlyOne key → IfSome o (λ s. s.cookie.name ≡ q) → Matches key q (value_in (record_in o)) e → ReadsFound (IsSealed key) o read → v ≡ value_in (record_in read) → IsReadAt Sealed e v
+sealed_read key q None None v read law name h found is = is ∙ ap (λ o. value_in (record_in o)) found
+sealed_read key q None (Some e) v read law name h found is = absurd h
+sealed_read key q (Some s) None v read law name h found is = absurd h
+sealed_read key q (Some s) (Some e) v read law name h found is = λ kind.
+    let stands : IsUtf8 e.value × IsSealing key q e.value s.cookie.value = subst (λ (k : Kind). StandsAs key q k e.value s.cookie.value) kind h in
+    let mine : IsSealed key s e.value = (stands.0, subst (λ (n : List ℕ). IsSealing key n e.value s.cookie.value) (sym name) stands.1) in
+    is ∙ only_read (IsSealed key s) s e.value read mine (λ w other. law.sealed s.cookie.name w e.value s.cookie.value other.1 mine.1) found
+
+way_read : (key : List ℕ) (session : Keyed) (site : Site) (way : Way) (name : List ℕ) (v : Option (List ℕ)) → OnlyOne key → Shows key session site → ReadsIn session way name v → IsReadAt (kind_of way) (site (stored_name way name)) v
+way_read key session site ways.Plain name v law h reads = plain_read key name (view session.jar name) (site name) v (h.each name) reads
+way_read key session site ways.Host name v law h reads = let n : List ℕ = codes "__Host-" ++ name in plain_read key n (view session.jar n) (site n) v (h.each n) reads
+way_read key session site ways.Secure name v law h reads = let n : List ℕ = codes "__Secure-" ++ name in plain_read key n (view session.jar n) (site n) v (h.each n) reads
+way_read key session site ways.Signed name v law h reads =
+    signed_read key name (view session.jar name) (site name) v reads.0 law (h.each name) (subst (λ (k : List ℕ). ReadsFound (IsSigned k) (view session.jar name) reads.0) h.key_is reads.1) reads.2
+way_read key session site ways.Sealed name v law h reads =
+    sealed_read key name (view session.jar name) (site name) v reads.0 law (h.named name) (h.each name) (subst (λ (k : List ℕ). ReadsFound (IsSealed k) (view session.jar name) reads.0) h.key_is reads.1) reads.2
+
+get_on : (key : List ℕ) (session : Keyed) (site : Site) (way : Way) (name : List ℕ) (told : List Reading) → OnlyOne key → Shows key session site → GetTells session way name told → GetOn site way name told
+get_on key session site way [] told law h tells = tells
+get_on key session site way (b ∷ bs) told law h tells = (tells.0, tells.1, way_read key session site way (b ∷ bs) tells.0 law h tells.2)
 
 -- ---- the commands
 
-option_cases : (b : Bool) (c : Record) (o p : Option Record) (e : Option Entry) → value_in (or_else o p) ≡ value_at Open e → value_in (or_else (cond b (Some c) o) p) ≡ value_at Open (cond b (Some (record { kind = Open; value = c.value })) e)
-option_cases true c o p e h = refl
-option_cases false c o p e h = h
+-- what a session reads is what the site has, and it goes on to show the site
+abbrev pub Follows : List ℕ → Site → Command → List Reading → Keyed → Type 0
+Follows key site c told new = (after : Site) × CommandOn site c told after × Shows key new after
 
-set_if : (accepted : Bool) (jar : Jar) (site : Site) (c : Record) → ((q : List ℕ) → seen jar q ≡ value_of site q) → (q : List ℕ) →
-    seen (cond accepted (record jar { changes = finmap.insert jar.changes c.name (sent c) }) jar) q ≡ value_of (cond accepted (with_entry site c.name (record { kind = Open; value = c.value })) site) q
-set_if true jar site c h q =
-    ap (λ o. value_in (or_else o (finmap.get jar.originals q))) (get_insert jar.changes c.name (sent c) q)
-    ∙ option_cases (bytes_eq q c.name) (sent c) (finmap.get jar.changes q) (finmap.get jar.originals q) (site q) (h q)
-set_if false jar site c h q = h q
+one_follows : (key : List ℕ) (old new : Keyed) (site : Site) (c : Command) (told : List Reading) → OnlyOne key → Shows key old site → CommandTells old c told new → Follows key site c told new
+unfolding entry_for
+one_follows key old new site (Set way cookie) told law h (inl t) =
+    (with_entry site (stored_name way cookie.cookie.name) (entry_for way cookie.cookie), inl (t.0, t.1.accepted, refl), set_shows key old new site way cookie h t.1)
+one_follows key old new site (Set way cookie) told law h (inr t) =
+    (site, inr (t.0, t.1, t.2, refl), subst (λ k. Shows key k site) (sym t.3) h)
+one_follows key old new site (Get way name) told law h t =
+    (site, (get_on key old site way name told law h t.0, refl), subst (λ k. Shows key k site) (sym t.1) h)
 
-set_seen : (jar : Jar) (site : Site) (way : Way) (c : Record) → ((q : List ℕ) → seen jar q ≡ value_of site q) → (q : List ℕ) → seen (jar_set jar c) q ≡ value_of (set_in site way c) q
-set_seen jar site Plain c h = set_if (is_none (set_refusal c)) jar site c h
-
-pub after_seen : (jar : Jar) (site : Site) (c : Command) → ((q : List ℕ) → seen jar q ≡ value_of site q) → (q : List ℕ) → seen (jar_after jar c) q ≡ value_of (after_command site c) q
-after_seen jar site (Set way cookie) h = set_seen jar site way cookie.cookie h
-after_seen jar site (Get way name) h = h
-
-get_told : (jar : Jar) (site : Site) (way : Way) (n : List ℕ) → ((q : List ℕ) → seen jar q ≡ value_of site q) → jar_get jar way n ≡ told_by_get site way n
-get_told jar site way [] h = refl
-get_told jar site Plain (b ∷ bs) h = ap (λ v. Value Plain (b ∷ bs) v ∷ []) (h (b ∷ bs))
-
-one_told : (jar : Jar) (site : Site) (c : Command) → ((q : List ℕ) → seen jar q ≡ value_of site q) → jar_tells jar c ≡ told_by site c
-one_told jar site (Set way cookie) h = refl
-one_told jar site (Get way name) h = get_told jar site way name h
-
--- what a session reads is what the site has
-pub all_told_seen : (jar : Jar) (site : Site) (cs : List Command) → ((q : List ℕ) → seen jar q ≡ value_of site q) → jar_tells_all jar cs ≡ told_in site cs
-all_told_seen jar site [] h = refl
-all_told_seen jar site (c ∷ cs) h =
-    ap (λ t. t ++ jar_tells_all (jar_after jar c) cs) (one_told jar site c h)
-    ∙ ap (λ t. told_by site c ++ t) (all_told_seen (jar_after jar c) (after_command site c) cs (after_seen jar site c h))
-
-pub all_after_seen : (jar : Jar) (site : Site) (cs : List Command) → ((q : List ℕ) → seen jar q ≡ value_of site q) → (q : List ℕ) → seen (jar_after_all jar cs) q ≡ value_of (after_commands site cs) q
-all_after_seen jar site [] h = h
-all_after_seen jar site (c ∷ cs) h = all_after_seen (jar_after jar c) (after_command site c) cs (after_seen jar site c h)
-
--- the originals stay
-keeps_if : (accepted : Bool) (jar : Jar) (m : Cookies) → (cond accepted (record jar { changes = m }) jar).originals ≡ jar.originals
-keeps_if true jar m = refl
-keeps_if false jar m = refl
-
-after_keeps : (jar : Jar) (c : Command) → (jar_after jar c).originals ≡ jar.originals
-after_keeps jar (Set way cookie) = keeps_if (is_none (set_refusal cookie.cookie)) jar (finmap.insert jar.changes cookie.cookie.name (sent cookie.cookie))
-after_keeps jar (Get way name) = refl
-
-pub all_keeps : (jar : Jar) (cs : List Command) → (jar_after_all jar cs).originals ≡ jar.originals
-all_keeps jar [] = refl
-all_keeps jar (c ∷ cs) = all_keeps (jar_after jar c) cs ∙ after_keeps jar c
+pub all_follow : (key : List ℕ) (old new : Keyed) (site : Site) (cs : List Command) (told : List Reading) → OnlyOne key → Shows key old site → Tells old cs told new → (after : Site) × CommandsOn site cs told after × Shows key new after
+all_follow key old new site [] told law h t = (site, (t.0, refl), subst (λ k. Shows key k site) (sym t.1) h)
+all_follow key old new site (c ∷ cs) told law h t =
+    let first = one_follows key old t.2 site c t.0 law h t.3 in
+    let rest = all_follow key t.2 new first.0 cs t.1 law first.2 t.4 in
+    (rest.0, (t.0, t.1, first.0, first.1, rest.1, t.5), rest.2)
 
 -- ---- a text is bytes
 
@@ -179,61 +325,101 @@ pub record IsClosed (c : Record) : Type 0 where
   pub is_sent : IsSent c
   pub readable : IsReadable c
 
-abbrev pub AllClosed : Cookies → Type 0
-AllClosed m = (q : List ℕ) (c : Record) → finmap.get m q ≡ Some c → IsClosed c
+-- each change is of such a cookie, and none is a removal
+abbrev pub IsClosedChange : Change → Type 0
+IsClosedChange (Added s) = IsClosed s.cookie
+IsClosedChange (Removed s) = ⊥
+
+abbrev pub AllClosed : ByName Change → Type 0
+AllClosed m = (q : List ℕ) (change : Change) → finmap.get m q ≡ Some change → IsClosedChange change
 
 not_nil : (n : List ℕ) → 0 < length n → n ≢ []
 not_nil [] h e = omega (arith, h)
 not_nil (b ∷ bs) h e = cc
 
-none_is : (o : Option SessionError) → is_none o ≡ true → o ≡ None
-none_is None e = refl
-none_is (Some x) e = absurd (cc)
+-- a prefix is a text, and so is a text in base64
+host_text : IsUtf8 (codes "__Host-")
+host_text = IsUtf8-from_ascii (codes "__Host-") (IsAscii-from_all (codes "__Host-") (All-from_recursion (λ b. b < 128) (codes "__Host-") (omega arith, (omega arith, (omega arith, (omega arith, (omega arith, (omega arith, (omega arith, tt)))))))))
 
-closed_sent : (c : Record) → set_refusal c ≡ None → IsText c → HasNoDeath c → IsClosed (sent c)
-closed_sent c accepted text lives = record {
-  good = record {
-    named = not_nil c.name (is_named c accepted);
-    name = text.name;
-    value = text.value;
-    name_bytes = utf8_bytes c.name text.name;
-    value_bytes = utf8_bytes c.value text.value;
-  };
-  is_sent = record { path = refl; secure = refl; domain = refl; max_age = lives.max_age; expires = lives.expires };
-  readable = sent_readable c accepted;
-}
+secure_text : IsUtf8 (codes "__Secure-")
+secure_text = IsUtf8-from_ascii (codes "__Secure-") (IsAscii-from_all (codes "__Secure-") (All-from_recursion (λ b. b < 128) (codes "__Secure-") (omega arith, (omega arith, (omega arith, (omega arith, (omega arith, (omega arith, (omega arith, (omega arith, (omega arith, tt)))))))))))
 
-insert_closed : (m : Cookies) (n : List ℕ) (c : Record) → AllClosed m → IsClosed c → AllClosed (finmap.insert m n c)
+named_text : (way : Way) (name : List ℕ) → IsUtf8 name → IsUtf8 (stored_name way name)
+named_text ways.Plain name h = h
+named_text ways.Host name h = IsUtf8-append (codes "__Host-") name host_text h
+named_text ways.Secure name h = IsUtf8-append (codes "__Secure-") name secure_text h
+named_text ways.Signed name h = h
+named_text ways.Sealed name h = h
+
+kept_text : (May : List ℕ → Type 0) (key : List ℕ) (way : Way) (s kept : Seen) → IsUtf8 s.cookie.value → IsKeptAs May key way s kept → IsUtf8 kept.cookie.value
+kept_text May key ways.Plain s kept h k = subst (λ (x : Seen). IsUtf8 x.cookie.value) (sym k) h
+kept_text May key ways.Host s kept h k = subst (λ (x : Seen). IsUtf8 x.cookie.value) (sym k) h
+kept_text May key ways.Secure s kept h k = subst (λ (x : Seen). IsUtf8 x.cookie.value) (sym k) h
+kept_text May key ways.Signed s kept h k =
+    subst (λ (x : Seen). IsUtf8 x.cookie.value) (sym k) (IsUtf8-append _ s.cookie.value (IsUtf8-from_ascii _ (IsAscii-encode_of standard _)) h)
+kept_text May key ways.Sealed s kept h k =
+    subst (λ (x : Seen). IsUtf8 x.cookie.value) (sym k.2.3) (subst IsUtf8 (sym k.2.2.2.1) (IsUtf8-from_ascii _ (IsAscii-encode_of standard _)))
+
+kept_sent : (May : List ℕ → Type 0) (key : List ℕ) (way : Way) (s kept : Seen) → HasNoDeath s.cookie → IsKeptAs May key way (sent s) kept → IsSent kept.cookie
+kept_sent May key ways.Plain s kept h k = subst (λ (x : Seen). IsSent x.cookie) (sym k) (record { path = refl; secure = refl; domain = refl; max_age = h.max_age; expires = h.expires })
+kept_sent May key ways.Host s kept h k = subst (λ (x : Seen). IsSent x.cookie) (sym k) (record { path = refl; secure = refl; domain = refl; max_age = h.max_age; expires = h.expires })
+kept_sent May key ways.Secure s kept h k = subst (λ (x : Seen). IsSent x.cookie) (sym k) (record { path = refl; secure = refl; domain = refl; max_age = h.max_age; expires = h.expires })
+kept_sent May key ways.Signed s kept h k = subst (λ (x : Seen). IsSent x.cookie) (sym k) (record { path = refl; secure = refl; domain = refl; max_age = h.max_age; expires = h.expires })
+kept_sent May key ways.Sealed s kept h k = subst (λ (x : Seen). IsSent x.cookie) (sym k.2.3) (record { path = refl; secure = refl; domain = refl; max_age = h.max_age; expires = h.expires })
+
+kept_closed : (May : List ℕ → Type 0) (key : List ℕ) (way : Way) (s kept : Seen) → IsUtf8 s.cookie.name → IsUtf8 s.cookie.value → set_refusal way s.cookie ≡ None → HasNoDeath s.cookie → IsKeptAs May key way (sent s) kept → IsClosed kept.cookie
+kept_closed May key way s kept name value accepted lives k =
+    let readable : IsReadable kept.cookie = kept_readable May key way s kept (then_none _ (is_too_long way s.cookie.name s.cookie.value) accepted).0 k in
+    let n : IsUtf8 kept.cookie.name = subst IsUtf8 (sym (kept_named May key way (sent s) kept k)) (named_text way s.cookie.name name) in
+    let v : IsUtf8 kept.cookie.value = kept_text May key way (sent s) kept value k in
+    record {
+      good = record {
+        named = not_nil kept.cookie.name readable.name;
+        name = n;
+        value = v;
+        name_bytes = utf8_bytes kept.cookie.name n;
+        value_bytes = utf8_bytes kept.cookie.value v;
+      };
+      is_sent = kept_sent May key way s kept lives k;
+      readable = readable;
+    }
+
+some_same : {A : Type 0} (c d : A) → Some c ≡ Some d → c ≡ d
+some_same c d e = cc
+
+insert_closed : (m : ByName Change) (n : List ℕ) (c : Change) → AllClosed m → IsClosedChange c → AllClosed (finmap.insert m n c)
 insert_closed m n c h closed q d is =
     let found : cond (bytes_eq q n) (Some c) (finmap.get m q) ≡ Some d = sym (get_insert m n c q) ∙ is in
     ⊎_elim
-    (λ (e : bytes_eq q n ≡ true).
-    let same : Some c ≡ Some d = sym (cond-true _ _ _ e) ∙ found in
-    subst IsClosed (some_same c d same) closed)
+    (λ (e : bytes_eq q n ≡ true). subst IsClosedChange (some_same c d (sym (cond-true _ _ _ e) ∙ found)) closed)
     (λ (e : bytes_eq q n ≡ false). h q d (sym (cond-false _ _ _ e) ∙ found))
     (cases_Bool (bytes_eq q n))
-  where
-    some_same : (c d : Record) → Some c ≡ Some d → c ≡ d
-    some_same c d e = cc
 
-set_closed : (jar : Jar) (c : Record) → AllClosed jar.changes → IsText c → HasNoDeath c → AllClosed (jar_set jar c).changes
-set_closed jar c h text lives =
-    let accepted : Bool → Type 0 = λ b. AllClosed (cond b (record jar { changes = finmap.insert jar.changes c.name (sent c) }) jar).changes in
-    ⊎_elim
-    (λ (e : is_none (set_refusal c) ≡ true). subst accepted (sym e) (insert_closed jar.changes c.name (sent c) h (closed_sent c (none_is (set_refusal c) e) text lives)))
-    (λ (e : is_none (set_refusal c) ≡ false). subst accepted (sym e) h)
-    (cases_Bool (is_none (set_refusal c)))
+-- what a session keeps while it is told to set what has no death
+pub record Closing (at : List ℕ → Option (List ℕ)) (session : Keyed) : Type 0 where
+  pub brought : Brings at session
+  pub closed : AllClosed session.jar.changes
 
-after_closed : (jar : Jar) (c : Command) → AllClosed jar.changes → SetsText c → SetsNoDeath c → AllClosed (jar_after jar c).changes
-after_closed jar (Set way cookie) h text lives = set_closed jar cookie.cookie h text lives
-after_closed jar (Get way name) h text lives = h
+one_closing : (at : List ℕ → Option (List ℕ)) (old new : Keyed) (c : Command) (told : List Reading) → Closing at old → SetsNoDeath c → CommandTells old c told new → Closing at new
+one_closing at old new (Set way cookie) told h lives (inl t) =
+    let kept = t.1.keeps.0 in
+    let is : IsClosed kept.cookie = kept_closed any_nonce old.key way cookie kept t.1.name t.1.value t.1.accepted lives t.1.keeps.1 in
+    record {
+      brought = λ q. ap (λ j. value_in (record_in (finmap.get j.originals q))) t.1.keeps.2 ∙ h.brought q;
+      closed = subst (λ (j : Jar). AllClosed j.changes) (sym t.1.keeps.2) (insert_closed old.jar.changes kept.cookie.name (Added kept) h.closed is);
+    }
+one_closing at old new (Set way cookie) told h lives (inr t) = subst (Closing at) (sym t.3) h
+one_closing at old new (Get way name) told h lives t = subst (Closing at) (sym t.1) h
 
-all_closed : (jar : Jar) (cs : List Command) → AllClosed jar.changes → AllByRecursion SetsText cs → AllByRecursion SetsNoDeath cs → AllClosed (jar_after_all jar cs).changes
-all_closed jar [] h texts lives = h
-all_closed jar (c ∷ cs) h texts lives = all_closed (jar_after jar c) cs (after_closed jar c h texts.0 lives.0) texts.1 lives.1
+all_closing : (at : List ℕ → Option (List ℕ)) (old new : Keyed) (cs : List Command) (told : List Reading) → Closing at old → AllByRecursion SetsNoDeath cs → Tells old cs told new → Closing at new
+all_closing at old new [] told h lives t = subst (Closing at) (sym t.1) h
+all_closing at old new (c ∷ cs) told h lives t = all_closing at t.2 new cs t.1 (one_closing at old t.2 c t.0 h lives.0 t.3) lives.1 t.4
 
-none_closed : AllClosed finmap.empty
-none_closed q c is = absurd (some_is_not_none c (sym is ∙ none_get q))
+opened_closing : (at : List ℕ → Option (List ℕ)) (session : Keyed) → Brings at session → session.jar.changes ≡ finmap.empty → Closing at session
+opened_closing at session brought none = record {
+  brought = brought;
+  closed = λ q change is. absurd (some_is_not_none change (sym is ∙ (ap (λ m. finmap.get m q) none ∙ none_at q)));
+}
 
 -- ---- the lines come
 
@@ -297,31 +483,79 @@ kept_agrees host rows new at same a = record { cookies = a.cookies; good = a.goo
 
 -- ---- ONE EXCHANGE, arrived or lost
 
-value_or : (o p : Option Record) → value_in (or_else o p) ≡ or_else (value_in o) (value_in p)
-value_or None p = refl
-value_or (Some c) p = refl
+abbrev pub records : List Seen → List Record
+records cookies = map (λ s. s.cookie) cookies
 
-seen_first : (host : List ℕ) (rows : List Row) (url : Parts) (site : Site) (cs : List Command) → secure_host url ≡ Some host → Agrees host rows (value_of site) → (q : List ℕ) →
-    or_else (value_in (finmap.get (jar_after_all (opened (header_of (given rows url))) cs).changes q)) (value_of site q) ≡ value_of (after_commands site cs) q
-seen_first host rows url site cs secure a q =
-    let jar = opened (header_of (given rows url)) in
-    let start : (x : List ℕ) → seen jar x ≡ value_of site x = opens host rows url (value_of site) secure a in
-    let first : value_in (finmap.get jar.originals q) ≡ value_of site q = sym (ap (λ o. value_in (or_else o (finmap.get jar.originals q))) (none_get q)) ∙ start q in
-    ap (or_else (value_in (finmap.get (jar_after_all jar cs).changes q))) (sym first ∙ ap (λ m. value_in (finmap.get m q)) (sym (all_keeps jar cs)))
-    ∙ (sym (value_or (finmap.get (jar_after_all jar cs).changes q) (finmap.get (jar_after_all jar cs).originals q)) ∙ all_after_seen jar site cs start q)
+lines_are : (cookies : List Seen) → lines_of cookies ≡ map encoded (records cookies)
+lines_are [] = refl
+lines_are (s ∷ ss) = ap (λ ls. encoded s.cookie ∷ ls) (lines_are ss)
 
-delivered : (law : ReadingBack) (host : List ℕ) (rows : List Row) (url : Parts) (site : Site) (cs : List Command) (arrival : Arrival) (new : List Row) → secure_host url ≡ Some host → AllByRecursion SetsText cs → AllByRecursion SetsNoDeath cs → Agrees host rows (value_of site) →
-    Delivers rows url (jar_after_all (opened (header_of (given rows url))) cs) arrival new → Agrees host new (value_of (after_exchange site cs arrival))
-delivered law host rows url site cs Never new secure texts lives a d = subst (λ rs. Agrees host rs (value_of site)) (sym d) a
-delivered law host rows url site cs (Arrives at) new secure texts lives a d =
-    let jar = opened (header_of (given rows url)) in
-    let changes = d.0 in
-    let closed : AllByRecursion IsClosed changes = each_of IsClosed changes d.1.apart (λ q c is. all_closed jar cs none_closed texts lives q c (sym (d.1.each q) ∙ is)) in
-    same_agrees host new (λ q. or_else (value_in (found_in changes q)) (value_of site q)) _ (λ q. ap (λ o. or_else (value_in o) (value_of site q)) (d.1.each q) ∙ seen_first host rows url site cs secure a q)
-    (all_received law host rows new url (value_of site) changes d.2.0 secure closed d.1.apart a d.2.1)
+record_cond : (b : Bool) (s : Seen) (o : Option Seen) → record_in (cond b (Some s) o) ≡ cond b (Some s.cookie) (record_in o)
+record_cond true s o = refl
+record_cond false s o = refl
 
-told_is : (host : List ℕ) (rows : List Row) (url : Parts) (site : Site) (cs : List Command) → secure_host url ≡ Some host → Agrees host rows (value_of site) → jar_tells_all (opened (header_of (given rows url))) cs ≡ told_in site cs
-told_is host rows url site cs secure a = all_told_seen (opened (header_of (given rows url))) site cs (opens host rows url (value_of site) secure a)
+found_records : (cookies : List Seen) (q : List ℕ) → found_in (records cookies) q ≡ record_in (entry_in (under_names cookies) q)
+found_records [] q = refl
+found_records (s ∷ ss) q =
+    ap (cond (bytes_eq q s.cookie.name) (Some s.cookie)) (found_records ss q) ∙ sym (record_cond (bytes_eq q s.cookie.name) s (entry_in (under_names ss) q))
+
+apart_records : (cookies : List Seen) → EntriesApart (under_names cookies) → AreApart (records cookies)
+apart_records [] h = tt
+apart_records (s ∷ ss) h = (found_records ss s.cookie.name ∙ ap record_in h.0, apart_records ss h.1)
+
+all_records : (P : Record → Type 0) (cookies : List Seen) → AllByRecursion (λ s. P s.cookie) cookies → AllByRecursion P (records cookies)
+all_records P [] h = tt
+all_records P (s ∷ ss) h = (h.0, all_records P ss h.1)
+
+closed_of : (change : Change) (s : Seen) → cookie_in change ≡ s → IsClosedChange change → IsClosed s.cookie
+closed_of (Added c) s is h = subst (λ (x : Seen). IsClosed x.cookie) is h
+closed_of (Removed c) s is h = absurd h
+
+delta_closed : (jar : Jar) (cookies : List Seen) → AllClosed jar.changes → Lists (under_names cookies) (delta jar) → AllByRecursion IsClosed (records cookies)
+delta_closed jar cookies closed lists =
+    all_records IsClosed cookies (each_of_names (λ s. IsClosed s.cookie) cookies lists.apart (λ q s is.
+    let change = of_change (finmap.get jar.changes q) s (sym (lists.each q) ∙ is) in
+    closed_of change.0 s change.2 (closed q change.0 change.1)))
+
+view_value : (o : Option Change) (p : Option Seen) → IfSome o IsClosedChange → or_else (value_in (record_in (option_map cookie_in o))) (value_in (record_in p)) ≡ value_in (record_in (overlaid o p))
+view_value None p h = refl
+view_value (Some (Added s)) p h = refl
+view_value (Some (Removed s)) p h = absurd h
+
+if_some : {A : Type 0} (P : A → Type 0) (o : Option A) → ((x : A) → o ≡ Some x → P x) → IfSome o P
+if_some P None h = tt
+if_some P (Some x) h = h x refl
+
+-- the rows agree with what the session came to
+came : (key host : List ℕ) (rows new : List Row) (url : Parts) (at : List ℕ → Option (List ℕ)) (session : Keyed) (site : Site) (cookies : List Seen) → secure_host url ≡ Some host → Agrees host rows at
+    → Closing at session → Shows key session site → Lists (under_names cookies) (delta session.jar) → Agrees host new (λ q. or_else (value_in (found_in (records cookies) q)) (at q)) → SiteAgrees key host new site
+came key host rows new url at session site cookies secure a closing shows lists agrees = record {
+  at = λ q. or_else (value_in (found_in (records cookies) q)) (at q);
+  agrees = agrees;
+  each = λ q.
+      let sent_back : value_in (found_in (records cookies) q) ≡ value_in (record_in (option_map cookie_in (finmap.get session.jar.changes q))) =
+      ap value_in (found_records cookies q ∙ ap record_in (lists.each q)) in
+      let is : or_else (value_in (found_in (records cookies) q)) (at q) ≡ value_in (record_in (view session.jar q)) =
+      (λ i. or_else (sent_back i) (sym (closing.brought q) i))
+      ∙ view_value (finmap.get session.jar.changes q) (finmap.get session.jar.originals q) (if_some IsClosedChange (finmap.get session.jar.changes q) (closing.closed q)) in
+      subst (λ (o : Option (List ℕ)). Matches key q o (site q)) (sym is) (shows.each q);
+}
+
+delivered : (law : ReadingBack) (key host : List ℕ) (rows : List Row) (url : Parts) (at : List ℕ → Option (List ℕ)) (session : Keyed) (old site : Site) (arrival : Arrival) (new : List Row) → secure_host url ≡ Some host
+    → Agrees host rows at → ((q : List ℕ) → Matches key q (at q) (old q)) → Closing at session → Shows key session site → Delivers rows url session.jar arrival new → SiteAgrees key host new (after_arrival arrival old site)
+delivered law key host rows url at session old site Never new secure a each closing shows d = record { at = at; agrees = subst (λ rs. Agrees host rs at) (sym d) a; each = each }
+delivered law key host rows url at session old site (Arrives moment) new secure a each closing shows d =
+    came key host rows new url at session site d.0 secure a closing shows d.1
+    (all_received law host rows new url at (records d.0) d.2.0 secure (delta_closed session.jar d.0 closing.closed d.1) (apart_records d.0 d.1.apart) a
+    (subst (λ ls. AcceptsAll rows url ls d.2.0 new) (lines_are d.0) d.2.1))
+
+-- what an exchange of the host reads is what its site has, and the rows go on to agree with that
+pub exchanged : (law : ReadingBack) (key host : List ℕ) (rows new : List Row) (url : Parts) (site : Site) (cs : List Command) (arrival : Arrival) (told : List Reading) (session : Keyed) → OnlyOne key → secure_host url ≡ Some host → AllByRecursion SetsNoDeath cs
+    → SiteAgrees key host rows site → Serves key (header_of (given rows url)) cs told session → Delivers rows url session.jar arrival new → (after : Site) × ExchangeOn site cs arrival told after × SiteAgrees key host new after
+exchanged law key host rows new url site cs arrival told session one secure lives a serves d =
+    let walk = all_follow key serves.0 session site cs told one (opens key host rows url site serves.0 secure a serves.1) serves.2 in
+    let closing = all_closing a.at serves.0 session cs told (opened_closing a.at serves.0 (brings key host rows url a.at serves.0 secure a.agrees serves.1) serves.1.holds.changes) lives serves.2 in
+    (after_arrival arrival site walk.0, (walk.0, walk.1, refl), delivered law key host rows url a.at session site walk.0 arrival new secure a.agrees a.each closing walk.2 d)
 
 -- ---- THE HEADLINE
 
@@ -334,72 +568,96 @@ secure_is_host host url e =
 
 delivered_other : (host : List ℕ) (rows : List Row) (url : Parts) (jar : Jar) (arrival : Arrival) (new : List Row) → host_of url ≢ Some host → Delivers rows url jar arrival new → rows_of host new ≡ rows_of host rows
 delivered_other host rows url jar Never new other d = ap (rows_of host) d
-delivered_other host rows url jar (Arrives at) new other d = all_other host rows new url (map encoded d.0) d.2.0 (λ e. other (secure_is_host host url e)) d.2.1
+delivered_other host rows url jar (Arrives at) new other d = all_other host rows new url (lines_of d.0) d.2.0 (λ e. other (secure_is_host host url e)) d.2.1
 
 -- ---- the host of a URL, as a test and as an equation
 
+is_text : List ℕ → Option (List ℕ) → Bool
+is_text text None = false
+is_text text (Some other) = bytes_eq other text
+
 host_is : (host : List ℕ) (o : Option (List ℕ)) → is_text host o ≡ true → o ≡ Some host
+unfolding is_text
 host_is host None e = absurd (cc)
 host_is host (Some other) e = ap Some (same_text other host e)
 
 tests_host : (host : List ℕ) (o : Option (List ℕ)) → o ≡ Some host → is_text host o ≡ true
+unfolding is_text
 tests_host host o e = ap (is_text host) e ∙ text_is host host refl
 
 other_host : (host : List ℕ) (o : Option (List ℕ)) → is_text host o ≡ false → o ≢ Some host
+unfolding is_text
 other_host host o e same = both_ways _ e (tests_host host o same)
 
 -- ---- one act
 
--- what an exchange of the host reads
-pub act_reads : (host : List ℕ) (act : Act) (site : Site) (rows new : List Row) (told : List Reading) →
-    AnswersBySessions host act → Agrees host rows (value_of site) → OneStep rows act told new → ReadsOn host site act told
-act_reads host (Visits url at commands arrival) site rows new told answers a p =
-    λ here. p.0 ∙ told_is host rows url site commands (answers here) a
-act_reads host (Answers url lines at) site rows new told answers a p = tt
-act_reads host (Asks url at) site rows new told answers a p = tt
+same_site : (key host : List ℕ) (rows new : List Row) (site : Site) → rows_of host new ≡ rows_of host rows → SiteAgrees key host rows site → SiteAgrees key host new site
+same_site key host rows new site same a = record { at = a.at; agrees = kept_agrees host rows new a.at same a.agrees; each = a.each }
 
--- the rows of the host go on to agree with its site
-pub act_agrees : (law : ReadingBack) (host : List ℕ) (act : Act) (site : Site) (rows new : List Row) (told : List Reading) →
-    AnswersBySessions host act → IsDeathless host act → StepSetsText act → Agrees host rows (value_of site) → OneStep rows act told new → Agrees host new (value_of (after_act host site act))
-act_agrees law host (Visits url at commands arrival) site rows new told answers lives texts a p =
-    let moved : Bool → Type 0 = λ b. Agrees host new (value_of (cond b (after_exchange site commands arrival) site)) in
+-- what an act reads is what the site of the host has, and the rows go on to agree with that
+abbrev pub Leads : List ℕ → List ℕ → Site → Act → List Reading → List Row → Type 0
+Leads key host site act told new = (after : Site) × ReadsOn host site act told after × SiteAgrees key host new after
+
+pub act_leads : (law : ReadingBack) (key host : List ℕ) (act : Act) (site : Site) (rows new : List Row) (told : List Reading) → OnlyOne key
+    → AnswersBySessions host act → IsDeathless host act → SiteAgrees key host rows site → OneStep key rows act told new → Leads key host site act told new
+act_leads law key host (Visits url at commands arrival) site rows new told one answers lives a p =
     ⊎_elim
     (λ (e : is_text host (host_of url) ≡ true).
-    subst moved (sym e) (delivered law host rows url site commands arrival new (answers (host_is host (host_of url) e)) texts (lives (host_is host (host_of url) e)) a p.1))
+    let here = host_is host (host_of url) e in
+    let x = exchanged law key host rows new url site commands arrival told p.0 one (answers here) (lives here) a p.1 p.2 in
+    (x.0, ((λ h. x.1), (λ other. absurd (other here))), x.2))
     (λ (e : is_text host (host_of url) ≡ false).
-    subst moved (sym e) (kept_agrees host rows new (value_of site) (delivered_other host rows url (jar_after_all (opened (header_of (given rows url))) commands) arrival new (other_host host (host_of url) e) p.1) a))
+    let other = other_host host (host_of url) e in
+    (site, ((λ here. absurd (other here)), (λ h. refl)), same_site key host rows new site (delivered_other host rows url p.0.jar arrival new other p.2) a))
     (cases_Bool (is_text host (host_of url)))
-act_agrees law host (Answers url lines at) site rows new told answers lives texts a p =
-    kept_agrees host rows new (value_of site) (all_other host rows new url lines p.1.0 (λ e. answers (secure_is_host host url e)) p.1.1) a
-act_agrees law host (Asks url at) site rows new told answers lives texts a p =
-    kept_agrees host rows new (value_of site) (ap (rows_of host) p.1) a
+act_leads law key host (Answers url lines at) site rows new told one answers lives a p =
+    (site, refl, same_site key host rows new site (all_other host rows new url lines p.1.0 (λ e. answers (secure_is_host host url e)) p.1.1) a)
+act_leads law key host (Asks url at) site rows new told one answers lives a p = (site, refl, same_site key host rows new site (ap (rows_of host) p.1) a)
 
--- what an exchange of the host reads until the play stops in it
-pub act_stops : (host : List ℕ) (act : Act) (site : Site) (rows : List Row) (kind : FaultKind) (last : ℤ) (old readings : List Reading) →
-    AnswersBySessions host act → Agrees host rows (value_of site) → StopsFrom kind last act old (told_of rows act) readings → StopsOn host site kind last act old readings
-act_stops host (Visits url at commands arrival) site rows kind last old readings answers a s =
-    λ here. subst (λ told. StopsFrom kind last (Visits url at commands arrival) old told readings) (told_is host rows url site commands (answers here) a) s
-act_stops host (Answers url lines at) site rows kind last old readings answers a s = tt
-act_stops host (Asks url at) site rows kind last old readings answers a s = tt
+-- ---- an act that the play stopped in
+
+all_on : (key host : List ℕ) (rows : List Row) (url : Parts) (site : Site) (cs : List Command) (told : List Reading) → OnlyOne key → secure_host url ≡ Some host → SiteAgrees key host rows site → ServesAll key (header_of (given rows url)) cs told → AllOn site cs told
+all_on key host rows url site cs told one secure a serves =
+    let walk = all_follow key serves.1.0 serves.0 site cs told one (opens key host rows url site serves.1.0 secure a serves.1.1) serves.1.2 in
+    (walk.0, walk.1)
+
+goes_on : (old readings : List Reading) (P Q : List Reading → Type 0) → ((told : List Reading) → P told → Q told) → GoesOnBy old P readings → GoesOnBy old Q readings
+goes_on old readings P Q f g = (g.0, f g.0 g.1, g.2)
+
+inside_on : (kind : FaultKind) (last : ℤ) (arrival : Arrival) (old readings : List Reading) (F G A B : List Reading → Type 0) → ((told : List Reading) → F told → G told) → ((told : List Reading) → A told → B told)
+    → StopsInside kind last arrival old F A readings → StopsInside kind last arrival old G B readings
+inside_on kind last arrival old readings F G A B f g (inl memory) = inl (memory.0, goes_on old readings F G f memory.1)
+inside_on kind last arrival old readings F G A B f g (inr moment) = inr (moment.0, goes_on old readings A B g moment.1)
+
+from_on : (kind : FaultKind) (last : ℤ) (act : Act) (old readings : List Reading) (F G A B : List Reading → Type 0) → ((told : List Reading) → F told → G told) → ((told : List Reading) → A told → B told)
+    → StopsFrom kind last act old F A readings → StopsFrom kind last act old G B readings
+from_on kind last act old readings F G A B f g (inl opening) = inl opening
+from_on kind last act old readings F G A B f g (inr past) = inr (past.0, inside_on kind _ _ old readings F G A B f g past.1)
+
+pub act_stops : (key host : List ℕ) (act : Act) (site : Site) (rows : List Row) (kind : FaultKind) (last : ℤ) (old readings : List Reading) → OnlyOne key
+    → AnswersBySessions host act → SiteAgrees key host rows site → StopsFrom kind last act old (ReadsFront key rows act) (ReadsAll key rows act) readings → StopsOn host site kind last act old readings
+act_stops key host (Visits url at commands arrival) site rows kind last old readings one answers a s =
+    λ here. from_on kind last (Visits url at commands arrival) old readings _ _ _ _
+    (λ told front. (front.0, front.1, front.2, all_on key host rows url site front.0 told one (answers here) a front.3))
+    (λ told all. all_on key host rows url site commands told one (answers here) a all) s
+act_stops key host (Answers url lines at) site rows kind last old readings one answers a s = tt
+act_stops key host (Asks url at) site rows kind last old readings one answers a s = tt
 
 -- ---- all acts
 
-pub each_reads : (law : ReadingBack) (host : List ℕ) (acts : List Act) (site : Site) (rows : List Row) (told : List (List Reading)) (new : List Row) →
-    EachAnswersBySessions host acts → EachDeathless host acts → AllByRecursion StepSetsText acts → Agrees host rows (value_of site) → Plays rows acts told new → EachReadsOn host site acts told
-each_reads law host [] site rows told new answers lives texts a p = tt
-each_reads law host (act ∷ acts) site rows [] new answers lives texts a p = absurd p
-each_reads law host (act ∷ acts) site rows (told ∷ later) new answers lives texts a p = (
-  act_reads host act site rows p.0 told answers.0 a p.1,
-  each_reads law host acts (after_act host site act) p.0 later new answers.1 lives.1 texts.1 (act_agrees law host act site rows p.0 told answers.0 lives.0 texts.0 a p.1) p.2,
-)
+pub each_leads : (law : ReadingBack) (key host : List ℕ) (acts : List Act) (site : Site) (rows : List Row) (told : List (List Reading)) (new : List Row) → OnlyOne key
+    → EachAnswersBySessions host acts → EachDeathless host acts → SiteAgrees key host rows site → Plays key rows acts told new → (end : Site) × EachReadsOn host site acts told end × SiteAgrees key host new end
+each_leads law key host [] site rows [] new one answers lives a p = (site, refl, subst (λ rs. SiteAgrees key host rs site) (sym p) a)
+each_leads law key host [] site rows (told ∷ later) new one answers lives a p = absurd p
+each_leads law key host (act ∷ acts) site rows [] new one answers lives a p = absurd p
+each_leads law key host (act ∷ acts) site rows (told ∷ later) new one answers lives a p =
+    let first = act_leads law key host act site rows p.0 told one answers.0 lives.0 a p.1 in
+    let rest = each_leads law key host acts first.0 p.0 later new one answers.1 lives.1 first.2 p.2 in
+    (rest.0, (first.0, first.1, rest.1), rest.2)
 
-pub all_agree : (law : ReadingBack) (host : List ℕ) (acts : List Act) (site : Site) (rows : List Row) (told : List (List Reading)) (new : List Row) →
-    EachAnswersBySessions host acts → EachDeathless host acts → AllByRecursion StepSetsText acts → Agrees host rows (value_of site) → Plays rows acts told new → Agrees host new (value_of (after_acts host site acts))
-all_agree law host [] site rows [] new answers lives texts a p = subst (λ rs. Agrees host rs (value_of site)) (sym p) a
-all_agree law host [] site rows (told ∷ later) new answers lives texts a p = absurd p
-all_agree law host (act ∷ acts) site rows [] new answers lives texts a p = absurd p
-all_agree law host (act ∷ acts) site rows (told ∷ later) new answers lives texts a p =
-    all_agree law host acts (after_act host site act) p.0 later new answers.1 lives.1 texts.1 (act_agrees law host act site rows p.0 told answers.0 lives.0 texts.0 a p.1) p.2
-
-pub begins : (host : List ℕ) → Agrees host [] (value_of nothing)
-begins host = record { cookies = []; good = tt; are = refl; apart = tt; each = λ q. refl }
+pub begins : (key host : List ℕ) → SiteAgrees key host [] nothing
+begins key host = record {
+  at = λ q. None;
+  agrees = record { cookies = []; good = tt; are = refl; apart = tt; each = λ q. refl };
+  each = λ q. tt;
+}

@@ -1,13 +1,13 @@
 -- At each request a site reads what its own delivered commands leave. Nothing here knows a row, a
--- header or a line of a session.
-use Rattle.std.specs.Prelude.{ℕ, ℤ, ◌+◌, List, [], ◌∷◌, ◌++◌, length, Option, Some, None, ◌≡◌, ◌≢◌, option_map, Bool, false, ⊤, if◌then◌else◌}
-use Rattle.std.specs.Str.{bytes_eq}
+-- header or a line of a session, nor how a value is signed or sealed.
+use Rattle.std.specs.Prelude.{ℕ, ℤ, ◌+◌, List, [], ◌∷◌, ◌++◌, length, Option, Some, None, ◌≡◌, ◌≢◌, ◌⊎◌, option_map, ⊤}
 use Rattle.std.specs.List.{AllByRecursion}
 use Rattle.cookie_text.specs.Record.{Record, moment_of}
 use Rattle.url.specs.Parts.{Parts, nonempty_host}
 use Rattle.url.specs.Host.{host_text}
 use Rattle.cookie_run.specs.Rows.{secure_host}
-use Rattle.cookie_run.specs.Site.{Site, nothing, told_in, told_by_set, after_exchange}
+use Rattle.cookie_run.specs.Site.{Site, nothing, set_refusal, Refuses, CommandsOn, ExchangeOn}
+use Rattle.cookie_run.specs.declared.step.SessionError.{SessionError}
 use Rattle.cookie_run.specs.declared.step.Way.{Way}
 use Rattle.cookie_run.specs.declared.step.Command.{Command}
 use Rattle.cookie_run.specs.declared.step.Command.TheVariants.{Set, Get}
@@ -56,51 +56,50 @@ EachDeathless host (act ∷ acts) = IsDeathless host act × EachDeathless host a
 
 -- ---- the site through a play
 
-abbrev pub is_text : List ℕ → Option (List ℕ) → Bool
-is_text text None = false
-is_text text (Some other) = bytes_eq other text
-
--- the site of a host after an act: its own exchanges alone change it
-abbrev pub after_act : List ℕ → Site → Act → Site
-after_act host site (Visits url at commands arrival) =
-    if is_text host (host_of url) then after_exchange site commands arrival else site
-after_act host site (Answers url lines at) = site
-after_act host site (Asks url at) = site
-
-abbrev pub after_acts : List ℕ → Site → List Act → Site
-after_acts host site [] = site
-after_acts host site (act ∷ acts) = after_acts host (after_act host site act) acts
-
--- an exchange of the host reads what its commands read on the site
-abbrev pub ReadsOn : List ℕ → Site → Act → List Reading → Type 0
-ReadsOn host site (Visits url at commands arrival) told = host_of url ≡ Some host → told ≡ told_in site commands
-ReadsOn host site (Answers url lines at) told = ⊤
-ReadsOn host site (Asks url at) told = ⊤
+-- an exchange of the host reads what its commands read on its site; other acts leave that site
+abbrev pub ReadsOn : List ℕ → Site → Act → List Reading → Site → Type 0
+ReadsOn host site (Visits url at commands arrival) told new =
+    (host_of url ≡ Some host → ExchangeOn site commands arrival told new) × (host_of url ≢ Some host → new ≡ site)
+ReadsOn host site (Answers url lines at) told new = new ≡ site
+ReadsOn host site (Asks url at) told new = new ≡ site
 
 -- so does each of the acts, each with its own readings
-abbrev pub EachReadsOn : List ℕ → Site → List Act → List (List Reading) → Type 0
-EachReadsOn host site [] told = ⊤
-EachReadsOn host site (act ∷ acts) [] = ⊥
-EachReadsOn host site (act ∷ acts) (told ∷ later) = ReadsOn host site act told × EachReadsOn host (after_act host site act) acts later
+abbrev pub EachReadsOn : List ℕ → Site → List Act → List (List Reading) → Site → Type 0
+EachReadsOn host site [] told end = end ≡ site
+EachReadsOn host site (act ∷ acts) [] end = ⊥
+EachReadsOn host site (act ∷ acts) (told ∷ later) end = (mid : Site) × ReadsOn host site act told mid × EachReadsOn host mid acts later end
 
--- an exchange of the host that the play stopped in read a front of that, as far as it came
+-- what is read on a site by all of the commands, and by the first of them
+abbrev pub AllOn : Site → List Command → List Reading → Type 0
+AllOn site commands told = (new : Site) × CommandsOn site commands told new
+
+abbrev pub FrontOn : Site → List Command → List Reading → Type 0
+FrontOn site commands told = (front : List Command) × (rest : List Command) × (commands ≡ front ++ rest) × AllOn site front told
+
+-- an exchange of the host that the play stopped in read that, as far as it came
 abbrev pub StopsOn : List ℕ → Site → FaultKind → ℤ → Act → List Reading → List Reading → Type 0
 StopsOn host site kind last (Visits url at commands arrival) old readings =
-    host_of url ≡ Some host → StopsFrom kind last (Visits url at commands arrival) old (told_in site commands) readings
+    host_of url ≡ Some host → StopsFrom kind last (Visits url at commands arrival) old (FrontOn site commands) (AllOn site commands) readings
 StopsOn host site kind last (Answers url lines at) old readings = ⊤
 StopsOn host site kind last (Asks url at) old readings = ⊤
 
 -- ---- which readings are of which act, whatever they say
 
+-- a set reads nothing where it is accepted, and else its refusal
+abbrev pub IsSetAnswer : Way → Record → List Reading → Type 0
+IsSetAnswer way c told =
+    ((told ≡ []) × (set_refusal way c ≡ None))
+    ⊎ ((error : SessionError) × (told ≡ Refused error ∷ []) × Refuses way c error)
+
 abbrev pub IsAnswer : Way → List ℕ → Reading → Type 0
 IsAnswer way name (Value w n value) = (w ≡ way) × (n ≡ name)
-IsAnswer way name (Refused error) = ⊤
+IsAnswer way name (Refused error) = name ≡ []
 IsAnswer way name (ReadHeader header) = ⊥
 
 -- a set reads nothing, or its refusal; a get reads one answer, under its way and name
 abbrev pub AnswersTo : List Command → List Reading → Type 0
 AnswersTo [] told = told ≡ []
-AnswersTo (Set way cookie ∷ cs) told = (later : List Reading) × (told ≡ told_by_set cookie.cookie ++ later) × AnswersTo cs later
+AnswersTo (Set way cookie ∷ cs) told = (first : List Reading) × (later : List Reading) × (told ≡ first ++ later) × IsSetAnswer way cookie.cookie first × AnswersTo cs later
 AnswersTo (Get way name ∷ cs) told = (answer : Reading) × (later : List Reading) × (told ≡ answer ∷ later) × IsAnswer way name answer × AnswersTo cs later
 
 -- an exchange reads what answers its commands, other answers nothing, a look at a header that header
@@ -116,13 +115,18 @@ AnswersEach [] (told ∷ later) = ⊥
 AnswersEach (act ∷ acts) [] = ⊥
 
 -- THE HEADLINE: for every host that answers by sessions alone and sets nothing with a death, each of
--- its exchanges reads what its own delivered commands before it leave, and what its own commands so
--- far set.
+-- its exchanges reads, in the way it was set, what its own delivered commands before it leave, and
+-- what its own commands so far set.
 pub record SitesReadTheirOwn (acts : List Act) (readings : List Reading) : Type 0 where
   pub told : List (List Reading)
   pub read : readings ≡ all_told told
   pub own : AnswersEach acts told
-  pub sites : (host : List ℕ) → EachAnswersBySessions host acts → EachDeathless host acts → EachReadsOn host nothing acts told
+  pub sites : (host : List ℕ) → EachAnswersBySessions host acts → EachDeathless host acts → (end : Site) × EachReadsOn host nothing acts told end
+
+-- a site as it came to an act, and what the play that stopped there read
+abbrev pub ReadsUntil : List ℕ → List Act → List (List Reading) → Act → FaultKind → ℤ → List Reading → Type 0
+ReadsUntil host before told act kind last readings =
+    (site : Site) × EachReadsOn host nothing before told site × (AnswersBySessions host act → StopsOn host site kind last act (all_told told) readings)
 
 -- The same as far as a play came that stopped in a step, counted from 1.
 pub record SitesReadTheirOwnUntil (acts : List Act) (step : ℕ) (kind : FaultKind) (readings : List Reading) : Type 0 where
@@ -135,6 +139,5 @@ pub record SitesReadTheirOwnUntil (acts : List Act) (step : ℕ) (kind : FaultKi
   pub front : List Reading
   pub read : readings ≡ all_told told ++ front
   pub own : AnswersEach before told
-  pub sites : (host : List ℕ) → EachAnswersBySessions host before → EachDeathless host before → EachReadsOn host nothing before told
-  pub stops : (host : List ℕ) → EachAnswersBySessions host before → EachDeathless host before → AnswersBySessions host act
-      → StopsOn host (after_acts host nothing before) kind (last_of the_beginning (moments_of before)) act (all_told told) readings
+  pub sites : (host : List ℕ) → EachAnswersBySessions host before → EachDeathless host before
+      → ReadsUntil host before told act kind (last_of the_beginning (moments_of before)) readings

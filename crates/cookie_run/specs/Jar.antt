@@ -1,35 +1,144 @@
--- A session's cookies: what its header brought, and what was set since.
-use Rattle.std.specs.Prelude.{ℕ, List, [], ◌∷◌, Bool, true, codes, Option, Some, None, map, option_map, Result, ◌≡◌, refl, if◌then◌else◌}
-use Rattle.std.specs.Ordering.{nat_cmp}
+-- A session's cookies: what its header brought, and what was set and removed since.
+use Rattle.std.specs.Prelude.{◌≡◌, ℕ, List, [], ◌∷◌, ◌++◌, map, Bool, true, codes, Option, Some, None, option_map, Result, if◌then◌else◌}
 use Rattle.std.specs.List.{AllByRecursion}
-use Rattle.std.specs.Str.{bytes_eq}
-use Rattle.std.specs.Cmp.Lexicographic.{slice_cmp}
+use Rattle.std.specs.Str.{bytes_eq, IsUtf8}
 use Rattle.std.specs.FinMap as finmap
-use Rattle.std.specs.Coded.{Coded, code_by, coded×, coded_list, coded_ℕ}
-use Rattle.cookie_text.specs.declared.cookie.Cookie.{the_code}
+use Rattle.jiff.specs.Types.{DateTime}
 use Rattle.cookie_text.specs.declared.error.ParseError.{ParseError}
+use Rattle.cookie_text.specs.Normal.{IsReadable}
 use Rattle.cookie_text.specs.Printing.{encoded}
 use Rattle.cookie_text.specs.Reading.{ReadsPlain}
 use Rattle.cookie_text.specs.ReadingBack.{ReadsBack}
-use Rattle.cookie_text.specs.Record.{Record, Seen, unsliced}
+use Rattle.cookie_text.specs.Record.{Record, Seen, bare, unsliced}
+use Rattle.cookie_text.specs.Setting.{with_value, with_secure, with_path, with_domain, MakesRemoval}
+use Rattle.cookie.specs.ByName.{Lists}
+use Rattle.cookie.specs.declared.delta.DeltaCookie.{DeltaCookie as Change}
+use Rattle.cookie.specs.declared.delta.DeltaCookie.TheVariants.{Added}
+use Rattle.cookie.specs.Jar.{Jar, cookie_of as cookie_in, view, delta, with_change, under_names, Removes}
+use Rattle.cookie.specs.Prefix.{prefixed}
+use Rattle.cookie.specs.Reading.{ReadsFound, IsSigned, IsSealed}
+use Rattle.cookie.specs.Sealing.{SealsAs}
+use Rattle.cookie.specs.Signing.{signing}
+use Rattle.cookie_run.specs.declared.step.Way.{Way}
+use Rattle.cookie_run.specs.declared.step.Way.TheVariants.{Plain, Host, Secure, Signed, Sealed}
+use Rattle.cookie_run.specs.declared.step.SessionError.{SessionError}
 use Rattle.cookie_run.specs.Put.{put_by}
+use Rattle.cookie_run.specs.Reading.{cookies_of}
+use Rattle.cookie_run.specs.Site.{set_refusal, refusal_of}
 
--- the cookie of each name
-abbrev pub Cookies : Type 0
-Cookies = finmap.FinMap (slice_cmp nat_cmp) Record
-
-pub record Jar : Type 0 where
-  pub originals : Cookies
-  pub changes : Cookies
-
--- the map with each cookie written into it in turn
-abbrev pub with_all : Cookies → List Record → Cookies
-with_all m [] = m
-with_all m (c ∷ cs) = with_all (finmap.insert m c.name c) cs
+-- a session: its key, and its jar
+pub record Keyed : Type 0 where
+  pub key : List ℕ
+  pub jar : Jar
 
 abbrev pub or_else : {A : Type 0} → Option A → Option A → Option A
 or_else (Some v) other = Some v
 or_else None other = other
+
+-- the record and the value of a cookie that is there
+abbrev pub record_in : Option Seen → Option Record
+record_in cookie = option_map (λ s. s.cookie) cookie
+
+abbrev pub value_in : Option Record → Option (List ℕ)
+value_in cookie = option_map (λ c. c.value) cookie
+
+-- ---- opening
+
+-- the last cookie of a name
+abbrev pub last_in : List Record → List ℕ → Option Record
+last_in [] name = None
+last_in (c ∷ cs) name = or_else (last_in cs name) (if bytes_eq name c.name then Some c else None)
+
+-- the originals are these cookies, a later one in the place of an earlier one of its name, and nothing was changed
+pub record Holds (cookies : List Record) (jar : Jar) : Type 0 where
+  pub originals : (name : List ℕ) → record_in (finmap.get jar.originals name) ≡ last_in cookies name
+  pub changes : jar.changes ≡ finmap.empty
+
+-- a session with this key on this header
+pub record IsOpened (key header : List ℕ) (session : Keyed) : Type 0 where
+  pub key_is : session.key ≡ key
+  pub holds : Holds (cookies_of header) session.jar
+
+-- ---- getting
+
+-- what a session reads of a name in a way
+abbrev pub ReadsIn : Keyed → Way → List ℕ → Option (List ℕ) → Type 0
+ReadsIn session Plain name value = value ≡ value_in (record_in (view session.jar name))
+ReadsIn session Host name value = value ≡ value_in (record_in (view session.jar (codes "__Host-" ++ name)))
+ReadsIn session Secure name value = value ≡ value_in (record_in (view session.jar (codes "__Secure-" ++ name)))
+ReadsIn session Signed name value = (read : Option Seen) × ReadsFound (IsSigned session.key) (view session.jar name) read × (value ≡ value_in (record_in read))
+ReadsIn session Sealed name value = (read : Option Seen) × ReadsFound (IsSealed session.key) (view session.jar name) read × (value ≡ value_in (record_in read))
+
+-- ---- setting
+
+-- a cookie as it is sent: with the path `/`, secure, and with no domain
+abbrev pub sent : Seen → Seen
+sent s = with_domain (with_path (with_secure s (Some true)) (Some (codes "/"))) None
+
+-- a cookie is kept so in a way, where the nonce of a sealing is one of these
+abbrev pub IsKeptAs : (List ℕ → Type 0) → List ℕ → Way → Seen → Seen → Type 0
+IsKeptAs May key Plain s kept = kept ≡ s
+IsKeptAs May key Host s kept = kept ≡ prefixed (codes "__Host-") s
+IsKeptAs May key Secure s kept = kept ≡ prefixed (codes "__Secure-") s
+IsKeptAs May key Signed s kept = kept ≡ with_value s (signing key s.cookie.value)
+IsKeptAs May key Sealed s kept = (nonce : List ℕ) × May nonce × SealsAs key nonce s kept
+
+-- the cookie, sent and kept so, is the change of its name
+abbrev pub Keeps : (List ℕ → Type 0) → List ℕ → Way → Seen → Jar → Jar → Type 0
+Keeps May key way s old new = (kept : Seen) × IsKeptAs May key way (sent s) kept × (new ≡ with_change old (Added kept))
+
+-- an accepted set; what it sets is text
+pub record Sets (May : List ℕ → Type 0) (old : Keyed) (way : Way) (s : Seen) (new : Keyed) : Type 0 where
+  pub name : IsUtf8 s.cookie.name
+  pub value : IsUtf8 s.cookie.value
+  pub accepted : set_refusal way s.cookie ≡ None
+  pub key_is : new.key ≡ old.key
+  pub keeps : Keeps May old.key way s old.jar new.jar
+
+-- ---- removing
+
+-- the cookie that is taken out
+abbrev pub taken : Way → List ℕ → Seen
+taken Plain name = sent (unsliced (bare name []))
+taken Host name = prefixed (codes "__Host-") (sent (unsliced (bare name [])))
+taken Secure name = prefixed (codes "__Secure-") (sent (unsliced (bare name [])))
+taken Signed name = sent (unsliced (bare name []))
+taken Sealed name = sent (unsliced (bare name []))
+
+-- why a removal of this name at this moment is refused, if it is: its name, or the expiry that it has
+abbrev pub IsRemovalRefusal : List ℕ → DateTime → Option SessionError → Type 0
+IsRemovalRefusal name now refusal =
+    (removal : Seen) × MakesRemoval (unsliced (bare name [])) now removal × (refusal ≡ refusal_of name removal.cookie.expires)
+
+-- an accepted removal
+pub record TakesOut (old : Keyed) (way : Way) (name : List ℕ) (now : DateTime) (new : Keyed) : Type 0 where
+  pub accepted : IsRemovalRefusal name now None
+  pub key_is : new.key ≡ old.key
+  pub removes : Removes old.jar (taken way name) now new.jar
+
+-- ---- closing
+
+-- the line of this cookie reads as its normal form, name and value still escaped
+abbrev pub ReadsAsItself : Seen → Type 0
+ReadsAsItself s = (outcome : Result Seen ParseError) → ReadsPlain (encoded s.cookie) outcome → ReadsBack s.cookie outcome
+
+-- the lines of cookies
+abbrev pub lines_of : List Seen → List (List ℕ)
+lines_of cookies = map (λ s. encoded s.cookie) cookies
+
+-- the lines that a session closes with: one for each cookie of the delta, in any order, and each
+-- reads back
+pub record ClosesWith (jar : Jar) (lines : List (List ℕ)) : Type 0 where
+  pub cookies : List Seen
+  pub lists : Lists (under_names cookies) (delta jar)
+  pub read_back : AllByRecursion ReadsAsItself cookies
+  pub printed : lines ≡ lines_of cookies
+
+-- each change is fit to be read back
+abbrev pub IsReadableJar : Jar → Type 0
+IsReadableJar jar = (name : List ℕ) (change : Change) → finmap.get jar.changes name ≡ Some change → IsReadable (cookie_in change).cookie
+
+-- ---- rows, as lists of cookies
 
 -- the cookies with this one in the place of the one of its name, else at the end
 abbrev pub same_name : Record → Record → Bool
@@ -37,28 +146,6 @@ same_name c d = bytes_eq c.name d.name
 
 abbrev pub put_record : Record → List Record → List Record
 put_record c cs = put_by same_name c cs
-
--- a cookie as it is sent: with the path `/`, secure, and with no domain
-abbrev pub sent : Record → Record
-sent c = record c { path = Some (codes "/"); secure = Some true; domain = None }
-
--- the cookies as contracts see them, without the slices of a source
-abbrev pub records_of : List Seen → List Record
-records_of cookies = map (λ s. s.cookie) cookies
-
-abbrev pub record_in : Option Seen → Option Record
-record_in cookie = option_map (λ s. s.cookie) cookie
-
--- the same on cookies that the code holds
-abbrev pub put_seen : Seen → List Seen → List Seen
-put_seen s cookies = put_by (λ c d. same_name c.cookie d.cookie) s cookies
-
--- what the session reads under a name
-abbrev pub value_in : Option Record → Option (List ℕ)
-value_in cookie = option_map (λ c. c.value) cookie
-
-abbrev pub seen : Jar → List ℕ → Option (List ℕ)
-seen jar name = value_in (or_else (finmap.get jar.changes name) (finmap.get jar.originals name))
 
 -- the first cookie of a name
 abbrev pub found_in : List Record → List ℕ → Option Record
@@ -72,29 +159,3 @@ lacks cs name = found_in cs name ≡ None
 abbrev pub AreApart : List Record → Type 0
 AreApart [] = Unit {0}
 AreApart (c ∷ cs) = lacks cs c.name × AreApart cs
-
--- the cookies are those of the map, each name once, in any order
-pub record Lists (cs : List Record) (at : List ℕ → Option Record) : Type 0 where
-  pub apart : AreApart cs
-  pub each : (name : List ℕ) → found_in cs name ≡ at name
-
--- the line of this cookie reads as its normal form, name and value still escaped
-abbrev pub ReadsAsItself : Record → Type 0
-ReadsAsItself c = (outcome : Result Seen ParseError) → ReadsPlain (encoded c) outcome → ReadsBack c outcome
-
--- the lines that a session closes with: one for each cookie that was set, in any order, and each
--- reads back
-pub record ClosesWith (changes : Cookies) (lines : List (List ℕ)) : Type 0 where
-  pub cookies : List Record
-  pub lists : Lists cookies (finmap.get changes)
-  pub read_back : AllByRecursion ReadsAsItself cookies
-  pub printed : lines ≡ map encoded cookies
-
-abbrev pub record_code : Coded Record
-record_code = code_by Seen the_code unsliced (λ s. s.cookie) (λ _. refl)
-
-abbrev pub cookies_code : Coded Cookies
-cookies_code = finmap.code (coded_list coded_ℕ) record_code
-
-abbrev pub jar_code : Coded Jar
-jar_code = code_by (Cookies × Cookies) (coded× cookies_code cookies_code) (λ j. (j.originals, j.changes)) (λ p. record { originals = p.0; changes = p.1 }) (λ _. refl)

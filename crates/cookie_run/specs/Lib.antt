@@ -4,11 +4,11 @@ pub mod Rows
 pub mod Acts
 pub mod Moments
 pub mod Stops
+pub mod Errors
 pub mod Site
 pub mod Jar
 pub mod Play
 pub mod Headline
-pub mod Texts
 pub mod Counted
 pub mod Device
 pub mod ScriptMoment

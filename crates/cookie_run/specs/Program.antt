@@ -1,5 +1,6 @@
 -- What the program answers.
-use Rattle.std.specs.Prelude.{ℕ, ℤ, pos, List, [], ◌*◌, Option, Some, None, codes, ◌≡◌, ◌⊎◌}
+use Rattle.std.specs.Prelude.{ℕ, ℤ, pos, List, [], ◌*◌, Option, Some, None, codes, replicate, ◌≡◌, ◌⊎◌}
+use Rattle.cookie.specs.Key.{derived}
 use Rattle.cookie_run.specs.Moments.{second_1971}
 use Rattle.cookie_run.specs.ScriptText.{ScriptText, EndsForMemory}
 use Rattle.cookie_run.specs.declared.row.Row.{Row}
@@ -10,10 +11,14 @@ use Rattle.cookie_run.specs.declared.script.ended.Ended.TheVariants.{Whole, Faul
 abbrev pub begins_at : ℤ
 begins_at = pos (second_1971 * 1_000_000_000)
 
+-- the key of the program, which comes from 32 zero bytes
+abbrev pub program_key : List ℕ
+program_key = derived (replicate 32 0)
+
 -- From a client without a row and from this moment on, a script prints this, and ends so.
 abbrev pub IsScriptOf : List ℕ → List ℕ → Ended → Type 0
 IsScriptOf input output ended = (new : List Row) × (end : ℤ)
-    × (ScriptText [] begins_at input output new end ended ⊎ EndsForMemory [] begins_at input output new end ended)
+    × (ScriptText program_key [] begins_at input output new end ended ⊎ EndsForMemory program_key [] begins_at input output new end ended)
 
 -- the exit status and what goes to standard error: of a script that ends so, of a reader and of a writer that failed
 abbrev pub Answers : ℕ → Option (List ℕ) → (Ended → Type 0) → Type 0 → Type 0 → Type 0

@@ -8,7 +8,8 @@ use Rattle.url.specs.Parts.{Parts}
 use Rattle.url.specs.Parser.{parse_url}
 use Rattle.cookie_text.specs.Record.{bare, unsliced}
 use Rattle.cookie_run.specs.ScriptMoment.{moment_of}
-use Rattle.cookie_run.specs.declared.step.Way.TheVariants.{Plain}
+use Rattle.cookie_run.specs.declared.step.Way.{Way}
+use Rattle.cookie_run.specs.declared.step.Way.TheVariants.{Plain, Host, Secure, Signed, Sealed}
 use Rattle.cookie_run.specs.declared.step.Command.{Command}
 use Rattle.cookie_run.specs.declared.step.Command.TheVariants.{Set, Get}
 use Rattle.cookie_run.specs.declared.script.cause.Cause.{Cause}
@@ -56,17 +57,30 @@ abbrev pub read_header : List (List ℕ) → Result Line Cause
 read_header (url ∷ at ∷ []) = placed Heads (url_of url) (moment_of at)
 read_header fields = Err Fields
 
--- `set plain name value - -`
+abbrev pub way_of : List ℕ → Option Way
+way_of word =
+    if bytes_eq word (codes "plain") then Some Plain
+    else if bytes_eq word (codes "host") then Some Host
+    else if bytes_eq word (codes "secure") then Some Secure
+    else if bytes_eq word (codes "signed") then Some Signed
+    else if bytes_eq word (codes "sealed") then Some Sealed
+    else None
+
+abbrev pub for_way : Option Way → (Way → Result Line Cause) → Result Line Cause
+for_way None line = Err Fields
+for_way (Some way) line = line way
+
+-- `set way name value - -`
 abbrev pub read_set : List (List ℕ) → Result Line Cause
-read_set (way ∷ name ∷ value ∷ max_age ∷ expires ∷ []) =
-    if bytes_eq way (codes "plain") && bytes_eq max_age (codes "-") && bytes_eq expires (codes "-")
-    then Ok (Commands (Set Plain (unsliced (bare name value))))
-    else Err Fields
+read_set (way ∷ name ∷ value ∷ max_age ∷ expires ∷ []) = for_way (way_of way) (λ w.
+    if bytes_eq max_age (codes "-") && bytes_eq expires (codes "-")
+    then Ok (Commands (Set w (unsliced (bare name value))))
+    else Err Fields)
 read_set fields = Err Fields
 
--- `get plain name`
+-- `get way name`
 abbrev pub read_get : List (List ℕ) → Result Line Cause
-read_get (way ∷ name ∷ []) = if bytes_eq way (codes "plain") then Ok (Commands (Get Plain name)) else Err Fields
+read_get (way ∷ name ∷ []) = for_way (way_of way) (λ w. Ok (Commands (Get w name)))
 read_get fields = Err Fields
 
 -- `deliver moment`

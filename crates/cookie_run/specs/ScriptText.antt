@@ -1,22 +1,25 @@
 -- A script: its lines up to the first faulty one as steps of a play, what is printed for them, and what they leave.
-use Rattle.std.specs.Prelude.{ℕ, ℤ, ◌+◌, ◌-◌, ◌≤◌, List, [], ◌∷◌, ◌++◌, map, take, length, Bool, ◌||◌, ◌==◌, nat_lt, codes, decimal, Option, Some, None, Result, Ok, Err, ◌≡◌, ◌⊎◌, false, if◌then◌else◌}
-use Rattle.std.specs.List.{flat_map}
+use Rattle.std.specs.Prelude.{ℕ, ℤ, ◌+◌, ◌-◌, ◌≤◌, List, [], ◌∷◌, ◌++◌, take, length, Bool, ◌||◌, ◌==◌, nat_lt, codes, decimal, Option, Some, None, Result, Ok, Err, ◌≡◌, ◌⊎◌, ⊤, false, if◌then◌else◌}
+use Rattle.std.specs.List.{flat_map, AllByRecursion}
 use Rattle.std.specs.Str.{bytes_eq}
 use Rattle.std.specs.Str.Lines.{lines}
 use Rattle.std.specs.Ordering.{int_cmp, is_lt}
-use Rattle.std.specs.FinMap as finmap
 use Rattle.percent_encoding.specs.Percent.{percent_encode_byte}
 use Rattle.url.specs.Parts.{Parts}
-use Rattle.cookie_text.specs.Printing.{encoded}
-use Rattle.cookie_text.specs.Record.{Record}
+use Rattle.cookie_text.specs.Record.{Seen}
+use Rattle.cookie.specs.ByName.{Lists}
+use Rattle.cookie.specs.Jar.{delta, under_names}
 use Rattle.cookie_run.specs.Rows.{given, header_of, Takes}
-use Rattle.cookie_run.specs.Jar.{Lists}
+use Rattle.cookie_run.specs.Jar.{Keyed, lines_of}
+use Rattle.cookie_run.specs.Site.{set_refusal}
 use Rattle.cookie_run.specs.Acts.{Act, Visits, Answers, Asks, Arrives, Never}
-use Rattle.cookie_run.specs.Play.{Plays, all_told, opened, jar_after_all}
+use Rattle.cookie_run.specs.Play.{Plays, Serves, all_told}
 use Rattle.cookie_run.specs.ScriptLine.{Line, Opens, Commands, Delivers, Loses, Receives, Heads, read_line}
 use Rattle.cookie_run.specs.declared.row.Row.{Row}
 use Rattle.cookie_run.specs.declared.step.Way.{Way}
-use Rattle.cookie_run.specs.declared.step.Way.TheVariants.{Plain}
+use Rattle.cookie_run.specs.declared.step.Way.TheVariants.{Plain, Host, Secure, Signed, Sealed}
+use Rattle.cookie_run.specs.declared.step.SessionError.{SessionError}
+use Rattle.cookie_run.specs.declared.step.SessionError.TheVariants as refusals
 use Rattle.cookie_run.specs.declared.step.Command.{Command}
 use Rattle.cookie_run.specs.declared.step.Command.TheVariants.{Set, Get}
 use Rattle.cookie_run.specs.declared.step.Reading.{Reading}
@@ -24,7 +27,7 @@ use Rattle.cookie_run.specs.declared.step.Reading.TheVariants.{Value, Refused, H
 use Rattle.cookie_run.specs.declared.script.ended.Ended.{Ended}
 use Rattle.cookie_run.specs.declared.script.ended.Ended.TheVariants.{Whole, Faulty}
 use Rattle.cookie_run.specs.declared.script.cause.Cause.{Cause}
-use Rattle.cookie_run.specs.declared.script.cause.Cause.TheVariants.{Word, Text, Fields, Url, Moment, Back, NoSession, Open, EmptyName, Memory}
+use Rattle.cookie_run.specs.declared.script.cause.Cause.TheVariants.{Word, Text, Fields, Url, Moment, Back, NoSession, Open, EmptyName, TooLong, Rng, Memory}
 
 -- ---- where a script is after some of its lines
 
@@ -42,18 +45,31 @@ pub record Reached : Type 0 where
 abbrev pub begun : ℤ → Reached
 begun last = record { acts = []; now = Closed; last = last }
 
-abbrev pub name_of : Command → List ℕ
-name_of (Set way cookie) = cookie.cookie.name
-name_of (Get way name) = name
+-- why a command is refused, but for a generator that fails
+abbrev pub command_refusal : Command → Option SessionError
+command_refusal (Set way cookie) = set_refusal way cookie.cookie
+command_refusal (Get way name) = if bytes_eq name [] then Some refusals.EmptyName else None
 
--- a line whose moment isn't before an earlier one; a command is refused for its name alone, since no
--- cookie of a script has an expiry
+-- the cookies of a script have no expiry, so none is refused for its year
+abbrev pub cause_of : SessionError → Cause
+cause_of refusals.EmptyName = EmptyName
+cause_of refusals.Year = EmptyName
+cause_of refusals.TooLong = TooLong
+cause_of refusals.Rng = Rng
+cause_of refusals.OutOfMemory = Memory
+
+abbrev pub unless_refused : Option SessionError → Reached → Result Reached Cause
+unless_refused (Some error) next = Err (cause_of error)
+unless_refused None next = Ok next
+
+-- a line whose moment isn't before an earlier one; a command is refused for its name or its
+-- lengths, since no cookie of a script has an expiry
 abbrev pub obeyed : List Act → ℤ → Now → Line → Result Reached Cause
 obeyed acts last Closed (Opens url at) = Ok (record { acts = acts; now = Within url at []; last = at })
 obeyed acts last (Within u m cs) (Opens url at) = Err Open
 obeyed acts last Closed (Commands command) = Err NoSession
 obeyed acts last (Within url at cs) (Commands command) =
-    if bytes_eq (name_of command) [] then Err EmptyName else Ok (record { acts = acts; now = Within url at (cs ++ command ∷ []); last = last })
+    unless_refused (command_refusal command) (record { acts = acts; now = Within url at (cs ++ command ∷ []); last = last })
 obeyed acts last Closed (Delivers at) = Err NoSession
 obeyed acts last (Within url start cs) (Delivers at) = Ok (record { acts = acts ++ Visits url start cs (Arrives at) ∷ []; now = Closed; last = at })
 obeyed acts last Closed Loses = Err NoSession
@@ -88,6 +104,15 @@ abbrev pub LeadsTo : Reached → List (List ℕ) → Reached → Type 0
 LeadsTo r [] end = end ≡ r
 LeadsTo r (line ∷ later) end = (mid : Reached) × (after_line r line ≡ Ok mid) × LeadsTo mid later end
 
+-- a line that is done so was a set that is sealed
+abbrev pub AddsSealed : Reached → Reached → Type 0
+AddsSealed r next = (url : Parts) × (at : ℤ) × (cs : List Command) × (cookie : Seen)
+    × (r.now ≡ Within url at cs) × (next.now ≡ Within url at (cs ++ Set Sealed cookie ∷ []))
+
+-- a line has a fault: its own, or that the generator failed at a set that has to be sealed and that nothing else stands against
+abbrev pub HasFault : Reached → Result Reached Cause → Cause → Type 0
+HasFault r led cause = (led ≡ Err cause) ⊎ ((cause ≡ Rng) × ((next : Reached) × (led ≡ Ok next) × AddsSealed r next))
+
 -- ---- what is printed
 
 -- every byte that isn't graphic ASCII, and `%`
@@ -104,8 +129,18 @@ shown_value (Some value) = codes "=" ++ shown value
 
 abbrev pub way_text : Way → List ℕ
 way_text Plain = codes "plain"
+way_text Host = codes "host"
+way_text Secure = codes "secure"
+way_text Signed = codes "signed"
+way_text Sealed = codes "sealed"
 
--- the line of a reading, its fields parted by tabs; no command of a script is refused
+-- no command of a script is refused: that would be a fault
+abbrev pub IsAnswered : Reading → Type 0
+IsAnswered (Value way name value) = ⊤
+IsAnswered (Refused error) = ⊥
+IsAnswered (Header header) = ⊤
+
+-- the line of a reading, its fields parted by tabs
 abbrev pub reading_text : Reading → List ℕ
 reading_text (Value way name value) = way_text way ++ 9 ∷ shown name ++ 9 ∷ shown_value value ++ 10 ∷ []
 reading_text (Refused error) = []
@@ -124,6 +159,8 @@ cause_text Back = codes "Back"
 cause_text NoSession = codes "NoSession"
 cause_text Open = codes "Open"
 cause_text EmptyName = codes "EmptyName"
+cause_text TooLong = codes "TooLong"
+cause_text Rng = codes "Rng"
 cause_text Memory = codes "Memory"
 
 -- `line N: Name`
@@ -141,8 +178,9 @@ abbrev pub all_acts : Reached → List Act
 all_acts r = r.acts ++ left_open r.now
 
 -- the steps, played on these rows, print this and leave those rows
-abbrev pub Prints : List Row → Reached → List ℕ → List Row → Type 0
-Prints rows r output new = (told : List (List Reading)) × Plays rows (all_acts r) told new × (output ≡ readings_text (all_told told))
+abbrev pub Prints : List ℕ → List Row → Reached → List ℕ → List Row → Type 0
+Prints key rows r output new = (told : List (List Reading)) × Plays key rows (all_acts r) told new
+    × AllByRecursion IsAnswered (all_told told) × (output ≡ readings_text (all_told told))
 
 -- where line n stands in a text, counted from 1
 pub record IsLine (all : List (List ℕ)) (n : ℕ) (before : List (List ℕ)) (line : List ℕ) : Type 0 where
@@ -151,14 +189,14 @@ pub record IsLine (all : List (List ℕ)) (n : ℕ) (before : List (List ℕ)) (
   pub number : n ≡ length before + 1
 
 -- each line is done
-pub record IsWhole (rows : List Row) (last : ℤ) (all : List (List ℕ)) (output : List ℕ) (new : List Row) (end : ℤ) : Type 0 where
+pub record IsWhole (key : List ℕ) (rows : List Row) (last : ℤ) (all : List (List ℕ)) (output : List ℕ) (new : List Row) (end : ℤ) : Type 0 where
   pub r : Reached
   pub leads : LeadsTo (begun last) all r
-  pub prints : Prints rows r output new
+  pub prints : Prints key rows r output new
   pub moment : end ≡ r.last
 
 -- the lines before line n are done, and line n is the first faulty one
-pub record IsFaulty (rows : List Row) (last : ℤ) (all : List (List ℕ)) (output : List ℕ) (new : List Row) (end : ℤ) (n : ℕ) : Type 0 where
+pub record IsFaulty (key : List ℕ) (rows : List Row) (last : ℤ) (all : List (List ℕ)) (output : List ℕ) (new : List Row) (end : ℤ) (n : ℕ) : Type 0 where
   pub r : Reached
   pub before : List (List ℕ)
   pub line : List ℕ
@@ -166,15 +204,15 @@ pub record IsFaulty (rows : List Row) (last : ℤ) (all : List (List ℕ)) (outp
   pub readings : List ℕ
   pub place : IsLine all n before line
   pub leads : LeadsTo (begun last) before r
-  pub fault : after_line r line ≡ Err cause
-  pub prints : Prints rows r readings new
+  pub fault : HasFault r (after_line r line) cause
+  pub prints : Prints key rows r readings new
   pub text : output ≡ readings ++ fault_text n cause
   pub moment : end ≡ r.last
 
 -- From these rows and this last moment a script prints this, leaves those rows and that moment, and ends so.
-abbrev pub ScriptText : List Row → ℤ → List ℕ → List ℕ → List Row → ℤ → Ended → Type 0
-ScriptText rows last input output new end Whole = IsWhole rows last (lines input) output new end
-ScriptText rows last input output new end (Faulty n) = IsFaulty rows last (lines input) output new end n
+abbrev pub ScriptText : List ℕ → List Row → ℤ → List ℕ → List ℕ → List Row → ℤ → Ended → Type 0
+ScriptText key rows last input output new end Whole = IsWhole key rows last (lines input) output new end
+ScriptText key rows last input output new end (Faulty n) = IsFaulty key rows last (lines input) output new end n
 
 -- ---- where memory is refused in a line
 
@@ -182,22 +220,22 @@ ScriptText rows last input output new end (Faulty n) = IsFaulty rows last (lines
 abbrev pub TakesFront : List Row → Parts → List (List ℕ) → List Row → Type 0
 TakesFront rows url answer new = (k : ℕ) × (k ≤ length answer - 1) × Takes rows url (take k answer) new
 
--- the step begins so, whatever the order of a session's lines
-abbrev pub HalfStep : List Row → Act → List Row → Type 0
-HalfStep rows (Visits url at commands (Arrives moment)) new =
-    (changes : List Record) × Lists changes (finmap.get (jar_after_all (opened (header_of (given rows url))) commands).changes)
-    × TakesFront rows url (map encoded changes) new
-HalfStep rows (Visits url at commands Never) new = new ≡ rows
-HalfStep rows (Answers url answer at) new = TakesFront rows url answer new
-HalfStep rows (Asks url at) new = new ≡ rows
+-- the step begins so, whatever the nonces and the order of a session's lines
+abbrev pub HalfStep : List ℕ → List Row → Act → List Row → Type 0
+HalfStep key rows (Visits url at commands (Arrives moment)) new =
+    (told : List Reading) × (session : Keyed) × Serves key (header_of (given rows url)) commands told session × AllByRecursion IsAnswered told
+    × (cookies : List Seen) × Lists (under_names cookies) (delta session.jar) × TakesFront rows url (lines_of cookies) new
+HalfStep key rows (Visits url at commands Never) new = new ≡ rows
+HalfStep key rows (Answers url answer at) new = TakesFront rows url answer new
+HalfStep key rows (Asks url at) new = new ≡ rows
 
 -- a line that isn't done leaves the rows as they were, or as the step that it ends leaves them half-way
-abbrev pub HalfLine : List Row → Reached → Result Reached Cause → List Row → Type 0
-HalfLine rows r led new = (new ≡ rows)
-    ⊎ ((next : Reached) × (act : Act) × (led ≡ Ok next) × (next.acts ≡ r.acts ++ act ∷ []) × HalfStep rows act new)
+abbrev pub HalfLine : List ℕ → List Row → Reached → Result Reached Cause → List Row → Type 0
+HalfLine key rows r led new = (new ≡ rows)
+    ⊎ ((next : Reached) × (act : Act) × (led ≡ Ok next) × (next.acts ≡ r.acts ++ act ∷ []) × HalfStep key rows act new)
 
 -- The lines before line n are done and print what they print alone; then comes the fault.
-pub record MemoryText (rows : List Row) (last : ℤ) (input : List ℕ) (output : List ℕ) (new : List Row) (end : ℤ) (n : ℕ) : Type 0 where
+pub record MemoryText (key : List ℕ) (rows : List Row) (last : ℤ) (input : List ℕ) (output : List ℕ) (new : List Row) (end : ℤ) (n : ℕ) : Type 0 where
   pub r : Reached
   pub before : List (List ℕ)
   pub line : List ℕ
@@ -205,11 +243,11 @@ pub record MemoryText (rows : List Row) (last : ℤ) (input : List ℕ) (output 
   pub mid : List Row
   pub place : IsLine (lines input) n before line
   pub leads : LeadsTo (begun last) before r
-  pub prints : Prints rows r readings mid
-  pub half : HalfLine mid r (after_line r line) new
+  pub prints : Prints key rows r readings mid
+  pub half : HalfLine key mid r (after_line r line) new
   pub text : output ≡ readings ++ fault_text n Memory
   pub moment : end ≡ r.last
 
-abbrev pub EndsForMemory : List Row → ℤ → List ℕ → List ℕ → List Row → ℤ → Ended → Type 0
-EndsForMemory rows last input output new end Whole = ⊥
-EndsForMemory rows last input output new end (Faulty n) = MemoryText rows last input output new end n
+abbrev pub EndsForMemory : List ℕ → List Row → ℤ → List ℕ → List ℕ → List Row → ℤ → Ended → Type 0
+EndsForMemory key rows last input output new end Whole = ⊥
+EndsForMemory key rows last input output new end (Faulty n) = MemoryText key rows last input output new end n

@@ -1,22 +1,24 @@
--- A site as its own delivered commands leave it. Nothing here knows a header, a line or a row.
-use Rattle.std.specs.Prelude.{ℕ, List, [], ◌∷◌, ◌++◌, Bool, false, Option, Some, None, is_none, pos, int_lt, if◌then◌else◌}
+-- A site as its own delivered commands leave it. Nothing here knows a header, a line, a row, a signing or a sealing.
+use Rattle.std.specs.Prelude.{◌≡◌, ◌⊎◌, ℕ, List, [], ◌∷◌, ◌++◌, length, nat_lt, ◌||◌, ◌^◌, ◌-◌, codes, Bool, false, Option, Some, None, pos, int_lt, if◌then◌else◌}
 use Rattle.std.specs.Str.{bytes_eq}
 use Rattle.cookie_run.specs.declared.step.Way.{Way}
-use Rattle.cookie_run.specs.declared.step.Way.TheVariants.{Plain}
+use Rattle.cookie_run.specs.declared.step.Way.TheVariants as ways
 use Rattle.cookie_run.specs.declared.step.Command.{Command}
 use Rattle.cookie_run.specs.declared.step.Command.TheVariants.{Set, Get}
 use Rattle.cookie_run.specs.Acts.{Arrival, Arrives, Never}
 use Rattle.cookie_run.specs.declared.step.Reading.{Reading}
 use Rattle.cookie_run.specs.declared.step.Reading.TheVariants.{Value, Refused}
 use Rattle.cookie_run.specs.declared.step.SessionError.{SessionError}
-use Rattle.cookie_run.specs.declared.step.SessionError.TheVariants.{EmptyName, Year}
+use Rattle.cookie_run.specs.declared.step.SessionError.TheVariants.{EmptyName, Year, TooLong, Rng, OutOfMemory}
 use Rattle.cookie_text.specs.declared.expiration.Expiration.{Expiration}
 use Rattle.cookie_text.specs.declared.expiration.Expiration.TheVariants.{DateTime as At, Session}
 use Rattle.cookie_text.specs.Record.{Record}
 
 -- how a value is kept
 pub data Kind : Type 0 where
-  Open : Kind
+  Plain : Kind
+  Signed : Kind
+  Sealed : Kind
 
 pub record Entry : Type 0 where
   pub kind : Kind
@@ -31,14 +33,24 @@ nothing name = None
 
 -- the kind of a way, and the name under which it keeps
 abbrev pub kind_of : Way → Kind
-kind_of Plain = Open
+kind_of ways.Plain = Plain
+kind_of ways.Host = Plain
+kind_of ways.Secure = Plain
+kind_of ways.Signed = Signed
+kind_of ways.Sealed = Sealed
 
 abbrev pub stored_name : Way → List ℕ → List ℕ
-stored_name Plain name = name
+stored_name ways.Plain name = name
+stored_name ways.Host name = codes "__Host-" ++ name
+stored_name ways.Secure name = codes "__Secure-" ++ name
+stored_name ways.Signed name = name
+stored_name ways.Sealed name = name
 
 -- the site with this entry under a name
 abbrev pub with_entry : Site → List ℕ → Entry → Site
 with_entry site name entry = λ other. if bytes_eq other name then Some entry else site other
+
+-- ---- why a command is refused
 
 -- an expiry of a year below 100
 abbrev pub is_short_year : Option Expiration → Bool
@@ -46,56 +58,68 @@ is_short_year (Some (At moment)) = int_lt moment.date.year (pos 100)
 is_short_year (Some Session) = false
 is_short_year None = false
 
--- why a set is refused: the first of these that there is
+-- the name is empty, or the year is short
 abbrev pub refusal_of : List ℕ → Option Expiration → Option SessionError
 refusal_of [] end = Some EmptyName
 refusal_of (b ∷ bs) end = if is_short_year end then Some Year else None
 
-abbrev pub set_refusal : Record → Option SessionError
-set_refusal cookie = refusal_of cookie.name cookie.expires
+-- lengths that can't be sealed: over 2^36 - 32 bytes of value, or 2^61 bytes or more of name
+abbrev pub is_too_long : Way → List ℕ → List ℕ → Bool
+is_too_long ways.Plain name value = false
+is_too_long ways.Host name value = false
+is_too_long ways.Secure name value = false
+is_too_long ways.Signed name value = false
+is_too_long ways.Sealed name value = nat_lt (2 ^ 36 - 32) (length value) || nat_lt (2 ^ 61 - 1) (length name)
 
--- an accepted set writes its entry
-abbrev pub set_in : Site → Way → Record → Site
-set_in site way cookie =
-    if is_none (set_refusal cookie)
-    then with_entry site (stored_name way cookie.name) (record { kind = kind_of way; value = cookie.value })
-    else site
+abbrev pub then_long : Option SessionError → Bool → Option SessionError
+then_long (Some error) long = Some error
+then_long None long = if long then Some TooLong else None
 
-abbrev pub after_command : Site → Command → Site
-after_command site (Set way cookie) = set_in site way cookie.cookie
-after_command site (Get way name) = site
+-- why a set is refused for its name, its expiry and its lengths: the first of these that there is
+abbrev pub set_refusal : Way → Record → Option SessionError
+set_refusal way c = then_long (refusal_of c.name c.expires) (is_too_long way c.name c.value)
 
--- the accepted commands, one after another
-abbrev pub after_commands : Site → List Command → Site
-after_commands site [] = site
-after_commands site (c ∷ cs) = after_commands (after_command site c) cs
+-- a set may be refused so: where nothing else stands against it, and it has to be sealed, its generator may fail
+abbrev pub Refuses : Way → Record → SessionError → Type 0
+Refuses way c EmptyName = set_refusal way c ≡ Some EmptyName
+Refuses way c Year = set_refusal way c ≡ Some Year
+Refuses way c TooLong = set_refusal way c ≡ Some TooLong
+Refuses way c Rng = (way ≡ ways.Sealed) × (set_refusal way c ≡ None)
+Refuses way c OutOfMemory = ⊥
 
--- the value of an entry of this kind
-abbrev pub value_at : Kind → Option Entry → Option (List ℕ)
-value_at Open None = None
-value_at Open (Some entry) = Some entry.value
+-- ---- what a request reads by its commands, and what they leave
 
--- what a request reads by a command
-abbrev pub told_by_get : Site → Way → List ℕ → List Reading
-told_by_get site way [] = Refused EmptyName ∷ []
-told_by_get site way (b ∷ bs) = Value way (b ∷ bs) (value_at (kind_of way) (site (stored_name way (b ∷ bs)))) ∷ []
+-- an accepted set reads nothing and writes its entry, a refused one reads its refusal and leaves all as it is
+abbrev pub SetOn : Site → Way → Record → List Reading → Site → Type 0
+SetOn site way c told new =
+    ((told ≡ []) × (set_refusal way c ≡ None) × (new ≡ with_entry site (stored_name way c.name) (record { kind = kind_of way; value = c.value })))
+    ⊎ ((error : SessionError) × (told ≡ Refused error ∷ []) × Refuses way c error × (new ≡ site))
 
-abbrev pub told_by_refusal : Option SessionError → List Reading
-told_by_refusal None = []
-told_by_refusal (Some error) = Refused error ∷ []
+-- what is read of an entry of this kind, and where there is none; of an entry of another kind nothing is said
+abbrev pub IsReadAt : Kind → Option Entry → Option (List ℕ) → Type 0
+IsReadAt kind None value = value ≡ None
+IsReadAt kind (Some entry) value = entry.kind ≡ kind → value ≡ Some entry.value
 
-abbrev pub told_by_set : Record → List Reading
-told_by_set cookie = told_by_refusal (set_refusal cookie)
+abbrev pub GetOn : Site → Way → List ℕ → List Reading → Type 0
+GetOn site way [] told = told ≡ Refused EmptyName ∷ []
+GetOn site way (b ∷ bs) told =
+    (value : Option (List ℕ)) × (told ≡ Value way (b ∷ bs) value ∷ []) × IsReadAt (kind_of way) (site (stored_name way (b ∷ bs))) value
 
-abbrev pub told_by : Site → Command → List Reading
-told_by site (Set way cookie) = told_by_set cookie.cookie
-told_by site (Get way name) = told_by_get site way name
+abbrev pub CommandOn : Site → Command → List Reading → Site → Type 0
+CommandOn site (Set way cookie) told new = SetOn site way cookie.cookie told new
+CommandOn site (Get way name) told new = GetOn site way name told × (new ≡ site)
 
-abbrev pub told_in : Site → List Command → List Reading
-told_in site [] = []
-told_in site (c ∷ cs) = told_by site c ++ told_in (after_command site c) cs
+-- the commands, one after another
+abbrev pub CommandsOn : Site → List Command → List Reading → Site → Type 0
+CommandsOn site [] told new = (told ≡ []) × (new ≡ site)
+CommandsOn site (c ∷ cs) told new =
+    (first : List Reading) × (later : List Reading) × (mid : Site) × CommandOn site c first mid × CommandsOn mid cs later new × (told ≡ first ++ later)
 
 -- the site after an exchange: a lost answer leaves it
-abbrev pub after_exchange : Site → List Command → Arrival → Site
-after_exchange site commands (Arrives at) = after_commands site commands
-after_exchange site commands Never = site
+abbrev pub after_arrival : Arrival → Site → Site → Site
+after_arrival (Arrives at) site new = new
+after_arrival Never site new = site
+
+abbrev pub ExchangeOn : Site → List Command → Arrival → List Reading → Site → Type 0
+ExchangeOn site commands arrival told new =
+    (after : Site) × CommandsOn site commands told after × (new ≡ after_arrival arrival site after)

@@ -1,8 +1,9 @@
 -- Where the code of a run stands, beside the place that the script has reached.
-use Rattle.std.specs.Prelude.{ℕ, ℤ, List, [], ◌++◌, Option, Some, None, Result, Ok, Err, ◌≡◌, ◌⊎◌, ⊤}
+use Rattle.std.specs.Prelude.{ℕ, ℤ, List, [], ◌++◌, Option, Some, None, Result, Ok, ◌≡◌, ◌⊎◌}
+use Rattle.std.specs.List.{AllByRecursion}
 use Rattle.cookie_run.specs.Rows.{given, header_of}
-use Rattle.cookie_run.specs.Play.{Plays, all_told, opened, jar_tells_all, jar_after_all}
-use Rattle.cookie_run.specs.ScriptText.{Now, Closed, Within, Reached, readings_text, HalfLine}
+use Rattle.cookie_run.specs.Play.{Plays, Serves, all_told}
+use Rattle.cookie_run.specs.ScriptText.{Now, Closed, Within, Reached, IsAnswered, readings_text, HasFault, HalfLine}
 use Rattle.cookie_run.specs.declared.row.Row.{Row}
 use Rattle.cookie_run.specs.declared.step.Reading.{Reading}
 use Rattle.cookie_run.specs.declared.script.cause.Cause.{Cause}
@@ -11,37 +12,34 @@ use Rattle.cookie_run.specs.declared.script.visit.Visit.{Visit}
 
 -- ---- the open session
 
--- its jar is the one that its commands left
-abbrev pub IsOpen : List Row → Now → Option Visit → Type 0
-IsOpen rows Closed None = ⊤
-IsOpen rows Closed (Some visit) = ⊥
-IsOpen rows (Within url at commands) None = ⊥
-IsOpen rows (Within url at commands) (Some visit) =
-    (visit.url ≡ url) × (visit.session ≡ jar_after_all (opened (header_of (given rows url))) commands)
-
--- what its commands read
-abbrev pub open_tells : List Row → Now → List Reading
-open_tells rows Closed = []
-open_tells rows (Within url at commands) = jar_tells_all (opened (header_of (given rows url))) commands
+-- it is the one that its commands left, and this is what they read
+abbrev pub IsOpen : List ℕ → List Row → Now → Option Visit → List Reading → Type 0
+IsOpen key rows Closed None front = front ≡ []
+IsOpen key rows Closed (Some visit) front = ⊥
+IsOpen key rows (Within url at commands) None front = ⊥
+IsOpen key rows (Within url at commands) (Some visit) front =
+    (visit.url ≡ url) × Serves key (header_of (given rows url)) commands front visit.session
 
 -- ---- the run
 
 -- rows, last moment, open session and what was printed, after the lines that lead to `r`
-pub record Stands (start : List Row) (r : Reached) (rows : List Row) (last : ℤ) (visit : Option Visit) (output : List ℕ) : Type 0 where
+pub record Stands (key : List ℕ) (start : List Row) (r : Reached) (rows : List Row) (last : ℤ) (visit : Option Visit) (output : List ℕ) : Type 0 where
   pub told : List (List Reading)
-  pub plays : Plays start r.acts told rows
-  pub is_open : IsOpen rows r.now visit
-  pub prints : output ≡ readings_text (all_told told ++ open_tells rows r.now)
+  pub front : List Reading
+  pub plays : Plays key start r.acts told rows
+  pub is_open : IsOpen key rows r.now visit front
+  pub answered : AllByRecursion IsAnswered (all_told told ++ front)
+  pub prints : output ≡ readings_text (all_told told ++ front)
   pub moment : last ≡ r.last
 
 -- from wherever the run stands so, a line leads on, and prints this
-abbrev pub Goes : (Reached → Result Reached Cause) → List Row → ℤ → Option Visit → List Row → ℤ → Option Visit → List ℕ → Type 0
-Goes leads rows last visit new_rows new_last new_visit text =
-    (start : List Row) (r : Reached) (output : List ℕ) → Stands start r rows last visit output
-    → (next : Reached) × (leads r ≡ Ok next) × Stands start next new_rows new_last new_visit (output ++ text)
+abbrev pub Goes : List ℕ → (Reached → Result Reached Cause) → List Row → ℤ → Option Visit → List Row → ℤ → Option Visit → List ℕ → Type 0
+Goes key leads rows last visit new_rows new_last new_visit text =
+    (start : List Row) (r : Reached) (output : List ℕ) → Stands key start r rows last visit output
+    → (next : Reached) × (leads r ≡ Ok next) × Stands key start next new_rows new_last new_visit (output ++ text)
 
 -- from wherever the run stands so, a line has this fault, or memory was refused in it
-abbrev pub Halts : (Reached → Result Reached Cause) → List Row → ℤ → Option Visit → Cause → List Row → Type 0
-Halts leads rows last visit cause new_rows =
-    (start : List Row) (r : Reached) (output : List ℕ) → Stands start r rows last visit output
-    → ((leads r ≡ Err cause) × (new_rows ≡ rows)) ⊎ ((cause ≡ Memory) × HalfLine rows r (leads r) new_rows)
+abbrev pub Halts : List ℕ → (Reached → Result Reached Cause) → List Row → ℤ → Option Visit → Cause → List Row → Type 0
+Halts key leads rows last visit cause new_rows =
+    (start : List Row) (r : Reached) (output : List ℕ) → Stands key start r rows last visit output
+    → (HasFault r (leads r) cause × (new_rows ≡ rows)) ⊎ ((cause ≡ Memory) × HalfLine key rows r (leads r) new_rows)

@@ -1,29 +1,31 @@
 //! A play: one client, and the sites that it visits.
-ghost use Rattle.std.specs.Prelude.{◌≡◌, ◌++◌, List, [], map, string_bytes, IfOk, IfErr, OnOk, OnErr};
+ghost use Rattle.std.specs.Prelude.{◌≡◌, ◌++◌, List, map, string_bytes, IfOk, IfErr, OnOk, OnErr};
 ghost use Rattle.std.specs.Option.{option_to_list};
-ghost use Rattle.std.specs.List.{AllByRecursion};
 ghost use Rattle.jiff.specs.Words.{civil_nanos};
-ghost use Rattle.cookie_run.specs.Texts.{IsText, SetsText, StepSetsText};
+ghost use Rattle.cookie_run.specs.declared.step.Reading.{Reading};
 ghost use Rattle.cookie_run.specs.Moments.{AllFollow, last_of, the_beginning};
 ghost use Rattle.cookie_run.specs.Rows.{given, header_of, Takes};
 ghost use Rattle.cookie_run.specs.Acts.{acts_of, act_of, arrival_of, Arrives, moments_in, moments_of, arrival_moments};
-ghost use Rattle.cookie_run.specs.Stops.{StopsFrom, StopsInside, Reaches};
-ghost use Rattle.cookie_run.specs.Play.{IsRun, IsRunUntil, opened, jar_set, jar_tells, jar_after, jar_tells_all, jar_after_all, OneStep, Delivers, told_of};
-ghost use Rattle.cookie_run.specs.Site.{told_by_set};
+ghost use Rattle.cookie_run.specs.Stops.{StopsFrom, StopsInside, GoesOnBy};
+ghost use Rattle.cookie_run.specs.Jar.{Keyed};
+ghost use Rattle.cookie_run.specs.Play.{IsRun, IsRunUntil, SetTells, GetTells, CommandTells, Tells, TellsFront, Serves, ServesAll, ServesFront, OneStep, Delivers, ReadsFront, ReadsAll};
 ghost use Rattle.cookie_run.specs.Headline.{SitesReadTheirOwn, SitesReadTheirOwnUntil};
 
 use crate::client::Client;
 use crate::moment::{beginning, come_to};
-use crate::session::Session;
+use crate::session::{Session, copy_of};
 use crate::step::{Command, Delivery, Fault, FaultKind, Reading, SessionError, Step, Way};
 use crate::text::Text;
-use cookie::Cookie;
+use cookie::laws::one_value;
+use cookie::{Cookie, Key};
 use cookie_text::laws::encoded_records_read_back;
 use jiff::civil::DateTime;
+use rand_core::TryRng;
 use std::alloc::{AllocError, Global};
 use url::Url;
 
-/// What the steps read, for a client that begins with no row.
+/// What the steps read, for a client that begins with no row, where every site has this key and
+/// draws its nonces from this generator.
 ///
 /// An exchange opens a session on the header of its request, does its commands, and hands the lines
 /// of the session to the client at the moment of delivery, if there is one. A refused command reads
@@ -35,19 +37,26 @@ use url::Url;
 /// whole second of the years 1971 to 9998, `Back` where it is before an earlier one, `Memory` where
 /// memory was refused. Each moment is tested when the play comes to it, that of a delivery after the
 /// commands.
-pub fn play(alloc: Global, steps: &[Step]) -> Result<Vec<Reading>, Fault>
-    ensures run { IfOk result (λ readings. IsRun (acts_of steps.now) readings.items) }
+pub fn play<R: TryRng>(
+    alloc: Global,
+    key: &Key,
+    steps: &[Step],
+    rng: &mut R,
+) -> Result<Vec<Reading>, Fault>
+    ensures run { IfOk result (λ readings. IsRun key.now (acts_of steps.now) readings.items) }
     ensures sites { IfOk result (λ readings. SitesReadTheirOwn (acts_of steps.now) readings.items) }
     ensures moments { OnOk result (AllFollow the_beginning (moments_of (acts_of steps.now))) }
-    ensures run_until { IfErr result (λ fault. IsRunUntil (acts_of steps.now) fault.step fault.kind fault.readings.items) }
+    ensures run_until { IfErr result (λ fault. IsRunUntil key.now (acts_of steps.now) fault.step fault.kind fault.readings.items) }
     ensures sites_until { IfErr result (λ fault. SitesReadTheirOwnUntil (acts_of steps.now) fault.step fault.kind fault.readings.items) }
 {
     encoded_records_read_back();
+    one_value();
+    let _ = key.encryption();
     let mut client = Client::new(alloc);
     let mut last = beginning();
     let mut readings = Vec::new(alloc);
     for (i, step) in steps.iter().enumerate() {
-        if let Err(kind) = act(alloc, &mut client, &mut last, step, &mut readings) {
+        if let Err(kind) = act(alloc, key, &mut client, &mut last, step, &mut readings, rng) {
             return Err(Fault {
                 step: i + 1,
                 kind,
@@ -59,20 +68,21 @@ pub fn play(alloc: Global, steps: &[Step]) -> Result<Vec<Reading>, Fault>
 }
 
 // One step of a play. `last` is the moment that it came to last.
-fn act(
+fn act<R: TryRng>(
     alloc: Global,
+    key: &Key,
     client: &mut Client,
     last: &mut DateTime,
     step: &Step,
     readings: &mut Vec<Reading>,
+    rng: &mut R,
 ) -> Result<(), FaultKind>
-    ensures told { OnOk result (readings.new.items ≡ readings.old.items ++ told_of client.old (act_of step.now)) }
-    ensures step { OnOk result (OneStep client.old (act_of step.now) (told_of client.old (act_of step.now)) client.new) }
-    ensures text { OnOk result (StepSetsText (act_of step.now)) }
+    ensures step { OnOk result ((told : List Reading) × (readings.new.items ≡ readings.old.items ++ told)
+        × OneStep key.now client.old (act_of step.now) told client.new) }
     ensures moments { OnOk result (AllFollow (civil_nanos last.old) (moments_in (act_of step.now))
         × (civil_nanos last.new ≡ last_of (civil_nanos last.old) (moments_in (act_of step.now)))) }
     ensures err { IfErr result (λ kind. StopsFrom kind (civil_nanos last.old) (act_of step.now)
-        readings.old.items (told_of client.old (act_of step.now)) readings.new.items) }
+        readings.old.items (ReadsFront key.now client.old (act_of step.now)) (ReadsAll key.now client.old (act_of step.now)) readings.new.items) }
 {
     match step {
         Step::Exchange {
@@ -82,7 +92,9 @@ fn act(
             delivery,
         } => {
             come_to(last, *at)?;
-            exchange(alloc, client, last, url, commands, *delivery, readings)
+            exchange(
+                alloc, key, client, last, url, commands, *delivery, readings, rng,
+            )
         }
         Step::Foreign { url, lines, at } => {
             come_to(last, *at)?;
@@ -100,28 +112,29 @@ fn act(
 
 // An exchange, once its moment is come to: a session on the header of the request, its commands, and
 // the delivery of its lines.
-fn exchange(
+fn exchange<R: TryRng>(
     alloc: Global,
+    key: &Key,
     client: &mut Client,
     last: &mut DateTime,
     url: &Url,
     commands: &[Command],
     delivery: Delivery,
     readings: &mut Vec<Reading>,
+    rng: &mut R,
 ) -> Result<(), FaultKind>
-    ensures told { OnOk result (readings.new.items ≡ readings.old.items
-        ++ jar_tells_all (opened (header_of (given client.old url.now))) commands.now) }
-    ensures rows { OnOk result (Delivers client.old url.now
-        (jar_after_all (opened (header_of (given client.old url.now))) commands.now) (arrival_of delivery) client.new) }
-    ensures text { OnOk result (AllByRecursion SetsText commands.now) }
+    ensures rows { OnOk result ((told : List Reading) × (readings.new.items ≡ readings.old.items ++ told) × (session : Keyed)
+        × Serves key.now (header_of (given client.old url.now)) commands.now told session
+        × Delivers client.old url.now session.jar (arrival_of delivery) client.new) }
     ensures moments { OnOk result (AllFollow (civil_nanos last.old) (arrival_moments (arrival_of delivery))
         × (civil_nanos last.new ≡ last_of (civil_nanos last.old) (arrival_moments (arrival_of delivery)))) }
-    ensures err { IfErr result (λ kind. StopsInside kind (civil_nanos last.old) (arrival_of delivery)
-        readings.old.items (jar_tells_all (opened (header_of (given client.old url.now))) commands.now) readings.new.items) }
+    ensures err { IfErr result (λ kind. StopsInside kind (civil_nanos last.old) (arrival_of delivery) readings.old.items
+        (ServesFront key.now (header_of (given client.old url.now)) commands.now)
+        (ServesAll key.now (header_of (given client.old url.now)) commands.now) readings.new.items) }
 {
     let header = client.header(url, *last)?;
-    let mut session = Session::open(alloc, header.as_bytes())?;
-    obey_all(alloc, &mut session, commands, readings)?;
+    let mut session = Session::open(alloc, header.as_bytes(), copy_of(key))?;
+    obey_all(alloc, &mut session, commands, readings, rng)?;
     match delivery {
         Delivery::Lost => Ok(()),
         Delivery::At(moment) => {
@@ -139,7 +152,7 @@ fn deliver(
     session: &Session,
     moment: DateTime,
 ) -> Result<(), FaultKind>
-    ensures rows { OnOk result (Delivers client.old url.now session.now (Arrives (civil_nanos moment)) client.new) }
+    ensures rows { OnOk result (Delivers client.old url.now session.now.jar (Arrives (civil_nanos moment)) client.new) }
     ensures err { IfErr result (λ kind. kind ≡ FaultKind.Memory) }
 {
     let Ok(lines) = session.close() else {
@@ -188,19 +201,19 @@ pub(crate) fn bytes_of(alloc: Global, lines: &[String]) -> Result<Vec<&[u8]>, Al
 }
 
 // The commands of a session in their order.
-fn obey_all(
+fn obey_all<R: TryRng>(
     alloc: Global,
     session: &mut Session,
     commands: &[Command],
     readings: &mut Vec<Reading>,
+    rng: &mut R,
 ) -> Result<(), AllocError>
-    ensures told { OnOk result (readings.new.items ≡ readings.old.items ++ jar_tells_all session.old commands.now) }
-    ensures jar { OnOk result (session.new ≡ jar_after_all session.old commands.now) }
-    ensures text { OnOk result (AllByRecursion SetsText commands.now) }
-    ensures err { OnErr result (Reaches readings.old.items (jar_tells_all session.old commands.now) readings.new.items) }
+    ensures ok { OnOk result ((told : List Reading) × (readings.new.items ≡ readings.old.items ++ told)
+        × Tells session.old commands.now told session.new) }
+    ensures err { OnErr result (GoesOnBy readings.old.items (TellsFront session.old commands.now) readings.new.items) }
 {
     for command in commands {
-        if let Some(reading) = obey(alloc, session, command)? {
+        if let Some(reading) = obey(alloc, session, command, rng)? {
             readings.push(reading)?;
         }
     }
@@ -208,41 +221,44 @@ fn obey_all(
 }
 
 // One command of a session, and what it reads.
-fn obey(
+fn obey<R: TryRng>(
     alloc: Global,
     session: &mut Session,
     command: &Command,
+    rng: &mut R,
 ) -> Result<Option<Reading>, AllocError>
-    ensures told { IfOk result (λ reading. option_to_list reading ≡ jar_tells session.old command.now) }
-    ensures jar { OnOk result (session.new ≡ jar_after session.old command.now) }
-    ensures text { OnOk result (SetsText command.now) }
+    ensures { IfOk result (λ reading. CommandTells session.old command.now (option_to_list reading) session.new) }
 {
     match command {
-        Command::Set(way, cookie) => set(alloc, session, *way, cookie),
-        Command::Get(way, name) => match session.get(*way, name.as_str()) {
-            Ok(value) => Ok(Some(Reading::Value(*way, name.clone()?, value.map(Text::of)))),
-            Err(SessionError::OutOfMemory) => Err(AllocError),
-            Err(error) => Ok(Some(Reading::Refused(error))),
-        },
+        Command::Set(way, cookie) => set(alloc, session, *way, cookie, rng),
+        Command::Get(way, name) => get(session, *way, name),
     }
 }
 
 // Sets a copy of a cookie, and gives what that reads.
-fn set(
+fn set<R: TryRng>(
     alloc: Global,
     session: &mut Session,
     way: Way,
     cookie: &Cookie<'static>,
+    rng: &mut R,
 ) -> Result<Option<Reading>, AllocError>
-    ensures told { IfOk result (λ reading. option_to_list reading ≡ told_by_set cookie.now.cookie) }
-    ensures jar { OnOk result (session.new ≡ jar_set session.old cookie.now.cookie) }
-    ensures text { OnOk result (IsText cookie.now.cookie) }
+    ensures { IfOk result (λ reading. SetTells session.old way cookie.now (option_to_list reading) session.new) }
 {
-    // Both are UTF-8, whatever is done with them.
-    let _name = cookie.name();
-    let _value = cookie.value();
-    match session.set(way, cookie.clone(alloc)?) {
+    let cookie = cookie.clone(alloc)?;
+    match session.set(way, cookie, rng) {
         Ok(()) => Ok(None),
+        Err(SessionError::OutOfMemory) => Err(AllocError),
+        Err(error) => Ok(Some(Reading::Refused(error))),
+    }
+}
+
+// What a name reads as.
+fn get(session: &Session, way: Way, name: &Text) -> Result<Option<Reading>, AllocError>
+    ensures { IfOk result (λ reading. GetTells session.now way name.now (option_to_list reading)) }
+{
+    match session.get(way, name.as_str()) {
+        Ok(value) => Ok(Some(Reading::Value(way, name.clone()?, value.map(Text::of)))),
         Err(SessionError::OutOfMemory) => Err(AllocError),
         Err(error) => Ok(Some(Reading::Refused(error))),
     }

@@ -10,9 +10,17 @@ use crate::device::{Sink, Source};
 use crate::moment::begin_1971;
 use crate::script::ended::{Ended, RunError};
 use crate::script::run::run;
+use cookie::Key;
+use rand_chacha::ChaCha20Rng;
+use rand_core::SeedableRng;
+
+// What key and generator come from.
+const SEED: [u8; 32] = [0; 32];
 
 /// Runs the script of a reader on a client without a row, from 1971-01-01T00:00:00 on, and answers
 /// the program's exit status, with what goes to standard error at status 2.
+///
+/// Key and generator come from a seed of 32 zero bytes, so nothing that it signs or seals is secret.
 ///
 /// The status is 0 where every line was done and 1 after the fault of a line. At 2 the reader failed
 /// (`input`) or the writer (`output`). The words behind the program's name are not looked at.
@@ -28,9 +36,19 @@ pub fn program<R: Source, W: Sink>(
         (Rose (R.failures reader.old) (R.failures reader.new) ⊎ (R.reads reader.new ≡ 2 ^ 64 - 1))
         (Rose (W.failures writer.old) (W.failures writer.new)) }
 {
+    let key = Key::derive_from(&SEED);
+    let mut rng = ChaCha20Rng::from_seed(SEED);
     let mut client = Client::new(rt.alloc());
     let mut last = begin_1971();
-    match run(rt.alloc(), reader, writer, &mut client, &mut last) {
+    match run(
+        rt.alloc(),
+        reader,
+        writer,
+        &mut client,
+        &mut last,
+        &key,
+        &mut rng,
+    ) {
         Ok(Ended::Whole) => (0, None),
         Ok(Ended::Faulty(_)) => (1, None),
         Err(RunError::Read) => (2, Some("input")),

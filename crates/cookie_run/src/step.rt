@@ -2,9 +2,10 @@
 ghost use Rattle.std.specs.Prelude.{◌≡◌};
 ghost use Rattle.cookie_run.specs.declared.step.SessionError.TheVariants.{OutOfMemory};
 ghost use Rattle.cookie_run.specs.declared.step.FaultKind.TheVariants.{Memory};
+ghost use Rattle.cookie_run.specs.Errors.{error_of};
 
 use crate::text::Text;
-use cookie::Cookie;
+use cookie::{Cookie, PrivateError};
 use jiff::civil::DateTime;
 use std::alloc::{AllocError, AllocFailed};
 use thiserror::Error;
@@ -15,6 +16,14 @@ use url::Url;
 pub enum Way {
     /// As it is.
     Plain,
+    /// As it is, under the prefix `__Host-`.
+    Host,
+    /// As it is, under the prefix `__Secure-`.
+    Secure,
+    /// With its code before it.
+    Signed,
+    /// Encrypted.
+    Sealed,
 }
 
 /// What a site tells its session.
@@ -78,6 +87,12 @@ pub enum SessionError {
     /// The expiry is of a year below 100.
     #[error("Year")]
     Year,
+    /// It has to be sealed, and the value has over 2^36 - 32 bytes or the name 2^61 bytes or more.
+    #[error("TooLong")]
+    TooLong,
+    /// It has to be sealed, and the generator's fill failed.
+    #[error("Rng")]
+    Rng,
     /// Memory was refused.
     #[error("OutOfMemory")]
     OutOfMemory,
@@ -88,6 +103,18 @@ impl From<AllocError> for SessionError {
 
     fn from(_: AllocError) -> SessionError {
         SessionError::OutOfMemory
+    }
+}
+
+impl From<PrivateError> for SessionError {
+    ghost from_gives = { λ error e. e ≡ error_of error };
+
+    fn from(error: PrivateError) -> SessionError {
+        match error {
+            PrivateError::TooLong => SessionError::TooLong,
+            PrivateError::Rng => SessionError::Rng,
+            PrivateError::OutOfMemory => SessionError::OutOfMemory,
+        }
     }
 }
 

@@ -25,6 +25,10 @@ pub enum Cause {
     Open,
     /// The name of a cookie is empty.
     EmptyName,
+    /// The value or the name is too long to be sealed.
+    TooLong,
+    /// The generator's fill failed.
+    Rng,
     /// Memory was refused.
     Memory,
 }
@@ -44,6 +48,8 @@ impl Cause {
             Cause::NoSession => "NoSession",
             Cause::Open => "Open",
             Cause::EmptyName => "EmptyName",
+            Cause::TooLong => "TooLong",
+            Cause::Rng => "Rng",
             Cause::Memory => "Memory",
         }
     }

@@ -127,11 +127,14 @@ fn read_set(alloc: Global, fields: &[&str]) -> Result<Line, Cause>
     let [way, name, value, max_age, expires] = fields else {
         return Err(Cause::Fields);
     };
-    if *way != "plain" || *max_age != "-" || *expires != "-" {
+    let Some(way) = way_of(way) else {
+        return Err(Cause::Fields);
+    };
+    if *max_age != "-" || *expires != "-" {
         return Err(Cause::Fields);
     }
     Ok(Line::Set {
-        way: Way::Plain,
+        way,
         name: Text::from_str(alloc, name)?,
         value: Text::from_str(alloc, value)?,
     })
@@ -143,13 +146,27 @@ fn read_get(alloc: Global, fields: &[&str]) -> Result<Line, Cause>
     let [way, name] = fields else {
         return Err(Cause::Fields);
     };
-    if *way != "plain" {
+    let Some(way) = way_of(way) else {
         return Err(Cause::Fields);
-    }
+    };
     Ok(Line::Get {
-        way: Way::Plain,
+        way,
         name: Text::from_str(alloc, name)?,
     })
+}
+
+// The way of a word.
+fn way_of(word: &str) -> Option<Way>
+    ensures { result ≡ spec.way_of word.now }
+{
+    match word {
+        "plain" => Some(Way::Plain),
+        "host" => Some(Way::Host),
+        "secure" => Some(Way::Secure),
+        "signed" => Some(Way::Signed),
+        "sealed" => Some(Way::Sealed),
+        _ => None,
+    }
 }
 
 fn read_deliver(fields: &[&str]) -> Result<Line, Cause>

@@ -45,6 +45,10 @@ fn way_name(way: Way) -> &'static str
 {
     match way {
         Way::Plain => "plain",
+        Way::Host => "host",
+        Way::Secure => "secure",
+        Way::Signed => "signed",
+        Way::Sealed => "sealed",
     }
 }
 

@@ -12,7 +12,9 @@ use crate::script::cause::Cause;
 use crate::script::ended::{Ended, RunError};
 use crate::script::field::cut_line;
 use crate::script::visit::follow;
+use cookie::Key;
 use jiff::civil::DateTime;
+use rand_core::TryRng;
 use std::alloc::Global;
 
 /// Plays the script that is read, line by line, on the client, and writes what it prints.
@@ -25,40 +27,44 @@ use std::alloc::Global;
 ///
 /// `Read` where a call of the reader failed, or 2^64 - 1 reads met no end, and `Write` where a call of
 /// the writer failed.
-pub fn run<R: Source, W: Sink>(
+pub fn run<R: Source, W: Sink, G: TryRng>(
     alloc: Global,
     reader: &mut R,
     writer: &mut W,
     client: &mut Client,
     last: &mut DateTime,
+    key: &Key,
+    rng: &mut G,
 ) -> Result<Ended, RunError>
     ensures text { IfOk result (λ ended. IfSome (R.left reader.old) (λ input. (output : List ℕ)
         × Appends (W.written writer.old) (W.written writer.new) output
-        × (ScriptText client.old (civil_nanos last.old) input output client.new (civil_nanos last.new) ended
-        ⊎ EndsForMemory client.old (civil_nanos last.old) input output client.new (civil_nanos last.new) ended))) }
+        × (ScriptText key.now client.old (civil_nanos last.old) input output client.new (civil_nanos last.new) ended
+        ⊎ EndsForMemory key.now client.old (civil_nanos last.old) input output client.new (civil_nanos last.new) ended))) }
     ensures read { IsErrOf result RunError.Read → Rose (R.failures reader.old) (R.failures reader.new) ⊎ (R.reads reader.new ≡ 2 ^ 64 - 1) }
     ensures write { IsErrOf result RunError.Write → Rose (W.failures writer.old) (W.failures writer.new) }
     ensures flushed { OnOk result (W.flushes writer.new ≡ one_more (W.flushes writer.old)) }
 {
     match read_all(alloc, reader) {
-        Ok(input) => play_text(alloc, &input, writer, client, last),
+        Ok(input) => play_text(alloc, &input, writer, client, last, key, rng),
         Err(Stop::Memory) => stop_at(writer, 1, Cause::Memory),
         Err(Stop::Read) => Err(RunError::Read),
     }
 }
 
 // Plays the lines of a text, and flushes.
-fn play_text<W: Sink>(
+fn play_text<W: Sink, G: TryRng>(
     alloc: Global,
     text: &[u8],
     writer: &mut W,
     client: &mut Client,
     last: &mut DateTime,
+    key: &Key,
+    rng: &mut G,
 ) -> Result<Ended, RunError>
     ensures text { IfOk result (λ ended. (output : List ℕ)
         × Appends (W.written writer.old) (W.written writer.new) output
-        × (ScriptText client.old (civil_nanos last.old) text.now output client.new (civil_nanos last.new) ended
-        ⊎ EndsForMemory client.old (civil_nanos last.old) text.now output client.new (civil_nanos last.new) ended)) }
+        × (ScriptText key.now client.old (civil_nanos last.old) text.now output client.new (civil_nanos last.new) ended
+        ⊎ EndsForMemory key.now client.old (civil_nanos last.old) text.now output client.new (civil_nanos last.new) ended)) }
     ensures failures { OnOk result (W.failures writer.new ≡ W.failures writer.old) }
     ensures write { OnErr result (Rose (W.failures writer.old) (W.failures writer.new)) }
     ensures only { IfErr result (λ e. e ≡ RunError.Write) }
@@ -69,7 +75,7 @@ fn play_text<W: Sink>(
     let mut rest = text;
     while !rest.is_empty() {
         let (line, more) = cut_line(rest);
-        match follow(alloc, line, client, last, &mut visit) {
+        match follow(alloc, key, line, client, last, &mut visit, rng) {
             Ok(printed) => write_all(writer, printed.as_str().as_bytes())?,
             Err(cause) => return stop_at(writer, done + 1, cause),
         }

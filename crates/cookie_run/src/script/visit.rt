@@ -3,13 +3,13 @@
 //! Each function answers what its line prints. A line with a fault is not done: the last moment
 //! stays, and so do the rows, but for the lines of an answer before the one at which memory was
 //! refused.
-ghost use Rattle.std.specs.Prelude.{◌≡◌, ◌≢◌, ◌⊎◌, ℤ, List, IfOk, IfErr, OnErr, string_bytes, map};
+ghost use Rattle.std.specs.Prelude.{◌≡◌, ℕ, ℤ, List, IfOk, IfErr, OnErr, string_bytes, map};
 ghost use Rattle.jiff.specs.Words.{civil_nanos};
 ghost use Rattle.cookie_text.specs.Record.{bare, unsliced};
 ghost use Rattle.cookie_run.specs.Jar.{ClosesWith};
 ghost use Rattle.cookie_run.specs.declared.row.Row.{Row};
 ghost use Rattle.cookie_run.specs.ScriptLine as spec;
-ghost use Rattle.cookie_run.specs.ScriptText.{obeyed, after_line, done};
+ghost use Rattle.cookie_run.specs.ScriptText.{obeyed, after_line, cause_of};
 ghost use Rattle.cookie_run.specs.Standing.{Goes, Halts};
 ghost use Rattle.cookie_run.specs.ScriptRead.{line_of};
 ghost use Rattle.cookie_run.specs.declared.step.Command.TheVariants.{Set, Get};
@@ -19,11 +19,12 @@ use crate::play::{bytes_of, views_of};
 use crate::script::cause::Cause;
 use crate::script::line::{Line, read_line};
 use crate::script::print::{header_line, value_line};
-use crate::session::Session;
+use crate::session::{Session, copy_of};
 use crate::step::{SessionError, Way};
 use crate::text::Text;
-use cookie::Cookie;
+use cookie::{Cookie, Key};
 use jiff::civil::DateTime;
+use rand_core::TryRng;
 use std::alloc::Global;
 use url::Url;
 
@@ -35,15 +36,17 @@ pub struct Visit {
 }
 
 /// Does a line of a script. An empty one is passed over.
-pub fn follow(
+pub fn follow<G: TryRng>(
     alloc: Global,
+    key: &Key,
     line: &[u8],
     client: &mut Client,
     last: &mut DateTime,
     visit: &mut Option<Visit>,
+    rng: &mut G,
 ) -> Result<String, Cause>
-    ensures ok { IfOk result (λ text. Goes (λ r. after_line r line.now) client.old (civil_nanos last.old) visit.old client.new (civil_nanos last.new) visit.new (string_bytes text)) }
-    ensures err { IfErr result (λ cause. Halts (λ r. after_line r line.now) client.old (civil_nanos last.old) visit.old cause client.new) }
+    ensures ok { IfOk result (λ text. Goes key.now (λ r. after_line r line.now) client.old (civil_nanos last.old) visit.old client.new (civil_nanos last.new) visit.new (string_bytes text)) }
+    ensures err { IfErr result (λ cause. Halts key.now (λ r. after_line r line.now) client.old (civil_nanos last.old) visit.old cause client.new) }
     ensures last { OnErr result (last.new ≡ last.old) }
 {
     if line.is_empty() {
@@ -56,24 +59,26 @@ pub fn follow(
     if asked.goes_back(*last) {
         return Err(Cause::Back);
     }
-    obey(alloc, asked, client, last, visit)
+    obey(alloc, key, asked, client, last, visit, rng)
 }
 
 // Does what a line asks for, whose moment isn't before the last.
-fn obey(
+fn obey<G: TryRng>(
     alloc: Global,
+    key: &Key,
     line: Line,
     client: &mut Client,
     last: &mut DateTime,
     visit: &mut Option<Visit>,
+    rng: &mut G,
 ) -> Result<String, Cause>
-    ensures ok { IfOk result (λ text. Goes (λ r. obeyed r.acts r.last r.now (line_of line)) client.old (civil_nanos last.old) visit.old client.new (civil_nanos last.new) visit.new (string_bytes text)) }
-    ensures err { IfErr result (λ cause. Halts (λ r. obeyed r.acts r.last r.now (line_of line)) client.old (civil_nanos last.old) visit.old cause client.new) }
+    ensures ok { IfOk result (λ text. Goes key.now (λ r. obeyed r.acts r.last r.now (line_of line)) client.old (civil_nanos last.old) visit.old client.new (civil_nanos last.new) visit.new (string_bytes text)) }
+    ensures err { IfErr result (λ cause. Halts key.now (λ r. obeyed r.acts r.last r.now (line_of line)) client.old (civil_nanos last.old) visit.old cause client.new) }
     ensures last { OnErr result (last.new ≡ last.old) }
 {
     match line {
-        Line::Open { url, at } => begin(alloc, url, at, client, last, visit),
-        Line::Set { way, name, value } => set(alloc, way, name, value, visit),
+        Line::Open { url, at } => begin(alloc, key, url, at, client, last, visit),
+        Line::Set { way, name, value } => set(alloc, way, name, value, visit, rng),
         Line::Get { way, name } => get(alloc, way, &name, visit),
         Line::Deliver(at) => deliver(alloc, at, client, last, visit),
         Line::Lose => lose(alloc, visit),
@@ -85,36 +90,38 @@ fn obey(
 // `open`: a session on the client's header.
 fn begin(
     alloc: Global,
+    key: &Key,
     url: Url,
     at: DateTime,
     client: &Client,
     last: &mut DateTime,
     visit: &mut Option<Visit>,
 ) -> Result<String, Cause>
-    ensures ok { IfOk result (λ text. Goes (λ r. obeyed r.acts r.last r.now (spec.Opens url (civil_nanos at))) client.now (civil_nanos last.old) visit.old client.now (civil_nanos last.new) visit.new (string_bytes text)) }
-    ensures err { IfErr result (λ cause. Halts (λ r. obeyed r.acts r.last r.now (spec.Opens url (civil_nanos at))) client.now (civil_nanos last.old) visit.old cause client.now) }
+    ensures ok { IfOk result (λ text. Goes key.now (λ r. obeyed r.acts r.last r.now (spec.Opens url (civil_nanos at))) client.now (civil_nanos last.old) visit.old client.now (civil_nanos last.new) visit.new (string_bytes text)) }
+    ensures err { IfErr result (λ cause. Halts key.now (λ r. obeyed r.acts r.last r.now (spec.Opens url (civil_nanos at))) client.now (civil_nanos last.old) visit.old cause client.now) }
     ensures last { OnErr result (last.new ≡ last.old) }
 {
     if visit.is_some() {
         return Err(Cause::Open);
     }
     let header = client.header(&url, at)?;
-    let session = Session::open(alloc, header.as_str().as_bytes())?;
+    let session = Session::open(alloc, header.as_str().as_bytes(), copy_of(key))?;
     *visit = Some(Visit { url, session });
     *last = at;
     Ok(String::new(alloc))
 }
 
 // `set`.
-fn set(
+fn set<G: TryRng>(
     alloc: Global,
     way: Way,
     name: Text,
     value: Text,
     visit: &mut Option<Visit>,
+    rng: &mut G,
 ) -> Result<String, Cause>
-    ensures ok { IfOk result (λ text. (rows : List Row) (last : ℤ) → Goes (λ r. obeyed r.acts r.last r.now (spec.Commands (Set way (unsliced (bare name value))))) rows last visit.old rows last visit.new (string_bytes text)) }
-    ensures err { IfErr result (λ cause. (rows : List Row) (last : ℤ) → Halts (λ r. obeyed r.acts r.last r.now (spec.Commands (Set way (unsliced (bare name value))))) rows last visit.old cause rows) }
+    ensures ok { IfOk result (λ text. (key : List ℕ) (rows : List Row) (last : ℤ) → Goes key (λ r. obeyed r.acts r.last r.now (spec.Commands (Set way (unsliced (bare name value))))) rows last visit.old rows last visit.new (string_bytes text)) }
+    ensures err { IfErr result (λ cause. (key : List ℕ) (rows : List Row) (last : ℤ) → Halts key (λ r. obeyed r.acts r.last r.now (spec.Commands (Set way (unsliced (bare name value))))) rows last visit.old cause rows) }
 {
     let Some(Visit { url, mut session }) = visit.take() else {
         return Err(Cause::NoSession);
@@ -122,6 +129,7 @@ fn set(
     let end = session.set(
         way,
         Cookie::new_owned(name.into_string(), value.into_string()),
+        rng,
     );
     *visit = Some(Visit { url, session });
     match end {
@@ -132,8 +140,8 @@ fn set(
 
 // `get`.
 fn get(alloc: Global, way: Way, name: &Text, visit: &Option<Visit>) -> Result<String, Cause>
-    ensures ok { IfOk result (λ text. (rows : List Row) (last : ℤ) → Goes (λ r. obeyed r.acts r.last r.now (spec.Commands (Get way name.now))) rows last visit.now rows last visit.now (string_bytes text)) }
-    ensures err { IfErr result (λ cause. (rows : List Row) (last : ℤ) → Halts (λ r. obeyed r.acts r.last r.now (spec.Commands (Get way name.now))) rows last visit.now cause rows) }
+    ensures ok { IfOk result (λ text. (key : List ℕ) (rows : List Row) (last : ℤ) → Goes key (λ r. obeyed r.acts r.last r.now (spec.Commands (Get way name.now))) rows last visit.now rows last visit.now (string_bytes text)) }
+    ensures err { IfErr result (λ cause. (key : List ℕ) (rows : List Row) (last : ℤ) → Halts key (λ r. obeyed r.acts r.last r.now (spec.Commands (Get way name.now))) rows last visit.now cause rows) }
 {
     let Some(open) = visit else {
         return Err(Cause::NoSession);
@@ -147,13 +155,13 @@ fn get(alloc: Global, way: Way, name: &Text, visit: &Option<Visit>) -> Result<St
 // The fault of a command that the session refused. The cookies of a script have no expiry, so it is
 // never refused for its year.
 fn refused(error: SessionError) -> Cause
-    ensures { ((error ≡ SessionError.OutOfMemory) × (result ≡ Cause.Memory))
-        ⊎ ((error ≢ SessionError.OutOfMemory) × (result ≡ Cause.EmptyName)) }
+    ensures { result ≡ cause_of error }
 {
     match error {
+        SessionError::EmptyName | SessionError::Year => Cause::EmptyName,
+        SessionError::TooLong => Cause::TooLong,
+        SessionError::Rng => Cause::Rng,
         SessionError::OutOfMemory => Cause::Memory,
-        SessionError::EmptyName => Cause::EmptyName,
-        SessionError::Year => Cause::EmptyName,
     }
 }
 
@@ -165,8 +173,8 @@ fn deliver(
     last: &mut DateTime,
     visit: &mut Option<Visit>,
 ) -> Result<String, Cause>
-    ensures ok { IfOk result (λ text. Goes (λ r. obeyed r.acts r.last r.now (spec.Delivers (civil_nanos at))) client.old (civil_nanos last.old) visit.old client.new (civil_nanos last.new) visit.new (string_bytes text)) }
-    ensures err { IfErr result (λ cause. Halts (λ r. obeyed r.acts r.last r.now (spec.Delivers (civil_nanos at))) client.old (civil_nanos last.old) visit.old cause client.new) }
+    ensures ok { IfOk result (λ text. (key : List ℕ) → Goes key (λ r. obeyed r.acts r.last r.now (spec.Delivers (civil_nanos at))) client.old (civil_nanos last.old) visit.old client.new (civil_nanos last.new) visit.new (string_bytes text)) }
+    ensures err { IfErr result (λ cause. (key : List ℕ) → Halts key (λ r. obeyed r.acts r.last r.now (spec.Delivers (civil_nanos at))) client.old (civil_nanos last.old) visit.old cause client.new) }
     ensures last { OnErr result (last.new ≡ last.old) }
 {
     let Some(open) = visit else {
@@ -184,8 +192,8 @@ fn deliver(
 
 // `lose`: they don't.
 fn lose(alloc: Global, visit: &mut Option<Visit>) -> Result<String, Cause>
-    ensures ok { IfOk result (λ text. (rows : List Row) (last : ℤ) → Goes (λ r. obeyed r.acts r.last r.now spec.Loses) rows last visit.old rows last visit.new (string_bytes text)) }
-    ensures err { IfErr result (λ cause. (rows : List Row) (last : ℤ) → Halts (λ r. obeyed r.acts r.last r.now spec.Loses) rows last visit.old cause rows) }
+    ensures ok { IfOk result (λ text. (key : List ℕ) (rows : List Row) (last : ℤ) → Goes key (λ r. obeyed r.acts r.last r.now spec.Loses) rows last visit.old rows last visit.new (string_bytes text)) }
+    ensures err { IfErr result (λ cause. (key : List ℕ) (rows : List Row) (last : ℤ) → Halts key (λ r. obeyed r.acts r.last r.now spec.Loses) rows last visit.old cause rows) }
 {
     if visit.is_none() {
         return Err(Cause::NoSession);
@@ -204,8 +212,8 @@ fn receive(
     last: &mut DateTime,
     visit: &Option<Visit>,
 ) -> Result<String, Cause>
-    ensures ok { IfOk result (λ text. Goes (λ r. obeyed r.acts r.last r.now (spec.Receives url.now (map (λ line. line.items) lines.now) (civil_nanos at))) client.old (civil_nanos last.old) visit.now client.new (civil_nanos last.new) visit.now (string_bytes text)) }
-    ensures err { IfErr result (λ cause. Halts (λ r. obeyed r.acts r.last r.now (spec.Receives url.now (map (λ line. line.items) lines.now) (civil_nanos at))) client.old (civil_nanos last.old) visit.now cause client.new) }
+    ensures ok { IfOk result (λ text. (key : List ℕ) → Goes key (λ r. obeyed r.acts r.last r.now (spec.Receives url.now (map (λ line. line.items) lines.now) (civil_nanos at))) client.old (civil_nanos last.old) visit.now client.new (civil_nanos last.new) visit.now (string_bytes text)) }
+    ensures err { IfErr result (λ cause. (key : List ℕ) → Halts key (λ r. obeyed r.acts r.last r.now (spec.Receives url.now (map (λ line. line.items) lines.now) (civil_nanos at))) client.old (civil_nanos last.old) visit.now cause client.new) }
     ensures last { OnErr result (last.new ≡ last.old) }
 {
     if visit.is_some() {
@@ -228,8 +236,8 @@ fn header(
     last: &mut DateTime,
     visit: &Option<Visit>,
 ) -> Result<String, Cause>
-    ensures ok { IfOk result (λ text. Goes (λ r. obeyed r.acts r.last r.now (spec.Heads url.now (civil_nanos at))) client.now (civil_nanos last.old) visit.now client.now (civil_nanos last.new) visit.now (string_bytes text)) }
-    ensures err { IfErr result (λ cause. Halts (λ r. obeyed r.acts r.last r.now (spec.Heads url.now (civil_nanos at))) client.now (civil_nanos last.old) visit.now cause client.now) }
+    ensures ok { IfOk result (λ text. (key : List ℕ) → Goes key (λ r. obeyed r.acts r.last r.now (spec.Heads url.now (civil_nanos at))) client.now (civil_nanos last.old) visit.now client.now (civil_nanos last.new) visit.now (string_bytes text)) }
+    ensures err { IfErr result (λ cause. (key : List ℕ) → Halts key (λ r. obeyed r.acts r.last r.now (spec.Heads url.now (civil_nanos at))) client.now (civil_nanos last.old) visit.now cause client.now) }
     ensures last { OnErr result (last.new ≡ last.old) }
 {
     if visit.is_some() {
@@ -243,7 +251,7 @@ fn header(
 
 // The lines that a session closes with.
 fn closed_lines(session: &Session) -> Result<Vec<String>, Cause>
-    ensures lines { IfOk result (λ lines. ClosesWith session.now.changes (map string_bytes lines.items)) }
+    ensures lines { IfOk result (λ lines. ClosesWith session.now.jar (map string_bytes lines.items)) }
     ensures err { IfErr result (λ cause. cause ≡ Cause.Memory) }
 {
     match session.close() {
