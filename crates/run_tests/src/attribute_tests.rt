@@ -1,5 +1,6 @@
 //! Attributes of the cookies that a site sets, and of the lines that come from elsewhere.
-use crate::fixtures::{cookie, second, text};
+use crate::fixtures::{cookie, second, text, zero_key};
+use crate::generators::zeros;
 use cookie::{Cookie, Expiration, SameSite};
 use cookie_run::play::play;
 use cookie_run::{
@@ -87,8 +88,8 @@ fn refuses_lines_in_which_more_stands(rt: HostRuntime) -> Result<(), Fail> {
 
 // The line that a session closes with for a cookie.
 fn closed(alloc: Global, cookie: Cookie<'static>) -> Result<String, Fail> {
-    let mut session = Session::open(alloc, b"")?;
-    session.set(Way::Plain, cookie)?;
+    let mut session = Session::open(alloc, b"", zero_key())?;
+    session.set(Way::Plain, cookie, &mut zeros())?;
     let mut lines = session.close()?;
     Ok(lines.pop().unwrap_or(String::new(alloc)))
 }
@@ -145,18 +146,18 @@ fn refuses_an_empty_name_and_then_a_short_year(rt: HostRuntime) -> Result<(), Fa
     let alloc = rt.alloc();
     let short = datetime(99, 12, 31, 0, 0, 0, 0);
     let long = datetime(100, 1, 1, 0, 0, 0, 0);
-    let mut session = Session::open(alloc, b"a=0")?;
+    let mut session = Session::open(alloc, b"a=0", zero_key())?;
     assert_eq!(rt;
-        session.set(Way::Plain, ending(alloc, "", short)?),
+        session.set(Way::Plain, ending(alloc, "", short)?, &mut zeros()),
         Err(SessionError::EmptyName)
     );
     assert_eq!(rt;
-        session.set(Way::Plain, ending(alloc, "a", short)?),
+        session.set(Way::Plain, ending(alloc, "a", short)?, &mut zeros()),
         Err(SessionError::Year)
     );
     assert!(rt; session.close()?.is_empty());
     assert_eq!(rt; session.get(Way::Plain, "a")?.as_deref(), Some("0"));
-    session.set(Way::Plain, ending(alloc, "a", long)?)?;
+    session.set(Way::Plain, ending(alloc, "a", long)?, &mut zeros())?;
     assert_eq!(rt; session.get(Way::Plain, "a")?.as_deref(), Some("1"));
     assert_eq!(rt; session.close()?.len(), 1);
     Ok(())
@@ -200,10 +201,12 @@ fn a_site_reads_every_byte_and_whatever_its_attributes(rt: HostRuntime) -> Resul
     ]?;
     let readings = play(
         alloc,
+        &zero_key(),
         &[
             visit(alloc, second(0), sets)?,
             visit(alloc, second(1), gets)?,
         ],
+        &mut zeros(),
     )?;
     let wanted = [
         Reading::Value(Way::Plain, text(alloc, &all)?, Some(text(alloc, &all)?)),

@@ -1,5 +1,5 @@
 //! What several tests begin with.
-use cookie::Cookie;
+use cookie::{Cookie, Key};
 use cookie_run::Text;
 use jiff::SignedDuration;
 use jiff::civil::{DateTime, datetime};
@@ -26,4 +26,9 @@ pub fn cookie(alloc: Global, name: &str, value: &str) -> Result<Cookie<'static>,
 /// An owned text.
 pub fn text(alloc: Global, text: &str) -> Result<Text, AllocError> {
     Ok(Text::of(String::from_str(alloc, text)?))
+}
+
+/// The key of 64 zero bytes.
+pub fn zero_key() -> Key {
+    Key::from(&[0; 64])
 }

@@ -14,6 +14,8 @@ mod devices;
 #[cfg(test)]
 mod fixtures;
 #[cfg(test)]
+mod generators;
+#[cfg(test)]
 mod memory;
 #[cfg(test)]
 mod play_tests;
@@ -25,3 +27,5 @@ mod script_tests;
 mod session_tests;
 #[cfg(test)]
 mod stream_tests;
+#[cfg(test)]
+mod way_tests;

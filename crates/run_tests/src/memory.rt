@@ -3,7 +3,8 @@
 //! A scenario answers whether it met want of memory. `tools/refuse-growths` refuses each growth in
 //! turn: the first test of a pair looks at what a refusal leaves, the second shows that there is none
 //! with ample memory.
-use crate::fixtures::{beginning, cookie, second, text};
+use crate::fixtures::{beginning, cookie, second, text, zero_key};
+use crate::generators::zeros;
 use crate::script_tests::{VISIT, VISIT_PRINTS};
 use cookie_run::play::play;
 use cookie_run::{
@@ -17,7 +18,7 @@ use url::Url;
 const SHOP: &str = "https://shop.com/";
 
 fn opens(rt: &impl Abort, alloc: Global) -> bool {
-    let Ok(session) = Session::open(alloc, b"a=1; b=%32; =x; c") else {
+    let Ok(session) = Session::open(alloc, b"a=1; b=%32; =x; c", zero_key()) else {
         return true;
     };
     let mut refused = false;
@@ -35,18 +36,18 @@ fn opens(rt: &impl Abort, alloc: Global) -> bool {
 
 fn sets(rt: &impl Abort, alloc: Global) -> bool {
     let (Ok(mut session), Ok(mut b), Ok(empty)) = (
-        Session::open(alloc, b"a=1"),
+        Session::open(alloc, b"a=1", zero_key()),
         cookie(alloc, "b", "2"),
         cookie(alloc, "", "2"),
     ) else {
         return true;
     };
     assert_eq!(rt;
-        session.set(Way::Plain, empty),
+        session.set(Way::Plain, empty, &mut zeros()),
         Err(SessionError::EmptyName)
     );
     b.set_http_only(Some(true));
-    let set = session.set(Way::Plain, b);
+    let set = session.set(Way::Plain, b, &mut zeros());
     let line = "b=2; HttpOnly; Secure; Path=/";
     match session.close() {
         Ok(lines) => {
@@ -62,6 +63,63 @@ fn sets(rt: &impl Abort, alloc: Global) -> bool {
         assert_eq!(rt; set, Err(SessionError::OutOfMemory));
     }
     set.is_err()
+}
+
+// A cookie that is set and read in this way.
+fn keeps(rt: &impl Abort, alloc: Global, way: Way) -> bool {
+    let (Ok(mut session), Ok(b)) = (
+        Session::open(alloc, b"", zero_key()),
+        cookie(alloc, "b", "2"),
+    ) else {
+        return true;
+    };
+    let set = session.set(way, b, &mut zeros());
+    if set.is_err() {
+        assert_eq!(rt; set, Err(SessionError::OutOfMemory));
+    }
+    match session.get(way, "b") {
+        Ok(value) => {
+            assert_eq!(rt;
+                value.as_deref(),
+                if set.is_ok() { Some("2") } else { None }
+            );
+            set.is_err()
+        }
+        Err(error) => {
+            assert_eq!(rt; error, SessionError::OutOfMemory);
+            true
+        }
+    }
+}
+
+fn keeps_in_each_way(rt: &impl Abort, alloc: Global) -> bool {
+    let mut refused = false;
+    for way in [Way::Host, Way::Secure, Way::Signed, Way::Sealed] {
+        if keeps(rt, alloc, way) {
+            refused = true;
+        }
+    }
+    refused
+}
+
+fn removes(rt: &impl Abort, alloc: Global) -> bool {
+    let Ok(mut session) = Session::open(alloc, b"a=1", zero_key()) else {
+        return true;
+    };
+    let removed = session.remove(Way::Plain, "a", second(0));
+    if removed.is_err() {
+        assert_eq!(rt; removed, Err(SessionError::OutOfMemory));
+    }
+    match session.close() {
+        Ok(lines) => {
+            assert_eq!(rt; lines.len(), if removed.is_ok() { 1 } else { 0 });
+            removed.is_err()
+        }
+        Err(error) => {
+            assert_eq!(rt; error, SessionError::OutOfMemory);
+            true
+        }
+    }
 }
 
 fn receives(rt: &impl Abort, alloc: Global) -> bool {
@@ -117,7 +175,7 @@ fn plays(rt: &impl Abort, alloc: Global) -> bool {
         return true;
     };
     let wanted = [Reading::Value(Way::Plain, name, Some(value))];
-    match play(alloc, &steps) {
+    match play(alloc, &zero_key(), &steps, &mut zeros()) {
         Ok(readings) => {
             assert_eq!(rt; readings.as_slice(), wanted.as_slice());
             false
@@ -143,6 +201,8 @@ fn runs(rt: &impl Abort, alloc: Global) -> bool {
         &mut Counting::new(&mut output),
         &mut client,
         &mut last,
+        &zero_key(),
+        &mut zeros(),
     );
     match ended {
         Ok(Ended::Faulty(9)) if output.ends_with(b"line 9: Word\n") => {
@@ -178,6 +238,26 @@ fn set(rt: HostRuntime) {
 #[test]
 fn set_with_ample_memory(rt: HostRuntime) {
     assert!(rt; !sets(&rt, rt.alloc()));
+}
+
+#[test]
+fn keep(rt: HostRuntime) {
+    keeps_in_each_way(&rt, rt.alloc());
+}
+
+#[test]
+fn keep_with_ample_memory(rt: HostRuntime) {
+    assert!(rt; !keeps_in_each_way(&rt, rt.alloc()));
+}
+
+#[test]
+fn remove(rt: HostRuntime) {
+    removes(&rt, rt.alloc());
+}
+
+#[test]
+fn remove_with_ample_memory(rt: HostRuntime) {
+    assert!(rt; !removes(&rt, rt.alloc()));
 }
 
 #[test]

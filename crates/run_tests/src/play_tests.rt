@@ -1,5 +1,6 @@
 //! Plays of one client and a site.
-use crate::fixtures::{beginning, cookie, second, text};
+use crate::fixtures::{beginning, cookie, second, text, zero_key};
+use crate::generators::{failing, zeros};
 use cookie_run::play::play;
 use cookie_run::{Command, Delivery, FaultKind, Reading, SessionError, Step, Way};
 use jiff::SignedDuration;
@@ -46,7 +47,7 @@ fn reads_what_was_set_and_no_other(rt: HostRuntime) -> Result<(), Fail> {
             at: second(1),
         },
     ];
-    let readings = play(alloc, &steps)?;
+    let readings = play(alloc, &zero_key(), &steps, &mut zeros())?;
     let header = "foo%20!%25%3F%3D=bar%3B%3B%2C%20a";
     let wanted = [
         Reading::Value(
@@ -80,7 +81,10 @@ fn forgets_a_lost_answer_and_other_hosts(rt: HostRuntime) -> Result<(), Fail> {
         exchange(alloc, second(2), read, Delivery::Lost)?,
     ];
     let wanted = [Reading::Value(Way::Plain, text(alloc, "a")?, Some(text(alloc, "1")?))];
-    assert_eq!(rt; play(alloc, &steps)?.as_slice(), wanted.as_slice());
+    assert_eq!(rt;
+        play(alloc, &zero_key(), &steps, &mut zeros())?.as_slice(),
+        wanted.as_slice()
+    );
     Ok(())
 }
 
@@ -106,7 +110,7 @@ fn stops_at_the_first_wrong_moment(rt: HostRuntime) -> Result<(), Fail> {
             url: Url::parse(alloc, "https://shop.com/")?,
             at: second(8),
         };
-        match play(alloc, &[first, later]) {
+        match play(alloc, &zero_key(), &[first, later], &mut zeros()) {
             Ok(_) => assert!(rt; false, "no fault in case {step}"),
             Err(fault) => {
                 assert_eq!(rt; fault.kind, kind);
@@ -115,6 +119,48 @@ fn stops_at_the_first_wrong_moment(rt: HostRuntime) -> Result<(), Fail> {
                 assert!(rt; refused.starts_with(&fault.readings));
             }
         }
+    }
+    Ok(())
+}
+
+// A sealed set that is refused for the generator reads as that, and the play goes on.
+#[test]
+fn goes_on_where_the_generator_fails(rt: HostRuntime) -> Result<(), Fail> {
+    let alloc = rt.alloc();
+    let sealed = Command::Set(Way::Sealed, cookie(alloc, "a", "1")?);
+    let first = vec![in alloc; sealed, set(alloc, "b", "2")?]?;
+    let read = vec![in alloc;
+        get(alloc, "b")?,
+        Command::Get(Way::Sealed, text(alloc, "a")?),
+    ]?;
+    let steps = [
+        exchange(alloc, second(0), first, Delivery::At(second(0)))?,
+        exchange(alloc, second(1), read, Delivery::Lost)?,
+    ];
+    let wanted = [
+        Reading::Refused(SessionError::Rng),
+        Reading::Value(Way::Plain, text(alloc, "b")?, Some(text(alloc, "2")?)),
+        Reading::Value(Way::Sealed, text(alloc, "a")?, None),
+    ];
+    let readings = play(alloc, &zero_key(), &steps, &mut failing())?;
+    assert_eq!(rt; readings.as_slice(), wanted.as_slice());
+    Ok(())
+}
+
+// Each way's value comes back, under its own name.
+#[test]
+fn reads_each_way(rt: HostRuntime) -> Result<(), Fail> {
+    let alloc = rt.alloc();
+    for way in [Way::Plain, Way::Host, Way::Secure, Way::Signed, Way::Sealed] {
+        let first = vec![in alloc; Command::Set(way, cookie(alloc, "a b", "1;=")?)]?;
+        let read = vec![in alloc; Command::Get(way, text(alloc, "a b")?)]?;
+        let steps = [
+            exchange(alloc, second(0), first, Delivery::At(second(0)))?,
+            exchange(alloc, second(1), read, Delivery::Lost)?,
+        ];
+        let wanted = [Reading::Value(way, text(alloc, "a b")?, Some(text(alloc, "1;=")?))];
+        let readings = play(alloc, &zero_key(), &steps, &mut zeros())?;
+        assert_eq!(rt; readings.as_slice(), wanted.as_slice());
     }
     Ok(())
 }

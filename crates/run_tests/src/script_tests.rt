@@ -1,17 +1,35 @@
 //! What scripts print, and how they end.
-use crate::fixtures::beginning;
+use crate::fixtures::{beginning, zero_key};
+use crate::generators::{Generator, failing, zeros};
 use cookie_run::{Client, Counting, Ended, run};
 use std::alloc::Global;
 use std::test::Fail;
 
 /// What a script prints for an empty client, and how it ends.
 fn printed(alloc: Global, script: &str) -> Result<(Vec<u8>, Ended), Fail> {
+    printed_with(alloc, script, &mut zeros())
+}
+
+// The same with this generator.
+fn printed_with(
+    alloc: Global,
+    script: &str,
+    rng: &mut Generator,
+) -> Result<(Vec<u8>, Ended), Fail> {
     let mut client = Client::new(alloc);
     let mut last = beginning();
     let mut output = Vec::new(alloc);
     let mut reader = Counting::new(script.as_bytes());
     let mut writer = Counting::new(&mut output);
-    let ended = run(alloc, &mut reader, &mut writer, &mut client, &mut last)?;
+    let ended = run(
+        alloc,
+        &mut reader,
+        &mut writer,
+        &mut client,
+        &mut last,
+        &zero_key(),
+        rng,
+    )?;
     Ok((output, ended))
 }
 
@@ -26,7 +44,7 @@ fn names_the_first_fault(rt: HostRuntime) -> Result<(), Fail> {
         ("set\tplain\t%FF\n", "line 1: Text\n", 1),
         ("receive\t%FF\n", "line 1: Text\n", 1),
         ("get\tplain\n", "line 1: Fields\n", 1),
-        ("get\thost\ta\n", "line 1: Fields\n", 1),
+        ("get\tclear\ta\n", "line 1: Fields\n", 1),
         ("receive\thttps://shop.com/\n", "line 1: Fields\n", 1),
         ("header\t://\t1970-01-01T00:00:00Z\n", "line 1: Url\n", 1),
         (
@@ -163,5 +181,41 @@ fn plays_a_first_visit(rt: HostRuntime) -> Result<(), Fail> {
     let (output, ended) = printed(rt.alloc(), VISIT)?;
     assert_eq!(rt; output.as_slice(), VISIT_PRINTS.as_bytes());
     assert_eq!(rt; ended, Ended::Faulty(9));
+    Ok(())
+}
+
+// Five ways in one script; `host` and `secure` are read in a plain way under their stored names.
+#[test]
+fn plays_five_ways(rt: HostRuntime) -> Result<(), Fail> {
+    let script = "open\thttps://shop.com/\t2024-01-01T00:00:00Z\n\
+set\thost\ta\t1\t-\t-\n\
+set\tsecure\ta\t2\t-\t-\n\
+set\tsigned\tb\t3\t-\t-\n\
+set\tsealed\tc\t4\t-\t-\n\
+deliver\t2024-01-01T00:00:00Z\n\
+open\thttps://shop.com/\t2024-01-01T00:00:01Z\n\
+get\thost\ta\n\
+get\tplain\t__Host-a\n\
+get\tsecure\ta\n\
+get\tsigned\tb\n\
+get\tsealed\tc\n\
+get\tsealed\tb\n\
+get\tplain\ta\n";
+    let wanted = "host\ta\t=1\nplain\t__Host-a\t=1\nsecure\ta\t=2\nsigned\tb\t=3\nsealed\tc\t=4\n\
+sealed\tb\t-\nplain\ta\t-\n";
+    let (output, ended) = printed(rt.alloc(), script)?;
+    assert_eq!(rt; output.as_slice(), wanted.as_bytes());
+    assert_eq!(rt; ended, Ended::Whole);
+    Ok(())
+}
+
+#[test]
+fn names_the_generators_failure(rt: HostRuntime) -> Result<(), Fail> {
+    let script = "open\thttps://shop.com/\t2024-01-01T00:00:00Z\n\
+set\tsigned\ta\t1\t-\t-\n\
+set\tsealed\ta\t1\t-\t-\n";
+    let (output, ended) = printed_with(rt.alloc(), script, &mut failing())?;
+    assert_eq!(rt; output.as_slice(), b"line 3: Rng\n".as_slice());
+    assert_eq!(rt; ended, Ended::Faulty(3));
     Ok(())
 }

@@ -1,11 +1,12 @@
 //! What a session makes of a header.
+use crate::fixtures::zero_key;
 use cookie_run::{Session, Way};
 use std::alloc::Global;
 use std::test::Fail;
 
 // Whether a session on the header reads this value under the name `b`.
 fn reads(alloc: Global, header: &[u8], value: &str) -> Result<bool, Fail> {
-    let session = Session::open(alloc, header)?;
+    let session = Session::open(alloc, header, zero_key())?;
     match session.get(Way::Plain, "b")? {
         Some(read) => Ok(read.as_str() == value),
         None => Ok(false),

@@ -1,6 +1,7 @@
 //! Readers and writers that are slow, or fail in mid-stream.
 use crate::devices::{ByteByByte, CountsFlushes, FailsAt};
-use crate::fixtures::{beginning, second};
+use crate::fixtures::{beginning, second, zero_key};
+use crate::generators::zeros;
 use crate::script_tests::{VISIT, VISIT_PRINTS};
 use cookie_run::{Client, Counting, Ended, RunError, run};
 use std::alloc::Global;
@@ -21,6 +22,8 @@ fn run_over<R: Read + Drop, W: Write + Drop>(
         &mut Counting::new(writer),
         client,
         &mut last,
+        &zero_key(),
+        &mut zeros(),
     )
 }
 

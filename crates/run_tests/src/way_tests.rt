@@ -1,0 +1,99 @@
+//! The ways of a session alone: the lines that it closes with, and what it refuses.
+use crate::fixtures::{cookie, second, zero_key};
+use crate::generators::{failing, zeros};
+use cookie::{Cookie, Expiration};
+use cookie_run::{Session, SessionError, Way};
+use jiff::civil::datetime;
+use std::test::Fail;
+
+#[test]
+fn sets_under_a_prefix(rt: HostRuntime) -> Result<(), Fail> {
+    let alloc = rt.alloc();
+    let mut session = Session::open(alloc, b"", zero_key())?;
+    session.set(Way::Host, cookie(alloc, "sid", "1")?, &mut zeros())?;
+    let lines = session.close()?;
+    assert_eq!(rt; lines.len(), 1);
+    assert!(rt;
+        lines
+            .iter()
+            .all(|line| line.as_str() == "__Host-sid=1; Secure; Path=/")
+    );
+    let value = session.get(Way::Plain, "__Host-sid")?;
+    assert_eq!(rt; value.as_deref(), Some("1"));
+    Ok(())
+}
+
+#[test]
+fn seals_and_opens(rt: HostRuntime) -> Result<(), Fail> {
+    let alloc = rt.alloc();
+    let mut session = Session::open(alloc, b"", zero_key())?;
+    session.set(Way::Sealed, cookie(alloc, "a", "1")?, &mut zeros())?;
+    let value = session.get(Way::Sealed, "a")?;
+    assert_eq!(rt; value.as_deref(), Some("1"));
+    let other = session.get(Way::Signed, "a")?;
+    assert_eq!(rt; other.as_deref(), None);
+    Ok(())
+}
+
+#[test]
+fn is_unchanged_where_the_generator_fails(rt: HostRuntime) -> Result<(), Fail> {
+    let alloc = rt.alloc();
+    let mut session = Session::open(alloc, b"", zero_key())?;
+    assert_eq!(rt;
+        session.set(Way::Sealed, cookie(alloc, "a", "1")?, &mut failing()),
+        Err(SessionError::Rng)
+    );
+    assert_eq!(rt; session.close()?.len(), 0);
+    session.set(Way::Signed, cookie(alloc, "a", "1")?, &mut failing())?;
+    assert_eq!(rt; session.close()?.len(), 1);
+    Ok(())
+}
+
+#[test]
+fn removes_what_the_header_brought(rt: HostRuntime) -> Result<(), Fail> {
+    let mut session = Session::open(rt.alloc(), b"a=1", zero_key())?;
+    session.remove(Way::Plain, "a", second(0))?;
+    let lines = session.close()?;
+    let wanted = "a=; Secure; Path=/; Max-Age=0; Expires=Sun, 01 Jan 2023 00:00:00 GMT";
+    assert_eq!(rt; lines.len(), 1);
+    assert!(rt; lines.iter().all(|line| line.as_str() == wanted));
+    let value = session.get(Way::Plain, "a")?;
+    assert_eq!(rt; value.as_deref(), None);
+    Ok(())
+}
+
+#[test]
+fn forgets_what_was_set_and_removed(rt: HostRuntime) -> Result<(), Fail> {
+    let alloc = rt.alloc();
+    let mut session = Session::open(alloc, b"", zero_key())?;
+    session.set(Way::Plain, cookie(alloc, "a", "1")?, &mut zeros())?;
+    session.remove(Way::Plain, "a", second(0))?;
+    assert_eq!(rt; session.close()?.len(), 0);
+    let value = session.get(Way::Plain, "a")?;
+    assert_eq!(rt; value.as_deref(), None);
+    Ok(())
+}
+
+#[test]
+fn refuses_a_short_year_and_an_empty_name(rt: HostRuntime) -> Result<(), Fail> {
+    let alloc = rt.alloc();
+    let mut session = Session::open(alloc, b"", zero_key())?;
+    let mut early: Cookie<'static> = cookie(alloc, "a", "1")?;
+    early.set_expires(Expiration::DateTime(datetime(99, 12, 31, 0, 0, 0, 0)));
+    assert_eq!(rt;
+        session.set(Way::Plain, early, &mut zeros()),
+        Err(SessionError::Year)
+    );
+    assert_eq!(rt; session.close()?.len(), 0);
+    let year_100 = datetime(100, 12, 31, 0, 0, 0, 0);
+    assert_eq!(rt;
+        session.remove(Way::Host, "a", year_100),
+        Err(SessionError::Year)
+    );
+    assert_eq!(rt;
+        session.remove(Way::Host, "", year_100),
+        Err(SessionError::EmptyName)
+    );
+    assert_eq!(rt; session.get(Way::Sealed, ""), Err(SessionError::EmptyName));
+    Ok(())
+}
