@@ -10,7 +10,8 @@ use Rattle.cookie_text.specs.Pieces.{name_of, text_after, value_of}
 use Rattle.cookie_text.specs.Printing.{encoded}
 use Rattle.cookie_text.specs.Record.{Record, bare, unsliced}
 use Rattle.cookie_run.specs.Jar.{sent}
-use Rattle.cookie_run.specs.Reading.{cookies_of, is_kept}
+use Rattle.cookie_run.specs.Reading.{is_kept}
+use Rattle.cookie_run.proofs.HeaderCookies.{cookies_of}
 use Rattle.cookie_run.specs.declared.row.Row.{Row}
 use Rattle.cookie_run.specs.Rows.{header_of, row_of}
 use Rattle.cookie_run.specs.declared.step.Way.TheVariants.{Plain, Host, Sealed}

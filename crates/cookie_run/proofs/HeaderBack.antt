@@ -20,9 +20,10 @@ use Rattle.cookie_text.specs.Pieces.{pieces}
 use Rattle.cookie_text.specs.Printing.{encoded, encoded_pair, end_of, flag, is_set, piece_text, prints_secure, printed_attributes, stripped, whole_seconds}
 use Rattle.cookie_text.specs.ReadingBack.{ReadsBack}
 use Rattle.cookie_text.specs.Record.{Record, Seen, without_dot, moment_of}
-use Rattle.cookie_run.specs.Reading.{cookie_of, cookies_of, is_kept, is_value, kept_cookie}
+use Rattle.cookie_run.specs.Reading.{is_kept, is_value, kept_cookie}
 use Rattle.cookie_run.specs.declared.row.Row.{Row}
 use Rattle.cookie_run.specs.Rows.{header_of, put, row_of, stored}
+use Rattle.cookie_run.proofs.HeaderCookies.{cookie_of, cookies_of}
 use Rattle.cookie_run.proofs.ReadBack.{IsGood, bare_of, is_semicolon, led, led_clean, cookie_of_led, graphic_of, ascii}
 
 -- a cookie as the client of a host holds it

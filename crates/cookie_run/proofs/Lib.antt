@@ -1,3 +1,4 @@
+pub mod HeaderCookies
 pub mod Escaped
 pub mod ReadBack
 pub mod HeaderBack

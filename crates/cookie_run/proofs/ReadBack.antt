@@ -16,7 +16,7 @@ use Rattle.cookie_text.specs.declared.escape.TheConstants.{PROFILE}
 use Rattle.cookie_text.specs.Pieces.{name_of, text_after, value_of}
 use Rattle.cookie_text.specs.Printing.{encoded_pair, stripped}
 use Rattle.cookie_text.specs.Record.{Record, bare}
-use Rattle.cookie_run.specs.Reading.{pair_in, decoded, cookie_of}
+use Rattle.cookie_run.proofs.HeaderCookies.{pair_in, decoded, cookie_of}
 use Rattle.cookie_run.proofs.Escaped.{IsPlain, escaped_plain, decoded_escaped}
 
 -- ---- trimming what has no white space

@@ -1,11 +1,13 @@
 -- What the code reads of a piece of a header.
-use Rattle.std.proofs.Common.{◌≡◌, ◌≢◌, ℕ, ◌<◌, Bool, true, false, ltb, List, [], ◌∷◌, ◌++◌, length, suc, sym, refl, ap, ◌∙◌, subst, ⊎_elim, arith, All, Option, Some, None, Result, Ok, Err}
-use Rattle.std.specs.Prelude.{◌==◌, ◌+◌, map, IfOk, OnOk, IsOkUnless}
+use Rattle.std.proofs.Common.{◌≡◌, ◌≢◌, ℕ, ◌<◌, Bool, true, false, ltb, List, [], ◌∷◌, ◌++◌, length, take, get_or, suc, sym, refl, ap, ◌∙◌, subst, ⊎_elim, arith, All, Option, Some, None, Ok, Err, append-nil, append_assoc}
+use Rattle.std.specs.Prelude.{◌==◌, ◌+◌, map, IsOkUnless}
 use Rattle.std.specs.Borrow.{Bor}
-use Rattle.std.specs.List.{AllByRecursion, slice_split, onto_first, before_first, position_or_len}
+use Rattle.std.specs.List.{AllByRecursion, filter_map, slice_split, onto_first, before_first, position_or_len}
+use Rattle.std.specs.Option.{option_to_list}
 use Rattle.std.specs.Str.{is_utf8, IsUtf8}
 use Rattle.std.proofs.lemmas.Bool.{cases_Bool, cond-true, cond-false, ltb-true}
 use Rattle.std.proofs.lemmas.Bool.Decides.{nat_tests}
+use Rattle.std.proofs.lemmas.List.{map_more}
 use Rattle.std.proofs.lemmas.List.Elements.{All-from_recursion}
 use Rattle.std.proofs.lemmas.List.Splits.{slice_split_none}
 use Rattle.std.proofs.lemmas.Str.{is_utf8-from_IsUtf8, IsUtf8-from_is_utf8}
@@ -16,16 +18,8 @@ use Rattle.cookie_text.specs.Decoding.{ReadsEncoded, AreUtf8}
 use Rattle.cookie_text.specs.Pieces.{semicolon, equals, pieces, HasEquals, name_of, text_after, value_of}
 use Rattle.cookie_text.specs.Reading.{HasAttributes, HasLast, IsPair, first_piece}
 use Rattle.cookie_text.specs.Record.{Record, Seen, bare}
-use Rattle.cookie_run.specs.Jar.{record_in}
-use Rattle.cookie_run.specs.Reading.{cookie_of, decoded, pair_in}
-
--- ---- texts
-
-pub not_utf8 : (bs : List ℕ) → ¬ IsUtf8 bs → is_utf8 bs ≡ false
-not_utf8 bs h = ⊎_elim (λ e. absurd (h (IsUtf8-from_is_utf8 bs e))) (λ e. e) (cases_Bool (is_utf8 bs))
-
-pub piece_no_text : (piece : List ℕ) → ¬ IsUtf8 piece → None ≡ cookie_of piece
-piece_no_text piece h = sym (cond-false _ _ _ (not_utf8 piece h))
+use Rattle.cookie_run.specs.Reading.{Gives, Give, AreCookiesOf}
+use Rattle.cookie_run.proofs.HeaderCookies.{cookie_of, cookies_of, decoded, pair_in}
 
 -- ---- a text without a semicolon
 
@@ -98,7 +92,7 @@ pair_some (b ∷ bs) v h = refl
 decoded_some : (n v : List ℕ) → AreUtf8 n v → decoded n v ≡ Some (bare (percent_decode n) (percent_decode v))
 decoded_some n v u = rw (is_utf8-from_IsUtf8 (percent_decode n) u.0, is_utf8-from_IsUtf8 (percent_decode v) u.1) refl
 
-pub piece_read : (text : List ℕ) (s : Seen) → IsClean text → IsUtf8 text → ReadsEncoded text (Ok s) → Some s.cookie ≡ cookie_of text
+piece_read : (text : List ℕ) (s : Seen) → IsClean text → IsUtf8 text → ReadsEncoded text (Ok s) → Some s.cookie ≡ cookie_of text
 piece_read text s clean utf8 reads =
     let first = first_is text clean in
     let fit = reads.accepted refl in
@@ -137,7 +131,7 @@ pair_none text h =
     unread [] v h = refl
     unread (b ∷ bs) v h = undecoded (b ∷ bs) v (h (omega arith))
 
-pub piece_unread : (text : List ℕ) (e : ParseError) → e ≢ OutOfMemory → IsClean text → IsUtf8 text → ReadsEncoded text (Err e) → None ≡ cookie_of text
+piece_unread : (text : List ℕ) (e : ParseError) → e ≢ OutOfMemory → IsClean text → IsUtf8 text → ReadsEncoded text (Err e) → None ≡ cookie_of text
 piece_unread text e other clean utf8 reads =
     let first = first_is text clean in
     let unfit : ¬ (IsPair text × AreUtf8 (name_of text) (text_after text)) = λ p.
@@ -161,20 +155,46 @@ parts_clean p (x ∷ xs) =
     (λ (no : p x ≡ false). rw no (clean_front p x (slice_split p xs) no (parts_clean p xs)))
     (cases_Bool (p x))
 
-pub unread_gives : {E : Type 0} (r : Result (Option Seen) E) (text piece : List ℕ) (e : ParseError) → IfOk r (λ o. o ≡ None) → OnOk r (e ≢ OutOfMemory) → text ≡ piece → IsClean piece → IsUtf8 piece → ReadsEncoded text (Err e) → IfOk r (λ o. record_in o ≡ cookie_of piece)
-unread_gives (Err x) text piece e none other same clean utf8 reads = tt
-unread_gives (Ok o) text piece e none other same clean utf8 reads =
-    ap record_in none ∙ piece_unread piece e other clean utf8 (subst (λ t. ReadsEncoded t (Err e)) same reads)
-
--- each of the borrowed pieces is clean
-all_mapped : (P : List ℕ → Type 0) (xs : List (Bor (List ℕ))) → AllByRecursion P (map (λ x. x.now) xs) → AllByRecursion (λ x. P x.now) xs
-all_mapped P [] h = tt
-all_mapped P (x ∷ xs) h = (h.0, all_mapped P xs h.1)
-
 all_clean : (parts : List (List ℕ)) → AllByRecursion (λ t. AllByRecursion (λ b. (b == semicolon) ≡ false) t) parts → AllByRecursion IsClean parts
 all_clean [] h = tt
 all_clean (t ∷ ts) h = (All-from_recursion (λ b. (b == semicolon) ≡ false) t h.0, all_clean ts h.1)
 
-pub pieces_clean : (header : List ℕ) (xs : List (Bor (List ℕ))) → map (λ x. x.now) xs ≡ pieces header → AllByRecursion (λ x. IsClean x.now) xs
-pieces_clean header xs e =
-    all_mapped IsClean xs (subst (AllByRecursion IsClean) (sym e) (all_clean (pieces header) (parts_clean (λ b. b == semicolon) header)))
+-- a piece that gives something gives what is computed
+gives_is : (piece : List ℕ) (o : Option Record) → IsClean piece → Gives piece o → o ≡ cookie_of piece
+gives_is piece (Some c) clean g = ap Some (sym g.1.2) ∙ piece_read piece g.1.0 clean g.0 g.1.1
+gives_is piece None clean g =
+    ⊎_elim
+    (λ (yes : is_utf8 piece ≡ true).
+    let utf8 = IsUtf8-from_is_utf8 piece yes in
+    let refused = g utf8 in
+    piece_unread piece refused.0 refused.1 clean utf8 refused.2)
+    (λ (no : is_utf8 piece ≡ false). sym (cond-false _ _ _ no))
+    (cases_Bool (is_utf8 piece))
+
+first_given : (o : Option Record) (piece : List ℕ) (rest : List (List ℕ)) → o ≡ cookie_of piece → option_to_list o ++ filter_map cookie_of rest ≡ filter_map cookie_of (piece ∷ rest)
+first_given None piece rest e = rw (sym e) refl
+first_given (Some c) piece rest e = rw (sym e) refl
+
+give_are : (ps : List (List ℕ)) (cs : List Record) → AllByRecursion IsClean ps → Give ps cs → cs ≡ filter_map cookie_of ps
+give_are [] cs clean g = g
+give_are (p ∷ ps) cs clean g =
+    g.4 ∙ (ap (λ x. option_to_list g.0 ++ x) (give_are ps g.1 clean.1 g.3) ∙ first_given g.0 p ps (gives_is p g.0 clean.0 g.2))
+
+-- the cookies of a header are those that are computed
+pub cookies_are : (header : List ℕ) (cs : List Record) → AreCookiesOf header cs → cs ≡ cookies_of header
+cookies_are header cs g = give_are (pieces header) cs (all_clean (pieces header) (parts_clean (λ b. b == semicolon) header)) g
+
+-- ---- the pieces in turn
+
+pub give_none : Give [] []
+give_none = refl
+
+give_push : (ps : List (List ℕ)) (p : List ℕ) (cs : List Record) (o : Option Record) → Give ps cs → Gives p o → Give (ps ++ p ∷ []) (cs ++ option_to_list o)
+give_push [] p cs o g h = (o, [], h, refl, ap (λ x. x ++ option_to_list o) g ∙ sym (append-nil (option_to_list o)))
+give_push (q ∷ qs) p cs o g h =
+    (g.0, g.1 ++ option_to_list o, g.2, give_push qs p g.1 o g.3 h, ap (λ x. x ++ option_to_list o) g.4 ∙ append_assoc (option_to_list g.0) g.1 (option_to_list o))
+
+pub give_more : (xs : List (Bor (List ℕ))) (i : ℕ) (d : Bor (List ℕ)) (cs : List Record) (o : Option Record) → i < length xs → Give (map (λ x. x.now) (take i xs)) cs → Gives (get_or xs i d).now o
+    → Give (map (λ x. x.now) (take (i + 1) xs)) (cs ++ option_to_list o)
+give_more xs i d cs o h g one =
+    subst (λ ps. Give ps (cs ++ option_to_list o)) (sym (map_more (λ x. x.now) xs i d h)) (give_push (map (λ x. x.now) (take i xs)) (get_or xs i d).now cs o g one)

@@ -1,5 +1,6 @@
 -- Lists of cookies, each name once, and the rows that they make.
 use Rattle.std.proofs.Common.{◌≡◌, ◌≢◌, ℕ, Bool, true, false, cond, ◌&&◌, List, [], ◌∷◌, All, sym, refl, ap, ◌∙◌, subst, ⊎_elim, Option, Some}
+use Rattle.std.specs.Option.{option_or}
 use Rattle.std.specs.Prelude.{if◌then◌else◌, map}
 use Rattle.std.specs.List.{AllByRecursion}
 use Rattle.std.specs.Str.{bytes_eq}
@@ -8,7 +9,7 @@ use Rattle.percent_encoding.specs.Percent.{percent_encode, percent_decode}
 use Rattle.percent_encoding.proofs.PercentLemmas.{IsByte}
 use Rattle.cookie_text.specs.declared.escape.TheConstants.{PROFILE}
 use Rattle.cookie_text.specs.Record.{Record}
-use Rattle.cookie_run.specs.Jar.{put_record, or_else, value_in, found_in, lacks, AreApart}
+use Rattle.cookie_run.specs.Jar.{put_record, value_in, found_in, lacks, AreApart}
 use Rattle.cookie_run.specs.declared.row.Row.{Row}
 use Rattle.cookie_run.specs.Rows.{has_key_of, put, rows_of}
 use Rattle.cookie_run.proofs.Texts.{same_text, text_is, other_text, texts_differ, turned, some_is_not_none}
@@ -81,7 +82,7 @@ each_of P (c ∷ cs) apart h = (
 -- ---- written one after another
 
 -- the later cookies first, then this one: where names are apart, the order is no matter
-pub value_moved : (c : Record) (cs : List Record) (q : List ℕ) (d : Option (List ℕ)) → lacks cs c.name → or_else (value_in (found_in cs q)) (if bytes_eq q c.name then Some c.value else d) ≡ or_else (value_in (found_in (c ∷ cs) q)) d
+pub value_moved : (c : Record) (cs : List Record) (q : List ℕ) (d : Option (List ℕ)) → lacks cs c.name → option_or (value_in (found_in cs q)) (if bytes_eq q c.name then Some c.value else d) ≡ option_or (value_in (found_in (c ∷ cs) q)) d
 value_moved c cs q d none =
     ⊎_elim
     (λ (e : bytes_eq q c.name ≡ true). rw (e, same_text q c.name e, none) refl)

@@ -3,7 +3,7 @@ use Rattle.std.proofs.lemmas.List.{take_more, take_all, take-append-drop}
 use Rattle.std.specs.Prelude.{IsErr, IsErrAnd, IfErr}
 use Rattle.cookie_run.specs.declared.step.Step.{Step}
 use Rattle.cookie_run.specs.Acts.{act_of, acts_of}
-use Rattle.std.proofs.Common.{◌≡◌, ℕ, ◌+◌, ◌<◌, ◌≤◌, length, take, drop, get_or, Result, Ok, Err, OnOk, OnErr, List, [], ◌∷◌, ◌++◌, sym, refl, ap, ◌∙◌, subst, append_assoc}
+use Rattle.std.proofs.Common.{◌≡◌, ℕ, ◌+◌, ◌<◌, ◌≤◌, length, take, drop, get_or, inl, inr, Result, Ok, Err, OnOk, OnErr, List, [], ◌∷◌, ◌++◌, sym, refl, ap, ◌∙◌, subst, append_assoc}
 use Rattle.cookie_run.specs.Acts.{Act}
 use Rattle.cookie_run.specs.declared.row.Row.{Row}
 use Rattle.cookie_run.specs.declared.step.Reading.{Reading}
@@ -13,7 +13,6 @@ use Rattle.cookie_run.specs.declared.step.Way.{Way}
 use Rattle.cookie_run.specs.declared.step.Way.TheVariants.{Plain, Host, Secure, Signed, Sealed}
 use Rattle.cookie_run.specs.Jar.{Keyed, IsOpened, IsKeptAs, Sets, sent}
 use Rattle.cookie_run.specs.Stops.{GoesOnBy}
-use Rattle.cookie_run.proofs.Sessions.{some_opened}
 use Rattle.cookie_run.specs.Play.{Plays, OneStep, CommandTells, Tells, TellsFront, ServesAll, ServesFront, any_nonce, all_told}
 
 pub plays_more : (key : List ℕ) (rows mid new : List Row) (acts : List Act) (told : List (List Reading)) (act : Act) (t : List Reading) → Plays key rows acts told mid → OneStep key mid act t new → Plays key rows (acts ++ act ∷ []) (told ++ t ∷ []) new
@@ -93,20 +92,18 @@ told_first old cs start = ([], sym (readings_nil start), (refl, refl))
 
 -- a session that was opened serves so
 pub serves_front : (key header : List ℕ) (opened : Keyed) (cs : List Command) (old readings : List Reading) → IsOpened key header opened → GoesOnBy old (TellsFront opened cs) readings → GoesOnBy old (ServesFront key header cs) readings
-serves_front key header opened cs old readings is g = (g.0, (g.1.0, g.1.1, g.1.2, (g.1.3, (opened, is, g.1.4))), g.2)
+serves_front key header opened cs old readings is g = (g.0, inr (g.1.0, g.1.1, g.1.2, (g.1.3, (opened, is, g.1.4))), g.2)
 
 pub serves_whole : (key header : List ℕ) (opened new : Keyed) (cs : List Command) (old readings : List Reading) → IsOpened key header opened → ((told : List Reading) × (readings ≡ old ++ told) × Tells opened cs told new) → GoesOnBy old (ServesFront key header cs) readings
-serves_whole key header opened new cs old readings is g = (g.0, (cs, [], sym (commands_nil cs), (new, (opened, is, g.2))), g.1)
+serves_whole key header opened new cs old readings is g = (g.0, inr (cs, [], sym (commands_nil cs), (new, (opened, is, g.2))), g.1)
   where
     commands_nil : (ds : List Command) → ds ++ [] ≡ ds
     commands_nil [] = refl
     commands_nil (d ∷ ds) = ap (λ x. d ∷ x) (commands_nil ds)
 
--- none of the commands was done
+-- no session was opened
 pub serves_none : (key header : List ℕ) (cs : List Command) (old readings : List Reading) → readings ≡ old → GoesOnBy old (ServesFront key header cs) readings
-serves_none key header cs old readings e =
-    let opened = some_opened key header in
-    ([], ([], cs, refl, (opened.0, (opened.0, opened.1, (refl, refl)))), e ∙ sym (readings_nil old))
+serves_none key header cs old readings e = ([], inl refl, e ∙ sym (readings_nil old))
 
 pub serves_all : (key header : List ℕ) (opened new : Keyed) (cs : List Command) (old readings : List Reading) → IsOpened key header opened → ((told : List Reading) × (readings ≡ old ++ told) × Tells opened cs told new) → GoesOnBy old (ServesAll key header cs) readings
 serves_all key header opened new cs old readings is g = (g.0, (new, (opened, is, g.2)), g.1)

@@ -2,8 +2,8 @@
 use Rattle.std.proofs.Common.{◌≡◌, ℕ, ◌+◌, ◌<◌, Bool, true, false, cond, List, [], ◌∷◌, ◌++◌, length, take, get_or, sym, refl, ap, ◌∙◌, subst, ⊎_elim, arith, Option, Some, None, Result, Ok, Err, OnOk, OnErr, ℤ, pos, negsuc, ◌≤ℤ◌, append-nil, append_assoc}
 use Rattle.std.specs.Prelude.{map, codes, int_lt, IfSome, MatchOption, option_map, ◌==◌}
 use Rattle.std.specs.Int.{int_min}
-use Rattle.std.specs.Borrow.{Bor}
-use Rattle.std.specs.List.{AllByRecursion, filter_map}
+use Rattle.std.specs.List.{AllByRecursion}
+use Rattle.std.specs.Option.{option_or, option_to_list}
 use Rattle.std.specs.Str.{bytes_eq}
 use Rattle.std.specs.FinMap as finmap
 use Rattle.std.specs.FinMap.{get-insert, get-remove}
@@ -12,8 +12,7 @@ use Rattle.std.specs.Cmp.Lexicographic.{slice_cmp, texts_ties}
 use Rattle.std.proofs.lemmas.Cmp.{nat_list_cmp_total}
 use Rattle.std.proofs.lemmas.Bool.{cases_Bool, cond-true, cond-false}
 use Rattle.std.proofs.lemmas.Bool.Decides.{nat_tests}
-use Rattle.std.proofs.lemmas.List.{map_more}
-use Rattle.std.proofs.lemmas.List.Elements.{filter_map-append, All-from_recursion}
+use Rattle.std.proofs.lemmas.List.Elements.{All-from_recursion}
 use Rattle.jiff.specs.Types.{DateTime}
 use Rattle.jiff_core.specs.DateTime.{civil_nanos}
 use Rattle.jiff_zoned.proofs.SameLemmas.{same_datetime}
@@ -31,8 +30,7 @@ use Rattle.cookie_run.specs.declared.step.SessionError.{SessionError}
 use Rattle.cookie_run.specs.declared.step.SessionError.TheVariants.{Year}
 use Rattle.cookie_run.specs.declared.step.Way.{Way}
 use Rattle.cookie_run.specs.declared.step.Way.TheVariants.{Plain, Host, Secure, Signed, Sealed}
-use Rattle.cookie_run.specs.Jar.{Holds, IsKeptAs, IsOpened, Keyed, IsReadableJar, Keeps, last_in, or_else, record_in, sent, taken}
-use Rattle.cookie_run.specs.Reading.{cookie_of, cookies_of}
+use Rattle.cookie_run.specs.Jar.{Holds, IsKeptAs, IsReadableJar, Keeps, last_in, record_in, sent, taken}
 use Rattle.cookie_run.specs.Site.{set_refusal, refusal_of, is_short_year, then_long, is_too_long}
 use Rattle.cookie_run.proofs.ReadBack.{trim_graphic}
 use Rattle.cookie_run.proofs.Texts.{same_text, text_is, some_is_not_none}
@@ -50,14 +48,14 @@ get_remove m k q = get-remove nat_list_cmp_total m k q ∙ ap (λ b. cond b None
 
 -- ---- a session opens on the cookies of its header
 
-or_cond : {A : Type 0} (b : Bool) (k : A) (o p : Option A) → or_else (cond b (Some k) o) p ≡ cond b (Some k) (or_else o p)
+or_cond : {A : Type 0} (b : Bool) (k : A) (o p : Option A) → option_or (cond b (Some k) o) p ≡ cond b (Some k) (option_or o p)
 or_cond true k o p = refl
 or_cond false k o p = refl
 
 last_push : (cs : List Record) (k : Record) (q : List ℕ) → last_in (cs ++ k ∷ []) q ≡ cond (bytes_eq q k.name) (Some k) (last_in cs q)
 last_push [] k q = refl
 last_push (c ∷ cs) k q =
-    ap (λ o. or_else o (cond (bytes_eq q c.name) (Some c) None)) (last_push cs k q)
+    ap (λ o. option_or o (cond (bytes_eq q c.name) (Some c) None)) (last_push cs k q)
     ∙ or_cond (bytes_eq q k.name) k (last_in cs q) (cond (bytes_eq q c.name) (Some c) None)
 
 record_cond : (b : Bool) (s : Seen) (o : Option Seen) → record_in (cond b (Some s) o) ≡ cond b (Some s.cookie) (record_in o)
@@ -66,13 +64,6 @@ record_cond false s o = refl
 
 pub holds_none : (jar : Jar) → jar ≡ empty → Holds [] jar
 holds_none jar is = subst (Holds []) (sym is) (record { originals = λ q. ap record_in (none_at q); changes = refl })
-
-read : List (Bor (List ℕ)) → List Record
-read pieces = filter_map cookie_of (map (λ x. x.now) pieces)
-
-read_more : (xs : List (Bor (List ℕ))) (i : ℕ) (d : Bor (List ℕ)) → i < length xs → read (take (i + 1) xs) ≡ read (take i xs) ++ filter_map cookie_of ((get_or xs i d).now ∷ [])
-unfolding read
-read_more xs i d h = ap (filter_map cookie_of) (map_more (λ x. x.now) xs i d h) ∙ filter_map-append cookie_of (map (λ x. x.now) (take i xs)) ((get_or xs i d).now ∷ [])
 
 holds_push : (cs : List Record) (jar : Jar) (k : Seen) → Holds cs jar → Holds (cs ++ k.cookie ∷ []) (with_original jar k)
 holds_push cs jar k h = record {
@@ -83,34 +74,14 @@ holds_push cs jar k h = record {
 }
 
 -- a piece that reads
-pub holds_next : (xs : List (Bor (List ℕ))) (i : ℕ) (d : Bor (List ℕ)) (jar new : Jar) (o : Option Seen) (k : Seen) → i < length xs → record_in o ≡ cookie_of (get_or xs i d).now → o ≡ Some k
-    → Holds (filter_map cookie_of (map (λ x. x.now) (take i xs))) jar → new ≡ with_original jar k → Holds (filter_map cookie_of (map (λ x. x.now) (take (i + 1) xs))) new
-unfolding read
-holds_next xs i d jar new o k h reads is holds put =
-    let here : cookie_of (get_or xs i d).now ≡ Some k.cookie = sym reads ∙ ap record_in is in
-    let more : read (take (i + 1) xs) ≡ read (take i xs) ++ k.cookie ∷ [] = rw (read_more xs i d h, here) refl in
-    subst (λ cs. Holds cs new) (sym more) (subst (Holds (read (take i xs) ++ k.cookie ∷ [])) (sym put) (holds_push (read (take i xs)) jar k holds))
+pub holds_next : (cs : List Record) (jar new : Jar) (o : Option Seen) (k : Seen) → o ≡ Some k → Holds cs jar → new ≡ with_original jar k → Holds (cs ++ option_to_list (record_in o)) new
+holds_next cs jar new o k is holds put =
+    subst (λ (x : Option Seen). Holds (cs ++ option_to_list (record_in x)) new) (sym is) (subst (Holds (cs ++ k.cookie ∷ [])) (sym put) (holds_push cs jar k holds))
 
 -- a piece that doesn't
-pub holds_past : (xs : List (Bor (List ℕ))) (i : ℕ) (d : Bor (List ℕ)) (jar new : Jar) (o : Option Seen) → i < length xs → record_in o ≡ cookie_of (get_or xs i d).now → o ≡ None
-    → Holds (filter_map cookie_of (map (λ x. x.now) (take i xs))) jar → new ≡ jar → Holds (filter_map cookie_of (map (λ x. x.now) (take (i + 1) xs))) new
-unfolding read
-holds_past xs i d jar new o h reads is holds stays =
-    let here : cookie_of (get_or xs i d).now ≡ None = sym reads ∙ ap record_in is in
-    let more : read (take (i + 1) xs) ≡ read (take i xs) = rw (read_more xs i d h, here) (append-nil (read (take i xs))) in
-    subst (λ cs. Holds cs new) (sym more) (subst (Holds (read (take i xs))) (sym stays) holds)
-
--- there is a session on every header
-holding : (jar : Jar) (cs later : List Record) → Holds cs jar → (new : Jar) × Holds (cs ++ later) new
-holding jar cs [] h = (jar, subst (λ ds. Holds ds jar) (sym (append-nil cs)) h)
-holding jar cs (c ∷ later) h =
-    let rest = holding (with_original jar (unsliced c)) (cs ++ c ∷ []) later (holds_push cs jar (unsliced c) h) in
-    (rest.0, subst (λ ds. Holds ds rest.0) (append_assoc cs (c ∷ []) later) rest.1)
-
-pub some_opened : (key header : List ℕ) → (session : Keyed) × IsOpened key header session
-some_opened key header =
-    let jar = holding empty [] (cookies_of header) (holds_none empty refl) in
-    (record { key = key; jar = jar.0 }, record { key_is = refl; holds = jar.1 })
+pub holds_past : (cs : List Record) (jar new : Jar) (o : Option Seen) → o ≡ None → Holds cs jar → new ≡ jar → Holds (cs ++ option_to_list (record_in o)) new
+holds_past cs jar new o is holds stays =
+    subst (λ (x : Option Seen). Holds (cs ++ option_to_list (record_in x)) new) (sym is) (subst (λ ds. Holds ds new) (sym (append-nil cs)) (subst (Holds cs) (sym stays) holds))
 
 pub opened_readable : (cs : List Record) (jar : Jar) → Holds cs jar → IsReadableJar jar
 opened_readable cs jar h name change is =

@@ -1,5 +1,6 @@
 -- One exchange, delivered or lost.
 use Rattle.std.proofs.Common.{◌≡◌, ◌≢◌, ℕ, ℤ, ◌<◌, Bool, true, false, cond, ltb, List, All, [], ◌∷◌, ◌++◌, length, sym, refl, ap, ◌∙◌, subst, ⊎_elim, arith, Option, Some, None, Result, inl, inr}
+use Rattle.std.specs.Option.{option_or}
 use Rattle.std.specs.Prelude.{map, codes, option_map, IfSome, ⊤}
 use Rattle.std.specs.List.{AllByRecursion}
 use Rattle.std.specs.Str.{bytes_eq, IsUtf8}
@@ -28,8 +29,8 @@ use Rattle.cookie.specs.Jar.{Jar, cookie_of as cookie_in, delta, overlaid, under
 use Rattle.cookie.specs.Reading.{Reads, ReadsFound, IsSigned, IsSealed}
 use Rattle.cookie.specs.Sealing.{IsSealing}
 use Rattle.cookie.specs.Signing.{signing}
-use Rattle.cookie_run.specs.Reading.{cookies_of, kept_cookie}
-use Rattle.cookie_run.specs.Jar.{Keyed, IsOpened, IsKeptAs, ReadsIn, Sets, put_record, or_else, sent, value_in, record_in, found_in, last_in, lacks, lines_of, AreApart}
+use Rattle.cookie_run.specs.Reading.{kept_cookie}
+use Rattle.cookie_run.specs.Jar.{Keyed, IsOpened, IsKeptAs, ReadsIn, Sets, put_record, sent, value_in, record_in, found_in, last_in, lacks, lines_of, AreApart}
 use Rattle.cookie_run.specs.declared.row.Row.{Row}
 use Rattle.cookie_run.specs.declared.step.Way.{Way}
 use Rattle.cookie_run.specs.declared.step.Way.TheVariants as ways
@@ -41,11 +42,13 @@ use Rattle.cookie_run.specs.Rows.{put, rows_of, row_of, given, given_at, header_
 use Rattle.cookie_run.specs.Site.{Site, Entry, Kind, Plain, Signed, Sealed, nothing, kind_of, stored_name, with_entry, set_refusal, is_too_long, IsReadAt, GetOn, CommandOn, CommandsOn, ExchangeOn, after_arrival}
 use Rattle.cookie_run.specs.Stops.{StopsFrom, StopsInside, GoesOnBy}
 use Rattle.cookie_run.specs.declared.step.FaultKind.{FaultKind}
-use Rattle.cookie_run.specs.Headline.{host_of, AnswersBySessions, EachAnswersBySessions, HasNoDeath, SetsNoDeath, IsDeathless, EachDeathless, ReadsOn, EachReadsOn, StopsOn, AllOn}
+use Rattle.cookie_run.specs.Headline.{host_of, AnswersBySessions, EachAnswersBySessions, HasNoDeath, SetsNoDeath, IsDeathless, EachDeathless, ReadsOn, EachReadsOn, StopsOn, AllOn, FrontOn}
 use Rattle.cookie_run.specs.Acts.{Act, Visits, Answers, Asks, Arrival, Arrives, Never}
-use Rattle.cookie_run.specs.Play.{Plays, OneStep, GetTells, CommandTells, Tells, Serves, ServesAll, ReadsAll, ReadsFront, Delivers, any_nonce}
+use Rattle.cookie_run.specs.Play.{Plays, OneStep, GetTells, CommandTells, Tells, Serves, ServesAll, ServesFront, ReadsAll, ReadsFront, Delivers, any_nonce}
 use Rattle.cookie_run.proofs.Texts.{same_text, text_is, some_is_not_none}
 use Rattle.cookie_run.proofs.ReadBack.{IsGood, bare_of}
+use Rattle.cookie_run.proofs.HeaderCookies.{cookies_of}
+use Rattle.cookie_run.proofs.ReadCode.{cookies_are}
 use Rattle.cookie_run.proofs.HeaderBack.{row_at, cookies_of_header, IsSent, encoded_utf8, line_stored}
 use Rattle.cookie_run.proofs.Sessions.{none_at, get_insert, then_none, kept_readable, each_of_names, of_change}
 use Rattle.cookie_run.proofs.Records.{value_in_put, apart_put, all_put, written, value_moved, put_map, rows_put_own, rows_put_other}
@@ -119,7 +122,7 @@ apart_bare : (cs : List Record) → AreApart cs → AreApart (map bare_of cs)
 apart_bare [] h = tt
 apart_bare (c ∷ cs) h = (lacks_bare cs c.name h.0, apart_bare cs h.1)
 
-or_none : {A : Type 0} (o : Option A) → or_else o None ≡ o
+or_none : {A : Type 0} (o : Option A) → option_or o None ≡ o
 or_none None = refl
 or_none (Some v) = refl
 
@@ -130,14 +133,14 @@ last_found (c ∷ cs) q apart =
     ⊎_elim
     (λ (e : bytes_eq q c.name ≡ true).
     let none : last_in cs q ≡ None = last_found cs q apart.1 ∙ (ap (found_in cs) (same_text q c.name e) ∙ apart.0) in
-    ap (λ o. or_else o (cond (bytes_eq q c.name) (Some c) None)) none
+    ap (λ o. option_or o (cond (bytes_eq q c.name) (Some c) None)) none
     ∙ (cond-true _ _ _ e ∙ sym (cond-true (bytes_eq q c.name) (Some c) (found_in cs q) e)))
     (λ (e : bytes_eq q c.name ≡ false).
-    ap (or_else (last_in cs q)) (cond-false (bytes_eq q c.name) (Some c) None e)
+    ap (option_or (last_in cs q)) (cond-false (bytes_eq q c.name) (Some c) None e)
     ∙ (or_none (last_in cs q) ∙ (last_found cs q apart.1 ∙ sym (cond-false (bytes_eq q c.name) (Some c) (found_in cs q) e))))
     (cases_Bool (bytes_eq q c.name))
 
-or_named : (o p : Option Record) (q : List ℕ) → IfSome o (λ c. c.name ≡ q) → IfSome p (λ c. c.name ≡ q) → IfSome (or_else o p) (λ c. c.name ≡ q)
+or_named : (o p : Option Record) (q : List ℕ) → IfSome o (λ c. c.name ≡ q) → IfSome p (λ c. c.name ≡ q) → IfSome (option_or o p) (λ c. c.name ≡ q)
 or_named None p q ho hp = hp
 or_named (Some c) p q ho hp = ho
 
@@ -163,14 +166,14 @@ Brings at session = (q : List ℕ) → value_in (record_in (finmap.get session.j
 
 brings : (key host : List ℕ) (rows : List Row) (url : Parts) (at : List ℕ → Option (List ℕ)) (session : Keyed) → secure_host url ≡ Some host → Agrees host rows at → IsOpened key (header_of (given rows url)) session → Brings at session
 brings key host rows url at session secure a opened q =
-    ap value_in (opened.holds.originals q ∙ ap (λ cs. last_in cs q) (header_is host rows url at secure a) ∙ last_found (map bare_of a.cookies) q (apart_bare a.cookies a.apart))
+    ap value_in (opened.holds.originals q ∙ ap (λ cs. last_in cs q) (cookies_are _ opened.cookies opened.read ∙ header_is host rows url at secure a) ∙ last_found (map bare_of a.cookies) q (apart_bare a.cookies a.apart))
     ∙ (found_bare a.cookies q ∙ a.each q)
 
 pub opens : (key host : List ℕ) (rows : List Row) (url : Parts) (site : Site) (session : Keyed) → secure_host url ≡ Some host → SiteAgrees key host rows site → IsOpened key (header_of (given rows url)) session → Shows key session site
 opens key host rows url site session secure a opened = record {
   key_is = opened.key_is;
   named = λ q. subst (λ (o : Option Seen). IfSome o (λ s. s.cookie.name ≡ q)) (sym (view_original session.jar q opened.holds.changes))
-      (seen_named (finmap.get session.jar.originals q) q (subst (λ (o : Option Record). IfSome o (λ c. c.name ≡ q)) (sym (opened.holds.originals q)) (last_named (cookies_of (header_of (given rows url))) q)));
+      (seen_named (finmap.get session.jar.originals q) q (subst (λ (o : Option Record). IfSome o (λ c. c.name ≡ q)) (sym (opened.holds.originals q)) (last_named opened.cookies q)));
   each = λ q. subst (λ (o : Option (List ℕ)). Matches key q o (site q))
       (sym (ap (λ o. value_in (record_in o)) (view_original session.jar q opened.holds.changes) ∙ brings key host rows url a.at session secure a.agrees opened q)) (a.each q);
 }
@@ -451,11 +454,11 @@ same_agrees host rows f g h a = record {
   each = λ q. a.each q ∙ h q;
 }
 
-all_received : (law : ReadingBack) (host : List ℕ) (rows new : List Row) (url : Parts) (at : List ℕ → Option (List ℕ)) (cs : List Record) (ends : List LineEnd) → secure_host url ≡ Some host → AllByRecursion IsClosed cs → AreApart cs → Agrees host rows at → AcceptsAll rows url (map encoded cs) ends new → Agrees host new (λ q. or_else (value_in (found_in cs q)) (at q))
+all_received : (law : ReadingBack) (host : List ℕ) (rows new : List Row) (url : Parts) (at : List ℕ → Option (List ℕ)) (cs : List Record) (ends : List LineEnd) → secure_host url ≡ Some host → AllByRecursion IsClosed cs → AreApart cs → Agrees host rows at → AcceptsAll rows url (map encoded cs) ends new → Agrees host new (λ q. option_or (value_in (found_in cs q)) (at q))
 all_received law host rows new url at [] ends secure closed apart a accepts = subst (λ rs. Agrees host rs at) (sym accepts.1) a
 all_received law host rows new url at (c ∷ cs) [] secure closed apart a accepts = absurd accepts
 all_received law host rows new url at (c ∷ cs) (e ∷ ends) secure closed apart a accepts =
-    same_agrees host new (λ q. or_else (value_in (found_in cs q)) (written at c q)) _ (λ q. value_moved c cs q (at q) apart.0)
+    same_agrees host new (λ q. option_or (value_in (found_in cs q)) (written at c q)) _ (λ q. value_moved c cs q (at q) apart.0)
     (all_received law host accepts.0 new url (written at c) cs ends secure closed.1 apart.1 (one_received law host rows accepts.0 url at c e secure closed.0 a accepts.1) accepts.2)
 
 -- ---- what comes from elsewhere
@@ -517,7 +520,7 @@ delta_closed jar cookies closed lists =
     let change = of_change (finmap.get jar.changes q) s (sym (lists.each q) ∙ is) in
     closed_of change.0 s change.2 (closed q change.0 change.1)))
 
-view_value : (o : Option Change) (p : Option Seen) → IfSome o IsClosedChange → or_else (value_in (record_in (option_map cookie_in o))) (value_in (record_in p)) ≡ value_in (record_in (overlaid o p))
+view_value : (o : Option Change) (p : Option Seen) → IfSome o IsClosedChange → option_or (value_in (record_in (option_map cookie_in o))) (value_in (record_in p)) ≡ value_in (record_in (overlaid o p))
 view_value None p h = refl
 view_value (Some (Added s)) p h = refl
 view_value (Some (Removed s)) p h = absurd h
@@ -528,15 +531,15 @@ if_some P (Some x) h = h x refl
 
 -- the rows agree with what the session came to
 came : (key host : List ℕ) (rows new : List Row) (url : Parts) (at : List ℕ → Option (List ℕ)) (session : Keyed) (site : Site) (cookies : List Seen) → secure_host url ≡ Some host → Agrees host rows at
-    → Closing at session → Shows key session site → Lists (under_names cookies) (delta session.jar) → Agrees host new (λ q. or_else (value_in (found_in (records cookies) q)) (at q)) → SiteAgrees key host new site
+    → Closing at session → Shows key session site → Lists (under_names cookies) (delta session.jar) → Agrees host new (λ q. option_or (value_in (found_in (records cookies) q)) (at q)) → SiteAgrees key host new site
 came key host rows new url at session site cookies secure a closing shows lists agrees = record {
-  at = λ q. or_else (value_in (found_in (records cookies) q)) (at q);
+  at = λ q. option_or (value_in (found_in (records cookies) q)) (at q);
   agrees = agrees;
   each = λ q.
       let sent_back : value_in (found_in (records cookies) q) ≡ value_in (record_in (option_map cookie_in (finmap.get session.jar.changes q))) =
       ap value_in (found_records cookies q ∙ ap record_in (lists.each q)) in
-      let is : or_else (value_in (found_in (records cookies) q)) (at q) ≡ value_in (record_in (view session.jar q)) =
-      (λ i. or_else (sent_back i) (sym (closing.brought q) i))
+      let is : option_or (value_in (found_in (records cookies) q)) (at q) ≡ value_in (record_in (view session.jar q)) =
+      (λ i. option_or (sent_back i) (sym (closing.brought q) i))
       ∙ view_value (finmap.get session.jar.changes q) (finmap.get session.jar.originals q) (if_some IsClosedChange (finmap.get session.jar.changes q) (closing.closed q)) in
       subst (λ (o : Option (List ℕ)). Matches key q o (site q)) (sym is) (shows.each q);
 }
@@ -621,6 +624,11 @@ all_on key host rows url site cs told one secure a serves =
     let walk = all_follow key serves.1.0 serves.0 site cs told one (opens key host rows url site serves.1.0 secure a serves.1.1) serves.1.2 in
     (walk.0, walk.1)
 
+front_on : (key host : List ℕ) (rows : List Row) (url : Parts) (site : Site) (cs : List Command) (told : List Reading) → OnlyOne key → secure_host url ≡ Some host → SiteAgrees key host rows site
+    → ServesFront key (header_of (given rows url)) cs told → FrontOn site cs told
+front_on key host rows url site cs told one secure a (inl none) = ([], cs, refl, (site, (none, refl)))
+front_on key host rows url site cs told one secure a (inr front) = (front.0, front.1, front.2, all_on key host rows url site front.0 told one secure a front.3)
+
 goes_on : (old readings : List Reading) (P Q : List Reading → Type 0) → ((told : List Reading) → P told → Q told) → GoesOnBy old P readings → GoesOnBy old Q readings
 goes_on old readings P Q f g = (g.0, f g.0 g.1, g.2)
 
@@ -638,7 +646,7 @@ pub act_stops : (key host : List ℕ) (act : Act) (site : Site) (rows : List Row
     → AnswersBySessions host act → SiteAgrees key host rows site → StopsFrom kind last act old (ReadsFront key rows act) (ReadsAll key rows act) readings → StopsOn host site kind last act old readings
 act_stops key host (Visits url at commands arrival) site rows kind last old readings one answers a s =
     λ here. from_on kind last (Visits url at commands arrival) old readings _ _ _ _
-    (λ told front. (front.0, front.1, front.2, all_on key host rows url site front.0 told one (answers here) a front.3))
+    (λ told front. front_on key host rows url site commands told one (answers here) a front)
     (λ told all. all_on key host rows url site commands told one (answers here) a all) s
 act_stops key host (Answers url lines at) site rows kind last old readings one answers a s = tt
 act_stops key host (Asks url at) site rows kind last old readings one answers a s = tt

@@ -1,5 +1,6 @@
 -- A session's cookies: what its header brought, and what was set and removed since.
-use Rattle.std.specs.Prelude.{◌≡◌, ℕ, List, [], ◌∷◌, ◌++◌, map, Bool, true, codes, Option, Some, None, option_map, Result, if◌then◌else◌}
+use Rattle.std.specs.Prelude.{◌≡◌, ℕ, List, [], ◌∷◌, ◌++◌, map, Bool, codes, Option, Some, None, option_map, Result, if◌then◌else◌}
+use Rattle.std.specs.Option.{option_or}
 use Rattle.std.specs.List.{AllByRecursion}
 use Rattle.std.specs.Str.{bytes_eq, IsUtf8}
 use Rattle.std.specs.FinMap as finmap
@@ -10,12 +11,12 @@ use Rattle.cookie_text.specs.Printing.{encoded}
 use Rattle.cookie_text.specs.Reading.{ReadsPlain}
 use Rattle.cookie_text.specs.ReadingBack.{ReadsBack}
 use Rattle.cookie_text.specs.Record.{Record, Seen, bare, unsliced}
-use Rattle.cookie_text.specs.Setting.{with_value, with_secure, with_path, with_domain, MakesRemoval}
+use Rattle.cookie_text.specs.Setting.{with_value, MakesRemoval}
 use Rattle.cookie.specs.ByName.{Lists}
 use Rattle.cookie.specs.declared.delta.DeltaCookie.{DeltaCookie as Change}
 use Rattle.cookie.specs.declared.delta.DeltaCookie.TheVariants.{Added}
 use Rattle.cookie.specs.Jar.{Jar, cookie_of as cookie_in, view, delta, with_change, under_names, Removes}
-use Rattle.cookie.specs.Prefix.{prefixed}
+use Rattle.cookie.specs.Prefix.{prefixed, host as as_host}
 use Rattle.cookie.specs.Reading.{ReadsFound, IsSigned, IsSealed}
 use Rattle.cookie.specs.Sealing.{SealsAs}
 use Rattle.cookie.specs.Signing.{signing}
@@ -23,17 +24,13 @@ use Rattle.cookie_run.specs.declared.step.Way.{Way}
 use Rattle.cookie_run.specs.declared.step.Way.TheVariants.{Plain, Host, Secure, Signed, Sealed}
 use Rattle.cookie_run.specs.declared.step.SessionError.{SessionError}
 use Rattle.cookie_run.specs.Put.{put_by}
-use Rattle.cookie_run.specs.Reading.{cookies_of}
+use Rattle.cookie_run.specs.Reading.{AreCookiesOf}
 use Rattle.cookie_run.specs.Site.{set_refusal, refusal_of}
 
 -- a session: its key, and its jar
 pub record Keyed : Type 0 where
   pub key : List ℕ
   pub jar : Jar
-
-abbrev pub or_else : {A : Type 0} → Option A → Option A → Option A
-or_else (Some v) other = Some v
-or_else None other = other
 
 -- the record and the value of a cookie that is there
 abbrev pub record_in : Option Seen → Option Record
@@ -47,7 +44,7 @@ value_in cookie = option_map (λ c. c.value) cookie
 -- the last cookie of a name
 abbrev pub last_in : List Record → List ℕ → Option Record
 last_in [] name = None
-last_in (c ∷ cs) name = or_else (last_in cs name) (if bytes_eq name c.name then Some c else None)
+last_in (c ∷ cs) name = option_or (last_in cs name) (if bytes_eq name c.name then Some c else None)
 
 -- the originals are these cookies, a later one in the place of an earlier one of its name, and nothing was changed
 pub record Holds (cookies : List Record) (jar : Jar) : Type 0 where
@@ -56,8 +53,10 @@ pub record Holds (cookies : List Record) (jar : Jar) : Type 0 where
 
 -- a session with this key on this header
 pub record IsOpened (key header : List ℕ) (session : Keyed) : Type 0 where
+  pub cookies : List Record
+  pub read : AreCookiesOf header cookies
   pub key_is : session.key ≡ key
-  pub holds : Holds (cookies_of header) session.jar
+  pub holds : Holds cookies session.jar
 
 -- ---- getting
 
@@ -71,9 +70,9 @@ ReadsIn session Sealed name value = (read : Option Seen) × ReadsFound (IsSealed
 
 -- ---- setting
 
--- a cookie as it is sent: with the path `/`, secure, and with no domain
+-- a cookie as it is sent, whatever its name: as `__Host-` asks for, with the path `/`, secure, and with no domain
 abbrev pub sent : Seen → Seen
-sent s = with_domain (with_path (with_secure s (Some true)) (Some (codes "/"))) None
+sent s = as_host s
 
 -- a cookie is kept so in a way, where the nonce of a sealing is one of these
 abbrev pub IsKeptAs : (List ℕ → Type 0) → List ℕ → Way → Seen → Seen → Type 0

@@ -50,13 +50,14 @@ Tells old (c ∷ cs) told new =
 abbrev pub Serves : List ℕ → List ℕ → List Command → List Reading → Keyed → Type 0
 Serves key header commands told new = (opened : Keyed) × IsOpened key header opened × Tells opened commands told new
 
--- by all of its commands, and by the first of them
+-- by all of its commands
 abbrev pub ServesAll : List ℕ → List ℕ → List Command → List Reading → Type 0
 ServesAll key header commands told = (new : Keyed) × Serves key header commands told new
 
+-- nothing, where it wasn't opened yet, or by the first of its commands
 abbrev pub ServesFront : List ℕ → List ℕ → List Command → List Reading → Type 0
-ServesFront key header commands told =
-    (front : List Command) × (rest : List Command) × (commands ≡ front ++ rest) × ServesAll key header front told
+ServesFront key header commands told = (told ≡ [])
+    ⊎ ((front : List Command) × (rest : List Command) × (commands ≡ front ++ rest) × ServesAll key header front told)
 
 abbrev pub TellsFront : Keyed → List Command → List Reading → Type 0
 TellsFront old commands told =

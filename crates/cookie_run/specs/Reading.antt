@@ -1,35 +1,30 @@
 -- What sessions and clients make of what is read: the cookies of a request's header (RFC 6265, section
 -- 4.2.1), and the cookie of a `Set-Cookie` line (section 5.2).
-use Rattle.std.specs.Prelude.{ℕ, List, [], ◌∷◌, Bool, false, ◌&&◌, codes, Option, Some, None, is_none, Result, Ok, Err, if◌then◌else◌}
-use Rattle.std.specs.List.{filter_map}
-use Rattle.std.specs.Str.{bytes_eq, is_utf8}
-use Rattle.percent_encoding.specs.Percent.{percent_decode}
+use Rattle.std.specs.Prelude.{◌≡◌, ◌≢◌, ℕ, List, [], ◌∷◌, ◌++◌, Bool, false, ◌&&◌, codes, Option, Some, None, is_none, Result, Ok, Err, if◌then◌else◌}
+use Rattle.std.specs.Option.{option_to_list}
+use Rattle.std.specs.Str.{bytes_eq, IsUtf8}
 use Rattle.cookie_text.specs.declared.error.ParseError.{ParseError}
-use Rattle.cookie_text.specs.Pieces.{pieces, name_of, value_of}
-use Rattle.cookie_text.specs.Record.{Record, Seen, bare}
+use Rattle.cookie_text.specs.declared.error.ParseError.TheVariants.{OutOfMemory}
+use Rattle.cookie_text.specs.Decoding.{ReadsEncoded}
+use Rattle.cookie_text.specs.Pieces.{pieces}
+use Rattle.cookie_text.specs.Record.{Record, Seen}
 
 -- ---- a header
 
--- name and value percent-decoded, where both are texts then
-abbrev pub decoded : List ℕ → List ℕ → Option Record
-decoded name value =
-    if is_utf8 (percent_decode name) && is_utf8 (percent_decode value)
-    then Some (bare (percent_decode name) (percent_decode value))
-    else None
+-- what a piece of a header gives: the cookie as which it is read, or none where it is no text or is refused
+abbrev pub Gives : List ℕ → Option Record → Type 0
+Gives piece (Some cookie) = IsUtf8 piece × ((s : Seen) × ReadsEncoded piece (Ok s) × (s.cookie ≡ cookie))
+Gives piece None = IsUtf8 piece → (error : ParseError) × (error ≢ OutOfMemory) × ReadsEncoded piece (Err error)
 
--- the same, where there is a value and the name isn't empty
-abbrev pub pair_in : List ℕ → Option (List ℕ) → Option Record
-pair_in name None = None
-pair_in [] (Some value) = None
-pair_in (b ∷ bs) (Some value) = decoded (b ∷ bs) value
+-- the cookies that the pieces give, in order
+abbrev pub Give : List (List ℕ) → List Record → Type 0
+Give [] cookies = cookies ≡ []
+Give (piece ∷ later) cookies =
+    (first : Option Record) × (rest : List Record) × Gives piece first × Give later rest × (cookies ≡ option_to_list first ++ rest)
 
--- a piece of a header, where it is a text and reads
-abbrev pub cookie_of : List ℕ → Option Record
-cookie_of piece = if is_utf8 piece then pair_in (name_of piece) (value_of piece) else None
-
--- the cookies of a header: what doesn't read is passed over
-abbrev pub cookies_of : List ℕ → List Record
-cookies_of header = filter_map cookie_of (pieces header)
+-- the cookies of a header: a piece that gives none is passed over
+abbrev pub AreCookiesOf : List ℕ → List Record → Type 0
+AreCookiesOf header cookies = Give (pieces header) cookies
 
 -- ---- a line
 

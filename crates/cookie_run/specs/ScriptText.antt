@@ -251,3 +251,8 @@ pub record MemoryText (key : List ℕ) (rows : List Row) (last : ℤ) (input : L
 abbrev pub EndsForMemory : List ℕ → List Row → ℤ → List ℕ → List ℕ → List Row → ℤ → Ended → Type 0
 EndsForMemory key rows last input output new end Whole = ⊥
 EndsForMemory key rows last input output new end (Faulty n) = MemoryText key rows last input output new end n
+
+-- what a run of the script prints and leaves, and how it ends
+abbrev pub Runs : List ℕ → List Row → ℤ → List ℕ → List ℕ → List Row → ℤ → Ended → Type 0
+Runs key rows last input output new end ended =
+    ScriptText key rows last input output new end ended ⊎ EndsForMemory key rows last input output new end ended

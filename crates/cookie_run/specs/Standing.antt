@@ -3,7 +3,8 @@ use Rattle.std.specs.Prelude.{ℕ, ℤ, List, [], ◌++◌, Option, Some, None, 
 use Rattle.std.specs.List.{AllByRecursion}
 use Rattle.cookie_run.specs.Rows.{given, header_of}
 use Rattle.cookie_run.specs.Play.{Plays, Serves, all_told}
-use Rattle.cookie_run.specs.ScriptText.{Now, Closed, Within, Reached, IsAnswered, readings_text, HasFault, HalfLine}
+use Rattle.cookie_run.specs.ScriptLine.{Line}
+use Rattle.cookie_run.specs.ScriptText.{Now, Closed, Within, Reached, IsAnswered, readings_text, HasFault, HalfLine, obeyed}
 use Rattle.cookie_run.specs.declared.row.Row.{Row}
 use Rattle.cookie_run.specs.declared.step.Reading.{Reading}
 use Rattle.cookie_run.specs.declared.script.cause.Cause.{Cause}
@@ -43,3 +44,10 @@ abbrev pub Halts : List ℕ → (Reached → Result Reached Cause) → List Row 
 Halts key leads rows last visit cause new_rows =
     (start : List Row) (r : Reached) (output : List ℕ) → Stands key start r rows last visit output
     → (HasFault r (leads r) cause × (new_rows ≡ rows)) ⊎ ((cause ≡ Memory) × HalfLine key rows r (leads r) new_rows)
+
+-- the same of what a line asks for, whose moment isn't before the last
+abbrev pub Obeys : List ℕ → Line → List Row → ℤ → Option Visit → List Row → ℤ → Option Visit → List ℕ → Type 0
+Obeys key line = Goes key (λ r. obeyed r.acts r.last r.now line)
+
+abbrev pub Balks : List ℕ → Line → List Row → ℤ → Option Visit → Cause → List Row → Type 0
+Balks key line = Halts key (λ r. obeyed r.acts r.last r.now line)

@@ -21,7 +21,8 @@ pub fn beginning() -> DateTime
 /// the last one. The last moment stays then.
 pub fn come_to(last: &mut DateTime, at: DateTime) -> Result<(), FaultKind>
     ensures ok { OnOk result (Follows (civil_nanos last.old) (civil_nanos at) × (last.new ≡ at)) }
-    ensures err { IfErr result (λ kind. IsWrong kind (civil_nanos last.old) (civil_nanos at) × (last.new ≡ last.old)) }
+    ensures err { IfErr result (λ kind.
+        IsWrong kind (civil_nanos last.old) (civil_nanos at) × (last.new ≡ last.old)) }
 {
     if !is_moment(at) {
         return Err(FaultKind::Moment);

@@ -46,8 +46,10 @@ pub fn play<R: TryRng>(
     ensures run { IfOk result (λ readings. IsRun key.now (acts_of steps.now) readings.items) }
     ensures sites { IfOk result (λ readings. SitesReadTheirOwn (acts_of steps.now) readings.items) }
     ensures moments { OnOk result (AllFollow the_beginning (moments_of (acts_of steps.now))) }
-    ensures run_until { IfErr result (λ fault. IsRunUntil key.now (acts_of steps.now) fault.step fault.kind fault.readings.items) }
-    ensures sites_until { IfErr result (λ fault. SitesReadTheirOwnUntil (acts_of steps.now) fault.step fault.kind fault.readings.items) }
+    ensures run_until { IfErr result (λ fault.
+        IsRunUntil key.now (acts_of steps.now) fault.step fault.kind fault.readings.items) }
+    ensures sites_until { IfErr result (λ fault.
+        SitesReadTheirOwnUntil (acts_of steps.now) fault.step fault.kind fault.readings.items) }
 {
     encoded_records_read_back();
     one_value();
@@ -82,7 +84,8 @@ fn act<R: TryRng>(
     ensures moments { OnOk result (AllFollow (civil_nanos last.old) (moments_in (act_of step.now))
         × (civil_nanos last.new ≡ last_of (civil_nanos last.old) (moments_in (act_of step.now)))) }
     ensures err { IfErr result (λ kind. StopsFrom kind (civil_nanos last.old) (act_of step.now)
-        readings.old.items (ReadsFront key.now client.old (act_of step.now)) (ReadsAll key.now client.old (act_of step.now)) readings.new.items) }
+        readings.old.items (ReadsFront key.now client.old (act_of step.now))
+        (ReadsAll key.now client.old (act_of step.now)) readings.new.items) }
 {
     match step {
         Step::Exchange {
@@ -123,12 +126,14 @@ fn exchange<R: TryRng>(
     readings: &mut Vec<Reading>,
     rng: &mut R,
 ) -> Result<(), FaultKind>
-    ensures rows { OnOk result ((told : List Reading) × (readings.new.items ≡ readings.old.items ++ told) × (session : Keyed)
+    ensures rows { OnOk result ((told : List Reading)
+        × (readings.new.items ≡ readings.old.items ++ told) × (session : Keyed)
         × Serves key.now (header_of (given client.old url.now)) commands.now told session
         × Delivers client.old url.now session.jar (arrival_of delivery) client.new) }
     ensures moments { OnOk result (AllFollow (civil_nanos last.old) (arrival_moments (arrival_of delivery))
         × (civil_nanos last.new ≡ last_of (civil_nanos last.old) (arrival_moments (arrival_of delivery)))) }
-    ensures err { IfErr result (λ kind. StopsInside kind (civil_nanos last.old) (arrival_of delivery) readings.old.items
+    ensures err { IfErr result (λ kind. StopsInside kind (civil_nanos last.old)
+        (arrival_of delivery) readings.old.items
         (ServesFront key.now (header_of (given client.old url.now)) commands.now)
         (ServesAll key.now (header_of (given client.old url.now)) commands.now) readings.new.items) }
 {
@@ -152,7 +157,8 @@ fn deliver(
     session: &Session,
     moment: DateTime,
 ) -> Result<(), FaultKind>
-    ensures rows { OnOk result (Delivers client.old url.now session.now.jar (Arrives (civil_nanos moment)) client.new) }
+    ensures rows { OnOk result
+        (Delivers client.old url.now session.now.jar (Arrives (civil_nanos moment)) client.new) }
     ensures err { IfErr result (λ kind. kind ≡ FaultKind.Memory) }
 {
     let Ok(lines) = session.close() else {
@@ -210,7 +216,8 @@ fn obey_all<R: TryRng>(
 ) -> Result<(), AllocError>
     ensures ok { OnOk result ((told : List Reading) × (readings.new.items ≡ readings.old.items ++ told)
         × Tells session.old commands.now told session.new) }
-    ensures err { OnErr result (GoesOnBy readings.old.items (TellsFront session.old commands.now) readings.new.items) }
+    ensures err { OnErr result
+        (GoesOnBy readings.old.items (TellsFront session.old commands.now) readings.new.items) }
 {
     for command in commands {
         if let Some(reading) = obey(alloc, session, command, rng)? {

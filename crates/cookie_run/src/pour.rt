@@ -19,7 +19,8 @@ pub enum Stop {
 pub fn read_all<R: Source>(alloc: Global, reader: &mut R) -> Result<Vec<u8>, Stop>
     ensures bytes { IfOk result (λ all. IfSome (R.left reader.old) (λ input. all.items ≡ input)) }
     ensures memory { IsErrOf result Stop.Memory → IfSome (R.left reader.old) (λ input. 0 < length input) }
-    ensures read { IsErrOf result Stop.Read → Rose (R.failures reader.old) (R.failures reader.new) ⊎ (R.reads reader.new ≡ 2 ^ 64 - 1) }
+    ensures read { IsErrOf result Stop.Read
+        → Rose (R.failures reader.old) (R.failures reader.new) ⊎ (R.reads reader.new ≡ 2 ^ 64 - 1) }
 {
     let mut all = Vec::new(alloc);
     let mut chunk = [0; 64];

@@ -1,5 +1,6 @@
 -- The readers of dates read the four forms, and nothing else.
 use Rattle.std.proofs.Common.{◌≡◌, ℕ, ◌+◌, ◌<◌, ◌⊎◌, ◌==◌, nat_lt, Bool, true, false, cond, List, [], ◌∷◌, ◌++◌, length, get_or, Option, Some, None, option_and_then, option_map, ℤ, pos, refl, sym, ap, subst, ◌∙◌, arith, inl, inr, append_assoc, eqb-true, eq-eqb, codes, MatchOption}
+use Rattle.std.specs.Option.{option_or}
 use Rattle.std.proofs.lemmas.Bool.{ltb-true, agree_below_at}
 use Rattle.std.proofs.Math.ListN.{get_or-append}
 use Rattle.std.proofs.lemmas.Bool.Decides.{nat_tests}
@@ -14,7 +15,7 @@ use Rattle.httpdate.proofs.ReaderLemmas.{after_tag_sound, read_tag_complete, rea
 use Rattle.jiff_core.specs.Calendar.{days_in_month}
 use Rattle.jiff.specs.Types.{DateTime}
 use Rattle.cookie_text.specs.Date.{Stamp, IsStamp, clock, day_month_year, spaced, dashed, full_name, year_last, IsPaddedDay, AreYearDigits, IsYearText, IsForm, IsDateText, IsMoment}
-use Rattle.cookie_text.specs.DateReader.{read_year, stamp_of, read_fields, read_year_last, read_short, read_two_digit_year, read_date, or_else}
+use Rattle.cookie_text.specs.DateReader.{read_year, stamp_of, read_fields, read_year_last, read_short, read_two_digit_year, read_date}
 use Rattle.cookie_text.proofs.DateNumbers.{read_year_complete, read_year_sound}
 
 -- the numbers fit two places, and the names are there
@@ -251,7 +252,7 @@ short_sound text s e = go (read_fields (codes " ") text) (read_fields (codes "-"
     Shown : Stamp → Type 0
     Shown t = (year : List ℕ) × IsYearText year t.year × ((text ≡ fields_text (codes " ") t year) ⊎ (text ≡ fields_text (codes "-") t year))
 
-    go : (a b : Option (List ℕ × Stamp)) → read_fields (codes " ") text ≡ a → read_fields (codes "-") text ≡ b → or_else (option_map (λ p. p.1) a) (option_map (λ p. p.1) b) ≡ Some s → Shown s
+    go : (a b : Option (List ℕ × Stamp)) → read_fields (codes " ") text ≡ a → read_fields (codes "-") text ≡ b → option_or (option_map (λ p. p.1) a) (option_map (λ p. p.1) b) ≡ Some s → Shown s
     go (Some x) b ea eb found =
         let h = fields_sound (codes " ") text x.0 x.1 ea in
         subst Shown (same_Some _ _ found) (x.0, h.1, inl h.0)

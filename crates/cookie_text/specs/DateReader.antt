@@ -1,6 +1,7 @@
 -- What the private readers of `date` and `date_reader` compute. `proofs/` shows that they read the
 -- four forms of a date, and nothing else.
 use Rattle.std.specs.Prelude.{ℕ, ◌<◌, ◌≤◌, not, ◌&&◌, List, length, take, drop, slice_index, Option, Some, None, option_map, option_and_then, bytes_eq, codes, ◌==◌, nat_le, if◌then◌else◌}
+use Rattle.std.specs.Option.{option_or}
 use Rattle.std.specs.Char.{is_ascii_digit}
 use Rattle.std.specs.List.{position_or_len}
 use Rattle.std.specs.Borrow.{Bor}
@@ -72,15 +73,10 @@ read_year_last text = do
   year ← read_tag (codes " ") time.1 >>= read_year
   if length year.1 == 0 then Some (stamp_of day.0 month.0 time.0 year.0) else None
 
--- the first that is there
-abbrev pub or_else : {A : Type 0} → Option A → Option A → Option A
-or_else (Some x) other = Some x
-or_else None other = other
-
 -- with spaces or with dashes
 unfoldable pub read_short : List ℕ → Option Stamp
 read_short text =
-    or_else (option_map (λ p. p.1) (read_fields (codes " ") text))
+    option_or (option_map (λ p. p.1) (read_fields (codes " ") text))
     (option_map (λ p. p.1) (read_fields (codes "-") text))
 
 -- with dashes, and a year of two digits

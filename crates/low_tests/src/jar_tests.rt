@@ -1,20 +1,17 @@
-//! Jars, and the child jars that prefix, sign or seal.
+//! Jars.
 //!
 //! A scenario answers whether all came out right, or want of memory.
-use crate::key_tests::{
-    Counting, DATA, NO_SEALINGS, NO_SIGNINGS, SEALED, SIGNED, counter, jefe, zero_key,
-};
 use crate::print_tests::prints;
-use cookie::{Cookie, CookieJar, Host, Key, Prefix, PrivateError, Secure};
+use cookie::{Cookie, CookieJar};
 use jiff::civil::DateTime;
 use std::alloc::{AllocError, Global};
 
-fn new_year() -> DateTime {
+pub fn new_year() -> DateTime {
     DateTime::constant(2024, 1, 1, 0, 0, 0, 0)
 }
 
 // The value under a name; `-` stands for none.
-fn value<'j>(jar: &'j CookieJar, name: &str) -> &'j str {
+pub fn value<'j>(jar: &'j CookieJar, name: &str) -> &'j str {
     match jar.get(name) {
         Some(cookie) => cookie.value(),
         None => "-",
@@ -43,12 +40,12 @@ fn told(jar: &CookieJar) -> u8 {
     count
 }
 
-fn has_counts(jar: &CookieJar, cookies: u8, changes: u8) -> bool {
+pub fn has_counts(jar: &CookieJar, cookies: u8, changes: u8) -> bool {
     shown(jar) == cookies && told(jar) == changes
 }
 
 // Whether the delta has this one cookie, printed so.
-fn tells(alloc: Global, jar: &CookieJar, line: &str) -> bool {
+pub fn tells(alloc: Global, jar: &CookieJar, line: &str) -> bool {
     let mut told = jar.delta();
     match told.next() {
         Some(cookie) => prints(alloc, cookie, line) && told.next().is_none(),
@@ -57,7 +54,7 @@ fn tells(alloc: Global, jar: &CookieJar, line: &str) -> bool {
 }
 
 // Whether the cookie that a child jar read has this value; `-` stands for none.
-fn is_read(
+pub fn is_read(
     read: Result<Option<Cookie<'static>>, AllocError>,
     wanted: &str,
 ) -> Result<bool, AllocError> {
@@ -67,17 +64,9 @@ fn is_read(
     }
 }
 
-fn gives_signed(jar: &CookieJar, key: &Key, name: &str, wanted: &str) -> Result<bool, AllocError> {
-    is_read(jar.signed(key).get(name), wanted)
-}
-
-fn gives_sealed(jar: &CookieJar, key: &Key, name: &str, wanted: &str) -> Result<bool, AllocError> {
-    is_read(jar.private(key).get(name), wanted)
-}
-
 // Whether the name has the value that it has after what was done. Where that was refused, it has the
 // value from before.
-fn settled<E: Drop>(
+pub fn settled<E: Drop>(
     jar: &CookieJar,
     done: Result<(), E>,
     name: &str,
@@ -95,7 +84,7 @@ fn settled<E: Drop>(
 }
 
 // A jar with this original.
-fn with_original(
+pub fn with_original(
     alloc: Global,
     name: &'static str,
     value: &'static str,
@@ -214,303 +203,6 @@ fn has_a_debug_form(rt: HostRuntime) {
     assert!(rt; is_debugged(rt.alloc(), &CookieJar::new(rt.alloc())));
 }
 
-// What holds of the names of any prefix: `whole` is it and `sid`.
-fn names<P: Prefix>(alloc: Global, whole: &str) -> Result<bool, AllocError> {
-    let name = P::prefixed_name(alloc, "sid")?;
-    let plain = P::clip(alloc, Cookie::new("sid", "1"))?;
-    Ok(name.as_str() == whole && plain.name() == "sid")
-}
-
-fn prefixes<P: Prefix>(alloc: Global, whole: &str) -> Result<bool, AllocError> {
-    let cookie = P::prefix(alloc, Cookie::new("sid", "1"))?;
-    let prefixed = cookie.name_value() == (whole, "1");
-    let clipped = P::clip(alloc, cookie)?;
-    Ok(prefixed && clipped.name_value() == ("sid", "1"))
-}
-
-// What holds of a jar under any prefix: `line` is the cookie `sid=1` as it conforms.
-fn applies<P: Prefix>(alloc: Global, line: &str) -> Result<bool, AllocError> {
-    let cookie = P::apply(alloc, Cookie::new("sid", "1"))?;
-    Ok(prints(alloc, &cookie, line))
-}
-
-fn prefixed<P: Prefix>(alloc: Global, prefix: P) -> Result<CookieJar, AllocError> {
-    let mut jar = CookieJar::new(alloc);
-    jar.prefixed_mut(prefix).add(Cookie::new("sid", "1"))?;
-    Ok(jar)
-}
-
-fn adds<P: Prefix>(alloc: Global, prefix: P, line: &str) -> Result<bool, AllocError> {
-    let jar = prefixed(alloc, prefix)?;
-    Ok(tells(alloc, &jar, line))
-}
-
-fn reads<P: Prefix + Copy>(alloc: Global, prefix: P, whole: &str) -> Result<bool, AllocError> {
-    let mut jar = prefixed(alloc, prefix)?;
-    let plain = is_read(jar.prefixed_mut(prefix).get("sid"), "1")?;
-    Ok(plain && reads_alone(&jar, prefix, whole)?)
-}
-
-fn reads_alone<P: Prefix + Copy>(
-    jar: &CookieJar,
-    prefix: P,
-    whole: &str,
-) -> Result<bool, AllocError> {
-    let plain = is_read(jar.prefixed(prefix).get("sid"), "1")?;
-    Ok(plain && is_read(jar.prefixed(prefix).get(whole), "-")?)
-}
-
-fn remove<P: Prefix>(jar: &mut CookieJar, prefix: P) -> Result<(), AllocError> {
-    let removal = Cookie::new("sid", "");
-    jar.prefixed_mut(prefix).remove(removal, new_year())
-}
-
-fn prefixed_original<P: Prefix>(alloc: Global, prefix: P) -> Result<CookieJar, AllocError> {
-    let mut jar = CookieJar::new(alloc);
-    let original = Cookie::new("sid", "2");
-    jar.prefixed_mut(prefix).add_original(original)?;
-    Ok(jar)
-}
-
-fn removes<P: Prefix + Copy>(alloc: Global, prefix: P) -> Result<bool, AllocError> {
-    let mut jar = prefixed_original(alloc, prefix)?;
-    let before = is_read(jar.prefixed(prefix).get("sid"), "2")?;
-    remove(&mut jar, prefix)?;
-    Ok(before && has_counts(&jar, 0, 1))
-}
-
-#[test]
-fn prefixes_host(rt: HostRuntime) {
-    let alloc = rt.alloc();
-    let line = "__Host-sid=1; Secure; Path=/";
-    assert!(rt; names::<Host>(alloc, "__Host-sid").unwrap_or(false));
-    assert!(rt; prefixes::<Host>(alloc, "__Host-sid").unwrap_or(false));
-    assert!(rt; applies::<Host>(alloc, line).unwrap_or(false));
-    assert!(rt; adds(alloc, Host, line).unwrap_or(false));
-    assert!(rt; reads(alloc, Host, "__Host-sid").unwrap_or(false));
-    assert!(rt; removes(alloc, Host).unwrap_or(false));
-}
-
-#[test]
-fn prefixes_secure(rt: HostRuntime) {
-    let alloc = rt.alloc();
-    let line = "__Secure-sid=1; Secure";
-    assert!(rt; names::<Secure>(alloc, "__Secure-sid").unwrap_or(false));
-    assert!(rt; prefixes::<Secure>(alloc, "__Secure-sid").unwrap_or(false));
-    assert!(rt; applies::<Secure>(alloc, line).unwrap_or(false));
-    assert!(rt; adds(alloc, Secure, line).unwrap_or(false));
-    assert!(rt; reads(alloc, Secure, "__Secure-sid").unwrap_or(false));
-    assert!(rt; removes(alloc, Secure).unwrap_or(false));
-}
-
-#[test]
-fn conforms_to_host(rt: HostRuntime) {
-    let cookie = Cookie::build(Cookie::new("a", "1"))
-        .domain("x.com")
-        .path("/p")
-        .build();
-    assert!(rt; prints(rt.alloc(), &Host::conform(cookie), "a=1; Secure; Path=/"));
-    assert!(rt; Host::PREFIX == "__Host-");
-    assert!(rt; Secure::PREFIX == "__Secure-");
-}
-
-fn signs(alloc: Global) -> Result<bool, AllocError> {
-    let mut jar = CookieJar::new(alloc);
-    let done = jar.signed_mut(&jefe()).add(Cookie::new("a", DATA));
-    settled(&jar, done, "a", "-", SIGNED)
-}
-
-fn signs_an_original(alloc: Global) -> Result<bool, AllocError> {
-    let mut jar = CookieJar::new(alloc);
-    let done = jar.signed_mut(&jefe()).add_original(Cookie::new("a", DATA));
-    settled(&jar, done, "a", "-", SIGNED)
-}
-
-fn removes_signed(alloc: Global) -> Result<bool, AllocError> {
-    let mut jar = with_original(alloc, "a", SIGNED)?;
-    let done = jar
-        .signed_mut(&jefe())
-        .remove(Cookie::new("a", ""), new_year());
-    settled(&jar, done, "a", SIGNED, "-")
-}
-
-fn reads_signed(alloc: Global) -> Result<bool, AllocError> {
-    let jar = with_original(alloc, "a", SIGNED)?;
-    let own = gives_signed(&jar, &jefe(), "a", DATA)?;
-    let other = gives_signed(&jar, &zero_key(), "a", "-")?;
-    Ok(own && other && gives_signed(&jar, &jefe(), "b", "-")?)
-}
-
-fn reads_signed_of_mut(alloc: Global) -> Result<bool, AllocError> {
-    let mut jar = with_original(alloc, "a", SIGNED)?;
-    let found = is_read(jar.signed_mut(&jefe()).get("a"), DATA)?;
-    let cookie = Cookie::new("c", SIGNED);
-    Ok(found && is_read(jar.signed_mut(&jefe()).verify(cookie), DATA)?)
-}
-
-#[test]
-fn signs_as_rfc_4231(rt: HostRuntime) {
-    assert!(rt; signs(rt.alloc()).unwrap_or(false));
-    assert!(rt; signs_an_original(rt.alloc()).unwrap_or(false));
-    assert!(rt; removes_signed(rt.alloc()).unwrap_or(false));
-    assert!(rt; reads_signed(rt.alloc()).unwrap_or(false));
-    assert!(rt; reads_signed_of_mut(rt.alloc()).unwrap_or(false));
-}
-
-// Whether the text is read as no signing, of a cookie and in a jar.
-fn is_no_signing(alloc: Global, text: &'static str) -> Result<bool, AllocError> {
-    let jar = with_original(alloc, "a", text)?;
-    let alone = is_read(jar.signed(&jefe()).verify(Cookie::new("a", text)), "-")?;
-    Ok(alone && gives_signed(&jar, &jefe(), "a", "-")?)
-}
-
-#[test]
-fn reads_signings_alone(rt: HostRuntime) {
-    for text in NO_SIGNINGS.split('\n') {
-        assert!(rt; is_no_signing(rt.alloc(), text).unwrap_or(false), "{text}");
-    }
-}
-
-fn seals(alloc: Global) -> Result<bool, PrivateError> {
-    let mut jar = CookieJar::new(alloc);
-    let mut rng = counter(0, false);
-    let done = jar
-        .private_mut(&zero_key())
-        .add(Cookie::new("", ""), &mut rng);
-    settled(&jar, done, "", "-", SEALED)
-}
-
-fn seals_an_original(alloc: Global) -> Result<bool, PrivateError> {
-    let mut jar = CookieJar::new(alloc);
-    let mut rng = counter(0, false);
-    let done = jar
-        .private_mut(&zero_key())
-        .add_original(Cookie::new("", ""), &mut rng);
-    settled(&jar, done, "", "-", SEALED)
-}
-
-fn removes_sealed(alloc: Global) -> Result<bool, AllocError> {
-    let mut jar = with_original(alloc, "", SEALED)?;
-    let done = jar
-        .private_mut(&zero_key())
-        .remove(Cookie::new("", ""), new_year());
-    settled(&jar, done, "", SEALED, "-")
-}
-
-fn reads_sealed(alloc: Global) -> Result<bool, AllocError> {
-    let jar = with_original(alloc, "", SEALED)?;
-    let own = gives_sealed(&jar, &zero_key(), "", "")?;
-    Ok(own && gives_sealed(&jar, &Key::from(&[1; 64]), "", "-")?)
-}
-
-fn reads_sealed_of_mut(alloc: Global) -> Result<bool, AllocError> {
-    let mut jar = with_original(alloc, "", SEALED)?;
-    let found = is_read(jar.private_mut(&zero_key()).get(""), "")?;
-    let cookie = Cookie::new("", SEALED);
-    Ok(found && is_read(jar.private_mut(&zero_key()).decrypt(cookie), "")?)
-}
-
-#[test]
-fn seals_as_the_specification_of_gcm(rt: HostRuntime) {
-    assert!(rt; seals(rt.alloc()) == Ok(true));
-    assert!(rt; seals_an_original(rt.alloc()) == Ok(true));
-    assert!(rt; removes_sealed(rt.alloc()).unwrap_or(false));
-    assert!(rt; reads_sealed(rt.alloc()).unwrap_or(false));
-    assert!(rt; reads_sealed_of_mut(rt.alloc()).unwrap_or(false));
-}
-
-fn seal(jar: &mut CookieJar, name: &'static str, rng: &mut Counting) -> Result<(), PrivateError> {
-    jar.private_mut(&zero_key())
-        .add(Cookie::new(name, "1"), rng)
-}
-
-fn seal_original(
-    jar: &mut CookieJar,
-    name: &'static str,
-    rng: &mut Counting,
-) -> Result<(), PrivateError> {
-    jar.private_mut(&zero_key())
-        .add_original(Cookie::new(name, "1"), rng)
-}
-
-// A jar with two cookies that were sealed under one fill after the other.
-fn sealed_by_fills(alloc: Global) -> Result<CookieJar, PrivateError> {
-    let mut jar = CookieJar::new(alloc);
-    let mut rng = counter(1, false);
-    seal(&mut jar, "a", &mut rng)?;
-    seal_original(&mut jar, "b", &mut rng)?;
-    Ok(jar)
-}
-
-fn seals_under_fills(alloc: Global) -> Result<bool, PrivateError> {
-    let jar = sealed_by_fills(alloc)?;
-    let first = value(&jar, "a").starts_with("AAECAwQFBgcICQoL");
-    Ok(first && value(&jar, "b").starts_with("DA0ODxAREhMUFRYX"))
-}
-
-fn reads_what_it_sealed(alloc: Global) -> Result<bool, PrivateError> {
-    let jar = sealed_by_fills(alloc)?;
-    let first = gives_sealed(&jar, &zero_key(), "a", "1")?;
-    Ok(first && gives_sealed(&jar, &zero_key(), "b", "1")?)
-}
-
-// Each sealing takes the next twelve bytes.
-#[test]
-fn seals_under_the_bytes_of_a_fill(rt: HostRuntime) {
-    assert!(rt; seals_under_fills(rt.alloc()) == Ok(true));
-    assert!(rt; reads_what_it_sealed(rt.alloc()) == Ok(true));
-}
-
-#[test]
-fn seals_nothing_where_a_fill_fails(rt: HostRuntime) {
-    let mut jar = CookieJar::new(rt.alloc());
-    let mut rng = counter(0, true);
-    assert!(rt; seal(&mut jar, "a", &mut rng) == Err(PrivateError::Rng));
-    assert!(rt; seal_original(&mut jar, "a", &mut rng) == Err(PrivateError::Rng));
-    assert!(rt; value(&jar, "a") == "-" && has_counts(&jar, 0, 0));
-}
-
-// Adds a cookie of this name, with the value that stands under the other.
-fn moves(
-    alloc: Global,
-    jar: &mut CookieJar,
-    from: &str,
-    to: &'static str,
-) -> Result<(), AllocError> {
-    let moved = String::from_str(alloc, value(jar, from))?;
-    let mut cookie = Cookie::named(to);
-    cookie.set_value_owned(moved);
-    jar.add(cookie)
-}
-
-fn seals_the_name(alloc: Global) -> Result<bool, PrivateError> {
-    let mut jar = CookieJar::new(alloc);
-    seal(&mut jar, "a b", &mut counter(1, false))?;
-    moves(alloc, &mut jar, "a b", "a%20b")?;
-    let own = gives_sealed(&jar, &zero_key(), "a b", "1")?;
-    Ok(own && gives_sealed(&jar, &zero_key(), "a%20b", "-")?)
-}
-
-// A sealed value that is moved under the name as it is escaped opens no more.
-#[test]
-fn reads_sealings_of_the_name_alone(rt: HostRuntime) {
-    assert!(rt; seals_the_name(rt.alloc()) == Ok(true));
-}
-
-// Whether the text is read as no sealing, of a cookie and in a jar.
-fn is_no_sealing(alloc: Global, text: &'static str) -> Result<bool, AllocError> {
-    let jar = with_original(alloc, "", text)?;
-    let alone = is_read(jar.private(&zero_key()).decrypt(Cookie::new("", text)), "-")?;
-    Ok(alone && gives_sealed(&jar, &zero_key(), "", "-")?)
-}
-
-#[test]
-fn reads_sealings_alone(rt: HostRuntime) {
-    for text in NO_SEALINGS.split('\n') {
-        assert!(rt; is_no_sealing(rt.alloc(), text).unwrap_or(false), "{text}");
-    }
-}
-
 // Calls with a growth refused at any place, and with ample memory. The first test of a pair accepts
 // want of memory, too; the second shows that there is none with ample memory.
 mod memory {
@@ -538,53 +230,6 @@ mod memory {
         Ok(adds_an_original(alloc)? && adds(alloc)? && removes(alloc)? && copies(alloc)?)
     }
 
-    fn prefixes_an_original(alloc: Global) -> Result<bool, AllocError> {
-        let mut jar = CookieJar::new(alloc);
-        let done = jar.prefixed_mut(Host).add_original(Cookie::new("a", "1"));
-        settled(&jar, done, "__Host-a", "-", "1")
-    }
-
-    fn prefixes(alloc: Global) -> Result<bool, AllocError> {
-        let mut jar = with_original(alloc, "__Host-a", "1")?;
-        let done = jar.prefixed_mut(Host).add(Cookie::new("a", "2"));
-        settled(&jar, done, "__Host-a", "1", "2")
-    }
-
-    fn removes_prefixed(alloc: Global) -> Result<bool, AllocError> {
-        let mut jar = with_original(alloc, "__Host-a", "1")?;
-        let done = jar
-            .prefixed_mut(Host)
-            .remove(Cookie::new("a", ""), new_year());
-        settled(&jar, done, "__Host-a", "1", "-")
-    }
-
-    fn keeps_prefixed(alloc: Global) -> Result<bool, AllocError> {
-        Ok(
-            prefixes_an_original(alloc)?
-                && prefixes(alloc)?
-                && removes_prefixed(alloc)?
-                && reads(alloc, Host, "__Host-sid")?,
-        )
-    }
-
-    fn keeps_signed(alloc: Global) -> Result<bool, AllocError> {
-        Ok(
-            signs(alloc)?
-                && signs_an_original(alloc)?
-                && removes_signed(alloc)?
-                && reads_signed(alloc)?,
-        )
-    }
-
-    fn keeps_sealed(alloc: Global) -> Result<bool, PrivateError> {
-        Ok(
-            seals(alloc)?
-                && seals_an_original(alloc)?
-                && removes_sealed(alloc)?
-                && reads_sealed(alloc)?,
-        )
-    }
-
     #[test]
     fn cookies(rt: HostRuntime) {
         assert!(rt; keeps_cookies(rt.alloc()).unwrap_or(true));
@@ -593,40 +238,5 @@ mod memory {
     #[test]
     fn cookies_with_ample_memory(rt: HostRuntime) {
         assert!(rt; keeps_cookies(rt.alloc()).unwrap_or(false));
-    }
-
-    #[test]
-    fn prefixed(rt: HostRuntime) {
-        assert!(rt; keeps_prefixed(rt.alloc()).unwrap_or(true));
-    }
-
-    #[test]
-    fn prefixed_with_ample_memory(rt: HostRuntime) {
-        assert!(rt; keeps_prefixed(rt.alloc()).unwrap_or(false));
-    }
-
-    #[test]
-    fn signed(rt: HostRuntime) {
-        assert!(rt; keeps_signed(rt.alloc()).unwrap_or(true));
-    }
-
-    #[test]
-    fn signed_with_ample_memory(rt: HostRuntime) {
-        assert!(rt; keeps_signed(rt.alloc()).unwrap_or(false));
-    }
-
-    #[test]
-    fn sealed(rt: HostRuntime) {
-        assert!(rt;
-            matches!(
-                keeps_sealed(rt.alloc()),
-                Ok(true) | Err(PrivateError::OutOfMemory)
-            )
-        );
-    }
-
-    #[test]
-    fn sealed_with_ample_memory(rt: HostRuntime) {
-        assert!(rt; keeps_sealed(rt.alloc()) == Ok(true));
     }
 }

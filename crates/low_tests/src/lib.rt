@@ -2,6 +2,8 @@
 #![tactic(auto)]
 
 #[cfg(test)]
+mod child_jar_tests;
+#[cfg(test)]
 mod cookie_tests;
 #[cfg(test)]
 mod date_tests;
@@ -13,6 +15,8 @@ mod key_tests;
 mod memory;
 #[cfg(test)]
 mod parts_tests;
+#[cfg(test)]
+mod prefix_tests;
 #[cfg(test)]
 mod print_tests;
 #[cfg(test)]

@@ -35,6 +35,21 @@ fn ends_with_1_after_a_fault(rt: HostRuntime) -> Result<(), Fail> {
     Ok(())
 }
 
+// The key is derived from 32 zero bytes, and the nonce is the beginning of ChaCha20's first block under
+// a key of zeros (RFC 8439, appendix A.1, test vector 1). The sealed text was computed by OpenSSL.
+#[test]
+fn seals_under_key_and_nonce_of_its_seed(rt: HostRuntime) -> Result<(), Fail> {
+    let mut output = Vec::new(rt.alloc());
+    let script = b"open\thttps://shop.com/\t2024-01-01T00:00:00Z\n\
+        set\tsealed\ta\t1\t-\t-\n\
+        deliver\t2024-01-01T00:00:00Z\n\
+        header\thttps://shop.com/\t2024-01-01T00:00:00Z\n";
+    assert_eq!(rt; ended(&rt, script.as_slice(), &mut output), (0, None));
+    let header = b"header\ta=drjgraDxPZBAXWrlgvvj2C8hiSKN2Fzo47XABm0%253D\n";
+    assert_eq!(rt; output.as_slice(), header.as_slice());
+    Ok(())
+}
+
 #[test]
 fn ends_with_2_where_the_reader_fails(rt: HostRuntime) -> Result<(), Fail> {
     let mut output = Vec::new(rt.alloc());

@@ -175,7 +175,8 @@ fn opened_bytes(key: &Key, name: &str, mut bytes: Vec<u8>) -> Option<Vec<u8>>
 // The text that the bytes are sealed from.
 fn opened_text(key: &Key, name: &str, bytes: Vec<u8>) -> Option<String>
     ensures { (value : List ℕ) → (option_map string_bytes result ≡ Some value)
-        ↔ (IsUtf8 value × (nonce : List ℕ) × (length nonce ≡ 12) × spec.IsSealedAs key.now name.now value nonce bytes.items) }
+        ↔ (IsUtf8 value × (nonce : List ℕ) × (length nonce ≡ 12)
+        × spec.IsSealedAs key.now name.now value nonce bytes.items) }
 {
     let Some(value) = opened_bytes(key, name, bytes) else {
         return None;

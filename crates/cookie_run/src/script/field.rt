@@ -64,9 +64,12 @@ fn parts_of(alloc: Global, line: &[u8]) -> Result<Vec<&[u8]>, AllocError>
 
 /// The fields as texts, or `Text` where one of them isn't UTF-8.
 pub fn texts_of(alloc: Global, fields: &[Vec<u8>]) -> Result<Vec<&str>, Cause>
-    ensures texts { IfOk result (λ texts. map (λ text. text.now) texts.items ≡ map (λ field. field.items) fields.now) }
+    ensures texts { IfOk result (λ texts.
+        map (λ text. text.now) texts.items ≡ map (λ field. field.items) fields.now) }
     ensures utf8 { OnOk result (list_all is_utf8 (map (λ field. field.items) fields.now) ≡ true) }
-    ensures err { IfErr result (λ cause. ((cause ≡ Cause.Text) × (list_all is_utf8 (map (λ field. field.items) fields.now) ≡ false)) ⊎ (cause ≡ Cause.Memory)) }
+    ensures err { IfErr result (λ cause.
+        ((cause ≡ Cause.Text) × (list_all is_utf8 (map (λ field. field.items) fields.now) ≡ false))
+        ⊎ (cause ≡ Cause.Memory)) }
 {
     let mut texts = Vec::new(alloc);
     for field in fields {

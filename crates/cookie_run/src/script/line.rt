@@ -210,7 +210,8 @@ fn read_receive(alloc: Global, fields: &[Vec<u8>]) -> Result<Line, Cause>
 
 // Copies of an answer's lines.
 fn copies_of(alloc: Global, lines: &[Vec<u8>]) -> Result<Vec<Vec<u8>>, Cause>
-    ensures lines { IfOk result (λ copies. map (λ line. line.items) copies.items ≡ map (λ line. line.items) lines.now) }
+    ensures lines { IfOk result (λ copies.
+        map (λ line. line.items) copies.items ≡ map (λ line. line.items) lines.now) }
     ensures err { IfErr result (λ cause. cause ≡ Cause.Memory) }
 {
     let mut copies = Vec::new(alloc);
@@ -224,7 +225,8 @@ fn copies_of(alloc: Global, lines: &[Vec<u8>]) -> Result<Vec<Vec<u8>>, Cause>
 #[tactic(auto, unfolding(crate::specs::ScriptLine::url_of))]
 fn url_of(alloc: Global, text: &str) -> Result<Url, Cause>
     ensures url { IfOk result (λ url. spec.url_of text.now ≡ Some url) }
-    ensures err { IfErr result (λ cause. ((cause ≡ Cause.Url) × (spec.url_of text.now ≡ None)) ⊎ (cause ≡ Cause.Memory)) }
+    ensures err { IfErr result (λ cause.
+        ((cause ≡ Cause.Url) × (spec.url_of text.now ≡ None)) ⊎ (cause ≡ Cause.Memory)) }
 {
     match Url::parse(alloc, text) {
         Ok(url) => Ok(url),

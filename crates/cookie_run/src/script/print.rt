@@ -17,7 +17,8 @@ pub fn value_line(
     name: &str,
     value: &Option<String>,
 ) -> Result<String, AllocError>
-    ensures { IfOk result (λ line. string_bytes line ≡ reading_text (Value way name.now (option_map string_bytes value.now))) }
+    ensures { IfOk result (λ line. string_bytes line
+        ≡ reading_text (Value way name.now (option_map string_bytes value.now))) }
 {
     let mut line = String::new(alloc);
     line.push_str(way_name(way))?;
@@ -53,7 +54,8 @@ fn way_name(way: Way) -> &'static str
 }
 
 fn push_value(line: &mut String, value: &Option<String>) -> Result<(), AllocError>
-    ensures { OnOk result (string_bytes line.new ≡ string_bytes line.old ++ shown_value (option_map string_bytes value.now)) }
+    ensures { OnOk result (string_bytes line.new
+        ≡ string_bytes line.old ++ shown_value (option_map string_bytes value.now)) }
 {
     match value {
         Some(value) => {

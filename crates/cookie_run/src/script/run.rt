@@ -3,7 +3,7 @@ ghost use Rattle.std.specs.Prelude.{◌≡◌, ◌⊎◌, ◌^◌, ◌-◌, ℕ,
 ghost use Rattle.std.specs.Io.KnownBytes.{Appends};
 ghost use Rattle.jiff.specs.Words.{civil_nanos};
 ghost use Rattle.cookie_run.specs.Device.{Rose, one_more};
-ghost use Rattle.cookie_run.specs.ScriptText.{ScriptText, EndsForMemory, fault_text};
+ghost use Rattle.cookie_run.specs.ScriptText.{Runs, fault_text};
 
 use crate::client::Client;
 use crate::device::{Sink, Source};
@@ -38,9 +38,10 @@ pub fn run<R: Source, W: Sink, G: TryRng>(
 ) -> Result<Ended, RunError>
     ensures text { IfOk result (λ ended. IfSome (R.left reader.old) (λ input. (output : List ℕ)
         × Appends (W.written writer.old) (W.written writer.new) output
-        × (ScriptText key.now client.old (civil_nanos last.old) input output client.new (civil_nanos last.new) ended
-        ⊎ EndsForMemory key.now client.old (civil_nanos last.old) input output client.new (civil_nanos last.new) ended))) }
-    ensures read { IsErrOf result RunError.Read → Rose (R.failures reader.old) (R.failures reader.new) ⊎ (R.reads reader.new ≡ 2 ^ 64 - 1) }
+        × Runs key.now client.old (civil_nanos last.old) input output
+        client.new (civil_nanos last.new) ended)) }
+    ensures read { IsErrOf result RunError.Read
+        → Rose (R.failures reader.old) (R.failures reader.new) ⊎ (R.reads reader.new ≡ 2 ^ 64 - 1) }
     ensures write { IsErrOf result RunError.Write → Rose (W.failures writer.old) (W.failures writer.new) }
     ensures flushed { OnOk result (W.flushes writer.new ≡ one_more (W.flushes writer.old)) }
 {
@@ -63,8 +64,8 @@ fn play_text<W: Sink, G: TryRng>(
 ) -> Result<Ended, RunError>
     ensures text { IfOk result (λ ended. (output : List ℕ)
         × Appends (W.written writer.old) (W.written writer.new) output
-        × (ScriptText key.now client.old (civil_nanos last.old) text.now output client.new (civil_nanos last.new) ended
-        ⊎ EndsForMemory key.now client.old (civil_nanos last.old) text.now output client.new (civil_nanos last.new) ended)) }
+        × Runs key.now client.old (civil_nanos last.old) text.now output
+        client.new (civil_nanos last.new) ended) }
     ensures failures { OnOk result (W.failures writer.new ≡ W.failures writer.old) }
     ensures write { OnErr result (Rose (W.failures writer.old) (W.failures writer.new)) }
     ensures only { IfErr result (λ e. e ≡ RunError.Write) }

@@ -9,8 +9,8 @@ ghost use Rattle.cookie_text.specs.Record.{bare, unsliced};
 ghost use Rattle.cookie_run.specs.Jar.{ClosesWith};
 ghost use Rattle.cookie_run.specs.declared.row.Row.{Row};
 ghost use Rattle.cookie_run.specs.ScriptLine as spec;
-ghost use Rattle.cookie_run.specs.ScriptText.{obeyed, after_line, cause_of};
-ghost use Rattle.cookie_run.specs.Standing.{Goes, Halts};
+ghost use Rattle.cookie_run.specs.ScriptText.{after_line, cause_of};
+ghost use Rattle.cookie_run.specs.Standing.{Goes, Halts, Obeys, Balks};
 ghost use Rattle.cookie_run.specs.ScriptRead.{line_of};
 ghost use Rattle.cookie_run.specs.declared.step.Command.TheVariants.{Set, Get};
 
@@ -45,8 +45,11 @@ pub fn follow<G: TryRng>(
     visit: &mut Option<Visit>,
     rng: &mut G,
 ) -> Result<String, Cause>
-    ensures ok { IfOk result (λ text. Goes key.now (λ r. after_line r line.now) client.old (civil_nanos last.old) visit.old client.new (civil_nanos last.new) visit.new (string_bytes text)) }
-    ensures err { IfErr result (λ cause. Halts key.now (λ r. after_line r line.now) client.old (civil_nanos last.old) visit.old cause client.new) }
+    ensures ok { IfOk result (λ text. Goes key.now (λ r. after_line r line.now)
+        client.old (civil_nanos last.old) visit.old
+        client.new (civil_nanos last.new) visit.new (string_bytes text)) }
+    ensures err { IfErr result (λ cause. Halts key.now (λ r. after_line r line.now)
+        client.old (civil_nanos last.old) visit.old cause client.new) }
     ensures last { OnErr result (last.new ≡ last.old) }
 {
     if line.is_empty() {
@@ -72,8 +75,11 @@ fn obey<G: TryRng>(
     visit: &mut Option<Visit>,
     rng: &mut G,
 ) -> Result<String, Cause>
-    ensures ok { IfOk result (λ text. Goes key.now (λ r. obeyed r.acts r.last r.now (line_of line)) client.old (civil_nanos last.old) visit.old client.new (civil_nanos last.new) visit.new (string_bytes text)) }
-    ensures err { IfErr result (λ cause. Halts key.now (λ r. obeyed r.acts r.last r.now (line_of line)) client.old (civil_nanos last.old) visit.old cause client.new) }
+    ensures ok { IfOk result (λ text. Obeys key.now (line_of line)
+        client.old (civil_nanos last.old) visit.old
+        client.new (civil_nanos last.new) visit.new (string_bytes text)) }
+    ensures err { IfErr result (λ cause. Balks key.now (line_of line)
+        client.old (civil_nanos last.old) visit.old cause client.new) }
     ensures last { OnErr result (last.new ≡ last.old) }
 {
     match line {
@@ -97,8 +103,11 @@ fn begin(
     last: &mut DateTime,
     visit: &mut Option<Visit>,
 ) -> Result<String, Cause>
-    ensures ok { IfOk result (λ text. Goes key.now (λ r. obeyed r.acts r.last r.now (spec.Opens url (civil_nanos at))) client.now (civil_nanos last.old) visit.old client.now (civil_nanos last.new) visit.new (string_bytes text)) }
-    ensures err { IfErr result (λ cause. Halts key.now (λ r. obeyed r.acts r.last r.now (spec.Opens url (civil_nanos at))) client.now (civil_nanos last.old) visit.old cause client.now) }
+    ensures ok { IfOk result (λ text. Obeys key.now (spec.Opens url (civil_nanos at))
+        client.now (civil_nanos last.old) visit.old
+        client.now (civil_nanos last.new) visit.new (string_bytes text)) }
+    ensures err { IfErr result (λ cause. Balks key.now (spec.Opens url (civil_nanos at))
+        client.now (civil_nanos last.old) visit.old cause client.now) }
     ensures last { OnErr result (last.new ≡ last.old) }
 {
     if visit.is_some() {
@@ -120,8 +129,14 @@ fn set<G: TryRng>(
     visit: &mut Option<Visit>,
     rng: &mut G,
 ) -> Result<String, Cause>
-    ensures ok { IfOk result (λ text. (key : List ℕ) (rows : List Row) (last : ℤ) → Goes key (λ r. obeyed r.acts r.last r.now (spec.Commands (Set way (unsliced (bare name value))))) rows last visit.old rows last visit.new (string_bytes text)) }
-    ensures err { IfErr result (λ cause. (key : List ℕ) (rows : List Row) (last : ℤ) → Halts key (λ r. obeyed r.acts r.last r.now (spec.Commands (Set way (unsliced (bare name value))))) rows last visit.old cause rows) }
+    ensures ok { IfOk result
+        (λ text. (key : List ℕ) (rows : List Row) (last : ℤ)
+        → Obeys key (spec.Commands (Set way (unsliced (bare name value))))
+        rows last visit.old rows last visit.new (string_bytes text)) }
+    ensures err { IfErr result
+        (λ cause. (key : List ℕ) (rows : List Row) (last : ℤ)
+        → Balks key (spec.Commands (Set way (unsliced (bare name value))))
+        rows last visit.old cause rows) }
 {
     let Some(Visit { url, mut session }) = visit.take() else {
         return Err(Cause::NoSession);
@@ -140,8 +155,14 @@ fn set<G: TryRng>(
 
 // `get`.
 fn get(alloc: Global, way: Way, name: &Text, visit: &Option<Visit>) -> Result<String, Cause>
-    ensures ok { IfOk result (λ text. (key : List ℕ) (rows : List Row) (last : ℤ) → Goes key (λ r. obeyed r.acts r.last r.now (spec.Commands (Get way name.now))) rows last visit.now rows last visit.now (string_bytes text)) }
-    ensures err { IfErr result (λ cause. (key : List ℕ) (rows : List Row) (last : ℤ) → Halts key (λ r. obeyed r.acts r.last r.now (spec.Commands (Get way name.now))) rows last visit.now cause rows) }
+    ensures ok { IfOk result
+        (λ text. (key : List ℕ) (rows : List Row) (last : ℤ)
+        → Obeys key (spec.Commands (Get way name.now))
+        rows last visit.now rows last visit.now (string_bytes text)) }
+    ensures err { IfErr result
+        (λ cause. (key : List ℕ) (rows : List Row) (last : ℤ)
+        → Balks key (spec.Commands (Get way name.now))
+        rows last visit.now cause rows) }
 {
     let Some(open) = visit else {
         return Err(Cause::NoSession);
@@ -173,8 +194,11 @@ fn deliver(
     last: &mut DateTime,
     visit: &mut Option<Visit>,
 ) -> Result<String, Cause>
-    ensures ok { IfOk result (λ text. (key : List ℕ) → Goes key (λ r. obeyed r.acts r.last r.now (spec.Delivers (civil_nanos at))) client.old (civil_nanos last.old) visit.old client.new (civil_nanos last.new) visit.new (string_bytes text)) }
-    ensures err { IfErr result (λ cause. (key : List ℕ) → Halts key (λ r. obeyed r.acts r.last r.now (spec.Delivers (civil_nanos at))) client.old (civil_nanos last.old) visit.old cause client.new) }
+    ensures ok { IfOk result (λ text. (key : List ℕ) → Obeys key (spec.Delivers (civil_nanos at))
+        client.old (civil_nanos last.old) visit.old
+        client.new (civil_nanos last.new) visit.new (string_bytes text)) }
+    ensures err { IfErr result (λ cause. (key : List ℕ) → Balks key (spec.Delivers (civil_nanos at))
+        client.old (civil_nanos last.old) visit.old cause client.new) }
     ensures last { OnErr result (last.new ≡ last.old) }
 {
     let Some(open) = visit else {
@@ -192,8 +216,12 @@ fn deliver(
 
 // `lose`: they don't.
 fn lose(alloc: Global, visit: &mut Option<Visit>) -> Result<String, Cause>
-    ensures ok { IfOk result (λ text. (key : List ℕ) (rows : List Row) (last : ℤ) → Goes key (λ r. obeyed r.acts r.last r.now spec.Loses) rows last visit.old rows last visit.new (string_bytes text)) }
-    ensures err { IfErr result (λ cause. (key : List ℕ) (rows : List Row) (last : ℤ) → Halts key (λ r. obeyed r.acts r.last r.now spec.Loses) rows last visit.old cause rows) }
+    ensures ok { IfOk result
+        (λ text. (key : List ℕ) (rows : List Row) (last : ℤ) → Obeys key spec.Loses
+        rows last visit.old rows last visit.new (string_bytes text)) }
+    ensures err { IfErr result
+        (λ cause. (key : List ℕ) (rows : List Row) (last : ℤ) → Balks key spec.Loses
+        rows last visit.old cause rows) }
 {
     if visit.is_none() {
         return Err(Cause::NoSession);
@@ -212,8 +240,15 @@ fn receive(
     last: &mut DateTime,
     visit: &Option<Visit>,
 ) -> Result<String, Cause>
-    ensures ok { IfOk result (λ text. (key : List ℕ) → Goes key (λ r. obeyed r.acts r.last r.now (spec.Receives url.now (map (λ line. line.items) lines.now) (civil_nanos at))) client.old (civil_nanos last.old) visit.now client.new (civil_nanos last.new) visit.now (string_bytes text)) }
-    ensures err { IfErr result (λ cause. (key : List ℕ) → Halts key (λ r. obeyed r.acts r.last r.now (spec.Receives url.now (map (λ line. line.items) lines.now) (civil_nanos at))) client.old (civil_nanos last.old) visit.now cause client.new) }
+    ensures ok { IfOk result
+        (λ text. (key : List ℕ)
+        → Obeys key (spec.Receives url.now (map (λ line. line.items) lines.now) (civil_nanos at))
+        client.old (civil_nanos last.old) visit.now
+        client.new (civil_nanos last.new) visit.now (string_bytes text)) }
+    ensures err { IfErr result
+        (λ cause. (key : List ℕ)
+        → Balks key (spec.Receives url.now (map (λ line. line.items) lines.now) (civil_nanos at))
+        client.old (civil_nanos last.old) visit.now cause client.new) }
     ensures last { OnErr result (last.new ≡ last.old) }
 {
     if visit.is_some() {
@@ -236,8 +271,13 @@ fn header(
     last: &mut DateTime,
     visit: &Option<Visit>,
 ) -> Result<String, Cause>
-    ensures ok { IfOk result (λ text. (key : List ℕ) → Goes key (λ r. obeyed r.acts r.last r.now (spec.Heads url.now (civil_nanos at))) client.now (civil_nanos last.old) visit.now client.now (civil_nanos last.new) visit.now (string_bytes text)) }
-    ensures err { IfErr result (λ cause. (key : List ℕ) → Halts key (λ r. obeyed r.acts r.last r.now (spec.Heads url.now (civil_nanos at))) client.now (civil_nanos last.old) visit.now cause client.now) }
+    ensures ok { IfOk result
+        (λ text. (key : List ℕ) → Obeys key (spec.Heads url.now (civil_nanos at))
+        client.now (civil_nanos last.old) visit.now
+        client.now (civil_nanos last.new) visit.now (string_bytes text)) }
+    ensures err { IfErr result
+        (λ cause. (key : List ℕ) → Balks key (spec.Heads url.now (civil_nanos at))
+        client.now (civil_nanos last.old) visit.now cause client.now) }
     ensures last { OnErr result (last.new ≡ last.old) }
 {
     if visit.is_some() {

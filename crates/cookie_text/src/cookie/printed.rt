@@ -84,7 +84,8 @@ impl<'c> Cookie<'c> {
 
     // `Max-Age`, where it is printed.
     pub(crate) fn max_age_printed(&self) -> Option<Attribute<'_>>
-        ensures { option_map attribute_view result ≡ option_map (λ nanos. MaxAge (whole_seconds nanos)) self.now.cookie.max_age }
+        ensures { option_map attribute_view result
+            ≡ option_map (λ nanos. MaxAge (whole_seconds nanos)) self.now.cookie.max_age }
     {
         match self.max_age_secs() {
             Some(seconds) => Some(Attribute::MaxAge(seconds)),

@@ -1,0 +1,261 @@
+//! Child jars that sign or seal values.
+use crate::jar_tests::{has_counts, is_read, new_year, settled, value, with_original};
+use crate::key_tests::{
+    Counting, DATA, NO_SEALINGS, NO_SIGNINGS, SEALED, SIGNED, counter, jefe, zero_key,
+};
+use cookie::{Cookie, CookieJar, Key, PrivateError};
+use std::alloc::{AllocError, Global};
+
+fn gives_signed(jar: &CookieJar, key: &Key, name: &str, wanted: &str) -> Result<bool, AllocError> {
+    is_read(jar.signed(key).get(name), wanted)
+}
+
+fn gives_sealed(jar: &CookieJar, key: &Key, name: &str, wanted: &str) -> Result<bool, AllocError> {
+    is_read(jar.private(key).get(name), wanted)
+}
+
+fn signs(alloc: Global) -> Result<bool, AllocError> {
+    let mut jar = CookieJar::new(alloc);
+    let done = jar.signed_mut(&jefe()).add(Cookie::new("a", DATA));
+    settled(&jar, done, "a", "-", SIGNED)
+}
+
+fn signs_an_original(alloc: Global) -> Result<bool, AllocError> {
+    let mut jar = CookieJar::new(alloc);
+    let done = jar.signed_mut(&jefe()).add_original(Cookie::new("a", DATA));
+    settled(&jar, done, "a", "-", SIGNED)
+}
+
+fn removes_signed(alloc: Global) -> Result<bool, AllocError> {
+    let mut jar = with_original(alloc, "a", SIGNED)?;
+    let done = jar
+        .signed_mut(&jefe())
+        .remove(Cookie::new("a", ""), new_year());
+    settled(&jar, done, "a", SIGNED, "-")
+}
+
+fn reads_signed(alloc: Global) -> Result<bool, AllocError> {
+    let jar = with_original(alloc, "a", SIGNED)?;
+    let own = gives_signed(&jar, &jefe(), "a", DATA)?;
+    let other = gives_signed(&jar, &zero_key(), "a", "-")?;
+    Ok(own && other && gives_signed(&jar, &jefe(), "b", "-")?)
+}
+
+fn reads_signed_of_mut(alloc: Global) -> Result<bool, AllocError> {
+    let mut jar = with_original(alloc, "a", SIGNED)?;
+    let found = is_read(jar.signed_mut(&jefe()).get("a"), DATA)?;
+    let cookie = Cookie::new("c", SIGNED);
+    Ok(found && is_read(jar.signed_mut(&jefe()).verify(cookie), DATA)?)
+}
+
+#[test]
+fn signs_as_rfc_4231(rt: HostRuntime) {
+    assert!(rt; signs(rt.alloc()).unwrap_or(false));
+    assert!(rt; signs_an_original(rt.alloc()).unwrap_or(false));
+    assert!(rt; removes_signed(rt.alloc()).unwrap_or(false));
+    assert!(rt; reads_signed(rt.alloc()).unwrap_or(false));
+    assert!(rt; reads_signed_of_mut(rt.alloc()).unwrap_or(false));
+}
+
+// Whether the text is read as no signing, of a cookie and in a jar.
+fn is_no_signing(alloc: Global, text: &'static str) -> Result<bool, AllocError> {
+    let jar = with_original(alloc, "a", text)?;
+    let alone = is_read(jar.signed(&jefe()).verify(Cookie::new("a", text)), "-")?;
+    Ok(alone && gives_signed(&jar, &jefe(), "a", "-")?)
+}
+
+#[test]
+fn reads_signings_alone(rt: HostRuntime) {
+    for text in NO_SIGNINGS.split('\n') {
+        assert!(rt; is_no_signing(rt.alloc(), text).unwrap_or(false), "{text}");
+    }
+}
+
+fn seals(alloc: Global) -> Result<bool, PrivateError> {
+    let mut jar = CookieJar::new(alloc);
+    let mut rng = counter(0, false);
+    let done = jar
+        .private_mut(&zero_key())
+        .add(Cookie::new("", ""), &mut rng);
+    settled(&jar, done, "", "-", SEALED)
+}
+
+fn seals_an_original(alloc: Global) -> Result<bool, PrivateError> {
+    let mut jar = CookieJar::new(alloc);
+    let mut rng = counter(0, false);
+    let done = jar
+        .private_mut(&zero_key())
+        .add_original(Cookie::new("", ""), &mut rng);
+    settled(&jar, done, "", "-", SEALED)
+}
+
+fn removes_sealed(alloc: Global) -> Result<bool, AllocError> {
+    let mut jar = with_original(alloc, "", SEALED)?;
+    let done = jar
+        .private_mut(&zero_key())
+        .remove(Cookie::new("", ""), new_year());
+    settled(&jar, done, "", SEALED, "-")
+}
+
+fn reads_sealed(alloc: Global) -> Result<bool, AllocError> {
+    let jar = with_original(alloc, "", SEALED)?;
+    let own = gives_sealed(&jar, &zero_key(), "", "")?;
+    Ok(own && gives_sealed(&jar, &Key::from(&[1; 64]), "", "-")?)
+}
+
+fn reads_sealed_of_mut(alloc: Global) -> Result<bool, AllocError> {
+    let mut jar = with_original(alloc, "", SEALED)?;
+    let found = is_read(jar.private_mut(&zero_key()).get(""), "")?;
+    let cookie = Cookie::new("", SEALED);
+    Ok(found && is_read(jar.private_mut(&zero_key()).decrypt(cookie), "")?)
+}
+
+#[test]
+fn seals_as_the_specification_of_gcm(rt: HostRuntime) {
+    assert!(rt; seals(rt.alloc()) == Ok(true));
+    assert!(rt; seals_an_original(rt.alloc()) == Ok(true));
+    assert!(rt; removes_sealed(rt.alloc()).unwrap_or(false));
+    assert!(rt; reads_sealed(rt.alloc()).unwrap_or(false));
+    assert!(rt; reads_sealed_of_mut(rt.alloc()).unwrap_or(false));
+}
+
+fn seal(jar: &mut CookieJar, name: &'static str, rng: &mut Counting) -> Result<(), PrivateError> {
+    jar.private_mut(&zero_key())
+        .add(Cookie::new(name, "1"), rng)
+}
+
+fn seal_original(
+    jar: &mut CookieJar,
+    name: &'static str,
+    rng: &mut Counting,
+) -> Result<(), PrivateError> {
+    jar.private_mut(&zero_key())
+        .add_original(Cookie::new(name, "1"), rng)
+}
+
+// A jar with two cookies that were sealed under one fill after the other.
+fn sealed_by_fills(alloc: Global) -> Result<CookieJar, PrivateError> {
+    let mut jar = CookieJar::new(alloc);
+    let mut rng = counter(1, false);
+    seal(&mut jar, "a", &mut rng)?;
+    seal_original(&mut jar, "b", &mut rng)?;
+    Ok(jar)
+}
+
+fn seals_under_fills(alloc: Global) -> Result<bool, PrivateError> {
+    let jar = sealed_by_fills(alloc)?;
+    let first = value(&jar, "a").starts_with("AAECAwQFBgcICQoL");
+    Ok(first && value(&jar, "b").starts_with("DA0ODxAREhMUFRYX"))
+}
+
+fn reads_what_it_sealed(alloc: Global) -> Result<bool, PrivateError> {
+    let jar = sealed_by_fills(alloc)?;
+    let first = gives_sealed(&jar, &zero_key(), "a", "1")?;
+    Ok(first && gives_sealed(&jar, &zero_key(), "b", "1")?)
+}
+
+// Each sealing takes the next twelve bytes.
+#[test]
+fn seals_under_the_bytes_of_a_fill(rt: HostRuntime) {
+    assert!(rt; seals_under_fills(rt.alloc()) == Ok(true));
+    assert!(rt; reads_what_it_sealed(rt.alloc()) == Ok(true));
+}
+
+#[test]
+fn seals_nothing_where_a_fill_fails(rt: HostRuntime) {
+    let mut jar = CookieJar::new(rt.alloc());
+    let mut rng = counter(0, true);
+    assert!(rt; seal(&mut jar, "a", &mut rng) == Err(PrivateError::Rng));
+    assert!(rt; seal_original(&mut jar, "a", &mut rng) == Err(PrivateError::Rng));
+    assert!(rt; value(&jar, "a") == "-" && has_counts(&jar, 0, 0));
+}
+
+// Adds a cookie of this name, with the value that stands under the other.
+fn moves(
+    alloc: Global,
+    jar: &mut CookieJar,
+    from: &str,
+    to: &'static str,
+) -> Result<(), AllocError> {
+    let moved = String::from_str(alloc, value(jar, from))?;
+    let mut cookie = Cookie::named(to);
+    cookie.set_value_owned(moved);
+    jar.add(cookie)
+}
+
+fn seals_the_name(alloc: Global) -> Result<bool, PrivateError> {
+    let mut jar = CookieJar::new(alloc);
+    seal(&mut jar, "a b", &mut counter(1, false))?;
+    moves(alloc, &mut jar, "a b", "a%20b")?;
+    let own = gives_sealed(&jar, &zero_key(), "a b", "1")?;
+    Ok(own && gives_sealed(&jar, &zero_key(), "a%20b", "-")?)
+}
+
+// A sealed value that is moved under the name as it is escaped opens no more.
+#[test]
+fn reads_sealings_of_the_name_alone(rt: HostRuntime) {
+    assert!(rt; seals_the_name(rt.alloc()) == Ok(true));
+}
+
+// Whether the text is read as no sealing, of a cookie and in a jar.
+fn is_no_sealing(alloc: Global, text: &'static str) -> Result<bool, AllocError> {
+    let jar = with_original(alloc, "", text)?;
+    let alone = is_read(jar.private(&zero_key()).decrypt(Cookie::new("", text)), "-")?;
+    Ok(alone && gives_sealed(&jar, &zero_key(), "", "-")?)
+}
+
+#[test]
+fn reads_sealings_alone(rt: HostRuntime) {
+    for text in NO_SEALINGS.split('\n') {
+        assert!(rt; is_no_sealing(rt.alloc(), text).unwrap_or(false), "{text}");
+    }
+}
+
+// Calls with a growth refused at any place, and with ample memory. The first test of a pair accepts
+// want of memory, too; the second shows that there is none with ample memory.
+mod memory {
+    use super::*;
+
+    fn keeps_signed(alloc: Global) -> Result<bool, AllocError> {
+        Ok(
+            signs(alloc)?
+                && signs_an_original(alloc)?
+                && removes_signed(alloc)?
+                && reads_signed(alloc)?,
+        )
+    }
+
+    fn keeps_sealed(alloc: Global) -> Result<bool, PrivateError> {
+        Ok(
+            seals(alloc)?
+                && seals_an_original(alloc)?
+                && removes_sealed(alloc)?
+                && reads_sealed(alloc)?,
+        )
+    }
+
+    #[test]
+    fn signed(rt: HostRuntime) {
+        assert!(rt; keeps_signed(rt.alloc()).unwrap_or(true));
+    }
+
+    #[test]
+    fn signed_with_ample_memory(rt: HostRuntime) {
+        assert!(rt; keeps_signed(rt.alloc()).unwrap_or(false));
+    }
+
+    #[test]
+    fn sealed(rt: HostRuntime) {
+        assert!(rt;
+            matches!(
+                keeps_sealed(rt.alloc()),
+                Ok(true) | Err(PrivateError::OutOfMemory)
+            )
+        );
+    }
+
+    #[test]
+    fn sealed_with_ample_memory(rt: HostRuntime) {
+        assert!(rt; keeps_sealed(rt.alloc()) == Ok(true));
+    }
+}
