@@ -166,7 +166,7 @@ Brings at session = (q : List ℕ) → value_in (record_in (finmap.get session.j
 
 brings : (key host : List ℕ) (rows : List Row) (url : Parts) (at : List ℕ → Option (List ℕ)) (session : Keyed) → secure_host url ≡ Some host → Agrees host rows at → IsOpened key (header_of (given rows url)) session → Brings at session
 brings key host rows url at session secure a opened q =
-    ap value_in (opened.holds.originals q ∙ ap (λ cs. last_in cs q) (cookies_are _ opened.cookies opened.read ∙ header_is host rows url at secure a) ∙ last_found (map bare_of a.cookies) q (apart_bare a.cookies a.apart))
+    ap value_in (opened.holds.originals q ∙ ap (λ cs. last_in cs q) (cookies_are (header_of (given rows url)) opened.cookies opened.read ∙ header_is host rows url at secure a) ∙ last_found (map bare_of a.cookies) q (apart_bare a.cookies a.apart))
     ∙ (found_bare a.cookies q ∙ a.each q)
 
 pub opens : (key host : List ℕ) (rows : List Row) (url : Parts) (site : Site) (session : Keyed) → secure_host url ≡ Some host → SiteAgrees key host rows site → IsOpened key (header_of (given rows url)) session → Shows key session site
