@@ -4,7 +4,7 @@
 
 use crate::print_tests::prints;
 use jiff::SignedDuration;
-use jiff::civil::{DateTime, datetime};
+use jiff::civil::DateTime;
 use publicsuffix::List;
 use std::alloc::{AllocError, Global};
 use std::cmp::Ordering;
@@ -264,12 +264,12 @@ fn asks_a_suffix_list(rt: HostRuntime) -> Result<(), Fail> {
 
 #[test]
 fn sets_expiries(rt: HostRuntime) {
-    let now = datetime(2024, 1, 1, 0, 0, 0, 500);
-    let epoch = datetime(1970, 1, 1, 0, 0, 0, 0);
-    let latest = datetime(9999, 12, 31, 23, 59, 59, 0);
+    let now = DateTime::constant(2024, 1, 1, 0, 0, 0, 500);
+    let epoch = DateTime::constant(1970, 1, 1, 0, 0, 0, 0);
+    let latest = DateTime::constant(9999, 12, 31, 23, 59, 59, 0);
     let max_ages = [
         (0, now, epoch),
-        (10, now, datetime(2024, 1, 1, 0, 0, 10, 500)),
+        (10, now, DateTime::constant(2024, 1, 1, 0, 0, 10, 500)),
         (9223372036854775807, now, latest),
         (9223372036854775808, now, latest),
         (1, DateTime::MAX, latest),
@@ -285,7 +285,7 @@ fn sets_expiries(rt: HostRuntime) {
         (SignedDuration::from_secs(-1), epoch),
         (
             SignedDuration::from_nanos(1),
-            datetime(2024, 1, 1, 0, 0, 0, 501),
+            DateTime::constant(2024, 1, 1, 0, 0, 0, 501),
         ),
         (SignedDuration::MAX, latest),
         (SignedDuration::MIN, epoch),
@@ -309,16 +309,16 @@ fn is_at(expiration: CookieExpiration, moment: DateTime) -> bool {
 
 #[test]
 fn expires_at_its_moment(rt: HostRuntime) {
-    let now = datetime(2024, 1, 1, 0, 0, 0, 0);
+    let now = DateTime::constant(2024, 1, 1, 0, 0, 0, 0);
     let tenth = CookieExpiration::from_max_age(10, now);
-    let before = datetime(2024, 1, 1, 0, 0, 9, 999_999_999);
-    let then = datetime(2024, 1, 1, 0, 0, 10, 0);
-    let after = datetime(2024, 1, 1, 0, 0, 11, 0);
+    let before = DateTime::constant(2024, 1, 1, 0, 0, 9, 999_999_999);
+    let then = DateTime::constant(2024, 1, 1, 0, 0, 10, 0);
+    let after = DateTime::constant(2024, 1, 1, 0, 0, 11, 0);
     assert!(rt; !tenth.is_expired(before) && !tenth.expires_by(&before));
     assert!(rt; tenth.is_expired(then) && tenth.expires_by(&then));
     assert!(rt; tenth.is_expired(after) && tenth.expires_by(&after));
     assert!(rt; !CookieExpiration::SessionEnd.is_expired(after));
-    let later = CookieExpiration::AtUtc(datetime(2024, 1, 1, 0, 0, 10, 999_999_999));
+    let later = CookieExpiration::AtUtc(DateTime::constant(2024, 1, 1, 0, 0, 10, 999_999_999));
     assert!(rt; tenth == later);
     assert!(rt; tenth != CookieExpiration::AtUtc(after));
     assert!(rt; tenth != CookieExpiration::SessionEnd);

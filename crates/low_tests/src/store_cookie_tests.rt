@@ -5,13 +5,13 @@ use cookie_store::{
     Cookie, CookieDomain, CookieError, CookieExpiration, Error, RawCookie, RawCookieParseError,
 };
 use jiff::SignedDuration;
-use jiff::civil::{DateTime, datetime};
+use jiff::civil::DateTime;
 use std::alloc::Global;
 use std::test::Fail;
 use url::Url;
 
 fn now() -> DateTime {
-    datetime(2024, 1, 1, 0, 0, 0, 500)
+    DateTime::constant(2024, 1, 1, 0, 0, 0, 500)
 }
 
 // The outcome of a text at a URL: kind and text of the domain, path and whether an attribute gave
@@ -151,12 +151,12 @@ fn a_secure_cookie_goes_to_this_host(rt: HostRuntime) -> Result<(), Fail> {
 fn ends_at_its_moment(rt: HostRuntime) -> Result<(), Fail> {
     let url = Url::parse(rt.alloc(), "http://example.com/")?;
     let mut cookie = Cookie::parse(rt.alloc(), "a=1; Max-Age=10", &url, now())?;
-    let end = datetime(2024, 1, 1, 0, 0, 10, 500);
+    let end = DateTime::constant(2024, 1, 1, 0, 0, 10, 500);
     assert!(rt; cookie.is_persistent() && cookie.is_expired(end) && cookie.expires_by(&end));
-    assert!(rt; !cookie.is_expired(datetime(2024, 1, 1, 0, 0, 10, 499)));
+    assert!(rt; !cookie.is_expired(DateTime::constant(2024, 1, 1, 0, 0, 10, 499)));
     assert!(rt; cookie.is_expired(DateTime::MAX) && !cookie.is_expired(DateTime::MIN));
     cookie.expire();
-    assert!(rt; cookie.is_expired(datetime(1970, 1, 1, 0, 0, 0, 0)));
+    assert!(rt; cookie.is_expired(DateTime::constant(1970, 1, 1, 0, 0, 0, 0)));
     let session = Cookie::parse(rt.alloc(), "a=1", &url, DateTime::MAX)?;
     assert!(rt; !session.is_persistent() && !session.is_expired(DateTime::MAX));
     Ok(())
@@ -179,9 +179,9 @@ fn max_age_beats_expires(rt: HostRuntime) {
     raw.set_expires(cookie::Expiration::DateTime(DateTime::MIN));
     assert!(rt; is_at(CookieExpiration::from_raw(&raw, now()), DateTime::MIN));
     raw.set_max_age(Some(SignedDuration::from_nanos(1)));
-    let end = datetime(2024, 1, 1, 0, 0, 0, 501);
+    let end = DateTime::constant(2024, 1, 1, 0, 0, 0, 501);
     assert!(rt; is_at(CookieExpiration::from_raw(&raw, now()), end));
-    let latest = datetime(9999, 12, 31, 23, 59, 59, 0);
+    let latest = DateTime::constant(9999, 12, 31, 23, 59, 59, 0);
     assert!(rt; is_at(CookieExpiration::from_raw(&raw, DateTime::MAX), latest));
 }
 

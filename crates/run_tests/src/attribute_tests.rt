@@ -7,7 +7,7 @@ use cookie_run::{
     Client, Command, Delivery, LineEnd, Reading, Session, SessionError, Step, StoreAction, Way,
 };
 use jiff::SignedDuration;
-use jiff::civil::{DateTime, datetime};
+use jiff::civil::DateTime;
 use std::alloc::Global;
 use std::test::Fail;
 use url::Url;
@@ -144,8 +144,8 @@ fn ending(alloc: Global, name: &str, end: DateTime) -> Result<Cookie<'static>, F
 #[test]
 fn refuses_an_empty_name_and_then_a_short_year(rt: HostRuntime) -> Result<(), Fail> {
     let alloc = rt.alloc();
-    let short = datetime(99, 12, 31, 0, 0, 0, 0);
-    let long = datetime(100, 1, 1, 0, 0, 0, 0);
+    let short = DateTime::constant(99, 12, 31, 0, 0, 0, 0);
+    let long = DateTime::constant(100, 1, 1, 0, 0, 0, 0);
     let mut session = Session::open(alloc, b"a=0", zero_key())?;
     assert_eq!(rt;
         session.set(Way::Plain, ending(alloc, "", short)?, &mut zeros()),

@@ -2,17 +2,17 @@
 use cookie::{Cookie, Key};
 use cookie_run::Text;
 use jiff::SignedDuration;
-use jiff::civil::{DateTime, datetime};
+use jiff::civil::DateTime;
 use std::alloc::{AllocError, Global};
 
 /// So many seconds after the beginning of 2024.
 pub fn second(n: i64) -> DateTime {
-    datetime(2024, 1, 1, 0, 0, 0, 0).saturating_add(SignedDuration::from_secs(n))
+    DateTime::constant(2024, 1, 1, 0, 0, 0, 0).saturating_add(SignedDuration::from_secs(n))
 }
 
 /// Where a run begins.
 pub fn beginning() -> DateTime {
-    datetime(1971, 1, 1, 0, 0, 0, 0)
+    DateTime::constant(1971, 1, 1, 0, 0, 0, 0)
 }
 
 /// A cookie of this name and value.

@@ -35,81 +35,80 @@ fn printed_with(
 
 const OPEN: &str = "open\thttps://shop.com/\t2024-01-01T00:00:00Z\n";
 
+// Whether a script ends at a line with the fault of this name, and prints nothing else.
+fn is_faulty(alloc: Global, script: &str, line: u64, name: &str) -> Result<bool, Fail> {
+    let (output, ended) = printed(alloc, script)?;
+    let wanted = format!(in alloc; "line {line}: {name}\n")?;
+    Ok(ended == Ended::Faulty(line) && output.as_slice() == wanted.as_bytes())
+}
+
+// Scripts of one line, and their faults.
+const FAULTS: &str = "fly\t%FF -> Word
+%FF\t%FF -> Word
+restart\t2024-01-01T00:00:00Z -> Word
+set\tplain\t%FF -> Text
+receive\t%FF -> Text
+get\tplain -> Fields
+get\tclear\ta -> Fields
+receive\thttps://shop.com/ -> Fields
+header\t://\t1970-01-01T00:00:00Z -> Url
+header\thttps://shop.com/\t1970-01-01T00:00:00Z -> Moment
+header\thttps://shop.com/\t9999-01-01T00:00:00Z -> Moment
+header\thttps://shop.com/\t2023-02-29T00:00:00Z -> Moment
+header\thttps://shop.com/\t2024-01-01 00:00:00Z -> Moment
+get\tplain\ta -> NoSession
+get\tplain\t -> NoSession";
+
+// Whether the script of a row has the row's fault.
+fn has_fault(alloc: Global, row: &str) -> Result<bool, Fail> {
+    match row.split_once(" -> ") {
+        Some((script, name)) => is_faulty(alloc, script, 1, name),
+        None => Ok(false),
+    }
+}
+
 #[test]
 fn names_the_first_fault(rt: HostRuntime) -> Result<(), Fail> {
-    let cases = [
-        ("fly\t%FF", "line 1: Word\n", 1),
-        ("%FF\t%FF\n", "line 1: Word\n", 1),
-        ("restart\t2024-01-01T00:00:00Z\n", "line 1: Word\n", 1),
-        ("set\tplain\t%FF\n", "line 1: Text\n", 1),
-        ("receive\t%FF\n", "line 1: Text\n", 1),
-        ("get\tplain\n", "line 1: Fields\n", 1),
-        ("get\tclear\ta\n", "line 1: Fields\n", 1),
-        ("receive\thttps://shop.com/\n", "line 1: Fields\n", 1),
-        ("header\t://\t1970-01-01T00:00:00Z\n", "line 1: Url\n", 1),
-        (
-            "header\thttps://shop.com/\t1970-01-01T00:00:00Z\n",
-            "line 1: Moment\n",
-            1,
-        ),
-        (
-            "header\thttps://shop.com/\t9999-01-01T00:00:00Z\n",
-            "line 1: Moment\n",
-            1,
-        ),
-        (
-            "header\thttps://shop.com/\t2023-02-29T00:00:00Z\n",
-            "line 1: Moment\n",
-            1,
-        ),
-        (
-            "header\thttps://shop.com/\t2024-01-01 00:00:00Z\n",
-            "line 1: Moment\n",
-            1,
-        ),
-        ("get\tplain\ta\n", "line 1: NoSession\n", 1),
-        ("\n\n%6Cose\n", "line 3: NoSession\n", 3),
-        ("get\tplain\t\n", "line 1: NoSession\n", 1),
-    ];
-    for (script, wanted, line) in cases {
-        let (output, ended) = printed(rt.alloc(), script)?;
-        assert_eq!(rt; output.as_slice(), wanted.as_bytes(), "{script}");
-        assert_eq!(rt; ended, Ended::Faulty(line), "{script}");
+    for row in FAULTS.split('\n') {
+        assert!(rt; has_fault(rt.alloc(), row)?, "{row}");
     }
     Ok(())
 }
 
 #[test]
+fn counts_empty_lines(rt: HostRuntime) -> Result<(), Fail> {
+    let script = "\n\r\n%6Cose\n";
+    assert!(rt; is_faulty(rt.alloc(), script, 3, "NoSession")?);
+    Ok(())
+}
+
+// Lines in an open session, and their faults.
+const LATER_FAULTS: &str = "set\tplain\ta\t1\t60\t- -> Fields
+set\tplain\t\t1\t-\t- -> EmptyName
+get\tplain\t -> EmptyName
+open\thttps://shop.com/\t2024-01-01T00:00:00Z -> Open
+receive\thttps://evil.com/\t2024-01-01T00:00:00Z -> Open
+header\thttps://shop.com/\t2024-01-01T00:00:00Z -> Open
+deliver\t2023-12-31T23:59:59Z -> Back
+header\thttps://shop.com/\t2023-12-31T23:59:59Z -> Back
+lose\t -> Fields
+fly -> Word";
+
+// Whether the line of a row has the row's fault in an open session.
+fn has_later_fault(alloc: Global, row: &str) -> Result<bool, Fail> {
+    match row.split_once(" -> ") {
+        Some((line, name)) => {
+            let script = format!(in alloc; "{OPEN}{line}\r\n")?;
+            is_faulty(alloc, &script, 2, name)
+        }
+        None => Ok(false),
+    }
+}
+
+#[test]
 fn names_the_fault_of_the_second_line(rt: HostRuntime) -> Result<(), Fail> {
-    let cases = [
-        ("set\tplain\ta\t1\t60\t-", "line 2: Fields\n"),
-        ("set\tplain\t\t1\t-\t-", "line 2: EmptyName\n"),
-        ("get\tplain\t", "line 2: EmptyName\n"),
-        (
-            "open\thttps://shop.com/\t2024-01-01T00:00:00Z\r\n",
-            "line 2: Open\n",
-        ),
-        (
-            "receive\thttps://evil.com/\t2024-01-01T00:00:00Z\n",
-            "line 2: Open\n",
-        ),
-        (
-            "header\thttps://shop.com/\t2024-01-01T00:00:00Z",
-            "line 2: Open\n",
-        ),
-        ("deliver\t2023-12-31T23:59:59Z\n", "line 2: Back\n"),
-        (
-            "header\thttps://shop.com/\t2023-12-31T23:59:59Z\n",
-            "line 2: Back\n",
-        ),
-        ("lose\t\n", "line 2: Fields\n"),
-        ("fly", "line 2: Word\n"),
-    ];
-    for (second, wanted) in cases {
-        let script = format!(in rt.alloc(); "{OPEN}{second}")?;
-        let (output, ended) = printed(rt.alloc(), &script)?;
-        assert_eq!(rt; output.as_slice(), wanted.as_bytes(), "{second}");
-        assert_eq!(rt; ended, Ended::Faulty(2), "{second}");
+    for row in LATER_FAULTS.split('\n') {
+        assert!(rt; has_later_fault(rt.alloc(), row)?, "{row}");
     }
     Ok(())
 }
@@ -124,40 +123,74 @@ header\thttps://shop.com/\t2024-01-01T00:00:01Z\n";
     Ok(())
 }
 
+// Whether a script that goes on so in an open session is whole and prints this.
+fn plays(alloc: Global, rest: &str, wanted: &str) -> Result<bool, Fail> {
+    let script = format!(in alloc; "{OPEN}{rest}")?;
+    let (output, ended) = printed(alloc, &script)?;
+    Ok(ended == Ended::Whole && output.as_slice() == wanted.as_bytes())
+}
+
 #[test]
-fn plays_what_is_delivered_and_forgets_what_is_lost(rt: HostRuntime) -> Result<(), Fail> {
-    let cases = [
-        (
-            "set\tplain\ta\t1\t-\t-\ndeliver\t2024-01-01T00:00:00Z\nopen\thttps://shop.com/x\t2024-01-01T00:00:00Z\nget\tplain\ta\n",
-            "plain\ta\t=1\n",
-        ),
-        (
-            "set\tplain\ta\t1\t-\t-\nlose\nopen\thttps://shop.com/x\t2024-01-01T00:00:01Z\nget\tplain\ta\n",
-            "plain\ta\t-\n",
-        ),
-        (
-            "set\tplain\ta\t\t-\t-\nget\tplain\ta\nlose\nheader\thttps://shop.com/\t2024-01-01T00:00:01Z",
-            "plain\ta\t=\nheader\t\n",
-        ),
-        (
-            "set\tplain\tn%00%1F%7F%20%22%25%3B%3D%C3%A9\tv%0A%0D%3B%2C%22=%E2%82%AC\t-\t-\ndeliver\t2024-01-01T00:00:00Z\nopen\thttps://shop.com/x\t2024-01-01T00:00:00Z\nget\tplain\tn%00%1F%7F%20%22%25%3B%3D%C3%A9\n",
-            "plain\tn%00%1F%7F%20\"%25;=%C3%A9\t=v%0A%0D;,\"=%E2%82%AC\n",
-        ),
-        (
-            "lose\nreceive\thttps://shop.com/\t2024-01-01T00:00:00Z\ta=%09%C3%A9;path=/\t%FF\t=\theader=1\nheader\thttps://shop.com/\t2024-01-01T00:00:00Z\n",
-            "header\ta=%C3%A9\n",
-        ),
-        (
-            "set\tplain\ta\t1\t-\t-\nset\tplain\ta\t2\t-\t-\nset\tplain\tb\t%C3%A9%09\t-\t-\r\nget\tplain\tb\ndeliver\t2024-01-01T00:00:05Z\nopen\thttps://shop.com:444/\t2024-01-01T00:00:05Z\nget\tplain\ta\n",
-            "plain\tb\t=%C3%A9%09\nplain\ta\t=2\n",
-        ),
-    ];
-    for (rest, wanted) in cases {
-        let script = format!(in rt.alloc(); "{OPEN}{rest}")?;
-        let (output, ended) = printed(rt.alloc(), &script)?;
-        assert_eq!(rt; output.as_slice(), wanted.as_bytes(), "{rest}");
-        assert_eq!(rt; ended, Ended::Whole, "{rest}");
-    }
+fn plays_what_is_delivered(rt: HostRuntime) -> Result<(), Fail> {
+    let rest = "set\tplain\ta\t1\t-\t-\n\
+deliver\t2024-01-01T00:00:00Z\n\
+open\thttps://shop.com/x\t2024-01-01T00:00:00Z\n\
+get\tplain\ta\n";
+    assert!(rt; plays(rt.alloc(), rest, "plain\ta\t=1\n")?);
+    Ok(())
+}
+
+#[test]
+fn forgets_what_is_lost(rt: HostRuntime) -> Result<(), Fail> {
+    let rest = "set\tplain\ta\t1\t-\t-\n\
+lose\n\
+open\thttps://shop.com/x\t2024-01-01T00:00:01Z\n\
+get\tplain\ta\n";
+    assert!(rt; plays(rt.alloc(), rest, "plain\ta\t-\n")?);
+    Ok(())
+}
+
+#[test]
+fn tells_an_empty_value_from_none(rt: HostRuntime) -> Result<(), Fail> {
+    let rest = "set\tplain\ta\t\t-\t-\n\
+get\tplain\ta\n\
+lose\n\
+header\thttps://shop.com/\t2024-01-01T00:00:01Z";
+    assert!(rt; plays(rt.alloc(), rest, "plain\ta\t=\nheader\t\n")?);
+    Ok(())
+}
+
+#[test]
+fn reads_fields_that_are_escaped(rt: HostRuntime) -> Result<(), Fail> {
+    let rest = "set\tplain\tn%00%1F%7F%20%22%25%3B%3D%C3%A9\tv%0A%0D%3B%2C%22=%E2%82%AC\t-\t-\n\
+deliver\t2024-01-01T00:00:00Z\n\
+open\thttps://shop.com/x\t2024-01-01T00:00:00Z\n\
+get\tplain\tn%00%1F%7F%20%22%25%3B%3D%C3%A9\n";
+    let wanted = "plain\tn%00%1F%7F%20\"%25;=%C3%A9\t=v%0A%0D;,\"=%E2%82%AC\n";
+    assert!(rt; plays(rt.alloc(), rest, wanted)?);
+    Ok(())
+}
+
+#[test]
+fn takes_lines_that_are_no_text(rt: HostRuntime) -> Result<(), Fail> {
+    let rest = "lose\n\
+receive\thttps://shop.com/\t2024-01-01T00:00:00Z\ta=%09%C3%A9;path=/\t%FF\t=\theader=1\n\
+header\thttps://shop.com/\t2024-01-01T00:00:00Z\n";
+    assert!(rt; plays(rt.alloc(), rest, "header\ta=%C3%A9\n")?);
+    Ok(())
+}
+
+#[test]
+fn reads_what_was_set_last(rt: HostRuntime) -> Result<(), Fail> {
+    let rest = "set\tplain\ta\t1\t-\t-\n\
+set\tplain\ta\t2\t-\t-\n\
+set\tplain\tb\t%C3%A9%09\t-\t-\r\n\
+get\tplain\tb\n\
+deliver\t2024-01-01T00:00:05Z\n\
+open\thttps://shop.com:444/\t2024-01-01T00:00:05Z\n\
+get\tplain\ta\n";
+    let wanted = "plain\tb\t=%C3%A9%09\nplain\ta\t=2\n";
+    assert!(rt; plays(rt.alloc(), rest, wanted)?);
     Ok(())
 }
 

@@ -3,7 +3,7 @@ use crate::fixtures::{cookie, second, zero_key};
 use crate::generators::{failing, zeros};
 use cookie::{Cookie, Expiration};
 use cookie_run::{Session, SessionError, Way};
-use jiff::civil::datetime;
+use jiff::civil::DateTime;
 use std::test::Fail;
 
 #[test]
@@ -79,13 +79,13 @@ fn refuses_a_short_year_and_an_empty_name(rt: HostRuntime) -> Result<(), Fail> {
     let alloc = rt.alloc();
     let mut session = Session::open(alloc, b"", zero_key())?;
     let mut early: Cookie<'static> = cookie(alloc, "a", "1")?;
-    early.set_expires(Expiration::DateTime(datetime(99, 12, 31, 0, 0, 0, 0)));
+    early.set_expires(Expiration::DateTime(DateTime::constant(99, 12, 31, 0, 0, 0, 0)));
     assert_eq!(rt;
         session.set(Way::Plain, early, &mut zeros()),
         Err(SessionError::Year)
     );
     assert_eq!(rt; session.close()?.len(), 0);
-    let year_100 = datetime(100, 12, 31, 0, 0, 0, 0);
+    let year_100 = DateTime::constant(100, 12, 31, 0, 0, 0, 0);
     assert_eq!(rt;
         session.remove(Way::Host, "a", year_100),
         Err(SessionError::Year)
