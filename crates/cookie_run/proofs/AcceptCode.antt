@@ -10,7 +10,8 @@ use Rattle.cookie_run.specs.declared.row.Row.{Row}
 use Rattle.cookie_run.specs.declared.step.LineEnd.{LineEnd}
 use Rattle.cookie_run.specs.declared.step.LineEnd.TheVariants.{Refused, NotText}
 use Rattle.cookie_run.specs.declared.step.CookieError.TheVariants.{NonHttpScheme, Parse}
-use Rattle.cookie_run.specs.Rows.{Accepts, AcceptsAt, stored, secure_host}
+use Rattle.cookie_run.specs.Hosts.{secure_host}
+use Rattle.cookie_run.specs.Rows.{Accepts, AcceptsAt, stored}
 
 pub accept_nowhere : (rows : List Row) (url : Parts) (line : List ℕ) → None ≡ secure_host url → Accepts rows url line (Refused NonHttpScheme) rows
 accept_nowhere rows url line secure = subst (λ h. AcceptsAt h rows line (Refused NonHttpScheme, rows)) secure refl

@@ -9,7 +9,8 @@ use Rattle.cookie_run.specs.Acts.{Act, act_of, acts_of, moments_in, moments_of}
 use Rattle.cookie_run.specs.Moments.{AllFollow, last_of, the_beginning}
 use Rattle.cookie_run.specs.Site.{nothing}
 use Rattle.cookie_run.specs.Stops.{StopsFrom}
-use Rattle.cookie_run.specs.Play.{Plays, ReadsAll, ReadsFront, all_told, IsRunUntil}
+use Rattle.cookie_run.specs.Play.{Plays, ReadsAll, ReadsFront, IsRunUntil}
+use Rattle.cookie_run.specs.Readings.{all_told}
 use Rattle.cookie_run.specs.Headline.{SitesReadTheirOwn, SitesReadTheirOwnUntil}
 use Rattle.cookie_run.proofs.Runs.{acts_more, readings_nil}
 use Rattle.cookie_run.proofs.Shapes.{plays_answer}

@@ -12,7 +12,8 @@ use Rattle.cookie_run.specs.Jar.{ClosesWith}
 use Rattle.cookie_run.specs.Rows.{Takes}
 use Rattle.cookie_run.specs.Site.{Refuses, set_refusal}
 use Rattle.cookie_run.specs.Acts.{Act, Visits, Answers, Arrives, Never}
-use Rattle.cookie_run.specs.Play.{Plays, all_told}
+use Rattle.cookie_run.specs.Play.{Plays}
+use Rattle.cookie_run.specs.Readings.{all_told}
 use Rattle.cookie_run.specs.ScriptLine as spec
 use Rattle.cookie_run.specs.ScriptText.{Now, Closed, Within, Reached, IsAnswered, obeyed, command_refusal, unless_refused, cause_of, readings_text, HasFault, HalfLine, HalfStep, Prints, left_open}
 use Rattle.cookie_run.specs.Standing.{Stands, Halts, IsOpen}

@@ -1,5 +1,5 @@
 -- Lists of cookies, each name once, and the rows that they make.
-use Rattle.std.proofs.Common.{◌≡◌, ◌≢◌, ℕ, Bool, true, false, cond, ◌&&◌, List, [], ◌∷◌, All, sym, refl, ap, ◌∙◌, subst, ⊎_elim, Option, Some}
+use Rattle.std.proofs.Common.{◌≡◌, ◌≢◌, ℕ, Bool, true, false, cond, ◌&&◌, List, [], ◌∷◌, All, sym, refl, ap, ◌∙◌, subst, ⊎_elim, Option, Some, None}
 use Rattle.std.specs.Option.{option_or}
 use Rattle.std.specs.Prelude.{if◌then◌else◌, map}
 use Rattle.std.specs.List.{AllByRecursion}
@@ -9,13 +9,35 @@ use Rattle.percent_encoding.specs.Percent.{percent_encode, percent_decode}
 use Rattle.percent_encoding.proofs.PercentLemmas.{IsByte}
 use Rattle.cookie_text.specs.declared.escape.TheConstants.{PROFILE}
 use Rattle.cookie_text.specs.Record.{Record}
-use Rattle.cookie_run.specs.Jar.{put_record, value_in, found_in, lacks, AreApart}
+use Rattle.cookie.specs.ByName.{AreApart as EntriesApart, value_in as entry_in}
+use Rattle.cookie_run.specs.Put.{put_by}
+use Rattle.cookie_run.specs.Jar.{value_in}
 use Rattle.cookie_run.specs.declared.row.Row.{Row}
 use Rattle.cookie_run.specs.Rows.{has_key_of, put, rows_of}
 use Rattle.cookie_run.proofs.Texts.{same_text, text_is, other_text, texts_differ, turned, some_is_not_none}
 use Rattle.cookie_run.proofs.Escaped.{decoded_escaped}
 use Rattle.cookie_run.proofs.ReadBack.{IsGood}
 use Rattle.cookie_run.proofs.HeaderBack.{row_at}
+
+-- ---- the cookies of a list by their names
+
+-- the cookies with this one in the place of the one of its name, else at the end
+abbrev pub put_record : Record → List Record → List Record
+put_record c cs = put_by (λ a b. bytes_eq a.name b.name) c cs
+
+abbrev pub by_name : List Record → List (List ℕ × Record)
+by_name cs = map (λ c. (c.name, c)) cs
+
+-- the first cookie of a name
+abbrev pub found_in : List Record → List ℕ → Option Record
+found_in cs name = entry_in (by_name cs) name
+
+abbrev pub lacks : List Record → List ℕ → Type 0
+lacks cs name = found_in cs name ≡ None
+
+-- no two cookies of one name
+abbrev pub AreApart : List Record → Type 0
+AreApart cs = EntriesApart (by_name cs)
 
 -- ---- a cookie in a list
 

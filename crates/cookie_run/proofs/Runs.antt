@@ -13,7 +13,8 @@ use Rattle.cookie_run.specs.declared.step.Way.{Way}
 use Rattle.cookie_run.specs.declared.step.Way.TheVariants.{Plain, Host, Secure, Signed, Sealed}
 use Rattle.cookie_run.specs.Jar.{Keyed, IsOpened, IsKeptAs, Sets, sent}
 use Rattle.cookie_run.specs.Stops.{GoesOnBy}
-use Rattle.cookie_run.specs.Play.{Plays, OneStep, CommandTells, Tells, TellsFront, ServesAll, ServesFront, any_nonce, all_told}
+use Rattle.cookie_run.specs.Play.{Plays, OneStep, CommandTells, Tells, TellsFront, ServesAll, ServesFront, any_nonce}
+use Rattle.cookie_run.specs.Readings.{all_told}
 
 pub plays_more : (key : List ℕ) (rows mid new : List Row) (acts : List Act) (told : List (List Reading)) (act : Act) (t : List Reading) → Plays key rows acts told mid → OneStep key mid act t new → Plays key rows (acts ++ act ∷ []) (told ++ t ∷ []) new
 plays_more key rows mid new [] [] act t p s = (new, subst (λ rs. OneStep key rs act t new) p s, refl)

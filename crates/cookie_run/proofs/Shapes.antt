@@ -11,7 +11,7 @@ use Rattle.cookie_run.specs.declared.step.Reading.TheVariants.{Value, Refused}
 use Rattle.cookie_run.specs.declared.step.SessionError.TheVariants.{EmptyName}
 use Rattle.cookie_run.specs.Play.{Plays, OneStep, GetTells, Tells}
 use Rattle.cookie_run.specs.Rows.{header_of, given}
-use Rattle.cookie_run.specs.Headline.{IsAnswer, AnswersTo, AnswersAct, AnswersEach}
+use Rattle.cookie_run.specs.Readings.{IsAnswer, AnswersTo, AnswersAct, AnswersEach}
 
 got : (session : Keyed) (way : Way) (n : List ℕ) (told : List Reading) → GetTells session way n told → (answer : Reading) × (told ≡ answer ∷ []) × IsAnswer way n answer
 got session way [] told t = (Refused EmptyName, t, refl)

@@ -30,7 +30,7 @@ use Rattle.cookie.specs.Reading.{Reads, ReadsFound, IsSigned, IsSealed}
 use Rattle.cookie.specs.Sealing.{IsSealing}
 use Rattle.cookie.specs.Signing.{signing}
 use Rattle.cookie_run.specs.Reading.{kept_cookie}
-use Rattle.cookie_run.specs.Jar.{Keyed, IsOpened, IsKeptAs, ReadsIn, Sets, put_record, sent, value_in, record_in, found_in, last_in, lacks, lines_of, AreApart}
+use Rattle.cookie_run.specs.Jar.{Keyed, IsOpened, IsKeptAs, ReadsIn, Sets, sent, value_in, record_in, last_in, lines_of}
 use Rattle.cookie_run.specs.declared.row.Row.{Row}
 use Rattle.cookie_run.specs.declared.step.Way.{Way}
 use Rattle.cookie_run.specs.declared.step.Way.TheVariants as ways
@@ -38,11 +38,12 @@ use Rattle.cookie_run.specs.declared.step.Command.{Command}
 use Rattle.cookie_run.specs.declared.step.Command.TheVariants.{Set, Get}
 use Rattle.cookie_run.specs.declared.step.Reading.{Reading}
 use Rattle.cookie_run.specs.declared.step.LineEnd.{LineEnd}
-use Rattle.cookie_run.specs.Rows.{put, rows_of, row_of, given, given_at, header_of, Accepts, AcceptsAt, AcceptsAll, stored, secure_host}
+use Rattle.cookie_run.specs.Rows.{put, rows_of, row_of, given, given_at, header_of, Accepts, AcceptsAt, AcceptsAll, stored}
+use Rattle.cookie_run.specs.Hosts.{host_of, secure_host}
 use Rattle.cookie_run.specs.Site.{Site, Entry, Kind, Plain, Signed, Sealed, nothing, kind_of, stored_name, with_entry, set_refusal, is_too_long, IsReadAt, GetOn, CommandOn, CommandsOn, ExchangeOn, after_arrival}
 use Rattle.cookie_run.specs.Stops.{StopsFrom, StopsInside, GoesOnBy}
 use Rattle.cookie_run.specs.declared.step.FaultKind.{FaultKind}
-use Rattle.cookie_run.specs.Headline.{host_of, AnswersBySessions, EachAnswersBySessions, HasNoDeath, SetsNoDeath, IsDeathless, EachDeathless, ReadsOn, EachReadsOn, StopsOn, AllOn, FrontOn}
+use Rattle.cookie_run.specs.Headline.{AnswersBySessions, EachAnswersBySessions, HasNoDeath, SetsNoDeath, IsDeathless, EachDeathless, ReadsOn, EachReadsOn, StopsOn, AllOn, FrontOn}
 use Rattle.cookie_run.specs.Acts.{Act, Visits, Answers, Asks, Arrival, Arrives, Never}
 use Rattle.cookie_run.specs.Play.{Plays, OneStep, GetTells, CommandTells, Tells, Serves, ServesAll, ServesFront, ReadsAll, ReadsFront, Delivers, any_nonce}
 use Rattle.cookie_run.proofs.Texts.{same_text, text_is, some_is_not_none}
@@ -51,7 +52,7 @@ use Rattle.cookie_run.proofs.HeaderCookies.{cookies_of}
 use Rattle.cookie_run.proofs.ReadCode.{cookies_are}
 use Rattle.cookie_run.proofs.HeaderBack.{row_at, cookies_of_header, IsSent, encoded_utf8, line_stored}
 use Rattle.cookie_run.proofs.Sessions.{none_at, get_insert, then_none, kept_readable, each_of_names, of_change}
-use Rattle.cookie_run.proofs.Records.{value_in_put, apart_put, all_put, written, value_moved, put_map, rows_put_own, rows_put_other}
+use Rattle.cookie_run.proofs.Records.{put_record, found_in, lacks, AreApart, value_in_put, apart_put, all_put, written, value_moved, put_map, rows_put_own, rows_put_other}
 
 -- what a line reads as, as the crate of cookies promises it
 abbrev pub ReadingBack : Type 0

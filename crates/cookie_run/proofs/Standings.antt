@@ -9,7 +9,8 @@ use Rattle.cookie_run.specs.declared.step.SessionError.TheVariants as refusals
 use Rattle.cookie_run.specs.Jar.{Keyed, ClosesWith, IsOpened, ReadsIn, Sets}
 use Rattle.cookie_run.specs.Rows.{given, header_of, Takes}
 use Rattle.cookie_run.specs.Acts.{Act, Visits, Answers, Asks, Arrives, Never}
-use Rattle.cookie_run.specs.Play.{Plays, OneStep, CommandTells, GetTells, all_told}
+use Rattle.cookie_run.specs.Play.{Plays, OneStep, CommandTells, GetTells}
+use Rattle.cookie_run.specs.Readings.{all_told}
 use Rattle.cookie_run.specs.ScriptLine as spec
 use Rattle.cookie_run.specs.ScriptText.{Now, Closed, Within, Reached, IsAnswered, obeyed, command_refusal, unless_refused, readings_text, reading_text}
 use Rattle.cookie_run.specs.Standing.{Stands, IsOpen}

@@ -1,29 +1,20 @@
 -- At each request a site reads what its own delivered commands leave. Nothing here knows a row, a
 -- header or a line of a session, nor how a value is signed or sealed.
-use Rattle.std.specs.Prelude.{ℕ, ℤ, ◌+◌, List, [], ◌∷◌, ◌++◌, length, Option, Some, None, ◌≡◌, ◌≢◌, ◌⊎◌, option_map, ⊤}
+use Rattle.std.specs.Prelude.{ℕ, ℤ, ◌+◌, List, [], ◌∷◌, ◌++◌, length, Some, None, ◌≡◌, ◌≢◌, ⊤}
 use Rattle.std.specs.List.{AllByRecursion}
 use Rattle.cookie_text.specs.Record.{Record, moment_of}
-use Rattle.url.specs.Parts.{Parts, nonempty_host}
-use Rattle.url.specs.Host.{host_text}
-use Rattle.cookie_run.specs.Rows.{secure_host}
-use Rattle.cookie_run.specs.Site.{Site, nothing, set_refusal, Refuses, CommandsOn, ExchangeOn}
-use Rattle.cookie_run.specs.declared.step.SessionError.{SessionError}
-use Rattle.cookie_run.specs.declared.step.Way.{Way}
+use Rattle.cookie_run.specs.Hosts.{host_of, secure_host}
+use Rattle.cookie_run.specs.Site.{Site, nothing, CommandsOn, ExchangeOn}
 use Rattle.cookie_run.specs.declared.step.Command.{Command}
 use Rattle.cookie_run.specs.declared.step.Command.TheVariants.{Set, Get}
 use Rattle.cookie_run.specs.declared.step.Reading.{Reading}
-use Rattle.cookie_run.specs.declared.step.Reading.TheVariants.{Value, Refused, Header as ReadHeader}
 use Rattle.cookie_run.specs.declared.step.FaultKind.{FaultKind}
 use Rattle.cookie_run.specs.Acts.{Act, Visits, Answers, Asks, moments_of}
 use Rattle.cookie_run.specs.Moments.{last_of, the_beginning}
+use Rattle.cookie_run.specs.Readings.{all_told, AnswersEach}
 use Rattle.cookie_run.specs.Stops.{StopsFrom}
-use Rattle.cookie_run.specs.Play.{all_told}
 
 -- ---- the premises
-
--- the host of a URL, where it has one
-abbrev pub host_of : Parts → Option (List ℕ)
-host_of url = option_map host_text (nonempty_host url)
 
 -- the host answers by sessions at https URLs, and in no other way
 abbrev pub AnswersBySessions : List ℕ → Act → Type 0
@@ -83,36 +74,7 @@ StopsOn host site kind last (Visits url at commands arrival) old readings =
 StopsOn host site kind last (Answers url lines at) old readings = ⊤
 StopsOn host site kind last (Asks url at) old readings = ⊤
 
--- ---- which readings are of which act, whatever they say
-
--- a set reads nothing where it is accepted, and else its refusal
-abbrev pub IsSetAnswer : Way → Record → List Reading → Type 0
-IsSetAnswer way c told =
-    ((told ≡ []) × (set_refusal way c ≡ None))
-    ⊎ ((error : SessionError) × (told ≡ Refused error ∷ []) × Refuses way c error)
-
-abbrev pub IsAnswer : Way → List ℕ → Reading → Type 0
-IsAnswer way name (Value w n value) = (w ≡ way) × (n ≡ name)
-IsAnswer way name (Refused error) = name ≡ []
-IsAnswer way name (ReadHeader header) = ⊥
-
--- a set reads nothing, or its refusal; a get reads one answer, under its way and name
-abbrev pub AnswersTo : List Command → List Reading → Type 0
-AnswersTo [] told = told ≡ []
-AnswersTo (Set way cookie ∷ cs) told = (first : List Reading) × (later : List Reading) × (told ≡ first ++ later) × IsSetAnswer way cookie.cookie first × AnswersTo cs later
-AnswersTo (Get way name ∷ cs) told = (answer : Reading) × (later : List Reading) × (told ≡ answer ∷ later) × IsAnswer way name answer × AnswersTo cs later
-
--- an exchange reads what answers its commands, other answers nothing, a look at a header that header
-abbrev pub AnswersAct : Act → List Reading → Type 0
-AnswersAct (Visits url at commands arrival) told = AnswersTo commands told
-AnswersAct (Answers url lines at) told = told ≡ []
-AnswersAct (Asks url at) told = (header : List ℕ) × (told ≡ ReadHeader header ∷ [])
-
-abbrev pub AnswersEach : List Act → List (List Reading) → Type 0
-AnswersEach [] [] = ⊤
-AnswersEach (act ∷ acts) (told ∷ later) = AnswersAct act told × AnswersEach acts later
-AnswersEach [] (told ∷ later) = ⊥
-AnswersEach (act ∷ acts) [] = ⊥
+-- ---- the headline
 
 -- THE HEADLINE: for every host that answers by sessions alone and sets nothing with a death, each of
 -- its exchanges reads, in the way it was set, what its own delivered commands before it leave, and

@@ -1,5 +1,5 @@
 -- A session's cookies: what its header brought, and what was set and removed since.
-use Rattle.std.specs.Prelude.{◌≡◌, ℕ, List, [], ◌∷◌, ◌++◌, map, Bool, codes, Option, Some, None, option_map, Result, if◌then◌else◌}
+use Rattle.std.specs.Prelude.{◌≡◌, ℕ, List, [], ◌∷◌, ◌++◌, map, codes, Option, Some, None, option_map, Result, if◌then◌else◌}
 use Rattle.std.specs.Option.{option_or}
 use Rattle.std.specs.List.{AllByRecursion}
 use Rattle.std.specs.Str.{bytes_eq, IsUtf8}
@@ -23,7 +23,6 @@ use Rattle.cookie.specs.Signing.{signing}
 use Rattle.cookie_run.specs.declared.step.Way.{Way}
 use Rattle.cookie_run.specs.declared.step.Way.TheVariants.{Plain, Host, Secure, Signed, Sealed}
 use Rattle.cookie_run.specs.declared.step.SessionError.{SessionError}
-use Rattle.cookie_run.specs.Put.{put_by}
 use Rattle.cookie_run.specs.Reading.{AreCookiesOf}
 use Rattle.cookie_run.specs.Site.{set_refusal, refusal_of}
 
@@ -136,25 +135,3 @@ pub record ClosesWith (jar : Jar) (lines : List (List ℕ)) : Type 0 where
 -- each change is fit to be read back
 abbrev pub IsReadableJar : Jar → Type 0
 IsReadableJar jar = (name : List ℕ) (change : Change) → finmap.get jar.changes name ≡ Some change → IsReadable (cookie_in change).cookie
-
--- ---- rows, as lists of cookies
-
--- the cookies with this one in the place of the one of its name, else at the end
-abbrev pub same_name : Record → Record → Bool
-same_name c d = bytes_eq c.name d.name
-
-abbrev pub put_record : Record → List Record → List Record
-put_record c cs = put_by same_name c cs
-
--- the first cookie of a name
-abbrev pub found_in : List Record → List ℕ → Option Record
-found_in [] name = None
-found_in (c ∷ cs) name = if bytes_eq name c.name then Some c else found_in cs name
-
-abbrev pub lacks : List Record → List ℕ → Type 0
-lacks cs name = found_in cs name ≡ None
-
--- no two cookies of one name
-abbrev pub AreApart : List Record → Type 0
-AreApart [] = Unit {0}
-AreApart (c ∷ cs) = lacks cs c.name × AreApart cs

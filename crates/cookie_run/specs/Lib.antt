@@ -1,5 +1,6 @@
 pub mod Put
 pub mod Reading
+pub mod Hosts
 pub mod Rows
 pub mod Acts
 pub mod Moments
@@ -7,6 +8,7 @@ pub mod Stops
 pub mod Errors
 pub mod Site
 pub mod Jar
+pub mod Readings
 pub mod Play
 pub mod Headline
 pub mod Counted

@@ -17,6 +17,7 @@ use Rattle.cookie_run.specs.declared.step.SessionError.{SessionError}
 use Rattle.cookie_run.specs.declared.step.SessionError.TheVariants.{EmptyName}
 use Rattle.cookie_run.specs.Acts.{Act, Visits, Answers, Asks, Arrival, Arrives, Never, moments_of}
 use Rattle.cookie_run.specs.Moments.{AllFollow, last_of, the_beginning}
+use Rattle.cookie_run.specs.Readings.{all_told}
 use Rattle.cookie_run.specs.Stops.{StopsFrom}
 use Rattle.cookie_run.specs.declared.step.FaultKind.{FaultKind}
 
@@ -86,11 +87,6 @@ Plays key rows [] [] new = new ≡ rows
 Plays key rows (step ∷ steps) (told ∷ later) new = (mid : List Row) × OneStep key rows step told mid × Plays key mid steps later new
 Plays key rows [] (told ∷ later) new = ⊥
 Plays key rows (step ∷ steps) [] new = ⊥
-
--- what all the steps read, in order
-abbrev pub all_told : List (List Reading) → List Reading
-all_told [] = []
-all_told (told ∷ later) = told ++ all_told later
 
 -- what a step reads by all its commands
 abbrev pub ReadsAll : List ℕ → List Row → Act → List Reading → Type 0

@@ -1,14 +1,14 @@
 -- The rows of a client, one flat list: what a `Set-Cookie` line does to them (RFC 6265, section 5.3),
 -- and the `Cookie` header that they give a request (section 5.4).
-use Rattle.std.specs.Prelude.{ℕ, List, [], ◌∷◌, ◌++◌, filter, Bool, ◌&&◌, ◌==◌, length, codes, Option, Some, None, option_map, Result, ◌≡◌, ◌⊎◌, if◌then◌else◌}
+use Rattle.std.specs.Prelude.{ℕ, List, [], ◌∷◌, ◌++◌, filter, Bool, ◌&&◌, ◌==◌, length, Option, Some, None, Result, ◌≡◌, ◌⊎◌, if◌then◌else◌}
 use Rattle.std.specs.List.{list_any}
 use Rattle.std.specs.Str.{bytes_eq, IsUtf8}
-use Rattle.url.specs.Parts.{Parts, nonempty_host}
-use Rattle.url.specs.Host.{host_text}
+use Rattle.url.specs.Parts.{Parts}
 use Rattle.cookie_text.specs.declared.error.ParseError.{ParseError}
 use Rattle.cookie_text.specs.Printing.{stripped}
 use Rattle.cookie_text.specs.Reading.{ReadsPlain}
 use Rattle.cookie_text.specs.Record.{Record, Seen, bare}
+use Rattle.cookie_run.specs.Hosts.{secure_host}
 use Rattle.cookie_run.specs.Put.{put_by}
 use Rattle.cookie_run.specs.Reading.{kept_cookie}
 use Rattle.cookie_run.specs.declared.row.Row.{Row}
@@ -25,10 +25,6 @@ has_key_of row other = bytes_eq row.host other.host && bytes_eq row.name other.n
 -- the rows with this one in the place of the one of its key, else at the end
 abbrev pub put : Row → List Row → List Row
 put row rows = put_by has_key_of row rows
-
--- the host of a secure URL
-abbrev pub secure_host : Parts → Option (List ℕ)
-secure_host url = if bytes_eq url.scheme (codes "https") then option_map host_text (nonempty_host url) else None
 
 -- what is done with a row
 abbrev pub action_of : Row → List Row → StoreAction

@@ -13,7 +13,8 @@ use Rattle.cookie_run.specs.Rows.{given, header_of, Takes}
 use Rattle.cookie_run.specs.Jar.{Keyed, lines_of}
 use Rattle.cookie_run.specs.Site.{set_refusal}
 use Rattle.cookie_run.specs.Acts.{Act, Visits, Answers, Asks, Arrives, Never}
-use Rattle.cookie_run.specs.Play.{Plays, Serves, all_told}
+use Rattle.cookie_run.specs.Play.{Plays, Serves}
+use Rattle.cookie_run.specs.Readings.{all_told}
 use Rattle.cookie_run.specs.ScriptLine.{Line, Opens, Commands, Delivers, Loses, Receives, Heads, read_line}
 use Rattle.cookie_run.specs.declared.row.Row.{Row}
 use Rattle.cookie_run.specs.declared.step.Way.{Way}

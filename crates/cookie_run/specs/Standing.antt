@@ -2,7 +2,8 @@
 use Rattle.std.specs.Prelude.{ℕ, ℤ, List, [], ◌++◌, Option, Some, None, Result, Ok, ◌≡◌, ◌⊎◌}
 use Rattle.std.specs.List.{AllByRecursion}
 use Rattle.cookie_run.specs.Rows.{given, header_of}
-use Rattle.cookie_run.specs.Play.{Plays, Serves, all_told}
+use Rattle.cookie_run.specs.Play.{Plays, Serves}
+use Rattle.cookie_run.specs.Readings.{all_told}
 use Rattle.cookie_run.specs.ScriptLine.{Line}
 use Rattle.cookie_run.specs.ScriptText.{Now, Closed, Within, Reached, IsAnswered, readings_text, HasFault, HalfLine, obeyed}
 use Rattle.cookie_run.specs.declared.row.Row.{Row}

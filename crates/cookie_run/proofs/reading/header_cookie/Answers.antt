@@ -1,7 +1,3 @@
-use Rattle.std.proofs.Common.{sym, ap, subst, Ok}
-use Rattle.std.specs.Str.{IsUtf8}
-use Rattle.cookie_text.specs.Decoding.{ReadsEncoded}
-use Rattle.cookie_text.specs.Record.{Seen}
 use Rattle.cookie_run.proofs.reading.header_cookie.Goals as goal
 
 pub returns-in_default : goal.returns-in_default

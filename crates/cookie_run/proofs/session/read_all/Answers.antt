@@ -1,8 +1,6 @@
-use Rattle.std.proofs.Common.{[], ◌++◌, ◌∙◌, sym, subst, take_all, arith}
-use Rattle.std.specs.Prelude.{map}
+use Rattle.std.proofs.Common.{[], ◌++◌, ◌∙◌}
 use Rattle.std.specs.Option.{option_to_list}
 use Rattle.cookie_run.specs.Jar.{record_in}
-use Rattle.cookie_run.specs.Reading.{Give}
 use Rattle.cookie_run.proofs.ReadCode.{give_none, give_more}
 use Rattle.cookie_run.proofs.Sessions.{holds_none, holds_next, holds_past}
 use Rattle.cookie_run.proofs.session.read_all.Goals as goal

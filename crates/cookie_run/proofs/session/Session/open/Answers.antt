@@ -1,6 +1,3 @@
-use Rattle.std.proofs.Common.{◌∙◌, ap, subst}
-use Rattle.std.specs.Prelude.{map}
-use Rattle.cookie_run.specs.Reading.{Give}
 use Rattle.cookie_run.proofs.Sessions.{opened_readable}
 use Rattle.cookie_run.proofs.session.Session.open.Goals as goal
 

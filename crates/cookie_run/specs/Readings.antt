@@ -1,0 +1,46 @@
+-- Which readings are of which act of a play, whatever they say.
+-- (own: docs/DEFINITIONS.md)
+use Rattle.std.specs.Prelude.{ℕ, List, [], ◌∷◌, ◌++◌, None, ◌≡◌, ◌⊎◌, ⊤}
+use Rattle.cookie_text.specs.Record.{Record}
+use Rattle.cookie_run.specs.Acts.{Act, Visits, Answers, Asks}
+use Rattle.cookie_run.specs.Site.{set_refusal, Refuses}
+use Rattle.cookie_run.specs.declared.step.Command.{Command}
+use Rattle.cookie_run.specs.declared.step.Command.TheVariants.{Set, Get}
+use Rattle.cookie_run.specs.declared.step.Reading.{Reading}
+use Rattle.cookie_run.specs.declared.step.Reading.TheVariants.{Value, Refused, Header}
+use Rattle.cookie_run.specs.declared.step.SessionError.{SessionError}
+use Rattle.cookie_run.specs.declared.step.Way.{Way}
+
+-- what all the acts read, in order
+abbrev pub all_told : List (List Reading) → List Reading
+all_told [] = []
+all_told (told ∷ later) = told ++ all_told later
+
+-- a set reads nothing where it is accepted, and else its refusal
+abbrev pub IsSetAnswer : Way → Record → List Reading → Type 0
+IsSetAnswer way c told =
+    ((told ≡ []) × (set_refusal way c ≡ None))
+    ⊎ ((error : SessionError) × (told ≡ Refused error ∷ []) × Refuses way c error)
+
+abbrev pub IsAnswer : Way → List ℕ → Reading → Type 0
+IsAnswer way name (Value w n value) = (w ≡ way) × (n ≡ name)
+IsAnswer way name (Refused error) = name ≡ []
+IsAnswer way name (Header header) = ⊥
+
+-- a set reads nothing, or its refusal; a get reads one answer, under its way and name
+abbrev pub AnswersTo : List Command → List Reading → Type 0
+AnswersTo [] told = told ≡ []
+AnswersTo (Set way cookie ∷ cs) told = (first : List Reading) × (later : List Reading) × (told ≡ first ++ later) × IsSetAnswer way cookie.cookie first × AnswersTo cs later
+AnswersTo (Get way name ∷ cs) told = (answer : Reading) × (later : List Reading) × (told ≡ answer ∷ later) × IsAnswer way name answer × AnswersTo cs later
+
+-- an exchange reads what answers its commands, other answers nothing, a look at a header that header
+abbrev pub AnswersAct : Act → List Reading → Type 0
+AnswersAct (Visits url at commands arrival) told = AnswersTo commands told
+AnswersAct (Answers url lines at) told = told ≡ []
+AnswersAct (Asks url at) told = (header : List ℕ) × (told ≡ Header header ∷ [])
+
+abbrev pub AnswersEach : List Act → List (List Reading) → Type 0
+AnswersEach [] [] = ⊤
+AnswersEach (act ∷ acts) (told ∷ later) = AnswersAct act told × AnswersEach acts later
+AnswersEach [] (told ∷ later) = ⊥
+AnswersEach (act ∷ acts) [] = ⊥
