@@ -1,4 +1,4 @@
--- Steps as plain values: moments are nanoseconds since 1970, lists are lists.
+-- Steps as plain values: moments are nanoseconds since 1970, lists are lists (own: docs/DEFINITIONS.md).
 use Rattle.std.specs.Prelude.{ℕ, ℤ, List, [], ◌∷◌, ◌++◌, map}
 use Rattle.url.specs.Parts.{Parts}
 use Rattle.jiff.specs.Words.{civil_nanos}

@@ -1,4 +1,4 @@
--- What a counting reader or writer holds.
+-- What a counting reader or writer holds (own: docs/DEFINITIONS.md).
 use Rattle.std.specs.Prelude.{ℕ}
 use Rattle.cookie_run.specs.declared.device.Counting.{Counting}
 

@@ -1,4 +1,4 @@
--- The refusals of a private jar, as a session names them.
+-- The refusals of a private jar, as a session names them (own: docs/DEFINITIONS.md).
 use Rattle.cookie.specs.declared.secure.private_error.PrivateError.{PrivateError}
 use Rattle.cookie.specs.declared.secure.private_error.PrivateError.TheVariants as jars
 use Rattle.cookie_run.specs.declared.step.SessionError.{SessionError}

@@ -1,5 +1,5 @@
--- At each request a site reads what its own delivered commands leave. Nothing here knows a row, a
--- header or a line of a session, nor how a value is signed or sealed.
+-- At each request a site reads what its own delivered commands leave (own: docs/DEFINITIONS.md). Nothing here knows a
+-- row, a header or a line of a session, nor how a value is signed or sealed.
 use Rattle.std.specs.Prelude.{ℕ, ℤ, ◌+◌, List, [], ◌∷◌, ◌++◌, length, Some, None, ◌≡◌, ◌≢◌, ⊤}
 use Rattle.std.specs.List.{AllByRecursion}
 use Rattle.cookie_text.specs.Record.{Record, moment_of}

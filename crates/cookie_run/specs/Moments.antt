@@ -1,4 +1,4 @@
--- The moments of a play: whole seconds of the years 1971 to 9998, which never go back.
+-- The moments of a play: whole seconds of the years 1971 to 9998, which never go back (own: docs/DEFINITIONS.md).
 use Rattle.std.specs.Prelude.{ℕ, ℤ, pos, List, [], ◌∷◌, ◌*◌, ◌≤◌, ◌<◌, ◌≤ℤ◌, ◌<ℤ◌, ◌≡◌, ⊤}
 use Rattle.cookie_run.specs.declared.step.FaultKind.{FaultKind}
 use Rattle.cookie_run.specs.declared.step.FaultKind.TheVariants.{Moment, Back, Memory}

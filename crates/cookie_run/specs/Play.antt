@@ -1,4 +1,5 @@
--- A play on the rows of a client, step by step, whatever the nonces and the order of a session's lines.
+-- A play on the rows of a client, step by step, whatever the nonces and the order of a session's lines
+-- (own: docs/DEFINITIONS.md).
 use Rattle.std.specs.Prelude.{ℕ, ◌+◌, List, [], ◌∷◌, ◌++◌, length, Option, ◌≡◌, ◌⊎◌, ⊤}
 use Rattle.url.specs.Parts.{Parts}
 use Rattle.cookie_text.specs.Record.{Seen}

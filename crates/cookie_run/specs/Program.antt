@@ -1,4 +1,4 @@
--- What the program answers.
+-- What the program answers (own: docs/DEFINITIONS.md).
 use Rattle.std.specs.Prelude.{ℕ, ℤ, pos, List, [], ◌*◌, Option, Some, None, codes, replicate, ◌≡◌, ◌⊎◌}
 use Rattle.cookie.specs.Key.{derived}
 use Rattle.cookie_run.specs.Moments.{second_1971}

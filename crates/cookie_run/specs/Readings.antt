@@ -1,5 +1,4 @@
--- Which readings are of which act of a play, whatever they say.
--- (own: docs/DEFINITIONS.md)
+-- Which readings are of which act of a play, whatever they say (own: docs/DEFINITIONS.md).
 use Rattle.std.specs.Prelude.{ℕ, List, [], ◌∷◌, ◌++◌, None, ◌≡◌, ◌⊎◌, ⊤}
 use Rattle.cookie_text.specs.Record.{Record}
 use Rattle.cookie_run.specs.Acts.{Act, Visits, Answers, Asks}

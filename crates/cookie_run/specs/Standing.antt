@@ -1,4 +1,4 @@
--- Where the code of a run stands, beside the place that the script has reached.
+-- Where the code of a run stands, beside the place that the script has reached (own: docs/DEFINITIONS.md).
 use Rattle.std.specs.Prelude.{ℕ, ℤ, List, [], ◌++◌, Option, Some, None, Result, Ok, ◌≡◌, ◌⊎◌}
 use Rattle.std.specs.List.{AllByRecursion}
 use Rattle.cookie_run.specs.Rows.{given, header_of}

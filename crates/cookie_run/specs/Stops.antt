@@ -1,4 +1,4 @@
--- How a play stops in an act: what is wrong, and how far the act's readings came.
+-- How a play stops in an act: what is wrong, and how far the act's readings came (own: docs/DEFINITIONS.md).
 use Rattle.std.specs.Prelude.{ℤ, List, ◌++◌, ◌≡◌, ◌⊎◌}
 use Rattle.cookie_run.specs.declared.step.Reading.{Reading}
 use Rattle.cookie_run.specs.declared.step.FaultKind.{FaultKind}

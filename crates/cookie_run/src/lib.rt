@@ -9,11 +9,11 @@
 
 pub mod client;
 pub mod device;
-pub mod moment;
+mod moment;
 pub mod play;
-pub mod pour;
+mod pour;
 pub mod program;
-pub mod reading;
+mod reading;
 pub mod row;
 pub mod script;
 pub mod session;

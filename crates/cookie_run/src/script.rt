@@ -1,10 +1,10 @@
 //! Scripts of exchanges: what their lines ask for, their run, and what it prints.
 
-pub mod cause;
+mod cause;
 pub mod ended;
-pub mod field;
-pub mod line;
-pub mod moment;
-pub mod print;
+mod field;
+mod line;
+mod moment;
+mod print;
 pub mod run;
-pub mod visit;
+mod visit;
