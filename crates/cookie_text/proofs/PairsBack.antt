@@ -16,7 +16,7 @@ use Rattle.cookie_text.specs.Pieces.{semicolon, equals, pieces, name_of, text_af
 use Rattle.cookie_text.specs.Reading.{HasAttributes, IsPair, first_piece}
 use Rattle.cookie_text.specs.ReadingBack.{IsNamed, GivesPair, pair_text, joined, Pairwise}
 use Rattle.cookie_text.specs.Record.{Seen, bare}
-use Rattle.cookie_text.specs.Splitting.{cookie_texts, is_some_text}
+use Rattle.cookie_text.specs.Splitting.{Splitting, Way, Encoded, GivesAll, IsOutcome, cookie_texts, is_some_text}
 use Rattle.cookie_text.proofs.PrintedDates.{is_quiet, chars-quiet}
 use Rattle.cookie_text.proofs.PrintedPieces.{IsClean, AreClean, split-joined, IsGraphic, IsPlain, All-IsPlain-encode, trim-graphic}
 use Rattle.cookie_text.proofs.ReadsBack.{bare_has_none, first_joined, same_tail, text_after-pair, is_pair}
@@ -183,3 +183,13 @@ each_back (p ∷ ps) (o ∷ os) h k =
 
 pub pairs_back : (ps : List (List ℕ × List ℕ)) → AreNamed ps → (os : List (Result Seen ParseError)) → Pairwise ReadsEncoded (cookie_texts (joined ps)) os → Pairwise (λ p o. GivesPair p.0 p.1 o) ps os
 pairs_back ps h os k = each_back ps os h (subst (λ ts. Pairwise ReadsEncoded ts os) (cookie_texts-joined ps h) k)
+
+-- all that a splitting by `Encoded` gives is read from what it has left
+all_read : (s : Splitting) (os : List (Result Seen ParseError)) → s.way ≡ Encoded → GivesAll s os → Pairwise ReadsEncoded s.left os
+all_read s [] way all = subst (λ ts. Pairwise ReadsEncoded ts []) (sym all.0) tt
+all_read s (o ∷ os) way all =
+    let read : ReadsEncoded all.1.piece o = subst (λ (w : Way). IsOutcome w all.1.piece o) way all.1.outcome in
+    subst (λ ts. Pairwise ReadsEncoded ts (o ∷ os)) (sym all.1.split) (read, all_read all.0 os (all.1.way ∙ way) all.2)
+
+pub pairs_iterate : (ps : List (List ℕ × List ℕ)) → AreNamed ps → (os : List (Result Seen ParseError)) → GivesAll (record { way = Encoded; left = cookie_texts (joined ps) }) os → Pairwise (λ p o. GivesPair p.0 p.1 o) ps os
+pairs_iterate ps h os all = pairs_back ps h os (all_read (record { way = Encoded; left = cookie_texts (joined ps) }) os refl all)

@@ -1,4 +1,5 @@
--- The attributes of a cookie, and which pieces give one.
+-- The attributes of a cookie, and which pieces give one (RFC 6265, sections 5.2.1 to 5.2.6, and the draft that follows it for
+-- SameSite).
 use Rattle.std.specs.Prelude.{◌≡◌, ℕ, ◌-◌, ◌^◌, ◌<◌, ◌⊎◌, List, ◌∷◌, length, codes, Option, Some, ℤ, pos, min, IsTrue}
 use Rattle.std.specs.Char.{is_ascii_digit}
 use Rattle.std.specs.List.{list_all}

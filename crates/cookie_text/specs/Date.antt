@@ -27,20 +27,20 @@ day_month_year dash s year =
     two_digits s.day ++ dash ++ month_name s.month ++ dash ++ year ++ codes " " ++ clock s
     ++ codes " GMT"
 
--- `Sun, 06 Nov 1994 08:49:37 GMT`
+-- the RFC 1123 date (RFC 9110, section 5.6.7): `Sun, 06 Nov 1994 08:49:37 GMT`
 abbrev pub spaced : ℕ → Stamp → List ℕ → List ℕ
 spaced weekday s year = day_name weekday ++ codes ", " ++ day_month_year (codes " ") s year
 
--- `Sun, 06-Nov-1994 08:49:37 GMT`
+-- own, the first form with dashes: `Sun, 06-Nov-1994 08:49:37 GMT`
 abbrev pub dashed : ℕ → Stamp → List ℕ → List ℕ
 dashed weekday s year = day_name weekday ++ codes ", " ++ day_month_year (codes "-") s year
 
--- `Sunday, 06-Nov-94 08:49:37 GMT`
+-- the RFC 850 date (RFC 9110, section 5.6.7): `Sunday, 06-Nov-94 08:49:37 GMT`
 abbrev pub full_name : ℕ → Stamp → List ℕ → List ℕ
 full_name weekday s year =
     day_name weekday ++ day_name_rest weekday ++ codes ", " ++ day_month_year (codes "-") s year
 
--- `Sun Nov  6 08:49:37 1994`
+-- the asctime date (RFC 9110, section 5.6.7): `Sun Nov  6 08:49:37 1994`
 abbrev pub year_last : ℕ → Stamp → List ℕ → List ℕ → List ℕ
 year_last weekday s day year =
     day_name weekday ++ codes " " ++ month_name s.month ++ codes " " ++ day ++ codes " " ++ clock s

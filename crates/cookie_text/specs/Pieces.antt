@@ -1,4 +1,4 @@
--- How the text of a cookie is cut.
+-- How the text of a cookie is cut (RFC 6265, section 5.2).
 use Rattle.std.specs.Prelude.{ℕ, ◌<◌, ◌==◌, List, length, Option, Some, None, nat_lt, if◌then◌else◌}
 use Rattle.std.specs.List.{slice_split, before_first, after_first, position_or_len}
 use Rattle.std.specs.Str.{trim}

@@ -1,4 +1,4 @@
--- What a text reads as.
+-- What a text reads as (RFC 6265, section 5.2).
 use Rattle.std.specs.Prelude.{◌≡◌, ℕ, Bool, true, List, [], ◌∷◌, ◌++◌, All, Option, Some, pos, ℤ, ◌*ℤ◌, ◌==◌, MatchOption, Result, IfOk, IsOk, IsErrOf, ◌↔◌, ◌<◌, length}
 use Rattle.std.specs.Borrow.{Bor}
 use Rattle.std.specs.List.{before_first}

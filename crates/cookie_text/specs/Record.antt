@@ -1,4 +1,4 @@
--- A cookie as contracts see it.
+-- A cookie as contracts see it (RFC 6265, sections 4.1.1 and 5.2).
 use Rattle.std.specs.Prelude.{◌≡◌, ◌≢◌, ◌⊎◌, ℕ, ◌==◌, Bool, List, [], ◌∷◌, ◌++◌, Option, Some, None, option_map, ℤ, if◌then◌else◌}
 use Rattle.std.specs.Str.{str_to_ascii_lowercase}
 use Rattle.cookie_text.specs.declared.draft.SameSite.{SameSite}

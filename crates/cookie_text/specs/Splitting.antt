@@ -1,4 +1,4 @@
--- Reading several cookies from one text.
+-- Reading several cookies from one text (RFC 6265, section 4.2.1).
 use Rattle.std.specs.Prelude.{◌≡◌, ℕ, Bool, not, List, [], ◌∷◌, Option, Some, None, map, length, ◌==◌, ◌<◌, Result}
 use Rattle.std.specs.List.{filter}
 use Rattle.std.specs.Str.{trim}
@@ -56,3 +56,8 @@ pub record GivesFirst (s : Splitting) (r : Result Seen ParseError) (t : Splittin
 abbrev pub GivesNext : Splitting → Option (Result Seen ParseError) → Splitting → Type 0
 GivesNext s None t = (s.left ≡ []) × (t ≡ s)
 GivesNext s (Some r) t = GivesFirst s r t
+
+-- all that a splitting gives: one call of `next` after another, until there is none
+abbrev pub GivesAll : Splitting → List (Result Seen ParseError) → Type 0
+GivesAll s [] = GivesNext s None s
+GivesAll s (r ∷ rs) = (t : Splitting) × GivesNext s (Some r) t × GivesAll t rs

@@ -10,7 +10,7 @@ ghost use Rattle.cookie_text.specs.Printing.{encoded, is_escaped, shown_text};
 ghost use Rattle.cookie_text.specs.Reading.{ReadsPlain};
 ghost use Rattle.cookie_text.specs.ReadingBack.{GivesPair, IsNamed, Pairwise, ReadsBack, joined};
 ghost use Rattle.cookie_text.specs.Record.{Record, Seen};
-ghost use Rattle.cookie_text.specs.Splitting.{cookie_texts};
+ghost use Rattle.cookie_text.specs.Splitting.{Encoded, GivesAll, cookie_texts};
 ghost use Rattle.cookie_text.specs.declared.expiration.Expiration.TheVariants as ends;
 ghost use Rattle.jiff.specs.Types.{DateTime as Moment};
 ghost use Rattle.std.specs.declared.cmp.Ordering.TheVariants.{Less};
@@ -64,6 +64,16 @@ pub fn joined_pairs_split()
     ensures { (pairs : List (List ℕ × List ℕ)) → All (λ p. IsNamed p.0 p.1) pairs
         → (outcomes : List (Result Seen Refusals))
         → Pairwise ReadsEncoded (cookie_texts (joined pairs)) outcomes
+        → Pairwise (λ p o. GivesPair p.0 p.1 o) pairs outcomes }
+{}
+
+/// What `Cookie::split_parse_encoded` of such texts, joined by `; `, gives in all by
+/// [`crate::SplitCookies::next`]: the same names and values in their order, and no error but want of
+/// memory.
+pub fn joined_pairs_iterate()
+    ensures { (pairs : List (List ℕ × List ℕ)) → All (λ p. IsNamed p.0 p.1) pairs
+        → (outcomes : List (Result Seen Refusals))
+        → GivesAll (record { way = Encoded; left = cookie_texts (joined pairs) }) outcomes
         → Pairwise (λ p o. GivesPair p.0 p.1 o) pairs outcomes }
 {}
 
