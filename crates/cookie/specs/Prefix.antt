@@ -16,6 +16,13 @@ pub record IsClipped (text : List ℕ) (s clipped : Seen) : Type 0 where
 abbrev pub KeepsPair : Seen → Seen → Type 0
 KeepsPair old new = (new.cookie.name ≡ old.cookie.name) × (new.cookie.value ≡ old.cookie.value)
 
+-- the texts of the two prefixes
+abbrev pub host_text : List ℕ
+host_text = codes "__Host-"
+
+abbrev pub secure_text : List ℕ
+secure_text = codes "__Secure-"
+
 -- `__Host-`: `Secure`, the path `/` and no domain
 abbrev pub host : Seen → Seen
 host s = with_domain (with_path (with_secure s (Some true)) (Some (codes "/"))) None

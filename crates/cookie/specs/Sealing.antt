@@ -1,11 +1,15 @@
 -- The text of a sealed value: AES-256-GCM (SP 800-38D) with a nonce of 12 bytes and a tag of 16, the cookie's name as
 -- the additional data, and the base64 of nonce, ciphertext and tag.
-use Rattle.std.specs.Prelude.{◌≡◌, ℕ, List, ◌++◌, length}
+use Rattle.std.specs.Prelude.{◌≡◌, ℕ, List, ◌++◌, length, Bool, ◌&&◌, ◌^◌, ◌-◌, nat_le, nat_lt}
 use Rattle.seal.specs.Gcm.{Sealed}
 use Rattle.cookie_text.specs.Record.{Seen}
 use Rattle.cookie_text.specs.Setting.{with_value}
 use Rattle.cookie.specs.Key.{encryption_half}
 use Rattle.cookie.specs.Base64.{IsBase64}
+
+-- a value of this length can be sealed under a name of this one (SP 800-38D, section 5.2.1.1)
+abbrev pub is_sealable : List ℕ → List ℕ → Bool
+is_sealable name value = nat_le (length value) (2 ^ 36 - 32) && nat_lt (length name) (2 ^ 61)
 
 -- the bytes are nonce, ciphertext and tag of the value, sealed under the half of the key that encrypts
 pub record IsSealedAs (key name value nonce bytes : List ℕ) : Type 0 where

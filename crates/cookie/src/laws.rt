@@ -2,6 +2,7 @@
 //! child jar. Each function changes nothing: its contract is the law.
 
 ghost use Rattle.std.specs.Prelude.{◌≡◌, ℕ, List, length};
+ghost use Rattle.std.specs.Str.{IsUtf8};
 ghost use Rattle.cookie.specs.Key.{encryption_half};
 ghost use Rattle.cookie.specs.Signing.{signing};
 ghost use Rattle.cookie.specs.Sealing.{IsSealing};
@@ -45,3 +46,10 @@ pub fn one_value()
     seal::laws::lengths();
     seal::laws::opening_is_the_converse();
 }
+
+/// The signing of a value in UTF-8 is UTF-8, and so is every sealing: a reader of cookies reads them
+/// as text.
+pub fn texts_are_utf8()
+    ensures signed { (key value : List ℕ) → IsUtf8 value → IsUtf8 (signing key value) }
+    ensures sealed { (key name value text : List ℕ) → IsSealing key name value text → IsUtf8 text }
+{}

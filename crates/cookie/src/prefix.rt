@@ -1,6 +1,6 @@
 //! Prefixes that bind a cookie to its attributes.
 
-ghost use Rattle.std.specs.Prelude.{◌≡◌, ◌≢◌, ℕ, List, ◌++◌, codes, IfOk, IsOk, MatchOption, string_bytes};
+ghost use Rattle.std.specs.Prelude.{◌≡◌, ◌≢◌, ℕ, List, ◌++◌, IfOk, IsOk, MatchOption, string_bytes};
 ghost use Rattle.cookie_text.specs.Record.{Seen};
 ghost use Rattle.cookie.specs.Prefix as spec;
 
@@ -98,7 +98,7 @@ impl Host {
 impl Prefix for Host {
     ghost use Rattle.std.proofs.Common.{refl, ap};
 
-    ghost text = { codes "__Host-" };
+    ghost text = { spec.host_text };
 
     ghost conformed = { spec.host };
 
@@ -135,7 +135,7 @@ impl Secure {
 impl Prefix for Secure {
     ghost use Rattle.std.proofs.Common.{refl, ap};
 
-    ghost text = { codes "__Secure-" };
+    ghost text = { spec.secure_text };
 
     ghost conformed = { spec.secure };
 

@@ -1,6 +1,6 @@
 //! The key of the signed and the private jars.
 
-ghost use Rattle.std.specs.Prelude.{◌≡◌, ◌≤◌, ◌<◌, ◌↔◌, ℕ, List, length, take, IfOk, IfErr, IsOk, IfSome};
+ghost use Rattle.std.specs.Prelude.{◌≡◌, ◌≤◌, ◌<◌, ◌↔◌, ℕ, List, length, take, codes, Some, IfOk, IfErr, IsOk, IfSome};
 ghost use Rattle.rand_core.specs.Stream.{fill_bytes};
 ghost use Rattle.cookie.specs.Key as spec;
 
@@ -152,6 +152,8 @@ impl Key {
 
 /// Prints the word `Key`, and none of its bytes.
 impl Debug for Key {
+    ghost debug_output = { λ _. Some (codes "Key") };
+
     fn fmt<W: Write>(&self, f: &mut Formatter<W>) -> fmt::Result {
         f.write_str("Key")
     }

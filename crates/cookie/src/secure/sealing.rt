@@ -27,7 +27,8 @@ const MAX_NAME_LEN: usize = (1 << 61) - 1;
 /// Whether the standard allows a value and a name of these lengths to be sealed: values of at most
 /// 2^36 - 32 bytes under names of less than 2^61.
 pub fn is_sealable(name: &str, value: &str) -> bool
-    ensures { IsTrue result ↔ IsSealable name.now value.now }
+    ensures lengths { result ≡ spec.is_sealable name.now value.now }
+    ensures sealable { IsTrue result ↔ IsSealable name.now value.now }
 {
     value.len() <= MAX_VALUE_LEN && name.len() <= MAX_NAME_LEN
 }
