@@ -1,6 +1,6 @@
 -- What a session does to its jar.
-use Rattle.std.proofs.Common.{◌≡◌, ℕ, ◌+◌, ◌<◌, Bool, true, false, cond, List, [], ◌∷◌, ◌++◌, length, take, get_or, sym, refl, ap, ◌∙◌, subst, ⊎_elim, arith, Option, Some, None, Result, Ok, Err, OnOk, OnErr, ℤ, pos, negsuc, ◌≤ℤ◌, append-nil, append_assoc}
-use Rattle.std.specs.Prelude.{map, codes, int_lt, IfSome, MatchOption, option_map, ◌==◌}
+use Rattle.std.proofs.Common.{◌≡◌, ℕ, ◌+◌, ◌<◌, Bool, true, false, cond, List, [], ◌∷◌, ◌++◌, length, take, get_or, sym, refl, ap, ◌∙◌, subst, ⊎_elim, arith, Option, Some, None, Result, Ok, Err, OnOk, OnErr, append-nil, append_assoc}
+use Rattle.std.specs.Prelude.{map, codes, IfSome, MatchOption, option_map, ◌==◌}
 use Rattle.std.specs.Int.{int_min}
 use Rattle.std.specs.List.{AllByRecursion}
 use Rattle.std.specs.Option.{option_or, option_to_list}
@@ -11,14 +11,13 @@ use Rattle.std.specs.Ordering.{nat_cmp}
 use Rattle.std.specs.Cmp.Lexicographic.{slice_cmp, texts_ties}
 use Rattle.std.proofs.lemmas.Cmp.{nat_list_cmp_total}
 use Rattle.std.proofs.lemmas.Bool.{cases_Bool, cond-true, cond-false}
-use Rattle.std.proofs.lemmas.Bool.Decides.{nat_tests}
 use Rattle.std.proofs.lemmas.List.Elements.{All-from_recursion}
 use Rattle.jiff.specs.Types.{DateTime}
 use Rattle.jiff_core.specs.DateTime.{civil_nanos}
 use Rattle.jiff_zoned.proofs.SameLemmas.{same_datetime}
 use Rattle.cookie_text.specs.declared.expiration.Expiration.{Expiration}
 use Rattle.cookie_text.specs.declared.expiration.Expiration.TheVariants.{DateTime as At, Session}
-use Rattle.cookie_text.specs.Normal.{IsReadable, IsPiece, HasLongYear}
+use Rattle.cookie_text.specs.Normal.{IsReadable, IsPiece, is_short_year}
 use Rattle.cookie_text.specs.Pieces.{semicolon}
 use Rattle.cookie_text.specs.Record.{Record, Seen, bare, unsliced}
 use Rattle.cookie_text.specs.Setting.{IsKept, MakesRemoval, latest_end}
@@ -31,7 +30,8 @@ use Rattle.cookie_run.specs.declared.step.SessionError.TheVariants.{Year}
 use Rattle.cookie_run.specs.declared.step.Way.{Way}
 use Rattle.cookie_run.specs.declared.step.Way.TheVariants.{Plain, Host, Secure, Signed, Sealed}
 use Rattle.cookie_run.specs.Jar.{Holds, IsKeptAs, IsReadableJar, Keeps, last_in, record_in, sent, taken}
-use Rattle.cookie_run.specs.Site.{set_refusal, refusal_of, is_short_year, then_long, is_too_long}
+use Rattle.cookie.specs.Prefix.{host_text, secure_text}
+use Rattle.cookie_run.specs.Site.{set_refusal, refusal_of, stored_name, then_long, is_too_long}
 use Rattle.cookie_run.proofs.ReadBack.{trim_graphic}
 use Rattle.cookie_run.proofs.Texts.{same_text, text_is, some_is_not_none}
 
@@ -98,21 +98,12 @@ pub named : (n : List ℕ) (end : Option Expiration) → refusal_of n end ≡ No
 named [] end e = absurd (cc)
 named (b ∷ bs) end e = omega arith
 
-long_year : (end : Option Expiration) → is_short_year end ≡ false → IfSome end HasLongYear
-long_year None e = tt
-long_year (Some Session) e = tt
-long_year (Some (At d)) e = int_le_from d.date.year e
-  where
-    int_le_from : (y : ℤ) → int_lt y (pos 100) ≡ false → pos 100 ≤ℤ y
-    int_le_from (pos n) e = record { le = grind (arith, nat_tests) }
-    int_le_from (negsuc n) e = absurd (cc)
-
-lasting : (n : List ℕ) (end : Option Expiration) → refusal_of n end ≡ None → IfSome end HasLongYear
+lasting : (n : List ℕ) (end : Option Expiration) → refusal_of n end ≡ None → is_short_year end ≡ false
 lasting [] end e = absurd (cc)
 lasting (b ∷ bs) end e =
     ⊎_elim
     (λ (s : is_short_year end ≡ true). absurd (some_is_not_none Year (sym (cond-true _ _ _ s) ∙ e)))
-    (λ (s : is_short_year end ≡ false). long_year end s)
+    (λ (s : is_short_year end ≡ false). s)
     (cases_Bool (is_short_year end))
 
 root_piece : IsPiece (codes "/")
@@ -130,8 +121,8 @@ revalued r v h = record { name = h.name; path = h.path; domain = h.domain; expir
 
 pub kept_readable : (May : List ℕ → Type 0) (key : List ℕ) (way : Way) (s kept : Seen) → refusal_of s.cookie.name s.cookie.expires ≡ None → IsKeptAs May key way (sent s) kept → IsReadable kept.cookie
 kept_readable May key Plain s kept e k = subst (λ (x : Seen). IsReadable x.cookie) (sym k) (sent_readable s e)
-kept_readable May key Host s kept e k = subst (λ (x : Seen). IsReadable x.cookie) (sym k) (renamed (sent s).cookie (codes "__Host-" ++ s.cookie.name) (omega arith) (sent_readable s e))
-kept_readable May key Secure s kept e k = subst (λ (x : Seen). IsReadable x.cookie) (sym k) (renamed (sent s).cookie (codes "__Secure-" ++ s.cookie.name) (omega arith) (sent_readable s e))
+kept_readable May key Host s kept e k = subst (λ (x : Seen). IsReadable x.cookie) (sym k) (renamed (sent s).cookie (host_text ++ s.cookie.name) (omega arith) (sent_readable s e))
+kept_readable May key Secure s kept e k = subst (λ (x : Seen). IsReadable x.cookie) (sym k) (renamed (sent s).cookie (secure_text ++ s.cookie.name) (omega arith) (sent_readable s e))
 kept_readable May key Signed s kept e k = subst (λ (x : Seen). IsReadable x.cookie) (sym k) (revalued (sent s).cookie _ (sent_readable s e))
 kept_readable May key Sealed s kept e k = subst (λ (x : Seen). IsReadable x.cookie) (sym k.2.3) (revalued (sent s).cookie k.2.0 (sent_readable s e))
 
@@ -179,7 +170,7 @@ one_end c d r q now hr hq =
 removal_readable : (c r d : Seen) (now : DateTime) (n : List ℕ) → 0 < length c.cookie.name → c.cookie.path ≡ Some (codes "/") → c.cookie.domain ≡ None
     → MakesRemoval c now r → MakesRemoval (unsliced (bare n [])) now d → refusal_of n d.cookie.expires ≡ None → IsReadable r.cookie
 removal_readable c r d now n some path domain hr hd accepted =
-    let ends : IfSome r.cookie.expires HasLongYear = subst (λ (o : Option Expiration). IfSome o HasLongYear) (sym (one_end c (unsliced (bare n [])) r d now hr hd)) (lasting n d.cookie.expires accepted) in
+    let ends : is_short_year r.cookie.expires ≡ false = ap (λ o. is_short_year o) (one_end c (unsliced (bare n [])) r d now hr hd) ∙ lasting n d.cookie.expires accepted in
     let named : r.cookie.name ≡ c.cookie.name = ap (λ (s : Seen). s.cookie.name) hr.2.2 in
     let placed : r.cookie.path ≡ Some (codes "/") = ap (λ (s : Seen). s.cookie.path) hr.2.2 ∙ path in
     let alone : r.cookie.domain ≡ None = ap (λ (s : Seen). s.cookie.domain) hr.2.2 ∙ domain in
@@ -197,13 +188,17 @@ takes_readable c d now n old new None some path domain removes hd accepted all =
 takes_readable c d now n old new (Some x) some path domain removes hd accepted all =
     subst IsReadableJar (sym removes.2) (changed_readable old removes.0.cookie.name (Removed removes.0) all (removal_readable c removes.0 d now n some path domain removes.1 hd accepted))
 
+stored_named : (way : Way) (name : List ℕ) → 0 < length name → 0 < length (stored_name way name)
+stored_named Plain name some = some
+stored_named Host name some = omega arith
+stored_named Secure name some = omega arith
+stored_named Signed name some = some
+stored_named Sealed name some = some
+
 taken_readable : (way : Way) (name : List ℕ) (d : Seen) (now : DateTime) (old new : Jar) → Removes old (taken way name) now new
     → MakesRemoval (unsliced (bare name [])) now d → refusal_of name d.cookie.expires ≡ None → IsReadableJar old → IsReadableJar new
-taken_readable Plain name d now old new removes hd e all = takes_readable (taken Plain name) d now name old new (finmap.get old.originals name) (named name d.cookie.expires e) refl refl removes hd e all
-taken_readable Host name d now old new removes hd e all = takes_readable (taken Host name) d now name old new (finmap.get old.originals (codes "__Host-" ++ name)) (omega arith) refl refl removes hd e all
-taken_readable Secure name d now old new removes hd e all = takes_readable (taken Secure name) d now name old new (finmap.get old.originals (codes "__Secure-" ++ name)) (omega arith) refl refl removes hd e all
-taken_readable Signed name d now old new removes hd e all = takes_readable (taken Signed name) d now name old new (finmap.get old.originals name) (named name d.cookie.expires e) refl refl removes hd e all
-taken_readable Sealed name d now old new removes hd e all = takes_readable (taken Sealed name) d now name old new (finmap.get old.originals name) (named name d.cookie.expires e) refl refl removes hd e all
+taken_readable way name d now old new removes hd e all =
+    takes_readable (taken way name) d now name old new (finmap.get old.originals (stored_name way name)) (stored_named way name (named name d.cookie.expires e)) refl refl removes hd e all
 
 pub remove_readable : {E : Type 0} (r : Result (Unit {0}) E) (way : Way) (name : List ℕ) (d : Seen) (now : DateTime) (old new : Jar) → OnOk r (Removes old (taken way name) now new) → OnErr r (new ≡ old)
     → MakesRemoval (unsliced (bare name [])) now d → refusal_of name d.cookie.expires ≡ None → IsReadableJar old → IsReadableJar new

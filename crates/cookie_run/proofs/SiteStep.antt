@@ -11,8 +11,6 @@ use Rattle.std.proofs.lemmas.Str.{IsUtf8-append, IsUtf8-from_ascii}
 use Rattle.std.proofs.lemmas.Str.Ascii.{IsAscii-from_all}
 use Rattle.std.specs.Cmp.{first_so, second_so}
 use lib.Utf8.{scalar, scalars, encode, encodes, scalar_cases}
-use Rattle.base64.specs.Engines.{standard}
-use Rattle.base64.proofs.EngineFacts.{IsAscii-encode_of}
 use Rattle.percent_encoding.proofs.PercentLemmas.{IsByte}
 use Rattle.jiff_core.specs.Timestamp.{IsDurationNanos}
 use Rattle.url.specs.Parts.{Parts}
@@ -26,6 +24,7 @@ use Rattle.cookie.specs.declared.delta.DeltaCookie.{DeltaCookie as Change}
 use Rattle.cookie.specs.declared.delta.DeltaCookie.TheVariants.{Added, Removed}
 use Rattle.cookie.specs.ByName.{ByName, Lists, AreApart as EntriesApart, value_in as entry_in}
 use Rattle.cookie.specs.Jar.{Jar, cookie_of as cookie_in, delta, overlaid, under_names, view, with_change}
+use Rattle.cookie.specs.Prefix.{host_text, secure_text}
 use Rattle.cookie.specs.Reading.{Reads, ReadsFound, IsSigned, IsSealed}
 use Rattle.cookie.specs.Sealing.{IsSealing}
 use Rattle.cookie.specs.Signing.{signing}
@@ -58,10 +57,13 @@ use Rattle.cookie_run.proofs.Records.{put_record, found_in, lacks, AreApart, val
 abbrev pub ReadingBack : Type 0
 ReadingBack = (r : Record) → IsReadable r → IfSome r.max_age IsDurationNanos → (o : Result Seen ParseError) → ReadsPlain (encoded r) o → ReadsBack r o
 
--- a text is the signing and a sealing of one value at most, as the crate of jars promises it
+-- a text is the signing and a sealing of one value at most, and signings and sealings of texts are texts, as the crate
+-- of jars promises it
 pub record OnlyOne (key : List ℕ) : Type 0 where
   pub signed : (v w : List ℕ) → signing key v ≡ signing key w → v ≡ w
   pub sealed : (name v w text : List ℕ) → IsSealing key name v text → IsSealing key name w text → v ≡ w
+  pub signed_text : (k value : List ℕ) → IsUtf8 value → IsUtf8 (signing k value)
+  pub sealed_text : (k name value text : List ℕ) → IsSealing k name value text → IsUtf8 text
 
 -- the rows of a host are those of its cookies, escaped, each name once
 pub record Agrees (host : List ℕ) (rows : List Row) (at : List ℕ → Option (List ℕ)) : Type 0 where
@@ -270,8 +272,8 @@ sealed_read key q (Some s) (Some e) v read law name h found is = λ kind.
 
 way_read : (key : List ℕ) (session : Keyed) (site : Site) (way : Way) (name : List ℕ) (v : Option (List ℕ)) → OnlyOne key → Shows key session site → ReadsIn session way name v → IsReadAt (kind_of way) (site (stored_name way name)) v
 way_read key session site ways.Plain name v law h reads = plain_read key name (view session.jar name) (site name) v (h.each name) reads
-way_read key session site ways.Host name v law h reads = let n : List ℕ = codes "__Host-" ++ name in plain_read key n (view session.jar n) (site n) v (h.each n) reads
-way_read key session site ways.Secure name v law h reads = let n : List ℕ = codes "__Secure-" ++ name in plain_read key n (view session.jar n) (site n) v (h.each n) reads
+way_read key session site ways.Host name v law h reads = let n : List ℕ = host_text ++ name in plain_read key n (view session.jar n) (site n) v (h.each n) reads
+way_read key session site ways.Secure name v law h reads = let n : List ℕ = secure_text ++ name in plain_read key n (view session.jar n) (site n) v (h.each n) reads
 way_read key session site ways.Signed name v law h reads =
     signed_read key name (view session.jar name) (site name) v reads.0 law (h.each name) (subst (λ (k : List ℕ). ReadsFound (IsSigned k) (view session.jar name) reads.0) h.key_is reads.1) reads.2
 way_read key session site ways.Sealed name v law h reads =
@@ -341,28 +343,28 @@ not_nil : (n : List ℕ) → 0 < length n → n ≢ []
 not_nil [] h e = omega (arith, h)
 not_nil (b ∷ bs) h e = cc
 
--- a prefix is a text, and so is a text in base64
-host_text : IsUtf8 (codes "__Host-")
-host_text = IsUtf8-from_ascii (codes "__Host-") (IsAscii-from_all (codes "__Host-") (All-from_recursion (λ b. b < 128) (codes "__Host-") (omega arith, (omega arith, (omega arith, (omega arith, (omega arith, (omega arith, (omega arith, tt)))))))))
+-- a prefix is a text
+host_utf8 : IsUtf8 host_text
+host_utf8 = IsUtf8-from_ascii host_text (IsAscii-from_all host_text (All-from_recursion (λ b. b < 128) host_text (omega arith, (omega arith, (omega arith, (omega arith, (omega arith, (omega arith, (omega arith, tt)))))))))
 
-secure_text : IsUtf8 (codes "__Secure-")
-secure_text = IsUtf8-from_ascii (codes "__Secure-") (IsAscii-from_all (codes "__Secure-") (All-from_recursion (λ b. b < 128) (codes "__Secure-") (omega arith, (omega arith, (omega arith, (omega arith, (omega arith, (omega arith, (omega arith, (omega arith, (omega arith, tt)))))))))))
+secure_utf8 : IsUtf8 secure_text
+secure_utf8 = IsUtf8-from_ascii secure_text (IsAscii-from_all secure_text (All-from_recursion (λ b. b < 128) secure_text (omega arith, (omega arith, (omega arith, (omega arith, (omega arith, (omega arith, (omega arith, (omega arith, (omega arith, tt)))))))))))
 
 named_text : (way : Way) (name : List ℕ) → IsUtf8 name → IsUtf8 (stored_name way name)
 named_text ways.Plain name h = h
-named_text ways.Host name h = IsUtf8-append (codes "__Host-") name host_text h
-named_text ways.Secure name h = IsUtf8-append (codes "__Secure-") name secure_text h
+named_text ways.Host name h = IsUtf8-append host_text name host_utf8 h
+named_text ways.Secure name h = IsUtf8-append secure_text name secure_utf8 h
 named_text ways.Signed name h = h
 named_text ways.Sealed name h = h
 
-kept_text : (May : List ℕ → Type 0) (key : List ℕ) (way : Way) (s kept : Seen) → IsUtf8 s.cookie.value → IsKeptAs May key way s kept → IsUtf8 kept.cookie.value
-kept_text May key ways.Plain s kept h k = subst (λ (x : Seen). IsUtf8 x.cookie.value) (sym k) h
-kept_text May key ways.Host s kept h k = subst (λ (x : Seen). IsUtf8 x.cookie.value) (sym k) h
-kept_text May key ways.Secure s kept h k = subst (λ (x : Seen). IsUtf8 x.cookie.value) (sym k) h
-kept_text May key ways.Signed s kept h k =
-    subst (λ (x : Seen). IsUtf8 x.cookie.value) (sym k) (IsUtf8-append _ s.cookie.value (IsUtf8-from_ascii _ (IsAscii-encode_of standard _)) h)
-kept_text May key ways.Sealed s kept h k =
-    subst (λ (x : Seen). IsUtf8 x.cookie.value) (sym k.2.3) (subst IsUtf8 (sym k.2.2.2.1) (IsUtf8-from_ascii _ (IsAscii-encode_of standard _)))
+kept_text : {k : List ℕ} (May : List ℕ → Type 0) (key : List ℕ) (way : Way) (s kept : Seen) → OnlyOne k → IsUtf8 s.cookie.value → IsKeptAs May key way s kept → IsUtf8 kept.cookie.value
+kept_text May key ways.Plain s kept law h k = subst (λ (x : Seen). IsUtf8 x.cookie.value) (sym k) h
+kept_text May key ways.Host s kept law h k = subst (λ (x : Seen). IsUtf8 x.cookie.value) (sym k) h
+kept_text May key ways.Secure s kept law h k = subst (λ (x : Seen). IsUtf8 x.cookie.value) (sym k) h
+kept_text May key ways.Signed s kept law h k =
+    subst (λ (x : Seen). IsUtf8 x.cookie.value) (sym k) (law.signed_text key s.cookie.value h)
+kept_text May key ways.Sealed s kept law h k =
+    subst (λ (x : Seen). IsUtf8 x.cookie.value) (sym k.2.3) (law.sealed_text key s.cookie.name s.cookie.value k.2.0 (k.0, k.2.1, k.2.2))
 
 kept_sent : (May : List ℕ → Type 0) (key : List ℕ) (way : Way) (s kept : Seen) → HasNoDeath s.cookie → IsKeptAs May key way (sent s) kept → IsSent kept.cookie
 kept_sent May key ways.Plain s kept h k = subst (λ (x : Seen). IsSent x.cookie) (sym k) (record { path = refl; secure = refl; domain = refl; max_age = h.max_age; expires = h.expires })
@@ -371,11 +373,11 @@ kept_sent May key ways.Secure s kept h k = subst (λ (x : Seen). IsSent x.cookie
 kept_sent May key ways.Signed s kept h k = subst (λ (x : Seen). IsSent x.cookie) (sym k) (record { path = refl; secure = refl; domain = refl; max_age = h.max_age; expires = h.expires })
 kept_sent May key ways.Sealed s kept h k = subst (λ (x : Seen). IsSent x.cookie) (sym k.2.3) (record { path = refl; secure = refl; domain = refl; max_age = h.max_age; expires = h.expires })
 
-kept_closed : (May : List ℕ → Type 0) (key : List ℕ) (way : Way) (s kept : Seen) → IsUtf8 s.cookie.name → IsUtf8 s.cookie.value → set_refusal way s.cookie ≡ None → HasNoDeath s.cookie → IsKeptAs May key way (sent s) kept → IsClosed kept.cookie
-kept_closed May key way s kept name value accepted lives k =
+kept_closed : {k : List ℕ} (May : List ℕ → Type 0) (key : List ℕ) (way : Way) (s kept : Seen) → OnlyOne k → IsUtf8 s.cookie.name → IsUtf8 s.cookie.value → set_refusal way s.cookie ≡ None → HasNoDeath s.cookie → IsKeptAs May key way (sent s) kept → IsClosed kept.cookie
+kept_closed May key way s kept law name value accepted lives k =
     let readable : IsReadable kept.cookie = kept_readable May key way s kept (then_none _ (is_too_long way s.cookie.name s.cookie.value) accepted).0 k in
     let n : IsUtf8 kept.cookie.name = subst IsUtf8 (sym (kept_named May key way (sent s) kept k)) (named_text way s.cookie.name name) in
-    let v : IsUtf8 kept.cookie.value = kept_text May key way (sent s) kept value k in
+    let v : IsUtf8 kept.cookie.value = kept_text May key way (sent s) kept law value k in
     record {
       good = record {
         named = not_nil kept.cookie.name readable.name;
@@ -404,20 +406,20 @@ pub record Closing (at : List ℕ → Option (List ℕ)) (session : Keyed) : Typ
   pub brought : Brings at session
   pub closed : AllClosed session.jar.changes
 
-one_closing : (at : List ℕ → Option (List ℕ)) (old new : Keyed) (c : Command) (told : List Reading) → Closing at old → SetsNoDeath c → CommandTells old c told new → Closing at new
-one_closing at old new (Set way cookie) told h lives (inl t) =
+one_closing : {key : List ℕ} (at : List ℕ → Option (List ℕ)) (old new : Keyed) (c : Command) (told : List Reading) → OnlyOne key → Closing at old → SetsNoDeath c → CommandTells old c told new → Closing at new
+one_closing at old new (Set way cookie) told law h lives (inl t) =
     let kept = t.1.keeps.0 in
-    let is : IsClosed kept.cookie = kept_closed any_nonce old.key way cookie kept t.1.name t.1.value t.1.accepted lives t.1.keeps.1 in
+    let is : IsClosed kept.cookie = kept_closed any_nonce old.key way cookie kept law t.1.name t.1.value t.1.accepted lives t.1.keeps.1 in
     record {
       brought = λ q. ap (λ j. value_in (record_in (finmap.get j.originals q))) t.1.keeps.2 ∙ h.brought q;
       closed = subst (λ (j : Jar). AllClosed j.changes) (sym t.1.keeps.2) (insert_closed old.jar.changes kept.cookie.name (Added kept) h.closed is);
     }
-one_closing at old new (Set way cookie) told h lives (inr t) = subst (Closing at) (sym t.3) h
-one_closing at old new (Get way name) told h lives t = subst (Closing at) (sym t.1) h
+one_closing at old new (Set way cookie) told law h lives (inr t) = subst (Closing at) (sym t.3) h
+one_closing at old new (Get way name) told law h lives t = subst (Closing at) (sym t.1) h
 
-all_closing : (at : List ℕ → Option (List ℕ)) (old new : Keyed) (cs : List Command) (told : List Reading) → Closing at old → AllByRecursion SetsNoDeath cs → Tells old cs told new → Closing at new
-all_closing at old new [] told h lives t = subst (Closing at) (sym t.1) h
-all_closing at old new (c ∷ cs) told h lives t = all_closing at t.2 new cs t.1 (one_closing at old t.2 c t.0 h lives.0 t.3) lives.1 t.4
+all_closing : {key : List ℕ} (at : List ℕ → Option (List ℕ)) (old new : Keyed) (cs : List Command) (told : List Reading) → OnlyOne key → Closing at old → AllByRecursion SetsNoDeath cs → Tells old cs told new → Closing at new
+all_closing at old new [] told law h lives t = subst (Closing at) (sym t.1) h
+all_closing at old new (c ∷ cs) told law h lives t = all_closing at t.2 new cs t.1 law (one_closing at old t.2 c t.0 law h lives.0 t.3) lives.1 t.4
 
 opened_closing : (at : List ℕ → Option (List ℕ)) (session : Keyed) → Brings at session → session.jar.changes ≡ finmap.empty → Closing at session
 opened_closing at session brought none = record {
@@ -558,7 +560,7 @@ pub exchanged : (law : ReadingBack) (key host : List ℕ) (rows new : List Row) 
     → SiteAgrees key host rows site → Serves key (header_of (given rows url)) cs told session → Delivers rows url session.jar arrival new → (after : Site) × ExchangeOn site cs arrival told after × SiteAgrees key host new after
 exchanged law key host rows new url site cs arrival told session one secure lives a serves d =
     let walk = all_follow key serves.0 session site cs told one (opens key host rows url site serves.0 secure a serves.1) serves.2 in
-    let closing = all_closing a.at serves.0 session cs told (opened_closing a.at serves.0 (brings key host rows url a.at serves.0 secure a.agrees serves.1) serves.1.holds.changes) lives serves.2 in
+    let closing = all_closing a.at serves.0 session cs told one (opened_closing a.at serves.0 (brings key host rows url a.at serves.0 secure a.agrees serves.1) serves.1.holds.changes) lives serves.2 in
     (after_arrival arrival site walk.0, (walk.0, walk.1, refl), delivered law key host rows url a.at session site walk.0 arrival new secure a.agrees a.each closing walk.2 d)
 
 -- ---- THE HEADLINE

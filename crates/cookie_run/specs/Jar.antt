@@ -1,6 +1,6 @@
 -- A session's cookies: what its header brought (RFC 6265, section 4.2.1), what was set and removed since, and the
 -- `Set-Cookie` lines of it (section 4.1.1). Names, signings and sealings by way are own: docs/DEFINITIONS.md.
-use Rattle.std.specs.Prelude.{◌≡◌, ℕ, List, [], ◌∷◌, ◌++◌, map, codes, Option, Some, None, option_map, Result, if◌then◌else◌}
+use Rattle.std.specs.Prelude.{◌≡◌, ℕ, List, [], ◌∷◌, map, Option, Some, None, option_map, Result, if◌then◌else◌}
 use Rattle.std.specs.Option.{option_or}
 use Rattle.std.specs.List.{AllByRecursion}
 use Rattle.std.specs.Str.{bytes_eq, IsUtf8}
@@ -17,7 +17,7 @@ use Rattle.cookie.specs.ByName.{Lists}
 use Rattle.cookie.specs.declared.delta.DeltaCookie.{DeltaCookie as Change}
 use Rattle.cookie.specs.declared.delta.DeltaCookie.TheVariants.{Added}
 use Rattle.cookie.specs.Jar.{Jar, cookie_of as cookie_in, view, delta, with_change, under_names, Removes}
-use Rattle.cookie.specs.Prefix.{prefixed, host as as_host}
+use Rattle.cookie.specs.Prefix.{prefixed, host as as_host, host_text, secure_text}
 use Rattle.cookie.specs.Reading.{ReadsFound, IsSigned, IsSealed}
 use Rattle.cookie.specs.Sealing.{SealsAs}
 use Rattle.cookie.specs.Signing.{signing}
@@ -25,7 +25,8 @@ use Rattle.cookie_run.specs.declared.step.Way.{Way}
 use Rattle.cookie_run.specs.declared.step.Way.TheVariants.{Plain, Host, Secure, Signed, Sealed}
 use Rattle.cookie_run.specs.declared.step.SessionError.{SessionError}
 use Rattle.cookie_run.specs.Reading.{AreCookiesOf}
-use Rattle.cookie_run.specs.Site.{set_refusal, refusal_of}
+use Rattle.cookie_run.specs.Site as site
+use Rattle.cookie_run.specs.Site.{Kind, kind_of, stored_name, set_refusal, refusal_of}
 
 -- a session: its key, and its jar
 pub record Keyed : Type 0 where
@@ -60,13 +61,15 @@ pub record IsOpened (key header : List ℕ) (session : Keyed) : Type 0 where
 
 -- ---- getting
 
--- what a session reads of a name in a way
+-- what a session reads of a stored name as a value of this kind
+abbrev pub ReadsAs : Keyed → Kind → List ℕ → Option (List ℕ) → Type 0
+ReadsAs session site.Plain name value = value ≡ value_in (record_in (view session.jar name))
+ReadsAs session site.Signed name value = (read : Option Seen) × ReadsFound (IsSigned session.key) (view session.jar name) read × (value ≡ value_in (record_in read))
+ReadsAs session site.Sealed name value = (read : Option Seen) × ReadsFound (IsSealed session.key) (view session.jar name) read × (value ≡ value_in (record_in read))
+
+-- what it reads of a name in a way
 abbrev pub ReadsIn : Keyed → Way → List ℕ → Option (List ℕ) → Type 0
-ReadsIn session Plain name value = value ≡ value_in (record_in (view session.jar name))
-ReadsIn session Host name value = value ≡ value_in (record_in (view session.jar (codes "__Host-" ++ name)))
-ReadsIn session Secure name value = value ≡ value_in (record_in (view session.jar (codes "__Secure-" ++ name)))
-ReadsIn session Signed name value = (read : Option Seen) × ReadsFound (IsSigned session.key) (view session.jar name) read × (value ≡ value_in (record_in read))
-ReadsIn session Sealed name value = (read : Option Seen) × ReadsFound (IsSealed session.key) (view session.jar name) read × (value ≡ value_in (record_in read))
+ReadsIn session way name value = ReadsAs session (kind_of way) (stored_name way name) value
 
 -- ---- setting
 
@@ -77,8 +80,8 @@ sent s = as_host s
 -- a cookie is kept so in a way, where the nonce of a sealing is one of these
 abbrev pub IsKeptAs : (List ℕ → Type 0) → List ℕ → Way → Seen → Seen → Type 0
 IsKeptAs May key Plain s kept = kept ≡ s
-IsKeptAs May key Host s kept = kept ≡ prefixed (codes "__Host-") s
-IsKeptAs May key Secure s kept = kept ≡ prefixed (codes "__Secure-") s
+IsKeptAs May key Host s kept = kept ≡ prefixed host_text s
+IsKeptAs May key Secure s kept = kept ≡ prefixed secure_text s
 IsKeptAs May key Signed s kept = kept ≡ with_value s (signing key s.cookie.value)
 IsKeptAs May key Sealed s kept = (nonce : List ℕ) × May nonce × SealsAs key nonce s kept
 
@@ -98,11 +101,7 @@ pub record Sets (May : List ℕ → Type 0) (old : Keyed) (way : Way) (s : Seen)
 
 -- the cookie that is taken out
 abbrev pub taken : Way → List ℕ → Seen
-taken Plain name = sent (unsliced (bare name []))
-taken Host name = prefixed (codes "__Host-") (sent (unsliced (bare name [])))
-taken Secure name = prefixed (codes "__Secure-") (sent (unsliced (bare name [])))
-taken Signed name = sent (unsliced (bare name []))
-taken Sealed name = sent (unsliced (bare name []))
+taken way name = sent (unsliced (bare (stored_name way name) []))
 
 -- why a removal of this name at this moment is refused, if it is: its name, or the expiry that it has
 abbrev pub IsRemovalRefusal : List ℕ → DateTime → Option SessionError → Type 0

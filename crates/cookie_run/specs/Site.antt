@@ -1,5 +1,5 @@
 -- A site as its own delivered commands leave it. Nothing here knows a header, a line, a row, a signing or a sealing.
-use Rattle.std.specs.Prelude.{◌≡◌, ◌⊎◌, ℕ, List, [], ◌∷◌, ◌++◌, length, nat_lt, ◌||◌, ◌^◌, ◌-◌, codes, Bool, false, Option, Some, None, pos, int_lt, if◌then◌else◌}
+use Rattle.std.specs.Prelude.{◌≡◌, ◌⊎◌, ℕ, List, [], ◌∷◌, ◌++◌, Bool, false, not, Option, Some, None, if◌then◌else◌}
 use Rattle.std.specs.Str.{bytes_eq}
 use Rattle.cookie_run.specs.declared.step.Way.{Way}
 use Rattle.cookie_run.specs.declared.step.Way.TheVariants as ways
@@ -11,8 +11,10 @@ use Rattle.cookie_run.specs.declared.step.Reading.TheVariants.{Value, Refused}
 use Rattle.cookie_run.specs.declared.step.SessionError.{SessionError}
 use Rattle.cookie_run.specs.declared.step.SessionError.TheVariants.{EmptyName, Year, TooLong, Rng, OutOfMemory}
 use Rattle.cookie_text.specs.declared.expiration.Expiration.{Expiration}
-use Rattle.cookie_text.specs.declared.expiration.Expiration.TheVariants.{DateTime as At, Session}
+use Rattle.cookie_text.specs.Normal.{is_short_year}
 use Rattle.cookie_text.specs.Record.{Record}
+use Rattle.cookie.specs.Prefix.{host_text, secure_text}
+use Rattle.cookie.specs.Sealing.{is_sealable}
 
 -- how a value is kept
 pub data Kind : Type 0 where
@@ -41,8 +43,8 @@ kind_of ways.Sealed = Sealed
 
 abbrev pub stored_name : Way → List ℕ → List ℕ
 stored_name ways.Plain name = name
-stored_name ways.Host name = codes "__Host-" ++ name
-stored_name ways.Secure name = codes "__Secure-" ++ name
+stored_name ways.Host name = host_text ++ name
+stored_name ways.Secure name = secure_text ++ name
 stored_name ways.Signed name = name
 stored_name ways.Sealed name = name
 
@@ -52,24 +54,18 @@ with_entry site name entry = λ other. if bytes_eq other name then Some entry el
 
 -- ---- why a command is refused
 
--- an expiry of a year below 100
-abbrev pub is_short_year : Option Expiration → Bool
-is_short_year (Some (At moment)) = int_lt moment.date.year (pos 100)
-is_short_year (Some Session) = false
-is_short_year None = false
-
--- the name is empty, or the year is short
+-- the name is empty, or the expiry is of a year below 100
 abbrev pub refusal_of : List ℕ → Option Expiration → Option SessionError
 refusal_of [] end = Some EmptyName
 refusal_of (b ∷ bs) end = if is_short_year end then Some Year else None
 
--- lengths that can't be sealed: over 2^36 - 32 bytes of value, or 2^61 bytes or more of name
+-- a value or a name too long to be sealed
 abbrev pub is_too_long : Way → List ℕ → List ℕ → Bool
 is_too_long ways.Plain name value = false
 is_too_long ways.Host name value = false
 is_too_long ways.Secure name value = false
 is_too_long ways.Signed name value = false
-is_too_long ways.Sealed name value = nat_lt (2 ^ 36 - 32) (length value) || nat_lt (2 ^ 61 - 1) (length name)
+is_too_long ways.Sealed name value = not (is_sealable name value)
 
 abbrev pub then_long : Option SessionError → Bool → Option SessionError
 then_long (Some error) long = Some error

@@ -16,7 +16,7 @@ use crate::moment::{beginning, come_to};
 use crate::session::{Session, copy_of};
 use crate::step::{Command, Delivery, Fault, FaultKind, Reading, SessionError, Step, Way};
 use crate::text::Text;
-use cookie::laws::one_value;
+use cookie::laws::{one_value, texts_are_utf8};
 use cookie::{Cookie, Key};
 use cookie_text::laws::encoded_records_read_back;
 use jiff::civil::DateTime;
@@ -53,6 +53,7 @@ pub fn play<R: TryRng>(
 {
     encoded_records_read_back();
     one_value();
+    texts_are_utf8();
     let _ = key.encryption();
     let mut client = Client::new(alloc);
     let mut last = beginning();

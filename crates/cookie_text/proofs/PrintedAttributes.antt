@@ -1,6 +1,7 @@
 -- Each printed attribute reads as what it settles to, and holds no semicolon.
 use Rattle.std.proofs.Common.{◌≡◌, ℕ, suc, ◌<◌, ◌≤◌, ◌≤ℤ◌, ◌^◌, ◌==◌, true, false, not, List, [], ◌∷◌, ◌++◌, length, ℤ, pos, negsuc, refl, inr, arith, codes, lit<}
 use lib.Utf8.{encode}
+use Rattle.std.specs.Prelude.{int_lt}
 use Rattle.std.proofs.lemmas.Bool.{and_parts}
 use Rattle.std.proofs.lemmas.Bool.Decides.{nat_tests}
 use Rattle.std.proofs.lemmas.Fmt.{digits_decimal, decimal_nonempty}
@@ -130,11 +131,11 @@ gives-Expires d y year long = record {
   );
 }
 
-long_year : (z : ℤ) → pos 100 ≤ℤ z → (y : ℕ) × (z ≡ pos y) × (100 ≤ y)
-long_year (pos y) h = (y, refl, omega (arith, signed_arith, h))
-long_year (negsuc n) h = absurd (omega (arith, signed_arith, h))
+long_year : (z : ℤ) → int_lt z (pos 100) ≡ false → (y : ℕ) × (z ≡ pos y) × (100 ≤ y)
+long_year (pos y) h = (y, refl, grind (arith, nat_tests))
+long_year (negsuc n) h = absurd (cc)
 
-pub reads-Expires : (d : DateTime) → pos 100 ≤ℤ d.date.year → ReadsAs (Expires d)
+pub reads-Expires : (d : DateTime) → int_lt d.date.year (pos 100) ≡ false → ReadsAs (Expires d)
 reads-Expires d h =
     let year = long_year d.date.year h in
     record {

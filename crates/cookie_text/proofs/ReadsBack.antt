@@ -13,7 +13,7 @@ use Rattle.cookie_text.specs.declared.expiration.Expiration.{Expiration}
 use Rattle.cookie_text.specs.declared.expiration.Expiration.TheVariants.{DateTime as At}
 use Rattle.cookie_text.specs.declared.draft.SameSite.{SameSite}
 use Rattle.cookie_text.specs.Attribute.{Attribute, HttpOnly, Secure, Partitioned, OfSite, MaxAge, Path, Domain, Expires}
-use Rattle.cookie_text.specs.Normal.{normal, IsReadable, IsPiece, HasLongYear}
+use Rattle.cookie_text.specs.Normal.{normal, IsReadable, IsPiece, is_short_year}
 use Rattle.cookie_text.specs.Pieces.{semicolon, equals, pieces, name_of, text_after}
 use Rattle.cookie_text.specs.Printing.{attributes_of, encoded, encoded_pair, stripped, is_set, prints_secure, whole_seconds}
 use Rattle.cookie_text.specs.Reading.{GivesFlag, GivesSite, GivesAge, GivesPath, GivesDomain, GivesEnd, HasAttributes, IsPair, ReadsPlain, first_piece}
@@ -41,7 +41,7 @@ there_map P Q f (Some a ∷ os) h = (f a h.0, there_map P Q f os h.1)
 -- each attribute that a cookie prints reads as what it settles to
 module _ (r : Record) (readable : IsReadable r) (lasting : IfSome r.max_age IsDurationNanos) where
   ends : (d : DateTime) → r.expires ≡ Some (At d) → ReadsAs (Expires d)
-  ends d e = reads-Expires d (subst (λ o. IfSome o HasLongYear) e readable.expires)
+  ends d e = reads-Expires d (subst (λ o. is_short_year o ≡ false) e readable.expires)
 
   attributes_read : AllThere ReadsAs (attributes_of r)
   attributes_read =

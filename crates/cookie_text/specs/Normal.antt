@@ -1,5 +1,5 @@
--- What a printed cookie reads as.
-use Rattle.std.specs.Prelude.{◌≡◌, ℕ, ◌<◌, Bool, true, false, List, [], ◌∷◌, length, Option, Some, None, option_map, ℤ, pos, negsuc, ◌*ℤ◌, ◌≤ℤ◌, IfSome, All, ◌==◌}
+-- What a printed cookie reads as (RFC 6265, sections 4.1.1 and 5.2).
+use Rattle.std.specs.Prelude.{◌≡◌, ℕ, ◌<◌, Bool, true, false, List, [], ◌∷◌, length, Option, Some, None, option_map, ℤ, pos, negsuc, ◌*ℤ◌, int_lt, IfSome, All, ◌==◌}
 use Rattle.std.proofs.Common.{lit<}
 use Rattle.std.specs.Str.{trim}
 use Rattle.jiff.specs.Types.{DateTime}
@@ -52,14 +52,15 @@ abbrev pub IsDotless : List ℕ → Type 0
 IsDotless [] = Unit {0}
 IsDotless (b ∷ bs) = (b == 46) ≡ false
 
--- of the year 100 or later
-abbrev pub HasLongYear : Expiration → Type 0
-HasLongYear (At d) = pos 100 ≤ℤ d.date.year
-HasLongYear Session = Unit {0}
+-- an expiry of a year below 100
+abbrev pub is_short_year : Option Expiration → Bool
+is_short_year (Some (At d)) = int_lt d.date.year (pos 100)
+is_short_year (Some Session) = false
+is_short_year None = false
 
 -- what reads back
 pub record IsReadable (r : Record) : Type 0 where
   pub name : 0 < length r.name
   pub path : IfSome r.path IsPiece
   pub domain : IfSome (domain_of r) (λ text. IsPiece text × (0 < length text) × IsDotless text)
-  pub expires : IfSome r.expires HasLongYear
+  pub expires : is_short_year r.expires ≡ false

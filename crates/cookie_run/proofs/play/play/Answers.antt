@@ -20,7 +20,13 @@ returns-in-Err-clause-run_until g c =
 pub returns-in-Err-clause-sites_until : goal.returns-in-Err-clause-sites_until
 returns-in-Err-clause-sites_until g c =
     let half = ap length (sym c.encryption.ensures.half) ∙ c.encryption.ensures.len in
-    let one : OnlyOne c.args.key.now = record { signed = c.one_value.ensures.signed c.args.key.now; sealed = λ name v w text. c.one_value.ensures.sealed c.args.key.now name v w text half } in
+    let one : OnlyOne c.args.key.now =
+    record {
+      signed = c.one_value.ensures.signed c.args.key.now;
+      sealed = λ name v w text. c.one_value.ensures.sealed c.args.key.now name v w text half;
+      signed_text = c.texts_are_utf8.ensures.signed;
+      sealed_text = c.texts_are_utf8.ensures.sealed;
+    } in
     sites_until c.encoded_records_read_back.ensures c.args.key.now c.args.steps.now c.loop-i.i c.index-steps-i.result c.loop-i.client c.loop-i.readings.items c.act.new.readings.items (civil_nanos c.loop-i.last) c.in-Err.kind
     one c.loop-i-test.true c.index-steps-i.is c.loop-i.invariant c.in-Err.ensures.err
 
@@ -38,5 +44,11 @@ loop-i-preserved g c =
 pub returns-clause-sites : goal.returns-clause-sites
 returns-clause-sites g c =
     let half = ap length (sym c.encryption.ensures.half) ∙ c.encryption.ensures.len in
-    let one : OnlyOne c.args.key.now = record { signed = c.one_value.ensures.signed c.args.key.now; sealed = λ name v w text. c.one_value.ensures.sealed c.args.key.now name v w text half } in
+    let one : OnlyOne c.args.key.now =
+    record {
+      signed = c.one_value.ensures.signed c.args.key.now;
+      sealed = λ name v w text. c.one_value.ensures.sealed c.args.key.now name v w text half;
+      signed_text = c.texts_are_utf8.ensures.signed;
+      sealed_text = c.texts_are_utf8.ensures.sealed;
+    } in
     sites_all c.encoded_records_read_back.ensures c.args.key.now c.args.steps.now c.loop-i.i c.loop-i.client c.loop-i.readings.items _ one c.loop-i-test.false c.loop-i.invariant
