@@ -25,3 +25,4 @@ pub mod Halting
 pub mod ScriptRun
 pub mod Following
 mod Facts
+mod ScriptFacts
