@@ -26,3 +26,5 @@ pub mod ScriptRun
 pub mod Following
 mod Facts
 mod ScriptFacts
+mod AcceptFacts
+mod VisitFacts
