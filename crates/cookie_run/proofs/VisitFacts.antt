@@ -1,4 +1,4 @@
--- The headline on one visit: what it says of a site that sets a cookie and then reads it.
+-- What requests are given, and what the headline says of a site that sets a cookie and then reads it.
 use Rattle.std.proofs.Common.{◌≡◌, ℕ, List, [], ◌∷◌, ◌++◌, refl, ap, sym, subst, ◌∙◌, inl, inr, Option, Some, None, pos}
 use Rattle.std.specs.Prelude.{codes}
 use Rattle.url.specs.Parts.{Parts}
