@@ -14,4 +14,5 @@ pub mod PrintedAttributes
 pub mod PrintedCookies
 pub mod UniqueLemmas
 pub mod ReadsBack
+pub mod ReadingFacts
 pub mod PairsBack
