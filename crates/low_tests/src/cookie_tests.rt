@@ -1,5 +1,5 @@
 //! What cookie texts are read as, in tables. A row is a text and what comes of it, parted by ` -> `.
-use cookie_text::{Cookie, ParseError, SplitCookies};
+use cookie_text::{Cookie, Expiration, ParseError, SplitCookies};
 use std::alloc::Global;
 use std::process::Abort;
 use std::test::Fail;
@@ -212,6 +212,7 @@ a=1; Domain=x == a=1\n\
 a=1; Domain=..x == a=1; Domain=x\n\
 a=1; Max-Age=1 == a=1; Max-Age=2\n\
 a=1; Max-Age=1 == a=1\n\
+a=1; Expires=Sun Nov  6 08:49:37 1994 == a=1; Expires=Sun Nov  6 08:49:38 1994\n\
 a=1; Expires=Sun Nov  6 08:49:37 1994 == a=1";
 
 // Whether the cookies of both sides of a row are equal, each way.
@@ -222,8 +223,16 @@ fn are_equal(row: &str) -> Result<(bool, bool), ParseError> {
     Ok((left == right, right == left))
 }
 
+// Whether a cookie of the session differs from one of whose end nothing is said.
+fn tells_the_session() -> bool {
+    let mut cookie = Cookie::new("a", "1");
+    cookie.set_expires(Expiration::Session);
+    cookie != Cookie::new("a", "1") && Cookie::new("a", "1") != cookie
+}
+
 #[test]
 fn compares(rt: HostRuntime) {
+    assert!(rt; tells_the_session());
     for row in EQUAL.split('\n') {
         assert!(rt; are_equal(row) == Ok((true, true)), "{row}");
     }

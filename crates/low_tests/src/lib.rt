@@ -12,6 +12,8 @@ mod jar_tests;
 #[cfg(test)]
 mod key_tests;
 #[cfg(test)]
+mod long_tests;
+#[cfg(test)]
 mod memory;
 #[cfg(test)]
 mod parts_tests;

@@ -105,6 +105,15 @@ fn copies_a_builder(alloc: Global) -> Result<bool, AllocError> {
     Ok(builder.clone(alloc)?.build() == placed())
 }
 
+const PLACED: &str = "a=1; Path=/; Domain=x.com";
+
+fn prints(alloc: Global) -> Result<bool, AllocError> {
+    let escaped = Cookie::new("a b", "1;").encoded().to_string(alloc)?;
+    let mut text = String::new(alloc);
+    write!(text, "{}", placed())?;
+    Ok(escaped.as_str() == "a%20b=1%3B" && text.as_str() == PLACED)
+}
+
 // Whether the words are listed that the rules say.
 fn lists(list: &List) -> bool {
     list.is_listed(b"foo.ck") && !list.is_listed(b"ck") && list.is_listed(b"xn--bcher-kva")
@@ -239,6 +248,16 @@ fn builders_are_copied(rt: HostRuntime) {
 #[test]
 fn builders_are_copied_with_ample_memory(rt: HostRuntime) {
     assert!(rt; copies_a_builder(rt.alloc()).unwrap_or(false));
+}
+
+#[test]
+fn prints_a_cookie(rt: HostRuntime) {
+    assert!(rt; prints(rt.alloc()).unwrap_or(true));
+}
+
+#[test]
+fn prints_a_cookie_with_ample_memory(rt: HostRuntime) {
+    assert!(rt; prints(rt.alloc()).unwrap_or(false));
 }
 
 #[test]

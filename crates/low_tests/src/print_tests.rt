@@ -19,7 +19,9 @@ pub fn prints<D: Display>(alloc: Global, shown: &D, wanted: &str) -> bool {
 fn prints_secure(rt: HostRuntime) {
     let alloc = rt.alloc();
     let base = Cookie::new("foo", "bar");
-    let mut cookie = Cookie::build(base).same_site(SameSite::None).build();
+    let builder = Cookie::build(base).same_site(SameSite::None);
+    assert!(rt; prints(alloc, &builder, "foo=bar; SameSite=None; Secure"));
+    let mut cookie = builder.build();
     assert!(rt; prints(alloc, &cookie, "foo=bar; SameSite=None; Secure"));
     cookie.set_secure(Some(false));
     assert!(rt; prints(alloc, &cookie, "foo=bar; SameSite=None"));
@@ -104,6 +106,8 @@ fn prints_escaped_and_stripped(rt: HostRuntime) {
     let both = "my%20name=this%3B%20value%3F";
     assert!(rt; prints(alloc, &cookie.stripped().encoded(), both));
     assert!(rt; prints(alloc, &cookie.encoded().stripped(), both));
+    let accented = Cookie::new("\u{e9}", "1");
+    assert!(rt; prints(alloc, &accented.encoded(), "%C3%A9=1"));
     assert!(rt; prints(alloc, &SameSite::Strict, "Strict"));
 }
 

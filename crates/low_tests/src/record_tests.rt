@@ -37,8 +37,10 @@ fn hands_out_slices(rt: HostRuntime) {
     let alloc = rt.alloc();
     let text = " a = 1 ; Domain=.x.com; Path=/y";
     assert!(rt; is_raw(Cookie::parse(text), "a", "1", "/y", "x.com"));
+    assert!(rt; is_raw(Cookie::parse(" a = 1 "), "a", "1", "-", "-"));
     assert!(rt; is_raw(Cookie::parse("a=1; Domain=..x"), "a", "1", "-", ".x"));
     assert!(rt; is_raw(Cookie::from_str(alloc, text), "-", "-", "-", "-"));
+    assert!(rt; is_raw(Cookie::parse_encoded(alloc, "a=%31"), "-", "-", "-", "-"));
     assert!(rt;
         is_raw(
             Cookie::parse_encoded(alloc, "a=%31; Path=/y"),

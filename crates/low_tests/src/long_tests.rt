@@ -1,0 +1,64 @@
+//! Texts of a hundred thousand bytes and what they are read as.
+use cookie_text::{Cookie, ParseError, SplitCookies};
+use jiff::SignedDuration;
+use std::alloc::{AllocError, Global};
+
+fn is_pair(outcome: Result<Cookie<'_>, ParseError>) -> bool {
+    match outcome {
+        Ok(cookie) => cookie.name_value() == ("a", "1"),
+        Err(_) => false,
+    }
+}
+
+// How many of the outcomes are the pair.
+fn pairs(outcomes: SplitCookies<'_>) -> u32 {
+    let mut count = 0u32;
+    for outcome in outcomes {
+        if is_pair(outcome) {
+            count = count.saturating_add(1);
+        }
+    }
+    count
+}
+
+// Blank pieces alone.
+fn reads_blanks(alloc: Global) -> Result<bool, AllocError> {
+    let text = ";".repeat(alloc, 100_000)?;
+    let refused = matches!(Cookie::parse(text.as_str()), Err(ParseError::MissingPair));
+    Ok(refused && Cookie::split_parse(text.as_str()).next().is_none())
+}
+
+// A cookie and unknown attributes, or as many cookies.
+fn reads_pairs(alloc: Global) -> Result<bool, AllocError> {
+    let text = "a=1;".repeat(alloc, 25_000)?;
+    let one = is_pair(Cookie::parse(text.as_str()));
+    Ok(one && pairs(Cookie::split_parse(text.as_str())) == 25_000)
+}
+
+// A Max-Age past each number of seconds that is kept is the largest of them.
+fn reads_digits(alloc: Global) -> Result<bool, AllocError> {
+    let digits = "9".repeat(alloc, 100_000)?;
+    let text = format!(in alloc; "a=1; Max-Age={digits}")?;
+    match Cookie::parse(text.as_str()) {
+        Ok(cookie) => Ok(cookie.max_age() == Some(SignedDuration::from_secs(i64::MAX))),
+        Err(_) => Ok(false),
+    }
+}
+
+fn reads_escapes(alloc: Global) -> Result<bool, AllocError> {
+    let escapes = "%41".repeat(alloc, 33_334)?;
+    let text = format!(in alloc; "a={escapes}")?;
+    let letters = "A".repeat(alloc, 33_334)?;
+    match Cookie::parse_encoded(alloc, text.as_str()) {
+        Ok(cookie) => Ok(cookie.name_value() == ("a", letters.as_str())),
+        Err(_) => Ok(false),
+    }
+}
+
+#[test]
+fn reads_long_texts(rt: HostRuntime) {
+    assert!(rt; reads_blanks(rt.alloc()) == Ok(true));
+    assert!(rt; reads_pairs(rt.alloc()) == Ok(true));
+    assert!(rt; reads_digits(rt.alloc()) == Ok(true));
+    assert!(rt; reads_escapes(rt.alloc()) == Ok(true));
+}
