@@ -1,7 +1,8 @@
 //! Child jars that sign or seal values.
 use crate::jar_tests::{has_counts, is_read, new_year, settled, value, with_original};
 use crate::key_tests::{
-    Counting, DATA, NO_SEALINGS, NO_SIGNINGS, SEALED, SIGNED, counter, jefe, zero_key,
+    Counting, DATA, NO_SEALINGS, NO_SIGNINGS, SEALED, SEALED_LETTERS, SIGNED, SIGNED_WITH_PLUS,
+    counter, jefe, zero_key,
 };
 use cookie::{Cookie, CookieJar, Key, PrivateError};
 use std::alloc::{AllocError, Global};
@@ -48,6 +49,15 @@ fn reads_signed_of_mut(alloc: Global) -> Result<bool, AllocError> {
     Ok(found && is_read(jar.signed_mut(&jefe()).verify(cookie), DATA)?)
 }
 
+fn verifies(alloc: Global) -> Result<bool, AllocError> {
+    let jar = CookieJar::new(alloc);
+    is_read(
+        jar.signed(&jefe())
+            .verify(Cookie::new("b", SIGNED_WITH_PLUS)),
+        "a",
+    )
+}
+
 #[test]
 fn signs_as_rfc_4231(rt: HostRuntime) {
     assert!(rt; signs(rt.alloc()).unwrap_or(false));
@@ -55,6 +65,7 @@ fn signs_as_rfc_4231(rt: HostRuntime) {
     assert!(rt; removes_signed(rt.alloc()).unwrap_or(false));
     assert!(rt; reads_signed(rt.alloc()).unwrap_or(false));
     assert!(rt; reads_signed_of_mut(rt.alloc()).unwrap_or(false));
+    assert!(rt; verifies(rt.alloc()).unwrap_or(false));
 }
 
 // Whether the text is read as no signing, of a cookie and in a jar.
@@ -110,6 +121,15 @@ fn reads_sealed_of_mut(alloc: Global) -> Result<bool, AllocError> {
     Ok(found && is_read(jar.private_mut(&zero_key()).decrypt(cookie), "")?)
 }
 
+fn decrypts(alloc: Global) -> Result<bool, AllocError> {
+    let jar = CookieJar::new(alloc);
+    is_read(
+        jar.private(&zero_key())
+            .decrypt(Cookie::new("", SEALED_LETTERS)),
+        "abc",
+    )
+}
+
 #[test]
 fn seals_as_the_specification_of_gcm(rt: HostRuntime) {
     assert!(rt; seals(rt.alloc()) == Ok(true));
@@ -117,6 +137,7 @@ fn seals_as_the_specification_of_gcm(rt: HostRuntime) {
     assert!(rt; removes_sealed(rt.alloc()).unwrap_or(false));
     assert!(rt; reads_sealed(rt.alloc()).unwrap_or(false));
     assert!(rt; reads_sealed_of_mut(rt.alloc()).unwrap_or(false));
+    assert!(rt; decrypts(rt.alloc()).unwrap_or(false));
 }
 
 fn seal(jar: &mut CookieJar, name: &'static str, rng: &mut Counting) -> Result<(), PrivateError> {
@@ -154,10 +175,21 @@ fn reads_what_it_sealed(alloc: Global) -> Result<bool, PrivateError> {
     Ok(first && gives_sealed(&jar, &zero_key(), "b", "1")?)
 }
 
+// What two additions in a row leave, the tags by another program.
+fn adds_under_fills(alloc: Global) -> Result<bool, PrivateError> {
+    let mut jar = CookieJar::new(alloc);
+    let mut rng = counter(1, false);
+    seal(&mut jar, "a", &mut rng)?;
+    seal(&mut jar, "b", &mut rng)?;
+    let first = value(&jar, "a") == "AAECAwQFBgcICQoLuVLbNduDJNyTidDWHMaQS5A=";
+    Ok(first && value(&jar, "b") == "DA0ODxAREhMUFRYXO2dZhm82pLGHbkCLNJ1xy2s=")
+}
+
 // Each sealing takes the next twelve bytes.
 #[test]
 fn seals_under_the_bytes_of_a_fill(rt: HostRuntime) {
     assert!(rt; seals_under_fills(rt.alloc()) == Ok(true));
+    assert!(rt; adds_under_fills(rt.alloc()) == Ok(true));
     assert!(rt; reads_what_it_sealed(rt.alloc()) == Ok(true));
 }
 
@@ -170,6 +202,17 @@ fn seals_nothing_where_a_fill_fails(rt: HostRuntime) {
     assert!(rt; value(&jar, "a") == "-" && has_counts(&jar, 0, 0));
 }
 
+// A cookie with a copy of the value.
+fn with_copy(
+    alloc: Global,
+    name: &'static str,
+    value: &str,
+) -> Result<Cookie<'static>, AllocError> {
+    let mut cookie = Cookie::named(name);
+    cookie.set_value_owned(String::from_str(alloc, value)?);
+    Ok(cookie)
+}
+
 // Adds a cookie of this name, with the value that stands under the other.
 fn moves(
     alloc: Global,
@@ -177,9 +220,7 @@ fn moves(
     from: &str,
     to: &'static str,
 ) -> Result<(), AllocError> {
-    let moved = String::from_str(alloc, value(jar, from))?;
-    let mut cookie = Cookie::named(to);
-    cookie.set_value_owned(moved);
+    let cookie = with_copy(alloc, to, value(jar, from))?;
     jar.add(cookie)
 }
 
@@ -221,7 +262,9 @@ mod memory {
             signs(alloc)?
                 && signs_an_original(alloc)?
                 && removes_signed(alloc)?
-                && reads_signed(alloc)?,
+                && reads_signed(alloc)?
+                && reads_signed_of_mut(alloc)?
+                && verifies(alloc)?,
         )
     }
 
@@ -230,7 +273,9 @@ mod memory {
             seals(alloc)?
                 && seals_an_original(alloc)?
                 && removes_sealed(alloc)?
-                && reads_sealed(alloc)?,
+                && reads_sealed(alloc)?
+                && reads_sealed_of_mut(alloc)?
+                && decrypts(alloc)?,
         )
     }
 

@@ -18,8 +18,12 @@ pub fn value<'j>(jar: &'j CookieJar, name: &str) -> &'j str {
     }
 }
 
+fn is_value(jar: &CookieJar, name: &str, wanted: &str) -> bool {
+    value(jar, name) == wanted
+}
+
 fn are_values(jar: &CookieJar, a: &str, b: &str, c: &str) -> bool {
-    value(jar, "a") == a && value(jar, "b") == b && value(jar, "c") == c
+    is_value(jar, "a", a) && is_value(jar, "b", b) && is_value(jar, "c", c)
 }
 
 // How many cookies the view has.

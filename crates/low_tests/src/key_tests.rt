@@ -18,6 +18,13 @@ pub const SIGNED: &str = "W9zBRr9gdU5qBCQmCJV1x1oAPwidJzmDnexYuWTsOEM=what do ya
 
 pub const SEALED: &str = "AAAAAAAAAAAAAAAAUw+K+8dFNrmpY7TxxMtziw==";
 
+// Texts of other values, their codes and tags by another program.
+pub const SIGNED_WITH_PLUS: &str = "cf7GwRzo5WgzJsCz2abkW+4ROzKrwrj7HejiwS9geyw=a";
+
+pub const SIGNED_WITH_SLASH: &str = "q817DR/AHkRqimyCXiTNBNvJflSJv4EBuqwBniw9Tbg=1";
+
+pub const SEALED_LETTERS: &str = "AAAAAAAAAAAAAAAAr8UjVBCe9lovXMuz8FIJeBTfPA==";
+
 // A fill failed.
 #[derive(Debug, Drop)]
 pub struct Failed;
@@ -140,6 +147,7 @@ fn keys_are_generated_by_one_fill(rt: HostRuntime) {
     let key = Key::try_generate(&mut rng);
     assert!(rt; key.is_some_and(|key| counts_up(&key)));
     assert!(rt; rng.next == 64);
+    assert!(rt; Key::try_generate(&mut counter(0, false)).is_some_and(|key| key == zero_key()));
     assert!(rt; Key::try_generate(&mut counter(0, true)).is_none());
     let key = Key::generate(&mut ChaCha20Rng::from_seed([0; 32]));
     assert!(rt; is_key(&key, CHACHA_BLOCK));
@@ -164,7 +172,7 @@ fn prints_no_byte_of_a_key(rt: HostRuntime) {
 }
 
 // One character changed, of the code or of the value; padding dropped; bits left over behind the
-// code's last byte; too short; cut inside a character; none.
+// code's last byte; too short; cut inside a character; the URL alphabet; none.
 pub const NO_SIGNINGS: &str =
     "X9zBRr9gdU5qBCQmCJV1x1oAPwidJzmDnexYuWTsOEM=what do ya want for nothing?\n\
 W9zBRr9gdU5qBCQmCJV1x1oAPwidJzmDnexYuWTsOEM=what do ya want for nothing!\n\
@@ -174,6 +182,8 @@ W9zBRr9gdU5qBCQmCJV1x1oAPwidJzmDnexYuWTsOEN=what do ya want for nothing?\n\
 W9zBRr9gdU5qBCQmCJV1x1oAPwidJzmDnexYuWTsOEM=\n\
 W9zBRr9gdU5qBCQmCJV1x1oAPwidJzmDnexYuWTsOEM\n\
 W9zBRr9gdU5qBCQmCJV1x1oAPwidJzmDnexYuWTsOEM\u{e9}what do ya want for nothing?\n\
+cf7GwRzo5WgzJsCz2abkW-4ROzKrwrj7HejiwS9geyw=a\n\
+q817DR_AHkRqimyCXiTNBNvJflSJv4EBuqwBniw9Tbg=1\n\
 what do ya want for nothing?\n\
 ";
 
@@ -182,6 +192,8 @@ fn signs_as_rfc_4231(rt: HostRuntime) {
     let text = signed_text(rt.alloc(), &jefe(), DATA);
     assert!(rt; text.is_ok_and(|text| text.as_str() == SIGNED));
     assert!(rt; verified_value(&jefe(), SIGNED) == Some(DATA));
+    assert!(rt; verified_value(&jefe(), SIGNED_WITH_PLUS) == Some("a"));
+    assert!(rt; verified_value(&jefe(), SIGNED_WITH_SLASH) == Some("1"));
     assert!(rt; verified_value(&zero_key(), SIGNED).is_none());
     for text in NO_SIGNINGS.split('\n') {
         assert!(rt; verified_value(&jefe(), text).is_none(), "{text}");
@@ -196,9 +208,12 @@ fn opens_as(alloc: Global, key: &Key, name: &str, text: &str, wanted: Option<&st
     }
 }
 
-// One character changed; padding dropped; the URL alphabet; bits left over; cut short; no base64.
+// One character changed, of the tag or of what is sealed; a byte that isn't UTF-8; padding dropped;
+// the URL alphabet; bits left over; cut short; no base64.
 pub const NO_SEALINGS: &str = "BAAAAAAAAAAAAAAAUw+K+8dFNrmpY7TxxMtziw==\n\
 AAAAAAAAAAAAAAAAUw+K+8dFNrmpY7TxxMtziA==\n\
+AAAAAAAAAAAAAAAAs8UjVBCe9lovXMuz8FIJeBTfPA==\n\
+AAAAAAAAAAAAAAAAMTZjY9TQuaBjYILyx/sDiVo=\n\
 AAAAAAAAAAAAAAAAUw+K+8dFNrmpY7TxxMtziw\n\
 AAAAAAAAAAAAAAAAUw+K+8dFNrmpY7TxxMtziw=\n\
 AAAAAAAAAAAAAAAAUw-K-8dFNrmpY7TxxMtziw==\n\
@@ -218,6 +233,7 @@ fn seals_as_the_specification_of_gcm(rt: HostRuntime) {
     let text = sealed_by(alloc, &key, "", "", &mut counter(0, false));
     assert!(rt; text.is_ok_and(|text| text.as_str() == SEALED));
     assert!(rt; opens_as(alloc, &key, "", SEALED, Some("")));
+    assert!(rt; opens_as(alloc, &key, "", SEALED_LETTERS, Some("abc")));
     for text in NO_SEALINGS.split('\n') {
         assert!(rt; opens_as(alloc, &key, "", text, None), "{text}");
     }

@@ -8,6 +8,10 @@ mod cookie_tests;
 #[cfg(test)]
 mod date_tests;
 #[cfg(test)]
+mod domain_tests;
+#[cfg(test)]
+mod expiry_tests;
+#[cfg(test)]
 mod jar_tests;
 #[cfg(test)]
 mod key_tests;

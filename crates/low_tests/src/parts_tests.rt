@@ -3,6 +3,7 @@
 //! A table is a text: a row a line, its sides parted by ` -> ` or ` at `.
 
 use crate::print_tests::prints;
+use cookie::Cookie as RawCookie;
 use jiff::SignedDuration;
 use jiff::civil::DateTime;
 use publicsuffix::List;
@@ -38,7 +39,16 @@ fn tells_host_names_from_addresses(rt: HostRuntime) {
 
 const ALLOWED: &str = "http://localhost:1234 -> http and secure\n\
 http://127.1.0.1 -> http and secure\n\
+http://127.0.0.0/ -> http and secure\n\
+http://127.255.255.255/ -> http and secure\n\
+http://126.255.255.255/ -> http\n\
+http://128.0.0.0/ -> http\n\
 http://[::1] -> http and secure\n\
+http://[::ffff:7f00:1]/ -> http\n\
+http://localhost./ -> http\n\
+http://foo.localhost/ -> http\n\
+httpx://example.com/ -> http\n\
+foo://127.0.0.1/ -> neither\n\
 http://example.com -> http\n\
 https://example.com -> http and secure\n\
 ftp://example.com -> neither\n\
@@ -69,6 +79,7 @@ http://example.com/foo// -> /foo/\n\
 http://example.com/foo//bus/bar -> /foo//bus\n\
 http://example.com/foo -> /\n\
 http://example.com -> /\n\
+file:///foo/bar -> /foo\n\
 data:foobusbar -> /\n\
 data:foo/bus/bar -> /";
 
@@ -105,6 +116,7 @@ const PATH_MATCHES: &str = "/foo/bus at http://example.com/foo/bus\n\
 /foo at http://example.com/foo/bus\n\
 /foo/ at http://example.com/foo/bus\n\
 / at http://example.com/\n\
+/foo at file:///foo/bar\n\
 / at data:/";
 
 const PATH_MISSES: &str = "/foo/bus at http://example.com/foo/buss\n\
@@ -142,6 +154,9 @@ fn matches_paths(rt: HostRuntime) {
 
 const DOMAIN_MATCHES: &str = "example.com at http://example.com\n\
 example.com at http://www.example.com\n\
+example.com at http://foo.example.com\n\
+example.com. at http://example.com.\n\
+example.com. at http://www.example.com.\n\
 example.com at http://www.corp.example.com\n\
 ..example.com at http://.example.com\n\
 ..example.com at http://foo..example.com\n\
@@ -157,6 +172,7 @@ example.com at http://example.com.\n\
 ..example.com at http://foo.example.com\n\
 0.0.1 at http://127.0.0.1\n\
 \x20at http://example.com\n\
+example.com at file:///example.com\n\
 example.com at data:example.com";
 
 fn domain_matches(rt: &impl Abort, alloc: Global, row: &str) -> Option<bool> {
@@ -253,12 +269,14 @@ fn is_listed(alloc: Global, text: &str, list: &List) -> Option<bool> {
 fn asks_a_suffix_list(rt: HostRuntime) -> Result<(), Fail> {
     let alloc = rt.alloc();
     let list = List::parse(alloc, b"com\n*.ck\n!www.ck")?;
-    for text in ["com", "foo.ck"] {
+    for text in "com\ncom.\nfoo.ck".split('\n') {
         assert!(rt; is_listed(alloc, text, &list) == Some(true), "{text}");
     }
-    for text in ["example.com", "www.ck", "ck", ""] {
+    for text in "example.com\nwww.ck\nck\n..com\n".split('\n') {
         assert!(rt; is_listed(alloc, text, &list) == Some(false), "{text}");
     }
+    let host = CookieDomain::host_only(alloc, &url_of(&rt, alloc, "http://com/"));
+    assert!(rt; host.is_ok_and(|domain| domain.is_public_suffix(&list)));
     Ok(())
 }
 
@@ -300,7 +318,7 @@ fn sets_expiries(rt: HostRuntime) {
     assert!(rt; is_at(CookieExpiration::from(DateTime::MIN), DateTime::MIN));
 }
 
-fn is_at(expiration: CookieExpiration, moment: DateTime) -> bool {
+pub fn is_at(expiration: CookieExpiration, moment: DateTime) -> bool {
     match expiration {
         CookieExpiration::AtUtc(expiry) => expiry == moment,
         CookieExpiration::SessionEnd => false,
@@ -417,6 +435,26 @@ mod memory {
         Ok((host.to_text(alloc)?, suffix.to_text(alloc)?))
     }
 
+    // Whether an attribute's domain is put into IDNA form.
+    fn takes_an_attribute(alloc: Global) -> Result<bool, Error> {
+        let mut raw = RawCookie::new("a", "1");
+        raw.set_domain("B\u{fc}cher.example");
+        let domain = CookieDomain::from_raw(alloc, &raw)?;
+        Ok(domain.as_cow() == Some("xn--bcher-kva.example"))
+    }
+
+    // Whether a path that is given and a default one are read.
+    fn reads_paths_alone(alloc: Global) -> Result<bool, Error> {
+        let url = url_of(alloc, "http://example.com/b/c")?;
+        let given = CookiePath::parse(alloc, "/a")?;
+        let default_path = CookiePath::default_path(alloc, &url)?;
+        Ok(default_path.as_str() == "/b" && given.is_some_and(|path| path.as_str() == "/a"))
+    }
+
+    fn reads_alone(alloc: Global) -> Result<bool, Error> {
+        Ok(takes_an_attribute(alloc)? && reads_paths_alone(alloc)?)
+    }
+
     // Whether a domain that has to be put into IDNA form covers a host.
     fn covers(alloc: Global) -> Result<bool, Error> {
         let url = url_of(alloc, "http://www.xn--bcher-kva.example")?;
@@ -457,6 +495,20 @@ mod memory {
     fn makes_domains_with_ample_memory(rt: HostRuntime) -> Result<(), Fail> {
         let texts = domain_texts(rt.alloc())?;
         assert!(rt; are(&texts, "example.com", "xn--bcher-kva.example"));
+        Ok(())
+    }
+
+    #[test]
+    fn reads_domains_and_paths(rt: HostRuntime) {
+        match reads_alone(rt.alloc()) {
+            Ok(read) => assert!(rt; read),
+            Err(error) => assert!(rt; matches!(error, Error::OutOfMemory)),
+        }
+    }
+
+    #[test]
+    fn reads_domains_and_paths_with_ample_memory(rt: HostRuntime) -> Result<(), Fail> {
+        assert!(rt; reads_alone(rt.alloc())?);
         Ok(())
     }
 

@@ -54,6 +54,8 @@ fn kind_of(domain: &CookieDomain) -> &'static str {
 const MADE: &str = "\
 http://example.com/foo/bar|SID=31d4d96e407aad42|host example.com default /foo
 http://example.com/foo/bar|SID=31d4d96e407aad42; Path=/; Domain=example.com|suffix example.com given /
+https://example.com/foo/bar|SID=31d4d96e407aad42; Path=/; Secure; HttpOnly|host example.com given /
+http://example.com/foo/bar|lang=en-US; Path=/; Domain=example.com|suffix example.com given /
 http://www.example.com/|lang=en-US; Expires=Wed, 09 Jun 2021 10:18:14 GMT|host www.example.com default / 2021-06-09T10:18:14
 http://example.com/|lang=; Expires=Sun, 06 Nov 1994 08:49:37 GMT|host example.com default / 1994-11-06T08:49:37
 http://foo.example.com/|a=1; Domain=example.com|suffix example.com default /
@@ -66,6 +68,8 @@ http://example.com/|a=1; Domain=|host example.com default /
 http://.example.com/|a=1; Domain=..example.com|suffix .example.com default /
 http://example.com/|a=1; Domain=..example.com|DomainMismatch
 http://example.com./|a=1; Domain=example.com|DomainMismatch
+http://example.com./|a=1; Domain=example.com.|suffix example.com. default /
+http://www.example.com./|a=1; Domain=example.com.|suffix example.com. default /
 http://a..b/|a=1; Domain=.b|suffix b default /
 http://www.xn--bcher-kva.example/|a=1; Domain=xn--bcher-kva.example|suffix xn--bcher-kva.example default /
 http://localhost/|a=1; Domain=localhost|suffix localhost default /
@@ -74,6 +78,7 @@ http://127.0.0.1/|a=1; Domain=0.0.1|DomainMismatch
 http://[::1]/|a=1; Domain=[::1]|suffix [::1] default /
 http://[::1]/|a=1|host [::1] default /
 http://example.com/foo/bar|a=1; Path=foo|host example.com default /foo
+http://example.com/foo/bar|a=1; Path=|host example.com default /foo
 http://example.com/foo/bar|a=1; Path=/baz|host example.com given /baz
 http://example.com/|a=1; Max-Age=10; Expires=Wed, 09 Jun 2021 10:18:14 GMT|host example.com default / 2024-01-01T00:00:10.0000005
 http://example.com/|a=1; Expires=Wed, 09 Jun 2021 10:18:14 GMT; Max-Age=0|host example.com default / 1970-01-01T00:00:00
@@ -82,6 +87,9 @@ http://example.com/|a=1; Max-Age=9223372036854775807|host example.com default / 
 http://example.com/|a|Parse
 http://example.com/|=1|Parse
 http://example.com/|a=1; Domain=xn--a|Parse
+foo://xn--a/|a=1; Domain=xn--a|Parse
+file:///foo/bar|a=1|NonRelativeScheme
+file:///foo/bar|a=1; Domain=example.com|DomainMismatch
 data:nonrelativescheme|a=1|NonRelativeScheme
 data:nonrelativescheme|a=1; Domain=.|NonRelativeScheme
 data:nonrelativescheme|a=1; Domain=example.com|DomainMismatch
@@ -121,6 +129,7 @@ a=1; Secure|https://www.example.com/foo|yes
 a=1; HttpOnly|ftp://www.example.com/foo|no
 a=1; HttpOnly|http://www.example.com/foo|yes
 a=1; Max-Age=0|http://www.example.com/foo|yes
+a=1|file:///foo/bar|no
 a=1|data:foo|no";
 
 #[test]
@@ -262,6 +271,22 @@ fn compares_all_parts(rt: HostRuntime) -> Result<(), Fail> {
     let mut other = cookie.clone(rt.alloc())?;
     other.expire();
     assert!(rt; cookie != other);
+    Ok(())
+}
+
+// Whether the bare cookie is the same from both URLs.
+fn are_same(alloc: Global, first: &str, second: &str) -> Result<bool, Fail> {
+    let first = Cookie::parse(alloc, "a=1", &Url::parse(alloc, first)?, now())?;
+    let second = Cookie::parse(alloc, "a=1", &Url::parse(alloc, second)?, now())?;
+    Ok(first == second)
+}
+
+#[test]
+fn compares_default_parts(rt: HostRuntime) -> Result<(), Fail> {
+    let url = "https://example.com/foo/bar";
+    assert!(rt; are_same(rt.alloc(), url, "http://example.com/foo/bus")?);
+    assert!(rt; !are_same(rt.alloc(), url, "https://example.com/zoo/bar")?);
+    assert!(rt; !are_same(rt.alloc(), url, "https://www.example.com/foo/bar")?);
     Ok(())
 }
 
