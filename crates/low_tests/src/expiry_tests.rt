@@ -35,3 +35,13 @@ fn expires_at_the_ends(rt: HostRuntime) {
     assert!(rt; last.is_expired(DateTime::MAX));
     assert!(rt; !last.is_expired(DateTime::constant(9999, 12, 31, 23, 59, 59, 0)));
 }
+
+// The whole second counts, and it is the one that begins before the moment.
+#[test]
+fn compares_seconds_before_1970(rt: HostRuntime) {
+    let half = CookieExpiration::AtUtc(DateTime::constant(1969, 12, 31, 23, 59, 59, 500_000_000));
+    let later = CookieExpiration::AtUtc(DateTime::constant(1969, 12, 31, 23, 59, 59, 900_000_000));
+    let epoch = CookieExpiration::AtUtc(DateTime::constant(1970, 1, 1, 0, 0, 0, 0));
+    assert!(rt; half == later);
+    assert!(rt; half != epoch);
+}
