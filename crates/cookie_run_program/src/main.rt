@@ -3,8 +3,9 @@
 
 use cookie_run::device::Counting;
 use cookie_run::program::program;
+use std::alloc::AllocError;
 use std::env;
-use std::io::{self, BufReader, BufWriter};
+use std::io::{self, BufReader, BufWriter, ErrorKind};
 use std::process::ExitCode;
 
 fn main(rt: HostRuntime) -> ExitCode {
@@ -15,25 +16,37 @@ fn main(rt: HostRuntime) -> ExitCode {
     ExitCode::from(status)
 }
 
-// Hands the program its words, standard input and standard output.
+// What the program answers, or want of memory.
 fn start(rt: &HostRuntime) -> (u8, Option<&'static str>) {
-    let Ok(words) = env::args(rt) else {
-        return (2, Some("memory"));
-    };
-    let words: Result<Vec<String>, _> = words.collect(rt.alloc());
-    let Ok(words) = words else {
-        return (2, Some("memory"));
-    };
+    match play(rt) {
+        Ok(answer) => answer,
+        Err(AllocError) => (2, Some("memory")),
+    }
+}
+
+// Hands the program its words, standard input and standard output.
+fn play(rt: &HostRuntime) -> Result<(u8, Option<&'static str>), AllocError> {
+    let words = words(rt)?;
     let Ok(reader) = BufReader::new(rt.alloc(), rt.reader()) else {
-        return (2, Some("memory"));
+        return Err(AllocError);
     };
     let Ok(writer) = BufWriter::new(rt.alloc(), io::writer(rt)) else {
-        return (2, Some("memory"));
+        return Err(AllocError);
     };
-    program(
+    Ok(program(
         rt,
         &words,
         &mut Counting::new(reader),
         &mut Counting::new(writer),
-    )
+    ))
+}
+
+// The words behind the program's name. The program doesn't look at them, so it goes on without any
+// where one isn't UTF-8.
+fn words(rt: &HostRuntime) -> Result<Vec<String>, AllocError> {
+    match env::args(rt) {
+        Ok(words) => words.skip(1).collect(rt.alloc()),
+        Err(error) if error.kind() == ErrorKind::OutOfMemory => Err(AllocError),
+        Err(_) => Ok(Vec::new(rt.alloc())),
+    }
 }
