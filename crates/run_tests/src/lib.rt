@@ -28,4 +28,6 @@ mod session_tests;
 #[cfg(test)]
 mod stream_tests;
 #[cfg(test)]
+mod text_tests;
+#[cfg(test)]
 mod way_tests;

@@ -1,9 +1,10 @@
 //! What scripts print, and how they end.
-use crate::fixtures::{beginning, zero_key};
+use crate::fixtures::{beginning, second, zero_key};
 use crate::generators::{Generator, failing, zeros};
 use cookie_run::{Client, Counting, Ended, run};
 use std::alloc::Global;
 use std::test::Fail;
+use url::Url;
 
 /// What a script prints for an empty client, and how it ends.
 fn printed(alloc: Global, script: &str) -> Result<(Vec<u8>, Ended), Fail> {
@@ -51,13 +52,30 @@ receive\t%FF -> Text
 get\tplain -> Fields
 get\tclear\ta -> Fields
 receive\thttps://shop.com/ -> Fields
+receive -> Fields
+header\t:// -> Fields
+open -> Fields
+open\thttps://shop.com/ -> Fields
+open\thttps://shop.com/\t2024-01-01T00:00:00Z\t -> Fields
+deliver -> Fields
+deliver\t2024-01-01T00:00:00Z\t -> Fields
+set\tplain\ta\t1\t-\t2024-01-01T00:00:00Z -> Fields
+receive\thttps://shop.com/\t%FF -> Text
+remove\tplain\ta -> Word
 header\t://\t1970-01-01T00:00:00Z -> Url
+open\t://\t1970-01-01T00:00:00Z -> Url
+receive\t://\t1970-01-01T00:00:00Z\ta=1 -> Url
+open\thttps://shop.com/\t1970-01-01T00:00:00Z -> Moment
+receive\thttps://shop.com/\t1970-01-01T00:00:00Z -> Moment
+deliver\t1970-01-01T00:00:00Z -> Moment
 header\thttps://shop.com/\t1970-01-01T00:00:00Z -> Moment
 header\thttps://shop.com/\t9999-01-01T00:00:00Z -> Moment
 header\thttps://shop.com/\t2023-02-29T00:00:00Z -> Moment
 header\thttps://shop.com/\t2024-01-01 00:00:00Z -> Moment
 get\tplain\ta -> NoSession
-get\tplain\t -> NoSession";
+get\tplain\t -> NoSession
+set\tplain\ta\t1\t-\t- -> NoSession
+deliver\t2024-01-01T00:00:00Z -> NoSession";
 
 // Whether the script of a row has the row's fault.
 fn has_fault(alloc: Global, row: &str) -> Result<bool, Fail> {
@@ -84,6 +102,10 @@ fn counts_empty_lines(rt: HostRuntime) -> Result<(), Fail> {
 
 // Lines in an open session, and their faults.
 const LATER_FAULTS: &str = "set\tplain\ta\t1\t60\t- -> Fields
+set\tplain\ta\t1\t-\t2024-01-01T00:00:00Z -> Fields
+deliver -> Fields
+deliver\t2024-01-01 -> Moment
+remove\tplain\ta -> Word
 set\tplain\t\t1\t-\t- -> EmptyName
 get\tplain\t -> EmptyName
 open\thttps://shop.com/\t2024-01-01T00:00:00Z -> Open
@@ -111,6 +133,51 @@ fn names_the_fault_of_the_second_line(rt: HostRuntime) -> Result<(), Fail> {
         assert!(rt; has_later_fault(rt.alloc(), row)?, "{row}");
     }
     Ok(())
+}
+
+#[test]
+fn goes_back_before_it_misses_a_session(rt: HostRuntime) -> Result<(), Fail> {
+    let script = format!(in rt.alloc(); "{OPEN}lose\ndeliver\t2023-12-31T23:59:59Z\n")?;
+    assert!(rt; is_faulty(rt.alloc(), &script, 3, "Back")?);
+    Ok(())
+}
+
+// What was done before a fault stands: the rows, and the moment of the last line done.
+#[test]
+fn leaves_what_was_done_before_the_fault(rt: HostRuntime) -> Result<(), Fail> {
+    let alloc = rt.alloc();
+    let script = format!(in alloc; "{OPEN}{DONE}fly\thttps://shop.com/\t2024-01-01T00:00:09Z\n")?;
+    let mut client = Client::new(alloc);
+    let mut last = beginning();
+    let mut output = Vec::new(alloc);
+    let ended = run(
+        alloc,
+        &mut Counting::new(script.as_bytes()),
+        &mut Counting::new(&mut output),
+        &mut client,
+        &mut last,
+        &zero_key(),
+        &mut zeros(),
+    )?;
+    assert_eq!(rt; ended, Ended::Faulty(5));
+    assert_eq!(rt;
+        output.as_slice(),
+        b"header\ta=1\nline 5: Word\n".as_slice()
+    );
+    assert!(rt; last == second(7));
+    assert!(rt; sends(alloc, &client, "a=1")?);
+    Ok(())
+}
+
+const DONE: &str = "set\tplain\ta\t1\t-\t-\n\
+deliver\t2024-01-01T00:00:05Z\n\
+header\thttps://shop.com/\t2024-01-01T00:00:07Z\n";
+
+// Whether the client gives the shop this header.
+fn sends(alloc: Global, client: &Client, wanted: &str) -> Result<bool, Fail> {
+    let shop = Url::parse(alloc, "https://shop.com/")?;
+    let header = client.header(&shop, second(8))?;
+    Ok(header.as_str() == wanted)
 }
 
 #[test]
@@ -218,26 +285,40 @@ fn plays_a_first_visit(rt: HostRuntime) -> Result<(), Fail> {
 }
 
 // Five ways in one script; `host` and `secure` are read in a plain way under their stored names.
-#[test]
-fn plays_five_ways(rt: HostRuntime) -> Result<(), Fail> {
-    let script = "open\thttps://shop.com/\t2024-01-01T00:00:00Z\n\
+pub const WAYS: &str = "open\thttps://shop.com/\t2024-01-01T00:00:00Z\n\
+set\tplain\tp\t0\t-\t-\n\
 set\thost\ta\t1\t-\t-\n\
 set\tsecure\ta\t2\t-\t-\n\
 set\tsigned\tb\t3\t-\t-\n\
 set\tsealed\tc\t4\t-\t-\n\
 deliver\t2024-01-01T00:00:00Z\n\
+receive\thttps://evil.com/\t2024-01-01T00:00:00Z\td=5; Path=/\te=6; Path=/\n\
 open\thttps://shop.com/\t2024-01-01T00:00:01Z\n\
+get\tplain\tp\n\
 get\thost\ta\n\
 get\tplain\t__Host-a\n\
 get\tsecure\ta\n\
 get\tsigned\tb\n\
 get\tsealed\tc\n\
 get\tsealed\tb\n\
-get\tplain\ta\n";
-    let wanted = "host\ta\t=1\nplain\t__Host-a\t=1\nsecure\ta\t=2\nsigned\tb\t=3\nsealed\tc\t=4\n\
-sealed\tb\t-\nplain\ta\t-\n";
-    let (output, ended) = printed(rt.alloc(), script)?;
-    assert_eq!(rt; output.as_slice(), wanted.as_bytes());
+get\tplain\ta\n\
+lose\n\
+header\thttps://evil.com/\t2024-01-01T00:00:01Z\n";
+
+pub const WAYS_PRINT: &str = "plain\tp\t=0\n\
+host\ta\t=1\n\
+plain\t__Host-a\t=1\n\
+secure\ta\t=2\n\
+signed\tb\t=3\n\
+sealed\tc\t=4\n\
+sealed\tb\t-\n\
+plain\ta\t-\n\
+header\td=5;%20e=6\n";
+
+#[test]
+fn plays_five_ways(rt: HostRuntime) -> Result<(), Fail> {
+    let (output, ended) = printed(rt.alloc(), WAYS)?;
+    assert_eq!(rt; output.as_slice(), WAYS_PRINT.as_bytes());
     assert_eq!(rt; ended, Ended::Whole);
     Ok(())
 }

@@ -1,9 +1,10 @@
 //! The ways of a session alone: the lines that it closes with, and what it refuses.
 use crate::fixtures::{cookie, second, zero_key};
 use crate::generators::{failing, zeros};
-use cookie::{Cookie, Expiration};
+use cookie::{Cookie, Expiration, SameSite};
 use cookie_run::{Session, SessionError, Way};
 use jiff::civil::DateTime;
+use std::alloc::Global;
 use std::test::Fail;
 
 #[test]
@@ -40,6 +41,10 @@ fn is_unchanged_where_the_generator_fails(rt: HostRuntime) -> Result<(), Fail> {
     let alloc = rt.alloc();
     let mut session = Session::open(alloc, b"", zero_key())?;
     assert_eq!(rt;
+        session.set(Way::Sealed, cookie(alloc, "", "1")?, &mut failing()),
+        Err(SessionError::EmptyName)
+    );
+    assert_eq!(rt;
         session.set(Way::Sealed, cookie(alloc, "a", "1")?, &mut failing()),
         Err(SessionError::Rng)
     );
@@ -49,16 +54,60 @@ fn is_unchanged_where_the_generator_fails(rt: HostRuntime) -> Result<(), Fail> {
     Ok(())
 }
 
+// Whether a session closes with this line alone.
+fn closes_with(session: &Session, wanted: &str) -> Result<bool, Fail> {
+    let lines = session.close()?;
+    Ok(lines.len() == 1 && lines.iter().all(|line| line.as_str() == wanted))
+}
+
+// Whether a session on this header tells the client this removal of `a`, and has no `a` any more.
+fn removes(alloc: Global, way: Way, header: &[u8], wanted: &str) -> Result<bool, Fail> {
+    let mut session = Session::open(alloc, header, zero_key())?;
+    session.remove(way, "a", second(0))?;
+    let value = session.get(way, "a")?;
+    Ok(value.is_none() && closes_with(&session, wanted)?)
+}
+
 #[test]
 fn removes_what_the_header_brought(rt: HostRuntime) -> Result<(), Fail> {
-    let mut session = Session::open(rt.alloc(), b"a=1", zero_key())?;
-    session.remove(Way::Plain, "a", second(0))?;
-    let lines = session.close()?;
     let wanted = "a=; Secure; Path=/; Max-Age=0; Expires=Sun, 01 Jan 2023 00:00:00 GMT";
-    assert_eq!(rt; lines.len(), 1);
-    assert!(rt; lines.iter().all(|line| line.as_str() == wanted));
+    assert!(rt; removes(rt.alloc(), Way::Plain, b"a=1", wanted)?);
+    let wanted = "__Host-a=; Secure; Path=/; Max-Age=0; Expires=Sun, 01 Jan 2023 00:00:00 GMT";
+    assert!(rt; removes(rt.alloc(), Way::Host, b"__Host-a=1", wanted)?);
+    Ok(())
+}
+
+#[test]
+fn a_refused_removal_leaves_the_session(rt: HostRuntime) -> Result<(), Fail> {
+    let alloc = rt.alloc();
+    let mut session = Session::open(alloc, b"a=1", zero_key())?;
+    session.set(Way::Plain, cookie(alloc, "b", "2")?, &mut zeros())?;
+    assert_eq!(rt;
+        session.remove(Way::Plain, "", second(0)),
+        Err(SessionError::EmptyName)
+    );
+    assert!(rt; closes_with(&session, "b=2; Secure; Path=/")?);
     let value = session.get(Way::Plain, "a")?;
-    assert_eq!(rt; value.as_deref(), None);
+    assert_eq!(rt; value.as_deref(), Some("1"));
+    Ok(())
+}
+
+// Whether a cookie with this attribute is sent so.
+fn sends_same_site(alloc: Global, same_site: SameSite, wanted: &str) -> Result<bool, Fail> {
+    let mut session = Session::open(alloc, b"", zero_key())?;
+    let mut set = cookie(alloc, "a", "1")?;
+    set.set_same_site(Some(same_site));
+    session.set(Way::Plain, set, &mut zeros())?;
+    closes_with(&session, wanted)
+}
+
+#[test]
+fn closes_with_the_same_site_that_was_set(rt: HostRuntime) -> Result<(), Fail> {
+    let alloc = rt.alloc();
+    let lax = "a=1; SameSite=Lax; Secure; Path=/";
+    assert!(rt; sends_same_site(alloc, SameSite::Lax, lax)?);
+    let strict = "a=1; SameSite=Strict; Secure; Path=/";
+    assert!(rt; sends_same_site(alloc, SameSite::Strict, strict)?);
     Ok(())
 }
 
