@@ -60,6 +60,25 @@ impl<T: Write> Write for FailsAt<T> {
     }
 }
 
+/// Takes none of the bytes of a write at which `inner` fails.
+#[derive(Drop)]
+pub struct TakesNone<T> {
+    pub inner: FailsAt<T>,
+}
+
+impl<T: Write> Write for TakesNone<T> {
+    fn write(&mut self, buf: &[u8]) -> io::Result<usize> {
+        match self.inner.write(buf) {
+            Ok(n) => Ok(n),
+            Err(_) => Ok(0),
+        }
+    }
+
+    fn flush(&mut self) -> io::Result<()> {
+        self.inner.flush()
+    }
+}
+
 /// Counts how often it is flushed, and else does as `inner`.
 #[derive(Drop)]
 pub struct CountsFlushes<T> {

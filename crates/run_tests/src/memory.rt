@@ -5,17 +5,21 @@
 //! with ample memory.
 use crate::fixtures::{beginning, cookie, second, text, zero_key};
 use crate::generators::zeros;
-use crate::script_tests::{VISIT, VISIT_PRINTS};
+use crate::script_tests::{VISIT, VISIT_PRINTS, WAYS, WAYS_PRINT};
 use cookie_run::play::play;
+use cookie_run::program::program;
 use cookie_run::{
     Client, Command, Counting, Delivery, Ended, FaultKind, LineEnd, Reading, Session, SessionError,
     Step, Stopped, StoreAction, Way, run,
 };
+use jiff::civil::DateTime;
 use std::alloc::Global;
 use std::process::Abort;
 use url::Url;
 
 const SHOP: &str = "https://shop.com/";
+
+const EVIL: &str = "https://evil.com/";
 
 fn opens(rt: &impl Abort, alloc: Global) -> bool {
     let Ok(session) = Session::open(alloc, b"a=1; b=%32; =x; c", zero_key()) else {
@@ -102,11 +106,12 @@ fn keeps_in_each_way(rt: &impl Abort, alloc: Global) -> bool {
     refused
 }
 
-fn removes(rt: &impl Abort, alloc: Global) -> bool {
-    let Ok(mut session) = Session::open(alloc, b"a=1", zero_key()) else {
+// The cookie `a` of this way, which the header brought, is removed.
+fn takes_out(rt: &impl Abort, alloc: Global, way: Way, header: &[u8]) -> bool {
+    let Ok(mut session) = Session::open(alloc, header, zero_key()) else {
         return true;
     };
-    let removed = session.remove(Way::Plain, "a", second(0));
+    let removed = session.remove(way, "a", second(0));
     if removed.is_err() {
         assert_eq!(rt; removed, Err(SessionError::OutOfMemory));
     }
@@ -120,6 +125,13 @@ fn removes(rt: &impl Abort, alloc: Global) -> bool {
             true
         }
     }
+}
+
+fn removes(rt: &impl Abort, alloc: Global) -> bool {
+    let plain = takes_out(rt, alloc, Way::Plain, b"a=1");
+    let host = takes_out(rt, alloc, Way::Host, b"__Host-a=1");
+    let secure = takes_out(rt, alloc, Way::Secure, b"__Secure-a=1");
+    plain || host || secure
 }
 
 fn receives(rt: &impl Abort, alloc: Global) -> bool {
@@ -148,33 +160,77 @@ fn receives(rt: &impl Abort, alloc: Global) -> bool {
     applied < 3
 }
 
-fn steps(alloc: Global) -> Option<[Step; 2]> {
-    let first = Command::Set(Way::Plain, cookie(alloc, "a", "1").ok()?);
-    let second_command = Command::Get(Way::Plain, text(alloc, "a").ok()?);
+// An exchange at a shop.
+fn visit(alloc: Global, at: DateTime, commands: Vec<Command>, delivery: Delivery) -> Option<Step> {
     let url = Url::parse(alloc, SHOP).ok()?;
-    let later = Url::parse(alloc, SHOP).ok()?;
-    Some([
-        Step::Exchange {
-            url,
-            at: second(0),
-            commands: vec![in alloc; first].ok()?,
-            delivery: Delivery::At(second(1)),
-        },
-        Step::Exchange {
-            url: later,
-            at: second(2),
-            commands: vec![in alloc; second_command].ok()?,
-            delivery: Delivery::Lost,
-        },
-    ])
+    Some(Step::Exchange {
+        url,
+        at,
+        commands,
+        delivery,
+    })
+}
+
+fn sets_two(alloc: Global) -> Option<Step> {
+    let plain = Command::Set(Way::Plain, cookie(alloc, "a", "1").ok()?);
+    let sealed = Command::Set(Way::Sealed, cookie(alloc, "b", "2").ok()?);
+    let commands = vec![in alloc; plain, sealed].ok()?;
+    visit(alloc, second(0), commands, Delivery::At(second(1)))
+}
+
+fn gets_two(alloc: Global) -> Option<Step> {
+    let plain = Command::Get(Way::Plain, text(alloc, "a").ok()?);
+    let sealed = Command::Get(Way::Sealed, text(alloc, "b").ok()?);
+    let commands = vec![in alloc; plain, sealed].ok()?;
+    visit(alloc, second(2), commands, Delivery::Lost)
+}
+
+fn foreign(alloc: Global) -> Option<Step> {
+    let url = Url::parse(alloc, EVIL).ok()?;
+    let line = Vec::from_slice(alloc, b"c=3; Path=/").ok()?;
+    Some(Step::Foreign {
+        url,
+        lines: vec![in alloc; line].ok()?,
+        at: second(2),
+    })
+}
+
+fn header(alloc: Global) -> Option<Step> {
+    Some(Step::Header {
+        url: Url::parse(alloc, EVIL).ok()?,
+        at: second(3),
+    })
+}
+
+fn steps(alloc: Global) -> Option<Vec<Step>> {
+    let mut steps = Vec::new(alloc);
+    steps.push(sets_two(alloc)?).ok()?;
+    steps.push(gets_two(alloc)?).ok()?;
+    steps.push(foreign(alloc)?).ok()?;
+    steps.push(header(alloc)?).ok()?;
+    Some(steps)
+}
+
+// The value of a name, read.
+fn value(alloc: Global, way: Way, name: &str, value: &str) -> Option<Reading> {
+    let name = text(alloc, name).ok()?;
+    let value = text(alloc, value).ok()?;
+    Some(Reading::Value(way, name, Some(value)))
+}
+
+// What these steps read.
+fn wanted(alloc: Global) -> Option<Vec<Reading>> {
+    let mut wanted = Vec::new(alloc);
+    wanted.push(value(alloc, Way::Plain, "a", "1")?).ok()?;
+    wanted.push(value(alloc, Way::Sealed, "b", "2")?).ok()?;
+    wanted.push(Reading::Header(text(alloc, "c=3").ok()?)).ok()?;
+    Some(wanted)
 }
 
 fn plays(rt: &impl Abort, alloc: Global) -> bool {
-    let (Some(steps), Ok(name), Ok(value)) = (steps(alloc), text(alloc, "a"), text(alloc, "1"))
-    else {
+    let (Some(steps), Some(wanted)) = (steps(alloc), wanted(alloc)) else {
         return true;
     };
-    let wanted = [Reading::Value(Way::Plain, name, Some(value))];
     match play(alloc, &zero_key(), &steps, &mut zeros()) {
         Ok(readings) => {
             assert_eq!(rt; readings.as_slice(), wanted.as_slice());
@@ -182,14 +238,26 @@ fn plays(rt: &impl Abort, alloc: Global) -> bool {
         }
         Err(fault) => {
             assert_eq!(rt; fault.kind, FaultKind::Memory);
-            assert!(rt; fault.step == 1 || fault.step == 2);
+            assert!(rt; 1 <= fault.step && fault.step <= 4);
             assert!(rt; wanted.starts_with(&fault.readings));
             true
         }
     }
 }
 
-fn runs(rt: &impl Abort, alloc: Global) -> bool {
+// Whether this is a beginning of what is printed, and then the want of memory of line n.
+fn is_cut_at(alloc: Global, output: &[u8], prints: &str, n: u64) -> bool {
+    let Ok(fault) = format!(in alloc; "line {n}: Memory\n") else {
+        return false;
+    };
+    match output.strip_suffix(fault.as_bytes()) {
+        Some(front) => prints.as_bytes().starts_with(front),
+        None => false,
+    }
+}
+
+// Whether the run of a script met want of memory; else it prints this and ends so.
+fn is_cut(rt: &impl Abort, alloc: Global, script: &str, prints: &str, end: Ended) -> bool {
     let Ok(mut output) = Vec::with_capacity(alloc, 1000) else {
         return true;
     };
@@ -197,27 +265,58 @@ fn runs(rt: &impl Abort, alloc: Global) -> bool {
     let mut last = beginning();
     let ended = run(
         alloc,
-        &mut Counting::new(VISIT.as_bytes()),
+        &mut Counting::new(script.as_bytes()),
         &mut Counting::new(&mut output),
         &mut client,
         &mut last,
         &zero_key(),
         &mut zeros(),
     );
+    if ended == Ok(end) && output.as_slice() == prints.as_bytes() {
+        return false;
+    }
     match ended {
-        Ok(Ended::Faulty(9)) if output.ends_with(b"line 9: Word\n") => {
-            assert_eq!(rt; output.as_slice(), VISIT_PRINTS.as_bytes());
-            false
-        }
-        Ok(Ended::Faulty(_)) => {
-            assert!(rt; output.ends_with(b": Memory\n"));
-            true
-        }
-        other => {
-            assert_eq!(rt; other, Ok(Ended::Faulty(9)));
-            true
+        Ok(Ended::Faulty(n)) => assert!(rt; is_cut_at(alloc, &output, prints, n), "at line {n}"),
+        other => assert_eq!(rt; other, Ok(end)),
+    }
+    true
+}
+
+fn runs(rt: &impl Abort, alloc: Global) -> bool {
+    is_cut(rt, alloc, VISIT, VISIT_PRINTS, Ended::Faulty(9))
+}
+
+fn runs_each_way(rt: &impl Abort, alloc: Global) -> bool {
+    is_cut(rt, alloc, WAYS, WAYS_PRINT, Ended::Whole)
+}
+
+// Whether this is a beginning of what the visit prints, and then want of memory.
+fn is_cut_somewhere(alloc: Global, output: &[u8]) -> bool {
+    for n in 1..=9 {
+        if is_cut_at(alloc, output, VISIT_PRINTS, n) {
+            return true;
         }
     }
+    false
+}
+
+fn plays_the_program(rt: &(impl Abort + AllocGlobal)) -> bool {
+    let alloc = rt.alloc();
+    let Ok(mut output) = Vec::with_capacity(alloc, 1000) else {
+        return true;
+    };
+    let answer = program(
+        rt,
+        &[],
+        &mut Counting::new(VISIT.as_bytes()),
+        &mut Counting::new(&mut output),
+    );
+    assert_eq!(rt; answer, (1, None));
+    if output.as_slice() == VISIT_PRINTS.as_bytes() {
+        return false;
+    }
+    assert!(rt; is_cut_somewhere(alloc, &output));
+    true
 }
 
 #[test]
@@ -288,4 +387,24 @@ fn runs_on(rt: HostRuntime) {
 #[test]
 fn runs_on_with_ample_memory(rt: HostRuntime) {
     assert!(rt; !runs(&rt, rt.alloc()));
+}
+
+#[test]
+fn runs_in_each_way(rt: HostRuntime) {
+    runs_each_way(&rt, rt.alloc());
+}
+
+#[test]
+fn runs_in_each_way_with_ample_memory(rt: HostRuntime) {
+    assert!(rt; !runs_each_way(&rt, rt.alloc()));
+}
+
+#[test]
+fn program_plays(rt: HostRuntime) {
+    plays_the_program(&rt);
+}
+
+#[test]
+fn program_plays_with_ample_memory(rt: HostRuntime) {
+    assert!(rt; !plays_the_program(&rt));
 }

@@ -1,5 +1,5 @@
 //! Readers and writers that are slow, or fail in mid-stream.
-use crate::devices::{ByteByByte, CountsFlushes, FailsAt};
+use crate::devices::{ByteByByte, CountsFlushes, FailsAt, TakesNone};
 use crate::fixtures::{beginning, second, zero_key};
 use crate::generators::zeros;
 use crate::script_tests::{VISIT, VISIT_PRINTS};
@@ -59,7 +59,6 @@ fn flushes_once(rt: HostRuntime) -> Result<(), Fail> {
 #[test]
 fn tells_a_read_that_fails(rt: HostRuntime) -> Result<(), Fail> {
     let alloc = rt.alloc();
-    let url = Url::parse(alloc, "https://shop.com/")?;
     for call in 0..400 {
         let mut output = Vec::new(alloc);
         let mut client = Client::new(alloc);
@@ -76,50 +75,75 @@ fn tells_a_read_that_fails(rt: HostRuntime) -> Result<(), Fail> {
         } else {
             assert_eq!(rt; whole, Ok(Ended::Faulty(9)), "at call {call}");
         }
-        let header = client.header(&url, second(3))?;
-        assert!(rt;
-            header.is_empty() || header.as_str() == HEADER,
-            "at call {call}: {header}"
-        );
+        assert!(rt; is_left_by_a_beginning(alloc, &client)?, "at call {call}");
     }
     Ok(())
 }
 
 const HEADER: &str = "foo%20!%25%3F%3D=bar%3B%3B%2C%20a";
 
+// Whether the client is one that a beginning of the visit leaves.
+fn is_left_by_a_beginning(alloc: Global, client: &Client) -> Result<bool, Fail> {
+    let url = Url::parse(alloc, "https://shop.com/")?;
+    let header = client.header(&url, second(3))?;
+    Ok(header.is_empty() || header.as_str() == HEADER)
+}
+
+// Whether a visit whose writer fails at this call ends so, with nothing lost but what follows.
+fn ends_so(alloc: Global, call: u64, wanted: Result<Ended, RunError>) -> Result<bool, Fail> {
+    let mut output = Vec::new(alloc);
+    let mut client = Client::new(alloc);
+    let writer = FailsAt::new(&mut output, call);
+    let ended = run_over(alloc, VISIT.as_bytes(), writer, &mut client);
+    let is_whole = output.as_slice() == VISIT_PRINTS.as_bytes();
+    let is_fitting = if wanted.is_ok() {
+        is_whole
+    } else {
+        VISIT_PRINTS.as_bytes().starts_with(&output)
+    };
+    Ok(ended == wanted && is_fitting && is_left_by_a_beginning(alloc, &client)?)
+}
+
+// How many calls of the writer a visit makes.
+fn calls_of_a_visit(alloc: Global) -> Result<u64, Fail> {
+    let mut output = Vec::new(alloc);
+    let mut client = Client::new(alloc);
+    let mut writer = FailsAt::new(&mut output, u64::MAX);
+    run_over(alloc, VISIT.as_bytes(), &mut writer, &mut client)?;
+    Ok(writer.calls)
+}
+
 #[test]
 fn tells_a_write_that_fails(rt: HostRuntime) -> Result<(), Fail> {
     let alloc = rt.alloc();
-    let url = Url::parse(alloc, "https://shop.com/")?;
-    let mut has_failed = false;
-    for call in 0..40 {
-        let mut output = Vec::new(alloc);
-        let mut client = Client::new(alloc);
-        let writer = FailsAt::new(&mut output, call);
-        match run_over(alloc, VISIT.as_bytes(), writer, &mut client) {
-            Ok(ended) => {
-                assert_eq!(rt; ended, Ended::Faulty(9), "at call {call}");
-                assert_eq!(rt;
-                    output.as_slice(),
-                    VISIT_PRINTS.as_bytes(),
-                    "at call {call}"
-                );
-            }
-            Err(error) => {
-                assert_eq!(rt; error, RunError::Write, "at call {call}");
-                assert!(rt;
-                    VISIT_PRINTS.as_bytes().starts_with(&output),
-                    "at call {call}"
-                );
-                has_failed = true;
-            }
-        }
-        let header = client.header(&url, second(3))?;
+    let calls = calls_of_a_visit(alloc)?;
+    assert!(rt; 1 < calls && calls < 40);
+    for call in 0..calls {
         assert!(rt;
-            header.is_empty() || header.as_str() == HEADER,
-            "at call {call}: {header}"
+            ends_so(alloc, call, Err(RunError::Write))?,
+            "at call {call}"
         );
     }
-    assert!(rt; has_failed);
+    for call in calls..40 {
+        assert!(rt;
+            ends_so(alloc, call, Ok(Ended::Faulty(9)))?,
+            "at call {call}"
+        );
+    }
+    Ok(())
+}
+
+#[test]
+fn tells_a_write_that_takes_none(rt: HostRuntime) -> Result<(), Fail> {
+    let alloc = rt.alloc();
+    let mut output = Vec::new(alloc);
+    let mut client = Client::new(alloc);
+    let writer = TakesNone {
+        inner: FailsAt::new(&mut output, 1),
+    };
+    let ended = run_over(alloc, VISIT.as_bytes(), writer, &mut client);
+    assert_eq!(rt; ended, Err(RunError::Write));
+    let first = b"plain\tfoo%20!%25?=\t=bar;;,%20a\n";
+    assert_eq!(rt; output.as_slice(), first.as_slice());
     Ok(())
 }
