@@ -36,21 +36,46 @@ fn seals_and_opens(rt: HostRuntime) -> Result<(), Fail> {
     Ok(())
 }
 
+// Whether a set of this name is refused so, where the generator fails.
+fn refuses(
+    alloc: Global,
+    session: &mut Session,
+    name: &str,
+    cause: SessionError,
+) -> Result<bool, Fail> {
+    let cookie = cookie(alloc, name, "1")?;
+    Ok(session.set(Way::Sealed, cookie, &mut failing()) == Err(cause))
+}
+
+// Sets a cookie as it is.
+fn sets(alloc: Global, session: &mut Session, name: &str, value: &str) -> Result<(), Fail> {
+    let cookie = cookie(alloc, name, value)?;
+    session.set(Way::Plain, cookie, &mut zeros())?;
+    Ok(())
+}
+
+// Whether a session closes with so many lines.
+fn closes_with_lines(session: &Session, count: usize) -> Result<bool, Fail> {
+    let lines = session.close()?;
+    Ok(lines.len() == count)
+}
+
+// Whether a name reads so as it is.
+fn reads(session: &Session, name: &str, wanted: Option<&str>) -> Result<bool, Fail> {
+    let value = session.get(Way::Plain, name)?;
+    Ok(value.as_deref() == wanted)
+}
+
 #[test]
 fn is_unchanged_where_the_generator_fails(rt: HostRuntime) -> Result<(), Fail> {
     let alloc = rt.alloc();
     let mut session = Session::open(alloc, b"", zero_key())?;
-    assert_eq!(rt;
-        session.set(Way::Sealed, cookie(alloc, "", "1")?, &mut failing()),
-        Err(SessionError::EmptyName)
-    );
-    assert_eq!(rt;
-        session.set(Way::Sealed, cookie(alloc, "a", "1")?, &mut failing()),
-        Err(SessionError::Rng)
-    );
-    assert_eq!(rt; session.close()?.len(), 0);
-    session.set(Way::Signed, cookie(alloc, "a", "1")?, &mut failing())?;
-    assert_eq!(rt; session.close()?.len(), 1);
+    assert!(rt; refuses(alloc, &mut session, "", SessionError::EmptyName)?);
+    assert!(rt; refuses(alloc, &mut session, "a", SessionError::Rng)?);
+    assert!(rt; closes_with_lines(&session, 0)?);
+    let signed = cookie(alloc, "a", "1")?;
+    session.set(Way::Signed, signed, &mut failing())?;
+    assert!(rt; closes_with_lines(&session, 1)?);
     Ok(())
 }
 
@@ -81,14 +106,11 @@ fn removes_what_the_header_brought(rt: HostRuntime) -> Result<(), Fail> {
 fn a_refused_removal_leaves_the_session(rt: HostRuntime) -> Result<(), Fail> {
     let alloc = rt.alloc();
     let mut session = Session::open(alloc, b"a=1", zero_key())?;
-    session.set(Way::Plain, cookie(alloc, "b", "2")?, &mut zeros())?;
-    assert_eq!(rt;
-        session.remove(Way::Plain, "", second(0)),
-        Err(SessionError::EmptyName)
-    );
+    sets(alloc, &mut session, "b", "2")?;
+    let refused = session.remove(Way::Plain, "", second(0));
+    assert_eq!(rt; refused, Err(SessionError::EmptyName));
     assert!(rt; closes_with(&session, "b=2; Secure; Path=/")?);
-    let value = session.get(Way::Plain, "a")?;
-    assert_eq!(rt; value.as_deref(), Some("1"));
+    assert!(rt; reads(&session, "a", Some("1"))?);
     Ok(())
 }
 
@@ -115,34 +137,34 @@ fn closes_with_the_same_site_that_was_set(rt: HostRuntime) -> Result<(), Fail> {
 fn forgets_what_was_set_and_removed(rt: HostRuntime) -> Result<(), Fail> {
     let alloc = rt.alloc();
     let mut session = Session::open(alloc, b"", zero_key())?;
-    session.set(Way::Plain, cookie(alloc, "a", "1")?, &mut zeros())?;
+    sets(alloc, &mut session, "a", "1")?;
     session.remove(Way::Plain, "a", second(0))?;
-    assert_eq!(rt; session.close()?.len(), 0);
-    let value = session.get(Way::Plain, "a")?;
-    assert_eq!(rt; value.as_deref(), None);
+    assert!(rt; closes_with_lines(&session, 0)?);
+    assert!(rt; reads(&session, "a", None)?);
     Ok(())
+}
+
+// Whether a cookie of the year 99 is refused for it, and nothing is set.
+fn refuses_an_early_end(alloc: Global, session: &mut Session) -> Result<bool, Fail> {
+    let mut early: Cookie<'static> = cookie(alloc, "a", "1")?;
+    early.set_expires(Expiration::DateTime(DateTime::constant(99, 12, 31, 0, 0, 0, 0)));
+    let set = session.set(Way::Plain, early, &mut zeros());
+    Ok(set == Err(SessionError::Year) && closes_with_lines(session, 0)?)
+}
+
+// Whether a removal in the year 100 is refused so.
+fn refuses_to_remove(session: &mut Session, name: &str, cause: SessionError) -> bool {
+    let year_100 = DateTime::constant(100, 12, 31, 0, 0, 0, 0);
+    session.remove(Way::Host, name, year_100) == Err(cause)
 }
 
 #[test]
 fn refuses_a_short_year_and_an_empty_name(rt: HostRuntime) -> Result<(), Fail> {
     let alloc = rt.alloc();
     let mut session = Session::open(alloc, b"", zero_key())?;
-    let mut early: Cookie<'static> = cookie(alloc, "a", "1")?;
-    early.set_expires(Expiration::DateTime(DateTime::constant(99, 12, 31, 0, 0, 0, 0)));
-    assert_eq!(rt;
-        session.set(Way::Plain, early, &mut zeros()),
-        Err(SessionError::Year)
-    );
-    assert_eq!(rt; session.close()?.len(), 0);
-    let year_100 = DateTime::constant(100, 12, 31, 0, 0, 0, 0);
-    assert_eq!(rt;
-        session.remove(Way::Host, "a", year_100),
-        Err(SessionError::Year)
-    );
-    assert_eq!(rt;
-        session.remove(Way::Host, "", year_100),
-        Err(SessionError::EmptyName)
-    );
+    assert!(rt; refuses_an_early_end(alloc, &mut session)?);
+    assert!(rt; refuses_to_remove(&mut session, "a", SessionError::Year));
+    assert!(rt; refuses_to_remove(&mut session, "", SessionError::EmptyName));
     assert_eq!(rt; session.get(Way::Sealed, ""), Err(SessionError::EmptyName));
     Ok(())
 }
