@@ -1,5 +1,7 @@
 //! Attributes of the cookies that a site sets, and of the lines that come from elsewhere.
-use crate::fixtures::{cookie, second, text, zero_key};
+use crate::fixtures::{
+    closes_with, closes_with_lines, cookie, ending, reads, second, text, zero_key,
+};
 use crate::generators::zeros;
 use cookie::{Cookie, Expiration, SameSite};
 use cookie_run::play::play;
@@ -86,59 +88,36 @@ fn refuses_lines_in_which_more_stands(rt: HostRuntime) -> Result<(), Fail> {
     Ok(())
 }
 
-// The line that a session closes with for a cookie.
-fn closed(alloc: Global, cookie: Cookie<'static>) -> Result<String, Fail> {
+// Whether a session closes with this line for a cookie.
+fn is_sent_as(alloc: Global, cookie: &Cookie<'static>, wanted: &str) -> Result<bool, Fail> {
     let mut session = Session::open(alloc, b"", zero_key())?;
-    session.set(Way::Plain, cookie, &mut zeros())?;
-    let mut lines = session.close()?;
-    Ok(lines.pop().unwrap_or(String::new(alloc)))
+    session.set(Way::Plain, cookie.clone(alloc)?, &mut zeros())?;
+    Ok(closes_with(&session, wanted))
 }
 
 #[test]
 fn closes_with_the_attributes_that_were_set(rt: HostRuntime) -> Result<(), Fail> {
     let alloc = rt.alloc();
     let mut a = Cookie::new("a", "1");
-    assert_eq!(rt;
-        closed(alloc, a.clone(alloc)?)?.as_str(),
-        "a=1; Secure; Path=/"
-    );
+    assert!(rt; is_sent_as(alloc, &a, "a=1; Secure; Path=/")?);
     a.set_path("/p");
     a.set_domain("com");
     a.set_secure(Some(false));
-    assert_eq!(rt;
-        closed(alloc, a.clone(alloc)?)?.as_str(),
-        "a=1; Secure; Path=/"
-    );
+    assert!(rt; is_sent_as(alloc, &a, "a=1; Secure; Path=/")?);
     a.set_http_only(Some(true));
-    assert_eq!(rt;
-        closed(alloc, a.clone(alloc)?)?.as_str(),
-        "a=1; HttpOnly; Secure; Path=/"
-    );
+    assert!(rt; is_sent_as(alloc, &a, "a=1; HttpOnly; Secure; Path=/")?);
     a.set_http_only(Some(false));
     a.set_partitioned(Some(true));
-    assert_eq!(rt;
-        closed(alloc, a.clone(alloc)?)?.as_str(),
-        "a=1; Partitioned; Secure; Path=/"
-    );
+    assert!(rt; is_sent_as(alloc, &a, "a=1; Partitioned; Secure; Path=/")?);
     a.set_same_site(Some(SameSite::None));
-    assert_eq!(rt;
-        closed(alloc, a.clone(alloc)?)?.as_str(),
-        "a=1; SameSite=None; Partitioned; Secure; Path=/"
-    );
+    let wanted = "a=1; SameSite=None; Partitioned; Secure; Path=/";
+    assert!(rt; is_sent_as(alloc, &a, wanted)?);
     a.set_max_age(Some(SignedDuration::from_secs(5)));
     a.set_expires(Expiration::DateTime(second(0)));
-    assert_eq!(rt;
-        closed(alloc, a)?.as_str(),
-        "a=1; SameSite=None; Partitioned; Secure; Path=/; Max-Age=5; Expires=Mon, 01 Jan 2024 00:00:00 GMT"
-    );
+    let wanted =
+        "a=1; SameSite=None; Partitioned; Secure; Path=/; Max-Age=5; Expires=Mon, 01 Jan 2024 00:00:00 GMT";
+    assert!(rt; is_sent_as(alloc, &a, wanted)?);
     Ok(())
-}
-
-// A cookie that ends then.
-fn ending(alloc: Global, name: &str, end: DateTime) -> Result<Cookie<'static>, Fail> {
-    let mut cookie = cookie(alloc, name, "1")?;
-    cookie.set_expires(Expiration::DateTime(end));
-    Ok(cookie)
 }
 
 #[test]
@@ -147,19 +126,15 @@ fn refuses_an_empty_name_and_then_a_short_year(rt: HostRuntime) -> Result<(), Fa
     let short = DateTime::constant(99, 12, 31, 0, 0, 0, 0);
     let long = DateTime::constant(100, 1, 1, 0, 0, 0, 0);
     let mut session = Session::open(alloc, b"a=0", zero_key())?;
-    assert_eq!(rt;
-        session.set(Way::Plain, ending(alloc, "", short)?, &mut zeros()),
-        Err(SessionError::EmptyName)
-    );
-    assert_eq!(rt;
-        session.set(Way::Plain, ending(alloc, "a", short)?, &mut zeros()),
-        Err(SessionError::Year)
-    );
-    assert!(rt; session.close()?.is_empty());
-    assert_eq!(rt; session.get(Way::Plain, "a")?.as_deref(), Some("0"));
+    let set = session.set(Way::Plain, ending(alloc, "", short)?, &mut zeros());
+    assert_eq!(rt; set, Err(SessionError::EmptyName));
+    let set = session.set(Way::Plain, ending(alloc, "a", short)?, &mut zeros());
+    assert_eq!(rt; set, Err(SessionError::Year));
+    assert!(rt; closes_with_lines(&session, 0));
+    assert!(rt; reads(&session, Way::Plain, "a", Some("0")));
     session.set(Way::Plain, ending(alloc, "a", long)?, &mut zeros())?;
-    assert_eq!(rt; session.get(Way::Plain, "a")?.as_deref(), Some("1"));
-    assert_eq!(rt; session.close()?.len(), 1);
+    assert!(rt; reads(&session, Way::Plain, "a", Some("1")));
+    assert!(rt; closes_with_lines(&session, 1));
     Ok(())
 }
 

@@ -1,6 +1,6 @@
 //! What several tests begin with.
-use cookie::{Cookie, Key};
-use cookie_run::Text;
+use cookie::{Cookie, Expiration, Key};
+use cookie_run::{Session, Text, Way};
 use jiff::SignedDuration;
 use jiff::civil::DateTime;
 use std::alloc::{AllocError, Global};
@@ -23,6 +23,13 @@ pub fn cookie(alloc: Global, name: &str, value: &str) -> Result<Cookie<'static>,
     ))
 }
 
+/// A cookie of this name that ends then.
+pub fn ending(alloc: Global, name: &str, end: DateTime) -> Result<Cookie<'static>, AllocError> {
+    let mut ending = cookie(alloc, name, "1")?;
+    ending.set_expires(Expiration::DateTime(end));
+    Ok(ending)
+}
+
 /// An owned text.
 pub fn text(alloc: Global, text: &str) -> Result<Text, AllocError> {
     Ok(Text::of(String::from_str(alloc, text)?))
@@ -31,4 +38,28 @@ pub fn text(alloc: Global, text: &str) -> Result<Text, AllocError> {
 /// The key of 64 zero bytes.
 pub fn zero_key() -> Key {
     Key::from(&[0; 64])
+}
+
+/// Whether a name reads so in this way.
+pub fn reads(session: &Session, way: Way, name: &str, wanted: Option<&str>) -> bool {
+    match session.get(way, name) {
+        Ok(value) => value.as_deref() == wanted,
+        Err(_) => false,
+    }
+}
+
+/// Whether a session closes with this line alone.
+pub fn closes_with(session: &Session, wanted: &str) -> bool {
+    match session.close() {
+        Ok(lines) => lines.len() == 1 && lines.iter().all(|line| line.as_str() == wanted),
+        Err(_) => false,
+    }
+}
+
+/// Whether a session closes with so many lines.
+pub fn closes_with_lines(session: &Session, count: usize) -> bool {
+    match session.close() {
+        Ok(lines) => lines.len() == count,
+        Err(_) => false,
+    }
 }

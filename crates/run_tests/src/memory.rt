@@ -5,7 +5,6 @@
 //! with ample memory.
 use crate::fixtures::{beginning, cookie, second, text, zero_key};
 use crate::generators::zeros;
-use crate::script_tests::{VISIT, VISIT_PRINTS, WAYS, WAYS_PRINT};
 use cookie_run::play::play;
 use cookie_run::program::program;
 use cookie_run::{
@@ -202,13 +201,24 @@ fn header(alloc: Global) -> Option<Step> {
     })
 }
 
-fn steps(alloc: Global) -> Option<Vec<Step>> {
-    let mut steps = Vec::new(alloc);
-    steps.push(sets_two(alloc)?).ok()?;
-    steps.push(gets_two(alloc)?).ok()?;
-    steps.push(foreign(alloc)?).ok()?;
-    steps.push(header(alloc)?).ok()?;
-    Some(steps)
+// An answer that is delivered, and what it set is read.
+fn visits(alloc: Global) -> Option<Vec<Step>> {
+    vec![in alloc; sets_two(alloc)?, gets_two(alloc)?].ok()
+}
+
+fn read_by_visits(alloc: Global) -> Option<Vec<Reading>> {
+    let plain = value(alloc, Way::Plain, "a", "1")?;
+    let sealed = value(alloc, Way::Sealed, "b", "2")?;
+    vec![in alloc; plain, sealed].ok()
+}
+
+// Lines from elsewhere, and the header that they make.
+fn strange(alloc: Global) -> Option<Vec<Step>> {
+    vec![in alloc; foreign(alloc)?, header(alloc)?].ok()
+}
+
+fn read_by_strange(alloc: Global) -> Option<Vec<Reading>> {
+    vec![in alloc; Reading::Header(text(alloc, "c=3").ok()?)].ok()
 }
 
 // The value of a name, read.
@@ -218,30 +228,33 @@ fn value(alloc: Global, way: Way, name: &str, value: &str) -> Option<Reading> {
     Some(Reading::Value(way, name, Some(value)))
 }
 
-// What these steps read.
-fn wanted(alloc: Global) -> Option<Vec<Reading>> {
-    let mut wanted = Vec::new(alloc);
-    wanted.push(value(alloc, Way::Plain, "a", "1")?).ok()?;
-    wanted.push(value(alloc, Way::Sealed, "b", "2")?).ok()?;
-    wanted.push(Reading::Header(text(alloc, "c=3").ok()?)).ok()?;
-    Some(wanted)
-}
-
-fn plays(rt: &impl Abort, alloc: Global) -> bool {
-    let (Some(steps), Some(wanted)) = (steps(alloc), wanted(alloc)) else {
-        return true;
-    };
-    match play(alloc, &zero_key(), &steps, &mut zeros()) {
+// Whether a play of two steps met want of memory; else it reads this.
+fn is_stopped(rt: &impl Abort, alloc: Global, steps: &[Step], wanted: &[Reading]) -> bool {
+    match play(alloc, &zero_key(), steps, &mut zeros()) {
         Ok(readings) => {
-            assert_eq!(rt; readings.as_slice(), wanted.as_slice());
+            assert_eq!(rt; readings.as_slice(), wanted);
             false
         }
         Err(fault) => {
             assert_eq!(rt; fault.kind, FaultKind::Memory);
-            assert!(rt; 1 <= fault.step && fault.step <= 4);
+            assert!(rt; 1 <= fault.step && fault.step <= 2);
             assert!(rt; wanted.starts_with(&fault.readings));
             true
         }
+    }
+}
+
+fn plays_visits(rt: &impl Abort, alloc: Global) -> bool {
+    match (visits(alloc), read_by_visits(alloc)) {
+        (Some(steps), Some(wanted)) => is_stopped(rt, alloc, &steps, &wanted),
+        _ => true,
+    }
+}
+
+fn plays_strange(rt: &impl Abort, alloc: Global) -> bool {
+    match (strange(alloc), read_by_strange(alloc)) {
+        (Some(steps), Some(wanted)) => is_stopped(rt, alloc, &steps, &wanted),
+        _ => true,
     }
 }
 
@@ -282,18 +295,49 @@ fn is_cut(rt: &impl Abort, alloc: Global, script: &str, prints: &str, end: Ended
     true
 }
 
+// An answer is delivered; its name and value are escaped in the header, and once more where they are printed.
+const DELIVERS: &str = "open\thttps://shop.com/\t2024-01-01T00:00:00Z\n\
+set\tplain\ta%20b\t1;\t-\t-\n\
+deliver\t2024-01-01T00:00:00Z\n\
+header\thttps://shop.com/\t2024-01-01T00:00:01Z\n";
+
+const DELIVERS_PRINTS: &str = "header\ta%2520b=1%253B\n";
+
+// A site reads a line that came from elsewhere.
+const RECEIVES: &str =
+    "receive\thttps://shop.com/\t2024-01-01T00:00:00Z\ta=5; Path=/\tb=6; Path=/\n\
+open\thttps://shop.com/\t2024-01-01T00:00:01Z\n\
+get\tplain\tb\n\
+lose\n\
+fly\n";
+
+const RECEIVES_PRINTS: &str = "plain\tb\t=6\nline 5: Word\n";
+
 fn runs(rt: &impl Abort, alloc: Global) -> bool {
-    is_cut(rt, alloc, VISIT, VISIT_PRINTS, Ended::Faulty(9))
+    is_cut(rt, alloc, DELIVERS, DELIVERS_PRINTS, Ended::Whole)
 }
 
-fn runs_each_way(rt: &impl Abort, alloc: Global) -> bool {
-    is_cut(rt, alloc, WAYS, WAYS_PRINT, Ended::Whole)
+fn runs_on_lines(rt: &impl Abort, alloc: Global) -> bool {
+    is_cut(rt, alloc, RECEIVES, RECEIVES_PRINTS, Ended::Faulty(5))
 }
 
-// Whether this is a beginning of what the visit prints, and then want of memory.
+// A cookie is set and read in the way of this word.
+fn runs_in(rt: &impl Abort, alloc: Global, way: &str) -> bool {
+    let script = format!(in alloc;
+        "open\thttps://shop.com/\t2024-01-01T00:00:00Z\n\
+set\t{way}\ta\t1\t-\t-\n\
+get\t{way}\ta\n"
+    );
+    match (script, format!(in alloc; "{way}\ta\t=1\n")) {
+        (Ok(script), Ok(prints)) => is_cut(rt, alloc, &script, &prints, Ended::Whole),
+        _ => true,
+    }
+}
+
+// Whether this is a beginning of what is printed, and then want of memory.
 fn is_cut_somewhere(alloc: Global, output: &[u8]) -> bool {
-    for n in 1..=9 {
-        if is_cut_at(alloc, output, VISIT_PRINTS, n) {
+    for n in 1..=4 {
+        if is_cut_at(alloc, output, DELIVERS_PRINTS, n) {
             return true;
         }
     }
@@ -308,13 +352,14 @@ fn plays_the_program(rt: &(impl Abort + AllocGlobal)) -> bool {
     let answer = program(
         rt,
         &[],
-        &mut Counting::new(VISIT.as_bytes()),
+        &mut Counting::new(DELIVERS.as_bytes()),
         &mut Counting::new(&mut output),
     );
-    assert_eq!(rt; answer, (1, None));
-    if output.as_slice() == VISIT_PRINTS.as_bytes() {
+    if answer == (0, None) {
+        assert_eq!(rt; output.as_slice(), DELIVERS_PRINTS.as_bytes());
         return false;
     }
+    assert_eq!(rt; answer, (1, None));
     assert!(rt; is_cut_somewhere(alloc, &output));
     true
 }
@@ -371,12 +416,22 @@ fn receive_with_ample_memory(rt: HostRuntime) {
 
 #[test]
 fn plays_on(rt: HostRuntime) {
-    plays(&rt, rt.alloc());
+    plays_visits(&rt, rt.alloc());
 }
 
 #[test]
 fn plays_on_with_ample_memory(rt: HostRuntime) {
-    assert!(rt; !plays(&rt, rt.alloc()));
+    assert!(rt; !plays_visits(&rt, rt.alloc()));
+}
+
+#[test]
+fn plays_elsewhere(rt: HostRuntime) {
+    plays_strange(&rt, rt.alloc());
+}
+
+#[test]
+fn plays_elsewhere_with_ample_memory(rt: HostRuntime) {
+    assert!(rt; !plays_strange(&rt, rt.alloc()));
 }
 
 #[test]
@@ -390,13 +445,53 @@ fn runs_on_with_ample_memory(rt: HostRuntime) {
 }
 
 #[test]
-fn runs_in_each_way(rt: HostRuntime) {
-    runs_each_way(&rt, rt.alloc());
+fn runs_on_lines_from_elsewhere(rt: HostRuntime) {
+    runs_on_lines(&rt, rt.alloc());
 }
 
 #[test]
-fn runs_in_each_way_with_ample_memory(rt: HostRuntime) {
-    assert!(rt; !runs_each_way(&rt, rt.alloc()));
+fn runs_on_lines_from_elsewhere_with_ample_memory(rt: HostRuntime) {
+    assert!(rt; !runs_on_lines(&rt, rt.alloc()));
+}
+
+#[test]
+fn runs_host(rt: HostRuntime) {
+    runs_in(&rt, rt.alloc(), "host");
+}
+
+#[test]
+fn runs_host_with_ample_memory(rt: HostRuntime) {
+    assert!(rt; !runs_in(&rt, rt.alloc(), "host"));
+}
+
+#[test]
+fn runs_secure(rt: HostRuntime) {
+    runs_in(&rt, rt.alloc(), "secure");
+}
+
+#[test]
+fn runs_secure_with_ample_memory(rt: HostRuntime) {
+    assert!(rt; !runs_in(&rt, rt.alloc(), "secure"));
+}
+
+#[test]
+fn runs_signed(rt: HostRuntime) {
+    runs_in(&rt, rt.alloc(), "signed");
+}
+
+#[test]
+fn runs_signed_with_ample_memory(rt: HostRuntime) {
+    assert!(rt; !runs_in(&rt, rt.alloc(), "signed"));
+}
+
+#[test]
+fn runs_sealed(rt: HostRuntime) {
+    runs_in(&rt, rt.alloc(), "sealed");
+}
+
+#[test]
+fn runs_sealed_with_ample_memory(rt: HostRuntime) {
+    assert!(rt; !runs_in(&rt, rt.alloc(), "sealed"));
 }
 
 #[test]

@@ -285,7 +285,7 @@ fn plays_a_first_visit(rt: HostRuntime) -> Result<(), Fail> {
 }
 
 // Five ways in one script; `host` and `secure` are read in a plain way under their stored names.
-pub const WAYS: &str = "open\thttps://shop.com/\t2024-01-01T00:00:00Z\n\
+const WAYS: &str = "open\thttps://shop.com/\t2024-01-01T00:00:00Z\n\
 set\tplain\tp\t0\t-\t-\n\
 set\thost\ta\t1\t-\t-\n\
 set\tsecure\ta\t2\t-\t-\n\
@@ -305,7 +305,7 @@ get\tplain\ta\n\
 lose\n\
 header\thttps://evil.com/\t2024-01-01T00:00:01Z\n";
 
-pub const WAYS_PRINT: &str = "plain\tp\t=0\n\
+const WAYS_PRINT: &str = "plain\tp\t=0\n\
 host\ta\t=1\n\
 plain\t__Host-a\t=1\n\
 secure\ta\t=2\n\

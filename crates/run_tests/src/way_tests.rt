@@ -1,7 +1,7 @@
 //! The ways of a session alone: the lines that it closes with, and what it refuses.
-use crate::fixtures::{cookie, second, zero_key};
+use crate::fixtures::{closes_with, closes_with_lines, cookie, ending, reads, second, zero_key};
 use crate::generators::{failing, zeros};
-use cookie::{Cookie, Expiration, SameSite};
+use cookie::SameSite;
 use cookie_run::{Session, SessionError, Way};
 use jiff::civil::DateTime;
 use std::alloc::Global;
@@ -12,15 +12,8 @@ fn sets_under_a_prefix(rt: HostRuntime) -> Result<(), Fail> {
     let alloc = rt.alloc();
     let mut session = Session::open(alloc, b"", zero_key())?;
     session.set(Way::Host, cookie(alloc, "sid", "1")?, &mut zeros())?;
-    let lines = session.close()?;
-    assert_eq!(rt; lines.len(), 1);
-    assert!(rt;
-        lines
-            .iter()
-            .all(|line| line.as_str() == "__Host-sid=1; Secure; Path=/")
-    );
-    let value = session.get(Way::Plain, "__Host-sid")?;
-    assert_eq!(rt; value.as_deref(), Some("1"));
+    assert!(rt; closes_with(&session, "__Host-sid=1; Secure; Path=/"));
+    assert!(rt; reads(&session, Way::Plain, "__Host-sid", Some("1")));
     Ok(())
 }
 
@@ -29,10 +22,8 @@ fn seals_and_opens(rt: HostRuntime) -> Result<(), Fail> {
     let alloc = rt.alloc();
     let mut session = Session::open(alloc, b"", zero_key())?;
     session.set(Way::Sealed, cookie(alloc, "a", "1")?, &mut zeros())?;
-    let value = session.get(Way::Sealed, "a")?;
-    assert_eq!(rt; value.as_deref(), Some("1"));
-    let other = session.get(Way::Signed, "a")?;
-    assert_eq!(rt; other.as_deref(), None);
+    assert!(rt; reads(&session, Way::Sealed, "a", Some("1")));
+    assert!(rt; reads(&session, Way::Signed, "a", None));
     Ok(())
 }
 
@@ -54,43 +45,24 @@ fn sets(alloc: Global, session: &mut Session, name: &str, value: &str) -> Result
     Ok(())
 }
 
-// Whether a session closes with so many lines.
-fn closes_with_lines(session: &Session, count: usize) -> Result<bool, Fail> {
-    let lines = session.close()?;
-    Ok(lines.len() == count)
-}
-
-// Whether a name reads so as it is.
-fn reads(session: &Session, name: &str, wanted: Option<&str>) -> Result<bool, Fail> {
-    let value = session.get(Way::Plain, name)?;
-    Ok(value.as_deref() == wanted)
-}
-
 #[test]
 fn is_unchanged_where_the_generator_fails(rt: HostRuntime) -> Result<(), Fail> {
     let alloc = rt.alloc();
     let mut session = Session::open(alloc, b"", zero_key())?;
     assert!(rt; refuses(alloc, &mut session, "", SessionError::EmptyName)?);
     assert!(rt; refuses(alloc, &mut session, "a", SessionError::Rng)?);
-    assert!(rt; closes_with_lines(&session, 0)?);
+    assert!(rt; closes_with_lines(&session, 0));
     let signed = cookie(alloc, "a", "1")?;
     session.set(Way::Signed, signed, &mut failing())?;
-    assert!(rt; closes_with_lines(&session, 1)?);
+    assert!(rt; closes_with_lines(&session, 1));
     Ok(())
-}
-
-// Whether a session closes with this line alone.
-fn closes_with(session: &Session, wanted: &str) -> Result<bool, Fail> {
-    let lines = session.close()?;
-    Ok(lines.len() == 1 && lines.iter().all(|line| line.as_str() == wanted))
 }
 
 // Whether a session on this header tells the client this removal of `a`, and has no `a` any more.
 fn removes(alloc: Global, way: Way, header: &[u8], wanted: &str) -> Result<bool, Fail> {
     let mut session = Session::open(alloc, header, zero_key())?;
     session.remove(way, "a", second(0))?;
-    let value = session.get(way, "a")?;
-    Ok(value.is_none() && closes_with(&session, wanted)?)
+    Ok(reads(&session, way, "a", None) && closes_with(&session, wanted))
 }
 
 #[test]
@@ -109,8 +81,8 @@ fn a_refused_removal_leaves_the_session(rt: HostRuntime) -> Result<(), Fail> {
     sets(alloc, &mut session, "b", "2")?;
     let refused = session.remove(Way::Plain, "", second(0));
     assert_eq!(rt; refused, Err(SessionError::EmptyName));
-    assert!(rt; closes_with(&session, "b=2; Secure; Path=/")?);
-    assert!(rt; reads(&session, "a", Some("1"))?);
+    assert!(rt; closes_with(&session, "b=2; Secure; Path=/"));
+    assert!(rt; reads(&session, Way::Plain, "a", Some("1")));
     Ok(())
 }
 
@@ -120,7 +92,7 @@ fn sends_same_site(alloc: Global, same_site: SameSite, wanted: &str) -> Result<b
     let mut set = cookie(alloc, "a", "1")?;
     set.set_same_site(Some(same_site));
     session.set(Way::Plain, set, &mut zeros())?;
-    closes_with(&session, wanted)
+    Ok(closes_with(&session, wanted))
 }
 
 #[test]
@@ -139,17 +111,16 @@ fn forgets_what_was_set_and_removed(rt: HostRuntime) -> Result<(), Fail> {
     let mut session = Session::open(alloc, b"", zero_key())?;
     sets(alloc, &mut session, "a", "1")?;
     session.remove(Way::Plain, "a", second(0))?;
-    assert!(rt; closes_with_lines(&session, 0)?);
-    assert!(rt; reads(&session, "a", None)?);
+    assert!(rt; closes_with_lines(&session, 0));
+    assert!(rt; reads(&session, Way::Plain, "a", None));
     Ok(())
 }
 
 // Whether a cookie of the year 99 is refused for it, and nothing is set.
 fn refuses_an_early_end(alloc: Global, session: &mut Session) -> Result<bool, Fail> {
-    let mut early: Cookie<'static> = cookie(alloc, "a", "1")?;
-    early.set_expires(Expiration::DateTime(DateTime::constant(99, 12, 31, 0, 0, 0, 0)));
+    let early = ending(alloc, "a", DateTime::constant(99, 12, 31, 0, 0, 0, 0))?;
     let set = session.set(Way::Plain, early, &mut zeros());
-    Ok(set == Err(SessionError::Year) && closes_with_lines(session, 0)?)
+    Ok(set == Err(SessionError::Year) && closes_with_lines(session, 0))
 }
 
 // Whether a removal in the year 100 is refused so.
