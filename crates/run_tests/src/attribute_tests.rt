@@ -1,6 +1,6 @@
 //! Attributes of the cookies that a site sets, and of the lines that come from elsewhere.
 use crate::fixtures::{
-    closes_with, closes_with_lines, cookie, ending, reads, second, text, zero_key,
+    closes_with, closes_with_lines, cookie, ending, reads, second, sets, text, zero_key,
 };
 use crate::generators::zeros;
 use cookie::{Cookie, Expiration, SameSite};
@@ -10,7 +10,7 @@ use cookie_run::{
 };
 use jiff::SignedDuration;
 use jiff::civil::DateTime;
-use std::alloc::Global;
+use std::alloc::{AllocError, Global};
 use std::test::Fail;
 use url::Url;
 
@@ -91,8 +91,8 @@ fn refuses_lines_in_which_more_stands(rt: HostRuntime) -> Result<(), Fail> {
 // Whether a session closes with this line for a cookie.
 fn is_sent_as(alloc: Global, cookie: &Cookie<'static>, wanted: &str) -> Result<bool, Fail> {
     let mut session = Session::open(alloc, b"", zero_key())?;
-    session.set(Way::Plain, cookie.clone(alloc)?, &mut zeros())?;
-    Ok(closes_with(&session, wanted))
+    let is_set = sets(&mut session, Way::Plain, cookie.clone(alloc)?);
+    Ok(is_set && closes_with(&session, wanted))
 }
 
 #[test]
@@ -132,7 +132,7 @@ fn refuses_an_empty_name_and_then_a_short_year(rt: HostRuntime) -> Result<(), Fa
     assert_eq!(rt; set, Err(SessionError::Year));
     assert!(rt; closes_with_lines(&session, 0));
     assert!(rt; reads(&session, Way::Plain, "a", Some("0")));
-    session.set(Way::Plain, ending(alloc, "a", long)?, &mut zeros())?;
+    assert!(rt; sets(&mut session, Way::Plain, ending(alloc, "a", long)?));
     assert!(rt; reads(&session, Way::Plain, "a", Some("1")));
     assert!(rt; closes_with_lines(&session, 1));
     Ok(())
@@ -149,7 +149,7 @@ fn visit(alloc: Global, at: DateTime, commands: Vec<Command>) -> Result<Step, Fa
 }
 
 // Every character of ASCII, and some past it.
-fn characters(alloc: Global) -> Result<String, Fail> {
+fn characters(alloc: Global) -> Result<String, AllocError> {
     let mut all = String::from_str(alloc, "é€\u{10ffff}")?;
     for byte in 0..=127u8 {
         all.push(char::from(byte))?;

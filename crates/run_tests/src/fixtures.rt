@@ -1,4 +1,5 @@
 //! What several tests begin with.
+use crate::generators::zeros;
 use cookie::{Cookie, Expiration, Key};
 use cookie_run::{Session, Text, Way};
 use jiff::SignedDuration;
@@ -40,6 +41,11 @@ pub fn zero_key() -> Key {
     Key::from(&[0; 64])
 }
 
+/// Whether a cookie is set in this way.
+pub fn sets(session: &mut Session, way: Way, cookie: Cookie<'static>) -> bool {
+    session.set(way, cookie, &mut zeros()).is_ok()
+}
+
 /// Whether a name reads so in this way.
 pub fn reads(session: &Session, way: Way, name: &str, wanted: Option<&str>) -> bool {
     match session.get(way, name) {
@@ -51,8 +57,16 @@ pub fn reads(session: &Session, way: Way, name: &str, wanted: Option<&str>) -> b
 /// Whether a session closes with this line alone.
 pub fn closes_with(session: &Session, wanted: &str) -> bool {
     match session.close() {
-        Ok(lines) => lines.len() == 1 && lines.iter().all(|line| line.as_str() == wanted),
+        Ok(lines) => is_line(&lines, wanted),
         Err(_) => false,
+    }
+}
+
+/// Whether these lines are this one alone.
+pub fn is_line(lines: &[String], wanted: &str) -> bool {
+    match lines {
+        [line] => line.as_str() == wanted,
+        _ => false,
     }
 }
 

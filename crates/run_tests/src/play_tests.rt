@@ -5,7 +5,7 @@ use cookie_run::play::play;
 use cookie_run::{Command, Delivery, FaultKind, Reading, SessionError, Step, Way};
 use jiff::SignedDuration;
 use jiff::civil::DateTime;
-use std::alloc::Global;
+use std::alloc::{AllocError, Global};
 use std::test::Fail;
 use url::Url;
 
@@ -24,11 +24,11 @@ fn exchange(
     })
 }
 
-fn set(alloc: Global, name: &str, value: &str) -> Result<Command, Fail> {
+fn set(alloc: Global, name: &str, value: &str) -> Result<Command, AllocError> {
     Ok(Command::Set(Way::Plain, cookie(alloc, name, value)?))
 }
 
-fn get(alloc: Global, name: &str) -> Result<Command, Fail> {
+fn get(alloc: Global, name: &str) -> Result<Command, AllocError> {
     Ok(Command::Get(Way::Plain, text(alloc, name)?))
 }
 
