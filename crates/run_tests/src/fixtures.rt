@@ -1,4 +1,4 @@
-//! What several tests begin with.
+//! What several tests begin with, and what they ask of a session.
 use crate::generators::zeros;
 use cookie::{Cookie, Expiration, Key};
 use cookie_run::{Session, Text, Way};
