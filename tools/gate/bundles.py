@@ -1,0 +1,156 @@
+"""Checks of many wrong bodies at once, and what each says of them."""
+import os
+import re
+import shutil
+import subprocess
+import tempfile
+
+HOLE = """use Rattle.{crate}.proofs.{module}.Statement as stated
+
+pub {name}_spec : {{M : Type 1}} → stated.statement M
+{name}_spec = ?
+"""
+TOLD = re.compile(r"^fn (\S+): (.*)$")
+OPEN = re.compile(r"^note: src/\S+: it is not proved that ")
+ERROR = re.compile(r"^(?:\./)?((?:src|specs|proofs)/\S+?):\d+:\d+: error: (.*)$")
+ITEM = re.compile(r"^(?:struct|enum|union|trait|impl) \S+: ")
+CALLS = re.compile(r"`[\w-]+::([^`]+)`")
+STANDS = re.compile(r"`Rattle\.[\w-]+\.proofs\.([^`]+)`")
+# A hole that has no place there, since the function calls itself.
+MISPLACED = re.compile(r"^(?:\./)?(proofs/\S+)/Proof\.antt: error\[reserved-name\]", re.M)
+UNKNOWN = re.compile(r"^rattle: error: `\S+` has no function `\w+::([^`]+)`", re.M)
+# The words by which antt says that a proof file names what is not there, and that this is a goal.
+GONE = re.compile(r"has no field|is not in scope|has no `")
+GOAL_GONE = re.compile(r"Goals` has no `")
+FAILS = ("not proved", "no proof")
+PASSES = re.compile(r"no holes$|proved$|depends on a hole in ")
+
+
+class Verdict:
+    """What a check says of an edit: `word` is one of those below, `about` tells of what."""
+
+    OPEN, NAME, PASSES = "an open goal", "only a name is gone", "not refused"
+    # It failed, and perhaps only because another edit of the same check did.
+    AGAIN = "again"
+    # The check can't tell: it is tried alone, as rt tries it.
+    WHOLE = "whole"
+
+    def __init__(self, word, about=""):
+        self.word, self.about = word, about
+
+
+class Bundle:
+    """One check of a copy of the crate with these edits in it.
+
+    Each function without an edit has a hole in the place of its proof, so the others are proved from what
+    the contracts of their callees say.
+    """
+
+    def __init__(self, rt, crate, functions, texts, edits):
+        self.rt, self.crate, self.edits = rt, crate, edits
+        self.functions, self.texts = functions, texts
+        self.asked = {it.name: it for edit in edits for it in edit.functions}
+        self.told, self.opened, self.errors = {}, {}, []
+        self.is_whole, self.unknown, self.output = False, None, ""
+
+    def run(self, kept):
+        """Makes the check. Afterwards `is_whole` says whether it came to its end."""
+        texts = self.texts
+        for edit in self.edits:
+            texts = edit.applied(texts)
+            if texts is None:
+                self.output = "two edits change one text"
+                return
+        with tempfile.TemporaryDirectory(prefix="wrong-bodies-") as room:
+            self.fill(room, texts)
+            words = [*self.crate.words(["--jobs", "1"], keeps=False), "--allow-holes", "--incremental", kept]
+            for name in self.asked:
+                words += ["--only", f"{self.crate.name}::{name}"]
+            ran = subprocess.run(
+                [*self.rt.rtlib.guarded(), self.rt.rtlib.RATTLE, "check", *words], cwd=room, errors="replace",
+                stdin=subprocess.DEVNULL, stdout=subprocess.PIPE, stderr=subprocess.STDOUT,
+            )
+        self.output = ran.stdout
+        if self.has_misplaced_holes():
+            self.run(kept)
+            return
+        self.read()
+        stray = [file for file, _ in self.errors if not any(it.owns_file(file) for it in self.asked.values())]
+        last = ran.stdout.rstrip("\n").rpartition("\n")[2]
+        self.is_whole = ran.returncode in (0, 1) and last.startswith("only=") and not stray
+        unknown = UNKNOWN.search(ran.stdout)
+        self.unknown = unknown[1] if unknown and ran.returncode == 2 else None
+
+    def fill(self, room, texts):
+        for part in self.rt.rtlib.PARTS:
+            if os.path.isdir(f"{self.crate.folder}/{part}"):
+                shutil.copytree(f"{self.crate.folder}/{part}", f"{room}/{part}")
+        for path, text in texts.items():
+            with open(f"{room}/{path}", "w", encoding="utf-8") as to:
+                to.write(text)
+        for it in self.functions:
+            if it.name not in self.asked and not it.keeps_proof:
+                self.put_hole(f"{room}/{it.folder}", it)
+
+    def put_hole(self, folder, function):
+        os.makedirs(folder, exist_ok=True)
+        for file in ("Answers.antt", "Invariants.antt"):
+            if os.path.isfile(f"{folder}/{file}"):
+                os.remove(f"{folder}/{file}")
+        names = [*function.module, *function.inner]
+        with open(f"{folder}/Proof.antt", "w", encoding="utf-8") as to:
+            to.write(HOLE.format(crate=self.crate.name, module=".".join(names), name=names[-1]))
+
+    def has_misplaced_holes(self):
+        """Whether there were some, which then are made no more."""
+        folders = {*MISPLACED.findall(self.output)}
+        misplaced = [it for it in self.functions if it.folder in folders and not it.keeps_proof]
+        for it in misplaced:
+            it.is_recursive()
+        return bool(misplaced)
+
+    def read(self):
+        """Takes from the output what is said of each function: its line, the open goals above it, and errors."""
+        opened = []
+        for line in self.output.split("\n"):
+            told, error = TOLD.match(line), ERROR.match(line)
+            if OPEN.match(line):
+                opened.append(line)
+            elif error:
+                self.errors.append(error.groups())
+            elif told:
+                name = told[1].partition("::")[2]
+                self.told[name], self.opened[name] = told[2], opened
+                opened = []
+            elif ITEM.match(line):
+                opened = []
+
+    def judge(self, edit):
+        """What the check says of one of its edits."""
+        if not self.is_whole:
+            return Verdict(Verdict.WHOLE)
+        own = [name for name in self.told if any(it.owns(name) for it in edit.functions)]
+        failed = [name for name in own if self.told[name].startswith(FAILS)]
+        errors = [it for it in self.errors if any(its.owns_file(it[0]) for its in edit.functions)]
+        gone = [it for it in errors if GONE.search(it[1])]
+        # A goal can be open only because its answer, or the loop's invariant, went with a name.
+        is_blind = any(file.endswith("/Invariants.antt") or GOAL_GONE.search(text) for file, text in gone)
+        is_open = any(self.opened[name] for name in failed) and not is_blind
+        if failed and (is_open or len(gone) < len(errors)):
+            return Verdict(Verdict.OPEN, ", ".join(failed))
+        if failed and gone:
+            return Verdict(Verdict.NAME, f"{', '.join(failed)}: {gone[0][1][:160]}")
+        others = self.others_behind(edit, failed)
+        if others:
+            edit.apart |= others
+            return Verdict(Verdict.AGAIN)
+        if {it.name for it in edit.functions} <= {*own} and all(PASSES.match(self.told[name]) for name in own):
+            return Verdict(Verdict.PASSES, ", ".join(own))
+        return Verdict(Verdict.WHOLE)
+
+    def others_behind(self, edit, failed):
+        """The units of other edits on which what is said of these functions may rest."""
+        text = " ".join(self.told[name] for name in failed)
+        named = {*CALLS.findall(text), *(it.replace(".", "::") for it in STANDS.findall(text))}
+        others = [it for it in self.asked.values() if it.unit not in edit.units]
+        return {it.unit for it in others if any(it.is_within(name) for name in named)}

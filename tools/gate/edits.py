@@ -1,0 +1,61 @@
+"""The wrong bodies of a crate: the files of its folder must-fail/."""
+import os
+import re
+
+
+class Edit:
+    """A wrong body: pairs of texts, and the functions that they change or that the edit names."""
+
+    def __init__(self, path):
+        self.path, self.label = path, os.path.basename(path)[: -len(".edit")]
+        self.pairs, self.named, self.functions = [], [], []
+        # The units of functions with which it is not tried at once.
+        self.apart = set()
+        file = old = None
+        with open(path, encoding="utf-8") as lines:
+            for line in lines.read().split("\n"):
+                key, _, text = line.partition(":")
+                if key == "file":
+                    file = text.strip()
+                elif key == "in":
+                    self.named.append(text.strip())
+                elif key == "old":
+                    old = text[1:]
+                elif key == "new" and old is not None:
+                    self.pairs.append((file, old, re.sub(r"\A ", "", text)))
+                    old = None
+
+    @property
+    def units(self):
+        return {it.unit for it in self.functions}
+
+    @property
+    def is_global(self):
+        """Whether it changes what no function holds, and so what many may read."""
+        return bool(self.named)
+
+    def locate(self, functions, texts):
+        """Finds the functions that must be refused, and returns why it can only be tried whole, if that is so."""
+        if self.named:
+            self.functions = [it for it in functions if it.name in self.named]
+            lost = {*self.named} - {it.name for it in self.functions}
+            return f"no function is named {', '.join(sorted(lost))}" if lost else None
+        for file, old, _ in self.pairs:
+            if file not in texts:
+                return f"it changes {file}"
+            at = texts[file].find(old)
+            line = texts[file].count("\n", 0, at)
+            holders = [it for it in functions if it.file == file and it.first <= line <= it.last]
+            if at < 0 or not holders:
+                return "it changes a text outside any function, and has no line 'in: module::function'"
+            self.functions += [it for it in holders if it not in self.functions]
+        return None
+
+    def applied(self, texts):
+        """These texts with the edit in them, or None where another edit is in its way."""
+        texts = dict(texts)
+        for file, old, new in self.pairs:
+            if texts[file].count(old) != 1:
+                return None
+            texts[file] = texts[file].replace(old, new)
+        return texts
