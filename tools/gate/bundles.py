@@ -13,6 +13,7 @@ pub {name}_spec : {{M : Type 1}} → stated.statement M
 TOLD = re.compile(r"^fn (\S+): (.*)$")
 OPEN = re.compile(r"^note: src/\S+: it is not proved that ")
 ERROR = re.compile(r"^(?:\./)?((?:src|specs|proofs)/\S+?):\d+:\d+: error: (.*)$")
+BROKEN = re.compile(r"^(?:\./)?(src/\S+?):(\d+):\d+: error", re.M)
 ITEM = re.compile(r"^(?:struct|enum|union|trait|impl) \S+: ")
 CALLS = re.compile(r"`[\w-]+::([^`]+)`")
 STANDS = re.compile(r"`Rattle\.[\w-]+\.proofs\.([^`]+)`")
@@ -111,19 +112,31 @@ class Bundle:
 
     def read(self):
         """Takes from the output what is said of each function: its line, the open goals above it, and errors."""
-        opened = []
-        for line in self.output.split("\n"):
+        opened, lines = [], self.output.split("\n")
+        for line, next_line in zip(lines, [*lines[1:], ""]):
             told, error = TOLD.match(line), ERROR.match(line)
             if OPEN.match(line):
                 opened.append(line)
             elif error:
-                self.errors.append(error.groups())
+                # A long message goes on in the line below.
+                more = next_line if next_line.startswith("  ") else ""
+                self.errors.append((error[1], error[2] + more))
             elif told:
                 name = told[1].partition("::")[2]
                 self.told[name], self.opened[name] = told[2], opened
                 opened = []
             elif ITEM.match(line):
                 opened = []
+
+    def suspects(self):
+        """The edits that may have broken it off: those of the functions that its errors tell of."""
+        places = [(file, int(line) - 1) for file, line in BROKEN.findall(self.output)]
+
+        def is_told(function):
+            is_there = any(function.file == file and function.first <= line <= function.last for file, line in places)
+            return is_there or function.name == self.unknown
+
+        return [edit for edit in self.edits if any(map(is_told, edit.functions))]
 
     def judge(self, edit):
         """What the check says of one of its edits."""

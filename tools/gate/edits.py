@@ -9,6 +9,8 @@ class Edit:
     def __init__(self, path):
         self.path, self.label = path, os.path.basename(path)[: -len(".edit")]
         self.pairs, self.named, self.functions = [], [], []
+        # Whether it changes more than bodies, and so what others are proved from.
+        self.is_global = False
         # The units of functions with which it is not tried at once.
         self.apart = set()
         file = old = None
@@ -29,14 +31,10 @@ class Edit:
     def units(self):
         return {it.unit for it in self.functions}
 
-    @property
-    def is_global(self):
-        """Whether it changes what no function holds, and so what many may read."""
-        return bool(self.named)
-
     def locate(self, functions, texts):
         """Finds the functions that must be refused, and returns why it can only be tried whole, if that is so."""
         if self.named:
+            self.is_global = True
             self.functions = [it for it in functions if it.name in self.named]
             lost = {*self.named} - {it.name for it in self.functions}
             return f"no function is named {', '.join(sorted(lost))}" if lost else None
@@ -49,6 +47,7 @@ class Edit:
             if at < 0 or not holders:
                 return "it changes a text outside any function, and has no line 'in: module::function'"
             self.functions += [it for it in holders if it not in self.functions]
+            self.is_global |= any(line < it.body for it in holders)
         return None
 
     def applied(self, texts):

@@ -12,15 +12,15 @@ ARGUMENT = re.compile(r"(?<![\w:'])(?:[A-Z]\w+|[ui](?:8|16|32|64|128|size)|bool|
 
 
 class Function:
-    """A function with a body: where it stands, and its name below the crate as a check prints it.
+    """A function with a body: the lines where it and its body stand, and its name below the crate as a check prints it.
 
     `module` and `inner` are the two parts of that name: the modules that hold it, and its own name below
     them, which begins with its type's or its impl's where it has one.
     """
 
-    def __init__(self, module, inner, file, first, last):
+    def __init__(self, module, inner, file, lines):
         self.module, self.inner = module, inner
-        self.file, self.first, self.last = file, first, last
+        self.file, (self.first, self.body, self.last) = file, lines
         # The cycle of calls that it is in, and whether its own proof is to stay where it is not tried.
         self.cycle, self.keeps_proof = None, False
 
@@ -101,8 +101,10 @@ def functions_in(file, lines, homes):
             blocks.append((depth, opens[1], head_at(lines, at)))
         elif begins and has_body(lines, at, depth):
             last = end_of(lines, at, depth)
+            opens = [" " * depth + it for it in ("{", "{}")]
+            body = next((it for it in range(at, last + 1) if lines[it] in opens), at)
             module, owner = place_of(module_of(file), blocks, homes)
-            found = Function(module, [*owner, begins[1]], file, at, last)
+            found = Function(module, [*owner, begins[1]], file, (at, body, last))
             found.cycle = cycle_at(lines, at)
             found.keeps_proof = bool(found.cycle) or any(kind == "trait" for _, kind, _ in blocks)
             yield found
