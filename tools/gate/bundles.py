@@ -5,6 +5,8 @@ import shutil
 import subprocess
 import tempfile
 
+from gate.edits import all_applied
+
 HOLE = """use Rattle.{crate}.proofs.{module}.Statement as stated
 
 pub {name}_spec : {{M : Type 1}} → stated.statement M
@@ -56,12 +58,10 @@ class Bundle:
 
     def run(self, kept):
         """Makes the check. Afterwards `is_whole` says whether it came to its end."""
-        texts = self.texts
-        for edit in self.edits:
-            texts = edit.applied(texts)
-            if texts is None:
-                self.output = "two edits change one text"
-                return
+        texts = all_applied(self.edits, self.texts)
+        if texts is None:
+            self.output = "two edits change one text"
+            return
         with tempfile.TemporaryDirectory(prefix="wrong-bodies-") as room:
             self.fill(room, texts)
             words = [*self.crate.words(["--jobs", "1"], keeps=False), "--allow-holes", "--incremental", kept]

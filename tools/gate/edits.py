@@ -42,6 +42,8 @@ class Edit:
             if file not in texts:
                 return f"it changes {file}"
             at = texts[file].find(old)
+            # (an `old:` text can stand there once only when the pairs before it are applied)
+            self.is_global |= texts[file].count(old) != 1
             line = texts[file].count("\n", 0, at)
             holders = [it for it in functions if it.file == file and it.first <= line <= it.last]
             if at < 0 or not holders:
@@ -50,11 +52,29 @@ class Edit:
             self.is_global |= any(line < it.body for it in holders)
         return None
 
+    def places(self, texts):
+        """Where its texts stand in the crate's own, as (file, first, last, new text)."""
+        for file, old, new in self.pairs:
+            at = texts[file].find(old)
+            yield file, at, at + len(old), new
+
     def applied(self, texts):
-        """These texts with the edit in them, or None where another edit is in its way."""
+        """These texts with the edit in them, one pair after the other."""
         texts = dict(texts)
         for file, old, new in self.pairs:
-            if texts[file].count(old) != 1:
-                return None
             texts[file] = texts[file].replace(old, new)
         return texts
+
+
+def all_applied(edits, texts):
+    """These texts with the edits in them, of which each changes other places, or None where two change one."""
+    if len(edits) == 1:
+        return edits[0].applied(texts)
+    texts, before = dict(texts), {}
+    places = [it for edit in edits for it in edit.places(texts)]
+    for file, first, last, new in sorted(places, reverse=True):
+        if last > before.get(file, last):
+            return None
+        before[file] = first
+        texts[file] = texts[file][:first] + new + texts[file][last:]
+    return texts
