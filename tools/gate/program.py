@@ -77,7 +77,8 @@ def unproved_output(command, script):
     progress.show("compiling and running, with no proof")
     with open(script, "rb") as given, open(log, "wb") as to:
         how = {"stdin": given, "stdout": subprocess.PIPE, "stderr": to}
-        ran = subprocess.run(["rt", "try"], cwd=f"{TOP}/crates/{NAME}", **how)
+        # (the interpreter can't run a program that reads: one step of it will do, and the compiled run answers)
+        ran = subprocess.run(["rt", "try", "--steps", "1"], cwd=f"{TOP}/crates/{NAME}", **how)
     progress.end()
     if ran.returncode:
         print(f"{command}: the run failed; {os.path.relpath(log)} tells why", file=sys.stderr)
