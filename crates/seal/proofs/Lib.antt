@@ -6,8 +6,12 @@ pub mod ByteFacts
 pub mod FieldLaws
 pub mod ByteLists
 pub mod ScheduleLemmas
+pub mod WordLemmas
 pub mod GhashLemmas
 pub mod GhashLaws
+pub mod PowerLemmas
+pub mod TableLemmas
+pub mod TableFacts
 pub mod BlockLemmas
 pub mod GcmLemmas
 pub mod TagLemmas

@@ -1,72 +1,43 @@
-//! AES-256 (FIPS 197), without tables.
+//! AES-256 (FIPS 197), by tables.
 //!
 //! A state is its 16 bytes, column by column. `w` is a key schedule: 60 words of four bytes.
 
 ghost use Rattle.std.specs.Prelude.{◌≡◌, ◌≤◌, ◌<◌, ◌+◌, ◌-◌, ◌∷◌, [], ℕ, List, length};
 ghost use Rattle.seal.specs.Bytes.{xor_bytes};
 ghost use Rattle.seal.specs.Aes as spec;
-ghost use Rattle.seal.specs.Field.{product};
+ghost use Rattle.seal.specs.Words.{bytes_of, state_bytes};
 
-use crate::field::{double, s_box};
+use crate::field::double;
+use crate::tables::{row_0, row_1, row_2, row_3, s_box};
 
-// SubBytes (5.1.1).
-fn sub_bytes(s: [u8; 16]) -> [u8; 16]
-    ensures { result ≡ spec.sub_bytes s }
+// A column after SubBytes, ShiftRows and MixColumns, of the four bytes that come to stand in it,
+// and the key's word added.
+fn column(p: u8, q: u8, r: u8, t: u8, key: u32) -> u32
+    ensures { bytes_of result ≡ xor_bytes
+        (spec.column_of (λ i. spec.mixed (spec.sub_bytes (p ∷ q ∷ r ∷ t ∷ [])) i 0))
+        (bytes_of key) }
 {
-    let mut out = s;
-    for i in 0..16usize {
-        out[i] = s_box(out[i]);
-    }
-    out
+    ((row_0(p) ^ row_1(q)) ^ (row_2(r) ^ row_3(t))) ^ key
 }
 
-// ShiftRows (5.1.2).
-fn shift_rows(s: [u8; 16]) -> [u8; 16]
-    ensures { result ≡ spec.shift_rows s }
+// The same without MixColumns.
+fn last_column(p: u8, q: u8, r: u8, t: u8, key: u32) -> u32
+    ensures { bytes_of result ≡ xor_bytes (spec.sub_bytes (p ∷ q ∷ r ∷ t ∷ [])) (bytes_of key) }
 {
-    [
-        s[0], s[5], s[10], s[15], s[4], s[9], s[14], s[3], s[8], s[13], s[2], s[7], s[12], s[1],
-        s[6], s[11],
-    ]
+    u32::from_le_bytes([s_box(p), s_box(q), s_box(r), s_box(t)]) ^ key
 }
 
-// The product with 3.
-fn triple(b: u8) -> u8
-    ensures { result ≡ product 3 b }
+// Word i of a schedule.
+fn word(w: &[u8; 240], i: usize) -> u32
+    requires { i < 60 }
+    ensures { bytes_of result ≡ spec.word w.now i }
 {
-    double(b) ^ b
-}
-
-// One column of MixColumns (5.1.3).
-fn mix_column(s: &[u8; 16], c: usize) -> [u8; 4]
-    requires { c < 4 }
-    ensures { result ≡ spec.column_of (λ r. spec.mixed s.now r c) }
-{
-    let (p, q, r, t) = (s[4 * c], s[4 * c + 1], s[4 * c + 2], s[4 * c + 3]);
-    [
-        double(p) ^ triple(q) ^ (r ^ t),
-        double(q) ^ triple(r) ^ (t ^ p),
-        double(r) ^ triple(t) ^ (p ^ q),
-        double(t) ^ triple(p) ^ (q ^ r),
-    ]
-}
-
-// MixColumns (5.1.3).
-fn mix_columns(s: [u8; 16]) -> [u8; 16]
-    ensures { result ≡ spec.mix_columns s }
-{
-    let [a0, a1, a2, a3] = mix_column(&s, 0);
-    let [b0, b1, b2, b3] = mix_column(&s, 1);
-    let [c0, c1, c2, c3] = mix_column(&s, 2);
-    let [d0, d1, d2, d3] = mix_column(&s, 3);
-    [
-        a0, a1, a2, a3, b0, b1, b2, b3, c0, c1, c2, c3, d0, d1, d2, d3,
-    ]
+    let at = 4 * i;
+    u32::from_le_bytes([w[at], w[at + 1], w[at + 2], w[at + 3]])
 }
 
 /// The sum of two blocks.
-pub(crate) fn xor_block(s: [u8; 16], block: &[u8]) -> [u8; 16]
-    requires { length block.now ≡ 16 }
+pub(crate) fn xor_block(s: [u8; 16], block: &[u8; 16]) -> [u8; 16]
     ensures { result ≡ xor_bytes s block.now }
 {
     let mut out = s;
@@ -76,21 +47,57 @@ pub(crate) fn xor_block(s: [u8; 16], block: &[u8]) -> [u8; 16]
     out
 }
 
-// AddRoundKey (5.1.4), with the round key of round r.
-fn add_round_key(s: [u8; 16], w: &[u8; 240], r: usize) -> [u8; 16]
-    requires { r < 15 }
-    ensures { result ≡ xor_bytes s (spec.round_key w.now r) }
+// A block with the first round key added (5.1.4).
+fn first_state(block: &[u8; 16], w: &[u8; 240]) -> [u32; 4]
+    ensures { state_bytes result ≡ xor_bytes block.now (spec.round_key w.now 0) }
 {
-    xor_block(s, &w[16 * r..16 * r + 16])
+    [
+        u32::from_le_bytes([block[0], block[1], block[2], block[3]]) ^ word(w, 0),
+        u32::from_le_bytes([block[4], block[5], block[6], block[7]]) ^ word(w, 1),
+        u32::from_le_bytes([block[8], block[9], block[10], block[11]]) ^ word(w, 2),
+        u32::from_le_bytes([block[12], block[13], block[14], block[15]]) ^ word(w, 3),
+    ]
 }
 
 // The round after r of them, with MixColumns.
-fn round(s: [u8; 16], w: &[u8; 240], r: usize) -> [u8; 16]
+fn round(s: [u32; 4], w: &[u8; 240], r: usize) -> [u32; 4]
     requires { r < 13 }
-    ensures { (block : List ℕ) → s ≡ spec.rounds w.now block r
-        → result ≡ spec.rounds w.now block (r + 1) }
+    ensures { (block : List ℕ) → state_bytes s ≡ spec.rounds w.now block r
+        → state_bytes result ≡ spec.rounds w.now block (r + 1) }
 {
-    add_round_key(mix_columns(shift_rows(sub_bytes(s))), w, r + 1)
+    let [a0, a1, a2, a3] = s[0].to_le_bytes();
+    let [b0, b1, b2, b3] = s[1].to_le_bytes();
+    let [c0, c1, c2, c3] = s[2].to_le_bytes();
+    let [d0, d1, d2, d3] = s[3].to_le_bytes();
+    let at = 4 * (r + 1);
+    [
+        column(a0, b1, c2, d3, word(w, at)),
+        column(b0, c1, d2, a3, word(w, at + 1)),
+        column(c0, d1, a2, b3, word(w, at + 2)),
+        column(d0, a1, b2, c3, word(w, at + 3)),
+    ]
+}
+
+// The last round, without MixColumns.
+fn last_round(s: [u32; 4], w: &[u8; 240]) -> [u8; 16]
+    ensures { result
+        ≡ xor_bytes (spec.shift_rows (spec.sub_bytes (state_bytes s))) (spec.round_key w.now 14) }
+{
+    let [a0, a1, a2, a3] = s[0].to_le_bytes();
+    let [b0, b1, b2, b3] = s[1].to_le_bytes();
+    let [c0, c1, c2, c3] = s[2].to_le_bytes();
+    let [d0, d1, d2, d3] = s[3].to_le_bytes();
+    let x = last_column(a0, b1, c2, d3, word(w, 56));
+    let y = last_column(b0, c1, d2, a3, word(w, 57));
+    let z = last_column(c0, d1, a2, b3, word(w, 58));
+    let t = last_column(d0, a1, b2, c3, word(w, 59));
+    let [x0, x1, x2, x3] = x.to_le_bytes();
+    let [y0, y1, y2, y3] = y.to_le_bytes();
+    let [z0, z1, z2, z3] = z.to_le_bytes();
+    let [t0, t1, t2, t3] = t.to_le_bytes();
+    [
+        x0, x1, x2, x3, y0, y1, y2, y3, z0, z1, z2, z3, t0, t1, t2, t3,
+    ]
 }
 
 /// A block under the key of which `w` is the schedule (5.1): 14 rounds, the last without
@@ -98,12 +105,12 @@ fn round(s: [u8; 16], w: &[u8; 240], r: usize) -> [u8; 16]
 pub(crate) fn encipher(w: &[u8; 240], block: [u8; 16]) -> [u8; 16]
     ensures { (key : List ℕ) → w.now ≡ spec.schedule key 52 → result ≡ spec.aes key block }
 {
-    let mut s = add_round_key(block, w, 0);
-    for r in 0..13 {
+    let mut s = round(first_state(&block, w), w, 0);
+    for r in 1..13 {
         let next = round(s, w, r);
         s = next;
     }
-    add_round_key(shift_rows(sub_bytes(s)), w, 14)
+    last_round(s, w)
 }
 
 // x^n, which the round constants are made of (5.2).

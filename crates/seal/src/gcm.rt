@@ -11,7 +11,10 @@ ghost use Rattle.seal.specs.declared.error.SealError.TheVariants.{TooLong, Refus
 
 use crate::aes::{encipher, schedule, xor_block};
 use crate::error::SealError;
-use crate::ghash::step;
+use crate::ghash::Multiples;
+use crate::powers::Turns;
+use std::marker::Brand;
+use std::sync::ledger::{Blank, Ledger};
 
 const BLOCK_LEN: usize = 16;
 
@@ -35,9 +38,13 @@ fn add_block(text: &mut [u8], at: usize, block: &[u8; 16])
         → text.old ≡ xored_front xs ys
         → text.new ≡ xored_front xs (ys ++ block.now) }
 {
-    let length = text.len();
-    for i in 0..16usize {
-        if i < length - at {
+    let left = text.len() - at;
+    if left >= 16 {
+        for i in 0..16usize {
+            text[at + i] ^= block[i];
+        }
+    } else {
+        for i in 0..left {
             text[at + i] ^= block[i];
         }
     }
@@ -90,15 +97,21 @@ fn whole_block(text: &[u8], n: usize) -> [u8; 16]
 }
 
 // GHASH of the blocks that `before` is the hash of, and of those of a text, filled with zeros.
-fn hash_text(h: u128, before: u128, text: &[u8]) -> u128
+fn hash_text<L: Ledger>(
+    multiples: &Multiples,
+    before: u128,
+    text: &[u8],
+    turns: &mut Turns<L>,
+) -> u128
     requires { length text.now < 2 ^ 61 }
-    ensures { (bs : List ℕ) → before ≡ ghash h bs
-        → result ≡ ghash h (bs
+    ensures hashed { (bs : List ℕ) → before ≡ ghash multiples.now bs
+        → result ≡ ghash multiples.now (bs
         ++ blocks (spec.blocks_begun (length text.now)) (spec.whole_blocks text.now)) }
+    ensures turns { turns.new ≤ turns.old + 32 * spec.blocks_begun (length text.now) }
 {
     let mut sum = before;
     for n in 0..text.len().div_ceil(BLOCK_LEN) {
-        let next = step(h, sum, &whole_block(text, n));
+        let next = multiples.hash_block(sum, &whole_block(text, n), turns);
         sum = next;
     }
     sum
@@ -115,33 +128,56 @@ fn length_block(aad: usize, text: usize) -> [u8; 16]
 }
 
 // GHASH of the two texts and their lengths.
-fn hash_of(h: u128, aad: &[u8], ciphertext: &[u8]) -> u128
+fn hash_of<L: Ledger>(
+    multiples: &Multiples,
+    aad: &[u8],
+    ciphertext: &[u8],
+    turns: &mut Turns<L>,
+) -> u128
     requires { spec.IsSealable aad.now ciphertext.now }
-    ensures { result ≡ ghash h (blocks_of (spec.hashed aad.now ciphertext.now)) }
+    ensures hashed { result
+        ≡ ghash multiples.now (blocks_of (spec.hashed aad.now ciphertext.now)) }
+    ensures turns { turns.new ≤ turns.old + 32 * (spec.blocks_begun (length aad.now)
+        + spec.blocks_begun (length ciphertext.now) + 1) }
 {
-    let sum = hash_text(h, 0, aad);
-    let sum = hash_text(h, sum, ciphertext);
-    step(h, sum, &length_block(aad.len(), ciphertext.len()))
+    let sum = hash_text(multiples, 0, aad, turns);
+    let sum = hash_text(multiples, sum, ciphertext, turns);
+    multiples.hash_block(sum, &length_block(aad.len(), ciphertext.len()), turns)
 }
 
 // The tag of a ciphertext: w is the schedule of the key.
-fn tag_of(w: &[u8; 240], nonce: &[u8; 12], aad: &[u8], ciphertext: &[u8]) -> [u8; 16]
+fn tag_of<L: Ledger>(
+    w: &[u8; 240],
+    nonce: &[u8; 12],
+    aad: &[u8],
+    ciphertext: &[u8],
+    turns: &mut Turns<L>,
+) -> [u8; 16]
     requires { spec.IsSealable aad.now ciphertext.now }
-    ensures { (key : List ℕ) → w.now ≡ words key 52
+    ensures tag { (key : List ℕ) → w.now ≡ words key 52
         → result ≡ spec.tag key nonce.now aad.now ciphertext.now }
+    ensures turns { turns.new ≤ turns.old + spec.turns_of aad.now ciphertext.now }
 {
-    let h = u128::from_be_bytes(encipher(w, [0; 16]));
-    let hash = hash_of(h, aad, ciphertext);
+    let multiples = Multiples::new(&encipher(w, [0; 16]), turns);
+    let hash = hash_of(&multiples, aad, ciphertext, turns);
     xor_block(encipher(w, first_counter(nonce)), &hash.to_be_bytes())
 }
 
 // Whether this is the tag of the ciphertext.
-fn has_tag(w: &[u8; 240], nonce: &[u8; 12], aad: &[u8], ciphertext: &[u8], tag: &[u8; 16]) -> bool
+fn has_tag<L: Ledger>(
+    w: &[u8; 240],
+    nonce: &[u8; 12],
+    aad: &[u8],
+    ciphertext: &[u8],
+    tag: &[u8; 16],
+    turns: &mut Turns<L>,
+) -> bool
     requires { spec.IsSealable aad.now ciphertext.now }
-    ensures { (key : List ℕ) → w.now ≡ words key 52
+    ensures is { (key : List ℕ) → w.now ≡ words key 52
         → (IsTrue result ↔ (tag.now ≡ spec.tag key nonce.now aad.now ciphertext.now)) }
+    ensures turns { turns.new ≤ turns.old + spec.turns_of aad.now ciphertext.now }
 {
-    tag_of(w, nonce, aad, ciphertext) == *tag
+    tag_of(w, nonce, aad, ciphertext, turns) == *tag
 }
 
 /// Seals `text` in place under AES-256-GCM, and returns its tag (SP 800-38D, section 7.1).
@@ -164,12 +200,53 @@ pub fn seal(
     ensures accepted { IsOk result ↔ spec.IsSealable aad.now text.old }
     ensures too_long { IsErrOf result TooLong ↔ (¬ spec.IsSealable aad.now text.old) }
 {
+    seal_from::<Brand>(key, nonce, aad, text, Blank::new(1))
+}
+
+// The same with a count that is let go.
+fn seal_from<L: Ledger>(
+    key: &[u8; 32],
+    nonce: &[u8; 12],
+    aad: &[u8],
+    text: &mut [u8],
+    blank: Blank,
+) -> Result<[u8; 16], SealError>
+    requires name { blank.name ≡ L.name }
+    requires parts { blank.parts ≡ L.parts }
+    requires some { 0 < L.parts }
+    ensures ok { IfOk result (λ tag. spec.Sealed key.now nonce.now aad.now text.old text.new tag) }
+    ensures err { OnErr result (text.new ≡ text.old) }
+    ensures accepted { IsOk result ↔ spec.IsSealable aad.now text.old }
+    ensures too_long { IsErrOf result TooLong ↔ (¬ spec.IsSealable aad.now text.old) }
+{
+    let mut turns = Turns::<L>::new(blank);
+    seal_counted(key, nonce, aad, text, &mut turns)
+}
+
+/// [`seal`], with its turns counted.
+///
+/// # Errors
+///
+/// Those of [`seal`].
+pub fn seal_counted<L: Ledger>(
+    key: &[u8; 32],
+    nonce: &[u8; 12],
+    aad: &[u8],
+    text: &mut [u8],
+    turns: &mut Turns<L>,
+) -> Result<[u8; 16], SealError>
+    ensures ok { IfOk result (λ tag. spec.Sealed key.now nonce.now aad.now text.old text.new tag) }
+    ensures err { OnErr result (text.new ≡ text.old) }
+    ensures accepted { IsOk result ↔ spec.IsSealable aad.now text.old }
+    ensures too_long { IsErrOf result TooLong ↔ (¬ spec.IsSealable aad.now text.old) }
+    ensures turns { turns.new ≤ turns.old + spec.turns_of aad.now text.old }
+{
     if !is_sealable(aad, text) {
         return Err(SealError::TooLong);
     }
     let w = schedule(key);
     cipher(&w, nonce, text);
-    Ok(tag_of(&w, nonce, aad, text))
+    Ok(tag_of(&w, nonce, aad, text, turns))
 }
 
 /// Opens a sealed `text` in place, where `tag` is its tag (SP 800-38D, section 7.2).
@@ -193,11 +270,60 @@ pub fn open(
     ensures refused { IsErrOf result Refused ↔ (spec.IsSealable aad.now text.old
         × ((plain : List ℕ) → ¬ spec.Opens key.now nonce.now aad.now text.old tag.now plain)) }
 {
+    open_from::<Brand>(key, nonce, aad, text, tag, Blank::new(1))
+}
+
+// The same with a count that is let go.
+fn open_from<L: Ledger>(
+    key: &[u8; 32],
+    nonce: &[u8; 12],
+    aad: &[u8],
+    text: &mut [u8],
+    tag: &[u8; 16],
+    blank: Blank,
+) -> Result<(), SealError>
+    requires name { blank.name ≡ L.name }
+    requires parts { blank.parts ≡ L.parts }
+    requires some { 0 < L.parts }
+    ensures ok { OnOk result (spec.Opens key.now nonce.now aad.now text.old tag.now text.new) }
+    ensures err { OnErr result (text.new ≡ text.old) }
+    ensures accepted { IsOk result
+        ↔ ((plain : List ℕ) × spec.Opens key.now nonce.now aad.now text.old tag.now plain) }
+    ensures too_long { IsErrOf result TooLong ↔ (¬ spec.IsSealable aad.now text.old) }
+    ensures refused { IsErrOf result Refused ↔ (spec.IsSealable aad.now text.old
+        × ((plain : List ℕ) → ¬ spec.Opens key.now nonce.now aad.now text.old tag.now plain)) }
+{
+    let mut turns = Turns::<L>::new(blank);
+    open_counted(key, nonce, aad, text, tag, &mut turns)
+}
+
+/// [`open`], with its turns counted.
+///
+/// # Errors
+///
+/// Those of [`open`].
+pub fn open_counted<L: Ledger>(
+    key: &[u8; 32],
+    nonce: &[u8; 12],
+    aad: &[u8],
+    text: &mut [u8],
+    tag: &[u8; 16],
+    turns: &mut Turns<L>,
+) -> Result<(), SealError>
+    ensures ok { OnOk result (spec.Opens key.now nonce.now aad.now text.old tag.now text.new) }
+    ensures err { OnErr result (text.new ≡ text.old) }
+    ensures accepted { IsOk result
+        ↔ ((plain : List ℕ) × spec.Opens key.now nonce.now aad.now text.old tag.now plain) }
+    ensures too_long { IsErrOf result TooLong ↔ (¬ spec.IsSealable aad.now text.old) }
+    ensures refused { IsErrOf result Refused ↔ (spec.IsSealable aad.now text.old
+        × ((plain : List ℕ) → ¬ spec.Opens key.now nonce.now aad.now text.old tag.now plain)) }
+    ensures turns { turns.new ≤ turns.old + spec.turns_of aad.now text.old }
+{
     if !is_sealable(aad, text) {
         return Err(SealError::TooLong);
     }
     let w = schedule(key);
-    if !has_tag(&w, nonce, aad, text, tag) {
+    if !has_tag(&w, nonce, aad, text, tag, turns) {
         return Err(SealError::Refused);
     }
     cipher(&w, nonce, text);

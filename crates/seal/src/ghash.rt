@@ -1,40 +1,108 @@
-//! GHASH (SP 800-38D, sections 6.3 and 6.4), bit by bit.
+//! GHASH (SP 800-38D, sections 6.3 and 6.4) by the sixteen multiples of H, four bits a step.
 //!
 //! A block is a number, high byte first: its top bit is the coefficient of a^0.
 
-ghost use Rattle.std.specs.Prelude.{◌≡◌, ◌++◌, ◌∷◌, [], List, ℕ, bit_xor};
-ghost use Rattle.seal.specs.Ghash.{ghash, number_of, product, times_a};
+ghost use Rattle.std.specs.Prelude.{◌≡◌, ◌≤◌, ◌<◌, ◌+◌, ◌^◌, ◌++◌, ◌∷◌, [], List, ℕ, bit_xor, slice_index};
+ghost use Rattle.std.specs.Int.{w128, to_be_bytes};
+ghost use Rattle.seal.specs.Ghash.{ghash, number_of, product, product_low};
 
-// The product with a.
-fn times_a(x: u128) -> u128
-    ensures { result ≡ times_a x }
-{
-    if x & 1 == 1 {
-        (x >> 1) ^ (0xE1 << 120)
-    } else {
-        x >> 1
-    }
+use crate::powers::{Turns, times_power};
+use std::marker::Model;
+use std::sync::ledger::Ledger;
+
+/// The sixteen multiples of a block H: entry n is its product with the polynomial whose four
+/// coefficients are the bits of n. Contracts see H, as a number.
+#[derive(Drop)]
+pub struct Multiples {
+    table: [u128; 16],
 }
 
-// The product of two blocks (6.3).
-fn product(x: u128, y: u128) -> u128
-    ensures { result ≡ product x y }
-{
-    let mut sum = 0u128;
-    for i in 0..128u32 {
-        sum = times_a(sum);
-        if (x >> i) & 1 == 1 {
-            sum ^= y;
+impl Model for Multiples {
+    ghost Value = { ℕ };
+
+    ghost view = { λ s. slice_index s.table 8 };
+
+    ghost invariant = { λ s. ((n : ℕ) → n < 16
+        → slice_index s.table n ≡ product_low 4 n (slice_index s.table 8))
+        × (slice_index s.table 8 < 2 ^ 128) };
+}
+
+impl Multiples {
+    /// The multiples of `h`, in three turns.
+    pub fn new<L: Ledger>(h: &[u8; 16], turns: &mut Turns<L>) -> Multiples
+        ensures value { result ≡ number_of h.now }
+        ensures turns { turns.new ≤ turns.old + 3 }
+    {
+        let h = u128::from_be_bytes(*h);
+        let four = times_power(1, h, turns);
+        let two = times_power(1, four, turns);
+        let one = times_power(1, two, turns);
+        let three = two ^ one;
+        let five = four ^ one;
+        let six = four ^ two;
+        let seven = four ^ three;
+        Multiples {
+            table: [
+                0,
+                one,
+                two,
+                three,
+                four,
+                five,
+                six,
+                seven,
+                h,
+                h ^ one,
+                h ^ two,
+                h ^ three,
+                h ^ four,
+                h ^ five,
+                h ^ six,
+                h ^ seven,
+            ],
         }
     }
-    sum
-}
 
-/// The hash of one block more (6.4): `h` times the sum of the hash so far and the block.
-pub(crate) fn step(h: u128, sum: u128, block: &[u8; 16]) -> u128
-    ensures value { result ≡ product (bit_xor sum (number_of block.now)) h }
-    ensures hashed { (bs : List ℕ) → sum ≡ ghash h bs
-        → result ≡ ghash h (bs ++ number_of block.now ∷ []) }
-{
-    product(sum ^ u128::from_be_bytes(*block), h)
+    // x * H, in at most 32 turns: the halves of x are worked off side by side, low bits first.
+    fn times<L: Ledger>(&self, x: u128, turns: &mut Turns<L>) -> u128
+        ensures value { result ≡ product x self.now }
+        ensures turns { turns.new ≤ turns.old + 32 }
+    {
+        let mut rest = x;
+        let mut low = self.table[(x & 15) as usize];
+        let mut high = self.table[((x >> 64) & 15) as usize];
+        for j in 0..15u32 {
+            rest >>= 4;
+            let low_moved = times_power(4, low, turns);
+            low = low_moved ^ self.table[(rest & 15) as usize];
+            let high_moved = times_power(4, high, turns);
+            high = high_moved ^ self.table[((rest >> 64) & 15) as usize];
+        }
+        times_power(64, low, turns) ^ high
+    }
+
+    /// (y + block) * H, in at most 32 turns.
+    pub fn step<L: Ledger>(&self, y: &[u8; 16], block: &[u8; 16], turns: &mut Turns<L>) -> [u8; 16]
+        ensures value { result ≡ to_be_bytes w128
+            (product (bit_xor (number_of y.now) (number_of block.now)) self.now) }
+        ensures turns { turns.new ≤ turns.old + 32 }
+    {
+        let sum = u128::from_be_bytes(*y) ^ u128::from_be_bytes(*block);
+        self.times(sum, turns).to_be_bytes()
+    }
+
+    // The hash of one block more (6.4): H times the sum of the hash so far and the block.
+    pub(crate) fn hash_block<L: Ledger>(
+        &self,
+        sum: u128,
+        block: &[u8; 16],
+        turns: &mut Turns<L>,
+    ) -> u128
+        ensures hashed { (bs : List ℕ) → sum ≡ ghash self.now bs
+            → result ≡ ghash self.now (bs ++ number_of block.now ∷ []) }
+        ensures turns { turns.new ≤ turns.old + 32 }
+    {
+        let _ = &self.table;
+        self.times(sum ^ u128::from_be_bytes(*block), turns)
+    }
 }

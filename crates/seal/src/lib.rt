@@ -16,8 +16,12 @@ mod gcm;
 mod ghash;
 pub mod laws;
 mod mac;
+mod powers;
+mod tables;
 
 pub use derive::expand;
 pub use error::SealError;
-pub use gcm::{open, seal};
+pub use gcm::{open, open_counted, seal, seal_counted};
+pub use ghash::Multiples;
 pub use mac::hmac;
+pub use powers::Turns;
