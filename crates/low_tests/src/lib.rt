@@ -4,6 +4,8 @@
 #[cfg(test)]
 mod child_jar_tests;
 #[cfg(test)]
+mod cipher_tests;
+#[cfg(test)]
 mod cookie_tests;
 #[cfg(test)]
 mod date_tests;
@@ -21,6 +23,8 @@ mod long_tests;
 mod memory;
 #[cfg(test)]
 mod parts_tests;
+#[cfg(test)]
+mod plain_cipher;
 #[cfg(test)]
 mod prefix_tests;
 #[cfg(test)]

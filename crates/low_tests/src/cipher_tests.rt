@@ -1,0 +1,209 @@
+//! Tests of `seal` over lengths and drawn texts, and of the calls that count their turns.
+
+ghost use Rattle.std.specs.Prelude.{◌≡◌, ◌≤◌, ◌<◌, ◌+◌, length};
+
+use crate::plain_cipher;
+use hex::FromHex;
+use rand_chacha::ChaCha20Rng;
+use rand_core::{Rng, SeedableRng};
+use seal::{Multiples, SealError, Turns, open, open_counted, seal, seal_counted};
+use sha2::{Digest, Sha256};
+use std::marker::Brand;
+use std::process::Abort;
+use std::sync::ledger::{Blank, Ledger};
+use std::test::Fail;
+
+const KEY: [u8; 32] = [
+    0, 1, 2, 3, 4, 5, 6, 7, 8, 9, 10, 11, 12, 13, 14, 15, 16, 17, 18, 19, 20, 21, 22, 23, 24, 25,
+    26, 27, 28, 29, 30, 31,
+];
+
+const NONCE: [u8; 12] = *b"@ABCDEFGHIJK";
+
+// The bytes first, first + step, .., each modulo 256.
+fn steps(first: u8, step: u8) -> [u8; 64] {
+    let mut bytes = [0; 64];
+    let mut next = first;
+    for i in 0..64usize {
+        bytes[i] = next;
+        next = next.wrapping_add(step);
+    }
+    bytes
+}
+
+// The tags of texts 3, 10, 17, .. under additional data 1, 6, 11, .., by another program: the
+// lengths of text and of additional data, and the tag.
+const TAGS: &str = "0 0 c9b3c23ebecd69c4c2d87bc27ee34810
+1 0 88d33485065f60535c701cfd8c99b281
+15 1 a1d40dd353eb377f8d5d2d3e4b37413d
+16 16 7a6ee93d70f04ad09d3ab62a51e2909f
+17 17 c2fd1bb98a00380b7a3cd3120abca03b
+31 0 e20b95cd6a8e5ad0c943222b54073829
+32 1 84b2ee533be6c25aad2da4d0ceb4288b
+33 16 fc47c14ab453eda400363556bb7c1a4a
+48 17 53c68e7b968db531f0320ba6b80e453f
+63 1 0b9330b2d97775127de3a6ac13b22767
+64 17 39b30e11eeebb5803615465c94d8873b";
+
+fn tags_as(line: &str) -> bool {
+    let mut words = line.split(' ');
+    let (Some(text_len), Some(aad_len), Some(digits)) = (words.next(), words.next(), words.next())
+    else {
+        return false;
+    };
+    let (Ok(text_len), Ok(aad_len)) = (text_len.parse::<usize>(), aad_len.parse::<usize>()) else {
+        return false;
+    };
+    let Ok(tag) = <[u8; 16] as FromHex>::from_hex(digits) else {
+        return false;
+    };
+    if text_len > 64 || aad_len > 64 {
+        return false;
+    }
+    let mut text = steps(3, 7);
+    seal(&KEY, &NONCE, &steps(1, 5)[..aad_len], &mut text[..text_len]) == Ok(tag)
+}
+
+#[test]
+fn tags_as_another_program(rt: HostRuntime) {
+    for line in TAGS.split('\n') {
+        assert!(rt; tags_as(line), "{line}");
+    }
+}
+
+// The SHA-256 of ciphertext and tag of every text length from 0 to 64 under additional data of 0,
+// then of 1, 16 and 17 bytes, of the same texts and by the same program.
+const ALL: &str = "7ded288f9fa3762c5344245e7fbe6c8c1a136e2500203aab204e756d2660ab7b";
+
+#[test]
+fn seals_every_length_as_another_program(rt: HostRuntime) -> Result<(), Fail> {
+    let mut digest = Sha256::new();
+    for aad_len in [0usize, 1, 16, 17] {
+        for text_len in 0..65usize {
+            let mut text = steps(3, 7);
+            let text = &mut text[..text_len];
+            let sealed = seal(&KEY, &NONCE, &steps(1, 5)[..aad_len], text);
+            assert!(rt; sealed.is_ok(), "{text_len} and {aad_len}");
+            digest.update(text);
+            digest.update(&sealed.unwrap_or([0; 16]));
+        }
+    }
+    assert_eq!(rt; digest.finalize(), <[u8; 32] as FromHex>::from_hex(ALL)?);
+    Ok(())
+}
+
+#[test]
+fn seals_drawn_texts_as_the_plain_cipher(rt: HostRuntime) {
+    let mut rng = ChaCha20Rng::from_seed([17; 32]);
+    for aad_len in [0usize, 1, 16, 17] {
+        for text_len in 0..65usize {
+            agrees(&rt, &mut rng, aad_len, text_len);
+        }
+    }
+}
+
+// Draws key, nonce, additional data and text, seals them by both, and opens the sealing.
+fn agrees(rt: &impl Abort, rng: &mut ChaCha20Rng, aad_len: usize, text_len: usize)
+    requires { (aad_len ≤ 64) × (text_len ≤ 64) }
+{
+    let (mut key, mut nonce) = ([0; 32], [0; 12]);
+    let (mut aad, mut plain) = ([0; 64], [0; 64]);
+    rng.fill_bytes(&mut key);
+    rng.fill_bytes(&mut nonce);
+    rng.fill_bytes(&mut aad[..aad_len]);
+    rng.fill_bytes(&mut plain[..text_len]);
+    let (ciphertext, tag) = plain_cipher::seal(&key, &nonce, &aad, aad_len, &plain, text_len);
+    let mut text = plain;
+    let sealed = seal(&key, &nonce, &aad[..aad_len], &mut text[..text_len]);
+    assert_eq!(rt; sealed, Ok(tag), "{text_len} and {aad_len}");
+    assert_eq!(rt; text, ciphertext, "{text_len} and {aad_len}");
+    let opened = open(&key, &nonce, &aad[..aad_len], &mut text[..text_len], &tag);
+    assert_eq!(rt; opened, Ok(()), "{text_len} and {aad_len}");
+    assert_eq!(rt; text, plain, "{text_len} and {aad_len}");
+}
+
+// Seals a block and opens the sealing, 67 turns each: three, and 32 for the block and for the
+// lengths. Answers the tag and what was opened.
+fn seal_and_open<L: Ledger>(
+    text: &mut [u8; 16],
+    turns: &mut Turns<L>,
+) -> Result<([u8; 16], [u8; 16]), SealError>
+    ensures { turns.new ≤ turns.old + 134 }
+{
+    let tag = seal_counted(&[0; 32], &[0; 12], &[], text, turns)?;
+    let mut opened = *text;
+    open_counted(&[0; 32], &[0; 12], &[], &mut opened, &tag, turns)?;
+    Ok((tag, opened))
+}
+
+fn seal_and_open_from<L: Ledger>(
+    text: &mut [u8; 16],
+    blank: Blank,
+) -> Result<([u8; 16], [u8; 16]), SealError>
+    requires name { blank.name ≡ L.name }
+    requires parts { blank.parts ≡ L.parts }
+    requires some { 0 < L.parts }
+{
+    let mut turns = Turns::<L>::new(blank);
+    seal_and_open(text, &mut turns)
+}
+
+// Test case 14 of "The Galois/Counter Mode of Operation (GCM)" (McGrew and Viega): all is zeros.
+#[test]
+fn seals_and_opens_with_a_count(rt: HostRuntime) -> Result<(), Fail> {
+    let ciphertext = <[u8; 16] as FromHex>::from_hex("cea7403d4d606b6e074ec5d3baf39d18")?;
+    let tag = <[u8; 16] as FromHex>::from_hex("d0d1c8a799996bf0265b98b5d48ab919")?;
+    let mut text = [0; 16];
+    let answer = seal_and_open_from::<Brand>(&mut text, Blank::new(1));
+    assert_eq!(rt; answer, Ok((tag, [0; 16])));
+    assert_eq!(rt; text, ciphertext);
+    Ok(())
+}
+
+// Two steps of GHASH, 67 turns: three for the multiples, and 32 for each.
+fn two_steps<L: Ledger>(
+    h: &[u8; 16],
+    first: &[u8; 16],
+    second: &[u8; 16],
+    turns: &mut Turns<L>,
+) -> ([u8; 16], [u8; 16])
+    ensures { turns.new ≤ turns.old + 67 }
+{
+    let multiples = Multiples::new(h, turns);
+    let one = multiples.step(&[0; 16], first, turns);
+    let two = multiples.step(&one, second, turns);
+    (one, two)
+}
+
+fn two_steps_from<L: Ledger>(
+    h: &[u8; 16],
+    first: &[u8; 16],
+    second: &[u8; 16],
+    blank: Blank,
+) -> ([u8; 16], [u8; 16])
+    requires name { blank.name ≡ L.name }
+    requires parts { blank.parts ≡ L.parts }
+    requires some { 0 < L.parts }
+{
+    let mut turns = Turns::<L>::new(blank);
+    two_steps(h, first, second, &mut turns)
+}
+
+// H, the ciphertext's block, X1 and GHASH of test case 2 of "The Galois/Counter Mode of Operation
+// (GCM)" (McGrew and Viega): its lengths are none, and a block of 128 bits.
+#[test]
+fn steps_as_published(rt: HostRuntime) -> Result<(), Fail> {
+    let h = <[u8; 16] as FromHex>::from_hex("66e94bd4ef8a2c3b884cfa59ca342b2e")?;
+    let block = <[u8; 16] as FromHex>::from_hex("0388dace60b6a392f328c2b971b2fe78")?;
+    let lengths = <[u8; 16] as FromHex>::from_hex("00000000000000000000000000000080")?;
+    let (one, two) = two_steps_from::<Brand>(&h, &block, &lengths, Blank::new(1));
+    assert_eq!(rt;
+        one,
+        <[u8; 16] as FromHex>::from_hex("5e2ec746917062882c85b0685353deb7")?
+    );
+    assert_eq!(rt;
+        two,
+        <[u8; 16] as FromHex>::from_hex("f38cbb1ad69223dcc3457ae5b6b0f885")?
+    );
+    Ok(())
+}
