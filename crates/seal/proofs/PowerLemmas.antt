@@ -1,14 +1,12 @@
 -- Products with a^n, by the part of x that stays below a^128 and the part that goes past it.
-use Rattle.std.proofs.Common.{◌≡◌, ℕ, zero, suc, ◌*◌, ◌/◌, ◌%◌, ◌^◌, ◌<◌, refl, sym, ap, ◌∙◌, arith, bit_xor, mod-lt, pow_pos}
+use Rattle.std.proofs.Common.{◌≡◌, ℕ, zero, suc, ◌*◌, ◌/◌, ◌%◌, ◌^◌, ◌<◌, refl, sym, ap, ◌∙◌, arith, bit_xor, mod-lt}
+use Rattle.std.proofs.Common.{pow_pos}
 use Rattle.std.proofs.Math.Nat.{pow-suc}
 use Rattle.std.proofs.lemmas.Nat.{shr_split}
 use Rattle.std.specs.Int.Bits.{xor_shifted}
 use Rattle.seal.specs.Ghash.{one, times_a, times_power, product_low}
-use Rattle.seal.proofs.GhashLemmas.{times_a_even, times_power_xor, product_low_power, product_low-xor_right, product_low-one}
-
-times_power-suc : (n x : ℕ) → times_power (suc n) x ≡ times_a (times_power n x)
-unfolding times_power
-times_power-suc n x = refl
+use Rattle.seal.proofs.GhashLemmas.{times_a_even, times_power_xor, product_low_power, product_low-xor_right}
+use Rattle.seal.proofs.GhashLemmas.{product_low-one}
 
 -- coefficients that only move on
 pub power_even : (n q : ℕ) → times_power n (q * 2 ^ n) ≡ q
@@ -43,9 +41,12 @@ power_64_low r h =
     let back : r ≡ times_power 64 (p one) = sym (power_even 64 r) ∙ ap (times_power 64) (sym top) in
     let moved : (k : ℕ) → p (times_power k one) ≡ times_power k (r * 2 ^ 64) =
     λ k. product_low_power 64 r k one ∙ ap (times_power k) top in
-    let m1 : p (times_power 1 one) ≡ r * 2 ^ 63 = moved 1 ∙ ap (times_power 1) (omega arith) ∙ power_even 1 (r * 2 ^ 63) in
-    let m2 : p (times_power 2 one) ≡ r * 2 ^ 62 = moved 2 ∙ ap (times_power 2) (omega arith) ∙ power_even 2 (r * 2 ^ 62) in
-    let m7 : p (times_power 7 one) ≡ r * 2 ^ 57 = moved 7 ∙ ap (times_power 7) (omega arith) ∙ power_even 7 (r * 2 ^ 57) in
+    let m1 : p (times_power 1 one) ≡ r * 2 ^ 63 =
+    moved 1 ∙ ap (times_power 1) (omega arith) ∙ power_even 1 (r * 2 ^ 63) in
+    let m2 : p (times_power 2 one) ≡ r * 2 ^ 62 =
+    moved 2 ∙ ap (times_power 2) (omega arith) ∙ power_even 2 (r * 2 ^ 62) in
+    let m7 : p (times_power 7 one) ≡ r * 2 ^ 57 =
+    moved 7 ∙ ap (times_power 7) (omega arith) ∙ power_even 7 (r * 2 ^ 57) in
     ap (times_power 64) back
     ∙ ap (times_power 64) (sym (product_low_power 64 r 64 one))
     ∙ sym (product_low_power 64 r 64 (times_power 64 one))

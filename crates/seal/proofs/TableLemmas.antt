@@ -23,13 +23,16 @@ pub product_low-four : (n y : ℕ) → product_low 4 n y
     (bit_xor (scale (bit_at n 1) (times_a (times_a y))) (scale (bit_at n 0) (times_a (times_a (times_a y))))))
 product_low-four n y =
     let b : ℕ → ℕ → ℕ = λ (i v : ℕ). scale (bit_at n i) v in
-    let one_more : (v : ℕ) (i : ℕ) → times_a (scale (bit_at n i) v) ≡ scale (bit_at n i) (times_a v) = λ v i. times_a_scale (bit_at n i) v in
+    let one_more : (v : ℕ) (i : ℕ) → times_a (scale (bit_at n i) v) ≡ scale (bit_at n i) (times_a v) =
+    λ v i. times_a_scale (bit_at n i) v in
     let p1 : product_low 1 n y ≡ b 0 y = product_low-first n y in
     let p2 : product_low 2 n y ≡ bit_xor (b 1 y) (b 0 (times_a y)) =
     product_low-suc 1 n y ∙ ap (bit_xor (b 1 y)) (ap times_a p1 ∙ one_more y 0) in
     let p3 : product_low 3 n y ≡ bit_xor (b 2 y) (bit_xor (b 1 (times_a y)) (b 0 (times_a (times_a y)))) =
     product_low-suc 2 n y
-    ∙ ap (bit_xor (b 2 y)) (ap times_a p2 ∙ times_a_xor (b 1 y) (b 0 (times_a y)) ∙ (λ i. bit_xor (one_more y 1 i) (one_more (times_a y) 0 i))) in
+    ∙ ap (bit_xor (b 2 y))
+    (ap times_a p2 ∙ times_a_xor (b 1 y) (b 0 (times_a y))
+    ∙ (λ i. bit_xor (one_more y 1 i) (one_more (times_a y) 0 i))) in
     product_low-suc 3 n y
     ∙ ap (bit_xor (b 3 y)) (ap times_a p3 ∙ times_a_xor (b 2 y) (bit_xor (b 1 (times_a y)) (b 0 (times_a (times_a y))))
     ∙ (λ i. bit_xor (one_more y 2 i) (times_a_xor (b 1 (times_a y)) (b 0 (times_a (times_a y))) i))
@@ -38,7 +41,9 @@ product_low-four n y =
 -- the table of them, from h, a * h, a^2 * h and a^3 * h
 abbrev pub multiples_of : ℕ → ℕ → ℕ → ℕ → List ℕ
 multiples_of h p q r =
-    0 ∷ r ∷ q ∷ bit_xor q r ∷ p ∷ bit_xor p r ∷ bit_xor p q ∷ bit_xor p (bit_xor q r) ∷ h ∷ bit_xor h r ∷ bit_xor h q ∷ bit_xor h (bit_xor q r) ∷ bit_xor h p ∷ bit_xor h (bit_xor p r) ∷ bit_xor h (bit_xor p q) ∷ bit_xor h (bit_xor p (bit_xor q r)) ∷ []
+    0 ∷ r ∷ q ∷ bit_xor q r ∷ p ∷ bit_xor p r ∷ bit_xor p q ∷ bit_xor p (bit_xor q r) ∷ h ∷ bit_xor h r ∷ bit_xor h q
+    ∷ bit_xor h (bit_xor q r) ∷ bit_xor h p ∷ bit_xor h (bit_xor p r) ∷ bit_xor h (bit_xor p q)
+    ∷ bit_xor h (bit_xor p (bit_xor q r)) ∷ []
 
 abbrev pub multiples : ℕ → List ℕ
 multiples h = multiples_of h (times_a h) (times_a (times_a h)) (times_a (times_a (times_a h)))
@@ -50,7 +55,8 @@ multiples_is h =
 
 pub multiples_filled : (h n : ℕ) → n < 16 → get_or (multiples h) n 0 ≡ product_low 4 n h
 multiples_filled h n within =
-    ap (λ (l : List ℕ). get_or l n 0) (multiples_is h) ∙ get_or-map-range_with_len (λ n. product_low 4 n h) 0 16 n n 0 within (omega arith)
+    ap (λ (l : List ℕ). get_or l n 0) (multiples_is h)
+    ∙ get_or-map-range_with_len (λ n. product_low 4 n h) 0 16 n n 0 within (omega arith)
 
 pub multiples_of_filled : (h p q r : ℕ) → p ≡ times_a h → q ≡ times_a p → r ≡ times_a q → (n : ℕ) → n < 16
     → get_or (multiples_of h p q r) n 0 ≡ product_low 4 n h

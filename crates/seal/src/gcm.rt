@@ -1,6 +1,7 @@
 //! AES-256-GCM with nonces of 12 bytes and tags of 16 (SP 800-38D).
 
-ghost use Rattle.std.specs.Prelude.{◌≡◌, ◌≤◌, ◌<◌, ◌↔◌, ◌⊎◌, ℕ, List, length, IfOk, OnOk, OnErr, IsErrOf, IsOk, IsTrue, ◌++◌, ◌+◌, ◌*◌, ◌^◌};
+ghost use Rattle.std.specs.Prelude.{◌≡◌, ◌≤◌, ◌<◌, ◌↔◌, ◌⊎◌, ℕ, List, length, IfOk, OnOk, OnErr, IsErrOf, IsOk, IsTrue};
+ghost use Rattle.std.specs.Prelude.{◌++◌, ◌+◌, ◌*◌, ◌^◌};
 ghost use Rattle.std.specs.Int.{w64, to_be_bytes};
 ghost use Rattle.std.specs.List.{slice_range};
 ghost use Rattle.seal.specs.Ghash.{ghash, blocks, blocks_of};
