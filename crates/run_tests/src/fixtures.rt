@@ -1,10 +1,12 @@
-//! What several tests begin with, and what they ask of a session.
-use crate::generators::zeros;
+//! What several tests begin with, and what they ask of a session and of a client.
+use crate::generators::{Generator, zeros};
 use cookie::{Cookie, Expiration, Key};
-use cookie_run::{Session, Text, Way};
+use cookie_run::{Client, Counting, Ended, LineEnd, RunError, Session, Text, Way, run};
 use jiff::SignedDuration;
 use jiff::civil::DateTime;
 use std::alloc::{AllocError, Global};
+use std::process::Abort;
+use url::Url;
 
 /// So many seconds after the beginning of 2024.
 pub fn second(n: i64) -> DateTime {
@@ -41,9 +43,38 @@ pub fn zero_key() -> Key {
     Key::from(&[0; 64])
 }
 
+/// How a script ends for a client begun empty; what it prints is put behind `output`.
+pub fn run_script(
+    alloc: Global,
+    script: &str,
+    output: &mut Vec<u8>,
+    rng: &mut Generator,
+) -> Result<Ended, RunError> {
+    run(
+        alloc,
+        &mut Counting::new(script.as_bytes()),
+        &mut Counting::new(output),
+        &mut Client::new(alloc),
+        &mut beginning(),
+        &zero_key(),
+        rng,
+    )
+}
+
+/// A session on this header.
+pub fn opened(rt: &impl Abort, alloc: Global, header: &[u8]) -> Session {
+    match Session::open(alloc, header, zero_key()) {
+        Ok(session) => session,
+        Err(_) => panic!(rt; "no memory for a session"),
+    }
+}
+
 /// Whether a cookie is set in this way.
-pub fn sets(session: &mut Session, way: Way, cookie: Cookie<'static>) -> bool {
-    session.set(way, cookie, &mut zeros()).is_ok()
+pub fn sets(session: &mut Session, way: Way, cookie: Result<Cookie<'static>, AllocError>) -> bool {
+    match cookie {
+        Ok(cookie) => session.set(way, cookie, &mut zeros()).is_ok(),
+        Err(_) => false,
+    }
 }
 
 /// Whether a name reads so in this way.
@@ -74,6 +105,22 @@ pub fn is_line(lines: &[String], wanted: &str) -> bool {
 pub fn closes_with_lines(session: &Session, count: usize) -> bool {
     match session.close() {
         Ok(lines) => lines.len() == count,
+        Err(_) => false,
+    }
+}
+
+/// Whether these become of lines that come to a client from a URL.
+pub fn takes(client: &mut Client, url: &Url, lines: &[&[u8]], wanted: &[LineEnd]) -> bool {
+    match client.receive(url, lines, second(0)) {
+        Ok(ends) => ends.as_slice() == wanted,
+        Err(_) => false,
+    }
+}
+
+/// Whether a client gives this header to a URL.
+pub fn gives(client: &Client, url: &Url, wanted: &str) -> bool {
+    match client.header(url, second(8)) {
+        Ok(header) => header.as_str() == wanted,
         Err(_) => false,
     }
 }

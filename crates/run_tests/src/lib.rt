@@ -2,7 +2,8 @@
 //!
 //! Expected values come from RFC 6265, from the script's grammar and from worked examples, none from
 //! the library's own output. What the contracts say for every input is not tested again: these tests
-//! show that the calls succeed, that the clauses mean what was meant, and what no clause says.
+//! show that the calls succeed, that the clauses mean what was meant, and what no clause says. What a
+//! run of the program shows is a case in the repository's `cases/`.
 #![tactic(auto)]
 
 #[cfg(test)]

@@ -1,18 +1,19 @@
 //! Each call that takes memory, with ample memory and with a growth refused at any place.
 //!
-//! A scenario answers whether it met want of memory. `tools/refuse-growths` refuses each growth in
-//! turn: the first test of a pair looks at what a refusal leaves, the second shows that there is none
-//! with ample memory.
-use crate::fixtures::{beginning, cookie, is_line, second, text, zero_key};
+//! A scenario looks at what a refusal leaves, and answers whether it met want of memory. A test ends
+//! with that as its error, so it passes with ample memory alone; `tools/refuse-growths` refuses each
+//! growth in turn, and takes no other failure.
+use crate::fixtures::{cookie, is_line, run_script, second, text, zero_key};
 use crate::generators::zeros;
+use cookie::Cookie;
 use cookie_run::play::play;
 use cookie_run::program::program;
 use cookie_run::{
     Client, Command, Counting, Delivery, Ended, FaultKind, LineEnd, Reading, Session, SessionError,
-    Step, Stopped, StoreAction, Way, run,
+    Step, Stopped, StoreAction, Way,
 };
 use jiff::civil::DateTime;
-use std::alloc::Global;
+use std::alloc::{AllocError, Global};
 use std::process::Abort;
 use url::Url;
 
@@ -20,55 +21,85 @@ const SHOP: &str = "https://shop.com/";
 
 const EVIL: &str = "https://evil.com/";
 
+// Whether a call met want of memory, its only cause for a refusal.
+fn is_want(rt: &impl Abort, done: Result<(), SessionError>) -> bool {
+    match done {
+        Ok(()) => false,
+        Err(error) => {
+            assert!(rt; error == SessionError::OutOfMemory);
+            true
+        }
+    }
+}
+
+// Whether a get met want of memory; else it reads this.
+fn is_refused(
+    rt: &impl Abort,
+    session: &Session,
+    way: Way,
+    name: &str,
+    wanted: Option<&str>,
+) -> bool {
+    match session.get(way, name) {
+        Ok(value) => {
+            assert!(rt; value.as_deref() == wanted, "under {name}");
+            false
+        }
+        Err(error) => is_want(rt, Err(error)),
+    }
+}
+
 fn opens(rt: &impl Abort, alloc: Global) -> bool {
     let Ok(session) = Session::open(alloc, b"a=1; b=%32; =x; c", zero_key()) else {
         return true;
     };
-    let mut refused = false;
-    for (name, wanted) in [("a", Some("1")), ("b", Some("2")), ("c", None)] {
-        match session.get(Way::Plain, name) {
-            Ok(value) => assert_eq!(rt; value.as_deref(), wanted, "under {name}"),
-            Err(error) => {
-                assert_eq!(rt; error, SessionError::OutOfMemory, "under {name}");
-                refused = true;
-            }
-        }
+    let a = is_refused(rt, &session, Way::Plain, "a", Some("1"));
+    let b = is_refused(rt, &session, Way::Plain, "b", Some("2"));
+    let c = is_refused(rt, &session, Way::Plain, "c", None);
+    a || b || c
+}
+
+// Whether these lines are this one alone, or none.
+fn are_told(lines: &[String], line: Option<&str>) -> bool {
+    match line {
+        Some(line) => is_line(lines, line),
+        None => lines.is_empty(),
     }
-    refused
+}
+
+// Whether a closing met want of memory; else it gives this line alone, or none.
+fn is_unclosed(rt: &impl Abort, session: &Session, line: Option<&str>) -> bool {
+    match session.close() {
+        Ok(lines) => {
+            assert!(rt; are_told(&lines, line));
+            false
+        }
+        Err(error) => is_want(rt, Err(error)),
+    }
+}
+
+// Whether a set of no name is refused as that.
+fn refuses(session: &mut Session, nameless: Cookie<'static>) -> bool {
+    session.set(Way::Plain, nameless, &mut zeros()) == Err(SessionError::EmptyName)
 }
 
 fn sets(rt: &impl Abort, alloc: Global) -> bool {
-    let (Ok(mut session), Ok(mut b), Ok(empty)) = (
+    let (Ok(mut session), Ok(mut b), Ok(nameless)) = (
         Session::open(alloc, b"a=1", zero_key()),
         cookie(alloc, "b", "2"),
         cookie(alloc, "", "2"),
     ) else {
         return true;
     };
-    assert_eq!(rt;
-        session.set(Way::Plain, empty, &mut zeros()),
-        Err(SessionError::EmptyName)
-    );
+    assert!(rt; refuses(&mut session, nameless));
     b.set_http_only(Some(true));
-    let set = session.set(Way::Plain, b, &mut zeros());
-    match session.close() {
-        Ok(lines) => {
-            let is_told = if set.is_ok() {
-                is_line(&lines, "b=2; HttpOnly; Secure; Path=/")
-            } else {
-                lines.is_empty()
-            };
-            assert!(rt; is_told);
-        }
-        Err(error) => {
-            assert_eq!(rt; error, SessionError::OutOfMemory);
-            return true;
-        }
-    }
-    if set.is_err() {
-        assert_eq!(rt; set, Err(SessionError::OutOfMemory));
-    }
-    set.is_err()
+    let refused = is_want(rt, session.set(Way::Plain, b, &mut zeros()));
+    let line = if refused {
+        None
+    } else {
+        Some("b=2; HttpOnly; Secure; Path=/")
+    };
+    is_unclosed(rt, &session, line) || refused
 }
 
 // A cookie that is set and read in this way.
@@ -79,23 +110,9 @@ fn keeps(rt: &impl Abort, alloc: Global, way: Way) -> bool {
     ) else {
         return true;
     };
-    let set = session.set(way, b, &mut zeros());
-    if set.is_err() {
-        assert_eq!(rt; set, Err(SessionError::OutOfMemory));
-    }
-    match session.get(way, "b") {
-        Ok(value) => {
-            assert_eq!(rt;
-                value.as_deref(),
-                if set.is_ok() { Some("2") } else { None }
-            );
-            set.is_err()
-        }
-        Err(error) => {
-            assert_eq!(rt; error, SessionError::OutOfMemory);
-            true
-        }
-    }
+    let refused = is_want(rt, session.set(way, b, &mut zeros()));
+    let wanted = if refused { None } else { Some("2") };
+    is_refused(rt, &session, way, "b", wanted) || refused
 }
 
 fn keeps_in_each_way(rt: &impl Abort, alloc: Global) -> bool {
@@ -108,31 +125,23 @@ fn keeps_in_each_way(rt: &impl Abort, alloc: Global) -> bool {
     refused
 }
 
-// The cookie `a` of this way, which the header brought, is removed.
-fn takes_out(rt: &impl Abort, alloc: Global, way: Way, header: &[u8]) -> bool {
+// The cookie `a` of this way, which the header brought, is removed, and the line tells it.
+fn takes_out(rt: &impl Abort, alloc: Global, way: Way, header: &[u8], line: &str) -> bool {
     let Ok(mut session) = Session::open(alloc, header, zero_key()) else {
         return true;
     };
-    let removed = session.remove(way, "a", second(0));
-    if removed.is_err() {
-        assert_eq!(rt; removed, Err(SessionError::OutOfMemory));
-    }
-    match session.close() {
-        Ok(lines) => {
-            assert_eq!(rt; lines.len(), if removed.is_ok() { 1 } else { 0 });
-            removed.is_err()
-        }
-        Err(error) => {
-            assert_eq!(rt; error, SessionError::OutOfMemory);
-            true
-        }
-    }
+    let refused = is_want(rt, session.remove(way, "a", second(0)));
+    let line = if refused { None } else { Some(line) };
+    is_unclosed(rt, &session, line) || refused
 }
 
 fn removes(rt: &impl Abort, alloc: Global) -> bool {
-    let plain = takes_out(rt, alloc, Way::Plain, b"a=1");
-    let host = takes_out(rt, alloc, Way::Host, b"__Host-a=1");
-    let secure = takes_out(rt, alloc, Way::Secure, b"__Secure-a=1");
+    let line = "a=; Secure; Path=/; Max-Age=0; Expires=Sun, 01 Jan 2023 00:00:00 GMT";
+    let plain = takes_out(rt, alloc, Way::Plain, b"a=1", line);
+    let line = "__Host-a=; Secure; Path=/; Max-Age=0; Expires=Sun, 01 Jan 2023 00:00:00 GMT";
+    let host = takes_out(rt, alloc, Way::Host, b"__Host-a=1", line);
+    let line = "__Secure-a=; Secure; Path=/; Max-Age=0; Expires=Sun, 01 Jan 2023 00:00:00 GMT";
+    let secure = takes_out(rt, alloc, Way::Secure, b"__Secure-a=1", line);
     plain || host || secure
 }
 
@@ -147,7 +156,7 @@ fn receives(rt: &impl Abort, alloc: Global) -> bool {
         Ok(ends) => {
             let new = LineEnd::Stored(StoreAction::Inserted);
             let wanted = [new, LineEnd::Stored(StoreAction::UpdatedExisting), new];
-            assert_eq!(rt; ends.as_slice(), wanted.as_slice());
+            assert!(rt; ends.as_slice() == wanted.as_slice());
             3
         }
         Err(Stopped(n)) => {
@@ -156,7 +165,10 @@ fn receives(rt: &impl Abort, alloc: Global) -> bool {
         }
     };
     match client.header(&url, second(0)) {
-        Ok(header) => assert_eq!(rt; header.as_str(), headers[applied], "after {applied} lines"),
+        Ok(header) => assert!(rt;
+            header.as_str() == headers[applied],
+            "after {applied} lines"
+        ),
         Err(_) => return true,
     }
     applied < 3
@@ -235,11 +247,11 @@ fn value(alloc: Global, way: Way, name: &str, value: &str) -> Option<Reading> {
 fn is_stopped(rt: &impl Abort, alloc: Global, steps: &[Step], wanted: &[Reading]) -> bool {
     match play(alloc, &zero_key(), steps, &mut zeros()) {
         Ok(readings) => {
-            assert_eq!(rt; readings.as_slice(), wanted);
+            assert!(rt; readings.as_slice() == wanted);
             false
         }
         Err(fault) => {
-            assert_eq!(rt; fault.kind, FaultKind::Memory);
+            assert!(rt; fault.kind == FaultKind::Memory);
             assert!(rt; 1 <= fault.step && fault.step <= 2);
             assert!(rt; wanted.starts_with(&fault.readings));
             true
@@ -277,24 +289,14 @@ fn is_cut(rt: &impl Abort, alloc: Global, script: &str, prints: &str, end: Ended
     let Ok(mut output) = Vec::with_capacity(alloc, 1000) else {
         return true;
     };
-    let mut client = Client::new(alloc);
-    let mut last = beginning();
-    let ended = run(
-        alloc,
-        &mut Counting::new(script.as_bytes()),
-        &mut Counting::new(&mut output),
-        &mut client,
-        &mut last,
-        &zero_key(),
-        &mut zeros(),
-    );
+    let ended = run_script(alloc, script, &mut output, &mut zeros());
     if let Ok(Ended::Faulty(n)) = ended {
         if is_cut_at(alloc, &output, prints, n) {
             return true;
         }
     }
-    assert_eq!(rt; output.as_slice(), prints.as_bytes());
-    assert_eq!(rt; ended, Ok(end));
+    assert!(rt; output.as_slice() == prints.as_bytes());
+    assert!(rt; ended == Ok(end));
     false
 }
 
@@ -315,14 +317,6 @@ lose\n\
 fly\n";
 
 const RECEIVES_PRINTS: &str = "plain\tb\t=6\nline 5: Word\n";
-
-fn runs(rt: &impl Abort, alloc: Global) -> bool {
-    is_cut(rt, alloc, DELIVERS, DELIVERS_PRINTS, Ended::Whole)
-}
-
-fn runs_on_lines(rt: &impl Abort, alloc: Global) -> bool {
-    is_cut(rt, alloc, RECEIVES, RECEIVES_PRINTS, Ended::Faulty(5))
-}
 
 // A cookie is set and read in the way of this word.
 fn runs_in(rt: &impl Abort, alloc: Global, way: &str) -> bool {
@@ -359,150 +353,85 @@ fn plays_the_program(rt: &(impl Abort + AllocGlobal)) -> bool {
         &mut Counting::new(&mut output),
     );
     if answer == (0, None) {
-        assert_eq!(rt; output.as_slice(), DELIVERS_PRINTS.as_bytes());
+        assert!(rt; output.as_slice() == DELIVERS_PRINTS.as_bytes());
         return false;
     }
-    assert_eq!(rt; answer, (1, None));
+    assert!(rt; answer == (1, None));
     assert!(rt; is_cut_somewhere(alloc, &output));
     true
 }
 
-#[test]
-fn open(rt: HostRuntime) {
-    opens(&rt, rt.alloc());
+// Want of memory, where a scenario met it.
+fn told(refused: bool) -> Result<(), AllocError> {
+    if refused { Err(AllocError) } else { Ok(()) }
 }
 
 #[test]
-fn open_with_ample_memory(rt: HostRuntime) {
-    assert!(rt; !opens(&rt, rt.alloc()));
+fn open(rt: HostRuntime) -> Result<(), AllocError> {
+    told(opens(&rt, rt.alloc()))
 }
 
 #[test]
-fn set(rt: HostRuntime) {
-    sets(&rt, rt.alloc());
+fn set(rt: HostRuntime) -> Result<(), AllocError> {
+    told(sets(&rt, rt.alloc()))
 }
 
 #[test]
-fn set_with_ample_memory(rt: HostRuntime) {
-    assert!(rt; !sets(&rt, rt.alloc()));
+fn keep(rt: HostRuntime) -> Result<(), AllocError> {
+    told(keeps_in_each_way(&rt, rt.alloc()))
 }
 
 #[test]
-fn keep(rt: HostRuntime) {
-    keeps_in_each_way(&rt, rt.alloc());
+fn remove(rt: HostRuntime) -> Result<(), AllocError> {
+    told(removes(&rt, rt.alloc()))
 }
 
 #[test]
-fn keep_with_ample_memory(rt: HostRuntime) {
-    assert!(rt; !keeps_in_each_way(&rt, rt.alloc()));
+fn receive(rt: HostRuntime) -> Result<(), AllocError> {
+    told(receives(&rt, rt.alloc()))
 }
 
 #[test]
-fn remove(rt: HostRuntime) {
-    removes(&rt, rt.alloc());
+fn plays_on(rt: HostRuntime) -> Result<(), AllocError> {
+    told(plays_visits(&rt, rt.alloc()))
 }
 
 #[test]
-fn remove_with_ample_memory(rt: HostRuntime) {
-    assert!(rt; !removes(&rt, rt.alloc()));
+fn plays_elsewhere(rt: HostRuntime) -> Result<(), AllocError> {
+    told(plays_strange(&rt, rt.alloc()))
 }
 
 #[test]
-fn receive(rt: HostRuntime) {
-    receives(&rt, rt.alloc());
+fn runs_on(rt: HostRuntime) -> Result<(), AllocError> {
+    told(is_cut(&rt, rt.alloc(), DELIVERS, DELIVERS_PRINTS, Ended::Whole))
 }
 
 #[test]
-fn receive_with_ample_memory(rt: HostRuntime) {
-    assert!(rt; !receives(&rt, rt.alloc()));
+fn runs_on_lines_from_elsewhere(rt: HostRuntime) -> Result<(), AllocError> {
+    told(is_cut(&rt, rt.alloc(), RECEIVES, RECEIVES_PRINTS, Ended::Faulty(5)))
 }
 
 #[test]
-fn plays_on(rt: HostRuntime) {
-    plays_visits(&rt, rt.alloc());
+fn runs_host(rt: HostRuntime) -> Result<(), AllocError> {
+    told(runs_in(&rt, rt.alloc(), "host"))
 }
 
 #[test]
-fn plays_on_with_ample_memory(rt: HostRuntime) {
-    assert!(rt; !plays_visits(&rt, rt.alloc()));
+fn runs_secure(rt: HostRuntime) -> Result<(), AllocError> {
+    told(runs_in(&rt, rt.alloc(), "secure"))
 }
 
 #[test]
-fn plays_elsewhere(rt: HostRuntime) {
-    plays_strange(&rt, rt.alloc());
+fn runs_signed(rt: HostRuntime) -> Result<(), AllocError> {
+    told(runs_in(&rt, rt.alloc(), "signed"))
 }
 
 #[test]
-fn plays_elsewhere_with_ample_memory(rt: HostRuntime) {
-    assert!(rt; !plays_strange(&rt, rt.alloc()));
+fn runs_sealed(rt: HostRuntime) -> Result<(), AllocError> {
+    told(runs_in(&rt, rt.alloc(), "sealed"))
 }
 
 #[test]
-fn runs_on(rt: HostRuntime) {
-    runs(&rt, rt.alloc());
-}
-
-#[test]
-fn runs_on_with_ample_memory(rt: HostRuntime) {
-    assert!(rt; !runs(&rt, rt.alloc()));
-}
-
-#[test]
-fn runs_on_lines_from_elsewhere(rt: HostRuntime) {
-    runs_on_lines(&rt, rt.alloc());
-}
-
-#[test]
-fn runs_on_lines_from_elsewhere_with_ample_memory(rt: HostRuntime) {
-    assert!(rt; !runs_on_lines(&rt, rt.alloc()));
-}
-
-#[test]
-fn runs_host(rt: HostRuntime) {
-    runs_in(&rt, rt.alloc(), "host");
-}
-
-#[test]
-fn runs_host_with_ample_memory(rt: HostRuntime) {
-    assert!(rt; !runs_in(&rt, rt.alloc(), "host"));
-}
-
-#[test]
-fn runs_secure(rt: HostRuntime) {
-    runs_in(&rt, rt.alloc(), "secure");
-}
-
-#[test]
-fn runs_secure_with_ample_memory(rt: HostRuntime) {
-    assert!(rt; !runs_in(&rt, rt.alloc(), "secure"));
-}
-
-#[test]
-fn runs_signed(rt: HostRuntime) {
-    runs_in(&rt, rt.alloc(), "signed");
-}
-
-#[test]
-fn runs_signed_with_ample_memory(rt: HostRuntime) {
-    assert!(rt; !runs_in(&rt, rt.alloc(), "signed"));
-}
-
-#[test]
-fn runs_sealed(rt: HostRuntime) {
-    runs_in(&rt, rt.alloc(), "sealed");
-}
-
-#[test]
-fn runs_sealed_with_ample_memory(rt: HostRuntime) {
-    assert!(rt; !runs_in(&rt, rt.alloc(), "sealed"));
-}
-
-#[test]
-fn program_plays(rt: HostRuntime) {
-    plays_the_program(&rt);
-}
-
-#[test]
-fn program_plays_with_ample_memory(rt: HostRuntime) {
-    assert!(rt; !plays_the_program(&rt));
+fn program_plays(rt: HostRuntime) -> Result<(), AllocError> {
+    told(plays_the_program(&rt))
 }

@@ -1,13 +1,27 @@
 //! Readers and writers that are slow, or fail in mid-stream.
 use crate::devices::{ByteByByte, CountsFlushes, FailsAt, TakesNone};
-use crate::fixtures::{beginning, second, zero_key};
+use crate::fixtures::{beginning, gives, zero_key};
 use crate::generators::zeros;
-use crate::script_tests::{VISIT, VISIT_PRINTS};
 use cookie_run::{Client, Counting, Ended, RunError, run};
 use std::alloc::Global;
 use std::io::{Read, Write};
 use std::test::Fail;
 use url::Url;
+
+const VISIT: &str = "open\thttps://shop.com/\t2024-01-01T00:00:00Z\n\
+set\tplain\tfoo%20!%25?=\tbar;;,%20a\t-\t-\n\
+deliver\t2024-01-01T00:00:00Z\n\
+open\thttps://shop.com/x/y\t2024-01-01T00:00:01Z\n\
+get\tplain\tfoo%20!%25?=\n\
+get\tplain\tzz\n\
+lose\n\
+header\thttps://shop.com/x/y\t2024-01-01T00:00:02Z\n\
+fly\n";
+
+const VISIT_PRINTS: &str = "plain\tfoo%20!%25?=\t=bar;;,%20a\n\
+plain\tzz\t-\n\
+header\tfoo%2520!%2525%253F%253D=bar%253B%253B%252C%2520a\n\
+line 9: Word\n";
 
 fn run_over<R: Read + Drop, W: Write + Drop>(
     alloc: Global,
@@ -28,21 +42,7 @@ fn run_over<R: Read + Drop, W: Write + Drop>(
 }
 
 #[test]
-fn reads_a_byte_a_call(rt: HostRuntime) -> Result<(), Fail> {
-    let alloc = rt.alloc();
-    let mut output = Vec::new(alloc);
-    let mut client = Client::new(alloc);
-    let reader = ByteByByte {
-        bytes: VISIT.as_bytes(),
-    };
-    let ended = run_over(alloc, reader, &mut output, &mut client)?;
-    assert_eq!(rt; ended, Ended::Faulty(9));
-    assert_eq!(rt; output.as_slice(), VISIT_PRINTS.as_bytes());
-    Ok(())
-}
-
-#[test]
-fn flushes_once(rt: HostRuntime) -> Result<(), Fail> {
+fn flushes_once(rt: HostRuntime) {
     let alloc = rt.alloc();
     let mut output = Vec::new(alloc);
     let mut client = Client::new(alloc);
@@ -50,34 +50,8 @@ fn flushes_once(rt: HostRuntime) -> Result<(), Fail> {
         inner: &mut output,
         flushes: 0,
     };
-    let ended = run_over(alloc, VISIT.as_bytes(), &mut writer, &mut client)?;
-    assert_eq!(rt; ended, Ended::Faulty(9));
-    assert_eq!(rt; writer.flushes, 1);
-    Ok(())
-}
-
-#[test]
-fn tells_a_read_that_fails(rt: HostRuntime) -> Result<(), Fail> {
-    let alloc = rt.alloc();
-    for call in 0..400 {
-        let mut output = Vec::new(alloc);
-        let mut client = Client::new(alloc);
-        let reader = FailsAt::new(
-            ByteByByte {
-                bytes: VISIT.as_bytes(),
-            },
-            call,
-        );
-        let whole = run_over(alloc, reader, &mut output, &mut client);
-        let reads = VISIT.len() as u64 + 1;
-        if call < reads {
-            assert_eq!(rt; whole, Err(RunError::Read), "at call {call}");
-        } else {
-            assert_eq!(rt; whole, Ok(Ended::Faulty(9)), "at call {call}");
-        }
-        assert!(rt; is_left_by_a_beginning(alloc, &client)?, "at call {call}");
-    }
-    Ok(())
+    let ended = run_over(alloc, VISIT.as_bytes(), &mut writer, &mut client);
+    assert!(rt; ended == Ok(Ended::Faulty(9)) && writer.flushes == 1);
 }
 
 const HEADER: &str = "foo%20!%25%3F%3D=bar%3B%3B%2C%20a";
@@ -85,8 +59,41 @@ const HEADER: &str = "foo%20!%25%3F%3D=bar%3B%3B%2C%20a";
 // Whether the client is one that a beginning of the visit leaves.
 fn is_left_by_a_beginning(alloc: Global, client: &Client) -> Result<bool, Fail> {
     let url = Url::parse(alloc, "https://shop.com/")?;
-    let header = client.header(&url, second(3))?;
-    Ok(header.is_empty() || header.as_str() == HEADER)
+    Ok(gives(client, &url, "") || gives(client, &url, HEADER))
+}
+
+// Whether a visit whose reader gives a byte a call, and fails at this one, ends so.
+fn ends_so_by_reads(
+    alloc: Global,
+    call: u64,
+    wanted: Result<Ended, RunError>,
+) -> Result<bool, Fail> {
+    let mut output = Vec::new(alloc);
+    let mut client = Client::new(alloc);
+    let bytes = VISIT.as_bytes();
+    let reader = FailsAt::new(ByteByByte { bytes }, call);
+    let ended = run_over(alloc, reader, &mut output, &mut client);
+    let is_fitting = wanted.is_err() || output.as_slice() == VISIT_PRINTS.as_bytes();
+    Ok(ended == wanted && is_fitting && is_left_by_a_beginning(alloc, &client)?)
+}
+
+#[test]
+fn tells_a_read_that_fails(rt: HostRuntime) -> Result<(), Fail> {
+    // The last read finds the end.
+    let reads = VISIT.len() as u64 + 1;
+    for call in 0..reads {
+        assert!(rt;
+            ends_so_by_reads(rt.alloc(), call, Err(RunError::Read))?,
+            "at call {call}"
+        );
+    }
+    for call in reads..400 {
+        assert!(rt;
+            ends_so_by_reads(rt.alloc(), call, Ok(Ended::Faulty(9)))?,
+            "at call {call}"
+        );
+    }
+    Ok(())
 }
 
 // Whether a visit whose writer fails at this call ends so, with nothing lost but what follows.
@@ -134,7 +141,7 @@ fn tells_a_write_that_fails(rt: HostRuntime) -> Result<(), Fail> {
 }
 
 #[test]
-fn tells_a_write_that_takes_none(rt: HostRuntime) -> Result<(), Fail> {
+fn tells_a_write_that_takes_none(rt: HostRuntime) {
     let alloc = rt.alloc();
     let mut output = Vec::new(alloc);
     let mut client = Client::new(alloc);
@@ -142,8 +149,7 @@ fn tells_a_write_that_takes_none(rt: HostRuntime) -> Result<(), Fail> {
         inner: FailsAt::new(&mut output, 1),
     };
     let ended = run_over(alloc, VISIT.as_bytes(), writer, &mut client);
-    assert_eq!(rt; ended, Err(RunError::Write));
+    assert!(rt; ended == Err(RunError::Write));
     let first = b"plain\tfoo%20!%25?=\t=bar;;,%20a\n";
-    assert_eq!(rt; output.as_slice(), first.as_slice());
-    Ok(())
+    assert!(rt; output.as_slice() == first.as_slice());
 }

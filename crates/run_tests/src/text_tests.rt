@@ -11,6 +11,7 @@ fn prints<E: Display + Drop>(alloc: Global, error: E, wanted: &str) -> bool {
     }
 }
 
+// Their names, and a refused cookie's cause as upstream's `CookieError` prints it.
 #[test]
 fn errors_give_their_names(rt: HostRuntime) {
     let alloc = rt.alloc();
@@ -22,13 +23,8 @@ fn errors_give_their_names(rt: HostRuntime) {
     assert!(rt; prints(alloc, Stopped(2), "Stopped(2)"));
     assert!(rt; prints(alloc, RunError::Read, "Read"));
     assert!(rt; prints(alloc, RunError::Write, "Write"));
-}
-
-// As upstream's `CookieError` prints them.
-#[test]
-fn a_refused_cookie_gives_its_cause(rt: HostRuntime) {
     let not_https = "request-uri is not an http scheme but HttpOnly attribute set";
-    assert!(rt; prints(rt.alloc(), CookieError::NonHttpScheme, not_https));
+    assert!(rt; prints(alloc, CookieError::NonHttpScheme, not_https));
     let unread = "unable to parse string as cookie::Cookie";
-    assert!(rt; prints(rt.alloc(), CookieError::Parse, unread));
+    assert!(rt; prints(alloc, CookieError::Parse, unread));
 }

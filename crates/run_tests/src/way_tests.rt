@@ -1,135 +1,98 @@
-//! The ways of a session alone: the lines that it closes with, and what it refuses.
+//! The ways of a session alone: what it reads, the lines that it closes with, and what it refuses.
 use crate::fixtures::{
-    closes_with, closes_with_lines, cookie, ending, reads, second, sets, zero_key,
+    closes_with, closes_with_lines, cookie, ending, opened, reads, second, sets,
 };
-use crate::generators::{failing, zeros};
-use cookie::SameSite;
+use crate::generators::failing;
+use cookie::Cookie;
 use cookie_run::{Session, SessionError, Way};
 use jiff::civil::DateTime;
-use std::alloc::Global;
-use std::test::Fail;
+use std::alloc::AllocError;
 
 #[test]
-fn sets_under_a_prefix(rt: HostRuntime) -> Result<(), Fail> {
+fn sets_under_a_prefix_and_seals(rt: HostRuntime) {
     let alloc = rt.alloc();
-    let mut session = Session::open(alloc, b"", zero_key())?;
-    assert!(rt; sets(&mut session, Way::Host, cookie(alloc, "sid", "1")?));
+    let mut session = opened(&rt, alloc, b"");
+    assert!(rt; sets(&mut session, Way::Host, cookie(alloc, "sid", "1")));
     assert!(rt; closes_with(&session, "__Host-sid=1; Secure; Path=/"));
     assert!(rt; reads(&session, Way::Plain, "__Host-sid", Some("1")));
-    Ok(())
-}
-
-#[test]
-fn seals_and_opens(rt: HostRuntime) -> Result<(), Fail> {
-    let alloc = rt.alloc();
-    let mut session = Session::open(alloc, b"", zero_key())?;
-    assert!(rt; sets(&mut session, Way::Sealed, cookie(alloc, "a", "1")?));
+    assert!(rt; sets(&mut session, Way::Sealed, cookie(alloc, "a", "1")));
     assert!(rt; reads(&session, Way::Sealed, "a", Some("1")));
     assert!(rt; reads(&session, Way::Signed, "a", None));
-    Ok(())
 }
 
-// Whether a set of this name is refused so, where the generator fails.
-fn refuses(
-    alloc: Global,
+// What a set answers where the generator fails.
+fn set(
     session: &mut Session,
-    name: &str,
-    cause: SessionError,
-) -> Result<bool, Fail> {
-    let cookie = cookie(alloc, name, "1")?;
-    Ok(session.set(Way::Sealed, cookie, &mut failing()) == Err(cause))
+    way: Way,
+    cookie: Result<Cookie<'static>, AllocError>,
+) -> Result<(), SessionError> {
+    match cookie {
+        Ok(cookie) => session.set(way, cookie, &mut failing()),
+        Err(_) => Err(SessionError::OutOfMemory),
+    }
 }
 
 #[test]
-fn is_unchanged_where_the_generator_fails(rt: HostRuntime) -> Result<(), Fail> {
+fn refuses_for_the_first_cause(rt: HostRuntime) {
     let alloc = rt.alloc();
-    let mut session = Session::open(alloc, b"", zero_key())?;
-    assert!(rt; refuses(alloc, &mut session, "", SessionError::EmptyName)?);
-    assert!(rt; refuses(alloc, &mut session, "a", SessionError::Rng)?);
+    let short = DateTime::constant(99, 12, 31, 0, 0, 0, 0);
+    let long = DateTime::constant(100, 1, 1, 0, 0, 0, 0);
+    let mut session = opened(&rt, alloc, b"a=0");
+    let nameless = Err(SessionError::EmptyName);
+    assert!(rt; set(&mut session, Way::Plain, ending(alloc, "", short)) == nameless);
+    assert!(rt; set(&mut session, Way::Sealed, cookie(alloc, "", "1")) == nameless);
+    let early = set(&mut session, Way::Plain, ending(alloc, "a", short));
+    assert!(rt; early == Err(SessionError::Year));
+    let sealed = set(&mut session, Way::Sealed, cookie(alloc, "a", "1"));
+    assert!(rt; sealed == Err(SessionError::Rng));
     assert!(rt; closes_with_lines(&session, 0));
-    let signed = session.set(Way::Signed, cookie(alloc, "a", "1")?, &mut failing());
-    assert_eq!(rt; signed, Ok(()));
-    assert!(rt; closes_with_lines(&session, 1));
-    Ok(())
+    assert!(rt; reads(&session, Way::Plain, "a", Some("0")));
+    assert!(rt; set(&mut session, Way::Plain, ending(alloc, "a", long)) == Ok(()));
+    assert!(rt; reads(&session, Way::Plain, "a", Some("1")));
+    assert!(rt; set(&mut session, Way::Signed, cookie(alloc, "b", "1")) == Ok(()));
+    assert!(rt; closes_with_lines(&session, 2));
 }
 
-// Whether a session on this header tells the client this removal of `a`, and has no `a` any more.
-fn removes(alloc: Global, way: Way, header: &[u8], wanted: &str) -> Result<bool, Fail> {
-    let mut session = Session::open(alloc, header, zero_key())?;
-    let removed = session.remove(way, "a", second(0)).is_ok();
-    Ok(removed && reads(&session, way, "a", None) && closes_with(&session, wanted))
+// What a removal of this name at this moment answers.
+fn remove(session: &mut Session, way: Way, name: &str, at: DateTime) -> Result<(), SessionError> {
+    session.remove(way, name, at)
 }
 
 #[test]
-fn removes_what_the_header_brought(rt: HostRuntime) -> Result<(), Fail> {
+fn removes_what_the_header_brought(rt: HostRuntime) {
+    let mut session = opened(&rt, rt.alloc(), b"a=1");
+    assert!(rt; remove(&mut session, Way::Plain, "a", second(0)) == Ok(()));
+    assert!(rt; reads(&session, Way::Plain, "a", None));
     let wanted = "a=; Secure; Path=/; Max-Age=0; Expires=Sun, 01 Jan 2023 00:00:00 GMT";
-    assert!(rt; removes(rt.alloc(), Way::Plain, b"a=1", wanted)?);
+    assert!(rt; closes_with(&session, wanted));
+    let mut session = opened(&rt, rt.alloc(), b"__Host-a=1");
+    assert!(rt; remove(&mut session, Way::Host, "a", second(0)) == Ok(()));
+    assert!(rt; reads(&session, Way::Host, "a", None));
     let wanted = "__Host-a=; Secure; Path=/; Max-Age=0; Expires=Sun, 01 Jan 2023 00:00:00 GMT";
-    assert!(rt; removes(rt.alloc(), Way::Host, b"__Host-a=1", wanted)?);
-    Ok(())
+    assert!(rt; closes_with(&session, wanted));
+}
+
+// Whether a get of no name is refused.
+fn refuses_to_get(session: &Session, way: Way) -> bool {
+    match session.get(way, "") {
+        Ok(_) => false,
+        Err(cause) => cause == SessionError::EmptyName,
+    }
 }
 
 #[test]
-fn a_refused_removal_leaves_the_session(rt: HostRuntime) -> Result<(), Fail> {
-    let alloc = rt.alloc();
-    let mut session = Session::open(alloc, b"a=1", zero_key())?;
-    assert!(rt; sets(&mut session, Way::Plain, cookie(alloc, "b", "2")?));
-    let refused = session.remove(Way::Plain, "", second(0));
-    assert_eq!(rt; refused, Err(SessionError::EmptyName));
+fn forgets_what_was_set_and_removed(rt: HostRuntime) {
+    let year_100 = DateTime::constant(100, 12, 31, 0, 0, 0, 0);
+    let mut session = opened(&rt, rt.alloc(), b"a=1");
+    assert!(rt; sets(&mut session, Way::Plain, cookie(rt.alloc(), "b", "2")));
+    let nameless = Err(SessionError::EmptyName);
+    assert!(rt; remove(&mut session, Way::Plain, "", second(0)) == nameless);
+    assert!(rt; remove(&mut session, Way::Host, "", year_100) == nameless);
+    assert!(rt; remove(&mut session, Way::Host, "a", year_100) == Err(SessionError::Year));
     assert!(rt; closes_with(&session, "b=2; Secure; Path=/"));
     assert!(rt; reads(&session, Way::Plain, "a", Some("1")));
-    Ok(())
-}
-
-// Whether a cookie with this attribute is sent so.
-fn sends_same_site(alloc: Global, same_site: SameSite, wanted: &str) -> Result<bool, Fail> {
-    let mut session = Session::open(alloc, b"", zero_key())?;
-    let mut set = cookie(alloc, "a", "1")?;
-    set.set_same_site(Some(same_site));
-    Ok(sets(&mut session, Way::Plain, set) && closes_with(&session, wanted))
-}
-
-#[test]
-fn closes_with_the_same_site_that_was_set(rt: HostRuntime) -> Result<(), Fail> {
-    let alloc = rt.alloc();
-    let lax = "a=1; SameSite=Lax; Secure; Path=/";
-    assert!(rt; sends_same_site(alloc, SameSite::Lax, lax)?);
-    let strict = "a=1; SameSite=Strict; Secure; Path=/";
-    assert!(rt; sends_same_site(alloc, SameSite::Strict, strict)?);
-    Ok(())
-}
-
-#[test]
-fn forgets_what_was_set_and_removed(rt: HostRuntime) -> Result<(), Fail> {
-    let alloc = rt.alloc();
-    let mut session = Session::open(alloc, b"", zero_key())?;
-    assert!(rt; sets(&mut session, Way::Plain, cookie(alloc, "a", "1")?));
-    assert_eq!(rt; session.remove(Way::Plain, "a", second(0)), Ok(()));
+    assert!(rt; remove(&mut session, Way::Plain, "b", second(0)) == Ok(()));
     assert!(rt; closes_with_lines(&session, 0));
-    assert!(rt; reads(&session, Way::Plain, "a", None));
-    Ok(())
-}
-
-// Whether a cookie of the year 99 is refused for it, and nothing is set.
-fn refuses_an_early_end(alloc: Global, session: &mut Session) -> Result<bool, Fail> {
-    let early = ending(alloc, "a", DateTime::constant(99, 12, 31, 0, 0, 0, 0))?;
-    let set = session.set(Way::Plain, early, &mut zeros());
-    Ok(set == Err(SessionError::Year) && closes_with_lines(session, 0))
-}
-
-// Whether a removal in the year 100 is refused so.
-fn refuses_to_remove(session: &mut Session, name: &str, cause: SessionError) -> bool {
-    let year_100 = DateTime::constant(100, 12, 31, 0, 0, 0, 0);
-    session.remove(Way::Host, name, year_100) == Err(cause)
-}
-
-#[test]
-fn refuses_a_short_year_and_an_empty_name(rt: HostRuntime) -> Result<(), Fail> {
-    let alloc = rt.alloc();
-    let mut session = Session::open(alloc, b"", zero_key())?;
-    assert!(rt; refuses_an_early_end(alloc, &mut session)?);
-    assert!(rt; refuses_to_remove(&mut session, "a", SessionError::Year));
-    assert!(rt; refuses_to_remove(&mut session, "", SessionError::EmptyName));
-    assert_eq!(rt; session.get(Way::Sealed, ""), Err(SessionError::EmptyName));
-    Ok(())
+    assert!(rt; reads(&session, Way::Plain, "b", None));
+    assert!(rt; refuses_to_get(&session, Way::Sealed));
 }
