@@ -1,6 +1,11 @@
+mod CopyLemmas
 mod LineLemmas
 mod NameLemmas
+mod NodeLemmas
 mod PrevailingLemmas
 mod ReadingLemmas
-mod RuleLemmas
+mod SplitLemmas
+mod StandardFacts
 mod TextLemmas
+mod TreeLemmas
+mod WalkLemmas

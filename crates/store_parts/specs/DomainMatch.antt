@@ -58,6 +58,6 @@ CoversAt domain url = IsSomeAnd (host_of url) (Covers domain)
 abbrev pub IsHostOf : Domain → Parts → Type 0
 IsHostOf domain url = IsSomeAnd (host_of url) (λ host. text_of domain ≡ Some host)
 
--- the domain has a text, and a rule of the list covers all of it
+-- the domain has a text, a rule of the list prevails for it, and that rule covers all of it
 abbrev pub IsListedIn : Domain → List Rule → Type 0
 IsListedIn domain rules = IsSomeAnd (text_of domain) (Listed rules)
