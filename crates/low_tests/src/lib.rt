@@ -37,3 +37,5 @@ mod seal_tests;
 mod store_cookie_tests;
 #[cfg(test)]
 mod suffix_tests;
+#[cfg(test)]
+mod suffix_tree_tests;

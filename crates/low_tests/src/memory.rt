@@ -116,12 +116,16 @@ fn prints(alloc: Global) -> Result<bool, AllocError> {
 
 // Whether the words are listed that the rules say.
 fn lists(list: &List) -> bool {
-    list.is_listed(b"foo.ck") && !list.is_listed(b"ck") && list.is_listed(b"xn--bcher-kva")
+    list.is_listed(b"foo.ck")
+        && !list.is_listed(b"ck")
+        && !list.is_listed(b"www.ck")
+        && list.is_listed(b"a.b.ck")
+        && list.is_listed(b"xn--bcher-kva")
 }
 
 // A list and a copy of it. A list of which no copy could be made answers as it did.
 fn reads_a_list(alloc: Global) -> Result<bool, ListError> {
-    let list = List::parse(alloc, "*.ck\nb\u{fc}cher\n".as_bytes())?;
+    let list = List::parse(alloc, "*.ck\n!www.ck\na.b.ck\nb\u{fc}cher\n".as_bytes())?;
     match list.clone() {
         Ok(copy) => Ok(lists(&list) && lists(&copy)),
         Err(_) => if lists(&list) {
@@ -129,6 +133,14 @@ fn reads_a_list(alloc: Global) -> Result<bool, ListError> {
         } else {
             Ok(false)
         },
+    }
+}
+
+// The first line at fault is told, and nothing else but want of memory.
+fn refuses_a_list(alloc: Global) -> Result<bool, ListError> {
+    match List::parse(alloc, b"*.ck\n!www.ck\na..b\n!ck\n") {
+        Err(ListError::OutOfMemory) => Err(ListError::OutOfMemory),
+        answer => Ok(answer.err() == Some(ListError::Rule(3))),
     }
 }
 
@@ -273,6 +285,16 @@ fn a_list_is_read(rt: HostRuntime) {
 #[test]
 fn a_list_is_read_with_ample_memory(rt: HostRuntime) {
     assert!(rt; reads_a_list(rt.alloc()).unwrap_or(false));
+}
+
+#[test]
+fn a_faulty_list_is_refused(rt: HostRuntime) {
+    assert!(rt; refuses_a_list(rt.alloc()).unwrap_or(true));
+}
+
+#[test]
+fn a_faulty_list_is_refused_with_ample_memory(rt: HostRuntime) {
+    assert!(rt; refuses_a_list(rt.alloc()).unwrap_or(false));
 }
 
 #[test]
