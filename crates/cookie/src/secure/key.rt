@@ -1,6 +1,6 @@
 //! The key of the signed and the private jars.
 
-ghost use Rattle.std.specs.Prelude.{◌≡◌, ◌≤◌, ◌<◌, ◌↔◌, ℕ, List, length, take, codes, Some, IfOk, IfErr, IsOk, IfSome};
+ghost use Rattle.std.specs.Prelude.{◌≡◌, ◌≤◌, ◌<◌, ◌↔◌, ℕ, List, length, take, codes, Some, IfOk, IfErr, IsOk, MatchOption};
 ghost use Rattle.rand_core.specs.Stream.{fill_bytes};
 ghost use Rattle.cookie.specs.Key as spec;
 
@@ -100,7 +100,8 @@ impl Key {
 
     /// A key of 64 bytes that the generator gives at one fill, or none where the fill fails.
     pub fn try_generate<R: TryRng>(rng: &mut R) -> Option<Key>
-        ensures { IfSome result (λ key. (length key ≡ 64) × R.may_fill rng.old key rng.new) }
+        ensures { MatchOption result R.Error
+            (λ key. (length key ≡ 64) × R.may_fill rng.old key rng.new) }
     {
         let mut bytes = [0; KEY_LEN];
         match rng.try_fill_bytes(&mut bytes) {

@@ -114,6 +114,7 @@ impl<'a> PrivateJarMut<'a> {
         ensures asked { (IsErrOf result PrivateError.TooLong → rng.new ≡ rng.old)
             × (IsErrOf result PrivateError.OutOfMemory
             → (nonce : List ℕ) × (length nonce ≡ 12) × R.may_fill rng.old nonce rng.new) }
+        ensures failed { IsErrOf result PrivateError.Rng → R.Error }
     {
         let cookie = sealed(self.parent.alloc(), &self.key, cookie, rng)?;
         self.parent.add(cookie)?;
@@ -143,6 +144,7 @@ impl<'a> PrivateJarMut<'a> {
         ensures asked { (IsErrOf result PrivateError.TooLong → rng.new ≡ rng.old)
             × (IsErrOf result PrivateError.OutOfMemory
             → (nonce : List ℕ) × (length nonce ≡ 12) × R.may_fill rng.old nonce rng.new) }
+        ensures failed { IsErrOf result PrivateError.Rng → R.Error }
     {
         let cookie = sealed(self.parent.alloc(), &self.key, cookie, rng)?;
         self.parent.add_original(cookie)?;
@@ -175,6 +177,7 @@ fn sealed<R: TryRng>(
     ensures asked { (IsErrOf result PrivateError.TooLong → rng.new ≡ rng.old)
         × (IsErrOf result PrivateError.OutOfMemory
         → (nonce : List ℕ) × (length nonce ≡ 12) × R.may_fill rng.old nonce rng.new) }
+    ensures failed { IsErrOf result PrivateError.Rng → R.Error }
 {
     let mut cookie = cookie;
     let text = sealed_by(alloc, key, cookie.name(), cookie.value(), rng)?;

@@ -1,6 +1,6 @@
 //! The texts of sealed values.
 
-ghost use Rattle.std.specs.Prelude.{◌≡◌, ◌≤◌, ◌<◌, ◌-◌, ◌+◌, ◌↔◌, ◌⊎◌, ℕ, List, Vec, length, take, drop, Some, MatchOption, IfOk, IfErr, IfSome, IsErrOf, IsTrue};
+ghost use Rattle.std.specs.Prelude.{◌≡◌, ◌≤◌, ◌<◌, ◌-◌, ◌+◌, ◌↔◌, ◌⊎◌, ℕ, List, Vec, length, take, drop, Some, MatchOption, IfOk, IfErr, IsErrOf, IsTrue};
 ghost use Rattle.std.specs.List.{slice_range};
 ghost use Rattle.std.specs.Option.{option_map};
 ghost use Rattle.std.specs.Str.{IsUtf8};
@@ -33,9 +33,10 @@ pub fn is_sealable(name: &str, value: &str) -> bool
     value.len() <= MAX_VALUE_LEN && name.len() <= MAX_NAME_LEN
 }
 
-/// The twelve bytes of one fill of the generator, or none where the fill fails.
+/// The twelve bytes of one fill of the generator, or none where the fill fails: a generator whose
+/// error type has no value gives them each time.
 pub fn nonce<R: TryRng>(rng: &mut R) -> Option<[u8; 12]>
-    ensures { IfSome result (λ nonce. R.may_fill rng.old nonce rng.new) }
+    ensures { MatchOption result R.Error (λ nonce. R.may_fill rng.old nonce rng.new) }
 {
     let mut nonce = [0; NONCE_LEN];
     match rng.try_fill_bytes(&mut nonce) {
@@ -113,6 +114,7 @@ pub fn sealed_by<R: TryRng>(
         × spec.IsSealingUnder key.now name.now value.now nonce (string_bytes text)) }
     ensures too_long { IsErrOf result PrivateError.TooLong ↔ (¬ IsSealable name.now value.now) }
     ensures unasked { IsErrOf result PrivateError.TooLong → rng.new ≡ rng.old }
+    ensures failed { IsErrOf result PrivateError.Rng → R.Error }
     ensures out_of_memory { IsErrOf result PrivateError.OutOfMemory
         → (nonce : List ℕ) × (length nonce ≡ 12) × R.may_fill rng.old nonce rng.new }
 {
