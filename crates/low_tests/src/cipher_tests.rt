@@ -207,3 +207,17 @@ fn steps_as_published(rt: HostRuntime) -> Result<(), Fail> {
     );
     Ok(())
 }
+
+// The example of the crate's README.
+#[test]
+fn readme_seal(rt: HostRuntime) -> Result<(), Fail> {
+    // README: crates/seal/README.md
+    let (key, nonce) = ([7; 32], [9; 12]);
+    let mut text = *b"attack at dawn";
+    let tag = seal(&key, &nonce, b"header", &mut text)?;
+    assert!(rt; text != *b"attack at dawn");
+    open(&key, &nonce, b"header", &mut text, &tag)?;
+    assert!(rt; text == *b"attack at dawn");
+    // README: end
+    Ok(())
+}

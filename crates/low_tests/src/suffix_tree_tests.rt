@@ -240,16 +240,13 @@ fn bears_two_ways_of_many_labels(rt: HostRuntime) -> Result<(), Fail> {
 // The example of the crate's README.
 #[test]
 fn readme_publicsuffix(rt: HostRuntime) -> Result<(), Fail> {
+    // README: crates/publicsuffix/README.md
     let list = List::parse(rt.alloc(), b"com\n*.ck\n!www.ck\n")?;
-    assert!(rt; list.is_listed(b"foo.ck"));
-    assert!(rt; !list.is_listed(b"www.ck"));
-    let suffix = list.suffix(b"a.www.ck.");
-    assert!(rt;
-        suffix.is_some_and(|found| found.as_bytes() == b"ck".as_slice() && found.is_known())
-    );
-    let suffix = list.suffix(b"a.example");
-    assert!(rt;
-        suffix.is_some_and(|found| found.as_bytes() == b"example".as_slice() && !found.is_known())
-    );
+    assert!(rt; list.is_listed(b"foo.ck") && !list.is_listed(b"www.ck"));
+    let known = list.suffix(b"a.www.ck.");
+    assert!(rt; known.is_some_and(|it| it.as_bytes() == b"ck".as_slice() && it.is_known()));
+    let other = list.suffix(b"a.example");
+    assert!(rt; other.is_some_and(|it| it.as_bytes() == b"example".as_slice() && !it.is_known()));
+    // README: end
     Ok(())
 }
