@@ -13,16 +13,22 @@ use Rattle.cookie_run.specs.declared.step.CookieError.TheVariants.{NonHttpScheme
 use Rattle.cookie_run.specs.Hosts.{secure_host}
 use Rattle.cookie_run.specs.Rows.{Accepts, AcceptsAt, stored}
 
-pub accept_nowhere : (rows : List Row) (url : Parts) (line : List ℕ) → None ≡ secure_host url → Accepts rows url line (Refused NonHttpScheme) rows
+pub accept_nowhere : (rows : List Row) (url : Parts) (line : List ℕ) → None ≡ secure_host url
+    → Accepts rows url line (Refused NonHttpScheme) rows
 accept_nowhere rows url line secure = subst (λ h. AcceptsAt h rows line (Refused NonHttpScheme, rows)) secure refl
 
-pub accept_no_text : (rows : List Row) (url : Parts) (line host : List ℕ) → Some host ≡ secure_host url → ¬ IsUtf8 line → Accepts rows url line NotText rows
+pub accept_no_text : (rows : List Row) (url : Parts) (line host : List ℕ) → Some host ≡ secure_host url → ¬ IsUtf8 line
+    → Accepts rows url line NotText rows
 accept_no_text rows url line host secure h = subst (λ o. AcceptsAt o rows line (NotText, rows)) secure (inl (h, refl))
 
-accept_text : (rows new : List Row) (url : Parts) (line text host : List ℕ) (r : Result Seen ParseError) (end : LineEnd) → Some host ≡ secure_host url → text ≡ line → IsUtf8 line → ReadsPlain text r
+accept_text : (rows new : List Row) (url : Parts) (line text host : List ℕ) (r : Result Seen ParseError) (end : LineEnd)
+    → Some host ≡ secure_host url → text ≡ line → IsUtf8 line → ReadsPlain text r
     → (end, new) ≡ stored rows host (kept_cookie r) → Accepts rows url line end new
 accept_text rows new url line text host r end secure same utf8 reads is =
     subst (λ o. AcceptsAt o rows line (end, new)) secure (inr (utf8, (r, subst (λ t. ReadsPlain t r) same reads, is)))
 
-pub accept_unread : (rows : List Row) (url : Parts) (line text host : List ℕ) (e : ParseError) → Some host ≡ secure_host url → text ≡ line → IsUtf8 line → ReadsPlain text (Err e) → Accepts rows url line (Refused Parse) rows
-accept_unread rows url line text host e secure same utf8 reads = accept_text rows rows url line text host (Err e) (Refused Parse) secure same utf8 reads refl
+pub accept_unread : (rows : List Row) (url : Parts) (line text host : List ℕ) (e : ParseError)
+    → Some host ≡ secure_host url → text ≡ line → IsUtf8 line → ReadsPlain text (Err e)
+    → Accepts rows url line (Refused Parse) rows
+accept_unread rows url line text host e secure same utf8 reads = accept_text rows rows url line text host (Err e)
+    (Refused Parse) secure same utf8 reads refl

@@ -16,7 +16,16 @@ use Rattle.cookie_run.specs.declared.step.LineEnd.TheVariants.{Stored, Refused, 
 use Rattle.cookie_run.specs.declared.step.StoreAction.TheVariants.{Inserted, UpdatedExisting}
 
 abbrev url_of : List ℕ → Parts
-url_of scheme = record { scheme = scheme; username = []; password = []; host = Some (NamedHost (codes "shop.com")); port = None; path = codes "/"; query = None; fragment = None }
+url_of scheme = record {
+  scheme = scheme;
+  username = [];
+  password = [];
+  host = Some (NamedHost (codes "shop.com"));
+  port = None;
+  path = codes "/";
+  query = None;
+  fragment = None;
+}
 
 abbrev the_url : Parts
 the_url = url_of (codes "https")
@@ -37,7 +46,15 @@ no_text rows = inl (λ text. both_ways _ refl (is_utf8-from_IsUtf8 (255 ∷ []) 
 
 -- a cookie of which each part is a slice of its source
 abbrev sliced : Record → Seen
-sliced c = record { cookie = c; raw = record { name = Some c.name; value = Some c.value; path = c.path; domain = domain_of c } }
+sliced c = record {
+  cookie = c;
+  raw = record {
+    name = Some c.name;
+    value = Some c.value;
+    path = c.path;
+    domain = domain_of c;
+  };
+}
 
 abbrev first_line : List ℕ
 first_line = codes "a=1; Secure; Path=/"
@@ -62,28 +79,47 @@ third_cookie = record (bare (codes "a") (codes "3")) { path = Some (codes "/") }
 
 -- ---- what becomes of them
 
-inserted : ReadsPlain first_line (Ok (sliced first_cookie)) → Accepts [] the_url first_line (Stored Inserted) (row_at (codes "a") (codes "1") ∷ [])
+inserted : ReadsPlain first_line (Ok (sliced first_cookie)) → Accepts [] the_url first_line (Stored Inserted)
+    (row_at (codes "a") (codes "1") ∷ [])
 unfolding is_utf8 chars lib.Utf8.encode
 inserted reads = inr (IsUtf8-from_is_utf8 first_line refl, (Ok (sliced first_cookie), reads, refl))
 
-a_domain : (rows : List Row) → ReadsPlain second_line (Ok (sliced second_cookie)) → Accepts rows the_url second_line (Refused Parse) rows
+a_domain : (rows : List Row) → ReadsPlain second_line (Ok (sliced second_cookie))
+    → Accepts rows the_url second_line (Refused Parse) rows
 unfolding is_utf8 chars lib.Utf8.encode
 a_domain rows reads = inr (IsUtf8-from_is_utf8 second_line refl, (Ok (sliced second_cookie), reads, refl))
 
-no_name : (rows : List Row) → ReadsPlain nameless_line (Err EmptyName) → Accepts rows the_url nameless_line (Refused Parse) rows
+no_name : (rows : List Row) → ReadsPlain nameless_line (Err EmptyName)
+    → Accepts rows the_url nameless_line (Refused Parse) rows
 unfolding is_utf8 chars lib.Utf8.encode
 no_name rows reads = inr (IsUtf8-from_is_utf8 nameless_line refl, (Err EmptyName, reads, refl))
 
-replaced : ReadsPlain third_line (Ok (sliced third_cookie)) → Accepts (row_at (codes "a") (codes "1") ∷ []) the_url third_line (Stored UpdatedExisting) (row_at (codes "a") (codes "3") ∷ [])
+replaced : ReadsPlain third_line (Ok (sliced third_cookie)) → Accepts
+    (row_at (codes "a") (codes "1") ∷ []) the_url third_line (Stored UpdatedExisting)
+    (row_at (codes "a") (codes "3") ∷ [])
 unfolding is_utf8 chars lib.Utf8.encode
 replaced reads = inr (IsUtf8-from_is_utf8 third_line refl, (Ok (sliced third_cookie), reads, refl))
 
 abbrev the_lines : List (List ℕ)
 the_lines = first_line ∷ second_line ∷ nameless_line ∷ third_line ∷ (255 ∷ []) ∷ []
 
-one_after_another : ReadsPlain first_line (Ok (sliced first_cookie)) → ReadsPlain second_line (Ok (sliced second_cookie)) → ReadsPlain nameless_line (Err EmptyName) → ReadsPlain third_line (Ok (sliced third_cookie))
-    → AcceptsAll [] the_url the_lines (Stored Inserted ∷ Refused Parse ∷ Refused Parse ∷ Stored UpdatedExisting ∷ NotText ∷ []) (row_at (codes "a") (codes "3") ∷ [])
+one_after_another : ReadsPlain first_line (Ok (sliced first_cookie))
+    → ReadsPlain second_line (Ok (sliced second_cookie)) → ReadsPlain nameless_line (Err EmptyName)
+    → ReadsPlain third_line (Ok (sliced third_cookie))
+    → AcceptsAll [] the_url the_lines (Stored Inserted ∷ Refused Parse ∷ Refused Parse ∷ Stored UpdatedExisting
+    ∷ NotText ∷ []) (row_at (codes "a") (codes "3") ∷ [])
 one_after_another one two none three =
     let first = row_at (codes "a") (codes "1") ∷ [] in
-    let last = row_at (codes "a") (codes "3") ∷ [] in
-    (first, inserted one, (first, a_domain first two, (first, no_name first none, (last, replaced three, (last, no_text last, (refl, refl))))))
+    let last = row_at (codes "a") (codes "3") ∷ [] in (
+      first,
+      inserted one,
+      (
+        first,
+        a_domain first two,
+        (
+          first,
+          no_name first none,
+          (last, replaced three, (last, no_text last, (refl, refl))),
+        ),
+      ),
+    )

@@ -1,5 +1,6 @@
 -- A play that goes on by one step, or stops in it.
-use Rattle.std.proofs.Common.{◌≡◌, ℕ, ℤ, ◌+◌, ◌<◌, ◌≤◌, zero, suc, length, inl, inr, take, drop, get_or, List, [], ◌∷◌, ◌++◌, sym, refl, ap, ◌∙◌, subst, arith, append_assoc}
+use Rattle.std.proofs.Common.{◌≡◌, ℕ, ℤ, ◌+◌, ◌<◌, ◌≤◌, zero, suc, length, inl, inr, take, drop, get_or, List, [], ◌∷◌}
+use Rattle.std.proofs.Common.{◌++◌, sym, refl, ap, ◌∙◌, subst, arith, append_assoc}
 use Rattle.std.proofs.lemmas.List.{take_all}
 use Rattle.cookie_run.specs.declared.step.Step.{Step}
 use Rattle.cookie_run.specs.declared.step.Reading.{Reading}
@@ -24,9 +25,11 @@ moments_nil (m ∷ ms) = ap (λ ns. m ∷ ns) (moments_nil ms)
 
 moments_more : (acts : List Act) (act : Act) → moments_of (acts ++ act ∷ []) ≡ moments_of acts ++ moments_in act
 moments_more [] act = moments_nil (moments_in act)
-moments_more (a ∷ acts) act = ap (λ ms. moments_in a ++ ms) (moments_more acts act) ∙ sym (append_assoc (moments_in a) (moments_of acts) (moments_in act))
+moments_more (a ∷ acts) act = ap (λ ms. moments_in a ++ ms) (moments_more acts act)
+    ∙ sym (append_assoc (moments_in a) (moments_of acts) (moments_in act))
 
-follow_append : (last : ℤ) (ms ns : List ℤ) → AllFollow last ms → AllFollow (last_of last ms) ns → AllFollow last (ms ++ ns)
+follow_append : (last : ℤ) (ms ns : List ℤ) → AllFollow last ms → AllFollow (last_of last ms) ns
+    → AllFollow last (ms ++ ns)
 follow_append last [] ns h k = k
 follow_append last (m ∷ ms) ns h k = (h.0, follow_append m ms ns h.1 k)
 
@@ -34,24 +37,31 @@ last_append : (last : ℤ) (ms ns : List ℤ) → last_of last (ms ++ ns) ≡ la
 last_append last [] ns = refl
 last_append last (m ∷ ms) ns = last_append m ms ns
 
-pub moments_next : (steps : List Step) (i : ℕ) (s : Step) → i < length steps → s ≡ get_or steps i s → moments_of (acts_of (take (i + 1) steps)) ≡ moments_of (acts_of (take i steps)) ++ moments_in (act_of s)
-moments_next steps i s h is = ap moments_of (acts_more steps i s h is) ∙ moments_more (acts_of (take i steps)) (act_of s)
+pub moments_next : (steps : List Step) (i : ℕ) (s : Step) → i < length steps → s ≡ get_or steps i s
+    → moments_of (acts_of (take (i + 1) steps)) ≡ moments_of (acts_of (take i steps)) ++ moments_in (act_of s)
+moments_next steps i s h is = ap moments_of (acts_more steps i s h is)
+    ∙ moments_more (acts_of (take i steps)) (act_of s)
 
 pub follow_next : (steps : List Step) (i : ℕ) (s : Step) (now later : ℤ) → i < length steps → s ≡ get_or steps i s →
-    AllFollow the_beginning (moments_of (acts_of (take i steps))) → now ≡ last_of the_beginning (moments_of (acts_of (take i steps))) →
+    AllFollow the_beginning (moments_of (acts_of (take i steps)))
+    → now ≡ last_of the_beginning (moments_of (acts_of (take i steps))) →
     AllFollow now (moments_in (act_of s)) × (later ≡ last_of now (moments_in (act_of s))) →
-    AllFollow the_beginning (moments_of (acts_of (take (i + 1) steps))) × (later ≡ last_of the_beginning (moments_of (acts_of (take (i + 1) steps))))
+    AllFollow the_beginning (moments_of (acts_of (take (i + 1) steps)))
+    × (later ≡ last_of the_beginning (moments_of (acts_of (take (i + 1) steps))))
 follow_next steps i s now later h is before at here =
     let ms = moments_of (acts_of (take i steps)) in
     let ns = moments_in (act_of s) in
     let more = moments_next steps i s h is in (
-      subst (AllFollow the_beginning) (sym more) (follow_append the_beginning ms ns before (subst (λ last. AllFollow last ns) at here.0)),
-      here.1 ∙ (ap (λ last. last_of last ns) at ∙ (sym (last_append the_beginning ms ns) ∙ ap (last_of the_beginning) (sym more))),
+      subst (AllFollow the_beginning) (sym more) (follow_append the_beginning ms ns before
+          (subst (λ last. AllFollow last ns) at here.0)),
+      here.1 ∙ (ap (λ last. last_of last ns) at ∙ (sym (last_append the_beginning ms ns)
+          ∙ ap (last_of the_beginning) (sym more))),
     )
 
 -- ---- the step that a play stops in
 
-cut_at : (steps : List Step) (i : ℕ) (s : Step) → i < length steps → s ≡ get_or steps i s → acts_of steps ≡ acts_of (take i steps) ++ act_of s ∷ acts_of (drop (suc i) steps)
+cut_at : (steps : List Step) (i : ℕ) (s : Step) → i < length steps → s ≡ get_or steps i s
+    → acts_of steps ≡ acts_of (take i steps) ++ act_of s ∷ acts_of (drop (suc i) steps)
 cut_at [] i s h is = absurd (omega arith)
 cut_at (x ∷ xs) zero s h is = ap (λ y. act_of y ∷ acts_of xs) (sym is)
 cut_at (x ∷ xs) (suc i) s h is = ap (λ acts. act_of x ∷ acts) (cut_at xs i s (omega arith) is)
@@ -62,22 +72,27 @@ before_count (x ∷ xs) zero h = refl
 before_count (x ∷ xs) (suc i) h = let rest = before_count xs i (omega arith) in omega arith
 
 -- what the loop knows before a step
-pub record Before (key : List ℕ) (steps : List Step) (i : ℕ) (rows : List Row) (now : List Reading) (moment : ℤ) : Type 0 where
+pub record Before (key : List ℕ) (steps : List Step) (i : ℕ) (rows : List Row) (now : List Reading)
+    (moment : ℤ) : Type 0 where
   pub run : (told : List (List Reading)) × (now ≡ all_told told) × Plays key [] (acts_of (take i steps)) told rows
   pub moments : AllFollow the_beginning (moments_of (acts_of (take i steps)))
   pub last : moment ≡ last_of the_beginning (moments_of (acts_of (take i steps)))
 
 -- the step stops so
 abbrev pub Stops : List ℕ → List Row → FaultKind → ℤ → Act → List Reading → List Reading → Type 0
-Stops key rows kind last act old readings = StopsFrom kind last act old (ReadsFront key rows act) (ReadsAll key rows act) readings
+Stops key rows kind last act old readings = StopsFrom kind last act old (ReadsFront key rows act)
+    (ReadsAll key rows act) readings
 
-stops_there : (key : List ℕ) (steps : List Step) (i : ℕ) (s : Step) (rows : List Row) (now later : List Reading) (last : ℤ) (kind : FaultKind) → (b : Before key steps i rows now last) →
-    Stops key rows kind last (act_of s) now later → Stops key rows kind (last_of the_beginning (moments_of (acts_of (take i steps)))) (act_of s) (all_told b.run.0) later
+stops_there : (key : List ℕ) (steps : List Step) (i : ℕ) (s : Step) (rows : List Row) (now later : List Reading)
+    (last : ℤ) (kind : FaultKind) → (b : Before key steps i rows now last) →
+    Stops key rows kind last (act_of s) now later → Stops key rows kind
+    (last_of the_beginning (moments_of (acts_of (take i steps)))) (act_of s) (all_told b.run.0) later
 stops_there key steps i s rows now later last kind b stops =
     subst (λ m. Stops key rows kind m (act_of s) (all_told b.run.0) later) b.last
     (subst (λ old. Stops key rows kind last (act_of s) old later) b.run.1 stops)
 
-pub run_until : (key : List ℕ) (steps : List Step) (i : ℕ) (s : Step) (rows : List Row) (now later : List Reading) (last : ℤ) (kind : FaultKind) → i < length steps → s ≡ get_or steps i s → Before key steps i rows now last →
+pub run_until : (key : List ℕ) (steps : List Step) (i : ℕ) (s : Step) (rows : List Row) (now later : List Reading)
+    (last : ℤ) (kind : FaultKind) → i < length steps → s ≡ get_or steps i s → Before key steps i rows now last →
     Stops key rows kind last (act_of s) now later → IsRunUntil key (acts_of steps) (i + 1) kind later
 run_until key steps i s rows now later last kind h is b stops = record {
   before = acts_of (take i steps);
@@ -92,7 +107,8 @@ run_until key steps i s rows now later last kind h is b stops = record {
   stops = stops_there key steps i s rows now later last kind b stops;
 }
 
-front_inside : (key : List ℕ) (rows : List Row) (old readings : List Reading) (kind : FaultKind) (last : ℤ) (act : Act) → Stops key rows kind last act old readings → (front : List Reading) × (readings ≡ old ++ front)
+front_inside : (key : List ℕ) (rows : List Row) (old readings : List Reading) (kind : FaultKind) (last : ℤ) (act : Act)
+    → Stops key rows kind last act old readings → (front : List Reading) × (readings ≡ old ++ front)
 front_inside key rows old readings kind last act stops =
     elim stops [
       | inl opening ↦ ([], opening.1 ∙ sym (readings_nil old))
@@ -102,7 +118,9 @@ front_inside key rows old readings kind last act stops =
       ]
     ]
 
-pub sites_until : (law : ReadingBack) (key : List ℕ) (steps : List Step) (i : ℕ) (s : Step) (rows : List Row) (now later : List Reading) (last : ℤ) (kind : FaultKind) → OnlyOne key → i < length steps → s ≡ get_or steps i s → Before key steps i rows now last →
+pub sites_until : (law : ReadingBack) (key : List ℕ) (steps : List Step) (i : ℕ) (s : Step) (rows : List Row)
+    (now later : List Reading) (last : ℤ) (kind : FaultKind) → OnlyOne key → i < length steps → s ≡ get_or steps i s
+    → Before key steps i rows now last →
     Stops key rows kind last (act_of s) now later → SitesReadTheirOwnUntil (acts_of steps) (i + 1) kind later
 sites_until law key steps i s rows now later last kind one h is b stops =
     let before = acts_of (take i steps) in
@@ -119,11 +137,18 @@ sites_until law key steps i s rows now later last kind one h is b stops =
       read = front.1;
       own = plays_answer key [] rows before b.run.0 b.run.2;
       sites = λ host answers lives.
-          let led = each_leads law key host before nothing [] b.run.0 rows one answers lives (begins key host) b.run.2 in
-          (led.0, led.1, λ here. act_stops key host (act_of s) led.0 rows kind _ (all_told b.run.0) later one here led.2 there);
+          let led = each_leads law key host before nothing [] b.run.0 rows one answers lives
+          (begins key host) b.run.2 in (
+            led.0,
+            led.1,
+            λ here. act_stops key host (act_of s) led.0 rows kind _
+                (all_told b.run.0) later one here led.2 there,
+          );
     }
 
-pub sites_read : (law : ReadingBack) (key : List ℕ) (acts : List Act) (readings : List Reading) (rows : List Row) (told : List (List Reading)) → OnlyOne key → readings ≡ all_told told → Plays key [] acts told rows → SitesReadTheirOwn acts readings
+pub sites_read : (law : ReadingBack) (key : List ℕ) (acts : List Act) (readings : List Reading) (rows : List Row)
+    (told : List (List Reading)) → OnlyOne key → readings ≡ all_told told → Plays key [] acts told rows
+    → SitesReadTheirOwn acts readings
 sites_read law key acts readings rows told one is ran = record {
   told = told;
   read = is;
@@ -134,7 +159,9 @@ sites_read law key acts readings rows told one is ran = record {
 }
 
 -- a play that came to its end
-pub sites_all : (law : ReadingBack) (key : List ℕ) (steps : List Step) (i : ℕ) (rows : List Row) (now : List Reading) (moment : ℤ) → OnlyOne key → length steps ≤ i → Before key steps i rows now moment → SitesReadTheirOwn (acts_of steps) now
+pub sites_all : (law : ReadingBack) (key : List ℕ) (steps : List Step) (i : ℕ) (rows : List Row) (now : List Reading)
+    (moment : ℤ) → OnlyOne key → length steps ≤ i → Before key steps i rows now moment
+    → SitesReadTheirOwn (acts_of steps) now
 sites_all law key steps i rows now moment one h b =
     sites_read law key (acts_of steps) now rows b.run.0 one b.run.1
     (subst (λ ss. Plays key [] (acts_of ss) b.run.0 rows) (take_all i steps h) b.run.2)

@@ -42,7 +42,8 @@ escape_plain b h = record { low = grind arith; high = grind arith; no_semicolon 
 
 pub escaped_plain : (text : List ℕ) → AllByRecursion IsPlain (percent_encode PROFILE text)
 escaped_plain text =
-    recursion_from_All IsPlain _ (All-percent_encode IsPlain PROFILE text (λ b kept. kept_plain b (same_set b ∙ kept)) escape_plain)
+    recursion_from_All IsPlain _ (All-percent_encode IsPlain PROFILE text
+    (λ b kept. kept_plain b (same_set b ∙ kept)) escape_plain)
 
 -- an escaped text decodes to what it was
 pub decoded_escaped : (text : List ℕ) → All IsByte text → percent_decode (percent_encode PROFILE text) ≡ text

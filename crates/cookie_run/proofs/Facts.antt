@@ -25,12 +25,20 @@ use Rattle.cookie_run.specs.Site.{Site, nothing, with_entry, stored_name, set_re
 -- ---- what is sent
 
 -- the cookie `foo !%?=` with the value `bar;;, a`
-sent_line : encoded (sent (unsliced (bare (codes "foo !%?=") (codes "bar;;, a")))).cookie ≡ codes "foo%20!%25%3F%3D=bar%3B%3B%2C%20a; Secure; Path=/"
+sent_line : encoded (sent (unsliced (bare (codes "foo !%?=") (codes "bar;;, a")))).cookie ≡ codes
+    "foo%20!%25%3F%3D=bar%3B%3B%2C%20a; Secure; Path=/"
 unfolding percent_encode percent_encode_byte should_percent_encode
 sent_line = refl
 
 abbrev attributed : Record
-attributed = record (bare (codes "a") (codes "1")) { http_only = Some true; secure = Some false; same_site = Some Lax; path = Some (codes "/p"); domain = Some (codes "com"); expires = Some Session }
+attributed = record (bare (codes "a") (codes "1")) {
+  http_only = Some true;
+  secure = Some false;
+  same_site = Some Lax;
+  path = Some (codes "/p");
+  domain = Some (codes "com");
+  expires = Some Session;
+}
 
 -- path, Secure and domain are the session's, the other attributes the cookie's
 sent_attributes : encoded (sent (unsliced attributed)).cookie ≡ codes "a=1; HttpOnly; SameSite=Lax; Secure; Path=/"
@@ -39,17 +47,23 @@ sent_attributes = refl
 
 -- ---- what is read
 
-a_header : cookies_of (codes "a=1; b = %32 ;=x; c;a==") ≡ bare (codes "a") (codes "1") ∷ bare (codes "b") (codes "2") ∷ bare (codes "a") (codes "=") ∷ []
+a_header : cookies_of (codes "a=1; b = %32 ;=x; c;a==") ≡ bare (codes "a") (codes "1") ∷ bare (codes "b")
+    (codes "2") ∷ bare (codes "a") (codes "=") ∷ []
 unfolding trim_start trim_end chars lib.Utf8.encode is_utf8 name_of value_of text_after percent_decode
 a_header = refl
 
-kept_line : is_kept (record (bare (codes "a") (codes "1")) { path = Some (codes "/"); http_only = Some true; same_site = Some Lax }) ≡ true
+kept_line : is_kept (record (bare (codes "a") (codes "1")) {
+  path = Some (codes "/");
+  http_only = Some true;
+  same_site = Some Lax;
+}) ≡ true
 kept_line = refl
 
 no_path : is_kept (bare (codes "a") (codes "1")) ≡ false
 no_path = refl
 
-a_domain : is_kept (record (bare (codes "a") (codes "1")) { path = Some (codes "/"); domain = Some (codes "com") }) ≡ false
+a_domain : is_kept (record (bare (codes "a") (codes "1")) { path = Some (codes "/"); domain = Some (codes "com") })
+    ≡ false
 a_domain = refl
 
 a_length : is_kept (record (bare (codes "a") (codes "1")) { path = Some (codes "/"); max_age = Some (pos 0) }) ≡ false
@@ -74,7 +88,8 @@ unfolding an_entry
 written = inl (refl, refl, refl)
 
 -- that value is read in its way, and no other
-read_back : (told : List Reading) → GetOn an_entry Plain (codes "a") told → told ≡ Value Plain (codes "a") (Some (codes "1")) ∷ []
+read_back : (told : List Reading) → GetOn an_entry Plain (codes "a") told
+    → told ≡ Value Plain (codes "a") (Some (codes "1")) ∷ []
 unfolding an_entry
 read_back told t = t.1 ∙ ap (λ v. Value Plain (codes "a") v ∷ []) (t.2 refl)
 

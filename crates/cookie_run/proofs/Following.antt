@@ -1,5 +1,6 @@
 -- A line of a script is read, and then done.
-use Rattle.std.proofs.Common.{Vec, Global, ◌≡◌, ◌≢◌, ◌⊎◌, ℕ, ℤ, ◌<◌, arith, Bool, true, false, List, [], ◌∷◌, ◌++◌, length, Option, Result, Ok, Err, inl, inr, sym, refl, ap, ◌∙◌, subst, append-nil}
+use Rattle.std.proofs.Common.{Vec, Global, ◌≡◌, ◌≢◌, ◌⊎◌, ℕ, ℤ, ◌<◌, arith, Bool, true, false, List, [], ◌∷◌, ◌++◌}
+use Rattle.std.proofs.Common.{length, Option, Result, Ok, Err, inl, inr, sym, refl, ap, ◌∙◌, subst, append-nil}
 use Rattle.std.specs.Prelude.{if◌then◌else◌, IfOk, IfErr, IsErrOf, is_err, ◌==◌}
 use Rattle.std.specs.Str.{bytes_eq}
 use Rattle.std.proofs.lemmas.Bool.Decides.{nat_tests}
@@ -8,7 +9,7 @@ use Rattle.url.specs.Parts.{Parts}
 use Rattle.cookie_run.specs.declared.step.LineEnd.{LineEnd}
 use Rattle.cookie_run.specs.Rows.{AcceptsAll, Takes}
 use Rattle.cookie_run.specs.ScriptLine as spec
-use Rattle.cookie_run.specs.ScriptText.{Reached, obeyed, goes_back, done, after_line, HasFault, HalfLine}
+use Rattle.cookie_run.specs.ScriptText.{Reached, obeyed, goes_back, done, after_line, HasFault, PrintsUntil}
 use Rattle.cookie_run.specs.Standing.{Stands, Goes, Halts}
 use Rattle.cookie_run.specs.ScriptRead.{line_of}
 use Rattle.cookie_run.specs.declared.row.Row.{Row}
@@ -18,6 +19,7 @@ use Rattle.cookie_run.specs.declared.script.line.Line.{Line}
 use Rattle.cookie_run.specs.declared.script.visit.Visit.{Visit}
 use Rattle.cookie_run.specs.declared.step.SessionError.{SessionError}
 use Rattle.cookie_run.specs.declared.step.Stopped.{Stopped}
+use Rattle.cookie_run.proofs.Halting.{prints_all}
 
 empty_line : (line : List ℕ) → line ≡ [] → bytes_eq line [] ≡ true
 empty_line line e = ap (λ l. bytes_eq l []) e
@@ -35,7 +37,8 @@ skips true x y e = absurd (false≢true (sym e))
 skips false x y e = refl
 
 -- an empty line is passed over
-pub passes_over : (key : List ℕ) (line : List ℕ) (rows : List Row) (last : ℤ) (visit : Option Visit) (text : List ℕ) → line ≡ [] → text ≡ [] → Goes key (λ r. after_line r line) rows last visit rows last visit text
+pub passes_over : (key : List ℕ) (line : List ℕ) (rows : List Row) (last : ℤ) (visit : Option Visit) (text : List ℕ)
+    → line ≡ [] → text ≡ [] → Goes key (λ r. after_line r line) rows last visit rows last visit text
 passes_over key line rows last visit text e empty start r output s = (
   r,
   picks (bytes_eq line []) (Ok r) (done r (spec.read_line line)) (empty_line line e),
@@ -50,38 +53,57 @@ passes_over key line rows last visit text e empty start r output s = (
   },
 )
 
-read_led : (r : Reached) (line : List ℕ) (read : Result spec.Line Cause) → 0 < length line → spec.read_line line ≡ read → after_line r line ≡ done r read
-read_led r line read some e = skips (bytes_eq line []) (Ok r) (done r (spec.read_line line)) (some_line line some) ∙ ap (done r) e
+read_led : (r : Reached) (line : List ℕ) (read : Result spec.Line Cause) → 0 < length line → spec.read_line line ≡ read
+    → after_line r line ≡ done r read
+read_led r line read some e = skips (bytes_eq line []) (Ok r) (done r (spec.read_line line)) (some_line line some)
+    ∙ ap (done r) e
 
 -- its text has a fault
-pub misreads : (key : List ℕ) (line : List ℕ) (rows : List Row) (last : ℤ) (visit : Option Visit) (cause : Cause) → 0 < length line → (spec.read_line line ≡ Err cause) ⊎ (cause ≡ Memory)
-    → Halts key (λ r. after_line r line) rows last visit cause rows
-misreads key line rows last visit cause some (inl e) start r output s = inl (inl (read_led r line (Err cause) some e), refl)
-misreads key line rows last visit cause some (inr e) start r output s = inr (e, inl refl)
+pub misreads : (Error : Type 0) (key : List ℕ) (line : List ℕ) (rows : List Row) (last : ℤ) (visit : Option Visit)
+    (cause : Cause) → 0 < length line → (spec.read_line line ≡ Err cause) ⊎ (cause ≡ Memory)
+    → Halts Error key (λ r. after_line r line) rows last visit cause rows
+misreads Error key line rows last visit cause some (inl e) start r output s = inl
+    (inl (read_led r line (Err cause) some e), refl)
+misreads Error key line rows last visit cause some (inr e) start r output s = inr
+    (e, inl (prints_all key start rows r last visit output s))
 
 -- its moment is before the last
-pub comes_back : (key : List ℕ) (line : List ℕ) (rows : List Row) (last : ℤ) (visit : Option Visit) (read : Line) → 0 < length line → spec.read_line line ≡ Ok (line_of read) → goes_back last (line_of read) ≡ true
-    → Halts key (λ r. after_line r line) rows last visit Back rows
-comes_back key line rows last visit read some e back start r output s =
-    inl (inl (read_led r line (Ok (line_of read)) some e ∙ picks (goes_back r.last (line_of read)) (Err Back) (obeyed r.acts r.last r.now (line_of read)) (subst (λ m. goes_back m (line_of read) ≡ true) s.moment back)), refl)
+pub comes_back : (Error : Type 0) (key : List ℕ) (line : List ℕ) (rows : List Row) (last : ℤ) (visit : Option Visit)
+    (read : Line) → 0 < length line → spec.read_line line ≡ Ok (line_of read) → goes_back last (line_of read) ≡ true
+    → Halts Error key (λ r. after_line r line) rows last visit Back rows
+comes_back Error key line rows last visit read some e back start r output s =
+    inl (
+      inl (read_led r line (Ok (line_of read)) some e ∙ picks (goes_back r.last (line_of read)) (Err Back)
+          (obeyed r.acts r.last r.now (line_of read)) (subst (λ m. goes_back m (line_of read) ≡ true) s.moment back)),
+      refl,
+    )
 
-led : (key : List ℕ) (start rows : List Row) (r : Reached) (last : ℤ) (visit : Option Visit) (output line : List ℕ) (read : Line) → Stands key start r rows last visit output → 0 < length line → spec.read_line line ≡ Ok (line_of read) → goes_back last (line_of read) ≡ false
+led : (key : List ℕ) (start rows : List Row) (r : Reached) (last : ℤ) (visit : Option Visit) (output line : List ℕ)
+    (read : Line) → Stands key start r rows last visit output → 0 < length line
+    → spec.read_line line ≡ Ok (line_of read) → goes_back last (line_of read) ≡ false
     → after_line r line ≡ obeyed r.acts r.last r.now (line_of read)
 led key start rows r last visit output line read s some e forth =
-    read_led r line (Ok (line_of read)) some e ∙ skips (goes_back r.last (line_of read)) (Err Back) (obeyed r.acts r.last r.now (line_of read)) (subst (λ m. goes_back m (line_of read) ≡ false) s.moment forth)
+    read_led r line (Ok (line_of read)) some e ∙ skips (goes_back r.last (line_of read)) (Err Back)
+    (obeyed r.acts r.last r.now (line_of read)) (subst (λ m. goes_back m (line_of read) ≡ false) s.moment forth)
 
-pub goes_on : (key : List ℕ) (line : List ℕ) (rows new_rows : List Row) (last new_last : ℤ) (visit new_visit : Option Visit) (read : Line) (text : List ℕ) → 0 < length line → spec.read_line line ≡ Ok (line_of read) → goes_back last (line_of read) ≡ false
+pub goes_on : (key : List ℕ) (line : List ℕ) (rows new_rows : List Row) (last new_last : ℤ)
+    (visit new_visit : Option Visit) (read : Line) (text : List ℕ) → 0 < length line
+    → spec.read_line line ≡ Ok (line_of read) → goes_back last (line_of read) ≡ false
     → Goes key (λ r. obeyed r.acts r.last r.now (line_of read)) rows last visit new_rows new_last new_visit text
     → Goes key (λ r. after_line r line) rows last visit new_rows new_last new_visit text
 goes_on key line rows new_rows last new_last visit new_visit read text some e forth goes start r output s =
     let g = goes start r output s in
     (g.0, led key start rows r last visit output line read s some e forth ∙ g.1, g.2)
 
-pub halts_there : (key : List ℕ) (line : List ℕ) (rows new_rows : List Row) (last : ℤ) (visit : Option Visit) (read : Line) (cause : Cause) → 0 < length line → spec.read_line line ≡ Ok (line_of read) → goes_back last (line_of read) ≡ false
-    → Halts key (λ r. obeyed r.acts r.last r.now (line_of read)) rows last visit cause new_rows
-    → Halts key (λ r. after_line r line) rows last visit cause new_rows
-halts_there key line rows new_rows last visit read cause some e forth halts start r output s =
-    subst (λ l. (HasFault r l cause × (new_rows ≡ rows)) ⊎ ((cause ≡ Memory) × HalfLine key rows r l new_rows)) (sym (led key start rows r last visit output line read s some e forth)) (halts start r output s)
+pub halts_there : (Error : Type 0) (key : List ℕ) (line : List ℕ) (rows new_rows : List Row) (last : ℤ)
+    (visit : Option Visit) (read : Line) (cause : Cause) → 0 < length line → spec.read_line line ≡ Ok (line_of read)
+    → goes_back last (line_of read) ≡ false
+    → Halts Error key (λ r. obeyed r.acts r.last r.now (line_of read)) rows last visit cause new_rows
+    → Halts Error key (λ r. after_line r line) rows last visit cause new_rows
+halts_there Error key line rows new_rows last visit read cause some e forth halts start r output s =
+    subst (λ l. (HasFault Error r l cause × (new_rows ≡ rows))
+    ⊎ ((cause ≡ Memory) × PrintsUntil key start r l output new_rows))
+    (sym (led key start rows r last visit output line read s some e forth)) (halts start r output s)
 
 -- ---- results
 
@@ -93,7 +115,9 @@ pub if_err : {A E : Type 0} (r : Result A E) {P Q : E → Type 0} → ((e : E) �
 if_err (Ok x) f h = tt
 if_err (Err e) f h = f e h
 
-pub takes_of : {E : Type 0} (rows new : List Row) (url : Parts) (lines : List (List ℕ)) (r : Result (Vec LineEnd Global) E) → false ≡ is_err r → IfOk r (λ ends. AcceptsAll rows url lines ends.items new) → Takes rows url lines new
+pub takes_of : {E : Type 0} (rows new : List Row) (url : Parts) (lines : List (List ℕ))
+    (r : Result (Vec LineEnd Global) E) → false ≡ is_err r → IfOk r (λ ends. AcceptsAll rows url lines ends.items new)
+    → Takes rows url lines new
 takes_of rows new url lines (Ok ends) e h = (ends.items, h)
 takes_of rows new url lines (Err x) e h = absurd (false≢true e)
 
@@ -112,6 +136,7 @@ accepted_name x e name h empty = ok_err x e (h empty)
     ok_err x e p = cc
 
 -- memory was refused at a line
-pub stopped_at : {A : Type 0} (r : Result A Stopped) (P : Stopped → Type 0) → true ≡ is_err r → IfErr r P → (stopped : Stopped) × P stopped
+pub stopped_at : {A : Type 0} (r : Result A Stopped) (P : Stopped → Type 0) → true ≡ is_err r → IfErr r P
+    → (stopped : Stopped) × P stopped
 stopped_at (Ok x) P e h = absurd (false≢true (sym e))
 stopped_at (Err x) P e h = (x, h)

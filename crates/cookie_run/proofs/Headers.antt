@@ -1,5 +1,6 @@
 -- A header grows by one pair.
-use Rattle.std.proofs.Common.{◌≡◌, ℕ, ◌+◌, ◌<◌, true, false, cond, eqb, List, [], ◌∷◌, ◌++◌, length, take, get_or, sym, refl, ap, ◌∙◌, arith, append_assoc, length-append}
+use Rattle.std.proofs.Common.{◌≡◌, ℕ, ◌+◌, ◌<◌, true, false, cond, eqb, List, [], ◌∷◌, ◌++◌, length, take, get_or, sym}
+use Rattle.std.proofs.Common.{refl, ap, ◌∙◌, arith, append_assoc, length-append}
 use Rattle.std.specs.Str.{bytes_eq}
 use Rattle.std.proofs.lemmas.Bool.{cond-false}
 use Rattle.std.proofs.lemmas.Bool.Decides.{nat_tests}
@@ -24,15 +25,24 @@ header_push (a ∷ b ∷ rows) row =
     ∙ sym (cond-false _ _ _ (header_some a (b ∷ rows))))
 
 -- the next row of the list, where it is the host's and where it isn't
-pub header_next : (host : List ℕ) (rows : List Row) (i : ℕ) (row : Row) → i < length rows → row ≡ get_or rows i row → bytes_eq row.host host ≡ true → header_of (rows_of host (take (i + 1) rows)) ≡ with_pair (header_of (rows_of host (take i rows))) row
+pub header_next : (host : List ℕ) (rows : List Row) (i : ℕ) (row : Row) → i < length rows → row ≡ get_or rows i row
+    → bytes_eq row.host host ≡ true → header_of (rows_of host (take (i + 1) rows)) ≡ with_pair
+    (header_of (rows_of host (take i rows))) row
 header_next host rows i row h is own =
-    ap header_of (filter_more (λ r. bytes_eq r.host host) rows i row h ∙ (ap (λ r. rows_of host (take i rows) ++ cond (bytes_eq r.host host) (r ∷ []) []) (sym is) ∙ ap (λ b. rows_of host (take i rows) ++ cond b (row ∷ []) []) own))
+    ap header_of (filter_more (λ r. bytes_eq r.host host) rows i row h
+    ∙ (ap (λ r. rows_of host (take i rows) ++ cond (bytes_eq r.host host) (r ∷ []) []) (sym is)
+    ∙ ap (λ b. rows_of host (take i rows) ++ cond b (row ∷ []) []) own))
     ∙ header_push (rows_of host (take i rows)) row
 
 append_nil : (xs : List Row) → xs ++ [] ≡ xs
 append_nil [] = refl
 append_nil (x ∷ xs) = ap (λ ys. x ∷ ys) (append_nil xs)
 
-pub header_past : (host : List ℕ) (rows : List Row) (i : ℕ) (row : Row) → i < length rows → row ≡ get_or rows i row → bytes_eq row.host host ≡ false → header_of (rows_of host (take (i + 1) rows)) ≡ header_of (rows_of host (take i rows))
+pub header_past : (host : List ℕ) (rows : List Row) (i : ℕ) (row : Row) → i < length rows → row ≡ get_or rows i row
+    → bytes_eq row.host host ≡ false → header_of (rows_of host (take (i + 1) rows)) ≡ header_of
+    (rows_of host (take i rows))
 header_past host rows i row h is other =
-    ap header_of (filter_more (λ r. bytes_eq r.host host) rows i row h ∙ (ap (λ r. rows_of host (take i rows) ++ cond (bytes_eq r.host host) (r ∷ []) []) (sym is) ∙ (ap (λ b. rows_of host (take i rows) ++ cond b (row ∷ []) []) other ∙ append_nil (rows_of host (take i rows)))))
+    ap header_of (filter_more (λ r. bytes_eq r.host host) rows i row h
+    ∙ (ap (λ r. rows_of host (take i rows) ++ cond (bytes_eq r.host host) (r ∷ []) []) (sym is)
+    ∙ (ap (λ b. rows_of host (take i rows) ++ cond b (row ∷ []) []) other
+    ∙ append_nil (rows_of host (take i rows)))))

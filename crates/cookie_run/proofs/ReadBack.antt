@@ -1,8 +1,10 @@
 -- An escaped pair is read back from a header.
-use Rattle.std.proofs.Common.{◌≡◌, ◌≢◌, ℕ, ◌<◌, ◌≤◌, Bool, true, false, ltb, List, [], ◌∷◌, ◌++◌, length, drop, IsAscii, All, sym, refl, ap, ◌∙◌, arith, Some, suc, add-one, length-append}
+use Rattle.std.proofs.Common.{◌≡◌, ◌≢◌, ℕ, ◌<◌, ◌≤◌, Bool, true, false, ltb, List, [], ◌∷◌, ◌++◌, length, drop, IsAscii}
+use Rattle.std.proofs.Common.{All, sym, refl, ap, ◌∙◌, arith, Some, suc, add-one, length-append}
 use Rattle.std.specs.Prelude.{◌==◌}
 use Rattle.std.specs.List.{AllByRecursion, position_or_len}
-use Rattle.std.specs.Str.{trim, trim_start, trim_end, skip_leading_whitespace, drop_trailing_whitespace, is_utf8, IsUtf8}
+use Rattle.std.specs.Str.{trim, trim_start, trim_end, skip_leading_whitespace, drop_trailing_whitespace, is_utf8}
+use Rattle.std.specs.Str.{IsUtf8}
 use Rattle.std.specs.Char.{is_whitespace}
 use Rattle.std.proofs.Math.Seq.{take-append_seam}
 use Rattle.std.proofs.lemmas.Bool.{cond-true, cond-false}
@@ -44,7 +46,8 @@ pub ascii : (bs : List ℕ) → AllByRecursion IsGraphic bs → IsAscii bs
 ascii bs h = IsAscii-from_all bs (All-from_recursion (λ b. b < 128) bs (graphic_ascii bs h))
 
 ascii_spaced : (bs : List ℕ) → AllByRecursion IsGraphic bs → IsAscii (32 ∷ bs)
-ascii_spaced bs h = IsAscii-from_all (32 ∷ bs) (All-from_recursion (λ b. b < 128) (32 ∷ bs) (omega arith, graphic_ascii bs h))
+ascii_spaced bs h = IsAscii-from_all (32 ∷ bs) (All-from_recursion (λ b. b < 128) (32 ∷ bs)
+    (omega arith, graphic_ascii bs h))
 
 end_trimmed : (bs : List ℕ) → AllByRecursion IsGraphic bs → trim_end bs ≡ bs
 unfolding trim_end
@@ -53,13 +56,15 @@ end_trimmed bs h = rw (chars-IsAscii bs (ascii bs h)) (rw (drop_graphic bs h) (e
 pub trim_graphic : (bs : List ℕ) → AllByRecursion IsGraphic bs → trim bs ≡ bs
 unfolding trim_start
 trim_graphic bs h =
-    let start : trim_start bs ≡ bs = rw (chars-IsAscii bs (ascii bs h)) (rw (skip_graphic bs h) (encodes-IsAscii bs (ascii bs h))) in
+    let start : trim_start bs ≡ bs = rw (chars-IsAscii bs (ascii bs h))
+    (rw (skip_graphic bs h) (encodes-IsAscii bs (ascii bs h))) in
     ap trim_end start ∙ end_trimmed bs h
 
 pub trim_spaced : (bs : List ℕ) → AllByRecursion IsGraphic bs → trim (32 ∷ bs) ≡ bs
 unfolding trim_start
 trim_spaced bs h =
-    let start : trim_start (32 ∷ bs) ≡ bs = rw (chars-IsAscii (32 ∷ bs) (ascii_spaced bs h)) (rw (skip_graphic bs h) (encodes-IsAscii bs (ascii bs h))) in
+    let start : trim_start (32 ∷ bs) ≡ bs = rw (chars-IsAscii (32 ∷ bs) (ascii_spaced bs h))
+    (rw (skip_graphic bs h) (encodes-IsAscii bs (ascii bs h))) in
     ap trim_end start ∙ end_trimmed bs h
 
 -- ---- the parts of `name=value`
@@ -74,20 +79,24 @@ plain_graphic : (bs : List ℕ) → AllByRecursion IsPlain bs → AllByRecursion
 plain_graphic [] h = tt
 plain_graphic (b ∷ bs) h = (record { low = h.0.low; high = h.0.high }, plain_graphic bs h.1)
 
-pair_graphic : (n v : List ℕ) → AllByRecursion IsPlain n → AllByRecursion IsPlain v → AllByRecursion IsGraphic (n ++ 61 ∷ v)
+pair_graphic : (n v : List ℕ) → AllByRecursion IsPlain n → AllByRecursion IsPlain v
+    → AllByRecursion IsGraphic (n ++ 61 ∷ v)
 pair_graphic [] v hn hv = (record { low = omega arith; high = omega arith }, plain_graphic v hv)
 pair_graphic (b ∷ bs) v hn hv = (record { low = hn.0.low; high = hn.0.high }, pair_graphic bs v hn.1 hv)
 
-pair_whole : (n v : List ℕ) → AllByRecursion IsPlain n → AllByRecursion IsPlain v → AllByRecursion (λ b. is_semicolon b ≡ false) (n ++ 61 ∷ v)
+pair_whole : (n v : List ℕ) → AllByRecursion IsPlain n → AllByRecursion IsPlain v
+    → AllByRecursion (λ b. is_semicolon b ≡ false) (n ++ 61 ∷ v)
 pair_whole [] [] hn hv = (refl, tt)
-pair_whole [] (b ∷ bs) hn hv = let rest = pair_whole [] bs hn hv.1 in (refl, (grind (arith, nat_tests, hv.0.no_semicolon), rest.1))
+pair_whole [] (b ∷ bs) hn hv = let rest = pair_whole [] bs hn hv.1 in
+    (refl, (grind (arith, nat_tests, hv.0.no_semicolon), rest.1))
 pair_whole (b ∷ bs) v hn hv = (grind (arith, nat_tests, hn.0.no_semicolon), pair_whole bs v hn.1 hv)
 
 plain_uncut : (bs : List ℕ) → AllByRecursion IsPlain bs → AllByRecursion (λ b. is_equals b ≡ false) bs
 plain_uncut [] h = tt
 plain_uncut (b ∷ bs) h = (grind (arith, nat_tests, h.0.no_equals), plain_uncut bs h.1)
 
-first_equals : (n v : List ℕ) → AllByRecursion (λ b. is_equals b ≡ false) n → position_or_len is_equals (n ++ 61 ∷ v) ≡ length n
+first_equals : (n v : List ℕ) → AllByRecursion (λ b. is_equals b ≡ false) n
+    → position_or_len is_equals (n ++ 61 ∷ v) ≡ length n
 first_equals [] v h = refl
 first_equals (b ∷ bs) v h = grind (arith, nat_tests, h.0, first_equals bs v h.1)
 
@@ -95,7 +104,8 @@ drop_past : (n v : List ℕ) → drop (suc (length n)) (n ++ 61 ∷ v) ≡ v
 drop_past [] v = refl
 drop_past (b ∷ bs) v = drop_past bs v
 
-has_equals : (n v : List ℕ) → AllByRecursion (λ b. is_equals b ≡ false) n → ltb (position_or_len is_equals (n ++ 61 ∷ v)) (length (n ++ 61 ∷ v)) ≡ true
+has_equals : (n v : List ℕ) → AllByRecursion (λ b. is_equals b ≡ false) n
+    → ltb (position_or_len is_equals (n ++ 61 ∷ v)) (length (n ++ 61 ∷ v)) ≡ true
 has_equals n v h = grind (arith, nat_tests, first_equals n v h, length-append n (61 ∷ v))
 
 -- a text, where nothing or one space stands before it
@@ -107,11 +117,13 @@ trim_led : (spaced : Bool) (bs : List ℕ) → AllByRecursion IsGraphic bs → t
 trim_led false bs h = trim_graphic bs h
 trim_led true bs h = trim_spaced bs h
 
-led_whole : (spaced : Bool) (bs : List ℕ) → AllByRecursion (λ b. is_semicolon b ≡ false) bs → AllByRecursion (λ b. is_semicolon b ≡ false) (led spaced bs)
+led_whole : (spaced : Bool) (bs : List ℕ) → AllByRecursion (λ b. is_semicolon b ≡ false) bs
+    → AllByRecursion (λ b. is_semicolon b ≡ false) (led spaced bs)
 led_whole false bs h = h
 led_whole true bs h = (refl, h)
 
-led_uncut : (spaced : Bool) (bs : List ℕ) → AllByRecursion (λ b. is_equals b ≡ false) bs → AllByRecursion (λ b. is_equals b ≡ false) (led spaced bs)
+led_uncut : (spaced : Bool) (bs : List ℕ) → AllByRecursion (λ b. is_equals b ≡ false) bs
+    → AllByRecursion (λ b. is_equals b ≡ false) (led spaced bs)
 led_uncut false bs h = h
 led_uncut true bs h = (refl, h)
 
@@ -127,7 +139,8 @@ name_before : (n v : List ℕ) → AllByRecursion (λ b. is_equals b ≡ false) 
 unfolding name_of
 name_before n v h = rw (first_equals n v h) (rw take-append_seam refl)
 
-value_behind : (n v : List ℕ) → AllByRecursion (λ b. is_equals b ≡ false) n → AllByRecursion IsGraphic v → value_of (n ++ 61 ∷ v) ≡ Some v
+value_behind : (n v : List ℕ) → AllByRecursion (λ b. is_equals b ≡ false) n → AllByRecursion IsGraphic v
+    → value_of (n ++ 61 ∷ v) ≡ Some v
 unfolding value_of text_after
 value_behind n v h g =
     cond-true _ _ _ (has_equals n v h) ∙ ap Some (rw (first_equals n v h, add-one, drop_past n v) (trim_graphic v g))
@@ -157,29 +170,36 @@ pub ascii_is_utf8 : (bs : List ℕ) → IsAscii bs → is_utf8 bs ≡ true
 ascii_is_utf8 bs h = is_utf8-from_IsUtf8 bs (IsUtf8-from_ascii bs h)
 
 pub graphic_of : (c : Record) → AllByRecursion IsGraphic (stripped (encoded_pair c))
-graphic_of c = pair_graphic (percent_encode PROFILE c.name) (percent_encode PROFILE c.value) (escaped_plain c.name) (escaped_plain c.value)
+graphic_of c = pair_graphic (percent_encode PROFILE c.name) (percent_encode PROFILE c.value) (escaped_plain c.name)
+    (escaped_plain c.value)
 
 pub whole_of : (c : Record) → AllByRecursion (λ b. is_semicolon b ≡ false) (stripped (encoded_pair c))
-whole_of c = pair_whole (percent_encode PROFILE c.name) (percent_encode PROFILE c.value) (escaped_plain c.name) (escaped_plain c.value)
+whole_of c = pair_whole (percent_encode PROFILE c.name) (percent_encode PROFILE c.value) (escaped_plain c.name)
+    (escaped_plain c.value)
 
-pub led_clean : (spaced : Bool) (c : Record) → All (λ b. is_semicolon b ≡ false) (led spaced (stripped (encoded_pair c)))
+pub led_clean : (spaced : Bool) (c : Record) → All (λ b. is_semicolon b ≡ false)
+    (led spaced (stripped (encoded_pair c)))
 led_clean spaced c = All-from_recursion (λ b. is_semicolon b ≡ false) _ (led_whole spaced _ (whole_of c))
 
 -- the pair decoded
-decodes_pair : (c : Record) → IsGood c → decoded (percent_encode PROFILE c.name) (percent_encode PROFILE c.value) ≡ Some (bare_of c)
+decodes_pair : (c : Record) → IsGood c → decoded (percent_encode PROFILE c.name) (percent_encode PROFILE c.value) ≡ Some
+    (bare_of c)
 decodes_pair c good =
     rw (decoded_escaped c.name good.name_bytes, decoded_escaped c.value good.value_bytes)
     (rw (is_utf8-from_IsUtf8 c.name good.name, is_utf8-from_IsUtf8 c.value good.value) refl)
 
 -- THE PAIR: what is escaped reads back
-pub cookie_of_led : (spaced : Bool) (c : Record) → IsGood c → cookie_of (led spaced (stripped (encoded_pair c))) ≡ Some (bare_of c)
+pub cookie_of_led : (spaced : Bool) (c : Record) → IsGood c → cookie_of (led spaced (stripped (encoded_pair c))) ≡ Some
+    (bare_of c)
 cookie_of_led spaced c good =
     let n = percent_encode PROFILE c.name in
     let v = percent_encode PROFILE c.value in
     let uncut = led_uncut spaced n (plain_uncut n (escaped_plain c.name)) in
     let name : name_of (led spaced (n ++ 61 ∷ v)) ≡ n =
-    ap name_of (led_pair spaced n v) ∙ (name_before (led spaced n) v uncut ∙ trim_led spaced n (plain_graphic n (escaped_plain c.name))) in
+    ap name_of (led_pair spaced n v) ∙ (name_before (led spaced n) v uncut
+    ∙ trim_led spaced n (plain_graphic n (escaped_plain c.name))) in
     let value : value_of (led spaced (n ++ 61 ∷ v)) ≡ Some v =
     ap value_of (led_pair spaced n v) ∙ value_behind (led spaced n) v uncut (plain_graphic v (escaped_plain c.value)) in
     cond-true _ _ _ (ascii_is_utf8 _ (led_ascii spaced _ (graphic_of c)))
-    ∙ ((λ i. pair_in (name i) (value i)) ∙ (pair_named n v (escaped_nonempty c.name good.named good.name_bytes) ∙ decodes_pair c good))
+    ∙ ((λ i. pair_in (name i) (value i)) ∙ (pair_named n v (escaped_nonempty c.name good.named good.name_bytes)
+    ∙ decodes_pair c good))

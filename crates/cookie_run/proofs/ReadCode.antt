@@ -1,5 +1,7 @@
 -- What the code reads of a piece of a header.
-use Rattle.std.proofs.Common.{◌≡◌, ◌≢◌, ℕ, ◌<◌, Bool, true, false, ltb, List, [], ◌∷◌, ◌++◌, length, take, get_or, suc, sym, refl, ap, ◌∙◌, subst, ⊎_elim, arith, All, Option, Some, None, Ok, Err, append-nil, append_assoc}
+use Rattle.std.proofs.Common.{◌≡◌, ◌≢◌, ℕ, ◌<◌, Bool, true, false, ltb, List, [], ◌∷◌, ◌++◌, length, take, get_or, suc}
+use Rattle.std.proofs.Common.{sym, refl, ap, ◌∙◌, subst, ⊎_elim, arith, All, Option, Some, None, Ok, Err, append-nil}
+use Rattle.std.proofs.Common.{append_assoc}
 use Rattle.std.specs.Prelude.{◌==◌, ◌+◌, map, IsOkUnless}
 use Rattle.std.specs.Borrow.{Bor}
 use Rattle.std.specs.List.{AllByRecursion, filter_map, slice_split, onto_first, before_first, position_or_len}
@@ -81,7 +83,8 @@ value_there text h =
     let t : ltb (position_or_len (λ b. b == equals) text) (length text) ≡ true = grind (arith, nat_tests, h) in
     cond-true _ _ _ t
 
-value_missing : (text : List ℕ) → ltb (position_or_len (λ b. b == equals) text) (length text) ≡ false → value_of text ≡ None
+value_missing : (text : List ℕ) → ltb (position_or_len (λ b. b == equals) text) (length text) ≡ false
+    → value_of text ≡ None
 unfolding value_of
 value_missing text h = cond-false _ _ _ h
 
@@ -92,28 +95,36 @@ pair_some (b ∷ bs) v h = refl
 decoded_some : (n v : List ℕ) → AreUtf8 n v → decoded n v ≡ Some (bare (percent_decode n) (percent_decode v))
 decoded_some n v u = rw (is_utf8-from_IsUtf8 (percent_decode n) u.0, is_utf8-from_IsUtf8 (percent_decode v) u.1) refl
 
-piece_read : (text : List ℕ) (s : Seen) → IsClean text → IsUtf8 text → ReadsEncoded text (Ok s) → Some s.cookie ≡ cookie_of text
+piece_read : (text : List ℕ) (s : Seen) → IsClean text → IsUtf8 text → ReadsEncoded text (Ok s)
+    → Some s.cookie ≡ cookie_of text
 piece_read text s clean utf8 reads =
     let first = first_is text clean in
     let fit = reads.accepted refl in
     let pair = subst IsPair first fit.0 in
-    let texts : AreUtf8 (name_of text) (text_after text) = subst (λ t. AreUtf8 (name_of t) (text_after t)) first fit.1 in
+    let texts : AreUtf8 (name_of text) (text_after text) = subst
+    (λ t. AreUtf8 (name_of t) (text_after t)) first fit.1 in
     let rest = reads.attributes in
     let none : rest.0 ≡ [] = rest_of _ _ rest.0 [] (sym rest.1 ∙ whole text clean) in
     let attributes : HasAttributes [] s.cookie = subst (λ ps. HasAttributes ps s.cookie) none rest.2 in
-    let name : s.cookie.name ≡ percent_decode (name_of text) = reads.decoded.name ∙ ap (λ t. percent_decode (name_of t)) first in
-    let value : s.cookie.value ≡ percent_decode (text_after text) = reads.decoded.value ∙ ap (λ t. percent_decode (text_after t)) first in
+    let name : s.cookie.name ≡ percent_decode (name_of text) = reads.decoded.name
+    ∙ ap (λ t. percent_decode (name_of t)) first in
+    let value : s.cookie.value ≡ percent_decode (text_after text) = reads.decoded.value
+    ∙ ap (λ t. percent_decode (text_after t)) first in
     ap Some (bare_is s.cookie attributes ∙ λ i. bare (name i) (value i))
-    ∙ sym (cond-true _ _ _ (is_utf8-from_IsUtf8 text utf8) ∙ (ap (pair_in (name_of text)) (value_there text pair.0) ∙ (pair_some (name_of text) (text_after text) pair.1 ∙ decoded_some (name_of text) (text_after text) texts)))
+    ∙ sym (cond-true _ _ _ (is_utf8-from_IsUtf8 text utf8) ∙ (ap (pair_in (name_of text)) (value_there text pair.0)
+    ∙ (pair_some (name_of text) (text_after text) pair.1 ∙ decoded_some (name_of text) (text_after text) texts)))
 
 -- a piece that doesn't
-pair_none : (text : List ℕ) → ¬ (IsPair text × AreUtf8 (name_of text) (text_after text)) → pair_in (name_of text) (value_of text) ≡ None
+pair_none : (text : List ℕ) → ¬ (IsPair text × AreUtf8 (name_of text) (text_after text))
+    → pair_in (name_of text) (value_of text) ≡ None
 pair_none text h =
     ⊎_elim
     (λ (there : ltb (position_or_len (λ b. b == equals) text) (length text) ≡ true).
     let has : HasEquals text = ltb-true _ _ there in
-    ap (pair_in (name_of text)) (value_there text has) ∙ unread (name_of text) (text_after text) (λ some texts. h ((has, some), texts)))
-    (λ (none : ltb (position_or_len (λ b. b == equals) text) (length text) ≡ false). ap (pair_in (name_of text)) (value_missing text none))
+    ap (pair_in (name_of text)) (value_there text has) ∙ unread (name_of text) (text_after text)
+    (λ some texts. h ((has, some), texts)))
+    (λ (none : ltb (position_or_len (λ b. b == equals) text) (length text) ≡ false). ap (pair_in (name_of text))
+    (value_missing text none))
     (cases_Bool _)
   where
     undecoded : (n v : List ℕ) → ¬ (AreUtf8 n v) → decoded n v ≡ None
@@ -131,11 +142,13 @@ pair_none text h =
     unread [] v h = refl
     unread (b ∷ bs) v h = undecoded (b ∷ bs) v (h (omega arith))
 
-piece_unread : (text : List ℕ) (e : ParseError) → e ≢ OutOfMemory → IsClean text → IsUtf8 text → ReadsEncoded text (Err e) → None ≡ cookie_of text
+piece_unread : (text : List ℕ) (e : ParseError) → e ≢ OutOfMemory → IsClean text → IsUtf8 text
+    → ReadsEncoded text (Err e) → None ≡ cookie_of text
 piece_unread text e other clean utf8 reads =
     let first = first_is text clean in
     let unfit : ¬ (IsPair text × AreUtf8 (name_of text) (text_after text)) = λ p.
-    other (error_is e (reads.owed (subst IsPair (sym first) p.0) (subst (λ t. AreUtf8 (name_of t) (text_after t)) (sym first) p.1))) in
+    other (error_is e (reads.owed (subst IsPair (sym first) p.0)
+    (subst (λ t. AreUtf8 (name_of t) (text_after t)) (sym first) p.1))) in
     sym (cond-true _ _ _ (is_utf8-from_IsUtf8 text utf8) ∙ pair_none text unfit)
   where
     error_is : (e : ParseError) → IsOkUnless {T = Seen} (Err e) OutOfMemory → e ≡ OutOfMemory
@@ -143,11 +156,14 @@ piece_unread text e other clean utf8 reads =
 
 -- ---- the pieces of a header
 
-clean_front : (p : ℕ → Bool) (x : ℕ) (parts : List (List ℕ)) → p x ≡ false → AllByRecursion (λ t. AllByRecursion (λ b. p b ≡ false) t) parts → AllByRecursion (λ t. AllByRecursion (λ b. p b ≡ false) t) (onto_first x parts)
+clean_front : (p : ℕ → Bool) (x : ℕ) (parts : List (List ℕ)) → p x ≡ false
+    → AllByRecursion (λ t. AllByRecursion (λ b. p b ≡ false) t) parts
+    → AllByRecursion (λ t. AllByRecursion (λ b. p b ≡ false) t) (onto_first x parts)
 clean_front p x [] e h = ((e, tt), tt)
 clean_front p x (t ∷ ts) e h = ((e, h.0), h.1)
 
-parts_clean : (p : ℕ → Bool) (xs : List ℕ) → AllByRecursion (λ t. AllByRecursion (λ b. p b ≡ false) t) (slice_split p xs)
+parts_clean : (p : ℕ → Bool) (xs : List ℕ) → AllByRecursion (λ t. AllByRecursion (λ b. p b ≡ false) t)
+    (slice_split p xs)
 parts_clean p [] = (tt, tt)
 parts_clean p (x ∷ xs) =
     ⊎_elim
@@ -155,7 +171,8 @@ parts_clean p (x ∷ xs) =
     (λ (no : p x ≡ false). rw no (clean_front p x (slice_split p xs) no (parts_clean p xs)))
     (cases_Bool (p x))
 
-all_clean : (parts : List (List ℕ)) → AllByRecursion (λ t. AllByRecursion (λ b. (b == semicolon) ≡ false) t) parts → AllByRecursion IsClean parts
+all_clean : (parts : List (List ℕ)) → AllByRecursion (λ t. AllByRecursion (λ b. (b == semicolon) ≡ false) t) parts
+    → AllByRecursion IsClean parts
 all_clean [] h = tt
 all_clean (t ∷ ts) h = (All-from_recursion (λ b. (b == semicolon) ≡ false) t h.0, all_clean ts h.1)
 
@@ -171,30 +188,43 @@ gives_is piece None clean g =
     (λ (no : is_utf8 piece ≡ false). sym (cond-false _ _ _ no))
     (cases_Bool (is_utf8 piece))
 
-first_given : (o : Option Record) (piece : List ℕ) (rest : List (List ℕ)) → o ≡ cookie_of piece → option_to_list o ++ filter_map cookie_of rest ≡ filter_map cookie_of (piece ∷ rest)
+first_given : (o : Option Record) (piece : List ℕ) (rest : List (List ℕ)) → o ≡ cookie_of piece
+    → option_to_list o ++ filter_map cookie_of rest ≡ filter_map cookie_of (piece ∷ rest)
 first_given None piece rest e = rw (sym e) refl
 first_given (Some c) piece rest e = rw (sym e) refl
 
-give_are : (ps : List (List ℕ)) (cs : List Record) → AllByRecursion IsClean ps → Give ps cs → cs ≡ filter_map cookie_of ps
+give_are : (ps : List (List ℕ)) (cs : List Record) → AllByRecursion IsClean ps → Give ps cs
+    → cs ≡ filter_map cookie_of ps
 give_are [] cs clean g = g
 give_are (p ∷ ps) cs clean g =
-    g.4 ∙ (ap (λ x. option_to_list g.0 ++ x) (give_are ps g.1 clean.1 g.3) ∙ first_given g.0 p ps (gives_is p g.0 clean.0 g.2))
+    g.4 ∙ (ap (λ x. option_to_list g.0 ++ x) (give_are ps g.1 clean.1 g.3)
+    ∙ first_given g.0 p ps (gives_is p g.0 clean.0 g.2))
 
 -- the cookies of a header are those that are computed
 pub cookies_are : (header : List ℕ) (cs : List Record) → AreCookiesOf header cs → cs ≡ cookies_of header
-cookies_are header cs g = give_are (pieces header) cs (all_clean (pieces header) (parts_clean (λ b. b == semicolon) header)) g
+cookies_are header cs g = give_are (pieces header) cs (all_clean (pieces header)
+    (parts_clean (λ b. b == semicolon) header)) g
 
 -- ---- the pieces in turn
 
 pub give_none : Give [] []
 give_none = refl
 
-give_push : (ps : List (List ℕ)) (p : List ℕ) (cs : List Record) (o : Option Record) → Give ps cs → Gives p o → Give (ps ++ p ∷ []) (cs ++ option_to_list o)
+give_push : (ps : List (List ℕ)) (p : List ℕ) (cs : List Record) (o : Option Record) → Give ps cs → Gives p o
+    → Give (ps ++ p ∷ []) (cs ++ option_to_list o)
 give_push [] p cs o g h = (o, [], h, refl, ap (λ x. x ++ option_to_list o) g ∙ sym (append-nil (option_to_list o)))
-give_push (q ∷ qs) p cs o g h =
-    (g.0, g.1 ++ option_to_list o, g.2, give_push qs p g.1 o g.3 h, ap (λ x. x ++ option_to_list o) g.4 ∙ append_assoc (option_to_list g.0) g.1 (option_to_list o))
+give_push (q ∷ qs) p cs o g h = (
+  g.0,
+  g.1 ++ option_to_list o,
+  g.2,
+  give_push qs p g.1 o g.3 h,
+  ap (λ x. x ++ option_to_list o) g.4
+      ∙ append_assoc (option_to_list g.0) g.1 (option_to_list o),
+)
 
-pub give_more : (xs : List (Bor (List ℕ))) (i : ℕ) (d : Bor (List ℕ)) (cs : List Record) (o : Option Record) → i < length xs → Give (map (λ x. x.now) (take i xs)) cs → Gives (get_or xs i d).now o
+pub give_more : (xs : List (Bor (List ℕ))) (i : ℕ) (d : Bor (List ℕ)) (cs : List Record) (o : Option Record)
+    → i < length xs → Give (map (λ x. x.now) (take i xs)) cs → Gives (get_or xs i d).now o
     → Give (map (λ x. x.now) (take (i + 1) xs)) (cs ++ option_to_list o)
 give_more xs i d cs o h g one =
-    subst (λ ps. Give ps (cs ++ option_to_list o)) (sym (map_more (λ x. x.now) xs i d h)) (give_push (map (λ x. x.now) (take i xs)) (get_or xs i d).now cs o g one)
+    subst (λ ps. Give ps (cs ++ option_to_list o)) (sym (map_more (λ x. x.now) xs i d h))
+    (give_push (map (λ x. x.now) (take i xs)) (get_or xs i d).now cs o g one)

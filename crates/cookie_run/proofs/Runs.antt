@@ -3,7 +3,8 @@ use Rattle.std.proofs.lemmas.List.{take_more, take_all, take-append-drop}
 use Rattle.std.specs.Prelude.{IsErr, IsErrAnd, IfErr}
 use Rattle.cookie_run.specs.declared.step.Step.{Step}
 use Rattle.cookie_run.specs.Acts.{act_of, acts_of}
-use Rattle.std.proofs.Common.{◌≡◌, ℕ, ◌+◌, ◌<◌, ◌≤◌, length, take, drop, get_or, inl, inr, Result, Ok, Err, OnOk, OnErr, List, [], ◌∷◌, ◌++◌, sym, refl, ap, ◌∙◌, subst, append_assoc}
+use Rattle.std.proofs.Common.{◌≡◌, ℕ, ◌+◌, ◌<◌, ◌≤◌, length, take, drop, get_or, inl, inr, Result, Ok, Err, OnOk, OnErr}
+use Rattle.std.proofs.Common.{List, [], ◌∷◌, ◌++◌, sym, refl, ap, ◌∙◌, subst, append_assoc, zero, suc, arith}
 use Rattle.cookie_run.specs.Acts.{Act}
 use Rattle.cookie_run.specs.declared.row.Row.{Row}
 use Rattle.cookie_run.specs.declared.step.Reading.{Reading}
@@ -13,10 +14,15 @@ use Rattle.cookie_run.specs.declared.step.Way.{Way}
 use Rattle.cookie_run.specs.declared.step.Way.TheVariants.{Plain, Host, Secure, Signed, Sealed}
 use Rattle.cookie_run.specs.Jar.{Keyed, IsOpened, IsKeptAs, Sets, sent}
 use Rattle.cookie_run.specs.Stops.{GoesOnBy}
-use Rattle.cookie_run.specs.Play.{Plays, OneStep, CommandTells, Tells, TellsFront, ServesAll, ServesFront, any_nonce}
-use Rattle.cookie_run.specs.Readings.{all_told}
+use Rattle.cookie_run.specs.Play.{Plays, OneStep, CommandTells, Tells, TellsFront, ServesAll, ServesFront, GetTells}
+use Rattle.cookie_run.specs.Play.{any_nonce}
+use Rattle.cookie_run.specs.Readings.{all_told, MayRead}
+use Rattle.cookie_run.specs.declared.step.SessionError.TheVariants.{EmptyName, Rng}
+use Rattle.std.specs.List.{AllByRecursion}
 
-pub plays_more : (key : List ℕ) (rows mid new : List Row) (acts : List Act) (told : List (List Reading)) (act : Act) (t : List Reading) → Plays key rows acts told mid → OneStep key mid act t new → Plays key rows (acts ++ act ∷ []) (told ++ t ∷ []) new
+pub plays_more : (key : List ℕ) (rows mid new : List Row) (acts : List Act) (told : List (List Reading)) (act : Act)
+    (t : List Reading) → Plays key rows acts told mid → OneStep key mid act t new
+    → Plays key rows (acts ++ act ∷ []) (told ++ t ∷ []) new
 plays_more key rows mid new [] [] act t p s = (new, subst (λ rs. OneStep key rs act t new) p s, refl)
 plays_more key rows mid new [] (u ∷ us) act t p s = absurd p
 plays_more key rows mid new (a ∷ acts) [] act t p s = absurd p
@@ -34,16 +40,23 @@ acts_append : (xs ys : List Step) → acts_of (xs ++ ys) ≡ acts_of xs ++ acts_
 acts_append [] ys = refl
 acts_append (x ∷ xs) ys = ap (λ zs. act_of x ∷ zs) (acts_append xs ys)
 
-pub acts_more : (steps : List Step) (i : ℕ) (s : Step) → i < length steps → s ≡ get_or steps i s → acts_of (take (i + 1) steps) ≡ acts_of (take i steps) ++ act_of s ∷ []
-acts_more steps i s h is = ap acts_of (take_more steps i s h) ∙ (acts_append (take i steps) (get_or steps i s ∷ []) ∙ ap (λ x. acts_of (take i steps) ++ act_of x ∷ []) (sym is))
+pub acts_more : (steps : List Step) (i : ℕ) (s : Step) → i < length steps → s ≡ get_or steps i s
+    → acts_of (take (i + 1) steps) ≡ acts_of (take i steps) ++ act_of s ∷ []
+acts_more steps i s h is = ap acts_of (take_more steps i s h)
+    ∙ (acts_append (take i steps) (get_or steps i s ∷ []) ∙ ap (λ x. acts_of (take i steps) ++ act_of x ∷ []) (sym is))
 
-pub run_more : (key : List ℕ) (rows mid new : List Row) (steps : List Step) (i : ℕ) (s : Step) (start now later : List Reading) → i < length steps → s ≡ get_or steps i s →
-    ((told : List (List Reading)) × (now ≡ start ++ all_told told) × Plays key rows (acts_of (take i steps)) told mid) → ((t : List Reading) × (later ≡ now ++ t) × OneStep key mid (act_of s) t new) →
-    (told : List (List Reading)) × (later ≡ start ++ all_told told) × Plays key rows (acts_of (take (i + 1) steps)) told new
+pub run_more : (key : List ℕ) (rows mid new : List Row) (steps : List Step) (i : ℕ) (s : Step)
+    (start now later : List Reading) → i < length steps → s ≡ get_or steps i s →
+    ((told : List (List Reading)) × (now ≡ start ++ all_told told) × Plays key rows (acts_of (take i steps)) told mid)
+    → ((t : List Reading) × (later ≡ now ++ t) × OneStep key mid (act_of s) t new) →
+    (told : List (List Reading)) × (later ≡ start ++ all_told told)
+    × Plays key rows (acts_of (take (i + 1) steps)) told new
 run_more key rows mid new steps i s start now later h is run step = (
   run.0 ++ step.0 ∷ [],
-  step.1 ∙ (ap (λ x. x ++ step.0) run.1 ∙ (append_assoc start (all_told run.0) step.0 ∙ ap (λ x. start ++ x) (sym (told_more run.0 step.0)))),
-  subst (λ acts. Plays key rows acts (run.0 ++ step.0 ∷ []) new) (sym (acts_more steps i s h is)) (plays_more key rows mid new (acts_of (take i steps)) run.0 (act_of s) step.0 run.2 step.2),
+  step.1 ∙ (ap (λ x. x ++ step.0) run.1 ∙ (append_assoc start (all_told run.0) step.0
+      ∙ ap (λ x. start ++ x) (sym (told_more run.0 step.0)))),
+  subst (λ acts. Plays key rows acts (run.0 ++ step.0 ∷ []) new) (sym (acts_more steps i s h is))
+      (plays_more key rows mid new (acts_of (take i steps)) run.0 (act_of s) step.0 run.2 step.2),
 )
 
 pub on_ok : {A E : Type 0} (r : Result A E) (P Q : Type 0) → (P → Q) → OnOk r P → OnOk r Q
@@ -55,7 +68,8 @@ on_err_any (Ok x) P p = tt
 on_err_any (Err e) P p = p
 
 -- an error of a known kind
-pub err_gives : {A E : Type 0} (r : Result A E) (Q P : E → Type 0) → IsErr r × IsErrAnd r Q → ((e : E) → Q e → P e) → IfErr r P
+pub err_gives : {A E : Type 0} (r : Result A E) (Q P : E → Type 0) → IsErr r × IsErrAnd r Q → ((e : E) → Q e → P e)
+    → IfErr r P
 err_gives (Ok x) Q P h f = tt
 err_gives (Err e) Q P h f = f e h.1
 
@@ -65,7 +79,8 @@ readings_nil (x ∷ xs) = ap (λ ys. x ∷ ys) (readings_nil xs)
 
 -- ---- one more command
 
-pub tells_more : (s mid new : Keyed) (cs : List Command) (c : Command) (told t : List Reading) → Tells s cs told mid → CommandTells mid c t new → Tells s (cs ++ c ∷ []) (told ++ t) new
+pub tells_more : (s mid new : Keyed) (cs : List Command) (c : Command) (told t : List Reading) → Tells s cs told mid
+    → CommandTells mid c t new → Tells s (cs ++ c ∷ []) (told ++ t) new
 tells_more s mid new [] c told t p one =
     (t, [], new, subst (λ k. CommandTells k c t new) p.1 one, (refl, refl), ap (λ x. x ++ t) p.0 ∙ sym (readings_nil t))
 tells_more s mid new (d ∷ cs) c told t p one =
@@ -75,50 +90,107 @@ tells_more s mid new (d ∷ cs) c told t p one =
 abbrev pub ToldBy : Keyed → List Command → ℕ → List Reading → List Reading → Keyed → Type 0
 ToldBy old cs i start now new = (told : List Reading) × (now ≡ start ++ told) × Tells old (take i cs) told new
 
-pub told_next : (old mid new : Keyed) (cs : List Command) (i : ℕ) (c : Command) (start now later t : List Reading) → i < length cs → c ≡ get_or cs i c → ToldBy old cs i start now mid → CommandTells mid c t new → later ≡ now ++ t → ToldBy old cs (i + 1) start later new
+pub told_next : (old mid new : Keyed) (cs : List Command) (i : ℕ) (c : Command) (start now later t : List Reading)
+    → i < length cs → c ≡ get_or cs i c → ToldBy old cs i start now mid → CommandTells mid c t new → later ≡ now ++ t
+    → ToldBy old cs (i + 1) start later new
 told_next old mid new cs i c start now later t h is so one e = (
   so.0 ++ t,
   e ∙ (ap (λ x. x ++ t) so.1 ∙ append_assoc start so.0 t),
-  subst (λ ds. Tells old ds (so.0 ++ t) new) (sym (take_more cs i c h ∙ ap (λ d. take i cs ++ d ∷ []) (sym is))) (tells_more old mid new (take i cs) c so.0 t so.2 one),
+  subst (λ ds. Tells old ds (so.0 ++ t) new) (sym (take_more cs i c h ∙ ap (λ d. take i cs ++ d ∷ []) (sym is)))
+      (tells_more old mid new (take i cs) c so.0 t so.2 one),
 )
 
-pub told_all : (old new : Keyed) (cs : List Command) (i : ℕ) (start now : List Reading) → length cs ≤ i → ToldBy old cs i start now new → (told : List Reading) × (now ≡ start ++ told) × Tells old cs told new
+pub told_all : (old new : Keyed) (cs : List Command) (i : ℕ) (start now : List Reading) → length cs ≤ i
+    → ToldBy old cs i start now new → (told : List Reading) × (now ≡ start ++ told) × Tells old cs told new
 told_all old new cs i start now h so = (so.0, so.1, subst (λ ds. Tells old ds so.0 new) (take_all i cs h) so.2)
 
-pub told_front : (old mid : Keyed) (cs : List Command) (i : ℕ) (start now later : List Reading) → ToldBy old cs i start now mid → later ≡ now → GoesOnBy start (TellsFront old cs) later
-told_front old mid cs i start now later so e = (so.0, (take i cs, drop i cs, sym (take-append-drop i cs), mid, so.2), e ∙ so.1)
+pub told_front : (old mid : Keyed) (cs : List Command) (i : ℕ) (start now later : List Reading)
+    → ToldBy old cs i start now mid → later ≡ now → GoesOnBy start (TellsFront old cs) later
+told_front old mid cs i start now later so e = (
+  so.0,
+  (take i cs, drop i cs, sym (take-append-drop i cs), mid, so.2),
+  e
+      ∙ so.1,
+)
 
 pub told_first : (old : Keyed) (cs : List Command) (start : List Reading) → ToldBy old cs 0 start start old
 told_first old cs start = ([], sym (readings_nil start), (refl, refl))
 
 -- a session that was opened serves so
-pub serves_front : (key header : List ℕ) (opened : Keyed) (cs : List Command) (old readings : List Reading) → IsOpened key header opened → GoesOnBy old (TellsFront opened cs) readings → GoesOnBy old (ServesFront key header cs) readings
-serves_front key header opened cs old readings is g = (g.0, inr (g.1.0, g.1.1, g.1.2, (g.1.3, (opened, is, g.1.4))), g.2)
+pub serves_front : (key header : List ℕ) (opened : Keyed) (cs : List Command) (old readings : List Reading)
+    → IsOpened key header opened → GoesOnBy old (TellsFront opened cs) readings
+    → GoesOnBy old (ServesFront key header cs) readings
+serves_front key header opened cs old readings is g = (
+  g.0,
+  inr
+      (g.1.0, g.1.1, g.1.2, (g.1.3, (opened, is, g.1.4))),
+  g.2,
+)
 
-pub serves_whole : (key header : List ℕ) (opened new : Keyed) (cs : List Command) (old readings : List Reading) → IsOpened key header opened → ((told : List Reading) × (readings ≡ old ++ told) × Tells opened cs told new) → GoesOnBy old (ServesFront key header cs) readings
-serves_whole key header opened new cs old readings is g = (g.0, inr (cs, [], sym (commands_nil cs), (new, (opened, is, g.2))), g.1)
+pub serves_whole : (key header : List ℕ) (opened new : Keyed) (cs : List Command) (old readings : List Reading)
+    → IsOpened key header opened → ((told : List Reading) × (readings ≡ old ++ told) × Tells opened cs told new)
+    → GoesOnBy old (ServesFront key header cs) readings
+serves_whole key header opened new cs old readings is g = (
+  g.0,
+  inr
+      (cs, [], sym (commands_nil cs), (new, (opened, is, g.2))),
+  g.1,
+)
   where
     commands_nil : (ds : List Command) → ds ++ [] ≡ ds
     commands_nil [] = refl
     commands_nil (d ∷ ds) = ap (λ x. d ∷ x) (commands_nil ds)
 
 -- no session was opened
-pub serves_none : (key header : List ℕ) (cs : List Command) (old readings : List Reading) → readings ≡ old → GoesOnBy old (ServesFront key header cs) readings
+pub serves_none : (key header : List ℕ) (cs : List Command) (old readings : List Reading) → readings ≡ old
+    → GoesOnBy old (ServesFront key header cs) readings
 serves_none key header cs old readings e = ([], inl refl, e ∙ sym (readings_nil old))
 
-pub serves_all : (key header : List ℕ) (opened new : Keyed) (cs : List Command) (old readings : List Reading) → IsOpened key header opened → ((told : List Reading) × (readings ≡ old ++ told) × Tells opened cs told new) → GoesOnBy old (ServesAll key header cs) readings
+pub serves_all : (key header : List ℕ) (opened new : Keyed) (cs : List Command) (old readings : List Reading)
+    → IsOpened key header opened → ((told : List Reading) × (readings ≡ old ++ told) × Tells opened cs told new)
+    → GoesOnBy old (ServesAll key header cs) readings
 serves_all key header opened new cs old readings is g = (g.0, (new, (opened, is, g.2)), g.1)
+
+-- ---- what the generator tells
+
+pub all_push : {A : Type 0} (P : A → Type 0) (xs : List A) (x : A) → AllByRecursion P xs → P x
+    → AllByRecursion P (xs ++ x ∷ [])
+all_push P [] x h p = (p, tt)
+all_push P (y ∷ ys) x h p = (h.0, all_push P ys x h.1 p)
+
+pub command_at : (P : Command → Type 0) (cs : List Command) (i : ℕ) (c : Command) → i < length cs → c ≡ get_or cs i c
+    → AllByRecursion P cs → P c
+command_at P [] i c h is all = absurd (omega arith)
+command_at P (d ∷ cs) zero c h is all = subst P (sym is) all.0
+command_at P (d ∷ cs) (suc i) c h is all = command_at P cs i c (omega arith) is all.1
+
+pub act_at : (P : Act → Type 0) (steps : List Step) (i : ℕ) (s : Step) → i < length steps → s ≡ get_or steps i s
+    → AllByRecursion P (acts_of steps) → P (act_of s)
+act_at P [] i s h is all = absurd (omega arith)
+act_at P (x ∷ xs) zero s h is all = subst (λ y. P (act_of y)) (sym is) all.0
+act_at P (x ∷ xs) (suc i) s h is all = act_at P xs i s (omega arith) is all.1
+
+-- a get tells of no generator
+pub get_may : (Error : Type 0) (session : Keyed) (way : Way) (name : List ℕ) (told : List Reading)
+    → GetTells session way name told → AllByRecursion (MayRead Error) told
+get_may Error session way [] told t = subst (AllByRecursion (MayRead Error)) (sym t) (other_refusal, tt)
+  where
+    other_refusal : EmptyName ≡ Rng → Error
+    other_refusal e = cc
+get_may Error session way (b ∷ bs) told t = subst (AllByRecursion (MayRead Error)) (sym t.1) (tt, tt)
 
 -- ---- whatever the nonces
 
-kept_any : (May : List ℕ → Type 0) (key : List ℕ) (way : Way) (s kept : Seen) → IsKeptAs May key way s kept → IsKeptAs any_nonce key way s kept
+kept_any : (May : List ℕ → Type 0) (key : List ℕ) (way : Way) (s kept : Seen) → IsKeptAs May key way s kept
+    → IsKeptAs any_nonce key way s kept
 kept_any May key Plain s kept k = k
 kept_any May key Host s kept k = k
 kept_any May key Secure s kept k = k
 kept_any May key Signed s kept k = k
 kept_any May key Sealed s kept k = (k.0, tt, k.2)
 
-pub sets_any : (May : List ℕ → Type 0) (old : Keyed) (way : Way) (s : Seen) (new : Keyed) → Sets May old way s new → Sets any_nonce old way s new
+pub sets_any : (May : List ℕ → Type 0) (old : Keyed) (way : Way) (s : Seen) (new : Keyed) → Sets May old way s new
+    → Sets any_nonce old way s new
 sets_any May old way s new h = record {
   name = h.name;
   value = h.value;

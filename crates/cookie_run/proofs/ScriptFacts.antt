@@ -44,7 +44,9 @@ no_fraction = refl
 -- ---- lines
 
 -- `set plain foo%20!%25?= bar;;,%20a - -`
-a_set : read_line (codes "set" ++ 9 ∷ codes "plain" ++ 9 ∷ codes "foo%20!%25?=" ++ 9 ∷ codes "bar;;,%20a" ++ 9 ∷ codes "-" ++ 9 ∷ codes "-") ≡ Ok (Commands (Set Plain (unsliced (bare (codes "foo !%?=") (codes "bar;;, a")))))
+a_set : read_line (codes "set" ++ 9 ∷ codes "plain" ++ 9 ∷ codes "foo%20!%25?=" ++ 9 ∷ codes "bar;;,%20a"
+    ++ 9 ∷ codes "-" ++ 9 ∷ codes "-") ≡ Ok (Commands (Set Plain
+    (unsliced (bare (codes "foo !%?=") (codes "bar;;, a")))))
 unfolding read_line percent_decode is_utf8 chars lib.Utf8.encode
 a_set = refl
 
@@ -52,8 +54,10 @@ a_get : read_line (codes "get" ++ 9 ∷ codes "sealed" ++ 9 ∷ codes "a") ≡ O
 unfolding read_line percent_decode is_utf8 chars lib.Utf8.encode
 a_get = refl
 
-a_delivery : read_line (codes "deliver" ++ 9 ∷ codes "2024-02-29T00:00:00Z") ≡ Ok (Delivers (pos 1_709_164_800_000_000_000))
-unfolding read_line percent_decode is_utf8 chars lib.Utf8.encode moment_of days_from_civil day_count days_of_years days_of_months
+a_delivery : read_line (codes "deliver" ++ 9 ∷ codes "2024-02-29T00:00:00Z") ≡ Ok
+    (Delivers (pos 1_709_164_800_000_000_000))
+unfolding read_line percent_decode is_utf8 chars lib.Utf8.encode moment_of days_from_civil day_count days_of_years
+    days_of_months
 a_delivery = refl
 
 a_loss : read_line (codes "lose") ≡ Ok Loses
@@ -74,8 +78,9 @@ too_few_fields : read_line (codes "get" ++ 9 ∷ codes "plain") ≡ Err Fields
 unfolding read_line percent_decode is_utf8 chars lib.Utf8.encode
 too_few_fields = refl
 
--- a cookie of a script has no max-age yet
-a_max_age : read_line (codes "set" ++ 9 ∷ codes "plain" ++ 9 ∷ codes "a" ++ 9 ∷ codes "1" ++ 9 ∷ codes "60" ++ 9 ∷ codes "-") ≡ Err Fields
+-- a cookie of a script has no max-age
+a_max_age : read_line (codes "set" ++ 9 ∷ codes "plain" ++ 9 ∷ codes "a" ++ 9 ∷ codes "1" ++ 9 ∷ codes "60"
+    ++ 9 ∷ codes "-") ≡ Err Fields
 unfolding read_line percent_decode is_utf8 chars lib.Utf8.encode
 a_max_age = refl
 
@@ -85,7 +90,8 @@ no_moment = refl
 
 -- ---- what is printed
 
-with_value : reading_text (Value Plain (codes "foo !%?=") (Some (codes "bar;;, a"))) ≡ codes "plain" ++ 9 ∷ codes "foo%20!%25?=" ++ 9 ∷ codes "=bar;;,%20a" ++ 10 ∷ []
+with_value : reading_text (Value Plain (codes "foo !%?=") (Some (codes "bar;;, a"))) ≡ codes "plain"
+    ++ 9 ∷ codes "foo%20!%25?=" ++ 9 ∷ codes "=bar;;,%20a" ++ 10 ∷ []
 unfolding percent_encode_byte
 with_value = refl
 

@@ -1,5 +1,7 @@
 -- The lines of a text, and the fields of a line.
-use Rattle.std.proofs.Common.{◌≡◌, ℕ, zero, suc, ◌+◌, ◌-◌, ◌<◌, ◌≤◌, Bool, true, false, cond, ◌&&◌, List, [], ◌∷◌, length, take, drop, get_or, Option, Some, None, ℤ, Ok, sym, refl, ap, ◌∙◌, subst, ⊎_elim, arith, All, drop_of_length-le}
+use Rattle.std.proofs.Common.{◌≡◌, ℕ, zero, suc, ◌+◌, ◌-◌, ◌<◌, ◌≤◌, Bool, true, false, cond, ◌&&◌, List, [], ◌∷◌}
+use Rattle.std.proofs.Common.{length, take, drop, get_or, Option, Some, None, ℤ, Ok, sym, refl, ap, ◌∙◌, subst, ⊎_elim}
+use Rattle.std.proofs.Common.{arith, All, drop_of_length-le}
 use Rattle.std.specs.Prelude.{map, ◌==◌, nat_lt, position, if◌then◌else◌}
 use Rattle.std.specs.List.{slice_split, position_or_len, list_all}
 use Rattle.std.specs.Str.{is_utf8, IsUtf8}
@@ -18,7 +20,8 @@ use Rattle.cookie_run.specs.ScriptMoment.{moment_of}
 use Rattle.cookie_run.specs.ScriptLine.{url_of, placed, read_header, Heads}
 
 pub not_utf8 : (bs : List ℕ) → ¬ (IsUtf8 bs) → is_utf8 bs ≡ false
-not_utf8 bs wrong = ⊎_elim (λ (e : is_utf8 bs ≡ true). absurd (wrong (IsUtf8-from_is_utf8 bs e))) (λ (e : is_utf8 bs ≡ false). e) (cases_Bool (is_utf8 bs))
+not_utf8 bs wrong = ⊎_elim (λ (e : is_utf8 bs ≡ true). absurd (wrong (IsUtf8-from_is_utf8 bs e)))
+    (λ (e : is_utf8 bs ≡ false). e) (cases_Bool (is_utf8 bs))
 
 abbrev is_line_feed : ℕ → Bool
 is_line_feed b = b == 10
@@ -39,46 +42,56 @@ missed true n e = absurd (some_none n e)
 missed false n e = refl
 
 -- a part with others behind it is a line
-parts_more : (x : List ℕ) (parts : List (List ℕ)) → 0 < length parts → lines_of_parts (x ∷ parts) ≡ strip_carriage_return x ∷ lines_of_parts parts
+parts_more : (x : List ℕ) (parts : List (List ℕ)) → 0 < length parts
+    → lines_of_parts (x ∷ parts) ≡ strip_carriage_return x ∷ lines_of_parts parts
 parts_more x [] h = absurd (omega (arith, h))
 parts_more x (y ∷ parts) h = refl
 
 some_parts : (text : List ℕ) → 0 < length (slice_split is_line_feed text)
 some_parts text = omega (arith, length-slice_split is_line_feed text)
 
-pub cut_some : (text line : List ℕ) (i : ℕ) → position is_line_feed text ≡ Some i → line ≡ strip_carriage_return (take i text)
+pub cut_some : (text line : List ℕ) (i : ℕ) → position is_line_feed text ≡ Some i
+    → line ≡ strip_carriage_return (take i text)
     → lines text ≡ line ∷ lines (take (length text - (i + 1)) (drop (i + 1) text))
 cut_some text line i e is =
     let f = found (nat_lt (position_or_len is_line_feed text) (length text)) (position_or_len is_line_feed text) i e in
     let below : position_or_len is_line_feed text < length text = grind (arith, nat_tests) in
     let split : slice_split is_line_feed text ≡ take i text ∷ slice_split is_line_feed (drop (i + 1) text) =
-    subst (λ n. slice_split is_line_feed text ≡ take n text ∷ slice_split is_line_feed (drop (n + 1) text)) f.1 (slice_split_first is_line_feed text 0 below) in
+    subst (λ n. slice_split is_line_feed text ≡ take n text ∷ slice_split is_line_feed (drop (n + 1) text)) f.1
+    (slice_split_first is_line_feed text 0 below) in
     ap lines_of_parts split ∙ parts_more (take i text) _ (some_parts (drop (i + 1) text))
     ∙ ap (λ l. l ∷ lines (drop (i + 1) text)) (sym is)
     ∙ ap (λ rest. line ∷ lines rest) (sym (take_rest text (i + 1)))
 
 last_line : (text : List ℕ) → 0 < length text → lines_of_parts (text ∷ []) ≡ text ∷ []
-last_line text h = let e : (length text == 0) ≡ false = grind (arith, nat_tests) in ap (λ t. if t then [] else text ∷ []) e
+last_line text h = let e : (length text == 0) ≡ false = grind (arith, nat_tests) in ap
+    (λ t. if t then [] else text ∷ []) e
 
 pub cut_none : (text : List ℕ) → position is_line_feed text ≡ None → 0 < length text
     → lines text ≡ text ∷ lines (take (length text - length text) (drop (length text) text))
 cut_none text e some =
     let m = missed (nat_lt (position_or_len is_line_feed text) (length text)) (position_or_len is_line_feed text) e in
-    let none : All (λ x. is_line_feed x ≡ false) text = All-from_get_or (λ x. is_line_feed x ≡ false) text 0 (λ k h. fails_before_first is_line_feed text k 0 (grind (arith, nat_tests))) in
+    let none : All (λ x. is_line_feed x ≡ false) text = All-from_get_or (λ x. is_line_feed x ≡ false) text 0
+    (λ k h. fails_before_first is_line_feed text k 0 (grind (arith, nat_tests))) in
     ap lines_of_parts (slice_split_none is_line_feed text none) ∙ last_line text some
-    ∙ ap (λ rest. text ∷ lines rest) (sym (take_rest text (length text) ∙ drop_of_length-le text {i = length text} (omega arith)))
+    ∙ ap (λ rest. text ∷ lines rest) (sym (take_rest text (length text)
+    ∙ drop_of_length-le text {i = length text} (omega arith)))
 
-pub decoded_parts : (parts : List (Bor (List ℕ))) (all : List (List ℕ)) → map (λ x. x.now) parts ≡ all → map (λ part. percent_decode part.now) parts ≡ map percent_decode all
+pub decoded_parts : (parts : List (Bor (List ℕ))) (all : List (List ℕ)) → map (λ x. x.now) parts ≡ all
+    → map (λ part. percent_decode part.now) parts ≡ map percent_decode all
 decoded_parts parts all e = composed parts ∙ ap (map percent_decode) e
   where
-    composed : (xs : List (Bor (List ℕ))) → map (λ part. percent_decode part.now) xs ≡ map percent_decode (map (λ x. x.now) xs)
+    composed : (xs : List (Bor (List ℕ))) → map (λ part. percent_decode part.now) xs ≡ map percent_decode
+        (map (λ x. x.now) xs)
     composed [] = refl
     composed (x ∷ xs) = ap (λ ys. percent_decode x.now ∷ ys) (composed xs)
 
 -- one field that isn't a text is enough
-pub one_not_text : {A : Type 0} (view : A → List ℕ) (fields : List A) (i : ℕ) (field : A) → i < length fields → field ≡ get_or fields i field → is_utf8 (view field) ≡ false → list_all is_utf8 (map view fields) ≡ false
+pub one_not_text : {A : Type 0} (view : A → List ℕ) (fields : List A) (i : ℕ) (field : A) → i < length fields
+    → field ≡ get_or fields i field → is_utf8 (view field) ≡ false → list_all is_utf8 (map view fields) ≡ false
 one_not_text view [] i field h is e = absurd (omega (arith, h))
-one_not_text view (x ∷ xs) zero field h is e = ap (λ t. t && list_all is_utf8 (map view xs)) (subst (λ y. is_utf8 (view y) ≡ false) is e)
+one_not_text view (x ∷ xs) zero field h is e = ap (λ t. t && list_all is_utf8 (map view xs))
+    (subst (λ y. is_utf8 (view y) ≡ false) is e)
 one_not_text view (x ∷ xs) (suc i) field h is e =
     let rest = one_not_text view xs i field (omega (arith, h)) is e in
     ap (λ t. is_utf8 (view x) && t) rest ∙ and_false (is_utf8 (view x))
@@ -87,12 +100,19 @@ one_not_text view (x ∷ xs) (suc i) field h is e =
     and_false true = refl
     and_false false = refl
 
-by_position : (text : List ℕ) (o : Option ℕ) → position is_line_feed text ≡ o → 0 < length text → (line : List ℕ) × (after : List (List ℕ)) × (lines text ≡ line ∷ after)
+by_position : (text : List ℕ) (o : Option ℕ) → position is_line_feed text ≡ o → 0 < length text → (line : List ℕ)
+    × (after : List (List ℕ)) × (lines text ≡ line ∷ after)
 by_position text None e some = (text, _, cut_none text e some)
-by_position text (Some i) e some = (strip_carriage_return (take i text), _, cut_some text (strip_carriage_return (take i text)) i e refl)
+by_position text (Some i) e some = (
+  strip_carriage_return (take i text),
+  _,
+  cut_some text
+      (strip_carriage_return (take i text)) i e refl,
+)
 
 -- a text that isn't empty has a line
-pub lines_some : (text : List ℕ) → 0 < length text → (line : List ℕ) × (after : List (List ℕ)) × (lines text ≡ line ∷ after)
+pub lines_some : (text : List ℕ) → 0 < length text → (line : List ℕ) × (after : List (List ℕ))
+    × (lines text ≡ line ∷ after)
 lines_some text some = by_position text (position is_line_feed text) refl some
 
 -- a loop over a list has come to its end
@@ -106,8 +126,10 @@ take_done items all i e h = whole items i h ∙ e
     whole (x ∷ xs) (suc i) h = ap (λ ys. x ∷ ys) (whole xs i (omega (arith, h)))
 
 -- `header` with its two fields
-pub header_read : (fields : List (Bor (List ℕ))) (d e : Bor (List ℕ)) (url : Parts) (at : ℤ) → 2 ≤ length fields → length fields < 3
-    → url_of (get_or fields 0 d).now ≡ Some url → moment_of (get_or fields 1 e).now ≡ Some at → read_header (map (λ field. field.now) fields) ≡ Ok (Heads url at)
+pub header_read : (fields : List (Bor (List ℕ))) (d e : Bor (List ℕ)) (url : Parts) (at : ℤ) → 2 ≤ length fields
+    → length fields < 3
+    → url_of (get_or fields 0 d).now ≡ Some url → moment_of (get_or fields 1 e).now ≡ Some at
+    → read_header (map (λ field. field.now) fields) ≡ Ok (Heads url at)
 header_read [] d e url at low high u m = absurd (omega (arith, low))
 header_read (a ∷ []) d e url at low high u m = absurd (omega (arith, low))
 header_read (a ∷ b ∷ []) d e url at low high u m = λ i. placed Heads (u i) (m i)

@@ -1,10 +1,12 @@
 -- The run of a whole text.
-use Rattle.std.proofs.Common.{◌≡◌, ◌⊎◌, ℕ, ℤ, ◌+◌, ◌<◌, List, [], ◌∷◌, ◌++◌, length, Option, None, Result, Ok, Err, inl, inr, sym, refl, ap, ◌∙◌, subst, append_assoc, append-nil, length-append}
+use Rattle.std.proofs.Common.{◌≡◌, ◌⊎◌, ℕ, ℤ, ◌+◌, ◌<◌, List, [], ◌∷◌, ◌++◌, length, Option, None, Result, Ok, Err, inl}
+use Rattle.std.proofs.Common.{inr, sym, refl, ap, ◌∙◌, subst, append_assoc, append-nil, length-append, arith}
 use Rattle.std.specs.Prelude.{IfOk, IfErr, OnOk, IsErrOf, IfSome, Some}
 use Rattle.std.specs.Str.Lines.{lines}
 use Rattle.std.specs.Io.KnownBytes.{Appends}
 use Rattle.std.proofs.KnownBytes.{Appends-trans, Appends-nil}
-use Rattle.cookie_run.specs.ScriptText.{Reached, begun, LeadsTo, after_line, ScriptText, EndsForMemory, HasFault, HalfLine, fault_text, Prints}
+use Rattle.cookie_run.specs.ScriptText.{Reached, begun, LeadsTo, after_line, ScriptText, EndsForMemory, Runs, HasFault}
+use Rattle.cookie_run.specs.ScriptText.{PrintsUntil, fault_text, Prints}
 use Rattle.cookie_run.specs.Standing.{Stands}
 use Rattle.cookie_run.specs.Program.{begins_at, program_key, IsScriptOf}
 use Rattle.cookie_run.specs.declared.row.Row.{Row}
@@ -19,7 +21,8 @@ use Rattle.cookie_run.specs.declared.script.visit.Visit.{Visit}
 use Rattle.cookie_run.proofs.Halting.{prints_all}
 
 -- how far the run has come: the lines done, where they led, and what was printed for them
-pub record Come (key : List ℕ) (start : List Row) (first : ℤ) (text rest : List ℕ) (rows : List Row) (last : ℤ) (visit : Option Visit) (done : ℕ) (old new : Option (List ℕ)) : Type 0 where
+pub record Come (key : List ℕ) (start : List Row) (first : ℤ) (text rest : List ℕ) (rows : List Row) (last : ℤ)
+    (visit : Option Visit) (done : ℕ) (old new : Option (List ℕ)) : Type 0 where
   pub r : Reached
   pub before : List (List ℕ)
   pub output : List ℕ
@@ -29,7 +32,8 @@ pub record Come (key : List ℕ) (start : List Row) (first : ℤ) (text rest : L
   pub written : Appends old new output
   pub count : done ≡ length before
 
-pub come_first : (key : List ℕ) (start : List Row) (first : ℤ) (text : List ℕ) (w : Option (List ℕ)) → Come key start first text text start first None 0 w w
+pub come_first : (key : List ℕ) (start : List Row) (first : ℤ) (text : List ℕ) (w : Option (List ℕ))
+    → Come key start first text text start first None 0 w w
 come_first key start first text w = record {
   r = begun first;
   before = [];
@@ -41,34 +45,42 @@ come_first key start first text w = record {
   count = refl;
 }
 
-leads_more : (start : Reached) (before : List (List ℕ)) (r next : Reached) (line : List ℕ) → LeadsTo start before r → after_line r line ≡ Ok next → LeadsTo start (before ++ line ∷ []) next
+leads_more : (start : Reached) (before : List (List ℕ)) (r next : Reached) (line : List ℕ) → LeadsTo start before r
+    → after_line r line ≡ Ok next → LeadsTo start (before ++ line ∷ []) next
 leads_more start [] r next line h e = (next, subst (λ s. after_line s line ≡ Ok next) h e, refl)
 leads_more start (l ∷ before) r next line h e = (h.0, h.1, leads_more h.0 before r next line h.2 e)
 
-pub come_more : (key : List ℕ) (start : List Row) (first : ℤ) (text rest line more : List ℕ) (rows new_rows : List Row) (last new_last : ℤ) (visit new_visit : Option Visit) (done : ℕ) (old mid new : Option (List ℕ)) (printed : List ℕ)
+pub come_more : (key : List ℕ) (start : List Row) (first : ℤ) (text rest line more : List ℕ) (rows new_rows : List Row)
+    (last new_last : ℤ) (visit new_visit : Option Visit) (done : ℕ) (old mid new : Option (List ℕ)) (printed : List ℕ)
     → (come : Come key start first text rest rows last visit done old mid) → lines rest ≡ line ∷ lines more
-    → ((next : Reached) × (after_line come.r line ≡ Ok next) × Stands key start next new_rows new_last new_visit (come.output ++ printed))
+    → ((next : Reached) × (after_line come.r line ≡ Ok next) × Stands key start next new_rows new_last new_visit
+    (come.output ++ printed))
     → Appends mid new printed
     → Come key start first text more new_rows new_last new_visit (done + 1) old new
-come_more key start first text rest line more rows new_rows last new_last visit new_visit done old mid new printed come cut goes written = record {
-  r = goes.0;
-  before = come.before ++ line ∷ [];
-  output = come.output ++ printed;
-  leads = leads_more (begun first) come.before come.r goes.0 line come.leads goes.1;
-  whole = come.whole ∙ (ap (λ ls. come.before ++ ls) cut ∙ sym (append_assoc come.before (line ∷ []) (lines more)));
-  stands = goes.2;
-  written = Appends-trans old mid new come.output printed come.written written;
-  count = ap (λ n. n + 1) come.count ∙ sym (length-append come.before (line ∷ []));
-}
+come_more key start first text rest line more rows new_rows last new_last visit new_visit done old mid new printed come
+    cut goes written = record {
+      r = goes.0;
+      before = come.before ++ line ∷ [];
+      output = come.output ++ printed;
+      leads = leads_more (begun first) come.before come.r goes.0 line come.leads goes.1;
+      whole = come.whole ∙ (ap (λ ls. come.before ++ ls) cut ∙ sym (append_assoc come.before (line ∷ []) (lines more)));
+      stands = goes.2;
+      written = Appends-trans old mid new come.output printed come.written written;
+      count = ap (λ n. n + 1) come.count ∙ sym (length-append come.before (line ∷ []));
+    }
 
 -- what the text prints, and how it ends
-abbrev pub Ends : List ℕ → List Row → ℤ → List ℕ → Option (List ℕ) → Option (List ℕ) → List Row → ℤ → Ended → Type 0
-Ends key start first text old new rows last ended = (output : List ℕ) × Appends old new output
-    × (ScriptText key start first text output rows last ended ⊎ EndsForMemory key start first text output rows last ended)
+abbrev pub Ends : Type 0 → List ℕ → List Row → ℤ → List ℕ → Option (List ℕ) → Option (List ℕ) → List Row → ℤ → Ended
+    → Type 0
+Ends Error key start first text old new rows last ended = (output : List ℕ) × Appends old new output
+    × (ScriptText Error key start first text output rows last ended
+    ⊎ EndsForMemory key start first text output rows last ended)
 
-pub come_whole : (key : List ℕ) (start : List Row) (first : ℤ) (text rest : List ℕ) (rows : List Row) (last : ℤ) (visit : Option Visit) (done : ℕ) (old new : Option (List ℕ))
-    → Come key start first text rest rows last visit done old new → rest ≡ [] → Ends key start first text old new rows last Whole
-come_whole key start first text rest rows last visit done old new come e =
+pub come_whole : (Error : Type 0) (key : List ℕ) (start : List Row) (first : ℤ) (text rest : List ℕ) (rows : List Row)
+    (last : ℤ) (visit : Option Visit) (done : ℕ) (old new : Option (List ℕ))
+    → Come key start first text rest rows last visit done old new → rest ≡ []
+    → Ends Error key start first text old new rows last Whole
+come_whole Error key start first text rest rows last visit done old new come e =
     let all : lines text ≡ come.before = come.whole ∙ (ap (λ x. come.before ++ lines x) e ∙ append-nil come.before) in (
       come.output,
       come.written,
@@ -80,50 +92,68 @@ come_whole key start first text rest rows last visit done old new come e =
       }),
     )
 
-pub come_fault : (key : List ℕ) (start : List Row) (first : ℤ) (text rest line more : List ℕ) (rows new_rows : List Row) (last new_last : ℤ) (visit : Option Visit) (done : ℕ) (old mid new : Option (List ℕ)) (cause : Cause)
+no_length : (line : List ℕ) → 0 < length line → line ≡ [] → ⊥
+no_length line some empty = let none = ap length empty in omega arith
+
+pub come_fault : (Error : Type 0) (key : List ℕ) (start : List Row) (first : ℤ) (text rest line more : List ℕ)
+    (rows new_rows : List Row) (last new_last : ℤ) (visit : Option Visit) (done : ℕ) (old mid new : Option (List ℕ))
+    (cause : Cause)
     → (come : Come key start first text rest rows last visit done old mid) → lines rest ≡ line ∷ lines more
-    → (HasFault come.r (after_line come.r line) cause × (new_rows ≡ rows)) ⊎ ((cause ≡ Memory) × HalfLine key rows come.r (after_line come.r line) new_rows)
-    → new_last ≡ last → Appends mid new (fault_text (done + 1) cause)
-    → Ends key start first text old new new_rows new_last (Faulty (done + 1))
-come_fault key start first text rest line more rows new_rows last new_last visit done old mid new cause come cut (inl fault) kept written = (
-  come.output ++ fault_text (done + 1) cause,
-  Appends-trans old mid new come.output _ come.written written,
-  inl (record {
-    r = come.r;
-    before = come.before;
-    line = line;
-    cause = cause;
-    readings = come.output;
-    place = record { after = lines more; whole = come.whole ∙ ap (λ ls. come.before ++ ls) cut; number = ap (λ n. n + 1) come.count };
-    leads = come.leads;
-    fault = fault.0;
-    prints = subst (Prints key start come.r come.output) (sym fault.1) (prints_all key start rows come.r last visit come.output come.stands);
-    text = refl;
-    moment = kept ∙ come.stands.moment;
-  }),
-)
-come_fault key start first text rest line more rows new_rows last new_last visit done old mid new cause come cut (inr half) kept written = (
-  come.output ++ fault_text (done + 1) cause,
-  Appends-trans old mid new come.output _ come.written written,
-  inr (record {
-    r = come.r;
-    before = come.before;
-    line = line;
-    readings = come.output;
-    mid = rows;
-    place = record { after = lines more; whole = come.whole ∙ ap (λ ls. come.before ++ ls) cut; number = ap (λ n. n + 1) come.count };
-    leads = come.leads;
-    prints = prints_all key start rows come.r last visit come.output come.stands;
-    half = half.1;
-    text = ap (λ x. come.output ++ fault_text (done + 1) x) half.0;
-    moment = kept ∙ come.stands.moment;
-  }),
-)
+    → (HasFault Error come.r (after_line come.r line) cause × (new_rows ≡ rows))
+    ⊎ ((cause ≡ Memory) × PrintsUntil key start come.r (after_line come.r line) come.output new_rows)
+    → 0 < length line → new_last ≡ last → Appends mid new (fault_text (done + 1) cause)
+    → Ends Error key start first text old new new_rows new_last (Faulty (done + 1))
+come_fault Error key start first text rest line more rows new_rows last new_last visit done old mid new cause come cut
+    (inl fault) some kept written = (
+      come.output ++ fault_text (done + 1) cause,
+      Appends-trans old mid new come.output _ come.written written,
+      inl (record {
+        r = come.r;
+        before = come.before;
+        line = line;
+        cause = cause;
+        readings = come.output;
+        place = record {
+          after = lines more;
+          whole = come.whole ∙ ap (λ ls. come.before ++ ls) cut;
+          number = ap (λ n. n + 1) come.count;
+        };
+        leads = come.leads;
+        fault = fault.0;
+        prints = subst (Prints key start come.r come.output) (sym fault.1)
+            (prints_all key start rows come.r last visit come.output come.stands);
+        text = refl;
+        moment = kept ∙ come.stands.moment;
+      }),
+    )
+come_fault Error key start first text rest line more rows new_rows last new_last visit done old mid new cause come cut
+    (inr half) some kept written = (
+      come.output ++ fault_text (done + 1) cause,
+      Appends-trans old mid new come.output _ come.written written,
+      inr (record {
+        r = come.r;
+        before = come.before;
+        line = line;
+        readings = come.output;
+        place = record {
+          after = lines more;
+          whole = come.whole ∙ ap (λ ls. come.before ++ ls) cut;
+          number = ap (λ n. n + 1) come.count;
+        };
+        asks = λ empty. absurd (no_length line some empty);
+        leads = come.leads;
+        prints = half.1;
+        text = ap (λ x. come.output ++ fault_text (done + 1) x) half.0;
+        moment = kept ∙ come.stands.moment;
+      }),
+    )
 
 -- ---- where memory is refused while the text is read
 
-pub memory_first : (key : List ℕ) (start : List Row) (first : ℤ) (text : List ℕ) (old new : Option (List ℕ)) → 0 < length text → Appends old new (fault_text 1 Memory) → Ends key start first text old new start first (Faulty 1)
-memory_first key start first text old new some written =
+pub memory_first : (Error : Type 0) (key : List ℕ) (start : List Row) (first : ℤ) (text : List ℕ)
+    (old new : Option (List ℕ)) → 0 < length text → Appends old new (fault_text 1 Memory)
+    → Ends Error key start first text old new start first (Faulty 1)
+memory_first Error key start first text old new some written =
     let l = lines_some text some in (
       fault_text 1 Memory,
       written,
@@ -132,27 +162,30 @@ memory_first key start first text old new some written =
         before = [];
         line = l.0;
         readings = [];
-        mid = start;
         place = record { after = l.1; whole = l.2; number = refl };
+        asks = λ empty. refl;
         leads = refl;
-        prints = ([], refl, tt, refl);
-        half = inl refl;
+        prints = inl ([], refl, tt, refl);
         text = refl;
         moment = refl;
       }),
     )
 
-pub known_text : {A E : Type 0} (r : Result A E) (left : Option (List ℕ)) (P : List ℕ → A → Type 0) (items : List ℕ) → IfSome left (λ input. items ≡ input) → IfOk r (λ a. P items a) → IfOk r (λ a. IfSome left (λ input. P input a))
+pub known_text : {A E : Type 0} (r : Result A E) (left : Option (List ℕ)) (P : List ℕ → A → Type 0) (items : List ℕ)
+    → IfSome left (λ input. items ≡ input) → IfOk r (λ a. P items a) → IfOk r (λ a. IfSome left (λ input. P input a))
 known_text (Ok a) None P items e h = tt
 known_text (Ok a) (Some input) P items e h = subst (λ i. P i a) e h
 known_text (Err x) left P items e h = tt
 
-pub for_all : {A E : Type 0} (r : Result A E) (left : Option (List ℕ)) (P : List ℕ → A → Type 0) (Q : List ℕ → Type 0) (R : Type 0) (a : A) → IfSome left Q → OnOk r R → IfOk r (λ x. x ≡ a) → ((input : List ℕ) → Q input → R → P input a) → IfOk r (λ x. IfSome left (λ input. P input x))
+pub for_all : {A E : Type 0} (r : Result A E) (left : Option (List ℕ)) (P : List ℕ → A → Type 0) (Q : List ℕ → Type 0)
+    (R : Type 0) (a : A) → IfSome left Q → OnOk r R → IfOk r (λ x. x ≡ a) → ((input : List ℕ) → Q input → R → P input a)
+    → IfOk r (λ x. IfSome left (λ input. P input x))
 for_all (Ok x) None P Q R a q h is f = tt
 for_all (Ok x) (Some input) P Q R a q h is f = subst (λ y. P input y) (sym is) (f input q h)
 for_all (Err e) left P Q R a q h is f = tt
 
-pub for_one : {A E : Type 0} (r : Result A E) (P : A → Type 0) (R : Type 0) (a : A) → OnOk r R → IfOk r (λ x. x ≡ a) → (R → P a) → IfOk r P
+pub for_one : {A E : Type 0} (r : Result A E) (P : A → Type 0) (R : Type 0) (a : A) → OnOk r R → IfOk r (λ x. x ≡ a)
+    → (R → P a) → IfOk r P
 for_one (Ok x) P R a h is f = subst P (sym is) (f h)
 for_one (Err e) P R a h is f = tt
 
@@ -171,14 +204,43 @@ only_write (Err x) P only e = absurd (read_write (sym only ∙ same x e))
 
 -- ---- the program
 
+-- a generator whose error type has no value doesn't fail
+runs_sure : (Error : Type 0) (key : List ℕ) (rows : List Row) (last : ℤ) (input output : List ℕ) (new : List Row)
+    (end : ℤ) (ended : Ended)
+    → (Error → ⊥) → Runs Error key rows last input output new end ended
+    → Runs ⊥ key rows last input output new end ended
+runs_sure Error key rows last input output new end Whole never (inl s) = inl s
+runs_sure Error key rows last input output new end (Faulty n) never (inl s) = inl (record {
+  r = s.r;
+  before = s.before;
+  line = s.line;
+  cause = s.cause;
+  readings = s.readings;
+  place = s.place;
+  leads = s.leads;
+  fault = fault_sure s.r (after_line s.r s.line) s.cause s.fault;
+  prints = s.prints;
+  text = s.text;
+  moment = s.moment;
+})
+  where
+    fault_sure : (r : Reached) (led : Result Reached Cause) (cause : Cause) → HasFault Error r led cause
+        → HasFault ⊥ r led cause
+    fault_sure r led cause (inl own) = inl own
+    fault_sure r led cause (inr failed) = absurd (never failed.1)
+runs_sure Error key rows last input output new end Whole never (inr m) = inr m
+runs_sure Error key rows last input output new end (Faulty n) never (inr m) = inr m
+
 -- a run from no rows and the program's first moment is a script's
-pub script_of : (left old new : Option (List ℕ)) (key : List ℕ) (start rows : List Row) (first last : ℤ) (ended same : Ended) → key ≡ program_key → start ≡ [] → first ≡ begins_at → ended ≡ same
-    → IfSome left (λ input. Ends key start first input old new rows last ended)
+pub script_of : (Error : Type 0) (left old new : Option (List ℕ)) (key : List ℕ) (start rows : List Row)
+    (first last : ℤ) (ended same : Ended) → (Error → ⊥) → key ≡ program_key → start ≡ [] → first ≡ begins_at
+    → ended ≡ same
+    → IfSome left (λ input. Ends Error key start first input old new rows last ended)
     → IfSome left (λ input. (output : List ℕ) × Appends old new output × IsScriptOf input output same)
-script_of None old new key start rows first last ended same with_key none begins is h = tt
-script_of (Some input) old new key start rows first last ended same with_key none begins is h =
-    let from_key = subst (λ k. Ends k start first input old new rows last ended) with_key h in
-    let from_none = subst (λ s. Ends program_key s first input old new rows last ended) none from_key in
-    let from_first = subst (λ f. Ends program_key [] f input old new rows last ended) begins from_none in
-    let ends = subst (λ e. Ends program_key [] begins_at input old new rows last e) is from_first in
-    (ends.0, ends.1, (rows, last, ends.2))
+script_of Error None old new key start rows first last ended same never with_key none begins is h = tt
+script_of Error (Some input) old new key start rows first last ended same never with_key none begins is h =
+    let from_key = subst (λ k. Ends Error k start first input old new rows last ended) with_key h in
+    let from_none = subst (λ s. Ends Error program_key s first input old new rows last ended) none from_key in
+    let from_first = subst (λ f. Ends Error program_key [] f input old new rows last ended) begins from_none in
+    let ends = subst (λ e. Ends Error program_key [] begins_at input old new rows last e) is from_first in
+    (ends.0, ends.1, (rows, last, runs_sure Error program_key [] begins_at input ends.0 rows last same never ends.2))

@@ -25,4 +25,5 @@ flat_map_agree f g h (b ∷ bs) = ap (λ x. x ++ flat_map f bs) (h b) ∙ ap (λ
 
 pub shown-percent_encode : (text : List ℕ) → shown text ≡ percent_encode SHOWN text
 unfolding percent_encode
-shown-percent_encode text = flat_map_agree _ (encode_byte SHOWN) (λ b. ap (λ t. cond t (percent_encode_byte b) (b ∷ [])) (same_set b)) text
+shown-percent_encode text = flat_map_agree _ (encode_byte SHOWN)
+    (λ b. ap (λ t. cond t (percent_encode_byte b) (b ∷ [])) (same_set b)) text

@@ -13,3 +13,6 @@ reads_of c = c.made
 
 abbrev pub flushes_of : {T : Type 0} → Counting T → ℕ
 flushes_of c = c.flushed
+
+abbrev pub unflushed_of : {T : Type 0} → Counting T → ℕ
+unflushed_of c = c.unflushed

@@ -58,19 +58,22 @@ ReadsOn host site (Asks url at) told new = new ≡ site
 abbrev pub EachReadsOn : List ℕ → Site → List Act → List (List Reading) → Site → Type 0
 EachReadsOn host site [] told end = end ≡ site
 EachReadsOn host site (act ∷ acts) [] end = ⊥
-EachReadsOn host site (act ∷ acts) (told ∷ later) end = (mid : Site) × ReadsOn host site act told mid × EachReadsOn host mid acts later end
+EachReadsOn host site (act ∷ acts) (told ∷ later) end = (mid : Site) × ReadsOn host site act told mid
+    × EachReadsOn host mid acts later end
 
 -- what is read on a site by all of the commands, and by the first of them
 abbrev pub AllOn : Site → List Command → List Reading → Type 0
 AllOn site commands told = (new : Site) × CommandsOn site commands told new
 
 abbrev pub FrontOn : Site → List Command → List Reading → Type 0
-FrontOn site commands told = (front : List Command) × (rest : List Command) × (commands ≡ front ++ rest) × AllOn site front told
+FrontOn site commands told = (front : List Command) × (rest : List Command) × (commands ≡ front ++ rest)
+    × AllOn site front told
 
 -- an exchange of the host that the play stopped in read that, as far as it came
 abbrev pub StopsOn : List ℕ → Site → FaultKind → ℤ → Act → List Reading → List Reading → Type 0
 StopsOn host site kind last (Visits url at commands arrival) old readings =
-    host_of url ≡ Some host → StopsFrom kind last (Visits url at commands arrival) old (FrontOn site commands) (AllOn site commands) readings
+    host_of url ≡ Some host → StopsFrom kind last (Visits url at commands arrival) old (FrontOn site commands)
+    (AllOn site commands) readings
 StopsOn host site kind last (Answers url lines at) old readings = ⊤
 StopsOn host site kind last (Asks url at) old readings = ⊤
 
@@ -83,15 +86,18 @@ pub record SitesReadTheirOwn (acts : List Act) (readings : List Reading) : Type 
   pub told : List (List Reading)
   pub read : readings ≡ all_told told
   pub own : AnswersEach acts told
-  pub sites : (host : List ℕ) → EachAnswersBySessions host acts → EachDeathless host acts → (end : Site) × EachReadsOn host nothing acts told end
+  pub sites : (host : List ℕ) → EachAnswersBySessions host acts → EachDeathless host acts → (end : Site)
+      × EachReadsOn host nothing acts told end
 
 -- a site as it came to an act, and what the play that stopped there read
 abbrev pub ReadsUntil : List ℕ → List Act → List (List Reading) → Act → FaultKind → ℤ → List Reading → Type 0
 ReadsUntil host before told act kind last readings =
-    (site : Site) × EachReadsOn host nothing before told site × (AnswersBySessions host act → StopsOn host site kind last act (all_told told) readings)
+    (site : Site) × EachReadsOn host nothing before told site
+    × (AnswersBySessions host act → StopsOn host site kind last act (all_told told) readings)
 
 -- The same as far as a play came that stopped in a step, counted from 1.
-pub record SitesReadTheirOwnUntil (acts : List Act) (step : ℕ) (kind : FaultKind) (readings : List Reading) : Type 0 where
+pub record SitesReadTheirOwnUntil (acts : List Act) (step : ℕ) (kind : FaultKind)
+    (readings : List Reading) : Type 0 where
   pub before : List Act
   pub act : Act
   pub after : List Act

@@ -64,8 +64,10 @@ pub record IsOpened (key header : List ℕ) (session : Keyed) : Type 0 where
 -- what a session reads of a stored name as a value of this kind
 abbrev pub ReadsAs : Keyed → Kind → List ℕ → Option (List ℕ) → Type 0
 ReadsAs session site.Plain name value = value ≡ value_in (record_in (view session.jar name))
-ReadsAs session site.Signed name value = (read : Option Seen) × ReadsFound (IsSigned session.key) (view session.jar name) read × (value ≡ value_in (record_in read))
-ReadsAs session site.Sealed name value = (read : Option Seen) × ReadsFound (IsSealed session.key) (view session.jar name) read × (value ≡ value_in (record_in read))
+ReadsAs session site.Signed name value = (read : Option Seen)
+    × ReadsFound (IsSigned session.key) (view session.jar name) read × (value ≡ value_in (record_in read))
+ReadsAs session site.Sealed name value = (read : Option Seen)
+    × ReadsFound (IsSealed session.key) (view session.jar name) read × (value ≡ value_in (record_in read))
 
 -- what it reads of a name in a way
 abbrev pub ReadsIn : Keyed → Way → List ℕ → Option (List ℕ) → Type 0
@@ -106,7 +108,8 @@ taken way name = sent (unsliced (bare (stored_name way name) []))
 -- why a removal of this name at this moment is refused, if it is: its name, or the expiry that it has
 abbrev pub IsRemovalRefusal : List ℕ → DateTime → Option SessionError → Type 0
 IsRemovalRefusal name now refusal =
-    (removal : Seen) × MakesRemoval (unsliced (bare name [])) now removal × (refusal ≡ refusal_of name removal.cookie.expires)
+    (removal : Seen) × MakesRemoval (unsliced (bare name [])) now removal
+    × (refusal ≡ refusal_of name removal.cookie.expires)
 
 -- an accepted removal
 pub record TakesOut (old : Keyed) (way : Way) (name : List ℕ) (now : DateTime) (new : Keyed) : Type 0 where
@@ -118,7 +121,8 @@ pub record TakesOut (old : Keyed) (way : Way) (name : List ℕ) (now : DateTime)
 
 -- the line of this cookie reads as its normal form, name and value still escaped
 abbrev pub ReadsAsItself : Seen → Type 0
-ReadsAsItself s = (outcome : Result Seen ParseError) → ReadsPlain (encoded s.cookie) outcome → ReadsBack s.cookie outcome
+ReadsAsItself s = (outcome : Result Seen ParseError) → ReadsPlain (encoded s.cookie) outcome
+    → ReadsBack s.cookie outcome
 
 -- the lines of cookies
 abbrev pub lines_of : List Seen → List (List ℕ)
@@ -134,4 +138,5 @@ pub record ClosesWith (jar : Jar) (lines : List (List ℕ)) : Type 0 where
 
 -- each change is fit to be read back
 abbrev pub IsReadableJar : Jar → Type 0
-IsReadableJar jar = (name : List ℕ) (change : Change) → finmap.get jar.changes name ≡ Some change → IsReadable (cookie_in change).cookie
+IsReadableJar jar = (name : List ℕ) (change : Change) → finmap.get jar.changes name ≡ Some change
+    → IsReadable (cookie_in change).cookie

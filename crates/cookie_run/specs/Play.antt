@@ -46,7 +46,8 @@ CommandTells old (Get way name) told new = GetTells old way name told × (new �
 abbrev pub Tells : Keyed → List Command → List Reading → Keyed → Type 0
 Tells old [] told new = (told ≡ []) × (new ≡ old)
 Tells old (c ∷ cs) told new =
-    (first : List Reading) × (later : List Reading) × (mid : Keyed) × CommandTells old c first mid × Tells mid cs later new × (told ≡ first ++ later)
+    (first : List Reading) × (later : List Reading) × (mid : Keyed) × CommandTells old c first mid
+    × Tells mid cs later new × (told ≡ first ++ later)
 
 -- a session on this header reads so by the commands, and is this one then
 abbrev pub Serves : List ℕ → List ℕ → List Command → List Reading → Keyed → Type 0
@@ -63,7 +64,8 @@ ServesFront key header commands told = (told ≡ [])
 
 abbrev pub TellsFront : Keyed → List Command → List Reading → Type 0
 TellsFront old commands told =
-    (front : List Command) × (rest : List Command) × (commands ≡ front ++ rest) × (new : Keyed) × Tells old front told new
+    (front : List Command) × (rest : List Command) × (commands ≡ front ++ rest) × (new : Keyed)
+    × Tells old front told new
 
 -- ---- a step
 
@@ -76,7 +78,8 @@ Delivers rows url jar Never new = new ≡ rows
 -- from these rows the step reads this and leaves those rows
 abbrev pub OneStep : List ℕ → List Row → Act → List Reading → List Row → Type 0
 OneStep key rows (Visits url at commands arrival) told new =
-    (session : Keyed) × Serves key (header_of (given rows url)) commands told session × Delivers rows url session.jar arrival new
+    (session : Keyed) × Serves key (header_of (given rows url)) commands told session
+    × Delivers rows url session.jar arrival new
 OneStep key rows (Answers url lines at) told new =
     (told ≡ []) × Takes rows url lines new
 OneStep key rows (Asks url at) told new =
@@ -85,7 +88,8 @@ OneStep key rows (Asks url at) told new =
 -- what each of the steps reads, and the rows after them
 abbrev pub Plays : List ℕ → List Row → List Act → List (List Reading) → List Row → Type 0
 Plays key rows [] [] new = new ≡ rows
-Plays key rows (step ∷ steps) (told ∷ later) new = (mid : List Row) × OneStep key rows step told mid × Plays key mid steps later new
+Plays key rows (step ∷ steps) (told ∷ later) new = (mid : List Row) × OneStep key rows step told mid
+    × Plays key mid steps later new
 Plays key rows [] (told ∷ later) new = ⊥
 Plays key rows (step ∷ steps) [] new = ⊥
 
@@ -110,7 +114,8 @@ pub record IsRun (key : List ℕ) (acts : List Act) (readings : List Reading) : 
 
 -- The same of a play that stopped in a step, counted from 1: the acts before it ran, their moments
 -- in order, and it stopped as it must for this kind of fault.
-pub record IsRunUntil (key : List ℕ) (acts : List Act) (step : ℕ) (kind : FaultKind) (readings : List Reading) : Type 0 where
+pub record IsRunUntil (key : List ℕ) (acts : List Act) (step : ℕ) (kind : FaultKind)
+    (readings : List Reading) : Type 0 where
   pub before : List Act
   pub act : Act
   pub after : List Act
@@ -120,4 +125,5 @@ pub record IsRunUntil (key : List ℕ) (acts : List Act) (step : ℕ) (kind : Fa
   pub rows : List Row
   pub ran : Plays key [] before told rows
   pub in_order : AllFollow the_beginning (moments_of before)
-  pub stops : StopsFrom kind (last_of the_beginning (moments_of before)) act (all_told told) (ReadsFront key rows act) (ReadsAll key rows act) readings
+  pub stops : StopsFrom kind (last_of the_beginning (moments_of before)) act (all_told told) (ReadsFront key rows act)
+      (ReadsAll key rows act) readings

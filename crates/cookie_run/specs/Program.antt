@@ -18,7 +18,7 @@ program_key = derived (replicate 32 0)
 -- From a client without a row and from this moment on, a script prints this, and ends so.
 abbrev pub IsScriptOf : List ℕ → List ℕ → Ended → Type 0
 IsScriptOf input output ended = (new : List Row) × (end : ℤ)
-    × Runs program_key [] begins_at input output new end ended
+    × Runs ⊥ program_key [] begins_at input output new end ended
 
 -- the exit status and what goes to standard error: of a script that ends so, of a reader and of a writer that failed
 abbrev pub Answers : ℕ → Option (List ℕ) → (Ended → Type 0) → Type 0 → Type 0 → Type 0

@@ -1,6 +1,7 @@
 -- What sessions and clients make of what is read: the cookies of a request's header (RFC 6265, section
 -- 4.2.1), and the cookie of a `Set-Cookie` line (section 5.2).
-use Rattle.std.specs.Prelude.{◌≡◌, ◌≢◌, ℕ, List, [], ◌∷◌, ◌++◌, Bool, false, ◌&&◌, codes, Option, Some, None, is_none, Result, Ok, Err, if◌then◌else◌}
+use Rattle.std.specs.Prelude.{◌≡◌, ◌≢◌, ℕ, List, [], ◌∷◌, ◌++◌, Bool, false, ◌&&◌, codes, Option, Some, None, is_none}
+use Rattle.std.specs.Prelude.{Result, Ok, Err, if◌then◌else◌}
 use Rattle.std.specs.Option.{option_to_list}
 use Rattle.std.specs.Str.{bytes_eq, IsUtf8}
 use Rattle.cookie_text.specs.declared.error.ParseError.{ParseError}
@@ -20,7 +21,8 @@ Gives piece None = IsUtf8 piece → (error : ParseError) × (error ≢ OutOfMemo
 abbrev pub Give : List (List ℕ) → List Record → Type 0
 Give [] cookies = cookies ≡ []
 Give (piece ∷ later) cookies =
-    (first : Option Record) × (rest : List Record) × Gives piece first × Give later rest × (cookies ≡ option_to_list first ++ rest)
+    (first : Option Record) × (rest : List Record) × Gives piece first × Give later rest
+    × (cookies ≡ option_to_list first ++ rest)
 
 -- the cookies of a header: a piece that gives none is passed over
 abbrev pub AreCookiesOf : List ℕ → List Record → Type 0

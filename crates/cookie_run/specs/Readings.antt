@@ -1,5 +1,6 @@
 -- Which readings are of which act of a play, whatever they say (own: docs/DEFINITIONS.md).
-use Rattle.std.specs.Prelude.{ℕ, List, [], ◌∷◌, ◌++◌, None, ◌≡◌, ◌⊎◌, ⊤}
+use Rattle.std.specs.Prelude.{ℕ, List, [], ◌∷◌, ◌++◌, None, ◌≡◌, ◌≢◌, ◌⊎◌, ⊤}
+use Rattle.std.specs.List.{AllByRecursion}
 use Rattle.cookie_text.specs.Record.{Record}
 use Rattle.cookie_run.specs.Acts.{Act, Visits, Answers, Asks}
 use Rattle.cookie_run.specs.Site.{set_refusal, Refuses}
@@ -8,7 +9,9 @@ use Rattle.cookie_run.specs.declared.step.Command.TheVariants.{Set, Get}
 use Rattle.cookie_run.specs.declared.step.Reading.{Reading}
 use Rattle.cookie_run.specs.declared.step.Reading.TheVariants.{Value, Refused, Header}
 use Rattle.cookie_run.specs.declared.step.SessionError.{SessionError}
+use Rattle.cookie_run.specs.declared.step.SessionError.TheVariants.{EmptyName, Rng}
 use Rattle.cookie_run.specs.declared.step.Way.{Way}
+use Rattle.cookie_run.specs.declared.step.Way.TheVariants.{Sealed}
 
 -- what all the acts read, in order
 abbrev pub all_told : List (List Reading) → List Reading
@@ -23,14 +26,33 @@ IsSetAnswer way c told =
 
 abbrev pub IsAnswer : Way → List ℕ → Reading → Type 0
 IsAnswer way name (Value w n value) = (w ≡ way) × (n ≡ name)
-IsAnswer way name (Refused error) = name ≡ []
+IsAnswer way name (Refused error) = (name ≡ []) × (error ≡ EmptyName)
 IsAnswer way name (Header header) = ⊥
 
 -- a set reads nothing, or its refusal; a get reads one answer, under its way and name
 abbrev pub AnswersTo : List Command → List Reading → Type 0
 AnswersTo [] told = told ≡ []
-AnswersTo (Set way cookie ∷ cs) told = (first : List Reading) × (later : List Reading) × (told ≡ first ++ later) × IsSetAnswer way cookie.cookie first × AnswersTo cs later
-AnswersTo (Get way name ∷ cs) told = (answer : Reading) × (later : List Reading) × (told ≡ answer ∷ later) × IsAnswer way name answer × AnswersTo cs later
+AnswersTo (Set way cookie ∷ cs) told = (first : List Reading) × (later : List Reading) × (told ≡ first ++ later)
+    × IsSetAnswer way cookie.cookie first × AnswersTo cs later
+AnswersTo (Get way name ∷ cs) told = (answer : Reading) × (later : List Reading) × (told ≡ answer ∷ later)
+    × IsAnswer way name answer × AnswersTo cs later
+
+-- a command that needs no nonce: it is no set that has to be sealed, or one that is refused before that
+abbrev pub NeedsNoNonce : Command → Type 0
+NeedsNoNonce (Set way cookie) = (way ≢ Sealed) ⊎ (set_refusal way cookie.cookie ≢ None)
+NeedsNoNonce (Get way name) = ⊤
+
+-- an act none of whose commands needs one
+abbrev pub ActNeedsNoNonce : Act → Type 0
+ActNeedsNoNonce (Visits url at commands arrival) = AllByRecursion NeedsNoNonce commands
+ActNeedsNoNonce (Answers url lines at) = ⊤
+ActNeedsNoNonce (Asks url at) = ⊤
+
+-- what may be read where the generator's error type is this one: that a fill failed only where it has a value
+abbrev pub MayRead : Type 0 → Reading → Type 0
+MayRead Error (Value way name value) = ⊤
+MayRead Error (Refused error) = error ≡ Rng → Error
+MayRead Error (Header header) = ⊤
 
 -- an exchange reads what answers its commands, other answers nothing, a look at a header that header
 abbrev pub AnswersAct : Act → List Reading → Type 0

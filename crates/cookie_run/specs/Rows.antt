@@ -1,6 +1,7 @@
 -- The rows of a client, one flat list: what a `Set-Cookie` line does to them (RFC 6265, section 5.3),
 -- and the `Cookie` header that they give a request (section 5.4).
-use Rattle.std.specs.Prelude.{ℕ, List, [], ◌∷◌, ◌++◌, filter, Bool, ◌&&◌, ◌==◌, length, Option, Some, None, Result, ◌≡◌, ◌⊎◌, if◌then◌else◌}
+use Rattle.std.specs.Prelude.{ℕ, List, [], ◌∷◌, ◌++◌, filter, Bool, ◌&&◌, ◌==◌, length, Option, Some, None, Result, ◌≡◌}
+use Rattle.std.specs.Prelude.{◌⊎◌, if◌then◌else◌}
 use Rattle.std.specs.List.{list_any}
 use Rattle.std.specs.Str.{bytes_eq, IsUtf8}
 use Rattle.url.specs.Parts.{Parts}

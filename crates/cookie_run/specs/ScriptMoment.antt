@@ -1,5 +1,6 @@
 -- The moments of a script: `YYYY-MM-DDThh:mm:ssZ`, the form of RFC 3339 without fractions and in UTC alone.
-use Rattle.std.specs.Prelude.{ℕ, ℤ, pos, ◌+◌, ◌*◌, ◌+ℤ◌, ◌*ℤ◌, List, map, Bool, ◌&&◌, nat_lt, nat_le, codes, slice_range, Option, Some, None, if◌then◌else◌}
+use Rattle.std.specs.Prelude.{ℕ, ℤ, pos, ◌+◌, ◌*◌, ◌+ℤ◌, ◌*ℤ◌, List, map, Bool, ◌&&◌, nat_lt, nat_le, codes}
+use Rattle.std.specs.Prelude.{slice_range, Option, Some, None, if◌then◌else◌}
 use Rattle.std.specs.Str.{bytes_eq}
 use Rattle.std.specs.Str.Parse.{digits_value}
 use Rattle.std.specs.Char.{is_ascii_digit}
@@ -40,5 +41,6 @@ moment_if year month day hour minute second =
 unfoldable pub moment_of : List ℕ → Option ℤ
 moment_of text =
     if has_shape text
-    then moment_if (number_at text 0 4) (number_at text 5 7) (number_at text 8 10) (number_at text 11 13) (number_at text 14 16) (number_at text 17 19)
+    then moment_if (number_at text 0 4) (number_at text 5 7) (number_at text 8 10) (number_at text 11 13)
+    (number_at text 14 16) (number_at text 17 19)
     else None

@@ -1,4 +1,4 @@
--- What the code reads of a line, beside the definition (own: docs/DEFINITIONS.md).
+-- What the code reads of a line, beside the definition: for private contracts alone (own: docs/DEFINITIONS.md).
 use Rattle.std.specs.Prelude.{map, Result, Ok, Err, ◌≡◌, ◌⊎◌}
 use Rattle.jiff.specs.Words.{civil_nanos}
 use Rattle.cookie_run.specs.ScriptLine as spec

@@ -1,6 +1,7 @@
 -- A script: its lines up to the first faulty one as steps of a play, what is printed for them, and what they leave
 -- (own: docs/DEFINITIONS.md).
-use Rattle.std.specs.Prelude.{ℕ, ℤ, ◌+◌, ◌-◌, ◌≤◌, List, [], ◌∷◌, ◌++◌, take, length, Bool, ◌||◌, ◌==◌, nat_lt, codes, decimal, Option, Some, None, Result, Ok, Err, ◌≡◌, ◌⊎◌, ⊤, false, if◌then◌else◌}
+use Rattle.std.specs.Prelude.{ℕ, ℤ, ◌+◌, ◌-◌, ◌≤◌, List, [], ◌∷◌, ◌++◌, take, length, Bool, ◌||◌, ◌==◌, nat_lt, codes}
+use Rattle.std.specs.Prelude.{decimal, Option, Some, None, Result, Ok, Err, ◌≡◌, ◌⊎◌, ⊤, false, if◌then◌else◌}
 use Rattle.std.specs.List.{flat_map, AllByRecursion}
 use Rattle.std.specs.Str.{bytes_eq}
 use Rattle.std.specs.Str.Lines.{lines}
@@ -29,7 +30,8 @@ use Rattle.cookie_run.specs.declared.step.Reading.TheVariants.{Value, Refused, H
 use Rattle.cookie_run.specs.declared.script.ended.Ended.{Ended}
 use Rattle.cookie_run.specs.declared.script.ended.Ended.TheVariants.{Whole, Faulty}
 use Rattle.cookie_run.specs.declared.script.cause.Cause.{Cause}
-use Rattle.cookie_run.specs.declared.script.cause.Cause.TheVariants.{Word, Text, Fields, Url, Moment, Back, NoSession, Open, EmptyName, TooLong, Rng, Memory}
+use Rattle.cookie_run.specs.declared.script.cause.Cause.TheVariants.{Word, Text, Fields, Url, Moment, Back, NoSession}
+use Rattle.cookie_run.specs.declared.script.cause.Cause.TheVariants.{Open, EmptyName, TooLong, Rng, Memory}
 
 -- ---- where a script is after some of its lines
 
@@ -71,12 +73,28 @@ obeyed acts last Closed (Opens url at) = Ok (record { acts = acts; now = Within 
 obeyed acts last (Within u m cs) (Opens url at) = Err Open
 obeyed acts last Closed (Commands command) = Err NoSession
 obeyed acts last (Within url at cs) (Commands command) =
-    unless_refused (command_refusal command) (record { acts = acts; now = Within url at (cs ++ command ∷ []); last = last })
+    unless_refused (command_refusal command) (record {
+      acts = acts;
+      now = Within url at (cs ++ command ∷ []);
+      last = last;
+    })
 obeyed acts last Closed (Delivers at) = Err NoSession
-obeyed acts last (Within url start cs) (Delivers at) = Ok (record { acts = acts ++ Visits url start cs (Arrives at) ∷ []; now = Closed; last = at })
+obeyed acts last (Within url start cs) (Delivers at) = Ok (record {
+  acts = acts ++ Visits url start cs (Arrives at) ∷ [];
+  now = Closed;
+  last = at;
+})
 obeyed acts last Closed Loses = Err NoSession
-obeyed acts last (Within url start cs) Loses = Ok (record { acts = acts ++ Visits url start cs Never ∷ []; now = Closed; last = last })
-obeyed acts last Closed (Receives url lines at) = Ok (record { acts = acts ++ Answers url lines at ∷ []; now = Closed; last = at })
+obeyed acts last (Within url start cs) Loses = Ok (record {
+  acts = acts ++ Visits url start cs Never ∷ [];
+  now = Closed;
+  last = last;
+})
+obeyed acts last Closed (Receives url lines at) = Ok (record {
+  acts = acts ++ Answers url lines at ∷ [];
+  now = Closed;
+  last = at;
+})
 obeyed acts last (Within u m cs) (Receives url lines at) = Err Open
 obeyed acts last Closed (Heads url at) = Ok (record { acts = acts ++ Asks url at ∷ []; now = Closed; last = at })
 obeyed acts last (Within u m cs) (Heads url at) = Err Open
@@ -111,9 +129,12 @@ abbrev pub AddsSealed : Reached → Reached → Type 0
 AddsSealed r next = (url : Parts) × (at : ℤ) × (cs : List Command) × (cookie : Seen)
     × (r.now ≡ Within url at cs) × (next.now ≡ Within url at (cs ++ Set Sealed cookie ∷ []))
 
--- a line has a fault: its own, or that the generator failed at a set that has to be sealed and that nothing else stands against
-abbrev pub HasFault : Reached → Result Reached Cause → Cause → Type 0
-HasFault r led cause = (led ≡ Err cause) ⊎ ((cause ≡ Rng) × ((next : Reached) × (led ≡ Ok next) × AddsSealed r next))
+-- a line has a fault: its own, or that the generator, whose error type is this one, failed at a set that has to be
+-- sealed and
+-- that nothing else stands against
+abbrev pub HasFault : Type 0 → Reached → Result Reached Cause → Cause → Type 0
+HasFault Error r led cause = (led ≡ Err cause) ⊎ ((cause ≡ Rng) × Error
+    × ((next : Reached) × (led ≡ Ok next) × AddsSealed r next))
 
 -- ---- what is printed
 
@@ -191,14 +212,16 @@ pub record IsLine (all : List (List ℕ)) (n : ℕ) (before : List (List ℕ)) (
   pub number : n ≡ length before + 1
 
 -- each line is done
-pub record IsWhole (key : List ℕ) (rows : List Row) (last : ℤ) (all : List (List ℕ)) (output : List ℕ) (new : List Row) (end : ℤ) : Type 0 where
+pub record IsWhole (key : List ℕ) (rows : List Row) (last : ℤ) (all : List (List ℕ)) (output : List ℕ) (new : List Row)
+    (end : ℤ) : Type 0 where
   pub r : Reached
   pub leads : LeadsTo (begun last) all r
   pub prints : Prints key rows r output new
   pub moment : end ≡ r.last
 
 -- the lines before line n are done, and line n is the first faulty one
-pub record IsFaulty (key : List ℕ) (rows : List Row) (last : ℤ) (all : List (List ℕ)) (output : List ℕ) (new : List Row) (end : ℤ) (n : ℕ) : Type 0 where
+pub record IsFaulty (Error : Type 0) (key : List ℕ) (rows : List Row) (last : ℤ) (all : List (List ℕ)) (output : List ℕ)
+    (new : List Row) (end : ℤ) (n : ℕ) : Type 0 where
   pub r : Reached
   pub before : List (List ℕ)
   pub line : List ℕ
@@ -206,15 +229,16 @@ pub record IsFaulty (key : List ℕ) (rows : List Row) (last : ℤ) (all : List 
   pub readings : List ℕ
   pub place : IsLine all n before line
   pub leads : LeadsTo (begun last) before r
-  pub fault : HasFault r (after_line r line) cause
+  pub fault : HasFault Error r (after_line r line) cause
   pub prints : Prints key rows r readings new
   pub text : output ≡ readings ++ fault_text n cause
   pub moment : end ≡ r.last
 
 -- From these rows and this last moment a script prints this, leaves those rows and that moment, and ends so.
-abbrev pub ScriptText : List ℕ → List Row → ℤ → List ℕ → List ℕ → List Row → ℤ → Ended → Type 0
-ScriptText key rows last input output new end Whole = IsWhole key rows last (lines input) output new end
-ScriptText key rows last input output new end (Faulty n) = IsFaulty key rows last (lines input) output new end n
+abbrev pub ScriptText : Type 0 → List ℕ → List Row → ℤ → List ℕ → List ℕ → List Row → ℤ → Ended → Type 0
+ScriptText Error key rows last input output new end Whole = IsWhole key rows last (lines input) output new end
+ScriptText Error key rows last input output new end (Faulty n) = IsFaulty Error key rows last
+    (lines input) output new end n
 
 -- ---- where memory is refused in a line
 
@@ -222,31 +246,43 @@ ScriptText key rows last input output new end (Faulty n) = IsFaulty key rows las
 abbrev pub TakesFront : List Row → Parts → List (List ℕ) → List Row → Type 0
 TakesFront rows url answer new = (k : ℕ) × (k ≤ length answer - 1) × Takes rows url (take k answer) new
 
--- the step begins so, whatever the nonces and the order of a session's lines
-abbrev pub HalfStep : List ℕ → List Row → Act → List Row → Type 0
-HalfStep key rows (Visits url at commands (Arrives moment)) new =
-    (told : List Reading) × (session : Keyed) × Serves key (header_of (given rows url)) commands told session × AllByRecursion IsAnswered told
-    × (cookies : List Seen) × Lists (under_names cookies) (delta session.jar) × TakesFront rows url (lines_of cookies) new
-HalfStep key rows (Visits url at commands Never) new = new ≡ rows
-HalfStep key rows (Answers url answer at) new = TakesFront rows url answer new
-HalfStep key rows (Asks url at) new = new ≡ rows
+-- the step reads so, and its answer is taken up to a line, whatever the nonces and the order of a session's lines
+abbrev pub HalfStep : List ℕ → List Row → Act → List Reading → List Row → Type 0
+HalfStep key rows (Visits url at commands (Arrives moment)) told new =
+    (session : Keyed) × Serves key (header_of (given rows url)) commands told session
+    × (cookies : List Seen) × Lists (under_names cookies) (delta session.jar)
+    × TakesFront rows url (lines_of cookies) new
+HalfStep key rows (Visits url at commands Never) told new = ⊥
+HalfStep key rows (Answers url answer at) told new = (told ≡ []) × TakesFront rows url answer new
+HalfStep key rows (Asks url at) told new = ⊥
 
--- a line that isn't done leaves the rows as they were, or as the step that it ends leaves them half-way
-abbrev pub HalfLine : List ℕ → List Row → Reached → Result Reached Cause → List Row → Type 0
-HalfLine key rows r led new = (new ≡ rows)
-    ⊎ ((next : Reached) × (act : Act) × (led ≡ Ok next) × (next.acts ≡ r.acts ++ act ∷ []) × HalfStep key rows act new)
+-- the steps, and behind them one whose answer is taken up to a line, print this and leave those rows
+abbrev pub PrintsHalf : List ℕ → List Row → List Act → Act → List ℕ → List Row → Type 0
+PrintsHalf key rows acts act output new =
+    (told : List (List Reading)) × (mid : List Row) × (more : List Reading) × Plays key rows acts told mid
+    × HalfStep key mid act more new × AllByRecursion IsAnswered (all_told told ++ more)
+    × (output ≡ readings_text (all_told told ++ more))
 
--- The lines before line n are done and print what they print alone; then comes the fault.
-pub record MemoryText (key : List ℕ) (rows : List Row) (last : ℤ) (input : List ℕ) (output : List ℕ) (new : List Row) (end : ℤ) (n : ℕ) : Type 0 where
+-- a line that isn't done: the lines before it print this and leave those rows, or the step that it ends is half taken,
+-- and is the one that was printed
+abbrev pub PrintsUntil : List ℕ → List Row → Reached → Result Reached Cause → List ℕ → List Row → Type 0
+PrintsUntil key rows r led output new = Prints key rows r output new
+    ⊎ ((next : Reached) × (act : Act) × (led ≡ Ok next) × (next.acts ≡ r.acts ++ act ∷ [])
+    × PrintsHalf key rows r.acts act output new)
+
+-- The lines before line n are done and print what they print alone; then comes the fault. An empty line takes no
+-- memory;
+-- reading the script does, which counts as line 1.
+pub record MemoryText (key : List ℕ) (rows : List Row) (last : ℤ) (input : List ℕ) (output : List ℕ) (new : List Row)
+    (end : ℤ) (n : ℕ) : Type 0 where
   pub r : Reached
   pub before : List (List ℕ)
   pub line : List ℕ
   pub readings : List ℕ
-  pub mid : List Row
   pub place : IsLine (lines input) n before line
+  pub asks : line ≡ [] → n ≡ 1
   pub leads : LeadsTo (begun last) before r
-  pub prints : Prints key rows r readings mid
-  pub half : HalfLine key mid r (after_line r line) new
+  pub prints : PrintsUntil key rows r (after_line r line) readings new
   pub text : output ≡ readings ++ fault_text n Memory
   pub moment : end ≡ r.last
 
@@ -254,7 +290,7 @@ abbrev pub EndsForMemory : List ℕ → List Row → ℤ → List ℕ → List �
 EndsForMemory key rows last input output new end Whole = ⊥
 EndsForMemory key rows last input output new end (Faulty n) = MemoryText key rows last input output new end n
 
--- what a run of the script prints and leaves, and how it ends
-abbrev pub Runs : List ℕ → List Row → ℤ → List ℕ → List ℕ → List Row → ℤ → Ended → Type 0
-Runs key rows last input output new end ended =
-    ScriptText key rows last input output new end ended ⊎ EndsForMemory key rows last input output new end ended
+-- what a run of the script prints and leaves, and how it ends, by a generator with this error type
+abbrev pub Runs : Type 0 → List ℕ → List Row → ℤ → List ℕ → List ℕ → List Row → ℤ → Ended → Type 0
+Runs Error key rows last input output new end ended =
+    ScriptText Error key rows last input output new end ended ⊎ EndsForMemory key rows last input output new end ended

@@ -88,7 +88,8 @@ Refuses way c OutOfMemory = ⊥
 -- an accepted set reads nothing and writes its entry, a refused one reads its refusal and leaves all as it is
 abbrev pub SetOn : Site → Way → Record → List Reading → Site → Type 0
 SetOn site way c told new =
-    ((told ≡ []) × (set_refusal way c ≡ None) × (new ≡ with_entry site (stored_name way c.name) (record { kind = kind_of way; value = c.value })))
+    ((told ≡ []) × (set_refusal way c ≡ None) × (new ≡ with_entry site (stored_name way c.name)
+    (record { kind = kind_of way; value = c.value })))
     ⊎ ((error : SessionError) × (told ≡ Refused error ∷ []) × Refuses way c error × (new ≡ site))
 
 -- what is read of an entry of this kind, and where there is none; of an entry of another kind nothing is said
@@ -99,7 +100,8 @@ IsReadAt kind (Some entry) value = entry.kind ≡ kind → value ≡ Some entry.
 abbrev pub GetOn : Site → Way → List ℕ → List Reading → Type 0
 GetOn site way [] told = told ≡ Refused EmptyName ∷ []
 GetOn site way (b ∷ bs) told =
-    (value : Option (List ℕ)) × (told ≡ Value way (b ∷ bs) value ∷ []) × IsReadAt (kind_of way) (site (stored_name way (b ∷ bs))) value
+    (value : Option (List ℕ)) × (told ≡ Value way (b ∷ bs) value ∷ [])
+    × IsReadAt (kind_of way) (site (stored_name way (b ∷ bs))) value
 
 abbrev pub CommandOn : Site → Command → List Reading → Site → Type 0
 CommandOn site (Set way cookie) told new = SetOn site way cookie.cookie told new
@@ -109,7 +111,8 @@ CommandOn site (Get way name) told new = GetOn site way name told × (new ≡ si
 abbrev pub CommandsOn : Site → List Command → List Reading → Site → Type 0
 CommandsOn site [] told new = (told ≡ []) × (new ≡ site)
 CommandsOn site (c ∷ cs) told new =
-    (first : List Reading) × (later : List Reading) × (mid : Site) × CommandOn site c first mid × CommandsOn mid cs later new × (told ≡ first ++ later)
+    (first : List Reading) × (later : List Reading) × (mid : Site) × CommandOn site c first mid
+    × CommandsOn mid cs later new × (told ≡ first ++ later)
 
 -- the site after an exchange: a lost answer leaves it
 abbrev pub after_arrival : Arrival → Site → Site → Site

@@ -17,13 +17,15 @@ IsWrongArrival kind last Never = ⊥
 
 -- Past its first moment an act stops for want of memory, with what it reads by the first of its
 -- commands, or at the moment of its delivery, with what it reads by all of them.
-abbrev pub StopsInside : FaultKind → ℤ → Arrival → List Reading → (List Reading → Type 0) → (List Reading → Type 0) → List Reading → Type 0
+abbrev pub StopsInside : FaultKind → ℤ → Arrival → List Reading → (List Reading → Type 0) → (List Reading → Type 0)
+    → List Reading → Type 0
 StopsInside kind last arrival old Front All readings =
     ((kind ≡ Memory) × GoesOnBy old Front readings)
     ⊎ (IsWrongArrival kind last arrival × GoesOnBy old All readings)
 
 -- An act stops at its first moment, with nothing read, or past it.
-abbrev pub StopsFrom : FaultKind → ℤ → Act → List Reading → (List Reading → Type 0) → (List Reading → Type 0) → List Reading → Type 0
+abbrev pub StopsFrom : FaultKind → ℤ → Act → List Reading → (List Reading → Type 0) → (List Reading → Type 0)
+    → List Reading → Type 0
 StopsFrom kind last act old Front All readings =
     (IsWrong kind last (opening_of act) × (readings ≡ old))
     ⊎ (Follows last (opening_of act) × StopsInside kind (opening_of act) (arrival_in act) old Front All readings)

@@ -1,5 +1,7 @@
 //! A play: one client, and the sites that it visits.
-ghost use Rattle.std.specs.Prelude.{◌≡◌, ◌++◌, List, map, string_bytes, IfOk, IfErr, OnOk, OnErr};
+ghost use Rattle.std.specs.Prelude.{◌≡◌, ◌≢◌, ◌⊎◌, ◌++◌, List, None, map, string_bytes, IfOk, IfErr, OnOk, OnErr};
+ghost use Rattle.std.specs.Prelude.{MatchResult};
+ghost use Rattle.std.specs.List.{AllByRecursion};
 ghost use Rattle.std.specs.Option.{option_to_list};
 ghost use Rattle.jiff.specs.Words.{civil_nanos};
 ghost use Rattle.cookie_run.specs.declared.step.Reading.{Reading};
@@ -8,7 +10,10 @@ ghost use Rattle.cookie_run.specs.Rows.{given, header_of, Takes};
 ghost use Rattle.cookie_run.specs.Acts.{acts_of, act_of, arrival_of, Arrives, moments_in, moments_of, arrival_moments};
 ghost use Rattle.cookie_run.specs.Stops.{StopsFrom, StopsInside, GoesOnBy};
 ghost use Rattle.cookie_run.specs.Jar.{Keyed};
-ghost use Rattle.cookie_run.specs.Play.{IsRun, IsRunUntil, SetTells, GetTells, CommandTells, Tells, TellsFront, Serves, ServesAll, ServesFront, OneStep, Delivers, ReadsFront, ReadsAll};
+ghost use Rattle.cookie_run.specs.Play.{IsRun, IsRunUntil, SetTells, GetTells, CommandTells, Tells, TellsFront, Serves};
+ghost use Rattle.cookie_run.specs.Play.{ServesAll, ServesFront, OneStep, Delivers, ReadsFront, ReadsAll};
+ghost use Rattle.cookie_run.specs.Readings.{MayRead, NeedsNoNonce, ActNeedsNoNonce};
+ghost use Rattle.cookie_run.specs.Site.{set_refusal};
 ghost use Rattle.cookie_run.specs.Headline.{SitesReadTheirOwn, SitesReadTheirOwnUntil};
 
 use crate::client::Client;
@@ -50,6 +55,9 @@ pub fn play<R: TryRng>(
         IsRunUntil key.now (acts_of steps.now) fault.step fault.kind fault.readings.items) }
     ensures sites_until { IfErr result (λ fault.
         SitesReadTheirOwnUntil (acts_of steps.now) fault.step fault.kind fault.readings.items) }
+    ensures failed { MatchResult result (λ readings. AllByRecursion (MayRead R.Error) readings.items)
+        (λ fault. AllByRecursion (MayRead R.Error) fault.readings.items) }
+    ensures unasked { AllByRecursion ActNeedsNoNonce (acts_of steps.now) → rng.new ≡ rng.old }
 {
     encoded_records_read_back();
     one_value();
@@ -87,6 +95,9 @@ fn act<R: TryRng>(
     ensures err { IfErr result (λ kind. StopsFrom kind (civil_nanos last.old) (act_of step.now)
         readings.old.items (ReadsFront key.now client.old (act_of step.now))
         (ReadsAll key.now client.old (act_of step.now)) readings.new.items) }
+    ensures failed { AllByRecursion (MayRead R.Error) readings.old.items
+        → AllByRecursion (MayRead R.Error) readings.new.items }
+    ensures unasked { ActNeedsNoNonce (act_of step.now) → rng.new ≡ rng.old }
 {
     match step {
         Step::Exchange {
@@ -137,6 +148,9 @@ fn exchange<R: TryRng>(
         (arrival_of delivery) readings.old.items
         (ServesFront key.now (header_of (given client.old url.now)) commands.now)
         (ServesAll key.now (header_of (given client.old url.now)) commands.now) readings.new.items) }
+    ensures failed { AllByRecursion (MayRead R.Error) readings.old.items
+        → AllByRecursion (MayRead R.Error) readings.new.items }
+    ensures unasked { AllByRecursion NeedsNoNonce commands.now → rng.new ≡ rng.old }
 {
     let header = client.header(url, *last)?;
     let mut session = Session::open(alloc, header.as_bytes(), copy_of(key))?;
@@ -219,6 +233,9 @@ fn obey_all<R: TryRng>(
         × Tells session.old commands.now told session.new) }
     ensures err { OnErr result
         (GoesOnBy readings.old.items (TellsFront session.old commands.now) readings.new.items) }
+    ensures failed { AllByRecursion (MayRead R.Error) readings.old.items
+        → AllByRecursion (MayRead R.Error) readings.new.items }
+    ensures unasked { AllByRecursion NeedsNoNonce commands.now → rng.new ≡ rng.old }
 {
     for command in commands {
         if let Some(reading) = obey(alloc, session, command, rng)? {
@@ -235,7 +252,9 @@ fn obey<R: TryRng>(
     command: &Command,
     rng: &mut R,
 ) -> Result<Option<Reading>, AllocError>
-    ensures { IfOk result (λ reading. CommandTells session.old command.now (option_to_list reading) session.new) }
+    ensures ok { IfOk result (λ reading. CommandTells session.old command.now (option_to_list reading) session.new) }
+    ensures failed { IfOk result (λ reading. AllByRecursion (MayRead R.Error) (option_to_list reading)) }
+    ensures unasked { NeedsNoNonce command.now → rng.new ≡ rng.old }
 {
     match command {
         Command::Set(way, cookie) => set(alloc, session, *way, cookie, rng),
@@ -251,7 +270,9 @@ fn set<R: TryRng>(
     cookie: &Cookie<'static>,
     rng: &mut R,
 ) -> Result<Option<Reading>, AllocError>
-    ensures { IfOk result (λ reading. SetTells session.old way cookie.now (option_to_list reading) session.new) }
+    ensures ok { IfOk result (λ reading. SetTells session.old way cookie.now (option_to_list reading) session.new) }
+    ensures failed { IfOk result (λ reading. AllByRecursion (MayRead R.Error) (option_to_list reading)) }
+    ensures unasked { (way ≢ Way.Sealed) ⊎ (set_refusal way cookie.now.cookie ≢ None) → rng.new ≡ rng.old }
 {
     let cookie = cookie.clone(alloc)?;
     match session.set(way, cookie, rng) {

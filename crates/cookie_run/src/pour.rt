@@ -1,5 +1,5 @@
 //! All that a source has, and all of a text to a sink. A call that fails isn't tried again.
-ghost use Rattle.std.specs.Prelude.{◌≡◌, ◌⊎◌, ◌^◌, ◌-◌, IfOk, OnOk, OnErr, IfSome, IsErrOf, decimal, length, ◌<◌};
+ghost use Rattle.std.specs.Prelude.{◌≡◌, ◌⊎◌, ◌^◌, ◌-◌, IfOk, IsOk, OnOk, OnErr, IfSome, IsErrOf, decimal, length, ◌<◌};
 ghost use Rattle.std.specs.Io.KnownBytes.{Appends, Keeps};
 ghost use Rattle.cookie_run.specs.Device.{Rose, one_more};
 
@@ -19,6 +19,7 @@ pub enum Stop {
 pub fn read_all<R: Source>(alloc: Global, reader: &mut R) -> Result<Vec<u8>, Stop>
     ensures bytes { IfOk result (λ all. IfSome (R.left reader.old) (λ input. all.items ≡ input)) }
     ensures memory { IsErrOf result Stop.Memory → IfSome (R.left reader.old) (λ input. 0 < length input) }
+    ensures failures { IsOk result ⊎ IsErrOf result Stop.Memory → R.failures reader.new ≡ R.failures reader.old }
     ensures read { IsErrOf result Stop.Read
         → Rose (R.failures reader.old) (R.failures reader.new) ⊎ (R.reads reader.new ≡ 2 ^ 64 - 1) }
 {
@@ -81,6 +82,7 @@ pub fn flush<W: Sink>(writer: &mut W) -> Result<(), WriteFailed>
     ensures failures { OnOk result (W.failures writer.new ≡ W.failures writer.old) }
     ensures err { OnErr result (Rose (W.failures writer.old) (W.failures writer.new)) }
     ensures flushes { W.flushes writer.new ≡ one_more (W.flushes writer.old) }
+    ensures unflushed { OnOk result (W.unflushed writer.new ≡ 0) }
 {
     match writer.flush() {
         Ok(()) => Ok(()),

@@ -1,5 +1,5 @@
 //! The program: a script from a reader, played to a writer.
-ghost use Rattle.std.specs.Prelude.{◌≡◌, ◌⊎◌, ◌^◌, ◌-◌, ℕ, List, IfSome};
+ghost use Rattle.std.specs.Prelude.{◌≡◌, ◌⊎◌, ◌^◌, ◌-◌, ℕ, List, IfSome, IsNone};
 ghost use Rattle.std.specs.Option.{option_map};
 ghost use Rattle.std.specs.Io.KnownBytes.{Appends};
 ghost use Rattle.cookie_run.specs.Device.{Rose};
@@ -30,11 +30,14 @@ pub fn program<R: Source, W: Sink>(
     reader: &mut R,
     writer: &mut W,
 ) -> (u8, Option<&'static str>)
-    ensures { Answers result.0 (option_map (λ words. words.now) result.1)
+    ensures answers { Answers result.0 (option_map (λ words. words.now) result.1)
         (λ ended. IfSome (R.left reader.old) (λ input. (output : List ℕ)
         × Appends (W.written writer.old) (W.written writer.new) output × IsScriptOf input output ended))
         (Rose (R.failures reader.old) (R.failures reader.new) ⊎ (R.reads reader.new ≡ 2 ^ 64 - 1))
         (Rose (W.failures writer.old) (W.failures writer.new)) }
+    ensures failures { IsNone result.1 → (R.failures reader.new ≡ R.failures reader.old)
+        × (W.failures writer.new ≡ W.failures writer.old) }
+    ensures unflushed { IsNone result.1 → W.unflushed writer.new ≡ 0 }
 {
     let key = Key::derive_from(&SEED);
     let mut rng = ChaCha20Rng::from_seed(SEED);

@@ -38,12 +38,15 @@ pub fn run<R: Source, W: Sink, G: TryRng>(
 ) -> Result<Ended, RunError>
     ensures text { IfOk result (λ ended. IfSome (R.left reader.old) (λ input. (output : List ℕ)
         × Appends (W.written writer.old) (W.written writer.new) output
-        × Runs key.now client.old (civil_nanos last.old) input output
+        × Runs G.Error key.now client.old (civil_nanos last.old) input output
         client.new (civil_nanos last.new) ended)) }
     ensures read { IsErrOf result RunError.Read
         → Rose (R.failures reader.old) (R.failures reader.new) ⊎ (R.reads reader.new ≡ 2 ^ 64 - 1) }
     ensures write { IsErrOf result RunError.Write → Rose (W.failures writer.old) (W.failures writer.new) }
+    ensures failures { OnOk result ((R.failures reader.new ≡ R.failures reader.old)
+        × (W.failures writer.new ≡ W.failures writer.old)) }
     ensures flushed { OnOk result (W.flushes writer.new ≡ one_more (W.flushes writer.old)) }
+    ensures unflushed { OnOk result (W.unflushed writer.new ≡ 0) }
 {
     match read_all(alloc, reader) {
         Ok(input) => play_text(alloc, &input, writer, client, last, key, rng),
@@ -64,12 +67,13 @@ fn play_text<W: Sink, G: TryRng>(
 ) -> Result<Ended, RunError>
     ensures text { IfOk result (λ ended. (output : List ℕ)
         × Appends (W.written writer.old) (W.written writer.new) output
-        × Runs key.now client.old (civil_nanos last.old) text.now output
+        × Runs G.Error key.now client.old (civil_nanos last.old) text.now output
         client.new (civil_nanos last.new) ended) }
     ensures failures { OnOk result (W.failures writer.new ≡ W.failures writer.old) }
     ensures write { OnErr result (Rose (W.failures writer.old) (W.failures writer.new)) }
     ensures only { IfErr result (λ e. e ≡ RunError.Write) }
     ensures flushed { OnOk result (W.flushes writer.new ≡ one_more (W.flushes writer.old)) }
+    ensures unflushed { OnOk result (W.unflushed writer.new ≡ 0) }
 {
     let mut visit = None;
     let mut done = 0;
@@ -95,6 +99,7 @@ fn stop_at<W: Sink>(writer: &mut W, line: u64, cause: Cause) -> Result<Ended, Ru
     ensures write { OnErr result (Rose (W.failures writer.old) (W.failures writer.new)) }
     ensures only { IfErr result (λ e. e ≡ RunError.Write) }
     ensures flushed { OnOk result (W.flushes writer.new ≡ one_more (W.flushes writer.old)) }
+    ensures unflushed { OnOk result (W.unflushed writer.new ≡ 0) }
 {
     write_all(writer, b"line ")?;
     write_number(writer, line)?;

@@ -3,7 +3,7 @@
 //! Each function answers what its line prints. A line with a fault is not done: the last moment
 //! stays, and so do the rows, but for the lines of an answer before the one at which memory was
 //! refused.
-ghost use Rattle.std.specs.Prelude.{◌≡◌, ℕ, ℤ, List, IfOk, IfErr, OnErr, string_bytes, map};
+ghost use Rattle.std.specs.Prelude.{◌≡◌, length, ◌<◌, ℕ, ℤ, List, IfOk, IfErr, OnErr, string_bytes, map};
 ghost use Rattle.jiff.specs.Words.{civil_nanos};
 ghost use Rattle.cookie_text.specs.Record.{bare, unsliced};
 ghost use Rattle.cookie_run.specs.Jar.{ClosesWith};
@@ -48,9 +48,10 @@ pub fn follow<G: TryRng>(
     ensures ok { IfOk result (λ text. Goes key.now (λ r. after_line r line.now)
         client.old (civil_nanos last.old) visit.old
         client.new (civil_nanos last.new) visit.new (string_bytes text)) }
-    ensures err { IfErr result (λ cause. Halts key.now (λ r. after_line r line.now)
+    ensures err { IfErr result (λ cause. Halts G.Error key.now (λ r. after_line r line.now)
         client.old (civil_nanos last.old) visit.old cause client.new) }
     ensures last { OnErr result (last.new ≡ last.old) }
+    ensures asks { OnErr result (0 < length line.now) }
 {
     if line.is_empty() {
         return Ok(String::new(alloc));
@@ -78,7 +79,7 @@ fn obey<G: TryRng>(
     ensures ok { IfOk result (λ text. Obeys key.now (line_of line)
         client.old (civil_nanos last.old) visit.old
         client.new (civil_nanos last.new) visit.new (string_bytes text)) }
-    ensures err { IfErr result (λ cause. Balks key.now (line_of line)
+    ensures err { IfErr result (λ cause. Balks G.Error key.now (line_of line)
         client.old (civil_nanos last.old) visit.old cause client.new) }
     ensures last { OnErr result (last.new ≡ last.old) }
 {
@@ -106,7 +107,7 @@ fn begin(
     ensures ok { IfOk result (λ text. Obeys key.now (spec.Opens url (civil_nanos at))
         client.now (civil_nanos last.old) visit.old
         client.now (civil_nanos last.new) visit.new (string_bytes text)) }
-    ensures err { IfErr result (λ cause. Balks key.now (spec.Opens url (civil_nanos at))
+    ensures err { IfErr result (λ cause. Balks ⊥ key.now (spec.Opens url (civil_nanos at))
         client.now (civil_nanos last.old) visit.old cause client.now) }
     ensures last { OnErr result (last.new ≡ last.old) }
 {
@@ -135,7 +136,7 @@ fn set<G: TryRng>(
         rows last visit.old rows last visit.new (string_bytes text)) }
     ensures err { IfErr result
         (λ cause. (key : List ℕ) (rows : List Row) (last : ℤ)
-        → Balks key (spec.Commands (Set way (unsliced (bare name value))))
+        → Balks G.Error key (spec.Commands (Set way (unsliced (bare name value))))
         rows last visit.old cause rows) }
 {
     let Some(Visit { url, mut session }) = visit.take() else {
@@ -161,7 +162,7 @@ fn get(alloc: Global, way: Way, name: &Text, visit: &Option<Visit>) -> Result<St
         rows last visit.now rows last visit.now (string_bytes text)) }
     ensures err { IfErr result
         (λ cause. (key : List ℕ) (rows : List Row) (last : ℤ)
-        → Balks key (spec.Commands (Get way name.now))
+        → Balks ⊥ key (spec.Commands (Get way name.now))
         rows last visit.now cause rows) }
 {
     let Some(open) = visit else {
@@ -197,7 +198,7 @@ fn deliver(
     ensures ok { IfOk result (λ text. (key : List ℕ) → Obeys key (spec.Delivers (civil_nanos at))
         client.old (civil_nanos last.old) visit.old
         client.new (civil_nanos last.new) visit.new (string_bytes text)) }
-    ensures err { IfErr result (λ cause. (key : List ℕ) → Balks key (spec.Delivers (civil_nanos at))
+    ensures err { IfErr result (λ cause. (key : List ℕ) → Balks ⊥ key (spec.Delivers (civil_nanos at))
         client.old (civil_nanos last.old) visit.old cause client.new) }
     ensures last { OnErr result (last.new ≡ last.old) }
 {
@@ -220,7 +221,7 @@ fn lose(alloc: Global, visit: &mut Option<Visit>) -> Result<String, Cause>
         (λ text. (key : List ℕ) (rows : List Row) (last : ℤ) → Obeys key spec.Loses
         rows last visit.old rows last visit.new (string_bytes text)) }
     ensures err { IfErr result
-        (λ cause. (key : List ℕ) (rows : List Row) (last : ℤ) → Balks key spec.Loses
+        (λ cause. (key : List ℕ) (rows : List Row) (last : ℤ) → Balks ⊥ key spec.Loses
         rows last visit.old cause rows) }
 {
     if visit.is_none() {
@@ -247,7 +248,7 @@ fn receive(
         client.new (civil_nanos last.new) visit.now (string_bytes text)) }
     ensures err { IfErr result
         (λ cause. (key : List ℕ)
-        → Balks key (spec.Receives url.now (map (λ line. line.items) lines.now) (civil_nanos at))
+        → Balks ⊥ key (spec.Receives url.now (map (λ line. line.items) lines.now) (civil_nanos at))
         client.old (civil_nanos last.old) visit.now cause client.new) }
     ensures last { OnErr result (last.new ≡ last.old) }
 {
@@ -276,7 +277,7 @@ fn header(
         client.now (civil_nanos last.old) visit.now
         client.now (civil_nanos last.new) visit.now (string_bytes text)) }
     ensures err { IfErr result
-        (λ cause. (key : List ℕ) → Balks key (spec.Heads url.now (civil_nanos at))
+        (λ cause. (key : List ℕ) → Balks ⊥ key (spec.Heads url.now (civil_nanos at))
         client.now (civil_nanos last.old) visit.now cause client.now) }
     ensures last { OnErr result (last.new ≡ last.old) }
 {

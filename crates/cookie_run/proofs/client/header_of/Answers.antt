@@ -10,11 +10,16 @@ pub loop-row-preserved : goal.loop-row-preserved
 loop-row-preserved c =
     elim c.if-eq.branch [
       | then-eq+in_ok-push_pair w ↦
-          let own : bytes_eq c.row-item.result.host c.args.host.now ≡ true = subst (λ n. bytes_eq n c.args.host.now ≡ true) c.as_str.ensures.value (sym c.eq.ensures ∙ w.if-eq.true) in
-          ap string_bytes w.text-is ∙ (w.in_ok-push_pair.ensures ∙ (ap (λ t. with_pair t c.row-item.result) c.loop-row.invariant
-          ∙ sym (header_next c.args.host.now c.args.rows.now c.loop-row.row-index c.row-item.result c.loop-row-test.true c.row-item.is own)))
+          let own : bytes_eq c.row-item.result.host c.args.host.now ≡ true = subst
+          (λ n. bytes_eq n c.args.host.now ≡ true) c.as_str.ensures.value (sym c.eq.ensures ∙ w.if-eq.true) in
+          ap string_bytes w.text-is ∙ (w.in_ok-push_pair.ensures
+          ∙ (ap (λ t. with_pair t c.row-item.result) c.loop-row.invariant
+          ∙ sym (header_next c.args.host.now c.args.rows.now c.loop-row.row-index c.row-item.result c.loop-row-test.true
+          c.row-item.is own)))
       | else-eq w ↦
-          let other : bytes_eq c.row-item.result.host c.args.host.now ≡ false = subst (λ n. bytes_eq n c.args.host.now ≡ false) c.as_str.ensures.value (sym c.eq.ensures ∙ w.if-eq.false) in
+          let other : bytes_eq c.row-item.result.host c.args.host.now ≡ false = subst
+          (λ n. bytes_eq n c.args.host.now ≡ false) c.as_str.ensures.value (sym c.eq.ensures ∙ w.if-eq.false) in
           ap string_bytes w.text-is ∙ (c.loop-row.invariant
-          ∙ sym (header_past c.args.host.now c.args.rows.now c.loop-row.row-index c.row-item.result c.loop-row-test.true c.row-item.is other))
+          ∙ sym (header_past c.args.host.now c.args.rows.now c.loop-row.row-index c.row-item.result c.loop-row-test.true
+          c.row-item.is other))
     ]

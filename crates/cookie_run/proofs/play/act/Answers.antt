@@ -8,31 +8,53 @@ use Rattle.cookie_run.proofs.play.act.Goals as goal
 pub returns-in_err-lines-in-Foreign-clause-err : goal.returns-in_err-lines-in-Foreign-clause-err
 returns-in_err-lines-in-Foreign-clause-err g c =
     err_gives c.from_residual-in_err-lines-in-Foreign.result _ _ c.from_residual-in_err-lines-in-Foreign.ensures
-    (λ kind e. rw c.in-Foreign.is (inr (c.in_ok-come_to-in-Foreign.ensures.ok.0, inl (e, ([], refl, sym (readings_nil _))))))
+    (λ kind e. rw c.in-Foreign.is (inr (
+      c.in_ok-come_to-in-Foreign.ensures.ok.0,
+      inl
+          (e, ([], refl, sym (readings_nil _))),
+    )))
 
 pub returns-in_err-header-in-Header-clause-err : goal.returns-in_err-header-in-Header-clause-err
 returns-in_err-header-in-Header-clause-err g c =
     err_gives c.from_residual-in_err-header-in-Header.result _ _ c.from_residual-in_err-header-in-Header.ensures
-    (λ kind e. rw c.in-Header.is (inr (c.in_ok-come_to-in-Header.ensures.ok.0, inl (e, ([], refl, sym (readings_nil _))))))
+    (λ kind e. rw c.in-Header.is (inr (
+      c.in_ok-come_to-in-Header.ensures.ok.0,
+      inl
+          (e, ([], refl, sym (readings_nil _))),
+    )))
 
 pub returns-in_err-push-in-Header-clause-err : goal.returns-in_err-push-in-Header-clause-err
 returns-in_err-push-in-Header-clause-err g c =
     err_gives c.from_residual-in_err-push-in-Header.result _ _ c.from_residual-in_err-push-in-Header.ensures
-    (λ kind e. rw c.in-Header.is (inr (c.in_ok-come_to-in-Header.ensures.ok.0, inl (e, ([], refl, c.in_err-push-in-Header.ensures.items ∙ sym (readings_nil _))))))
+    (λ kind e. rw c.in-Header.is (inr (
+      c.in_ok-come_to-in-Header.ensures.ok.0,
+      inl
+          (e, ([], refl, c.in_err-push-in-Header.ensures.items ∙ sym (readings_nil _))),
+    )))
 
 pub returns-in_ok-come_to-in-Exchange-clause-step : goal.returns-in_ok-come_to-in-Exchange-clause-step
 returns-in_ok-come_to-in-Exchange-clause-step g c =
-    rw (c.in-Exchange.is, sym c.deref.ensures.value) (on_ok c.exchange.result _ _ (λ t. (t.0, t.1, (t.2, t.3, t.4))) c.exchange.ensures.rows)
+    rw (c.in-Exchange.is, sym c.deref.ensures.value) (on_ok c.exchange.result _ _
+    (λ t. (t.0, t.1, (t.2, t.3, t.4))) c.exchange.ensures.rows)
 
 pub returns-in_ok-come_to-in-Exchange-clause-err : goal.returns-in_ok-come_to-in-Exchange-clause-err
 returns-in_ok-come_to-in-Exchange-clause-err g c =
-    rw (c.in-Exchange.is, sym c.deref.ensures.value) (IfErr-weaker c.exchange.result _ _ (λ kind s. inr (c.in_ok-come_to-in-Exchange.ensures.ok.0, rw (sym c.in_ok-come_to-in-Exchange.ensures.ok.1) s)) c.exchange.ensures.err)
+    rw (c.in-Exchange.is, sym c.deref.ensures.value) (IfErr-weaker c.exchange.result _ _
+    (λ kind s. inr (c.in_ok-come_to-in-Exchange.ensures.ok.0, rw (sym c.in_ok-come_to-in-Exchange.ensures.ok.1) s))
+    c.exchange.ensures.err)
 
 pub returns-in_ok-lines-in-Foreign-clause-step : goal.returns-in_ok-lines-in-Foreign-clause-step
 returns-in_ok-lines-in-Foreign-clause-step g c =
-    let lines = ap (map (λ line. line.now)) c.deref-in-Foreign-2.ensures.value ∙ (c.in_ok-lines-in-Foreign.ensures ∙ ap (map (λ line. line.items)) c.deref-in-Foreign.ensures.value) in
-    rw c.in-Foreign.is (on_ok c.receive.result _ _ (λ takes. ([], sym (readings_nil _), (refl, subst (λ ls. Takes c.args.client.now c.in-Foreign.url ls c.receive.new.client) lines takes))) c.receive.ensures.rows)
+    let lines = ap (map (λ line. line.now)) c.deref-in-Foreign-2.ensures.value
+    ∙ (c.in_ok-lines-in-Foreign.ensures ∙ ap (map (λ line. line.items)) c.deref-in-Foreign.ensures.value) in
+    rw c.in-Foreign.is (on_ok c.receive.result _ _ (λ takes. (
+      [],
+      sym (readings_nil _),
+      (refl, subst (λ ls. Takes c.args.client.now c.in-Foreign.url ls c.receive.new.client) lines takes),
+    ))
+    c.receive.ensures.rows)
 
 pub returns-in_ok-lines-in-Foreign-clause-err : goal.returns-in_ok-lines-in-Foreign-clause-err
 returns-in_ok-lines-in-Foreign-clause-err g c =
-    rw c.in-Foreign.is (IfErr-weaker c.receive.result _ _ (λ kind e. inr (c.in_ok-come_to-in-Foreign.ensures.ok.0, inl (e, ([], refl, sym (readings_nil _))))) c.receive.ensures.err)
+    rw c.in-Foreign.is (IfErr-weaker c.receive.result _ _ (λ kind e. inr
+    (c.in_ok-come_to-in-Foreign.ensures.ok.0, inl (e, ([], refl, sym (readings_nil _))))) c.receive.ensures.err)

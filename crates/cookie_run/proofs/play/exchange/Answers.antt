@@ -13,46 +13,68 @@ returns-in_err-header-clause-err g c =
 
 pub returns-in_err-session-clause-err : goal.returns-in_err-session-clause-err
 returns-in_err-session-clause-err g c =
-    err_gives c.from_residual-in_err-session.result _ _ c.from_residual-in_err-session.ensures (λ kind e. inl (e, serves_none _ _ _ _ _ refl))
+    err_gives c.from_residual-in_err-session.result _ _ c.from_residual-in_err-session.ensures
+    (λ kind e. inl (e, serves_none _ _ _ _ _ refl))
 
 pub returns-in_err-obey_all-clause-err : goal.returns-in_err-obey_all-clause-err
 returns-in_err-obey_all-clause-err g c =
     let header : List ℕ = header_of (given c.args.client.now c.args.url.now) in
-    let opened : IsOpened c.args.key.now header c.in_ok-session.session = subst (λ k. IsOpened k header c.in_ok-session.session) c.copy_of.ensures
-    (subst (λ h. IsOpened c.copy_of.result h c.in_ok-session.session) (c.as_bytes.ensures.value ∙ c.in_ok-header.ensures) c.in_ok-session.ensures) in
+    let opened : IsOpened c.args.key.now header c.in_ok-session.session = subst
+    (λ k. IsOpened k header c.in_ok-session.session) c.copy_of.ensures
+    (subst (λ h. IsOpened c.copy_of.result h c.in_ok-session.session)
+    (c.as_bytes.ensures.value ∙ c.in_ok-header.ensures) c.in_ok-session.ensures) in
     err_gives c.from_residual-in_err-obey_all.result _ _ c.from_residual-in_err-obey_all.ensures
     (λ kind e. inl (e, serves_front _ _ c.in_ok-session.session _ _ _ opened c.in_err-obey_all.ensures.err))
 
 pub returns-in-Lost-clause-rows : goal.returns-in-Lost-clause-rows
 returns-in-Lost-clause-rows g c =
     let header : List ℕ = header_of (given c.args.client.now c.args.url.now) in
-    let opened : IsOpened c.args.key.now header c.in_ok-session.session = subst (λ k. IsOpened k header c.in_ok-session.session) c.copy_of.ensures
-    (subst (λ h. IsOpened c.copy_of.result h c.in_ok-session.session) (c.as_bytes.ensures.value ∙ c.in_ok-header.ensures) c.in_ok-session.ensures) in
+    let opened : IsOpened c.args.key.now header c.in_ok-session.session = subst
+    (λ k. IsOpened k header c.in_ok-session.session) c.copy_of.ensures
+    (subst (λ h. IsOpened c.copy_of.result h c.in_ok-session.session)
+    (c.as_bytes.ensures.value ∙ c.in_ok-header.ensures) c.in_ok-session.ensures) in
     let told = c.in_ok-obey_all.ensures.ok in
     rw c.in-Lost.is (told.0, told.1, c.obey_all.new.session, (c.in_ok-session.session, opened, told.2), refl)
 
 pub returns-in_err-come_to-in-At-clause-err : goal.returns-in_err-come_to-in-At-clause-err
 returns-in_err-come_to-in-At-clause-err g c =
     let header : List ℕ = header_of (given c.args.client.now c.args.url.now) in
-    let opened : IsOpened c.args.key.now header c.in_ok-session.session = subst (λ k. IsOpened k header c.in_ok-session.session) c.copy_of.ensures
-    (subst (λ h. IsOpened c.copy_of.result h c.in_ok-session.session) (c.as_bytes.ensures.value ∙ c.in_ok-header.ensures) c.in_ok-session.ensures) in
+    let opened : IsOpened c.args.key.now header c.in_ok-session.session = subst
+    (λ k. IsOpened k header c.in_ok-session.session) c.copy_of.ensures
+    (subst (λ h. IsOpened c.copy_of.result h c.in_ok-session.session)
+    (c.as_bytes.ensures.value ∙ c.in_ok-header.ensures) c.in_ok-session.ensures) in
     err_gives c.from_residual-in_err-come_to-in-At.result _ _ c.from_residual-in_err-come_to-in-At.ensures
     (λ kind e. rw c.in-At.is (inr (
-      subst (λ k. IsWrong k (civil_nanos c.args.last.now) (civil_nanos c.in-At.moment)) (sym e) c.in_err-come_to-in-At.ensures.err.0,
+      subst (λ k. IsWrong k (civil_nanos c.args.last.now) (civil_nanos c.in-At.moment))
+          (sym e) c.in_err-come_to-in-At.ensures.err.0,
       serves_all _ _ c.in_ok-session.session _ _ _ _ opened c.in_ok-obey_all.ensures.ok,
     )))
 
 pub returns-clause-rows : goal.returns-clause-rows
 returns-clause-rows g c =
     let header : List ℕ = header_of (given c.args.client.now c.args.url.now) in
-    let opened : IsOpened c.args.key.now header c.in_ok-session.session = subst (λ k. IsOpened k header c.in_ok-session.session) c.copy_of.ensures
-    (subst (λ h. IsOpened c.copy_of.result h c.in_ok-session.session) (c.as_bytes.ensures.value ∙ c.in_ok-header.ensures) c.in_ok-session.ensures) in
+    let opened : IsOpened c.args.key.now header c.in_ok-session.session = subst
+    (λ k. IsOpened k header c.in_ok-session.session) c.copy_of.ensures
+    (subst (λ h. IsOpened c.copy_of.result h c.in_ok-session.session)
+    (c.as_bytes.ensures.value ∙ c.in_ok-header.ensures) c.in_ok-session.ensures) in
     let told = c.in_ok-obey_all.ensures.ok in
-    rw c.in-At.is (on_ok c.deliver.result _ _ (λ d. (told.0, told.1, c.obey_all.new.session, (c.in_ok-session.session, opened, told.2), d)) c.deliver.ensures.rows)
+    rw c.in-At.is (on_ok c.deliver.result _ _ (λ d. (
+      told.0,
+      told.1,
+      c.obey_all.new.session,
+      (c.in_ok-session.session, opened, told.2),
+      d,
+    )) c.deliver.ensures.rows)
 
 pub returns-clause-err : goal.returns-clause-err
 returns-clause-err g c =
     let header : List ℕ = header_of (given c.args.client.now c.args.url.now) in
-    let opened : IsOpened c.args.key.now header c.in_ok-session.session = subst (λ k. IsOpened k header c.in_ok-session.session) c.copy_of.ensures
-    (subst (λ h. IsOpened c.copy_of.result h c.in_ok-session.session) (c.as_bytes.ensures.value ∙ c.in_ok-header.ensures) c.in_ok-session.ensures) in
-    IfErr-weaker c.deliver.result _ _ (λ kind e. inl (e, serves_whole _ _ c.in_ok-session.session _ _ _ _ opened c.in_ok-obey_all.ensures.ok)) c.deliver.ensures.err
+    let opened : IsOpened c.args.key.now header c.in_ok-session.session = subst
+    (λ k. IsOpened k header c.in_ok-session.session) c.copy_of.ensures
+    (subst (λ h. IsOpened c.copy_of.result h c.in_ok-session.session)
+    (c.as_bytes.ensures.value ∙ c.in_ok-header.ensures) c.in_ok-session.ensures) in
+    IfErr-weaker c.deliver.result _ _ (λ kind e. inl (
+      e,
+      serves_whole _ _ c.in_ok-session.session _ _ _ _ opened
+          c.in_ok-obey_all.ensures.ok,
+    )) c.deliver.ensures.err

@@ -1,21 +1,28 @@
-use Rattle.std.proofs.Common.{[], ap, length, sym, ◌∙◌}
+use Rattle.std.proofs.Common.{[], ap, length, sym, subst, refl, ◌∙◌}
+use Rattle.std.specs.List.{AllByRecursion}
+use Rattle.cookie_run.specs.Readings.{MayRead, ActNeedsNoNonce}
 use Rattle.jiff.specs.Words.{civil_nanos}
 use Rattle.cookie_run.proofs.SiteStep.{OnlyOne}
-use Rattle.cookie_run.proofs.Runs.{run_more}
+use Rattle.cookie_run.proofs.Runs.{act_at, run_more}
 use Rattle.cookie_run.proofs.Ends.{follow_next, run_until, sites_until, sites_all}
 use Rattle.cookie_run.proofs.play.play.Goals as goal
 
 pub loop-i-init : goal.loop-i-init
 loop-i-init g c = record {
-  run = ([], c.new-readings.ensures.items, c.new-client.ensures);
-  moments = tt;
-  last = c.beginning-last.ensures;
+  before = record {
+    run = ([], c.new-readings.ensures.items, c.new-client.ensures);
+    moments = tt;
+    last = c.beginning-last.ensures;
+  };
+  failed = subst (AllByRecursion (MayRead g.row.R-Error.Denot)) (sym c.new-readings.ensures.items) tt;
+  unasked = λ h. refl;
 }
 
 pub returns-in-Err-clause-run_until : goal.returns-in-Err-clause-run_until
 returns-in-Err-clause-run_until g c =
-    run_until c.args.key.now c.args.steps.now c.loop-i.i c.index-steps-i.result c.loop-i.client c.loop-i.readings.items c.act.new.readings.items (civil_nanos c.loop-i.last) c.in-Err.kind
-    c.loop-i-test.true c.index-steps-i.is c.loop-i.invariant c.in-Err.ensures.err
+    run_until c.args.key.now c.args.steps.now c.loop-i.i c.index-steps-i.result c.loop-i.client c.loop-i.readings.items
+    c.act.new.readings.items (civil_nanos c.loop-i.last) c.in-Err.kind
+    c.loop-i-test.true c.index-steps-i.is c.loop-i.invariant.before c.in-Err.ensures.err
 
 pub returns-in-Err-clause-sites_until : goal.returns-in-Err-clause-sites_until
 returns-in-Err-clause-sites_until g c =
@@ -27,18 +34,27 @@ returns-in-Err-clause-sites_until g c =
       signed_text = c.texts_are_utf8.ensures.signed;
       sealed_text = c.texts_are_utf8.ensures.sealed;
     } in
-    sites_until c.encoded_records_read_back.ensures c.args.key.now c.args.steps.now c.loop-i.i c.index-steps-i.result c.loop-i.client c.loop-i.readings.items c.act.new.readings.items (civil_nanos c.loop-i.last) c.in-Err.kind
-    one c.loop-i-test.true c.index-steps-i.is c.loop-i.invariant c.in-Err.ensures.err
+    sites_until c.encoded_records_read_back.ensures c.args.key.now c.args.steps.now c.loop-i.i c.index-steps-i.result
+    c.loop-i.client c.loop-i.readings.items c.act.new.readings.items (civil_nanos c.loop-i.last) c.in-Err.kind
+    one c.loop-i-test.true c.index-steps-i.is c.loop-i.invariant.before c.in-Err.ensures.err
 
 pub loop-i-preserved : goal.loop-i-preserved
 loop-i-preserved g c =
-    let moments = follow_next c.args.steps.now c.loop-i.i c.index-steps-i.result (civil_nanos c.loop-i.last) (civil_nanos c.act.new.last) c.loop-i-test.true c.index-steps-i.is
-    c.loop-i.invariant.moments c.loop-i.invariant.last c.in_default.ensures.moments in
+    let moments = follow_next c.args.steps.now c.loop-i.i c.index-steps-i.result (civil_nanos c.loop-i.last)
+    (civil_nanos c.act.new.last) c.loop-i-test.true c.index-steps-i.is
+    c.loop-i.invariant.before.moments c.loop-i.invariant.before.last c.in_default.ensures.moments in
     record {
-      run = run_more c.args.key.now [] c.loop-i.client c.act.new.client c.args.steps.now c.loop-i.i c.index-steps-i.result [] c.loop-i.readings.items c.act.new.readings.items
-          c.loop-i-test.true c.index-steps-i.is c.loop-i.invariant.run c.in_default.ensures.step;
-      moments = moments.0;
-      last = moments.1;
+      before = record {
+        run = run_more c.args.key.now [] c.loop-i.client c.act.new.client c.args.steps.now c.loop-i.i
+            c.index-steps-i.result [] c.loop-i.readings.items c.act.new.readings.items
+            c.loop-i-test.true c.index-steps-i.is c.loop-i.invariant.before.run c.in_default.ensures.step;
+        moments = moments.0;
+        last = moments.1;
+      };
+      failed = c.act.ensures.failed c.loop-i.invariant.failed;
+      unasked = λ all. c.act.ensures.unasked (act_at ActNeedsNoNonce c.args.steps.now c.loop-i.i c.index-steps-i.result
+          c.loop-i-test.true c.index-steps-i.is all)
+          ∙ c.loop-i.invariant.unasked all;
     }
 
 pub returns-clause-sites : goal.returns-clause-sites
@@ -51,4 +67,11 @@ returns-clause-sites g c =
       signed_text = c.texts_are_utf8.ensures.signed;
       sealed_text = c.texts_are_utf8.ensures.sealed;
     } in
-    sites_all c.encoded_records_read_back.ensures c.args.key.now c.args.steps.now c.loop-i.i c.loop-i.client c.loop-i.readings.items _ one c.loop-i-test.false c.loop-i.invariant
+    sites_all c.encoded_records_read_back.ensures c.args.key.now c.args.steps.now c.loop-i.i c.loop-i.client
+    c.loop-i.readings.items _ one c.loop-i-test.false c.loop-i.invariant.before
+
+pub returns-in-Err-clause-unasked : goal.returns-in-Err-clause-unasked
+returns-in-Err-clause-unasked g c =
+    λ all. c.act.ensures.unasked (act_at ActNeedsNoNonce c.args.steps.now c.loop-i.i c.index-steps-i.result
+    c.loop-i-test.true c.index-steps-i.is all)
+    ∙ c.loop-i.invariant.unasked all

@@ -1,6 +1,14 @@
+use Rattle.std.proofs.Common.{◌≡◌}
+use Rattle.std.specs.List.{AllByRecursion}
 use Rattle.jiff.specs.Words.{civil_nanos}
+use Rattle.cookie_run.specs.Acts.{acts_of}
+use Rattle.cookie_run.specs.Readings.{MayRead, ActNeedsNoNonce}
 use Rattle.cookie_run.proofs.Ends.{Before}
 use Rattle.cookie_run.proofs.play.play.Given as goal
 
 abbrev pub invariant-loop-i : goal.invariant-loop-i
-invariant-loop-i g l = Before l.key l.steps l.i l.client l.readings.items (civil_nanos l.last)
+invariant-loop-i g l = record {
+  before : Before l.key l.steps l.i l.client l.readings.items (civil_nanos l.last);
+  failed : AllByRecursion (MayRead g.row.R-Error.Denot) l.readings.items;
+  unasked : AllByRecursion ActNeedsNoNonce (acts_of l.steps) → l.rng ≡ l.fn.rng;
+}

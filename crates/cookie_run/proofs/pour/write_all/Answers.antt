@@ -9,7 +9,12 @@ loop-rest-preserved g c =
     let rest = c.loop-rest.rest.now in
     let n = c.in-Ok.n in
     record {
-      bytes = (done ++ take n rest, moves_front _ done rest n split, Appends-trans _ _ _ _ _ appended c.in-Ok.ensures.bytes);
+      bytes = (
+        done ++ take n rest,
+        moves_front _ done rest n split,
+        Appends-trans _ _ _ _ _ appended
+            c.in-Ok.ensures.bytes,
+      );
       failures = wrote n (length rest) _ _ (omega arith) c.in-Ok.ensures.failures ∙ c.loop-rest.invariant.failures;
       flushes = c.write.ensures.flushes ∙ c.loop-rest.invariant.flushes;
     }

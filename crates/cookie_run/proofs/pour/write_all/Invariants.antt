@@ -4,7 +4,8 @@ use Rattle.cookie_run.proofs.pour.write_all.Given as goal
 
 abbrev pub invariant-loop-rest : goal.invariant-loop-rest
 invariant-loop-rest g l = record {
-  bytes : (done : List ℕ) × (l.fn.bytes ≡ done ++ l.rest) × Appends (g.W.Sink.written l.fn.writer) (g.W.Sink.written l.writer) done;
+  bytes : (done : List ℕ) × (l.fn.bytes ≡ done ++ l.rest) × Appends (g.W.Sink.written l.fn.writer)
+      (g.W.Sink.written l.writer) done;
   failures : g.W.Failing.failures l.writer ≡ g.W.Failing.failures l.fn.writer;
   flushes : g.W.Sink.flushes l.writer ≡ g.W.Sink.flushes l.fn.writer;
 }

@@ -1,16 +1,38 @@
 use Rattle.std.proofs.Common.{◌≡◌, refl, inl, inr}
+use Rattle.std.specs.declared.convert.Infallible.{Infallible}
 use Rattle.jiff.specs.Words.{civil_nanos}
 use Rattle.cookie_run.specs.declared.script.ended.Ended.TheVariants.{Whole, Faulty}
 use Rattle.cookie_run.proofs.ScriptRun.{script_of}
 use Rattle.cookie_run.proofs.program.program.Goals as goal
 
-pub returns-in-Ok-Faulty : goal.returns-in-Ok-Faulty
-returns-in-Ok-Faulty g c =
+never : Infallible → ⊥
+never x = elim x [ ]
+
+pub returns-in-Ok-Faulty-clause-answers : goal.returns-in-Ok-Faulty-clause-answers
+returns-in-Ok-Faulty-clause-answers g c =
     let n = c.in-Ok-Faulty.field-0-0 in
     let is : c.in-Ok-Faulty.field-0 ≡ Faulty n = cc in
-    inr (inl (refl, refl, (n, script_of (g.R.Source.left c.args.reader.now) (g.W.Sink.written c.args.writer.now) (g.W.Sink.written c.run.new.writer) c.derive_from-key.result c.new-client.result c.run.new.client (civil_nanos c.begin_1971-last.result) (civil_nanos c.run.new.last) c.in-Ok-Faulty.field-0 (Faulty n) c.derive_from-key.ensures c.new-client.ensures c.begin_1971-last.ensures is c.in-Ok-Faulty.ensures.text)))
+    inr (inl (
+      refl,
+      refl,
+      (
+        n,
+        script_of Infallible (g.R.Source.left c.args.reader.now)
+            (g.W.Sink.written c.args.writer.now) (g.W.Sink.written c.run.new.writer) c.derive_from-key.result
+            c.new-client.result c.run.new.client (civil_nanos c.begin_1971-last.result)
+            (civil_nanos c.run.new.last) c.in-Ok-Faulty.field-0 (Faulty n) never c.derive_from-key.ensures
+            c.new-client.ensures c.begin_1971-last.ensures is c.in-Ok-Faulty.ensures.text,
+      ),
+    ))
 
-pub returns-in-Ok-Whole : goal.returns-in-Ok-Whole
-returns-in-Ok-Whole g c =
+pub returns-in-Ok-Whole-clause-answers : goal.returns-in-Ok-Whole-clause-answers
+returns-in-Ok-Whole-clause-answers g c =
     let is : c.in-Ok-Whole.field-0 ≡ Whole = cc in
-    inl (refl, refl, script_of (g.R.Source.left c.args.reader.now) (g.W.Sink.written c.args.writer.now) (g.W.Sink.written c.run.new.writer) c.derive_from-key.result c.new-client.result c.run.new.client (civil_nanos c.begin_1971-last.result) (civil_nanos c.run.new.last) c.in-Ok-Whole.field-0 Whole c.derive_from-key.ensures c.new-client.ensures c.begin_1971-last.ensures is c.in-Ok-Whole.ensures.text)
+    inl (
+      refl,
+      refl,
+      script_of Infallible (g.R.Source.left c.args.reader.now) (g.W.Sink.written c.args.writer.now)
+          (g.W.Sink.written c.run.new.writer) c.derive_from-key.result c.new-client.result c.run.new.client
+          (civil_nanos c.begin_1971-last.result) (civil_nanos c.run.new.last) c.in-Ok-Whole.field-0 Whole never
+          c.derive_from-key.ensures c.new-client.ensures c.begin_1971-last.ensures is c.in-Ok-Whole.ensures.text,
+    )

@@ -5,4 +5,5 @@ use Rattle.cookie_run.proofs.reading.header_pieces.Goals as goal
 
 pub returns : goal.returns
 returns c =
-    map_from_collect _ c.collect.ensures.ran (YieldsList-from_slice_split _ _ c.args.header.now c.split.ensures.rest c.split.ensures.done c.split.ensures.closure (λ x r q k. search (rules, tests)))
+    map_from_collect _ c.collect.ensures.ran (YieldsList-from_slice_split _ _ c.args.header.now c.split.ensures.rest
+    c.split.ensures.done c.split.ensures.closure (λ x r q k. search (rules, tests)))

@@ -6,4 +6,5 @@ use Rattle.cookie_run.specs.Reading.{Give}
 use Rattle.cookie_run.proofs.session.read_all.Given as goal
 
 abbrev pub invariant-loop-piece : goal.invariant-loop-piece
-invariant-loop-piece l = (cookies : List Record) × Give (map (λ x. x.now) (take l.piece-index l.pieces)) cookies × Holds cookies l.jar
+invariant-loop-piece l = (cookies : List Record) × Give (map (λ x. x.now) (take l.piece-index l.pieces)) cookies
+    × Holds cookies l.jar

@@ -7,5 +7,6 @@ use Rattle.cookie_run.proofs.script.field.fields_of.Goals as goal
 pub returns : goal.returns
 returns c =
     c.loop-part.invariant
-    ∙ (ap (map (λ part. percent_decode part.now)) (take_done c.deref-part-items.result.now c.in_ok-parts.parts.items c.loop-part.part-index c.deref-part-items.ensures.value c.loop-part-test.false)
+    ∙ (ap (map (λ part. percent_decode part.now)) (take_done c.deref-part-items.result.now c.in_ok-parts.parts.items
+    c.loop-part.part-index c.deref-part-items.ensures.value c.loop-part-test.false)
     ∙ decoded_parts c.in_ok-parts.parts.items _ c.in_ok-parts.ensures)

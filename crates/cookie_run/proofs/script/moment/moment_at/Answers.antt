@@ -9,6 +9,8 @@ pub returns : goal.returns
 returns c =
     ap (option_map civil_nanos) c.ok.ensures.value
     ∙ moment_cast c.new.result _ _ _ _ _ _ c.args.year c.args.month c.args.day c.args.hour c.args.minute c.args.second
-    (to_z_pos w16 c.args.year (omega arith)) (to_z_pos w8 c.args.month (omega arith)) (to_z_pos w8 c.args.day (omega arith))
-    (to_z_pos w8 c.args.hour (omega arith)) (to_z_pos w8 c.args.minute (omega arith)) (to_z_pos w8 c.args.second (omega arith))
+    (to_z_pos w16 c.args.year (omega arith)) (to_z_pos w8 c.args.month (omega arith))
+    (to_z_pos w8 c.args.day (omega arith))
+    (to_z_pos w8 c.args.hour (omega arith)) (to_z_pos w8 c.args.minute (omega arith))
+    (to_z_pos w8 c.args.second (omega arith))
     c.if-year-lt1971.false c.if-year-gt9998.false c.new.ensures.succeeds c.new.ensures.value

@@ -13,14 +13,16 @@ use Rattle.cookie_run.proofs.script.run.play_text.Goals as goal
 
 pub loop-rest-init : goal.loop-rest-init
 loop-rest-init g c = record {
-  come = come_first c.args.key.now c.args.client.now (civil_nanos c.args.last.now) c.args.text.now (g.W.Sink.written c.args.writer.now);
+  come = come_first c.args.key.now c.args.client.now (civil_nanos c.args.last.now) c.args.text.now
+      (g.W.Sink.written c.args.writer.now);
   failures = refl;
   flushes = refl;
   room = omega arith;
 }
 
 pub returns-in-Err-clause-flushed : goal.returns-in-Err-clause-flushed
-returns-in-Err-clause-flushed g c = subst (λ n. OnOk c.stop_at.result (g.W.Sink.flushes c.stop_at.new.writer ≡ one_more n)) c.loop-rest.invariant.flushes c.stop_at.ensures.flushed
+returns-in-Err-clause-flushed g c = subst (λ n. OnOk c.stop_at.result
+    (g.W.Sink.flushes c.stop_at.new.writer ≡ one_more n)) c.loop-rest.invariant.flushes c.stop_at.ensures.flushed
 
 pub returns-in-Err-clause-text : goal.returns-in-Err-clause-text
 returns-in-Err-clause-text g c =
@@ -34,8 +36,13 @@ returns-in-Err-clause-text g c =
     let last = civil_nanos c.follow.new.last in
     let come = c.loop-rest.invariant.come in
     let said = c.in-Err.ensures.err start come.r come.output come.stands in
-    for_one c.stop_at.result (Ends c.args.key.now start first text old new c.follow.new.client last) (Appends mid new (fault_text (done + 1) c.in-Err.cause)) (Faulty (done + 1)) c.stop_at.ensures.text c.stop_at.ensures.ended
-    (λ written. come_fault c.args.key.now start first text c.loop-rest.rest.now c.cut_line.result.0.now c.cut_line.result.1.now c.loop-rest.client c.follow.new.client (civil_nanos c.loop-rest.last) last c.loop-rest.visit done old mid new c.in-Err.cause come c.cut_line.ensures.line said (ap civil_nanos c.in-Err.ensures.last) written)
+    for_one c.stop_at.result (Ends g.row.G-Error.Denot c.args.key.now start first text old new c.follow.new.client last)
+    (Appends mid new (fault_text (done + 1) c.in-Err.cause))
+    (Faulty (done + 1)) c.stop_at.ensures.text c.stop_at.ensures.ended
+    (λ written. come_fault g.row.G-Error.Denot c.args.key.now start first text c.loop-rest.rest.now c.cut_line.result.0.now
+    c.cut_line.result.1.now c.loop-rest.client c.follow.new.client
+    (civil_nanos c.loop-rest.last) last c.loop-rest.visit done old mid new c.in-Err.cause come
+    c.cut_line.ensures.line said c.in-Err.ensures.asks (ap civil_nanos c.in-Err.ensures.last) written)
 
 pub loop-rest-preserved : goal.loop-rest-preserved
 loop-rest-preserved g c =
@@ -50,7 +57,10 @@ loop-rest-preserved g c =
     let goes = c.in-Ok.ensures.ok start come.r come.output come.stands in
     let same : c.as_bytes.result.now ≡ printed = cc in
     record {
-      come = come_more c.args.key.now start first text c.loop-rest.rest.now c.cut_line.result.0.now c.cut_line.result.1.now c.loop-rest.client c.follow.new.client (civil_nanos c.loop-rest.last) (civil_nanos c.follow.new.last) c.loop-rest.visit c.follow.new.visit c.loop-rest.done old mid new printed come c.cut_line.ensures.line goes (subst (Appends mid new) same c.in_ok-write_all-in-Ok.ensures.bytes);
+      come = come_more c.args.key.now start first text c.loop-rest.rest.now c.cut_line.result.0.now
+          c.cut_line.result.1.now c.loop-rest.client c.follow.new.client (civil_nanos c.loop-rest.last)
+          (civil_nanos c.follow.new.last) c.loop-rest.visit c.follow.new.visit c.loop-rest.done old mid new printed come
+          c.cut_line.ensures.line goes (subst (Appends mid new) same c.in_ok-write_all-in-Ok.ensures.bytes);
       failures = c.in_ok-write_all-in-Ok.ensures.failures ∙ c.loop-rest.invariant.failures;
       flushes = c.write_all.ensures.flushes ∙ c.loop-rest.invariant.flushes;
       room = omega (arith, c.loop-rest.invariant.room, c.cut_line.ensures.shorter);
@@ -61,7 +71,10 @@ returns-clause-text g c =
     let old = g.W.Sink.written c.args.writer.now in
     let mid = g.W.Sink.written c.loop-rest.writer in
     let new = g.W.Sink.written c.flush.new.writer in
-    let ends = come_whole c.args.key.now c.args.client.now (civil_nanos c.args.last.now) c.args.text.now c.loop-rest.rest.now c.loop-rest.client (civil_nanos c.loop-rest.last) c.loop-rest.visit c.loop-rest.done old mid c.loop-rest.invariant.come (nil_from_length c.loop-rest.rest.now (grind (arith, nat_tests, c.is_empty.ensures, c.loop-rest-test.false))) in
+    let ends = come_whole g.row.G-Error.Denot c.args.key.now c.args.client.now
+    (civil_nanos c.args.last.now) c.args.text.now c.loop-rest.rest.now c.loop-rest.client
+    (civil_nanos c.loop-rest.last) c.loop-rest.visit c.loop-rest.done old mid c.loop-rest.invariant.come
+    (nil_from_length c.loop-rest.rest.now (grind (arith, nat_tests, c.is_empty.ensures, c.loop-rest-test.false))) in
     (ends.0, Appends-kept old mid new ends.0 ends.1 c.in_ok-flush.ensures.bytes, ends.2)
 
 pub returns-clause-flushed : goal.returns-clause-flushed
