@@ -11,13 +11,19 @@ mod attribute_tests;
 #[cfg(test)]
 mod client_tests;
 #[cfg(test)]
+mod cookie_run_readme;
+#[cfg(test)]
 mod devices;
 #[cfg(test)]
 mod fixtures;
 #[cfg(test)]
+mod flush_tests;
+#[cfg(test)]
 mod generators;
 #[cfg(test)]
 mod memory;
+#[cfg(test)]
+mod nonce_tests;
 #[cfg(test)]
 mod play_tests;
 #[cfg(test)]
