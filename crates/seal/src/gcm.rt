@@ -224,7 +224,8 @@ fn seal_from<L: Ledger>(
     seal_counted(key, nonce, aad, text, &mut turns)
 }
 
-/// [`seal`], with its turns counted.
+/// [`seal`], with its turns counted: at most 3 + 32 * (u + t + 1) for u blocks of `aad` and t of
+/// `text`, a begun block counted as one.
 ///
 /// # Errors
 ///
@@ -298,7 +299,8 @@ fn open_from<L: Ledger>(
     open_counted(key, nonce, aad, text, tag, &mut turns)
 }
 
-/// [`open`], with its turns counted.
+/// [`open`], with its turns counted: at most 3 + 32 * (u + t + 1) for u blocks of `aad` and t of
+/// `text`, a begun block counted as one.
 ///
 /// # Errors
 ///
