@@ -1,5 +1,6 @@
 -- Where the code of a signing ends, and its value begins.
-use Rattle.std.proofs.Common.{◌≡◌, ℕ, ◌+◌, ◌-◌, ◌*◌, ◌/◌, ◌%◌, List, ◌++◌, length, take, drop, ap, sym, subst, ◌∙◌, arith, replicate, length-append}
+use Rattle.std.proofs.Common.{◌≡◌, ℕ, ◌+◌, ◌-◌, ◌*◌, ◌/◌, ◌%◌, List, ◌++◌, length, take, drop, ap, sym, subst, ◌∙◌}
+use Rattle.std.proofs.Common.{arith, replicate, length-append}
 use Rattle.std.proofs.lemmas.List.{length-replicate, take-append-drop}
 use Rattle.std.proofs.lemmas.Str.{IsUtf8-from_ascii, IsCharBoundary-from_take}
 use Rattle.std.proofs.Math.Seq.{take-append_seam, drop-append_seam}
@@ -44,16 +45,19 @@ drop-signing sizes key value text e =
     ∙ drop-append_seam (code key value) value
 
 -- a signing can be cut there
-pub boundary_of_signing : CodesHave32 → (key value text : List ℕ) → IsUtf8 text → text ≡ signing key value → IsCharBoundary text 44
+pub boundary_of_signing : CodesHave32 → (key value text : List ℕ) → IsUtf8 text → text ≡ signing key value
+    → IsCharBoundary text 44
 boundary_of_signing sizes key value text utf8 e =
     let front : IsUtf8 (take 44 text) =
-    subst IsUtf8 (sym (take-signing sizes key value text e)) (IsUtf8-from_ascii (code key value) (IsAscii-encode_of standard _)) in
+    subst IsUtf8 (sym (take-signing sizes key value text e))
+    (IsUtf8-from_ascii (code key value) (IsAscii-encode_of standard _)) in
     let long : length text ≡ 44 + length value =
     ap length e ∙ length-append (code key value) value ∙ (λ i. length-code sizes key value i + length value) in
     IsCharBoundary-from_take text 44 utf8 (omega arith) front
 
 -- a text is a signing where its front is the code of the rest
-pub signing_from_parts : (key value text front : List ℕ) → front ≡ take 44 text → value ≡ drop 44 text → front ≡ code key value
+pub signing_from_parts : (key value text front : List ℕ) → front ≡ take 44 text → value ≡ drop 44 text
+    → front ≡ code key value
     → text ≡ signing key value
 signing_from_parts key value text front front_is value_is same =
     sym (take-append-drop 44 text) ∙ (λ i. (sym front_is ∙ same) i ++ sym value_is i)

@@ -1,5 +1,6 @@
 -- A jar of cookies: those that it began with, and what was changed since.
-use Rattle.std.specs.Prelude.{◌≡◌, ℕ, not, List, Option, Some, None, is_some, map, string_bytes, option_map, MatchOption}
+use Rattle.std.specs.Prelude.{◌≡◌, ℕ, not, List, Option, Some, None, is_some, map, string_bytes, option_map}
+use Rattle.std.specs.Prelude.{MatchOption}
 use Rattle.std.specs.List.{filter, filter_map}
 use Rattle.std.specs.declared.string.String.{String}
 use Rattle.std.specs.FinMap as finmap
@@ -10,7 +11,8 @@ pub use Rattle.cookie.specs.declared.delta.DeltaCookie.{DeltaCookie as Change}
 pub use Rattle.cookie.specs.declared.delta.DeltaCookie.TheVariants.{Added, Removed}
 use Rattle.cookie.specs.ByName.{ByName}
 
--- two finite maps from name; a change is a cookie that was added, or the removal of one
+-- Two finite maps from name; a change is a cookie that was added, or the removal of one. For an example: the originals
+-- are `a` and `b`, then `a` was removed and `c` added.
 pub record Jar : Type 0 where
   pub originals : ByName Seen
   pub changes : ByName Change
@@ -25,15 +27,16 @@ abbrev pub standing : Change → Option Seen
 standing (Added c) = Some c
 standing (Removed c) = None
 
+-- a change over an original
 abbrev pub overlaid : Option Change → Option Seen → Option Seen
 overlaid (Some change) original = standing change
 overlaid None original = original
 
--- the view of a jar, changes over originals
+-- the view of a jar, changes over originals: `b` and `c` of the example, and none at `a`
 abbrev pub view : Jar → List ℕ → Option Seen
 view jar name = overlaid (finmap.get jar.changes name) (finmap.get jar.originals name)
 
--- the delta of a jar: the cookie of each change, removals too
+-- the delta of a jar: the cookie of each change, removals too: the removal of `a`, and `c`, of the example
 abbrev pub delta : Jar → List ℕ → Option Seen
 delta jar name = option_map cookie_of (finmap.get jar.changes name)
 
@@ -41,19 +44,24 @@ delta jar name = option_map cookie_of (finmap.get jar.changes name)
 abbrev pub empty : Jar
 empty = record { originals = finmap.empty; changes = finmap.empty }
 
+-- one more original, in the place of the one of its name
 abbrev pub with_original : Jar → Seen → Jar
 with_original jar c = record jar { originals = finmap.insert jar.originals c.cookie.name c }
 
+-- one more change, in the place of the one of its name
 abbrev pub with_change : Jar → Change → Jar
 with_change jar change =
     record jar { changes = finmap.insert jar.changes (cookie_of change).cookie.name change }
 
+-- one more addition
 abbrev pub with_added : Jar → Seen → Jar
 with_added jar c = with_change jar (Added c)
 
+-- no change of this name
 abbrev pub without_change : Jar → List ℕ → Jar
 without_change jar name = record jar { changes = finmap.remove jar.changes name }
 
+-- no change
 abbrev pub without_changes : Jar → Jar
 without_changes jar = record jar { changes = finmap.empty }
 

@@ -2,11 +2,11 @@
 use Rattle.std.specs.Prelude.{ℕ, List, take, drop, codes}
 use Rattle.seal.specs.Hkdf.{expansion}
 
--- the half that signs
+-- the half that signs: the bytes 0 to 31 of the key 0, 1, .., 63
 abbrev pub signing_half : List ℕ → List ℕ
 signing_half key = take 32 key
 
--- the half that encrypts
+-- the half that encrypts: the bytes 32 to 63 of that key
 abbrev pub encryption_half : List ℕ → List ℕ
 encryption_half key = drop 32 key
 

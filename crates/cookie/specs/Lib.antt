@@ -7,3 +7,6 @@ pub mod Signing
 pub mod Sealing
 pub mod Reading
 pub mod Laws
+pub mod PrefixedJars
+pub mod SignedJars
+pub mod PrivateJars

@@ -3,11 +3,11 @@ use Rattle.std.specs.Prelude.{◌≡◌, ◌≢◌, ℕ, List, ◌++◌, true, S
 use Rattle.cookie_text.specs.Record.{Seen}
 use Rattle.cookie_text.specs.Setting.{with_name, with_secure, with_path, with_domain}
 
--- the cookie with the prefix before its name
+-- the cookie with the prefix before its name: `__Host-sid` for `sid`
 abbrev pub prefixed : List ℕ → Seen → Seen
 prefixed text s = with_name s (text ++ s.cookie.name)
 
--- the prefix is taken from the name, where the name has it; another cookie stays as it is
+-- the prefix is taken from the name, where the name has it, as `sid` for `__Host-sid`; another cookie stays as it is
 pub record IsClipped (text : List ℕ) (s clipped : Seen) : Type 0 where
   pub has : (rest : List ℕ) → s.cookie.name ≡ text ++ rest → clipped ≡ with_name s rest
   pub lacks : ((rest : List ℕ) → s.cookie.name ≢ text ++ rest) → clipped ≡ s

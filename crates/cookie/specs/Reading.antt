@@ -7,7 +7,7 @@ use Rattle.cookie.specs.Signing.{signing}
 use Rattle.cookie.specs.Sealing.{IsSealing}
 
 -- where the stored cookie stands for a value, it is read with that value in the place of its own; where
--- it stands for none, there is no answer
+-- it stands for none, as where its value is `1`, there is no answer
 abbrev pub Reads : (List ℕ → Type 0) → Seen → Option Seen → Type 0
 Reads StandsFor stored answer = MatchOption answer
     ((value : List ℕ) → ¬ (StandsFor value))

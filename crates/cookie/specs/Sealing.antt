@@ -7,7 +7,8 @@ use Rattle.cookie_text.specs.Setting.{with_value}
 use Rattle.cookie.specs.Key.{encryption_half}
 use Rattle.cookie.specs.Base64.{IsBase64}
 
--- a value of this length can be sealed under a name of this one (SP 800-38D, section 5.2.1.1)
+-- a value of this length can be sealed under a name of this one (SP 800-38D, section 5.2.1.1): `seal`'s IsSealable as a
+-- truth value, which the contract of the call `is_sealable` joins
 abbrev pub is_sealable : List ℕ → List ℕ → Bool
 is_sealable name value = nat_le (length value) (2 ^ 36 - 32) && nat_lt (length name) (2 ^ 61)
 
@@ -18,9 +19,11 @@ pub record IsSealedAs (key name value nonce bytes : List ℕ) : Type 0 where
   pub sealed : Sealed (encryption_half key) nonce name value ciphertext tag
   pub bytes_are : bytes ≡ nonce ++ (ciphertext ++ tag)
 
--- text is the sealing of the value under the nonce
+-- Text is the sealing of the value under the nonce. Of the empty value under the empty name, the zero key and the zero
+-- nonce that is `AAAAAAAAAAAAAAAAUw+K+8dFNrmpY7TxxMtziw==` (test case 13 of the GCM specification).
 abbrev pub IsSealingUnder : List ℕ → List ℕ → List ℕ → List ℕ → List ℕ → Type 0
-IsSealingUnder key name value nonce text = (bytes : List ℕ) × IsSealedAs key name value nonce bytes × IsBase64 bytes text
+IsSealingUnder key name value nonce text = (bytes : List ℕ) × IsSealedAs key name value nonce bytes
+    × IsBase64 bytes text
 
 -- text is a sealing of the value: the one under some nonce of 12 bytes
 abbrev pub IsSealing : List ℕ → List ℕ → List ℕ → List ℕ → Type 0

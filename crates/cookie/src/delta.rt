@@ -35,6 +35,10 @@ impl DeltaCookie {
     }
 
     /// A copy.
+    ///
+    /// # Errors
+    ///
+    /// Want of memory.
     pub fn clone(&self, alloc: Global) -> Result<DeltaCookie, AllocError>
         ensures { IfOk result (λ change. change ≡ self.now) }
     {

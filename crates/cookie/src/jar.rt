@@ -80,6 +80,10 @@ impl CookieJar {
     }
 
     /// Adds an original, in the place of the one of its name. The delta stays.
+    ///
+    /// # Errors
+    ///
+    /// Want of memory. The jar is unchanged then.
     pub fn add_original(&mut self, cookie: Cookie<'static>) -> Result<(), AllocError>
         ensures ok { OnOk result (self.new ≡ spec.with_original self.old cookie.entry) }
         ensures err { OnErr result (self.new ≡ self.old) }
@@ -90,6 +94,10 @@ impl CookieJar {
     }
 
     /// Adds a cookie to the delta, in the place of the change of its name.
+    ///
+    /// # Errors
+    ///
+    /// Want of memory. The jar is unchanged then.
     pub fn add(&mut self, cookie: Cookie<'static>) -> Result<(), AllocError>
         ensures ok { OnOk result (self.new ≡ spec.with_added self.old cookie.entry) }
         ensures err { OnErr result (self.new ≡ self.old) }
@@ -103,6 +111,10 @@ impl CookieJar {
     /// Where an original has the name, this cookie becomes its removal in the delta
     /// (`Cookie::make_removal` at `now`); path and domain then have to be those under which a client
     /// holds it. Else no change of that name is left in the delta, and no memory is taken.
+    ///
+    /// # Errors
+    ///
+    /// Want of memory, and only where an original has the name. The jar is unchanged then.
     pub fn remove(&mut self, cookie: Cookie<'static>, now: DateTime) -> Result<(), AllocError>
         ensures ok { OnOk result (spec.Removes self.old cookie.entry now self.new) }
         ensures err { OnErr result (self.new ≡ self.old) }
@@ -141,6 +153,10 @@ impl CookieJar {
     }
 
     /// A copy: the same originals and the same delta.
+    ///
+    /// # Errors
+    ///
+    /// Want of memory.
     pub fn clone(&self) -> Result<CookieJar, AllocError>
         ensures { IfOk result (λ jar. jar ≡ self.now) }
     {

@@ -61,6 +61,10 @@ impl<V> NameMap<V> {
 
 impl<V: Drop> NameMap<V> {
     /// Puts the value under the name, in the place of the one that it has.
+    ///
+    /// # Errors
+    ///
+    /// Want of memory. The map is unchanged then.
     pub fn insert(&mut self, name: String, value: V) -> Result<(), AllocError>
         ensures ok { OnOk result (self.new ≡ finmap.insert self.old (string_bytes name) value) }
         ensures err { OnErr result (self.new ≡ self.old) }

@@ -26,6 +26,10 @@ pub trait Prefix: Drop {
         ensures { result ≡ conformed cookie.entry };
 
     /// The prefix and the name.
+    ///
+    /// # Errors
+    ///
+    /// Want of memory.
     fn prefixed_name(alloc: Global, name: &str) -> Result<String, AllocError>
         ensures { IfOk result (λ prefixed. string_bytes prefixed ≡ text ++ name.now) }
     {
@@ -35,6 +39,10 @@ pub trait Prefix: Drop {
     }
 
     /// The cookie with the prefix before its name.
+    ///
+    /// # Errors
+    ///
+    /// Want of memory.
     fn prefix<'c>(alloc: Global, cookie: Cookie<'c>) -> Result<Cookie<'c>, AllocError>
         ensures { IfOk result (λ prefixed. prefixed ≡ spec.prefixed text cookie.entry) }
     {
@@ -46,6 +54,10 @@ pub trait Prefix: Drop {
 
     /// The cookie without the prefix before its name. One whose name lacks it stays as it is, and
     /// no memory is taken then.
+    ///
+    /// # Errors
+    ///
+    /// Want of memory, and only where the name has the prefix.
     fn clip<'c>(alloc: Global, cookie: Cookie<'c>) -> Result<Cookie<'c>, AllocError>
         ensures clipped { IfOk result (λ clipped. spec.IsClipped text cookie.entry clipped) }
         ensures succeeds { ((rest : List ℕ) → cookie.entry.cookie.name ≢ text ++ rest)
@@ -62,6 +74,10 @@ pub trait Prefix: Drop {
 
     /// The cookie with the prefix before its name, and with its attributes as the prefix promises
     /// them.
+    ///
+    /// # Errors
+    ///
+    /// Want of memory.
     fn apply<'c>(alloc: Global, cookie: Cookie<'c>) -> Result<Cookie<'c>, AllocError>
         ensures applied { IfOk result
             (λ applied. applied ≡ conformed (spec.prefixed text cookie.entry)) }

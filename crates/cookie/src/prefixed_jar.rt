@@ -14,9 +14,11 @@ use std::alloc::AllocError;
 use std::marker::PhantomData;
 
 impl CookieJar {
+    ghost use Rattle.cookie.specs.PrefixedJars.{borrow_of, jar_read, jar_written};
+
     /// A child jar that reads the cookies whose names have the prefix.
     pub fn prefixed<P: Prefix>(&self, prefix: P) -> PrefixedJar<'_, P>
-        ensures { result.parent.now ≡ self.now }
+        ensures { jar_read result ≡ self.now }
     {
         let _ = prefix;
         PrefixedJar {
@@ -27,8 +29,8 @@ impl CookieJar {
 
     /// A child jar that reads and writes the cookies whose names have the prefix.
     pub fn prefixed_mut<P: Prefix>(&mut self, prefix: P) -> PrefixedJarMut<'_, P>
-        ensures same_reference { result.parent.ghost_name ≡ self.entry.ghost_name }
-        ensures parent { result.parent.now ≡ self.old }
+        ensures same_reference { borrow_of result ≡ self.entry.ghost_name }
+        ensures jar { jar_written result ≡ self.old }
     {
         let _ = prefix;
         PrefixedJarMut {
@@ -46,11 +48,18 @@ pub struct PrefixedJar<'a, P> {
 }
 
 impl<'a, P: Prefix> PrefixedJar<'a, P> {
-    /// A copy of the cookie that the jar gives under prefix and name, with the name alone.
+    ghost use Rattle.cookie.specs.PrefixedJars.{jar_read};
+
+    /// A copy of the cookie that the jar gives under prefix and name, with the name alone, and none
+    /// where it gives none.
+    ///
+    /// # Errors
+    ///
+    /// Want of memory.
     pub fn get(&self, name: &str) -> Result<Option<Cookie<'static>>, AllocError>
         ensures { IfOk result (λ cookie. cookie
             ≡ option_map (λ c. with_name c name.now)
-            (spec.view self.now.parent.now (P.text ++ name.now))) }
+            (spec.view (jar_read self.now) (P.text ++ name.now))) }
     {
         found::<P>(self.parent, name)
     }
@@ -64,22 +73,33 @@ pub struct PrefixedJarMut<'a, P> {
 }
 
 impl<'a, P: Prefix> PrefixedJarMut<'a, P> {
-    /// A copy of the cookie that the jar gives under prefix and name, with the name alone.
+    ghost use Rattle.cookie.specs.PrefixedJars.{borrow_of, jar_written};
+
+    /// A copy of the cookie that the jar gives under prefix and name, with the name alone, and none
+    /// where it gives none.
+    ///
+    /// # Errors
+    ///
+    /// Want of memory.
     pub fn get(&self, name: &str) -> Result<Option<Cookie<'static>>, AllocError>
         ensures { IfOk result (λ cookie. cookie
             ≡ option_map (λ c. with_name c name.now)
-            (spec.view self.now.parent.now (P.text ++ name.now))) }
+            (spec.view (jar_written self.now) (P.text ++ name.now))) }
     {
         found::<P>(self.parent, name)
     }
 
     /// Adds the cookie to the jar's delta, with the prefix before its name and its attributes as the
     /// prefix promises them.
+    ///
+    /// # Errors
+    ///
+    /// Want of memory. The jar is unchanged then.
     pub fn add(&mut self, cookie: Cookie<'static>) -> Result<(), AllocError>
-        ensures same_reference { self.new.parent.ghost_name ≡ self.old.parent.ghost_name }
-        ensures ok { OnOk result (self.new.parent.now
-            ≡ spec.with_added self.old.parent.now (P.conformed (prefixed P.text cookie.entry))) }
-        ensures err { OnErr result (self.new.parent.now ≡ self.old.parent.now) }
+        ensures same_reference { borrow_of self.new ≡ borrow_of self.old }
+        ensures ok { OnOk result (jar_written self.new
+            ≡ spec.with_added (jar_written self.old) (P.conformed (prefixed P.text cookie.entry))) }
+        ensures err { OnErr result (jar_written self.new ≡ jar_written self.old) }
     {
         let cookie = P::apply(self.parent.alloc(), cookie)?;
         self.parent.add(cookie)
@@ -87,11 +107,15 @@ impl<'a, P: Prefix> PrefixedJarMut<'a, P> {
 
     /// Adds the cookie to the jar's originals, with the prefix before its name and its attributes as
     /// the prefix promises them.
+    ///
+    /// # Errors
+    ///
+    /// Want of memory. The jar is unchanged then.
     pub fn add_original(&mut self, cookie: Cookie<'static>) -> Result<(), AllocError>
-        ensures same_reference { self.new.parent.ghost_name ≡ self.old.parent.ghost_name }
-        ensures ok { OnOk result (self.new.parent.now
-            ≡ spec.with_original self.old.parent.now (P.conformed (prefixed P.text cookie.entry))) }
-        ensures err { OnErr result (self.new.parent.now ≡ self.old.parent.now) }
+        ensures same_reference { borrow_of self.new ≡ borrow_of self.old }
+        ensures ok { OnOk result (jar_written self.new
+            ≡ spec.with_original (jar_written self.old) (P.conformed (prefixed P.text cookie.entry))) }
+        ensures err { OnErr result (jar_written self.new ≡ jar_written self.old) }
     {
         let cookie = P::apply(self.parent.alloc(), cookie)?;
         self.parent.add_original(cookie)
@@ -99,11 +123,15 @@ impl<'a, P: Prefix> PrefixedJarMut<'a, P> {
 
     /// Removes the cookie of the jar, as [`CookieJar::remove`] does, that has the prefix and this
     /// cookie's name. The removal's attributes are as the prefix promises them.
+    ///
+    /// # Errors
+    ///
+    /// Want of memory, which the name with its prefix takes each time. The jar is unchanged then.
     pub fn remove(&mut self, cookie: Cookie<'static>, now: DateTime) -> Result<(), AllocError>
-        ensures same_reference { self.new.parent.ghost_name ≡ self.old.parent.ghost_name }
-        ensures ok { OnOk result (spec.Removes self.old.parent.now
-            (P.conformed (prefixed P.text cookie.entry)) now self.new.parent.now) }
-        ensures err { OnErr result (self.new.parent.now ≡ self.old.parent.now) }
+        ensures same_reference { borrow_of self.new ≡ borrow_of self.old }
+        ensures ok { OnOk result (spec.Removes (jar_written self.old)
+            (P.conformed (prefixed P.text cookie.entry)) now (jar_written self.new)) }
+        ensures err { OnErr result (jar_written self.new ≡ jar_written self.old) }
     {
         let cookie = P::apply(self.parent.alloc(), cookie)?;
         self.parent.remove(cookie, now)

@@ -1,14 +1,14 @@
 -- What an escaped text is made of, and that it decodes.
-use Rattle.std.proofs.Common.{◌≡◌, ◌≢◌, ℕ, ◌<◌, ◌≤◌, false, List, All, refl, ◌∙◌, ⊎_elim, arith}
+use Rattle.std.proofs.Common.{◌≡◌, ◌≢◌, ℕ, ◌<◌, ◌≤◌, false, cond, List, [], ◌∷◌, ◌++◌, All, refl, sym, ap, subst, ◌∙◌, ⊎_elim, arith}
 use Rattle.std.specs.List.{AllByRecursion}
 use Rattle.std.proofs.lemmas.Bool.{cases_lt, agree_below_at}
 use Rattle.std.proofs.lemmas.Bool.Decides.{nat_tests}
 use Rattle.std.proofs.lemmas.List.Elements.{recursion_from_All}
 use Rattle.percent_encoding.specs.AsciiSet.{should_percent_encode}
-use Rattle.percent_encoding.specs.Percent.{percent_encode, percent_decode}
+use Rattle.percent_encoding.specs.Percent.{percent_encode, percent_encode_byte, percent_decode}
 use Rattle.percent_encoding.proofs.PercentLemmas.{IsByte, IsEscapeByte, All-percent_encode, round_trip}
 use Rattle.cookie_text.specs.declared.escape.TheConstants.{PROFILE}
-use Rattle.cookie_text.specs.Printing.{is_escaped}
+use Rattle.cookie_text.specs.Printing.{is_escaped, escaped}
 
 -- the set of the code has the bytes of the list
 set_below : (b : ℕ) → b < 128 → is_escaped b ≡ should_percent_encode PROFILE b
@@ -40,11 +40,18 @@ kept_plain b kept = record {
 escape_plain : (b : ℕ) → IsEscapeByte b → IsPlain b
 escape_plain b h = record { low = grind arith; high = grind arith; no_semicolon = grind arith; no_equals = grind arith }
 
-pub escaped_plain : (text : List ℕ) → AllByRecursion IsPlain (percent_encode PROFILE text)
+-- what the library writes for the set of the code
+encoded_by_profile : (text : List ℕ) → percent_encode PROFILE text ≡ escaped text
+unfolding percent_encode escaped
+encoded_by_profile [] = refl
+encoded_by_profile (b ∷ bs) =
+    λ i. cond (sym (same_set b) i) (percent_encode_byte b) (b ∷ []) ++ encoded_by_profile bs i
+
+pub escaped_plain : (text : List ℕ) → AllByRecursion IsPlain (escaped text)
 escaped_plain text =
-    recursion_from_All IsPlain _ (All-percent_encode IsPlain PROFILE text
-    (λ b kept. kept_plain b (same_set b ∙ kept)) escape_plain)
+    recursion_from_All IsPlain _ (subst (All IsPlain) (encoded_by_profile text)
+    (All-percent_encode IsPlain PROFILE text (λ b kept. kept_plain b (same_set b ∙ kept)) escape_plain))
 
 -- an escaped text decodes to what it was
-pub decoded_escaped : (text : List ℕ) → All IsByte text → percent_decode (percent_encode PROFILE text) ≡ text
-decoded_escaped text bytes = round_trip PROFILE text refl bytes
+pub decoded_escaped : (text : List ℕ) → All IsByte text → percent_decode (escaped text) ≡ text
+decoded_escaped text bytes = ap percent_decode (sym (encoded_by_profile text)) ∙ round_trip PROFILE text refl bytes

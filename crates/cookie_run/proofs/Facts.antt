@@ -2,12 +2,11 @@
 use Rattle.std.proofs.Common.{◌≡◌, ℕ, List, [], ◌∷◌, true, false, refl, ap, ◌∙◌, inl, Some, None, pos}
 use Rattle.std.specs.Prelude.{codes}
 use Rattle.std.specs.Str.{trim_start, trim_end, chars, is_utf8}
-use Rattle.percent_encoding.specs.AsciiSet.{should_percent_encode}
-use Rattle.percent_encoding.specs.Percent.{percent_decode, percent_encode, percent_encode_byte}
+use Rattle.percent_encoding.specs.Percent.{percent_decode, percent_encode_byte}
 use Rattle.cookie_text.specs.declared.draft.SameSite.TheVariants.{Lax}
 use Rattle.cookie_text.specs.declared.expiration.Expiration.TheVariants.{Session}
 use Rattle.cookie_text.specs.Pieces.{name_of, text_after, value_of}
-use Rattle.cookie_text.specs.Printing.{encoded}
+use Rattle.cookie_text.specs.Printing.{encoded, escaped}
 use Rattle.cookie_text.specs.Record.{Record, bare, unsliced}
 use Rattle.cookie_run.specs.Jar.{sent}
 use Rattle.cookie_run.specs.Reading.{is_kept}
@@ -27,7 +26,7 @@ use Rattle.cookie_run.specs.Site.{Site, nothing, with_entry, stored_name, set_re
 -- the cookie `foo !%?=` with the value `bar;;, a`
 sent_line : encoded (sent (unsliced (bare (codes "foo !%?=") (codes "bar;;, a")))).cookie ≡ codes
     "foo%20!%25%3F%3D=bar%3B%3B%2C%20a; Secure; Path=/"
-unfolding percent_encode percent_encode_byte should_percent_encode
+unfolding escaped percent_encode_byte
 sent_line = refl
 
 abbrev attributed : Record
@@ -42,7 +41,7 @@ attributed = record (bare (codes "a") (codes "1")) {
 
 -- path, Secure and domain are the session's, the other attributes the cookie's
 sent_attributes : encoded (sent (unsliced attributed)).cookie ≡ codes "a=1; HttpOnly; SameSite=Lax; Secure; Path=/"
-unfolding percent_encode percent_encode_byte should_percent_encode
+unfolding escaped percent_encode_byte
 sent_attributes = refl
 
 -- ---- what is read

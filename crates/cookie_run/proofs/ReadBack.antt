@@ -12,11 +12,10 @@ use Rattle.std.proofs.lemmas.Bool.Decides.{nat_tests}
 use Rattle.std.proofs.lemmas.Str.{chars-IsAscii, IsUtf8-from_ascii, is_utf8-from_IsUtf8}
 use Rattle.std.proofs.lemmas.Str.Ascii.{encodes-IsAscii, IsAscii-from_all}
 use Rattle.std.proofs.lemmas.List.Elements.{All-from_recursion}
-use Rattle.percent_encoding.specs.Percent.{percent_encode, percent_decode}
+use Rattle.percent_encoding.specs.Percent.{percent_decode}
 use Rattle.percent_encoding.proofs.PercentLemmas.{IsByte, percent_decode-nil}
-use Rattle.cookie_text.specs.declared.escape.TheConstants.{PROFILE}
 use Rattle.cookie_text.specs.Pieces.{name_of, text_after, value_of}
-use Rattle.cookie_text.specs.Printing.{encoded_pair, stripped}
+use Rattle.cookie_text.specs.Printing.{encoded_pair, escaped, stripped}
 use Rattle.cookie_text.specs.Record.{Record, bare}
 use Rattle.cookie_run.proofs.HeaderCookies.{pair_in, decoded, cookie_of}
 use Rattle.cookie_run.proofs.Escaped.{IsPlain, escaped_plain, decoded_escaped}
@@ -159,7 +158,7 @@ pub record IsGood (c : Record) : Type 0 where
 abbrev pub bare_of : Record → Record
 bare_of c = bare c.name c.value
 
-escaped_nonempty : (n : List ℕ) → n ≢ [] → All IsByte n → percent_encode PROFILE n ≢ []
+escaped_nonempty : (n : List ℕ) → n ≢ [] → All IsByte n → escaped n ≢ []
 escaped_nonempty n named bytes e = named (sym (decoded_escaped n bytes) ∙ (ap percent_decode e ∙ percent_decode-nil))
 
 pair_named : (n v : List ℕ) → n ≢ [] → pair_in n (Some v) ≡ decoded n v
@@ -170,20 +169,17 @@ pub ascii_is_utf8 : (bs : List ℕ) → IsAscii bs → is_utf8 bs ≡ true
 ascii_is_utf8 bs h = is_utf8-from_IsUtf8 bs (IsUtf8-from_ascii bs h)
 
 pub graphic_of : (c : Record) → AllByRecursion IsGraphic (stripped (encoded_pair c))
-graphic_of c = pair_graphic (percent_encode PROFILE c.name) (percent_encode PROFILE c.value) (escaped_plain c.name)
-    (escaped_plain c.value)
+graphic_of c = pair_graphic (escaped c.name) (escaped c.value) (escaped_plain c.name) (escaped_plain c.value)
 
 pub whole_of : (c : Record) → AllByRecursion (λ b. is_semicolon b ≡ false) (stripped (encoded_pair c))
-whole_of c = pair_whole (percent_encode PROFILE c.name) (percent_encode PROFILE c.value) (escaped_plain c.name)
-    (escaped_plain c.value)
+whole_of c = pair_whole (escaped c.name) (escaped c.value) (escaped_plain c.name) (escaped_plain c.value)
 
 pub led_clean : (spaced : Bool) (c : Record) → All (λ b. is_semicolon b ≡ false)
     (led spaced (stripped (encoded_pair c)))
 led_clean spaced c = All-from_recursion (λ b. is_semicolon b ≡ false) _ (led_whole spaced _ (whole_of c))
 
 -- the pair decoded
-decodes_pair : (c : Record) → IsGood c → decoded (percent_encode PROFILE c.name) (percent_encode PROFILE c.value) ≡ Some
-    (bare_of c)
+decodes_pair : (c : Record) → IsGood c → decoded (escaped c.name) (escaped c.value) ≡ Some (bare_of c)
 decodes_pair c good =
     rw (decoded_escaped c.name good.name_bytes, decoded_escaped c.value good.value_bytes)
     (rw (is_utf8-from_IsUtf8 c.name good.name, is_utf8-from_IsUtf8 c.value good.value) refl)
@@ -192,8 +188,8 @@ decodes_pair c good =
 pub cookie_of_led : (spaced : Bool) (c : Record) → IsGood c → cookie_of (led spaced (stripped (encoded_pair c))) ≡ Some
     (bare_of c)
 cookie_of_led spaced c good =
-    let n = percent_encode PROFILE c.name in
-    let v = percent_encode PROFILE c.value in
+    let n = escaped c.name in
+    let v = escaped c.value in
     let uncut = led_uncut spaced n (plain_uncut n (escaped_plain c.name)) in
     let name : name_of (led spaced (n ++ 61 ∷ v)) ≡ n =
     ap name_of (led_pair spaced n v) ∙ (name_before (led spaced n) v uncut

@@ -6,9 +6,9 @@ use Rattle.std.specs.Prelude.{if◌then◌else◌, map}
 use Rattle.std.specs.List.{AllByRecursion}
 use Rattle.std.specs.Str.{bytes_eq}
 use Rattle.std.proofs.lemmas.Bool.{cases_Bool, cond-true, cond-false}
-use Rattle.percent_encoding.specs.Percent.{percent_encode, percent_decode}
+use Rattle.percent_encoding.specs.Percent.{percent_decode}
+use Rattle.cookie_text.specs.Printing.{escaped}
 use Rattle.percent_encoding.proofs.PercentLemmas.{IsByte}
-use Rattle.cookie_text.specs.declared.escape.TheConstants.{PROFILE}
 use Rattle.cookie_text.specs.Record.{Record}
 use Rattle.cookie.specs.ByName.{AreApart as EntriesApart, value_in as entry_in}
 use Rattle.cookie_run.specs.Put.{put_by}
@@ -130,13 +130,13 @@ value_moved c cs q d none =
 -- ---- the rows of a host
 
 pub same_escaped : (x y : List ℕ) → All IsByte x → All IsByte y
-    → bytes_eq (percent_encode PROFILE x) (percent_encode PROFILE y) ≡ bytes_eq x y
+    → bytes_eq (escaped x) (escaped y) ≡ bytes_eq x y
 same_escaped x y hx hy =
     ⊎_elim
     (λ e. e ∙ sym (text_is x y (sym (decoded_escaped x hx) ∙ (ap percent_decode (same_text _ _ e)
     ∙ decoded_escaped y hy))))
-    (λ e. e ∙ sym (other_text x y (λ same. texts_differ _ _ e (ap (percent_encode PROFILE) same))))
-    (cases_Bool (bytes_eq (percent_encode PROFILE x) (percent_encode PROFILE y)))
+    (λ e. e ∙ sym (other_text x y (λ same. texts_differ _ _ e (ap (escaped) same))))
+    (cases_Bool (bytes_eq (escaped x) (escaped y)))
 
 pub put_map : (host : List ℕ) (c : Record) (cs : List Record) → IsGood c → AllByRecursion IsGood cs
     → put (row_at host c) (map (row_at host) cs) ≡ map (row_at host) (put_record c cs)

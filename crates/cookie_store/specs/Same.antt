@@ -5,7 +5,8 @@ use Rattle.std.specs.Cmp.Lexicographic.{options_equiv, nat_list_eq_equiv}
 use Rattle.std.specs.Option.{option_eq}
 use Rattle.std.specs.Ordering.{int_eq, on, eq_of_both}
 use Rattle.cookie_text.specs.Record.{compared}
-use Rattle.cookie_text.specs.Same.{same_cookie, same_cookie_equiv}
+use Rattle.cookie_text.specs.Same.{same_cookie}
+use Rattle.cookie_text.specs.SameEquivalence.{same_cookie_equiv}
 use Rattle.store_parts.specs.DomainMatch.{domain_of}
 use Rattle.store_parts.specs.DomainOrder.{domain_eq, kind_of, text_or_empty}
 use Rattle.store_parts.specs.Expiry.{death_second}

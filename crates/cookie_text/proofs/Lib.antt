@@ -7,6 +7,7 @@ pub mod AttributeLemmas
 pub mod ReadingLemmas
 pub mod SameLemmas
 pub mod SplittingLemmas
+pub mod EscapeLemmas
 pub mod PrintedDates
 pub mod PrintedPieces
 pub mod NormalLemmas
@@ -16,3 +17,4 @@ pub mod UniqueLemmas
 pub mod ReadsBack
 pub mod ReadingFacts
 pub mod PairsBack
+pub mod OneOutcome

@@ -1,5 +1,6 @@
 -- What is printed is read as the normal form.
-use Rattle.std.proofs.Common.{◌≡◌, ℕ, Bool, true, false, List, [], ◌∷◌, ◌++◌, Option, Some, None, option_map, ℤ, pos, ◌*ℤ◌, refl, sym, ap, subst, ◌∙◌, append_assoc, codes}
+use Rattle.std.proofs.Common.{◌≡◌, ℕ, Bool, true, false, List, [], ◌∷◌, ◌++◌, Option, Some, None, option_map, ℤ, pos}
+use Rattle.std.proofs.Common.{◌*ℤ◌, refl, sym, ap, subst, ◌∙◌, append_assoc, codes}
 use Rattle.std.specs.List.{flat_map}
 use Rattle.std.proofs.lemmas.List.{append-nil}
 use Rattle.cookie_text.specs.declared.draft.SameSite.{SameSite}
@@ -7,10 +8,12 @@ use Rattle.cookie_text.specs.declared.expiration.Expiration.{Expiration}
 use Rattle.cookie_text.specs.declared.expiration.Expiration.TheVariants.{DateTime as At, Session}
 use Rattle.cookie_text.specs.Pieces.{semicolon}
 use Rattle.cookie_text.specs.Record.{Record, bare, domain_of}
-use Rattle.cookie_text.specs.Attribute.{Attribute, HttpOnly, Secure, Partitioned, OfSite, MaxAge, Path, Domain, Expires, Gives}
+use Rattle.cookie_text.specs.Attribute.{Attribute, HttpOnly, Secure, Partitioned, OfSite, MaxAge, Path, Domain, Expires}
+use Rattle.cookie_text.specs.Attribute.{Gives}
 use Rattle.cookie_text.specs.Reading.{HasAttributes}
-use Rattle.cookie_text.specs.Taking.{with_attribute}
-use Rattle.cookie_text.specs.Printing.{attribute_text, piece_text, flag, end_of, attributes_of, is_set, prints_secure, whole_seconds}
+use Rattle.cookie_text.specs.Steps.{with_attribute}
+use Rattle.cookie_text.specs.Printing.{attribute_text, piece_text, flag, end_of, attributes_of, is_set, prints_secure}
+use Rattle.cookie_text.specs.Printing.{whole_seconds}
 use Rattle.cookie_text.specs.Normal.{kept, not_below_zero, whole_moment, whole_end, normal}
 use Rattle.cookie_text.proofs.ReadingLemmas.{HasAttributes-push}
 
@@ -31,7 +34,8 @@ pieces_of [] = []
 pieces_of (None ∷ os) = pieces_of os
 pieces_of (Some a ∷ os) = (32 ∷ attribute_text a) ∷ pieces_of os
 
-pub printed_pieces : (os : List (Option Attribute)) → flat_map piece_text os ≡ flat_map (λ q. semicolon ∷ q) (pieces_of os)
+pub printed_pieces : (os : List (Option Attribute)) → flat_map piece_text os ≡ flat_map (λ q. semicolon ∷ q)
+    (pieces_of os)
 printed_pieces [] = refl
 printed_pieces (None ∷ os) = printed_pieces os
 printed_pieces (Some a ∷ os) = ap (λ t. codes "; " ++ attribute_text a ++ t) (printed_pieces os)
@@ -47,45 +51,57 @@ with_options r [] = r
 with_options r (None ∷ os) = with_options r os
 with_options r (Some a ∷ os) = with_options (with_attribute r (settled a)) os
 
-pub HasAttributes-options : (os : List (Option Attribute)) (ps : List (List ℕ)) (r : Record) → AllRead os → HasAttributes ps r → HasAttributes (ps ++ pieces_of os) (with_options r os)
+pub HasAttributes-options : (os : List (Option Attribute)) (ps : List (List ℕ)) (r : Record) → AllRead os
+    → HasAttributes ps r → HasAttributes (ps ++ pieces_of os) (with_options r os)
 HasAttributes-options [] ps r all h = subst (λ qs. HasAttributes qs r) (sym (append-nil ps)) h
 HasAttributes-options (None ∷ os) ps r all h = HasAttributes-options os ps r all h
 HasAttributes-options (Some a ∷ os) ps r all h =
     let p = 32 ∷ attribute_text a in
-    let more = HasAttributes-options os (ps ++ p ∷ []) (with_attribute r (settled a)) all.1 (HasAttributes-push ps p r (settled a) h all.0) in
-    subst (λ qs. HasAttributes qs (with_options (with_attribute r (settled a)) os)) (append_assoc ps (p ∷ []) (pieces_of os)) more
+    let more = HasAttributes-options os (ps ++ p ∷ []) (with_attribute r (settled a)) all.1
+    (HasAttributes-push ps p r (settled a) h all.0) in
+    subst (λ qs. HasAttributes qs (with_options (with_attribute r (settled a)) os))
+    (append_assoc ps (p ∷ []) (pieces_of os)) more
 
 -- step by step, the printed attributes make the normal form
 module _ (os : List (Option Attribute)) (r : Record) where
-  http_only : (b : Bool) → r.http_only ≡ None → with_options r (flag b HttpOnly ∷ os) ≡ with_options (record r { http_only = kept b }) os
+  http_only : (b : Bool) → r.http_only ≡ None → with_options r (flag b HttpOnly ∷ os) ≡ with_options
+      (record r { http_only = kept b }) os
   http_only true e = refl
   http_only false e = λ i. with_options (record r { http_only = e i }) os
 
-  same_site : (o : Option SameSite) → r.same_site ≡ None → with_options r (option_map OfSite o ∷ os) ≡ with_options (record r { same_site = o }) os
+  same_site : (o : Option SameSite) → r.same_site ≡ None → with_options r (option_map OfSite o ∷ os) ≡ with_options
+      (record r { same_site = o }) os
   same_site (Some s) e = refl
   same_site None e = λ i. with_options (record r { same_site = e i }) os
 
-  partitioned : (b : Bool) → r.partitioned ≡ None → with_options r (flag b Partitioned ∷ os) ≡ with_options (record r { partitioned = kept b }) os
+  partitioned : (b : Bool) → r.partitioned ≡ None → with_options r (flag b Partitioned ∷ os) ≡ with_options
+      (record r { partitioned = kept b }) os
   partitioned true e = refl
   partitioned false e = λ i. with_options (record r { partitioned = e i }) os
 
-  secure : (b : Bool) → r.secure ≡ None → with_options r (flag b Secure ∷ os) ≡ with_options (record r { secure = kept b }) os
+  secure : (b : Bool) → r.secure ≡ None → with_options r (flag b Secure ∷ os) ≡ with_options
+      (record r { secure = kept b }) os
   secure true e = refl
   secure false e = λ i. with_options (record r { secure = e i }) os
 
-  path : (o : Option (List ℕ)) → r.path ≡ None → with_options r (option_map Path o ∷ os) ≡ with_options (record r { path = o }) os
+  path : (o : Option (List ℕ)) → r.path ≡ None → with_options r (option_map Path o ∷ os) ≡ with_options
+      (record r { path = o }) os
   path (Some t) e = refl
   path None e = λ i. with_options (record r { path = e i }) os
 
-  domain : (o : Option (List ℕ)) → r.domain ≡ None → with_options r (option_map Domain o ∷ os) ≡ with_options (record r { domain = o }) os
+  domain : (o : Option (List ℕ)) → r.domain ≡ None → with_options r (option_map Domain o ∷ os) ≡ with_options
+      (record r { domain = o }) os
   domain (Some t) e = refl
   domain None e = λ i. with_options (record r { domain = e i }) os
 
-  max_age : (o : Option ℤ) → r.max_age ≡ None → with_options r (option_map (λ nanos. MaxAge (whole_seconds nanos)) o ∷ os) ≡ with_options (record r { max_age = option_map (λ nanos. not_below_zero (whole_seconds nanos) *ℤ pos 1_000_000_000) o }) os
+  max_age : (o : Option ℤ) → r.max_age ≡ None → with_options r
+      (option_map (λ nanos. MaxAge (whole_seconds nanos)) o ∷ os) ≡ with_options
+      (record r { max_age = option_map (λ nanos. not_below_zero (whole_seconds nanos) *ℤ pos 1_000_000_000) o }) os
   max_age (Some z) e = refl
   max_age None e = λ i. with_options (record r { max_age = e i }) os
 
-  expires : (o : Option Expiration) → r.expires ≡ None → with_options r (end_of o ∷ os) ≡ with_options (record r { expires = whole_end o }) os
+  expires : (o : Option Expiration) → r.expires ≡ None → with_options r (end_of o ∷ os) ≡ with_options
+      (record r { expires = whole_end o }) os
   expires (Some (At d)) e = refl
   expires (Some Session) e = λ i. with_options (record r { expires = e i }) os
   expires None e = λ i. with_options (record r { expires = e i }) os
@@ -98,7 +114,10 @@ with_options-attributes_of r =
     let r4 : Record = record r3 { secure = kept (prints_secure r) } in
     let r5 : Record = record r4 { path = r.path } in
     let r6 : Record = record r5 { domain = domain_of r } in
-    let r7 : Record = record r6 { max_age = option_map (λ nanos. not_below_zero (whole_seconds nanos) *ℤ pos 1_000_000_000) r.max_age } in
+    let r7 : Record = record r6 {
+      max_age = option_map (λ nanos. not_below_zero
+          (whole_seconds nanos) *ℤ pos 1_000_000_000) r.max_age;
+    } in
     let o8 : List (Option Attribute) = end_of r.expires ∷ [] in
     let o7 : List (Option Attribute) = option_map (λ nanos. MaxAge (whole_seconds nanos)) r.max_age ∷ o8 in
     let o6 : List (Option Attribute) = option_map Domain (domain_of r) ∷ o7 in

@@ -1,5 +1,6 @@
 -- Lemmas on the pieces of a text.
-use Rattle.std.proofs.Common.{◌≡◌, ◌≢◌, ℕ, ◌==◌, Bool, true, false, cond, List, [], ◌∷◌, ◌++◌, refl, sym, ap, ◌∙◌, eqb-true}
+use Rattle.std.proofs.Common.{◌≡◌, ◌≢◌, ℕ, ◌==◌, Bool, true, false, cond, List, [], ◌∷◌, ◌++◌, refl, sym, ap, ◌∙◌}
+use Rattle.std.proofs.Common.{eqb-true}
 use Rattle.cookie_text.specs.Record.{without_dot}
 
 -- a text that begins with no dot
@@ -12,7 +13,8 @@ without_dot_none (b ∷ bs) h = go _ refl
     go false e = refl
 
 -- a text that begins with a quote and doesn't go on to end with one
-pub no_last_quote : (text rest : List ℕ) → text ≡ 34 ∷ rest → ((front : List ℕ) → rest ≢ front ++ 34 ∷ []) → (middle : List ℕ) → text ≢ 34 ∷ middle ++ 34 ∷ []
+pub no_last_quote : (text rest : List ℕ) → text ≡ 34 ∷ rest → ((front : List ℕ) → rest ≢ front ++ 34 ∷ [])
+    → (middle : List ℕ) → text ≢ 34 ∷ middle ++ 34 ∷ []
 no_last_quote text rest first none middle e =
     let same : ◌≡◌ {A = List ℕ} (34 ∷ rest) (34 ∷ (middle ++ 34 ∷ [])) = sym first ∙ e in
     none middle (cc)

@@ -1,5 +1,6 @@
 -- Each printed attribute reads as what it settles to, and holds no semicolon.
-use Rattle.std.proofs.Common.{◌≡◌, ℕ, suc, ◌<◌, ◌≤◌, ◌≤ℤ◌, ◌^◌, ◌==◌, true, false, not, List, [], ◌∷◌, ◌++◌, length, ℤ, pos, negsuc, refl, inr, arith, codes, lit<}
+use Rattle.std.proofs.Common.{◌≡◌, ℕ, suc, ◌<◌, ◌≤◌, ◌≤ℤ◌, ◌^◌, ◌==◌, true, false, not, List, [], ◌∷◌, ◌++◌, length, ℤ}
+use Rattle.std.proofs.Common.{pos, negsuc, refl, inr, arith, codes, lit<}
 use lib.Utf8.{encode}
 use Rattle.std.specs.Prelude.{int_lt}
 use Rattle.std.proofs.lemmas.Bool.{and_parts}
@@ -14,14 +15,18 @@ use Rattle.jiff_core.specs.Timestamp.{IsDurationNanos}
 use Rattle.jiff.specs.Types.{DateTime}
 use Rattle.cookie_text.specs.declared.draft.SameSite.{SameSite}
 use Rattle.cookie_text.specs.declared.draft.SameSite.TheVariants.{Strict, Lax, None as Unrestricted}
-use Rattle.cookie_text.specs.Attribute.{Attribute, HttpOnly, Secure, Partitioned, OfSite, MaxAge, Path, Domain, Expires, Gives}
+use Rattle.cookie_text.specs.Attribute.{Attribute, HttpOnly, Secure, Partitioned, OfSite, MaxAge, Path, Domain, Expires}
+use Rattle.cookie_text.specs.Attribute.{Gives}
 use Rattle.cookie_text.specs.Normal.{whole_moment, IsPiece}
 use Rattle.cookie_text.specs.Pieces.{semicolon, name_of}
 use Rattle.cookie_text.specs.Printing.{attribute_text, date_text, whole_seconds}
 use Rattle.cookie_text.proofs.DateNumbers.{own}
 use Rattle.cookie_text.proofs.NormalLemmas.{settled}
-use Rattle.cookie_text.proofs.PrintedDates.{stamp, printed_date, printed_moment, printed_quiet, trim-printed, quiet_is_clean}
-use Rattle.cookie_text.proofs.PrintedPieces.{IsClean, IsDigitByte, IsGraphic, IsClean-digits, digit_at_range, gives-HttpOnly, gives-Path, gives-Domain, gives-SameSite, gives-MaxAge, trim-graphic, value_cut}
+use Rattle.cookie_text.proofs.PrintedDates.{stamp, printed_date, printed_moment, printed_quiet, trim-printed}
+use Rattle.cookie_text.proofs.PrintedDates.{quiet_is_clean}
+use Rattle.cookie_text.proofs.PrintedPieces.{IsClean, IsDigitByte, IsGraphic, IsClean-digits, digit_at_range}
+use Rattle.cookie_text.proofs.PrintedPieces.{gives-HttpOnly, gives-Path, gives-Domain, gives-SameSite, gives-MaxAge}
+use Rattle.cookie_text.proofs.PrintedPieces.{trim-graphic, value_cut}
 
 -- a printed attribute: no semicolon, and it gives what it settles to
 pub record ReadsAs (a : Attribute) : Type 0 where
@@ -58,7 +63,10 @@ reads-Partitioned = record { clean = clean_of (codes "Partitioned") refl; gives 
 pub reads-SameSite : (s : SameSite) → ReadsAs (OfSite s)
 reads-SameSite Strict = record { clean = clean_of (codes "SameSite=Strict") refl; gives = gives-SameSite Strict }
 reads-SameSite Lax = record { clean = clean_of (codes "SameSite=Lax") refl; gives = gives-SameSite Lax }
-reads-SameSite Unrestricted = record { clean = clean_of (codes "SameSite=None") refl; gives = gives-SameSite Unrestricted }
+reads-SameSite Unrestricted = record {
+  clean = clean_of (codes "SameSite=None") refl;
+  gives = gives-SameSite Unrestricted;
+}
 
 pub reads-Path : (text : List ℕ) → IsPiece text → ReadsAs (Path text)
 reads-Path text h = record {
@@ -86,8 +94,12 @@ gives-negative n small = record {
       let digits = decimal (suc n) in
       let text = 45 ∷ digits in
       let wide : suc n < 2 ^ 64 = omega arith in
-      let are = digits_decimal own (suc n) wide in
-      (text, value_cut (codes " Max-Age") text text refl (trim-minus digits are), inr (digits, refl, (decimal_nonempty (suc n) wide, are), refl));
+      let are = digits_decimal own (suc n) wide in (
+        text,
+        value_cut (codes " Max-Age") text text refl (trim-minus digits are),
+        inr
+            (digits, refl, (decimal_nonempty (suc n) wide, are), refl),
+      );
 }
 
 -- seconds of 64 bits
@@ -99,14 +111,16 @@ reads-MaxAge (pos n) h =
     let small : n < 2 ^ 63 = omega (arith, signed_arith, h.1) in
     let wide : n < 2 ^ 64 = omega arith in
     record {
-      clean = clean_join (codes "Max-Age=") (decimal n) (clean_of (codes "Max-Age=") refl) (IsClean-digits (decimal n) (digits_decimal own n wide));
+      clean = clean_join (codes "Max-Age=") (decimal n) (clean_of (codes "Max-Age=") refl)
+          (IsClean-digits (decimal n) (digits_decimal own n wide));
       gives = gives-MaxAge n small;
     }
 reads-MaxAge (negsuc n) h =
     let small : n < 2 ^ 63 = omega (arith, signed_arith, h.0) in
     let wide : suc n < 2 ^ 64 = omega arith in
     record {
-      clean = clean_join (codes "Max-Age=-") (decimal (suc n)) (clean_of (codes "Max-Age=-") refl) (IsClean-digits (decimal (suc n)) (digits_decimal own (suc n) wide));
+      clean = clean_join (codes "Max-Age=-") (decimal (suc n)) (clean_of (codes "Max-Age=-") refl)
+          (IsClean-digits (decimal (suc n)) (digits_decimal own (suc n) wide));
       gives = gives-negative n small;
     }
 
@@ -120,7 +134,8 @@ whole_seconds_fit (negsuc a) h =
     let high = h.1 in
     (omega (arith, signed_arith, low), omega (arith, signed_arith))
 
-gives-Expires : (d : DateTime) (y : ℕ) → d.date.year ≡ pos y → 100 ≤ y → Gives (32 ∷ attribute_text (Expires d)) (Expires (whole_moment d))
+gives-Expires : (d : DateTime) (y : ℕ) → d.date.year ≡ pos y → 100 ≤ y
+    → Gives (32 ∷ attribute_text (Expires d)) (Expires (whole_moment d))
 unfolding name_of trim_start trim_end chars encode
 gives-Expires d y year long = record {
   named = refl;
@@ -139,6 +154,7 @@ pub reads-Expires : (d : DateTime) → int_lt d.date.year (pos 100) ≡ false �
 reads-Expires d h =
     let year = long_year d.date.year h in
     record {
-      clean = clean_join (codes "Expires=") (date_text d) (clean_of (codes "Expires=") refl) (quiet_is_clean (date_text d) (printed_quiet d year.0 year.1 year.2));
+      clean = clean_join (codes "Expires=") (date_text d) (clean_of (codes "Expires=") refl)
+          (quiet_is_clean (date_text d) (printed_quiet d year.0 year.1 year.2));
       gives = gives-Expires d year.0 year.1 year.2;
     }

@@ -1,5 +1,7 @@
 -- A printed date reads back.
-use Rattle.std.proofs.Common.{◌≡◌, ℕ, ◌+◌, ◌<◌, ◌≤◌, ◌≤ℤ◌, ◌^◌, ◌==◌, ◌&&◌, Bool, true, false, not, nat_lt, List, [], ◌∷◌, ◌++◌, length, get_or, pos, refl, sym, ap, subst, ◌∙◌, append_assoc, inl, arith, codes}
+use Rattle.std.proofs.Common.{◌≡◌, ℕ, ◌+◌, ◌<◌, ◌≤◌, ◌≤ℤ◌, ◌^◌, ◌==◌, ◌&&◌, Bool, true, false, not, nat_lt, List, []}
+use Rattle.std.proofs.Common.{◌∷◌, ◌++◌, length, get_or, pos, refl, sym, ap, subst, ◌∙◌, append_assoc, inl, arith}
+use Rattle.std.proofs.Common.{codes}
 use lib.Utf8.{encodes, scalars, scalar}
 use Rattle.std.proofs.Math.ListN.{get_or-append}
 use Rattle.std.proofs.lemmas.Bool.{agree_below_at, and_parts, ltb-true}
@@ -23,21 +25,19 @@ use Rattle.jiff_core.specs.Calendar.{IsYear, days_in_month}
 use Rattle.jiff_core.specs.Date.{epoch_day}
 use Rattle.jiff.specs.Types.{DateTime}
 use Rattle.jiff.specs.Words.{weekday_of}
-use Rattle.cookie_text.specs.Date.{Stamp, IsStamp, clock, day_month_year, spaced, full_year, IsDateText, IsMoment}
+use Rattle.cookie_text.specs.Date.{Stamp, IsStamp, clock, day_month_year, dated, with_weekday, spaced, full_year}
+use Rattle.cookie_text.specs.Date.{IsDateText, IsMoment}
 use Rattle.cookie_text.specs.Normal.{whole_moment}
-use Rattle.cookie_text.specs.Printing.{date_text, day_text, clock_text}
+use Rattle.cookie_text.specs.Printing.{date_text, time_text}
 use Rattle.cookie_text.proofs.DateLemmas.{month_length}
 use Rattle.cookie_text.proofs.DateNumbers.{own}
-
--- the same characters, as printing and reading group them
-regroup : (a b c d e f g h j k : List ℕ) → (a ++ b ++ c ++ d ++ e) ++ f ++ g ++ h ++ j ++ k ≡ a ++ b ++ (c ++ d ++ e ++ f ++ g ++ h ++ j ++ k)
-regroup a b c d e f g h j k = simp append_assoc
 
 -- a byte of ASCII, and no semicolon
 abbrev pub is_quiet : ℕ → Bool
 is_quiet b = nat_lt b 128 && not (b == 59)
 
-pub quiet_join : (a b : List ℕ) → list_all is_quiet a ≡ true → list_all is_quiet b ≡ true → list_all is_quiet (a ++ b) ≡ true
+pub quiet_join : (a b : List ℕ) → list_all is_quiet a ≡ true → list_all is_quiet b ≡ true
+    → list_all is_quiet (a ++ b) ≡ true
 quiet_join a b ha hb = rw (list_all-append is_quiet a b, ha, hb) refl
 
 scalars_quiet : (bs : List ℕ) → list_all is_quiet bs ≡ true → scalars bs ≡ true
@@ -63,12 +63,15 @@ skip_first : (bs : List ℕ) → is_whitespace (get_or bs 0 0) ≡ false → ski
 skip_first [] h = refl
 skip_first (b ∷ bs) h = rw h refl
 
-drop_last : (bs : List ℕ) (last : ℕ) → is_whitespace last ≡ false → drop_trailing_whitespace (bs ++ last ∷ []) ≡ bs ++ last ∷ []
+drop_last : (bs : List ℕ) (last : ℕ) → is_whitespace last ≡ false
+    → drop_trailing_whitespace (bs ++ last ∷ []) ≡ bs ++ last ∷ []
 drop_last [] last h = rw h refl
 drop_last (b ∷ bs) last h =
     let rest = drop_last bs last h in
-    let some : (length (drop_trailing_whitespace (bs ++ last ∷ [])) == 0) ≡ false = rw rest (grind (arith, nat_tests, length-append bs (last ∷ []))) in
-    let kept : (is_whitespace b && (length (drop_trailing_whitespace (bs ++ last ∷ [])) == 0)) ≡ false = rw some (off (is_whitespace b)) in
+    let some : (length (drop_trailing_whitespace (bs ++ last ∷ [])) == 0) ≡ false = rw rest
+    (grind (arith, nat_tests, length-append bs (last ∷ []))) in
+    let kept : (is_whitespace b && (length (drop_trailing_whitespace (bs ++ last ∷ [])) == 0)) ≡ false = rw some
+    (off (is_whitespace b)) in
     rw (kept, rest) refl
   where
     off : (b : Bool) → (b && false) ≡ false
@@ -99,7 +102,8 @@ module _ (d : DateTime) (y : ℕ) (year : d.date.year ≡ pos y) (long : 100 ≤
   weekday_in = let h = weekday_number_bound (epoch_day d.date) in (omega arith, omega arith)
 
   year_most : y ≤ 9999
-  year_most = let h : pos y ≤ℤ pos 9999 = subst (λ z. z ≤ℤ pos 9999) year d.date.year_in.1 in omega (arith, signed_arith, h)
+  year_most = let h : pos y ≤ℤ pos 9999 = subst (λ z. z ≤ℤ pos 9999) year d.date.year_in.1 in omega
+      (arith, signed_arith, h)
 
   abbrev pub stamp : Stamp
   stamp = record {
@@ -126,14 +130,14 @@ module _ (d : DateTime) (y : ℕ) (year : d.date.year ≡ pos y) (long : 100 ≤
   shown : date_text d ≡ spaced w stamp (decimal y)
   unfolding date_text
   shown =
-      ap (λ z. day_text d.date ++ codes " " ++ signed_decimal z ++ codes " " ++ clock_text d.time ++ codes " GMT") year
-      ∙ regroup (day_name w) (codes ", ") (two_digits d.date.day) (codes " ") (month_name d.date.month) (codes " ") (decimal y) (codes " ") (clock_text d.time) (codes " GMT")
+      ap (λ z. with_weekday w (dated (codes " ") d.date.day d.date.month (signed_decimal z) (time_text d))) year
 
   pub printed_date : IsDateText (date_text d) stamp
   printed_date =
       let wide : y < 2 ^ 64 = let m = year_most in omega arith in
       let digits = digits_decimal own y wide in
-      let value : full_year (digits_value 10 (decimal y)) ≡ y = rw (digits_value-decimal own y wide) (grind (arith, nat_tests, long)) in
+      let value : full_year (digits_value 10 (decimal y)) ≡ y = rw (digits_value-decimal own y wide)
+      (grind (arith, nat_tests, long)) in
       record {
         weekday = w;
         day = two_digits d.date.day;
@@ -153,7 +157,15 @@ module _ (d : DateTime) (y : ℕ) (year : d.date.year ≡ pos y) (long : 100 ≤
       }
 
   pub printed_moment : IsMoment stamp (whole_moment d)
-  printed_moment = record { year = year; month = refl; day = refl; hour = refl; minute = refl; second = refl; whole = refl }
+  printed_moment = record {
+    year = year;
+    month = refl;
+    day = refl;
+    hour = refl;
+    minute = refl;
+    second = refl;
+    whole = refl;
+  }
 
   day_small : d.date.day < 100
   day_small = omega (arith, d.date.day_in, month_length d.date.year d.date.month)
@@ -167,31 +179,40 @@ module _ (d : DateTime) (y : ℕ) (year : d.date.year ≡ pos y) (long : 100 ≤
       let day = quiet_two d.date.day day_small in
       let month = quiet_month d.date.month d.date.month_in in
       let year_digits = quiet_digits (decimal y) (digits_decimal own y wide) in
-      let dated = two_digits d.date.day ++ codes " " ++ month_name d.date.month in
-      let full = dated ++ codes " " ++ decimal y in
+      let day_month = two_digits d.date.day ++ codes " " ++ month_name d.date.month in
+      let full = day_month ++ codes " " ++ decimal y in
       let timed = two_digits d.time.hour ++ codes ":" ++ two_digits d.time.minute in
       let front = quiet_join (day_name w) (codes ", ") (quiet_name w weekday_in) refl in
-      let is_dated = quiet_join (two_digits d.date.day ++ codes " ") (month_name d.date.month) (quiet_join (two_digits d.date.day) (codes " ") day refl) month in
-      let is_full = quiet_join (dated ++ codes " ") (decimal y) (quiet_join dated (codes " ") is_dated refl) year_digits in
-      let is_timed = quiet_join (two_digits d.time.hour ++ codes ":") (two_digits d.time.minute) (quiet_join (two_digits d.time.hour) (codes ":") hour refl) minute in
-      let is_clock = quiet_join (timed ++ codes ":") (two_digits d.time.second) (quiet_join timed (codes ":") is_timed refl) second in
-      let whole = quiet_join (full ++ codes " " ++ clock stamp) (codes " GMT") (quiet_join (full ++ codes " ") (clock stamp) (quiet_join full (codes " ") is_full refl) is_clock) refl in
+      let is_dated = quiet_join (two_digits d.date.day ++ codes " ") (month_name d.date.month)
+      (quiet_join (two_digits d.date.day) (codes " ") day refl) month in
+      let is_full = quiet_join (day_month ++ codes " ") (decimal y)
+      (quiet_join day_month (codes " ") is_dated refl) year_digits in
+      let is_timed = quiet_join (two_digits d.time.hour ++ codes ":") (two_digits d.time.minute)
+      (quiet_join (two_digits d.time.hour) (codes ":") hour refl) minute in
+      let is_clock = quiet_join (timed ++ codes ":") (two_digits d.time.second)
+      (quiet_join timed (codes ":") is_timed refl) second in
+      let whole = quiet_join (full ++ codes " " ++ clock stamp) (codes " GMT")
+      (quiet_join (full ++ codes " ") (clock stamp) (quiet_join full (codes " ") is_full refl) is_clock) refl in
       rw shown (quiet_join (day_name w ++ codes ", ") (full ++ codes " " ++ clock stamp ++ codes " GMT") front whole)
 
 -- such bytes are their own characters
 pub chars-quiet : (text : List ℕ) → list_all is_quiet text ≡ true → chars text ≡ text
 chars-quiet text quiet =
-    ap chars (sym (encodes-IsAscii text (IsAscii-from_all text (below text quiet)))) ∙ chars-encodes text (scalars_quiet text quiet)
+    ap chars (sym (encodes-IsAscii text (IsAscii-from_all text (below text quiet))))
+    ∙ chars-encodes text (scalars_quiet text quiet)
 
 -- the text without what `trim` could take
-pub trim-quiet : (text front : List ℕ) (last : ℕ) → list_all is_quiet text ≡ true → text ≡ front ++ last ∷ [] → is_whitespace (get_or text 0 0) ≡ false → is_whitespace last ≡ false → trim text ≡ text
+pub trim-quiet : (text front : List ℕ) (last : ℕ) → list_all is_quiet text ≡ true → text ≡ front ++ last ∷ []
+    → is_whitespace (get_or text 0 0) ≡ false → is_whitespace last ≡ false → trim text ≡ text
 unfolding trim_start trim_end
 trim-quiet text front last quiet ends first after =
     let ascii = IsAscii-from_all text (below text quiet) in
     let same = encodes-IsAscii text ascii in
     let characters : chars text ≡ text = ap chars (sym same) ∙ chars-encodes text (scalars_quiet text quiet) in
-    let start : trim_start text ≡ text = ap (λ cs. encodes (skip_leading_whitespace cs)) characters ∙ ap encodes (skip_first text first) ∙ same in
-    let end : drop_trailing_whitespace text ≡ text = ap drop_trailing_whitespace ends ∙ drop_last front last after ∙ sym ends in
+    let start : trim_start text ≡ text = ap (λ cs. encodes (skip_leading_whitespace cs)) characters
+    ∙ ap encodes (skip_first text first) ∙ same in
+    let end : drop_trailing_whitespace text ≡ text = ap drop_trailing_whitespace ends ∙ drop_last front last after
+    ∙ sym ends in
     ap trim_end start ∙ ap (λ cs. encodes (drop_trailing_whitespace cs)) characters ∙ ap encodes end ∙ same
 
 -- a printed date has no white space at an end
@@ -200,11 +221,20 @@ unfolding date_text
 trim-printed d y year long =
     let n = weekday_of d.date + 1 in
     let within = weekday_in d y year long in
-    let some : nat_lt 0 (length (day_name n)) ≡ true = agree_below_at (λ k. nat_lt 0 (length (day_name k))) (λ _. true) 8 n refl (omega arith) in
+    let some : nat_lt 0 (length (day_name n)) ≡ true = agree_below_at (λ k. nat_lt 0 (length (day_name k)))
+    (λ _. true) 8 n refl (omega arith) in
     let rest = day_month_year (codes " ") (stamp d y year long) (decimal y) in
-    let front = day_text d.date ++ codes " " ++ signed_decimal d.date.year ++ codes " " ++ clock_text d.time in
+    let before = day_name n ++ codes ", " in
+    let after =
+    two_digits d.date.day ++ codes " " ++ month_name d.date.month ++ codes " " ++ signed_decimal d.date.year
+    ++ codes " " ++ time_text d in
+    let ends : date_text d ≡ (before ++ (after ++ codes " GM")) ++ 84 ∷ [] =
+    ap (λ t. before ++ t) (sym (append_assoc after (codes " GM") (84 ∷ [])))
+    ∙ sym (append_assoc before (after ++ codes " GM") (84 ∷ [])) in
     let first : get_or (date_text d) 0 0 ≡ get_or (day_name n) 0 0 =
     ap (λ t. get_or t 0 0) (shown d y year long ∙ append_assoc (day_name n) (codes ", ") rest)
     ∙ get_or-append (day_name n) (codes ", " ++ rest) 0 0 (ltb-true _ _ some) in
-    let black : is_whitespace (get_or (day_name n) 0 0) ≡ false = agree_below_at (λ k. is_whitespace (get_or (day_name k) 0 0)) (λ _. false) 8 n refl (omega arith) in
-    trim-quiet (date_text d) (front ++ codes " GM") 84 (printed_quiet d y year long) (sym (append_assoc front (codes " GM") (84 ∷ []))) (ap is_whitespace first ∙ black) refl
+    let black : is_whitespace (get_or (day_name n) 0 0) ≡ false = agree_below_at
+    (λ k. is_whitespace (get_or (day_name k) 0 0)) (λ _. false) 8 n refl (omega arith) in
+    trim-quiet (date_text d) (before ++ (after ++ codes " GM")) 84 (printed_quiet d y year long) ends
+    (ap is_whitespace first ∙ black) refl

@@ -1,5 +1,6 @@
 -- The pieces of a printed text, and what they give.
-use Rattle.std.proofs.Common.{◌≡◌, ℕ, ◌+◌, ◌<◌, ◌^◌, ◌==◌, Bool, true, false, List, [], ◌∷◌, ◌++◌, length, Some, pos, min, refl, sym, ap, ◌∙◌, inl, inr, arith, append_assoc, codes, nat_lt, drop, drop_at, ◌-◌}
+use Rattle.std.proofs.Common.{◌≡◌, ℕ, ◌+◌, ◌<◌, ◌^◌, ◌==◌, Bool, true, false, List, [], ◌∷◌, ◌++◌, length, Some, pos}
+use Rattle.std.proofs.Common.{min, refl, sym, ap, ◌∙◌, inl, inr, arith, append_assoc, codes, nat_lt, drop, drop_at, ◌-◌}
 use Rattle.std.specs.Str.Parse.{digits_value}
 use Rattle.std.specs.List.{slice_split, flat_map, All, position_or_len}
 use Rattle.std.specs.Str.{trim, trim_start, trim_end, chars}
@@ -18,15 +19,14 @@ use Rattle.std.proofs.lemmas.Str.Ascii.{IsAscii-from_all}
 use Rattle.std.proofs.lemmas.Str.Parse.{digit_at}
 use Rattle.std.proofs.lemmas.List.Elements.{All-head, All-tail, All-weaker, All-from_get_or}
 use Rattle.std.proofs.lemmas.Bool.{agree_below_at, cases_lt}
-use Rattle.percent_encoding.specs.Percent.{percent_encode}
 use Rattle.percent_encoding.specs.AsciiSet.{should_percent_encode}
-use Rattle.percent_encoding.proofs.PercentLemmas.{All-percent_encode}
+use Rattle.cookie_text.proofs.EscapeLemmas.{All-escaped}
 use Rattle.cookie_text.specs.declared.escape.TheConstants.{PROFILE}
 use Rattle.cookie_text.specs.Pieces.{name_of, value_of, text_after, semicolon, equals}
 use Rattle.cookie_text.specs.declared.draft.SameSite.{SameSite}
 use Rattle.cookie_text.specs.declared.draft.SameSite.TheVariants.{Strict, Lax, None as Unrestricted}
 use Rattle.cookie_text.specs.Attribute.{HttpOnly, OfSite, MaxAge, Path, Domain, Gives}
-use Rattle.cookie_text.specs.Printing.{attribute_text}
+use Rattle.cookie_text.specs.Printing.{attribute_text, escaped}
 use Rattle.cookie_text.specs.Attribute.{AreDigits}
 use Rattle.cookie_text.proofs.AttributeLemmas.{own}
 use Rattle.std.proofs.lemmas.Fmt.{digits_decimal, digits_value-decimal, decimal_nonempty}
@@ -40,7 +40,8 @@ AreClean [] = Unit {0}
 AreClean (q ∷ qs) = IsClean q × AreClean qs
 
 -- cut at its semicolons, a joined text gives back its pieces
-pub split-joined : (p : List ℕ) (qs : List (List ℕ)) → IsClean p → AreClean qs → slice_split (λ b. b == semicolon) (p ++ flat_map (λ q. semicolon ∷ q) qs) ≡ p ∷ qs
+pub split-joined : (p : List ℕ) (qs : List (List ℕ)) → IsClean p → AreClean qs
+    → slice_split (λ b. b == semicolon) (p ++ flat_map (λ q. semicolon ∷ q) qs) ≡ p ∷ qs
 split-joined p [] hp hq = rw (append-nil p) (slice_split_none (λ b. b == semicolon) p hp)
 split-joined p (q ∷ qs) hp hq =
     slice_split_at (λ b. b == semicolon) p semicolon (q ++ flat_map (λ r. semicolon ∷ r) qs) hp refl
@@ -52,12 +53,15 @@ unfolding name_of trim_start trim_end chars encode
 gives-HttpOnly = record { named = refl; says = tt }
 
 -- the value behind the first `=`
-pub value_cut : (n v t : List ℕ) → position_or_len (λ b. b == equals) (n ++ equals ∷ v) ≡ length n → trim v ≡ t → value_of (n ++ equals ∷ v) ≡ Some t
+pub value_cut : (n v t : List ℕ) → position_or_len (λ b. b == equals) (n ++ equals ∷ v) ≡ length n → trim v ≡ t
+    → value_of (n ++ equals ∷ v) ≡ Some t
 unfolding value_of text_after
 value_cut n v t at e =
-    let within : nat_lt (length n) (length (n ++ equals ∷ v)) ≡ true = grind (arith, nat_tests, length-append n (equals ∷ v)) in
+    let within : nat_lt (length n) (length (n ++ equals ∷ v)) ≡ true = grind
+    (arith, nat_tests, length-append n (equals ∷ v)) in
     let size : length n + 1 ≡ length (n ++ equals ∷ []) = simp length-append in
-    let rest : drop (length n + 1) (n ++ equals ∷ v) ≡ v = ap (drop (length n + 1)) (sym (append_assoc n (equals ∷ []) v)) ∙ drop_at (n ++ equals ∷ []) v (length n + 1) (sym size) in
+    let rest : drop (length n + 1) (n ++ equals ∷ v) ≡ v = ap (drop (length n + 1))
+    (sym (append_assoc n (equals ∷ []) v)) ∙ drop_at (n ++ equals ∷ []) v (length n + 1) (sym size) in
     rw (at, within, rest) (ap Some e)
 
 pub gives-Path : (t : List ℕ) → trim t ≡ t → Gives (32 ∷ attribute_text (Path t)) (Path t)
@@ -109,8 +113,10 @@ pub trim-graphic : (bs : List ℕ) → All IsGraphic bs → trim bs ≡ bs
 unfolding trim_start trim_end
 trim-graphic bs h =
     let same = encodes-IsAscii bs (ascii_of bs h) in
-    let start : trim_start bs ≡ bs = ap (λ cs. encodes (skip_leading_whitespace cs)) (chars-graphic bs h) ∙ ap encodes (skip-graphic bs h) ∙ same in
-    ap trim_end start ∙ ap (λ cs. encodes (drop_trailing_whitespace cs)) (chars-graphic bs h) ∙ ap encodes (drop-graphic bs h) ∙ same
+    let start : trim_start bs ≡ bs = ap (λ cs. encodes (skip_leading_whitespace cs)) (chars-graphic bs h)
+    ∙ ap encodes (skip-graphic bs h) ∙ same in
+    ap trim_end start ∙ ap (λ cs. encodes (drop_trailing_whitespace cs)) (chars-graphic bs h)
+    ∙ ap encodes (drop-graphic bs h) ∙ same
 
 abbrev pub IsDigitByte : ℕ → Type 0
 IsDigitByte b = IsInRange 48 57 b
@@ -120,10 +126,12 @@ pub digit_at_range : (ds : List ℕ) → list_all is_ascii_digit ds ≡ true →
 digit_at_range ds h = All-from_get_or IsDigitByte ds 0 (λ i within. digit_at ds i (own.to ds h) within)
 
 pub trim-digits : (ds : List ℕ) → list_all is_ascii_digit ds ≡ true → trim ds ≡ ds
-trim-digits ds h = trim-graphic ds (All-weaker IsDigitByte IsGraphic (λ b k. (omega arith, omega arith)) ds (digit_at_range ds h))
+trim-digits ds h = trim-graphic ds (All-weaker IsDigitByte IsGraphic (λ b k. (omega arith, omega arith)) ds
+    (digit_at_range ds h))
 
 pub IsClean-digits : (ds : List ℕ) → list_all is_ascii_digit ds ≡ true → IsClean ds
-IsClean-digits ds h = All-weaker IsDigitByte (λ b. (b == semicolon) ≡ false) (λ b k. grind (arith, nat_tests)) ds (digit_at_range ds h)
+IsClean-digits ds h = All-weaker IsDigitByte (λ b. (b == semicolon) ≡ false) (λ b k. grind (arith, nat_tests)) ds
+    (digit_at_range ds h)
 
 pub trim-decimal : (n : ℕ) → n < 2 ^ 64 → trim (decimal n) ≡ decimal n
 trim-decimal n small = trim-digits (decimal n) (digits_decimal own n small)
@@ -139,14 +147,15 @@ kept_is_plain : (b : ℕ) → should_percent_encode PROFILE b ≡ false → IsPl
 unfolding should_percent_encode
 kept_is_plain b kept = elim (cases_lt b 128) [
   | inl small ↦
-      let table = agree_below_at (λ n. not (should_percent_encode PROFILE n) && not (is_plain n)) (λ _. false) 128 b refl small in
+      let table = agree_below_at (λ n. not (should_percent_encode PROFILE n) && not (is_plain n))
+      (λ _. false) 128 b refl small in
       let plain : is_plain b ≡ true = grind (arith, nat_tests) in
       grind (arith, nat_tests)
   | inr large ↦ absurd (grind (arith, nat_tests))
 ]
 
-pub All-IsPlain-encode : (bs : List ℕ) → All IsPlain (percent_encode PROFILE bs)
-All-IsPlain-encode bs = All-percent_encode IsPlain PROFILE bs kept_is_plain (λ b h. grind arith)
+pub All-IsPlain-escaped : (bs : List ℕ) → All IsPlain (escaped bs)
+All-IsPlain-escaped bs = All-escaped IsPlain bs kept_is_plain (λ b h. grind arith)
 
 pub gives-MaxAge : (n : ℕ) → n < 2 ^ 63 → Gives (32 ∷ attribute_text (MaxAge (pos n))) (MaxAge (pos n))
 unfolding name_of trim_start trim_end chars encode

@@ -26,9 +26,19 @@ nameless =
 
 -- a cookie of which each part is a slice of its source
 abbrev sliced : Record → Seen
-sliced c = record { cookie = c; raw = record { name = Some c.name; value = Some c.value; path = c.path; domain = domain_of c } }
+sliced c = record {
+  cookie = c;
+  raw = record {
+    name = Some c.name;
+    value = Some c.value;
+    path = c.path;
+    domain = domain_of c;
+  };
+}
 
-read_as : (text : List ℕ) (rest : List (List ℕ)) (c : Record) → IsPair (first_piece text) → c.name ≡ name_of (first_piece text) → c.value ≡ text_after (first_piece text) → pieces text ≡ first_piece text ∷ rest → HasAttributes rest c → ReadsPlain text (Ok (sliced c))
+read_as : (text : List ℕ) (rest : List (List ℕ)) (c : Record) → IsPair (first_piece text)
+    → c.name ≡ name_of (first_piece text) → c.value ≡ text_after (first_piece text)
+    → pieces text ≡ first_piece text ∷ rest → HasAttributes rest c → ReadsPlain text (Ok (sliced c))
 read_as text rest c pair name value cut has = record {
   accepted = (λ e. pair, λ e. refl);
   name = (pair.0, name, subst (λ n. 0 < length n) (sym name) pair.1);
@@ -64,9 +74,12 @@ unfolding name_of value_of text_after trim_start trim_end chars lib.Utf8.encode
 reads_first =
     let has : 1 < 3 = omega arith in
     let some : 0 < 1 = omega arith in
-    let one = HasAttributes-push [] (codes " Secure") (bare (codes "a") (codes "1")) Secure (bare_has_none (codes "a") (codes "1")) gives_secure in
-    read_as (codes "a=1; Secure; Path=/") (codes " Secure" ∷ codes " Path=/" ∷ []) first_cookie (has, some) refl refl refl
-    (HasAttributes-push (codes " Secure" ∷ []) (codes " Path=/") (record (bare (codes "a") (codes "1")) { secure = Some true }) (Path (codes "/")) one gives_path)
+    let one = HasAttributes-push [] (codes " Secure") (bare (codes "a") (codes "1")) Secure
+    (bare_has_none (codes "a") (codes "1")) gives_secure in
+    read_as (codes "a=1; Secure; Path=/") (codes " Secure" ∷ codes " Path=/" ∷ []) first_cookie
+    (has, some) refl refl refl
+    (HasAttributes-push (codes " Secure" ∷ []) (codes " Path=/")
+    (record (bare (codes "a") (codes "1")) { secure = Some true }) (Path (codes "/")) one gives_path)
 
 abbrev second_cookie : Record
 second_cookie = record (bare (codes "a") (codes "2")) { path = Some (codes "/"); domain = Some (codes "com") }
@@ -76,9 +89,12 @@ unfolding name_of value_of text_after trim_start trim_end chars lib.Utf8.encode
 reads_second =
     let has : 1 < 3 = omega arith in
     let some : 0 < 1 = omega arith in
-    let one = HasAttributes-push [] (codes " Path=/") (bare (codes "a") (codes "2")) (Path (codes "/")) (bare_has_none (codes "a") (codes "2")) gives_path in
-    read_as (codes "a=2; Path=/; Domain=com") (codes " Path=/" ∷ codes " Domain=com" ∷ []) second_cookie (has, some) refl refl refl
-    (HasAttributes-push (codes " Path=/" ∷ []) (codes " Domain=com") (record (bare (codes "a") (codes "2")) { path = Some (codes "/") }) (Domain (codes "com")) one gives_domain)
+    let one = HasAttributes-push [] (codes " Path=/") (bare (codes "a") (codes "2")) (Path (codes "/"))
+    (bare_has_none (codes "a") (codes "2")) gives_path in
+    read_as (codes "a=2; Path=/; Domain=com") (codes " Path=/" ∷ codes " Domain=com" ∷ []) second_cookie
+    (has, some) refl refl refl
+    (HasAttributes-push (codes " Path=/" ∷ []) (codes " Domain=com")
+    (record (bare (codes "a") (codes "2")) { path = Some (codes "/") }) (Domain (codes "com")) one gives_domain)
 
 abbrev third_cookie : Record
 third_cookie = record (bare (codes "a") (codes "3")) { path = Some (codes "/") }
@@ -89,4 +105,5 @@ reads_third =
     let has : 1 < 3 = omega arith in
     let some : 0 < 1 = omega arith in
     read_as (codes "a=3; path=/") (codes " path=/" ∷ []) third_cookie (has, some) refl refl refl
-    (HasAttributes-push [] (codes " path=/") (bare (codes "a") (codes "3")) (Path (codes "/")) (bare_has_none (codes "a") (codes "3")) gives_small_path)
+    (HasAttributes-push [] (codes " path=/") (bare (codes "a") (codes "3")) (Path (codes "/"))
+    (bare_has_none (codes "a") (codes "3")) gives_small_path)

@@ -1,12 +1,15 @@
 -- Reading goes on by one piece.
-use Rattle.std.proofs.Common.{◌<◌, ◌==◌, length, Result, Ok, arith, ◌≡◌, ◌≢◌, ℕ, Bool, true, false, cond, List, [], ◌∷◌, ◌++◌, Option, Some, None, bytes_eq, refl, sym, ap, subst, ◌∙◌, append_assoc}
+use Rattle.std.proofs.Common.{◌<◌, ◌==◌, length, Result, Ok, arith, ◌≡◌, ◌≢◌, ℕ, Bool, true, false, cond, List, [], ◌∷◌}
+use Rattle.std.proofs.Common.{◌++◌, Option, Some, None, bytes_eq, refl, sym, ap, subst, ◌∙◌, append_assoc}
 use Rattle.std.proofs.lemmas.Option.{same_Some}
 use Rattle.std.proofs.lemmas.List.Elements.{All-nil, All-cons, All-append}
 use Rattle.cookie_text.specs.declared.attribute.Kind.{Kind}
 use Rattle.cookie_text.specs.declared.attribute.Kind.TheVariants as kinds
 use Rattle.cookie_text.specs.Record.{Record, Raw, Seen}
-use Rattle.cookie_text.specs.Attribute.{Attribute, HttpOnly, Secure, Partitioned, OfSite, MaxAge, Path, Domain, Expires, kind, kind_name, Gives}
-use Rattle.cookie_text.specs.Reading.{HasLast, HasAttributes, GivesFlag, GivesSite, GivesAge, GivesPath, GivesDomain, GivesEnd, HasSlices, ReadsFurther, ReadsFirst, ReadsPlain, HasRest, first_piece}
+use Rattle.cookie_text.specs.Attribute.{Attribute, HttpOnly, Secure, Partitioned, OfSite, MaxAge, Path, Domain, Expires}
+use Rattle.cookie_text.specs.Attribute.{kind, kind_name, Gives}
+use Rattle.cookie_text.specs.Reading.{HasLast, HasAttributes, GivesFlag, GivesSite, GivesAge, GivesPath, GivesDomain}
+use Rattle.cookie_text.specs.Reading.{GivesEnd, HasSlices, ReadsPlain, HasRest, first_piece}
 use Rattle.cookie_text.specs.Pieces.{pieces, semicolon}
 use Rattle.cookie_text.specs.declared.error.ParseError.{ParseError}
 use Rattle.std.specs.List.{after_first, position_or_len}
@@ -15,7 +18,7 @@ use Rattle.std.proofs.lemmas.List.Sums.{fails_before_first}
 use Rattle.std.proofs.lemmas.List.{take_all}
 use Rattle.std.proofs.lemmas.Result.{IfOk-weaker}
 use Rattle.std.proofs.lemmas.List.Elements.{All-from_get_or}
-use Rattle.cookie_text.specs.Taking.{with_attribute, with_slice}
+use Rattle.cookie_text.specs.Steps.{ReadsFirst, ReadsFurther, with_attribute, with_slice}
 
 -- a name has one kind
 kind_from : List ℕ → Option Kind
@@ -48,12 +51,21 @@ pub same_kind : (p : List ℕ) (a b : Attribute) → Gives p a → Gives p b →
 same_kind p a b g h = one_kind _ _ (sym g.named ∙ h.named)
 
 -- one more piece, which gives a value
-pub HasLast-yes : {A : Type 0} (gives : List ℕ → A → Type 0) (ps : List (List ℕ)) (p : List ℕ) (a : A) → gives p a → HasLast gives (ps ++ p ∷ []) (Some a)
+pub HasLast-yes : {A : Type 0} (gives : List ℕ → A → Type 0) (ps : List (List ℕ)) (p : List ℕ) (a : A) → gives p a
+    → HasLast gives (ps ++ p ∷ []) (Some a)
 HasLast-yes {A} gives ps p a g =
-    record { before = ps; piece = p; after = []; split = refl; given = g; later = All-nil (λ q. (b : A) → ¬ (gives q b)) }
+    record {
+      before = ps;
+      piece = p;
+      after = [];
+      split = refl;
+      given = g;
+      later = All-nil (λ q. (b : A) → ¬ (gives q b));
+    }
 
 -- one more piece, which gives none
-pub HasLast-no : {A : Type 0} (gives : List ℕ → A → Type 0) (ps : List (List ℕ)) (p : List ℕ) (o : Option A) → ((b : A) → ¬ (gives p b)) → HasLast gives ps o → HasLast gives (ps ++ p ∷ []) o
+pub HasLast-no : {A : Type 0} (gives : List ℕ → A → Type 0) (ps : List (List ℕ)) (p : List ℕ) (o : Option A)
+    → ((b : A) → ¬ (gives p b)) → HasLast gives ps o → HasLast gives (ps ++ p ∷ []) o
 HasLast-no {A} gives ps p None none h =
     let P : List ℕ → Type 0 = λ q. (b : A) → ¬ (gives q b) in
     All-append P ps (p ∷ []) h (All-cons P p [] none (All-nil P))
@@ -73,7 +85,8 @@ module _ (ps : List (List ℕ)) (p : List ℕ) where
   other : (a b : Attribute) → Gives p a → kind a ≢ kind b → ¬ (Gives p b)
   other a b g ne h = ne (same_kind p a b g h)
 
-  flag : (f a : Attribute) → Gives p a → kind a ≢ kind f → (o : Option Bool) → HasLast (GivesFlag f) ps o → HasLast (GivesFlag f) (ps ++ p ∷ []) o
+  flag : (f a : Attribute) → Gives p a → kind a ≢ kind f → (o : Option Bool) → HasLast (GivesFlag f) ps o
+      → HasLast (GivesFlag f) (ps ++ p ∷ []) o
   flag f a g ne o h = HasLast-no (GivesFlag f) ps p o (λ b x. other a f g ne x.0) h
 
   module _ (r : Record) (h : HasAttributes ps r) where
@@ -85,7 +98,8 @@ module _ (ps : List (List ℕ)) (p : List ℕ) where
     secure Secure g = HasLast-yes (GivesFlag Secure) ps p true (g, refl)
     secure a g = flag Secure a g (λ e. cc) r.secure h.secure
 
-    partitioned : (a : Attribute) → Gives p a → HasLast (GivesFlag Partitioned) (ps ++ p ∷ []) (with_attribute r a).partitioned
+    partitioned : (a : Attribute) → Gives p a → HasLast (GivesFlag Partitioned) (ps ++ p ∷ [])
+        (with_attribute r a).partitioned
     partitioned Partitioned g = HasLast-yes (GivesFlag Partitioned) ps p true (g, refl)
     partitioned a g = flag Partitioned a g (λ e. cc) r.partitioned h.partitioned
 
@@ -110,7 +124,8 @@ module _ (ps : List (List ℕ)) (p : List ℕ) where
     expires a g = HasLast-no GivesEnd ps p r.expires (λ t x. other a (Expires x.0) g (λ e. cc) x.1) h.expires
 
 -- one more piece, and the attribute that it gives
-pub HasAttributes-push : (ps : List (List ℕ)) (p : List ℕ) (r : Record) (a : Attribute) → HasAttributes ps r → Gives p a → HasAttributes (ps ++ p ∷ []) (with_attribute r a)
+pub HasAttributes-push : (ps : List (List ℕ)) (p : List ℕ) (r : Record) (a : Attribute) → HasAttributes ps r → Gives p a
+    → HasAttributes (ps ++ p ∷ []) (with_attribute r a)
 HasAttributes-push ps p r a h g = record {
   http_only = http_only ps p r h a g;
   secure = secure ps p r h a g;
@@ -123,7 +138,8 @@ HasAttributes-push ps p r a h g = record {
 }
 
 -- one more piece, which gives none
-pub HasAttributes-pass : (ps : List (List ℕ)) (p : List ℕ) (r : Record) → HasAttributes ps r → ((a : Attribute) → ¬ (Gives p a)) → HasAttributes (ps ++ p ∷ []) r
+pub HasAttributes-pass : (ps : List (List ℕ)) (p : List ℕ) (r : Record) → HasAttributes ps r
+    → ((a : Attribute) → ¬ (Gives p a)) → HasAttributes (ps ++ p ∷ []) r
 HasAttributes-pass ps p r h none = record {
   http_only = HasLast-no (GivesFlag HttpOnly) ps p r.http_only (λ b x. none HttpOnly x.0) h.http_only;
   secure = HasLast-no (GivesFlag Secure) ps p r.secure (λ b x. none Secure x.0) h.secure;
@@ -166,7 +182,8 @@ same_value_raw r (Path t) = refl
 same_value_raw r (Domain t) = refl
 same_value_raw r _ = refl
 
-sliced : (s : Seen) (a : Attribute) → HasSlices s → HasSlices (record { cookie = with_attribute s.cookie a; raw = with_slice s.raw a })
+sliced : (s : Seen) (a : Attribute) → HasSlices s → HasSlices
+    (record { cookie = with_attribute s.cookie a; raw = with_slice s.raw a })
 sliced s HttpOnly h = record { path = h.path; domain = h.domain }
 sliced s Secure h = record { path = h.path; domain = h.domain }
 sliced s Partitioned h = record { path = h.path; domain = h.domain }
@@ -176,18 +193,23 @@ sliced s (Path t) h = record { path = refl; domain = h.domain }
 sliced s (Domain t) h = record { path = h.path; domain = refl }
 sliced s (Expires d) h = record { path = h.path; domain = h.domain }
 
-pub ReadsFurther-push : (ps : List (List ℕ)) (p : List ℕ) (old s t : Seen) (a : Attribute) → ReadsFurther ps old s → Gives p a → t.cookie ≡ with_attribute s.cookie a → t.raw ≡ with_slice s.raw a → ReadsFurther (ps ++ p ∷ []) old t
+pub ReadsFurther-push : (ps : List (List ℕ)) (p : List ℕ) (old s t : Seen) (a : Attribute) → ReadsFurther ps old s
+    → Gives p a → t.cookie ≡ with_attribute s.cookie a → t.raw ≡ with_slice s.raw a → ReadsFurther (ps ++ p ∷ []) old t
 ReadsFurther-push ps p old s t a h g is_cookie is_raw = record {
   name = ap (λ r. r.name) is_cookie ∙ same_name s.cookie a ∙ h.name;
   value = ap (λ r. r.value) is_cookie ∙ same_value s.cookie a ∙ h.value;
   name_raw = ap (λ r. r.name) is_raw ∙ same_name_raw s.raw a ∙ h.name_raw;
   value_raw = ap (λ r. r.value) is_raw ∙ same_value_raw s.raw a ∙ h.value_raw;
   attributes = subst (HasAttributes (ps ++ p ∷ [])) (sym is_cookie) (HasAttributes-push ps p s.cookie a h.attributes g);
-  sliced = let whole : t ≡ record { cookie = with_attribute s.cookie a; raw = with_slice s.raw a } = λ i. record { cookie = is_cookie i; raw = is_raw i } in
+  sliced = let whole : t ≡ record { cookie = with_attribute s.cookie a; raw = with_slice s.raw a } = λ i. record {
+    cookie = is_cookie i;
+    raw = is_raw i;
+  } in
       subst HasSlices (sym whole) (sliced s a h.sliced);
 }
 
-pub ReadsFurther-pass : (ps : List (List ℕ)) (p : List ℕ) (old s : Seen) → ReadsFurther ps old s → ((a : Attribute) → ¬ (Gives p a)) → ReadsFurther (ps ++ p ∷ []) old s
+pub ReadsFurther-pass : (ps : List (List ℕ)) (p : List ℕ) (old s : Seen) → ReadsFurther ps old s
+    → ((a : Attribute) → ¬ (Gives p a)) → ReadsFurther (ps ++ p ∷ []) old s
 ReadsFurther-pass ps p old s h none = record {
   name = h.name;
   value = h.value;
@@ -202,12 +224,20 @@ pub not_empty : (name : List ℕ) → 0 < length name → name ≢ []
 not_empty name some none = let size : length name ≡ 0 = ap length none in omega (arith, some)
 
 -- the pieces of a text with a semicolon
-pub rest_of : (text first rest : List ℕ) (r : Record) → position_or_len (λ b. b == semicolon) text < length text → rest ≡ after_first (λ b. b == semicolon) text → HasAttributes (pieces rest) r → HasRest text r
-rest_of text first rest r holds is_rest h =
-    (pieces rest, slice_split_first (λ b. b == semicolon) text 0 holds ∙ ap (λ q. first_piece text ∷ pieces q) (sym is_rest), h)
+pub rest_of : (text first rest : List ℕ) (r : Record) → position_or_len (λ b. b == semicolon) text < length text
+    → rest ≡ after_first (λ b. b == semicolon) text → HasAttributes (pieces rest) r → HasRest text r
+rest_of text first rest r holds is_rest h = (
+  pieces rest,
+  slice_split_first (λ b. b == semicolon) text 0 holds
+      ∙ ap (λ q. first_piece text ∷ pieces q) (sym is_rest),
+  h,
+)
 
 -- the first piece and the rest of a text with a semicolon
-pub ReadsPlain-further : (text first rest : List ℕ) (s t : Seen) → position_or_len (λ b. b == semicolon) text < length text → first ≡ first_piece text → rest ≡ after_first (λ b. b == semicolon) text → ReadsFirst first (Ok s) → ReadsFurther (pieces rest) s t → ReadsPlain text (Ok t)
+pub ReadsPlain-further : (text first rest : List ℕ) (s t : Seen)
+    → position_or_len (λ b. b == semicolon) text < length text → first ≡ first_piece text
+    → rest ≡ after_first (λ b. b == semicolon) text → ReadsFirst first (Ok s) → ReadsFurther (pieces rest) s t
+    → ReadsPlain text (Ok t)
 ReadsPlain-further text first rest s t holds is_first is_rest h f =
     let k = subst (λ p. ReadsFirst p (Ok s)) is_first h in
     let pair = k.accepted.0 refl in
@@ -230,13 +260,16 @@ ReadsPlain-further text first rest s t holds is_first is_rest h f =
 pub one_piece : (text : List ℕ) → position_or_len (λ b. b == semicolon) text ≡ length text → first_piece text ≡ text
 one_piece text none = take_all (position_or_len (λ b. b == semicolon) text) text (omega arith)
 
-pub no_rest : (text : List ℕ) (r : Record) → position_or_len (λ b. b == semicolon) text ≡ length text → HasAttributes [] r → HasRest text r
+pub no_rest : (text : List ℕ) (r : Record) → position_or_len (λ b. b == semicolon) text ≡ length text
+    → HasAttributes [] r → HasRest text r
 no_rest text r none h =
     let is_cut : ℕ → Bool = λ b. b == semicolon in
-    let fails = All-from_get_or (λ b. is_cut b ≡ false) text 0 (λ i within. fails_before_first is_cut text i 0 (omega arith)) in
+    let fails = All-from_get_or (λ b. is_cut b ≡ false) text 0
+    (λ i within. fails_before_first is_cut text i 0 (omega arith)) in
     ([], slice_split_none is_cut text fails ∙ ap (λ p. p ∷ []) (sym (one_piece text none)), h)
 
-pub ReadsPlain-whole : (text : List ℕ) (r : Result Seen ParseError) → position_or_len (λ b. b == semicolon) text ≡ length text → ReadsFirst text r → ReadsPlain text r
+pub ReadsPlain-whole : (text : List ℕ) (r : Result Seen ParseError)
+    → position_or_len (λ b. b == semicolon) text ≡ length text → ReadsFirst text r → ReadsPlain text r
 ReadsPlain-whole text r none h =
     let k = subst (λ p. ReadsFirst p r) (sym (one_piece text none)) h in
     record {

@@ -14,7 +14,8 @@ use Rattle.cookie_text.specs.declared.expiration.Expiration.TheVariants.{DateTim
 use Rattle.cookie_text.specs.Record.{Record, Seen, compared}
 use Rattle.cookie_text.specs.Same.{end_nanos, same_record, same_cookie}
 
-option_eq-Decides : {A : Type 0} (E : A → A → Bool) → ((x y : A) → Decides (E x y) (x ≡ y)) → (o p : Option A) → Decides (option_eq E o p) (o ≡ p)
+option_eq-Decides : {A : Type 0} (E : A → A → Bool) → ((x y : A) → Decides (E x y) (x ≡ y)) → (o p : Option A)
+    → Decides (option_eq E o p) (o ≡ p)
 option_eq-Decides E each None None = (λ e. refl, λ e. refl)
 option_eq-Decides E each None (Some y) = (λ e. cc, λ e. cc)
 option_eq-Decides E each (Some x) None = (λ e. cc, λ e. cc)
@@ -42,9 +43,12 @@ same_record-Decides a b site =
     let flag = option_eq-Decides beq beq-Decides in
     let text = option_eq-Decides bytes_eq bytes_eq-Decides in
     let pair = Decides-and _ _ (bytes_eq-Decides a.name b.name) (bytes_eq-Decides a.value b.value) in
-    let flags = Decides-and _ _ (Decides-and _ _ (flag a.http_only b.http_only) (flag a.secure b.secure)) (flag a.partitioned b.partitioned) in
+    let flags = Decides-and _ _ (Decides-and _ _ (flag a.http_only b.http_only) (flag a.secure b.secure))
+    (flag a.partitioned b.partitioned) in
     let place = Decides-and _ _ (text a.path b.path) (text a.domain b.domain) in
-    let life = Decides-and _ _ (option_eq-Decides int_eq Decides-int_eq a.max_age b.max_age) (option_eq-Decides (λ x y. option_eq int_eq (end_nanos x) (end_nanos y)) end_nanos-Decides a.expires b.expires) in
+    let life = Decides-and _ _ (option_eq-Decides int_eq Decides-int_eq a.max_age b.max_age)
+    (option_eq-Decides (λ x y. option_eq int_eq (end_nanos x) (end_nanos y)) end_nanos-Decides a.expires b.expires)
+    in
     Decides-like (same_record a b)
     (λ h i. record {
       name = h.0.0.0.0 i;
@@ -58,7 +62,20 @@ same_record-Decides a b site =
       domain = h.0.1.1 i;
       expires = h.1.1 i;
     })
-    (λ e. ((((ap (λ r. r.name) e, ap (λ r. r.value) e), ((ap (λ r. r.http_only) e, ap (λ r. r.secure) e), ap (λ r. r.partitioned) e)), (ap (λ r. r.path) e, ap (λ r. r.domain) e)), (ap (λ r. r.max_age) e, ap (λ r. r.expires) e)))
+    (λ e. (
+      (
+        (
+          (ap (λ r. r.name) e, ap (λ r. r.value) e),
+          (
+            (ap (λ r. r.http_only) e, ap (λ r. r.secure) e),
+            ap
+                (λ r. r.partitioned) e,
+          ),
+        ),
+        (ap (λ r. r.path) e, ap (λ r. r.domain) e),
+      ),
+      (ap (λ r. r.max_age) e, ap (λ r. r.expires) e),
+    ))
     (Decides-and _ _ (Decides-and _ _ (Decides-and _ _ pair flags) place) life)
 
 pub same_cookie-Decides : (a b : Seen) → Decides (same_cookie a b) (compared a.cookie ≡ compared b.cookie)

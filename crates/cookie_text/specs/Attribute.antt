@@ -1,5 +1,5 @@
--- The attributes of a cookie, and which pieces give one (RFC 6265, sections 5.2.1 to 5.2.6, and the draft that follows it for
--- SameSite).
+-- The attributes of a cookie, and which pieces give one (RFC 6265, sections 5.2.1 to 5.2.6, and the draft that
+-- follows it for SameSite).
 use Rattle.std.specs.Prelude.{◌≡◌, ℕ, ◌-◌, ◌^◌, ◌<◌, ◌⊎◌, List, ◌∷◌, length, codes, Option, Some, ℤ, pos, min, IsTrue}
 use Rattle.std.specs.Char.{is_ascii_digit}
 use Rattle.std.specs.List.{list_all}
@@ -10,7 +10,7 @@ use Rattle.cookie_text.specs.declared.draft.SameSite.{SameSite}
 use Rattle.cookie_text.specs.declared.draft.SameSite.TheVariants.{Strict, Lax, None as Unrestricted}
 use Rattle.cookie_text.specs.declared.attribute.Kind.{Kind}
 use Rattle.cookie_text.specs.declared.attribute.Kind.TheVariants as kinds
-use Rattle.cookie_text.specs.Pieces.{name_of, value_of}
+use Rattle.cookie_text.specs.Pieces.{minus, name_of, value_of}
 use Rattle.cookie_text.specs.Date.{Stamp, IsDateText, IsMoment}
 
 -- an attribute with its value; max-age is in whole seconds
@@ -49,11 +49,11 @@ kind_name kinds.Expires = codes "expires"
 abbrev pub AreDigits : List ℕ → Type 0
 AreDigits text = (0 < length text) × IsTrue (list_all is_ascii_digit text)
 
--- so many seconds, and none behind a minus
+-- so many seconds, and none behind a minus: 60 of `60`, 0 of `-1`
 abbrev pub IsSeconds : List ℕ → ℤ → Type 0
 IsSeconds text z =
     (AreDigits text × (z ≡ pos (min (digits_value 10 text) (2 ^ 63 - 1))))
-    ⊎ ((digits : List ℕ) × (text ≡ 45 ∷ digits) × AreDigits digits × (z ≡ pos 0))
+    ⊎ ((digits : List ℕ) × (text ≡ minus ∷ digits) × AreDigits digits × (z ≡ pos 0))
 
 -- a SameSite in small letters
 abbrev pub small_name : SameSite → List ℕ

@@ -1,5 +1,6 @@
 -- The dates of an Expires attribute (RFC 6265, 4.1.1 and 5.1.1; RFC 9110, 5.6.7).
-use Rattle.std.specs.Prelude.{◌≡◌, ℕ, ◌+◌, ◌<◌, ◌≤◌, ◌⊎◌, List, [], ◌∷◌, ◌++◌, length, codes, pos, IsTrue, nat_lt, if◌then◌else◌}
+use Rattle.std.specs.Prelude.{◌≡◌, ℕ, ◌+◌, ◌<◌, ◌≤◌, ◌⊎◌, List, [], ◌∷◌, ◌++◌, length, codes, pos, IsTrue, nat_lt}
+use Rattle.std.specs.Prelude.{if◌then◌else◌}
 use Rattle.std.specs.Char.{is_ascii_digit}
 use Rattle.std.specs.List.{list_all}
 use Rattle.std.specs.Int.{IsInRange}
@@ -17,23 +18,33 @@ pub record IsStamp (s : Stamp) : Type 0 where
   pub second : s.second < 60
 
 -- `08:49:37`
-abbrev pub clock : Stamp → List ℕ
-clock s =
-    two_digits s.hour ++ codes ":" ++ two_digits s.minute ++ codes ":" ++ two_digits s.second
+abbrev pub clock_text : ℕ → ℕ → ℕ → List ℕ
+clock_text hour minute second =
+    two_digits hour ++ codes ":" ++ two_digits minute ++ codes ":" ++ two_digits second
 
--- `06 Nov 1994 08:49:37 GMT`, or with dashes, for the text of the year
+-- `06 Nov 1994 08:49:37 GMT`, or with dashes, for the texts of the year and of the clock
+abbrev pub dated : List ℕ → ℕ → ℕ → List ℕ → List ℕ → List ℕ
+dated dash day month year clock =
+    two_digits day ++ dash ++ month_name month ++ dash ++ year ++ codes " " ++ clock ++ codes " GMT"
+
+-- `Sun, ` and what follows
+abbrev pub with_weekday : ℕ → List ℕ → List ℕ
+with_weekday weekday rest = day_name weekday ++ codes ", " ++ rest
+
+abbrev pub clock : Stamp → List ℕ
+clock s = clock_text s.hour s.minute s.second
+
+-- the same of a stamp, for the text of its year
 abbrev pub day_month_year : List ℕ → Stamp → List ℕ → List ℕ
-day_month_year dash s year =
-    two_digits s.day ++ dash ++ month_name s.month ++ dash ++ year ++ codes " " ++ clock s
-    ++ codes " GMT"
+day_month_year dash s year = dated dash s.day s.month year (clock s)
 
 -- the RFC 1123 date (RFC 9110, section 5.6.7): `Sun, 06 Nov 1994 08:49:37 GMT`
 abbrev pub spaced : ℕ → Stamp → List ℕ → List ℕ
-spaced weekday s year = day_name weekday ++ codes ", " ++ day_month_year (codes " ") s year
+spaced weekday s year = with_weekday weekday (day_month_year (codes " ") s year)
 
 -- own, the first form with dashes: `Sun, 06-Nov-1994 08:49:37 GMT`
 abbrev pub dashed : ℕ → Stamp → List ℕ → List ℕ
-dashed weekday s year = day_name weekday ++ codes ", " ++ day_month_year (codes "-") s year
+dashed weekday s year = with_weekday weekday (day_month_year (codes "-") s year)
 
 -- the RFC 850 date (RFC 9110, section 5.6.7): `Sunday, 06-Nov-94 08:49:37 GMT`
 abbrev pub full_name : ℕ → Stamp → List ℕ → List ℕ
@@ -51,7 +62,7 @@ abbrev pub IsPaddedDay : List ℕ → ℕ → Type 0
 IsPaddedDay text day =
     (text ≡ two_digits day) ⊎ ((text ≡ space ∷ (digit_zero + day) ∷ []) × (day < 10))
 
--- the year that a number below 100 stands for
+-- the year that a number below 100 stands for: 69 for 2069, 70 for 1970; any other is itself
 abbrev pub full_year : ℕ → ℕ
 full_year y = if nat_lt y 70 then 2000 + y else (if nat_lt y 100 then 1900 + y else y)
 

@@ -1,6 +1,7 @@
 -- What the private readers of `date` and `date_reader` compute. `proofs/` shows that they read the
 -- four forms of a date, and nothing else.
-use Rattle.std.specs.Prelude.{ℕ, ◌<◌, ◌≤◌, not, ◌&&◌, List, length, take, drop, slice_index, Option, Some, None, option_map, option_and_then, bytes_eq, codes, ◌==◌, nat_le, if◌then◌else◌}
+use Rattle.std.specs.Prelude.{ℕ, ◌<◌, ◌≤◌, not, ◌&&◌, List, length, take, drop, slice_index, Option, Some, None}
+use Rattle.std.specs.Prelude.{option_map, option_and_then, bytes_eq, codes, ◌==◌, nat_le, if◌then◌else◌}
 use Rattle.std.specs.Option.{option_or}
 use Rattle.std.specs.Char.{is_ascii_digit}
 use Rattle.std.specs.List.{position_or_len}

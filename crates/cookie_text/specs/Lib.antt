@@ -9,12 +9,13 @@ pub mod Attribute
 pub mod AttributeView
 pub mod Reading
 pub mod Same
+pub mod SameEquivalence
 pub mod ErrorText
 pub mod Decoding
+pub mod Steps
 pub mod Splitting
 pub mod SplittingLeft
 pub mod SplittingView
-pub mod Taking
 pub mod Printing
 pub mod Normal
 pub mod ReadingBack

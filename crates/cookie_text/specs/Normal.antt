@@ -1,11 +1,12 @@
 -- What a printed cookie reads as (RFC 6265, sections 4.1.1 and 5.2).
-use Rattle.std.specs.Prelude.{◌≡◌, ℕ, ◌<◌, Bool, true, false, List, [], ◌∷◌, length, Option, Some, None, option_map, ℤ, pos, negsuc, ◌*ℤ◌, int_lt, IfSome, All, ◌==◌}
+use Rattle.std.specs.Prelude.{◌≡◌, ℕ, ◌<◌, Bool, true, false, List, [], ◌∷◌, length, Option, Some, None, option_map, ℤ}
+use Rattle.std.specs.Prelude.{pos, negsuc, ◌*ℤ◌, int_lt, IfSome, All, ◌==◌}
 use Rattle.std.proofs.Common.{lit<}
 use Rattle.std.specs.Str.{trim}
 use Rattle.jiff.specs.Types.{DateTime}
 use Rattle.cookie_text.specs.declared.expiration.Expiration.{Expiration}
 use Rattle.cookie_text.specs.declared.expiration.Expiration.TheVariants.{DateTime as At, Session}
-use Rattle.cookie_text.specs.Pieces.{semicolon}
+use Rattle.cookie_text.specs.Pieces.{semicolon, full_stop}
 use Rattle.cookie_text.specs.Record.{Record, domain_of}
 use Rattle.cookie_text.specs.Printing.{is_set, prints_secure, whole_seconds}
 
@@ -50,7 +51,7 @@ pub record IsPiece (text : List ℕ) : Type 0 where
 -- the text begins with no dot
 abbrev pub IsDotless : List ℕ → Type 0
 IsDotless [] = Unit {0}
-IsDotless (b ∷ bs) = (b == 46) ≡ false
+IsDotless (b ∷ bs) = (b == full_stop) ≡ false
 
 -- an expiry of a year below 100
 abbrev pub is_short_year : Option Expiration → Bool

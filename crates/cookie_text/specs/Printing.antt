@@ -1,16 +1,16 @@
 -- What a cookie prints (RFC 6265, section 4.1.1; dates as in RFC 9110, section 5.6.7).
-use Rattle.std.specs.Prelude.{ℕ, ◌+◌, Bool, true, false, ◌&&◌, ◌||◌, List, [], ◌∷◌, ◌++◌, codes, Option, Some, None, option_map, ℤ, pos, int_div, if◌then◌else◌, is_none, nat_lt, nat_le, ◌==◌}
+use Rattle.std.specs.Prelude.{ℕ, ◌+◌, Bool, true, false, ◌&&◌, ◌||◌, List, [], ◌∷◌, ◌++◌, codes, Option, Some, None}
+use Rattle.std.specs.Prelude.{option_map, ℤ, pos, int_div, if◌then◌else◌, is_none, nat_lt, nat_le, ◌==◌}
 use Rattle.std.specs.List.{flat_map, list_any}
 use Rattle.std.specs.Fmt.{signed_decimal}
-use Rattle.jiff.specs.Types.{Date, DateTime, Time}
+use Rattle.jiff.specs.Types.{DateTime}
 use Rattle.jiff.specs.Words.{weekday_of}
-use Rattle.httpdate.specs.Text.{day_name, month_name, two_digits}
-use Rattle.percent_encoding.specs.Percent.{percent_encode}
-use Rattle.cookie_text.specs.declared.escape.TheConstants.{PROFILE}
+use Rattle.percent_encoding.specs.Percent.{percent_encode_byte}
 use Rattle.cookie_text.specs.declared.draft.SameSite.{SameSite}
 use Rattle.cookie_text.specs.declared.draft.SameSite.TheVariants.{Strict, Lax, None as Unrestricted}
 use Rattle.cookie_text.specs.declared.expiration.Expiration.{Expiration}
 use Rattle.cookie_text.specs.declared.expiration.Expiration.TheVariants.{DateTime as At, Session}
+use Rattle.cookie_text.specs.Date.{clock_text, dated, with_weekday}
 use Rattle.cookie_text.specs.Pieces.{equals}
 use Rattle.cookie_text.specs.Record.{Record, domain_of}
 use Rattle.cookie_text.specs.Attribute.{Attribute, HttpOnly, Secure, Partitioned, OfSite, MaxAge, Path, Domain, Expires}
@@ -22,17 +22,16 @@ site_name Lax = codes "Lax"
 site_name Unrestricted = codes "None"
 
 -- `08:49:37`
-abbrev pub clock_text : Time → List ℕ
-clock_text t = two_digits t.hour ++ codes ":" ++ two_digits t.minute ++ codes ":" ++ two_digits t.second
+abbrev pub time_text : DateTime → List ℕ
+time_text d = clock_text d.time.hour d.time.minute d.time.second
 
--- `Sun, 06 Nov`
-abbrev pub day_text : Date → List ℕ
-day_text d = day_name (weekday_of d + 1) ++ codes ", " ++ two_digits d.day ++ codes " " ++ month_name d.month
+-- `06 Nov 1994 08:49:37 GMT`
+abbrev pub dated_text : DateTime → List ℕ
+dated_text d = dated (codes " ") d.date.day d.date.month (signed_decimal d.date.year) (time_text d)
 
--- `Sun, 06 Nov 1994 08:49:37 GMT`
+-- the first of the forms that are read, with the weekday that the calendar has: `Sun, 06 Nov 1994 08:49:37 GMT`
 unfoldable pub date_text : DateTime → List ℕ
-date_text d =
-    day_text d.date ++ codes " " ++ signed_decimal d.date.year ++ codes " " ++ clock_text d.time ++ codes " GMT"
+date_text d = with_weekday (weekday_of d.date + 1) (dated_text d)
 
 -- `Path=/`
 abbrev pub attribute_text : Attribute → List ℕ
@@ -73,7 +72,7 @@ end_of (Some (At d)) = Some (Expires d)
 end_of (Some Session) = None
 end_of None = None
 
--- whole seconds, the fraction dropped
+-- whole seconds, the fraction dropped: 1 of 1,999,999,999 nanoseconds
 abbrev pub whole_seconds : ℤ → ℤ
 whole_seconds nanos = int_div nanos (pos 1_000_000_000)
 
@@ -98,7 +97,7 @@ stripped r = r.name ++ equals ∷ r.value
 abbrev pub printed_attributes : Record → List ℕ
 printed_attributes r = flat_map piece_text (attributes_of r)
 
--- the pair and the attributes
+-- the pair and the attributes: `a=1; Secure; Path=/`
 abbrev pub printed : Record → List ℕ
 printed r = stripped r ++ printed_attributes r
 
@@ -107,11 +106,19 @@ abbrev pub is_escaped : ℕ → Bool
 is_escaped b =
     nat_lt b 32 || nat_le 127 b || list_any (λ c. b == c) (codes " \"<>`#?{}/:;=@[\\]^|%(),")
 
+-- a byte as it is written: `%` and its two hexadecimal digits in capitals (RFC 3986, section 2.1), or the byte itself
+abbrev pub escaped_byte : ℕ → List ℕ
+escaped_byte b = if is_escaped b then percent_encode_byte b else b ∷ []
+
+-- a name or a value as it is written: `a%20b%3D` of `a b=`
+unfoldable pub escaped : List ℕ → List ℕ
+escaped text = flat_map escaped_byte text
+
 -- the same cookie with its name and value percent-escaped
 abbrev pub encoded_pair : Record → Record
 encoded_pair r = record r {
-  name = percent_encode PROFILE r.name;
-  value = percent_encode PROFILE r.value;
+  name = escaped r.name;
+  value = escaped r.value;
 }
 
 -- what is printed with name and value escaped

@@ -1,6 +1,6 @@
 -- What a text reads as (RFC 6265, section 5.2).
-use Rattle.std.specs.Prelude.{◌≡◌, ℕ, Bool, true, List, [], ◌∷◌, ◌++◌, All, Option, Some, pos, ℤ, ◌*ℤ◌, ◌==◌, MatchOption, Result, IfOk, IsOk, IsErrOf, ◌↔◌, ◌<◌, length}
-use Rattle.std.specs.Borrow.{Bor}
+use Rattle.std.specs.Prelude.{◌≡◌, ◌↔◌, ℕ, Bool, true, List, [], ◌∷◌, ◌++◌, All, Option, Some, pos, ℤ, ◌*ℤ◌, ◌==◌, ◌<◌}
+use Rattle.std.specs.Prelude.{length, MatchOption, Result, IfOk, IsOk, IsErrOf}
 use Rattle.std.specs.List.{before_first}
 use Rattle.jiff.specs.Types.{DateTime}
 use Rattle.cookie_text.specs.declared.draft.SameSite.{SameSite}
@@ -10,7 +10,8 @@ use Rattle.cookie_text.specs.declared.expiration.Expiration.{Expiration}
 use Rattle.cookie_text.specs.declared.expiration.Expiration.TheVariants.{DateTime as At}
 use Rattle.cookie_text.specs.Record.{Record, Seen, domain_of}
 use Rattle.cookie_text.specs.Pieces.{semicolon, pieces, HasEquals, name_of, text_after}
-use Rattle.cookie_text.specs.Attribute.{Attribute, Gives, HttpOnly, Secure, Partitioned, OfSite, MaxAge, Path, Domain, Expires}
+use Rattle.cookie_text.specs.Attribute.{Attribute, Gives, HttpOnly, Secure, Partitioned, OfSite, MaxAge, Path, Domain}
+use Rattle.cookie_text.specs.Attribute.{Expires}
 
 -- no piece gives such a value
 abbrev pub NoneGives : {A : Type 0} → (List ℕ → A → Type 0) → List (List ℕ) → Type 0
@@ -25,7 +26,7 @@ pub record IsLast {A : Type 0} (gives : List ℕ → A → Type 0) (pieces : Lis
   pub given : gives piece value
   pub later : NoneGives gives after
 
--- the value of the last piece that gives one; none where no piece does
+-- the value of the last piece that gives one, none where no piece does: 6 of ` Max-Age=5` and ` max-age=6`
 abbrev pub HasLast : {A : Type 0} → (List ℕ → A → Type 0) → List (List ℕ) → Option A → Type 0
 HasLast gives pieces o = MatchOption o (NoneGives gives pieces) (λ value. IsLast gives pieces value)
 
@@ -72,35 +73,9 @@ pub record IsSliced (s : Seen) : Type 0 where
   pub path : s.raw.path ≡ s.cookie.path
   pub domain : s.raw.domain ≡ domain_of s.cookie
 
--- the cookie has the attributes of these pieces, and the pair that it had
-pub record ReadsFurther (pieces : List (List ℕ)) (old new : Seen) : Type 0 where
-  pub name : new.cookie.name ≡ old.cookie.name
-  pub value : new.cookie.value ≡ old.cookie.value
-  pub name_raw : new.raw.name ≡ old.raw.name
-  pub value_raw : new.raw.value ≡ old.raw.value
-  pub attributes : HasAttributes pieces new.cookie
-  pub sliced : HasSlices new
-
--- a pair: an `=`, and more than white space before the first one
+-- a pair: an `=`, and more than white space before the first one, as `a=` and ` a = 1`, not `a` and ` =1`
 abbrev pub IsPair : List ℕ → Type 0
 IsPair piece = HasEquals piece × (0 < length (name_of piece))
-
--- what reading a pair gives: name and value, or the one error that fits
-pub record ReadsPair (piece : List ℕ) (r : Result (Bor (List ℕ) × Bor (List ℕ)) ParseError) : Type 0 where
-  pub accepted : IsOk r ↔ IsPair piece
-  pub read : IfOk r (λ p. (p.0.now ≡ name_of piece) × (p.1.now ≡ text_after piece))
-  pub missing_pair : IsErrOf r MissingPair ↔ (¬ (HasEquals piece))
-  pub empty_name : IsErrOf r EmptyName ↔ (HasEquals piece × (name_of piece ≡ []))
-
--- what reading the first piece gives
-pub record ReadsFirst (piece : List ℕ) (r : Result Seen ParseError) : Type 0 where
-  pub accepted : IsOk r ↔ IsPair piece
-  pub name : IfOk r (λ s. HasEquals piece × (s.cookie.name ≡ name_of piece) × (0 < length s.cookie.name))
-  pub value : IfOk r (λ s. s.cookie.value ≡ text_after piece)
-  pub attributes : IfOk r (λ s. HasAttributes [] s.cookie)
-  pub raw : IfOk r IsSliced
-  pub missing_pair : IsErrOf r MissingPair ↔ (¬ (HasEquals piece))
-  pub empty_name : IsErrOf r EmptyName ↔ (HasEquals piece × (name_of piece ≡ []))
 
 -- the piece before the first semicolon, and those after it
 abbrev pub first_piece : List ℕ → List ℕ
@@ -110,12 +85,17 @@ first_piece text = before_first (λ b. b == semicolon) text
 abbrev pub HasRest : List ℕ → Record → Type 0
 HasRest text r = (rest : List (List ℕ)) × (pieces text ≡ first_piece text ∷ rest) × HasAttributes rest r
 
--- what reading without decoding gives: it takes no memory
-pub record ReadsPlain (text : List ℕ) (r : Result Seen ParseError) : Type 0 where
-  pub accepted : IsOk r ↔ IsPair (first_piece text)
-  pub name : IfOk r (λ s. HasEquals (first_piece text) × (s.cookie.name ≡ name_of (first_piece text)) × (0 < length s.cookie.name))
-  pub value : IfOk r (λ s. s.cookie.value ≡ text_after (first_piece text))
-  pub attributes : IfOk r (λ s. HasRest text s.cookie)
+-- what is read where this piece is the pair and the attributes are so: a cookie, or the one error that fits, and
+-- never want of memory
+pub record ReadsWith (AreAttributes : Record → Type 0) (piece : List ℕ) (r : Result Seen ParseError) : Type 0 where
+  pub accepted : IsOk r ↔ IsPair piece
+  pub name : IfOk r (λ s. HasEquals piece × (s.cookie.name ≡ name_of piece) × (0 < length s.cookie.name))
+  pub value : IfOk r (λ s. s.cookie.value ≡ text_after piece)
+  pub attributes : IfOk r (λ s. AreAttributes s.cookie)
   pub raw : IfOk r IsSliced
-  pub missing_pair : IsErrOf r MissingPair ↔ (¬ (HasEquals (first_piece text)))
-  pub empty_name : IsErrOf r EmptyName ↔ (HasEquals (first_piece text) × (name_of (first_piece text) ≡ []))
+  pub missing_pair : IsErrOf r MissingPair ↔ (¬ (HasEquals piece))
+  pub empty_name : IsErrOf r EmptyName ↔ (HasEquals piece × (name_of piece ≡ []))
+
+-- what reading without decoding gives: `a=1; Path=/` reads as the cookie `a` of value `1` with the path `/`
+abbrev pub ReadsPlain : List ℕ → Result Seen ParseError → Type 0
+ReadsPlain text r = ReadsWith (HasRest text) (first_piece text) r

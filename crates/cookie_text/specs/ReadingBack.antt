@@ -2,13 +2,11 @@
 use Rattle.std.specs.Prelude.{◌≡◌, ℕ, ◌<◌, List, [], ◌∷◌, ◌++◌, codes, length, Result, IfOk, IsOk, IsOkUnless}
 use Rattle.std.specs.List.{flat_map}
 use Rattle.std.specs.Str.{IsUtf8}
-use Rattle.percent_encoding.specs.Percent.{percent_encode}
 use Rattle.cookie_text.specs.declared.error.ParseError.{ParseError}
 use Rattle.cookie_text.specs.declared.error.ParseError.TheVariants.{OutOfMemory}
-use Rattle.cookie_text.specs.declared.escape.TheConstants.{PROFILE}
 use Rattle.cookie_text.specs.Normal.{normal}
 use Rattle.cookie_text.specs.Pieces.{equals}
-use Rattle.cookie_text.specs.Printing.{encoded_pair}
+use Rattle.cookie_text.specs.Printing.{encoded_pair, escaped}
 use Rattle.cookie_text.specs.Record.{Record, Seen, bare}
 
 -- a cookie: the normal form, with name and value still escaped
@@ -27,11 +25,11 @@ pub record GivesPair (name value : List ℕ) (outcome : Result Seen ParseError) 
   pub owed : IsOkUnless outcome OutOfMemory
   pub cookie : IfOk outcome (λ s. s.cookie ≡ bare name value)
 
--- `name=value`, both escaped
+-- `name=value`, both escaped: `a%20b=1` of `a b` and `1`
 abbrev pub pair_text : List ℕ → List ℕ → List ℕ
-pair_text name value = percent_encode PROFILE name ++ equals ∷ percent_encode PROFILE value
+pair_text name value = escaped name ++ equals ∷ escaped value
 
--- such texts of names and their values, joined by `; `
+-- such texts of names and their values, joined by `; `: `a=1; b=2`
 abbrev pub joined : List (List ℕ × List ℕ) → List ℕ
 joined [] = []
 joined (p ∷ ps) = pair_text p.0 p.1 ++ flat_map (λ q. codes "; " ++ pair_text q.0 q.1) ps

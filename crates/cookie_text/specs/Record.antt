@@ -1,10 +1,12 @@
 -- A cookie as contracts see it (RFC 6265, sections 4.1.1 and 5.2).
-use Rattle.std.specs.Prelude.{◌≡◌, ◌≢◌, ◌⊎◌, ℕ, ◌==◌, Bool, List, [], ◌∷◌, ◌++◌, Option, Some, None, option_map, ℤ, if◌then◌else◌}
+use Rattle.std.specs.Prelude.{◌≡◌, ◌≢◌, ◌⊎◌, ℕ, ◌==◌, Bool, List, [], ◌∷◌, ◌++◌, Option, Some, None, option_map, ℤ}
+use Rattle.std.specs.Prelude.{if◌then◌else◌}
 use Rattle.std.specs.Str.{str_to_ascii_lowercase}
 use Rattle.cookie_text.specs.declared.draft.SameSite.{SameSite}
 use Rattle.cookie_text.specs.declared.expiration.Expiration.{Expiration}
 use Rattle.cookie_text.specs.declared.expiration.Expiration.TheVariants.{DateTime as At, Session}
 use Rattle.jiff.specs.Types.{DateTime}
+use Rattle.cookie_text.specs.Pieces.{full_stop, double_quote}
 
 -- max_age is in nanoseconds
 pub record Record : Type 0 where
@@ -54,15 +56,16 @@ no_slices = record { name = None; value = None; path = None; domain = None }
 abbrev pub unsliced : Record → Seen
 unsliced r = record { cookie = r; raw = no_slices }
 
--- the text without one pair of double quotes round it
+-- the text without one pair of double quotes round it: `1` of `"1"`, and `"1` of `"1`
 abbrev pub IsUnquoted : List ℕ → List ℕ → Type 0
 IsUnquoted text inner =
-    (text ≡ 34 ∷ inner ++ 34 ∷ []) ⊎ (((middle : List ℕ) → text ≢ 34 ∷ middle ++ 34 ∷ []) × (inner ≡ text))
+    (text ≡ double_quote ∷ inner ++ double_quote ∷ [])
+    ⊎ (((middle : List ℕ) → text ≢ double_quote ∷ middle ++ double_quote ∷ []) × (inner ≡ text))
 
--- the text without one leading dot
+-- the text without one leading dot: `.com` of `..com`
 abbrev pub without_dot : List ℕ → List ℕ
 without_dot [] = []
-without_dot (b ∷ bs) = if b == 46 then bs else b ∷ bs
+without_dot (b ∷ bs) = if b == full_stop then bs else b ∷ bs
 
 -- what `domain()` answers
 abbrev pub domain_of : Record → Option (List ℕ)

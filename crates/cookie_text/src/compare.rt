@@ -6,7 +6,8 @@ ghost use Rattle.std.specs.Ordering.{int_eq, on};
 ghost use Rattle.std.specs.Str.{bytes_eq, str_to_ascii_lowercase};
 ghost use Rattle.jiff.specs.Words.{signed_nanos, civil_nanos};
 ghost use Rattle.cookie_text.specs.Record.{compared};
-ghost use Rattle.cookie_text.specs.Same.{same_cookie, same_cookie_equiv, end_nanos};
+ghost use Rattle.cookie_text.specs.Same.{same_cookie, end_nanos};
+ghost use Rattle.cookie_text.specs.SameEquivalence.{same_cookie_equiv};
 
 use crate::cookie::Cookie;
 use crate::expiration::Expiration;

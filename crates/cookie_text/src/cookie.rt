@@ -4,7 +4,7 @@ ghost use Rattle.jiff.specs.Words.{signed_nanos};
 ghost use Rattle.cookie_text.specs.AttributeView.{attribute_view};
 ghost use Rattle.cookie_text.specs.PartText.{part_text, raw_text};
 ghost use Rattle.cookie_text.specs.Record.{bare, unsliced, domain_of, without_dot, moment_of, IsUnquoted};
-ghost use Rattle.cookie_text.specs.Taking.{with_attribute, with_slice};
+ghost use Rattle.cookie_text.specs.Steps.{with_attribute, with_slice};
 
 mod owned;
 mod printed;

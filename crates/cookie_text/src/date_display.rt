@@ -3,7 +3,7 @@ ghost use Rattle.std.specs.Prelude.{◌≡◌, ◌+◌, Some};
 ghost use Rattle.jiff.specs.Words.{weekday_of};
 ghost use Rattle.httpdate.specs.Text.{two_digits};
 ghost use Rattle.httpdate.specs.Text as names;
-ghost use Rattle.cookie_text.specs.Printing.{date_text, clock_text, day_text};
+ghost use Rattle.cookie_text.specs.Printing.{date_text, dated_text, time_text};
 
 use crate::date_names::{day_name, month_name};
 use jiff::civil::DateTime;
@@ -19,26 +19,26 @@ impl fmt::Display for PrintedDate {
 
     fn fmt<W: fmt::Write>(&self, f: &mut fmt::Formatter<W>) -> fmt::Result {
         let moment = self.0;
-        let day = Day(moment);
-        let year = moment.year();
-        let clock = Clock(moment);
-        write!(f, "{day} {year} {clock} GMT")
+        let weekday = weekday_text(moment);
+        let dated = Dated(moment);
+        write!(f, "{weekday}, {dated}")
     }
 }
 
-// The day, as `Sun, 06 Nov`.
+// What follows the weekday, as `06 Nov 1994 08:49:37 GMT`.
 #[derive(Drop)]
-struct Day(DateTime);
+struct Dated(DateTime);
 
-impl fmt::Display for Day {
-    ghost output = { λ d. Some (day_text d.0.date) };
+impl fmt::Display for Dated {
+    ghost output = { λ d. Some (dated_text d.0) };
 
     fn fmt<W: fmt::Write>(&self, f: &mut fmt::Formatter<W>) -> fmt::Result {
         let moment = self.0;
-        let weekday = weekday_text(moment);
         let day = TwoDigits(moment.day() as u8);
         let month = month_text(moment);
-        write!(f, "{weekday}, {day} {month}")
+        let year = moment.year();
+        let clock = Clock(moment);
+        write!(f, "{day} {month} {year} {clock} GMT")
     }
 }
 
@@ -47,7 +47,7 @@ impl fmt::Display for Day {
 struct Clock(DateTime);
 
 impl fmt::Display for Clock {
-    ghost output = { λ d. Some (clock_text d.0.time) };
+    ghost output = { λ d. Some (time_text d.0) };
 
     fn fmt<W: fmt::Write>(&self, f: &mut fmt::Formatter<W>) -> fmt::Result {
         let moment = self.0;

@@ -1,7 +1,7 @@
 //! Percent-decoding of name and value (RFC 3986, section 2.1).
 ghost use Rattle.std.specs.Prelude.{◌≡◌, Some, None, option_map, unwrap_or, string_bytes};
 ghost use Rattle.cookie_text.specs.PartText.{part_text, raw_text};
-ghost use Rattle.cookie_text.specs.Decoding.{Decodes, DecodesPair};
+ghost use Rattle.cookie_text.specs.Steps.{Decodes, DecodesPair};
 
 use crate::error::ParseError;
 use crate::part::Part;

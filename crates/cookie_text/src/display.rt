@@ -1,7 +1,7 @@
 //! What a cookie prints (RFC 6265, section 4.1.1).
 ghost use Rattle.std.specs.Prelude.{◌≡◌, Some, true, false, option_map};
 ghost use Rattle.cookie_text.specs.AttributeView.{attribute_view};
-ghost use Rattle.cookie_text.specs.Printing.{attribute_text, piece_text, site_name, printed, printed_attributes, shown_text};
+ghost use Rattle.cookie_text.specs.Printing.{attribute_text, escaped, piece_text, site_name, printed, printed_attributes, shown_text};
 
 use crate::attribute::Attribute;
 use crate::cookie::Cookie;
@@ -89,8 +89,8 @@ impl fmt::Display for Display<'_, '_> {
         let name = self.cookie.name();
         let value = self.cookie.value();
         if self.encode {
-            let name = utf8_percent_encode(name, PROFILE);
-            let value = utf8_percent_encode(value, PROFILE);
+            let name = Escaped(name);
+            let value = Escaped(value);
             write!(f, "{name}={value}")?;
         } else {
             write!(f, "{name}={value}")?;
@@ -100,6 +100,19 @@ impl fmt::Display for Display<'_, '_> {
         }
         let attributes = Attributes(self.cookie);
         write!(f, "{attributes}")
+    }
+}
+
+// A name or a value with its bytes of the profile percent-escaped.
+#[derive(Drop)]
+struct Escaped<'t>(&'t str);
+
+impl fmt::Display for Escaped<'_> {
+    ghost output = { λ e. Some (escaped e.0.now) };
+
+    fn fmt<W: fmt::Write>(&self, f: &mut fmt::Formatter<W>) -> fmt::Result {
+        let text = utf8_percent_encode(self.0, PROFILE);
+        write!(f, "{text}")
     }
 }
 

@@ -1,12 +1,14 @@
 //! Laws that join reading and printing. Each function changes nothing: its contract is the law.
-ghost use Rattle.std.specs.Prelude.{ℕ, ◌≡◌, ◌<◌, List, All, Result, length, true, IsTrue, IfSome};
+ghost use Rattle.std.specs.Prelude.{ℕ, ◌≡◌, ◌<◌, List, All, Result, Ok, length, true, IsTrue, IfSome};
 ghost use Rattle.jiff_core.specs.Timestamp.{IsDurationNanos};
 ghost use Rattle.cookie_text.specs.declared.error.ParseError.{ParseError as Refusals};
 ghost use Rattle.cookie_text.specs.Decoding.{ReadsEncoded};
 ghost use Rattle.cookie_text.specs.Normal.{IsReadable};
 ghost use Rattle.percent_encoding.specs.AsciiSet.{should_percent_encode};
 ghost use Rattle.cookie_text.specs.declared.escape.TheConstants.{PROFILE};
-ghost use Rattle.cookie_text.specs.Printing.{encoded, is_escaped, shown_text};
+ghost use Rattle.cookie_text.specs.Date.{Stamp, IsDateText};
+ghost use Rattle.cookie_text.specs.Printing.{encoded, escaped, is_escaped, shown_text};
+ghost use Rattle.percent_encoding.specs.Percent.{percent_encode};
 ghost use Rattle.cookie_text.specs.Reading.{ReadsPlain};
 ghost use Rattle.cookie_text.specs.ReadingBack.{GivesPair, IsNamed, Pairwise, ReadsBack, joined};
 ghost use Rattle.cookie_text.specs.Record.{Record, Seen};
@@ -19,9 +21,25 @@ use crate::cookie::Cookie;
 use crate::expiration::Expiration;
 
 /// The bytes that [`Cookie::encoded`] escapes in a name or value: the control characters, every
-/// byte past ASCII, the space, and `` " < > ` # ? { } / : ; = @ [ \ ] ^ | % ( ) , ``.
+/// byte past ASCII, the space, and `` " < > ` # ? { } / : ; = @ [ \ ] ^ | % ( ) , ``. The set that
+/// the code hands to its library has these bytes, and the library writes what is printed.
 pub fn profile_is_the_list()
-    ensures { (b : ℕ) → should_percent_encode PROFILE b ≡ is_escaped b }
+    ensures bytes { (b : ℕ) → should_percent_encode PROFILE b ≡ is_escaped b }
+    ensures texts { (text : List ℕ) → percent_encode PROFILE text ≡ escaped text }
+{}
+
+/// A text reads as one outcome by [`Cookie::parse`], and by [`Cookie::parse_encoded`] as one cookie,
+/// where there is memory for it.
+pub fn one_outcome()
+    ensures plain { (text : List ℕ) (o p : Result Seen Refusals)
+        → ReadsPlain text o → ReadsPlain text p → o ≡ p }
+    ensures decoded { (text : List ℕ) (s t : Seen)
+        → ReadsEncoded text (Ok s) → ReadsEncoded text (Ok t) → s.cookie ≡ t.cookie }
+{}
+
+/// A text shows one date at most, whatever form it has.
+pub fn one_date()
+    ensures { (text : List ℕ) (s t : Stamp) → IsDateText text s → IsDateText text t → s ≡ t }
 {}
 
 /// What [`Cookie::encoded`] prints reads back, by [`Cookie::parse`], as the cookie's normal form

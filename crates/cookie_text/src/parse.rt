@@ -1,8 +1,9 @@
 //! Reading a cookie from its text (RFC 6265, section 5.2).
 ghost use Rattle.std.specs.Prelude.{◌≡◌, [], Some, None, string_bytes};
 ghost use Rattle.cookie_text.specs.Pieces.{pieces, name_of, text_after};
-ghost use Rattle.cookie_text.specs.Reading.{HasAttributes, HasSlices, ReadsPlain, ReadsPair, ReadsFirst, ReadsFurther};
-ghost use Rattle.cookie_text.specs.Decoding.{ReadsEncoded, ReadsFirstEncoded, ReadsOwned, ReadsEncodedOwned, IsOwnedOutcome};
+ghost use Rattle.cookie_text.specs.Reading.{HasAttributes, HasSlices, ReadsPlain};
+ghost use Rattle.cookie_text.specs.Steps.{ReadsPair, ReadsFirst, ReadsFirstEncoded, ReadsFurther};
+ghost use Rattle.cookie_text.specs.Decoding.{ReadsEncoded, ReadsOwned, ReadsEncodedOwned, IsOwnedOutcome};
 
 use crate::attribute::attribute_of;
 use crate::cookie::Cookie;
@@ -38,7 +39,8 @@ impl<'c> Cookie<'c> {
     ///
     /// # Errors
     ///
-    /// As `parse`; then `Utf8Error` where the decoded name or value is not UTF-8.
+    /// As `parse`; then `Utf8Error` where the decoded name or value is not UTF-8, or `OutOfMemory`
+    /// where memory is refused, which a name and a value without `%` don't take.
     pub fn parse_encoded(alloc: Global, text: &'c str) -> Result<Cookie<'c>, ParseError>
         ensures { ReadsEncoded text.now result }
     {
@@ -53,6 +55,10 @@ impl<'c> Cookie<'c> {
     }
 
     /// Reads a cookie as `parse` does, from an owned text: it has no raw forms.
+    ///
+    /// # Errors
+    ///
+    /// As `parse`; then `OutOfMemory`.
     pub fn parse_owned(alloc: Global, text: String) -> Result<Cookie<'static>, ParseError>
         ensures { ReadsOwned (string_bytes text) result }
     {
@@ -60,6 +66,10 @@ impl<'c> Cookie<'c> {
     }
 
     /// Reads a cookie as `parse_encoded` does, from an owned text: it has no raw forms.
+    ///
+    /// # Errors
+    ///
+    /// As `parse_encoded`; `OutOfMemory` also where there is no memory for the cookie's own texts.
     pub fn parse_encoded_owned(alloc: Global, text: String) -> Result<Cookie<'static>, ParseError>
         ensures { ReadsEncodedOwned (string_bytes text) result }
     {
@@ -67,6 +77,10 @@ impl<'c> Cookie<'c> {
     }
 
     /// Reads a cookie as `parse` does; the cookie owns its texts, and has no raw forms.
+    ///
+    /// # Errors
+    ///
+    /// As `parse`; then `OutOfMemory`.
     pub fn from_str(alloc: Global, text: &str) -> Result<Cookie<'static>, ParseError>
         ensures { ReadsOwned text.now result }
     {

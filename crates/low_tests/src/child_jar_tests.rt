@@ -1,10 +1,14 @@
 //! Child jars that sign or seal values.
+ghost use Rattle.std.specs.Prelude.{IsErrOf};
+
 use crate::jar_tests::{has_counts, is_read, new_year, settled, value, with_original};
 use crate::key_tests::{
     Counting, DATA, NO_SEALINGS, NO_SIGNINGS, SEALED, SEALED_LETTERS, SIGNED, SIGNED_WITH_PLUS,
     counter, jefe, zero_key,
 };
 use cookie::{Cookie, CookieJar, Key, PrivateError};
+use rand_chacha::ChaCha20Rng;
+use rand_core::SeedableRng;
 use std::alloc::{AllocError, Global};
 
 fn gives_signed(jar: &CookieJar, key: &Key, name: &str, wanted: &str) -> Result<bool, AllocError> {
@@ -127,6 +131,25 @@ fn seal_original(
         .add_original(Cookie::new(name, "1"), rng)
 }
 
+// By a generator that can't fail: that its fill is never what failed is proved.
+fn seal_at_random(
+    jar: &mut CookieJar,
+    name: &'static str,
+    rng: &mut ChaCha20Rng,
+) -> Result<(), PrivateError>
+    ensures { ¬ (IsErrOf result PrivateError.Rng) }
+{
+    jar.private_mut(&zero_key())
+        .add(Cookie::new(name, "1"), rng)
+}
+
+// The nonce is the front of the stream of the zero seed (RFC 8439, appendix A.1, first vector).
+fn seals_at_random(alloc: Global) -> Result<bool, PrivateError> {
+    let mut jar = CookieJar::new(alloc);
+    seal_at_random(&mut jar, "a", &mut ChaCha20Rng::from_seed([0; 32]))?;
+    Ok(value(&jar, "a").starts_with("drjgraDxPZBAXWrl"))
+}
+
 // A jar with two cookies that were sealed under one fill after the other.
 fn sealed_by_fills(alloc: Global) -> Result<CookieJar, PrivateError> {
     let mut jar = CookieJar::new(alloc);
@@ -189,6 +212,7 @@ fn seals_the_name(alloc: Global) -> Result<bool, PrivateError> {
 // Each sealing takes the next twelve bytes, and is read under its own name alone.
 #[test]
 fn seals_under_the_bytes_of_a_fill(rt: HostRuntime) {
+    assert!(rt; seals_at_random(rt.alloc()) == Ok(true));
     assert!(rt; seals_under_fills(rt.alloc()) == Ok(true));
     assert!(rt; adds_under_fills(rt.alloc()) == Ok(true));
     assert!(rt; seals_the_name(rt.alloc()) == Ok(true));

@@ -133,6 +133,11 @@ fn counts_up(key: &Key) -> bool {
         .all(|(i, byte)| *byte as usize == i)
 }
 
+// The key of a generator that can't fail. That there is one is proved, since `unwrap` asks it.
+fn given(rng: &mut ChaCha20Rng) -> Key {
+    Key::try_generate(rng).unwrap()
+}
+
 #[test]
 fn keys_are_generated_by_one_fill(rt: HostRuntime) {
     let mut rng = counter(1, false);
@@ -143,6 +148,7 @@ fn keys_are_generated_by_one_fill(rt: HostRuntime) {
     assert!(rt; Key::try_generate(&mut counter(0, true)).is_none());
     let key = Key::generate(&mut ChaCha20Rng::from_seed([0; 32]));
     assert!(rt; is_key(&key, CHACHA_BLOCK));
+    assert!(rt; is_key(&given(&mut ChaCha20Rng::from_seed([0; 32])), CHACHA_BLOCK));
 }
 
 // Whether the key's debug form is its type's name.

@@ -6,7 +6,11 @@ mod child_jar_tests;
 #[cfg(test)]
 mod cipher_tests;
 #[cfg(test)]
+mod cookie_readme;
+#[cfg(test)]
 mod cookie_tests;
+#[cfg(test)]
+mod cookie_text_readme;
 #[cfg(test)]
 mod date_tests;
 #[cfg(test)]

@@ -10,6 +10,10 @@ use base64::engine::general_purpose::STANDARD;
 use std::alloc::{AllocError, Global};
 
 /// The base64 of the bytes.
+///
+/// # Errors
+///
+/// Want of memory.
 pub fn encoded(alloc: Global, bytes: &[u8]) -> Result<String, AllocError>
     ensures { IfOk result (λ text. IsBase64 bytes.now (string_bytes text)) }
 {
@@ -17,6 +21,10 @@ pub fn encoded(alloc: Global, bytes: &[u8]) -> Result<String, AllocError>
 }
 
 /// The bytes that the text is the base64 of, or none where it is that of none.
+///
+/// # Errors
+///
+/// Want of memory.
 pub fn decoded(alloc: Global, text: &str) -> Result<Option<Vec<u8>>, AllocError>
     ensures { IfOk result (λ bytes. (b : List ℕ)
         → (option_map (λ v. v.items) bytes ≡ Some b) ↔ IsBase64 b text.now) }

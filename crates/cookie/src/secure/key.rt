@@ -43,7 +43,8 @@ impl Model for Key {
 }
 
 impl Key {
-    /// The key of the first 64 bytes. For bytes from outside there is [`Key::try_from`].
+    /// The key of the first 64 bytes, of which there have to be 64 at least: a caller that doesn't
+    /// know takes [`Key::try_from`].
     pub fn from(bytes: &[u8]) -> Key
         requires { 64 ≤ length bytes.now }
         ensures { result ≡ take 64 bytes.now }
@@ -72,7 +73,8 @@ impl Key {
     }
 
     /// The key that is derived from `master_key`: its expansion by HKDF with SHA-256 (RFC 5869,
-    /// section 2.3). For bytes from outside there is [`Key::try_derive_from`].
+    /// section 2.3). It has to have 32 bytes at least: a caller that doesn't know takes
+    /// [`Key::try_derive_from`].
     pub fn derive_from(master_key: &[u8]) -> Key
         requires { 32 ≤ length master_key.now }
         ensures { result ≡ spec.derived master_key.now }
@@ -98,7 +100,8 @@ impl Key {
         Ok(Key::derive_from(master_key))
     }
 
-    /// A key of 64 bytes that the generator gives at one fill, or none where the fill fails.
+    /// A key of 64 bytes that the generator gives at one fill, or none where the fill fails: a
+    /// generator whose error type has no value gives a key each time.
     pub fn try_generate<R: TryRng>(rng: &mut R) -> Option<Key>
         ensures { MatchOption result R.Error
             (λ key. (length key ≡ 64) × R.may_fill rng.old key rng.new) }

@@ -1,6 +1,7 @@
 //! Child jars that seal values.
 
-ghost use Rattle.std.specs.Prelude.{◌≡◌, ◌↔◌, ℕ, List, length, IfOk, OnOk, OnErr, IsErrOf};
+ghost use Rattle.std.specs.Prelude.{◌≡◌, ◌↔◌, ℕ, List, length, None, IsOk, IfOk, OnOk, OnErr, IsErrOf};
+ghost use Rattle.std.specs.FinMap as finmap;
 ghost use Rattle.seal.specs.Gcm.{IsSealable};
 ghost use Rattle.cookie_text.specs.Setting.{with_value};
 ghost use Rattle.cookie.specs.Sealing.{SealsAs};
@@ -18,10 +19,12 @@ use rand_core::TryRng;
 use std::alloc::{AllocError, Global};
 
 impl CookieJar {
+    ghost use Rattle.cookie.specs.PrivateJars.{borrow_of, jar_read, jar_written, reading_key, writing_key};
+
     /// A child jar that reads the cookies which this key sealed.
     pub fn private(&self, key: &Key) -> PrivateJar<'_>
-        ensures parent { result.parent.now ≡ self.now }
-        ensures key { result.key ≡ key.now }
+        ensures jar { jar_read result ≡ self.now }
+        ensures key { reading_key result ≡ key.now }
     {
         PrivateJar {
             parent: self,
@@ -31,9 +34,9 @@ impl CookieJar {
 
     /// A child jar that reads the cookies which this key sealed, and seals those that it adds.
     pub fn private_mut(&mut self, key: &Key) -> PrivateJarMut<'_>
-        ensures same_reference { result.parent.ghost_name ≡ self.entry.ghost_name }
-        ensures parent { result.parent.now ≡ self.old }
-        ensures key { result.key ≡ key.now }
+        ensures same_reference { borrow_of result ≡ self.entry.ghost_name }
+        ensures jar { jar_written result ≡ self.old }
+        ensures key { writing_key result ≡ key.now }
     {
         PrivateJarMut {
             parent: self,
@@ -50,18 +53,28 @@ pub struct PrivateJar<'a> {
 }
 
 impl<'a> PrivateJar<'a> {
+    ghost use Rattle.cookie.specs.PrivateJars.{jar_read, reading_key};
+
     /// The cookie with the value that its own is a sealing of, under the cookie's name and any
     /// nonce, and none where it is no such sealing or the value isn't UTF-8.
+    ///
+    /// # Errors
+    ///
+    /// Want of memory.
     pub fn decrypt(&self, cookie: Cookie<'static>) -> Result<Option<Cookie<'static>>, AllocError>
-        ensures { IfOk result (λ read. Reads (IsSealed self.now.key cookie.entry) cookie.entry read) }
+        ensures { IfOk result (λ read. Reads (IsSealed (reading_key self.now) cookie.entry) cookie.entry read) }
     {
         opened(self.parent.alloc(), &self.key, cookie)
     }
 
     /// A copy of the jar's cookie of this name as [`PrivateJar::decrypt`] reads it.
+    ///
+    /// # Errors
+    ///
+    /// Want of memory.
     pub fn get(&self, name: &str) -> Result<Option<Cookie<'static>>, AllocError>
-        ensures { IfOk result (λ read. ReadsFound (IsSealed self.now.key)
-            (spec.view self.now.parent.now name.now) read) }
+        ensures { IfOk result (λ read. ReadsFound (IsSealed (reading_key self.now))
+            (spec.view (jar_read self.now) name.now) read) }
     {
         found(self.parent, &self.key, name)
     }
@@ -75,18 +88,28 @@ pub struct PrivateJarMut<'a> {
 }
 
 impl<'a> PrivateJarMut<'a> {
+    ghost use Rattle.cookie.specs.PrivateJars.{KeepsParts, jar_written, writing_key};
+
     /// The cookie with the value that its own is a sealing of, under the cookie's name and any
     /// nonce, and none where it is no such sealing or the value isn't UTF-8.
+    ///
+    /// # Errors
+    ///
+    /// Want of memory.
     pub fn decrypt(&self, cookie: Cookie<'static>) -> Result<Option<Cookie<'static>>, AllocError>
-        ensures { IfOk result (λ read. Reads (IsSealed self.now.key cookie.entry) cookie.entry read) }
+        ensures { IfOk result (λ read. Reads (IsSealed (writing_key self.now) cookie.entry) cookie.entry read) }
     {
         opened(self.parent.alloc(), &self.key, cookie)
     }
 
     /// A copy of the jar's cookie of this name as [`PrivateJarMut::decrypt`] reads it.
+    ///
+    /// # Errors
+    ///
+    /// Want of memory.
     pub fn get(&self, name: &str) -> Result<Option<Cookie<'static>>, AllocError>
-        ensures { IfOk result (λ read. ReadsFound (IsSealed self.now.key)
-            (spec.view self.now.parent.now name.now) read) }
+        ensures { IfOk result (λ read. ReadsFound (IsSealed (writing_key self.now))
+            (spec.view (jar_written self.now) name.now) read) }
     {
         found(self.parent, &self.key, name)
     }
@@ -97,18 +120,18 @@ impl<'a> PrivateJarMut<'a> {
     /// # Errors
     ///
     /// `TooLong` where name and value can't be sealed for their lengths, and the generator is then
-    /// not asked; else `Rng` where its fill fails; else `OutOfMemory`. The jar is unchanged then.
+    /// not asked; else `Rng` where its fill fails, which it can only where the generator's error type
+    /// has a value; else `OutOfMemory`. The jar is unchanged then.
     pub fn add<R: TryRng>(
         &mut self,
         cookie: Cookie<'static>,
         rng: &mut R,
     ) -> Result<(), PrivateError>
-        ensures same { (self.new.parent.ghost_name ≡ self.old.parent.ghost_name)
-            × (self.new.key ≡ self.old.key) }
+        ensures same { KeepsParts self.old self.new }
         ensures ok { OnOk result ((nonce : List ℕ) × (stored : Seen)
-            × R.may_fill rng.old nonce rng.new × SealsAs self.old.key nonce cookie.entry stored
-            × (self.new.parent.now ≡ spec.with_added self.old.parent.now stored)) }
-        ensures err { OnErr result (self.new.parent.now ≡ self.old.parent.now) }
+            × R.may_fill rng.old nonce rng.new × SealsAs (writing_key self.old) nonce cookie.entry stored
+            × (jar_written self.new ≡ spec.with_added (jar_written self.old) stored)) }
+        ensures err { OnErr result (jar_written self.new ≡ jar_written self.old) }
         ensures too_long { IsErrOf result PrivateError.TooLong
             ↔ (¬ (IsSealable cookie.entry.cookie.name cookie.entry.cookie.value)) }
         ensures asked { (IsErrOf result PrivateError.TooLong → rng.new ≡ rng.old)
@@ -127,18 +150,18 @@ impl<'a> PrivateJarMut<'a> {
     /// # Errors
     ///
     /// `TooLong` where name and value can't be sealed for their lengths, and the generator is then
-    /// not asked; else `Rng` where its fill fails; else `OutOfMemory`. The jar is unchanged then.
+    /// not asked; else `Rng` where its fill fails, which it can only where the generator's error type
+    /// has a value; else `OutOfMemory`. The jar is unchanged then.
     pub fn add_original<R: TryRng>(
         &mut self,
         cookie: Cookie<'static>,
         rng: &mut R,
     ) -> Result<(), PrivateError>
-        ensures same { (self.new.parent.ghost_name ≡ self.old.parent.ghost_name)
-            × (self.new.key ≡ self.old.key) }
+        ensures same { KeepsParts self.old self.new }
         ensures ok { OnOk result ((nonce : List ℕ) × (stored : Seen)
-            × R.may_fill rng.old nonce rng.new × SealsAs self.old.key nonce cookie.entry stored
-            × (self.new.parent.now ≡ spec.with_original self.old.parent.now stored)) }
-        ensures err { OnErr result (self.new.parent.now ≡ self.old.parent.now) }
+            × R.may_fill rng.old nonce rng.new × SealsAs (writing_key self.old) nonce cookie.entry stored
+            × (jar_written self.new ≡ spec.with_original (jar_written self.old) stored)) }
+        ensures err { OnErr result (jar_written self.new ≡ jar_written self.old) }
         ensures too_long { IsErrOf result PrivateError.TooLong
             ↔ (¬ (IsSealable cookie.entry.cookie.name cookie.entry.cookie.value)) }
         ensures asked { (IsErrOf result PrivateError.TooLong → rng.new ≡ rng.old)
@@ -152,12 +175,17 @@ impl<'a> PrivateJarMut<'a> {
     }
 
     /// Removes the jar's cookie of this cookie's name, as [`CookieJar::remove`] does.
+    ///
+    /// # Errors
+    ///
+    /// Want of memory, and only where an original has the name. The jar is unchanged then.
     pub fn remove(&mut self, cookie: Cookie<'static>, now: DateTime) -> Result<(), AllocError>
-        ensures same { (self.new.parent.ghost_name ≡ self.old.parent.ghost_name)
-            × (self.new.key ≡ self.old.key) }
+        ensures same { KeepsParts self.old self.new }
         ensures ok { OnOk result
-            (spec.Removes self.old.parent.now cookie.entry now self.new.parent.now) }
-        ensures err { OnErr result (self.new.parent.now ≡ self.old.parent.now) }
+            (spec.Removes (jar_written self.old) cookie.entry now (jar_written self.new)) }
+        ensures err { OnErr result (jar_written self.new ≡ jar_written self.old) }
+        ensures succeeds { finmap.get (jar_written self.old).originals cookie.entry.cookie.name ≡ None
+            → IsOk result }
     {
         self.parent.remove(cookie, now)
     }

@@ -102,7 +102,8 @@ pub fn sealed_text(
 /// # Errors
 ///
 /// `TooLong` where name and value can't be sealed for their lengths, and the generator is then not
-/// asked; else `Rng` where its fill fails; else `OutOfMemory`.
+/// asked; else `Rng` where its fill fails, which it can only where the generator's error type has
+/// a value; else `OutOfMemory`.
 pub fn sealed_by<R: TryRng>(
     alloc: Global,
     key: &Key,
@@ -192,6 +193,10 @@ fn opened_text(key: &Key, name: &str, bytes: Vec<u8>) -> Option<String>
 
 /// The value that `text` is a sealing of under this key and name, and none where it is no such
 /// sealing under any nonce, or where the value isn't UTF-8.
+///
+/// # Errors
+///
+/// Want of memory.
 pub fn opened_value(
     alloc: Global,
     key: &Key,

@@ -1,6 +1,7 @@
 //! Child jars that sign values.
 
-ghost use Rattle.std.specs.Prelude.{◌≡◌, IfOk, OnOk, OnErr};
+ghost use Rattle.std.specs.Prelude.{◌≡◌, None, IsOk, IfOk, OnOk, OnErr};
+ghost use Rattle.std.specs.FinMap as finmap;
 ghost use Rattle.cookie_text.specs.Setting.{with_value};
 ghost use Rattle.cookie.specs.Signing.{signing};
 ghost use Rattle.cookie.specs.Reading.{Reads, ReadsFound, IsSigned};
@@ -14,10 +15,12 @@ use jiff::civil::DateTime;
 use std::alloc::{AllocError, Global};
 
 impl CookieJar {
+    ghost use Rattle.cookie.specs.SignedJars.{borrow_of, jar_read, jar_written, reading_key, writing_key};
+
     /// A child jar that reads the cookies which this key signed.
     pub fn signed(&self, key: &Key) -> SignedJar<'_>
-        ensures parent { result.parent.now ≡ self.now }
-        ensures key { result.key ≡ key.now }
+        ensures jar { jar_read result ≡ self.now }
+        ensures key { reading_key result ≡ key.now }
     {
         SignedJar {
             parent: self,
@@ -27,9 +30,9 @@ impl CookieJar {
 
     /// A child jar that reads the cookies which this key signed, and signs those that it adds.
     pub fn signed_mut(&mut self, key: &Key) -> SignedJarMut<'_>
-        ensures same_reference { result.parent.ghost_name ≡ self.entry.ghost_name }
-        ensures parent { result.parent.now ≡ self.old }
-        ensures key { result.key ≡ key.now }
+        ensures same_reference { borrow_of result ≡ self.entry.ghost_name }
+        ensures jar { jar_written result ≡ self.old }
+        ensures key { writing_key result ≡ key.now }
     {
         SignedJarMut {
             parent: self,
@@ -46,18 +49,28 @@ pub struct SignedJar<'a> {
 }
 
 impl<'a> SignedJar<'a> {
+    ghost use Rattle.cookie.specs.SignedJars.{jar_read, reading_key};
+
     /// The cookie with the value that its own is the signing of, and none where it is no signing
     /// under this key.
+    ///
+    /// # Errors
+    ///
+    /// Want of memory.
     pub fn verify(&self, cookie: Cookie<'static>) -> Result<Option<Cookie<'static>>, AllocError>
-        ensures { IfOk result (λ read. Reads (IsSigned self.now.key cookie.entry) cookie.entry read) }
+        ensures { IfOk result (λ read. Reads (IsSigned (reading_key self.now) cookie.entry) cookie.entry read) }
     {
         verified(self.parent.alloc(), &self.key, cookie)
     }
 
     /// A copy of the jar's cookie of this name as [`SignedJar::verify`] reads it.
+    ///
+    /// # Errors
+    ///
+    /// Want of memory.
     pub fn get(&self, name: &str) -> Result<Option<Cookie<'static>>, AllocError>
-        ensures { IfOk result (λ read. ReadsFound (IsSigned self.now.key)
-            (spec.view self.now.parent.now name.now) read) }
+        ensures { IfOk result (λ read. ReadsFound (IsSigned (reading_key self.now))
+            (spec.view (jar_read self.now) name.now) read) }
     {
         found(self.parent, &self.key, name)
     }
@@ -71,53 +84,74 @@ pub struct SignedJarMut<'a> {
 }
 
 impl<'a> SignedJarMut<'a> {
+    ghost use Rattle.cookie.specs.SignedJars.{KeepsParts, jar_written, writing_key};
+
     /// The cookie with the value that its own is the signing of, and none where it is no signing
     /// under this key.
+    ///
+    /// # Errors
+    ///
+    /// Want of memory.
     pub fn verify(&self, cookie: Cookie<'static>) -> Result<Option<Cookie<'static>>, AllocError>
-        ensures { IfOk result (λ read. Reads (IsSigned self.now.key cookie.entry) cookie.entry read) }
+        ensures { IfOk result (λ read. Reads (IsSigned (writing_key self.now) cookie.entry) cookie.entry read) }
     {
         verified(self.parent.alloc(), &self.key, cookie)
     }
 
     /// A copy of the jar's cookie of this name as [`SignedJarMut::verify`] reads it.
+    ///
+    /// # Errors
+    ///
+    /// Want of memory.
     pub fn get(&self, name: &str) -> Result<Option<Cookie<'static>>, AllocError>
-        ensures { IfOk result (λ read. ReadsFound (IsSigned self.now.key)
-            (spec.view self.now.parent.now name.now) read) }
+        ensures { IfOk result (λ read. ReadsFound (IsSigned (writing_key self.now))
+            (spec.view (jar_written self.now) name.now) read) }
     {
         found(self.parent, &self.key, name)
     }
 
     /// Adds the cookie to the jar's delta, with the signing of its value in the value's place.
+    ///
+    /// # Errors
+    ///
+    /// Want of memory. The jar is unchanged then.
     pub fn add(&mut self, cookie: Cookie<'static>) -> Result<(), AllocError>
-        ensures same { (self.new.parent.ghost_name ≡ self.old.parent.ghost_name)
-            × (self.new.key ≡ self.old.key) }
-        ensures ok { OnOk result (self.new.parent.now ≡ spec.with_added self.old.parent.now
-            (with_value cookie.entry (signing self.old.key cookie.entry.cookie.value))) }
-        ensures err { OnErr result (self.new.parent.now ≡ self.old.parent.now) }
+        ensures same { KeepsParts self.old self.new }
+        ensures ok { OnOk result (jar_written self.new ≡ spec.with_added (jar_written self.old)
+            (with_value cookie.entry (signing (writing_key self.old) cookie.entry.cookie.value))) }
+        ensures err { OnErr result (jar_written self.new ≡ jar_written self.old) }
     {
         let cookie = signed(self.parent.alloc(), &self.key, cookie)?;
         self.parent.add(cookie)
     }
 
     /// Adds the cookie to the jar's originals, with the signing of its value in the value's place.
+    ///
+    /// # Errors
+    ///
+    /// Want of memory. The jar is unchanged then.
     pub fn add_original(&mut self, cookie: Cookie<'static>) -> Result<(), AllocError>
-        ensures same { (self.new.parent.ghost_name ≡ self.old.parent.ghost_name)
-            × (self.new.key ≡ self.old.key) }
-        ensures ok { OnOk result (self.new.parent.now ≡ spec.with_original self.old.parent.now
-            (with_value cookie.entry (signing self.old.key cookie.entry.cookie.value))) }
-        ensures err { OnErr result (self.new.parent.now ≡ self.old.parent.now) }
+        ensures same { KeepsParts self.old self.new }
+        ensures ok { OnOk result (jar_written self.new ≡ spec.with_original (jar_written self.old)
+            (with_value cookie.entry (signing (writing_key self.old) cookie.entry.cookie.value))) }
+        ensures err { OnErr result (jar_written self.new ≡ jar_written self.old) }
     {
         let cookie = signed(self.parent.alloc(), &self.key, cookie)?;
         self.parent.add_original(cookie)
     }
 
     /// Removes the jar's cookie of this cookie's name, as [`CookieJar::remove`] does.
+    ///
+    /// # Errors
+    ///
+    /// Want of memory, and only where an original has the name. The jar is unchanged then.
     pub fn remove(&mut self, cookie: Cookie<'static>, now: DateTime) -> Result<(), AllocError>
-        ensures same { (self.new.parent.ghost_name ≡ self.old.parent.ghost_name)
-            × (self.new.key ≡ self.old.key) }
+        ensures same { KeepsParts self.old self.new }
         ensures ok { OnOk result
-            (spec.Removes self.old.parent.now cookie.entry now self.new.parent.now) }
-        ensures err { OnErr result (self.new.parent.now ≡ self.old.parent.now) }
+            (spec.Removes (jar_written self.old) cookie.entry now (jar_written self.new)) }
+        ensures err { OnErr result (jar_written self.new ≡ jar_written self.old) }
+        ensures succeeds { finmap.get (jar_written self.old).originals cookie.entry.cookie.name ≡ None
+            → IsOk result }
     {
         self.parent.remove(cookie, now)
     }

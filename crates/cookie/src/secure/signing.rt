@@ -27,6 +27,10 @@ fn code_of(key: &Key, value: &str) -> [u8; 44]
 
 /// The signing of `value`: its code under the key's signing half (HMAC with SHA-256, RFC 2104) in
 /// base64, which has 44 characters, and then the value.
+///
+/// # Errors
+///
+/// Want of memory.
 pub fn signed_text(alloc: Global, key: &Key, value: &str) -> Result<String, AllocError>
     ensures { IfOk result (λ text. string_bytes text ≡ spec.signing key.now value.now) }
 {

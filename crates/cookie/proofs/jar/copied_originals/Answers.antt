@@ -8,4 +8,5 @@ pub loop-name-init : goal.loop-name-init
 loop-name-init c =
     ap (λ m. with_all m (by_bytes c.into_iter-name-iterator.result)) c.new-copies.ensures
     ∙ written_whole c.args.originals.now (by_bytes c.into_iter-name-iterator.result)
-    (subst (λ es. Lists (by_bytes es) (finmap.get c.args.originals.now)) (sym c.into_iter-name-iterator.ensures.into_iter_gives) c.iter-name-items.ensures)
+    (subst (λ es. Lists (by_bytes es) (finmap.get c.args.originals.now))
+    (sym c.into_iter-name-iterator.ensures.into_iter_gives) c.iter-name-items.ensures)

@@ -6,7 +6,8 @@ use Rattle.cookie.proofs.laws.one_value.Goals as goal
 
 pub returns-clause-signed : goal.returns-clause-signed
 returns-clause-signed c = λ key v w is.
-    sym (drop-signing c.lengths.ensures.code key v (signing key v) refl) ∙ drop-signing c.lengths.ensures.code key w (signing key v) is
+    sym (drop-signing c.lengths.ensures.code key v (signing key v) refl)
+    ∙ drop-signing c.lengths.ensures.code key w (signing key v) is
 
 pub returns-clause-sealed : goal.returns-clause-sealed
 returns-clause-sealed c = λ key name v w text half hv hw.

@@ -7,6 +7,7 @@ use Rattle.cookie_text.proofs.attribute.are_digits.Goals as goal
 
 pub returns-then-not-is_empty : goal.returns-then-not-is_empty
 returns-then-not-is_empty c =
-    let all = all_from_yields_List is_ascii_digit _ _ c.all.result c.all.ensures.ran (YieldsList-from_bytes c.args.text.now c.bytes.ensures.rest) (λ x b q k. search (rules, tests)) in
+    let all = all_from_yields_List is_ascii_digit _ _ c.all.result c.all.ensures.ran
+    (YieldsList-from_bytes c.args.text.now c.bytes.ensures.rest) (λ x b q k. search (rules, tests)) in
     let some : 0 < length c.args.text.now = grind (arith, nat_tests) in
     (λ e. (some, sym all ∙ e), λ h. all ∙ h.1)

@@ -8,7 +8,8 @@ use Rattle.cookie_text.proofs.attribute.seconds_of.Goals as goal
 pub returns-then-not-are_digits : goal.returns-then-not-are_digits
 returns-then-not-are_digits c =
     no_seconds c.args.text.now (λ d. false≢true (sym c.if-not-are_digits.true ∙ c.are_digits-in-None.ensures.1 d))
-    (rw c.in-None.is at (strip_prefix_char 45 c.args.text.now c.strip_prefix.result c.strip_prefix.ensures.cases (lit< tt)))
+    (rw c.in-None.is at (strip_prefix_char 45 c.args.text.now c.strip_prefix.result c.strip_prefix.ensures.cases
+    (lit< tt)))
 
 pub returns-in-Err : goal.returns-in-Err
 returns-in-Err c =

@@ -8,5 +8,6 @@ pub returns-then-len-le4-clause-digits : goal.returns-then-len-le4-clause-digits
 returns-then-len-le4-clause-digits c =
     let text = c.args.text.now in
     let len : c.digits_len-len.result ≡ digits_len text = c.digits_len-len.ensures.value in
-    let front : c.split_at.result.0.now ≡ take (digits_len text) text = c.split_at.ensures.front ∙ ap (λ n. take n text) len in
+    let front : c.split_at.result.0.now ≡ take (digits_len text) text = c.split_at.ensures.front
+    ∙ ap (λ n. take n text) len in
     subst AreYearDigits (sym front) (AreYearDigits-taken text (omega (arith, len)) (omega (arith, len)))

@@ -4,4 +4,5 @@ use Rattle.cookie_text.proofs.expiration.latest.Goals as goal
 
 pub returns : goal.returns
 returns c =
-    latest_is c.saturating_sub.result _ _ (civil_nanos-last _ ((refl, refl, refl), refl)) c.from_nanos.ensures c.saturating_sub.ensures.fits
+    latest_is c.saturating_sub.result _ _ (civil_nanos-last _ ((refl, refl, refl), refl)) c.from_nanos.ensures
+    c.saturating_sub.ensures.fits

@@ -6,4 +6,8 @@ use Rattle.cookie_text.proofs.laws.encoded_pair_reads_back.Goals as goal
 pub returns : goal.returns
 returns c =
     let r = c.args.cookie.now.cookie in
-    pair_back r.name r.value (record { some = c.requires; text = subst IsUtf8 c.name.ensures c.name.utf8; value_text = subst IsUtf8 c.value.ensures c.value.utf8 })
+    pair_back r.name r.value (record {
+      some = c.requires;
+      text = subst IsUtf8 c.name.ensures c.name.utf8;
+      value_text = subst IsUtf8 c.value.ensures c.value.utf8;
+    })

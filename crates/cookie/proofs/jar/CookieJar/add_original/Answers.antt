@@ -5,7 +5,8 @@ use Rattle.cookie.proofs.jar.CookieJar.add_original.Goals as goal
 
 pub invariant_of-self : goal.invariant_of-self
 invariant_of-self c = (
-  names_after (λ x. x) c.insert.result c.self.inside.original_cookies c.insert.new.self (string_bytes c.in_ok-name.name) c.args.cookie c.insert.ensures.ok c.insert.ensures.err
+  names_after (λ x. x) c.insert.result c.self.inside.original_cookies c.insert.new.self
+      (string_bytes c.in_ok-name.name) c.args.cookie c.insert.ensures.ok c.insert.ensures.err
       (sym (c.in_ok-name.ensures.ok ∙ c.name.ensures)) c.self.invariant.0,
   c.self.invariant.1,
 )

@@ -3,4 +3,5 @@ use Rattle.cookie.proofs.JarLemmas.{lists_delta}
 use Rattle.cookie.proofs.jar.CookieJar.delta.Goals as goal
 
 pub returns : goal.returns
-returns c = lists_delta c.iter.result c.args.self.now c.self.inside.delta_cookies (ap (λ j. j.changes) c.self.view_is) c.iter.ensures c.self.invariant.1
+returns c = lists_delta c.iter.result c.args.self.now c.self.inside.delta_cookies
+    (ap (λ j. j.changes) c.self.view_is) c.iter.ensures c.self.invariant.1

@@ -8,7 +8,11 @@ use Rattle.cookie.proofs.JarLemmas.{names_empty}
 use Rattle.cookie.proofs.jar.CookieJar.reset_delta.Goals as goal
 
 pub invariant_of-self : goal.invariant_of-self
-invariant_of-self c = (c.self.invariant.0, subst (AreUnderTheirNames cookie_of) (sym c.new.ensures) (names_empty cookie_of))
+invariant_of-self c = (
+  c.self.invariant.0,
+  subst (AreUnderTheirNames cookie_of) (sym c.new.ensures)
+      (names_empty cookie_of),
+)
 
 pub returns-clause-empty : goal.returns-clause-empty
 returns-clause-empty c = λ name.

@@ -7,4 +7,5 @@ use Rattle.cookie.proofs.name_map.NameMap.contains.Goals as goal
 pub returns : goal.returns
 returns g c =
     c.contains_key.ensures
-    ∙ ap is_some (sym (get_by_bytes c.self.inside.entries.entries c.args.name.now) ∙ ap (λ m. finmap.get m c.args.name.now) c.self.view_is)
+    ∙ ap is_some (sym (get_by_bytes c.self.inside.entries.entries c.args.name.now)
+    ∙ ap (λ m. finmap.get m c.args.name.now) c.self.view_is)

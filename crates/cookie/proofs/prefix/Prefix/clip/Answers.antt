@@ -7,7 +7,8 @@ pub returns-clause-clipped : goal.returns-clause-clipped
 returns-clause-clipped g c =
     let text : List ℕ = g.Self.Prefix.text in
     let name : List ℕ = c.in-Some.name.now in
-    let split : c.args.cookie.cookie.name ≡ text ++ name = sym c.name.ensures ∙ c.in-Some.ensures ∙ ap (λ (t : List ℕ). t ++ name) c.text.ensures in
+    let split : c.args.cookie.cookie.name ≡ text ++ name = sym c.name.ensures ∙ c.in-Some.ensures
+    ∙ ap (λ (t : List ℕ). t ++ name) c.text.ensures in
     record {
       has = λ rest e. c.set_name_owned.ensures
           ∙ ap (with_name c.args.cookie) (c.in_ok-name.ensures.ok ∙ append_cancel_left text name rest (sym split ∙ e));

@@ -5,5 +5,6 @@ use Rattle.cookie.proofs.secure.signed_jar.found.Goals as goal
 
 pub returns-in_ok-clone-in-Some : goal.returns-in_ok-clone-in-Some
 returns-in_ok-clone-in-Some c =
-    found_reads (IsSigned c.args.key.now) c.verified.result c.in_ok-clone-in-Some.field-0 c.in-Some.cookie.now (view c.args.jar.now c.args.name.now)
+    found_reads (IsSigned c.args.key.now) c.verified.result c.in_ok-clone-in-Some.field-0 c.in-Some.cookie.now
+    (view c.args.jar.now c.args.name.now)
     c.in_ok-clone-in-Some.ensures c.in-Some.ensures.cookie c.verified.ensures
