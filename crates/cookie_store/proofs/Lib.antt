@@ -1,1 +1,13 @@
+pub mod ApartLemmas
+pub mod BuildLemmas
+pub mod CallLemmas
+pub mod Confinement
+pub mod EndLemmas
+pub mod EntryLemmas
+pub mod GroupLemmas
+pub mod PlaceLaws
+pub mod PlaceLemmas
+pub mod RowFacts
+pub mod StoreLemmas
 pub mod StrippedLemmas
+pub mod TreeLemmas

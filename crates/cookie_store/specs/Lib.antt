@@ -1,5 +1,15 @@
+pub mod Confined
+pub mod Entries
+pub mod Given
 pub mod Giving
+pub mod Insertion
+pub mod Laws
+pub mod Lending
 pub mod Making
+pub mod Rows
 pub mod Same
+pub mod SameEquivalence
+pub mod Steps
 pub mod StoredCookie
 pub mod Stripped
+pub mod Tree

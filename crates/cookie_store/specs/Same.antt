@@ -1,14 +1,11 @@
 -- When two cookies of a store are equal.
 use Rattle.std.specs.Prelude.{◌≡◌, Bool}
-use Rattle.std.specs.Cmp.{IsEquivalence, on_equiv, and_equiv, bool_eq_equiv, int_eq_equiv, nat_eq_equiv}
-use Rattle.std.specs.Cmp.Lexicographic.{options_equiv, nat_list_eq_equiv}
 use Rattle.std.specs.Option.{option_eq}
 use Rattle.std.specs.Ordering.{int_eq, on, eq_of_both}
 use Rattle.cookie_text.specs.Record.{compared}
 use Rattle.cookie_text.specs.Same.{same_cookie}
-use Rattle.cookie_text.specs.SameEquivalence.{same_cookie_equiv}
 use Rattle.store_parts.specs.DomainMatch.{domain_of}
-use Rattle.store_parts.specs.DomainOrder.{domain_eq, kind_of, text_or_empty}
+use Rattle.store_parts.specs.DomainOrder.{domain_eq}
 use Rattle.store_parts.specs.Expiry.{death_second}
 use Rattle.store_parts.specs.PathMatch.{path_of}
 use Rattle.store_parts.specs.PathOrder.{path_eq}
@@ -27,19 +24,3 @@ same_stored =
     eq_of_both (eq_of_both (on (λ c. c.raw_cookie) same_cookie) (on (λ c. c.path) path_eq))
     (eq_of_both (on (λ c. c.domain) domain_eq)
     (on (λ c. death_second c.expires) (option_eq int_eq)))
-
-path_equiv : IsEquivalence path_eq
-path_equiv =
-    and_equiv (on_equiv (λ p. (path_of p).text) nat_list_eq_equiv)
-    (on_equiv (λ p. (path_of p).from_attribute) bool_eq_equiv)
-
-domain_equiv : IsEquivalence domain_eq
-domain_equiv = and_equiv (on_equiv kind_of nat_eq_equiv) (on_equiv text_or_empty nat_list_eq_equiv)
-
--- `==` is an equivalence
-pub same_stored_equiv : IsEquivalence same_stored
-same_stored_equiv =
-    and_equiv
-    (and_equiv (on_equiv (λ c. c.raw_cookie) same_cookie_equiv) (on_equiv (λ c. c.path) path_equiv))
-    (and_equiv (on_equiv (λ c. c.domain) domain_equiv)
-    (on_equiv (λ c. death_second c.expires) (options_equiv int_eq_equiv)))

@@ -1,6 +1,6 @@
 -- The cookie of a store as contracts see it (RFC 6265, 5.3, step 2).
 use Rattle.std.specs.Prelude.{ℤ, Option}
-use Rattle.cookie_text.specs.Record.{Seen}
+use Rattle.cookie_text.specs.Record.{Seen, unsliced}
 use Rattle.store_parts.specs.DomainMatch.{Domain, domain_of}
 use Rattle.store_parts.specs.Expiry.{death_of}
 use Rattle.store_parts.specs.PathMatch.{Path, path_of}
@@ -22,3 +22,7 @@ stored_of c = record {
   domain = domain_of c.domain;
   death = death_of c.expires;
 }
+
+-- the cookie owning its texts: no part of the one that was received is a slice of its source
+abbrev pub owned : StoredCookie → StoredCookie
+owned c = record c { raw = unsliced c.raw.cookie }

@@ -1,20 +1,32 @@
-//! The cookie of a store, and the parts that it is made of (RFC 6265, sections 5.1.3, 5.1.4, 5.2
-//! to 5.4).
+//! A store of cookies, the cookie that it holds, and the parts that this is made of (RFC 6265,
+//! sections 5.1.3, 5.1.4, 5.2 to 5.4).
 //!
 //! ```text
 //! let url = Url::parse(alloc, "https://www.example.com/foo/bar")?;
-//! let cookie = Cookie::parse(alloc, "a=1; Domain=example.com; Max-Age=60", &url, now)?;
-//! cookie.domain                                     // the suffix `example.com`
-//! cookie.path                                       // `/foo`
-//! cookie.matches(&url) && !cookie.is_expired(now)   // true
+//! let mut store = CookieStore::new(alloc).with_suffix_list(List::parse(alloc, b"com\n")?);
+//! store.parse("a=1; Domain=example.com; Max-Age=60", &url, now)   // `Ok(Inserted)`
+//! store.parse("b=2; Domain=com", &url, now)                       // `Err(PublicSuffix)`
+//! store.contains("example.com", "/foo", "a", now)                 // true
+//! store.get_request_values(&url, now)?                            // `a` with `1`
 //! ```
 #![tactic(auto)]
 
+mod action;
+mod requests;
+mod rows;
+mod store;
 mod stored_cookie;
+mod text_map;
+mod unexpired;
 
+pub use action::{InsertResult, StoreAction, StoreResult};
 pub use cookie::{Cookie as RawCookie, ParseError as RawCookieParseError};
+pub use requests::{RequestCookies, RequestValues};
+pub use rows::IterAny;
+pub use store::{CookieStore, laws};
 pub use store_parts::{
     CookieDomain, CookieError, CookieExpiration, CookiePath, Error, IdnaErrors, Result,
     cookie_domain, cookie_path, utils,
 };
 pub use stored_cookie::{Cookie, CookieResult};
+pub use unexpired::IterUnexpired;

@@ -1,17 +1,17 @@
 //! The cookie of a store.
 ghost use Rattle.std.specs.Prelude.{◌≡◌, ◌↔◌, IsTrue, IsSome, IfOk, Some};
 ghost use Rattle.std.specs.Cmp.{partial_equiv_from_equiv};
-ghost use Rattle.cookie_text.specs.Record.{unsliced};
 ghost use Rattle.cookie_text.specs.Setting.{with_path, with_domain};
 ghost use Rattle.jiff.specs.Words.{civil_nanos};
 ghost use Rattle.store_parts.specs.DomainMatch.{domain_of};
-ghost use Rattle.store_parts.specs.Expiry.{death_of, IsDeadAt, epoch};
+ghost use Rattle.store_parts.specs.Expiry.{death_of, is_dead, epoch};
 ghost use Rattle.store_parts.specs.PathMatch.{path_of};
 ghost use Rattle.cookie_store.specs.Giving.{GoesWith};
 ghost use Rattle.cookie_store.specs.Making as making;
 ghost use Rattle.cookie_store.specs.Same as same;
+ghost use Rattle.cookie_store.specs.SameEquivalence.{same_stored_equiv};
 ghost use Rattle.cookie_store.specs.Stripped as stripped;
-ghost use Rattle.cookie_store.specs.StoredCookie.{stored_of};
+ghost use Rattle.cookie_store.specs.StoredCookie.{owned, stored_of};
 
 use cookie::{Cookie as RawCookie, Expiration};
 use jiff::civil::DateTime;
@@ -38,7 +38,8 @@ pub struct Cookie<'a> {
 
 impl<'a> Cookie<'a> {
     /// Whether the cookie goes with a request to the URL (RFC 6265, section 5.4, step 1): path and
-    /// domain match, a Secure cookie meets a secure URL, an HttpOnly one an HTTP scheme.
+    /// domain match, a Secure cookie meets a URL that `utils::is_secure` passes, an HttpOnly one an
+    /// HTTP scheme.
     ///
     /// Whether it is expired is not looked at.
     pub fn matches(&self, request_url: &Url) -> bool
@@ -67,15 +68,14 @@ impl<'a> Cookie<'a> {
 
     /// Whether the cookie's end is at or before `now`.
     pub fn is_expired(&self, now: DateTime) -> bool
-        ensures { IsTrue result ↔ IsDeadAt (stored_of self.now).death (civil_nanos now) }
+        ensures { result ≡ is_dead (civil_nanos now) (stored_of self.now).death }
     {
         self.expires.is_expired(now)
     }
 
     /// Whether the cookie's end is at or before the moment.
     pub fn expires_by(&self, moment: &DateTime) -> bool
-        ensures { IsTrue result
-            ↔ IsDeadAt (stored_of self.now).death (civil_nanos moment.now) }
+        ensures { result ≡ is_dead (civil_nanos moment.now) (stored_of self.now).death }
     {
         self.expires.expires_by(moment)
     }
@@ -132,11 +132,12 @@ impl<'a> Cookie<'a> {
     }
 
     /// The same cookie, owning its texts.
+    ///
+    /// # Errors
+    ///
+    /// `AllocError`, for want of memory.
     pub fn into_owned(self, alloc: Global) -> Result<Cookie<'static>, AllocError>
-        ensures { IfOk result (λ cookie. stored_of cookie
-            ≡ record (stored_of self.entry) {
-              raw = unsliced (stored_of self.entry).raw.cookie;
-            }) }
+        ensures { IfOk result (λ cookie. stored_of cookie ≡ owned (stored_of self.entry)) }
     {
         let Cookie {
             raw_cookie,
@@ -164,6 +165,10 @@ impl<'a> Cookie<'a> {
     /// nor HttpOnly, and no Max-Age, which counts from another moment.
     ///
     /// An end after 9999-12-31T23:59:59.999999 counts as that one.
+    ///
+    /// # Errors
+    ///
+    /// `AllocError`, for want of memory.
     pub fn into_raw(self, alloc: Global) -> Result<RawCookie<'static>, AllocError>
         ensures { IfOk result (λ raw. stripped.IsStripped (stored_of self.entry) raw) }
     {
@@ -183,6 +188,10 @@ impl<'a> Cookie<'a> {
     }
 
     /// A copy: borrowed texts are borrowed again, owned ones are copied.
+    ///
+    /// # Errors
+    ///
+    /// `AllocError`, for want of memory.
     pub fn clone(&self, alloc: Global) -> Result<Cookie<'a>, AllocError>
         ensures { IfOk result (λ cookie. stored_of cookie ≡ stored_of self.now) }
     {
@@ -200,7 +209,7 @@ impl<'a> Cookie<'a> {
 impl<'a> PartialEq for Cookie<'a> {
     ghost eq = { same.same_stored };
 
-    ghost laws = { partial_equiv_from_equiv same.same_stored_equiv };
+    ghost laws = { partial_equiv_from_equiv same_stored_equiv };
 
     fn eq(&self, other: &Cookie<'a>) -> bool
         ensures value { result ≡ same.same_stored self.now other.now }

@@ -1,5 +1,5 @@
 -- The domain of a cookie and the hosts that it covers (RFC 6265, 5.1.3).
-use Rattle.std.specs.Prelude.{◌≡◌, ◌⊎◌, ◌++◌, ℕ, List, ◌∷◌, Option, Some, None, IsSomeAnd, string_bytes}
+use Rattle.std.specs.Prelude.{◌≡◌, ◌⊎◌, ◌++◌, ℕ, List, [], ◌∷◌, Option, Some, None, IsSomeAnd, string_bytes, unwrap_or}
 use Rattle.publicsuffix.specs.Prevailing.{Listed}
 use Rattle.publicsuffix.specs.Rules.{Rule}
 use Rattle.url.specs.Parts.{Parts}
@@ -34,6 +34,10 @@ text_of (suffix domain) = Some domain
 text_of not_present = None
 text_of empty = None
 
+-- the domain's text, empty where it has none
+abbrev pub text_or_empty : Domain → List ℕ
+text_or_empty domain = unwrap_or (text_of domain) []
+
 -- the string ends with a dot and the domain string
 abbrev pub EndsAfterDot : List ℕ → List ℕ → Type 0
 EndsAfterDot string domain = (before : List ℕ) × (string ≡ before ++ dot ∷ domain)
@@ -58,6 +62,6 @@ CoversAt domain url = IsSomeAnd (host_of url) (Covers domain)
 abbrev pub IsHostOf : Domain → Parts → Type 0
 IsHostOf domain url = IsSomeAnd (host_of url) (λ host. text_of domain ≡ Some host)
 
--- the domain has a text, a rule of the list prevails for it, and that rule covers all of it
+-- the domain has a text, and the rule of the list that prevails for it covers all of it
 abbrev pub IsListedIn : Domain → List Rule → Type 0
 IsListedIn domain rules = IsSomeAnd (text_of domain) (Listed rules)

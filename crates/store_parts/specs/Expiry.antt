@@ -1,6 +1,6 @@
 -- When a cookie ends (RFC 6265, 5.2.1, 5.2.2 and 5.3, step 3). Moments and lengths are counted in
 -- nanoseconds, moments from 1970-01-01T00:00:00 in UTC.
-use Rattle.std.specs.Prelude.{ℤ, pos, ◌+ℤ◌, ◌*ℤ◌, ◌≤ℤ◌, ℕ, Option, Some, None, IsSomeAnd, int_lt, option_map, if◌then◌else◌}
+use Rattle.std.specs.Prelude.{ℤ, pos, ◌+ℤ◌, ◌*ℤ◌, ℕ, Bool, false, Option, Some, None, int_le, int_lt, option_map, if◌then◌else◌}
 use Rattle.std.specs.Int.{int_min}
 use Rattle.cookie_text.specs.Record.{Record, moment_of}
 use Rattle.jiff.specs.Words.{civil_nanos, civil_seconds}
@@ -40,8 +40,9 @@ death cookie now = death_by cookie.max_age
     death_by None = option_map civil_nanos (moment_of cookie.expires)
 
 -- dead at the moment: the death is at or before it
-abbrev pub IsDeadAt : Option ℤ → ℤ → Type 0
-IsDeadAt death moment = IsSomeAnd death (λ d. d ≤ℤ moment)
+abbrev pub is_dead : ℤ → Option ℤ → Bool
+is_dead now None = false
+is_dead now (Some death) = int_le death now
 
 -- the whole second of the death, its fraction left out
 abbrev pub death_second : CookieExpiration → Option ℤ

@@ -1,5 +1,5 @@
 //! The domain of a cookie, and which hosts it covers (RFC 6265, section 5.1.3).
-ghost use Rattle.std.specs.Prelude.{◌≡◌, ◌↔◌, [], IsTrue, IfOk, IsSomeAnd, MatchOption, MatchResult, option_copied, string_bytes, unwrap_or};
+ghost use Rattle.std.specs.Prelude.{◌≡◌, ◌↔◌, None, IsTrue, IfOk, IsOk, IsSomeAnd, MatchOption, MatchResult, option_copied, string_bytes};
 ghost use Rattle.cookie_text.specs.Record.{domain_of as domain_attribute};
 ghost use Rattle.store_parts.specs.DomainMatch as spec;
 ghost use Rattle.store_parts.specs.DomainMatch.{domain_of};
@@ -24,6 +24,10 @@ use url::Url;
 
 /// Whether the domain that the text gives covers the URL's host. A text that gives none covers no
 /// host.
+///
+/// # Errors
+///
+/// `AllocError`, for want of memory: the text is put into IDNA form.
 pub fn is_match(alloc: Global, domain: &str, request_url: &Url) -> Result<bool, AllocError>
     ensures { IfOk result (λ covers. IsTrue covers
         ↔ IsSomeAnd (text_spec.read_domain domain.now) (λ d. spec.CoversAt d request_url.now)) }
@@ -137,10 +141,12 @@ impl CookieDomain {
     ///
     /// # Errors
     ///
-    /// `Idna` where the attribute has no IDNA form, else only `OutOfMemory`.
+    /// `Idna` where the attribute has no IDNA form, else only `OutOfMemory`, which is never answered
+    /// where there is no attribute.
     pub fn from_raw(alloc: Global, raw_cookie: &RawCookie<'_>) -> Result<CookieDomain, Error>
-        ensures { text_spec.Reads
+        ensures domain { text_spec.Reads
             (text_spec.attribute_domain (domain_attribute raw_cookie.now.cookie)) result }
+        ensures takes_none { domain_attribute raw_cookie.now.cookie ≡ None → IsOk result }
     {
         match raw_cookie.domain() {
             Some(domain) => {
@@ -152,14 +158,21 @@ impl CookieDomain {
     }
 
     /// The domain's text, owned, which is empty for `NotPresent` and `Empty`.
+    ///
+    /// # Errors
+    ///
+    /// `AllocError`, for want of memory.
     pub fn to_text(&self, alloc: Global) -> Result<String, AllocError>
-        ensures { IfOk result (λ text. string_bytes text
-            ≡ unwrap_or (spec.text_of (domain_of self.now)) []) }
+        ensures { IfOk result (λ text. string_bytes text ≡ spec.text_or_empty (domain_of self.now)) }
     {
         String::from_str(alloc, self.as_cow().unwrap_or(""))
     }
 
     /// A copy of the domain.
+    ///
+    /// # Errors
+    ///
+    /// `AllocError`, for want of memory.
     pub fn clone(&self, alloc: Global) -> Result<CookieDomain, AllocError>
         ensures { IfOk result (λ domain. domain_of domain ≡ domain_of self.now) }
     {
@@ -179,7 +192,7 @@ impl CookieDomain {
 // The kind's place among the variants, and the text, which is empty where there is none.
 fn kind_and_text(domain: &CookieDomain) -> (u8, &str)
     ensures kind { result.0 ≡ order.kind_of domain.now }
-    ensures text { result.1.now ≡ order.text_or_empty domain.now }
+    ensures text { result.1.now ≡ order.shown_text domain.now }
 {
     match domain {
         CookieDomain::HostOnly(text) => (0, text.as_str()),

@@ -63,14 +63,14 @@ impl CookieExpiration {
 
     /// Whether the expiry is at or before `now`.
     pub fn is_expired(&self, now: DateTime) -> bool
-        ensures { IsTrue result ↔ spec.IsDeadAt (death_of self.now) (civil_nanos now) }
+        ensures { result ≡ spec.is_dead (civil_nanos now) (death_of self.now) }
     {
         self.expires_by(&now)
     }
 
     /// Whether the expiry is at or before the moment.
     pub fn expires_by(&self, moment: &DateTime) -> bool
-        ensures { IsTrue result ↔ spec.IsDeadAt (death_of self.now) (civil_nanos moment.now) }
+        ensures { result ≡ spec.is_dead (civil_nanos moment.now) (death_of self.now) }
     {
         match self {
             CookieExpiration::AtUtc(expiry) => *expiry <= *moment,

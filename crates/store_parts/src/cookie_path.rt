@@ -1,5 +1,5 @@
 //! The path of a cookie, and which request-uris it covers (RFC 6265, section 5.1.4).
-ghost use Rattle.std.specs.Prelude.{◌≡◌, ◌↔◌, IsTrue, IfOk, option_map, string_bytes, unwrap_or};
+ghost use Rattle.std.specs.Prelude.{◌≡◌, ◌↔◌, IsTrue, IfOk, IsOk, option_map, string_bytes, unwrap_or};
 ghost use Rattle.store_parts.specs.PathMatch as spec;
 ghost use Rattle.store_parts.specs.PathMatch.{path_of};
 ghost use Rattle.store_parts.specs.PathOrder as order;
@@ -30,6 +30,17 @@ pub struct CookiePath {
 }
 
 impl CookiePath {
+    /// The path of this text, which a Path attribute gave, or not.
+    pub fn from_parts(text: String, from_attribute: bool) -> CookiePath
+        ensures { path_of result
+            ≡ record { text = string_bytes text; from_attribute = from_attribute } }
+    {
+        CookiePath {
+            text,
+            from_attribute,
+        }
+    }
+
     /// Whether the URL's path path-matches this path (RFC 6265, section 5.1.4).
     ///
     /// Both are compared byte for byte: nothing is percent-decoded, and case counts. A URL that
@@ -48,6 +59,10 @@ impl CookiePath {
     }
 
     /// The default-path of a URL (RFC 6265, section 5.1.4).
+    ///
+    /// # Errors
+    ///
+    /// `AllocError`, for want of memory.
     pub fn default_path(alloc: Global, request_url: &Url) -> Result<CookiePath, AllocError>
         ensures { IfOk result (λ path. path_of path ≡ spec.default_path_at request_url.now) }
     {
@@ -59,6 +74,10 @@ impl CookiePath {
     }
 
     /// The path that the text gives, or the default-path of the URL where it gives none.
+    ///
+    /// # Errors
+    ///
+    /// `AllocError`, for want of memory.
     pub fn new(alloc: Global, path: &str, request_url: &Url) -> Result<CookiePath, AllocError>
         ensures { IfOk result (λ p. path_of p
             ≡ unwrap_or (spec.read_path path.now) (spec.default_path_at request_url.now)) }
@@ -71,8 +90,13 @@ impl CookiePath {
 
     /// The path that the text gives as the value of a Path attribute, which is none unless it
     /// begins with `/` (RFC 6265, section 5.2.4).
+    ///
+    /// # Errors
+    ///
+    /// `AllocError`, for want of memory, and never where the text gives none.
     pub fn parse(alloc: Global, path: &str) -> Result<Option<CookiePath>, AllocError>
-        ensures { IfOk result (λ o. option_map path_of o ≡ spec.read_path path.now) }
+        ensures path { IfOk result (λ o. option_map path_of o ≡ spec.read_path path.now) }
+        ensures takes_none { ¬ (spec.BeginsWithSlash path.now) → IsOk result }
     {
         if !begins_with_slash(path) {
             return Ok(None);
@@ -92,6 +116,10 @@ impl CookiePath {
     }
 
     /// The path's text, owned.
+    ///
+    /// # Errors
+    ///
+    /// `AllocError`, for want of memory.
     pub fn to_text(&self, alloc: Global) -> Result<String, AllocError>
         ensures { IfOk result (λ text. string_bytes text ≡ (path_of self.now).text) }
     {
@@ -99,6 +127,10 @@ impl CookiePath {
     }
 
     /// A copy of the path.
+    ///
+    /// # Errors
+    ///
+    /// `AllocError`, for want of memory.
     pub fn clone(&self, alloc: Global) -> Result<CookiePath, AllocError>
         ensures { IfOk result (λ path. path_of path ≡ path_of self.now) }
     {

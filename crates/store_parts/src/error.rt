@@ -5,7 +5,7 @@ ghost use Rattle.store_parts.specs.declared.error.Error.TheVariants as error;
 ghost use Rattle.store_parts.specs.Refusals as refusals;
 
 use cookie::ParseError;
-use std::alloc::AllocError;
+use std::alloc::{AllocError, AllocFailed};
 
 /// Why a cookie is refused.
 #[derive(Clone, Copy, Debug, PartialEq, Eq, thiserror::Error)]
@@ -40,6 +40,14 @@ impl From<AllocError> for CookieError {
     ghost from_gives = { λ _ e. e ≡ cookie_error.OutOfMemory };
 
     fn from(_: AllocError) -> CookieError {
+        CookieError::OutOfMemory
+    }
+}
+
+impl<T: Drop> From<AllocFailed<T>> for CookieError {
+    ghost from_gives = { λ _ e. e ≡ cookie_error.OutOfMemory };
+
+    fn from(_: AllocFailed<T>) -> CookieError {
         CookieError::OutOfMemory
     }
 }
@@ -110,6 +118,14 @@ impl From<AllocError> for Error {
     ghost from_gives = { λ _ e. e ≡ error.OutOfMemory };
 
     fn from(_: AllocError) -> Error {
+        Error::OutOfMemory
+    }
+}
+
+impl<T: Drop> From<AllocFailed<T>> for Error {
+    ghost from_gives = { λ _ e. e ≡ error.OutOfMemory };
+
+    fn from(_: AllocFailed<T>) -> Error {
         Error::OutOfMemory
     }
 }
