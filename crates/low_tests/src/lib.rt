@@ -34,6 +34,8 @@ mod prefix_tests;
 #[cfg(test)]
 mod print_tests;
 #[cfg(test)]
+mod readme_store_tests;
+#[cfg(test)]
 mod record_tests;
 #[cfg(test)]
 mod seal_tests;

@@ -171,7 +171,11 @@ example.com at http://example.com.\n\
 0.0.1 at http://127.0.0.1\n\
 \x20at http://example.com\n\
 example.com at file:///example.com\n\
-example.com at data:example.com";
+example.com at data:example.com\n\
+xn--a at http://example.com\n\
+xn--a.com at http://example.com\n\
+b\u{fc}cher.xn--a at http://example.com\n\
+xn--a at data:xn--a";
 
 fn domain_matches(rt: &impl Abort, alloc: Global, row: &str) -> Option<bool> {
     let (text, url) = row.split_once(" at ").unwrap_or(("", ""));
@@ -200,6 +204,9 @@ const DOMAINS: &str = "..example.com -> .example.com\n\
 b\u{fc}cher.example -> xn--bcher-kva.example\n\
 xn--bcher-kva.example -> xn--bcher-kva.example";
 
+// A label that stands for a control character, alone and among others.
+const NO_DOMAINS: &str = "xn--a\nxn--a.com\nb\u{fc}cher.xn--a";
+
 // Whether this is the domain of the text.
 fn is_domain(alloc: Global, text: &str, wanted: &str) -> bool {
     match CookieDomain::from_text(alloc, text) {
@@ -215,9 +222,14 @@ fn reads_domains(rt: HostRuntime) {
         let (text, wanted) = row.split_once(" -> ").unwrap_or(("", "no row"));
         assert!(rt; is_domain(rt.alloc(), text, wanted), "{row}");
     }
-    // A label that stands for a control character.
-    let refused = CookieDomain::from_text(rt.alloc(), "xn--a.com");
-    assert!(rt; matches!(refused, Err(Error::Idna(_))));
+    for text in NO_DOMAINS.split('\n') {
+        let refused = CookieDomain::from_text(rt.alloc(), text);
+        assert!(rt; matches!(refused, Err(Error::Idna(_))), "{text}");
+        let mut raw = RawCookie::new("a", "1");
+        raw.set_domain(text);
+        let refused = CookieDomain::from_raw(rt.alloc(), &raw);
+        assert!(rt; matches!(refused, Err(Error::Idna(_))), "{text}");
+    }
 }
 
 // A URL, its host, and a URL of another host.
@@ -437,10 +449,13 @@ mod memory {
         Ok(default_path.as_str() == "/b" && given.is_some_and(|path| path.as_str() == "/a"))
     }
 
-    // Whether a domain that has to be put into IDNA form covers a host.
+    // Whether a domain that has to be put into IDNA form covers a host, and a text without one
+    // covers none.
     fn covers(alloc: Global) -> Result<bool, Error> {
         let url = url_of(alloc, "http://www.xn--bcher-kva.example")?;
-        Ok(cookie_domain::is_match(alloc, "b\u{fc}cher.example", &url)?)
+        let covered = cookie_domain::is_match(alloc, "b\u{fc}cher.example", &url)?;
+        let refused = cookie_domain::is_match(alloc, "b\u{fc}cher.xn--a", &url)?;
+        Ok(covered && !refused)
     }
 
     fn url_of(alloc: Global, text: &str) -> Result<Url, Error> {

@@ -1,0 +1,143 @@
+//! What becomes of cookies that are received.
+
+use crate::fixtures::{answer, at, store_with};
+use cookie_store::{Cookie, CookieStore, RawCookie};
+use std::alloc::Global;
+use std::test::Fail;
+use url::Url;
+
+// Each line: a URL, the text of a cookie, and what becomes of it, at one moment in one store.
+const ANSWERS: &str = "\
+http://example.com/foo/bar|cookie1=value1|Inserted
+data:nonrelativescheme|cookie1=value1|NonRelativeScheme
+ftp://example.com/|cookie1=value1; HttpOnly|NonHttpScheme
+http://example.com/foo/bar|cookie1=value1; Max-Age=0|ExpiredExisting
+http://example.com/foo/bar|cookie1=value1; Max-Age=-1|Expired
+http://example.com/foo/bar|cookie1=value1|UpdatedExisting
+http://example.com/foo/bar|cookie1=value1; Max-Age=-1|ExpiredExisting
+http://example.com/foo/bar|cookie1=value1; Domain=bar.example.com|DomainMismatch
+http://example.com/foo/bar|cookie1=value1; Domain=xn--a|Parse
+ftp://example.com/foo/bar|cookie1=value1; Domain=xn--a; HttpOnly|NonHttpScheme
+http://example.com/|=value1|Parse
+http://example.com/|value1|Parse
+https://evil.com/|a=x; Domain=com|PublicSuffix
+https://evil.com/|a=x; Domain=com; Max-Age=0|PublicSuffix
+ftp://evil.com/|a=x; Domain=com; HttpOnly|NonHttpScheme
+https://evil.com/|a=x; Domain=shop.com|DomainMismatch
+https://me.github.io/|a=1|Inserted
+https://evil.github.io/|a=x; Domain=github.io|PublicSuffix
+https://github.io/|a=1; Domain=github.io|Inserted
+https://github.io/|a=2|UpdatedExisting
+https://io/|a=1; Domain=io|Inserted
+http://h.net/|g=1; HttpOnly|Inserted
+ftp://h.net/|g=2|NonHttpScheme
+ftp://h.net/|g=2; Max-Age=0|NonHttpScheme
+ftp://h.net/|g=2; Path=/p|Inserted
+http://h.net/|g=3; HttpOnly; Max-Age=0|ExpiredExisting
+ftp://h.net/|g=4; Max-Age=0|Expired
+ftp://h.net/|g=4|UpdatedExisting
+file:///foo|a=1; Domain=h.net|DomainMismatch
+file:///foo|a=1|NonRelativeScheme";
+
+// What becomes of a cookie that `RawCookie::parse` reads.
+fn raw_answer(
+    alloc: Global,
+    store: &mut CookieStore,
+    url: &str,
+    text: &str,
+) -> Result<String, Fail> {
+    let url = Url::parse(alloc, url)?;
+    let Ok(cookie) = RawCookie::parse(text) else {
+        return Ok(String::from_str(alloc, "Parse")?);
+    };
+    match store.insert_raw(&cookie, &url, at(0)) {
+        Ok(action) => Ok(format!(in alloc; "{action:?}")?),
+        Err(cause) => Ok(format!(in alloc; "{cause:?}")?),
+    }
+}
+
+#[test]
+fn answers_each_line(rt: HostRuntime) -> Result<(), Fail> {
+    let alloc = rt.alloc();
+    let mut store = store_with(alloc, "com\nnet\nio\ngithub.io\n")?;
+    let mut other = store_with(alloc, "com\nnet\nio\ngithub.io\n")?;
+    for line in ANSWERS.lines() {
+        let mut fields = line.split('|');
+        let url = fields.next().unwrap_or("");
+        let text = fields.next().unwrap_or("");
+        let wanted = fields.next().unwrap_or("");
+        assert_eq!(rt; answer(alloc, &mut store, line)?.as_str(), wanted, "{line}");
+        assert_eq!(rt;
+            raw_answer(alloc, &mut other, url, text)?.as_str(),
+            wanted,
+            "{line}"
+        );
+    }
+    Ok(())
+}
+
+// Each line: the URL and the domain by which a cookie is made, the URL from which it is inserted,
+// and what becomes of it, in one store without a list.
+const INSERTED: &str = "\
+http://foo.example.com|example.com|http://foo.example.com|Inserted
+http://foo.example.com|.example.com|http://foo.example.com|UpdatedExisting
+http://foo.example.com|foo.example.com|http://foo.example.com|Inserted
+http://foo.example.com|.foo.example.com|http://foo.example.com|UpdatedExisting
+http://bar.example.com|bar.example.com|http://foo.example.com|DomainMismatch
+http://bar.example.com|.bar.example.com|http://foo.example.com|DomainMismatch
+http://bar.foo.example.com|bar.foo.example.com|http://foo.example.com|DomainMismatch
+http://bar.foo.example.com|.bar.foo.example.com|http://foo.example.com|DomainMismatch
+http://foo.example.com|example.com|http://bar.example.com|UpdatedExisting
+http://foo.example.com|.example.com|http://bar.example.com|UpdatedExisting
+http://bar.example.com|bar.example.com|http://bar.example.com|Inserted
+http://bar.example.com|.bar.example.com|http://bar.example.com|UpdatedExisting
+http://foo.example.com|foo.example.com|http://bar.example.com|DomainMismatch
+http://foo.example.com|.foo.example.com|http://bar.example.com|DomainMismatch
+http://foo.example.com|example.com|http://example.com|UpdatedExisting
+http://foo.example.com|.example.com|http://example.com|UpdatedExisting
+http://foo.example.com|foo.example.com|http://example.com|DomainMismatch
+http://foo.example.com|.foo.example.com|http://example.com|DomainMismatch
+http://bar.example.com|bar.example.com|http://example.com|DomainMismatch
+http://bar.example.com|.bar.example.com|http://example.com|DomainMismatch";
+
+// What becomes of a cookie with this domain, made at a URL and inserted from another one.
+fn inserted(
+    alloc: Global,
+    store: &mut CookieStore,
+    source: &str,
+    domain: &str,
+    url: &str,
+) -> Result<String, Fail> {
+    let source = Url::parse(alloc, source)?;
+    let url = Url::parse(alloc, url)?;
+    let text = format!(in alloc; "cookie1=value1; HttpOnly; Domain={domain}")?;
+    let cookie = Cookie::parse(alloc, text.as_str(), &source, at(0))?;
+    match store.insert(cookie.into_owned(alloc)?, &url, at(0)) {
+        Ok(action) => Ok(format!(in alloc; "{action:?}")?),
+        Err(cause) => Ok(format!(in alloc; "{cause:?}")?),
+    }
+}
+
+#[test]
+fn inserts_cookies_from_other_urls(rt: HostRuntime) -> Result<(), Fail> {
+    let alloc = rt.alloc();
+    let mut store = CookieStore::new(alloc);
+    for line in INSERTED.lines() {
+        let mut fields = line.split('|');
+        let source = fields.next().unwrap_or("");
+        let domain = fields.next().unwrap_or("");
+        let url = fields.next().unwrap_or("");
+        let wanted = fields.next().unwrap_or("");
+        let found = inserted(alloc, &mut store, source, domain, url)?;
+        assert_eq!(rt; found.as_str(), wanted, "{line}");
+    }
+    let barred = inserted(
+        alloc,
+        &mut store,
+        "http://example.com",
+        "example.com",
+        "ftp://example.com",
+    )?;
+    assert_eq!(rt; barred.as_str(), "NonHttpScheme");
+    Ok(())
+}
