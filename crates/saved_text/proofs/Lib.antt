@@ -1,0 +1,11 @@
+mod StepLemmas
+mod RonLemmas
+mod RowLemmas
+mod FrontLemmas
+mod WriteLemmas
+mod WrittenLemmas
+mod ListLemmas
+mod JsonLemmas
+mod FeedLemmas
+mod JsonListLemmas
+mod LayoutLemmas

@@ -1,0 +1,15 @@
+pub mod Row
+pub mod Rfc3339
+pub mod DateReading
+pub mod Saved
+pub mod Letters
+pub mod Grammar
+pub mod Ron
+pub mod Reads
+pub mod Faults
+pub mod Words
+pub mod Written
+pub mod RonLayout
+pub mod RowWords
+pub mod Json
+pub mod Parts

@@ -1,0 +1,24 @@
+//! Laws of what is written.
+ghost use Rattle.saved_text.specs.Json.{ReadsBack, ListsReadBack};
+ghost use Rattle.saved_text.specs.RowWords.{WrittenIsOfGrammar};
+ghost use Rattle.saved_text.specs.Written.{StringsAreOfGrammar};
+
+/// What is written of bytes in RON is a string of the grammar that says these bytes.
+pub fn strings_are_of_grammar()
+    ensures { StringsAreOfGrammar }
+{}
+
+/// What is written of rows in RON is of the grammar, and shows these very rows.
+pub fn written_is_of_grammar()
+    ensures { WrittenIsOfGrammar }
+{}
+
+/// What is written of a row in JSON is read as that row's value.
+pub fn reads_back()
+    ensures { ReadsBack }
+{}
+
+/// What is written of rows in JSON is read as these rows' value.
+pub fn lists_read_back()
+    ensures { ListsReadBack }
+{}
