@@ -51,15 +51,15 @@ byte_encode c e =
               let u : nat_lt c 2048 ≡ false = grind (arith, nat_tests) in
               let v : nat_lt c 65536 ≡ true = grind (arith, nat_tests) in
               rw (t, u, v) (All-cons IsByte (224 + c / 4096) (next (c / 64) ∷ next c ∷ []) (omega arith)
-                  (two_next (c / 64) c))
+              (two_next (c / 64) c))
           | inr four ↦
               let t : nat_lt c 128 ≡ false = grind (arith, nat_tests) in
               let u : nat_lt c 2048 ≡ false = grind (arith, nat_tests) in
               let v : nat_lt c 65536 ≡ false = grind (arith, nat_tests) in
               let small : c < 1114112 = grind (arith, nat_tests, e) in
               rw (t, u, v) (All-cons IsByte (240 + c / 262144) (next (c / 4096) ∷ next (c / 64) ∷ next c ∷ [])
-                  (omega arith) (All-cons IsByte (next (c / 4096)) (next (c / 64) ∷ next c ∷ []) (omega arith)
-                  (two_next (c / 64) c)))
+              (omega arith) (All-cons IsByte (next (c / 4096)) (next (c / 64) ∷ next c ∷ []) (omega arith)
+              (two_next (c / 64) c)))
         ]
       ]
     ]
@@ -125,8 +125,13 @@ module _ (name value : List ℕ) (h : IsNamed name value) where
 quiet_plain : (bs : List ℕ) → All IsGraphic bs → IsClean bs → list_all is_quiet bs ≡ true
 quiet_plain [] g c = refl
 quiet_plain (b ∷ bs) g c =
-    let first : is_quiet b ≡ true = grind (arith, nat_tests, All-head IsGraphic b bs g, All-head
-        (λ k. (k == semicolon) ≡ false) b bs c) in
+    let first : is_quiet b ≡ true = grind (
+      arith,
+      nat_tests,
+      All-head IsGraphic b bs g,
+      All-head
+          (λ k. (k == semicolon) ≡ false) b bs c,
+    ) in
     rw (first, quiet_plain bs (All-tail IsGraphic b bs g) (All-tail (λ k. (k == semicolon) ≡ false) b bs c)) refl
 
 -- one blank in front goes
@@ -157,9 +162,11 @@ joined_rest (p ∷ ps) = ap (λ t. codes "; " ++ pair_text p.0 p.1 ++ t) (joined
 rest_clean : (ps : List (List ℕ × List ℕ)) → AreNamed ps → AreClean (after_first ps)
 rest_clean [] h = tt
 rest_clean (p ∷ ps) h =
-    let named = All-head (λ p. IsNamed p.0 p.1) p ps h in
-    (All-cons (λ b. (b == semicolon) ≡ false) 32 _ refl (clean p.0 p.1 named), rest_clean ps
-        (All-tail (λ p. IsNamed p.0 p.1) p ps h))
+    let named = All-head (λ p. IsNamed p.0 p.1) p ps h in (
+      All-cons (λ b. (b == semicolon) ≡ false) 32 _ refl (clean p.0 p.1 named),
+      rest_clean ps
+          (All-tail (λ p. IsNamed p.0 p.1) p ps h),
+    )
 
 trimmed_rest : (ps : List (List ℕ × List ℕ)) → AreNamed ps → filter is_some_text
     (map trim (after_first ps)) ≡ texts_of ps
@@ -185,7 +192,7 @@ cookie_texts-joined (p ∷ ps) h =
     let others = All-tail (λ p. IsNamed p.0 p.1) p ps h in
     let cut : pieces (joined (p ∷ ps)) ≡ pair_text p.0 p.1 ∷ after_first ps =
     ap (λ t. pieces (pair_text p.0 p.1 ++ t)) (joined_rest ps)
-        ∙ split-joined (pair_text p.0 p.1) (after_first ps) (clean p.0 p.1 named) (rest_clean ps others) in
+    ∙ split-joined (pair_text p.0 p.1) (after_first ps) (clean p.0 p.1 named) (rest_clean ps others) in
     ap (λ ts. filter is_some_text (map trim ts)) cut ∙ kept_first p ps named others
 
 each_back : (ps : List (List ℕ × List ℕ)) (os : List (Result Seen ParseError)) → AreNamed ps
@@ -193,9 +200,11 @@ each_back : (ps : List (List ℕ × List ℕ)) (os : List (Result Seen ParseErro
 each_back [] [] h k = tt
 each_back [] (o ∷ os) h k = k
 each_back (p ∷ ps) [] h k = k
-each_back (p ∷ ps) (o ∷ os) h k =
-    (pair_back p.0 p.1 (All-head (λ p. IsNamed p.0 p.1) p ps h) o k.0, each_back ps os
-        (All-tail (λ p. IsNamed p.0 p.1) p ps h) k.1)
+each_back (p ∷ ps) (o ∷ os) h k = (
+  pair_back p.0 p.1 (All-head (λ p. IsNamed p.0 p.1) p ps h) o k.0,
+  each_back ps os
+      (All-tail (λ p. IsNamed p.0 p.1) p ps h) k.1,
+)
 
 pub pairs_back : (ps : List (List ℕ × List ℕ)) → AreNamed ps → (os : List (Result Seen ParseError))
     → Pairwise ReadsEncoded (cookie_texts (joined ps)) os → Pairwise (λ p o. GivesPair p.0 p.1 o) ps os
