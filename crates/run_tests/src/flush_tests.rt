@@ -1,7 +1,7 @@
 //! The last call of a writer is the flush.
 use crate::fixtures::{beginning, zero_key};
 use crate::generators::zeros;
-use crate::script_tests::VISIT;
+use crate::stream_tests::VISIT;
 use cookie_run::program::program;
 use cookie_run::{Client, Counting, Ended, run};
 use std::alloc::Global;

@@ -83,14 +83,15 @@ mod memory {
 
     // Three times a set that is sealed, and a get.
     fn commands(alloc: Global) -> Result<Vec<Command>, AllocError> {
-        vec![in alloc;
+        let commands = vec![in alloc;
             set(alloc, Way::Sealed, "a")?,
             get(alloc, Way::Plain, "z")?,
             set(alloc, Way::Sealed, "b")?,
             get(alloc, Way::Plain, "z")?,
             set(alloc, Way::Sealed, "c")?,
             get(alloc, Way::Plain, "z")?,
-        ]
+        ]?;
+        Ok(commands)
     }
 
     // Each get before the last fill was read, and none behind the next one.

@@ -8,7 +8,7 @@ use std::io::{Read, Write};
 use std::test::Fail;
 use url::Url;
 
-const VISIT: &str = "open\thttps://shop.com/\t2024-01-01T00:00:00Z\n\
+pub(crate) const VISIT: &str = "open\thttps://shop.com/\t2024-01-01T00:00:00Z\n\
 set\tplain\tfoo%20!%25?=\tbar;;,%20a\t-\t-\n\
 deliver\t2024-01-01T00:00:00Z\n\
 open\thttps://shop.com/x/y\t2024-01-01T00:00:01Z\n\
