@@ -1,6 +1,7 @@
 //! Stores by the lines that fill them.
 
 use cookie_store::{Cookie, CookieStore};
+use jiff::SignedDuration;
 use jiff::civil::DateTime;
 use publicsuffix::List;
 use std::alloc::Global;
@@ -9,7 +10,8 @@ use url::Url;
 
 /// This second of 2024-01-01.
 pub(crate) fn at(second: i8) -> DateTime {
-    DateTime::constant(2024, 1, 1, 0, 0, second, 0)
+    let beginning = DateTime::constant(2024, 1, 1, 0, 0, 0, 0);
+    beginning.saturating_add(SignedDuration::from_secs(i64::from(second)))
 }
 
 /// An empty store with a list of public suffixes, one a line.

@@ -3,7 +3,7 @@
 use crate::fixtures::{answer, at, given, receive, rows, shown, store_with};
 use cookie_store::{CookieExpiration, CookieStore, RawCookie};
 use publicsuffix::List;
-use std::alloc::AllocError;
+use std::alloc::{AllocError, Global};
 use std::test::Fail;
 use url::Url;
 
@@ -113,17 +113,23 @@ fn gives(store: &CookieStore, url: &Url) -> Result<bool, AllocError> {
     Ok(wanted.next().is_none())
 }
 
+// The cookies of a response, of which the second is refused where the scheme is none of HTTP.
+fn response(alloc: Global) -> Result<Vec<RawCookie<'static>>, AllocError> {
+    let mut guarded = RawCookie::new("b", "2");
+    guarded.set_http_only(Some(true));
+    let cookies = [RawCookie::new("a", "1"), guarded, RawCookie::new("c", "3")];
+    match Vec::from_array(alloc, cookies) {
+        Ok(cookies) => Ok(cookies),
+        Err(_) => Err(AllocError),
+    }
+}
+
 #[test]
 fn a_response_is_stored_cookie_by_cookie(rt: HostRuntime) -> Result<(), Fail> {
     let alloc = rt.alloc();
     let url = Url::parse(alloc, "ftp://a.com/")?;
     let mut store = CookieStore::new(alloc).with_suffix_list(List::parse(alloc, b"com\n")?);
-    let mut guarded = RawCookie::new("b", "2");
-    guarded.set_http_only(Some(true));
-    let cookies = Vec::from_array(
-        alloc,
-        [RawCookie::new("a", "1"), guarded, RawCookie::new("c", "3")],
-    )?;
+    let cookies = response(alloc)?;
     store.store_response_cookies(cookies.into_iter(), &url, at(0))?;
     assert_eq!(rt; rows(alloc, &store)?.as_str(), " a=1 c=3");
     assert!(rt; gives(&store, &url)?);
