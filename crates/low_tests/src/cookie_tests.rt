@@ -1,7 +1,8 @@
 //! What cookie texts are read as, in tables. A row is a text and what comes of it, parted by ` -> `.
 use cookie_text::{Cookie, Expiration, ParseError, SplitCookies};
-use std::alloc::{AllocError, Global};
+use std::alloc::Global;
 use std::process::Abort;
+use std::test::Fail;
 
 // Pairs: white space round both sides, and the two refusals (RFC 6265, section 5.2).
 const PAIRS: &str = "a=1 -> a=1\n\
@@ -102,15 +103,15 @@ const SPLIT_ESCAPED: &str = "a=%31; b=%ff;c;%C3%A9= -> a=1|Utf8Error|MissingPair
 a=%3B -> a=%3B|";
 
 // What an outcome prints: the cookie escaped, or the error.
-fn shown(alloc: Global, outcome: Result<Cookie<'_>, ParseError>) -> Result<String, AllocError> {
+fn shown(alloc: Global, outcome: Result<Cookie<'_>, ParseError>) -> Result<String, Fail> {
     match outcome {
-        Ok(cookie) => cookie.encoded().to_string(alloc),
-        Err(error) => error.to_string(alloc),
+        Ok(cookie) => Ok(cookie.encoded().to_string(alloc)?),
+        Err(error) => Ok(error.to_string(alloc)?),
     }
 }
 
 // What each outcome prints, and a bar.
-fn shown_all(alloc: Global, outcomes: SplitCookies<'_>) -> Result<String, AllocError> {
+fn shown_all(alloc: Global, outcomes: SplitCookies<'_>) -> Result<String, Fail> {
     let mut text = String::new(alloc);
     for outcome in outcomes {
         text.push_str(shown(alloc, outcome)?.as_str())?;
@@ -129,7 +130,7 @@ enum Reading {
 }
 
 // What comes of a borrowed text.
-fn borrowed(alloc: Global, reading: Reading, text: &str) -> Result<String, AllocError> {
+fn borrowed(alloc: Global, reading: Reading, text: &str) -> Result<String, Fail> {
     match reading {
         Reading::Plain => shown(alloc, Cookie::parse(text)),
         Reading::Escaped => shown(alloc, Cookie::parse_encoded(alloc, text)),
@@ -139,7 +140,7 @@ fn borrowed(alloc: Global, reading: Reading, text: &str) -> Result<String, Alloc
 }
 
 // What comes of an owned text.
-fn owned(alloc: Global, reading: Reading, text: String) -> Result<String, AllocError> {
+fn owned(alloc: Global, reading: Reading, text: String) -> Result<String, Fail> {
     match reading {
         Reading::Plain => shown(alloc, Cookie::parse_owned(alloc, text)),
         Reading::Escaped => shown(alloc, Cookie::parse_encoded_owned(alloc, text)),
@@ -148,35 +149,47 @@ fn owned(alloc: Global, reading: Reading, text: String) -> Result<String, AllocE
     }
 }
 
-// Whether a borrowed text and an owned one come to this.
-fn comes_to(alloc: Global, reading: Reading, text: &str, wanted: &str) -> Result<bool, AllocError> {
-    let from_borrowed = borrowed(alloc, reading, text)?;
-    let from_owned = owned(alloc, reading, String::from_str(alloc, text)?)?;
-    Ok(from_borrowed.as_str() == wanted && from_owned.as_str() == wanted)
-}
-
-fn check_rows(
+// A borrowed text and an owned one come to the same.
+fn check(
     rt: &impl Abort,
     alloc: Global,
     reading: Reading,
-    rows: &str,
-) -> Result<(), AllocError> {
+    text: &str,
+    wanted: &str,
+) -> Result<(), Fail> {
+    let printed = borrowed(alloc, reading, text)?;
+    assert_eq!(rt; printed.as_str(), wanted, "{text}");
+    let printed = owned(alloc, reading, String::from_str(alloc, text)?)?;
+    assert_eq!(rt; printed.as_str(), wanted, "{text}, owned");
+    Ok(())
+}
+
+fn check_rows(rt: &impl Abort, alloc: Global, reading: Reading, rows: &str) -> Result<(), Fail> {
     for row in rows.split('\n') {
-        let (text, wanted) = row.split_once(" -> ").unwrap_or(("", "no row"));
-        assert!(rt; comes_to(alloc, reading, text, wanted)?, "{row}");
+        match row.split_once(" -> ") {
+            Some((text, wanted)) => check(rt, alloc, reading, text, wanted)?,
+            None => panic!(rt; "{row} is no row"),
+        }
     }
     Ok(())
 }
 
 #[test]
-fn reads_texts(rt: HostRuntime) -> Result<(), AllocError> {
-    let alloc = rt.alloc();
-    check_rows(&rt, alloc, Reading::Plain, PAIRS)?;
-    check_rows(&rt, alloc, Reading::Plain, MAX_AGES)?;
-    check_rows(&rt, alloc, Reading::Plain, ATTRIBUTES)?;
-    check_rows(&rt, alloc, Reading::Escaped, ESCAPED)?;
-    check_rows(&rt, alloc, Reading::Split, SPLIT)?;
-    check_rows(&rt, alloc, Reading::SplitEscaped, SPLIT_ESCAPED)
+fn reads_texts(rt: HostRuntime) -> Result<(), Fail> {
+    check_rows(&rt, rt.alloc(), Reading::Plain, PAIRS)?;
+    check_rows(&rt, rt.alloc(), Reading::Plain, MAX_AGES)?;
+    check_rows(&rt, rt.alloc(), Reading::Plain, ATTRIBUTES)
+}
+
+#[test]
+fn reads_escaped_texts(rt: HostRuntime) -> Result<(), Fail> {
+    check_rows(&rt, rt.alloc(), Reading::Escaped, ESCAPED)
+}
+
+#[test]
+fn splits_texts(rt: HostRuntime) -> Result<(), Fail> {
+    check_rows(&rt, rt.alloc(), Reading::Split, SPLIT)?;
+    check_rows(&rt, rt.alloc(), Reading::SplitEscaped, SPLIT_ESCAPED)
 }
 
 // Equality looks at neither `SameSite`, nor the case of path and domain, nor one leading dot.

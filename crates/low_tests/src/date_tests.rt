@@ -1,7 +1,8 @@
 //! The dates of an `Expires` attribute, at the ends of each form.
-use crate::print_tests::prints;
 use cookie_text::Cookie;
-use std::alloc::{AllocError, Global};
+use std::alloc::Global;
+use std::process::Abort;
+use std::test::Fail;
 
 // A date and what a cookie with it prints. The first are the examples of RFC 9110, section 5.6.7,
 // the others dates of the Gregorian calendar.
@@ -105,40 +106,44 @@ Sun, Nov  6 08:49:37 1994\n\
 1994-11-06T08:49:37Z\n\
 0";
 
-// Whether a cookie with this date prints it so.
-fn is_shown(alloc: Global, date: &str, shown: &str) -> Result<bool, AllocError> {
+// The date that a cookie with this one prints.
+fn check_date(rt: &impl Abort, alloc: Global, date: &str, shown: &str) -> Result<(), Fail> {
     let text = format!(in alloc; "a=1; Expires={date}")?;
+    let printed = Cookie::parse(text.as_str())?.to_string(alloc)?;
     let wanted = format!(in alloc; "a=1; Expires={shown}")?;
-    match Cookie::parse(text.as_str()) {
-        Ok(cookie) => Ok(prints(alloc, &cookie, wanted.as_str())),
-        Err(_) => Ok(false),
-    }
-}
-
-// Whether a text shows no date.
-fn is_no_date(alloc: Global, text: &str) -> Result<bool, AllocError> {
-    let text = format!(in alloc; "a=1; Expires={text}")?;
-    match Cookie::parse(text.as_str()) {
-        Ok(cookie) => Ok(cookie.expires().is_none()),
-        Err(_) => Ok(false),
-    }
-}
-
-// Whether it leaves the date that stands before it.
-fn is_passed_over(alloc: Global, text: &str) -> Result<bool, AllocError> {
-    let dates = format!(in alloc; "Sun Nov  6 08:49:37 1994; Expires={text}")?;
-    is_shown(alloc, dates.as_str(), "Sun, 06 Nov 1994 08:49:37 GMT")
+    assert_eq!(rt; printed.as_str(), wanted.as_str(), "{date}");
+    Ok(())
 }
 
 #[test]
-fn reads_and_prints_dates(rt: HostRuntime) {
-    let alloc = rt.alloc();
+fn reads_and_prints_dates(rt: HostRuntime) -> Result<(), Fail> {
     for row in DATES.split('\n') {
-        let (date, shown) = row.split_once(" -> ").unwrap_or(("", "no row"));
-        assert!(rt; is_shown(alloc, date, shown) == Ok(true), "{row}");
+        match row.split_once(" -> ") {
+            Some((date, shown)) => check_date(&rt, rt.alloc(), date, shown)?,
+            None => panic!(rt; "{row} is no row"),
+        }
     }
-    for text in NO_DATES.split('\n') {
-        assert!(rt; is_no_date(alloc, text) == Ok(true), "{text}");
-        assert!(rt; is_passed_over(alloc, text) == Ok(true), "{text}");
+    Ok(())
+}
+
+// An invalid one leaves the date that stands before it.
+fn check_no_date(rt: &impl Abort, alloc: Global, date: &str) -> Result<(), Fail> {
+    let text = format!(in alloc; "a=1; Expires=Sun Nov  6 08:49:37 1994; Expires={date}")?;
+    let printed = Cookie::parse(text.as_str())?.to_string(alloc)?;
+    assert_eq!(rt;
+        printed.as_str(),
+        "a=1; Expires=Sun, 06 Nov 1994 08:49:37 GMT",
+        "{date}"
+    );
+    let text = format!(in alloc; "a=1; Expires={date}")?;
+    assert!(rt; Cookie::parse(text.as_str())?.expires().is_none(), "{date}");
+    Ok(())
+}
+
+#[test]
+fn reads_no_other_text_as_a_date(rt: HostRuntime) -> Result<(), Fail> {
+    for date in NO_DATES.split('\n') {
+        check_no_date(&rt, rt.alloc(), date)?;
     }
+    Ok(())
 }

@@ -11,12 +11,6 @@ fn covers(domain: &CookieDomain, url: &Url) -> (bool, bool) {
     (domain.matches(url), domain.host_is_identical(url))
 }
 
-// Whether the domain's copy is it, and its text empty.
-fn has_no_text(alloc: Global, domain: &CookieDomain) -> Result<bool, AllocError> {
-    let copy = domain.clone(alloc)?;
-    Ok(copy == *domain && copy.to_text(alloc)?.is_empty())
-}
-
 #[test]
 fn covers_hosts(rt: HostRuntime) -> Result<(), Fail> {
     let url = Url::parse(rt.alloc(), "http://www.example.com")?;
@@ -26,9 +20,19 @@ fn covers_hosts(rt: HostRuntime) -> Result<(), Fail> {
     assert!(rt; covers(&parent, &url) == (true, false));
     let own = CookieDomain::from_text(rt.alloc(), "www.example.com")?;
     assert!(rt; covers(&own, &url) == (true, true));
+    Ok(())
+}
+
+// Whether the domain's copy is it, and its text empty.
+fn has_no_text(alloc: Global, domain: &CookieDomain) -> Result<bool, AllocError> {
+    let copy = domain.clone(alloc)?;
+    Ok(copy == *domain && copy.to_text(alloc)?.is_empty())
+}
+
+#[test]
+fn copies_domains_without_a_text(rt: HostRuntime) {
     assert!(rt; has_no_text(rt.alloc(), &CookieDomain::NotPresent) == Ok(true));
     assert!(rt; has_no_text(rt.alloc(), &CookieDomain::Empty) == Ok(true));
-    Ok(())
 }
 
 fn hash_of<T: Hash>(item: &T) -> u64 {
@@ -48,11 +52,16 @@ fn is_below<T: Hash + PartialOrd>(first: &T, second: &T) -> bool {
 }
 
 #[test]
-fn hashes_domains_and_paths(rt: HostRuntime) -> Result<(), Fail> {
+fn hashes_domains(rt: HostRuntime) -> Result<(), Fail> {
     let first = CookieDomain::from_text(rt.alloc(), "a.example")?;
     let same = CookieDomain::from_text(rt.alloc(), ".A.example")?;
     assert!(rt; are_alike(&first, &same));
     assert!(rt; is_below(&first, &CookieDomain::NotPresent));
+    Ok(())
+}
+
+#[test]
+fn hashes_paths(rt: HostRuntime) -> Result<(), Fail> {
     let url = Url::parse(rt.alloc(), "http://example.com/a/b")?;
     let given = CookiePath::new(rt.alloc(), "/a", &url)?;
     let same = CookiePath::new(rt.alloc(), "/a", &url)?;

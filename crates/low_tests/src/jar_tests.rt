@@ -18,8 +18,12 @@ pub fn value<'j>(jar: &'j CookieJar, name: &str) -> &'j str {
     }
 }
 
+fn is_value(jar: &CookieJar, name: &str, wanted: &str) -> bool {
+    value(jar, name) == wanted
+}
+
 fn are_values(jar: &CookieJar, a: &str, b: &str, c: &str) -> bool {
-    value(jar, "a") == a && value(jar, "b") == b && value(jar, "c") == c
+    is_value(jar, "a", a) && is_value(jar, "b", b) && is_value(jar, "c", c)
 }
 
 // How many cookies the view has.
@@ -141,21 +145,13 @@ fn copies(alloc: Global) -> Result<bool, AllocError> {
     Ok(has_originals(&jar) && has_changes(&copy))
 }
 
-// Whether the jar has a debug form.
-fn is_debugged(alloc: Global, jar: &CookieJar) -> bool {
-    match format!(in alloc; "{jar:?}") {
-        Ok(text) => !text.is_empty(),
-        Err(_) => false,
-    }
-}
-
 // The view is the overlay, and the delta what an answer has to tell.
 #[test]
 fn keeps_track_of_changes(rt: HostRuntime) {
     assert!(rt; tells_no_originals(rt.alloc()).unwrap_or(false));
     assert!(rt; shows_changes(rt.alloc()).unwrap_or(false));
     assert!(rt; forgets_changes(rt.alloc()).unwrap_or(false));
-    assert!(rt; is_debugged(rt.alloc(), &CookieJar::new(rt.alloc())));
+    assert!(rt; copies(rt.alloc()).unwrap_or(false));
 }
 
 fn add_and_remove(jar: &mut CookieJar) -> Result<(), AllocError> {
@@ -199,7 +195,20 @@ fn tells_removals_of_originals(rt: HostRuntime) {
     assert!(rt; tells_no_forced_removal(rt.alloc()).unwrap_or(false));
 }
 
-// Calls with a growth refused at any place, and with ample memory.
+fn is_debugged(alloc: Global, jar: &CookieJar) -> bool {
+    match format!(in alloc; "{jar:?}") {
+        Ok(text) => !text.is_empty(),
+        Err(_) => false,
+    }
+}
+
+#[test]
+fn has_a_debug_form(rt: HostRuntime) {
+    assert!(rt; is_debugged(rt.alloc(), &CookieJar::new(rt.alloc())));
+}
+
+// Calls with a growth refused at any place, and with ample memory. The first test of a pair accepts
+// want of memory, too; the second shows that there is none with ample memory.
 mod memory {
     use super::*;
 
@@ -221,12 +230,17 @@ mod memory {
         settled(&jar, done, "a", "1", "-")
     }
 
+    fn keeps_cookies(alloc: Global) -> Result<bool, AllocError> {
+        Ok(adds_an_original(alloc)? && adds(alloc)? && removes(alloc)? && copies(alloc)?)
+    }
+
     #[test]
-    fn cookies(rt: HostRuntime) -> Result<(), AllocError> {
-        assert!(rt; adds_an_original(rt.alloc())?);
-        assert!(rt; adds(rt.alloc())?);
-        assert!(rt; removes(rt.alloc())?);
-        assert!(rt; copies(rt.alloc())?);
-        Ok(())
+    fn cookies(rt: HostRuntime) {
+        assert!(rt; keeps_cookies(rt.alloc()).unwrap_or(true));
+    }
+
+    #[test]
+    fn cookies_with_ample_memory(rt: HostRuntime) {
+        assert!(rt; keeps_cookies(rt.alloc()).unwrap_or(false));
     }
 }

@@ -88,6 +88,28 @@ pub fn zero_key() -> Key {
     Key::from(&[0; 64])
 }
 
+// Bytes from outside are a key where there are enough of them.
+#[test]
+fn keys_of_bytes(rt: HostRuntime) {
+    let bytes = [7; 65];
+    let key = Key::from(&bytes);
+    assert!(rt; Key::try_from(&bytes[..63]) == Err(KeyError::TooShort(63)));
+    assert!(rt; Key::try_from(&bytes[..0]) == Err(KeyError::TooShort(0)));
+    assert!(rt; Key::try_from(&bytes[..64]).is_ok_and(|read| read == key));
+    assert!(rt; key != zero_key());
+    assert!(rt; key.clone().is_ok_and(|copy| copy == key));
+}
+
+#[test]
+fn keys_have_two_halves(rt: HostRuntime) {
+    let mut bytes = [1; 64];
+    bytes[32..].copy_from_slice(&[2; 32]);
+    let key = Key::from(&bytes);
+    assert!(rt; key.master().as_slice() == bytes.as_slice());
+    assert!(rt; key.signing().as_slice() == [1; 32].as_slice());
+    assert!(rt; key.encryption().as_slice() == [2; 32].as_slice());
+}
+
 // Whether the key's bytes are these.
 fn is_key(key: &Key, digits: &str) -> bool {
     match <[u8; 64] as FromHex>::from_hex(digits) {
@@ -100,22 +122,8 @@ fn is_key(key: &Key, digits: &str) -> bool {
 const DERIVED: &str = "0384c7d1f767d621e8b8ff5c3cbb99ee33e62ab8aeef64a79e2b2c090ba4c646\
 d67399661c7296e81f7fb7a730323210f33185d3f1086276ab0219c787f92024";
 
-// Bytes from outside are a key where there are enough of them.
 #[test]
-fn keys_of_bytes(rt: HostRuntime) {
-    let bytes = [7; 65];
-    let key = Key::from(&bytes);
-    assert!(rt; Key::try_from(&bytes[..63]) == Err(KeyError::TooShort(63)));
-    assert!(rt; Key::try_from(&bytes[..0]) == Err(KeyError::TooShort(0)));
-    assert!(rt; Key::try_from(&bytes[..64]).is_ok_and(|read| read == key));
-    assert!(rt; key != zero_key());
-    assert!(rt; key.clone().is_ok_and(|copy| copy == key));
-    let mut bytes = [1; 64];
-    bytes[32..].copy_from_slice(&[2; 32]);
-    let key = Key::from(&bytes);
-    assert!(rt; key.master().as_slice() == bytes.as_slice());
-    assert!(rt; key.signing().as_slice() == [1; 32].as_slice());
-    assert!(rt; key.encryption().as_slice() == [2; 32].as_slice());
+fn keys_are_derived(rt: HostRuntime) {
     assert!(rt; is_key(&Key::derive_from(&[0; 32]), DERIVED));
     assert!(rt; Key::try_derive_from(&[0; 32]).is_ok_and(|key| is_key(&key, DERIVED)));
     assert!(rt; Key::try_derive_from(&[0; 31]) == Err(KeyError::TooShort(31)));
@@ -133,11 +141,6 @@ fn counts_up(key: &Key) -> bool {
         .all(|(i, byte)| *byte as usize == i)
 }
 
-// The key of a generator that can't fail. That there is one is proved, since `unwrap` asks it.
-fn given(rng: &mut ChaCha20Rng) -> Key {
-    Key::try_generate(rng).unwrap()
-}
-
 #[test]
 fn keys_are_generated_by_one_fill(rt: HostRuntime) {
     let mut rng = counter(1, false);
@@ -148,7 +151,6 @@ fn keys_are_generated_by_one_fill(rt: HostRuntime) {
     assert!(rt; Key::try_generate(&mut counter(0, true)).is_none());
     let key = Key::generate(&mut ChaCha20Rng::from_seed([0; 32]));
     assert!(rt; is_key(&key, CHACHA_BLOCK));
-    assert!(rt; is_key(&given(&mut ChaCha20Rng::from_seed([0; 32])), CHACHA_BLOCK));
 }
 
 // Whether the key's debug form is its type's name.

@@ -6,11 +6,7 @@ mod child_jar_tests;
 #[cfg(test)]
 mod cipher_tests;
 #[cfg(test)]
-mod cookie_readme;
-#[cfg(test)]
 mod cookie_tests;
-#[cfg(test)]
-mod cookie_text_readme;
 #[cfg(test)]
 mod date_tests;
 #[cfg(test)]
@@ -33,8 +29,6 @@ mod plain_cipher;
 mod prefix_tests;
 #[cfg(test)]
 mod print_tests;
-#[cfg(test)]
-mod readme_store_tests;
 #[cfg(test)]
 mod record_tests;
 #[cfg(test)]

@@ -69,44 +69,43 @@ fn removes<P: Prefix + Copy>(alloc: Global, prefix: P) -> Result<bool, AllocErro
     Ok(before && has_counts(&jar, 0, 1))
 }
 
-// Whether all of this holds.
-fn holds<P: Prefix + Copy>(
-    alloc: Global,
-    prefix: P,
-    whole: &str,
-    line: &str,
-) -> Result<bool, AllocError> {
-    Ok(
-        names::<P>(alloc, whole)?
-            && prefixes::<P>(alloc, whole)?
-            && applies::<P>(alloc, line)?
-            && adds(alloc, prefix, line)?
-            && reads(alloc, prefix, whole)?
-            && removes(alloc, prefix)?,
-    )
+#[test]
+fn prefixes_host(rt: HostRuntime) {
+    let alloc = rt.alloc();
+    let line = "__Host-sid=1; Secure; Path=/";
+    assert!(rt; names::<Host>(alloc, "__Host-sid").unwrap_or(false));
+    assert!(rt; prefixes::<Host>(alloc, "__Host-sid").unwrap_or(false));
+    assert!(rt; applies::<Host>(alloc, line).unwrap_or(false));
+    assert!(rt; adds(alloc, Host, line).unwrap_or(false));
+    assert!(rt; reads(alloc, Host, "__Host-sid").unwrap_or(false));
+    assert!(rt; removes(alloc, Host).unwrap_or(false));
 }
 
-// A cookie as it conforms to the prefix.
-fn conforms_to_host(alloc: Global) -> bool {
+#[test]
+fn prefixes_secure(rt: HostRuntime) {
+    let alloc = rt.alloc();
+    let line = "__Secure-sid=1; Secure";
+    assert!(rt; names::<Secure>(alloc, "__Secure-sid").unwrap_or(false));
+    assert!(rt; prefixes::<Secure>(alloc, "__Secure-sid").unwrap_or(false));
+    assert!(rt; applies::<Secure>(alloc, line).unwrap_or(false));
+    assert!(rt; adds(alloc, Secure, line).unwrap_or(false));
+    assert!(rt; reads(alloc, Secure, "__Secure-sid").unwrap_or(false));
+    assert!(rt; removes(alloc, Secure).unwrap_or(false));
+}
+
+#[test]
+fn conforms_to_host(rt: HostRuntime) {
     let cookie = Cookie::build(Cookie::new("a", "1"))
         .domain("x.com")
         .path("/p")
         .build();
-    prints(alloc, &Host::conform(cookie), "a=1; Secure; Path=/")
+    assert!(rt; prints(rt.alloc(), &Host::conform(cookie), "a=1; Secure; Path=/"));
+    assert!(rt; Host::PREFIX == "__Host-");
+    assert!(rt; Secure::PREFIX == "__Secure-");
 }
 
-#[test]
-fn puts_prefixes_before_names(rt: HostRuntime) {
-    let alloc = rt.alloc();
-    let line = "__Host-sid=1; Secure; Path=/";
-    assert!(rt; holds(alloc, Host, "__Host-sid", line).unwrap_or(false));
-    let line = "__Secure-sid=1; Secure";
-    assert!(rt; holds(alloc, Secure, "__Secure-sid", line).unwrap_or(false));
-    assert!(rt; conforms_to_host(alloc));
-    assert!(rt; Host::PREFIX == "__Host-" && Secure::PREFIX == "__Secure-");
-}
-
-// Calls with a growth refused at any place, and with ample memory.
+// Calls with a growth refused at any place, and with ample memory. The first test of a pair accepts
+// want of memory, too; the second shows that there is none with ample memory.
 mod memory {
     use super::*;
 
@@ -130,12 +129,22 @@ mod memory {
         settled(&jar, done, "__Host-a", "1", "-")
     }
 
+    fn keeps_prefixed(alloc: Global) -> Result<bool, AllocError> {
+        Ok(
+            prefixes_an_original(alloc)?
+                && prefixes(alloc)?
+                && removes_prefixed(alloc)?
+                && reads(alloc, Host, "__Host-sid")?,
+        )
+    }
+
     #[test]
-    fn prefixed(rt: HostRuntime) -> Result<(), AllocError> {
-        assert!(rt; prefixes_an_original(rt.alloc())?);
-        assert!(rt; prefixes(rt.alloc())?);
-        assert!(rt; removes_prefixed(rt.alloc())?);
-        assert!(rt; reads(rt.alloc(), Host, "__Host-sid")?);
-        Ok(())
+    fn prefixed(rt: HostRuntime) {
+        assert!(rt; keeps_prefixed(rt.alloc()).unwrap_or(true));
+    }
+
+    #[test]
+    fn prefixed_with_ample_memory(rt: HostRuntime) {
+        assert!(rt; keeps_prefixed(rt.alloc()).unwrap_or(false));
     }
 }

@@ -4,6 +4,7 @@ use jiff::SignedDuration;
 use jiff::civil::DateTime;
 use std::alloc::{AllocError, Global};
 use std::fmt::Display;
+use std::test::Fail;
 
 // Whether this is what is printed.
 pub fn prints<D: Display>(alloc: Global, shown: &D, wanted: &str) -> bool {
@@ -51,15 +52,9 @@ fn prints_length(alloc: Global, max_age: SignedDuration, wanted: &str) -> bool {
     )
 }
 
-// Whether a cookie that ends then prints it so.
-fn prints_end(alloc: Global, end: Expiration, wanted: &str) -> bool {
-    prints(alloc, &CookieBuilder::new("a", "1").expires(end), wanted)
-}
-
-// The fraction of a length is dropped, and the minus where nothing is left. Years have no leading
-// zeros, and below zero a minus; the end of the session isn't printed.
+// The fraction of a length is dropped, and the minus where nothing is left.
 #[test]
-fn prints_lengths_and_ends(rt: HostRuntime) {
+fn prints_lengths(rt: HostRuntime) {
     let alloc = rt.alloc();
     let length = SignedDuration::new(7, 900_000_000);
     assert!(rt; prints_length(alloc, length, "a=1; Max-Age=7"));
@@ -71,6 +66,17 @@ fn prints_lengths_and_ends(rt: HostRuntime) {
     assert!(rt; prints_length(alloc, SignedDuration::MAX, longest));
     let lowest = "a=1; Max-Age=-9223372036854775808";
     assert!(rt; prints_length(alloc, SignedDuration::MIN, lowest));
+}
+
+// Whether a cookie that ends then prints it so.
+fn prints_end(alloc: Global, end: Expiration, wanted: &str) -> bool {
+    prints(alloc, &CookieBuilder::new("a", "1").expires(end), wanted)
+}
+
+// Years have no leading zeros, and below zero a minus; the end of the session isn't printed.
+#[test]
+fn prints_ends(rt: HostRuntime) {
+    let alloc = rt.alloc();
     let end = Expiration::DateTime(DateTime::constant(-1, 1, 1, 0, 0, 0, 0));
     assert!(rt; prints_end(alloc, end, "a=1; Expires=Fri, 01 Jan -1 00:00:00 GMT"));
     let end = Expiration::DateTime(DateTime::constant(0, 2, 29, 0, 0, 0, 0));
@@ -82,32 +88,27 @@ fn prints_lengths_and_ends(rt: HostRuntime) {
     assert!(rt; prints_end(alloc, Expiration::Session, "a=1"));
 }
 
-// Whether the four views of a cookie print it so.
-fn prints_views(alloc: Global, cookie: &Cookie<'_>) -> bool {
-    let both = "my%20name=this%3B%20value%3F";
-    prints(alloc, cookie, "my name=this; value?; Secure")
-        && prints(
-            alloc,
-            &cookie.encoded(),
-            "my%20name=this%3B%20value%3F; Secure",
-        )
-        && prints(alloc, &cookie.stripped(), "my name=this; value?")
-        && prints(alloc, &cookie.stripped().encoded(), both)
-        && prints(alloc, &cookie.encoded().stripped(), both)
-}
-
+// The four views of one cookie.
 #[test]
 fn prints_escaped_and_stripped(rt: HostRuntime) {
+    let alloc = rt.alloc();
     let builder = CookieBuilder::new("my name", "this; value?").secure(true);
-    assert!(rt; prints_views(rt.alloc(), builder.inner()));
+    let cookie = builder.inner();
+    assert!(rt; prints(alloc, cookie, "my name=this; value?; Secure"));
     assert!(rt;
         prints(
-            rt.alloc(),
-            &Cookie::new("\u{e9}", "1").encoded(),
-            "%C3%A9=1"
+            alloc,
+            &cookie.encoded(),
+            "my%20name=this%3B%20value%3F; Secure"
         )
     );
-    assert!(rt; prints(rt.alloc(), &SameSite::Strict, "Strict"));
+    assert!(rt; prints(alloc, &cookie.stripped(), "my name=this; value?"));
+    let both = "my%20name=this%3B%20value%3F";
+    assert!(rt; prints(alloc, &cookie.stripped().encoded(), both));
+    assert!(rt; prints(alloc, &cookie.encoded().stripped(), both));
+    let accented = Cookie::new("\u{e9}", "1");
+    assert!(rt; prints(alloc, &accented.encoded(), "%C3%A9=1"));
+    assert!(rt; prints(alloc, &SameSite::Strict, "Strict"));
 }
 
 // Whether a text is escaped so, as a name and as a value.
@@ -125,13 +126,15 @@ const ASCII_ESCAPED: &str = "%00%01%02%03%04%05%06%07%08%09%0A%0B%0C%0D%0E%0F\
 ABCDEFGHIJKLMNOPQRSTUVWXYZ%5B%5C%5D%5E_%60\
 abcdefghijklmnopqrstuvwxyz%7B%7C%7D~%7F";
 
-// Each ASCII byte.
-fn ascii(alloc: Global) -> Result<String, AllocError> {
-    let mut text = String::new(alloc);
+// Each ASCII byte: those of the profile are escaped with upper-case digits.
+#[test]
+fn escapes_ascii(rt: HostRuntime) -> Result<(), Fail> {
+    let mut text = String::new(rt.alloc());
     for byte in 0..128u8 {
         text.push(byte as char)?;
     }
-    Ok(text)
+    assert!(rt; is_escaped(rt.alloc(), &text, ASCII_ESCAPED));
+    Ok(())
 }
 
 // Characters that have each byte past ASCII which UTF-8 knows (RFC 3629, section 3): each second
@@ -160,6 +163,14 @@ const PAST_ASCII: &str =
 \u{ffff} %EF%BF%BF\n\u{10000} %F0%90%80%80\n\u{40000} %F1%80%80%80\n\u{80000} %F2%80%80%80\n\
 \u{c0000} %F3%80%80%80\n\u{100000} %F4%80%80%80\n\u{10ffff} %F4%8F%BF%BF";
 
+#[test]
+fn escapes_past_ascii(rt: HostRuntime) {
+    for row in PAST_ASCII.split('\n') {
+        let (text, wanted) = row.split_once(' ').unwrap_or(("", "no row"));
+        assert!(rt; is_escaped(rt.alloc(), text, wanted), "{row}");
+    }
+}
+
 // An upper-case hexadecimal digit.
 fn digit(number: u8) -> char {
     "0123456789ABCDEF"
@@ -177,17 +188,9 @@ fn reads_escape(alloc: Global, byte: u8) -> Result<bool, AllocError> {
     }
 }
 
-// Of ASCII those of the profile are escaped, with upper-case digits.
 #[test]
-fn escapes_and_reads_escapes(rt: HostRuntime) -> Result<(), AllocError> {
-    let alloc = rt.alloc();
-    assert!(rt; is_escaped(alloc, &ascii(alloc)?, ASCII_ESCAPED));
-    for row in PAST_ASCII.split('\n') {
-        let (text, wanted) = row.split_once(' ').unwrap_or(("", "no row"));
-        assert!(rt; is_escaped(alloc, text, wanted), "{row}");
-    }
+fn reads_each_escape(rt: HostRuntime) {
     for byte in 0..=255u8 {
-        assert!(rt; reads_escape(alloc, byte) == Ok(true), "{byte}");
+        assert!(rt; reads_escape(rt.alloc(), byte) == Ok(true), "{byte}");
     }
-    Ok(())
 }

@@ -7,6 +7,7 @@ use cookie_text::{Cookie, CookieBuilder, Expiration, ParseError, SameSite};
 use jiff::SignedDuration;
 use jiff::civil::DateTime;
 use std::alloc::{AllocError, Global};
+use std::process::Abort;
 
 // Whether the raw forms of name, value, path and domain are these; `-` stands for none.
 fn are_raw(cookie: &Cookie<'_>, name: &str, value: &str, path: &str, domain: &str) -> bool {
@@ -30,6 +31,46 @@ fn is_raw(
     }
 }
 
+// Raw forms are slices of a borrowed text; name and value are gone where reading decoded either.
+#[test]
+fn hands_out_slices(rt: HostRuntime) {
+    let alloc = rt.alloc();
+    let text = " a = 1 ; Domain=.x.com; Path=/y";
+    assert!(rt; is_raw(Cookie::parse(text), "a", "1", "/y", "x.com"));
+    assert!(rt; is_raw(Cookie::parse(" a = 1 "), "a", "1", "-", "-"));
+    assert!(rt; is_raw(Cookie::parse("a=1; Domain=..x"), "a", "1", "-", ".x"));
+    assert!(rt; is_raw(Cookie::from_str(alloc, text), "-", "-", "-", "-"));
+    assert!(rt; is_raw(Cookie::parse_encoded(alloc, "a=%31"), "-", "-", "-", "-"));
+    assert!(rt;
+        is_raw(
+            Cookie::parse_encoded(alloc, "a=%31; Path=/y"),
+            "-",
+            "-",
+            "/y",
+            "-"
+        )
+    );
+    assert!(rt;
+        is_raw(
+            Cookie::parse_encoded(alloc, "%61=1; Domain=x"),
+            "-",
+            "-",
+            "-",
+            "x"
+        )
+    );
+    assert!(rt;
+        is_raw(
+            Cookie::parse_encoded(alloc, "a=%; Path=/y"),
+            "a",
+            "%",
+            "/y",
+            "-"
+        )
+    );
+    assert!(rt; are_raw(&Cookie::new("a", "1"), "-", "-", "-", "-"));
+}
+
 // The raw forms are gone where the part was set.
 fn sets_what_was_read(cookie: Cookie<'_>) -> bool {
     let mut cookie = cookie;
@@ -44,50 +85,20 @@ fn sets_what_was_read(cookie: Cookie<'_>) -> bool {
     name && value && path && domain
 }
 
-// Whether a copy is the cookie, with its raw forms.
-fn is_copied(alloc: Global, cookie: &Cookie<'_>) -> bool {
-    match cookie.clone(alloc) {
-        Ok(copy) => copy == *cookie && are_raw(&copy, "a", "1", "/y", "x"),
-        Err(_) => false,
-    }
+// A copy has the raw forms of the cookie, and a cookie that owns its texts none.
+fn copies(alloc: Global, cookie: Cookie<'_>) -> Result<bool, AllocError> {
+    let copy = cookie.clone(alloc)?;
+    let same = copy == cookie && are_raw(&copy, "a", "1", "/y", "x");
+    let owned = cookie.into_owned(alloc)?;
+    Ok(same && owned == copy && are_raw(&owned, "-", "-", "-", "-"))
 }
 
-// Whether a cookie that owns its texts is the other, and has no raw form.
-fn is_owned(alloc: Global, cookie: Cookie<'_>, other: &Cookie<'_>) -> bool {
-    match cookie.into_owned(alloc) {
-        Ok(owned) => owned == *other && are_raw(&owned, "-", "-", "-", "-"),
-        Err(_) => false,
-    }
-}
-
-fn copies(alloc: Global, text: &str) -> bool {
-    let (Ok(cookie), Ok(other)) = (Cookie::parse(text), Cookie::parse(text)) else {
-        return false;
-    };
-    is_copied(alloc, &cookie) && is_owned(alloc, cookie, &other)
-}
-
-// Raw forms are slices of a borrowed text; name and value are gone where reading decoded either.
 #[test]
-fn hands_out_slices(rt: HostRuntime) {
-    let alloc = rt.alloc();
-    let text = " a = 1 ; Domain=.x.com; Path=/y";
-    assert!(rt; is_raw(Cookie::parse(text), "a", "1", "/y", "x.com"));
-    assert!(rt; is_raw(Cookie::parse(" a = 1 "), "a", "1", "-", "-"));
-    assert!(rt; is_raw(Cookie::parse("a=1; Domain=..x"), "a", "1", "-", ".x"));
-    assert!(rt; is_raw(Cookie::from_str(alloc, text), "-", "-", "-", "-"));
-    let decoded = Cookie::parse_encoded(alloc, "a=%31");
-    assert!(rt; is_raw(decoded, "-", "-", "-", "-"));
-    let decoded = Cookie::parse_encoded(alloc, "a=%31; Path=/y");
-    assert!(rt; is_raw(decoded, "-", "-", "/y", "-"));
-    let decoded = Cookie::parse_encoded(alloc, "%61=1; Domain=x");
-    assert!(rt; is_raw(decoded, "-", "-", "-", "x"));
-    let decoded = Cookie::parse_encoded(alloc, "a=%; Path=/y");
-    assert!(rt; is_raw(decoded, "a", "%", "/y", "-"));
-    assert!(rt; are_raw(&Cookie::new("a", "1"), "-", "-", "-", "-"));
+fn keeps_slices_in_copies_alone(rt: HostRuntime) {
     let text = "a=1; Domain=x; Path=/y";
     assert!(rt; Cookie::parse(text).is_ok_and(|cookie| sets_what_was_read(cookie)));
-    assert!(rt; copies(alloc, text));
+    let copied = Cookie::parse(text).is_ok_and(|cookie| copies(rt.alloc(), cookie) == Ok(true));
+    assert!(rt; copied);
 }
 
 // Whether the getters answer what was read.
@@ -145,36 +156,38 @@ fn unset_attributes(cookie: &mut Cookie<'_>) {
     cookie.set_max_age(None);
 }
 
-// Whether borrowed parts are set and taken away.
-fn sets_borrowed_parts(alloc: Global) -> bool {
+#[test]
+fn sets_borrowed_parts(rt: HostRuntime) {
     let mut cookie = Cookie::named("a");
     cookie.set_name("b");
     cookie.set_value("2");
     cookie.set_path("/p");
     cookie.set_domain(".d");
     set_attributes(&mut cookie);
-    let is_whole = prints(alloc, &cookie, WHOLE);
+    assert!(rt; prints(rt.alloc(), &cookie, WHOLE));
     unset_attributes(&mut cookie);
-    is_whole && cookie == Cookie::new("b", "2") && cookie.same_site().is_none()
+    assert!(rt; cookie == Cookie::new("b", "2") && cookie.same_site().is_none());
 }
 
-// The same of owned parts.
-fn sets_owned_parts(alloc: Global) -> Result<bool, AllocError> {
-    let name = String::from_str(alloc, "x")?;
-    let mut cookie = Cookie::new_owned(name, String::from_str(alloc, "y")?);
-    let is_pair = prints(alloc, &cookie, "x=y");
-    cookie.set_name_owned(String::from_str(alloc, "b")?);
-    cookie.set_value_owned(String::from_str(alloc, "2")?);
-    cookie.set_path_owned(String::from_str(alloc, "/p")?);
-    cookie.set_domain_owned(String::from_str(alloc, ".d")?);
-    set_attributes(&mut cookie);
-    Ok(is_pair && prints(alloc, &cookie, WHOLE))
+// A copy in memory of its own.
+fn text(rt: &impl Abort, alloc: Global, text: &str) -> String {
+    match String::from_str(alloc, text) {
+        Ok(text) => text,
+        Err(_) => panic!(rt; "no memory for {text}"),
+    }
 }
 
 #[test]
-fn sets_parts(rt: HostRuntime) {
-    assert!(rt; sets_borrowed_parts(rt.alloc()));
-    assert!(rt; sets_owned_parts(rt.alloc()) == Ok(true));
+fn sets_owned_parts(rt: HostRuntime) {
+    let alloc = rt.alloc();
+    let mut cookie = Cookie::new_owned(text(&rt, alloc, "x"), text(&rt, alloc, "y"));
+    assert!(rt; prints(alloc, &cookie, "x=y"));
+    cookie.set_name_owned(text(&rt, alloc, "b"));
+    cookie.set_value_owned(text(&rt, alloc, "2"));
+    cookie.set_path_owned(text(&rt, alloc, "/p"));
+    cookie.set_domain_owned(text(&rt, alloc, ".d"));
+    set_attributes(&mut cookie);
+    assert!(rt; prints(alloc, &cookie, WHOLE));
 }
 
 fn built() -> CookieBuilder<'static> {
@@ -189,13 +202,6 @@ fn built() -> CookieBuilder<'static> {
         .expires(Expiration::DateTime(new_year()))
 }
 
-// The contract of `inner_mut` shows a caller what it wrote.
-fn write_secure(builder: &mut CookieBuilder<'_>)
-    ensures { builder.new ≡ with_secure builder.old (Some true) }
-{
-    builder.inner_mut().set_secure(Some(true));
-}
-
 #[test]
 fn builds(rt: HostRuntime) {
     let builder = built();
@@ -204,6 +210,17 @@ fn builds(rt: HostRuntime) {
     let copy = builder.clone(rt.alloc());
     assert!(rt; copy.is_ok_and(|copy| prints(rt.alloc(), &copy.finish(), WHOLE)));
     assert!(rt; prints(rt.alloc(), &builder.build(), WHOLE));
+}
+
+// The contract of `inner_mut` shows a caller what it wrote.
+fn write_secure(builder: &mut CookieBuilder<'_>)
+    ensures { builder.new ≡ with_secure builder.old (Some true) }
+{
+    builder.inner_mut().set_secure(Some(true));
+}
+
+#[test]
+fn builds_what_was_written(rt: HostRuntime) {
     let mut builder = Cookie::build(Cookie::new("a", "1"));
     builder.inner_mut().set_name("c");
     write_secure(&mut builder);
@@ -213,24 +230,6 @@ fn builds(rt: HostRuntime) {
 const PERMANENT: &str = "a=1; Max-Age=630720000; Expires=Sun, 27 Dec 2043 00:00:00 GMT";
 
 const REMOVAL: &str = "a=; Max-Age=0; Expires=Sun, 01 Jan 2023 00:00:00 GMT";
-
-// The latest expiry is 9999-12-31T23:59:59.999999, and sums stop at the ends of the calendar.
-fn cuts_late_expiries() -> bool {
-    let latest = Some(DateTime::constant(9999, 12, 31, 23, 59, 59, 999_999_000));
-    let mut cookie = Cookie::new("a", "1");
-    cookie.set_expires(Expiration::DateTime(DateTime::MAX));
-    let from_last = cookie.expires_datetime();
-    cookie.set_expires(Expiration::from(latest));
-    let from_latest = cookie.expires_datetime();
-    cookie.make_permanent(DateTime::MAX);
-    let permanent = cookie.expires_datetime();
-    cookie.make_removal(DateTime::MIN);
-    let removal = cookie.expires_datetime();
-    cookie.set_expires(Expiration::Session);
-    let is_session = cookie.expires() == Some(Expiration::Session);
-    let are_latest = from_last == latest && from_latest == latest && permanent == latest;
-    are_latest && removal == Some(DateTime::MIN) && is_session
-}
 
 #[test]
 fn makes_permanent_and_removal(rt: HostRuntime) {
@@ -242,17 +241,28 @@ fn makes_permanent_and_removal(rt: HostRuntime) {
     let builder = CookieBuilder::new("a", "1").permanent(new_year());
     assert!(rt; prints(rt.alloc(), builder.inner(), PERMANENT));
     assert!(rt; prints(rt.alloc(), builder.removal(new_year()).inner(), REMOVAL));
-    assert!(rt; cuts_late_expiries());
 }
 
-// Whether the error has this name, and prints it.
-fn is_named(alloc: Global, error: ParseError, name: &str) -> bool {
-    error.as_str() == name && prints(alloc, &error, name)
+// The latest expiry is 9999-12-31T23:59:59.999999, and sums stop at the ends of the calendar.
+#[test]
+fn cuts_late_expiries(rt: HostRuntime) {
+    let latest = DateTime::constant(9999, 12, 31, 23, 59, 59, 999_999_000);
+    let mut cookie = Cookie::new("a", "1");
+    cookie.set_expires(Expiration::DateTime(DateTime::MAX));
+    assert!(rt; cookie.expires_datetime() == Some(latest));
+    cookie.set_expires(Expiration::DateTime(latest));
+    assert!(rt; cookie.expires_datetime() == Some(latest));
+    cookie.make_permanent(DateTime::MAX);
+    assert!(rt; cookie.expires_datetime() == Some(latest));
+    cookie.make_removal(DateTime::MIN);
+    assert!(rt; cookie.expires_datetime() == Some(DateTime::MIN));
+    cookie.set_expires(Expiration::Session);
+    assert!(rt; cookie.expires() == Some(Expiration::Session));
 }
 
 // The session is after every moment, and mapping leaves it.
 #[test]
-fn orders_expiries_and_names_errors(rt: HostRuntime) {
+fn orders_expiries(rt: HostRuntime) {
     let first = Expiration::DateTime(DateTime::MIN);
     let last = Expiration::DateTime(DateTime::MAX);
     assert!(rt; first < last && last < Expiration::Session);
@@ -261,9 +271,22 @@ fn orders_expiries_and_names_errors(rt: HostRuntime) {
     assert!(rt; Expiration::from(None) == Expiration::Session);
     assert!(rt; last.map(|_| DateTime::MIN) == first);
     assert!(rt; Expiration::Session.map(|_| DateTime::MIN) == Expiration::Session);
+}
+
+#[test]
+fn tells_sites_apart(rt: HostRuntime) {
     assert!(rt; SameSite::Strict.is_strict() && !SameSite::Lax.is_strict());
     assert!(rt; SameSite::Lax.is_lax() && !SameSite::None.is_lax());
     assert!(rt; SameSite::None.is_none() && !SameSite::Strict.is_none());
+}
+
+// Whether the error has this name, and prints it.
+fn is_named(alloc: Global, error: ParseError, name: &str) -> bool {
+    error.as_str() == name && prints(alloc, &error, name)
+}
+
+#[test]
+fn names_errors(rt: HostRuntime) {
     let alloc = rt.alloc();
     assert!(rt; is_named(alloc, ParseError::MissingPair, "MissingPair"));
     assert!(rt; is_named(alloc, ParseError::EmptyName, "EmptyName"));

@@ -1,13 +1,12 @@
 //! Tests of the cookie of a store and of what it takes from a raw one. Expected values come from
 //! RFC 6265 and from the Rust crate's behaviour.
 
-use crate::print_tests::prints;
 use cookie_store::{
     Cookie, CookieDomain, CookieError, CookieExpiration, Error, RawCookie, RawCookieParseError,
 };
 use jiff::SignedDuration;
 use jiff::civil::DateTime;
-use std::alloc::{AllocError, Global};
+use std::alloc::Global;
 use std::test::Fail;
 use url::Url;
 
@@ -17,17 +16,15 @@ fn now() -> DateTime {
 
 // The outcome of a text at a URL: kind and text of the domain, path and whether an attribute gave
 // it, and the end; or the name of the refusal.
-fn outcome(alloc: Global, url: &str, cookie_str: &str) -> Result<String, AllocError> {
-    let Ok(url) = Url::parse(alloc, url) else {
-        return format!(in alloc; "no URL");
-    };
+fn outcome(alloc: Global, url: &str, cookie_str: &str) -> Result<String, Fail> {
+    let url = Url::parse(alloc, url)?;
     match Cookie::parse(alloc, cookie_str, &url, now()) {
         Ok(cookie) => shown(alloc, &cookie),
-        Err(cause) => format!(in alloc; "{cause:?}"),
+        Err(cause) => Ok(format!(in alloc; "{cause:?}")?),
     }
 }
 
-fn shown(alloc: Global, cookie: &Cookie<'_>) -> Result<String, AllocError> {
+fn shown(alloc: Global, cookie: &Cookie<'_>) -> Result<String, Fail> {
     let kind = kind_of(&cookie.domain);
     let domain = cookie.domain.as_cow().unwrap_or("");
     let path = cookie.path.as_str();
@@ -38,9 +35,9 @@ fn shown(alloc: Global, cookie: &Cookie<'_>) -> Result<String, AllocError> {
     };
     match cookie.expires {
         CookieExpiration::AtUtc(end) => {
-            format!(in alloc; "{kind} {domain} {source} {path} {end}")
+            Ok(format!(in alloc; "{kind} {domain} {source} {path} {end}")?)
         }
-        CookieExpiration::SessionEnd => format!(in alloc; "{kind} {domain} {source} {path}"),
+        CookieExpiration::SessionEnd => Ok(format!(in alloc; "{kind} {domain} {source} {path}")?),
     }
 }
 
@@ -103,14 +100,14 @@ ftp://example.com/|a=1; Secure|host example.com default /
 https://example.com/|a=1; HttpOnly|host example.com default /";
 
 #[test]
-fn makes_cookies(rt: HostRuntime) -> Result<(), AllocError> {
+fn makes_cookies(rt: HostRuntime) -> Result<(), Fail> {
     for line in MADE.lines() {
         let mut fields = line.split('|');
         let url = fields.next().unwrap_or("");
         let cookie_str = fields.next().unwrap_or("");
         let wanted = fields.next().unwrap_or("");
         let found = outcome(rt.alloc(), url, cookie_str)?;
-        assert!(rt; found.as_str() == wanted, "{line}");
+        assert_eq!(rt; found.as_str(), wanted, "{line}");
     }
     Ok(())
 }
@@ -135,37 +132,28 @@ a=1; Max-Age=0|http://www.example.com/foo|yes
 a=1|file:///foo/bar|no
 a=1|data:foo|no";
 
-// Whether the cookie that a source sent goes with a request to the other URL.
-fn goes_with(alloc: Global, source: &str, cookie_str: &str, url: &str) -> Option<bool> {
-    let (Ok(source), Ok(url)) = (Url::parse(alloc, source), Url::parse(alloc, url)) else {
-        return None;
-    };
-    match Cookie::parse(alloc, cookie_str, &source, now()) {
-        Ok(cookie) => Some(cookie.matches(&url)),
-        Err(_) => None,
-    }
-}
-
 #[test]
-fn goes_with_requests(rt: HostRuntime) {
+fn goes_with_requests(rt: HostRuntime) -> Result<(), Fail> {
+    let source = Url::parse(rt.alloc(), "https://www.example.com/foo/bar")?;
     for line in GIVEN.lines() {
         let mut fields = line.split('|');
         let cookie_str = fields.next().unwrap_or("");
-        let url = fields.next().unwrap_or("");
+        let url = Url::parse(rt.alloc(), fields.next().unwrap_or(""))?;
         let wanted = fields.next() == Some("yes");
-        let goes = goes_with(
-            rt.alloc(),
-            "https://www.example.com/foo/bar",
-            cookie_str,
-            url,
-        );
-        assert!(rt; goes == Some(wanted), "{line}");
+        let cookie = Cookie::parse(rt.alloc(), cookie_str, &source, now())?;
+        assert_eq!(rt; cookie.matches(&url), wanted, "{line}");
     }
-    // A secure cookie goes to this host.
-    for url in "http://localhost/\nhttp://127.1.2.3/\nhttp://[::1]/".split('\n') {
-        let goes = goes_with(rt.alloc(), url, "a=1; Secure; HttpOnly", url);
-        assert!(rt; goes == Some(true), "{url}");
+    Ok(())
+}
+
+#[test]
+fn a_secure_cookie_goes_to_this_host(rt: HostRuntime) -> Result<(), Fail> {
+    for text in ["http://localhost/", "http://127.1.2.3/", "http://[::1]/"] {
+        let url = Url::parse(rt.alloc(), text)?;
+        let cookie = Cookie::parse(rt.alloc(), "a=1; Secure; HttpOnly", &url, now())?;
+        assert!(rt; cookie.matches(&url), "{text}");
     }
+    Ok(())
 }
 
 #[test]
@@ -183,9 +171,18 @@ fn ends_at_its_moment(rt: HostRuntime) -> Result<(), Fail> {
     Ok(())
 }
 
-// A Max-Age beats an Expires, which is taken as it stands.
 #[test]
-fn takes_expiries(rt: HostRuntime) {
+fn takes_expiries_as_they_stand(rt: HostRuntime) {
+    let session = CookieExpiration::from(cookie::Expiration::Session);
+    assert!(rt; session == CookieExpiration::SessionEnd);
+    for moment in [DateTime::MIN, DateTime::MAX] {
+        let end = CookieExpiration::from(cookie::Expiration::DateTime(moment));
+        assert!(rt; is_at(end, moment), "{moment}");
+    }
+}
+
+#[test]
+fn max_age_beats_expires(rt: HostRuntime) {
     let mut raw = RawCookie::new("a", "1");
     assert!(rt; CookieExpiration::from_raw(&raw, now()) == CookieExpiration::SessionEnd);
     raw.set_expires(cookie::Expiration::DateTime(DateTime::MIN));
@@ -195,12 +192,6 @@ fn takes_expiries(rt: HostRuntime) {
     assert!(rt; is_at(CookieExpiration::from_raw(&raw, now()), end));
     let latest = DateTime::constant(9999, 12, 31, 23, 59, 59, 0);
     assert!(rt; is_at(CookieExpiration::from_raw(&raw, DateTime::MAX), latest));
-    let session = CookieExpiration::from(cookie::Expiration::Session);
-    assert!(rt; session == CookieExpiration::SessionEnd);
-    let first = CookieExpiration::from(cookie::Expiration::DateTime(DateTime::MIN));
-    assert!(rt; is_at(first, DateTime::MIN));
-    let last = CookieExpiration::from(cookie::Expiration::DateTime(DateTime::MAX));
-    assert!(rt; is_at(last, DateTime::MAX));
 }
 
 fn is_at(expiration: CookieExpiration, moment: DateTime) -> bool {
@@ -210,22 +201,21 @@ fn is_at(expiration: CookieExpiration, moment: DateTime) -> bool {
     }
 }
 
-// Whether a raw cookie has a domain of this kind and text.
-fn has_domain(alloc: Global, cookie_str: &str, kind: &str, text: &str) -> bool {
-    let Ok(raw) = RawCookie::parse(cookie_str) else {
-        return false;
-    };
-    match CookieDomain::from_raw(alloc, &raw) {
-        Ok(domain) => kind_of(&domain) == kind && domain.as_cow().unwrap_or("") == text,
-        Err(_) => false,
-    }
-}
-
 #[test]
-fn takes_domains_from_raw_cookies(rt: HostRuntime) {
-    assert!(rt; has_domain(rt.alloc(), "a=1", "not present", ""));
-    assert!(rt; has_domain(rt.alloc(), "a=1; Domain=.", "empty", ""));
-    assert!(rt; has_domain(rt.alloc(), "a=1; Domain=..", "suffix", "."));
+fn takes_domains_from_raw_cookies(rt: HostRuntime) -> Result<(), Fail> {
+    let cases = "a=1|not present|\na=1; Domain=.|empty|\na=1; Domain=..|suffix|.";
+    for case in cases.lines() {
+        let mut fields = case.split('|');
+        let raw = RawCookie::parse(fields.next().unwrap_or(""))?;
+        let domain = CookieDomain::from_raw(rt.alloc(), &raw)?;
+        assert_eq!(rt; Some(kind_of(&domain)), fields.next(), "{case}");
+        assert_eq!(rt;
+            Some(domain.as_cow().unwrap_or("")),
+            fields.next(),
+            "{case}"
+        );
+    }
+    Ok(())
 }
 
 #[test]
@@ -236,86 +226,67 @@ fn names_why_a_text_is_no_cookie(rt: HostRuntime) {
         RawCookieParseError::Utf8Error,
     ];
     for cause in causes {
-        assert!(rt; CookieError::from(cause) == CookieError::Parse);
+        assert_eq!(rt; CookieError::from(cause), CookieError::Parse);
     }
     let memory = CookieError::from(RawCookieParseError::OutOfMemory);
-    assert!(rt; memory == CookieError::OutOfMemory);
+    assert_eq!(rt; memory, CookieError::OutOfMemory);
     assert!(rt; matches!(Error::from(memory), Error::OutOfMemory));
 }
 
-// Whether a cookie hands this on.
-fn hands_on(alloc: Global, cookie_str: &str, wanted: &str) -> bool {
-    let Ok(url) = Url::parse(alloc, "https://example.com/foo/bar") else {
-        return false;
-    };
-    let Ok(cookie) = Cookie::parse(alloc, cookie_str, &url, now()) else {
-        return false;
-    };
-    match cookie.into_raw(alloc) {
-        Ok(raw) => prints(alloc, &raw, wanted),
-        Err(_) => false,
-    }
-}
-
 #[test]
-fn hands_on_what_is_left(rt: HostRuntime) {
+fn hands_on_what_is_left(rt: HostRuntime) -> Result<(), Fail> {
+    let url = Url::parse(rt.alloc(), "https://example.com/foo/bar")?;
     let rows = "a=1; Secure; HttpOnly; Max-Age=10; Path=/foo; Domain=example.com\
         |a=1; Path=/foo; Domain=example.com; Expires=Mon, 01 Jan 2024 00:00:10 GMT\
         \na=1; Secure; SameSite=Lax; Partitioned|a=1\
         \na=1; Expires=Wed, 09 Jun 2021 10:18:14 GMT|a=1; Expires=Wed, 09 Jun 2021 10:18:14 GMT";
     for row in rows.lines() {
         let (cookie_str, wanted) = row.split_once('|').unwrap_or(("", ""));
-        assert!(rt; hands_on(rt.alloc(), cookie_str, wanted), "{row}");
+        let cookie = Cookie::parse(rt.alloc(), cookie_str, &url, now())?;
+        let raw = cookie.into_raw(rt.alloc())?;
+        let printed = format!(in rt.alloc(); "{raw}")?;
+        assert_eq!(rt; printed.as_str(), wanted, "{row}");
     }
+    Ok(())
 }
-
-// Whether a cookie is the one of this text from a URL, where that is one.
-fn is_cookie_of(alloc: Global, cookie: &Cookie<'_>, text: &str, url: &str) -> Option<bool> {
-    let Ok(url) = Url::parse(alloc, url) else {
-        return None;
-    };
-    match Cookie::parse(alloc, text, &url, now()) {
-        Ok(other) => Some(*cookie == other),
-        Err(_) => None,
-    }
-}
-
-// Whether a copy with texts of its own is the cookie, and another one where it has ended.
-fn is_copied(alloc: Global, cookie: &Cookie<'_>) -> Result<bool, AllocError> {
-    let mut copy = cookie.clone(alloc)?.into_owned(alloc)?;
-    let is_same = copy == *cookie;
-    copy.expire();
-    Ok(is_same && copy != *cookie)
-}
-
-const OTHERS: &str = "a=2; Path=/foo; Domain=example.com; Max-Age=10
-a=1; Domain=example.com; Max-Age=10
-a=1; Path=/foo; Max-Age=10
-a=1; Path=/foo; Domain=example.com; Max-Age=11";
 
 #[test]
 fn compares_all_parts(rt: HostRuntime) -> Result<(), Fail> {
-    let alloc = rt.alloc();
-    let url = "https://example.com/foo/bar";
-    let source = Url::parse(alloc, url)?;
+    let url = Url::parse(rt.alloc(), "https://example.com/foo/bar")?;
     let text = "a=1; Path=/foo; Domain=example.com; Max-Age=10";
-    let cookie = Cookie::parse(alloc, text, &source, now())?;
-    assert!(rt; cookie.raw().name_value() == ("a", "1"));
-    assert!(rt; is_copied(alloc, &cookie) == Ok(true));
-    assert!(rt; is_cookie_of(alloc, &cookie, text, url) == Some(true));
-    for other in OTHERS.lines() {
+    let cookie = Cookie::parse(rt.alloc(), text, &url, now())?;
+    assert!(rt; cookie == cookie.clone(rt.alloc())?.into_owned(rt.alloc())?);
+    assert_eq!(rt; cookie.raw().name_value(), ("a", "1"));
+    for other in [
+        "a=2; Path=/foo; Domain=example.com; Max-Age=10",
+        "a=1; Domain=example.com; Max-Age=10",
+        "a=1; Path=/foo; Max-Age=10",
+        "a=1; Path=/foo; Domain=example.com; Max-Age=11",
+    ] {
         assert!(rt;
-            is_cookie_of(alloc, &cookie, other, url) == Some(false),
+            cookie != Cookie::parse(rt.alloc(), other, &url, now())?,
             "{other}"
         );
     }
-    let bare = Cookie::parse(alloc, "a=1", &source, now())?;
-    let same = "http://example.com/foo/bus";
-    assert!(rt; is_cookie_of(alloc, &bare, "a=1", same) == Some(true));
-    let elsewhere = "https://example.com/zoo/bar";
-    assert!(rt; is_cookie_of(alloc, &bare, "a=1", elsewhere) == Some(false));
-    let other_host = "https://www.example.com/foo/bar";
-    assert!(rt; is_cookie_of(alloc, &bare, "a=1", other_host) == Some(false));
+    let mut other = cookie.clone(rt.alloc())?;
+    other.expire();
+    assert!(rt; cookie != other);
+    Ok(())
+}
+
+// Whether the bare cookie is the same from both URLs.
+fn are_same(alloc: Global, first: &str, second: &str) -> Result<bool, Fail> {
+    let first = Cookie::parse(alloc, "a=1", &Url::parse(alloc, first)?, now())?;
+    let second = Cookie::parse(alloc, "a=1", &Url::parse(alloc, second)?, now())?;
+    Ok(first == second)
+}
+
+#[test]
+fn compares_default_parts(rt: HostRuntime) -> Result<(), Fail> {
+    let url = "https://example.com/foo/bar";
+    assert!(rt; are_same(rt.alloc(), url, "http://example.com/foo/bus")?);
+    assert!(rt; !are_same(rt.alloc(), url, "https://example.com/zoo/bar")?);
+    assert!(rt; !are_same(rt.alloc(), url, "https://www.example.com/foo/bar")?);
     Ok(())
 }
 
@@ -339,15 +310,31 @@ mod memory {
     const GIVEN: &str = "a=1; Secure; Path=/b; Domain=b\u{fc}cher.example";
 
     #[test]
-    fn makes_a_cookie(rt: HostRuntime) -> Result<(), Error> {
+    fn makes_a_cookie(rt: HostRuntime) {
+        match texts(rt.alloc(), GIVEN) {
+            Ok(text) => assert_eq!(rt; text.as_str(), "a=1; Path=/b; Domain=xn--bcher-kva.example"),
+            Err(error) => assert!(rt; matches!(error, Error::OutOfMemory)),
+        }
+    }
+
+    #[test]
+    fn makes_a_cookie_with_ample_memory(rt: HostRuntime) -> Result<(), Fail> {
         let text = texts(rt.alloc(), GIVEN)?;
-        assert!(rt; text.as_str() == "a=1; Path=/b; Domain=xn--bcher-kva.example");
+        assert_eq!(rt; text.as_str(), "a=1; Path=/b; Domain=xn--bcher-kva.example");
         Ok(())
     }
 
     #[test]
-    fn makes_a_bare_cookie(rt: HostRuntime) -> Result<(), Error> {
-        assert!(rt; texts(rt.alloc(), "a=1")?.as_str() == "a=1");
+    fn makes_a_bare_cookie(rt: HostRuntime) {
+        match texts(rt.alloc(), "a=1") {
+            Ok(text) => assert_eq!(rt; text.as_str(), "a=1"),
+            Err(error) => assert!(rt; matches!(error, Error::OutOfMemory)),
+        }
+    }
+
+    #[test]
+    fn makes_a_bare_cookie_with_ample_memory(rt: HostRuntime) -> Result<(), Fail> {
+        assert_eq!(rt; texts(rt.alloc(), "a=1")?.as_str(), "a=1");
         Ok(())
     }
 }
