@@ -24,6 +24,7 @@ pub mod Standings
 pub mod Halting
 pub mod ScriptRun
 pub mod Following
+pub mod store
 mod Facts
 mod ScriptFacts
 mod AcceptFacts

@@ -28,7 +28,7 @@ use Rattle.cookie.specs.ByName.{ByName, Lists, AreApart as EntriesApart, value_i
 use Rattle.cookie.specs.Jar.{Jar, cookie_of as cookie_in, delta, under_names, with_original, with_change}
 use Rattle.cookie.specs.Jar.{without_change, Removes, empty}
 use Rattle.cookie_run.specs.declared.step.SessionError.{SessionError}
-use Rattle.cookie_run.specs.declared.step.SessionError.TheVariants.{EmptyName, Year, Rng}
+use Rattle.cookie_run.specs.declared.step.SessionError.TheVariants.{Year, Rng}
 use Rattle.cookie_run.specs.declared.step.Way.{Way}
 use Rattle.cookie_run.specs.declared.step.Way.TheVariants.{Plain, Host, Secure, Signed, Sealed}
 use Rattle.cookie_run.specs.Jar.{Holds, IsKeptAs, IsReadableJar, Keeps, last_in, record_in, sent, taken}
@@ -47,7 +47,7 @@ pub get_insert : {X : Type 0} (m : ByName X) (k : List ℕ) (c : X) (q : List �
 get_insert m k c q = get-insert nat_list_cmp_total m k c q ∙ ap (λ b. cond b (Some c) (finmap.get m q))
     (sym (texts_ties q k))
 
-get_remove : {X : Type 0} (m : ByName X) (k q : List ℕ) → finmap.get (finmap.remove m k) q ≡ cond (bytes_eq q k) None
+pub get_remove : {X : Type 0} (m : ByName X) (k q : List ℕ) → finmap.get (finmap.remove m k) q ≡ cond (bytes_eq q k) None
     (finmap.get m q)
 get_remove m k q = get-remove nat_list_cmp_total m k q ∙ ap (λ b. cond b None (finmap.get m q)) (sym (texts_ties q k))
 
@@ -155,7 +155,7 @@ kept_readable May key Sealed s kept e k = subst (λ (x : Seen). IsReadable x.coo
 some_same : {A : Type 0} (c d : A) → Some c ≡ Some d → c ≡ d
 some_same c d e = cc
 
-changed_readable : (old : Jar) (n : List ℕ) (change : Change) → IsReadableJar old → IsReadable (cookie_in change).cookie
+pub changed_readable : (old : Jar) (n : List ℕ) (change : Change) → IsReadableJar old → IsReadable (cookie_in change).cookie
     → IsReadableJar (record old { changes = finmap.insert old.changes n change })
 changed_readable old n change all one q other is =
     let found : cond (bytes_eq q n) (Some change) (finmap.get old.changes q) ≡ Some other = sym
@@ -238,7 +238,7 @@ stored_named Secure name some = omega arith
 stored_named Signed name some = some
 stored_named Sealed name some = some
 
-taken_readable : (way : Way) (name : List ℕ) (d : Seen) (now : DateTime) (old new : Jar)
+pub taken_readable : (way : Way) (name : List ℕ) (d : Seen) (now : DateTime) (old new : Jar)
     → Removes old (taken way name) now new
     → MakesRemoval (unsliced (bare name [])) now d → refusal_of name d.cookie.expires ≡ None → IsReadableJar old
     → IsReadableJar new

@@ -136,7 +136,7 @@ apart_bare : (cs : List Record) → AreApart cs → AreApart (map bare_of cs)
 apart_bare [] h = tt
 apart_bare (c ∷ cs) h = (lacks_bare cs c.name h.0, apart_bare cs h.1)
 
-or_none : {A : Type 0} (o : Option A) → option_or o None ≡ o
+pub or_none : {A : Type 0} (o : Option A) → option_or o None ≡ o
 or_none None = refl
 or_none (Some v) = refl
 
@@ -165,17 +165,17 @@ cond_named : (b : Bool) (c : Record) (q : List ℕ) → (b ≡ true → c.name �
 cond_named true c q h = h refl
 cond_named false c q h = tt
 
-last_named : (cs : List Record) (q : List ℕ) → IfSome (last_in cs q) (λ c. c.name ≡ q)
+pub last_named : (cs : List Record) (q : List ℕ) → IfSome (last_in cs q) (λ c. c.name ≡ q)
 last_named [] q = tt
 last_named (c ∷ cs) q = or_named (last_in cs q) _ q (last_named cs q)
     (cond_named (bytes_eq q c.name) c q (λ e. sym (same_text q c.name e)))
 
-seen_named : (o : Option Seen) (q : List ℕ) → IfSome (record_in o) (λ c. c.name ≡ q) → IfSome o (λ s. s.cookie.name ≡ q)
+pub seen_named : (o : Option Seen) (q : List ℕ) → IfSome (record_in o) (λ c. c.name ≡ q) → IfSome o (λ s. s.cookie.name ≡ q)
 seen_named None q h = tt
 seen_named (Some s) q h = h
 
 -- nothing was changed yet
-view_original : (jar : Jar) (q : List ℕ) → jar.changes ≡ finmap.empty → view jar q ≡ finmap.get jar.originals q
+pub view_original : (jar : Jar) (q : List ℕ) → jar.changes ≡ finmap.empty → view jar q ≡ finmap.get jar.originals q
 view_original jar q e = ap (λ o. overlaid o (finmap.get jar.originals q)) (ap (λ m. finmap.get m q) e ∙ none_at q)
 
 -- what a session's header brought
@@ -207,7 +207,7 @@ opens key host rows url site session secure a opened = record {
 
 -- ---- a set
 
-kept_named : (May : List ℕ → Type 0) (key : List ℕ) (way : Way) (s kept : Seen) → IsKeptAs May key way s kept
+pub kept_named : (May : List ℕ → Type 0) (key : List ℕ) (way : Way) (s kept : Seen) → IsKeptAs May key way s kept
     → kept.cookie.name ≡ stored_name way s.cookie.name
 kept_named May key ways.Plain s kept k = ap (λ (x : Seen). x.cookie.name) k
 kept_named May key ways.Host s kept k = ap (λ (x : Seen). x.cookie.name) k
@@ -215,7 +215,7 @@ kept_named May key ways.Secure s kept k = ap (λ (x : Seen). x.cookie.name) k
 kept_named May key ways.Signed s kept k = ap (λ (x : Seen). x.cookie.name) k
 kept_named May key ways.Sealed s kept k = ap (λ (x : Seen). x.cookie.name) k.2.3
 
-kept_stands : (May : List ℕ → Type 0) (key : List ℕ) (way : Way) (s kept : Seen) → IsUtf8 s.cookie.value
+pub kept_stands : (May : List ℕ → Type 0) (key : List ℕ) (way : Way) (s kept : Seen) → IsUtf8 s.cookie.value
     → IsKeptAs May key way s kept → StandsAs key (stored_name way s.cookie.name)
     (kind_of way) s.cookie.value kept.cookie.value
 kept_stands May key ways.Plain s kept utf8 k = ap (λ (x : Seen). x.cookie.value) k
@@ -251,7 +251,7 @@ named_cond : (q : List ℕ) (b : Bool) (kept : Seen) (o : Option Seen) → (b �
 named_cond q true kept o h g = h refl
 named_cond q false kept o h g = g
 
-entry_for : Way → Record → Entry
+unfoldable pub entry_for : Way → Record → Entry
 entry_for way c = record { kind = kind_of way; value = c.value }
 
 kept_shows : (key : List ℕ) (old new : Keyed) (site : Site) (way : Way) (s kept : Seen) → Shows key old site
@@ -276,7 +276,7 @@ kept_shows key old new site way s kept h same_key changed name stands =
           (sym (same_text q n e)) stands) (h.each q));
     }
 
-set_shows : (key : List ℕ) (old new : Keyed) (site : Site) (way : Way) (s : Seen) → Shows key old site
+pub set_shows : (key : List ℕ) (old new : Keyed) (site : Site) (way : Way) (s : Seen) → Shows key old site
     → Sets any_nonce old way s new → Shows key new (with_entry site (stored_name way s.cookie.name)
     (entry_for way s.cookie))
 set_shows key old new site way s h sets =
@@ -346,7 +346,7 @@ way_read key session site ways.Sealed name v law h reads =
     sealed_read key name (view session.jar name) (site name) v reads.0 law (h.named name) (h.each name)
     (subst (λ (k : List ℕ). ReadsFound (IsSealed k) (view session.jar name) reads.0) h.key_is reads.1) reads.2
 
-get_on : (key : List ℕ) (session : Keyed) (site : Site) (way : Way) (name : List ℕ) (told : List Reading) → OnlyOne key
+pub get_on : (key : List ℕ) (session : Keyed) (site : Site) (way : Way) (name : List ℕ) (told : List Reading) → OnlyOne key
     → Shows key session site → GetTells session way name told → GetOn site way name told
 get_on key session site way [] told law h tells = tells
 get_on key session site way (b ∷ bs) told law h tells = (
@@ -422,7 +422,7 @@ IsClosedChange (Removed s) = ⊥
 abbrev pub AllClosed : ByName Change → Type 0
 AllClosed m = (q : List ℕ) (change : Change) → finmap.get m q ≡ Some change → IsClosedChange change
 
-not_nil : (n : List ℕ) → 0 < length n → n ≢ []
+pub not_nil : (n : List ℕ) → 0 < length n → n ≢ []
 not_nil [] h e = omega (arith, h)
 not_nil (b ∷ bs) h e = cc
 
@@ -456,14 +456,14 @@ secure_utf8 = IsUtf8-from_ascii secure_text (IsAscii-from_all secure_text
       ),
     )))
 
-named_text : (way : Way) (name : List ℕ) → IsUtf8 name → IsUtf8 (stored_name way name)
+pub named_text : (way : Way) (name : List ℕ) → IsUtf8 name → IsUtf8 (stored_name way name)
 named_text ways.Plain name h = h
 named_text ways.Host name h = IsUtf8-append host_text name host_utf8 h
 named_text ways.Secure name h = IsUtf8-append secure_text name secure_utf8 h
 named_text ways.Signed name h = h
 named_text ways.Sealed name h = h
 
-kept_text : {k : List ℕ} (May : List ℕ → Type 0) (key : List ℕ) (way : Way) (s kept : Seen) → OnlyOne k
+pub kept_text : {k : List ℕ} (May : List ℕ → Type 0) (key : List ℕ) (way : Way) (s kept : Seen) → OnlyOne k
     → IsUtf8 s.cookie.value → IsKeptAs May key way s kept → IsUtf8 kept.cookie.value
 kept_text May key ways.Plain s kept law h k = subst (λ (x : Seen). IsUtf8 x.cookie.value) (sym k) h
 kept_text May key ways.Host s kept law h k = subst (λ (x : Seen). IsUtf8 x.cookie.value) (sym k) h
@@ -642,7 +642,7 @@ kept_agrees host rows new at same a = record {
 abbrev pub records : List Seen → List Record
 records cookies = map (λ s. s.cookie) cookies
 
-lines_are : (cookies : List Seen) → lines_of cookies ≡ map encoded (records cookies)
+pub lines_are : (cookies : List Seen) → lines_of cookies ≡ map encoded (records cookies)
 lines_are [] = refl
 lines_are (s ∷ ss) = ap (λ ls. encoded s.cookie ∷ ls) (lines_are ss)
 
@@ -651,18 +651,18 @@ record_cond : (b : Bool) (s : Seen) (o : Option Seen) → record_in (cond b (Som
 record_cond true s o = refl
 record_cond false s o = refl
 
-found_records : (cookies : List Seen) (q : List ℕ) → found_in (records cookies) q ≡ record_in
+pub found_records : (cookies : List Seen) (q : List ℕ) → found_in (records cookies) q ≡ record_in
     (entry_in (under_names cookies) q)
 found_records [] q = refl
 found_records (s ∷ ss) q =
     ap (cond (bytes_eq q s.cookie.name) (Some s.cookie)) (found_records ss q)
     ∙ sym (record_cond (bytes_eq q s.cookie.name) s (entry_in (under_names ss) q))
 
-apart_records : (cookies : List Seen) → EntriesApart (under_names cookies) → AreApart (records cookies)
+pub apart_records : (cookies : List Seen) → EntriesApart (under_names cookies) → AreApart (records cookies)
 apart_records [] h = tt
 apart_records (s ∷ ss) h = (found_records ss s.cookie.name ∙ ap record_in h.0, apart_records ss h.1)
 
-all_records : (P : Record → Type 0) (cookies : List Seen) → AllByRecursion (λ s. P s.cookie) cookies
+pub all_records : (P : Record → Type 0) (cookies : List Seen) → AllByRecursion (λ s. P s.cookie) cookies
     → AllByRecursion P (records cookies)
 all_records P [] h = tt
 all_records P (s ∷ ss) h = (h.0, all_records P ss h.1)
@@ -759,11 +759,11 @@ delivered_other host rows url jar (Arrives at) new other d = all_other host rows
 
 -- ---- the host of a URL, as a test and as an equation
 
-is_text : List ℕ → Option (List ℕ) → Bool
+pub is_text : List ℕ → Option (List ℕ) → Bool
 is_text text None = false
 is_text text (Some other) = bytes_eq other text
 
-host_is : (host : List ℕ) (o : Option (List ℕ)) → is_text host o ≡ true → o ≡ Some host
+pub host_is : (host : List ℕ) (o : Option (List ℕ)) → is_text host o ≡ true → o ≡ Some host
 unfolding is_text
 host_is host None e = absurd (cc)
 host_is host (Some other) e = ap Some (same_text other host e)
@@ -772,7 +772,7 @@ tests_host : (host : List ℕ) (o : Option (List ℕ)) → o ≡ Some host → i
 unfolding is_text
 tests_host host o e = ap (is_text host) e ∙ text_is host host refl
 
-other_host : (host : List ℕ) (o : Option (List ℕ)) → is_text host o ≡ false → o ≢ Some host
+pub other_host : (host : List ℕ) (o : Option (List ℕ)) → is_text host o ≡ false → o ≢ Some host
 unfolding is_text
 other_host host o e same = both_ways _ e (tests_host host o same)
 
@@ -839,7 +839,7 @@ goes_on : (old readings : List Reading) (P Q : List Reading → Type 0) → ((to
     → GoesOnBy old P readings → GoesOnBy old Q readings
 goes_on old readings P Q f g = (g.0, f g.0 g.1, g.2)
 
-inside_on : (kind : FaultKind) (last : ℤ) (arrival : Arrival) (old readings : List Reading)
+pub inside_on : (kind : FaultKind) (last : ℤ) (arrival : Arrival) (old readings : List Reading)
     (F G A B : List Reading → Type 0) → ((told : List Reading) → F told → G told)
     → ((told : List Reading) → A told → B told)
     → StopsInside kind last arrival old F A readings → StopsInside kind last arrival old G B readings

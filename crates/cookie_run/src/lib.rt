@@ -9,6 +9,7 @@
 
 pub mod client;
 pub mod device;
+pub mod laws;
 mod moment;
 pub mod play;
 mod pour;

@@ -77,7 +77,8 @@ module _ (front : List Row) (r : Row) where
   behind_domain k own none first (d ∷ done) all apart =
       ap (λ j. put_by j r (front ++ (d ∷ done))) own
       ∙ sym (ap (λ l. put_by k r (front ++ l)) (append-nil (d ∷ done)))
-      ∙ put-among_domain k r front (d ∷ done) [] none refl (or_left (has_domain k d) (list_any (has_domain k) done) all.0)
+      ∙ put-among_domain k r front (d ∷ done) [] none refl
+      (or_left (has_domain k d) (list_any (has_domain k) done) all.0)
       ∙ ap (λ l. front ++ l) (append-nil (put_by k r (d ∷ done)) ∙ put-last_of_domain k r (d ∷ done) apart all)
       ∙ sym (append_assoc front (d ∷ done) (r ∷ []))
 

@@ -1,11 +1,20 @@
--- The definitions computed on small rows: where rows go, what a removal and an expiry leave.
-use Rattle.std.proofs.Common.{◌≡◌, List, [], ◌∷◌, ℕ, ℤ, true, refl}
+-- The definitions computed on small rows: where rows go, what a removal and an expiry leave, what a received cookie
+-- becomes, and what is handed on.
+use Rattle.std.proofs.Common.{◌≡◌, List, [], ◌∷◌, ℕ, ℤ, true, false, refl, inl}
 use Rattle.std.specs.Prelude.{Some, None, Ok, Err, codes, pos}
 use Rattle.cookie_text.specs.Record.{bare, unsliced}
-use Rattle.store_parts.specs.DomainMatch.{host_only, suffix}
+use Rattle.publicsuffix.specs.Rules.{Rule}
+use Rattle.store_parts.specs.DomainMatch.{host_only, suffix, not_present}
 use Rattle.store_parts.specs.Expiry.{epoch}
+use Rattle.store_parts.specs.PathMatch.{default_path_at}
 use Rattle.store_parts.specs.declared.error.CookieError.TheVariants.{Expired}
+use Rattle.url.specs.Parts.{Parts}
+use Rattle.cookie_store.specs.Confined.{MaySet, rows_under}
+use Rattle.cookie_store.specs.Given.{pair_of}
 use Rattle.cookie_store.specs.Insertion.{settled, alone}
+use Rattle.cookie_store.specs.Making.{asked_domain, path_at}
+use Rattle.cookie_store.specs.StoredCookie.{owned}
+use Rattle.cookie_store.specs.Stripped.{given_path, given_domain}
 use Rattle.cookie_store.specs.Rows.{Row, put, removed, live, key, key_of, found, found_live}
 use Rattle.cookie_store.specs.declared.action.StoreAction.TheVariants.{ExpiredExisting, UpdatedExisting}
 
@@ -97,3 +106,31 @@ dead_at_once = (refl, refl, refl, refl)
 -- a suffix that is kept as its host's alone
 pub one_host : alone (record x { domain = suffix a }) ≡ x
 one_host = refl
+
+-- a path that begins with `/` is taken, another one gives way to the default
+pub paths : (url : Parts) → (path_at (record (bare [] []) { path = Some (codes "/p") }) url
+    ≡ record { text = codes "/p"; from_attribute = true })
+    × (path_at (record (bare [] []) { path = Some (codes "p") }) url ≡ default_path_at url)
+    × (path_at (bare [] []) url ≡ default_path_at url)
+paths url = (refl, refl, refl)
+
+-- no Domain attribute asks for no domain
+pub asks_for_none : asked_domain (bare [] []) ≡ Some not_present
+asks_for_none = refl
+
+-- a host sets under its own text, listed or not
+pub own_text : (list : List Rule) → MaySet list (Some a) a
+own_text list = inl refl
+
+-- x, w and y stand under a.com, and a request is shown names and values
+pub under : rows_under a four ≡ x ∷ w (codes "4") ∷ y ∷ []
+under = refl
+
+pub shows_x : pair_of x ≡ (codes "x", codes "1")
+shows_x = refl
+
+-- the default path and a host alone aren't handed on, nor are slices of the source kept
+pub handed_on : (given_path (record { text = root; from_attribute = false }) ≡ None)
+    × (given_path x.path ≡ Some root) × (given_domain (host_only a) ≡ None) × (given_domain (suffix a) ≡ Some a)
+    × (owned x ≡ x)
+handed_on = (refl, refl, refl, refl, refl)

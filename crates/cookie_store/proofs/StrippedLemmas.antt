@@ -7,7 +7,8 @@ use Rattle.cookie_text.specs.declared.expiration.Expiration.{Expiration}
 use Rattle.cookie_text.specs.declared.expiration.Expiration.TheVariants.{DateTime as At, Session}
 use Rattle.jiff.specs.Types.{DateTime}
 use Rattle.jiff.specs.Words.{civil_nanos}
-use Rattle.cookie_store.specs.Stripped.{IsEndOf, PutsEnd, Puts, IsStripped, given_path, given_domain}
+use Rattle.cookie_store.specs.Steps.{PutsEnd, Puts}
+use Rattle.cookie_store.specs.Stripped.{IsEndOf, IsStripped, given_path, given_domain}
 use Rattle.cookie_store.specs.StoredCookie.{StoredCookie}
 
 pub sets_end : (end : DateTime) (old new : Seen) → SetsExpires old (At end) new

@@ -3,17 +3,15 @@ use Rattle.std.specs.Prelude.{◌≡◌, ◌⊎◌, ℕ, ℤ, List, true, Option
 use Rattle.cookie_text.specs.Reading.{ReadsPlain}
 use Rattle.cookie_text.specs.Record.{Record, Seen, domain_of as domain_attribute}
 use Rattle.cookie_text.specs.declared.error.ParseError.{ParseError}
-use Rattle.store_parts.specs.DomainMatch.{Domain, host_only, suffix, not_present, empty, domain_of, CoversAt}
+use Rattle.store_parts.specs.DomainMatch.{Domain, host_only, suffix, not_present, empty, CoversAt}
 use Rattle.store_parts.specs.DomainText.{attribute_domain}
 use Rattle.store_parts.specs.Expiry.{death}
 use Rattle.store_parts.specs.PathMatch.{Path, default_path_at, read_path}
 use Rattle.store_parts.specs.Schemes.{IsHttpScheme, host_of}
-use Rattle.store_parts.specs.declared.cookie_domain.CookieDomain.{CookieDomain}
 use Rattle.store_parts.specs.declared.error.CookieError.{CookieError}
 use Rattle.store_parts.specs.declared.error.CookieError.TheVariants.{NonHttpScheme, NonRelativeScheme, DomainMismatch, Expired, Parse, PublicSuffix, UnspecifiedDomain, OutOfMemory}
 use Rattle.url.specs.Parts.{Parts}
-use Rattle.cookie_store.specs.StoredCookie.{StoredCookie, stored_of}
-use Rattle.cookie_store.specs.declared.stored_cookie.Cookie.{Cookie}
+use Rattle.cookie_store.specs.StoredCookie.{StoredCookie}
 
 -- the cookie is HttpOnly, and the URL's scheme is none of HTTP (step 10)
 abbrev pub IsBarred : Record → Parts → Type 0
@@ -53,13 +51,6 @@ HasNoDomain cookie url Expired = ⊥
 HasNoDomain cookie url PublicSuffix = ⊥
 HasNoDomain cookie url UnspecifiedDomain = ⊥
 
--- the answer is the cookie's domain at the URL, or why it has none; want of memory aside
-abbrev pub GivesDomain : Record → Parts → Result CookieDomain CookieError → Type 0
-GivesDomain cookie url answer =
-    MatchResult answer
-    (λ d. IsSomeAnd (asked_domain cookie) (λ asked. IsDomainFor asked url (domain_of d)))
-    (HasNoDomain cookie url)
-
 -- the cookie's path: that of its Path attribute where it gives one, else the default-path (step 7)
 abbrev pub path_at : Record → Parts → Path
 path_at cookie url = unwrap_or (option_and_then read_path cookie.path) (default_path_at url)
@@ -78,15 +69,13 @@ abbrev pub IsRefused : Record → Parts → CookieError → Type 0
 IsRefused cookie url NonHttpScheme = IsBarred cookie url
 IsRefused cookie url cause = (¬ (IsBarred cookie url)) × HasNoDomain cookie url cause
 
--- the answer is the store's cookie, or why there is none; want of memory aside, which comes only
--- where the scheme is allowed
-abbrev pub Makes : Seen → Parts → ℤ → Result Cookie CookieError → Type 0
-Makes received url now answer =
-    MatchResult answer (λ made. IsMade received url now (stored_of made))
-    (IsRefused received.cookie url)
+-- the answer is the store's cookie, or why there is none; want of memory aside, which comes only where the scheme is
+-- allowed
+abbrev pub Makes : Seen → Parts → ℤ → Result StoredCookie CookieError → Type 0
+Makes received url now answer = MatchResult answer (IsMade received url now) (IsRefused received.cookie url)
 
 -- the same of a text, which is `Parse` where it reads as no cookie
-abbrev pub Reads : List ℕ → Parts → ℤ → Result Cookie CookieError → Type 0
+abbrev pub Reads : List ℕ → Parts → ℤ → Result StoredCookie CookieError → Type 0
 Reads text url now answer =
     (read : Result Seen ParseError) × ReadsPlain text read
     × MatchResult read (λ received. Makes received url now answer) (λ _. answer ≡ Err Parse)

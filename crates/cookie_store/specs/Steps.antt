@@ -1,15 +1,20 @@
--- What private functions of the store answer. No public contract names a word of this file.
-use Rattle.std.specs.Prelude.{◌≡◌, ◌≢◌, ◌⊎◌, ℤ, List, Ok, Err, Result, if◌then◌else◌}
+-- What private functions answer. No public contract names a word of this file.
+use Rattle.std.specs.Prelude.{◌≡◌, ◌≢◌, ◌⊎◌, ℕ, ℤ, List, Option, Some, None, Ok, Err, Result, IsSomeAnd, MatchResult, if◌then◌else◌}
 use Rattle.std.specs.List.{list_any}
-use Rattle.cookie_text.specs.Record.{Seen}
+use Rattle.cookie_text.specs.Record.{Record, Seen}
+use Rattle.cookie_text.specs.Setting.{with_expires}
+use Rattle.cookie_text.specs.declared.expiration.Expiration.{Expiration}
 use Rattle.publicsuffix.specs.Rules.{Rule}
-use Rattle.store_parts.specs.DomainMatch.{Domain, host_only, suffix, not_present, empty}
+use Rattle.store_parts.specs.DomainMatch.{Domain, host_only, suffix, not_present, empty, domain_of}
+use Rattle.store_parts.specs.declared.cookie_domain.CookieDomain.{CookieDomain}
 use Rattle.store_parts.specs.declared.error.CookieError.{CookieError}
 use Rattle.store_parts.specs.declared.error.CookieError.TheVariants.{Expired, OutOfMemory}
 use Rattle.url.specs.Parts.{Parts}
 use Rattle.cookie_store.specs.Insertion.{End, Inserts, Receives, refused}
+use Rattle.cookie_store.specs.Making.{asked_domain, HasNoDomain, IsDomainFor}
 use Rattle.cookie_store.specs.Rows.{Row, is_live_of, ended}
 use Rattle.cookie_store.specs.StoredCookie.{owned}
+use Rattle.cookie_store.specs.Stripped.{IsEndOf}
 use Rattle.cookie_store.specs.declared.action.StoreAction.{StoreAction}
 use Rattle.cookie_store.specs.declared.action.StoreAction.TheVariants.{ExpiredExisting}
 
@@ -41,3 +46,23 @@ Passes list rows url now seen new =
 abbrev pub MeetsWant : List Rule → List Row → Parts → ℤ → Seen → List Row → Type 0
 MeetsWant list rows url now seen new =
     Receives list new url now (Ok seen) (refused OutOfMemory new) × (new ≡ rows)
+
+-- ---- making a cookie, and handing it on
+
+-- the cookie's domain at the URL, or why it has none; want of memory aside
+abbrev pub GivesDomain : Record → Parts → Result CookieDomain CookieError → Type 0
+GivesDomain cookie url answer =
+    MatchResult answer
+    (λ d. IsSomeAnd (asked_domain cookie) (λ asked. IsDomainFor asked url (domain_of d)))
+    (HasNoDomain cookie url)
+
+-- a death is put into a cookie as its Expires, at most the latest that a cookie keeps
+abbrev pub PutsEnd : Option ℤ → Seen → Seen → Type 0
+PutsEnd None old new = new ≡ old
+PutsEnd (Some death) old new =
+    (expires : Option Expiration) × IsEndOf (Some death) expires × (new ≡ with_expires old expires)
+
+-- a text, where there is one, is put into a cookie
+abbrev pub Puts : (Seen → Option (List ℕ) → Seen) → Option (List ℕ) → Seen → Seen → Type 0
+Puts with None old new = new ≡ old
+Puts with (Some text) old new = new ≡ with old (Some text)

@@ -2,7 +2,7 @@
 use Rattle.std.specs.Prelude.{◌≡◌, ℕ, ℤ, List, Option, Some, None, if◌then◌else◌}
 use Rattle.std.specs.Int.{int_min}
 use Rattle.cookie_text.specs.Record.{Seen, bare, unsliced}
-use Rattle.cookie_text.specs.Setting.{latest_end, with_expires}
+use Rattle.cookie_text.specs.Setting.{latest_end}
 use Rattle.cookie_text.specs.declared.expiration.Expiration.{Expiration}
 use Rattle.cookie_text.specs.declared.expiration.Expiration.TheVariants.{DateTime as At}
 use Rattle.jiff.specs.Types.{DateTime}
@@ -28,17 +28,6 @@ IsEndOf None expires = expires ≡ None
 IsEndOf (Some death) expires =
     (moment : DateTime) × (expires ≡ Some (At moment))
     × (civil_nanos moment ≡ int_min death latest_end)
-
--- a death is put into a cookie as its Expires, at most the latest that a cookie keeps
-abbrev pub PutsEnd : Option ℤ → Seen → Seen → Type 0
-PutsEnd None old new = new ≡ old
-PutsEnd (Some death) old new =
-    (expires : Option Expiration) × IsEndOf (Some death) expires × (new ≡ with_expires old expires)
-
--- a text, where there is one, is put into a cookie
-abbrev pub Puts : (Seen → Option (List ℕ) → Seen) → Option (List ℕ) → Seen → Seen → Type 0
-Puts with None old new = new ≡ old
-Puts with (Some text) old new = new ≡ with old (Some text)
 
 -- name, value, and what tells where and until when; no part is a slice of a source
 pub record IsStripped (c : StoredCookie) (raw : Seen) : Type 0 where

@@ -10,8 +10,9 @@ ghost use Rattle.cookie_store.specs.Giving.{GoesWith};
 ghost use Rattle.cookie_store.specs.Making as making;
 ghost use Rattle.cookie_store.specs.Same as same;
 ghost use Rattle.cookie_store.specs.SameEquivalence.{same_stored_equiv};
+ghost use Rattle.cookie_store.specs.Steps as steps;
 ghost use Rattle.cookie_store.specs.Stripped as stripped;
-ghost use Rattle.cookie_store.specs.StoredCookie.{owned, stored_of};
+ghost use Rattle.cookie_store.specs.StoredCookie.{made_of, owned, stored_of};
 
 use cookie::{Cookie as RawCookie, Expiration};
 use jiff::civil::DateTime;
@@ -92,7 +93,8 @@ impl<'a> Cookie<'a> {
         request_url: &Url,
         now: DateTime,
     ) -> CookieResult<'a>
-        ensures { making.Reads cookie_str.now request_url.now (civil_nanos now) result }
+        ensures { making.Reads cookie_str.now request_url.now (civil_nanos now)
+            (made_of result) }
     {
         match RawCookie::parse(cookie_str) {
             Ok(raw_cookie) => Cookie::try_from_raw_cookie(alloc, &raw_cookie, request_url, now),
@@ -115,7 +117,8 @@ impl<'a> Cookie<'a> {
         request_url: &Url,
         now: DateTime,
     ) -> CookieResult<'a>
-        ensures { making.Makes raw_cookie.now request_url.now (civil_nanos now) result }
+        ensures { making.Makes raw_cookie.now request_url.now (civil_nanos now)
+            (made_of result) }
     {
         if raw_cookie.http_only().unwrap_or(false) && !is_http_scheme(request_url) {
             return Err(CookieError::NonHttpScheme);
@@ -228,7 +231,7 @@ fn domain_at(
     raw_cookie: &RawCookie<'_>,
     request_url: &Url,
 ) -> Result<CookieDomain, CookieError>
-    ensures { making.GivesDomain raw_cookie.now.cookie request_url.now result }
+    ensures { steps.GivesDomain raw_cookie.now.cookie request_url.now result }
 {
     match CookieDomain::from_raw(alloc, raw_cookie) {
         Ok(CookieDomain::Suffix(text)) => {
@@ -262,7 +265,7 @@ fn path_at(
 
 // Sets the Expires of an end.
 fn put_end(raw_cookie: &mut RawCookie<'_>, expires: CookieExpiration)
-    ensures { stripped.PutsEnd (death_of expires) raw_cookie.old raw_cookie.new }
+    ensures { steps.PutsEnd (death_of expires) raw_cookie.old raw_cookie.new }
 {
     if let CookieExpiration::AtUtc(end) = expires {
         raw_cookie.set_expires(Expiration::DateTime(end));
@@ -275,7 +278,7 @@ fn put_path(
     raw_cookie: &mut RawCookie<'_>,
     path: &CookiePath,
 ) -> Result<(), AllocError>
-    ensures { IfOk result (λ _. stripped.Puts with_path (stripped.given_path (path_of path.now))
+    ensures { IfOk result (λ _. steps.Puts with_path (stripped.given_path (path_of path.now))
         raw_cookie.old raw_cookie.new) }
 {
     if path.is_from_path_attr() {
@@ -286,7 +289,7 @@ fn put_path(
 
 // Sets the domain that is a suffix.
 fn put_domain(raw_cookie: &mut RawCookie<'_>, domain: CookieDomain)
-    ensures { stripped.Puts with_domain (stripped.given_domain (domain_of domain))
+    ensures { steps.Puts with_domain (stripped.given_domain (domain_of domain))
         raw_cookie.old raw_cookie.new }
 {
     if let CookieDomain::Suffix(text) = domain {

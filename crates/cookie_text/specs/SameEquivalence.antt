@@ -1,4 +1,4 @@
--- That `==` is an equivalence: the proof that the impl of `PartialEq` hands to its trait.
+-- No definition, but a proof, which stands here because the law of `PartialEq` cites it: `==` is an equivalence.
 use Rattle.std.specs.Prelude.{Bool, Option, ℕ, List}
 use Rattle.std.specs.Bool.{beq}
 use Rattle.std.specs.Cmp.{IsEquivalence, on_equiv, and_equiv, bool_eq_equiv, int_eq_equiv}

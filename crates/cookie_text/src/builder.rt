@@ -161,7 +161,11 @@ impl<'c> Builder<Cookie<'c>> {
         self.build()
     }
 
-    /// A copy.
+    /// A copy: borrowed texts are borrowed again, owned ones are copied.
+    ///
+    /// # Errors
+    ///
+    /// Want of memory.
     pub fn clone(&self, alloc: Global) -> Result<CookieBuilder<'c>, AllocError>
         ensures { IfOk result (λ builder. builder ≡ self.now) }
     {

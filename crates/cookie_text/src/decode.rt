@@ -9,6 +9,10 @@ use percent_encoding::{DecodeError, percent_decode};
 use std::alloc::Global;
 
 /// Name and value percent-decoded: the slices themselves where that changes neither.
+///
+/// # Errors
+///
+/// `Utf8Error` where one of them is then not UTF-8, or `OutOfMemory`.
 pub fn decoded_pair<'c>(
     alloc: Global,
     name: &'c str,

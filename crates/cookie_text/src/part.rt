@@ -34,7 +34,11 @@ impl<'c> Part<'c> {
         }
     }
 
-    /// The same text, owned.
+    /// The same text, owned: it is no slice of the source.
+    ///
+    /// # Errors
+    ///
+    /// Want of memory.
     pub fn into_owned(self, alloc: Global) -> Result<Part<'static>, AllocError>
         ensures text { IfOk result (λ part. part_text part ≡ part_text self.entry) }
         ensures raw { IfOk result (λ part. raw_text part ≡ None) }
@@ -47,6 +51,10 @@ impl<'c> Part<'c> {
     }
 
     /// A copy: a borrowed text is borrowed again, an owned one is copied.
+    ///
+    /// # Errors
+    ///
+    /// Want of memory.
     pub fn clone(&self, alloc: Global) -> Result<Part<'c>, AllocError>
         ensures text { IfOk result (λ part. part_text part ≡ part_text self.now) }
         ensures raw { IfOk result (λ part. raw_text part ≡ raw_text self.now) }
@@ -60,6 +68,10 @@ impl<'c> Part<'c> {
 }
 
 /// The part, where there is one, owned.
+///
+/// # Errors
+///
+/// Want of memory.
 pub fn owned<'c>(alloc: Global, part: Option<Part<'c>>) -> Result<Option<Part<'static>>, AllocError>
     ensures text { IfOk result (λ p. option_map part_text p ≡ option_map part_text part.entry) }
     ensures raw { IfOk result (λ p. option_and_then raw_text p ≡ None) }
@@ -71,6 +83,10 @@ pub fn owned<'c>(alloc: Global, part: Option<Part<'c>>) -> Result<Option<Part<'s
 }
 
 /// A copy of the part, where there is one.
+///
+/// # Errors
+///
+/// Want of memory.
 pub fn cloned<'c>(alloc: Global, part: &Option<Part<'c>>) -> Result<Option<Part<'c>>, AllocError>
     ensures text { IfOk result (λ p. option_map part_text p ≡ option_map part_text part.now) }
     ensures raw { IfOk result

@@ -63,6 +63,10 @@ impl<'c> Cookie<'c> {
     }
 
     /// Reads each piece of an owned text by `parse_owned`.
+    ///
+    /// # Errors
+    ///
+    /// Want of memory for the pieces, which are cut here.
     pub fn split_parse_owned(
         alloc: Global,
         text: String,
@@ -79,6 +83,10 @@ impl<'c> Cookie<'c> {
     }
 
     /// Reads each piece of an owned text by `parse_encoded_owned`.
+    ///
+    /// # Errors
+    ///
+    /// Want of memory for the pieces, which are cut here.
     pub fn split_parse_encoded_owned(
         alloc: Global,
         text: String,

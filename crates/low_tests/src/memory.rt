@@ -1,127 +1,22 @@
 //! Calls that take memory, with ample memory and with a growth refused at any place.
 //!
-//! A scenario answers whether all came out right, or want of memory. The first test of a pair accepts
-//! that, too; the second shows that there is none with ample memory.
-use crate::key_tests::{DATA, SEALED, SIGNED, jefe, zero_key};
-use cookie::PrivateError;
-use cookie::secure::{opened_value, sealed_text, signed_text};
-use cookie_text::{Cookie, ParseError, SplitCookies};
+//! A scenario answers whether all came out right, or want of memory. A test ends with that as its error,
+//! so it passes with ample memory alone.
 use publicsuffix::{List, ListError};
-use std::alloc::{AllocError, Global};
-
-const TEXT: &str = "a%20b=%31; Path=/; Domain=x.com";
-
-fn decodes(alloc: Global) -> Result<bool, ParseError> {
-    let cookie = Cookie::parse_encoded(alloc, TEXT)?;
-    Ok(cookie.name_value() == ("a b", "1") && cookie.path() == Some("/"))
-}
-
-fn reads_in_own_memory(alloc: Global) -> Result<bool, ParseError> {
-    let cookie = Cookie::from_str(alloc, TEXT)?;
-    Ok(cookie.name_value() == ("a%20b", "%31") && cookie.path() == Some("/"))
-}
-
-// A copy of the text.
-fn copy_of(alloc: Global, text: &str) -> Result<String, ParseError> {
-    String::from_str(alloc, text).map_err(|_| ParseError::OutOfMemory)
-}
-
-fn reads_owned(alloc: Global) -> Result<bool, ParseError> {
-    let cookie = Cookie::parse_owned(alloc, copy_of(alloc, TEXT)?)?;
-    Ok(cookie.name_value() == ("a%20b", "%31") && cookie.path() == Some("/"))
-}
-
-fn decodes_owned(alloc: Global) -> Result<bool, ParseError> {
-    let cookie = Cookie::parse_encoded_owned(alloc, copy_of(alloc, TEXT)?)?;
-    Ok(cookie.name_value() == ("a b", "1") && cookie.path() == Some("/"))
-}
-
-// Whether the next outcome is the cookie of this name and value.
-fn is_next(outcomes: &mut SplitCookies<'_>, name: &str, value: &str) -> Result<bool, ParseError> {
-    match outcomes.next() {
-        Some(outcome) => Ok(outcome?.name_value() == (name, value)),
-        None => Ok(false),
-    }
-}
-
-// Both outcomes come, and only one growth is refused: at most one is want of memory.
-fn gives_both(outcomes: SplitCookies<'_>, first: &str, second: &str) -> Result<bool, ParseError> {
-    let mut outcomes = outcomes;
-    let first = is_next(&mut outcomes, "a", first);
-    let second = is_next(&mut outcomes, "b", second);
-    let ended = outcomes.next().is_none();
-    match (first, second) {
-        (Ok(first), Ok(second)) => Ok(first && second && ended),
-        (Ok(true), Err(error)) => if ended { Err(error) } else { Ok(false) },
-        (Err(error), Ok(true)) => if ended { Err(error) } else { Ok(false) },
-        _ => Ok(false),
-    }
-}
-
-const PAIRS: &str = "a=%31; ; b=%32";
-
-fn splits_escaped(alloc: Global) -> Result<bool, ParseError> {
-    gives_both(Cookie::split_parse_encoded(alloc, PAIRS), "1", "2")
-}
-
-fn splits_owned(alloc: Global) -> Result<bool, ParseError> {
-    match Cookie::split_parse_owned(alloc, copy_of(alloc, PAIRS)?) {
-        Ok(outcomes) => gives_both(outcomes, "%31", "%32"),
-        Err(_) => Err(ParseError::OutOfMemory),
-    }
-}
-
-fn splits_escaped_owned(alloc: Global) -> Result<bool, ParseError> {
-    match Cookie::split_parse_encoded_owned(alloc, copy_of(alloc, PAIRS)?) {
-        Ok(outcomes) => gives_both(outcomes, "1", "2"),
-        Err(_) => Err(ParseError::OutOfMemory),
-    }
-}
-
-fn placed() -> Cookie<'static> {
-    let mut cookie = Cookie::new("a", "1");
-    cookie.set_path("/");
-    cookie.set_domain("x.com");
-    cookie
-}
-
-fn owns(alloc: Global) -> Result<bool, AllocError> {
-    Ok(placed().into_owned(alloc)? == placed())
-}
-
-fn is_copied(alloc: Global, cookie: &Cookie<'_>) -> Result<bool, AllocError> {
-    Ok(cookie.clone(alloc)? == placed())
-}
-
-// A cookie of which no copy could be made is as it was.
-fn copies(alloc: Global) -> Result<bool, AllocError> {
-    let owned = placed().into_owned(alloc)?;
-    let copied = is_copied(alloc, &owned);
-    if owned == placed() { copied } else { Ok(false) }
-}
-
-fn copies_a_builder(alloc: Global) -> Result<bool, AllocError> {
-    let builder = Cookie::build(placed().into_owned(alloc)?);
-    Ok(builder.clone(alloc)?.build() == placed())
-}
-
-const PLACED: &str = "a=1; Path=/; Domain=x.com";
-
-fn prints(alloc: Global) -> Result<bool, AllocError> {
-    let escaped = Cookie::new("a b", "1;").encoded().to_string(alloc)?;
-    let mut text = String::new(alloc);
-    write!(text, "{}", placed())?;
-    Ok(escaped.as_str() == "a%20b=1%3B" && text.as_str() == PLACED)
-}
+use std::alloc::Global;
 
 // Whether the words are listed that the rules say.
 fn lists(list: &List) -> bool {
-    list.is_listed(b"foo.ck") && !list.is_listed(b"ck") && list.is_listed(b"xn--bcher-kva")
+    list.is_listed(b"foo.ck")
+        && !list.is_listed(b"ck")
+        && !list.is_listed(b"www.ck")
+        && list.is_listed(b"a.b.ck")
+        && list.is_listed(b"xn--bcher-kva")
 }
 
 // A list and a copy of it. A list of which no copy could be made answers as it did.
 fn reads_a_list(alloc: Global) -> Result<bool, ListError> {
-    let list = List::parse(alloc, "*.ck\nb\u{fc}cher\n".as_bytes())?;
+    let list = List::parse(alloc, "*.ck\n!www.ck\na.b.ck\nb\u{fc}cher\n".as_bytes())?;
     match list.clone() {
         Ok(copy) => Ok(lists(&list) && lists(&copy)),
         Err(_) => if lists(&list) {
@@ -132,175 +27,18 @@ fn reads_a_list(alloc: Global) -> Result<bool, ListError> {
     }
 }
 
-fn signs(alloc: Global) -> Result<bool, AllocError> {
-    Ok(signed_text(alloc, &jefe(), DATA)?.as_str() == SIGNED)
-}
-
-fn seals(alloc: Global) -> Result<bool, PrivateError> {
-    let text = sealed_text(alloc, &zero_key(), "", "", &[0; 12])?;
-    Ok(text.as_str() == SEALED)
-}
-
-fn opens(alloc: Global) -> Result<bool, AllocError> {
-    Ok(opened_value(alloc, &zero_key(), "", SEALED)?.as_deref() == Some(""))
-}
-
-// Whether all came out right but for memory.
-fn is_right(answer: Result<bool, ParseError>) -> bool {
-    matches!(answer, Ok(true) | Err(ParseError::OutOfMemory))
+// The first line at fault is told, and nothing else but want of memory.
+fn refuses_a_list(alloc: Global) -> Result<bool, ListError> {
+    match List::parse(alloc, b"*.ck\n!www.ck\na..b\n!ck\n") {
+        Err(ListError::OutOfMemory) => Err(ListError::OutOfMemory),
+        answer => Ok(answer.err() == Some(ListError::Rule(3))),
+    }
 }
 
 #[test]
-fn cookies_are_decoded(rt: HostRuntime) {
-    assert!(rt; is_right(decodes(rt.alloc())));
-}
-
-#[test]
-fn cookies_are_decoded_with_ample_memory(rt: HostRuntime) {
-    assert!(rt; decodes(rt.alloc()).unwrap_or(false));
-}
-
-#[test]
-fn cookies_are_read_in_own_memory(rt: HostRuntime) {
-    assert!(rt; is_right(reads_in_own_memory(rt.alloc())));
-}
-
-#[test]
-fn cookies_are_read_in_own_memory_with_ample_memory(rt: HostRuntime) {
-    assert!(rt; reads_in_own_memory(rt.alloc()).unwrap_or(false));
-}
-
-#[test]
-fn owned_texts_are_read(rt: HostRuntime) {
-    assert!(rt; is_right(reads_owned(rt.alloc())));
-}
-
-#[test]
-fn owned_texts_are_read_with_ample_memory(rt: HostRuntime) {
-    assert!(rt; reads_owned(rt.alloc()).unwrap_or(false));
-}
-
-#[test]
-fn owned_texts_are_decoded(rt: HostRuntime) {
-    assert!(rt; is_right(decodes_owned(rt.alloc())));
-}
-
-#[test]
-fn owned_texts_are_decoded_with_ample_memory(rt: HostRuntime) {
-    assert!(rt; decodes_owned(rt.alloc()).unwrap_or(false));
-}
-
-#[test]
-fn escaped_texts_are_split(rt: HostRuntime) {
-    assert!(rt; is_right(splits_escaped(rt.alloc())));
-}
-
-#[test]
-fn escaped_texts_are_split_with_ample_memory(rt: HostRuntime) {
-    assert!(rt; splits_escaped(rt.alloc()).unwrap_or(false));
-}
-
-#[test]
-fn owned_texts_are_split(rt: HostRuntime) {
-    assert!(rt; is_right(splits_owned(rt.alloc())));
-}
-
-#[test]
-fn owned_texts_are_split_with_ample_memory(rt: HostRuntime) {
-    assert!(rt; splits_owned(rt.alloc()).unwrap_or(false));
-}
-
-#[test]
-fn owned_escaped_texts_are_split(rt: HostRuntime) {
-    assert!(rt; is_right(splits_escaped_owned(rt.alloc())));
-}
-
-#[test]
-fn owned_escaped_texts_are_split_with_ample_memory(rt: HostRuntime) {
-    assert!(rt; splits_escaped_owned(rt.alloc()).unwrap_or(false));
-}
-
-#[test]
-fn cookies_are_made_to_own(rt: HostRuntime) {
-    assert!(rt; owns(rt.alloc()).unwrap_or(true));
-}
-
-#[test]
-fn cookies_are_made_to_own_with_ample_memory(rt: HostRuntime) {
-    assert!(rt; owns(rt.alloc()).unwrap_or(false));
-}
-
-#[test]
-fn cookies_are_copied(rt: HostRuntime) {
-    assert!(rt; copies(rt.alloc()).unwrap_or(true));
-}
-
-#[test]
-fn cookies_are_copied_with_ample_memory(rt: HostRuntime) {
-    assert!(rt; copies(rt.alloc()).unwrap_or(false));
-}
-
-#[test]
-fn builders_are_copied(rt: HostRuntime) {
-    assert!(rt; copies_a_builder(rt.alloc()).unwrap_or(true));
-}
-
-#[test]
-fn builders_are_copied_with_ample_memory(rt: HostRuntime) {
-    assert!(rt; copies_a_builder(rt.alloc()).unwrap_or(false));
-}
-
-#[test]
-fn prints_a_cookie(rt: HostRuntime) {
-    assert!(rt; prints(rt.alloc()).unwrap_or(true));
-}
-
-#[test]
-fn prints_a_cookie_with_ample_memory(rt: HostRuntime) {
-    assert!(rt; prints(rt.alloc()).unwrap_or(false));
-}
-
-#[test]
-fn a_list_is_read(rt: HostRuntime) {
-    assert!(rt;
-        matches!(
-            reads_a_list(rt.alloc()),
-            Ok(true) | Err(ListError::OutOfMemory)
-        )
-    );
-}
-
-#[test]
-fn a_list_is_read_with_ample_memory(rt: HostRuntime) {
-    assert!(rt; reads_a_list(rt.alloc()).unwrap_or(false));
-}
-
-#[test]
-fn values_are_signed(rt: HostRuntime) {
-    assert!(rt; signs(rt.alloc()).unwrap_or(true));
-}
-
-#[test]
-fn values_are_signed_with_ample_memory(rt: HostRuntime) {
-    assert!(rt; signs(rt.alloc()).unwrap_or(false));
-}
-
-#[test]
-fn values_are_sealed(rt: HostRuntime) {
-    assert!(rt; matches!(seals(rt.alloc()), Ok(true) | Err(PrivateError::OutOfMemory)));
-}
-
-#[test]
-fn values_are_sealed_with_ample_memory(rt: HostRuntime) {
-    assert!(rt; seals(rt.alloc()).unwrap_or(false));
-}
-
-#[test]
-fn values_are_opened(rt: HostRuntime) {
-    assert!(rt; opens(rt.alloc()).unwrap_or(true));
-}
-
-#[test]
-fn values_are_opened_with_ample_memory(rt: HostRuntime) {
-    assert!(rt; opens(rt.alloc()).unwrap_or(false));
+fn a_list_is_read(rt: HostRuntime) -> Result<(), ListError> {
+    let alloc = rt.alloc();
+    assert!(rt; reads_a_list(alloc)?);
+    assert!(rt; refuses_a_list(alloc)?);
+    Ok(())
 }

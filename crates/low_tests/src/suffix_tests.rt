@@ -1,41 +1,21 @@
 //! Tests of `publicsuffix`.
-//!
-//! They run with each growth refused in turn, too: at most one growth of a run is refused, so a call that answers want
-//! of memory is made a second time, and then answers as it does with ample memory.
 
 use publicsuffix::{List, ListError};
-use std::alloc::{AllocError, Global};
+use std::alloc::Global;
 use std::process::Abort;
 use std::test::Fail;
+use test_kit::prints;
 
 // The list of a text.
 fn list_of(alloc: Global, text: &str) -> Result<List, ListError> {
-    match List::parse(alloc, text.as_bytes()) {
-        Err(ListError::OutOfMemory) => List::parse(alloc, text.as_bytes()),
-        answer => answer,
-    }
+    List::parse(alloc, text.as_bytes())
 }
 
-// A copy of the list.
-fn copy_of(list: &List) -> Result<List, AllocError> {
-    match list.clone() {
-        Err(_) => list.clone(),
-        answer => answer,
-    }
-}
-
-// The name has this suffix, by a rule of the list or not.
-fn check_suffix(rt: &impl Abort, list: &List, name: &str, suffix: &str, known: bool) {
+// Whether the name has this suffix, by a rule of the list or not.
+fn has_suffix(list: &List, name: &str, suffix: &str, known: bool) -> bool {
     match list.suffix(name.as_bytes()) {
-        Some(found) => {
-            assert_eq!(rt; found.as_bytes(), suffix.as_bytes(), "the suffix of {name}");
-            assert_eq!(rt;
-                found.is_known(),
-                known,
-                "whether the suffix of {name} is known"
-            );
-        }
-        None => panic!(rt; "{name} has no suffix"),
+        Some(found) => found.as_bytes() == suffix.as_bytes() && found.is_known() == known,
+        None => false,
     }
 }
 
@@ -107,10 +87,8 @@ ck ck";
 // Each row is a name and its suffix, with a blank between them.
 fn check_rows(rt: &impl Abort, list: &List, rows: &str, known: bool) {
     for row in rows.split('\n') {
-        match row.split_once(' ') {
-            Some((name, suffix)) => check_suffix(rt, list, name, suffix, known),
-            None => panic!(rt; "{row} is no row"),
-        }
+        let (name, suffix) = row.split_once(' ').unwrap_or(("no row", ""));
+        assert!(rt; has_suffix(list, name, suffix, known), "{row}");
     }
 }
 
@@ -131,33 +109,30 @@ jp\nac.jp\nkyoto.jp\nide.kyoto.jp\n*.kobe.jp\n!city.kobe.jp\n*.mm\nus\nak.us\nk1
     Ok(())
 }
 
+// Whether each name of a text is on the list.
+fn check_listed(rt: &impl Abort, list: &List, names: &str, listed: bool) {
+    for name in names.split('\n') {
+        assert!(rt; list.is_listed(name.as_bytes()) == listed, "{name}");
+    }
+}
+
 // Wildcards and exceptions: a matching exception is put before any other rule, the longest of several.
 #[test]
 fn puts_exceptions_first(rt: HostRuntime) -> Result<(), Fail> {
     let list = list_of(rt.alloc(), "*.ck\n!www.ck\na.www.ck\n")?;
-    let cases = [
-        ("a.foo.ck", "foo.ck", true),
-        ("www.ck", "ck", true),
-        ("ck", "ck", false),
-        ("b.a.www.ck", "ck", true),
-    ];
-    for (name, suffix, known) in cases {
-        check_suffix(&rt, &list, name, suffix, known);
-    }
-    for (name, listed) in [
-        ("foo.ck", true),
-        ("www.ck", false),
-        ("ck", false),
-        ("a.foo.ck", false),
-    ] {
-        assert_eq!(rt; list.is_listed(name.as_bytes()), listed, "{name}");
-    }
+    check_rows(
+        &rt,
+        &list,
+        "a.foo.ck foo.ck\nwww.ck ck\nb.a.www.ck ck",
+        true,
+    );
+    assert!(rt; has_suffix(&list, "ck", "ck", false));
+    check_listed(&rt, &list, "foo.ck", true);
+    check_listed(&rt, &list, "www.ck\nck\na.foo.ck", false);
     let longer = list_of(rt.alloc(), "*.ck\n!www.ck\n!a.www.ck\n")?;
-    check_suffix(&rt, &longer, "b.a.www.ck", "www.ck", true);
+    assert!(rt; has_suffix(&longer, "b.a.www.ck", "www.ck", true));
     let wild = list_of(rt.alloc(), "*\n!*.ck\na.*\n")?;
-    check_suffix(&rt, &wild, "b.com", "com", true);
-    check_suffix(&rt, &wild, "a.b.ck", "ck", true);
-    check_suffix(&rt, &wild, "x.a.com", "a.com", true);
+    check_rows(&rt, &wild, "b.com com\na.b.ck ck\nx.a.com a.com", true);
     Ok(())
 }
 
@@ -165,61 +140,42 @@ fn puts_exceptions_first(rt: HostRuntime) -> Result<(), Fail> {
 #[test]
 fn judges_names_as_they_stand(rt: HostRuntime) -> Result<(), Fail> {
     let list = list_of(rt.alloc(), "com\n*.ck\n*\n")?;
-    for (name, suffix) in [
-        ("com.", "com"),
-        ("a.com.", "com"),
-        ("foo.ck.", "foo.ck"),
-        ("a.COM", "COM"),
-    ] {
-        check_suffix(&rt, &list, name, suffix, true);
-    }
-    for name in ["", ".", "..", ".com", "a..com", "com..", ".ck", "..ck"] {
+    check_rows(
+        &rt,
+        &list,
+        "com. com\na.com. com\nfoo.ck. foo.ck\na.COM COM",
+        true,
+    );
+    for name in "\n.\n..\n.com\na..com\ncom..\n.ck\n..ck".split('\n') {
         assert!(rt; list.suffix(name.as_bytes()).is_none(), "{name}");
         assert!(rt; !list.is_listed(name.as_bytes()), "{name}");
     }
-    for (name, listed) in [
-        ("com", true),
-        ("com.", true),
-        ("COM", true),
-        ("a.com", false),
-        ("ck", true),
-    ] {
-        assert_eq!(rt; list.is_listed(name.as_bytes()), listed, "{name}");
-    }
+    check_listed(&rt, &list, "com\ncom.\nCOM\nck", true);
+    check_listed(&rt, &list, "a.com", false);
     let few = list_of(rt.alloc(), "com\n")?;
-    assert!(rt; !few.is_listed(b"COM"));
-    assert!(rt; !few.is_listed(b"net"));
+    check_listed(&rt, &few, "COM\nnet", false);
     let no_text = few.suffix(b"a.\xff");
     assert!(rt; no_text.is_some_and(|found| found.as_bytes() == b"\xff".as_slice()));
     let none = list_of(rt.alloc(), "")?;
-    check_suffix(&rt, &none, "a.com", "com", false);
-    assert!(rt; !none.is_listed(b"com"));
+    assert!(rt; has_suffix(&none, "a.com", "com", false));
+    check_listed(&rt, &none, "com", false);
     Ok(())
 }
 
-// A line is a rule up to its first white space; each text has the rule `com`, and none has `junk`.
+// Texts, a bar between them, each with the rule `com`.
+const COM: &str =
+    "com|// x\ncom junk|\u{feff}com\n|com\r\nnet\r\n|com\tjunk|com\u{3000}junk|com\u{a0}junk|\
+\n\n \n junk\n\tjunk\r\n//junk\n// junk\ncom\n|CoM|ＣＯＭ|com // junk|com a..b";
+
+// A line is a rule up to its first white space; no text has the rule `junk`.
 #[test]
 fn reads_lines(rt: HostRuntime) -> Result<(), Fail> {
-    let texts = [
-        "com",
-        "// x\ncom junk",
-        "\u{feff}com\n",
-        "com\r\nnet\r\n",
-        "com\tjunk",
-        "com\u{3000}junk",
-        "com\u{a0}junk",
-        "\n\n \n junk\n\tjunk\r\n//junk\n// junk\ncom\n",
-        "CoM",
-        "ＣＯＭ",
-        "com // junk",
-        "com a..b",
-    ];
-    for text in texts {
+    for text in COM.split('|') {
         let list = list_of(rt.alloc(), text)?;
         assert!(rt; list.is_listed(b"com"), "{text}");
         assert!(rt; !list.is_listed(b"junk"), "{text}");
     }
-    for text in ["公司.cn", "xn--55qx5d.cn", "XN--55QX5D.CN"] {
+    for text in "公司.cn|xn--55qx5d.cn|XN--55QX5D.CN".split('|') {
         let list = list_of(rt.alloc(), text)?;
         assert!(rt; list.is_listed(b"xn--55qx5d.cn"), "{text}");
     }
@@ -229,73 +185,55 @@ fn reads_lines(rt: HostRuntime) -> Result<(), Fail> {
     Ok(())
 }
 
+// Whether the line of this number is the first that is no rule.
+fn is_faulty(alloc: Global, text: &str, number: usize) -> bool {
+    match list_of(alloc, text) {
+        Err(error) => error == ListError::Rule(number),
+        Ok(_) => false,
+    }
+}
+
+// Whether the bytes are no text.
+fn is_no_text(alloc: Global, bytes: &[u8]) -> bool {
+    match List::parse(alloc, bytes) {
+        Err(error) => error == ListError::NotText,
+        Ok(_) => false,
+    }
+}
+
 // The number of the first line that is no rule, or that the bytes are no text.
 #[test]
 fn refuses_what_is_no_list(rt: HostRuntime) {
-    let faults = [
-        ("com\na..b", 2),
-        ("!ck", 1),
-        ("com.", 1),
-        (".com", 1),
-        ("!", 1),
-        ("!!", 1),
-        (".", 1),
-        ("// x\n\ncom\nnet junk\na..b c\n!ck", 5),
-        ("a．b", 1),
-        ("a。b", 1),
-        ("a\u{ad}\n\u{ad}", 2),
-        ("xn--a", 1),
-        ("com\n!.ck\n!ck", 2),
-    ];
-    for (text, number) in faults {
-        assert_eq!(rt;
-            list_of(rt.alloc(), text).err(),
-            Some(ListError::Rule(number)),
-            "{text}"
-        );
+    let alloc = rt.alloc();
+    for text in "!ck|com.|.com|!|!!|.|a．b|a。b|xn--a".split('|') {
+        assert!(rt; is_faulty(alloc, text, 1), "{text}");
     }
-    for bytes in [
-        b"\xff".as_slice(),
-        b"a..b\n\xff".as_slice(),
-        b"\xef\xbb".as_slice(),
-    ] {
-        assert_eq!(rt;
-            List::parse(rt.alloc(), bytes).err(),
-            Some(ListError::NotText)
-        );
+    for text in "com\na..b|a\u{ad}\n\u{ad}|com\n!.ck\n!ck".split('|') {
+        assert!(rt; is_faulty(alloc, text, 2), "{text}");
     }
+    assert!(rt; is_faulty(alloc, "// x\n\ncom\nnet junk\na..b c\n!ck", 5));
+    assert!(rt; is_no_text(alloc, b"\xff"));
+    assert!(rt; is_no_text(alloc, b"a..b\n\xff"));
+    assert!(rt; is_no_text(alloc, b"\xef\xbb"));
 }
 
 // A copy answers as the list does.
 #[test]
 fn copies_a_list(rt: HostRuntime) -> Result<(), Fail> {
     let list = list_of(rt.alloc(), "com\n*.ck\n!www.ck\n")?;
-    let copy = copy_of(&list)?;
-    for (name, suffix, known) in [
-        ("a.com", "com", true),
-        ("a.foo.ck", "foo.ck", true),
-        ("www.ck", "ck", true),
-        ("net", "net", false),
-    ] {
-        check_suffix(&rt, &list, name, suffix, known);
-        check_suffix(&rt, &copy, name, suffix, known);
-    }
+    let copy = list.clone()?;
+    let known = "a.com com\na.foo.ck foo.ck\nwww.ck ck";
+    check_rows(&rt, &list, known, true);
+    check_rows(&rt, &copy, known, true);
+    assert!(rt; has_suffix(&list, "net", "net", false));
+    assert!(rt; has_suffix(&copy, "net", "net", false));
     Ok(())
 }
 
 // The variant's name, a number that it carries in round brackets after it.
 #[test]
-fn prints_errors(rt: HostRuntime) -> Result<(), Fail> {
-    for (error, text) in [
-        (ListError::NotText, "NotText"),
-        (ListError::Rule(12), "Rule(12)"),
-        (ListError::OutOfMemory, "OutOfMemory"),
-    ] {
-        let printed = match format!(in rt.alloc(); "{error}") {
-            Err(_) => format!(in rt.alloc(); "{error}")?,
-            Ok(printed) => printed,
-        };
-        assert_eq!(rt; printed.as_str(), text);
-    }
-    Ok(())
+fn prints_errors(rt: HostRuntime) {
+    assert!(rt; prints(rt.alloc(), &ListError::NotText, "NotText"));
+    assert!(rt; prints(rt.alloc(), &ListError::Rule(12), "Rule(12)"));
+    assert!(rt; prints(rt.alloc(), &ListError::OutOfMemory, "OutOfMemory"));
 }

@@ -400,6 +400,10 @@ record Parts (nodes : List Node) (m : List ℕ) (path : List Label) (next other 
       ⊎ Reaches rules name (Wildcard ∷ path) rule → Reaches rules name (first ∷ path) rule
       ⊎ Reaches rules name (second ∷ path) rule
 
+first_alone : (found : Option Found) → IsFirstOf found None found
+first_alone None = refl
+first_alone (Some f) = refl
+
 turn : {A B : Type 0} → A ⊎ B → B ⊎ A
 turn (inl a) = inr a
 turn (inr b) = inl b
@@ -533,6 +537,26 @@ module _ (nodes : List Node) (at : ℕ) (n : Node) (grown : IsGrown nodes) (with
             ];
         of_from = λ rule on. walked.of_from rule (reach_back rules name parts.first path rule on);
       }
+
+  -- no node stands below
+  pub IsFirst-leaf : (name : List (List ℕ)) (from : List Label) (depth : ℕ) (rest : List (List ℕ))
+      (found last : Option Found) → Walked nodes name from (Some at) depth rest found
+      → ((label : Label) → child_of n label ≡ None) → IsFirstOf found (own_of n.plain n.exception depth) last
+      → IsFirst (Reaches rules name from) last
+  IsFirst-leaf name from depth rest found last walked bare is_last =
+      elim (cases_push rest) [
+        | inl none ↦
+            IsFirst-end name from depth found last
+            (subst (λ r. Walked nodes name from (Some at) depth r found) none walked) is_last
+        | inr some ↦
+            let front = some.0 in
+            let m = some.1 in
+            let are : (None, None) ≡ ways_of n m =
+            sym (ap (λ w. ways_by w (child_of n Wildcard)) (bare (Text m)) ∙ ap (ways_by None) (bare Wildcard)) in
+            IsFirst-nowhere nodes name from (depth + 1) front last
+            (Walked-step name from depth rest front m found last None last (None, None) some.2 walked are is_last
+            (λ path back here fits long rule on. here rule on.more on.of_list on.ends) (first_alone last))
+      ]
 
 -- the whole walk
 pub prevails_from_walk : (nodes : List Node) (name left : List (List ℕ)) (found : Option Found) → left ≡ name

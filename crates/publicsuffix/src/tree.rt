@@ -1,5 +1,5 @@
 //! The rules as a tree of labels, from the last label inwards.
-ghost use Rattle.std.specs.Prelude.{◌≡◌, ◌<◌, IfOk, OnOk, vec_len};
+ghost use Rattle.std.specs.Prelude.{◌≡◌, ◌<◌, IfOk, IsTrue, None, OnOk, vec_len};
 ghost use Rattle.publicsuffix.specs.Rules as spec;
 ghost use Rattle.publicsuffix.specs.Tree.{HasMore, HasNone, IsBelow, IsCopy, IsGrown, IsHung, IsLeaf, Marks};
 ghost use Rattle.publicsuffix.specs.Tree.{child_of, edge_view};
@@ -52,6 +52,10 @@ impl Node {
     pub(crate) fn text(&self, label: &[u8]) -> Option<usize>
         ensures { result ≡ child_of self.now (spec.Text label.now) }
     {
+        // Most nodes have none below, and then no hash is taken.
+        if self.texts.is_empty() {
+            return None;
+        }
         self.texts.get(label).copied()
     }
 
@@ -60,6 +64,13 @@ impl Node {
         ensures { result ≡ child_of self.now spec.Wildcard }
     {
         self.wildcard
+    }
+
+    /// Whether no node stands below.
+    pub(crate) fn is_leaf(&self) -> bool
+        ensures { IsTrue result → (label : spec.Label) → child_of self.now label ≡ None }
+    {
+        self.wildcard.is_none() && self.texts.is_empty()
     }
 
     /// Whether the node's labels are an exception.

@@ -62,11 +62,18 @@ fn best(nodes: &[Node], from: Option<usize>, depth: usize, rest: Option<&[u8]>) 
         let Some(text) = rest else {
             return found;
         };
+        if node.is_leaf() {
+            return found;
+        }
         let (front, label) = split_last(text);
         rest = front;
         depth += 1;
         let (next, other) = ways(node, label);
-        found = first_found(found, best(nodes, other, depth, rest));
+        let aside = match other {
+            Some(_) => best(nodes, other, depth, rest),
+            None => None,
+        };
+        found = first_found(found, aside);
         way = next;
     }
     found

@@ -2,7 +2,13 @@
 #![tactic(auto)]
 
 #[cfg(test)]
+mod date_tests;
+#[cfg(test)]
 mod fixtures;
+#[cfg(test)]
+mod json_read_tests;
+#[cfg(test)]
+mod json_write_tests;
 #[cfg(test)]
 mod memory;
 #[cfg(test)]

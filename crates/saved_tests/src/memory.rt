@@ -4,7 +4,11 @@
 //! that, too; the second shows that there is none with ample memory.
 
 use crate::fixtures::{RON, shop_row};
-use saved_text::rows_to_ron;
+use crate::json_write_tests::{LIST, ROW};
+use saved_text::{
+    SavedTextError, from_value, row_from_json, row_to_json, rows_from_json, rows_to_json,
+    rows_to_ron, to_value,
+};
 use std::alloc::{AllocError, Global};
 
 fn writes(alloc: Global) -> Result<bool, AllocError> {
@@ -21,4 +25,43 @@ fn rows_are_written(rt: HostRuntime) {
 #[test]
 fn rows_are_written_with_ample_memory(rt: HostRuntime) {
     assert!(rt; writes(rt.alloc()).unwrap_or(false));
+}
+
+fn writes_json(alloc: Global) -> Result<bool, AllocError> {
+    let row = shop_row(alloc)?;
+    let line = row_to_json(alloc, &row)?;
+    let list = rows_to_json(alloc, &[row])?;
+    Ok(line.as_str() == ROW && list.starts_with("[\n  {\n"))
+}
+
+#[test]
+fn rows_are_written_in_json(rt: HostRuntime) {
+    assert!(rt; writes_json(rt.alloc()).unwrap_or(true));
+}
+
+#[test]
+fn rows_are_written_in_json_with_ample_memory(rt: HostRuntime) {
+    assert!(rt; writes_json(rt.alloc()).unwrap_or(false));
+}
+
+fn reads_json(alloc: Global) -> Result<bool, SavedTextError> {
+    let row = row_from_json(alloc, ROW)?;
+    let value = to_value(alloc, &row)?;
+    let back = from_value(alloc, &value)?;
+    let rows = rows_from_json(alloc, LIST)?;
+    Ok(back.raw_cookie.as_str() == "b=2; Secure; Path=/; Max-Age=3600" && rows.len() == 2)
+}
+
+#[test]
+fn rows_are_read_from_json(rt: HostRuntime) {
+    let is_right = match reads_json(rt.alloc()) {
+        Ok(is_right) => is_right,
+        Err(error) => error == SavedTextError::OutOfMemory,
+    };
+    assert!(rt; is_right);
+}
+
+#[test]
+fn rows_are_read_from_json_with_ample_memory(rt: HostRuntime) {
+    assert!(rt; reads_json(rt.alloc()).unwrap_or(false));
 }

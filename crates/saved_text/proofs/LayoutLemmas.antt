@@ -1,7 +1,7 @@
 -- Rows as they are written are of the grammar.
 use Rattle.std.specs.Prelude.{flat_map, Bool, true, false, Option, Some, None, codes}
 use Rattle.std.specs.Prelude.{map}
-use Rattle.std.proofs.Common.{arith, length, ◌≡◌, ℕ, ◌<◌, ◌++◌, List, [], ◌∷◌, refl, sym, ap, ◌∙◌, inl, inr, append_assoc, subst}
+use Rattle.std.proofs.Common.{arith, length, ◌≡◌, ℕ, ◌++◌, List, [], ◌∷◌, refl, sym, ap, ◌∙◌, inl, inr, append_assoc, subst}
 use Rattle.std.proofs.lemmas.List.{append-nil}
 use Rattle.std.specs.List.{AllByRecursion}
 use Rattle.std.proofs.lemmas.List.Sorted.{IsPermutation-refl}
@@ -10,13 +10,13 @@ use Rattle.saved_text.specs.declared.row.SavedRow.{SavedRow}
 use Rattle.saved_text.specs.Row.{Shown, Domain, host_only, suffix, not_present, empty}
 use Rattle.saved_text.specs.Letters.{AreSpaces}
 use Rattle.saved_text.specs.Grammar.{Grammar, Word, IsOf}
-use Rattle.saved_text.specs.Grammar.Grammar.{nothing, say, space, sign, seq, either, many}
+use Rattle.saved_text.specs.Grammar.Grammar.{space, sign, many}
 use Rattle.saved_text.specs.Grammar.Word.{the_name}
 use Rattle.saved_text.specs.Ron.{name, string, comma, optional, bracketed, field, bool, domain, expires, two, three, four, row, list, ron, ◌▹◌, ◌·◌}
 use Rattle.saved_text.specs.Words.{string_words, domain_words}
 use Rattle.saved_text.specs.Written.{quoted}
-use Rattle.saved_text.specs.RonLayout.{bool_layout, tagged_layout, domain_layout, expires_layout, row_layout, rows_layout, ron_layout}
-use Rattle.saved_text.specs.RowWords.{bool_words, expires_words, field_words, SaysRow, SaysRows, ShowsRon, AreBytes, text_in_domain, text_of_date, IsRowOfBytes, WrittenIsOfGrammar}
+use Rattle.saved_text.specs.RonLayout.{bool_layout, domain_layout, expires_layout, row_layout, rows_layout, ron_layout}
+use Rattle.saved_text.specs.RowWords.{bool_words, expires_words, field_words, SaysRows, AreBytes, text_in_domain, text_of_date, IsRowOfBytes, WrittenIsOfGrammar}
 use Rattle.saved_text.proofs.WrittenLemmas.{strings}
 
 -- ---- parts of a text

@@ -2,10 +2,14 @@ mod StepLemmas
 mod RonLemmas
 mod RowLemmas
 mod FrontLemmas
+mod FrontRun
+mod DateLemmas
 mod WriteLemmas
+mod PieceLemmas
 mod WrittenLemmas
 mod ListLemmas
 mod JsonLemmas
 mod FeedLemmas
 mod JsonListLemmas
 mod LayoutLemmas
+mod JsonReadLemmas

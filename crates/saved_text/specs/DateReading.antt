@@ -1,5 +1,5 @@
 -- Dates of saved texts, as they are read: `date-time` of RFC 3339, section 5.6, with a fraction of one to nine digits.
-use Rattle.std.specs.Prelude.{◌≡◌, ℕ, ℤ, pos, ◌+◌, ◌*◌, ◌-◌, ◌^◌, ◌+ℤ◌, ◌*ℤ◌, ◌-ℤ◌, ◌≤ℤ◌, List, [], ◌∷◌, length, take, drop, map, Bool, ◌&&◌, ◌||◌, ◌==◌, nat_lt, nat_le, codes, slice_range, Option, Some, None, if◌then◌else◌, IsTrue}
+use Rattle.std.specs.Prelude.{◌≡◌, ℕ, ℤ, pos, ◌+◌, ◌*◌, ◌-◌, ◌^◌, ◌+ℤ◌, ◌*ℤ◌, ◌-ℤ◌, ◌≤ℤ◌, List, [], ◌∷◌, length, take, drop, map, Bool, ◌&&◌, ◌==◌, nat_lt, nat_le, codes, slice_range, Option, Some, None, if◌then◌else◌, IsTrue}
 use Rattle.std.specs.Str.{bytes_eq}
 use Rattle.std.specs.Str.Parse.{digits_value}
 use Rattle.std.specs.Char.{is_ascii_digit}
@@ -108,3 +108,11 @@ pub record IsDateOf (text : List ℕ) (at : ℤ) : Type 0 where
   pub moment : at ≡ civil -ℤ minutes *ℤ pos 60_000_000_000
   pub from : first_moment ≤ℤ at
   pub until : at ≤ℤ last_moment
+
+-- a moment of the years 0 to 9999
+abbrev pub IsSaved : ℤ → Type 0
+IsSaved at = (first_moment ≤ℤ at) × (at ≤ℤ last_moment)
+
+-- A text is a date of one moment at most.
+abbrev pub AreOfOneMoment : Type 0
+AreOfOneMoment = (text : List ℕ) (x y : ℤ) → IsDateOf text x → IsDateOf text y → x ≡ y

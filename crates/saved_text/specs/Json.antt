@@ -47,6 +47,10 @@ abbrev pub expires_text : Option (List ℕ) → List ℕ
 expires_text (Some date) = codes "{\"AtUtc\":" ++ (quoted date ++ (codes "}"))
 expires_text None = codes "\"SessionEnd\""
 
+-- a string behind its tag and before what closes it
+abbrev pub tagged_text : List ℕ → List ℕ → List ℕ → List ℕ
+tagged_text tag text close = tag ++ (quoted text ++ close)
+
 -- one line
 abbrev pub row_text : Shown → List ℕ
 row_text r = codes "{\"raw_cookie\":" ++ (quoted r.raw ++ (codes ",\"path\":[" ++ (quoted r.path ++ (codes "," ++ (bool_text r.from_attribute ++ (codes "],\"domain\":" ++ (domain_text r.domain ++ (codes ",\"expires\":" ++ (expires_text r.expires ++ (codes "}"))))))))))

@@ -13,3 +13,5 @@ pub mod RonLayout
 pub mod RowWords
 pub mod Json
 pub mod Parts
+pub mod JsonWritten
+pub mod JsonReading

@@ -1,5 +1,5 @@
 -- Rows, what is shown of them in a text, and what is read from what a text shows.
-use Rattle.std.specs.Prelude.{◌≡◌, ℕ, List, [], ◌∷◌, map, Option, Some, None, Ok, string_bytes}
+use Rattle.std.specs.Prelude.{◌≡◌, ℕ, List, Option, Some, None, Ok, string_bytes}
 use Rattle.cookie_text.specs.Record.{Seen}
 use Rattle.cookie_text.specs.Reading.{ReadsPlain}
 use Rattle.jiff.specs.Words.{civil_nanos}

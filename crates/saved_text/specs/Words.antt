@@ -1,5 +1,5 @@
 -- The words that the parts of a row say.
-use Rattle.std.specs.Prelude.{ℕ, List, [], ◌∷◌, ◌++◌, codes, string_bytes}
+use Rattle.std.specs.Prelude.{ℕ, List, [], ◌∷◌, ◌++◌, codes}
 use Rattle.saved_text.specs.Grammar.{Grammar, Word, letters}
 use Rattle.saved_text.specs.Grammar.Grammar.{seq, space}
 use Rattle.saved_text.specs.Grammar.Word.{the_name, the_end}

@@ -1,4 +1,5 @@
 //! Laws of what is written.
+ghost use Rattle.saved_text.specs.DateReading.{AreOfOneMoment};
 ghost use Rattle.saved_text.specs.Json.{ReadsBack, ListsReadBack};
 ghost use Rattle.saved_text.specs.RowWords.{WrittenIsOfGrammar};
 ghost use Rattle.saved_text.specs.Written.{StringsAreOfGrammar};
@@ -21,4 +22,9 @@ pub fn reads_back()
 /// What is written of rows in JSON is read as these rows' value.
 pub fn lists_read_back()
     ensures { ListsReadBack }
+{}
+
+/// A text is a date of one moment at most.
+pub fn dates_are_of_one_moment()
+    ensures { AreOfOneMoment }
 {}

@@ -1,9 +1,14 @@
 //! Saved texts: rows to and from RON and JSON.
 #![tactic(auto)]
 
+mod date;
 mod date_display;
 mod error;
+mod json_read;
+mod json_rows;
+mod json_to_value;
 mod json_value;
+mod json_write;
 pub mod laws;
 mod ron_parts;
 mod ron_rows;
@@ -12,6 +17,11 @@ mod ron_whole;
 mod ron_write;
 mod row;
 
+pub use date::date_of;
+pub use date_display::SavedDate;
 pub use error::SavedTextError;
+pub use json_read::{from_value, row_from_json, rows_from_json};
+pub use json_rows::{row_to_json, rows_to_json};
+pub use json_to_value::to_value;
 pub use ron_rows::rows_to_ron;
 pub use row::{SavedDomain, SavedExpiration, SavedRow};

@@ -1,14 +1,15 @@
 //! The parts of a row of RON.
-ghost use Rattle.std.specs.Prelude.{◌≡◌, ◌∷◌, [], ◌++◌, ◌<◌, MatchResult, MatchBool, List, ℕ, string_bytes};
+ghost use Rattle.std.specs.Prelude.{◌≡◌, ◌∷◌, [], ◌++◌, ◌<◌, MatchResult, MatchBool, IfNone, IfSome, IsTrue, List, ℕ, string_bytes};
 ghost use Rattle.saved_text.specs.Ron.{string, bracketed, name, domain};
 ghost use Rattle.saved_text.specs.Grammar.Word.{the_name};
 ghost use Rattle.saved_text.specs.Grammar.Grammar.{sign};
 ghost use Rattle.saved_text.specs.Reads.{Takes, Stops};
-ghost use Rattle.saved_text.specs.Faults.{StopsAs, Lacks, Begins, Spaced, AreAscii, closing};
+ghost use Rattle.saved_text.specs.Faults.{StopsAs, Lacks, Begins, Spaced, Unspaced, AreAscii, closing};
+ghost use Rattle.saved_text.specs.Letters.{is_space};
 ghost use Rattle.saved_text.specs.Saved.{domain_shown};
 ghost use Rattle.saved_text.specs.Words.{string_words, domain_words, tagged};
 
-use crate::ron_text::{Stop, cut, read_string};
+use crate::ron_text::{Stop, cut, read_string, tail};
 use crate::row::SavedDomain;
 use std::alloc::Global;
 
@@ -16,19 +17,22 @@ use std::alloc::Global;
 fn gap(text: &str) -> &str
     ensures { Spaced text.now result.now }
 {
-    if let Some(rest) = cut(text, b' ') {
-        return gap(rest);
+    let mut rest = text;
+    while let Some(behind) = cut_space(rest) {
+        rest = behind;
     }
-    if let Some(rest) = cut(text, b'\t') {
-        return gap(rest);
+    rest
+}
+
+// What is behind white space, where it stands first.
+fn cut_space(text: &str) -> Option<&str>
+    ensures none { IfNone result (Unspaced text.now) }
+    ensures some { IfSome result (λ r. (b : ℕ) × IsTrue (is_space b) × (text.now ≡ b ∷ r.now)) }
+{
+    match text.as_bytes() {
+        [b' ' | b'\t' | b'\n' | b'\r', ..] => Some(tail(text)),
+        _ => None,
     }
-    if let Some(rest) = cut(text, b'\n') {
-        return gap(rest);
-    }
-    if let Some(rest) = cut(text, b'\r') {
-        return gap(rest);
-    }
-    text
 }
 
 // Whether the byte stands first.

@@ -57,7 +57,7 @@ fn push_row(alloc: Global, out: &mut String, row: &SavedRow) -> Result<(), Alloc
     Ok(())
 }
 
-fn push_bool(out: &mut String, value: bool) -> Result<(), AllocError>
+pub(crate) fn push_bool(out: &mut String, value: bool) -> Result<(), AllocError>
     ensures { OnOk result (string_bytes out.new ≡ string_bytes out.old ++ bool_layout value) }
 {
     if value {

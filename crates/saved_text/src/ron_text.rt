@@ -2,7 +2,8 @@
 ghost use Rattle.std.specs.Prelude.{◌≡◌, false, ◌++◌, ◌∷◌, [], ◌*◌, ◌+◌, ◌-◌, ◌<◌, ◌≤◌, ◌^◌, IfSome, IfNone, MatchResult, ◌≢◌, MatchOption, length, take, drop, List, ℕ, IsTrue, encode_utf8, string_bytes};
 ghost use Rattle.std.specs.List.{AllByRecursion};
 ghost use Rattle.saved_text.specs.Ron.{string, escape};
-ghost use Rattle.saved_text.specs.Letters.{is_digit, digit_value, is_plain, is_letter, named, limit};
+ghost use Rattle.saved_text.specs.Letters.{is_digit, digit_value, is_letter, named, limit};
+ghost use Rattle.saved_text.specs.Letters as letter;
 ghost use Rattle.saved_text.specs.Grammar.{letters};
 ghost use Rattle.saved_text.specs.Grammar.Word.{the_end};
 ghost use Rattle.saved_text.specs.Grammar.Grammar.{sign, number, seq};
@@ -183,23 +184,31 @@ fn escaped(text: &str) -> Result<(char, &str), Stop<'_>>
 // What stands before the first quote or backslash, and the rest.
 fn plain_front(text: &str) -> (&str, &str)
     ensures split { text.now ≡ result.0.now ++ result.1.now }
-    ensures plain { AllByRecursion (λ b. IsTrue (is_plain b)) result.0.now }
+    ensures plain { AllByRecursion (λ b. IsTrue (letter.is_plain b)) result.0.now }
     ensures stop { Unplain result.1.now }
 {
     let n = plain_len(text.as_bytes());
     text.split_at(n)
 }
 
+// Whether a byte of a string stands for itself.
+fn is_plain(b: u8) -> bool
+    ensures { result ≡ letter.is_plain b }
+{
+    b != b'"' && b != b'\\'
+}
+
 // How many bytes stand before the first quote or backslash.
 fn plain_len(text: &[u8]) -> usize
     ensures bound { result ≤ length text.now }
-    ensures plain { AllByRecursion (λ b. IsTrue (is_plain b)) (take result text.now) }
+    ensures plain { AllByRecursion (λ b. IsTrue (letter.is_plain b)) (take result text.now) }
     ensures stop { Unplain (drop result text.now) }
 {
-    match text {
-        [b, rest @ ..] if *b != b'"' && *b != b'\\' => 1 + plain_len(rest),
-        _ => 0,
+    let mut len = 0;
+    while len < text.len() && is_plain(text[len]) {
+        len += 1;
     }
+    len
 }
 
 /// A string at the front of the text, and what is behind it.

@@ -7,7 +7,7 @@ use crate::ron_text::tail;
 use std::alloc::AllocError;
 
 // A hexadecimal digit.
-fn hex_digit(n: u8) -> u8
+pub(crate) fn hex_digit(n: u8) -> u8
     requires { n < 16 }
     ensures value { result ≡ digit_char n }
     ensures ascii { result < 128 }
@@ -53,10 +53,11 @@ fn same_len(text: &[u8]) -> usize
     ensures same { AreSame (take result text.now) }
     ensures stop { IsAsciiFirst (drop result text.now) }
 {
-    match text {
-        [b, rest @ ..] if !is_special(*b) => 1 + same_len(rest),
-        _ => 0,
+    let mut len = 0;
+    while len < text.len() && !is_special(text[len]) {
+        len += 1;
     }
+    len
 }
 
 // What stands before the first byte that is written otherwise, and the rest.
@@ -70,7 +71,7 @@ fn same_front(text: &str) -> (&str, &str)
 }
 
 // The first byte, and what is behind it.
-fn first_byte(text: &str) -> Option<(u8, &str)>
+pub(crate) fn first_byte(text: &str) -> Option<(u8, &str)>
     requires { IsAsciiFirst text.now }
     ensures none { IfNone result (text.now ≡ []) }
     ensures some { IfSome result (λ p. (text.now ≡ p.0 ∷ p.1.now) × (p.0 < 128)) }

@@ -25,8 +25,9 @@ const MAX_TEXT_LEN: usize = (1 << 36) - 32;
 // Its length in bits stands in 64 bits.
 const MAX_AAD_LEN: usize = (1 << 61) - 1;
 
-// Whether text and aad are of lengths that can be sealed.
-fn is_sealable(aad: &[u8], text: &[u8]) -> bool
+/// Whether text and additional data have lengths that can be sealed: at most 2^36 - 32 bytes, and
+/// fewer than 2^61 (SP 800-38D, section 5.2.1.1).
+pub fn is_sealable(aad: &[u8], text: &[u8]) -> bool
     ensures { IsTrue result ↔ spec.IsSealable aad.now text.now }
 {
     text.len() <= MAX_TEXT_LEN && aad.len() <= MAX_AAD_LEN

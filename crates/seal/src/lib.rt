@@ -21,7 +21,7 @@ mod tables;
 
 pub use derive::expand;
 pub use error::SealError;
-pub use gcm::{open, open_counted, seal, seal_counted};
+pub use gcm::{is_sealable, open, open_counted, seal, seal_counted};
 pub use ghash::Multiples;
 pub use mac::hmac;
 pub use powers::Turns;

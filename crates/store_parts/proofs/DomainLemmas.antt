@@ -5,8 +5,8 @@ use Rattle.std.specs.Borrow.{Bor}
 use Rattle.std.specs.Option.{MatchOption}
 use Rattle.std.proofs.lemmas.Grind.{common_steps}
 use Rattle.std.proofs.lemmas.List.{append_cancel_right}
+use Rattle.cookie_text.specs.Record.{without_dot}
 use Rattle.store_parts.specs.DomainMatch.{EndsAfterDot, dot}
-use Rattle.store_parts.specs.DomainText.{without_leading_dot}
 
 -- the host ends with the domain after a dot where what stands before the domain ends with one
 pub EndsAfterDot-append : (host before domain : List ℕ) → host ≡ before ++ domain
@@ -27,16 +27,16 @@ pub EndsAfterDot-end : (host domain : List ℕ) → EndsAfterDot host domain
 EndsAfterDot-end host domain (front, e) =
     (front ++ dot ∷ [], e ∙ sym (append_assoc front (dot ∷ []) domain))
 
-without_leading_dot-other : (text : List ℕ) → ((rest : List ℕ) → text ≢ dot ∷ rest)
-    → without_leading_dot text ≡ text
-without_leading_dot-other [] none = refl
-without_leading_dot-other (b ∷ bs) none =
+without_dot-other : (text : List ℕ) → ((rest : List ℕ) → text ≢ dot ∷ rest)
+    → without_dot text ≡ text
+without_dot-other [] none = refl
+without_dot-other (b ∷ bs) none =
     let other : b ≢ dot = λ e. none bs (ap (λ x. x ∷ bs) e) in
     let apart : eqb b dot ≡ false = grind (arith, common_steps) in
     rw apart refl
 
-pub without_leading_dot-stripped : (text : Bor (List ℕ)) (stripped : Option (Bor (List ℕ)))
+pub without_dot-stripped : (text : Bor (List ℕ)) (stripped : Option (Bor (List ℕ)))
     → MatchOption stripped ((rest : List ℕ) → text.now ≢ dot ∷ rest) (λ x. text.now ≡ dot ∷ x.now)
-    → (unwrap_or stripped text).now ≡ without_leading_dot text.now
-without_leading_dot-stripped text None none = sym (without_leading_dot-other text.now none)
-without_leading_dot-stripped text (Some x) split = sym (ap without_leading_dot split)
+    → (unwrap_or stripped text).now ≡ without_dot text.now
+without_dot-stripped text None none = sym (without_dot-other text.now none)
+without_dot-stripped text (Some x) split = sym (ap without_dot split)

@@ -7,12 +7,12 @@ use Rattle.std.proofs.lemmas.Int.{ints, by_lt_z}
 use Rattle.jiff.specs.Types.{DateTime}
 use Rattle.jiff.specs.Words.{IsYmd, IsHms, IsEndDateTime}
 use Rattle.jiff.proofs.SpanFacts.{signed_arith}
-use Rattle.jiff_core.specs.DateTime.{civil_nanos, IsCivilNanos}
+use Rattle.jiff_core.specs.DateTime.{civil_nanos, civil_seconds, IsCivilNanos}
 use Rattle.jiff_core.specs.Time.{time_nanos}
 use Rattle.jiff_core.proofs.DateLemmas.{days_from_civil-max}
 use Rattle.jiff_core.proofs.DateTimeLemmas.{civil_nanos-parts, civil_nanos_range}
 use Rattle.jiff_core.proofs.StandardFacts.{known_days}
-use Rattle.store_parts.specs.Expiry.{latest, epoch, seconds, expiry_after}
+use Rattle.store_parts.specs.Expiry.{latest, epoch, seconds, expiry_after, whole_second}
 
 pub civil_nanos-epoch : (m : DateTime) → IsYmd (pos 1970) (pos 1) (pos 1) m.date
     → IsHms (pos 0) (pos 0) (pos 0) (pos 0) m.time → civil_nanos m ≡ epoch
@@ -101,3 +101,10 @@ expiry_after-capped now n (Ok z) s fits is =
 expiry_after-capped now n (Err e) s out is =
     ap (λ k. expiry_after (k *ℤ pos 1_000_000_000) (civil_nanos now)) is
     ∙ expiry_after-long now (2 ^ 63 - 1) n (omega arith) (not_small n out)
+
+-- the second that the calendar shows of a moment
+pub whole_second_shown : (moment : DateTime) → whole_second (civil_nanos moment) ≡ civil_seconds moment
+unfolding civil_nanos civil_seconds
+whole_second_shown moment =
+    let sub = moment.time.subsec_in in
+    omega (arith, signed_arith)

@@ -1,9 +1,9 @@
 -- When a cookie ends (RFC 6265, 5.2.1, 5.2.2 and 5.3, step 3). Moments and lengths are counted in
 -- nanoseconds, moments from 1970-01-01T00:00:00 in UTC.
 use Rattle.std.specs.Prelude.{ℤ, pos, ◌+ℤ◌, ◌*ℤ◌, ℕ, Bool, false, Option, Some, None, int_le, int_lt, option_map, if◌then◌else◌}
-use Rattle.std.specs.Int.{int_min}
+use Rattle.std.specs.Int.{int_div_euclid, int_min}
 use Rattle.cookie_text.specs.Record.{Record, moment_of}
-use Rattle.jiff.specs.Words.{civil_nanos, civil_seconds}
+use Rattle.jiff.specs.Words.{civil_nanos}
 use Rattle.store_parts.specs.declared.cookie_expiration.CookieExpiration.{CookieExpiration}
 use Rattle.store_parts.specs.declared.cookie_expiration.CookieExpiration.TheVariants.{AtUtc, SessionEnd}
 
@@ -44,7 +44,10 @@ abbrev pub is_dead : ℤ → Option ℤ → Bool
 is_dead now None = false
 is_dead now (Some death) = int_le death now
 
--- the whole second of the death, its fraction left out
+-- the whole second in which a moment lies: its fraction is left out
+abbrev pub whole_second : ℤ → ℤ
+whole_second moment = int_div_euclid moment (pos 1_000_000_000)
+
+-- the whole second of the death
 abbrev pub death_second : CookieExpiration → Option ℤ
-death_second (AtUtc moment) = Some (civil_seconds moment)
-death_second SessionEnd = None
+death_second expiry = option_map whole_second (death_of expiry)

@@ -7,3 +7,4 @@ pub mod PathMatch
 pub mod PathOrder
 pub mod Refusals
 pub mod Schemes
+pub mod Steps

@@ -19,6 +19,10 @@ abbrev pub of_cookie : CookieError → Error
 of_cookie refused.OutOfMemory = OutOfMemory
 of_cookie cause = Cookie cause
 
+-- a refusal of `idna`, handed on
+abbrev pub handed_on : Errors → IdnaErrors
+handed_on refusal = record { 0 = refusal }
+
 -- a domain without IDNA form
 abbrev pub of_idna : IdnaErrors → Error
 of_idna cause = of_errors cause.0

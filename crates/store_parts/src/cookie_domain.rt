@@ -1,11 +1,12 @@
 //! The domain of a cookie, and which hosts it covers (RFC 6265, section 5.1.3).
 ghost use Rattle.std.specs.Prelude.{◌≡◌, ◌↔◌, None, IsTrue, IfOk, IsOk, IsSomeAnd, MatchOption, MatchResult, option_copied, string_bytes};
-ghost use Rattle.cookie_text.specs.Record.{domain_of as domain_attribute};
+ghost use Rattle.cookie_text.specs.Record.{domain_of as domain_attribute, without_dot};
 ghost use Rattle.store_parts.specs.DomainMatch as spec;
 ghost use Rattle.store_parts.specs.DomainMatch.{domain_of};
 ghost use Rattle.store_parts.specs.DomainOrder as order;
 ghost use Rattle.store_parts.specs.DomainText as text_spec;
 ghost use Rattle.store_parts.specs.Schemes.{host_of};
+ghost use Rattle.store_parts.specs.Steps.{GivesForm};
 ghost use Rattle.std.proofs.Common.{rules};
 ghost use Rattle.std.specs.Cmp.{partial_order_from_own_ties};
 ghost use Rattle.std.specs.Cmp.Rules.{comparing, hashing};
@@ -279,7 +280,7 @@ fn ends_after_dot(host: &str, domain: &str) -> bool
 
 // The IDNA form of the text, without white space at its ends.
 fn idna_form(alloc: Global, text: &str) -> Result<CowStr<'_>, Error>
-    ensures { text_spec.GivesForm (text_spec.idna_form text.now) result }
+    ensures { GivesForm (text_spec.idna_form text.now) result }
 {
     match domain_to_ascii_cow(alloc, text.trim().as_bytes(), AsciiDenyList::EMPTY) {
         Ok(form) => Ok(form),
@@ -289,7 +290,7 @@ fn idna_form(alloc: Global, text: &str) -> Result<CowStr<'_>, Error>
 
 // The text without one dot in front.
 fn without_leading_dot(text: &str) -> &str
-    ensures { result.now ≡ text_spec.without_leading_dot text.now }
+    ensures { result.now ≡ without_dot text.now }
 {
     text.strip_prefix('.').unwrap_or(text)
 }

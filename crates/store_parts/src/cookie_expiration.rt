@@ -115,12 +115,19 @@ impl PartialEq for CookieExpiration {
     {
         match (self, other) {
             (CookieExpiration::AtUtc(this), CookieExpiration::AtUtc(other)) => {
-                this.to_plain().to_second() == other.to_plain().to_second()
+                whole_second(*this) == whole_second(*other)
             }
             (CookieExpiration::SessionEnd, CookieExpiration::SessionEnd) => true,
             _ => false,
         }
     }
+}
+
+// The seconds from the Unix epoch to the one in which the moment lies.
+fn whole_second(moment: DateTime) -> i64
+    ensures { result ≡ spec.whole_second (civil_nanos moment) }
+{
+    moment.to_plain().to_second()
 }
 
 // 1970-01-01T00:00:00.

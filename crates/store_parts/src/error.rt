@@ -69,7 +69,7 @@ impl From<ParseError> for CookieError {
 pub struct IdnaErrors(idna::Errors);
 
 impl From<idna::Errors> for IdnaErrors {
-    ghost from_gives = { λ refusal e. e ≡ record { 0 = refusal } };
+    ghost from_gives = { λ refusal e. e ≡ refusals.handed_on refusal };
 
     fn from(refusal: idna::Errors) -> IdnaErrors {
         IdnaErrors(refusal)

@@ -19,18 +19,13 @@ const NONCE_LEN: usize = 12;
 
 const TAG_LEN: usize = 16;
 
-// The limits of SP 800-38D, section 5.2.1.1, of the text and of the additional data.
-const MAX_VALUE_LEN: usize = (1 << 36) - 32;
-
-const MAX_NAME_LEN: usize = (1 << 61) - 1;
-
 /// Whether the standard allows a value and a name of these lengths to be sealed: values of at most
 /// 2^36 - 32 bytes under names of less than 2^61.
 pub fn is_sealable(name: &str, value: &str) -> bool
     ensures lengths { result ≡ spec.is_sealable name.now value.now }
     ensures sealable { IsTrue result ↔ IsSealable name.now value.now }
 {
-    value.len() <= MAX_VALUE_LEN && name.len() <= MAX_NAME_LEN
+    seal::is_sealable(name.as_bytes(), value.as_bytes())
 }
 
 /// The twelve bytes of one fill of the generator, or none where the fill fails: a generator whose

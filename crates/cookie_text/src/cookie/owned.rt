@@ -8,6 +8,10 @@ use std::alloc::{AllocError, Global};
 
 impl<'c> Cookie<'c> {
     /// The same cookie, owning its texts: no raw form is left.
+    ///
+    /// # Errors
+    ///
+    /// Want of memory.
     pub fn into_owned(self, alloc: Global) -> Result<Cookie<'static>, AllocError>
         ensures { IfOk result (λ cookie. cookie ≡ unsliced self.entry.cookie) }
     {
@@ -41,7 +45,12 @@ impl<'c> Cookie<'c> {
         })
     }
 
-    /// A copy, whose raw forms are those of this cookie.
+    /// A copy, whose raw forms are those of this cookie: borrowed texts are borrowed again, owned ones
+    /// are copied.
+    ///
+    /// # Errors
+    ///
+    /// Want of memory.
     pub fn clone(&self, alloc: Global) -> Result<Cookie<'c>, AllocError>
         ensures { IfOk result (λ cookie. cookie ≡ self.now) }
     {

@@ -29,7 +29,11 @@ returns-clause-end c =
     any_is_found (is_live_of now row) rows ∙ sym (ap is_some c.get_live_of.ensures.row)
     ∙ shown_there c.get_live_of.result ∙ c.is_none.ensures ∙ ap not c.if-is_none.false in
     let same : key c.domain_text.result.now c.as_str.result.now c.name.result.now ≡ key_of row =
-    λ i. record { domain = c.domain_text.ensures i; path = c.as_str.ensures i; name = (c.name.ensures ∙ ap (λ s. s.cookie.name) c.raw.ensures) i } in
+    λ i. record {
+      domain = c.domain_text.ensures i;
+      path = c.as_str.ensures i;
+      name = (c.name.ensures ∙ ap (λ s. s.cookie.name) c.raw.ensures) i;
+    } in
     ap (λ rs. (Ok ExpiredExisting, rs))
     (expired_is_ended now row rows new c.get_live_of.ensures.apart any
     (subst (λ k. MatchOption (found k rows) (new ≡ rows) (λ old. new ≡ put (expired old) rows)) same c.expire.ensures))

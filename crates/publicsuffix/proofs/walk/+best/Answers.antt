@@ -1,8 +1,13 @@
-use Rattle.std.proofs.Common.{◌≡◌, ◌<◌, ◌∙◌, ◌++◌, ◌∷◌, [], Some, length, refl, ap, subst, arith}
+use Rattle.std.proofs.Common.{◌≡◌, ℕ, ◌<◌, ◌+◌, ◌∙◌, List, ◌++◌, ◌∷◌, [], Some, length, refl, ap, subst, arith}
 use Rattle.std.specs.Prelude.{IfSome}
+use Rattle.std.specs.List.{AllZip}
 use Rattle.std.proofs.lemmas.List.{length-append}
-use Rattle.publicsuffix.specs.Walk.{IsFirstOf, labels_left, own_of}
-use Rattle.publicsuffix.proofs.WalkLemmas.{IsFirst-end, IsFirst-nowhere, Walked, Walked-begin, Walked-step, within-ways}
+use Rattle.publicsuffix.specs.Prevailing.{Fits}
+use Rattle.publicsuffix.specs.Rules.{Label}
+use Rattle.publicsuffix.specs.Tree.{rules_of}
+use Rattle.publicsuffix.specs.Walk.{IsAt, IsFirst, IsFirstOf, Reaches, labels_left, own_of}
+use Rattle.publicsuffix.proofs.WalkLemmas.{IsFirst-end, IsFirst-leaf, IsFirst-nowhere, Walked, Walked-begin, Walked-step, within-ways}
+use Rattle.publicsuffix.proofs.walk.+best.Goals.{in-None, in-Some-other}
 use Rattle.publicsuffix.proofs.walk.+best.Goals as goal
 
 pub loop-way-init : goal.loop-way-init
@@ -25,8 +30,8 @@ overflow_add-depth t c =
     let cut : labels_left c.loop-way.rest ≡ front ++ m ∷ [] = ap labels_left c.in-Some-rest.is ∙ c.split_last.ensures in
     omega (arith, ap length cut, length-append front (m ∷ []), on.counted, c.requires.room)
 
-pub best-requires : goal.best-requires
-best-requires t c =
+pub best-aside-requires : goal.best-aside-requires
+best-aside-requires t c =
     let nodes = c.args.nodes.now in
     let front = labels_left c.split_last.result.0 in
     let m = c.split_last.result.1.now in
@@ -68,6 +73,15 @@ loop-way-preserved t c =
     c.ways-next.ensures in
     let is_middle : IsFirstOf found (own_of node.plain node.exception depth) middle =
     subst (λ o. IsFirstOf found o middle) c.own.ensures c.first_found-found.ensures in
+    let beside : (path : List Label) (back : List (List ℕ)) → IsAt nodes c.ways-next.result.1 path
+    → AllZip Fits path back → depth + 1 ≡ length path
+    → IsFirst (Reaches (rules_of nodes) (front ++ back) path) c.match-other.aside =
+    elim c.match-other.branch [
+      | in-Some-other w ↦ rw w.aside-is w.best-aside.ensures
+      | in-None w ↦
+          rw w.aside-is (λ path back here fits long rule on.
+          (subst (λ o. IsAt nodes o path) w.in-None.is here) rule on.more on.of_list on.ends)
+    ] in
     record {
       within = ways.0;
       counted = omega (arith, ap length cut, length-append front (m ∷ []), on.counted);
@@ -78,9 +92,9 @@ loop-way-preserved t c =
           subst (λ o. Walked nodes name path o depth (labels_left c.loop-way.rest) found) c.in-Some.is
           (on.walked path back here fits long) in
           Walked-step nodes c.in-Some.at node c.requires.grown within c.index-nodes-at.is name path depth
-          (labels_left c.loop-way.rest) front m found middle c.best.result c.first_found-found-in-Some.result
+          (labels_left c.loop-way.rest) front m found middle c.match-other.aside c.first_found-found-in-Some.result
           c.ways-next.result
-          cut walked c.ways-next.ensures is_middle c.best.ensures c.first_found-found-in-Some.ensures;
+          cut walked c.ways-next.ensures is_middle beside c.first_found-found-in-Some.ensures;
     }
 
 pub returns-in_default-rest : goal.returns-in_default-rest
@@ -99,6 +113,23 @@ returns-in_default-rest t c = λ path back here fits long.
     let ended : Walked nodes name path (Some c.in-Some.at) depth [] found =
     subst (λ r. Walked nodes name path (Some c.in-Some.at) depth (labels_left r) found) c.in_default-rest.is walked in
     IsFirst-end nodes c.in-Some.at node c.requires.grown within c.index-nodes-at.is name path depth found last ended
+    (subst (λ o. IsFirstOf found o last) c.own.ensures c.first_found-found.ensures)
+
+pub returns-then-is_leaf : goal.returns-then-is_leaf
+returns-then-is_leaf t c = λ path back here fits long.
+    let nodes = c.args.nodes.now in
+    let node = c.index-nodes-at.result in
+    let on = c.loop-way.invariant in
+    let found = c.loop-way.found in
+    let depth = c.loop-way.depth in
+    let last = c.first_found-found.result in
+    let name = labels_left c.args.rest ++ back in
+    let within = subst (λ o. IfSome o (λ i. i < length nodes)) c.in-Some.is on.within in
+    let walked : Walked nodes name path (Some c.in-Some.at) depth (labels_left c.loop-way.rest) found =
+    subst (λ o. Walked nodes name path o depth (labels_left c.loop-way.rest) found) c.in-Some.is
+    (on.walked path back here fits long) in
+    IsFirst-leaf nodes c.in-Some.at node c.requires.grown within c.index-nodes-at.is name path depth
+    (labels_left c.loop-way.rest) found last walked (c.is_leaf.ensures c.if-is_leaf.true)
     (subst (λ o. IsFirstOf found o last) c.own.ensures c.first_found-found.ensures)
 
 pub returns : goal.returns

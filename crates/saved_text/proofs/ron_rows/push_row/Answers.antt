@@ -1,4 +1,4 @@
-use Rattle.std.proofs.Common.{◌≡◌, List, ℕ, ◌++◌, ap, ◌∙◌, append_assoc, string_bytes}
+use Rattle.std.proofs.Common.{◌≡◌, ◌++◌, ap, ◌∙◌, append_assoc, string_bytes}
 use Rattle.std.specs.Prelude.{codes}
 use Rattle.saved_text.specs.Written.{quoted}
 use Rattle.saved_text.specs.RonLayout.{bool_layout, domain_layout, expires_layout}

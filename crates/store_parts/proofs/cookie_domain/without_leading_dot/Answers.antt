@@ -1,10 +1,10 @@
 use Rattle.std.proofs.Common.{◌∙◌, ap, lit<}
 use Rattle.std.proofs.lemmas.Str.Pattern.{strip_prefix_char}
-use Rattle.store_parts.proofs.DomainLemmas.{without_leading_dot-stripped}
+use Rattle.store_parts.proofs.DomainLemmas.{without_dot-stripped}
 use Rattle.store_parts.proofs.cookie_domain.without_leading_dot.Goals as goal
 
 pub returns : goal.returns
 returns c =
     let split = strip_prefix_char 46 c.args.text.now c.strip_prefix.result c.strip_prefix.ensures.cases (lit< tt) in
     ap (λ t. t.now) c.unwrap_or.ensures
-    ∙ without_leading_dot-stripped c.args.text c.strip_prefix.result split
+    ∙ without_dot-stripped c.args.text c.strip_prefix.result split

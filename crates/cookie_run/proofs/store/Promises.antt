@@ -1,0 +1,158 @@
+-- What the calendar and the printer promise of what is set.
+use Rattle.std.proofs.Common.{◌≡◌, ℕ, suc, ◌<◌, ◌≤◌, ℤ, pos, negsuc, ◌+ℤ◌, ◌≤ℤ◌, ◌<ℤ◌, Bool, true, false, List, [], ◌∷◌, IsAscii, sym, refl, ap, ◌∙◌, subst, ⊎_elim, Option, Some, None, arith, codes}
+use Rattle.std.specs.Prelude.{int_lt, IfSome, option_map, nat_lt, neg_ℤ}
+use Rattle.std.specs.Int.{int_min}
+use Rattle.std.specs.Fmt.{decimal, signed_decimal}
+use Rattle.std.specs.List.{list_all, AllByRecursion}
+use Rattle.std.specs.Str.{IsUtf8}
+use Rattle.std.proofs.lemmas.Bool.{and_parts, cases_Bool, both_ways}
+use Rattle.std.proofs.lemmas.Bool.Decides.{nat_tests}
+use Rattle.std.proofs.lemmas.Fmt.{IsAscii-decimal}
+use Rattle.std.proofs.lemmas.Int.{ints}
+use Rattle.std.proofs.lemmas.List.Elements.{All-from_recursion}
+use Rattle.std.proofs.lemmas.Str.{IsAscii-append, IsUtf8-from_ascii}
+use Rattle.std.proofs.lemmas.Str.Ascii.{IsAscii-from_all, IsAscii-nil}
+use Rattle.jiff.specs.Types.{DateTime}
+use Rattle.jiff_core.specs.Timestamp.{IsDurationNanos}
+use Rattle.jiff_core.specs.Calendar.{days_from_civil}
+use Rattle.jiff_core.specs.Date.{epoch_day}
+use Rattle.jiff_core.specs.DateTime.{civil_nanos}
+use Rattle.jiff_core.proofs.CalendarLemmas.{day_count-lt_year}
+use Rattle.jiff_core.proofs.DateLemmas.{civil}
+use Rattle.jiff_core.proofs.DateTimeLemmas.{civil_nanos-parts, time_nanos_bound}
+use Rattle.jiff_core.proofs.SignedLemmas.{signed_arith}
+use Rattle.cookie_text.specs.declared.draft.SameSite.{SameSite}
+use Rattle.cookie_text.specs.declared.draft.SameSite.TheVariants.{Strict, Lax, None as Unrestricted}
+use Rattle.cookie_text.specs.declared.expiration.Expiration.{Expiration}
+use Rattle.cookie_text.specs.declared.expiration.Expiration.TheVariants.{DateTime as At, Session}
+use Rattle.cookie_text.specs.Attribute.{Attribute, HttpOnly, Secure, Partitioned, OfSite, MaxAge, Path, Domain}
+use Rattle.cookie_text.specs.Normal.{is_short_year}
+use Rattle.cookie_text.specs.Printing.{piece_text, flag, is_set, prints_secure, whole_seconds, end_of, date_text, encoded, encoded_pair, printed_attributes}
+use Rattle.cookie_text.specs.Record.{Record, Seen, without_dot}
+use Rattle.cookie_text.specs.Setting.{IsKept, stopped, last_moment, latest_end, one_year}
+use Rattle.cookie_text.proofs.PrintedAttributes.{whole_seconds_fit}
+use Rattle.cookie_text.proofs.PrintedDates.{is_quiet, printed_quiet}
+use Rattle.cookie_run.specs.Moments.{IsMoment}
+use Rattle.cookie_run.proofs.ReadBack.{ascii, graphic_of}
+use Rattle.cookie_run.proofs.store.Commands.{EndsLate}
+use Rattle.cookie_run.proofs.store.Lines.{IsClosed}
+
+-- ---- a removal ends in 1970 at the earliest
+
+stopped_after : (n : ℤ) → pos 0 ≤ℤ n → n ≤ℤ last_moment → stopped n ≡ n
+stopped_after n h g = grind (arith, ints)
+
+early_year : (d : DateTime) → d.date.year <ℤ pos 1970 → civil_nanos d <ℤ pos 0
+unfolding days_from_civil
+early_year d h =
+    let before = day_count-lt_year d.date.year d.date.month d.date.day (pos 1970) 1 1 (civil d.date) (omega arith) h in
+    let day : epoch_day d.date <ℤ pos 0 = omega (arith, signed_arith, before) in
+    omega (arith, signed_arith, civil_nanos-parts d, day, time_nanos_bound d.time)
+
+least : (n : ℤ) → pos 0 ≤ℤ n → pos 0 ≤ℤ int_min n latest_end
+least n h = grind (arith, ints)
+
+not_short : (e : Expiration) (end : DateTime) → pos 0 ≤ℤ civil_nanos end → IsKept (At end) e
+    → is_short_year (Some e) ≡ false
+not_short Session end after kept = absurd kept
+not_short (At d) end after kept =
+    ⊎_elim
+    (λ (s : int_lt d.date.year (pos 100) ≡ true).
+    let year : d.date.year <ℤ pos 1970 = grind (arith, ints) in
+    let early = early_year d year in
+    let late : pos 0 ≤ℤ civil_nanos d = subst (λ n. pos 0 ≤ℤ n) (sym kept) (least (civil_nanos end) after) in
+    absurd (omega (arith, signed_arith, early, late)))
+    (λ (s : int_lt d.date.year (pos 100) ≡ false). s)
+    (cases_Bool (int_lt d.date.year (pos 100)))
+
+pub ends_late : (now : ℤ) → IsMoment now → EndsLate now
+ends_late now m moment c r at makes =
+    let n : ℤ = civil_nanos moment +ℤ neg_ℤ one_year in
+    let from : pos 0 ≤ℤ n = omega (arith, signed_arith, at, m.whole, m.from) in
+    let until : n ≤ℤ last_moment = omega (arith, signed_arith, at, m.whole, m.until) in
+    let is : civil_nanos makes.0 ≡ n = makes.1 ∙ stopped_after n from until in
+    ap (λ (s : Seen). is_short_year s.cookie.expires) makes.2.2 ∙ not_short makes.2.0 makes.0
+    (subst (λ x. pos 0 ≤ℤ x) (sym is) from) makes.2.1
+
+-- ---- a line is ASCII
+
+quiet_ascii : (bs : List ℕ) → list_all is_quiet bs ≡ true → AllByRecursion (λ b. b < 128) bs
+quiet_ascii [] h = tt
+quiet_ascii (b ∷ bs) h =
+    let p = and_parts (is_quiet b) (list_all is_quiet bs) h in
+    (grind (arith, nat_tests, p.0), quiet_ascii bs p.1)
+
+quiet_text : (bs : List ℕ) → list_all is_quiet bs ≡ true → IsAscii bs
+quiet_text bs h = IsAscii-from_all bs (All-from_recursion (λ b. b < 128) bs (quiet_ascii bs h))
+
+small_ascii : (bs : List ℕ) → list_all (λ b. nat_lt b 128) bs ≡ true → AllByRecursion (λ b. b < 128) bs
+small_ascii [] h = tt
+small_ascii (b ∷ bs) h =
+    let p = and_parts (nat_lt b 128) (list_all (λ b. nat_lt b 128) bs) h in
+    (grind (arith, nat_tests, p.0), small_ascii bs p.1)
+
+small_text : (bs : List ℕ) → list_all (λ b. nat_lt b 128) bs ≡ true → IsAscii bs
+small_text bs h = IsAscii-from_all bs (All-from_recursion (λ b. b < 128) bs (small_ascii bs h))
+
+flag_ascii : (b : Bool) (a : Attribute) → IsAscii (piece_text (Some a)) → IsAscii (piece_text (flag b a))
+flag_ascii true a h = h
+flag_ascii false a h = IsAscii-nil
+
+site_ascii : (o : Option SameSite) → IsAscii (piece_text (option_map OfSite o))
+site_ascii None = IsAscii-nil
+site_ascii (Some Strict) = small_text (codes "; SameSite=Strict") refl
+site_ascii (Some Lax) = small_text (codes "; SameSite=Lax") refl
+site_ascii (Some Unrestricted) = small_text (codes "; SameSite=None") refl
+
+number_ascii : (z : ℤ) → neg_ℤ (pos 9_223_372_036_854_775_808) ≤ℤ z → z ≤ℤ pos 9_223_372_036_854_775_807
+    → IsAscii (signed_decimal z)
+number_ascii (pos n) low high = IsAscii-decimal n (omega (arith, signed_arith, high))
+number_ascii (negsuc n) low high = IsAscii-append (45 ∷ []) (decimal (suc n)) (small_text (45 ∷ []) refl)
+    (IsAscii-decimal (suc n) (omega (arith, signed_arith, low)))
+
+age_ascii : (o : Option ℤ) → IfSome o IsDurationNanos
+    → IsAscii (piece_text (option_map (λ nanos. MaxAge (whole_seconds nanos)) o))
+age_ascii None h = IsAscii-nil
+age_ascii (Some n) h =
+    let fit = whole_seconds_fit n h in
+    IsAscii-append (codes "; Max-Age=") (signed_decimal (whole_seconds n)) (small_text (codes "; Max-Age=") refl)
+    (number_ascii (whole_seconds n) fit.0 fit.1)
+
+year_is : (y : ℤ) → int_lt y (pos 100) ≡ false → (n : ℕ) × (y ≡ pos n) × (100 ≤ n)
+year_is (pos n) h = (n, refl, grind (arith, ints))
+year_is (negsuc n) h = absurd (both_ways _ h refl)
+
+end_ascii : (o : Option Expiration) → is_short_year o ≡ false → IsAscii (piece_text (end_of o))
+end_ascii None h = IsAscii-nil
+end_ascii (Some Session) h = IsAscii-nil
+end_ascii (Some (At d)) h =
+    let y = year_is d.date.year h in
+    IsAscii-append (codes "; Expires=") (date_text d) (small_text (codes "; Expires=") refl)
+    (quiet_text (date_text d) (printed_quiet d y.0 y.1 y.2))
+
+pub line_utf8 : (c : Record) → IsClosed c → IsUtf8 (encoded c)
+line_utf8 c h =
+    IsUtf8-from_ascii (encoded c) (IsAscii-append _ (printed_attributes (encoded_pair c)) (ascii _ (graphic_of c)) all)
+  where
+    path : IsAscii (piece_text (option_map Path c.path))
+    path = subst (λ o. IsAscii (piece_text (option_map Path o))) (sym h.is_sent.path)
+        (small_text (codes "; Path=/") refl)
+
+    alone : IsAscii (piece_text (option_map Domain (option_map without_dot c.domain)))
+    alone = subst (λ o. IsAscii (piece_text (option_map Domain (option_map without_dot o)))) (sym h.is_sent.domain)
+        IsAscii-nil
+
+    all : IsAscii (printed_attributes (encoded_pair c))
+    all =
+        IsAscii-append (piece_text (flag (is_set c.http_only) HttpOnly)) _ (flag_ascii (is_set c.http_only) HttpOnly
+        (small_text (codes "; HttpOnly") refl))
+        (IsAscii-append (piece_text (option_map OfSite c.same_site)) _ (site_ascii c.same_site)
+        (IsAscii-append (piece_text (flag (is_set c.partitioned) Partitioned)) _
+        (flag_ascii (is_set c.partitioned) Partitioned (small_text (codes "; Partitioned") refl))
+        (IsAscii-append (piece_text (flag (prints_secure (encoded_pair c)) Secure)) _
+        (flag_ascii (prints_secure (encoded_pair c)) Secure (small_text (codes "; Secure") refl))
+        (IsAscii-append (piece_text (option_map Path c.path)) _ path
+        (IsAscii-append (piece_text (option_map Domain (option_map without_dot c.domain))) _ alone
+        (IsAscii-append (piece_text (option_map (λ nanos. MaxAge (whole_seconds nanos)) c.max_age)) _
+        (age_ascii c.max_age h.is_sent.age)
+        (IsAscii-append (piece_text (end_of c.expires)) [] (end_ascii c.expires h.readable.expires) IsAscii-nil)))))))

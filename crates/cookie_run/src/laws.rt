@@ -1,0 +1,37 @@
+//! What holds of every play on the rows of a store (RFC 6265, sections 5.2 to 5.4).
+ghost use Rattle.cookie_run.specs.store.Laws as law;
+
+use cookie::Key;
+use cookie::laws::{one_value, texts_are_utf8};
+use cookie_text::laws::encoded_records_read_back;
+
+/// At each of its https requests a site reads, in the way it was set, what its own delivered
+/// commands leave: the last set, not removed, not dead. `until` says it as far as a play came that
+/// stopped.
+pub fn sites_read_their_own(key: &Key)
+    ensures whole { law.EachPlayIsRead key.now }
+    ensures until { law.EachStoppedPlayIsRead key.now }
+{
+    encoded_records_read_back();
+    one_value();
+    texts_are_utf8();
+    let _ = key.encryption();
+}
+
+/// The lines of an answer touch rows under the URL's host alone, and under texts that it
+/// domain-matches and that are no public suffix; rows under public suffixes stay of their hosts
+/// alone. Without a host they touch none.
+pub fn answers_are_confined()
+    ensures { law.AnswersAreConfined }
+{
+    cookie_store::laws();
+}
+
+/// The line of a session's cookie, received at an https URL of the host that sent it, becomes a row
+/// of that host alone under the path `/`, or leaves no live row of its key where it is dead then.
+/// Nothing refuses it but `Expired`, and that only where it is dead.
+pub fn sent_lines_are_taken()
+    ensures { law.SentLinesAreTaken }
+{
+    encoded_records_read_back();
+}
