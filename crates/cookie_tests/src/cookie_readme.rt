@@ -17,7 +17,6 @@ fn tells_the_client_what_changed(rt: HostRuntime) -> Result<(), Fail> {
     let now = DateTime::constant(2024, 1, 1, 0, 0, 0, 0);
     jar.remove(Cookie::new("theme", ""), now)?;
     assert!(rt; jar.get("theme").is_none());
-    assert_eq!(rt; jar.delta().count(), 3);
     let user = jar.signed(&key).get("user")?;
     assert!(rt; user.is_some_and(|user| user.value() == "7"));
     for cookie in jar.delta() {
