@@ -76,11 +76,16 @@ class Bundle:
             self.run(kept)
             return
         self.read()
-        stray = [file for file, _ in self.errors if not any(it.owns_file(file) for it in self.asked.values())]
+        stray = [file for file, _ in self.errors if not any(self.is_of(it, file) for it in self.edits)]
         last = ran.stdout.rstrip("\n").rpartition("\n")[2]
         self.is_whole = ran.returncode in (0, 1) and last.startswith("only=") and not stray
         unknown = UNKNOWN.search(ran.stdout)
         self.unknown = unknown[1] if unknown and ran.returncode == 2 else None
+
+    def is_of(self, edit, file):
+        """Whether an error in the file is due to the edit: where it is tried alone, so is one in any proof."""
+        is_alone = len(self.edits) == 1 and file.startswith("proofs/")
+        return is_alone or any(it.owns_file(file) for it in edit.functions)
 
     def fill(self, room, texts):
         for part in self.rt.rtlib.PARTS:
@@ -144,7 +149,7 @@ class Bundle:
             return Verdict(Verdict.WHOLE)
         own = [name for name in self.told if any(it.owns(name) for it in edit.functions)]
         failed = [name for name in own if self.told[name].startswith(FAILS)]
-        errors = [it for it in self.errors if any(its.owns_file(it[0]) for its in edit.functions)]
+        errors = [it for it in self.errors if self.is_of(edit, it[0])]
         gone = [it for it in errors if GONE.search(it[1])]
         # A goal can be open only because its answer, or the loop's invariant, went with a name.
         is_blind = any(file.endswith("/Invariants.antt") or GOAL_GONE.search(text) for file, text in gone)
