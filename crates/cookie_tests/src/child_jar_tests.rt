@@ -39,18 +39,27 @@ fn removes_signed(alloc: Global) -> Result<bool, AllocError> {
     settled(&jar, done, "a", SIGNED, "-")
 }
 
+// (what owns a jar has one way out: each further one costs the proof as much again)
+fn has_signed(jar: &CookieJar) -> Result<bool, AllocError> {
+    let own = gives_signed(jar, &jefe(), "a", DATA)?;
+    let other = gives_signed(jar, &zero_key(), "a", "-")?;
+    Ok(own && other && gives_signed(jar, &jefe(), "b", "-")?)
+}
+
 fn reads_signed(alloc: Global) -> Result<bool, AllocError> {
     let jar = with_original(alloc, "a", SIGNED)?;
-    let own = gives_signed(&jar, &jefe(), "a", DATA)?;
-    let other = gives_signed(&jar, &zero_key(), "a", "-")?;
-    Ok(own && other && gives_signed(&jar, &jefe(), "b", "-")?)
+    has_signed(&jar)
+}
+
+fn has_signed_of_mut(jar: &mut CookieJar) -> Result<bool, AllocError> {
+    let found = is_read(jar.signed_mut(&jefe()).get("a"), DATA)?;
+    let cookie = Cookie::new("c", SIGNED);
+    Ok(found && is_read(jar.signed_mut(&jefe()).verify(cookie), DATA)?)
 }
 
 fn reads_signed_of_mut(alloc: Global) -> Result<bool, AllocError> {
     let mut jar = with_original(alloc, "a", SIGNED)?;
-    let found = is_read(jar.signed_mut(&jefe()).get("a"), DATA)?;
-    let cookie = Cookie::new("c", SIGNED);
-    Ok(found && is_read(jar.signed_mut(&jefe()).verify(cookie), DATA)?)
+    has_signed_of_mut(&mut jar)
 }
 
 fn verifies(alloc: Global) -> Result<bool, AllocError> {
@@ -65,8 +74,12 @@ fn verifies(alloc: Global) -> Result<bool, AllocError> {
 // Whether the text is read as no signing, of a cookie and in a jar.
 fn is_no_signing(alloc: Global, text: &'static str) -> Result<bool, AllocError> {
     let jar = with_original(alloc, "a", text)?;
+    verifies_no(&jar, text)
+}
+
+fn verifies_no(jar: &CookieJar, text: &'static str) -> Result<bool, AllocError> {
     let alone = is_read(jar.signed(&jefe()).verify(Cookie::new("a", text)), "-")?;
-    Ok(alone && gives_signed(&jar, &jefe(), "a", "-")?)
+    Ok(alone && gives_signed(jar, &jefe(), "a", "-")?)
 }
 
 fn seals(alloc: Global) -> Result<bool, PrivateError> {
@@ -95,17 +108,25 @@ fn removes_sealed(alloc: Global) -> Result<bool, AllocError> {
     settled(&jar, done, "", SEALED, "-")
 }
 
+fn has_sealed(jar: &CookieJar) -> Result<bool, AllocError> {
+    let own = gives_sealed(jar, &zero_key(), "", "")?;
+    Ok(own && gives_sealed(jar, &Key::from(&[1; 64]), "", "-")?)
+}
+
 fn reads_sealed(alloc: Global) -> Result<bool, AllocError> {
     let jar = with_original(alloc, "", SEALED)?;
-    let own = gives_sealed(&jar, &zero_key(), "", "")?;
-    Ok(own && gives_sealed(&jar, &Key::from(&[1; 64]), "", "-")?)
+    has_sealed(&jar)
+}
+
+fn has_sealed_of_mut(jar: &mut CookieJar) -> Result<bool, AllocError> {
+    let found = is_read(jar.private_mut(&zero_key()).get(""), "")?;
+    let cookie = Cookie::new("", SEALED);
+    Ok(found && is_read(jar.private_mut(&zero_key()).decrypt(cookie), "")?)
 }
 
 fn reads_sealed_of_mut(alloc: Global) -> Result<bool, AllocError> {
     let mut jar = with_original(alloc, "", SEALED)?;
-    let found = is_read(jar.private_mut(&zero_key()).get(""), "")?;
-    let cookie = Cookie::new("", SEALED);
-    Ok(found && is_read(jar.private_mut(&zero_key()).decrypt(cookie), "")?)
+    has_sealed_of_mut(&mut jar)
 }
 
 fn decrypts(alloc: Global) -> Result<bool, AllocError> {
@@ -150,32 +171,35 @@ fn seals_at_random(alloc: Global) -> Result<bool, PrivateError> {
     Ok(value(&jar, "a").starts_with("drjgraDxPZBAXWrl"))
 }
 
-// A jar with two cookies that were sealed under one fill after the other.
-fn sealed_by_fills(alloc: Global) -> Result<CookieJar, PrivateError> {
-    let mut jar = CookieJar::new(alloc);
+// Seals two cookies under one fill after the other, and reads them.
+fn seals_both(jar: &mut CookieJar) -> Result<bool, PrivateError> {
     let mut rng = counter(1, false);
-    seal(&mut jar, "a", &mut rng)?;
-    seal_original(&mut jar, "b", &mut rng)?;
-    Ok(jar)
-}
-
-fn seals_under_fills(alloc: Global) -> Result<bool, PrivateError> {
-    let jar = sealed_by_fills(alloc)?;
-    let is_first = value(&jar, "a").starts_with("AAECAwQFBgcICQoL");
-    let is_second = value(&jar, "b").starts_with("DA0ODxAREhMUFRYX");
-    let are_read = gives_sealed(&jar, &zero_key(), "a", "1")?
-        && gives_sealed(&jar, &zero_key(), "b", "1")?;
+    seal(jar, "a", &mut rng)?;
+    seal_original(jar, "b", &mut rng)?;
+    let is_first = value(jar, "a").starts_with("AAECAwQFBgcICQoL");
+    let is_second = value(jar, "b").starts_with("DA0ODxAREhMUFRYX");
+    let are_read = gives_sealed(jar, &zero_key(), "a", "1")?
+        && gives_sealed(jar, &zero_key(), "b", "1")?;
     Ok(is_first && is_second && are_read)
 }
 
+fn seals_under_fills(alloc: Global) -> Result<bool, PrivateError> {
+    let mut jar = CookieJar::new(alloc);
+    seals_both(&mut jar)
+}
+
 // What two additions in a row leave, the tags by another program.
+fn adds_both(jar: &mut CookieJar) -> Result<bool, PrivateError> {
+    let mut rng = counter(1, false);
+    seal(jar, "a", &mut rng)?;
+    seal(jar, "b", &mut rng)?;
+    let first = value(jar, "a") == "AAECAwQFBgcICQoLuVLbNduDJNyTidDWHMaQS5A=";
+    Ok(first && value(jar, "b") == "DA0ODxAREhMUFRYXO2dZhm82pLGHbkCLNJ1xy2s=")
+}
+
 fn adds_under_fills(alloc: Global) -> Result<bool, PrivateError> {
     let mut jar = CookieJar::new(alloc);
-    let mut rng = counter(1, false);
-    seal(&mut jar, "a", &mut rng)?;
-    seal(&mut jar, "b", &mut rng)?;
-    let first = value(&jar, "a") == "AAECAwQFBgcICQoLuVLbNduDJNyTidDWHMaQS5A=";
-    Ok(first && value(&jar, "b") == "DA0ODxAREhMUFRYXO2dZhm82pLGHbkCLNJ1xy2s=")
+    adds_both(&mut jar)
 }
 
 // A fill that fails seals nothing.
@@ -201,12 +225,16 @@ fn moves(
 }
 
 // A sealed value that is moved under the name as it is escaped opens no more.
+fn opens_under_its_name(alloc: Global, jar: &mut CookieJar) -> Result<bool, PrivateError> {
+    seal(jar, "a b", &mut counter(1, false))?;
+    moves(alloc, jar, "a b", "a%20b")?;
+    let own = gives_sealed(jar, &zero_key(), "a b", "1")?;
+    Ok(own && gives_sealed(jar, &zero_key(), "a%20b", "-")?)
+}
+
 fn seals_the_name(alloc: Global) -> Result<bool, PrivateError> {
     let mut jar = CookieJar::new(alloc);
-    seal(&mut jar, "a b", &mut counter(1, false))?;
-    moves(alloc, &mut jar, "a b", "a%20b")?;
-    let own = gives_sealed(&jar, &zero_key(), "a b", "1")?;
-    Ok(own && gives_sealed(&jar, &zero_key(), "a%20b", "-")?)
+    opens_under_its_name(alloc, &mut jar)
 }
 
 // Each sealing takes the next twelve bytes, and is read under its own name alone.
@@ -222,8 +250,12 @@ fn seals_under_the_bytes_of_a_fill(rt: HostRuntime) {
 // Whether the text is read as no sealing, of a cookie and in a jar.
 fn is_no_sealing(alloc: Global, text: &'static str) -> Result<bool, AllocError> {
     let jar = with_original(alloc, "", text)?;
+    opens_no(&jar, text)
+}
+
+fn opens_no(jar: &CookieJar, text: &'static str) -> Result<bool, AllocError> {
     let alone = is_read(jar.private(&zero_key()).decrypt(Cookie::new("", text)), "-")?;
-    Ok(alone && gives_sealed(&jar, &zero_key(), "", "-")?)
+    Ok(alone && gives_sealed(jar, &zero_key(), "", "-")?)
 }
 
 #[test]

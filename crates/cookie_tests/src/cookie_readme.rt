@@ -3,7 +3,15 @@
 // README: crates/cookie/README.md
 use cookie::{Cookie, CookieJar, Host, Key};
 use jiff::civil::DateTime;
+use std::alloc::AllocError;
 use std::test::Fail;
+
+// What the answer is to set and to remove.
+fn sign_in(jar: &mut CookieJar, key: &Key, now: DateTime) -> Result<(), AllocError> {
+    jar.signed_mut(key).add(Cookie::new("user", "7"))?;
+    jar.prefixed_mut(Host).add(Cookie::new("sid", "a3f"))?;
+    jar.remove(Cookie::new("theme", ""), now)
+}
 
 #[test]
 fn tells_the_client_what_changed(rt: HostRuntime) -> Result<(), Fail> {
@@ -11,11 +19,7 @@ fn tells_the_client_what_changed(rt: HostRuntime) -> Result<(), Fail> {
     let mut jar = CookieJar::new(rt.alloc());
     // The cookies of the request.
     jar.add_original(Cookie::new("theme", "dark"))?;
-    // What the answer is to set and to remove.
-    jar.signed_mut(&key).add(Cookie::new("user", "7"))?;
-    jar.prefixed_mut(Host).add(Cookie::new("sid", "a3f"))?;
-    let now = DateTime::constant(2024, 1, 1, 0, 0, 0, 0);
-    jar.remove(Cookie::new("theme", ""), now)?;
+    sign_in(&mut jar, &key, DateTime::constant(2024, 1, 1, 0, 0, 0, 0))?;
     assert!(rt; jar.get("theme").is_none());
     let user = jar.signed(&key).get("user")?;
     assert!(rt; user.is_some_and(|user| user.value() == "7"));
