@@ -1,7 +1,7 @@
 //! What becomes of cookies that are received.
 
 use crate::fixtures::{at, is_answer, store_with};
-use cookie_store::{Cookie, CookieStore, RawCookie};
+use cookie_store::{Cookie, CookieStore, InsertResult, RawCookie};
 use std::alloc::Global;
 use std::test::Fail;
 use url::Url;
@@ -42,10 +42,19 @@ file:///foo|a=1|NonRelativeScheme";
 // What becomes of a cookie that `RawCookie::parse` reads.
 fn raw_answer(alloc: Global, store: &mut CookieStore, url: &str, text: &str) -> Option<String> {
     let url = Url::parse(alloc, url).ok()?;
-    let Ok(cookie) = RawCookie::parse(text) else {
-        return String::from_str(alloc, "Parse").ok();
-    };
-    match store.insert_raw(&cookie, &url, at(0)) {
+    answer_from(alloc, store, &url, text)
+}
+
+// (what owns a URL, or a cookie, has one way out: each further one costs the proof as much again)
+fn answer_from(alloc: Global, store: &mut CookieStore, url: &Url, text: &str) -> Option<String> {
+    match RawCookie::parse(text) {
+        Ok(cookie) => told(alloc, store.insert_raw(&cookie, url, at(0))),
+        Err(_) => String::from_str(alloc, "Parse").ok(),
+    }
+}
+
+fn told(alloc: Global, answer: InsertResult) -> Option<String> {
+    match answer {
         Ok(action) => format!(in alloc; "{action:?}").ok(),
         Err(cause) => format!(in alloc; "{cause:?}").ok(),
     }
