@@ -1,11 +1,14 @@
 -- Rows of which no two have one key.
-use Rattle.std.proofs.Common.{◌≡◌, ℤ, Bool, true, false, cond, not, ◌&&◌, ◌||◌, List, [], ◌∷◌, map, refl, sym, ap, ◌∙◌, true≢false}
+use Rattle.std.proofs.Common.{◌≡◌, ℤ, Bool, true, false, cond, not, ◌&&◌, ◌||◌, List, [], ◌∷◌, map, refl, sym, ap, ◌∙◌}
+use Rattle.std.proofs.Common.{true≢false}
 use Rattle.std.specs.Prelude.{Option, Some, None, MatchOption, is_some, option_and_then, if◌then◌else◌}
 use Rattle.std.specs.List.{find, list_any}
 use Rattle.std.specs.Str.{bytes_eq}
 use Rattle.std.proofs.lemmas.Bool.{cond-true, cond-false, or_parts, or_from, and_left, and_parts}
 use Rattle.std.proofs.lemmas.Option.{none-some, same_Some}
-use Rattle.cookie_store.specs.Rows.{Row, Key, AreApart, key_of, has_key, has_key_of, has_place, has_domain, behind_last, put_in_place, found, found_live, is_live, is_live_at, is_live_of, expired, ended, put, has_place_of}
+use Rattle.cookie_store.specs.Rows.{Row, Key, AreApart, key_of, has_key, has_key_of, has_place, has_domain, behind_last}
+use Rattle.cookie_store.specs.Rows.{put_in_place, found, found_live, is_live, is_live_at, is_live_of, expired, ended}
+use Rattle.cookie_store.specs.Rows.{put, has_place_of}
 use Rattle.cookie_store.proofs.GroupLemmas.{same_text}
 use Rattle.cookie_store.proofs.PlaceLaws.{has_own_key}
 use Rattle.cookie_store.proofs.PlaceLemmas.{find-none, none_stricter, put_in_place-none}

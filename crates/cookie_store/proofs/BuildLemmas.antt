@@ -1,5 +1,6 @@
 -- The rows of a tree, put one after another into nothing, stand as they do.
-use Rattle.std.proofs.Common.{◌≡◌, ℕ, Bool, true, false, cond, List, [], ◌∷◌, ◌++◌, refl, sym, ap, subst, ◌∙◌, append_assoc, append-nil, true≢false}
+use Rattle.std.proofs.Common.{◌≡◌, ℕ, Bool, true, false, cond, List, [], ◌∷◌, ◌++◌, refl, sym, ap, subst, ◌∙◌}
+use Rattle.std.proofs.Common.{append_assoc, append-nil, true≢false}
 use Rattle.std.specs.Prelude.{Some, None}
 use Rattle.std.specs.List.{list_any, AllByRecursion}
 use Rattle.std.specs.Str.{bytes_eq}
@@ -9,9 +10,11 @@ use Rattle.std.proofs.lemmas.Option.{none-some}
 use Rattle.cookie_store.specs.Entries.{value_at}
 use Rattle.cookie_store.specs.Rows.{Row, Key, key, key_of, has_key, has_place, has_domain, put}
 use Rattle.cookie_store.specs.StoredCookie.{stored_of}
-use Rattle.cookie_store.specs.Tree.{Names, Paths, Domains, AreNames, ArePaths, AreDomains, rows_of_names, rows_of_paths, rows_of}
+use Rattle.cookie_store.specs.Tree.{Names, Paths, Domains, AreNames, ArePaths, AreDomains, rows_of_names, rows_of_paths}
+use Rattle.cookie_store.specs.Tree.{rows_of}
 use Rattle.cookie_store.proofs.GroupLemmas.{is_filled, other_way}
-use Rattle.cookie_store.proofs.PlaceLemmas.{put_by, none_of, no_place, put-among_place, put-among_domain, put-last_of_place, put-last_of_domain, put-last}
+use Rattle.cookie_store.proofs.PlaceLemmas.{put_by, none_of, no_place, put-among_place, put-among_domain}
+use Rattle.cookie_store.proofs.PlaceLemmas.{put-last_of_place, put-last_of_domain, put-last}
 use Rattle.cookie_store.proofs.TreeLemmas.{all_append, is_name, of_path, of_domain, own_names, own_paths}
 
 -- each row, put behind those before it, goes last

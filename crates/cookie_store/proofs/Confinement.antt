@@ -1,19 +1,22 @@
 -- Which rows an insertion can touch.
-use Rattle.std.proofs.Common.{◌≡◌, inl, inr, ℕ, ℤ, Bool, true, false, cond, not, ◌&&◌, List, [], ◌∷◌, filter, map, refl, sym, ap, subst, ◌∙◌}
+use Rattle.std.proofs.Common.{◌≡◌, inl, inr, ℕ, ℤ, Bool, true, false, cond, not, ◌&&◌, List, [], ◌∷◌, filter, map, refl}
+use Rattle.std.proofs.Common.{sym, ap, subst, ◌∙◌}
 use Rattle.std.specs.Prelude.{Option, Some, None, Ok, IsSomeAnd}
 use Rattle.std.specs.List.{list_any, AllByRecursion}
 use Rattle.std.specs.Str.{bytes_eq}
 use Rattle.std.proofs.lemmas.Bool.{cond-true, cond-false, and_parts, both_ways}
 use Rattle.publicsuffix.specs.Prevailing.{Listed}
 use Rattle.publicsuffix.specs.Rules.{Rule}
-use Rattle.store_parts.specs.DomainMatch.{Domain, host_only, suffix, not_present, empty, text_or_empty, Covers, CoversAt, IsListedIn}
+use Rattle.store_parts.specs.DomainMatch.{Domain, host_only, suffix, not_present, empty, text_or_empty, Covers}
+use Rattle.store_parts.specs.DomainMatch.{CoversAt, IsListedIn}
 use Rattle.store_parts.specs.Expiry.{is_dead}
 use Rattle.store_parts.specs.Schemes.{host_of}
 use Rattle.store_parts.specs.declared.error.CookieError.TheVariants.{Expired}
 use Rattle.url.specs.Parts.{Parts}
 use Rattle.cookie_store.specs.Confined.{MaySet, rows_under, IsAlone, IsConfined}
 use Rattle.cookie_store.specs.Insertion.{End, action_of, settled, Fits, Inserts, alone, refused}
-use Rattle.cookie_store.specs.Rows.{Row, Key, key_of, domain_text, has_key_of, has_place_of, has_domain, is_live, is_live_of, expired, ended, behind_last, put_in_place, put}
+use Rattle.cookie_store.specs.Rows.{Row, Key, key_of, domain_text, has_key_of, has_place_of, has_domain, is_live}
+use Rattle.cookie_store.specs.Rows.{is_live_of, expired, ended, behind_last, put_in_place, put}
 use Rattle.cookie_store.specs.declared.action.StoreAction.TheVariants.{ExpiredExisting}
 use Rattle.cookie_store.proofs.ApartLemmas.{key_is}
 use Rattle.cookie_store.proofs.GroupLemmas.{same_text}

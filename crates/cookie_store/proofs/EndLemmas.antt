@@ -1,5 +1,6 @@
 -- How an insertion ends.
-use Rattle.std.proofs.Common.{◌≡◌, ◌≢◌, ◌⊎◌, inl, inr, ℤ, Bool, true, false, cond, not, List, [], ◌∷◌, ◌++◌, refl, sym, ap, subst, ◌∙◌, true≢false}
+use Rattle.std.proofs.Common.{◌≡◌, ◌≢◌, ◌⊎◌, inl, inr, ℤ, Bool, true, false, cond, not, List, [], ◌∷◌, ◌++◌, refl, sym}
+use Rattle.std.proofs.Common.{ap, subst, ◌∙◌, true≢false}
 use Rattle.std.specs.Prelude.{Some, Result, Ok, Err}
 use Rattle.std.specs.List.{list_any}
 use Rattle.std.proofs.lemmas.Bool.{cond-false}
@@ -8,10 +9,13 @@ use Rattle.cookie_text.specs.declared.error.ParseError.{ParseError}
 use Rattle.publicsuffix.specs.Rules.{Rule}
 use Rattle.store_parts.specs.Expiry.{is_dead}
 use Rattle.store_parts.specs.declared.error.CookieError.{CookieError}
-use Rattle.store_parts.specs.declared.error.CookieError.TheVariants.{NonHttpScheme, NonRelativeScheme, PublicSuffix, DomainMismatch, Expired, Parse, UnspecifiedDomain, OutOfMemory}
+use Rattle.store_parts.specs.declared.error.CookieError.TheVariants.{NonHttpScheme, NonRelativeScheme, PublicSuffix}
+use Rattle.store_parts.specs.declared.error.CookieError.TheVariants.{DomainMismatch, Expired, Parse, UnspecifiedDomain}
+use Rattle.store_parts.specs.declared.error.CookieError.TheVariants.{OutOfMemory}
 use Rattle.url.specs.Parts.{Parts}
 use Rattle.cookie_store.specs.Given.{ArePicked}
-use Rattle.cookie_store.specs.Insertion.{End, action_of, settled, Settles, Fits, Admits, Inserts, InsertsRead, Receives, ReceivesAll, OrLacks, Lacks, alone, refused}
+use Rattle.cookie_store.specs.Insertion.{End, action_of, settled, Settles, Fits, Admits, Inserts, InsertsRead, Receives}
+use Rattle.cookie_store.specs.Insertion.{ReceivesAll, OrLacks, Lacks, alone, refused}
 use Rattle.cookie_store.specs.Rows.{Row, AreApart, key_of, found_live, is_live, is_live_of, ended, put}
 use Rattle.cookie_store.specs.Steps.{Passes}
 use Rattle.cookie_store.specs.declared.action.StoreAction.{StoreAction}

@@ -1,12 +1,14 @@
 -- What putting a row leaves of the other rows, and that it is found.
-use Rattle.std.proofs.Common.{◌≡◌, Bool, true, false, cond, not, ◌&&◌, ◌||◌, List, [], ◌∷◌, ◌++◌, filter, refl, sym, ap, ◌∙◌}
+use Rattle.std.proofs.Common.{◌≡◌, Bool, true, false, cond, not, ◌&&◌, ◌||◌, List, [], ◌∷◌, ◌++◌, filter, refl, sym, ap}
+use Rattle.std.proofs.Common.{◌∙◌}
 use Rattle.std.specs.Prelude.{Some, None}
 use Rattle.std.specs.List.{find, list_any}
 use Rattle.std.specs.Str.{bytes_eq}
 use Rattle.std.proofs.lemmas.Bool.{cond-true, cond-false, or_parts, or_from, and_from, false≢true}
 use Rattle.std.proofs.lemmas.Option.{same_Some}
 use Rattle.cookie_store.specs.Laws.{IsLastOfPlace}
-use Rattle.cookie_store.specs.Rows.{Row, Key, key_of, has_key, has_key_of, has_place, has_domain, has_place_of, behind_last, put_in_place, put, found, removed}
+use Rattle.cookie_store.specs.Rows.{Row, Key, key_of, has_key, has_key_of, has_place, has_domain, has_place_of}
+use Rattle.cookie_store.specs.Rows.{behind_last, put_in_place, put, found, removed}
 use Rattle.cookie_store.proofs.GroupLemmas.{text_is}
 use Rattle.cookie_store.proofs.PlaceLemmas.{put_by, no_place}
 

@@ -6,10 +6,13 @@ use Rattle.std.proofs.lemmas.Option.{none-some}
 use Rattle.cookie_text.specs.Printing.{is_set}
 use Rattle.cookie_text.specs.Record.{Seen, unsliced}
 use Rattle.publicsuffix.specs.Rules.{Rule}
-use Rattle.store_parts.specs.DomainMatch.{Domain, host_only, suffix, not_present, empty, text_of, text_or_empty, IsHostOf}
+use Rattle.store_parts.specs.DomainMatch.{Domain, host_only, suffix, not_present, empty, text_of, text_or_empty}
+use Rattle.store_parts.specs.DomainMatch.{IsHostOf}
 use Rattle.store_parts.specs.Schemes.{host_of}
 use Rattle.store_parts.specs.declared.error.CookieError.{CookieError}
-use Rattle.store_parts.specs.declared.error.CookieError.TheVariants.{NonHttpScheme, NonRelativeScheme, PublicSuffix, DomainMismatch, Expired, Parse, UnspecifiedDomain, OutOfMemory}
+use Rattle.store_parts.specs.declared.error.CookieError.TheVariants.{NonHttpScheme, NonRelativeScheme, PublicSuffix}
+use Rattle.store_parts.specs.declared.error.CookieError.TheVariants.{DomainMismatch, Expired, Parse, UnspecifiedDomain}
+use Rattle.store_parts.specs.declared.error.CookieError.TheVariants.{OutOfMemory}
 use Rattle.url.specs.Parts.{Parts}
 use Rattle.cookie_store.specs.Given.{shown}
 use Rattle.cookie_store.specs.Insertion.{End, Inserts, Receives, OrLacks, alone, refused}

@@ -1,5 +1,6 @@
 -- The rows of a tree: what a call does to the tree, it does to them.
-use Rattle.std.proofs.Common.{◌≡◌, ◌≢◌, ℕ, Bool, true, false, cond, not, ◌&&◌, List, [], ◌∷◌, ◌++◌, refl, sym, ap, subst, ◌∙◌, true≢false}
+use Rattle.std.proofs.Common.{◌≡◌, ◌≢◌, ℕ, Bool, true, false, cond, not, ◌&&◌, List, [], ◌∷◌, ◌++◌, refl, sym, ap}
+use Rattle.std.proofs.Common.{subst, ◌∙◌, true≢false}
 use Rattle.std.specs.Prelude.{Option, Some, None, is_some, unwrap_or, option_map, MatchOption}
 use Rattle.std.specs.List.{list_any, AllByRecursion}
 use Rattle.std.specs.Str.{bytes_eq}
@@ -11,11 +12,18 @@ use Rattle.std.proofs.lemmas.List.Folds.{list_any-append}
 use Rattle.cookie_store.specs.StoredCookie.{stored_of}
 use Rattle.cookie_store.specs.declared.stored_cookie.Cookie.{Cookie}
 use Rattle.cookie_store.specs.Entries.{value_at, set_at, with_value, without, by_bytes}
-use Rattle.cookie_store.specs.Rows.{Row, Key, AreApart, key_of, has_key, has_place, has_domain, put_in_place, put, expired, found, removed}
-use Rattle.cookie_store.specs.Tree.{Names, Paths, Domains, IsTidy, AreNames, ArePaths, AreDomains, rows_of_names, rows_of_paths, rows_of, entries_at, with_entries, with_name, with_path, with_row, without_path, without_row, name_at, path_at, row_at, Expires}
+use Rattle.cookie_store.specs.Rows.{Row, Key, AreApart, key_of, has_key, has_place, has_domain, put_in_place, put}
+use Rattle.cookie_store.specs.Rows.{expired, found, removed}
+use Rattle.cookie_store.specs.Tree.{Names, Paths, Domains, IsTidy, AreNames, ArePaths, AreDomains, rows_of_names}
+use Rattle.cookie_store.specs.Tree.{rows_of_paths, rows_of, entries_at, with_entries, with_name, with_path, with_row}
+use Rattle.cookie_store.specs.Tree.{without_path, without_row, name_at, path_at, row_at, Expires}
 use Rattle.cookie_store.proofs.ApartLemmas.{any_is_found, found_key}
-use Rattle.cookie_store.proofs.GroupLemmas.{same_text, text_is, set_at-present, set_at-absent, without-absent, with_value-absent, with_value-nonempty, is_filled, tidy-value_at, tidy-with_value, tidy-without, none_absent, Splits, splits}
-use Rattle.cookie_store.proofs.PlaceLemmas.{put_by, put_in_place-none, find-none, find-within, filter-none, filter-within, no_place, no_key, put-among_place, put-among_domain, put-present, put-last_of_place, put-last_of_domain, put-last}
+use Rattle.cookie_store.proofs.GroupLemmas.{same_text, text_is, set_at-present, set_at-absent, without-absent}
+use Rattle.cookie_store.proofs.GroupLemmas.{with_value-absent, with_value-nonempty, is_filled, tidy-value_at}
+use Rattle.cookie_store.proofs.GroupLemmas.{tidy-with_value, tidy-without, none_absent, Splits, splits}
+use Rattle.cookie_store.proofs.PlaceLemmas.{put_by, put_in_place-none, find-none, find-within, filter-none}
+use Rattle.cookie_store.proofs.PlaceLemmas.{filter-within, no_place, no_key, put-among_place, put-among_domain}
+use Rattle.cookie_store.proofs.PlaceLemmas.{put-present, put-last_of_place, put-last_of_domain, put-last}
 
 pub all_append : {A : Type 0} (P : A → Type 0) (xs ys : List A) → AllByRecursion P xs → AllByRecursion P ys
     → AllByRecursion P (xs ++ ys)

@@ -1,5 +1,6 @@
 -- What becomes of a cookie at its insertion, and the rows after it (RFC 6265, 5.3, steps 3 to 12).
-use Rattle.std.specs.Prelude.{◌≡◌, ◌≢◌, ◌⊎◌, ℕ, ℤ, List, [], ◌∷◌, ◌++◌, true, ◌&&◌, Option, Result, Ok, Err, if◌then◌else◌}
+use Rattle.std.specs.Prelude.{◌≡◌, ◌≢◌, ◌⊎◌, ℕ, ℤ, List, [], ◌∷◌, ◌++◌, true, ◌&&◌, Option, Result, Ok, Err}
+use Rattle.std.specs.Prelude.{if◌then◌else◌}
 use Rattle.std.specs.Iterator.{Drains, Yields}
 use Rattle.std.specs.List.{list_any}
 use Rattle.cookie_text.specs.Printing.{is_set}
@@ -11,7 +12,8 @@ use Rattle.store_parts.specs.DomainMatch.{host_only, CoversAt, IsHostOf, IsListe
 use Rattle.store_parts.specs.Expiry.{is_dead}
 use Rattle.store_parts.specs.Schemes.{IsHttpScheme}
 use Rattle.store_parts.specs.declared.error.CookieError.{CookieError}
-use Rattle.store_parts.specs.declared.error.CookieError.TheVariants.{NonHttpScheme, PublicSuffix, DomainMismatch, Expired, Parse, OutOfMemory}
+use Rattle.store_parts.specs.declared.error.CookieError.TheVariants.{NonHttpScheme, PublicSuffix, DomainMismatch}
+use Rattle.store_parts.specs.declared.error.CookieError.TheVariants.{Expired, Parse, OutOfMemory}
 use Rattle.url.specs.Parts.{Parts}
 use Rattle.cookie_store.specs.Making.{IsBarred, IsMade, IsRefused}
 use Rattle.cookie_store.specs.Rows.{Row, domain_text, has_key_of, is_live_of, ended, put}

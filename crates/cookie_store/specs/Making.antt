@@ -1,5 +1,6 @@
 -- What a cookie that is received from a URL becomes in a store (RFC 6265, 5.3, steps 3 to 10).
-use Rattle.std.specs.Prelude.{◌≡◌, ◌⊎◌, ℕ, ℤ, List, true, Option, Some, None, IsSomeAnd, option_and_then, option_map, unwrap_or, Result, Err, MatchResult}
+use Rattle.std.specs.Prelude.{◌≡◌, ◌⊎◌, ℕ, ℤ, List, true, Option, Some, None, IsSomeAnd, option_and_then, option_map}
+use Rattle.std.specs.Prelude.{unwrap_or, Result, Err, MatchResult}
 use Rattle.cookie_text.specs.Reading.{ReadsPlain}
 use Rattle.cookie_text.specs.Record.{Record, Seen, domain_of as domain_attribute}
 use Rattle.cookie_text.specs.declared.error.ParseError.{ParseError}
@@ -9,7 +10,9 @@ use Rattle.store_parts.specs.Expiry.{death}
 use Rattle.store_parts.specs.PathMatch.{Path, default_path_at, read_path}
 use Rattle.store_parts.specs.Schemes.{IsHttpScheme, host_of}
 use Rattle.store_parts.specs.declared.error.CookieError.{CookieError}
-use Rattle.store_parts.specs.declared.error.CookieError.TheVariants.{NonHttpScheme, NonRelativeScheme, DomainMismatch, Expired, Parse, PublicSuffix, UnspecifiedDomain, OutOfMemory}
+use Rattle.store_parts.specs.declared.error.CookieError.TheVariants.{NonHttpScheme, NonRelativeScheme, DomainMismatch}
+use Rattle.store_parts.specs.declared.error.CookieError.TheVariants.{Expired, Parse, PublicSuffix, UnspecifiedDomain}
+use Rattle.store_parts.specs.declared.error.CookieError.TheVariants.{OutOfMemory}
 use Rattle.url.specs.Parts.{Parts}
 use Rattle.cookie_store.specs.StoredCookie.{StoredCookie}
 

@@ -1,5 +1,6 @@
 -- The rows of a store, one flat list (RFC 6265, 5.3, steps 11 and 12). Where a new row goes is this repository's own.
-use Rattle.std.specs.Prelude.{◌≡◌, ℕ, ℤ, List, [], ◌∷◌, map, filter, Bool, false, not, ◌&&◌, Option, Some, if◌then◌else◌}
+use Rattle.std.specs.Prelude.{◌≡◌, ℕ, ℤ, List, [], ◌∷◌, map, filter, Bool, false, not, ◌&&◌, Option, Some}
+use Rattle.std.specs.Prelude.{if◌then◌else◌}
 use Rattle.std.specs.List.{find, list_any}
 use Rattle.std.specs.Str.{bytes_eq}
 use Rattle.publicsuffix.specs.Rules.{Rule}

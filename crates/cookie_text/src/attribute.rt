@@ -1,9 +1,11 @@
 //! What one piece of a cookie's text gives.
-ghost use Rattle.std.specs.Prelude.{◌≡◌, ◌≢◌, Some, None, ℕ, List, ℤ, MatchOption, option_copied, IsTrue, IsSome, ◌↔◌, codes, pos, option_map};
+ghost use Rattle.std.specs.Prelude.{◌≡◌, ◌≢◌, Some, None, ℕ, List, ℤ, MatchOption, option_copied, IsTrue, IsSome, ◌↔◌};
+ghost use Rattle.std.specs.Prelude.{codes, pos, option_map};
 ghost use Rattle.std.specs.Str.{str_to_ascii_lowercase};
 ghost use Rattle.cookie_text.specs.Pieces.{name_of, value_of};
 ghost use Rattle.cookie_text.specs.declared.attribute.Kind.{Kind as Kinds};
-ghost use Rattle.cookie_text.specs.Attribute.{kind_name, small_name, AreDigits, IsSeconds, Attribute as Said, Gives, Says, kind};
+ghost use Rattle.cookie_text.specs.Attribute.{kind_name, small_name, AreDigits, IsSeconds, Attribute as Said, Gives};
+ghost use Rattle.cookie_text.specs.Attribute.{Says, kind};
 ghost use Rattle.cookie_text.specs.declared.draft.SameSite.{SameSite as Sites};
 ghost use Rattle.cookie_text.specs.AttributeView.{attribute_view};
 

@@ -1,7 +1,8 @@
 //! What a cookie prints (RFC 6265, section 4.1.1).
 ghost use Rattle.std.specs.Prelude.{◌≡◌, Some, true, false, option_map};
 ghost use Rattle.cookie_text.specs.AttributeView.{attribute_view};
-ghost use Rattle.cookie_text.specs.Printing.{attribute_text, escaped, piece_text, site_name, printed, printed_attributes, shown_text};
+ghost use Rattle.cookie_text.specs.Printing.{attribute_text, escaped, piece_text, site_name, printed};
+ghost use Rattle.cookie_text.specs.Printing.{printed_attributes, shown_text};
 
 use crate::attribute::Attribute;
 use crate::cookie::Cookie;

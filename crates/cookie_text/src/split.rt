@@ -1,7 +1,8 @@
 //! Reading several cookies from one text.
 ghost use Rattle.std.specs.Prelude.{◌≡◌, [], ◌∷◌, Some, MatchOption, IfOk, map, option_copied, string_bytes};
 ghost use Rattle.cookie_text.specs.SplittingLeft.{owned_left};
-ghost use Rattle.cookie_text.specs.Splitting.{Plain, Encoded, PlainOwned, EncodedOwned, IsCut, cookie_texts, texts_left};
+ghost use Rattle.cookie_text.specs.Splitting.{Plain, Encoded, PlainOwned, EncodedOwned, IsCut, cookie_texts};
+ghost use Rattle.cookie_text.specs.Splitting.{texts_left};
 
 use crate::cookie::Cookie;
 use crate::error::ParseError;

@@ -1,5 +1,6 @@
 -- Where a request-path is cut: at the end of a cookie-path, and at its right-most `/`.
-use Rattle.std.proofs.Common.{◌≡◌, ◌≢◌, ◌↔◌, ◌⊎◌, ◌++◌, ◌+◌, ◌-◌, ◌<◌, ℕ, List, [], ◌∷◌, length, take, get_or, eqb, true, false, not, refl, sym, ap, ◌∙◌, inl, inr, arith, append-nil, zero, suc}
+use Rattle.std.proofs.Common.{◌≡◌, ◌≢◌, ◌↔◌, ◌⊎◌, ◌++◌, ◌+◌, ◌-◌, ◌<◌, ℕ, List, [], ◌∷◌, length, take, get_or, eqb}
+use Rattle.std.proofs.Common.{true, false, not, refl, sym, ap, ◌∙◌, inl, inr, arith, append-nil, zero, suc}
 use Rattle.std.specs.List.{before_last, suffix_len}
 use Rattle.std.specs.Prelude.{Option, Some, None, unwrap_or}
 use Rattle.std.specs.Option.{MatchOption}

@@ -6,7 +6,8 @@ use Rattle.idna.proofs.Computing.{idna}
 use Rattle.cookie_text.specs.Record.{Record, bare, without_dot}
 use Rattle.cookie_text.specs.declared.error.ParseError.TheVariants as unread
 use Rattle.cookie_text.specs.declared.expiration.Expiration.TheVariants.{Session}
-use Rattle.store_parts.specs.DomainMatch.{host_only, suffix, not_present, empty, text_of, text_or_empty, EndsAfterDot, Covers}
+use Rattle.store_parts.specs.DomainMatch.{host_only, suffix, not_present, empty, text_of, text_or_empty, EndsAfterDot}
+use Rattle.store_parts.specs.DomainMatch.{Covers}
 use Rattle.store_parts.specs.DomainOrder.{rank}
 use Rattle.store_parts.specs.DomainText.{attribute_domain, read_domain, suffix_or_empty}
 use Rattle.store_parts.specs.Expiry.{death, expiry_after, is_dead, seconds, epoch, latest, whole_second}

@@ -1,6 +1,7 @@
 -- When a cookie ends (RFC 6265, 5.2.1, 5.2.2 and 5.3, step 3). Moments and lengths are counted in
 -- nanoseconds, moments from 1970-01-01T00:00:00 in UTC.
-use Rattle.std.specs.Prelude.{ℤ, pos, ◌+ℤ◌, ◌*ℤ◌, ℕ, Bool, false, Option, Some, None, int_le, int_lt, option_map, if◌then◌else◌}
+use Rattle.std.specs.Prelude.{ℤ, pos, ◌+ℤ◌, ◌*ℤ◌, ℕ, Bool, false, Option, Some, None, int_le, int_lt, option_map}
+use Rattle.std.specs.Prelude.{if◌then◌else◌}
 use Rattle.std.specs.Int.{int_div_euclid, int_min}
 use Rattle.cookie_text.specs.Record.{Record, moment_of}
 use Rattle.jiff.specs.Words.{civil_nanos}

@@ -1,5 +1,6 @@
 -- The path of a cookie and the request-uris that it covers (RFC 6265, 5.1.4).
-use Rattle.std.specs.Prelude.{◌≡◌, ◌⊎◌, ◌++◌, ◌-◌, ◌==◌, ℕ, List, [], ◌∷◌, length, Bool, true, false, Option, Some, None, slice_get, slice_index, string_bytes, if◌then◌else◌}
+use Rattle.std.specs.Prelude.{◌≡◌, ◌⊎◌, ◌++◌, ◌-◌, ◌==◌, ℕ, List, [], ◌∷◌, length, Bool, true, false, Option, Some}
+use Rattle.std.specs.Prelude.{None, slice_get, slice_index, string_bytes, if◌then◌else◌}
 use Rattle.std.specs.List.{before_last}
 use Rattle.url.specs.Parts.{Parts, cannot_be_a_base}
 use Rattle.store_parts.specs.declared.cookie_path.CookiePath.{CookiePath}

@@ -1,5 +1,6 @@
 //! The domain of a cookie, and which hosts it covers (RFC 6265, section 5.1.3).
-ghost use Rattle.std.specs.Prelude.{◌≡◌, ◌↔◌, None, IsTrue, IfOk, IsOk, IsSomeAnd, MatchOption, MatchResult, option_copied, string_bytes};
+ghost use Rattle.std.specs.Prelude.{◌≡◌, ◌↔◌, None, IsTrue, IfOk, IsOk, IsSomeAnd, MatchOption, MatchResult};
+ghost use Rattle.std.specs.Prelude.{option_copied, string_bytes};
 ghost use Rattle.cookie_text.specs.Record.{domain_of as domain_attribute, without_dot};
 ghost use Rattle.store_parts.specs.DomainMatch as spec;
 ghost use Rattle.store_parts.specs.DomainMatch.{domain_of};

@@ -1,6 +1,7 @@
 //! The key of the signed and the private jars.
 
-ghost use Rattle.std.specs.Prelude.{◌≡◌, ◌≤◌, ◌<◌, ◌↔◌, ℕ, List, length, take, codes, Some, IfOk, IfErr, IsOk, MatchOption};
+ghost use Rattle.std.specs.Prelude.{◌≡◌, ◌≤◌, ◌<◌, ◌↔◌, ℕ, List, length, take, codes, Some, IfOk, IfErr, IsOk};
+ghost use Rattle.std.specs.Prelude.{MatchOption};
 ghost use Rattle.rand_core.specs.Stream.{fill_bytes};
 ghost use Rattle.cookie.specs.Key as spec;
 

@@ -1,6 +1,7 @@
 //! The texts of sealed values.
 
-ghost use Rattle.std.specs.Prelude.{◌≡◌, ◌≤◌, ◌<◌, ◌-◌, ◌+◌, ◌↔◌, ◌⊎◌, ℕ, List, Vec, length, take, drop, Some, MatchOption, IfOk, IfErr, IsErrOf, IsTrue};
+ghost use Rattle.std.specs.Prelude.{◌≡◌, ◌≤◌, ◌<◌, ◌-◌, ◌+◌, ◌↔◌, ◌⊎◌, ℕ, List, Vec, length, take, drop, Some};
+ghost use Rattle.std.specs.Prelude.{MatchOption, IfOk, IfErr, IsErrOf, IsTrue};
 ghost use Rattle.std.specs.List.{slice_range};
 ghost use Rattle.std.specs.Option.{option_map};
 ghost use Rattle.std.specs.Str.{IsUtf8};

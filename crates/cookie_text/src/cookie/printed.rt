@@ -2,7 +2,8 @@
 ghost use Rattle.std.specs.Prelude.{◌≡◌, option_map};
 ghost use Rattle.cookie_text.specs.Record.{domain_of};
 ghost use Rattle.cookie_text.specs.AttributeView.{attribute_view};
-ghost use Rattle.cookie_text.specs.Attribute.{HttpOnly, Partitioned, Secure, OfSite, MaxAge, Path as PathIs, Domain as DomainIs};
+ghost use Rattle.cookie_text.specs.Attribute.{HttpOnly, Partitioned, Secure, OfSite, MaxAge, Path as PathIs};
+ghost use Rattle.cookie_text.specs.Attribute.{Domain as DomainIs};
 ghost use Rattle.cookie_text.specs.Printing.{prints_secure, whole_seconds, end_of, flag, is_set};
 
 use crate::attribute::Attribute;
