@@ -123,31 +123,45 @@ http://bar.example.com|bar.example.com|http://example.com|DomainMismatch
 http://bar.example.com|.bar.example.com|http://example.com|DomainMismatch
 http://example.com|example.com|ftp://example.com|NonHttpScheme";
 
-// What becomes of a cookie with this domain, made at a URL and inserted from another one.
+// A cookie of this text from the URL, where it is made.
+fn made(alloc: Global, text: &str, source: &Url) -> Option<Cookie<'static>> {
+    let cookie = Cookie::parse(alloc, text, source, at(0)).ok()?;
+    cookie.into_owned(alloc).ok()
+}
+
+fn with_domain(alloc: Global, source: &Url, domain: &str) -> Option<Cookie<'static>> {
+    let text = format!(in alloc; "cookie1=value1; HttpOnly; Domain={domain}").ok()?;
+    made(alloc, text.as_str(), source)
+}
+
+fn cookie_from(alloc: Global, source: &str, domain: &str) -> Option<Cookie<'static>> {
+    let source = Url::parse(alloc, source).ok()?;
+    with_domain(alloc, &source, domain)
+}
+
+// What becomes of a cookie that is inserted from a URL.
 fn inserted(
     alloc: Global,
     store: &mut CookieStore,
-    source: &str,
-    domain: &str,
+    cookie: Cookie<'static>,
     url: &str,
 ) -> Option<String> {
-    let source = Url::parse(alloc, source).ok()?;
-    let url = Url::parse(alloc, url).ok()?;
-    let text = format!(in alloc; "cookie1=value1; HttpOnly; Domain={domain}").ok()?;
-    let cookie = Cookie::parse(alloc, text.as_str(), &source, at(0)).ok()?;
-    match store.insert(cookie.into_owned(alloc).ok()?, &url, at(0)) {
-        Ok(action) => format!(in alloc; "{action:?}").ok(),
-        Err(cause) => format!(in alloc; "{cause:?}").ok(),
+    match Url::parse(alloc, url) {
+        Ok(url) => told(alloc, store.insert(cookie, &url, at(0))),
+        Err(_) => None,
     }
 }
 
-// Whether that becomes of the line's cookie.
+// Whether that becomes of the line's cookie, made at a URL with a domain and inserted from another URL.
 fn is_inserted(alloc: Global, store: &mut CookieStore, line: &str) -> bool {
     let mut fields = line.split('|');
     let source = fields.next().unwrap_or("");
     let domain = fields.next().unwrap_or("");
     let url = fields.next().unwrap_or("");
-    match inserted(alloc, store, source, domain, url) {
+    let Some(cookie) = cookie_from(alloc, source, domain) else {
+        return false;
+    };
+    match inserted(alloc, store, cookie, url) {
         Some(found) => found.as_str() == wanted(line),
         None => false,
     }
