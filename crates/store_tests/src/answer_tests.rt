@@ -1,7 +1,7 @@
 //! What becomes of cookies that are received.
 
-use crate::fixtures::{at, is_answer, store_with};
-use cookie_store::{Cookie, CookieStore, InsertResult, RawCookie};
+use crate::fixtures::{at, is_answer, store_with, told};
+use cookie_store::{Cookie, CookieStore, RawCookie};
 use std::alloc::Global;
 use std::test::Fail;
 use url::Url;
@@ -50,13 +50,6 @@ fn answer_from(alloc: Global, store: &mut CookieStore, url: &Url, text: &str) ->
     match RawCookie::parse(text) {
         Ok(cookie) => told(alloc, store.insert_raw(&cookie, url, at(0))),
         Err(_) => String::from_str(alloc, "Parse").ok(),
-    }
-}
-
-fn told(alloc: Global, answer: InsertResult) -> Option<String> {
-    match answer {
-        Ok(action) => format!(in alloc; "{action:?}").ok(),
-        Err(cause) => format!(in alloc; "{cause:?}").ok(),
     }
 }
 

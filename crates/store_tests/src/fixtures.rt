@@ -1,6 +1,6 @@
 //! Stores by the lines that fill them.
 
-use cookie_store::{Cookie, CookieStore};
+use cookie_store::{Cookie, CookieStore, InsertResult};
 use jiff::SignedDuration;
 use jiff::civil::DateTime;
 use publicsuffix::List;
@@ -30,8 +30,15 @@ fn answer(alloc: Global, store: &mut CookieStore, line: &str) -> Option<String> 
         let name = fields.next().unwrap_or("");
         return shown(alloc, store.remove(second, path, name).as_ref());
     }
-    let url = Url::parse(alloc, first).ok()?;
-    match store.parse(second, &url, at(0)) {
+    match Url::parse(alloc, first) {
+        Ok(url) => told(alloc, store.parse(second, &url, at(0))),
+        Err(_) => None,
+    }
+}
+
+/// What became of a cookie, as it is debugged.
+pub(crate) fn told(alloc: Global, answer: InsertResult) -> Option<String> {
+    match answer {
         Ok(action) => format!(in alloc; "{action:?}").ok(),
         Err(cause) => format!(in alloc; "{cause:?}").ok(),
     }
