@@ -6,6 +6,7 @@ mod PrevailingLemmas
 mod ReadingLemmas
 mod SplitLemmas
 mod StandardFacts
+mod TableLemmas
 mod TextLemmas
 mod TreeLemmas
 mod WalkLemmas

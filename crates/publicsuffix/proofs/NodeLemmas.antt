@@ -1,17 +1,14 @@
 -- A tree after one of its nodes changed and another was pushed.
-use Rattle.std.proofs.Common.{◌≡◌, ℕ, ◌<◌, ◌+◌, ◌↔◌, ◌⊎◌, Bool, true, false, List, [], ◌∷◌, ◌++◌, length, map, Option, Some, None, Contains, Global, Vec, refl, sym, ap, subst, ◌∙◌, inl, inr, arith}
+use Rattle.std.proofs.Common.{◌≡◌, ◌≢◌, ℕ, ◌<◌, ◌+◌, ◌%◌, ◌↔◌, ◌⊎◌, Bool, true, false, List, [], ◌∷◌, ◌++◌, length, map, Option, Some, None, Contains, refl, sym, ap, subst, ◌∙◌, inl, inr, arith}
 use Rattle.std.specs.Prelude.{get_or, set}
 use Rattle.std.specs.Option.{option_and_then}
-use Rattle.std.proofs.lemmas.Bool.{cases_Bool, cases_lt, cases_eq, false≢true, false_from_ne_true}
+use Rattle.std.proofs.lemmas.Bool.{cases_Bool, cases_lt, cases_eq, false≢true}
 use Rattle.std.proofs.lemmas.Option.{slice_get-get_or}
 use Rattle.std.proofs.lemmas.List.{append-nil, append_assoc, get_or_append_left, get_or_push, get_or-map, get_or-set_same, get_or-set_other, length-map, length-set, length_push, map-set, map_push, set-get_or}
-use Rattle.std.specs.HashMap.{HashMap, UpdatesBy, get_by}
-use Rattle.std.specs.Map.{KeepsOthers}
-use Rattle.std.specs.Str.{bytes_eq}
-use Rattle.std.proofs.lemmas.Slice.Eq.{bytes_eq-Decides}
 use Rattle.publicsuffix.specs.Rules.{Label, Wildcard, Text, Rule}
-use Rattle.publicsuffix.specs.Tree.{Grown, HasMore, IsBelow, IsGrown, IsHung, IsLeaf, Marks, child, child_of, edge_view, grow, labels_at, mark_of, marked, marks_of, paths, rules_of}
+use Rattle.publicsuffix.specs.Tree.{Grown, HasMore, HasWildcard, IsBelow, IsGrown, IsLeaf, Linked, Marks, child, edge_view, edges_of, grow, hangs_at, hashed, labels_at, latest, mark_of, marked, marks_of, nexts_of, paths, rules_of, wildcard_at}
 use Rattle.publicsuffix.specs.declared.tree.Node.{Node}
+use Rattle.publicsuffix.proofs.TableLemmas.{Linked-text, Linked-wildcard, hangs_here, hangs_there, latest_hit, latest_miss, none_below, not_at_wildcard, same_edge}
 use Rattle.publicsuffix.proofs.TreeLemmas.{Grown-hangs, Hangs, from_marked, grow_push, length_grow, to_marked}
 
 abbrev pub edge_of : Node → Option (ℕ × Label)
@@ -20,25 +17,38 @@ edge_of n = edge_view n.up
 abbrev pub marks_at : Node → Bool × Bool
 marks_at n = (n.plain, n.exception)
 
+pub length_edges : (nodes : List Node) → length (edges_of nodes) ≡ length nodes
+unfolding edges_of
+length_edges nodes = length-map nodes (λ n. edge_view n.up)
+
+pub length_nexts : (nodes : List Node) → length (nexts_of nodes) ≡ length nodes
+unfolding nexts_of
+length_nexts nodes = length-map nodes (λ n. n.next)
+
 pub length_paths : (nodes : List Node) → length (paths nodes) ≡ length nodes
 unfolding paths
-length_paths nodes = omega (
-  arith,
-  length_grow [] (map (λ n. edge_view n.up) nodes),
-  length-map nodes
-      (λ n. edge_view n.up),
-)
+length_paths nodes = omega (arith, length_grow [] (edges_of nodes), length_edges nodes)
 
 pub length_marks : (nodes : List Node) → length (marks_of nodes) ≡ length nodes
 unfolding marks_of
 length_marks nodes = length-map nodes (λ n. (n.plain, n.exception))
 
-paths_push : (nodes : List Node) (new : Node) → paths (nodes ++ new ∷ []) ≡ paths nodes ++ labels_at (paths nodes)
-    (edge_view new.up) ∷ []
+edges_push : (nodes : List Node) (new : Node) → edges_of (nodes ++ new ∷ []) ≡ edges_of nodes ++ edge_view new.up ∷ []
+unfolding edges_of
+edges_push nodes new = map_push (λ n. edge_view n.up) nodes new
+
+nexts_push : (nodes : List Node) (new : Node) → nexts_of (nodes ++ new ∷ []) ≡ nexts_of nodes ++ new.next ∷ []
+unfolding nexts_of
+nexts_push nodes new = map_push (λ n. n.next) nodes new
+
+paths_more : (nodes all : List Node) (e : Option (ℕ × Label)) → edges_of all ≡ edges_of nodes ++ e ∷ []
+    → paths all ≡ paths nodes ++ labels_at (paths nodes) e ∷ []
 unfolding paths
-paths_push nodes new =
-    ap (grow []) (map_push (λ n. edge_view n.up) nodes new) ∙ grow_push (map (λ n. edge_view n.up) nodes)
-    (edge_view new.up)
+paths_more nodes all e are = ap (grow []) are ∙ grow_push (edges_of nodes) e
+
+pub paths_same : (old new : List Node) → edges_of new ≡ edges_of old → paths new ≡ paths old
+unfolding paths
+paths_same old new are = ap (grow []) are
 
 marks_push : (nodes : List Node) (new : Node) → marks_of (nodes ++ new ∷ []) ≡ marks_of nodes ++
     (new.plain, new.exception) ∷ []
@@ -52,11 +62,15 @@ map_same f nodes at old new is same =
     map-set f nodes at new ∙ ap (set (map f nodes) at) (same ∙ ap f is) ∙ sym (map-set f nodes at (get_or nodes at old))
     ∙ ap (map f) (set-get_or nodes at old)
 
-paths_set : (nodes : List Node) (at : ℕ) (old new : Node) → old ≡ get_or nodes at old → new.up ≡ old.up
-    → paths (set nodes at new) ≡ paths nodes
-unfolding paths
-paths_set nodes at old new is same = ap (grow []) (map_same (λ n. edge_view n.up) nodes at old new is
-    (ap edge_view same))
+pub edges_set : (nodes : List Node) (at : ℕ) (old new : Node) → old ≡ get_or nodes at old → new.up ≡ old.up
+    → edges_of (set nodes at new) ≡ edges_of nodes
+unfolding edges_of
+edges_set nodes at old new is same = map_same (λ n. edge_view n.up) nodes at old new is (ap edge_view same)
+
+pub nexts_set : (nodes : List Node) (at : ℕ) (old new : Node) → old ≡ get_or nodes at old → new.next ≡ old.next
+    → nexts_of (set nodes at new) ≡ nexts_of nodes
+unfolding nexts_of
+nexts_set nodes at old new is same = map_same (λ n. n.next) nodes at old new is same
 
 marks_same : (nodes : List Node) (at : ℕ) (old new : Node) → old ≡ get_or nodes at old → new.plain ≡ old.plain
     → new.exception ≡ old.exception → marks_of (set nodes at new) ≡ marks_of nodes
@@ -64,23 +78,43 @@ unfolding marks_of
 marks_same nodes at old new is plain exception = map_same (λ n. (n.plain, n.exception)) nodes at old new is
     (ap (λ p. (p, new.exception)) plain ∙ ap (λ e. (old.plain, e)) exception)
 
-pub child_at : (nodes : List Node) (at : ℕ) (n : Node) (l : Label) → at < length nodes → n ≡ get_or nodes at n
-    → child nodes at l ≡ child_of n l
-unfolding child
-child_at nodes at n l within is = ap (option_and_then (λ m. child_of m l)) (slice_get-get_or nodes at n within
-    ∙ ap Some (sym is))
+pub wildcard_get : (nodes : List Node) (at : ℕ) (d : Node) → at < length nodes
+    → wildcard_at nodes at ≡ (get_or nodes at d).wildcard
+wildcard_get nodes at d within = ap (option_and_then (λ n. n.wildcard)) (slice_get-get_or nodes at d within)
 
-child_get : (nodes : List Node) (at : ℕ) (d : Node) (l : Label) → at < length nodes
-    → child nodes at l ≡ child_of (get_or nodes at d) l
+pub child_wildcard : (nodes : List Node) (at : ℕ) → child nodes at Wildcard ≡ wildcard_at nodes at
 unfolding child
-child_get nodes at d l within = ap (option_and_then (λ m. child_of m l)) (slice_get-get_or nodes at d within)
+child_wildcard nodes at = refl
+
+pub child_text : (nodes : List Node) (at : ℕ) (form : List ℕ) → child nodes at (Text form)
+    ≡ latest (hangs_at at form) (edges_of nodes)
+unfolding child
+child_text nodes at form = refl
+
+pub edges_get : (nodes : List Node) (at : ℕ) (n : Node) → at < length nodes → n ≡ get_or nodes at n
+    → get_or (edges_of nodes) at None ≡ edge_view n.up
+unfolding edges_of
+edges_get nodes at n within is = get_or-map (λ m. edge_view m.up) nodes at n None within
+    ∙ ap (λ m. edge_view m.up) (sym is)
+
+pub nexts_get : (nodes : List Node) (at : ℕ) (n : Node) → at < length nodes → n ≡ get_or nodes at n
+    → get_or (nexts_of nodes) at 0 ≡ n.next
+unfolding nexts_of
+nexts_get nodes at n within is = get_or-map (λ m. m.next) nodes at n 0 within ∙ ap (λ m. m.next) (sym is)
+
+-- where nodes hang as before, and lead to the same by `*`, the ways down are the same
+pub child_same : (old new : List Node) (at : ℕ) (l : Label) → edges_of new ≡ edges_of old
+    → wildcard_at new at ≡ wildcard_at old at → child new at l ≡ child old at l
+unfolding child
+child_same old new at Wildcard edges wildcard = wildcard
+child_same old new at (Text form) edges wildcard = ap (latest (hangs_at at form)) edges
 
 -- the node was there
-pub IsBelow-found : (nodes : List Node) (at : ℕ) (l : Label) (found : ℕ) (n : Node) → IsGrown nodes
-    → at < length nodes → n ≡ get_or nodes at n → child_of n l ≡ Some found → IsBelow nodes nodes at l found
-IsBelow-found nodes at l found n grown within is below =
+pub IsBelow-found : (nodes : List Node) (at : ℕ) (l : Label) (found : ℕ) → IsGrown nodes
+    → at < length nodes → child nodes at l ≡ Some found → IsBelow nodes nodes at l found
+IsBelow-found nodes at l found grown within below =
     let long = length_paths nodes in
-    let held = grown.sound at found l (omega arith) (child_at nodes at n l within is ∙ below) in
+    let held = grown.sound at found l (omega arith) below in
     record { grown = grown; within = omega (arith, held.0); here = held.1; same = λ rule. (λ x. x, λ x. x) }
 
 same_marked : (ps qs : List (List Label)) (ms ns : List (Bool × Bool)) (p : List Label) → qs ≡ ps ++ p ∷ []
@@ -123,48 +157,15 @@ same_marked ps qs ms ns p paths_are marks_are long rule = rw (paths_are, marks_a
     unmarked false = refl
 
 -- the node was made
-pub IsBelow-made : (nodes : List Node) (at : ℕ) (l : Label) (old new leaf : Node) → IsGrown nodes → at < length nodes
-    → old ≡ get_or nodes at old → child_of old l ≡ None → IsHung old new l (length nodes) → IsLeaf leaf (Some (at, l))
-    → IsBelow nodes (set nodes at new ++ leaf ∷ []) at l (length nodes)
+IsBelow-made : (nodes all : List Node) (at : ℕ) (l : Label) → IsGrown nodes → at < length nodes
+    → length all ≡ length nodes + 1 → edges_of all ≡ edges_of nodes ++ Some (at, l) ∷ []
+    → marks_of all ≡ marks_of nodes ++ (false, false) ∷ []
+    → Hangs (paths nodes) (child nodes) (child all) at l → IsBelow nodes all at l (length nodes)
 unfolding rules_of
-IsBelow-made nodes at l old new leaf grown within is free hung bare =
-    let now = set nodes at new in
-    let all = now ++ leaf ∷ [] in
+IsBelow-made nodes all at l grown within whole edges marks hangs =
     let long = length_paths nodes in
-    let kept : paths now ≡ paths nodes = paths_set nodes at old new is hung.up in
     let are : paths all ≡ paths nodes ++ (l ∷ get_or (paths nodes) at []) ∷ [] =
-    paths_push now leaf ∙ ap (λ e. paths now ++ labels_at (paths now) e ∷ []) bare.hangs
-    ∙ ap (λ ps. ps ++ (l ∷ get_or ps at []) ∷ []) kept in
-    let marks : marks_of all ≡ marks_of nodes ++ (false, false) ∷ [] =
-    marks_push now leaf ∙ ap (λ b. marks_of now ++ (b, leaf.exception) ∷ []) bare.plain
-    ∙ ap (λ b. marks_of now ++ (false, b) ∷ []) bare.exception
-    ∙ ap (λ ms. ms ++ (false, false) ∷ []) (marks_same nodes at old new is hung.plain hung.exception) in
-    let size : length now ≡ length nodes = length-set nodes at new in
-    let whole : length all ≡ length nodes + 1 = omega (arith, length_push now leaf, size) in
-    let first : (k : Label) → child all at k ≡ child_of new k = λ k.
-    child_get all at new k (omega arith) ∙ ap (λ n. child_of n k)
-    (get_or_append_left now (leaf ∷ []) new at (omega arith) ∙ get_or-set_same nodes at new new (omega arith)) in
-    let hangs : Hangs (paths nodes) (child nodes) (child all) at l = record {
-      free = child_at nodes at old l (omega arith) is ∙ free;
-      hit = first l ∙ hung.hit ∙ ap Some (sym long);
-      apart = λ i k less.
-          elim (cases_eq i at) [
-            | inl same ↦
-                elim (hung.apart k) [
-                  | inl label ↦ inl (same, label)
-                  | inr kept_here ↦ inr (ap (λ x. child all x k) same ∙ first k ∙ kept_here
-                      ∙ sym (child_at nodes at old k (omega arith) is) ∙ ap (λ x. child nodes x k) (sym same))
-                ]
-            | inr other ↦
-                inr (child_get all i new k (omega arith)
-                ∙ ap (λ n. child_of n k) (get_or_append_left now (leaf ∷ []) new i (omega arith)
-                ∙ get_or-set_other nodes at i new new other)
-                ∙ sym (child_get nodes i new k (omega arith)))
-          ];
-      last = λ k.
-          ap (λ x. child all x k) long ∙ child_get all (length nodes) leaf k (omega arith)
-          ∙ ap (λ n. child_of n k) (get_or_push now leaf leaf (length nodes) size) ∙ bare.bare k;
-    } in
+    paths_more nodes all (Some (at, l)) edges in
     record {
       grown = subst (λ ps. Grown ps (child all)) (sym are) (Grown-hangs (paths nodes) (child nodes)
           (child all) at l grown (omega arith) hangs);
@@ -175,58 +176,162 @@ IsBelow-made nodes at l old new leaf grown within is free hung bare =
           (l ∷ get_or (paths nodes) at []) are marks (omega (arith, length_marks nodes));
     }
 
-pub IsBelow-made_at : (nodes : List Node) (at : ℕ) (l : Label) (old new leaf : Node) (next : ℕ) → next ≡ length nodes
-    → IsGrown nodes → at < length nodes → old ≡ get_or nodes at old → child_of old l ≡ None → IsHung old new l next
-    → IsLeaf leaf (Some (at, l)) → IsBelow nodes (set nodes at new ++ leaf ∷ []) at l next
-IsBelow-made_at nodes at l old new leaf next e grown within is free hung bare =
-    subst (λ n. IsBelow nodes (set nodes at new ++ leaf ∷ []) at l n) (sym e)
-    (IsBelow-made nodes at l old new leaf grown within is free (subst (λ n. IsHung old new l n) e hung) bare)
+-- the marks of a leaf more
+marks_leaf : (nodes : List Node) (leaf : Node) (up : Option (ℕ × Label)) (next : ℕ) → IsLeaf leaf up next
+    → marks_of (nodes ++ leaf ∷ []) ≡ marks_of nodes ++ (false, false) ∷ []
+marks_leaf nodes leaf up next bare =
+    marks_push nodes leaf ∙ ap (λ b. marks_of nodes ++ (b, leaf.exception) ∷ []) bare.plain
+    ∙ ap (λ b. marks_of nodes ++ (false, b) ∷ []) bare.exception
 
--- ---- a key of bytes
+-- a leaf has no way down by `*`, and takes none from others
+wildcard_leaf : (nodes : List Node) (leaf : Node) → leaf.wildcard ≡ None
+    → wildcard_at (nodes ++ leaf ∷ []) (length nodes) ≡ None
+wildcard_leaf nodes leaf bare =
+    wildcard_get (nodes ++ leaf ∷ []) (length nodes) leaf (omega (arith, length_push nodes leaf))
+    ∙ ap (λ n. n.wildcard) (get_or_push nodes leaf leaf (length nodes) refl) ∙ bare
 
-texts_put : {Z S : Type 0} (old new : HashMap (Vec ℕ Z) ℕ S) (key : Vec ℕ Z) (form : List ℕ) (next : ℕ)
-    → key.items ≡ form → UpdatesBy (λ x y. bytes_eq x.items y.items) (λ y. bytes_eq key.items y.items) old new
-    (Some next) → (get_by (λ k. bytes_eq form k.items) new ≡ Some next)
-    × ((other : List ℕ) → (form ≡ other) ⊎ (get_by (λ k. bytes_eq other k.items) new ≡ get_by
-    (λ k. bytes_eq other k.items) old))
-unfolding KeepsOthers
-texts_put {Z} {S} old new key form next is put = (
-  ap (λ f. get_by (λ k. bytes_eq f k.items) new) (sym is) ∙ put.1,
-  λ other.
-      elim (cases_Bool (bytes_eq form other)) [
-        | inl same ↦ inl ((bytes_eq-Decides form other).0 same)
-        | inr apart ↦ inr (put.3 (λ k. bytes_eq other k.items)
-            (λ x y e. ap (λ z. bytes_eq z y.items) ((bytes_eq-Decides other x.items).0 e))
-            (λ k e. false_from_ne_true (bytes_eq other k.items) (λ t.
-            let whole : form ≡ other = sym is ∙ (bytes_eq-Decides key.items k.items).0 e
-            ∙ sym ((bytes_eq-Decides other k.items).0 t) in
-            false≢true (sym apart ∙ (bytes_eq-Decides form other).1 whole))))
-      ],
-)
+wildcard_before : (nodes : List Node) (leaf : Node) (i : ℕ) → i < length nodes
+    → wildcard_at (nodes ++ leaf ∷ []) i ≡ wildcard_at nodes i
+wildcard_before nodes leaf i less =
+    wildcard_get (nodes ++ leaf ∷ []) i leaf (omega (arith, length_push nodes leaf))
+    ∙ ap (λ n. n.wildcard) (get_or_append_left nodes (leaf ∷ []) leaf i less) ∙ sym (wildcard_get nodes i leaf less)
 
-pub IsHung-text : {form : List ℕ} (node new : Node) (key : Vec ℕ Global) (next : ℕ) → new.up ≡ node.up
-    → new.plain ≡ node.plain → new.exception ≡ node.exception → new.wildcard ≡ node.wildcard → key.items ≡ form
-    → UpdatesBy (λ x y. bytes_eq x.items y.items) (λ y. bytes_eq key.items y.items) node.texts new.texts (Some next)
-    → IsHung node new (Text form) next
-IsHung-text {form} node new key next up plain exception wildcard is put =
-    let both = texts_put node.texts new.texts key form next is put in
-    record {
-      up = up;
-      plain = plain;
-      exception = exception;
-      hit = both.0;
-      apart = other_label both.1;
-    }
-  where
-    other_label : ((other : List ℕ) → (form ≡ other) ⊎ (get_by (λ k. bytes_eq other k.items) new.texts ≡ get_by
-        (λ k. bytes_eq other k.items) node.texts)) → (other : Label) → (Text form ≡ other)
-        ⊎ (child_of new other ≡ child_of node other)
-    other_label all Wildcard = inr wildcard
-    other_label all (Text bytes) =
-        elim (all bytes) [
-          | inl same ↦ inl (ap Text same)
-          | inr kept ↦ inr kept
+module _ (nodes : List Node) (heads : List ℕ) (at : ℕ) (grown : IsGrown nodes)
+    (linked : Linked (length heads) (edges_of nodes) (nexts_of nodes) heads) (within : at < length nodes) where
+  -- nothing hangs below the node that is made
+  last_text : (all : List Node) (l : Label) (form : List ℕ) → edges_of all ≡ edges_of nodes ++ Some (at, l) ∷ []
+      → child all (length (paths nodes)) (Text form) ≡ None
+  last_text all l form edges =
+      child_text all (length (paths nodes)) form ∙ ap (latest (hangs_at (length (paths nodes)) form)) edges
+      ∙ none_below (edges_of nodes) (nexts_of nodes) heads form (Some (at, l)) (length heads)
+      (length (paths nodes)) linked (omega (arith, length_edges nodes, length_paths nodes))
+      (λ i k e. omega (arith, within, same_edge at i l k e, length_paths nodes))
+
+  -- the node at a text was made
+  module _ (form : List ℕ) (leaf : Node) (next : ℕ) (free : child nodes at (Text form) ≡ None)
+      (bare : IsLeaf leaf (Some (at, Text form)) next) where
+    abbrev all : List Node
+    all = nodes ++ leaf ∷ []
+
+    text_edges : edges_of all ≡ edges_of nodes ++ Some (at, Text form) ∷ []
+    text_edges = edges_push nodes leaf ∙ ap (λ e. edges_of nodes ++ e ∷ []) bare.hangs
+
+    text_apart : (i : ℕ) (k : Label) → i < length (paths nodes) → ((i ≡ at) × (Text form ≡ k))
+        ⊎ (child all i k ≡ child nodes i k)
+    text_apart i Wildcard less =
+        inr (child_wildcard all i ∙ wildcard_before nodes leaf i (omega (arith, less, length_paths nodes))
+        ∙ sym (child_wildcard nodes i))
+    text_apart i (Text other) less =
+        elim (cases_Bool (hangs_at i other (Some (at, Text form)))) [
+          | inl is ↦
+              let there = hangs_there i other at (Text form) is in
+              inl (there.0, sym there.1)
+          | inr not ↦
+              inr (child_text all i other ∙ ap (latest (hangs_at i other)) text_edges
+              ∙ latest_miss (hangs_at i other) (edges_of nodes) (Some (at, Text form)) not
+              ∙ sym (child_text nodes i other))
         ]
+
+    text_last : (k : Label) → child all (length (paths nodes)) k ≡ None
+    text_last Wildcard =
+        child_wildcard all (length (paths nodes)) ∙ ap (wildcard_at all) (length_paths nodes)
+        ∙ wildcard_leaf nodes leaf bare.wildcard
+    text_last (Text other) = last_text all (Text form) other text_edges
+
+    pub IsBelow-text : IsBelow nodes all at (Text form) (length nodes)
+    IsBelow-text =
+        IsBelow-made nodes all at (Text form) grown within (length_push nodes leaf) text_edges
+        (marks_leaf nodes leaf (Some (at, Text form)) next bare) (record {
+          free = free;
+          hit = child_text all at form ∙ ap (latest (hangs_at at form)) text_edges
+              ∙ latest_hit (hangs_at at form) (edges_of nodes) (Some (at, Text form)) (hangs_here at form)
+              ∙ ap Some (length_edges nodes ∙ sym (length_paths nodes));
+          apart = text_apart;
+          last = text_last;
+        })
+
+    pub IsLinked-text : (b : ℕ) → b ≡ hashed at form % length heads → next ≡ get_or heads b 0
+        → Linked (length (set heads b (length nodes))) (edges_of all) (nexts_of all) (set heads b (length nodes))
+    IsLinked-text b is link =
+        let long : length (set heads b (length nodes)) ≡ length heads = length-set heads b (length nodes) in
+        let nexts : nexts_of all ≡ nexts_of nodes ++ get_or heads b 0 ∷ [] =
+        nexts_push nodes leaf ∙ ap (λ x. nexts_of nodes ++ x ∷ []) (bare.next ∙ link) in
+        subst (λ size. Linked size (edges_of all) (nexts_of all) (set heads b (length nodes))) (sym long)
+        (subst (λ es. Linked (length heads) es (nexts_of all) (set heads b (length nodes))) (sym text_edges)
+        (subst (λ ns. Linked (length heads) (edges_of nodes ++ Some (at, Text form) ∷ []) ns
+        (set heads b (length nodes))) (sym nexts)
+        (subst (λ n. Linked (length heads) (edges_of nodes ++ Some (at, Text form) ∷ [])
+        (nexts_of nodes ++ get_or heads b 0 ∷ []) (set heads b n)) (length_edges nodes)
+        (Linked-text (edges_of nodes) (nexts_of nodes) heads at form b linked
+        (omega (arith, length_edges nodes, length_nexts nodes)) (omega (arith, within, length_edges nodes)) is))))
+
+  -- the node at the label `*` was made
+  module _ (old new leaf : Node) (is : old ≡ get_or nodes at old) (free : child nodes at Wildcard ≡ None)
+      (has : HasWildcard old new (length nodes)) (bare : IsLeaf leaf (Some (at, Wildcard)) 0) where
+    abbrev now : List Node
+    now = set nodes at new
+
+    abbrev more : List Node
+    more = now ++ leaf ∷ []
+
+    size : length now ≡ length nodes
+    size = length-set nodes at new
+
+    wildcard_edges : edges_of more ≡ edges_of nodes ++ Some (at, Wildcard) ∷ []
+    wildcard_edges =
+        edges_push now leaf ∙ ap (λ e. edges_of now ++ e ∷ []) bare.hangs
+        ∙ ap (λ es. es ++ Some (at, Wildcard) ∷ []) (edges_set nodes at old new is has.up)
+
+    wildcard_here : wildcard_at more at ≡ Some (length nodes)
+    wildcard_here =
+        wildcard_before now leaf at (omega (arith, within, size)) ∙ wildcard_get now at new (omega (arith, within, size))
+        ∙ ap (λ n. n.wildcard) (get_or-set_same nodes at new new within) ∙ has.wildcard
+
+    wildcard_other : (i : ℕ) → i < length nodes → i ≢ at → wildcard_at more i ≡ wildcard_at nodes i
+    wildcard_other i less other =
+        wildcard_before now leaf i (omega (arith, less, size)) ∙ wildcard_get now i new (omega (arith, less, size))
+        ∙ ap (λ n. n.wildcard) (get_or-set_other nodes at i new new other) ∙ sym (wildcard_get nodes i new less)
+
+    wildcard_apart : (i : ℕ) (k : Label) → i < length (paths nodes) → ((i ≡ at) × (Wildcard ≡ k))
+        ⊎ (child more i k ≡ child nodes i k)
+    wildcard_apart i Wildcard less =
+        elim (cases_eq i at) [
+          | inl same ↦ inl (same, refl)
+          | inr other ↦
+              inr (child_wildcard more i ∙ wildcard_other i (omega (arith, less, length_paths nodes)) other
+              ∙ sym (child_wildcard nodes i))
+        ]
+    wildcard_apart i (Text other) less =
+        inr (child_text more i other ∙ ap (latest (hangs_at i other)) wildcard_edges
+        ∙ latest_miss (hangs_at i other) (edges_of nodes) (Some (at, Wildcard)) (not_at_wildcard i other at)
+        ∙ sym (child_text nodes i other))
+
+    wildcard_last : (k : Label) → child more (length (paths nodes)) k ≡ None
+    wildcard_last Wildcard =
+        child_wildcard more (length (paths nodes)) ∙ ap (wildcard_at more) (length_paths nodes ∙ sym size)
+        ∙ wildcard_leaf now leaf bare.wildcard
+    wildcard_last (Text other) = last_text more Wildcard other wildcard_edges
+
+    pub IsBelow-wildcard : IsBelow nodes more at Wildcard (length nodes)
+    IsBelow-wildcard =
+        IsBelow-made nodes more at Wildcard grown within (length_push now leaf ∙ ap (λ n. n + 1) size) wildcard_edges
+        (marks_leaf now leaf (Some (at, Wildcard)) 0 bare
+        ∙ ap (λ ms. ms ++ (false, false) ∷ []) (marks_same nodes at old new is has.plain has.exception)) (record {
+          free = free;
+          hit = child_wildcard more at ∙ wildcard_here ∙ ap Some (sym (length_paths nodes));
+          apart = wildcard_apart;
+          last = wildcard_last;
+        })
+
+    pub IsLinked-wildcard : Linked (length heads) (edges_of more) (nexts_of more) heads
+    IsLinked-wildcard =
+        let nexts : nexts_of more ≡ nexts_of nodes ++ 0 ∷ [] =
+        nexts_push now leaf ∙ ap (λ x. nexts_of now ++ x ∷ []) bare.next
+        ∙ ap (λ ns. ns ++ 0 ∷ []) (nexts_set nodes at old new is has.link) in
+        subst (λ es. Linked (length heads) es (nexts_of more) heads) (sym wildcard_edges)
+        (subst (λ ns. Linked (length heads) (edges_of nodes ++ Some (at, Wildcard) ∷ []) ns heads) (sym nexts)
+        (Linked-wildcard (edges_of nodes) (nexts_of nodes) heads at linked
+        (omega (arith, length_edges nodes, length_nexts nodes)) (omega (arith, within, length_edges nodes))))
 
 -- ---- one rule after the other
 
@@ -270,20 +375,19 @@ unfolding marks_of
 marks_get nodes at n within is = get_or-map (λ m. (m.plain, m.exception)) nodes at n (false, false) within
     ∙ ap (λ m. (m.plain, m.exception)) (sym is)
 
-child_set : (nodes : List Node) (at : ℕ) (old new : Node) → at < length nodes → old ≡ get_or nodes at old
-    → ((k : Label) → child_of new k ≡ child_of old k) → (i : ℕ) (k : Label) → i < length nodes
-    → child (set nodes at new) i k ≡ child nodes i k
-child_set nodes at old new within is same i k less =
+-- a node that leads to the same node by `*`
+wildcard_set : (nodes : List Node) (at : ℕ) (old new : Node) → at < length nodes → old ≡ get_or nodes at old
+    → new.wildcard ≡ old.wildcard → (i : ℕ) → i < length nodes → wildcard_at (set nodes at new) i ≡ wildcard_at nodes i
+wildcard_set nodes at old new within is same i less =
     let size : length (set nodes at new) ≡ length nodes = length-set nodes at new in
     elim (cases_eq i at) [
       | inl here ↦
-          ap (λ x. child (set nodes at new) x k) here ∙ child_get (set nodes at new) at new k (omega arith)
-          ∙ ap (λ n. child_of n k) (get_or-set_same nodes at new new within) ∙ same k
-          ∙ sym (child_at nodes at old k within is) ∙ ap (λ x. child nodes x k) (sym here)
+          ap (wildcard_at (set nodes at new)) here ∙ wildcard_get (set nodes at new) at new (omega (arith, within, size))
+          ∙ ap (λ n. n.wildcard) (get_or-set_same nodes at new new within) ∙ same ∙ ap (λ n. n.wildcard) is
+          ∙ sym (wildcard_get nodes at old within) ∙ ap (wildcard_at nodes) (sym here)
       | inr other ↦
-          child_get (set nodes at new) i new k (omega arith) ∙ ap (λ n. child_of n k)
-          (get_or-set_other nodes at i new new other)
-          ∙ sym (child_get nodes i new k less)
+          wildcard_get (set nodes at new) i new (omega (arith, less, size))
+          ∙ ap (λ n. n.wildcard) (get_or-set_other nodes at i new new other) ∙ sym (wildcard_get nodes i new less)
     ]
 
 pub Grown-same : (ps : List (List Label)) (old new : ℕ → Label → Option ℕ) → Grown ps old
@@ -375,7 +479,8 @@ HasMore-marks : (first nodes : List Node) (at : ℕ) (labels : List Label) (old 
     → HasMore first (set nodes at new) (record { is_exception = kind; labels = labels })
 unfolding rules_of
 HasMore-marks first nodes at labels old new kind to is marks =
-    let kept : paths (set nodes at new) ≡ paths nodes = paths_set nodes at old new is marks.up in
+    let edges = edges_set nodes at old new is marks.up in
+    let kept : paths (set nodes at new) ≡ paths nodes = paths_same nodes (set nodes at new) edges in
     let set_is = marks_set nodes at new in
     let all : (rule : Rule) → Contains (marked (paths nodes) (set (marks_of nodes) at
     (new.plain, new.exception))) rule ↔ (Contains (marked (paths nodes) (marks_of nodes)) rule
@@ -386,8 +491,8 @@ HasMore-marks first nodes at labels old new kind to is marks =
     record {
       grown = subst (λ ps. Grown ps (child (set nodes at new))) (sym kept)
           (Grown-same (paths nodes) (child nodes) (child (set nodes at new)) to.grown
-          (λ i k less. child_set nodes at old new to.within is marks.below i k
-          (omega (arith, less, length_paths nodes))));
+          (λ i k less. child_same nodes (set nodes at new) i k edges
+          (wildcard_set nodes at old new to.within is marks.wildcard i (omega (arith, less, length_paths nodes)))));
       exact = λ rule. rw (kept, set_is) (
         λ held. elim ((all rule).0 held) [ inl earlier ↦ inl ((to.same rule).0 earlier) | inr same ↦ inr same ],
         λ held. elim held [
@@ -406,20 +511,27 @@ HasMore-marked first nodes at rule old new kind kinds to is marks =
     (same_rule (record { is_exception = kind; labels = rule.labels }) rule (sym kinds) refl)
     (HasMore-marks first nodes at rule.labels old new kind to is marks)
 
-pub Marks-plain : (old new : Node) → new.up ≡ old.up → new.texts ≡ old.texts → new.wildcard ≡ old.wildcard
+-- a mark leaves the table
+pub IsLinked-marked : (nodes : List Node) (heads : List ℕ) (at : ℕ) (old new : Node) (kind : Bool)
+    → old ≡ get_or nodes at old → Marks old new kind
+    → Linked (length heads) (edges_of nodes) (nexts_of nodes) heads
+    → Linked (length heads) (edges_of (set nodes at new)) (nexts_of (set nodes at new)) heads
+IsLinked-marked nodes heads at old new kind is marks linked =
+    subst (λ es. Linked (length heads) es (nexts_of (set nodes at new)) heads)
+    (sym (edges_set nodes at old new is marks.up))
+    (subst (λ ns. Linked (length heads) (edges_of nodes) ns heads) (sym (nexts_set nodes at old new is marks.link)) linked)
+
+pub Marks-plain : (old new : Node) → new.up ≡ old.up → new.next ≡ old.next → new.wildcard ≡ old.wildcard
     → new.exception ≡ old.exception → new.plain ≡ true → Marks old new false
-Marks-plain old new up texts wildcard kept hit = record {
+Marks-plain old new up link wildcard kept hit = record {
   up = up;
-  below = same_below;
+  link = link;
+  wildcard = wildcard;
   here = hit;
   added = other_kind;
   kept = keeps;
 }
   where
-    same_below : (k : Label) → child_of new k ≡ child_of old k
-    same_below Wildcard = wildcard
-    same_below (Text form) = ap (get_by (λ k. bytes_eq form k.items)) texts
-
     other_kind : (other : Bool) → mark_of (new.plain, new.exception) other ≡ true → (other ≡ false)
         ⊎ (mark_of (old.plain, old.exception) other ≡ true)
     other_kind true e = inr (sym kept ∙ e)
@@ -430,20 +542,17 @@ Marks-plain old new up texts wildcard kept hit = record {
     keeps true e = kept ∙ e
     keeps false e = hit
 
-pub Marks-exception : (old new : Node) → new.up ≡ old.up → new.texts ≡ old.texts → new.wildcard ≡ old.wildcard
+pub Marks-exception : (old new : Node) → new.up ≡ old.up → new.next ≡ old.next → new.wildcard ≡ old.wildcard
     → new.plain ≡ old.plain → new.exception ≡ true → Marks old new true
-Marks-exception old new up texts wildcard kept hit = record {
+Marks-exception old new up link wildcard kept hit = record {
   up = up;
-  below = same_below;
+  link = link;
+  wildcard = wildcard;
   here = hit;
   added = other_kind;
   kept = keeps;
 }
   where
-    same_below : (k : Label) → child_of new k ≡ child_of old k
-    same_below Wildcard = wildcard
-    same_below (Text form) = ap (get_by (λ k. bytes_eq form k.items)) texts
-
     other_kind : (other : Bool) → mark_of (new.plain, new.exception) other ≡ true → (other ≡ true)
         ⊎ (mark_of (old.plain, old.exception) other ≡ true)
     other_kind false e = inr (sym kept ∙ e)

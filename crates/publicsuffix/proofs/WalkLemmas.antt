@@ -8,11 +8,12 @@ use Rattle.std.proofs.lemmas.List.{append-nil, append_assoc, get_or_at, length-a
 use Rattle.std.proofs.lemmas.Slice.Zip.{AllZip-long}
 use Rattle.publicsuffix.specs.Prevailing.{Fits, GoesBefore, Matches, NoneMatches, Prevails}
 use Rattle.publicsuffix.specs.Rules.{Label, Wildcard, Text, Rule}
-use Rattle.publicsuffix.specs.Tree.{Grown, IsGrown, IsLeaf, child, child_of, labels_at, mark_of, marks_of, paths, rules_of}
+use Rattle.publicsuffix.specs.Tree.{Grown, IsGrown, IsLeaf, Linked, child, edges_of, hangs_at, labels_at, mark_of, marks_of, nexts_of, one_later, paths, rules_of}
+use Rattle.publicsuffix.proofs.TableLemmas.{Linked-root}
 use Rattle.publicsuffix.specs.Walk.{FoundBefore, IsAt, IsFirst, IsFirstOf, Reaches, Tells, own_of, ways_by, ways_of}
 use Rattle.publicsuffix.specs.declared.walk.Found.{Found}
 use Rattle.publicsuffix.specs.declared.tree.Node.{Node}
-use Rattle.publicsuffix.proofs.NodeLemmas.{child_at, length_marks, length_paths, marks_get}
+use Rattle.publicsuffix.proofs.NodeLemmas.{length_marks, length_paths, marks_get}
 use Rattle.publicsuffix.proofs.TreeLemmas.{from_marked, to_marked}
 
 -- a list has a last element, or none
@@ -217,23 +218,21 @@ NoneMatches-first rules name none = λ rule held matches. none rule (record {
 -- ---- one step
 
 -- the way down at a label
-pub IsAt-below : (nodes : List Node) (at : ℕ) (l : Label) (path : List Label) (found : Option ℕ) (n : Node)
-    → IsGrown nodes → at < length nodes → n ≡ get_or nodes at n → get_or (paths nodes) at [] ≡ path
-    → found ≡ child_of n l → IsAt nodes found (l ∷ path)
+pub IsAt-below : (nodes : List Node) (at : ℕ) (l : Label) (path : List Label) (found : Option ℕ)
+    → IsGrown nodes → at < length nodes → get_or (paths nodes) at [] ≡ path
+    → found ≡ child nodes at l → IsAt nodes found (l ∷ path)
 unfolding rules_of
-IsAt-below nodes at l path None n grown within is here way =
+IsAt-below nodes at l path None grown within here way =
     λ rule more held ends.
-    no_way nodes at l path rule grown (omega (arith, length_paths nodes)) here (child_at nodes at n l within is
-    ∙ sym way) held more ends
-IsAt-below nodes at l path (Some j) n grown within is here way =
-    (grown.sound at j l (omega (arith, length_paths nodes)) (child_at nodes at n l within is ∙ sym way)).1
-    ∙ ap (λ p. l ∷ p) here
+    no_way nodes at l path rule grown (omega (arith, length_paths nodes)) here (sym way) held more ends
+IsAt-below nodes at l path (Some j) grown within here way =
+    (grown.sound at j l (omega (arith, length_paths nodes)) (sym way)).1 ∙ ap (λ p. l ∷ p) here
 
-pub within-below : (nodes : List Node) (at : ℕ) (l : Label) (found : Option ℕ) (n : Node) → IsGrown nodes
-    → at < length nodes → n ≡ get_or nodes at n → found ≡ child_of n l → IfSome found (λ i. i < length nodes)
-within-below nodes at l None n grown within is way = tt
-within-below nodes at l (Some j) n grown within is way =
-    let held = (grown.sound at j l (omega (arith, length_paths nodes)) (child_at nodes at n l within is ∙ sym way)).0 in
+pub within-below : (nodes : List Node) (at : ℕ) (l : Label) (found : Option ℕ) → IsGrown nodes
+    → at < length nodes → found ≡ child nodes at l → IfSome found (λ i. i < length nodes)
+within-below nodes at l None grown within way = tt
+within-below nodes at l (Some j) grown within way =
+    let held = (grown.sound at j l (omega (arith, length_paths nodes)) (sym way)).0 in
     omega (arith, held, length_paths nodes)
 
 -- the rules that end at a node
@@ -450,13 +449,13 @@ module _ (nodes : List Node) (at : ℕ) (n : Node) (grown : IsGrown nodes) (with
       (IsFirst-own nodes at front back path n depth grown within is here fits long)
 
   -- the two ways lead to nodes
-  pub within-ways : (m : List ℕ) (ways : Option ℕ × Option ℕ) → ways ≡ ways_of n m
+  pub within-ways : (m : List ℕ) (ways : Option ℕ × Option ℕ) → ways ≡ ways_of nodes at m
       → IfSome ways.0 (λ i. i < length nodes) × IfSome ways.1 (λ i. i < length nodes)
   within-ways m ways are =
       subst (λ w. IfSome w.0 (λ i. i < length nodes) × IfSome w.1 (λ i. i < length nodes)) (sym are)
-      (ways_within nodes (child_of n (Text m)) (child_of n Wildcard)
-      (within-below nodes at (Text m) (child_of n (Text m)) n grown within is refl)
-      (within-below nodes at Wildcard (child_of n Wildcard) n grown within is refl))
+      (ways_within nodes (child nodes at (Text m)) (child nodes at Wildcard)
+      (within-below nodes at (Text m) (child nodes at (Text m)) grown within refl)
+      (within-below nodes at Wildcard (child nodes at Wildcard) grown within refl))
 
   -- the name has no label left
   pub IsFirst-end : (name : List (List ℕ)) (from : List Label) (depth : ℕ) (found last : Option Found)
@@ -482,7 +481,7 @@ module _ (nodes : List Node) (at : ℕ) (n : Node) (grown : IsGrown nodes) (with
   -- one label of the name
   pub Walked-step : (name : List (List ℕ)) (from : List Label) (depth : ℕ) (rest front : List (List ℕ)) (m : List ℕ)
       (found middle aside last : Option Found) (ways : Option ℕ × Option ℕ) → rest ≡ front ++ m ∷ []
-      → Walked nodes name from (Some at) depth rest found → ways ≡ ways_of n m
+      → Walked nodes name from (Some at) depth rest found → ways ≡ ways_of nodes at m
       → IsFirstOf found (own_of n.plain n.exception depth) middle
       → ((path : List Label) (back : List (List ℕ)) → IsAt nodes ways.1 path → AllZip Fits path back
       → depth + 1 ≡ length path → IsFirst (Reaches rules (front ++ back) path) aside) → IsFirstOf middle aside last
@@ -496,9 +495,9 @@ module _ (nodes : List Node) (at : ℕ) (n : Node) (grown : IsGrown nodes) (with
       let own = own_first name path rest back depth walked.split walked.here walked.fits walked.long in
       let parts : Parts nodes m path ways.0 ways.1 =
       subst (λ w. Parts nodes m path w.0 w.1) (sym are)
-      (ways_part nodes m path (child_of n (Text m)) (child_of n Wildcard)
-      (IsAt-below nodes at (Text m) path (child_of n (Text m)) n grown within is walked.here refl)
-      (IsAt-below nodes at Wildcard path (child_of n Wildcard) n grown within is walked.here refl)) in
+      (ways_part nodes m path (child nodes at (Text m)) (child nodes at Wildcard)
+      (IsAt-below nodes at (Text m) path (child nodes at (Text m)) grown within walked.here refl)
+      (IsAt-below nodes at Wildcard path (child nodes at Wildcard) grown within walked.here refl)) in
       let beside : IsFirst (Reaches rules name (parts.second ∷ path)) aside =
       subst (λ x. IsFirst (Reaches rules x (parts.second ∷ path)) aside) (sym split)
       (of_aside (parts.second ∷ path) (m ∷ back) parts.other_at (parts.second_fits, walked.fits)
@@ -538,26 +537,6 @@ module _ (nodes : List Node) (at : ℕ) (n : Node) (grown : IsGrown nodes) (with
         of_from = λ rule on. walked.of_from rule (reach_back rules name parts.first path rule on);
       }
 
-  -- no node stands below
-  pub IsFirst-leaf : (name : List (List ℕ)) (from : List Label) (depth : ℕ) (rest : List (List ℕ))
-      (found last : Option Found) → Walked nodes name from (Some at) depth rest found
-      → ((label : Label) → child_of n label ≡ None) → IsFirstOf found (own_of n.plain n.exception depth) last
-      → IsFirst (Reaches rules name from) last
-  IsFirst-leaf name from depth rest found last walked bare is_last =
-      elim (cases_push rest) [
-        | inl none ↦
-            IsFirst-end name from depth found last
-            (subst (λ r. Walked nodes name from (Some at) depth r found) none walked) is_last
-        | inr some ↦
-            let front = some.0 in
-            let m = some.1 in
-            let are : (None, None) ≡ ways_of n m =
-            sym (ap (λ w. ways_by w (child_of n Wildcard)) (bare (Text m)) ∙ ap (ways_by None) (bare Wildcard)) in
-            IsFirst-nowhere nodes name from (depth + 1) front last
-            (Walked-step name from depth rest front m found last None last (None, None) some.2 walked are is_last
-            (λ path back here fits long rule on. here rule on.more on.of_list on.ends) (first_alone last))
-      ]
-
 -- the whole walk
 pub prevails_from_walk : (nodes : List Node) (name left : List (List ℕ)) (found : Option Found) → left ≡ name
     → IsFirst (Reaches (rules_of nodes) (left ++ []) []) found
@@ -573,14 +552,14 @@ prevails_from_walk nodes name left found is first =
     by_found (Some f) some = Prevails-first (rules_of nodes) name f some
 
 -- the root alone
-pub root_grown : (leaf : Node) → IsLeaf leaf None → IsGrown (leaf ∷ [])
+pub root_grown : (leaf : Node) → IsLeaf leaf None 0 → IsGrown (leaf ∷ [])
     × ((rule : Rule) → Contains (rules_of (leaf ∷ [])) rule → ⊥)
-unfolding paths child rules_of marks_of
+unfolding paths child rules_of marks_of edges_of
 root_grown leaf is =
     let here : paths (leaf ∷ []) ≡ [] ∷ [] = ap (λ e. labels_at [] e ∷ []) is.hangs in
     let nothing : (i j : ℕ) (l : Label) → i < 1 → child (leaf ∷ []) i l ≡ Some j → ⊥ = λ i j l less way.
     let first : i ≡ 0 = omega arith in
-    none-some j (sym (is.bare l) ∙ ap (λ x. child (leaf ∷ []) x l) (sym first) ∙ way) in (
+    none-some j (sym (bare l) ∙ ap (λ x. child (leaf ∷ []) x l) (sym first) ∙ way) in (
       subst (λ ps. Grown ps (child (leaf ∷ []))) (sym here) (record {
         some = omega arith;
         root = refl;
@@ -598,9 +577,22 @@ root_grown leaf is =
           ∙ marks.mark),
     )
   where
+    bare : (l : Label) → child (leaf ∷ []) 0 l ≡ None
+    bare Wildcard = is.wildcard
+    bare (Text form) = ap (λ e. one_later None (hangs_at 0 form e)) is.hangs
+
     nil_or : (l : Label) (p : List Label) → [] ≡ l ∷ p → ⊥
     nil_or l p e = absurd (omega (arith, ap length e))
 
     unmarked : (kind : Bool) → mark_of (false, leaf.exception) kind ≡ true → ⊥
     unmarked true e = false≢true (sym is.exception ∙ e)
     unmarked false e = false≢true e
+
+pub root_linked : (leaf : Node) (heads : List ℕ) → IsLeaf leaf None 0 → 0 < length heads
+    → ((b : ℕ) → b < length heads → get_or heads b 0 ≡ 0)
+    → Linked (length heads) (edges_of (leaf ∷ [])) (nexts_of (leaf ∷ [])) heads
+unfolding edges_of nexts_of
+root_linked leaf heads is some none =
+    subst (λ e. Linked (length heads) (e ∷ []) (leaf.next ∷ []) heads) (sym is.hangs)
+    (subst (λ x. Linked (length heads) (None ∷ []) (x ∷ []) heads) (sym is.next)
+    (Linked-root (length heads) heads some none))

@@ -3,7 +3,7 @@ use Rattle.std.specs.Prelude.{◌≡◌, ℕ, ◌-◌, ◌≤◌, ◌⊎◌, if�
 use Rattle.std.specs.Borrow.{Bor}
 use Rattle.idna.specs.Labels.{labels_of}
 use Rattle.publicsuffix.specs.Rules.{Label, Wildcard, Text, Rule}
-use Rattle.publicsuffix.specs.Tree.{child_of, paths, rules_of}
+use Rattle.publicsuffix.specs.Tree.{child, paths, rules_of}
 use Rattle.publicsuffix.specs.declared.tree.Node.{Node}
 use Rattle.publicsuffix.specs.Prevailing.{GoesBefore, Matches, Prevails}
 use Rattle.publicsuffix.specs.declared.walk.Found.{Found}
@@ -64,5 +64,5 @@ abbrev pub ways_by : Option ℕ → Option ℕ → Option ℕ × Option ℕ
 ways_by None wildcard = (wildcard, None)
 ways_by (Some text) wildcard = (Some text, wildcard)
 
-abbrev pub ways_of : Node → List ℕ → Option ℕ × Option ℕ
-ways_of node label = ways_by (child_of node (Text label)) (child_of node Wildcard)
+abbrev pub ways_of : List Node → ℕ → List ℕ → Option ℕ × Option ℕ
+ways_of nodes at label = ways_by (child nodes at (Text label)) (child nodes at Wildcard)

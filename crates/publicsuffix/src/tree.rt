@@ -1,14 +1,14 @@
 //! The rules as a tree of labels, from the last label inwards.
-ghost use Rattle.std.specs.Prelude.{◌≡◌, ◌<◌, IfOk, IsTrue, None, OnOk, vec_len};
+ghost use Rattle.std.specs.Prelude.{◌≡◌, ◌<◌, ◌%◌, IfOk, None, OnOk, length, string_bytes, vec_len};
+ghost use Rattle.std.specs.List.{AllZip};
 ghost use Rattle.publicsuffix.specs.Rules as spec;
-ghost use Rattle.publicsuffix.specs.Tree.{HasMore, HasNone, IsBelow, IsCopy, IsGrown, IsHung, IsLeaf, Marks};
-ghost use Rattle.publicsuffix.specs.Tree.{child_of, edge_view};
+ghost use Rattle.publicsuffix.specs.Tree.{HasMore, HasNone, HasWildcard, IsBelow, IsCopy, IsGrown, IsLeaf, IsLinked};
+ghost use Rattle.publicsuffix.specs.Tree.{Marks, child, edge_view, hangs_at, hashed, mixed};
 ghost use Rattle.publicsuffix.specs.View.{label_view};
 
 use crate::label::Label;
 use crate::rule::Rule;
 use std::alloc::{AllocError, Global};
-use std::collections::HashMap;
 
 /// Where a node hangs.
 #[derive(Debug, Drop)]
@@ -28,49 +28,24 @@ pub(crate) struct Node {
     plain: bool,
     /// Whether the node's labels are an exception.
     exception: bool,
-    /// The nodes below, by their labels.
-    texts: HashMap<Vec<u8>, usize>,
     /// The node below whose label is `*`.
     wildcard: Option<usize>,
+    /// The node before this one that falls into its bucket, or 0.
+    next: usize,
 }
 
 impl Node {
     /// A node with nothing below it.
-    pub(crate) fn new(alloc: Global, up: Option<Edge>) -> Node
-        ensures { IsLeaf result (edge_view up) }
+    pub(crate) fn new(up: Option<Edge>, next: usize) -> Node
+        ensures { IsLeaf result (edge_view up) next }
     {
         Node {
             up,
             plain: false,
             exception: false,
-            texts: HashMap::new(alloc),
             wildcard: None,
+            next,
         }
-    }
-
-    /// The node below at a label of a name.
-    pub(crate) fn text(&self, label: &[u8]) -> Option<usize>
-        ensures { result ≡ child_of self.now (spec.Text label.now) }
-    {
-        // Most nodes have none below, and then no hash is taken.
-        if self.texts.is_empty() {
-            return None;
-        }
-        self.texts.get(label).copied()
-    }
-
-    /// The node below at the label `*`.
-    pub(crate) fn wildcard(&self) -> Option<usize>
-        ensures { result ≡ child_of self.now spec.Wildcard }
-    {
-        self.wildcard
-    }
-
-    /// Whether no node stands below.
-    pub(crate) fn is_leaf(&self) -> bool
-        ensures { IsTrue result → (label : spec.Label) → child_of self.now label ≡ None }
-    {
-        self.wildcard.is_none() && self.texts.is_empty()
     }
 
     /// Whether the node's labels are an exception.
@@ -87,13 +62,13 @@ impl Node {
         self.plain
     }
 
-    // The node below at a label of a rule.
-    fn below(&self, label: &Label) -> Option<usize>
-        ensures { result ≡ child_of self.now (label_view label.now) }
+    // Whether the node hangs below another at a text.
+    fn hangs_at(&self, at: usize, text: &[u8]) -> bool
+        ensures { result ≡ hangs_at at text.now (edge_view self.now.up) }
     {
-        match label {
-            Label::Wildcard => self.wildcard(),
-            Label::Text(form) => self.text(form.as_bytes()),
+        match &self.up {
+            None => false,
+            Some(edge) => at == edge.parent && edge.label.is_text(text),
         }
     }
 
@@ -108,33 +83,23 @@ impl Node {
         }
     }
 
-    // Hangs another node below this one at a label.
-    fn hang(&mut self, label: &Label, next: usize) -> Result<(), AllocError>
-        ensures { OnOk result (IsHung self.old self.new (label_view label.now) next) }
+    // Hangs another node below this one at the label `*`.
+    fn lead(&mut self, next: usize)
+        ensures { HasWildcard self.old self.new next }
     {
-        match label {
-            Label::Wildcard => {
-                self.wildcard = Some(next);
-                Ok(())
-            }
-            Label::Text(form) => {
-                let key = form.clone()?.into_bytes();
-                self.texts.insert(key, next)?;
-                Ok(())
-            }
-        }
+        self.wildcard = Some(next);
     }
 
-    /// A copy of the node.
-    pub(crate) fn clone(&self) -> Result<Node, AllocError>
+    // A copy of the node.
+    fn clone(&self) -> Result<Node, AllocError>
         ensures { IfOk result (IsCopy self.now) }
     {
         Ok(Node {
             up: copy_of(&self.up)?,
             plain: self.plain,
             exception: self.exception,
-            texts: self.texts.clone()?,
             wildcard: self.wildcard,
+            next: self.next,
         })
     }
 }
@@ -152,40 +117,181 @@ fn copy_of(up: &Option<Edge>) -> Result<Option<Edge>, AllocError>
     }
 }
 
-/// The tree of no rule.
-pub(crate) fn root(alloc: Global) -> Result<Vec<Node>, AllocError>
-    ensures { IfOk result (λ nodes. IsGrown nodes.items × HasNone nodes.items) }
-{
-    let mut nodes = Vec::new(alloc);
-    nodes.push(Node::new(alloc, None))?;
-    Ok(nodes)
+/// The nodes of a tree, with a table that finds the node below another at a text.
+#[derive(Debug, Drop)]
+pub(crate) struct Tree {
+    /// The root, and each node after the one that it hangs below.
+    pub(crate) nodes: Vec<Node>,
+    /// The last node that falls into each bucket, or 0.
+    heads: Vec<usize>,
 }
 
-/// Puts a rule into the tree.
-pub(crate) fn insert(alloc: Global, nodes: &mut Vec<Node>, rule: Rule) -> Result<(), AllocError>
-    requires { IsGrown nodes.old.items }
-    ensures { IfOk result (λ _. HasMore nodes.old.items nodes.new.items rule) }
-{
-    let (exception, mut labels) = rule.into_parts();
-    let mut at = 0;
-    while let Some(label) = labels.pop() {
-        at = below(alloc, nodes, at, label)?;
+impl Tree {
+    /// The tree of no rule, with so many buckets.
+    pub(crate) fn new(alloc: Global, buckets: usize) -> Result<Tree, AllocError>
+        requires { 0 < buckets }
+        ensures grown { IfOk result (λ tree. IsGrown tree.nodes.items × HasNone tree.nodes.items) }
+        ensures linked { IfOk result IsLinked }
+    {
+        let heads = Vec::from_elem(alloc, 0, buckets)?;
+        let mut nodes = Vec::new(alloc);
+        nodes.push(Node::new(None, 0))?;
+        Ok(Tree { nodes, heads })
     }
-    nodes[at].mark(exception);
-    Ok(())
+
+    /// Puts a rule into the tree.
+    pub(crate) fn insert(&mut self, rule: Rule) -> Result<(), AllocError>
+        requires grown { IsGrown self.old.nodes.items }
+        requires linked { IsLinked self.old }
+        ensures more { IfOk result (λ _. HasMore self.old.nodes.items self.new.nodes.items rule) }
+        ensures linked { OnOk result (IsLinked self.new) }
+    {
+        let (exception, mut labels) = rule.into_parts();
+        let mut at = 0;
+        while let Some(label) = labels.pop() {
+            at = self.below(at, label)?;
+        }
+        self.nodes[at].mark(exception);
+        Ok(())
+    }
+
+    /// The node below another at a text.
+    pub(crate) fn text(&self, at: usize, text: &[u8]) -> Option<usize>
+        requires { IsLinked self.now }
+        ensures { result ≡ child self.now.nodes.items at (spec.Text text.now) }
+    {
+        self.find(self.bucket(at, text), at, text)
+    }
+
+    // The bucket that a node at a text below another falls into.
+    fn bucket(&self, at: usize, text: &[u8]) -> usize
+        requires { IsLinked self.now }
+        ensures { result ≡ hashed at text.now % length self.now.heads.items }
+    {
+        hashed(at, text) % self.heads.len()
+    }
+
+    // The node below another at a text, which falls into this bucket.
+    fn find(&self, bucket: usize, at: usize, text: &[u8]) -> Option<usize>
+        requires linked { IsLinked self.now }
+        requires falls { bucket ≡ hashed at text.now % length self.now.heads.items }
+        ensures { result ≡ child self.now.nodes.items at (spec.Text text.now) }
+    {
+        let mut next = self.heads[bucket];
+        while next > 0 {
+            let node = &self.nodes[next];
+            if node.hangs_at(at, text) {
+                return Some(next);
+            }
+            next = node.next;
+        }
+        None
+    }
+
+    /// The node below another at the label `*`.
+    pub(crate) fn wildcard(&self, at: usize) -> Option<usize>
+        requires { at < vec_len self.now.nodes }
+        ensures { result ≡ child self.now.nodes.items at spec.Wildcard }
+    {
+        self.nodes[at].wildcard
+    }
+
+    /// A copy of the tree.
+    pub(crate) fn clone(&self) -> Result<Tree, AllocError>
+        ensures nodes { IfOk result (λ tree. AllZip IsCopy self.now.nodes.items tree.nodes.items) }
+        ensures heads { IfOk result (λ tree. tree.heads.items ≡ self.now.heads.items) }
+    {
+        let heads = self.heads.clone()?;
+        let mut nodes = Vec::new(*self.nodes.allocator());
+        for node in &self.nodes {
+            nodes.push(node.clone()?)?;
+        }
+        Ok(Tree { nodes, heads })
+    }
+
+    // The node below another at a label, which is made where there is none.
+    fn below(&mut self, at: usize, label: Label) -> Result<usize, AllocError>
+        requires grown { IsGrown self.old.nodes.items }
+        requires linked { IsLinked self.old }
+        requires within { at < vec_len self.old.nodes }
+        ensures below { IfOk result (λ found. IsBelow self.old.nodes.items self.new.nodes.items at
+            (label_view label) found) }
+        ensures linked { OnOk result (IsLinked self.new) }
+    {
+        match label {
+            Label::Wildcard => match self.wildcard(at) {
+                Some(found) => Ok(found),
+                None => self.hang_wildcard(at),
+            },
+            Label::Text(form) => {
+                let bucket = self.bucket(at, form.as_bytes());
+                match self.find(bucket, at, form.as_bytes()) {
+                    Some(found) => Ok(found),
+                    None => self.hang_text(bucket, at, form),
+                }
+            }
+        }
+    }
+
+    // Makes the node below another at the label `*`.
+    fn hang_wildcard(&mut self, at: usize) -> Result<usize, AllocError>
+        requires grown { IsGrown self.old.nodes.items }
+        requires linked { IsLinked self.old }
+        requires within { at < vec_len self.old.nodes }
+        requires free { child self.old.nodes.items at spec.Wildcard ≡ None }
+        ensures below { IfOk result (λ made. IsBelow self.old.nodes.items self.new.nodes.items at spec.Wildcard made) }
+        ensures linked { OnOk result (IsLinked self.new) }
+    {
+        let next = self.nodes.len();
+        self.nodes[at].lead(next);
+        let up = Edge {
+            parent: at,
+            label: Label::Wildcard,
+        };
+        self.nodes.push(Node::new(Some(up), 0))?;
+        Ok(next)
+    }
+
+    // Makes the node below another at a text, which falls into this bucket.
+    fn hang_text(&mut self, bucket: usize, at: usize, form: String) -> Result<usize, AllocError>
+        requires grown { IsGrown self.old.nodes.items }
+        requires linked { IsLinked self.old }
+        requires within { at < vec_len self.old.nodes }
+        requires falls { bucket ≡ hashed at (string_bytes form) % length self.old.heads.items }
+        requires free { child self.old.nodes.items at (spec.Text (string_bytes form)) ≡ None }
+        ensures below { IfOk result (λ made. IsBelow self.old.nodes.items self.new.nodes.items at
+            (spec.Text (string_bytes form)) made) }
+        ensures linked { OnOk result (IsLinked self.new) }
+    {
+        let next = self.nodes.len();
+        let before = self.heads[bucket];
+        let up = Edge {
+            parent: at,
+            label: Label::Text(form),
+        };
+        self.nodes.push(Node::new(Some(up), before))?;
+        self.heads[bucket] = next;
+        Ok(next)
+    }
 }
 
-// The node below another at a label, which is made where there is none.
-fn below(alloc: Global, nodes: &mut Vec<Node>, at: usize, label: Label) -> Result<usize, AllocError>
-    requires grown { IsGrown nodes.old.items }
-    requires within { at < vec_len nodes.old }
-    ensures { IfOk result (λ found. IsBelow nodes.old.items nodes.new.items at (label_view label) found) }
+// The hash of a text below a node.
+fn hashed(at: usize, text: &[u8]) -> usize
+    ensures { result ≡ hashed at text.now }
 {
-    if let Some(found) = nodes[at].below(&label) {
-        return Ok(found);
+    let mut hash = at;
+    let mut read = 0;
+    while read < text.len() {
+        hash = mixed(hash, text[read]);
+        read += 1;
     }
-    let next = nodes.len();
-    nodes[at].hang(&label, next)?;
-    nodes.push(Node::new(alloc, Some(Edge { parent: at, label })))?;
-    Ok(next)
+    hash
+}
+
+// The hash of a text with one byte more.
+fn mixed(hash: usize, byte: u8) -> usize
+    ensures { result ≡ mixed hash byte }
+{
+    hash.wrapping_add(byte as usize)
+        .wrapping_mul(0x9E37_79B9_7F4A_7C15)
 }

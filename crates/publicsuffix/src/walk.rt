@@ -4,12 +4,12 @@ ghost use Rattle.std.specs.List.{AllZip};
 ghost use Rattle.idna.specs.Labels.{labels_of};
 ghost use Rattle.publicsuffix.specs.Prevailing.{Fits, NoneMatches};
 ghost use Rattle.publicsuffix.specs.Rules as spec;
-ghost use Rattle.publicsuffix.specs.Tree.{IsGrown, rules_of};
+ghost use Rattle.publicsuffix.specs.Tree.{IsGrown, IsLinked, rules_of};
 ghost use Rattle.publicsuffix.specs.Walk.{IsAt, IsFirst, IsFirstOf, Reaches, TellsPrevailing};
 ghost use Rattle.publicsuffix.specs.Walk.{covered_by, labels_left, own_of, ways_of};
 
 use crate::name::Name;
-use crate::tree::Node;
+use crate::tree::{Node, Tree};
 
 /// A rule that matches: whether it is an exception, and how many labels it has.
 #[derive(Clone, Copy, Debug)]
@@ -32,45 +32,44 @@ impl Found {
 }
 
 /// The rule of the tree that prevails for the name, if any matches it.
-pub(crate) fn prevailing(nodes: &[Node], name: &Name) -> Option<Found>
-    requires { IsGrown nodes.now }
+pub(crate) fn prevailing(tree: &Tree, name: &Name) -> Option<Found>
+    requires grown { IsGrown tree.now.nodes.items }
+    requires linked { IsLinked tree.now }
     ensures { MatchOption result
-        (NoneMatches (rules_of nodes.now) (labels_of name.now.text.now))
-        (TellsPrevailing (rules_of nodes.now) (labels_of name.now.text.now)) }
+        (NoneMatches (rules_of tree.now.nodes.items) (labels_of name.now.text.now))
+        (TellsPrevailing (rules_of tree.now.nodes.items) (labels_of name.now.text.now)) }
 {
     let _count = name.count();
-    best(nodes, Some(0), 0, Some(name.text()))
+    best(tree, Some(0), 0, Some(name.text()))
 }
 
 // The rule put before the others among those that match and stand at a node or below it. A call waits for another only
 // where the way parts, so the calls that wait are no more than a rule has labels beside which others stand.
-fn best(nodes: &[Node], from: Option<usize>, depth: usize, rest: Option<&[u8]>) -> Option<Found>
-    requires within { IfSome from (λ i. i < length nodes.now) }
-    requires grown { IsGrown nodes.now }
+fn best(tree: &Tree, from: Option<usize>, depth: usize, rest: Option<&[u8]>) -> Option<Found>
+    requires within { IfSome from (λ i. i < length tree.now.nodes.items) }
+    requires grown { IsGrown tree.now.nodes.items }
+    requires linked { IsLinked tree.now }
     requires room { depth + length (labels_left rest) < 2 ^ 64 }
     ensures { (path : List spec.Label) (back : List (List ℕ)) →
-        IsAt nodes.now from path → AllZip Fits path back → depth ≡ length path →
-        IsFirst (Reaches (rules_of nodes.now) (labels_left rest.entry ++ back) path) result }
+        IsAt tree.now.nodes.items from path → AllZip Fits path back → depth ≡ length path →
+        IsFirst (Reaches (rules_of tree.now.nodes.items) (labels_left rest.entry ++ back) path) result }
 {
     let mut way = from;
     let mut depth = depth;
     let mut rest = rest;
     let mut found = None;
     while let Some(at) = way {
-        let node = &nodes[at];
+        let node = &tree.nodes[at];
         found = first_found(found, own(node, depth));
         let Some(text) = rest else {
             return found;
         };
-        if node.is_leaf() {
-            return found;
-        }
         let (front, label) = split_last(text);
         rest = front;
         depth += 1;
-        let (next, other) = ways(node, label);
+        let (next, other) = ways(tree, at, label);
         let aside = match other {
-            Some(_) => best(nodes, other, depth, rest),
+            Some(_) => best(tree, other, depth, rest),
             None => None,
         };
         found = first_found(found, aside);
@@ -99,12 +98,15 @@ fn own(node: &Node, depth: usize) -> Option<Found>
 }
 
 // The ways down from a node that the name's label fits: one to go on by, and the other.
-fn ways(node: &Node, label: &[u8]) -> (Option<usize>, Option<usize>)
-    ensures { result ≡ ways_of node.now label.now }
+fn ways(tree: &Tree, at: usize, label: &[u8]) -> (Option<usize>, Option<usize>)
+    requires within { at < length tree.now.nodes.items }
+    requires linked { IsLinked tree.now }
+    ensures { result ≡ ways_of tree.now.nodes.items at label.now }
 {
-    match node.text(label) {
-        Some(text) => (Some(text), node.wildcard()),
-        None => (node.wildcard(), None),
+    let wildcard = tree.wildcard(at);
+    match tree.text(at, label) {
+        Some(text) => (Some(text), wildcard),
+        None => (wildcard, None),
     }
 }
 

@@ -6,7 +6,7 @@ use Rattle.publicsuffix.specs.Prevailing.{Fits}
 use Rattle.publicsuffix.specs.Rules.{Label}
 use Rattle.publicsuffix.specs.Tree.{rules_of}
 use Rattle.publicsuffix.specs.Walk.{IsAt, IsFirst, IsFirstOf, Reaches, labels_left, own_of}
-use Rattle.publicsuffix.proofs.WalkLemmas.{IsFirst-end, IsFirst-leaf, IsFirst-nowhere, Walked, Walked-begin, Walked-step, within-ways}
+use Rattle.publicsuffix.proofs.WalkLemmas.{IsFirst-end, IsFirst-nowhere, Walked, Walked-begin, Walked-step, within-ways}
 use Rattle.publicsuffix.proofs.walk.+best.Goals.{in-None, in-Some-other}
 use Rattle.publicsuffix.proofs.walk.+best.Goals as goal
 
@@ -15,12 +15,19 @@ loop-way-init t c = record {
   within = c.requires.within;
   counted = refl;
   fewer = omega arith;
-  walked = λ path back here fits long. Walked-begin c.args.nodes.now
+  walked = λ path back here fits long. Walked-begin c.args.tree.now.nodes.items
       (labels_left c.args.rest) back path c.args.from c.args.depth here fits long;
 }
 
-pub bounds-nodes-at : goal.bounds-nodes-at
-bounds-nodes-at t c = subst (λ o. IfSome o (λ i. i < length c.args.nodes.now)) c.in-Some.is c.loop-way.invariant.within
+pub index-node-requires : goal.index-node-requires
+index-node-requires t c =
+    let nodes = c.args.tree.now.nodes in
+    let within = subst (λ o. IfSome o (λ i. i < length nodes.items)) c.in-Some.is c.loop-way.invariant.within in
+    omega (arith, within, nodes.ok.0)
+
+pub ways-next-requires-clause-within : goal.ways-next-requires-clause-within
+ways-next-requires-clause-within t c =
+    subst (λ o. IfSome o (λ i. i < length c.args.tree.now.nodes.items)) c.in-Some.is c.loop-way.invariant.within
 
 pub overflow_add-depth : goal.overflow_add-depth
 overflow_add-depth t c =
@@ -32,26 +39,22 @@ overflow_add-depth t c =
 
 pub best-aside-requires : goal.best-aside-requires
 best-aside-requires t c =
-    let nodes = c.args.nodes.now in
+    let nodes = c.args.tree.now.nodes.items in
     let front = labels_left c.split_last.result.0 in
     let m = c.split_last.result.1.now in
     let on = c.loop-way.invariant in
     let within = subst (λ o. IfSome o (λ i. i < length nodes)) c.in-Some.is on.within in
     let cut : labels_left c.loop-way.rest ≡ front ++ m ∷ [] = ap labels_left c.in-Some-rest.is ∙ c.split_last.ensures in
-    let ways = within-ways nodes c.in-Some.at c.index-nodes-at.result c.requires.grown within c.index-nodes-at.is m
+    let ways = within-ways nodes c.in-Some.at c.index-node.result.now c.requires.grown within c.index-node.ensures m
     c.ways-next.result c.ways-next.ensures in (
       omega (arith, ap length cut, length-append front (m ∷ []), on.fewer, c.decreases),
       (
         ways.1,
         (
           c.requires.grown,
-          omega (
-            arith,
-            ap length cut,
-            length-append front
-                (m ∷ []),
-            on.counted,
-            c.requires.room,
+          (
+            c.requires.linked,
+            omega (arith, ap length cut, length-append front (m ∷ []), on.counted, c.requires.room),
           ),
         ),
       ),
@@ -59,8 +62,8 @@ best-aside-requires t c =
 
 pub loop-way-preserved : goal.loop-way-preserved
 loop-way-preserved t c =
-    let nodes = c.args.nodes.now in
-    let node = c.index-nodes-at.result in
+    let nodes = c.args.tree.now.nodes.items in
+    let node = c.index-node.result.now in
     let front = labels_left c.split_last.result.0 in
     let m = c.split_last.result.1.now in
     let on = c.loop-way.invariant in
@@ -69,7 +72,7 @@ loop-way-preserved t c =
     let middle = c.first_found-found.result in
     let within = subst (λ o. IfSome o (λ i. i < length nodes)) c.in-Some.is on.within in
     let cut : labels_left c.loop-way.rest ≡ front ++ m ∷ [] = ap labels_left c.in-Some-rest.is ∙ c.split_last.ensures in
-    let ways = within-ways nodes c.in-Some.at node c.requires.grown within c.index-nodes-at.is m c.ways-next.result
+    let ways = within-ways nodes c.in-Some.at node c.requires.grown within c.index-node.ensures m c.ways-next.result
     c.ways-next.ensures in
     let is_middle : IsFirstOf found (own_of node.plain node.exception depth) middle =
     subst (λ o. IsFirstOf found o middle) c.own.ensures c.first_found-found.ensures in
@@ -91,7 +94,7 @@ loop-way-preserved t c =
           let walked : Walked nodes name path (Some c.in-Some.at) depth (labels_left c.loop-way.rest) found =
           subst (λ o. Walked nodes name path o depth (labels_left c.loop-way.rest) found) c.in-Some.is
           (on.walked path back here fits long) in
-          Walked-step nodes c.in-Some.at node c.requires.grown within c.index-nodes-at.is name path depth
+          Walked-step nodes c.in-Some.at node c.requires.grown within c.index-node.ensures name path depth
           (labels_left c.loop-way.rest) front m found middle c.match-other.aside c.first_found-found-in-Some.result
           c.ways-next.result
           cut walked c.ways-next.ensures is_middle beside c.first_found-found-in-Some.ensures;
@@ -99,8 +102,8 @@ loop-way-preserved t c =
 
 pub returns-in_default-rest : goal.returns-in_default-rest
 returns-in_default-rest t c = λ path back here fits long.
-    let nodes = c.args.nodes.now in
-    let node = c.index-nodes-at.result in
+    let nodes = c.args.tree.now.nodes.items in
+    let node = c.index-node.result.now in
     let on = c.loop-way.invariant in
     let found = c.loop-way.found in
     let depth = c.loop-way.depth in
@@ -112,29 +115,12 @@ returns-in_default-rest t c = λ path back here fits long.
     (on.walked path back here fits long) in
     let ended : Walked nodes name path (Some c.in-Some.at) depth [] found =
     subst (λ r. Walked nodes name path (Some c.in-Some.at) depth (labels_left r) found) c.in_default-rest.is walked in
-    IsFirst-end nodes c.in-Some.at node c.requires.grown within c.index-nodes-at.is name path depth found last ended
-    (subst (λ o. IsFirstOf found o last) c.own.ensures c.first_found-found.ensures)
-
-pub returns-then-is_leaf : goal.returns-then-is_leaf
-returns-then-is_leaf t c = λ path back here fits long.
-    let nodes = c.args.nodes.now in
-    let node = c.index-nodes-at.result in
-    let on = c.loop-way.invariant in
-    let found = c.loop-way.found in
-    let depth = c.loop-way.depth in
-    let last = c.first_found-found.result in
-    let name = labels_left c.args.rest ++ back in
-    let within = subst (λ o. IfSome o (λ i. i < length nodes)) c.in-Some.is on.within in
-    let walked : Walked nodes name path (Some c.in-Some.at) depth (labels_left c.loop-way.rest) found =
-    subst (λ o. Walked nodes name path o depth (labels_left c.loop-way.rest) found) c.in-Some.is
-    (on.walked path back here fits long) in
-    IsFirst-leaf nodes c.in-Some.at node c.requires.grown within c.index-nodes-at.is name path depth
-    (labels_left c.loop-way.rest) found last walked (c.is_leaf.ensures c.if-is_leaf.true)
+    IsFirst-end nodes c.in-Some.at node c.requires.grown within c.index-node.ensures name path depth found last ended
     (subst (λ o. IsFirstOf found o last) c.own.ensures c.first_found-found.ensures)
 
 pub returns : goal.returns
 returns t c = λ path back here fits long.
-    let nodes = c.args.nodes.now in
+    let nodes = c.args.tree.now.nodes.items in
     let name = labels_left c.args.rest ++ back in
     let found = c.loop-way.found in
     let depth = c.loop-way.depth in

@@ -7,7 +7,7 @@ abbrev pub decreases-best : goal.decreases-best
 decreases-best l = length (labels_left l.rest)
 
 abbrev pub invariant-loop-way : goal.invariant-loop-way
-invariant-loop-way l = IsOnWay l.nodes l.fn.from l.fn.depth (labels_left l.fn.rest) l.way l.depth
+invariant-loop-way l = IsOnWay l.tree.nodes.items l.fn.from l.fn.depth (labels_left l.fn.rest) l.way l.depth
     (labels_left l.rest) l.found
 
 abbrev pub decreases-loop-way : goal.decreases-loop-way
