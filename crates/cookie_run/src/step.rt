@@ -31,6 +31,8 @@ pub enum Way {
 pub enum Command {
     /// Sets a cookie in a way.
     Set(Way, Cookie<'static>),
+    /// Removes the cookie of a name, as set in a way.
+    Remove(Way, Text),
     /// Reads the value of a name, as set in a way.
     Get(Way, Text),
 }
