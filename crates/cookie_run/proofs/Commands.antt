@@ -35,7 +35,7 @@ use Rattle.cookie_run.proofs.Kepts.{Kept}
 use Rattle.cookie_run.proofs.OwnRows.{IsGoodKept}
 use Rattle.cookie_run.proofs.Received.{alive}
 use Rattle.cookie_run.proofs.GivenRows.{record_of}
-use Rattle.cookie_run.proofs.Session.{MatchesHeld, IsFitChange, AllFit, sent_at, Walks, alive_later, sent_cond, live_cond, held_cond, insert_fit, set_walks}
+use Rattle.cookie_run.proofs.Walking.{MatchesHeld, IsFitChange, AllFit, sent_at, Walks, alive_later, sent_cond, live_cond, held_cond, insert_fit, set_walks}
 
 -- what was under a name has that name, and is fit to be set again
 abbrev pub Known : (List ℕ → Option Kept) → Type 0

@@ -39,7 +39,7 @@ use Rattle.cookie_run.proofs.OwnRows.{IsGoodKept, Agrees}
 use Rattle.cookie_run.proofs.Received.{alive, Writes}
 use Rattle.cookie_run.proofs.Lines.{IsClosed, IsTime, kept_of, own_line}
 use Rattle.cookie_run.proofs.GivenRows.{header_cookies}
-use Rattle.cookie_run.proofs.Session.{MatchesHeld, brings, IsFitChange, AllFit, sent_at, Walks, opened_walks, matches_later}
+use Rattle.cookie_run.proofs.Walking.{MatchesHeld, brings, IsFitChange, AllFit, sent_at, Walks, opened_walks, matches_later}
 use Rattle.cookie_run.proofs.Commands.{Known, EndsLate, all_go}
 
 -- what the crates below promise

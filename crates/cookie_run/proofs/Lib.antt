@@ -11,7 +11,7 @@ pub mod OwnRows
 pub mod Received
 pub mod Lines
 pub mod GivenRows
-pub mod Session
+pub mod Walking
 pub mod Commands
 pub mod Exchange
 pub mod Promises
