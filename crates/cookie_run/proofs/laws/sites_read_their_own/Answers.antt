@@ -1,8 +1,8 @@
 use Rattle.std.proofs.Common.{ap, length, sym, ◌∙◌}
-use Rattle.cookie_run.proofs.SiteStep.{OnlyOne}
-use Rattle.cookie_run.proofs.store.Exchange.{Laws}
-use Rattle.cookie_run.proofs.store.Promises.{ends_late, line_utf8}
-use Rattle.cookie_run.proofs.store.Sites.{sites_read, sites_read_until}
+use Rattle.cookie_run.proofs.Showing.{OnlyOne}
+use Rattle.cookie_run.proofs.Exchange.{Laws}
+use Rattle.cookie_run.proofs.Promises.{ends_late, line_utf8}
+use Rattle.cookie_run.proofs.Sites.{sites_read, sites_read_until}
 use Rattle.cookie_run.proofs.laws.sites_read_their_own.Goals as goal
 
 pub returns-clause-whole : goal.returns-clause-whole

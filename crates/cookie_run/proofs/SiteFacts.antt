@@ -10,9 +10,10 @@ use Rattle.cookie_run.specs.Site.{Plain, Signed}
 use Rattle.cookie_run.specs.declared.step.Way.TheVariants as ways
 use Rattle.cookie_store.specs.Insertion.{settled}
 use Rattle.cookie_store.specs.Rows.{Row}
-use Rattle.cookie_run.specs.store.Site.{nothing, live, left_by_all}
+use Rattle.cookie_run.specs.Site.{nothing, live, left_by_all}
 use Rattle.cookie_store.specs.declared.action.StoreAction.TheVariants.{Inserted, ExpiredExisting, UpdatedExisting}
-use Rattle.cookie_run.specs.store.Acts.{Command, Set, Remove}
+use Rattle.cookie_run.specs.declared.step.Command.{Command}
+use Rattle.cookie_run.specs.declared.step.Command.TheVariants.{Set, Remove}
 use Rattle.store_parts.specs.declared.error.CookieError.TheVariants.{Expired}
 
 -- a second of 1971 and later ones

@@ -8,7 +8,7 @@ use Rattle.publicsuffix.specs.Prevailing.{Listed, Prevails, IsName, GoesBefore}
 use Rattle.publicsuffix.specs.Rules.{Rule, Text}
 use Rattle.store_parts.specs.DomainMatch.{EndsAfterDot}
 use Rattle.store_parts.specs.DomainText.{idna_form}
-use Rattle.cookie_run.specs.store.Headline.{AreApart}
+use Rattle.cookie_run.specs.Headline.{AreApart}
 
 abbrev shop : List ℕ
 shop = codes "shop.com"

@@ -12,8 +12,8 @@ use Rattle.cookie_run.proofs.Texts.{same_text, text_is, turned}
 use Rattle.cookie_run.proofs.Records.{same_escaped}
 use Rattle.cookie_store.specs.Rows.{Row, domain_text, has_domain_of, has_place_of, has_key_of, replaced, behind_last, inserted, is_live_of, ended}
 use Rattle.cookie_store.specs.Insertion.{settled}
-use Rattle.cookie_run.proofs.store.Kepts.{Kept, found_in, lacks, found_named, found_map, apart_map, all_map, found_push, apart_push, all_push}
-use Rattle.cookie_run.proofs.store.OwnRows.{is_own, rows_of, IsRowOf, IsGoodKept, IsOther, Agrees, own_is, own_text, pairwise_map, pairwise_push, all_rows_map, all_behind, rows_map, rows_map_other, own_behind, other_behind, first_and, walk}
+use Rattle.cookie_run.proofs.Kepts.{Kept, found_in, lacks, found_named, found_map, apart_map, all_map, found_push, apart_push, all_push}
+use Rattle.cookie_run.proofs.OwnRows.{is_own, rows_of, IsRowOf, IsGoodKept, IsOther, Agrees, own_is, own_text, pairwise_map, pairwise_push, all_rows_map, all_behind, rows_map, rows_map_other, own_behind, other_behind, first_and, walk}
 
 -- ---- what is alive
 

@@ -11,7 +11,8 @@ use Rattle.publicsuffix.specs.Rules.{Rule}
 use Rattle.store_parts.specs.DomainText.{idna_form, suffix_or_empty}
 use Rattle.cookie.specs.Jar.{Jar}
 use Rattle.cookie_run.specs.Acts.{Arrival, Arrives, Never}
-use Rattle.cookie_run.specs.Hosts.{host_of, secure_host}
+use Rattle.cookie_run.specs.Hosts.{secure_host}
+use Rattle.store_parts.specs.Schemes.{host_of}
 use Rattle.cookie_run.specs.Jar.{Keyed, lines_of}
 use Rattle.cookie_run.specs.Moments.{IsMoment, AllFollow, last_of, the_beginning}
 use Rattle.cookie_run.specs.Play.{GetTells}
@@ -23,22 +24,24 @@ use Rattle.cookie_run.specs.declared.step.SessionError.TheVariants.{EmptyName, Y
 use Rattle.cookie_run.specs.declared.step.Way.{Way}
 use Rattle.cookie_text.specs.Record.{bare, unsliced, without_dot}
 use Rattle.cookie_run.specs.declared.step.Reading.{Reading}
-use Rattle.cookie_run.proofs.SiteStep.{is_text, host_is, other_host, inside_on}
+use Rattle.cookie_run.proofs.Showing.{is_text, host_is, other_host, inside_on}
 use Rattle.cookie_run.proofs.Texts.{some_is_not_none}
-use Rattle.cookie_run.specs.store.Header.{IsHeader}
-use Rattle.cookie_run.specs.store.Readings.{IsRemovalAnswer, AnswersTo, AnswersAct, AnswersEach}
-use Rattle.cookie_run.specs.store.Stops.{StopsFrom}
-use Rattle.cookie_run.specs.store.Laws.{EachPlayIsRead, EachStoppedPlayIsRead}
+use Rattle.cookie_run.specs.Header.{IsHeader}
+use Rattle.cookie_run.specs.Readings.{IsRemovalAnswer, AnswersTo, AnswersAct, AnswersEach}
+use Rattle.cookie_run.specs.Stops.{StopsFrom}
+use Rattle.cookie_run.specs.Laws.{EachPlayIsRead, EachStoppedPlayIsRead}
 use Rattle.cookie_store.specs.Rows.{Row}
-use Rattle.cookie_run.specs.store.Acts.{Command, Set, Remove, Get, Act, Visits, Answers, Asks, moments_in, moments_of, opening_of, arrival_in}
-use Rattle.cookie_run.specs.store.Site.{Site, nothing, live}
-use Rattle.cookie_run.specs.store.Headline.{AnswersBySessions, AnswersApart, Each, ReadsOn, EachReadsOn, AllOn, FrontOn, StopsOn}
-use Rattle.cookie_run.specs.store.Play.{Delivers, OneStep, Plays, RemoveTells, Tells, ServesAll, ServesFront, ReadsAll, ReadsFront}
-use Rattle.cookie_run.proofs.store.Kepts.{Kept}
-use Rattle.cookie_run.proofs.store.OwnRows.{Agrees}
-use Rattle.cookie_run.proofs.store.Lines.{IsTime, other_lines}
-use Rattle.cookie_run.proofs.store.Commands.{EndsLate}
-use Rattle.cookie_run.proofs.store.Exchange.{Laws, SiteAgrees, agrees_later, IsReadBack, IsArrival, end_moment, exchanged, walked}
+use Rattle.cookie_run.specs.Acts.{Act, Visits, Answers, Asks, moments_in, moments_of, opening_of, arrival_in}
+use Rattle.cookie_run.specs.declared.step.Command.{Command}
+use Rattle.cookie_run.specs.declared.step.Command.TheVariants.{Set, Remove, Get}
+use Rattle.cookie_run.specs.Site.{Site, nothing, live}
+use Rattle.cookie_run.specs.Headline.{AnswersBySessions, AnswersApart, Each, ReadsOn, EachReadsOn, AllOn, FrontOn, StopsOn}
+use Rattle.cookie_run.specs.Play.{Delivers, OneStep, Plays, RemoveTells, Tells, ServesAll, ServesFront, ReadsAll, ReadsFront}
+use Rattle.cookie_run.proofs.Kepts.{Kept}
+use Rattle.cookie_run.proofs.OwnRows.{Agrees}
+use Rattle.cookie_run.proofs.Lines.{IsTime, other_lines}
+use Rattle.cookie_run.proofs.Commands.{EndsLate}
+use Rattle.cookie_run.proofs.Exchange.{Laws, SiteAgrees, agrees_later, IsReadBack, IsArrival, end_moment, exchanged, walked}
 
 -- ---- a host that is its own form and has no empty label
 

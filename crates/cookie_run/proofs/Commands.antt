@@ -25,16 +25,17 @@ use Rattle.cookie_run.specs.declared.step.SessionError.{SessionError}
 use Rattle.cookie_run.specs.declared.step.SessionError.TheVariants.{EmptyName, Year}
 use Rattle.cookie_run.specs.declared.step.Way.{Way}
 use Rattle.cookie_run.proofs.Sessions.{get_insert, get_remove, taken_readable}
-use Rattle.cookie_run.proofs.SiteStep.{OnlyOne, Matches, Shows, get_on, utf8_bytes}
+use Rattle.cookie_run.proofs.Showing.{OnlyOne, Matches, Shows, get_on, utf8_bytes}
 use Rattle.cookie_run.proofs.Texts.{same_text, some_is_not_none}
-use Rattle.cookie_run.specs.store.Acts.{Command, Set, Remove, Get}
-use Rattle.cookie_run.specs.store.Site.{Site, View, with_at, live_at, CommandOn, CommandsOn, entry_of, left_by, left_by_all}
-use Rattle.cookie_run.specs.store.Play.{RemoveTells, CommandTells, Tells}
-use Rattle.cookie_run.proofs.store.Kepts.{Kept}
-use Rattle.cookie_run.proofs.store.OwnRows.{IsGoodKept}
-use Rattle.cookie_run.proofs.store.Received.{alive}
-use Rattle.cookie_run.proofs.store.GivenRows.{record_of}
-use Rattle.cookie_run.proofs.store.Session.{MatchesHeld, IsFitChange, AllFit, sent_at, Walks, alive_later, sent_cond, live_cond, held_cond, insert_fit, set_walks}
+use Rattle.cookie_run.specs.declared.step.Command.{Command}
+use Rattle.cookie_run.specs.declared.step.Command.TheVariants.{Set, Remove, Get}
+use Rattle.cookie_run.specs.Site.{Site, View, with_at, live_at, CommandOn, CommandsOn, entry_of, left_by, left_by_all}
+use Rattle.cookie_run.specs.Play.{RemoveTells, CommandTells, Tells}
+use Rattle.cookie_run.proofs.Kepts.{Kept}
+use Rattle.cookie_run.proofs.OwnRows.{IsGoodKept}
+use Rattle.cookie_run.proofs.Received.{alive}
+use Rattle.cookie_run.proofs.GivenRows.{record_of}
+use Rattle.cookie_run.proofs.Walking.{MatchesHeld, IsFitChange, AllFit, sent_at, Walks, alive_later, sent_cond, live_cond, held_cond, insert_fit, set_walks}
 
 -- what was under a name has that name, and is fit to be set again
 abbrev pub Known : (List ℕ → Option Kept) → Type 0
@@ -256,7 +257,7 @@ one_goes key now d at old new seen left (Set way s) told law after late known w 
   with_at seen (stored_name way s.cookie.name) (Some (entry_of way s.cookie)),
   inl
       (t.0, t.1.accepted, refl, refl),
-  set_walks key now d at old new seen left way s law w t.1 t.2,
+  set_walks key now d at old new seen left way s law w t.1,
 )
 one_goes key now d at old new seen left (Set way s) told law after late known w (inr t) =
     ([], seen, inr (t.0, t.1, t.2, refl, refl), subst (λ k. Walks key now d at k seen left) (sym t.3) w)

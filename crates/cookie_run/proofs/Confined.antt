@@ -11,7 +11,8 @@ use Rattle.cookie_store.specs.Insertion.{End, InsertsRead}
 use Rattle.cookie_store.specs.Laws.{InsertionIsConfined}
 use Rattle.cookie_store.specs.Rows.{Row}
 use Rattle.cookie_store.specs.declared.action.StoreAction.{StoreAction}
-use Rattle.cookie_run.specs.store.Accept.{LineEnd, Accepts, AcceptsAll}
+use Rattle.cookie_run.specs.Accept.{Accepts, AcceptsAll}
+use Rattle.cookie_run.specs.declared.step.LineEnd.{LineEnd}
 
 same_rows : (list : List Rule) (host : Option (List ℕ)) (rows new : List Row) → new ≡ rows
     → IsConfined list host rows new

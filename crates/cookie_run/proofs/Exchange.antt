@@ -25,21 +25,22 @@ use Rattle.cookie_run.specs.Jar.{Keyed, IsReadableJar, record_in}
 use Rattle.cookie_run.specs.declared.step.Reading.{Reading}
 use Rattle.cookie_run.proofs.Records.{found_in as found_record, lacks as lacks_record, AreApart as RecordsApart}
 use Rattle.cookie_run.proofs.Sessions.{each_of_names, of_change}
-use Rattle.cookie_run.proofs.SiteStep.{ReadingBack, OnlyOne, records, lines_are, found_records, apart_records, all_records}
+use Rattle.cookie_run.proofs.Showing.{ReadingBack, OnlyOne, records, lines_are, found_records, apart_records, all_records}
 use Rattle.cookie_run.proofs.Texts.{same_text}
 use Rattle.cookie_store.specs.Rows.{Row}
-use Rattle.cookie_run.specs.store.Accept.{LineEnd, AcceptsAll}
-use Rattle.cookie_run.specs.store.Header.{IsHeader}
-use Rattle.cookie_run.specs.store.Acts.{Command}
-use Rattle.cookie_run.specs.store.Site.{CommandsOn, Site, View, live_at, live, left_by_all, ExchangeOn}
-use Rattle.cookie_run.specs.store.Play.{Serves, Delivers}
-use Rattle.cookie_run.proofs.store.Kepts.{Kept, found_in, found_named}
-use Rattle.cookie_run.proofs.store.OwnRows.{IsGoodKept, Agrees}
-use Rattle.cookie_run.proofs.store.Received.{alive, Writes}
-use Rattle.cookie_run.proofs.store.Lines.{IsClosed, IsTime, kept_of, own_line}
-use Rattle.cookie_run.proofs.store.GivenRows.{header_cookies}
-use Rattle.cookie_run.proofs.store.Session.{MatchesHeld, brings, IsFitChange, AllFit, sent_at, Walks, opened_walks, matches_later}
-use Rattle.cookie_run.proofs.store.Commands.{Known, EndsLate, all_go}
+use Rattle.cookie_run.specs.Accept.{AcceptsAll}
+use Rattle.cookie_run.specs.declared.step.LineEnd.{LineEnd}
+use Rattle.cookie_run.specs.Header.{IsHeader}
+use Rattle.cookie_run.specs.declared.step.Command.{Command}
+use Rattle.cookie_run.specs.Site.{CommandsOn, Site, View, live_at, live, left_by_all, ExchangeOn}
+use Rattle.cookie_run.specs.Play.{Serves, Delivers}
+use Rattle.cookie_run.proofs.Kepts.{Kept, found_in, found_named}
+use Rattle.cookie_run.proofs.OwnRows.{IsGoodKept, Agrees}
+use Rattle.cookie_run.proofs.Received.{alive, Writes}
+use Rattle.cookie_run.proofs.Lines.{IsClosed, IsTime, kept_of, own_line}
+use Rattle.cookie_run.proofs.GivenRows.{header_cookies}
+use Rattle.cookie_run.proofs.Walking.{MatchesHeld, brings, IsFitChange, AllFit, sent_at, Walks, opened_walks, matches_later}
+use Rattle.cookie_run.proofs.Commands.{Known, EndsLate, all_go}
 
 -- what the crates below promise
 pub record Laws (key : List ℕ) : Type 0 where

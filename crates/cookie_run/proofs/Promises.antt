@@ -34,8 +34,8 @@ use Rattle.cookie_text.proofs.PrintedAttributes.{whole_seconds_fit}
 use Rattle.cookie_text.proofs.PrintedDates.{is_quiet, printed_quiet}
 use Rattle.cookie_run.specs.Moments.{IsMoment}
 use Rattle.cookie_run.proofs.ReadBack.{ascii, graphic_of}
-use Rattle.cookie_run.proofs.store.Commands.{EndsLate}
-use Rattle.cookie_run.proofs.store.Lines.{IsClosed}
+use Rattle.cookie_run.proofs.Commands.{EndsLate}
+use Rattle.cookie_run.proofs.Lines.{IsClosed}
 
 -- ---- a removal ends in 1970 at the earliest
 

@@ -12,7 +12,7 @@ use Rattle.store_parts.specs.PathMatch.{Path}
 use Rattle.cookie_run.proofs.Texts.{text_is}
 use Rattle.cookie_run.proofs.ReadBack.{IsGood}
 use Rattle.cookie_store.specs.Rows.{Row, domain_text, behind_last}
-use Rattle.cookie_run.proofs.store.Kepts.{Kept, AreApart}
+use Rattle.cookie_run.proofs.Kepts.{Kept, AreApart}
 
 -- ---- the rows of a host
 

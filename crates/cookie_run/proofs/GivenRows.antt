@@ -9,28 +9,27 @@ use Rattle.url.specs.Parts.{Parts, IsValid, has_host, has_authority, cannot_be_a
 use Rattle.url.specs.Path.{join_segments}
 use Rattle.url.specs.Scheme.{is_special, scheme_type, default_port}
 use Rattle.url.specs.Host.{host_text}
-use Rattle.cookie_text.specs.Printing.{stripped}
 use Rattle.cookie_text.specs.ReadingBack.{Pairwise}
 use Rattle.cookie_text.specs.Record.{Record, bare}
 use Rattle.store_parts.specs.DomainMatch.{suffix, Covers, CoversAt}
 use Rattle.store_parts.specs.DomainText.{read_domain}
 use Rattle.store_parts.specs.PathMatch.{PathMatchesAt}
-use Rattle.cookie_run.specs.Hosts.{host_of, secure_host}
+use Rattle.cookie_run.specs.Hosts.{secure_host}
+use Rattle.store_parts.specs.Schemes.{host_of}
 use Rattle.cookie_run.specs.Jar.{last_in}
-use Rattle.cookie_run.specs.Rows as landed
 use Rattle.cookie_run.proofs.HeaderCookies.{cookies_of}
-use Rattle.cookie_run.proofs.HeaderBack.{row_at, cookies_of_header}
+use Rattle.cookie_run.proofs.HeaderBack.{pair_at, cookies_of_header}
 use Rattle.cookie_run.proofs.ReadBack.{IsGood, bare_of}
-use Rattle.cookie_run.proofs.SiteStep.{or_none}
+use Rattle.cookie_run.proofs.Showing.{or_none}
 use Rattle.cookie_run.proofs.Texts.{same_text, some_is_not_none}
 use Rattle.cookie_store.specs.Rows.{Row}
-use Rattle.cookie_store.specs.Given.{IsGiven, AreGiven}
+use Rattle.cookie_store.specs.Given.{IsGiven, AreGiven, pair_of}
 use Rattle.store_parts.specs.Expiry.{is_dead}
-use Rattle.cookie_run.specs.store.Header.{IsHeader, header_of, pair_text}
-use Rattle.cookie_run.proofs.store.Kepts.{Kept, found_in, AreApart, pass, found_filter, all_filter}
-use Rattle.cookie_run.proofs.store.OwnRows.{is_own, own_text, IsRowOf, IsGoodKept, IsOther, Agrees, walk}
-use Rattle.cookie_run.proofs.store.Received.{alive}
-use Rattle.cookie_run.proofs.store.Lines.{https_of, is_http}
+use Rattle.cookie_run.specs.Header.{IsHeader, header_of}
+use Rattle.cookie_run.proofs.Kepts.{Kept, found_in, AreApart, pass, found_filter, all_filter}
+use Rattle.cookie_run.proofs.OwnRows.{is_own, own_text, IsRowOf, IsGoodKept, IsOther, Agrees, walk}
+use Rattle.cookie_run.proofs.Received.{alive}
+use Rattle.cookie_run.proofs.Lines.{https_of, is_http}
 
 -- ---- the URL of a request
 
@@ -144,20 +143,12 @@ given_rows host url now rows given ks secure root_is reads a picked =
 abbrev pub record_of : Kept → Record
 record_of k = bare k.name k.value
 
-pair_same : (host : List ℕ) (k : Kept) (r : Row) → IsRowOf host k r
-    → pair_text r ≡ landed.pair_text (row_at host (record_of k))
-pair_same host k r h = λ i. stripped (bare (h.name i) (h.value i))
-
-header_same : (host : List ℕ) (ks : List Kept) (given : List Row) → Pairwise (IsRowOf host) ks given
-    → header_of given ≡ landed.header_of (map (row_at host) (map record_of ks))
-header_same host [] [] p = refl
-header_same host [] (r ∷ rs) p = absurd p
-header_same host (k ∷ ks) [] p = absurd p
-header_same host (k ∷ []) (r ∷ []) p = pair_same host k r p.0
-header_same host (k ∷ []) (r ∷ s ∷ rs) p = absurd p.1
-header_same host (k ∷ d ∷ ks) (r ∷ []) p = absurd p.1
-header_same host (k ∷ d ∷ ks) (r ∷ s ∷ rs) p = λ i. pair_same host k r p.0 i ++ 59 ∷ 32 ∷ header_same host (d ∷ ks)
-    (s ∷ rs) p.1 i
+pairs_same : (host : List ℕ) (ks : List Kept) (given : List Row) → Pairwise (IsRowOf host) ks given
+    → map pair_of given ≡ map pair_at (map record_of ks)
+pairs_same host [] [] p = refl
+pairs_same host [] (r ∷ rs) p = absurd p
+pairs_same host (k ∷ ks) [] p = absurd p
+pairs_same host (k ∷ ks) (r ∷ rs) p = λ i. (p.0.name i, p.0.value i) ∷ pairs_same host ks rs p.1 i
 
 goods : (ks : List Kept) → AllByRecursion IsGoodKept ks → AllByRecursion IsGood (map record_of ks)
 goods [] h = tt
@@ -174,9 +165,9 @@ pub header_cookies : (host : List ℕ) (url : Parts) (now : ℤ) (rows : List Ro
 header_cookies host url now rows ks header secure reads a is =
     let root_is = rooted url host secure is.valid in
     let live : List Kept = filter (lives now) ks in
-    ap cookies_of (is.printed ∙ header_same host live is.given (given_rows host url now rows is.given ks secure root_is
-    reads a is.are_given))
-    ∙ (cookies_of_header host (map record_of live) (goods live (all_filter IsGoodKept (lives now) ks a.good))
+    ap cookies_of (is.printed ∙ ap header_of (pairs_same host live is.given (given_rows host url now rows is.given ks
+    secure root_is reads a is.are_given)))
+    ∙ (cookies_of_header (map record_of live) (goods live (all_filter IsGoodKept (lives now) ks a.good))
     ∙ bares live)
 
 -- where names are apart, the last cookie of a name is the first

@@ -1,5 +1,5 @@
 -- What holds of every play on the rows of a client.
-use Rattle.std.specs.Prelude.{◌≡◌, ◌≤ℤ◌, pos, ℕ, ℤ, List, Some}
+use Rattle.std.specs.Prelude.{◌≡◌, ◌≤ℤ◌, pos, ℕ, ℤ, List, Some, ⊤}
 use Rattle.cookie_text.specs.Printing.{encoded}
 use Rattle.cookie_text.specs.Record.{Record}
 use Rattle.publicsuffix.specs.Rules.{Rule}
@@ -11,11 +11,13 @@ use Rattle.cookie_run.specs.Hosts.{secure_host}
 use Rattle.cookie_run.specs.Moments.{AllFollow, the_beginning}
 use Rattle.cookie_run.specs.declared.step.FaultKind.{FaultKind}
 use Rattle.cookie_run.specs.declared.step.Reading.{Reading}
-use Rattle.cookie_run.specs.store.Accept.{LineEnd, Accepts, Takes}
-use Rattle.cookie_run.specs.store.Acts.{Act, moments_of}
-use Rattle.cookie_run.specs.store.Headline.{SitesReadTheirOwn, SitesReadTheirOwnUntil}
-use Rattle.cookie_run.specs.store.Play.{IsRun, IsRunUntil}
-use Rattle.cookie_run.specs.store.Sent.{IsSent, IsRowFor, IsTaken}
+use Rattle.cookie_run.specs.Accept.{Accepts, Takes}
+use Rattle.cookie_run.specs.declared.step.LineEnd.{LineEnd}
+use Rattle.cookie_run.specs.declared.step.LineEnd.TheVariants.{Stored, Refused, NotText}
+use Rattle.cookie_run.specs.Acts.{Act, moments_of}
+use Rattle.cookie_run.specs.Headline.{SitesReadTheirOwn, SitesReadTheirOwnUntil}
+use Rattle.cookie_run.specs.Play.{IsRun, IsRunUntil}
+use Rattle.cookie_run.specs.Sent.{IsSent, IsRowFor, IsTaken}
 
 -- what a play whose moments are in order reads, its sites read of their own
 abbrev pub EachPlayIsRead : List ℕ → Type 0
@@ -42,3 +44,14 @@ SentLinesAreTaken =
     (new : List Row) → IsSent c → secure_host url ≡ Some host → pos 0 ≤ℤ now
     → Accepts list rows url now (encoded c) end new
     → (row : Row) × IsRowFor host c now row × IsTaken rows now row end new
+
+-- a line that isn't stored changes nothing
+abbrev pub IsStored : LineEnd → Type 0
+IsStored (Stored action) = ⊤
+IsStored (Refused cause) = ⊥
+IsStored NotText = ⊥
+
+abbrev pub RefusedLinesChangeNothing : Type 0
+RefusedLinesChangeNothing =
+    (list : List Rule) (rows : List Row) (url : Parts) (now : ℤ) (line : List ℕ) (end : LineEnd) (new : List Row)
+    → Accepts list rows url now line end new → ¬ (IsStored end) → new ≡ rows

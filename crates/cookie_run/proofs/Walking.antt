@@ -22,15 +22,15 @@ use Rattle.cookie_run.specs.declared.step.Way.TheVariants as ways
 use Rattle.cookie_run.proofs.ReadBack.{IsGood}
 use Rattle.cookie_run.proofs.ReadCode.{cookies_are}
 use Rattle.cookie_run.proofs.Sessions.{none_at, get_insert, then_none, kept_readable, changed_readable, opened_readable}
-use Rattle.cookie_run.proofs.SiteStep.{OnlyOne, StandsAs, Matches, Shows, set_shows, entry_for, kept_named, kept_stands, kept_text, named_text, not_nil, utf8_bytes, last_named, seen_named, view_original}
+use Rattle.cookie_run.proofs.Showing.{OnlyOne, StandsAs, Matches, Shows, set_shows, kept_named, kept_stands, kept_text, named_text, not_nil, utf8_bytes, last_named, seen_named, view_original}
 use Rattle.cookie_run.proofs.Texts.{same_text, some_is_not_none}
 use Rattle.store_parts.specs.Expiry.{is_dead}
-use Rattle.cookie_run.specs.store.Acts.{Set}
-use Rattle.cookie_run.specs.store.Site.{Held, Site, View, with_at, live_at, entry_in, live, entry_of, held_from, left_by}
-use Rattle.cookie_run.proofs.store.Kepts.{Kept, found_in, AreApart, apart_filter}
-use Rattle.cookie_run.proofs.store.Received.{alive}
-use Rattle.cookie_run.proofs.store.Lines.{IsSent, kept_of}
-use Rattle.cookie_run.proofs.store.GivenRows.{lives, record_of, last_kept, found_live}
+use Rattle.cookie_run.specs.declared.step.Command.TheVariants.{Set}
+use Rattle.cookie_run.specs.Site.{Held, Site, View, with_at, live_at, entry_in, live, entry_of, held_from, left_by}
+use Rattle.cookie_run.proofs.Kepts.{Kept, found_in, AreApart, apart_filter}
+use Rattle.cookie_run.proofs.Received.{alive}
+use Rattle.cookie_run.proofs.Lines.{IsSent, kept_of}
+use Rattle.cookie_run.proofs.GivenRows.{lives, record_of, last_kept, found_live}
 
 -- ---- what stands for what is held
 
@@ -268,11 +268,9 @@ set_leaves key d way s kept q stands same e =
 
 pub set_walks : (key : List ℕ) (now d : ℤ) (at : List ℕ → Option Kept) (old new : Keyed) (view : View) (left : Site)
     (way : Way) (s : Seen) → OnlyOne key → Walks key now d at old view left → Sets any_nonce old way s new
-    → IfSome s.cookie.max_age IsDurationNanos
     → Walks key now d at new (with_at view (stored_name way s.cookie.name) (Some (entry_of way s.cookie)))
     (left_by d left (Set way s))
-unfolding entry_for
-set_walks key now d at old new view left way s law w sets age =
+set_walks key now d at old new view left way s law w sets =
     let kept : Seen = sets.keeps.0 in
     let n : List ℕ = stored_name way s.cookie.name in
     let as_kept : IsKeptAs any_nonce key way (sent s) kept = subst (λ (k : List ℕ). IsKeptAs any_nonce k way (sent s)
@@ -287,7 +285,7 @@ set_walks key now d at old new view left way s law w sets age =
       readable = subst IsReadableJar (sym sets.keeps.2) (changed_readable old.jar kept.cookie.name (Added kept)
           w.readable readable);
       fit = subst (λ (j : Jar). AllFit j.changes) (sym sets.keeps.2) (insert_fit old.jar.changes kept.cookie.name
-          (Added kept) w.fit (kept_fit any_nonce key way s kept law sets.name sets.value age readable as_kept));
+          (Added kept) w.fit (kept_fit any_nonce key way s kept law sets.name sets.value sets.age readable as_kept));
       leaves = λ q.
           let changed : finmap.get new.jar.changes q ≡ cond (bytes_eq q n) (Some (Added kept))
           (finmap.get old.jar.changes q) =

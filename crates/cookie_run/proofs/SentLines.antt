@@ -12,18 +12,18 @@ use Rattle.store_parts.specs.DomainMatch.{Domain, host_only, text_of, Covers}
 use Rattle.store_parts.specs.Expiry.{death, is_dead}
 use Rattle.cookie_store.specs.Making.{IsMade, IsRefused, IsDomainFor}
 use Rattle.cookie_run.specs.Hosts.{secure_host}
-use Rattle.cookie_run.proofs.SiteStep.{ReadingBack, utf8_bytes, not_nil}
+use Rattle.cookie_run.proofs.Showing.{ReadingBack, utf8_bytes, not_nil}
 use Rattle.cookie_store.specs.Insertion.{End, settled, Fits, Admits, InsertsRead}
 use Rattle.store_parts.specs.declared.error.CookieError.{CookieError}
-use Rattle.cookie_run.specs.store.Accept.{text_end}
+use Rattle.cookie_run.specs.Accept.{text_end}
 use Rattle.cookie_store.specs.Rows.{Row, domain_text, has_key_of, is_live_of, ended, put}
-use Rattle.cookie_run.specs.store.Sent.{IsSent, IsRowFor, IsTaken}
-use Rattle.cookie_run.specs.store.Laws.{SentLinesAreTaken}
+use Rattle.cookie_run.specs.Sent.{IsSent, IsRowFor, IsTaken}
+use Rattle.cookie_run.specs.Laws.{SentLinesAreTaken}
 use Rattle.cookie_store.specs.declared.action.StoreAction.{StoreAction}
 use Rattle.cookie_store.specs.declared.action.StoreAction.TheVariants.{Inserted, UpdatedExisting, ExpiredExisting}
-use Rattle.cookie_run.proofs.store.Lines.{https_of, is_http, not_refused, path_is, domain_is, read_as, IsClosed}
-use Rattle.cookie_run.proofs.store.Promises.{line_utf8}
-use Rattle.cookie_run.proofs.store.Received.{at_epoch, epoch_dead}
+use Rattle.cookie_run.proofs.Lines.{https_of, is_http, not_refused, path_is, domain_is, read_as, IsClosed}
+use Rattle.cookie_run.proofs.Promises.{line_utf8}
+use Rattle.cookie_run.proofs.Received.{at_epoch, epoch_dead}
 
 closed_of : (c : Record) → IsSent c → IsClosed c
 closed_of c h = record {

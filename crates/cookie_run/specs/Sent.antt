@@ -11,7 +11,8 @@ use Rattle.store_parts.specs.Expiry.{death, is_dead}
 use Rattle.store_parts.specs.declared.error.CookieError.TheVariants.{Expired}
 use Rattle.cookie_store.specs.Rows.{Row, is_live_of, put}
 use Rattle.cookie_store.specs.declared.action.StoreAction.TheVariants.{Inserted, ExpiredExisting, UpdatedExisting}
-use Rattle.cookie_run.specs.store.Accept.{LineEnd, Stored, Refused}
+use Rattle.cookie_run.specs.declared.step.LineEnd.TheVariants.{Stored, Refused}
+use Rattle.cookie_run.specs.declared.step.LineEnd.{LineEnd}
 
 -- a cookie as a session closes with it: text under a name that isn't empty, with the path `/` and no domain
 pub record IsSent (c : Record) : Type 0 where
