@@ -47,7 +47,7 @@ number_some (b ∷ bs) n e = by_test (list_all is_ascii_digit (b ∷ bs)) refl e
         none_some n e = cc
 
 -- a number that has to pass a test
-module _ {E : Type 0} (ds : List ℕ) (value : ℕ → ℤ) (test : ℕ → Bool) (Fits : ℕ → Type 0)
+module _ (ds : List ℕ) (value : ℕ → ℤ) (test : ℕ → Bool) (Fits : ℕ → Type 0)
     (yes : (n : ℕ) → Fits n → test n ≡ true) (so : (n : ℕ) → test n ≡ true → Fits n) where
   abbrev taken : ℕ → Option ℤ
   taken n = if test n then Some (value n) else None
@@ -61,7 +61,7 @@ module _ {E : Type 0} (ds : List ℕ) (value : ℕ → ℤ) (test : ℕ → Bool
       ⊎_elim (λ (t : test n ≡ true). absurd (wrong (is.0, is.1, subst Fits is.2 (so n t))))
       (λ (f : test n ≡ false). sym (ap (λ t. if t then Some (value n) else None) f)) (cases_Bool (test n))
 
-  read_as : (r : Result ℤ E)
+  read_as : {E : Type 0} (r : Result ℤ E)
       → OkIff r ((list_all is_ascii_digit ds ≡ true) × (0 < length ds) × Fits (digits_value 10 ds))
       (value (digits_value 10 ds))
       → result_ok r ≡ option_and_then taken (number_of ds)
