@@ -14,6 +14,7 @@ pub mod GivenRows
 pub mod Walking
 pub mod Commands
 pub mod Exchange
+pub mod Removals
 pub mod Promises
 pub mod Sites
 pub mod Confined
@@ -22,6 +23,7 @@ pub mod Receiving
 pub mod Runs
 pub mod Headers
 pub mod ScriptLines
+pub mod ScriptNumbers
 pub mod Shown
 pub mod Pouring
 pub mod MomentText

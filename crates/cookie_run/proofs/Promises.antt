@@ -35,44 +35,13 @@ use Rattle.cookie_text.proofs.PrintedDates.{is_quiet, printed_quiet}
 use Rattle.cookie_run.specs.Moments.{IsMoment}
 use Rattle.cookie_run.proofs.ReadBack.{ascii, graphic_of}
 use Rattle.cookie_run.proofs.Commands.{EndsLate}
+use Rattle.cookie_run.proofs.Removals.{removal_late}
 use Rattle.cookie_run.proofs.Lines.{IsClosed}
 
 -- ---- a removal ends in 1970 at the earliest
 
-stopped_after : (n : ℤ) → pos 0 ≤ℤ n → n ≤ℤ last_moment → stopped n ≡ n
-stopped_after n h g = grind (arith, ints)
-
-early_year : (d : DateTime) → d.date.year <ℤ pos 1970 → civil_nanos d <ℤ pos 0
-unfolding days_from_civil
-early_year d h =
-    let before = day_count-lt_year d.date.year d.date.month d.date.day (pos 1970) 1 1 (civil d.date) (omega arith) h in
-    let day : epoch_day d.date <ℤ pos 0 = omega (arith, signed_arith, before) in
-    omega (arith, signed_arith, civil_nanos-parts d, day, time_nanos_bound d.time)
-
-least : (n : ℤ) → pos 0 ≤ℤ n → pos 0 ≤ℤ int_min n latest_end
-least n h = grind (arith, ints)
-
-not_short : (e : Expiration) (end : DateTime) → pos 0 ≤ℤ civil_nanos end → IsKept (At end) e
-    → is_short_year (Some e) ≡ false
-not_short Session end after kept = absurd kept
-not_short (At d) end after kept =
-    ⊎_elim
-    (λ (s : int_lt d.date.year (pos 100) ≡ true).
-    let year : d.date.year <ℤ pos 1970 = grind (arith, ints) in
-    let early = early_year d year in
-    let late : pos 0 ≤ℤ civil_nanos d = subst (λ n. pos 0 ≤ℤ n) (sym kept) (least (civil_nanos end) after) in
-    absurd (omega (arith, signed_arith, early, late)))
-    (λ (s : int_lt d.date.year (pos 100) ≡ false). s)
-    (cases_Bool (int_lt d.date.year (pos 100)))
-
 pub ends_late : (now : ℤ) → IsMoment now → EndsLate now
-ends_late now m moment c r at makes =
-    let n : ℤ = civil_nanos moment +ℤ neg_ℤ one_year in
-    let from : pos 0 ≤ℤ n = omega (arith, signed_arith, at, m.whole, m.from) in
-    let until : n ≤ℤ last_moment = omega (arith, signed_arith, at, m.whole, m.until) in
-    let is : civil_nanos makes.0 ≡ n = makes.1 ∙ stopped_after n from until in
-    ap (λ (s : Seen). is_short_year s.cookie.expires) makes.2.2 ∙ not_short makes.2.0 makes.0
-    (subst (λ x. pos 0 ≤ℤ x) (sym is) from) makes.2.1
+ends_late now m moment c r at makes = removal_late moment c r (omega (arith, signed_arith, at, m.whole, m.from)) makes
 
 -- ---- a line is ASCII
 
