@@ -20,6 +20,7 @@ pub mod Sites
 pub mod Confined
 pub mod SentLines
 pub mod Receiving
+pub mod Refusals
 pub mod Runs
 pub mod Headers
 pub mod ScriptLines

@@ -5,7 +5,9 @@ use Rattle.cookie_run.specs.declared.step.Step.{Step}
 use Rattle.cookie_run.specs.Acts.{act_of, acts_of}
 use Rattle.std.proofs.Common.{◌≡◌, ℕ, ℤ, ◌+◌, ◌<◌, ◌≤◌, length, take, drop, get_or, inl, inr, Result, Ok, Err, OnOk, OnErr}
 use Rattle.std.proofs.Common.{List, [], ◌∷◌, ◌++◌, sym, refl, ap, ◌∙◌, subst, append_assoc, zero, suc, arith}
-use Rattle.cookie_run.specs.Acts.{Act}
+use Rattle.url.specs.Parts.{Parts}
+use Rattle.cookie_run.specs.Acts.{Act, Visits, Arrival}
+use Rattle.cookie_run.specs.Header.{IsHeader}
 use Rattle.publicsuffix.specs.Rules.{Rule}
 use Rattle.cookie_store.specs.Rows.{Row}
 use Rattle.cookie_run.specs.declared.step.Reading.{Reading}
@@ -13,13 +15,17 @@ use Rattle.cookie_run.specs.declared.step.Command.{Command}
 use Rattle.cookie_text.specs.Record.{Seen}
 use Rattle.cookie_run.specs.declared.step.Way.{Way}
 use Rattle.cookie_run.specs.declared.step.Way.TheVariants.{Plain, Host, Secure, Signed, Sealed}
-use Rattle.cookie_run.specs.Jar.{Keyed, IsOpened, IsKeptAs, Sets, sent}
+use Rattle.cookie_run.specs.Jar.{Keyed, IsOpened, IsKeptAs, IsRemovalRefusal, Sets, sent}
 use Rattle.cookie_run.specs.Stops.{GoesOnBy}
 use Rattle.cookie_run.specs.Play.{Plays, OneStep, CommandTells, Tells, TellsFront, ServesAll, ServesFront, GetTells}
-use Rattle.cookie_run.specs.Play.{any_nonce}
+use Rattle.cookie_run.specs.Play.{any_nonce, ReadsAll, ReadsFront}
 use Rattle.cookie_run.specs.Readings.{all_told, MayRead}
-use Rattle.cookie_run.specs.declared.step.SessionError.TheVariants.{EmptyName, Rng}
+use Rattle.cookie_run.specs.declared.step.SessionError.{SessionError}
+use Rattle.cookie_run.specs.declared.step.SessionError.TheVariants.{EmptyName, Year, Rng}
 use Rattle.std.specs.List.{AllByRecursion}
+use Rattle.std.proofs.Common.{Bool, true, false, cond, Some, None}
+use Rattle.jiff.specs.Types.{DateTime}
+use Rattle.cookie_text.specs.Normal.{is_short_year}
 
 pub plays_more : (list : List Rule) (key : List ℕ) (rows mid new : List Row) (acts : List Act) (told : List (List Reading)) (act : Act)
     (t : List Reading) → Plays list key rows acts told mid → OneStep list key mid act t new
@@ -49,15 +55,17 @@ acts_more steps i s h is = ap acts_of (take_more steps i s h)
 pub run_more : (list : List Rule) (key : List ℕ) (rows mid new : List Row) (steps : List Step) (i : ℕ) (s : Step)
     (start now later : List Reading) → i < length steps → s ≡ get_or steps i s →
     ((told : List (List Reading)) × (now ≡ start ++ all_told told) × Plays list key rows (acts_of (take i steps)) told mid)
-    → ((t : List Reading) × (later ≡ now ++ t) × OneStep list key mid (act_of s) t new) →
+    → (here : List Rule) → here ≡ list
+    → ((t : List Reading) × (later ≡ now ++ t) × OneStep here key mid (act_of s) t new) →
     (told : List (List Reading)) × (later ≡ start ++ all_told told)
     × Plays list key rows (acts_of (take (i + 1) steps)) told new
-run_more list key rows mid new steps i s start now later h is run step = (
+run_more list key rows mid new steps i s start now later h is run here same step = (
   run.0 ++ step.0 ∷ [],
   step.1 ∙ (ap (λ x. x ++ step.0) run.1 ∙ (append_assoc start (all_told run.0) step.0
       ∙ ap (λ x. start ++ x) (sym (told_more run.0 step.0)))),
   subst (λ acts. Plays list key rows acts (run.0 ++ step.0 ∷ []) new) (sym (acts_more steps i s h is))
-      (plays_more list key rows mid new (acts_of (take i steps)) run.0 (act_of s) step.0 run.2 step.2),
+      (plays_more list key rows mid new (acts_of (take i steps)) run.0 (act_of s) step.0 run.2
+      (subst (λ l. OneStep l key mid (act_of s) step.0 new) same step.2)),
 )
 
 pub on_ok : {A E : Type 0} (r : Result A E) (P Q : Type 0) → (P → Q) → OnOk r P → OnOk r Q
@@ -152,6 +160,24 @@ pub serves_all : (key header : List ℕ) (opened new : Keyed) (at : ℤ) (cs : L
     → GoesOnBy old (ServesAll key header at cs) readings
 serves_all key header opened new at cs old readings is g = (g.0, (new, (opened, is, g.2)), g.1)
 
+-- so the act reads: nothing, where it hasn't read, by the first of its commands, and by all of them
+pub reads_none : (key : List ℕ) (rows : List Row) (url : Parts) (at : ℤ) (cs : List Command) (arrival : Arrival)
+    (old readings : List Reading) → readings ≡ old → GoesOnBy old (ReadsFront key rows (Visits url at cs arrival))
+    readings
+reads_none key rows url at cs arrival old readings e = ([], inl refl, e ∙ sym (readings_nil old))
+
+pub reads_front : (key header : List ℕ) (rows : List Row) (url : Parts) (at : ℤ) (cs : List Command)
+    (arrival : Arrival) (old readings : List Reading) → IsHeader rows url at header
+    → GoesOnBy old (ServesFront key header at cs) readings
+    → GoesOnBy old (ReadsFront key rows (Visits url at cs arrival)) readings
+reads_front key header rows url at cs arrival old readings is g = (g.0, inr (header, is, g.1), g.2)
+
+pub reads_all : (key header : List ℕ) (rows : List Row) (url : Parts) (at : ℤ) (cs : List Command)
+    (arrival : Arrival) (old readings : List Reading) → IsHeader rows url at header
+    → GoesOnBy old (ServesAll key header at cs) readings
+    → GoesOnBy old (ReadsAll key rows (Visits url at cs arrival)) readings
+reads_all key header rows url at cs arrival old readings is g = (g.0, (header, is, g.1), g.2)
+
 -- ---- what the generator tells
 
 pub all_push : {A : Type 0} (P : A → Type 0) (xs : List A) (x : A) → AllByRecursion P xs → P x
@@ -200,3 +226,21 @@ sets_any May old way s new h = record {
   key_is = h.key_is;
   keeps = (h.keeps.0, kept_any May old.key way (sent s) h.keeps.0 h.keeps.1, h.keeps.2);
 }
+
+-- ---- a removal
+
+-- a removal is never refused for a fill
+pub removal_fills : (name : List ℕ) (now : DateTime) (error : SessionError) → IsRemovalRefusal name now (Some error)
+    → error ≡ Rng → ⊥
+removal_fills [] now error is e = not_empty (some_same is.2 ∙ e)
+  where
+    some_same : {x y : SessionError} → Some x ≡ Some y → y ≡ x
+    some_same same = cc
+
+    not_empty : EmptyName ≡ Rng → ⊥
+    not_empty same = cc
+removal_fills (b ∷ bs) now error is e = year (is_short_year is.0.cookie.expires) (sym is.2 ∙ refl)
+  where
+    year : (short : Bool) → cond short (Some Year) None ≡ Some error → ⊥
+    year true same = cc
+    year false same = cc

@@ -24,11 +24,11 @@ use Rattle.cookie_run.specs.declared.step.SessionError.TheVariants.{EmptyName, Y
 use Rattle.cookie_run.specs.declared.step.Way.{Way}
 use Rattle.cookie_text.specs.Record.{bare, unsliced, without_dot}
 use Rattle.cookie_run.specs.declared.step.Reading.{Reading}
-use Rattle.cookie_run.proofs.Showing.{is_text, host_is, other_host, inside_on}
+use Rattle.cookie_run.proofs.Showing.{is_text, host_is, other_host}
 use Rattle.cookie_run.proofs.Texts.{some_is_not_none}
 use Rattle.cookie_run.specs.Header.{IsHeader}
 use Rattle.cookie_run.specs.Readings.{IsRemovalAnswer, AnswersTo, AnswersAct, AnswersEach}
-use Rattle.cookie_run.specs.Stops.{StopsFrom}
+use Rattle.cookie_run.specs.Stops.{StopsFrom, StopsInside, GoesOnBy}
 use Rattle.cookie_run.specs.Laws.{EachPlayIsRead, EachStoppedPlayIsRead}
 use Rattle.cookie_store.specs.Rows.{Row}
 use Rattle.cookie_run.specs.Acts.{Act, Visits, Answers, Asks, moments_in, moments_of, opening_of, arrival_in}
@@ -280,6 +280,17 @@ front_on key laws host rows url now site cs told secure reads late a (inr (heade
   all_on key laws host rows url now site front.0 told header secure reads late a is
       front.3,
 )
+
+goes_on : (old readings : List Reading) (P Q : List Reading → Type 0) → ((told : List Reading) → P told → Q told)
+    → GoesOnBy old P readings → GoesOnBy old Q readings
+goes_on old readings P Q f g = (g.0, f g.0 g.1, g.2)
+
+inside_on : (kind : FaultKind) (last : ℤ) (arrival : Arrival) (old readings : List Reading)
+    (F G A B : List Reading → Type 0) → ((told : List Reading) → F told → G told)
+    → ((told : List Reading) → A told → B told)
+    → StopsInside kind last arrival old F A readings → StopsInside kind last arrival old G B readings
+inside_on kind last arrival old readings F G A B f g (inl memory) = inl (memory.0, goes_on old readings F G f memory.1)
+inside_on kind last arrival old readings F G A B f g (inr moment) = inr (moment.0, goes_on old readings A B g moment.1)
 
 act_stops : (key : List ℕ) (laws : Laws key) (late : (n : ℤ) → IsMoment n → EndsLate n) (host : List ℕ) (act : Act)
     (site : Site) (rows : List Row) (kind : FaultKind) (last : ℤ) (old readings : List Reading) → IsReadBack host

@@ -7,12 +7,11 @@ ghost use Rattle.jiff.specs.Words.{civil_nanos};
 ghost use Rattle.cookie_run.specs.declared.step.Reading.{Reading};
 ghost use Rattle.cookie_run.specs.Moments.{AllFollow, last_of, the_beginning};
 ghost use Rattle.cookie_run.specs.Accept.{Takes};
-ghost use Rattle.cookie_run.specs.Acts.{acts_of, act_of, arrival_of, Arrives, moments_in, moments_of, arrival_moments};
+ghost use Rattle.cookie_run.specs.Acts.{acts_of, act_of, arrival_of, Visits, Arrives, moments_in, moments_of, arrival_moments};
 ghost use Rattle.cookie_run.specs.Stops.{StopsFrom, StopsInside, GoesOnBy};
 ghost use Rattle.cookie_run.specs.Jar.{Keyed};
-ghost use Rattle.cookie_run.specs.Header.{IsHeader};
 ghost use Rattle.cookie_run.specs.Play.{IsRun, IsRunUntil, SetTells, RemoveTells, GetTells, CommandTells, Tells};
-ghost use Rattle.cookie_run.specs.Play.{TellsFront, Serves, OneStep, Delivers, ReadsFront, ReadsAll};
+ghost use Rattle.cookie_run.specs.Play.{TellsFront, OneStep, Delivers, ReadsFront, ReadsAll};
 ghost use Rattle.cookie_run.specs.Readings.{MayRead, NeedsNoNonce, ActNeedsNoNonce};
 ghost use Rattle.cookie_run.specs.Site.{set_refusal};
 ghost use Rattle.cookie_run.specs.Headline.{SitesReadTheirOwn, SitesReadTheirOwnUntil};
@@ -25,7 +24,6 @@ use crate::step::{Command, Delivery, Fault, FaultKind, Reading, SessionError, St
 use crate::text::Text;
 use cookie::{Cookie, Key};
 use jiff::civil::DateTime;
-use publicsuffix::List;
 use rand_core::TryRng;
 use std::alloc::{AllocError, Global};
 use url::Url;
@@ -45,7 +43,7 @@ use url::Url;
 /// commands.
 pub fn play<R: TryRng>(
     alloc: Global,
-    list: List,
+    list: publicsuffix::List,
     key: &Key,
     steps: &[Step],
     rng: &mut R,

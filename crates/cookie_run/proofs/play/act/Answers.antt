@@ -1,6 +1,7 @@
 use Rattle.std.proofs.Common.{◌∙◌, [], refl, sym, ap, subst, inl, inr}
 use Rattle.std.specs.Prelude.{map}
 use Rattle.std.proofs.lemmas.Result.{IfErr-weaker}
+use Rattle.jiff.specs.Words.{civil_nanos}
 use Rattle.cookie_run.specs.Accept.{Takes}
 use Rattle.cookie_run.proofs.Runs.{err_gives, on_ok, readings_nil}
 use Rattle.cookie_run.proofs.play.act.Goals as goal
@@ -34,8 +35,8 @@ returns-in_err-push-in-Header-clause-err g c =
 
 pub returns-in_ok-come_to-in-Exchange-clause-step : goal.returns-in_ok-come_to-in-Exchange-clause-step
 returns-in_ok-come_to-in-Exchange-clause-step g c =
-    rw (c.in-Exchange.is, sym c.deref.ensures.value) (on_ok c.exchange.result _ _
-    (λ t. t) c.exchange.ensures.rows)
+    rw (c.in-Exchange.is, sym c.deref.ensures.value, sym c.in_ok-come_to-in-Exchange.ensures.ok.1)
+    c.exchange.ensures.rows
 
 pub returns-in_ok-come_to-in-Exchange-clause-err : goal.returns-in_ok-come_to-in-Exchange-clause-err
 returns-in_ok-come_to-in-Exchange-clause-err g c =

@@ -10,10 +10,11 @@ use Rattle.cookie_run.proofs.play.play.Goals as goal
 pub loop-i-init : goal.loop-i-init
 loop-i-init g c = record {
   before = record {
-    run = ([], c.new-readings.ensures.items, c.new-client.ensures);
+    run = ([], c.new-readings.ensures.items, ap (λ s. s.rows) c.new-client.ensures);
     moments = tt;
     last = c.beginning-last.ensures;
   };
+  list = ap (λ s. s.suffixes) c.new-client.ensures;
   failed = subst (AllByRecursion (MayRead g.row.R-Error.Denot)) (sym c.new-readings.ensures.items) tt;
   unasked = λ h. refl;
 }
@@ -41,10 +42,12 @@ loop-i-preserved g c =
       before = record {
         run = run_more c.args.list c.args.key.now [] c.loop-i.client.rows c.act.new.client.rows c.args.steps.now c.loop-i.i
             c.index-steps-i.result [] c.loop-i.readings.items c.act.new.readings.items
-            c.loop-i-test.true c.index-steps-i.is c.loop-i.invariant.before.run c.in_default.ensures.step;
+            c.loop-i-test.true c.index-steps-i.is c.loop-i.invariant.before.run
+            c.loop-i.client.suffixes c.loop-i.invariant.list c.in_default.ensures.step;
         moments = moments.0;
         last = moments.1;
       };
+      list = c.in_default.ensures.list ∙ c.loop-i.invariant.list;
       failed = c.act.ensures.failed c.loop-i.invariant.failed;
       unasked = λ all. c.act.ensures.unasked (act_at ActNeedsNoNonce c.args.steps.now c.loop-i.i c.index-steps-i.result
           c.loop-i-test.true c.index-steps-i.is all)

@@ -1,0 +1,7 @@
+use Rattle.std.specs.Option.{option_to_list}
+use Rattle.jiff.specs.Words.{civil_nanos}
+use Rattle.cookie_run.specs.Play.{CommandTells}
+use Rattle.cookie_run.proofs.play.obey.Goals as goal
+
+pub returns-in-Remove-clause-ok : goal.returns-in-Remove-clause-ok
+returns-in-Remove-clause-ok g c = rw c.in-Remove.is (c.remove.ensures.ok)
