@@ -34,6 +34,7 @@ pub mod ReadCode
 pub mod OpenCode
 pub mod Standings
 pub mod Halting
+pub mod NoRules
 pub mod ScriptRun
 pub mod Following
 mod Facts

@@ -321,7 +321,7 @@ fn header(
         client.now.rows (civil_nanos last.new) visit.now (string_bytes text)) }
     ensures err { IfErr result
         (λ cause. (key : List ℕ) → Balks ⊥ client.now.suffixes key (spec.Heads url.now (civil_nanos at))
-        client.now (civil_nanos last.old) visit.now cause client.now) }
+        client.now.rows (civil_nanos last.old) visit.now cause client.now.rows) }
     ensures last { OnErr result (last.new ≡ last.old) }
 {
     if visit.is_some() {
