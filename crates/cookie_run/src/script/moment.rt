@@ -50,14 +50,7 @@ pub fn date_of(text: &str) -> Option<DateTime>
 }
 
 // The date of a calendar and a clock that show these numbers.
-fn date_at(
-    year: u16,
-    month: u16,
-    day: u16,
-    hour: u16,
-    minute: u16,
-    second: u16,
-) -> Option<DateTime>
+fn date_at(year: u16, month: u16, day: u16, hour: u16, minute: u16, second: u16) -> Option<DateTime>
     requires year { year < 10000 }
     requires month { month < 100 }
     requires day { day < 100 }

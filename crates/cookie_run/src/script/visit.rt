@@ -147,11 +147,14 @@ fn set<G: TryRng>(
         → Balks G.Error list key (spec.Commands (Set way cookie.entry))
         rows last visit.old cause rows) }
 {
-    let Some(Visit {
-        url,
-        at,
-        mut session,
-    }) = visit.take() else {
+    let Some(
+        Visit {
+            url,
+            at,
+            mut session,
+        },
+    ) = visit.take()
+    else {
         return Err(Cause::NoSession);
     };
     let end = session.set(way, cookie, rng);
@@ -163,12 +166,7 @@ fn set<G: TryRng>(
 }
 
 // `remove`, at the moment at which the session was opened.
-fn remove(
-    alloc: Global,
-    way: Way,
-    name: &Text,
-    visit: &mut Option<Visit>,
-) -> Result<String, Cause>
+fn remove(alloc: Global, way: Way, name: &Text, visit: &mut Option<Visit>) -> Result<String, Cause>
     ensures ok { IfOk result
         (λ text. (list : List Rule) (key : List ℕ) (rows : List Row) (last : ℤ)
         → Obeys list key (spec.Commands (Remove way name.now))
@@ -178,11 +176,14 @@ fn remove(
         → Balks ⊥ list key (spec.Commands (Remove way name.now))
         rows last visit.old cause rows) }
 {
-    let Some(Visit {
-        url,
-        at,
-        mut session,
-    }) = visit.take() else {
+    let Some(
+        Visit {
+            url,
+            at,
+            mut session,
+        },
+    ) = visit.take()
+    else {
         return Err(Cause::NoSession);
     };
     let end = session.remove(way, name.as_str(), at.date);

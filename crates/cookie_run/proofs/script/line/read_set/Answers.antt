@@ -12,7 +12,7 @@ use Rattle.cookie_run.proofs.script.line.read_set.Goals.{in_default-via-else-fie
 
 pub returns-in_default : goal.returns-in_default
 returns-in_default c = elim c.in_default.branch [
-  in_default-via-then-fields-lt5 w ↦ inl (set_few c.args.fields.now (grind (arith, nat_tests)))
+  | in_default-via-then-fields-lt5 w ↦ inl (set_few c.args.fields.now (grind (arith, nat_tests)))
   | in_default-via-else-fields-lt5+else-fields-lt6 w ↦ inl (set_many c.args.fields.now (search (rules, tests)))
 ]
 
