@@ -1,5 +1,5 @@
 -- A play that goes on by one step, stops in it, or comes to its end.
-use Rattle.std.proofs.Common.{◌≡◌, ℕ, ℤ, ◌+◌, ◌<◌, ◌≤◌, zero, suc, length, inl, inr, take, drop, get_or, List, [], ◌∷◌}
+use Rattle.std.proofs.Common.{◌≡◌, ℕ, ℤ, ◌+◌, ◌<◌, ◌≤◌, zero, suc, length, take, drop, get_or, List, [], ◌∷◌}
 use Rattle.std.proofs.Common.{◌++◌, sym, refl, ap, ◌∙◌, subst, arith, append_assoc}
 use Rattle.std.proofs.lemmas.List.{take_all}
 use Rattle.cookie_run.specs.declared.step.Step.{Step}

@@ -51,8 +51,11 @@ returns-in_ok-lines-in-Foreign-clause-step g c =
     rw c.in-Foreign.is (on_ok c.receive.result _ _ (λ takes. (
       [],
       sym (readings_nil _),
-      (refl, subst (λ ls. Takes c.args.client.now.suffixes c.args.client.now.rows c.in-Foreign.url (civil_nanos c.in-Foreign.at)
-    ls c.receive.new.client.rows) lines takes),
+      (
+        refl,
+        subst (λ ls. Takes c.args.client.now.suffixes c.args.client.now.rows c.in-Foreign.url (civil_nanos c.in-Foreign.at)
+            ls c.receive.new.client.rows) lines takes,
+      ),
     ))
     c.receive.ensures.rows)
 

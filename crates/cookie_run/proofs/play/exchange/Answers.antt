@@ -26,8 +26,11 @@ returns-in_err-obey_all-clause-err g c =
     (subst (λ h. IsOpened c.copy_of.result h c.in_ok-session.session) c.as_bytes.ensures.value
     c.in_ok-session.ensures) in
     err_gives c.from_residual-in_err-obey_all.result _ _ c.from_residual-in_err-obey_all.ensures
-    (λ kind e. inl (e, reads_front _ header _ _ _ _ Never _ _ c.in_ok-header.ensures
-    (serves_front _ _ c.in_ok-session.session _ _ _ _ opened c.in_err-obey_all.ensures.err)))
+    (λ kind e. inl (
+      e,
+      reads_front _ header _ _ _ _ Never _ _ c.in_ok-header.ensures
+          (serves_front _ _ c.in_ok-session.session _ _ _ _ opened c.in_err-obey_all.ensures.err),
+    ))
 
 pub returns-in-Lost-clause-rows : goal.returns-in-Lost-clause-rows
 returns-in-Lost-clause-rows g c =
