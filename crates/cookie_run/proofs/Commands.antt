@@ -1,5 +1,6 @@
 -- The commands of a session of the host, one after another.
-use Rattle.std.proofs.Common.{◌≡◌, ◌≢◌, ℕ, ℤ, ◌≤ℤ◌, pos, Bool, true, false, cond, List, [], ◌∷◌, ◌++◌, sym, refl, ap, ◌∙◌, subst, ⊎_elim, inl, inr, Option, Some, None, arith}
+use Rattle.std.proofs.Common.{◌≡◌, ◌≢◌, ℕ, ℤ, ◌≤ℤ◌, pos, Bool, true, false, cond, List, [], ◌∷◌, ◌++◌, sym, refl, ap}
+use Rattle.std.proofs.Common.{◌∙◌, subst, ⊎_elim, inl, inr, Option, Some, None, arith}
 use Rattle.std.specs.Prelude.{option_map, IfSome, MatchOption}
 use Rattle.std.specs.Str.{bytes_eq, IsUtf8}
 use Rattle.std.specs.FinMap as finmap
@@ -35,7 +36,8 @@ use Rattle.cookie_run.proofs.Kepts.{Kept}
 use Rattle.cookie_run.proofs.OwnRows.{IsGoodKept}
 use Rattle.cookie_run.proofs.Received.{alive}
 use Rattle.cookie_run.proofs.GivenRows.{record_of}
-use Rattle.cookie_run.proofs.Walking.{MatchesHeld, IsFitChange, AllFit, sent_at, Walks, alive_later, sent_cond, live_cond, held_cond, insert_fit, set_walks}
+use Rattle.cookie_run.proofs.Walking.{MatchesHeld, IsFitChange, AllFit, sent_at, Walks, alive_later, sent_cond}
+use Rattle.cookie_run.proofs.Walking.{live_cond, held_cond, insert_fit, set_walks}
 
 -- what was under a name has that name, and is fit to be set again
 abbrev pub Known : (List ℕ → Option Kept) → Type 0

@@ -1,5 +1,5 @@
 -- A play that goes on by one step, stops in it, or comes to its end.
-use Rattle.std.proofs.Common.{◌≡◌, ℕ, ℤ, ◌+◌, ◌<◌, ◌≤◌, zero, suc, length, inl, inr, take, drop, get_or, List, [], ◌∷◌}
+use Rattle.std.proofs.Common.{◌≡◌, ℕ, ℤ, ◌+◌, ◌<◌, ◌≤◌, zero, suc, length, take, drop, get_or, List, [], ◌∷◌}
 use Rattle.std.proofs.Common.{◌++◌, sym, refl, ap, ◌∙◌, subst, arith, append_assoc}
 use Rattle.std.proofs.lemmas.List.{take_all}
 use Rattle.cookie_run.specs.declared.step.Step.{Step}
@@ -80,16 +80,16 @@ abbrev pub Stops : List ℕ → List Row → FaultKind → ℤ → Act → List 
 Stops key rows kind last act old readings = StopsFrom kind last act old (ReadsFront key rows act)
     (ReadsAll key rows act) readings
 
-stops_there : (list : List Rule) (key : List ℕ) (steps : List Step) (i : ℕ) (s : Step) (rows : List Row) (now later : List Reading)
-    (last : ℤ) (kind : FaultKind) → (b : Before list key steps i rows now last) →
+stops_there : (list : List Rule) (key : List ℕ) (steps : List Step) (i : ℕ) (s : Step) (rows : List Row)
+    (now later : List Reading) (last : ℤ) (kind : FaultKind) → (b : Before list key steps i rows now last) →
     Stops key rows kind last (act_of s) now later → Stops key rows kind
     (last_of the_beginning (moments_of (acts_of (take i steps)))) (act_of s) (all_told b.run.0) later
 stops_there list key steps i s rows now later last kind b stops =
     subst (λ m. Stops key rows kind m (act_of s) (all_told b.run.0) later) b.last
     (subst (λ old. Stops key rows kind last (act_of s) old later) b.run.1 stops)
 
-pub run_until : (list : List Rule) (key : List ℕ) (steps : List Step) (i : ℕ) (s : Step) (rows : List Row) (now later : List Reading)
-    (last : ℤ) (kind : FaultKind) → i < length steps → s ≡ get_or steps i s → Before list key steps i rows now last →
+pub run_until : (list : List Rule) (key : List ℕ) (steps : List Step) (i : ℕ) (s : Step) (rows : List Row)
+    (now later : List Reading) (last : ℤ) (kind : FaultKind) → i < length steps → s ≡ get_or steps i s → Before list key steps i rows now last →
     Stops key rows kind last (act_of s) now later → IsRunUntil list key (acts_of steps) (i + 1) kind later
 run_until list key steps i s rows now later last kind h is b stops = record {
   before = acts_of (take i steps);

@@ -1,5 +1,6 @@
 -- Two hosts of one play: the premises of the headline can be met.
-use Rattle.std.proofs.Common.{◌≡◌, ◌≢◌, ◌⊎◌, ◌<◌, ℕ, List, [], ◌∷◌, ◌++◌, length, All, Some, codes, sym, refl, ap, ◌∙◌, subst, inl, inr, false, arith, length-append, get_or, drop, zero, suc, ⊎_elim}
+use Rattle.std.proofs.Common.{◌≡◌, ◌≢◌, ◌⊎◌, ◌<◌, ℕ, List, [], ◌∷◌, ◌++◌, length, All, Some, codes, sym, refl, ap, ◌∙◌}
+use Rattle.std.proofs.Common.{subst, inl, inr, false, arith, length-append, get_or, drop, zero, suc, ⊎_elim}
 use Rattle.std.proofs.lemmas.List.Elements.{All-from_recursion}
 use Rattle.std.specs.Str.{trim_start, trim_end}
 use Rattle.idna.specs.Labels.{labels_of}

@@ -1,5 +1,6 @@
 -- One act, and all acts: the rows under a host go on to stand for what is live of its site.
-use Rattle.std.proofs.Common.{◌≡◌, ℕ, ℤ, ◌≤ℤ◌, pos, Bool, true, false, cond, List, [], ◌∷◌, sym, refl, ap, ◌∙◌, subst, ⊎_elim, Option, Some, None, arith}
+use Rattle.std.proofs.Common.{◌≡◌, ℕ, ℤ, ◌≤ℤ◌, pos, Bool, true, false, cond, List, [], ◌∷◌, sym, refl, ap, ◌∙◌, subst}
+use Rattle.std.proofs.Common.{⊎_elim, Option, Some, None, arith}
 use Rattle.std.specs.Prelude.{map, option_map, IfSome, ⊤}
 use Rattle.std.specs.List.{AllByRecursion}
 use Rattle.std.specs.Str.{bytes_eq, IsUtf8}
@@ -25,7 +26,8 @@ use Rattle.cookie_run.specs.Jar.{Keyed, IsReadableJar, record_in}
 use Rattle.cookie_run.specs.declared.step.Reading.{Reading}
 use Rattle.cookie_run.proofs.Records.{found_in as found_record, lacks as lacks_record, AreApart as RecordsApart}
 use Rattle.cookie_run.proofs.Sessions.{each_of_names, of_change}
-use Rattle.cookie_run.proofs.Showing.{ReadingBack, OnlyOne, records, lines_are, found_records, apart_records, all_records}
+use Rattle.cookie_run.proofs.Showing.{ReadingBack, OnlyOne, records, lines_are, found_records, apart_records}
+use Rattle.cookie_run.proofs.Showing.{all_records}
 use Rattle.cookie_run.proofs.Texts.{same_text}
 use Rattle.cookie_store.specs.Rows.{Row}
 use Rattle.cookie_run.specs.Accept.{AcceptsAll}
@@ -39,7 +41,8 @@ use Rattle.cookie_run.proofs.OwnRows.{IsGoodKept, Agrees}
 use Rattle.cookie_run.proofs.Received.{alive, Writes}
 use Rattle.cookie_run.proofs.Lines.{IsClosed, IsTime, kept_of, own_line}
 use Rattle.cookie_run.proofs.GivenRows.{header_cookies}
-use Rattle.cookie_run.proofs.Walking.{MatchesHeld, brings, IsFitChange, AllFit, sent_at, Walks, opened_walks, matches_later}
+use Rattle.cookie_run.proofs.Walking.{MatchesHeld, brings, IsFitChange, AllFit, sent_at, Walks, opened_walks}
+use Rattle.cookie_run.proofs.Walking.{matches_later}
 use Rattle.cookie_run.proofs.Commands.{Known, EndsLate, all_go}
 
 -- what the crates below promise

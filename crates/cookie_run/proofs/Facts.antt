@@ -1,5 +1,5 @@
 -- The definitions at small inputs, by computation.
-use Rattle.std.proofs.Common.{◌≡◌, ℕ, List, [], ◌∷◌, true, false, refl, ap, ◌∙◌, inl, Some, None, pos}
+use Rattle.std.proofs.Common.{◌≡◌, List, [], ◌∷◌, true, false, refl, ap, ◌∙◌, inl, Some, None}
 use Rattle.std.specs.Prelude.{codes}
 use Rattle.std.specs.Str.{trim_start, trim_end, chars, is_utf8}
 use Rattle.percent_encoding.specs.Percent.{percent_decode, percent_encode_byte}

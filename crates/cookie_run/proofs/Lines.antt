@@ -1,5 +1,6 @@
 -- What becomes of the rows under a host when a line comes: one of its own sessions, or one from elsewhere.
-use Rattle.std.proofs.Common.{◌≡◌, ◌≢◌, ◌⊎◌, ℕ, ℤ, ◌≤ℤ◌, pos, ◌*ℤ◌, ◌+ℤ◌, Bool, true, false, cond, List, [], ◌∷◌, sym, refl, ap, ◌∙◌, subst, ⊎_elim, inl, inr, Option, Some, None, Result, Ok, Err, arith}
+use Rattle.std.proofs.Common.{◌≡◌, ◌≢◌, ◌⊎◌, ℕ, ℤ, ◌≤ℤ◌, pos, ◌*ℤ◌, ◌+ℤ◌, Bool, true, false, cond, List, [], ◌∷◌, sym}
+use Rattle.std.proofs.Common.{refl, ap, ◌∙◌, subst, ⊎_elim, inl, inr, Option, Some, None, Result, Ok, Err, arith}
 use Rattle.std.specs.Prelude.{option_map, option_and_then, unwrap_or, codes, IfSome, IsSomeAnd, int_lt}
 use Rattle.std.specs.Int.{int_min}
 use Rattle.std.specs.Str.{bytes_eq, IsUtf8}
@@ -20,13 +21,16 @@ use Rattle.cookie_text.specs.ReadingBack.{ReadsBack}
 use Rattle.cookie_text.specs.Record.{Record, Seen, unsliced, without_dot, moment_of}
 use Rattle.publicsuffix.specs.Prevailing.{Listed}
 use Rattle.publicsuffix.specs.Rules.{Rule}
-use Rattle.store_parts.specs.DomainMatch.{Domain, host_only, suffix, not_present, text_of, Covers, CoversAt, DomainMatches, IsListedIn}
+use Rattle.store_parts.specs.DomainMatch.{Domain, host_only, suffix, not_present, text_of, Covers, CoversAt}
+use Rattle.store_parts.specs.DomainMatch.{DomainMatches, IsListedIn}
 use Rattle.store_parts.specs.DomainText.{attribute_domain, idna_form, suffix_or_empty}
 use Rattle.store_parts.specs.Expiry.{death, latest, expiry_after}
 use Rattle.store_parts.specs.PathMatch.{default_path_at, read_path}
 use Rattle.store_parts.specs.Schemes.{IsHttpScheme}
 use Rattle.store_parts.specs.declared.error.CookieError.{CookieError}
-use Rattle.store_parts.specs.declared.error.CookieError.TheVariants.{NonHttpScheme, NonRelativeScheme, DomainMismatch, Expired, Parse, PublicSuffix, UnspecifiedDomain, OutOfMemory}
+use Rattle.store_parts.specs.declared.error.CookieError.TheVariants.{NonHttpScheme, NonRelativeScheme, DomainMismatch}
+use Rattle.store_parts.specs.declared.error.CookieError.TheVariants.{Expired, Parse, PublicSuffix, UnspecifiedDomain}
+use Rattle.store_parts.specs.declared.error.CookieError.TheVariants.{OutOfMemory}
 use Rattle.cookie_store.specs.Making.{IsMade, IsRefused, IsDomainFor, asked_domain, path_at}
 use Rattle.cookie_run.specs.Hosts.{secure_host}
 use Rattle.store_parts.specs.Schemes.{host_of}

@@ -1,5 +1,6 @@
 -- What the calendar and the printer promise of what is set.
-use Rattle.std.proofs.Common.{◌≡◌, ℕ, suc, ◌<◌, ◌≤◌, ℤ, pos, negsuc, ◌+ℤ◌, ◌≤ℤ◌, ◌<ℤ◌, Bool, true, false, List, [], ◌∷◌, IsAscii, sym, refl, ap, ◌∙◌, subst, ⊎_elim, Option, Some, None, arith, codes}
+use Rattle.std.proofs.Common.{◌≡◌, ℕ, suc, ◌<◌, ◌≤◌, ℤ, pos, negsuc, ◌+ℤ◌, ◌≤ℤ◌, ◌<ℤ◌, Bool, true, false, List, [], ◌∷◌}
+use Rattle.std.proofs.Common.{IsAscii, sym, refl, ap, ◌∙◌, subst, ⊎_elim, Option, Some, None, arith, codes}
 use Rattle.std.specs.Prelude.{int_lt, IfSome, option_map, nat_lt, neg_ℤ}
 use Rattle.std.specs.Int.{int_min}
 use Rattle.std.specs.Fmt.{decimal, signed_decimal}
@@ -27,7 +28,8 @@ use Rattle.cookie_text.specs.declared.expiration.Expiration.{Expiration}
 use Rattle.cookie_text.specs.declared.expiration.Expiration.TheVariants.{DateTime as At, Session}
 use Rattle.cookie_text.specs.Attribute.{Attribute, HttpOnly, Secure, Partitioned, OfSite, MaxAge, Path, Domain}
 use Rattle.cookie_text.specs.Normal.{is_short_year}
-use Rattle.cookie_text.specs.Printing.{piece_text, flag, is_set, prints_secure, whole_seconds, end_of, date_text, encoded, encoded_pair, printed_attributes}
+use Rattle.cookie_text.specs.Printing.{piece_text, flag, is_set, prints_secure, whole_seconds, end_of, date_text}
+use Rattle.cookie_text.specs.Printing.{encoded, encoded_pair, printed_attributes}
 use Rattle.cookie_text.specs.Record.{Record, Seen, without_dot}
 use Rattle.cookie_text.specs.Setting.{IsKept, stopped, last_moment, latest_end, one_year}
 use Rattle.cookie_text.proofs.PrintedAttributes.{whole_seconds_fit}

@@ -1,5 +1,6 @@
 -- What becomes of the rows under a host when a row is received.
-use Rattle.std.proofs.Common.{◌≡◌, ℕ, ℤ, ◌≤ℤ◌, pos, ◌*ℤ◌, Bool, true, false, cond, ◌&&◌, ◌||◌, List, [], ◌∷◌, ◌++◌, sym, refl, ap, ◌∙◌, subst, ⊎_elim, Option, Some, None, arith}
+use Rattle.std.proofs.Common.{◌≡◌, ℕ, ℤ, ◌≤ℤ◌, pos, ◌*ℤ◌, Bool, true, false, cond, ◌&&◌, ◌||◌, List, [], ◌∷◌, ◌++◌, sym}
+use Rattle.std.proofs.Common.{refl, ap, ◌∙◌, subst, ⊎_elim, Option, Some, None, arith}
 use Rattle.std.specs.Prelude.{map, option_map, is_some, not, IfSome}
 use Rattle.std.specs.List.{list_any, AllByRecursion}
 use Rattle.std.specs.Str.{bytes_eq}
@@ -10,10 +11,14 @@ use Rattle.store_parts.specs.DomainMatch.{Covers}
 use Rattle.store_parts.specs.Expiry.{epoch, is_dead}
 use Rattle.cookie_run.proofs.Texts.{same_text, text_is, turned}
 use Rattle.cookie_run.proofs.Records.{same_escaped}
-use Rattle.cookie_store.specs.Rows.{Row, domain_text, has_domain_of, has_place_of, has_key_of, replaced, behind_last, inserted, is_live_of, ended}
+use Rattle.cookie_store.specs.Rows.{Row, domain_text, has_domain_of, has_place_of, has_key_of, replaced, behind_last}
+use Rattle.cookie_store.specs.Rows.{inserted, is_live_of, ended}
 use Rattle.cookie_store.specs.Insertion.{settled}
-use Rattle.cookie_run.proofs.Kepts.{Kept, found_in, lacks, found_named, found_map, apart_map, all_map, found_push, apart_push, all_push}
-use Rattle.cookie_run.proofs.OwnRows.{is_own, rows_of, IsRowOf, IsGoodKept, IsOther, Agrees, own_is, own_text, pairwise_map, pairwise_push, all_rows_map, all_behind, rows_map, rows_map_other, own_behind, other_behind, first_and, walk}
+use Rattle.cookie_run.proofs.Kepts.{Kept, found_in, lacks, found_named, found_map, apart_map, all_map, found_push}
+use Rattle.cookie_run.proofs.Kepts.{apart_push, all_push}
+use Rattle.cookie_run.proofs.OwnRows.{is_own, rows_of, IsRowOf, IsGoodKept, IsOther, Agrees, own_is, own_text}
+use Rattle.cookie_run.proofs.OwnRows.{pairwise_map, pairwise_push, all_rows_map, all_behind, rows_map, rows_map_other}
+use Rattle.cookie_run.proofs.OwnRows.{own_behind, other_behind, first_and, walk}
 
 -- ---- what is alive
 

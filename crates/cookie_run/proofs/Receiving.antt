@@ -12,9 +12,11 @@ use Rattle.cookie_text.specs.declared.error.ParseError.{ParseError}
 use Rattle.publicsuffix.specs.Rules.{Rule}
 use Rattle.store_parts.specs.Expiry.{is_dead}
 use Rattle.store_parts.specs.declared.error.CookieError.{CookieError}
-use Rattle.store_parts.specs.declared.error.CookieError.TheVariants.{NonHttpScheme, DomainMismatch, Expired, Parse, PublicSuffix, OutOfMemory}
+use Rattle.store_parts.specs.declared.error.CookieError.TheVariants.{NonHttpScheme, DomainMismatch, Expired, Parse}
+use Rattle.store_parts.specs.declared.error.CookieError.TheVariants.{PublicSuffix, OutOfMemory}
 use Rattle.url.specs.Parts.{Parts}
-use Rattle.cookie_store.specs.Insertion.{End, InsertsRead, InsertsRaw, Inserts, Admits, Fits, Settles, Receives, ReceivesText, alone, settled}
+use Rattle.cookie_store.specs.Insertion.{End, InsertsRead, InsertsRaw, Inserts, Admits, Fits, Settles, Receives}
+use Rattle.cookie_store.specs.Insertion.{ReceivesText, alone, settled}
 use Rattle.cookie_store.specs.Rows.{Row, is_live_of}
 use Rattle.cookie_store.specs.declared.action.StoreAction.{StoreAction}
 use Rattle.cookie_store.specs.declared.action.StoreAction.TheVariants.{ExpiredExisting}

@@ -1,5 +1,5 @@
 -- Lists of cookies, each name once.
-use Rattle.std.proofs.Common.{◌≡◌, ℕ, true, false, List, All, sym, ap, ◌∙◌, ⊎_elim, Option, None}
+use Rattle.std.proofs.Common.{◌≡◌, ℕ, List, All, sym, ap, ◌∙◌, ⊎_elim, Option, None}
 use Rattle.std.specs.Prelude.{map}
 use Rattle.std.specs.Str.{bytes_eq}
 use Rattle.std.proofs.lemmas.Bool.{cases_Bool}

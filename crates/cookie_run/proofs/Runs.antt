@@ -3,7 +3,8 @@ use Rattle.std.proofs.lemmas.List.{take_more, take_all, take-append-drop}
 use Rattle.std.specs.Prelude.{IsErr, IsErrAnd, IfErr}
 use Rattle.cookie_run.specs.declared.step.Step.{Step}
 use Rattle.cookie_run.specs.Acts.{act_of, acts_of}
-use Rattle.std.proofs.Common.{◌≡◌, ℕ, ℤ, ◌+◌, ◌<◌, ◌≤◌, length, take, drop, get_or, inl, inr, Result, Ok, Err, OnOk, OnErr}
+use Rattle.std.proofs.Common.{◌≡◌, ℕ, ℤ, ◌+◌, ◌<◌, ◌≤◌, length, take, drop, get_or, inl, inr, Result, Ok, Err, OnOk}
+use Rattle.std.proofs.Common.{OnErr}
 use Rattle.std.proofs.Common.{List, [], ◌∷◌, ◌++◌, sym, refl, ap, ◌∙◌, subst, append_assoc, zero, suc, arith}
 use Rattle.url.specs.Parts.{Parts}
 use Rattle.cookie_run.specs.Acts.{Act, Visits, Arrival}
@@ -27,13 +28,14 @@ use Rattle.std.proofs.Common.{Bool, true, false, cond, Some, None}
 use Rattle.jiff.specs.Types.{DateTime}
 use Rattle.cookie_text.specs.Normal.{is_short_year}
 
-pub plays_more : (list : List Rule) (key : List ℕ) (rows mid new : List Row) (acts : List Act) (told : List (List Reading)) (act : Act)
-    (t : List Reading) → Plays list key rows acts told mid → OneStep list key mid act t new
+pub plays_more : (list : List Rule) (key : List ℕ) (rows mid new : List Row) (acts : List Act)
+    (told : List (List Reading)) (act : Act) (t : List Reading) → Plays list key rows acts told mid → OneStep list key mid act t new
     → Plays list key rows (acts ++ act ∷ []) (told ++ t ∷ []) new
 plays_more list key rows mid new [] [] act t p s = (new, subst (λ rs. OneStep list key rs act t new) p s, refl)
 plays_more list key rows mid new [] (u ∷ us) act t p s = absurd p
 plays_more list key rows mid new (a ∷ acts) [] act t p s = absurd p
-plays_more list key rows mid new (a ∷ acts) (u ∷ us) act t p s = (p.0, p.1, plays_more list key p.0 mid new acts us act t p.2 s)
+plays_more list key rows mid new (a ∷ acts) (u ∷ us) act t p s = 
+    (p.0, p.1, plays_more list key p.0 mid new acts us act t p.2 s)
 
 pub told_more : (told : List (List Reading)) (t : List Reading) → all_told (told ++ t ∷ []) ≡ all_told told ++ t
 told_more [] t = append_nil t
@@ -54,7 +56,8 @@ acts_more steps i s h is = ap acts_of (take_more steps i s h)
 
 pub run_more : (list : List Rule) (key : List ℕ) (rows mid new : List Row) (steps : List Step) (i : ℕ) (s : Step)
     (start now later : List Reading) → i < length steps → s ≡ get_or steps i s →
-    ((told : List (List Reading)) × (now ≡ start ++ all_told told) × Plays list key rows (acts_of (take i steps)) told mid)
+    ((told : List (List Reading)) × (now ≡ start ++ all_told told)
+    × Plays list key rows (acts_of (take i steps)) told mid)
     → (here : List Rule) → here ≡ list
     → ((t : List Reading) × (later ≡ now ++ t) × OneStep here key mid (act_of s) t new) →
     (told : List (List Reading)) × (later ≡ start ++ all_told told)
@@ -88,19 +91,22 @@ readings_nil (x ∷ xs) = ap (λ ys. x ∷ ys) (readings_nil xs)
 
 -- ---- one more command
 
-pub tells_more : (s mid new : Keyed) (at : ℤ) (cs : List Command) (c : Command) (told t : List Reading) → Tells s at cs told mid
-    → CommandTells mid at c t new → Tells s at (cs ++ c ∷ []) (told ++ t) new
+pub tells_more : (s mid new : Keyed) (at : ℤ) (cs : List Command) (c : Command) (told t : List Reading)
+    → Tells s at cs told mid → CommandTells mid at c t new → Tells s at (cs ++ c ∷ []) (told ++ t) new
 tells_more s mid new at [] c told t p one =
-    (t, [], new, subst (λ k. CommandTells k at c t new) p.1 one, (refl, refl), ap (λ x. x ++ t) p.0 ∙ sym (readings_nil t))
+    let first = subst (λ k. CommandTells k at c t new) p.1 one in
+    (t, [], new, first, (refl, refl), ap (λ x. x ++ t) p.0 ∙ sym (readings_nil t))
 tells_more s mid new at (d ∷ cs) c told t p one =
-    (p.0, p.1 ++ t, p.2, p.3, tells_more p.2 mid new at cs c p.1 t p.4 one, ap (λ x. x ++ t) p.5 ∙ append_assoc p.0 p.1 t)
+    let rest = tells_more p.2 mid new at cs c p.1 t p.4 one in
+    (p.0, p.1 ++ t, p.2, p.3, rest, ap (λ x. x ++ t) p.5 ∙ append_assoc p.0 p.1 t)
 
 -- what was read by the first of the commands
 abbrev pub ToldBy : Keyed → ℤ → List Command → ℕ → List Reading → List Reading → Keyed → Type 0
 ToldBy old at cs i start now new = (told : List Reading) × (now ≡ start ++ told) × Tells old at (take i cs) told new
 
-pub told_next : (old mid new : Keyed) (at : ℤ) (cs : List Command) (i : ℕ) (c : Command) (start now later t : List Reading)
-    → i < length cs → c ≡ get_or cs i c → ToldBy old at cs i start now mid → CommandTells mid at c t new → later ≡ now ++ t
+pub told_next : (old mid new : Keyed) (at : ℤ) (cs : List Command) (i : ℕ) (c : Command)
+    (start now later t : List Reading) → i < length cs → c ≡ get_or cs i c → ToldBy old at cs i start now mid
+    → CommandTells mid at c t new → later ≡ now ++ t
     → ToldBy old at cs (i + 1) start later new
 told_next old mid new at cs i c start now later t h is so one e = (
   so.0 ++ t,

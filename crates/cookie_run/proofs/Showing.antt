@@ -92,7 +92,8 @@ last_named [] q = tt
 last_named (c ∷ cs) q = or_named (last_in cs q) _ q (last_named cs q)
     (cond_named (bytes_eq q c.name) c q (λ e. sym (same_text q c.name e)))
 
-pub seen_named : (o : Option Seen) (q : List ℕ) → IfSome (record_in o) (λ c. c.name ≡ q) → IfSome o (λ s. s.cookie.name ≡ q)
+pub seen_named : (o : Option Seen) (q : List ℕ) → IfSome (record_in o) (λ c. c.name ≡ q)
+    → IfSome o (λ s. s.cookie.name ≡ q)
 seen_named None q h = tt
 seen_named (Some s) q h = h
 
@@ -237,8 +238,8 @@ way_read key session seen ways.Sealed name v law h reads =
     sealed_read key name (view session.jar name) (seen name) v reads.0 law (h.named name) (h.each name)
     (subst (λ (k : List ℕ). ReadsFound (IsSealed k) (view session.jar name) reads.0) h.key_is reads.1) reads.2
 
-pub get_on : (key : List ℕ) (session : Keyed) (seen : View) (way : Way) (name : List ℕ) (told : List Reading) → OnlyOne key
-    → Shows key session seen → GetTells session way name told → GetOn seen way name told
+pub get_on : (key : List ℕ) (session : Keyed) (seen : View) (way : Way) (name : List ℕ) (told : List Reading)
+    → OnlyOne key → Shows key session seen → GetTells session way name told → GetOn seen way name told
 get_on key session seen way [] told law h tells = tells
 get_on key session seen way (b ∷ bs) told law h tells = (
   tells.0,

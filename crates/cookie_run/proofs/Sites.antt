@@ -1,5 +1,6 @@
 -- The headline, over the definitions.
-use Rattle.std.proofs.Common.{◌≡◌, ◌≢◌, ℕ, ℤ, ◌≤ℤ◌, pos, true, false, cond, All, List, [], ◌∷◌, ◌++◌, sym, refl, ap, ◌∙◌, subst, ⊎_elim, inl, inr, Some, None, arith, append-nil}
+use Rattle.std.proofs.Common.{◌≡◌, ◌≢◌, ℕ, ℤ, ◌≤ℤ◌, pos, true, false, cond, All, List, [], ◌∷◌, ◌++◌, sym, refl, ap}
+use Rattle.std.proofs.Common.{◌∙◌, subst, ⊎_elim, inl, inr, Some, None, arith, append-nil}
 use Rattle.std.specs.Prelude.{option_map, ◌==◌, ◌⊎◌}
 use Rattle.std.proofs.lemmas.Bool.{cases_Bool, cond-false}
 use Rattle.jiff.proofs.SpanFacts.{signed_arith}
@@ -35,13 +36,16 @@ use Rattle.cookie_run.specs.Acts.{Act, Visits, Answers, Asks, moments_in, moment
 use Rattle.cookie_run.specs.declared.step.Command.{Command}
 use Rattle.cookie_run.specs.declared.step.Command.TheVariants.{Set, Remove, Get}
 use Rattle.cookie_run.specs.Site.{Site, nothing, live}
-use Rattle.cookie_run.specs.Headline.{AnswersBySessions, AnswersApart, Each, ReadsOn, EachReadsOn, AllOn, FrontOn, StopsOn}
-use Rattle.cookie_run.specs.Play.{Delivers, OneStep, Plays, RemoveTells, Tells, ServesAll, ServesFront, ReadsAll, ReadsFront}
+use Rattle.cookie_run.specs.Headline.{AnswersBySessions, AnswersApart, Each, ReadsOn, EachReadsOn, AllOn, FrontOn}
+use Rattle.cookie_run.specs.Headline.{StopsOn}
+use Rattle.cookie_run.specs.Play.{Delivers, OneStep, Plays, RemoveTells, Tells, ServesAll, ServesFront, ReadsAll}
+use Rattle.cookie_run.specs.Play.{ReadsFront}
 use Rattle.cookie_run.proofs.Kepts.{Kept}
 use Rattle.cookie_run.proofs.OwnRows.{Agrees}
 use Rattle.cookie_run.proofs.Lines.{IsTime, other_lines}
 use Rattle.cookie_run.proofs.Commands.{EndsLate}
-use Rattle.cookie_run.proofs.Exchange.{Laws, SiteAgrees, agrees_later, IsReadBack, IsArrival, end_moment, exchanged, walked}
+use Rattle.cookie_run.proofs.Exchange.{Laws, SiteAgrees, agrees_later, IsReadBack, IsArrival, end_moment, exchanged}
+use Rattle.cookie_run.proofs.Exchange.{walked}
 
 -- ---- a host that is its own form and has no empty label
 

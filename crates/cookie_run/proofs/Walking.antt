@@ -1,5 +1,7 @@
--- A session of the host: it opens on what is live of the site, and what it closes with is what its accepted commands leave.
-use Rattle.std.proofs.Common.{◌≡◌, ℕ, ℤ, ◌≤ℤ◌, pos, Bool, true, false, cond, List, sym, refl, ap, ◌∙◌, subst, ⊎_elim, Option, Some, None, arith}
+-- A session of the host: it opens on what is live of the site, and what it closes with is what its accepted commands
+-- leave.
+use Rattle.std.proofs.Common.{◌≡◌, ℕ, ℤ, ◌≤ℤ◌, pos, Bool, true, false, cond, List, sym, refl, ap, ◌∙◌, subst, ⊎_elim}
+use Rattle.std.proofs.Common.{Option, Some, None, arith}
 use Rattle.std.specs.Prelude.{map, option_map, IfSome, ⊤}
 use Rattle.std.specs.List.{filter}
 use Rattle.std.specs.Str.{bytes_eq, IsUtf8}
@@ -22,7 +24,8 @@ use Rattle.cookie_run.specs.declared.step.Way.TheVariants as ways
 use Rattle.cookie_run.proofs.ReadBack.{IsGood}
 use Rattle.cookie_run.proofs.ReadCode.{cookies_are}
 use Rattle.cookie_run.proofs.Sessions.{none_at, get_insert, then_none, kept_readable, changed_readable, opened_readable}
-use Rattle.cookie_run.proofs.Showing.{OnlyOne, StandsAs, Matches, Shows, set_shows, kept_named, kept_stands, kept_text, named_text, not_nil, utf8_bytes, last_named, seen_named, view_original}
+use Rattle.cookie_run.proofs.Showing.{OnlyOne, StandsAs, Matches, Shows, set_shows, kept_named, kept_stands, kept_text}
+use Rattle.cookie_run.proofs.Showing.{named_text, not_nil, utf8_bytes, last_named, seen_named, view_original}
 use Rattle.cookie_run.proofs.Texts.{same_text, some_is_not_none}
 use Rattle.store_parts.specs.Expiry.{is_dead}
 use Rattle.cookie_run.specs.declared.step.Command.TheVariants.{Set}
@@ -149,7 +152,8 @@ sent_at d (Some (Added s)) o = alive d (Some (kept_of d s.cookie))
 sent_at d (Some (Removed s)) o = None
 sent_at d None o = alive d o
 
--- A session at its commands: it shows what the request reads, and would leave the site so, were its answer delivered at d.
+-- A session at its commands: it shows what the request reads, and would leave the site so, were its answer delivered
+-- at d.
 pub record Walks (key : List ℕ) (now d : ℤ) (at : List ℕ → Option Kept) (session : Keyed) (view : View)
     (left : Site) : Type 0 where
   pub shows : Shows key session view

@@ -19,7 +19,8 @@ header_of (pair ∷ next ∷ pairs) = pair_text pair ++ 59 ∷ 32 ∷ header_of 
 abbrev pub with_pair : List ℕ → List ℕ × List ℕ → List ℕ
 with_pair text pair = if length text == 0 then pair_text pair else text ++ 59 ∷ 32 ∷ pair_text pair
 
--- the header of a request to the URL at the moment: the pairs of the rows that it is given; a URL is one that was parsed
+-- the header of a request to the URL at the moment: the pairs of the rows that it is given; the URL is one that was
+-- parsed
 pub record IsHeader (rows : List Row) (url : Parts) (now : ℤ) (header : List ℕ) : Type 0 where
   pub valid : IsValid url
   pub given : List Row

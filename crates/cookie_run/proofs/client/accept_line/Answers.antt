@@ -1,4 +1,4 @@
-use Rattle.std.proofs.Common.{rules, ◌≡◌, ◌≢◌, ap, sym, refl}
+use Rattle.std.proofs.Common.{rules, ◌≡◌, ◌≢◌, ap, refl}
 use Rattle.std.specs.Str.{IsUtf8}
 use Rattle.std.specs.Prelude.{Ok, Err}
 use Rattle.jiff.specs.Words.{civil_nanos}

@@ -15,7 +15,8 @@ returns-clause-whole c =
       signed_text = c.texts_are_utf8.ensures.signed;
       sealed_text = c.texts_are_utf8.ensures.sealed;
     } in
-    let laws : Laws c.args.key.now = record { back = c.encoded_records_read_back.ensures; only = one; utf8 = line_utf8 } in
+    let laws : Laws c.args.key.now =
+    record { back = c.encoded_records_read_back.ensures; only = one; utf8 = line_utf8 } in
     sites_read c.args.key.now laws ends_late
 
 pub returns-clause-until : goal.returns-clause-until
@@ -28,5 +29,6 @@ returns-clause-until c =
       signed_text = c.texts_are_utf8.ensures.signed;
       sealed_text = c.texts_are_utf8.ensures.sealed;
     } in
-    let laws : Laws c.args.key.now = record { back = c.encoded_records_read_back.ensures; only = one; utf8 = line_utf8 } in
+    let laws : Laws c.args.key.now =
+    record { back = c.encoded_records_read_back.ensures; only = one; utf8 = line_utf8 } in
     sites_read_until c.args.key.now laws ends_late

@@ -53,8 +53,8 @@ returns-in_ok-lines-in-Foreign-clause-step g c =
       sym (readings_nil _),
       (
         refl,
-        subst (λ ls. Takes c.args.client.now.suffixes c.args.client.now.rows c.in-Foreign.url (civil_nanos c.in-Foreign.at)
-            ls c.receive.new.client.rows) lines takes,
+        subst (λ ls. Takes c.args.client.now.suffixes c.args.client.now.rows c.in-Foreign.url
+            (civil_nanos c.in-Foreign.at) ls c.receive.new.client.rows) lines takes,
       ),
     ))
     c.receive.ensures.rows)

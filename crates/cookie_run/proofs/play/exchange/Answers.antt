@@ -11,7 +11,8 @@ use Rattle.cookie_run.proofs.play.exchange.Goals as goal
 
 pub returns-in_err-header-clause-err : goal.returns-in_err-header-clause-err
 returns-in_err-header-clause-err g c =
-    err_gives c.from_residual.result _ _ c.from_residual.ensures (λ kind e. inl (e, reads_none _ _ _ _ _ Never _ _ refl))
+    err_gives c.from_residual.result _ _ c.from_residual.ensures
+    (λ kind e. inl (e, reads_none _ _ _ _ _ Never _ _ refl))
 
 pub returns-in_err-session-clause-err : goal.returns-in_err-session-clause-err
 returns-in_err-session-clause-err g c =

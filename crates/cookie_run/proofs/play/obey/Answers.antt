@@ -1,6 +1,3 @@
-use Rattle.std.specs.Option.{option_to_list}
-use Rattle.jiff.specs.Words.{civil_nanos}
-use Rattle.cookie_run.specs.Play.{CommandTells}
 use Rattle.cookie_run.proofs.play.obey.Goals as goal
 
 pub returns-in-Remove-clause-ok : goal.returns-in-Remove-clause-ok

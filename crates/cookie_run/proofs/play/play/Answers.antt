@@ -40,8 +40,8 @@ loop-i-preserved g c =
     c.loop-i.invariant.before.moments c.loop-i.invariant.before.last c.in_default.ensures.moments in
     record {
       before = record {
-        run = run_more c.args.list c.args.key.now [] c.loop-i.client.rows c.act.new.client.rows c.args.steps.now c.loop-i.i
-            c.index-steps-i.result [] c.loop-i.readings.items c.act.new.readings.items
+        run = run_more c.args.list c.args.key.now [] c.loop-i.client.rows c.act.new.client.rows c.args.steps.now
+            c.loop-i.i c.index-steps-i.result [] c.loop-i.readings.items c.act.new.readings.items
             c.loop-i-test.true c.index-steps-i.is c.loop-i.invariant.before.run
             c.loop-i.client.suffixes c.loop-i.invariant.list c.in_default.ensures.step;
         moments = moments.0;

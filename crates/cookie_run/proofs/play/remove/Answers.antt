@@ -1,4 +1,4 @@
-use Rattle.std.proofs.Common.{rules, ◌≡◌, ◌≢◌, refl, sym, inl, inr, ⊎_elim, Some}
+use Rattle.std.proofs.Common.{rules, ◌≢◌, refl, sym, inl, inr, ⊎_elim, Some}
 use Rattle.cookie_run.specs.Jar.{IsRemovalRefusal}
 use Rattle.cookie_run.specs.declared.step.SessionError.TheVariants.{OutOfMemory}
 use Rattle.cookie_run.proofs.Runs.{removal_fills}
