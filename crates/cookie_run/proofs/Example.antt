@@ -11,7 +11,7 @@ use Rattle.store_parts.specs.DomainMatch.{EndsAfterDot}
 use Rattle.store_parts.specs.DomainText.{idna_form}
 use Rattle.cookie_run.specs.Headline.{AreApart}
 
-abbrev shop : List ℕ
+abbrev pub shop : List ℕ
 shop = codes "shop.com"
 
 abbrev evil : List ℕ
@@ -20,14 +20,14 @@ evil = codes "evil.com"
 abbrev com_rule : Rule
 com_rule = record { is_exception = false; labels = Text (codes "com") ∷ [] }
 
-abbrev list : List Rule
+abbrev pub list : List Rule
 list = com_rule ∷ []
 
-own_form : idna_form shop ≡ Some shop
+pub own_form : idna_form shop ≡ Some shop
 unfolding idna trim_start trim_end
 own_form = refl
 
-no_empty_label : All (λ label. label ≢ []) (labels_of shop)
+pub no_empty_label : All (λ label. label ≢ []) (labels_of shop)
 no_empty_label = All-from_recursion (λ label. label ≢ []) (labels_of shop)
     ((λ e. let wrong : codes "shop" ≡ [] = e in cc), ((λ e. let wrong : codes "com" ≡ [] = e in cc), tt))
 
