@@ -1,21 +1,18 @@
--- A play that goes on by one step, or stops in it.
-use Rattle.std.proofs.Common.{◌≡◌, ℕ, ℤ, ◌+◌, ◌<◌, ◌≤◌, zero, suc, length, inl, inr, take, drop, get_or, List, [], ◌∷◌}
+-- A play that goes on by one step, stops in it, or comes to its end.
+use Rattle.std.proofs.Common.{◌≡◌, ℕ, ℤ, ◌+◌, ◌<◌, ◌≤◌, zero, suc, length, take, drop, get_or, List, [], ◌∷◌}
 use Rattle.std.proofs.Common.{◌++◌, sym, refl, ap, ◌∙◌, subst, arith, append_assoc}
 use Rattle.std.proofs.lemmas.List.{take_all}
 use Rattle.cookie_run.specs.declared.step.Step.{Step}
 use Rattle.cookie_run.specs.declared.step.Reading.{Reading}
 use Rattle.cookie_run.specs.declared.step.FaultKind.{FaultKind}
-use Rattle.cookie_run.specs.declared.row.Row.{Row}
+use Rattle.publicsuffix.specs.Rules.{Rule}
+use Rattle.cookie_store.specs.Rows.{Row}
 use Rattle.cookie_run.specs.Acts.{Act, act_of, acts_of, moments_in, moments_of}
 use Rattle.cookie_run.specs.Moments.{AllFollow, last_of, the_beginning}
-use Rattle.cookie_run.specs.Site.{nothing}
 use Rattle.cookie_run.specs.Stops.{StopsFrom}
-use Rattle.cookie_run.specs.Play.{Plays, ReadsAll, ReadsFront, IsRunUntil}
+use Rattle.cookie_run.specs.Play.{Plays, ReadsAll, ReadsFront, IsRun, IsRunUntil}
 use Rattle.cookie_run.specs.Readings.{all_told}
-use Rattle.cookie_run.specs.Headline.{SitesReadTheirOwn, SitesReadTheirOwnUntil}
-use Rattle.cookie_run.proofs.Runs.{acts_more, readings_nil}
-use Rattle.cookie_run.proofs.Shapes.{plays_answer}
-use Rattle.cookie_run.proofs.SiteStep.{ReadingBack, OnlyOne, each_leads, act_stops, begins}
+use Rattle.cookie_run.proofs.Runs.{acts_more}
 
 -- ---- moments
 
@@ -72,9 +69,9 @@ before_count (x ∷ xs) zero h = refl
 before_count (x ∷ xs) (suc i) h = let rest = before_count xs i (omega arith) in omega arith
 
 -- what the loop knows before a step
-pub record Before (key : List ℕ) (steps : List Step) (i : ℕ) (rows : List Row) (now : List Reading)
+pub record Before (list : List Rule) (key : List ℕ) (steps : List Step) (i : ℕ) (rows : List Row) (now : List Reading)
     (moment : ℤ) : Type 0 where
-  pub run : (told : List (List Reading)) × (now ≡ all_told told) × Plays key [] (acts_of (take i steps)) told rows
+  pub run : (told : List (List Reading)) × (now ≡ all_told told) × Plays list key [] (acts_of (take i steps)) told rows
   pub moments : AllFollow the_beginning (moments_of (acts_of (take i steps)))
   pub last : moment ≡ last_of the_beginning (moments_of (acts_of (take i steps)))
 
@@ -83,18 +80,18 @@ abbrev pub Stops : List ℕ → List Row → FaultKind → ℤ → Act → List 
 Stops key rows kind last act old readings = StopsFrom kind last act old (ReadsFront key rows act)
     (ReadsAll key rows act) readings
 
-stops_there : (key : List ℕ) (steps : List Step) (i : ℕ) (s : Step) (rows : List Row) (now later : List Reading)
-    (last : ℤ) (kind : FaultKind) → (b : Before key steps i rows now last) →
+stops_there : (list : List Rule) (key : List ℕ) (steps : List Step) (i : ℕ) (s : Step) (rows : List Row)
+    (now later : List Reading) (last : ℤ) (kind : FaultKind) → (b : Before list key steps i rows now last) →
     Stops key rows kind last (act_of s) now later → Stops key rows kind
     (last_of the_beginning (moments_of (acts_of (take i steps)))) (act_of s) (all_told b.run.0) later
-stops_there key steps i s rows now later last kind b stops =
+stops_there list key steps i s rows now later last kind b stops =
     subst (λ m. Stops key rows kind m (act_of s) (all_told b.run.0) later) b.last
     (subst (λ old. Stops key rows kind last (act_of s) old later) b.run.1 stops)
 
-pub run_until : (key : List ℕ) (steps : List Step) (i : ℕ) (s : Step) (rows : List Row) (now later : List Reading)
-    (last : ℤ) (kind : FaultKind) → i < length steps → s ≡ get_or steps i s → Before key steps i rows now last →
-    Stops key rows kind last (act_of s) now later → IsRunUntil key (acts_of steps) (i + 1) kind later
-run_until key steps i s rows now later last kind h is b stops = record {
+pub run_until : (list : List Rule) (key : List ℕ) (steps : List Step) (i : ℕ) (s : Step) (rows : List Row)
+    (now later : List Reading) (last : ℤ) (kind : FaultKind) → i < length steps → s ≡ get_or steps i s → Before list key steps i rows now last →
+    Stops key rows kind last (act_of s) now later → IsRunUntil list key (acts_of steps) (i + 1) kind later
+run_until list key steps i s rows now later last kind h is b stops = record {
   before = acts_of (take i steps);
   act = act_of s;
   after = acts_of (drop (suc i) steps);
@@ -104,64 +101,22 @@ run_until key steps i s rows now later last kind h is b stops = record {
   rows = rows;
   ran = b.run.2;
   in_order = b.moments;
-  stops = stops_there key steps i s rows now later last kind b stops;
+  stops = stops_there list key steps i s rows now later last kind b stops;
 }
 
-front_inside : (key : List ℕ) (rows : List Row) (old readings : List Reading) (kind : FaultKind) (last : ℤ) (act : Act)
-    → Stops key rows kind last act old readings → (front : List Reading) × (readings ≡ old ++ front)
-front_inside key rows old readings kind last act stops =
-    elim stops [
-      | inl opening ↦ ([], opening.1 ∙ sym (readings_nil old))
-      | inr past ↦ elim (past.1) [
-        | inl memory ↦ (memory.1.0, memory.1.2)
-        | inr delivery ↦ (delivery.1.0, delivery.1.2)
-      ]
-    ]
+-- ---- a play that came to its end
 
-pub sites_until : (law : ReadingBack) (key : List ℕ) (steps : List Step) (i : ℕ) (s : Step) (rows : List Row)
-    (now later : List Reading) (last : ℤ) (kind : FaultKind) → OnlyOne key → i < length steps → s ≡ get_or steps i s
-    → Before key steps i rows now last →
-    Stops key rows kind last (act_of s) now later → SitesReadTheirOwnUntil (acts_of steps) (i + 1) kind later
-sites_until law key steps i s rows now later last kind one h is b stops =
-    let before = acts_of (take i steps) in
-    let there = stops_there key steps i s rows now later last kind b stops in
-    let front = front_inside key rows (all_told b.run.0) later kind _ (act_of s) there in
-    record {
-      before = before;
-      act = act_of s;
-      after = acts_of (drop (suc i) steps);
-      cut = cut_at steps i s h is;
-      at_step = ap (λ n. n + 1) (sym (before_count steps i h));
-      told = b.run.0;
-      front = front.0;
-      read = front.1;
-      own = plays_answer key [] rows before b.run.0 b.run.2;
-      sites = λ host answers lives.
-          let led = each_leads law key host before nothing [] b.run.0 rows one answers lives
-          (begins key host) b.run.2 in (
-            led.0,
-            led.1,
-            λ here. act_stops key host (act_of s) led.0 rows kind _
-                (all_told b.run.0) later one here led.2 there,
-          );
-    }
-
-pub sites_read : (law : ReadingBack) (key : List ℕ) (acts : List Act) (readings : List Reading) (rows : List Row)
-    (told : List (List Reading)) → OnlyOne key → readings ≡ all_told told → Plays key [] acts told rows
-    → SitesReadTheirOwn acts readings
-sites_read law key acts readings rows told one is ran = record {
-  told = told;
-  read = is;
-  own = plays_answer key [] rows acts told ran;
-  sites = λ host answers lives.
-      let led = each_leads law key host acts nothing [] told rows one answers lives (begins key host) ran in
-      (led.0, led.1);
+pub run_all : (list : List Rule) (key : List ℕ) (steps : List Step) (i : ℕ) (rows : List Row) (now : List Reading)
+    (moment : ℤ) → length steps ≤ i → Before list key steps i rows now moment → IsRun list key (acts_of steps) now
+run_all list key steps i rows now moment h b = record {
+  told = b.run.0;
+  rows = rows;
+  ran = subst (λ ss. Plays list key [] (acts_of ss) b.run.0 rows) (take_all i steps h) b.run.2;
+  read = b.run.1;
 }
 
--- a play that came to its end
-pub sites_all : (law : ReadingBack) (key : List ℕ) (steps : List Step) (i : ℕ) (rows : List Row) (now : List Reading)
-    (moment : ℤ) → OnlyOne key → length steps ≤ i → Before key steps i rows now moment
-    → SitesReadTheirOwn (acts_of steps) now
-sites_all law key steps i rows now moment one h b =
-    sites_read law key (acts_of steps) now rows b.run.0 one b.run.1
-    (subst (λ ss. Plays key [] (acts_of ss) b.run.0 rows) (take_all i steps h) b.run.2)
+pub follow_all : (list : List Rule) (key : List ℕ) (steps : List Step) (i : ℕ) (rows : List Row) (now : List Reading)
+    (moment : ℤ) → length steps ≤ i → Before list key steps i rows now moment
+    → AllFollow the_beginning (moments_of (acts_of steps))
+follow_all list key steps i rows now moment h b =
+    subst (λ ss. AllFollow the_beginning (moments_of (acts_of ss))) (take_all i steps h) b.moments

@@ -7,12 +7,13 @@ use Rattle.std.proofs.lemmas.Bool.Decides.{nat_tests}
 use Rattle.std.proofs.lemmas.Bool.{false≢true}
 use Rattle.url.specs.Parts.{Parts}
 use Rattle.cookie_run.specs.declared.step.LineEnd.{LineEnd}
-use Rattle.cookie_run.specs.Rows.{AcceptsAll, Takes}
+use Rattle.cookie_run.specs.Accept.{AcceptsAll, Takes}
 use Rattle.cookie_run.specs.ScriptLine as spec
 use Rattle.cookie_run.specs.ScriptText.{Reached, obeyed, goes_back, done, after_line, HasFault, PrintsUntil}
 use Rattle.cookie_run.specs.Standing.{Stands, Goes, Halts}
 use Rattle.cookie_run.specs.ScriptRead.{line_of}
-use Rattle.cookie_run.specs.declared.row.Row.{Row}
+use Rattle.cookie_store.specs.Rows.{Row}
+use Rattle.publicsuffix.specs.Rules.{Rule}
 use Rattle.cookie_run.specs.declared.script.cause.Cause.{Cause}
 use Rattle.cookie_run.specs.declared.script.cause.Cause.TheVariants.{Back, Memory}
 use Rattle.cookie_run.specs.declared.script.line.Line.{Line}
@@ -37,9 +38,9 @@ skips true x y e = absurd (false≢true (sym e))
 skips false x y e = refl
 
 -- an empty line is passed over
-pub passes_over : (key : List ℕ) (line : List ℕ) (rows : List Row) (last : ℤ) (visit : Option Visit) (text : List ℕ)
-    → line ≡ [] → text ≡ [] → Goes key (λ r. after_line r line) rows last visit rows last visit text
-passes_over key line rows last visit text e empty start r output s = (
+pub passes_over : (list : List Rule) (key : List ℕ) (line : List ℕ) (rows : List Row) (last : ℤ) (visit : Option Visit) (text : List ℕ)
+    → line ≡ [] → text ≡ [] → Goes list key (λ r. after_line r line) rows last visit rows last visit text
+passes_over list key line rows last visit text e empty start r output s = (
   r,
   picks (bytes_eq line []) (Ok r) (done r (spec.read_line line)) (empty_line line e),
   record {
@@ -59,51 +60,51 @@ read_led r line read some e = skips (bytes_eq line []) (Ok r) (done r (spec.read
     ∙ ap (done r) e
 
 -- its text has a fault
-pub misreads : (Error : Type 0) (key : List ℕ) (line : List ℕ) (rows : List Row) (last : ℤ) (visit : Option Visit)
+pub misreads : (Error : Type 0) (list : List Rule) (key : List ℕ) (line : List ℕ) (rows : List Row) (last : ℤ) (visit : Option Visit)
     (cause : Cause) → 0 < length line → (spec.read_line line ≡ Err cause) ⊎ (cause ≡ Memory)
-    → Halts Error key (λ r. after_line r line) rows last visit cause rows
-misreads Error key line rows last visit cause some (inl e) start r output s = inl
+    → Halts Error list key (λ r. after_line r line) rows last visit cause rows
+misreads Error list key line rows last visit cause some (inl e) start r output s = inl
     (inl (read_led r line (Err cause) some e), refl)
-misreads Error key line rows last visit cause some (inr e) start r output s = inr
-    (e, inl (prints_all key start rows r last visit output s))
+misreads Error list key line rows last visit cause some (inr e) start r output s = inr
+    (e, inl (prints_all list key start rows r last visit output s))
 
 -- its moment is before the last
-pub comes_back : (Error : Type 0) (key : List ℕ) (line : List ℕ) (rows : List Row) (last : ℤ) (visit : Option Visit)
+pub comes_back : (Error : Type 0) (list : List Rule) (key : List ℕ) (line : List ℕ) (rows : List Row) (last : ℤ) (visit : Option Visit)
     (read : Line) → 0 < length line → spec.read_line line ≡ Ok (line_of read) → goes_back last (line_of read) ≡ true
-    → Halts Error key (λ r. after_line r line) rows last visit Back rows
-comes_back Error key line rows last visit read some e back start r output s =
+    → Halts Error list key (λ r. after_line r line) rows last visit Back rows
+comes_back Error list key line rows last visit read some e back start r output s =
     inl (
       inl (read_led r line (Ok (line_of read)) some e ∙ picks (goes_back r.last (line_of read)) (Err Back)
           (obeyed r.acts r.last r.now (line_of read)) (subst (λ m. goes_back m (line_of read) ≡ true) s.moment back)),
       refl,
     )
 
-led : (key : List ℕ) (start rows : List Row) (r : Reached) (last : ℤ) (visit : Option Visit) (output line : List ℕ)
-    (read : Line) → Stands key start r rows last visit output → 0 < length line
+led : (list : List Rule) (key : List ℕ) (start rows : List Row) (r : Reached) (last : ℤ) (visit : Option Visit) (output line : List ℕ)
+    (read : Line) → Stands list key start r rows last visit output → 0 < length line
     → spec.read_line line ≡ Ok (line_of read) → goes_back last (line_of read) ≡ false
     → after_line r line ≡ obeyed r.acts r.last r.now (line_of read)
-led key start rows r last visit output line read s some e forth =
+led list key start rows r last visit output line read s some e forth =
     read_led r line (Ok (line_of read)) some e ∙ skips (goes_back r.last (line_of read)) (Err Back)
     (obeyed r.acts r.last r.now (line_of read)) (subst (λ m. goes_back m (line_of read) ≡ false) s.moment forth)
 
-pub goes_on : (key : List ℕ) (line : List ℕ) (rows new_rows : List Row) (last new_last : ℤ)
+pub goes_on : (list : List Rule) (key : List ℕ) (line : List ℕ) (rows new_rows : List Row) (last new_last : ℤ)
     (visit new_visit : Option Visit) (read : Line) (text : List ℕ) → 0 < length line
     → spec.read_line line ≡ Ok (line_of read) → goes_back last (line_of read) ≡ false
-    → Goes key (λ r. obeyed r.acts r.last r.now (line_of read)) rows last visit new_rows new_last new_visit text
-    → Goes key (λ r. after_line r line) rows last visit new_rows new_last new_visit text
-goes_on key line rows new_rows last new_last visit new_visit read text some e forth goes start r output s =
+    → Goes list key (λ r. obeyed r.acts r.last r.now (line_of read)) rows last visit new_rows new_last new_visit text
+    → Goes list key (λ r. after_line r line) rows last visit new_rows new_last new_visit text
+goes_on list key line rows new_rows last new_last visit new_visit read text some e forth goes start r output s =
     let g = goes start r output s in
-    (g.0, led key start rows r last visit output line read s some e forth ∙ g.1, g.2)
+    (g.0, led list key start rows r last visit output line read s some e forth ∙ g.1, g.2)
 
-pub halts_there : (Error : Type 0) (key : List ℕ) (line : List ℕ) (rows new_rows : List Row) (last : ℤ)
+pub halts_there : (Error : Type 0) (list : List Rule) (key : List ℕ) (line : List ℕ) (rows new_rows : List Row) (last : ℤ)
     (visit : Option Visit) (read : Line) (cause : Cause) → 0 < length line → spec.read_line line ≡ Ok (line_of read)
     → goes_back last (line_of read) ≡ false
-    → Halts Error key (λ r. obeyed r.acts r.last r.now (line_of read)) rows last visit cause new_rows
-    → Halts Error key (λ r. after_line r line) rows last visit cause new_rows
-halts_there Error key line rows new_rows last visit read cause some e forth halts start r output s =
+    → Halts Error list key (λ r. obeyed r.acts r.last r.now (line_of read)) rows last visit cause new_rows
+    → Halts Error list key (λ r. after_line r line) rows last visit cause new_rows
+halts_there Error list key line rows new_rows last visit read cause some e forth halts start r output s =
     subst (λ l. (HasFault Error r l cause × (new_rows ≡ rows))
-    ⊎ ((cause ≡ Memory) × PrintsUntil key start r l output new_rows))
-    (sym (led key start rows r last visit output line read s some e forth)) (halts start r output s)
+    ⊎ ((cause ≡ Memory) × PrintsUntil list key start r l output new_rows))
+    (sym (led list key start rows r last visit output line read s some e forth)) (halts start r output s)
 
 -- ---- results
 
@@ -115,11 +116,11 @@ pub if_err : {A E : Type 0} (r : Result A E) {P Q : E → Type 0} → ((e : E) �
 if_err (Ok x) f h = tt
 if_err (Err e) f h = f e h
 
-pub takes_of : {E : Type 0} (rows new : List Row) (url : Parts) (lines : List (List ℕ))
-    (r : Result (Vec LineEnd Global) E) → false ≡ is_err r → IfOk r (λ ends. AcceptsAll rows url lines ends.items new)
-    → Takes rows url lines new
-takes_of rows new url lines (Ok ends) e h = (ends.items, h)
-takes_of rows new url lines (Err x) e h = absurd (false≢true e)
+pub takes_of : {E : Type 0} (list : List Rule) (rows new : List Row) (url : Parts) (at : ℤ) (lines : List (List ℕ))
+    (r : Result (Vec LineEnd Global) E) → false ≡ is_err r
+    → IfOk r (λ ends. AcceptsAll list rows url at lines ends.items new) → Takes list rows url at lines new
+takes_of list rows new url at lines (Ok ends) e h = (ends.items, h)
+takes_of list rows new url at lines (Err x) e h = absurd (false≢true e)
 
 pub no_bytes : (bs : List ℕ) → true ≡ (length bs == 0) → bs ≡ []
 no_bytes [] e = refl

@@ -1,48 +1,49 @@
 -- A header grows by one pair.
-use Rattle.std.proofs.Common.{◌≡◌, ℕ, ◌+◌, ◌<◌, true, false, cond, eqb, List, [], ◌∷◌, ◌++◌, length, take, get_or, sym}
-use Rattle.std.proofs.Common.{refl, ap, ◌∙◌, arith, append_assoc, length-append}
-use Rattle.std.specs.Str.{bytes_eq}
+use Rattle.std.proofs.Common.{◌≡◌, ℕ, false, eqb, List, [], ◌∷◌, ◌++◌, length, sym, refl, ap, ◌∙◌, arith, append_assoc}
+use Rattle.std.proofs.Common.{length-append}
 use Rattle.std.proofs.lemmas.Bool.{cond-false}
 use Rattle.std.proofs.lemmas.Bool.Decides.{nat_tests}
-use Rattle.std.proofs.lemmas.List.Elements.{filter_more}
-use Rattle.cookie_run.specs.declared.row.Row.{Row}
-use Rattle.cookie_run.specs.Rows.{header_of, pair_text, with_pair, rows_of}
+use Rattle.cookie_run.specs.Header.{header_of, pair_text, with_pair}
+
+abbrev Pair : Type 0
+Pair = List ℕ × List ℕ
 
 pair_some : (n v : List ℕ) → eqb (length (n ++ 61 ∷ v)) 0 ≡ false
 pair_some [] v = grind (arith, nat_tests)
 pair_some (b ∷ bs) v = grind (arith, nat_tests)
 
-header_some : (row : Row) (rows : List Row) → eqb (length (header_of (row ∷ rows))) 0 ≡ false
-header_some row [] = pair_some row.name row.value
-header_some row (next ∷ rows) = grind (arith, nat_tests, length-append)
+header_some : (pair : Pair) (pairs : List Pair) → eqb (length (header_of (pair ∷ pairs))) 0 ≡ false
+header_some pair [] = pair_some pair.0 pair.1
+header_some pair (next ∷ pairs) = grind (arith, nat_tests, length-append)
 
-pub header_push : (rows : List Row) (row : Row) → header_of (rows ++ row ∷ []) ≡ with_pair (header_of rows) row
-header_push [] row = refl
-header_push (a ∷ []) row = sym (cond-false _ _ _ (pair_some a.name a.value))
-header_push (a ∷ b ∷ rows) row =
-    ap (λ x. pair_text a ++ 59 ∷ 32 ∷ x) (header_push (b ∷ rows) row ∙ cond-false _ _ _ (header_some b rows))
-    ∙ (sym (append_assoc (pair_text a) (59 ∷ 32 ∷ header_of (b ∷ rows)) (59 ∷ 32 ∷ pair_text row))
-    ∙ sym (cond-false _ _ _ (header_some a (b ∷ rows))))
+header_push : (pairs : List Pair) (pair : Pair) → header_of (pairs ++ pair ∷ []) ≡ with_pair (header_of pairs) pair
+header_push [] pair = refl
+header_push (a ∷ []) pair = sym (cond-false _ _ _ (pair_some a.0 a.1))
+header_push (a ∷ b ∷ pairs) pair =
+    ap (λ x. pair_text a ++ 59 ∷ 32 ∷ x) (header_push (b ∷ pairs) pair ∙ cond-false _ _ _ (header_some b pairs))
+    ∙ (sym (append_assoc (pair_text a) (59 ∷ 32 ∷ header_of (b ∷ pairs)) (59 ∷ 32 ∷ pair_text pair))
+    ∙ sym (cond-false _ _ _ (header_some a (b ∷ pairs))))
 
--- the next row of the list, where it is the host's and where it isn't
-pub header_next : (host : List ℕ) (rows : List Row) (i : ℕ) (row : Row) → i < length rows → row ≡ get_or rows i row
-    → bytes_eq row.host host ≡ true → header_of (rows_of host (take (i + 1) rows)) ≡ with_pair
-    (header_of (rows_of host (take i rows))) row
-header_next host rows i row h is own =
-    ap header_of (filter_more (λ r. bytes_eq r.host host) rows i row h
-    ∙ (ap (λ r. rows_of host (take i rows) ++ cond (bytes_eq r.host host) (r ∷ []) []) (sym is)
-    ∙ ap (λ b. rows_of host (take i rows) ++ cond b (row ∷ []) []) own))
-    ∙ header_push (rows_of host (take i rows)) row
+-- what was printed of the pairs that are no more to come
+pub record Printed (text : List ℕ) (rest all : List Pair) : Type 0 where
+  pub done : List Pair
+  pub cut : done ++ rest ≡ all
+  pub text_is : text ≡ header_of done
 
-append_nil : (xs : List Row) → xs ++ [] ≡ xs
-append_nil [] = refl
-append_nil (x ∷ xs) = ap (λ ys. x ∷ ys) (append_nil xs)
+pub printed_none : (text : List ℕ) (all : List Pair) → text ≡ [] → Printed text all all
+printed_none text all e = record { done = []; cut = refl; text_is = e }
 
-pub header_past : (host : List ℕ) (rows : List Row) (i : ℕ) (row : Row) → i < length rows → row ≡ get_or rows i row
-    → bytes_eq row.host host ≡ false → header_of (rows_of host (take (i + 1) rows)) ≡ header_of
-    (rows_of host (take i rows))
-header_past host rows i row h is other =
-    ap header_of (filter_more (λ r. bytes_eq r.host host) rows i row h
-    ∙ (ap (λ r. rows_of host (take i rows) ++ cond (bytes_eq r.host host) (r ∷ []) []) (sym is)
-    ∙ (ap (λ b. rows_of host (take i rows) ++ cond b (row ∷ []) []) other
-    ∙ append_nil (rows_of host (take i rows)))))
+pub printed_more : (text new : List ℕ) (pair : Pair) (rest all : List Pair) → Printed text (pair ∷ rest) all
+    → new ≡ with_pair text pair → Printed new rest all
+printed_more text new pair rest all p is = record {
+  done = p.done ++ pair ∷ [];
+  cut = append_assoc p.done (pair ∷ []) rest ∙ p.cut;
+  text_is = is ∙ (ap (λ t. with_pair t pair) p.text_is ∙ sym (header_push p.done pair));
+}
+
+pub printed_all : (text : List ℕ) (all : List Pair) → Printed text [] all → text ≡ header_of all
+printed_all text all p = p.text_is ∙ ap header_of (sym (append_nil p.done) ∙ p.cut)
+  where
+    append_nil : (xs : List Pair) → xs ++ [] ≡ xs
+    append_nil [] = refl
+    append_nil (x ∷ xs) = ap (λ ys. x ∷ ys) (append_nil xs)

@@ -5,13 +5,26 @@ pub mod HeaderBack
 pub mod Texts
 pub mod Sessions
 pub mod Records
-pub mod SiteStep
-pub mod Puts
+pub mod Showing
+pub mod Kepts
+pub mod OwnRows
+pub mod Received
+pub mod Lines
+pub mod GivenRows
+pub mod Walking
+pub mod Commands
+pub mod Exchange
+pub mod Removals
+pub mod Promises
+pub mod Sites
+pub mod Confined
+pub mod SentLines
+pub mod Receiving
+pub mod Refusals
 pub mod Runs
 pub mod Headers
-pub mod Shapes
-pub mod Lines
 pub mod ScriptLines
+pub mod ScriptNumbers
 pub mod Shown
 pub mod Pouring
 pub mod MomentText
@@ -19,13 +32,13 @@ pub mod Calendar
 pub mod Ends
 pub mod ReadCode
 pub mod OpenCode
-pub mod AcceptCode
 pub mod Standings
 pub mod Halting
+pub mod NoRules
 pub mod ScriptRun
 pub mod Following
-pub mod store
 mod Facts
+mod SiteFacts
+mod Example
 mod ScriptFacts
-mod AcceptFacts
 mod VisitFacts

@@ -1,15 +1,17 @@
--- The text of a moment.
+-- The texts of dates and moments.
 use Rattle.std.proofs.Common.{◌≡◌, ◌≢◌, ℕ, ℤ, pos, ◌+◌, ◌-◌, ◌*◌, ◌^◌, add-one, ◌<◌, ◌≤◌, Bool, true, false, ◌&&◌, List}
 use Rattle.std.proofs.Common.{[], ◌∷◌, length, take, drop, get_or, Option, Some, None, sym, refl, ap, ◌∙◌, subst}
-use Rattle.std.proofs.Common.{⊎_elim, arith}
-use Rattle.std.specs.Prelude.{codes, map, slice_range, if◌then◌else◌, nat_le, nat_lt, ◌+ℤ◌, ◌*ℤ◌, ◌↔◌, Result, Ok, Err}
-use Rattle.std.specs.Prelude.{IsOk, IfOk, option_map}
+use Rattle.std.proofs.Common.{⊎_elim, arith, T, leb→le, le→leb, ltb→lt, lt→ltb, lit<}
+use Rattle.std.specs.Prelude.{codes, map, slice_range, if◌then◌else◌, nat_le, nat_lt, ◌+ℤ◌, ◌*ℤ◌, ◌≤ℤ◌, ◌↔◌, Result}
+use Rattle.std.specs.Prelude.{Ok, Err, IsOk, IfOk, IfSome, option_map, option_and_then}
 use Rattle.std.specs.Result.{result_ok}
 use Rattle.jiff.specs.Words.{civil_nanos, IsDate, IsTime, IsYmd, IsHms, epoch_day, Error}
-use Rattle.jiff.specs.Types.{DateTime}
+use Rattle.jiff.specs.Types.{Date, Time, DateTime}
 use Rattle.jiff.proofs.SpanFacts.{signed_arith}
-use Rattle.jiff.proofs.Family.{civil_nanos-parts}
-use Rattle.jiff_core.specs.Calendar.{days_from_civil, days_in_month}
+use Rattle.jiff.proofs.Family.{civil_nanos-parts, same_datetime}
+use Rattle.jiff_core.specs.Calendar.{days_from_civil, days_in_month, day_count, days_of_years, days_of_months}
+use Rattle.jiff_core.proofs.CalendarLemmas.{day_count-lt_year}
+use Rattle.jiff_core.proofs.DateLemmas.{civil}
 use Rattle.std.specs.Str.Parse.{digits_value, AllDigits}
 use Rattle.std.specs.Char.{digit_value}
 use Rattle.std.proofs.lemmas.Bool.{cases_Bool, false≢true}
@@ -19,7 +21,8 @@ use Rattle.std.proofs.lemmas.Str.Parse.{digit_at}
 use Rattle.std.proofs.lemmas.Int.Digits.{digits_value_more}
 use Rattle.std.proofs.lemmas.List.{get_or-map, length-map, take-map, drop-map, ext_get_or}
 use Rattle.std.proofs.Math.Nat.{pow-le-pow_right}
-use Rattle.cookie_run.specs.ScriptMoment.{blanked, has_shape, number_at, is_moment, seconds_to, moment_if, moment_of}
+use Rattle.cookie_run.specs.Moments.{second_1971}
+use Rattle.cookie_run.specs.ScriptMoment.{blanked, has_shape, number_at, where_so, day_if, clock_if, date_if, date_of}
 
 abbrev pub shape : List ℕ
 shape = codes "0000-00-00T00:00:00Z"
@@ -96,74 +99,103 @@ number_step ds i n all h e =
 
 -- ---- the calendar and the clock
 
-and_both : (a b : Bool) → (a && b) ≡ true → (a ≡ true) × (b ≡ true)
-and_both true b e = (refl, e)
-and_both false b e = absurd (false≢true e)
+so_yes : {A : Type 0} (b : Bool) (f : T b → Option A) (t : T b) → where_so b f ≡ f t
+so_yes true f t = refl
+so_yes false f t = absurd t
 
--- what is tested of the numbers, `most` being the days of the month
-record Within (year month day most hour minute second : ℕ) : Type 0 where
-  years : (1971 ≤ year) × (year ≤ 9998)
-  months : (1 ≤ month) × (month ≤ 12)
-  days : (1 ≤ day) × (day ≤ most)
-  times : (hour < 24) × (minute < 60) × (second < 60)
+so_some : {A : Type 0} (b : Bool) (f : T b → Option A) (x : A) → where_so b f ≡ Some x → (t : T b) × (f t ≡ Some x)
+so_some true f x e = (tt, e)
+so_some false f x e = absurd (none_some x e)
+  where
+    none_some : {A : Type 0} (x : A) → None ≡ Some x → ⊥
+    none_some x e = cc
 
-abbrev tested : ℕ → ℕ → ℕ → ℕ → ℕ → ℕ → ℕ → Bool
-tested year month day most hour minute second =
-    nat_le 1971 year && nat_le year 9998 && nat_le 1 month && nat_le month 12
-    && nat_le 1 day && nat_le day most
-    && nat_lt hour 24 && nat_lt minute 60 && nat_lt second 60
+-- what is tested of the numbers of a day, and of a time of day
+record IsDay (year month day : ℕ) : Type 0 where
+  year_to : T (nat_le year 9999)
+  month_from : T (nat_le 1 month)
+  month_to : T (nat_le month 12)
+  day_from : T (nat_le 1 day)
+  day_to : T (nat_le day (days_in_month (pos year) month))
 
-le_of : (a b : ℕ) → nat_le a b ≡ true → a ≤ b
-le_of a b e = grind (arith, nat_tests)
+record IsClock (hour minute second : ℕ) : Type 0 where
+  hours : T (nat_lt hour 24)
+  minutes : T (nat_lt minute 60)
+  seconds : T (nat_lt second 60)
 
-lt_of : (a b : ℕ) → nat_lt a b ≡ true → a < b
-lt_of a b e = grind (arith, nat_tests)
+abbrev the_day : (year month day : ℕ) → IsDay year month day → Date
+the_day year month day is = record {
+  year = pos year;
+  month = month;
+  day = day;
+  year_in = (record { le = tt }, record { le = is.year_to });
+  month_in = (leb→le 1 month is.month_from, leb→le month 12 is.month_to);
+  day_in = (leb→le 1 day is.day_from, leb→le day (days_in_month (pos year) month) is.day_to);
+}
 
-tested_within : (year month day most hour minute second : ℕ) → tested year month day most hour minute second ≡ true
-    → Within year month day most hour minute second
-tested_within year month day most hour minute second e =
-    let a = and_both _ (nat_lt second 60) e in
-    let b = and_both _ (nat_lt minute 60) a.0 in
-    let c = and_both _ (nat_lt hour 24) b.0 in
-    let d = and_both _ (nat_le day most) c.0 in
-    let f = and_both _ (nat_le 1 day) d.0 in
-    let g = and_both _ (nat_le month 12) f.0 in
-    let h = and_both _ (nat_le 1 month) g.0 in
-    let i = and_both (nat_le 1971 year) (nat_le year 9998) h.0 in
-    record {
-      years = (le_of _ _ i.0, le_of _ _ i.1);
-      months = (le_of _ _ h.1, le_of _ _ g.1);
-      days = (le_of _ _ f.1, le_of _ _ d.1);
-      times = (lt_of _ _ c.1, lt_of _ _ b.1, lt_of _ _ a.1);
-    }
+abbrev the_clock : (hour minute second : ℕ) → IsClock hour minute second → Time
+the_clock hour minute second is = record {
+  hour = hour;
+  minute = minute;
+  second = second;
+  subsec_nanosecond = 0;
+  hour_in = ltb→lt hour 24 is.hours;
+  minute_in = ltb→lt minute 60 is.minutes;
+  second_in = ltb→lt second 60 is.seconds;
+  subsec_in = lit< tt;
+}
 
-both_true : (a b : Bool) → a ≡ true → b ≡ true → (a && b) ≡ true
-both_true true b e f = f
-both_true false b e f = absurd (false≢true e)
+day_yes : (year month day : ℕ) (is : IsDay year month day) → day_if year month day ≡ Some (the_day year month day is)
+day_yes year month day is =
+    so_yes _ _ is.year_to ∙ (so_yes _ _ is.month_from ∙ (so_yes _ _ is.month_to ∙ (so_yes _ _ is.day_from
+    ∙ so_yes _ _ is.day_to)))
 
-of_le : (a b : ℕ) → a ≤ b → nat_le a b ≡ true
-of_le a b h = grind (arith, nat_tests)
+clock_yes : (hour minute second : ℕ) (is : IsClock hour minute second)
+    → clock_if hour minute second ≡ Some (the_clock hour minute second is)
+clock_yes hour minute second is = so_yes _ _ is.hours ∙ (so_yes _ _ is.minutes ∙ so_yes _ _ is.seconds)
 
-of_lt : (a b : ℕ) → a < b → nat_lt a b ≡ true
-of_lt a b h = grind (arith, nat_tests)
+day_some : (year month day : ℕ) (d : Date) → day_if year month day ≡ Some d → IsDay year month day
+day_some year month day d e =
+    let y = so_some _ _ d e in
+    let m = so_some _ _ d y.1 in
+    let n = so_some _ _ d m.1 in
+    let f = so_some _ _ d n.1 in
+    let l = so_some _ _ d f.1 in
+    record { year_to = y.0; month_from = m.0; month_to = n.0; day_from = f.0; day_to = l.0 }
 
-within_tested : (year month day most hour minute second : ℕ) → Within year month day most hour minute second
-    → tested year month day most hour minute second ≡ true
-within_tested year month day most hour minute second w =
-    both_true _ _ (both_true _ _ (both_true _ _ (both_true _ _
-    (both_true _ _ (both_true _ _ (both_true _ _ (both_true _ _
-    (of_le _ _ w.years.0) (of_le _ _ w.years.1)) (of_le _ _ w.months.0)) (of_le _ _ w.months.1)) (of_le _ _ w.days.0))
-    (of_le _ _ w.days.1))
-    (of_lt _ _ w.times.0)) (of_lt _ _ w.times.1)) (of_lt _ _ w.times.2)
+clock_some : (hour minute second : ℕ) (t : Time) → clock_if hour minute second ≡ Some t → IsClock hour minute second
+clock_some hour minute second t e =
+    let h = so_some _ _ t e in
+    let m = so_some _ _ t h.1 in
+    let s = so_some _ _ t m.1 in
+    record { hours = h.0; minutes = m.0; seconds = s.0 }
 
-in_calendar : (year month day hour minute second : ℕ) → Within year month day
-    (days_in_month (pos year) month) hour minute second
+abbrev together : Option Date → Option Time → Option DateTime
+together day clock = option_and_then (λ date. option_map (λ time. record { date = date; time = time }) clock) day
+
+together_some : (day : Option Date) (clock : Option Time) (d : DateTime) → together day clock ≡ Some d
+    → (x : Date) × (t : Time) × (day ≡ Some x) × (clock ≡ Some t)
+together_some None clock d e = absurd (none_some d e)
+  where
+    none_some : (d : DateTime) → None ≡ Some d → ⊥
+    none_some d e = cc
+together_some (Some x) None d e = absurd (none_some d e)
+  where
+    none_some : (d : DateTime) → None ≡ Some d → ⊥
+    none_some d e = cc
+together_some (Some x) (Some t) d e = (x, t, refl, refl)
+
+in_calendar : (year month day hour minute second : ℕ) → IsDay year month day → IsClock hour minute second
     → IsDate (pos year) (pos month) (pos day) × IsTime (pos hour) (pos minute) (pos second) (pos 0)
-in_calendar year month day hour minute second w =
-    let (y1, y2) = w.years in
-    let (m1, m2) = w.months in
-    let (d1, d2) = w.days in
-    let (t1, t2, t3) = w.times in (
+in_calendar year month day hour minute second is at =
+    let y1 = leb→le year 9999 is.year_to in
+    let m1 = leb→le 1 month is.month_from in
+    let m2 = leb→le month 12 is.month_to in
+    let d1 = leb→le 1 day is.day_from in
+    let d2 = leb→le day (days_in_month (pos year) month) is.day_to in
+    let t1 = ltb→lt hour 24 at.hours in
+    let t2 = ltb→lt minute 60 at.minutes in
+    let t3 = ltb→lt second 60 at.seconds in (
       (
         (omega (arith, signed_arith), omega (arith, signed_arith)),
         (omega (arith, signed_arith), omega (arith, signed_arith)),
@@ -177,25 +209,38 @@ in_calendar year month day hour minute second w =
       ),
     )
 
-of_calendar : (year month day hour minute second : ℕ) → 1971 ≤ year → year ≤ 9998
-    → IsDate (pos year) (pos month) (pos day) → IsTime (pos hour) (pos minute) (pos second) (pos 0)
-    → Within year month day (days_in_month (pos year) month) hour minute second
-of_calendar year month day hour minute second low high date time =
+day_of_calendar : (year month day : ℕ) → IsDate (pos year) (pos month) (pos day) → IsDay year month day
+day_of_calendar year month day date =
     let (y1, y2) = date.0 in
     let (m1, m2) = date.1 in
     let (d1, d2) = date.2 in
+    record {
+      year_to = le→leb year 9999 (omega (arith, signed_arith));
+      month_from = le→leb 1 month (omega (arith, signed_arith));
+      month_to = le→leb month 12 (omega (arith, signed_arith));
+      day_from = le→leb 1 day (omega (arith, signed_arith));
+      day_to = le→leb day (days_in_month (pos year) month) (omega (arith, signed_arith));
+    }
+
+clock_of_time : (hour minute second : ℕ) → IsTime (pos hour) (pos minute) (pos second) (pos 0)
+    → IsClock hour minute second
+clock_of_time hour minute second time =
     let (h1, h2) = time.0 in
     let (i1, i2) = time.1 in
     let (s1, s2) = time.2 in
     record {
-      years = (low, high);
-      months = (omega (arith, signed_arith), omega (arith, signed_arith));
-      days = (omega (arith, signed_arith), omega (arith, signed_arith));
-      times = (omega (arith, signed_arith), omega (arith, signed_arith), omega (arith, signed_arith));
+      hours = lt→ltb hour 24 (omega (arith, signed_arith));
+      minutes = lt→ltb minute 60 (omega (arith, signed_arith));
+      seconds = lt→ltb second 60 (omega (arith, signed_arith));
     }
 
 same_pos : (a b : ℕ) → pos a ≡ pos b → a ≡ b
 same_pos a b e = omega (arith, signed_arith)
+
+-- the seconds from 1970-01-01T00:00:00 to a time of a day
+abbrev seconds_to : ℕ → ℕ → ℕ → ℕ → ℕ → ℕ → ℤ
+seconds_to year month day hour minute second =
+    days_from_civil (pos year) month day *ℤ pos 86_400 +ℤ pos (hour * 3600 + minute * 60 + second)
 
 -- the nanoseconds of a date and a time with these numbers
 nanos_are : (dt : DateTime) (year month day hour minute second : ℕ) → IsYmd (pos year) (pos month) (pos day) dt.date
@@ -220,62 +265,53 @@ nanos_are dt year month day hour minute second ymd hms =
         ≡ (y *ℤ pos 86_400 +ℤ pos (hour * 3600 + minute * 60 + second)) *ℤ pos 1_000_000_000
     nanos_sum x y h i s n hour minute second a b c d e = omega (arith, signed_arith)
 
-if_true : (t : Bool) (x : Option ℤ) → t ≡ true → (if t then x else None) ≡ x
-if_true true x e = refl
-if_true false x e = absurd (false≢true e)
-
-if_false : (t : Bool) (x : Option ℤ) → t ≡ false → (if t then x else None) ≡ None
-if_false true x e = absurd (false≢true (sym e))
-if_false false x e = refl
-
-pub moment_made : (r : Result DateTime Error) (year month day hour minute second : ℕ) → 1971 ≤ year → year ≤ 9998
+date_made : (r : Result DateTime Error) (year month day hour minute second : ℕ)
     → (IsOk r ↔ (IsDate (pos year) (pos month) (pos day) × IsTime (pos hour) (pos minute) (pos second) (pos 0)))
     → IfOk r (λ dt. IsYmd (pos year) (pos month) (pos day) dt.date
     × IsHms (pos hour) (pos minute) (pos second) (pos 0) dt.time)
-    → option_map civil_nanos (result_ok r) ≡ moment_if year month day hour minute second
-moment_made (Ok dt) year month day hour minute second low high succeeds value =
+    → result_ok r ≡ date_if year month day hour minute second
+date_made (Ok dt) year month day hour minute second succeeds value =
     let is = succeeds.0 refl in
-    let w = of_calendar year month day hour minute second low high is.0 is.1 in
-    ap Some (nanos_are dt year month day hour minute second value.0 value.1)
-    ∙ sym (if_true (is_moment year month day hour minute second)
-    (Some (seconds_to year month day hour minute second *ℤ pos 1_000_000_000))
-    (within_tested year month day (days_in_month (pos year) month) hour minute second w))
-moment_made (Err e) year month day hour minute second low high succeeds value =
-    sym (if_false (is_moment year month day hour minute second)
-    (Some (seconds_to year month day hour minute second *ℤ pos 1_000_000_000))
-    (⊎_elim (λ (t : is_moment year month day hour minute second ≡ true).
-    absurd (false≢true (succeeds.1 (in_calendar year month day hour minute second
-    (tested_within year month day (days_in_month (pos year) month) hour minute second t)))))
-    (λ (f : is_moment year month day hour minute second ≡ false). f)
-    (cases_Bool (is_moment year month day hour minute second))))
+    let on = day_of_calendar year month day is.0 in
+    let at = clock_of_time hour minute second is.1 in
+    let made : DateTime = record { date = the_day year month day on; time = the_clock hour minute second at } in
+    let same = same_datetime dt made (nanos_are dt year month day hour minute second value.0 value.1
+    ∙ sym (nanos_are made year month day hour minute second (refl, refl, refl) (refl, refl, refl, refl))) in
+    let yes : date_if year month day hour minute second ≡ Some made =
+    (λ i. together (day_yes year month day on i) (clock_yes hour minute second at i)) in
+    ap Some same ∙ sym yes
+date_made (Err e) year month day hour minute second succeeds value =
+    sym (none (date_if year month day hour minute second) refl)
+  where
+    none : (o : Option DateTime) → date_if year month day hour minute second ≡ o → o ≡ None
+    none None e = refl
+    none (Some d) e =
+        let p = together_some (day_if year month day) (clock_if hour minute second) d e in
+        absurd (false≢true (succeeds.1 (in_calendar year month day hour minute second
+        (day_some year month day p.0 p.2) (clock_some hour minute second p.1 p.3))))
 
-pub too_early : (year month day hour minute second : ℕ) → year < 1971
-    → None ≡ moment_if year month day hour minute second
-too_early year month day hour minute second h =
-    sym (if_false (is_moment year month day hour minute second) _
-    (⊎_elim (λ (t : is_moment year month day hour minute second ≡ true).
-    absurd (omega (
-      arith,
-      h,
-      (tested_within year month day (days_in_month (pos year) month) hour minute second
-          t).years.0,
-    )))
-    (λ (f : is_moment year month day hour minute second ≡ false). f)
-    (cases_Bool (is_moment year month day hour minute second))))
+abbrev Six : Type 0
+Six = ℤ × ℤ × ℤ × ℤ × ℤ × ℤ
 
-pub too_late : (year month day hour minute second : ℕ) → 9998 < year
-    → None ≡ moment_if year month day hour minute second
-too_late year month day hour minute second h =
-    sym (if_false (is_moment year month day hour minute second) _
-    (⊎_elim (λ (t : is_moment year month day hour minute second ≡ true).
-    absurd (omega (
-      arith,
-      h,
-      (tested_within year month day (days_in_month (pos year) month) hour minute second
-          t).years.1,
-    )))
-    (λ (f : is_moment year month day hour minute second ≡ false). f)
-    (cases_Bool (is_moment year month day hour minute second))))
+-- the same of the signed numbers that the call takes
+pub date_cast : (r : Result DateTime Error) (y mo d h mi s : ℤ) (year month day hour minute second : ℕ) → y ≡ pos year
+    → mo ≡ pos month → d ≡ pos day → h ≡ pos hour → mi ≡ pos minute → s ≡ pos second
+    → (IsOk r ↔ (IsDate y mo d × IsTime h mi s (pos 0)))
+    → IfOk r (λ dt. IsYmd y mo d dt.date × IsHms h mi s (pos 0) dt.time)
+    → result_ok r ≡ date_if year month day hour minute second
+date_cast r y mo d h mi s year month day hour minute second e1 e2 e3 e4 e5 e6 succeeds value =
+    date_made r year month day hour minute second
+    (subst (λ (t : Six). IsOk r ↔ (IsDate t.0 t.1 t.2 × IsTime t.3 t.4 t.5 (pos 0)))
+    (λ i. (e1 i, e2 i, e3 i, e4 i, e5 i, e6 i)) succeeds)
+    (subst (λ (t : Six). IfOk r (λ dt. IsYmd t.0 t.1 t.2 dt.date × IsHms t.3 t.4 t.5 (pos 0) dt.time))
+    (λ i. (e1 i, e2 i, e3 i, e4 i, e5 i, e6 i)) value)
+
+-- what was made has no fraction
+pub date_whole : (r : Result DateTime Error) (y mo d h mi s : ℤ)
+    → IfOk r (λ dt. IsYmd y mo d dt.date × IsHms h mi s (pos 0) dt.time)
+    → IfSome (result_ok r) (λ dt. dt.time.subsec_nanosecond ≡ 0)
+date_whole (Ok dt) y mo d h mi s value = same_pos dt.time.subsec_nanosecond 0 value.1.3
+date_whole (Err e) y mo d h mi s value = tt
 
 pub number_grows : (n d i : ℕ) → n < 10 ^ i → d ≤ 9 → n * 10 + d < 10 ^ (i + 1)
 number_grows n d i h small = let e : 10 ^ (i + 1) ≡ 10 ^ i * 10 = power i in omega (arith, h, small, e)
@@ -283,29 +319,32 @@ number_grows n d i h small = let e : 10 ^ (i + 1) ≡ 10 ^ i * 10 = power i in o
     power : (i : ℕ) → 10 ^ (i + 1) ≡ 10 ^ i * 10
     power i = ap (λ n. 10 ^ n) (add-one i) ∙ omega arith
 
-abbrev Six : Type 0
-Six = ℤ × ℤ × ℤ × ℤ × ℤ × ℤ
+if_true : {A : Type 0} (t : Bool) (x : Option A) → t ≡ true → (if t then x else None) ≡ x
+if_true true x e = refl
+if_true false x e = absurd (false≢true e)
 
--- the same of the signed numbers that the call takes
-pub moment_cast : (r : Result DateTime Error) (y mo d h mi s : ℤ) (year month day hour minute second : ℕ) → y ≡ pos year
-    → mo ≡ pos month → d ≡ pos day → h ≡ pos hour → mi ≡ pos minute → s ≡ pos second
-    → 1971 ≤ year → year ≤ 9998
-    → (IsOk r ↔ (IsDate y mo d × IsTime h mi s (pos 0)))
-    → IfOk r (λ dt. IsYmd y mo d dt.date × IsHms h mi s (pos 0) dt.time)
-    → option_map civil_nanos (result_ok r) ≡ moment_if year month day hour minute second
-moment_cast r y mo d h mi s year month day hour minute second e1 e2 e3 e4 e5 e6 low high succeeds value =
-    moment_made r year month day hour minute second low high
-    (subst (λ (t : Six). IsOk r ↔ (IsDate t.0 t.1 t.2 × IsTime t.3 t.4 t.5 (pos 0)))
-    (λ i. (e1 i, e2 i, e3 i, e4 i, e5 i, e6 i)) succeeds)
-    (subst (λ (t : Six). IfOk r (λ dt. IsYmd t.0 t.1 t.2 dt.date × IsHms t.3 t.4 t.5 (pos 0) dt.time))
-    (λ i. (e1 i, e2 i, e3 i, e4 i, e5 i, e6 i)) value)
-
-pub moment_is : (bytes text : List ℕ) (y mo d h mi s : ℕ) → bytes ≡ text → true ≡ has_shape bytes
+pub date_is : (bytes text : List ℕ) (y mo d h mi s : ℕ) → bytes ≡ text → true ≡ has_shape bytes
     → y ≡ number_at bytes 0 4 → mo ≡ number_at bytes 5 7 → d ≡ number_at bytes 8 10 → h ≡ number_at bytes 11 13
     → mi ≡ number_at bytes 14 16 → s ≡ number_at bytes 17 19
-    → moment_if y mo d h mi s ≡ moment_of text
-unfolding moment_of
-moment_is bytes text y mo d h mi s e shape e1 e2 e3 e4 e5 e6 =
-    (λ i. moment_if (e1 i) (e2 i) (e3 i) (e4 i) (e5 i) (e6 i))
-    ∙ (sym (if_true (has_shape bytes) (moment_if (number_at bytes 0 4) (number_at bytes 5 7) (number_at bytes 8 10)
-    (number_at bytes 11 13) (number_at bytes 14 16) (number_at bytes 17 19)) (sym shape)) ∙ ap moment_of e)
+    → date_if y mo d h mi s ≡ date_of text
+unfolding date_of
+date_is bytes text y mo d h mi s e shape e1 e2 e3 e4 e5 e6 =
+    (λ i. date_if (e1 i) (e2 i) (e3 i) (e4 i) (e5 i) (e6 i))
+    ∙ (sym (if_true (has_shape bytes) (date_if (number_at bytes 0 4) (number_at bytes 5 7) (number_at bytes 8 10)
+    (number_at bytes 11 13) (number_at bytes 14 16) (number_at bytes 17 19)) (sym shape)) ∙ ap date_of e)
+
+-- ---- a moment
+
+last_of_1970 : days_from_civil (pos 1970) 12 31 ≡ pos 364
+unfolding days_from_civil day_count days_of_years days_of_months
+last_of_1970 = refl
+
+-- a date of 1971 or later is no earlier than that year's beginning
+pub late_enough : (d : DateTime) → pos 1971 ≤ℤ d.date.year → pos (second_1971 * 1_000_000_000) ≤ℤ civil_nanos d
+unfolding days_from_civil
+late_enough d h =
+    let before = day_count-lt_year (pos 1970) 12 31 d.date.year d.date.month d.date.day
+    ((omega (arith, signed_arith), omega (arith, signed_arith)), (omega arith, omega arith), (omega arith, omega arith))
+    (civil d.date).2.0 (omega (arith, signed_arith)) in
+    let day : pos 365 ≤ℤ epoch_day d.date = omega (arith, signed_arith, before, last_of_1970) in
+    omega (arith, signed_arith, civil_nanos-parts d, day)

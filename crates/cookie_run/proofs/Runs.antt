@@ -3,30 +3,39 @@ use Rattle.std.proofs.lemmas.List.{take_more, take_all, take-append-drop}
 use Rattle.std.specs.Prelude.{IsErr, IsErrAnd, IfErr}
 use Rattle.cookie_run.specs.declared.step.Step.{Step}
 use Rattle.cookie_run.specs.Acts.{act_of, acts_of}
-use Rattle.std.proofs.Common.{◌≡◌, ℕ, ◌+◌, ◌<◌, ◌≤◌, length, take, drop, get_or, inl, inr, Result, Ok, Err, OnOk, OnErr}
+use Rattle.std.proofs.Common.{◌≡◌, ℕ, ℤ, ◌+◌, ◌<◌, ◌≤◌, length, take, drop, get_or, inl, inr, Result, Ok, Err, OnOk}
+use Rattle.std.proofs.Common.{OnErr}
 use Rattle.std.proofs.Common.{List, [], ◌∷◌, ◌++◌, sym, refl, ap, ◌∙◌, subst, append_assoc, zero, suc, arith}
-use Rattle.cookie_run.specs.Acts.{Act}
-use Rattle.cookie_run.specs.declared.row.Row.{Row}
+use Rattle.url.specs.Parts.{Parts}
+use Rattle.cookie_run.specs.Acts.{Act, Visits, Arrival}
+use Rattle.cookie_run.specs.Header.{IsHeader}
+use Rattle.publicsuffix.specs.Rules.{Rule}
+use Rattle.cookie_store.specs.Rows.{Row}
 use Rattle.cookie_run.specs.declared.step.Reading.{Reading}
 use Rattle.cookie_run.specs.declared.step.Command.{Command}
 use Rattle.cookie_text.specs.Record.{Seen}
 use Rattle.cookie_run.specs.declared.step.Way.{Way}
 use Rattle.cookie_run.specs.declared.step.Way.TheVariants.{Plain, Host, Secure, Signed, Sealed}
-use Rattle.cookie_run.specs.Jar.{Keyed, IsOpened, IsKeptAs, Sets, sent}
+use Rattle.cookie_run.specs.Jar.{Keyed, IsOpened, IsKeptAs, IsRemovalRefusal, Sets, sent}
 use Rattle.cookie_run.specs.Stops.{GoesOnBy}
 use Rattle.cookie_run.specs.Play.{Plays, OneStep, CommandTells, Tells, TellsFront, ServesAll, ServesFront, GetTells}
-use Rattle.cookie_run.specs.Play.{any_nonce}
+use Rattle.cookie_run.specs.Play.{any_nonce, ReadsAll, ReadsFront}
 use Rattle.cookie_run.specs.Readings.{all_told, MayRead}
-use Rattle.cookie_run.specs.declared.step.SessionError.TheVariants.{EmptyName, Rng}
+use Rattle.cookie_run.specs.declared.step.SessionError.{SessionError}
+use Rattle.cookie_run.specs.declared.step.SessionError.TheVariants.{EmptyName, Year, Rng}
 use Rattle.std.specs.List.{AllByRecursion}
+use Rattle.std.proofs.Common.{Bool, true, false, cond, Some, None}
+use Rattle.jiff.specs.Types.{DateTime}
+use Rattle.cookie_text.specs.Normal.{is_short_year}
 
-pub plays_more : (key : List ℕ) (rows mid new : List Row) (acts : List Act) (told : List (List Reading)) (act : Act)
-    (t : List Reading) → Plays key rows acts told mid → OneStep key mid act t new
-    → Plays key rows (acts ++ act ∷ []) (told ++ t ∷ []) new
-plays_more key rows mid new [] [] act t p s = (new, subst (λ rs. OneStep key rs act t new) p s, refl)
-plays_more key rows mid new [] (u ∷ us) act t p s = absurd p
-plays_more key rows mid new (a ∷ acts) [] act t p s = absurd p
-plays_more key rows mid new (a ∷ acts) (u ∷ us) act t p s = (p.0, p.1, plays_more key p.0 mid new acts us act t p.2 s)
+pub plays_more : (list : List Rule) (key : List ℕ) (rows mid new : List Row) (acts : List Act)
+    (told : List (List Reading)) (act : Act) (t : List Reading) → Plays list key rows acts told mid → OneStep list key mid act t new
+    → Plays list key rows (acts ++ act ∷ []) (told ++ t ∷ []) new
+plays_more list key rows mid new [] [] act t p s = (new, subst (λ rs. OneStep list key rs act t new) p s, refl)
+plays_more list key rows mid new [] (u ∷ us) act t p s = absurd p
+plays_more list key rows mid new (a ∷ acts) [] act t p s = absurd p
+plays_more list key rows mid new (a ∷ acts) (u ∷ us) act t p s = 
+    (p.0, p.1, plays_more list key p.0 mid new acts us act t p.2 s)
 
 pub told_more : (told : List (List Reading)) (t : List Reading) → all_told (told ++ t ∷ []) ≡ all_told told ++ t
 told_more [] t = append_nil t
@@ -45,18 +54,21 @@ pub acts_more : (steps : List Step) (i : ℕ) (s : Step) → i < length steps �
 acts_more steps i s h is = ap acts_of (take_more steps i s h)
     ∙ (acts_append (take i steps) (get_or steps i s ∷ []) ∙ ap (λ x. acts_of (take i steps) ++ act_of x ∷ []) (sym is))
 
-pub run_more : (key : List ℕ) (rows mid new : List Row) (steps : List Step) (i : ℕ) (s : Step)
+pub run_more : (list : List Rule) (key : List ℕ) (rows mid new : List Row) (steps : List Step) (i : ℕ) (s : Step)
     (start now later : List Reading) → i < length steps → s ≡ get_or steps i s →
-    ((told : List (List Reading)) × (now ≡ start ++ all_told told) × Plays key rows (acts_of (take i steps)) told mid)
-    → ((t : List Reading) × (later ≡ now ++ t) × OneStep key mid (act_of s) t new) →
+    ((told : List (List Reading)) × (now ≡ start ++ all_told told)
+    × Plays list key rows (acts_of (take i steps)) told mid)
+    → (here : List Rule) → here ≡ list
+    → ((t : List Reading) × (later ≡ now ++ t) × OneStep here key mid (act_of s) t new) →
     (told : List (List Reading)) × (later ≡ start ++ all_told told)
-    × Plays key rows (acts_of (take (i + 1) steps)) told new
-run_more key rows mid new steps i s start now later h is run step = (
+    × Plays list key rows (acts_of (take (i + 1) steps)) told new
+run_more list key rows mid new steps i s start now later h is run here same step = (
   run.0 ++ step.0 ∷ [],
   step.1 ∙ (ap (λ x. x ++ step.0) run.1 ∙ (append_assoc start (all_told run.0) step.0
       ∙ ap (λ x. start ++ x) (sym (told_more run.0 step.0)))),
-  subst (λ acts. Plays key rows acts (run.0 ++ step.0 ∷ []) new) (sym (acts_more steps i s h is))
-      (plays_more key rows mid new (acts_of (take i steps)) run.0 (act_of s) step.0 run.2 step.2),
+  subst (λ acts. Plays list key rows acts (run.0 ++ step.0 ∷ []) new) (sym (acts_more steps i s h is))
+      (plays_more list key rows mid new (acts_of (take i steps)) run.0 (act_of s) step.0 run.2
+      (subst (λ l. OneStep l key mid (act_of s) step.0 new) same step.2)),
 )
 
 pub on_ok : {A E : Type 0} (r : Result A E) (P Q : Type 0) → (P → Q) → OnOk r P → OnOk r Q
@@ -79,58 +91,61 @@ readings_nil (x ∷ xs) = ap (λ ys. x ∷ ys) (readings_nil xs)
 
 -- ---- one more command
 
-pub tells_more : (s mid new : Keyed) (cs : List Command) (c : Command) (told t : List Reading) → Tells s cs told mid
-    → CommandTells mid c t new → Tells s (cs ++ c ∷ []) (told ++ t) new
-tells_more s mid new [] c told t p one =
-    (t, [], new, subst (λ k. CommandTells k c t new) p.1 one, (refl, refl), ap (λ x. x ++ t) p.0 ∙ sym (readings_nil t))
-tells_more s mid new (d ∷ cs) c told t p one =
-    (p.0, p.1 ++ t, p.2, p.3, tells_more p.2 mid new cs c p.1 t p.4 one, ap (λ x. x ++ t) p.5 ∙ append_assoc p.0 p.1 t)
+pub tells_more : (s mid new : Keyed) (at : ℤ) (cs : List Command) (c : Command) (told t : List Reading)
+    → Tells s at cs told mid → CommandTells mid at c t new → Tells s at (cs ++ c ∷ []) (told ++ t) new
+tells_more s mid new at [] c told t p one =
+    let first = subst (λ k. CommandTells k at c t new) p.1 one in
+    (t, [], new, first, (refl, refl), ap (λ x. x ++ t) p.0 ∙ sym (readings_nil t))
+tells_more s mid new at (d ∷ cs) c told t p one =
+    let rest = tells_more p.2 mid new at cs c p.1 t p.4 one in
+    (p.0, p.1 ++ t, p.2, p.3, rest, ap (λ x. x ++ t) p.5 ∙ append_assoc p.0 p.1 t)
 
 -- what was read by the first of the commands
-abbrev pub ToldBy : Keyed → List Command → ℕ → List Reading → List Reading → Keyed → Type 0
-ToldBy old cs i start now new = (told : List Reading) × (now ≡ start ++ told) × Tells old (take i cs) told new
+abbrev pub ToldBy : Keyed → ℤ → List Command → ℕ → List Reading → List Reading → Keyed → Type 0
+ToldBy old at cs i start now new = (told : List Reading) × (now ≡ start ++ told) × Tells old at (take i cs) told new
 
-pub told_next : (old mid new : Keyed) (cs : List Command) (i : ℕ) (c : Command) (start now later t : List Reading)
-    → i < length cs → c ≡ get_or cs i c → ToldBy old cs i start now mid → CommandTells mid c t new → later ≡ now ++ t
-    → ToldBy old cs (i + 1) start later new
-told_next old mid new cs i c start now later t h is so one e = (
+pub told_next : (old mid new : Keyed) (at : ℤ) (cs : List Command) (i : ℕ) (c : Command)
+    (start now later t : List Reading) → i < length cs → c ≡ get_or cs i c → ToldBy old at cs i start now mid
+    → CommandTells mid at c t new → later ≡ now ++ t
+    → ToldBy old at cs (i + 1) start later new
+told_next old mid new at cs i c start now later t h is so one e = (
   so.0 ++ t,
   e ∙ (ap (λ x. x ++ t) so.1 ∙ append_assoc start so.0 t),
-  subst (λ ds. Tells old ds (so.0 ++ t) new) (sym (take_more cs i c h ∙ ap (λ d. take i cs ++ d ∷ []) (sym is)))
-      (tells_more old mid new (take i cs) c so.0 t so.2 one),
+  subst (λ ds. Tells old at ds (so.0 ++ t) new) (sym (take_more cs i c h ∙ ap (λ d. take i cs ++ d ∷ []) (sym is)))
+      (tells_more old mid new at (take i cs) c so.0 t so.2 one),
 )
 
-pub told_all : (old new : Keyed) (cs : List Command) (i : ℕ) (start now : List Reading) → length cs ≤ i
-    → ToldBy old cs i start now new → (told : List Reading) × (now ≡ start ++ told) × Tells old cs told new
-told_all old new cs i start now h so = (so.0, so.1, subst (λ ds. Tells old ds so.0 new) (take_all i cs h) so.2)
+pub told_all : (old new : Keyed) (at : ℤ) (cs : List Command) (i : ℕ) (start now : List Reading) → length cs ≤ i
+    → ToldBy old at cs i start now new → (told : List Reading) × (now ≡ start ++ told) × Tells old at cs told new
+told_all old new at cs i start now h so = (so.0, so.1, subst (λ ds. Tells old at ds so.0 new) (take_all i cs h) so.2)
 
-pub told_front : (old mid : Keyed) (cs : List Command) (i : ℕ) (start now later : List Reading)
-    → ToldBy old cs i start now mid → later ≡ now → GoesOnBy start (TellsFront old cs) later
-told_front old mid cs i start now later so e = (
+pub told_front : (old mid : Keyed) (at : ℤ) (cs : List Command) (i : ℕ) (start now later : List Reading)
+    → ToldBy old at cs i start now mid → later ≡ now → GoesOnBy start (TellsFront old at cs) later
+told_front old mid at cs i start now later so e = (
   so.0,
   (take i cs, drop i cs, sym (take-append-drop i cs), mid, so.2),
   e
       ∙ so.1,
 )
 
-pub told_first : (old : Keyed) (cs : List Command) (start : List Reading) → ToldBy old cs 0 start start old
-told_first old cs start = ([], sym (readings_nil start), (refl, refl))
+pub told_first : (old : Keyed) (at : ℤ) (cs : List Command) (start : List Reading) → ToldBy old at cs 0 start start old
+told_first old at cs start = ([], sym (readings_nil start), (refl, refl))
 
 -- a session that was opened serves so
-pub serves_front : (key header : List ℕ) (opened : Keyed) (cs : List Command) (old readings : List Reading)
-    → IsOpened key header opened → GoesOnBy old (TellsFront opened cs) readings
-    → GoesOnBy old (ServesFront key header cs) readings
-serves_front key header opened cs old readings is g = (
+pub serves_front : (key header : List ℕ) (opened : Keyed) (at : ℤ) (cs : List Command) (old readings : List Reading)
+    → IsOpened key header opened → GoesOnBy old (TellsFront opened at cs) readings
+    → GoesOnBy old (ServesFront key header at cs) readings
+serves_front key header opened at cs old readings is g = (
   g.0,
   inr
       (g.1.0, g.1.1, g.1.2, (g.1.3, (opened, is, g.1.4))),
   g.2,
 )
 
-pub serves_whole : (key header : List ℕ) (opened new : Keyed) (cs : List Command) (old readings : List Reading)
-    → IsOpened key header opened → ((told : List Reading) × (readings ≡ old ++ told) × Tells opened cs told new)
-    → GoesOnBy old (ServesFront key header cs) readings
-serves_whole key header opened new cs old readings is g = (
+pub serves_whole : (key header : List ℕ) (opened new : Keyed) (at : ℤ) (cs : List Command) (old readings : List Reading)
+    → IsOpened key header opened → ((told : List Reading) × (readings ≡ old ++ told) × Tells opened at cs told new)
+    → GoesOnBy old (ServesFront key header at cs) readings
+serves_whole key header opened new at cs old readings is g = (
   g.0,
   inr
       (cs, [], sym (commands_nil cs), (new, (opened, is, g.2))),
@@ -142,14 +157,32 @@ serves_whole key header opened new cs old readings is g = (
     commands_nil (d ∷ ds) = ap (λ x. d ∷ x) (commands_nil ds)
 
 -- no session was opened
-pub serves_none : (key header : List ℕ) (cs : List Command) (old readings : List Reading) → readings ≡ old
-    → GoesOnBy old (ServesFront key header cs) readings
-serves_none key header cs old readings e = ([], inl refl, e ∙ sym (readings_nil old))
+pub serves_none : (key header : List ℕ) (at : ℤ) (cs : List Command) (old readings : List Reading) → readings ≡ old
+    → GoesOnBy old (ServesFront key header at cs) readings
+serves_none key header at cs old readings e = ([], inl refl, e ∙ sym (readings_nil old))
 
-pub serves_all : (key header : List ℕ) (opened new : Keyed) (cs : List Command) (old readings : List Reading)
-    → IsOpened key header opened → ((told : List Reading) × (readings ≡ old ++ told) × Tells opened cs told new)
-    → GoesOnBy old (ServesAll key header cs) readings
-serves_all key header opened new cs old readings is g = (g.0, (new, (opened, is, g.2)), g.1)
+pub serves_all : (key header : List ℕ) (opened new : Keyed) (at : ℤ) (cs : List Command) (old readings : List Reading)
+    → IsOpened key header opened → ((told : List Reading) × (readings ≡ old ++ told) × Tells opened at cs told new)
+    → GoesOnBy old (ServesAll key header at cs) readings
+serves_all key header opened new at cs old readings is g = (g.0, (new, (opened, is, g.2)), g.1)
+
+-- so the act reads: nothing, where it hasn't read, by the first of its commands, and by all of them
+pub reads_none : (key : List ℕ) (rows : List Row) (url : Parts) (at : ℤ) (cs : List Command) (arrival : Arrival)
+    (old readings : List Reading) → readings ≡ old → GoesOnBy old (ReadsFront key rows (Visits url at cs arrival))
+    readings
+reads_none key rows url at cs arrival old readings e = ([], inl refl, e ∙ sym (readings_nil old))
+
+pub reads_front : (key header : List ℕ) (rows : List Row) (url : Parts) (at : ℤ) (cs : List Command)
+    (arrival : Arrival) (old readings : List Reading) → IsHeader rows url at header
+    → GoesOnBy old (ServesFront key header at cs) readings
+    → GoesOnBy old (ReadsFront key rows (Visits url at cs arrival)) readings
+reads_front key header rows url at cs arrival old readings is g = (g.0, inr (header, is, g.1), g.2)
+
+pub reads_all : (key header : List ℕ) (rows : List Row) (url : Parts) (at : ℤ) (cs : List Command)
+    (arrival : Arrival) (old readings : List Reading) → IsHeader rows url at header
+    → GoesOnBy old (ServesAll key header at cs) readings
+    → GoesOnBy old (ReadsAll key rows (Visits url at cs arrival)) readings
+reads_all key header rows url at cs arrival old readings is g = (g.0, (header, is, g.1), g.2)
 
 -- ---- what the generator tells
 
@@ -194,7 +227,26 @@ pub sets_any : (May : List ℕ → Type 0) (old : Keyed) (way : Way) (s : Seen) 
 sets_any May old way s new h = record {
   name = h.name;
   value = h.value;
+  age = h.age;
   accepted = h.accepted;
   key_is = h.key_is;
   keeps = (h.keeps.0, kept_any May old.key way (sent s) h.keeps.0 h.keeps.1, h.keeps.2);
 }
+
+-- ---- a removal
+
+-- a removal is never refused for a fill
+pub removal_fills : (name : List ℕ) (now : DateTime) (error : SessionError) → IsRemovalRefusal name now (Some error)
+    → error ≡ Rng → ⊥
+removal_fills [] now error is e = not_empty (some_same is.2 ∙ e)
+  where
+    some_same : {x y : SessionError} → Some x ≡ Some y → y ≡ x
+    some_same same = cc
+
+    not_empty : EmptyName ≡ Rng → ⊥
+    not_empty same = cc
+removal_fills (b ∷ bs) now error is e = year (is_short_year is.0.cookie.expires) (sym is.2 ∙ refl)
+  where
+    year : (short : Bool) → cond short (Some Year) None ≡ Some error → ⊥
+    year true same = cc
+    year false same = cc

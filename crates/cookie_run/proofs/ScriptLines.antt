@@ -1,6 +1,6 @@
 -- The lines of a text, and the fields of a line.
 use Rattle.std.proofs.Common.{◌≡◌, ℕ, zero, suc, ◌+◌, ◌-◌, ◌<◌, ◌≤◌, Bool, true, false, cond, ◌&&◌, List, [], ◌∷◌}
-use Rattle.std.proofs.Common.{length, take, drop, get_or, Option, Some, None, ℤ, Ok, sym, refl, ap, ◌∙◌, subst, ⊎_elim}
+use Rattle.std.proofs.Common.{length, take, drop, get_or, Option, Some, None, ℤ, Ok, Err, sym, refl, ap, ◌∙◌, subst, ⊎_elim}
 use Rattle.std.proofs.Common.{arith, All, drop_of_length-le}
 use Rattle.std.specs.Prelude.{map, ◌==◌, nat_lt, position, if◌then◌else◌}
 use Rattle.std.specs.List.{slice_split, position_or_len, list_all}
@@ -16,8 +16,12 @@ use Rattle.std.proofs.lemmas.List.Splits.{slice_split_first, slice_split_none, l
 use Rattle.percent_encoding.specs.Percent.{percent_decode}
 use denote.Ref.{Bor}
 use Rattle.url.specs.Parts.{Parts}
-use Rattle.cookie_run.specs.ScriptMoment.{moment_of}
-use Rattle.cookie_run.specs.ScriptLine.{url_of, placed, read_header, Heads}
+use Rattle.jiff.specs.Types.{DateTime}
+use Rattle.cookie_run.specs.ScriptMoment.{date_of, moment_of}
+use Rattle.cookie_run.specs.ScriptLine.{url_of, placed, read_header, Heads, read_set, for_way, way_of, with_end}
+use Rattle.cookie_run.specs.ScriptLine.{cookie_line, unless_dash, age_of}
+use Rattle.cookie_run.specs.declared.step.Way.{Way}
+use Rattle.cookie_run.specs.declared.script.cause.Cause.TheVariants.{Fields}
 
 pub not_utf8 : (bs : List ℕ) → ¬ (IsUtf8 bs) → is_utf8 bs ≡ false
 not_utf8 bs wrong = ⊎_elim (λ (e : is_utf8 bs ≡ true). absurd (wrong (IsUtf8-from_is_utf8 bs e)))
@@ -134,3 +138,36 @@ header_read [] d e url at low high u m = absurd (omega (arith, low))
 header_read (a ∷ []) d e url at low high u m = absurd (omega (arith, low))
 header_read (a ∷ b ∷ []) d e url at low high u m = λ i. placed Heads (u i) (m i)
 header_read (a ∷ b ∷ x ∷ more) d e url at low high u m = absurd (omega (arith, high))
+
+-- `set` with its five fields, and with another number of them
+pub set_read : (fields : List (Bor (List ℕ))) (d e f g h : Bor (List ℕ)) (way : Way) (age : Option ℤ)
+    (end : Option DateTime) → 5 ≤ length fields → length fields < 6
+    → way_of (get_or fields 0 d).now ≡ Some way → unless_dash age_of (get_or fields 3 g).now ≡ Some age
+    → unless_dash date_of (get_or fields 4 h).now ≡ Some end
+    → read_set (map (λ field. field.now) fields)
+    ≡ Ok (cookie_line way (get_or fields 1 e).now (get_or fields 2 f).now age end)
+set_read [] d e f g h way age end low high w a x = absurd (omega (arith, low))
+set_read (p ∷ []) d e f g h way age end low high w a x = absurd (omega (arith, low))
+set_read (p ∷ q ∷ []) d e f g h way age end low high w a x = absurd (omega (arith, low))
+set_read (p ∷ q ∷ r ∷ []) d e f g h way age end low high w a x = absurd (omega (arith, low))
+set_read (p ∷ q ∷ r ∷ s ∷ []) d e f g h way age end low high w a x = absurd (omega (arith, low))
+set_read (p ∷ q ∷ r ∷ s ∷ t ∷ []) d e f g h way age end low high w a x =
+    λ i. for_way (w i) (λ v. with_end (cookie_line v q.now r.now) (a i) (x i))
+set_read (p ∷ q ∷ r ∷ s ∷ t ∷ u ∷ more) d e f g h way age end low high w a x = absurd (omega (arith, high))
+
+pub set_few : (fields : List (Bor (List ℕ))) → length fields < 5 → read_set (map (λ field. field.now) fields) ≡ Err Fields
+set_few [] few = refl
+set_few (p ∷ []) few = refl
+set_few (p ∷ q ∷ []) few = refl
+set_few (p ∷ q ∷ r ∷ []) few = refl
+set_few (p ∷ q ∷ r ∷ s ∷ []) few = refl
+set_few (p ∷ q ∷ r ∷ s ∷ t ∷ more) few = absurd (omega (arith, few))
+
+pub set_many : (fields : List (Bor (List ℕ))) → 6 ≤ length fields → read_set (map (λ field. field.now) fields) ≡ Err Fields
+set_many [] many = absurd (omega (arith, many))
+set_many (p ∷ []) many = absurd (omega (arith, many))
+set_many (p ∷ q ∷ []) many = absurd (omega (arith, many))
+set_many (p ∷ q ∷ r ∷ []) many = absurd (omega (arith, many))
+set_many (p ∷ q ∷ r ∷ s ∷ []) many = absurd (omega (arith, many))
+set_many (p ∷ q ∷ r ∷ s ∷ t ∷ []) many = absurd (omega (arith, many))
+set_many (p ∷ q ∷ r ∷ s ∷ t ∷ u ∷ more) many = refl

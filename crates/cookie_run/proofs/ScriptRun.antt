@@ -9,7 +9,8 @@ use Rattle.cookie_run.specs.ScriptText.{Reached, begun, LeadsTo, after_line, Scr
 use Rattle.cookie_run.specs.ScriptText.{PrintsUntil, fault_text, Prints}
 use Rattle.cookie_run.specs.Standing.{Stands}
 use Rattle.cookie_run.specs.Program.{begins_at, program_key, IsScriptOf}
-use Rattle.cookie_run.specs.declared.row.Row.{Row}
+use Rattle.cookie_store.specs.Rows.{Row}
+use Rattle.publicsuffix.specs.Rules.{Rule}
 use Rattle.cookie_run.specs.declared.script.cause.Cause.{Cause}
 use Rattle.cookie_run.specs.declared.script.cause.Cause.TheVariants.{Memory}
 use Rattle.cookie_run.specs.declared.script.ended.Ended.{Ended}
@@ -21,20 +22,20 @@ use Rattle.cookie_run.specs.declared.script.visit.Visit.{Visit}
 use Rattle.cookie_run.proofs.Halting.{prints_all}
 
 -- how far the run has come: the lines done, where they led, and what was printed for them
-pub record Come (key : List ℕ) (start : List Row) (first : ℤ) (text rest : List ℕ) (rows : List Row) (last : ℤ)
+pub record Come (list : List Rule) (key : List ℕ) (start : List Row) (first : ℤ) (text rest : List ℕ) (rows : List Row) (last : ℤ)
     (visit : Option Visit) (done : ℕ) (old new : Option (List ℕ)) : Type 0 where
   pub r : Reached
   pub before : List (List ℕ)
   pub output : List ℕ
   pub leads : LeadsTo (begun first) before r
   pub whole : lines text ≡ before ++ lines rest
-  pub stands : Stands key start r rows last visit output
+  pub stands : Stands list key start r rows last visit output
   pub written : Appends old new output
   pub count : done ≡ length before
 
-pub come_first : (key : List ℕ) (start : List Row) (first : ℤ) (text : List ℕ) (w : Option (List ℕ))
-    → Come key start first text text start first None 0 w w
-come_first key start first text w = record {
+pub come_first : (list : List Rule) (key : List ℕ) (start : List Row) (first : ℤ) (text : List ℕ) (w : Option (List ℕ))
+    → Come list key start first text text start first None 0 w w
+come_first list key start first text w = record {
   r = begun first;
   before = [];
   output = [];
@@ -50,14 +51,14 @@ leads_more : (start : Reached) (before : List (List ℕ)) (r next : Reached) (li
 leads_more start [] r next line h e = (next, subst (λ s. after_line s line ≡ Ok next) h e, refl)
 leads_more start (l ∷ before) r next line h e = (h.0, h.1, leads_more h.0 before r next line h.2 e)
 
-pub come_more : (key : List ℕ) (start : List Row) (first : ℤ) (text rest line more : List ℕ) (rows new_rows : List Row)
+pub come_more : (list : List Rule) (key : List ℕ) (start : List Row) (first : ℤ) (text rest line more : List ℕ) (rows new_rows : List Row)
     (last new_last : ℤ) (visit new_visit : Option Visit) (done : ℕ) (old mid new : Option (List ℕ)) (printed : List ℕ)
-    → (come : Come key start first text rest rows last visit done old mid) → lines rest ≡ line ∷ lines more
-    → ((next : Reached) × (after_line come.r line ≡ Ok next) × Stands key start next new_rows new_last new_visit
+    → (come : Come list key start first text rest rows last visit done old mid) → lines rest ≡ line ∷ lines more
+    → ((next : Reached) × (after_line come.r line ≡ Ok next) × Stands list key start next new_rows new_last new_visit
     (come.output ++ printed))
     → Appends mid new printed
-    → Come key start first text more new_rows new_last new_visit (done + 1) old new
-come_more key start first text rest line more rows new_rows last new_last visit new_visit done old mid new printed come
+    → Come list key start first text more new_rows new_last new_visit (done + 1) old new
+come_more list key start first text rest line more rows new_rows last new_last visit new_visit done old mid new printed come
     cut goes written = record {
       r = goes.0;
       before = come.before ++ line ∷ [];
@@ -70,24 +71,24 @@ come_more key start first text rest line more rows new_rows last new_last visit 
     }
 
 -- what the text prints, and how it ends
-abbrev pub Ends : Type 0 → List ℕ → List Row → ℤ → List ℕ → Option (List ℕ) → Option (List ℕ) → List Row → ℤ → Ended
+abbrev pub Ends : Type 0 → List Rule → List ℕ → List Row → ℤ → List ℕ → Option (List ℕ) → Option (List ℕ) → List Row → ℤ → Ended
     → Type 0
-Ends Error key start first text old new rows last ended = (output : List ℕ) × Appends old new output
-    × (ScriptText Error key start first text output rows last ended
-    ⊎ EndsForMemory key start first text output rows last ended)
+Ends Error list key start first text old new rows last ended = (output : List ℕ) × Appends old new output
+    × (ScriptText Error list key start first text output rows last ended
+    ⊎ EndsForMemory list key start first text output rows last ended)
 
-pub come_whole : (Error : Type 0) (key : List ℕ) (start : List Row) (first : ℤ) (text rest : List ℕ) (rows : List Row)
+pub come_whole : (Error : Type 0) (list : List Rule) (key : List ℕ) (start : List Row) (first : ℤ) (text rest : List ℕ) (rows : List Row)
     (last : ℤ) (visit : Option Visit) (done : ℕ) (old new : Option (List ℕ))
-    → Come key start first text rest rows last visit done old new → rest ≡ []
-    → Ends Error key start first text old new rows last Whole
-come_whole Error key start first text rest rows last visit done old new come e =
+    → Come list key start first text rest rows last visit done old new → rest ≡ []
+    → Ends Error list key start first text old new rows last Whole
+come_whole Error list key start first text rest rows last visit done old new come e =
     let all : lines text ≡ come.before = come.whole ∙ (ap (λ x. come.before ++ lines x) e ∙ append-nil come.before) in (
       come.output,
       come.written,
       inl (record {
         r = come.r;
         leads = subst (λ ls. LeadsTo (begun first) ls come.r) (sym all) come.leads;
-        prints = prints_all key start rows come.r last visit come.output come.stands;
+        prints = prints_all list key start rows come.r last visit come.output come.stands;
         moment = come.stands.moment;
       }),
     )
@@ -95,15 +96,15 @@ come_whole Error key start first text rest rows last visit done old new come e =
 no_length : (line : List ℕ) → 0 < length line → line ≡ [] → ⊥
 no_length line some empty = let none = ap length empty in omega arith
 
-pub come_fault : (Error : Type 0) (key : List ℕ) (start : List Row) (first : ℤ) (text rest line more : List ℕ)
+pub come_fault : (Error : Type 0) (list : List Rule) (key : List ℕ) (start : List Row) (first : ℤ) (text rest line more : List ℕ)
     (rows new_rows : List Row) (last new_last : ℤ) (visit : Option Visit) (done : ℕ) (old mid new : Option (List ℕ))
     (cause : Cause)
-    → (come : Come key start first text rest rows last visit done old mid) → lines rest ≡ line ∷ lines more
+    → (come : Come list key start first text rest rows last visit done old mid) → lines rest ≡ line ∷ lines more
     → (HasFault Error come.r (after_line come.r line) cause × (new_rows ≡ rows))
-    ⊎ ((cause ≡ Memory) × PrintsUntil key start come.r (after_line come.r line) come.output new_rows)
+    ⊎ ((cause ≡ Memory) × PrintsUntil list key start come.r (after_line come.r line) come.output new_rows)
     → 0 < length line → new_last ≡ last → Appends mid new (fault_text (done + 1) cause)
-    → Ends Error key start first text old new new_rows new_last (Faulty (done + 1))
-come_fault Error key start first text rest line more rows new_rows last new_last visit done old mid new cause come cut
+    → Ends Error list key start first text old new new_rows new_last (Faulty (done + 1))
+come_fault Error list key start first text rest line more rows new_rows last new_last visit done old mid new cause come cut
     (inl fault) some kept written = (
       come.output ++ fault_text (done + 1) cause,
       Appends-trans old mid new come.output _ come.written written,
@@ -120,13 +121,13 @@ come_fault Error key start first text rest line more rows new_rows last new_last
         };
         leads = come.leads;
         fault = fault.0;
-        prints = subst (Prints key start come.r come.output) (sym fault.1)
-            (prints_all key start rows come.r last visit come.output come.stands);
+        prints = subst (Prints list key start come.r come.output) (sym fault.1)
+            (prints_all list key start rows come.r last visit come.output come.stands);
         text = refl;
         moment = kept ∙ come.stands.moment;
       }),
     )
-come_fault Error key start first text rest line more rows new_rows last new_last visit done old mid new cause come cut
+come_fault Error list key start first text rest line more rows new_rows last new_last visit done old mid new cause come cut
     (inr half) some kept written = (
       come.output ++ fault_text (done + 1) cause,
       Appends-trans old mid new come.output _ come.written written,
@@ -150,10 +151,10 @@ come_fault Error key start first text rest line more rows new_rows last new_last
 
 -- ---- where memory is refused while the text is read
 
-pub memory_first : (Error : Type 0) (key : List ℕ) (start : List Row) (first : ℤ) (text : List ℕ)
+pub memory_first : (Error : Type 0) (list : List Rule) (key : List ℕ) (start : List Row) (first : ℤ) (text : List ℕ)
     (old new : Option (List ℕ)) → 0 < length text → Appends old new (fault_text 1 Memory)
-    → Ends Error key start first text old new start first (Faulty 1)
-memory_first Error key start first text old new some written =
+    → Ends Error list key start first text old new start first (Faulty 1)
+memory_first Error list key start first text old new some written =
     let l = lines_some text some in (
       fault_text 1 Memory,
       written,
@@ -205,12 +206,12 @@ only_write (Err x) P only e = absurd (read_write (sym only ∙ same x e))
 -- ---- the program
 
 -- a generator whose error type has no value doesn't fail
-runs_sure : (Error : Type 0) (key : List ℕ) (rows : List Row) (last : ℤ) (input output : List ℕ) (new : List Row)
+runs_sure : (Error : Type 0) (list : List Rule) (key : List ℕ) (rows : List Row) (last : ℤ) (input output : List ℕ) (new : List Row)
     (end : ℤ) (ended : Ended)
-    → (Error → ⊥) → Runs Error key rows last input output new end ended
-    → Runs ⊥ key rows last input output new end ended
-runs_sure Error key rows last input output new end Whole never (inl s) = inl s
-runs_sure Error key rows last input output new end (Faulty n) never (inl s) = inl (record {
+    → (Error → ⊥) → Runs Error list key rows last input output new end ended
+    → Runs ⊥ list key rows last input output new end ended
+runs_sure Error list key rows last input output new end Whole never (inl s) = inl s
+runs_sure Error list key rows last input output new end (Faulty n) never (inl s) = inl (record {
   r = s.r;
   before = s.before;
   line = s.line;
@@ -228,19 +229,21 @@ runs_sure Error key rows last input output new end (Faulty n) never (inl s) = in
         → HasFault ⊥ r led cause
     fault_sure r led cause (inl own) = inl own
     fault_sure r led cause (inr failed) = absurd (never failed.1)
-runs_sure Error key rows last input output new end Whole never (inr m) = inr m
-runs_sure Error key rows last input output new end (Faulty n) never (inr m) = inr m
+runs_sure Error list key rows last input output new end Whole never (inr m) = inr m
+runs_sure Error list key rows last input output new end (Faulty n) never (inr m) = inr m
 
--- a run from no rows and the program's first moment is a script's
-pub script_of : (Error : Type 0) (left old new : Option (List ℕ)) (key : List ℕ) (start rows : List Row)
-    (first last : ℤ) (ended same : Ended) → (Error → ⊥) → key ≡ program_key → start ≡ [] → first ≡ begins_at
-    → ended ≡ same
-    → IfSome left (λ input. Ends Error key start first input old new rows last ended)
+-- a run from no rows, no public suffix and the program's first moment is a script's
+pub script_of : (Error : Type 0) (left old new : Option (List ℕ)) (list : List Rule) (key : List ℕ)
+    (start rows : List Row) (first last : ℤ) (ended same : Ended) → (Error → ⊥) → list ≡ [] → key ≡ program_key
+    → start ≡ [] → first ≡ begins_at → ended ≡ same
+    → IfSome left (λ input. Ends Error list key start first input old new rows last ended)
     → IfSome left (λ input. (output : List ℕ) × Appends old new output × IsScriptOf input output same)
-script_of Error None old new key start rows first last ended same never with_key none begins is h = tt
-script_of Error (Some input) old new key start rows first last ended same never with_key none begins is h =
-    let from_key = subst (λ k. Ends Error k start first input old new rows last ended) with_key h in
-    let from_none = subst (λ s. Ends Error program_key s first input old new rows last ended) none from_key in
-    let from_first = subst (λ f. Ends Error program_key [] f input old new rows last ended) begins from_none in
-    let ends = subst (λ e. Ends Error program_key [] begins_at input old new rows last e) is from_first in
-    (ends.0, ends.1, (rows, last, runs_sure Error program_key [] begins_at input ends.0 rows last same never ends.2))
+script_of Error None old new list key start rows first last ended same never unlisted with_key none begins is h = tt
+script_of Error (Some input) old new list key start rows first last ended same never unlisted with_key none begins is
+    h =
+    let from_list = subst (λ l. Ends Error l key start first input old new rows last ended) unlisted h in
+    let from_key = subst (λ k. Ends Error [] k start first input old new rows last ended) with_key from_list in
+    let from_none = subst (λ s. Ends Error [] program_key s first input old new rows last ended) none from_key in
+    let from_first = subst (λ f. Ends Error [] program_key [] f input old new rows last ended) begins from_none in
+    let ends = subst (λ e. Ends Error [] program_key [] begins_at input old new rows last e) is from_first in
+    (ends.0, ends.1, (rows, last, runs_sure Error [] program_key [] begins_at input ends.0 rows last same never ends.2))

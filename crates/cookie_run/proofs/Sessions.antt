@@ -47,7 +47,8 @@ pub get_insert : {X : Type 0} (m : ByName X) (k : List ℕ) (c : X) (q : List �
 get_insert m k c q = get-insert nat_list_cmp_total m k c q ∙ ap (λ b. cond b (Some c) (finmap.get m q))
     (sym (texts_ties q k))
 
-pub get_remove : {X : Type 0} (m : ByName X) (k q : List ℕ) → finmap.get (finmap.remove m k) q ≡ cond (bytes_eq q k) None
+pub get_remove : {X : Type 0} (m : ByName X) (k q : List ℕ)
+    → finmap.get (finmap.remove m k) q ≡ cond (bytes_eq q k) None
     (finmap.get m q)
 get_remove m k q = get-remove nat_list_cmp_total m k q ∙ ap (λ b. cond b None (finmap.get m q)) (sym (texts_ties q k))
 
@@ -155,7 +156,8 @@ kept_readable May key Sealed s kept e k = subst (λ (x : Seen). IsReadable x.coo
 some_same : {A : Type 0} (c d : A) → Some c ≡ Some d → c ≡ d
 some_same c d e = cc
 
-pub changed_readable : (old : Jar) (n : List ℕ) (change : Change) → IsReadableJar old → IsReadable (cookie_in change).cookie
+pub changed_readable : (old : Jar) (n : List ℕ) (change : Change)
+    → IsReadableJar old → IsReadable (cookie_in change).cookie
     → IsReadableJar (record old { changes = finmap.insert old.changes n change })
 changed_readable old n change all one q other is =
     let found : cond (bytes_eq q n) (Some change) (finmap.get old.changes q) ≡ Some other = sym

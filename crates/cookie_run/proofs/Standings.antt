@@ -7,8 +7,12 @@ use Rattle.std.specs.Str.{bytes_eq}
 use Rattle.url.specs.Parts.{Parts}
 use Rattle.cookie_text.specs.Record.{Seen}
 use Rattle.cookie_run.specs.declared.step.SessionError.TheVariants as refusals
-use Rattle.cookie_run.specs.Jar.{Keyed, ClosesWith, IsOpened, ReadsIn, Sets}
-use Rattle.cookie_run.specs.Rows.{given, header_of, Takes}
+use Rattle.cookie_run.specs.Jar.{Keyed, ClosesWith, IsOpened, ReadsIn, Sets, TakesOut, IsRemovalRefusal}
+use Rattle.jiff.specs.Types.{DateTime}
+use Rattle.jiff.specs.Words.{civil_nanos}
+use Rattle.cookie_run.specs.declared.script.moment.Moment.{Moment}
+use Rattle.cookie_run.specs.Accept.{Takes}
+use Rattle.cookie_run.specs.Header.{IsHeader}
 use Rattle.cookie_run.specs.Acts.{Act, Visits, Answers, Asks, Arrives, Never}
 use Rattle.cookie_run.specs.Play.{Plays, OneStep, CommandTells, GetTells}
 use Rattle.cookie_run.specs.Readings.{all_told}
@@ -16,10 +20,11 @@ use Rattle.cookie_run.specs.ScriptLine as spec
 use Rattle.cookie_run.specs.ScriptText.{Now, Closed, Within, Reached, IsAnswered, obeyed, command_refusal}
 use Rattle.cookie_run.specs.ScriptText.{unless_refused, readings_text, reading_text}
 use Rattle.cookie_run.specs.Standing.{Stands, IsOpen}
-use Rattle.cookie_run.specs.declared.row.Row.{Row}
+use Rattle.cookie_store.specs.Rows.{Row}
+use Rattle.publicsuffix.specs.Rules.{Rule}
 use Rattle.cookie_run.specs.declared.step.Way.{Way}
 use Rattle.cookie_run.specs.declared.step.Command.{Command}
-use Rattle.cookie_run.specs.declared.step.Command.TheVariants.{Set, Get}
+use Rattle.cookie_run.specs.declared.step.Command.TheVariants.{Set, Remove, Get}
 use Rattle.cookie_run.specs.declared.step.Reading.{Reading}
 use Rattle.cookie_run.specs.declared.step.Reading.TheVariants.{Value, Header}
 use Rattle.cookie_run.specs.declared.script.cause.Cause.{Cause}
@@ -81,63 +86,69 @@ get_tells session way (b ∷ bs) value h reads = (value, refl, reads)
 -- ---- the lines
 
 -- where a line leads, and that the run stands there
-abbrev pub LeadsOn : List ℕ → List Row → Result Reached Cause → List Row → ℤ → Option Visit → List ℕ → Type 0
-LeadsOn key start led rows last visit output = (next : Reached) × (led ≡ Ok next)
-    × Stands key start next rows last visit output
+abbrev pub LeadsOn : List Rule → List ℕ → List Row → Result Reached Cause → List Row → ℤ → Option Visit → List ℕ → Type 0
+LeadsOn list key start led rows last visit output = (next : Reached) × (led ≡ Ok next)
+    × Stands list key start next rows last visit output
 
 -- `open`
-begin_at : (key : List ℕ) (start rows : List Row) (acts : List Act) (m : ℤ) (now : Now) (visit : Option Visit)
-    (told : List (List Reading)) (front : List Reading) (output text : List ℕ) (url : Parts) (at new_last : ℤ)
-    (session : Keyed)
-    → Plays key start acts told rows → IsOpen key rows now visit front
+begin_at : (list : List Rule) (key : List ℕ) (start rows : List Row) (acts : List Act) (m : ℤ) (now : Now)
+    (visit : Option Visit) (told : List (List Reading)) (front : List Reading) (output text : List ℕ) (url : Parts)
+    (at : Moment) (new_last : ℤ) (header : List ℕ) (session : Keyed)
+    → Plays list key start acts told rows → IsOpen key rows now visit front
     → AllByRecursion IsAnswered (all_told told ++ front) → output ≡ readings_text (all_told told ++ front)
-    → is_some visit ≡ false → IsOpened key (header_of (given rows url)) session → text ≡ [] → new_last ≡ at
-    → LeadsOn key start (obeyed acts m now (spec.Opens url at)) rows new_last
-    (Some (record { url = url; session = session })) (output ++ text)
-begin_at key start rows acts m Closed None told front output text url at new_last session plays is_open answered prints
-    none opened empty moment = (
-      record { acts = acts; now = Within url at []; last = at },
+    → is_some visit ≡ false → IsHeader rows url (civil_nanos at.date) header → IsOpened key header session → text ≡ []
+    → new_last ≡ civil_nanos at.date
+    → LeadsOn list key start (obeyed acts m now (spec.Opens url (civil_nanos at.date))) rows new_last
+    (Some (record { url = url; at = at; session = session })) (output ++ text)
+begin_at list key start rows acts m Closed None told front output text url at new_last header session plays is_open
+    answered prints none head opened empty moment = (
+      record { acts = acts; now = Within url (civil_nanos at.date) []; last = civil_nanos at.date },
       refl,
       record {
         told = told;
         front = front;
         plays = plays;
-        is_open = (refl, (session, opened, (is_open, refl)));
+        is_open = (refl, refl, (header, head, (session, opened, (is_open, refl))));
         answered = answered;
         prints = prints_none output text empty ∙ prints;
         moment = moment;
       },
     )
-begin_at key start rows acts m Closed (Some v) told front output text url at new_last session plays is_open answered
-    prints none opened empty moment = absurd is_open
-begin_at key start rows acts m (Within u a cs) None told front output text url at new_last session plays is_open
-    answered prints none opened empty moment = absurd is_open
-begin_at key start rows acts m (Within u a cs) (Some v) told front output text url at new_last session plays is_open
-    answered prints none opened empty moment = absurd (true_false none)
+begin_at list key start rows acts m Closed (Some v) told front output text url at new_last header session plays is_open
+    answered prints none head opened empty moment = absurd is_open
+begin_at list key start rows acts m (Within u a cs) None told front output text url at new_last header session plays
+    is_open answered prints none head opened empty moment = absurd is_open
+begin_at list key start rows acts m (Within u a cs) (Some v) told front output text url at new_last header session plays
+    is_open answered prints none head opened empty moment = absurd (true_false none)
 
-pub begins : (key : List ℕ) (start rows : List Row) (r : Reached) (last : ℤ) (visit : Option Visit)
-    (output text : List ℕ) (url : Parts) (at new_last : ℤ) (session : Keyed) → Stands key start r rows last visit output
-    → is_some visit ≡ false → IsOpened key (header_of (given rows url)) session → text ≡ [] → new_last ≡ at
-    → LeadsOn key start (obeyed r.acts r.last r.now (spec.Opens url at)) rows new_last
-    (Some (record { url = url; session = session })) (output ++ text)
-begins key start rows r last visit output text url at new_last session s none opened empty moment =
-    begin_at key start rows r.acts r.last r.now visit s.told s.front output text url at new_last session s.plays
-    s.is_open s.answered s.prints none opened empty moment
+pub begins : (list : List Rule) (key : List ℕ) (start rows : List Row) (r : Reached) (last : ℤ) (visit : Option Visit)
+    (output text : List ℕ) (url : Parts) (at : Moment) (new_last : ℤ) (header : List ℕ) (session : Keyed)
+    → Stands list key start r rows last visit output
+    → is_some visit ≡ false → IsHeader rows url (civil_nanos at.date) header → IsOpened key header session → text ≡ []
+    → new_last ≡ civil_nanos at.date
+    → LeadsOn list key start (obeyed r.acts r.last r.now (spec.Opens url (civil_nanos at.date))) rows new_last
+    (Some (record { url = url; at = at; session = session })) (output ++ text)
+begins list key start rows r last visit output text url at new_last header session s none head opened empty moment =
+    begin_at list key start rows r.acts r.last r.now visit s.told s.front output text url at new_last header session
+    s.plays s.is_open s.answered s.prints none head opened empty moment
 
 -- a command: the session is the one after it, and its readings are printed
-command_at : (key : List ℕ) (start rows : List Row) (acts : List Act) (m : ℤ) (now : Now) (v w : Visit)
-    (told : List (List Reading)) (front t : List Reading) (output text : List ℕ) (last : ℤ) (command : Command)
-    → Plays key start acts told rows → IsOpen key rows now (Some v) front
+command_at : (list : List Rule) (key : List ℕ) (start rows : List Row) (acts : List Act) (m : ℤ) (now : Now)
+    (v w : Visit) (told : List (List Reading)) (front t : List Reading) (output text : List ℕ) (last : ℤ)
+    (command : Command)
+    → Plays list key start acts told rows → IsOpen key rows now (Some v) front
     → AllByRecursion IsAnswered (all_told told ++ front) → output ≡ readings_text (all_told told ++ front) → last ≡ m
-    → command_refusal command ≡ None → w.url ≡ v.url → CommandTells v.session command t w.session
+    → command_refusal command ≡ None → w.url ≡ v.url → w.at ≡ v.at
+    → CommandTells v.session (civil_nanos v.at.date) command t w.session
     → AllByRecursion IsAnswered t → text ≡ readings_text t
-    → LeadsOn key start (obeyed acts m now (spec.Commands command)) rows last (Some w) (output ++ text)
-command_at key start rows acts m Closed v w told front t output text last command plays is_open answered prints moment
-    accepted same_url tells good shown = absurd is_open
-command_at key start rows acts m (Within url at cs) v w told front t output text last command plays is_open answered
-    prints moment accepted same_url tells good shown =
+    → LeadsOn list key start (obeyed acts m now (spec.Commands command)) rows last (Some w) (output ++ text)
+command_at list key start rows acts m Closed v w told front t output text last command plays is_open answered prints
+    moment accepted same_url same_at tells good shown = absurd is_open
+command_at list key start rows acts m (Within url at cs) v w told front t output text last command plays is_open
+    answered prints moment accepted same_url same_at tells good shown =
     let next : Reached = record { acts = acts; now = Within url at (cs ++ command ∷ []); last = m } in
-    let behind = append_assoc (all_told told) front t in (
+    let behind = append_assoc (all_told told) front t in
+    let told_at = subst (λ (x : ℤ). CommandTells v.session x command t w.session) is_open.1 tells in (
       next,
       ap (λ o. unless_refused o next) accepted,
       record {
@@ -146,11 +157,15 @@ command_at key start rows acts m (Within url at cs) v w told front t output text
         plays = plays;
         is_open = (
           same_url ∙ is_open.0,
+          ap (λ (x : Moment). civil_nanos x.date) same_at ∙ is_open.1,
           (
-            is_open.1.0,
-            is_open.1.1,
-            tells_more is_open.1.0 v.session w.session cs
-                command front t is_open.1.2 tells,
+            is_open.2.0,
+            is_open.2.1,
+            (
+              is_open.2.2.0,
+              is_open.2.2.1,
+              tells_more is_open.2.2.0 v.session w.session at cs command front t is_open.2.2.2 told_at,
+            ),
           ),
         );
         answered = subst (AllByRecursion IsAnswered) behind (answered_append (all_told told ++ front) t answered good);
@@ -159,47 +174,67 @@ command_at key start rows acts m (Within url at cs) v w told front t output text
       },
     )
 
-pub commands : (key : List ℕ) (start rows : List Row) (r : Reached) (last : ℤ) (visit : Option Visit) (v w : Visit)
-    (t : List Reading) (output text : List ℕ) (command : Command) → Stands key start r rows last visit output
-    → visit ≡ Some v → command_refusal command ≡ None → w.url ≡ v.url → CommandTells v.session command t w.session
+pub commands : (list : List Rule) (key : List ℕ) (start rows : List Row) (r : Reached) (last : ℤ) (visit : Option Visit)
+    (v w : Visit) (t : List Reading) (output text : List ℕ) (command : Command)
+    → Stands list key start r rows last visit output
+    → visit ≡ Some v → command_refusal command ≡ None → w.url ≡ v.url → w.at ≡ v.at
+    → CommandTells v.session (civil_nanos v.at.date) command t w.session
     → AllByRecursion IsAnswered t → text ≡ readings_text t
-    → LeadsOn key start (obeyed r.acts r.last r.now (spec.Commands command)) rows last (Some w) (output ++ text)
-commands key start rows r last visit v w t output text command s is accepted same_url tells good shown =
-    command_at key start rows r.acts r.last r.now v w s.told s.front t output text last command s.plays
-    (subst (λ o. IsOpen key rows r.now o s.front) is s.is_open) s.answered s.prints s.moment accepted same_url tells
-    good shown
+    → LeadsOn list key start (obeyed r.acts r.last r.now (spec.Commands command)) rows last (Some w) (output ++ text)
+commands list key start rows r last visit v w t output text command s is accepted same_url same_at tells good shown =
+    command_at list key start rows r.acts r.last r.now v w s.told s.front t output text last command s.plays
+    (subst (λ o. IsOpen key rows r.now o s.front) is s.is_open) s.answered s.prints s.moment accepted same_url same_at
+    tells good shown
 
-pub sets : (May : List ℕ → Type 0) (key : List ℕ) (start rows : List Row) (r : Reached) (last : ℤ)
+pub sets : (May : List ℕ → Type 0) (list : List Rule) (key : List ℕ) (start rows : List Row) (r : Reached) (last : ℤ)
     (visit : Option Visit) (v w : Visit) (output text : List ℕ) (way : Way) (c : Seen)
-    → Stands key start r rows last visit output
-    → visit ≡ Some v → w.url ≡ v.url → Sets May v.session way c w.session → text ≡ []
-    → LeadsOn key start (obeyed r.acts r.last r.now (spec.Commands (Set way c))) rows last (Some w) (output ++ text)
-sets May key start rows r last visit v w output text way c s is same_url set empty =
-    commands key start rows r last visit v w [] output text (Set way c) s is set.accepted same_url
+    → Stands list key start r rows last visit output
+    → visit ≡ Some v → w.url ≡ v.url → w.at ≡ v.at → Sets May v.session way c w.session → text ≡ []
+    → LeadsOn list key start (obeyed r.acts r.last r.now (spec.Commands (Set way c))) rows last (Some w) (output ++ text)
+sets May list key start rows r last visit v w output text way c s is same_url same_at set empty =
+    commands list key start rows r last visit v w [] output text (Set way c) s is set.accepted same_url same_at
     (inl (refl, sets_any May v.session way c w.session set)) tt empty
 
-pub gets : (key : List ℕ) (start rows : List Row) (r : Reached) (last : ℤ) (visit : Option Visit) (v : Visit)
+-- an accepted removal isn't of an empty name
+removal_named : (way : Way) (name : List ℕ) (now : DateTime) → IsRemovalRefusal name now None
+    → command_refusal (Remove way name) ≡ None
+removal_named way [] now accepted = absurd (none_some accepted.2)
+  where
+    none_some : None ≡ Some refusals.EmptyName → ⊥
+    none_some e = cc
+removal_named way (b ∷ bs) now accepted = refl
+
+pub removes : (list : List Rule) (key : List ℕ) (start rows : List Row) (r : Reached) (last : ℤ) (visit : Option Visit)
+    (v w : Visit) (output text : List ℕ) (way : Way) (name : List ℕ) → Stands list key start r rows last visit output
+    → visit ≡ Some v → w.url ≡ v.url → w.at ≡ v.at → TakesOut v.session way name v.at.date w.session → text ≡ []
+    → LeadsOn list key start (obeyed r.acts r.last r.now (spec.Commands (Remove way name))) rows last (Some w)
+    (output ++ text)
+removes list key start rows r last visit v w output text way name s is same_url same_at takes empty =
+    commands list key start rows r last visit v w [] output text (Remove way name) s is
+    (removal_named way name v.at.date takes.accepted) same_url same_at (v.at.date, refl, inl (refl, takes)) tt empty
+
+pub gets : (list : List Rule) (key : List ℕ) (start rows : List Row) (r : Reached) (last : ℤ) (visit : Option Visit) (v : Visit)
     (output text : List ℕ) (way : Way) (name : List ℕ) (value : Option (List ℕ))
-    → Stands key start r rows last visit output
+    → Stands list key start r rows last visit output
     → visit ≡ Some v → name ≢ [] → ReadsIn v.session way name value → text ≡ reading_text (Value way name value)
-    → LeadsOn key start (obeyed r.acts r.last r.now (spec.Commands (Get way name))) rows last visit (output ++ text)
-gets key start rows r last visit v output text way name value s is not_empty reads shown =
-    subst (λ o. LeadsOn key start (obeyed r.acts r.last r.now (spec.Commands (Get way name))) rows last o
+    → LeadsOn list key start (obeyed r.acts r.last r.now (spec.Commands (Get way name))) rows last visit (output ++ text)
+gets list key start rows r last visit v output text way name value s is not_empty reads shown =
+    subst (λ o. LeadsOn list key start (obeyed r.acts r.last r.now (spec.Commands (Get way name))) rows last o
     (output ++ text)) (sym is)
-    (commands key start rows r last visit v v (Value way name value ∷ []) output text (Get way name) s is
-    (get_accepted way name not_empty) refl (get_tells v.session way name value not_empty reads, refl) (tt, tt)
+    (commands list key start rows r last visit v v (Value way name value ∷ []) output text (Get way name) s is
+    (get_accepted way name not_empty) refl refl (get_tells v.session way name value not_empty reads, refl) (tt, tt)
     (shown ∙ sym (one_reading (Value way name value))))
 
 -- a step ends, with these readings
-ends_at : (key : List ℕ) (start rows new : List Row) (acts : List Act) (act : Act) (told : List (List Reading))
+ends_at : (list : List Rule) (key : List ℕ) (start rows new : List Row) (acts : List Act) (act : Act) (told : List (List Reading))
     (more : List Reading) (output : List ℕ) (last at : ℤ)
-    → Plays key start acts told rows → OneStep key rows act more new → AllByRecursion IsAnswered (all_told told ++ more)
+    → Plays list key start acts told rows → OneStep list key rows act more new → AllByRecursion IsAnswered (all_told told ++ more)
     → output ≡ readings_text (all_told told ++ more) → last ≡ at
-    → Stands key start (record { acts = acts ++ act ∷ []; now = Closed; last = at }) new last None output
-ends_at key start rows new acts act told more output last at plays step answered prints moment = record {
+    → Stands list key start (record { acts = acts ++ act ∷ []; now = Closed; last = at }) new last None output
+ends_at list key start rows new acts act told more output last at plays step answered prints moment = record {
   told = told ++ more ∷ [];
   front = [];
-  plays = plays_more key start rows new acts told act more plays step;
+  plays = plays_more list key start rows new acts told act more plays step;
   is_open = refl;
   answered = subst (AllByRecursion IsAnswered) (sym (ended told more)) answered;
   prints = prints ∙ ap readings_text (sym (ended told more));
@@ -207,110 +242,114 @@ ends_at key start rows new acts act told more output last at plays step answered
 }
 
 -- `deliver` and `lose`
-lose_at : (key : List ℕ) (start rows : List Row) (acts : List Act) (m : ℤ) (now : Now) (visit : Option Visit)
+lose_at : (list : List Rule) (key : List ℕ) (start rows : List Row) (acts : List Act) (m : ℤ) (now : Now) (visit : Option Visit)
     (told : List (List Reading)) (front : List Reading) (output text : List ℕ) (last : ℤ)
-    → Plays key start acts told rows → IsOpen key rows now visit front
+    → Plays list key start acts told rows → IsOpen key rows now visit front
     → AllByRecursion IsAnswered (all_told told ++ front) → output ≡ readings_text (all_told told ++ front) → last ≡ m
     → is_none visit ≡ false → text ≡ []
-    → LeadsOn key start (obeyed acts m now spec.Loses) rows last None (output ++ text)
-lose_at key start rows acts m now None told front output text last plays is_open answered prints moment some empty =
+    → LeadsOn list key start (obeyed acts m now spec.Loses) rows last None (output ++ text)
+lose_at list key start rows acts m now None told front output text last plays is_open answered prints moment some empty =
     absurd (true_false some)
-lose_at key start rows acts m Closed (Some v) told front output text last plays is_open answered prints moment some
+lose_at list key start rows acts m Closed (Some v) told front output text last plays is_open answered prints moment some
     empty = absurd is_open
-lose_at key start rows acts m (Within url at cs) (Some v) told front output text last plays is_open answered prints
+lose_at list key start rows acts m (Within url at cs) (Some v) told front output text last plays is_open answered prints
     moment some empty = (
       record { acts = acts ++ Visits url at cs Never ∷ []; now = Closed; last = m },
       refl,
-      ends_at key start rows rows acts (Visits url at cs Never) told front (output ++ text) last m plays
-          (v.session, is_open.1, refl) answered (prints_none output text empty ∙ prints) moment,
+      ends_at list key start rows rows acts (Visits url at cs Never) told front (output ++ text) last m plays
+          (is_open.2.0, is_open.2.1, (v.session, is_open.2.2, refl)) answered (prints_none output text empty ∙ prints) moment,
     )
 
 none_or_some : (visit : Option Visit) → true ≡ is_some visit → is_none visit ≡ false
 none_or_some None e = absurd (true_false e)
 none_or_some (Some v) e = refl
 
-pub loses : (key : List ℕ) (start rows : List Row) (r : Reached) (last : ℤ) (visit : Option Visit)
-    (output text : List ℕ) → Stands key start r rows last visit output
+pub loses : (list : List Rule) (key : List ℕ) (start rows : List Row) (r : Reached) (last : ℤ) (visit : Option Visit)
+    (output text : List ℕ) → Stands list key start r rows last visit output
     → true ≡ is_some visit → text ≡ []
-    → LeadsOn key start (obeyed r.acts r.last r.now spec.Loses) rows last None (output ++ text)
-loses key start rows r last visit output text s some empty = lose_at key start rows r.acts r.last r.now visit s.told
+    → LeadsOn list key start (obeyed r.acts r.last r.now spec.Loses) rows last None (output ++ text)
+loses list key start rows r last visit output text s some empty = lose_at list key start rows r.acts r.last r.now visit s.told
     s.front output text last s.plays s.is_open s.answered s.prints s.moment (none_or_some visit some) empty
 
-deliver_at : (key : List ℕ) (start rows new : List Row) (acts : List Act) (m : ℤ) (now : Now) (v : Visit)
+deliver_at : (list : List Rule) (key : List ℕ) (start rows new : List Row) (acts : List Act) (m : ℤ) (now : Now) (v : Visit)
     (answer : List (List ℕ)) (told : List (List Reading)) (front : List Reading) (output text : List ℕ) (at last : ℤ)
-    → Plays key start acts told rows → IsOpen key rows now (Some v) front
+    → Plays list key start acts told rows → IsOpen key rows now (Some v) front
     → AllByRecursion IsAnswered (all_told told ++ front) → output ≡ readings_text (all_told told ++ front)
-    → ClosesWith v.session.jar answer → Takes rows v.url answer new → text ≡ [] → last ≡ at
-    → LeadsOn key start (obeyed acts m now (spec.Delivers at)) new last None (output ++ text)
-deliver_at key start rows new acts m Closed v answer told front output text at last plays is_open answered prints closes
+    → ClosesWith v.session.jar answer → Takes list rows v.url at answer new → text ≡ [] → last ≡ at
+    → LeadsOn list key start (obeyed acts m now (spec.Delivers at)) new last None (output ++ text)
+deliver_at list key start rows new acts m Closed v answer told front output text at last plays is_open answered prints closes
     taken empty moment = absurd is_open
-deliver_at key start rows new acts m (Within url a cs) v answer told front output text at last plays is_open answered
+deliver_at list key start rows new acts m (Within url a cs) v answer told front output text at last plays is_open answered
     prints closes taken empty moment = (
       record { acts = acts ++ Visits url a cs (Arrives at) ∷ []; now = Closed; last = at },
       refl,
-      ends_at key start rows new acts (Visits url a cs (Arrives at)) told front (output ++ text) last at plays (
-        v.session,
-        is_open.1,
+      ends_at list key start rows new acts (Visits url a cs (Arrives at)) told front (output ++ text) last at plays (
+        is_open.2.0,
+        is_open.2.1,
         (
-          closes.cookies,
-          closes.lists,
-          subst (λ ls. Takes rows url ls new) closes.printed
-              (subst (λ u. Takes rows u answer new) is_open.0 taken),
+          v.session,
+          is_open.2.2,
+          (
+            closes.cookies,
+            closes.lists,
+            subst (λ ls. Takes list rows url at ls new) closes.printed
+                (subst (λ u. Takes list rows u at answer new) is_open.0 taken),
+          ),
         ),
       ) answered (prints_none output text empty ∙ prints) moment,
     )
 
-pub delivers : (key : List ℕ) (start rows new : List Row) (r : Reached) (old_last : ℤ) (visit : Option Visit)
+pub delivers : (list : List Rule) (key : List ℕ) (start rows new : List Row) (r : Reached) (old_last : ℤ) (visit : Option Visit)
     (v : Visit) (answer : List (List ℕ)) (output text : List ℕ) (at last : ℤ)
-    → Stands key start r rows old_last visit output
-    → visit ≡ Some v → ClosesWith v.session.jar answer → Takes rows v.url answer new → text ≡ [] → last ≡ at
-    → LeadsOn key start (obeyed r.acts r.last r.now (spec.Delivers at)) new last None (output ++ text)
-delivers key start rows new r old_last visit v answer output text at last s is closes taken empty moment =
-    deliver_at key start rows new r.acts r.last r.now v answer s.told s.front output text at last s.plays
+    → Stands list key start r rows old_last visit output
+    → visit ≡ Some v → ClosesWith v.session.jar answer → Takes list rows v.url at answer new → text ≡ [] → last ≡ at
+    → LeadsOn list key start (obeyed r.acts r.last r.now (spec.Delivers at)) new last None (output ++ text)
+delivers list key start rows new r old_last visit v answer output text at last s is closes taken empty moment =
+    deliver_at list key start rows new r.acts r.last r.now v answer s.told s.front output text at last s.plays
     (subst (λ o. IsOpen key rows r.now o s.front) is s.is_open) s.answered s.prints closes taken empty moment
 
 -- `receive` and `header`
-alone_at : (key : List ℕ) (start rows new : List Row) (acts : List Act) (m : ℤ) (now : Now) (visit : Option Visit)
+alone_at : (list : List Rule) (key : List ℕ) (start rows new : List Row) (acts : List Act) (m : ℤ) (now : Now) (visit : Option Visit)
     (told : List (List Reading)) (front : List Reading) (output text : List ℕ) (line : spec.Line) (act : Act)
     (more : List Reading) (last at : ℤ)
-    → Plays key start acts told rows → IsOpen key rows now visit front
+    → Plays list key start acts told rows → IsOpen key rows now visit front
     → AllByRecursion IsAnswered (all_told told ++ front) → output ≡ readings_text (all_told told ++ front)
     → is_some visit ≡ false
     → obeyed acts m Closed line ≡ Ok (record { acts = acts ++ act ∷ []; now = Closed; last = at })
-    → OneStep key rows act more new → AllByRecursion IsAnswered more → text ≡ readings_text more → last ≡ at
-    → LeadsOn key start (obeyed acts m now line) new last visit (output ++ text)
-alone_at key start rows new acts m Closed None told front output text line act more last at plays is_open answered
+    → OneStep list key rows act more new → AllByRecursion IsAnswered more → text ≡ readings_text more → last ≡ at
+    → LeadsOn list key start (obeyed acts m now line) new last visit (output ++ text)
+alone_at list key start rows new acts m Closed None told front output text line act more last at plays is_open answered
     prints none led step good shown moment =
     let alone : all_told told ++ front ≡ all_told told = ap (λ x. all_told told ++ x) is_open
     ∙ append-nil (all_told told) in (
       record { acts = acts ++ act ∷ []; now = Closed; last = at },
       led,
-      ends_at key start rows new acts act told more (output ++ text) last at plays step
+      ends_at list key start rows new acts act told more (output ++ text) last at plays step
           (answered_append (all_told told) more (subst (AllByRecursion IsAnswered) alone answered) good)
           (prints_more (all_told told) more output text (prints ∙ ap readings_text alone) shown) moment,
     )
-alone_at key start rows new acts m Closed (Some v) told front output text line act more last at plays is_open answered
+alone_at list key start rows new acts m Closed (Some v) told front output text line act more last at plays is_open answered
     prints none led step good shown moment = absurd is_open
-alone_at key start rows new acts m (Within u a cs) None told front output text line act more last at plays is_open
+alone_at list key start rows new acts m (Within u a cs) None told front output text line act more last at plays is_open
     answered prints none led step good shown moment = absurd is_open
-alone_at key start rows new acts m (Within u a cs) (Some v) told front output text line act more last at plays is_open
+alone_at list key start rows new acts m (Within u a cs) (Some v) told front output text line act more last at plays is_open
     answered prints none led step good shown moment = absurd (true_false none)
 
-pub receives : (key : List ℕ) (start rows new : List Row) (r : Reached) (old_last : ℤ) (visit : Option Visit)
+pub receives : (list : List Rule) (key : List ℕ) (start rows new : List Row) (r : Reached) (old_last : ℤ) (visit : Option Visit)
     (output text : List ℕ) (url : Parts) (answer : List (List ℕ)) (at last : ℤ)
-    → Stands key start r rows old_last visit output
-    → is_some visit ≡ false → Takes rows url answer new → text ≡ [] → last ≡ at
-    → LeadsOn key start (obeyed r.acts r.last r.now (spec.Receives url answer at)) new last visit (output ++ text)
-receives key start rows new r old_last visit output text url answer at last s none taken empty moment =
-    alone_at key start rows new r.acts r.last r.now visit s.told s.front output text (spec.Receives url answer at)
+    → Stands list key start r rows old_last visit output
+    → is_some visit ≡ false → Takes list rows url at answer new → text ≡ [] → last ≡ at
+    → LeadsOn list key start (obeyed r.acts r.last r.now (spec.Receives url answer at)) new last visit (output ++ text)
+receives list key start rows new r old_last visit output text url answer at last s none taken empty moment =
+    alone_at list key start rows new r.acts r.last r.now visit s.told s.front output text (spec.Receives url answer at)
     (Answers url answer at) [] last at s.plays s.is_open s.answered s.prints none refl (refl, taken) tt empty moment
 
-pub heads : (key : List ℕ) (start rows : List Row) (r : Reached) (old_last : ℤ) (visit : Option Visit)
-    (output text : List ℕ) (url : Parts) (header : List ℕ) (at last : ℤ) → Stands key start r rows old_last visit output
-    → is_some visit ≡ false → header ≡ header_of (given rows url) → text ≡ reading_text (Header header) → last ≡ at
-    → LeadsOn key start (obeyed r.acts r.last r.now (spec.Heads url at)) rows last visit (output ++ text)
-heads key start rows r old_last visit output text url header at last s none same shown moment =
-    alone_at key start rows rows r.acts r.last r.now visit s.told s.front output text (spec.Heads url at) (Asks url at)
-    (Header (header_of (given rows url)) ∷ []) last at s.plays s.is_open s.answered s.prints none refl (refl, refl)
-    (tt, tt)
-    (shown ∙ ap (λ h. reading_text (Header h)) same ∙ sym (one_reading (Header (header_of (given rows url))))) moment
+pub heads : (list : List Rule) (key : List ℕ) (start rows : List Row) (r : Reached) (old_last : ℤ)
+    (visit : Option Visit) (output text : List ℕ) (url : Parts) (header : List ℕ) (at last : ℤ)
+    → Stands list key start r rows old_last visit output
+    → is_some visit ≡ false → IsHeader rows url at header → text ≡ reading_text (Header header) → last ≡ at
+    → LeadsOn list key start (obeyed r.acts r.last r.now (spec.Heads url at)) rows last visit (output ++ text)
+heads list key start rows r old_last visit output text url header at last s none head shown moment =
+    alone_at list key start rows rows r.acts r.last r.now visit s.told s.front output text (spec.Heads url at)
+    (Asks url at) (Header header ∷ []) last at s.plays s.is_open s.answered s.prints none refl
+    ((header, head, refl), refl) (tt, tt) (shown ∙ sym (one_reading (Header header))) moment

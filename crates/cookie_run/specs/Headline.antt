@@ -1,17 +1,22 @@
 -- At each request a site reads what its own delivered commands leave (own: docs/DEFINITIONS.md). Nothing here knows a
 -- row, a header or a line of a session, nor how a value is signed or sealed.
-use Rattle.std.specs.Prelude.{ℕ, ℤ, ◌+◌, List, [], ◌∷◌, ◌++◌, length, Some, None, ◌≡◌, ◌≢◌, ⊤}
-use Rattle.std.specs.List.{AllByRecursion}
-use Rattle.cookie_text.specs.Record.{Record, moment_of}
-use Rattle.cookie_run.specs.Hosts.{host_of, secure_host}
-use Rattle.cookie_run.specs.Site.{Site, nothing, CommandsOn, ExchangeOn}
-use Rattle.cookie_run.specs.declared.step.Command.{Command}
-use Rattle.cookie_run.specs.declared.step.Command.TheVariants.{Set, Get}
-use Rattle.cookie_run.specs.declared.step.Reading.{Reading}
-use Rattle.cookie_run.specs.declared.step.FaultKind.{FaultKind}
-use Rattle.cookie_run.specs.Acts.{Act, Visits, Answers, Asks, moments_of}
+use Rattle.std.specs.Prelude.{ℕ, ℤ, ◌+◌, List, [], ◌∷◌, ◌++◌, length, All, Some, ◌≡◌, ◌≢◌, ⊤}
+use Rattle.idna.specs.Labels.{labels_of}
+use Rattle.publicsuffix.specs.Prevailing.{Listed}
+use Rattle.publicsuffix.specs.Rules.{Rule}
+use Rattle.store_parts.specs.DomainMatch.{DomainMatches}
+use Rattle.store_parts.specs.DomainText.{idna_form}
+use Rattle.url.specs.Parts.{Parts}
+use Rattle.store_parts.specs.Schemes.{host_of}
+use Rattle.cookie_run.specs.Hosts.{secure_host}
 use Rattle.cookie_run.specs.Moments.{last_of, the_beginning}
-use Rattle.cookie_run.specs.Readings.{all_told, AnswersEach}
+use Rattle.cookie_run.specs.Readings.{all_told}
+use Rattle.cookie_run.specs.declared.step.FaultKind.{FaultKind}
+use Rattle.cookie_run.specs.declared.step.Reading.{Reading}
+use Rattle.cookie_run.specs.Acts.{Act, Visits, Answers, Asks, Arrives, Never, moments_of}
+use Rattle.cookie_run.specs.declared.step.Command.{Command}
+use Rattle.cookie_run.specs.Readings.{AnswersEach}
+use Rattle.cookie_run.specs.Site.{Site, View, nothing, live, CommandsOn, ExchangeOn}
 use Rattle.cookie_run.specs.Stops.{StopsFrom}
 
 -- ---- the premises
@@ -22,35 +27,45 @@ AnswersBySessions host (Visits url at commands arrival) = host_of url ≡ Some h
 AnswersBySessions host (Answers url lines at) = host_of url ≢ Some host
 AnswersBySessions host (Asks url at) = ⊤
 
-abbrev pub EachAnswersBySessions : List ℕ → List Act → Type 0
-EachAnswersBySessions host [] = ⊤
-EachAnswersBySessions host (act ∷ acts) = AnswersBySessions host act × EachAnswersBySessions host acts
+-- the reach of a host: the texts that it domain-matches, itself and, of a host name, what stands behind its dots
+abbrev pub IsInReach : List ℕ → List ℕ → Type 0
+IsInReach host text = DomainMatches host text
 
--- a cookie has no death: no max-age, and no expiry but the end of the session
-pub record HasNoDeath (cookie : Record) : Type 0 where
-  pub max_age : cookie.max_age ≡ None
-  pub expires : moment_of cookie.expires ≡ None
+-- a text in the reach of both is a public suffix of the list: neither can set a cookie for the other
+abbrev pub AreApart : List Rule → List ℕ → List ℕ → Type 0
+AreApart list host other =
+    (text : List ℕ) → text ≢ [] → IsInReach host text → IsInReach other text → Listed list text
 
-abbrev pub SetsNoDeath : Command → Type 0
-SetsNoDeath (Set way cookie) = HasNoDeath cookie.cookie
-SetsNoDeath (Get way name) = Unit {0}
+-- the URL is of the host, or its host is apart from it
+abbrev pub IsApartFrom : List Rule → List ℕ → Parts → Type 0
+IsApartFrom list host url = (other : List ℕ) → host_of url ≡ Some other → host ≢ other → AreApart list host other
 
--- what is set in the host's own exchanges has no death
-abbrev pub IsDeathless : List ℕ → Act → Type 0
-IsDeathless host (Visits url at commands arrival) = host_of url ≡ Some host → AllByRecursion SetsNoDeath commands
-IsDeathless host (Answers url lines at) = ⊤
-IsDeathless host (Asks url at) = ⊤
+-- another host whose answer comes is apart from it
+abbrev pub AnswersApart : List Rule → List ℕ → Act → Type 0
+AnswersApart list host (Visits url at commands (Arrives later)) = IsApartFrom list host url
+AnswersApart list host (Visits url at commands Never) = ⊤
+AnswersApart list host (Answers url lines at) = IsApartFrom list host url
+AnswersApart list host (Asks url at) = ⊤
 
-abbrev pub EachDeathless : List ℕ → List Act → Type 0
-EachDeathless host [] = ⊤
-EachDeathless host (act ∷ acts) = IsDeathless host act × EachDeathless host acts
+abbrev pub Each : (Act → Type 0) → List Act → Type 0
+Each Is [] = ⊤
+Each Is (act ∷ acts) = Is act × Each Is acts
+
+-- the host is a site of this play: its own IDNA form, with no empty label, answering by sessions alone, and apart from
+-- the other hosts that answer
+pub record IsSite (list : List Rule) (host : List ℕ) (acts : List Act) : Type 0 where
+  pub own_form : idna_form host ≡ Some host
+  pub no_empty_label : All (λ label. label ≢ []) (labels_of host)
+  pub sessions : Each (AnswersBySessions host) acts
+  pub apart : Each (AnswersApart list host) acts
 
 -- ---- the site through a play
 
 -- an exchange of the host reads what its commands read on its site; other acts leave that site
 abbrev pub ReadsOn : List ℕ → Site → Act → List Reading → Site → Type 0
 ReadsOn host site (Visits url at commands arrival) told new =
-    (host_of url ≡ Some host → ExchangeOn site commands arrival told new) × (host_of url ≢ Some host → new ≡ site)
+    (host_of url ≡ Some host → ExchangeOn site at commands arrival told new)
+    × (host_of url ≢ Some host → new ≡ site)
 ReadsOn host site (Answers url lines at) told new = new ≡ site
 ReadsOn host site (Asks url at) told new = new ≡ site
 
@@ -58,36 +73,36 @@ ReadsOn host site (Asks url at) told new = new ≡ site
 abbrev pub EachReadsOn : List ℕ → Site → List Act → List (List Reading) → Site → Type 0
 EachReadsOn host site [] told end = end ≡ site
 EachReadsOn host site (act ∷ acts) [] end = ⊥
-EachReadsOn host site (act ∷ acts) (told ∷ later) end = (mid : Site) × ReadsOn host site act told mid
-    × EachReadsOn host mid acts later end
+EachReadsOn host site (act ∷ acts) (told ∷ later) end =
+    (mid : Site) × ReadsOn host site act told mid × EachReadsOn host mid acts later end
 
--- what is read on a site by all of the commands, and by the first of them
-abbrev pub AllOn : Site → List Command → List Reading → Type 0
-AllOn site commands told = (new : Site) × CommandsOn site commands told new
+-- what is read on a site at the moment by all of the commands, and by the first of them
+abbrev pub AllOn : Site → ℤ → List Command → List Reading → Type 0
+AllOn site now commands told =
+    (noted : List Command) × (after : View) × CommandsOn (live site now) commands told noted after
 
-abbrev pub FrontOn : Site → List Command → List Reading → Type 0
-FrontOn site commands told = (front : List Command) × (rest : List Command) × (commands ≡ front ++ rest)
-    × AllOn site front told
+abbrev pub FrontOn : Site → ℤ → List Command → List Reading → Type 0
+FrontOn site now commands told =
+    (front : List Command) × (rest : List Command) × (commands ≡ front ++ rest) × AllOn site now front told
 
 -- an exchange of the host that the play stopped in read that, as far as it came
 abbrev pub StopsOn : List ℕ → Site → FaultKind → ℤ → Act → List Reading → List Reading → Type 0
 StopsOn host site kind last (Visits url at commands arrival) old readings =
-    host_of url ≡ Some host → StopsFrom kind last (Visits url at commands arrival) old (FrontOn site commands)
-    (AllOn site commands) readings
+    host_of url ≡ Some host → StopsFrom kind last (Visits url at commands arrival) old (FrontOn site at commands)
+    (AllOn site at commands) readings
 StopsOn host site kind last (Answers url lines at) old readings = ⊤
 StopsOn host site kind last (Asks url at) old readings = ⊤
 
 -- ---- the headline
 
--- THE HEADLINE: for every host that answers by sessions alone and sets nothing with a death, each of
--- its exchanges reads, in the way it was set, what its own delivered commands before it leave, and
--- what its own commands so far set.
-pub record SitesReadTheirOwn (acts : List Act) (readings : List Reading) : Type 0 where
+-- THE HEADLINE: for every host that is its own IDNA form without an empty label, that answers by sessions alone, and
+-- that is apart from the other hosts that answer, each of its exchanges reads, in the way it was set, what its own
+-- delivered commands before it leave, and what its own commands so far set and removed.
+pub record SitesReadTheirOwn (list : List Rule) (acts : List Act) (readings : List Reading) : Type 0 where
   pub told : List (List Reading)
   pub read : readings ≡ all_told told
   pub own : AnswersEach acts told
-  pub sites : (host : List ℕ) → EachAnswersBySessions host acts → EachDeathless host acts → (end : Site)
-      × EachReadsOn host nothing acts told end
+  pub sites : (host : List ℕ) → IsSite list host acts → (end : Site) × EachReadsOn host nothing acts told end
 
 -- a site as it came to an act, and what the play that stopped there read
 abbrev pub ReadsUntil : List ℕ → List Act → List (List Reading) → Act → FaultKind → ℤ → List Reading → Type 0
@@ -96,7 +111,7 @@ ReadsUntil host before told act kind last readings =
     × (AnswersBySessions host act → StopsOn host site kind last act (all_told told) readings)
 
 -- The same as far as a play came that stopped in a step, counted from 1.
-pub record SitesReadTheirOwnUntil (acts : List Act) (step : ℕ) (kind : FaultKind)
+pub record SitesReadTheirOwnUntil (list : List Rule) (acts : List Act) (step : ℕ) (kind : FaultKind)
     (readings : List Reading) : Type 0 where
   pub before : List Act
   pub act : Act
@@ -107,5 +122,5 @@ pub record SitesReadTheirOwnUntil (acts : List Act) (step : ℕ) (kind : FaultKi
   pub front : List Reading
   pub read : readings ≡ all_told told ++ front
   pub own : AnswersEach before told
-  pub sites : (host : List ℕ) → EachAnswersBySessions host before → EachDeathless host before
+  pub sites : (host : List ℕ) → IsSite list host before
       → ReadsUntil host before told act kind (last_of the_beginning (moments_of before)) readings

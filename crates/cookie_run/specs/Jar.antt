@@ -1,11 +1,13 @@
 -- A session's cookies: what its header brought (RFC 6265, section 4.2.1), what was set and removed since, and the
 -- `Set-Cookie` lines of it (section 4.1.1). Names, signings and sealings by way are own: docs/DEFINITIONS.md.
-use Rattle.std.specs.Prelude.{◌≡◌, ℕ, List, [], ◌∷◌, map, Option, Some, None, option_map, Result, if◌then◌else◌}
+use Rattle.std.specs.Prelude.{◌≡◌, ℕ, List, [], ◌∷◌, map, Option, Some, None, option_map, IfSome, Result}
+use Rattle.std.specs.Prelude.{if◌then◌else◌}
 use Rattle.std.specs.Option.{option_or}
 use Rattle.std.specs.List.{AllByRecursion}
 use Rattle.std.specs.Str.{bytes_eq, IsUtf8}
 use Rattle.std.specs.FinMap as finmap
 use Rattle.jiff.specs.Types.{DateTime}
+use Rattle.jiff_core.specs.Timestamp.{IsDurationNanos}
 use Rattle.cookie_text.specs.declared.error.ParseError.{ParseError}
 use Rattle.cookie_text.specs.Normal.{IsReadable}
 use Rattle.cookie_text.specs.Printing.{encoded}
@@ -91,10 +93,11 @@ IsKeptAs May key Sealed s kept = (nonce : List ℕ) × May nonce × SealsAs key 
 abbrev pub Keeps : (List ℕ → Type 0) → List ℕ → Way → Seen → Jar → Jar → Type 0
 Keeps May key way s old new = (kept : Seen) × IsKeptAs May key way (sent s) kept × (new ≡ with_change old (Added kept))
 
--- an accepted set; what it sets is text
+-- an accepted set; what it sets is text, and its max-age is a length
 pub record Sets (May : List ℕ → Type 0) (old : Keyed) (way : Way) (s : Seen) (new : Keyed) : Type 0 where
   pub name : IsUtf8 s.cookie.name
   pub value : IsUtf8 s.cookie.value
+  pub age : IfSome s.cookie.max_age IsDurationNanos
   pub accepted : set_refusal way s.cookie ≡ None
   pub key_is : new.key ≡ old.key
   pub keeps : Keeps May old.key way s old.jar new.jar

@@ -1,7 +1,7 @@
-pub mod Put
 pub mod Reading
 pub mod Hosts
-pub mod Rows
+pub mod Accept
+pub mod Header
 pub mod Acts
 pub mod Moments
 pub mod Stops
@@ -11,6 +11,8 @@ pub mod Jar
 pub mod Readings
 pub mod Play
 pub mod Headline
+pub mod Sent
+pub mod Laws
 pub mod Counted
 pub mod Device
 pub mod ScriptMoment
@@ -19,4 +21,3 @@ pub mod ScriptText
 pub mod ScriptRead
 pub mod Standing
 pub mod Program
-pub mod store

@@ -5,7 +5,7 @@ use Rattle.cookie_text.specs.Record.{Record}
 use Rattle.cookie_run.specs.Acts.{Act, Visits, Answers, Asks}
 use Rattle.cookie_run.specs.Site.{set_refusal, Refuses}
 use Rattle.cookie_run.specs.declared.step.Command.{Command}
-use Rattle.cookie_run.specs.declared.step.Command.TheVariants.{Set, Get}
+use Rattle.cookie_run.specs.declared.step.Command.TheVariants.{Set, Remove, Get}
 use Rattle.cookie_run.specs.declared.step.Reading.{Reading}
 use Rattle.cookie_run.specs.declared.step.Reading.TheVariants.{Value, Refused, Header}
 use Rattle.cookie_run.specs.declared.step.SessionError.{SessionError}
@@ -29,17 +29,25 @@ IsAnswer way name (Value w n value) = (w ≡ way) × (n ≡ name)
 IsAnswer way name (Refused error) = (name ≡ []) × (error ≡ EmptyName)
 IsAnswer way name (Header header) = ⊥
 
--- a set reads nothing, or its refusal; a get reads one answer, under its way and name
+-- a removal reads nothing, and under an empty name its refusal
+abbrev pub IsRemovalAnswer : List ℕ → List Reading → Type 0
+IsRemovalAnswer [] told = told ≡ Refused EmptyName ∷ []
+IsRemovalAnswer (b ∷ bs) told = told ≡ []
+
+-- a set or a removal reads nothing, or its refusal; a get reads one answer, under its way and name
 abbrev pub AnswersTo : List Command → List Reading → Type 0
 AnswersTo [] told = told ≡ []
 AnswersTo (Set way cookie ∷ cs) told = (first : List Reading) × (later : List Reading) × (told ≡ first ++ later)
     × IsSetAnswer way cookie.cookie first × AnswersTo cs later
+AnswersTo (Remove way name ∷ cs) told = (first : List Reading) × (later : List Reading) × (told ≡ first ++ later)
+    × IsRemovalAnswer name first × AnswersTo cs later
 AnswersTo (Get way name ∷ cs) told = (answer : Reading) × (later : List Reading) × (told ≡ answer ∷ later)
     × IsAnswer way name answer × AnswersTo cs later
 
 -- a command that needs no nonce: it is no set that has to be sealed, or one that is refused before that
 abbrev pub NeedsNoNonce : Command → Type 0
 NeedsNoNonce (Set way cookie) = (way ≢ Sealed) ⊎ (set_refusal way cookie.cookie ≢ None)
+NeedsNoNonce (Remove way name) = ⊤
 NeedsNoNonce (Get way name) = ⊤
 
 -- an act none of whose commands needs one

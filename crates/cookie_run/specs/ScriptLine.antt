@@ -1,18 +1,22 @@
 -- A line of a script: its fields, and what it asks for (own: docs/DEFINITIONS.md).
-use Rattle.std.specs.Prelude.{ℕ, ℤ, List, [], ◌∷◌, map, Bool, ◌&&◌, ◌==◌, codes, Option, Some, None, Result, Ok, Err}
-use Rattle.std.specs.Prelude.{if◌then◌else◌}
+use Rattle.std.specs.Prelude.{ℕ, ℤ, pos, neg_ℤ, ◌*ℤ◌, ◌^◌, List, [], ◌∷◌, map, Bool, ◌&&◌, ◌==◌, nat_lt, nat_le}
+use Rattle.std.specs.Prelude.{codes, Option, Some, None, option_map, option_and_then, Result, Ok, Err, if◌then◌else◌}
+use Rattle.std.specs.Char.{is_ascii_digit}
 use Rattle.std.specs.List.{slice_split, list_all}
 use Rattle.std.specs.Str.{bytes_eq, is_utf8}
+use Rattle.std.specs.Str.Parse.{digits_value}
 use Rattle.std.specs.Result.{result_ok}
+use Rattle.jiff.specs.Types.{DateTime}
 use Rattle.percent_encoding.specs.Percent.{percent_decode}
 use Rattle.url.specs.Parts.{Parts}
 use Rattle.url.specs.Parser.{parse_url}
-use Rattle.cookie_text.specs.Record.{bare, unsliced}
-use Rattle.cookie_run.specs.ScriptMoment.{moment_of}
+use Rattle.cookie_text.specs.Record.{Record, Seen, bare, unsliced}
+use Rattle.cookie_text.specs.declared.expiration.Expiration.TheVariants.{DateTime as At}
+use Rattle.cookie_run.specs.ScriptMoment.{date_of, moment_of}
 use Rattle.cookie_run.specs.declared.step.Way.{Way}
 use Rattle.cookie_run.specs.declared.step.Way.TheVariants.{Plain, Host, Secure, Signed, Sealed}
 use Rattle.cookie_run.specs.declared.step.Command.{Command}
-use Rattle.cookie_run.specs.declared.step.Command.TheVariants.{Set, Get}
+use Rattle.cookie_run.specs.declared.step.Command.TheVariants.{Set, Remove, Get}
 use Rattle.cookie_run.specs.declared.script.cause.Cause.{Cause}
 use Rattle.cookie_run.specs.declared.script.cause.Cause.TheVariants.{Word, Text, Fields, Url, Moment}
 
@@ -46,6 +50,48 @@ abbrev pub timed : Option ℤ → Result Line Cause
 timed None = Err Moment
 timed (Some at) = Ok (Delivers at)
 
+-- ---- when a cookie ends
+
+-- what a field says, where `-` says none
+abbrev pub unless_dash : {A : Type 0} → (List ℕ → Option A) → List ℕ → Option (Option A)
+unless_dash read text = if bytes_eq text (codes "-") then Some None else option_map (λ x. Some x) (read text)
+
+-- the number of one or more digits
+abbrev pub number_of : List ℕ → Option ℕ
+number_of [] = None
+number_of (b ∷ bs) = if list_all is_ascii_digit (b ∷ bs) then Some (digits_value 10 (b ∷ bs)) else None
+
+-- the number below zero, or not, within 64 bits
+abbrev pub below_zero : ℕ → Option ℤ
+below_zero n = if nat_le n (2 ^ 63) then Some (neg_ℤ (pos n)) else None
+
+abbrev pub from_zero : ℕ → Option ℤ
+from_zero n = if nat_lt n (2 ^ 63) then Some (pos n) else None
+
+-- whole seconds: digits, and a `-` may stand before them
+abbrev pub seconds_of : List ℕ → Option ℤ
+seconds_of [] = None
+seconds_of (b ∷ bs) =
+    if b == 45 then option_and_then below_zero (number_of bs) else option_and_then from_zero (number_of (b ∷ bs))
+
+-- the same in nanoseconds
+abbrev pub age_of : List ℕ → Option ℤ
+age_of text = option_map (λ seconds. seconds *ℤ pos 1_000_000_000) (seconds_of text)
+
+-- the cookie that `set` speaks of
+abbrev pub dated : List ℕ → List ℕ → Option ℤ → Option DateTime → Record
+dated name value age end =
+    record (bare name value) { max_age = age; expires = option_map (λ date. At date) end }
+
+abbrev pub cookie_line : Way → List ℕ → List ℕ → Option ℤ → Option DateTime → Line
+cookie_line way name value age end = Commands (Set way (unsliced (dated name value age end)))
+
+abbrev pub with_end : (Option ℤ → Option DateTime → Line) → Option (Option ℤ) → Option (Option DateTime)
+    → Result Line Cause
+with_end line None end = Err Fields
+with_end line (Some age) None = Err Fields
+with_end line (Some age) (Some end) = Ok (line age end)
+
 -- ---- the fields behind each word
 
 -- `open url moment`
@@ -71,13 +117,16 @@ abbrev pub for_way : Option Way → (Way → Result Line Cause) → Result Line 
 for_way None line = Err Fields
 for_way (Some way) line = line way
 
--- `set way name value - -`
+-- `set way name value max-age expires`
 abbrev pub read_set : List (List ℕ) → Result Line Cause
-read_set (way ∷ name ∷ value ∷ max_age ∷ expires ∷ []) = for_way (way_of way) (λ w.
-    if bytes_eq max_age (codes "-") && bytes_eq expires (codes "-")
-    then Ok (Commands (Set w (unsliced (bare name value))))
-    else Err Fields)
+read_set (way ∷ name ∷ value ∷ max_age ∷ expires ∷ []) = for_way (way_of way)
+    (λ w. with_end (cookie_line w name value) (unless_dash age_of max_age) (unless_dash date_of expires))
 read_set fields = Err Fields
+
+-- `remove way name`
+abbrev pub read_remove : List (List ℕ) → Result Line Cause
+read_remove (way ∷ name ∷ []) = for_way (way_of way) (λ w. Ok (Commands (Remove w name)))
+read_remove fields = Err Fields
 
 -- `get way name`
 abbrev pub read_get : List (List ℕ) → Result Line Cause
@@ -112,6 +161,7 @@ abbrev pub read_word : List ℕ → List (List ℕ) → Result Line Cause
 read_word word fields =
     if bytes_eq word (codes "open") then of_texts read_open fields
     else if bytes_eq word (codes "set") then of_texts read_set fields
+    else if bytes_eq word (codes "remove") then of_texts read_remove fields
     else if bytes_eq word (codes "get") then of_texts read_get fields
     else if bytes_eq word (codes "deliver") then of_texts read_deliver fields
     else if bytes_eq word (codes "lose") then of_texts read_lose fields

@@ -5,19 +5,20 @@ use Rattle.cookie_run.specs.ScriptLine as spec
 use Rattle.cookie_run.specs.declared.script.cause.Cause.{Cause}
 use Rattle.cookie_run.specs.declared.script.cause.Cause.TheVariants.{Memory}
 use Rattle.cookie_run.specs.declared.script.line.Line.{Line}
-use Rattle.cookie_run.specs.declared.script.line.Line.TheVariants.{Open, Set, Get, Deliver, Lose, Receive, Header}
+use Rattle.cookie_run.specs.declared.script.line.Line.TheVariants.{Open, Set, Remove, Get, Deliver, Lose, Receive}
+use Rattle.cookie_run.specs.declared.script.line.Line.TheVariants.{Header}
 use Rattle.cookie_run.specs.declared.step.Command.TheVariants as commands
-use Rattle.cookie_text.specs.Record.{bare, unsliced}
 
 -- the line as a plain value
 abbrev pub line_of : Line → spec.Line
-line_of (Open url at) = spec.Opens url (civil_nanos at)
-line_of (Set way name value) = spec.Commands (commands.Set way (unsliced (bare name value)))
+line_of (Open url at) = spec.Opens url (civil_nanos at.date)
+line_of (Set way cookie) = spec.Commands (commands.Set way cookie)
+line_of (Remove way name) = spec.Commands (commands.Remove way name)
 line_of (Get way name) = spec.Commands (commands.Get way name)
-line_of (Deliver at) = spec.Delivers (civil_nanos at)
+line_of (Deliver at) = spec.Delivers (civil_nanos at.date)
 line_of Lose = spec.Loses
-line_of (Receive url lines at) = spec.Receives url (map (λ line. line.items) lines.items) (civil_nanos at)
-line_of (Header url at) = spec.Heads url (civil_nanos at)
+line_of (Receive url lines at) = spec.Receives url (map (λ line. line.items) lines.items) (civil_nanos at.date)
+line_of (Header url at) = spec.Heads url (civil_nanos at.date)
 
 -- the line that its text gives, or that text's fault, or want of memory
 abbrev pub Reads : Result Line Cause → Result spec.Line Cause → Type 0

@@ -11,27 +11,29 @@ use Rattle.url.specs.Parts.{Parts}
 use Rattle.cookie_text.specs.Record.{Seen}
 use Rattle.cookie.specs.ByName.{Lists}
 use Rattle.cookie.specs.Jar.{delta, under_names}
-use Rattle.cookie_run.specs.Rows.{given, header_of, Takes}
+use Rattle.publicsuffix.specs.Rules.{Rule}
+use Rattle.cookie_store.specs.Rows.{Row}
+use Rattle.cookie_run.specs.Accept.{IsStopped}
+use Rattle.cookie_run.specs.Header.{IsHeader}
 use Rattle.cookie_run.specs.Jar.{Keyed, lines_of}
 use Rattle.cookie_run.specs.Site.{set_refusal}
 use Rattle.cookie_run.specs.Acts.{Act, Visits, Answers, Asks, Arrives, Never}
 use Rattle.cookie_run.specs.Play.{Plays, Serves}
 use Rattle.cookie_run.specs.Readings.{all_told}
 use Rattle.cookie_run.specs.ScriptLine.{Line, Opens, Commands, Delivers, Loses, Receives, Heads, read_line}
-use Rattle.cookie_run.specs.declared.row.Row.{Row}
 use Rattle.cookie_run.specs.declared.step.Way.{Way}
 use Rattle.cookie_run.specs.declared.step.Way.TheVariants.{Plain, Host, Secure, Signed, Sealed}
 use Rattle.cookie_run.specs.declared.step.SessionError.{SessionError}
 use Rattle.cookie_run.specs.declared.step.SessionError.TheVariants as refusals
 use Rattle.cookie_run.specs.declared.step.Command.{Command}
-use Rattle.cookie_run.specs.declared.step.Command.TheVariants.{Set, Get}
+use Rattle.cookie_run.specs.declared.step.Command.TheVariants.{Set, Remove, Get}
 use Rattle.cookie_run.specs.declared.step.Reading.{Reading}
 use Rattle.cookie_run.specs.declared.step.Reading.TheVariants.{Value, Refused, Header}
 use Rattle.cookie_run.specs.declared.script.ended.Ended.{Ended}
 use Rattle.cookie_run.specs.declared.script.ended.Ended.TheVariants.{Whole, Faulty}
 use Rattle.cookie_run.specs.declared.script.cause.Cause.{Cause}
 use Rattle.cookie_run.specs.declared.script.cause.Cause.TheVariants.{Word, Text, Fields, Url, Moment, Back, NoSession}
-use Rattle.cookie_run.specs.declared.script.cause.Cause.TheVariants.{Open, EmptyName, TooLong, Rng, Memory}
+use Rattle.cookie_run.specs.declared.script.cause.Cause.TheVariants.{Open, EmptyName, Year, TooLong, Rng, Memory}
 
 -- ---- where a script is after some of its lines
 
@@ -49,15 +51,16 @@ pub record Reached : Type 0 where
 abbrev pub begun : ℤ → Reached
 begun last = record { acts = []; now = Closed; last = last }
 
--- why a command is refused, but for a generator that fails
+-- Why a command is refused, but for a generator that fails. A removal ends a year before its moment, which is of 1971 or
+-- later, so it is never refused for its year.
 abbrev pub command_refusal : Command → Option SessionError
 command_refusal (Set way cookie) = set_refusal way cookie.cookie
+command_refusal (Remove way name) = if bytes_eq name [] then Some refusals.EmptyName else None
 command_refusal (Get way name) = if bytes_eq name [] then Some refusals.EmptyName else None
 
--- the cookies of a script have no expiry, so none is refused for its year
 abbrev pub cause_of : SessionError → Cause
 cause_of refusals.EmptyName = EmptyName
-cause_of refusals.Year = EmptyName
+cause_of refusals.Year = Year
 cause_of refusals.TooLong = TooLong
 cause_of refusals.Rng = Rng
 cause_of refusals.OutOfMemory = Memory
@@ -66,8 +69,7 @@ abbrev pub unless_refused : Option SessionError → Reached → Result Reached C
 unless_refused (Some error) next = Err (cause_of error)
 unless_refused None next = Ok next
 
--- a line whose moment isn't before an earlier one; a command is refused for its name or its
--- lengths, since no cookie of a script has an expiry
+-- a line whose moment isn't before an earlier one; a command is refused for its name, its expiry or its lengths
 abbrev pub obeyed : List Act → ℤ → Now → Line → Result Reached Cause
 obeyed acts last Closed (Opens url at) = Ok (record { acts = acts; now = Within url at []; last = at })
 obeyed acts last (Within u m cs) (Opens url at) = Err Open
@@ -182,6 +184,7 @@ cause_text Back = codes "Back"
 cause_text NoSession = codes "NoSession"
 cause_text Open = codes "Open"
 cause_text EmptyName = codes "EmptyName"
+cause_text Year = codes "Year"
 cause_text TooLong = codes "TooLong"
 cause_text Rng = codes "Rng"
 cause_text Memory = codes "Memory"
@@ -200,9 +203,9 @@ left_open (Within url at commands) = Visits url at commands Never ∷ []
 abbrev pub all_acts : Reached → List Act
 all_acts r = r.acts ++ left_open r.now
 
--- the steps, played on these rows, print this and leave those rows
-abbrev pub Prints : List ℕ → List Row → Reached → List ℕ → List Row → Type 0
-Prints key rows r output new = (told : List (List Reading)) × Plays key rows (all_acts r) told new
+-- the steps, played on these rows with this list of public suffixes, print this and leave those rows
+abbrev pub Prints : List Rule → List ℕ → List Row → Reached → List ℕ → List Row → Type 0
+Prints list key rows r output new = (told : List (List Reading)) × Plays list key rows (all_acts r) told new
     × AllByRecursion IsAnswered (all_told told) × (output ≡ readings_text (all_told told))
 
 -- where line n stands in a text, counted from 1
@@ -212,16 +215,16 @@ pub record IsLine (all : List (List ℕ)) (n : ℕ) (before : List (List ℕ)) (
   pub number : n ≡ length before + 1
 
 -- each line is done
-pub record IsWhole (key : List ℕ) (rows : List Row) (last : ℤ) (all : List (List ℕ)) (output : List ℕ) (new : List Row)
-    (end : ℤ) : Type 0 where
+pub record IsWhole (list : List Rule) (key : List ℕ) (rows : List Row) (last : ℤ) (all : List (List ℕ))
+    (output : List ℕ) (new : List Row) (end : ℤ) : Type 0 where
   pub r : Reached
   pub leads : LeadsTo (begun last) all r
-  pub prints : Prints key rows r output new
+  pub prints : Prints list key rows r output new
   pub moment : end ≡ r.last
 
 -- the lines before line n are done, and line n is the first faulty one
-pub record IsFaulty (Error : Type 0) (key : List ℕ) (rows : List Row) (last : ℤ) (all : List (List ℕ)) (output : List ℕ)
-    (new : List Row) (end : ℤ) (n : ℕ) : Type 0 where
+pub record IsFaulty (Error : Type 0) (list : List Rule) (key : List ℕ) (rows : List Row) (last : ℤ)
+    (all : List (List ℕ)) (output : List ℕ) (new : List Row) (end : ℤ) (n : ℕ) : Type 0 where
   pub r : Reached
   pub before : List (List ℕ)
   pub line : List ℕ
@@ -230,51 +233,52 @@ pub record IsFaulty (Error : Type 0) (key : List ℕ) (rows : List Row) (last : 
   pub place : IsLine all n before line
   pub leads : LeadsTo (begun last) before r
   pub fault : HasFault Error r (after_line r line) cause
-  pub prints : Prints key rows r readings new
+  pub prints : Prints list key rows r readings new
   pub text : output ≡ readings ++ fault_text n cause
   pub moment : end ≡ r.last
 
 -- From these rows and this last moment a script prints this, leaves those rows and that moment, and ends so.
-abbrev pub ScriptText : Type 0 → List ℕ → List Row → ℤ → List ℕ → List ℕ → List Row → ℤ → Ended → Type 0
-ScriptText Error key rows last input output new end Whole = IsWhole key rows last (lines input) output new end
-ScriptText Error key rows last input output new end (Faulty n) = IsFaulty Error key rows last
-    (lines input) output new end n
+abbrev pub ScriptText : Type 0 → List Rule → List ℕ → List Row → ℤ → List ℕ → List ℕ → List Row → ℤ → Ended → Type 0
+ScriptText Error list key rows last input output new end Whole =
+    IsWhole list key rows last (lines input) output new end
+ScriptText Error list key rows last input output new end (Faulty n) =
+    IsFaulty Error list key rows last (lines input) output new end n
 
 -- ---- where memory is refused in a line
 
 -- an answer's lines are taken up to one at which memory is refused
-abbrev pub TakesFront : List Row → Parts → List (List ℕ) → List Row → Type 0
-TakesFront rows url answer new = (k : ℕ) × (k ≤ length answer - 1) × Takes rows url (take k answer) new
+abbrev pub TakesFront : List Rule → List Row → Parts → ℤ → List (List ℕ) → List Row → Type 0
+TakesFront list rows url at answer new = (n : ℕ) × IsStopped list rows url at answer n new
 
 -- the step reads so, and its answer is taken up to a line, whatever the nonces and the order of a session's lines
-abbrev pub HalfStep : List ℕ → List Row → Act → List Reading → List Row → Type 0
-HalfStep key rows (Visits url at commands (Arrives moment)) told new =
-    (session : Keyed) × Serves key (header_of (given rows url)) commands told session
-    × (cookies : List Seen) × Lists (under_names cookies) (delta session.jar)
-    × TakesFront rows url (lines_of cookies) new
-HalfStep key rows (Visits url at commands Never) told new = ⊥
-HalfStep key rows (Answers url answer at) told new = (told ≡ []) × TakesFront rows url answer new
-HalfStep key rows (Asks url at) told new = ⊥
+abbrev pub HalfStep : List Rule → List ℕ → List Row → Act → List Reading → List Row → Type 0
+HalfStep list key rows (Visits url at commands (Arrives moment)) told new =
+    (header : List ℕ) × IsHeader rows url at header
+    × ((session : Keyed) × Serves key header at commands told session
+    × ((cookies : List Seen) × Lists (under_names cookies) (delta session.jar)
+    × TakesFront list rows url moment (lines_of cookies) new))
+HalfStep list key rows (Visits url at commands Never) told new = ⊥
+HalfStep list key rows (Answers url answer at) told new = (told ≡ []) × TakesFront list rows url at answer new
+HalfStep list key rows (Asks url at) told new = ⊥
 
 -- the steps, and behind them one whose answer is taken up to a line, print this and leave those rows
-abbrev pub PrintsHalf : List ℕ → List Row → List Act → Act → List ℕ → List Row → Type 0
-PrintsHalf key rows acts act output new =
-    (told : List (List Reading)) × (mid : List Row) × (more : List Reading) × Plays key rows acts told mid
-    × HalfStep key mid act more new × AllByRecursion IsAnswered (all_told told ++ more)
+abbrev pub PrintsHalf : List Rule → List ℕ → List Row → List Act → Act → List ℕ → List Row → Type 0
+PrintsHalf list key rows acts act output new =
+    (told : List (List Reading)) × (mid : List Row) × (more : List Reading) × Plays list key rows acts told mid
+    × HalfStep list key mid act more new × AllByRecursion IsAnswered (all_told told ++ more)
     × (output ≡ readings_text (all_told told ++ more))
 
 -- a line that isn't done: the lines before it print this and leave those rows, or the step that it ends is half taken,
 -- and is the one that was printed
-abbrev pub PrintsUntil : List ℕ → List Row → Reached → Result Reached Cause → List ℕ → List Row → Type 0
-PrintsUntil key rows r led output new = Prints key rows r output new
+abbrev pub PrintsUntil : List Rule → List ℕ → List Row → Reached → Result Reached Cause → List ℕ → List Row → Type 0
+PrintsUntil list key rows r led output new = Prints list key rows r output new
     ⊎ ((next : Reached) × (act : Act) × (led ≡ Ok next) × (next.acts ≡ r.acts ++ act ∷ [])
-    × PrintsHalf key rows r.acts act output new)
+    × PrintsHalf list key rows r.acts act output new)
 
 -- The lines before line n are done and print what they print alone; then comes the fault. An empty line takes no
--- memory;
--- reading the script does, which counts as line 1.
-pub record MemoryText (key : List ℕ) (rows : List Row) (last : ℤ) (input : List ℕ) (output : List ℕ) (new : List Row)
-    (end : ℤ) (n : ℕ) : Type 0 where
+-- memory; reading the script does, which counts as line 1.
+pub record MemoryText (list : List Rule) (key : List ℕ) (rows : List Row) (last : ℤ) (input : List ℕ)
+    (output : List ℕ) (new : List Row) (end : ℤ) (n : ℕ) : Type 0 where
   pub r : Reached
   pub before : List (List ℕ)
   pub line : List ℕ
@@ -282,15 +286,17 @@ pub record MemoryText (key : List ℕ) (rows : List Row) (last : ℤ) (input : L
   pub place : IsLine (lines input) n before line
   pub asks : line ≡ [] → n ≡ 1
   pub leads : LeadsTo (begun last) before r
-  pub prints : PrintsUntil key rows r (after_line r line) readings new
+  pub prints : PrintsUntil list key rows r (after_line r line) readings new
   pub text : output ≡ readings ++ fault_text n Memory
   pub moment : end ≡ r.last
 
-abbrev pub EndsForMemory : List ℕ → List Row → ℤ → List ℕ → List ℕ → List Row → ℤ → Ended → Type 0
-EndsForMemory key rows last input output new end Whole = ⊥
-EndsForMemory key rows last input output new end (Faulty n) = MemoryText key rows last input output new end n
+abbrev pub EndsForMemory : List Rule → List ℕ → List Row → ℤ → List ℕ → List ℕ → List Row → ℤ → Ended → Type 0
+EndsForMemory list key rows last input output new end Whole = ⊥
+EndsForMemory list key rows last input output new end (Faulty n) =
+    MemoryText list key rows last input output new end n
 
 -- what a run of the script prints and leaves, and how it ends, by a generator with this error type
-abbrev pub Runs : Type 0 → List ℕ → List Row → ℤ → List ℕ → List ℕ → List Row → ℤ → Ended → Type 0
-Runs Error key rows last input output new end ended =
-    ScriptText Error key rows last input output new end ended ⊎ EndsForMemory key rows last input output new end ended
+abbrev pub Runs : Type 0 → List Rule → List ℕ → List Row → ℤ → List ℕ → List ℕ → List Row → ℤ → Ended → Type 0
+Runs Error list key rows last input output new end ended =
+    ScriptText Error list key rows last input output new end ended
+    ⊎ EndsForMemory list key rows last input output new end ended

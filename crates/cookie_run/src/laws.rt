@@ -1,5 +1,5 @@
 //! What holds of every play on the rows of a store (RFC 6265, sections 5.2 to 5.4).
-ghost use Rattle.cookie_run.specs.store.Laws as law;
+ghost use Rattle.cookie_run.specs.Laws as law;
 
 use cookie::Key;
 use cookie::laws::{one_value, texts_are_utf8};
@@ -26,6 +26,11 @@ pub fn answers_are_confined()
 {
     cookie_store::laws();
 }
+
+/// A line that isn't stored changes nothing.
+pub fn refused_lines_change_nothing()
+    ensures { law.RefusedLinesChangeNothing }
+{}
 
 /// The line of a session's cookie, received at an https URL of the host that sent it, becomes a row
 /// of that host alone under the path `/`, or leaves no live row of its key where it is dead then.

@@ -2,8 +2,8 @@
 //! what it set.
 //!
 //! A [`session::Session`] reads the cookies of a request's header and closes with the lines of
-//! those that were set. A [`client::Client`] keeps the lines that it receives and gives each request
-//! the header of its host. [`play::play`] runs steps of sites against one client; its contract is
+//! those that were set. A [`client::Client`] holds a store of the cookies that it receives and gives
+//! each request its header. [`play::play`] runs steps of sites against one client; its contract is
 //! that each site reads what its own delivered commands leave.
 #![tactic(auto)]
 
@@ -15,7 +15,6 @@ pub mod play;
 mod pour;
 pub mod program;
 mod reading;
-pub mod row;
 pub mod script;
 pub mod session;
 pub mod step;
@@ -27,7 +26,6 @@ pub use script::ended::{Ended, RunError};
 pub use script::run::run;
 pub use session::Session;
 pub use step::{
-    Command, CookieError, Delivery, Fault, FaultKind, LineEnd, Reading, SessionError, Step,
-    Stopped, StoreAction, Way,
+    Command, Delivery, Fault, FaultKind, LineEnd, Reading, SessionError, Step, Stopped, Way,
 };
 pub use text::Text;

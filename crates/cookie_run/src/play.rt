@@ -6,35 +6,35 @@ ghost use Rattle.std.specs.Option.{option_to_list};
 ghost use Rattle.jiff.specs.Words.{civil_nanos};
 ghost use Rattle.cookie_run.specs.declared.step.Reading.{Reading};
 ghost use Rattle.cookie_run.specs.Moments.{AllFollow, last_of, the_beginning};
-ghost use Rattle.cookie_run.specs.Rows.{given, header_of, Takes};
-ghost use Rattle.cookie_run.specs.Acts.{acts_of, act_of, arrival_of, Arrives, moments_in, moments_of, arrival_moments};
+ghost use Rattle.cookie_run.specs.Accept.{Takes};
+ghost use Rattle.cookie_run.specs.Acts.{acts_of, act_of, arrival_of, Visits, Arrives, moments_in, moments_of};
+ghost use Rattle.cookie_run.specs.Acts.{arrival_moments};
 ghost use Rattle.cookie_run.specs.Stops.{StopsFrom, StopsInside, GoesOnBy};
 ghost use Rattle.cookie_run.specs.Jar.{Keyed};
-ghost use Rattle.cookie_run.specs.Play.{IsRun, IsRunUntil, SetTells, GetTells, CommandTells, Tells, TellsFront, Serves};
-ghost use Rattle.cookie_run.specs.Play.{ServesAll, ServesFront, OneStep, Delivers, ReadsFront, ReadsAll};
+ghost use Rattle.cookie_run.specs.Play.{IsRun, IsRunUntil, SetTells, RemoveTells, GetTells, CommandTells, Tells};
+ghost use Rattle.cookie_run.specs.Play.{TellsFront, OneStep, Delivers, ReadsFront, ReadsAll};
 ghost use Rattle.cookie_run.specs.Readings.{MayRead, NeedsNoNonce, ActNeedsNoNonce};
 ghost use Rattle.cookie_run.specs.Site.{set_refusal};
 ghost use Rattle.cookie_run.specs.Headline.{SitesReadTheirOwn, SitesReadTheirOwnUntil};
 
 use crate::client::Client;
+use crate::laws::sites_read_their_own;
 use crate::moment::{beginning, come_to};
 use crate::session::{Session, copy_of};
 use crate::step::{Command, Delivery, Fault, FaultKind, Reading, SessionError, Step, Way};
 use crate::text::Text;
-use cookie::laws::{one_value, texts_are_utf8};
 use cookie::{Cookie, Key};
-use cookie_text::laws::encoded_records_read_back;
 use jiff::civil::DateTime;
 use rand_core::TryRng;
 use std::alloc::{AllocError, Global};
 use url::Url;
 
-/// What the steps read, for a client that begins with no row, where every site has this key and
-/// draws its nonces from this generator.
+/// What the steps read, for a client that begins with no row and this list of public suffixes, where
+/// every site has this key and draws its nonces from this generator.
 ///
-/// An exchange opens a session on the header of its request, does its commands, and hands the lines
-/// of the session to the client at the moment of delivery, if there is one. A refused command reads
-/// as `Refused` and the play goes on.
+/// An exchange opens a session on the header of its request, does its commands, removals at the moment
+/// of the request, and hands the lines of the session to the client at the moment of delivery, if there
+/// is one. A refused command reads as `Refused` and the play goes on.
 ///
 /// # Errors
 ///
@@ -44,26 +44,24 @@ use url::Url;
 /// commands.
 pub fn play<R: TryRng>(
     alloc: Global,
+    list: publicsuffix::List,
     key: &Key,
     steps: &[Step],
     rng: &mut R,
 ) -> Result<Vec<Reading>, Fault>
-    ensures run { IfOk result (λ readings. IsRun key.now (acts_of steps.now) readings.items) }
-    ensures sites { IfOk result (λ readings. SitesReadTheirOwn (acts_of steps.now) readings.items) }
+    ensures run { IfOk result (λ readings. IsRun list key.now (acts_of steps.now) readings.items) }
+    ensures sites { IfOk result (λ readings. SitesReadTheirOwn list (acts_of steps.now) readings.items) }
     ensures moments { OnOk result (AllFollow the_beginning (moments_of (acts_of steps.now))) }
     ensures run_until { IfErr result (λ fault.
-        IsRunUntil key.now (acts_of steps.now) fault.step fault.kind fault.readings.items) }
+        IsRunUntil list key.now (acts_of steps.now) fault.step fault.kind fault.readings.items) }
     ensures sites_until { IfErr result (λ fault.
-        SitesReadTheirOwnUntil (acts_of steps.now) fault.step fault.kind fault.readings.items) }
+        SitesReadTheirOwnUntil list (acts_of steps.now) fault.step fault.kind fault.readings.items) }
     ensures failed { MatchResult result (λ readings. AllByRecursion (MayRead R.Error) readings.items)
         (λ fault. AllByRecursion (MayRead R.Error) fault.readings.items) }
     ensures unasked { AllByRecursion ActNeedsNoNonce (acts_of steps.now) → rng.new ≡ rng.old }
 {
-    encoded_records_read_back();
-    one_value();
-    texts_are_utf8();
-    let _ = key.encryption();
-    let mut client = Client::new(alloc);
+    sites_read_their_own(key);
+    let mut client = Client::new(alloc, list);
     let mut last = beginning();
     let mut readings = Vec::new(alloc);
     for (i, step) in steps.iter().enumerate() {
@@ -89,12 +87,13 @@ fn act<R: TryRng>(
     rng: &mut R,
 ) -> Result<(), FaultKind>
     ensures step { OnOk result ((told : List Reading) × (readings.new.items ≡ readings.old.items ++ told)
-        × OneStep key.now client.old (act_of step.now) told client.new) }
+        × OneStep client.old.suffixes key.now client.old.rows (act_of step.now) told client.new.rows) }
+    ensures list { client.new.suffixes ≡ client.old.suffixes }
     ensures moments { OnOk result (AllFollow (civil_nanos last.old) (moments_in (act_of step.now))
         × (civil_nanos last.new ≡ last_of (civil_nanos last.old) (moments_in (act_of step.now)))) }
     ensures err { IfErr result (λ kind. StopsFrom kind (civil_nanos last.old) (act_of step.now)
-        readings.old.items (ReadsFront key.now client.old (act_of step.now))
-        (ReadsAll key.now client.old (act_of step.now)) readings.new.items) }
+        readings.old.items (ReadsFront key.now client.old.rows (act_of step.now))
+        (ReadsAll key.now client.old.rows (act_of step.now)) readings.new.items) }
     ensures failed { AllByRecursion (MayRead R.Error) readings.old.items
         → AllByRecursion (MayRead R.Error) readings.new.items }
     ensures unasked { ActNeedsNoNonce (act_of step.now) → rng.new ≡ rng.old }
@@ -138,23 +137,25 @@ fn exchange<R: TryRng>(
     readings: &mut Vec<Reading>,
     rng: &mut R,
 ) -> Result<(), FaultKind>
-    ensures rows { OnOk result ((told : List Reading)
-        × (readings.new.items ≡ readings.old.items ++ told) × (session : Keyed)
-        × Serves key.now (header_of (given client.old url.now)) commands.now told session
-        × Delivers client.old url.now session.jar (arrival_of delivery) client.new) }
+    ensures rows { OnOk result ((told : List Reading) × (readings.new.items ≡ readings.old.items ++ told)
+        × OneStep client.old.suffixes key.now client.old.rows
+        (Visits url.now (civil_nanos last.old) commands.now (arrival_of delivery)) told client.new.rows) }
+    ensures list { client.new.suffixes ≡ client.old.suffixes }
     ensures moments { OnOk result (AllFollow (civil_nanos last.old) (arrival_moments (arrival_of delivery))
         × (civil_nanos last.new ≡ last_of (civil_nanos last.old) (arrival_moments (arrival_of delivery)))) }
     ensures err { IfErr result (λ kind. StopsInside kind (civil_nanos last.old)
         (arrival_of delivery) readings.old.items
-        (ServesFront key.now (header_of (given client.old url.now)) commands.now)
-        (ServesAll key.now (header_of (given client.old url.now)) commands.now) readings.new.items) }
+        (ReadsFront key.now client.old.rows (Visits url.now (civil_nanos last.old) commands.now (arrival_of delivery)))
+        (ReadsAll key.now client.old.rows (Visits url.now (civil_nanos last.old) commands.now (arrival_of delivery)))
+        readings.new.items) }
     ensures failed { AllByRecursion (MayRead R.Error) readings.old.items
         → AllByRecursion (MayRead R.Error) readings.new.items }
     ensures unasked { AllByRecursion NeedsNoNonce commands.now → rng.new ≡ rng.old }
 {
-    let header = client.header(url, *last)?;
+    let at = *last;
+    let header = client.header(url, at)?;
     let mut session = Session::open(alloc, header.as_bytes(), copy_of(key))?;
-    obey_all(alloc, &mut session, commands, readings, rng)?;
+    obey_all(alloc, &mut session, at, commands, readings, rng)?;
     match delivery {
         Delivery::Lost => Ok(()),
         Delivery::At(moment) => {
@@ -173,7 +174,9 @@ fn deliver(
     moment: DateTime,
 ) -> Result<(), FaultKind>
     ensures rows { OnOk result
-        (Delivers client.old url.now session.now.jar (Arrives (civil_nanos moment)) client.new) }
+        (Delivers client.old.suffixes client.old.rows url.now session.now.jar (Arrives (civil_nanos moment))
+        client.new.rows) }
+    ensures list { client.new.suffixes ≡ client.old.suffixes }
     ensures err { IfErr result (λ kind. kind ≡ FaultKind.Memory) }
 {
     let Ok(lines) = session.close() else {
@@ -190,7 +193,9 @@ fn receive(
     lines: &[&[u8]],
     moment: DateTime,
 ) -> Result<(), FaultKind>
-    ensures rows { OnOk result (Takes client.old url.now (map (λ line. line.now) lines.now) client.new) }
+    ensures rows { OnOk result (Takes client.old.suffixes client.old.rows url.now (civil_nanos moment)
+        (map (λ line. line.now) lines.now) client.new.rows) }
+    ensures list { client.new.suffixes ≡ client.old.suffixes }
     ensures err { IfErr result (λ kind. kind ≡ FaultKind.Memory) }
 {
     match client.receive(url, lines, moment) {
@@ -221,43 +226,47 @@ pub(crate) fn bytes_of(alloc: Global, lines: &[String]) -> Result<Vec<&[u8]>, Al
     Ok(views)
 }
 
-// The commands of a session in their order.
+// The commands of a session that was opened at this moment, in their order.
 fn obey_all<R: TryRng>(
     alloc: Global,
     session: &mut Session,
+    at: DateTime,
     commands: &[Command],
     readings: &mut Vec<Reading>,
     rng: &mut R,
 ) -> Result<(), AllocError>
     ensures ok { OnOk result ((told : List Reading) × (readings.new.items ≡ readings.old.items ++ told)
-        × Tells session.old commands.now told session.new) }
+        × Tells session.old (civil_nanos at) commands.now told session.new) }
     ensures err { OnErr result
-        (GoesOnBy readings.old.items (TellsFront session.old commands.now) readings.new.items) }
+        (GoesOnBy readings.old.items (TellsFront session.old (civil_nanos at) commands.now) readings.new.items) }
     ensures failed { AllByRecursion (MayRead R.Error) readings.old.items
         → AllByRecursion (MayRead R.Error) readings.new.items }
     ensures unasked { AllByRecursion NeedsNoNonce commands.now → rng.new ≡ rng.old }
 {
     for command in commands {
-        if let Some(reading) = obey(alloc, session, command, rng)? {
+        if let Some(reading) = obey(alloc, session, at, command, rng)? {
             readings.push(reading)?;
         }
     }
     Ok(())
 }
 
-// One command of a session, and what it reads.
+// One command of a session that was opened at this moment, and what it reads.
 fn obey<R: TryRng>(
     alloc: Global,
     session: &mut Session,
+    at: DateTime,
     command: &Command,
     rng: &mut R,
 ) -> Result<Option<Reading>, AllocError>
-    ensures ok { IfOk result (λ reading. CommandTells session.old command.now (option_to_list reading) session.new) }
+    ensures ok { IfOk result (λ reading. CommandTells session.old (civil_nanos at) command.now
+        (option_to_list reading) session.new) }
     ensures failed { IfOk result (λ reading. AllByRecursion (MayRead R.Error) (option_to_list reading)) }
     ensures unasked { NeedsNoNonce command.now → rng.new ≡ rng.old }
 {
     match command {
         Command::Set(way, cookie) => set(alloc, session, *way, cookie, rng),
+        Command::Remove(way, name) => remove(session, *way, name, at),
         Command::Get(way, name) => get(session, *way, name),
     }
 }
@@ -276,6 +285,24 @@ fn set<R: TryRng>(
 {
     let cookie = cookie.clone(alloc)?;
     match session.set(way, cookie, rng) {
+        Ok(()) => Ok(None),
+        Err(SessionError::OutOfMemory) => Err(AllocError),
+        Err(error) => Ok(Some(Reading::Refused(error))),
+    }
+}
+
+// Removes the cookie of a name at this moment, and gives what that reads.
+fn remove(
+    session: &mut Session,
+    way: Way,
+    name: &Text,
+    at: DateTime,
+) -> Result<Option<Reading>, AllocError>
+    ensures ok { IfOk result (λ reading.
+        RemoveTells session.old (civil_nanos at) way name.now (option_to_list reading) session.new) }
+    ensures failed { IfOk result (λ reading. AllByRecursion (MayRead ⊥) (option_to_list reading)) }
+{
+    match session.remove(way, name.as_str(), at) {
         Ok(()) => Ok(None),
         Err(SessionError::OutOfMemory) => Err(AllocError),
         Err(error) => Ok(Some(Reading::Refused(error))),

@@ -17,13 +17,15 @@ use rand_core::SeedableRng;
 // What key and generator come from.
 const SEED: [u8; 32] = [0; 32];
 
-/// Runs the script of a reader on a client without a row, from 1971-01-01T00:00:00 on, and answers
-/// the program's exit status, with what goes to standard error at status 2.
+/// Runs the script of a reader on a client without a row and without a public suffix, from
+/// 1971-01-01T00:00:00 on, and answers the program's exit status, with what goes to standard error at
+/// status 2.
 ///
 /// Key and generator come from a seed of 32 zero bytes, so nothing that it signs or seals is secret.
 ///
 /// The status is 0 where every line was done and 1 after the fault of a line. At 2 the reader failed
-/// (`input`) or the writer (`output`). The words behind the program's name are not looked at.
+/// (`input`) or the writer (`output`), or there was no memory outside the script (`memory`). The
+/// words behind the program's name are not looked at.
 pub fn program<R: Source, W: Sink>(
     rt: &impl AllocGlobal,
     _words: &[String],
@@ -41,7 +43,10 @@ pub fn program<R: Source, W: Sink>(
 {
     let key = Key::derive_from(&SEED);
     let mut rng = ChaCha20Rng::from_seed(SEED);
-    let mut client = Client::new(rt.alloc());
+    let Ok(list) = publicsuffix::List::parse(rt.alloc(), b"") else {
+        return (2, Some("memory"));
+    };
+    let mut client = Client::new(rt.alloc(), list);
     let mut last = begin_1971();
     match run(
         rt.alloc(),

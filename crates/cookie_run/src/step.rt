@@ -6,6 +6,7 @@ ghost use Rattle.cookie_run.specs.Errors.{error_of};
 
 use crate::text::Text;
 use cookie::{Cookie, PrivateError};
+use cookie_store::{CookieError, StoreAction};
 use jiff::civil::DateTime;
 use std::alloc::{AllocError, AllocFailed};
 use thiserror::Error;
@@ -31,6 +32,8 @@ pub enum Way {
 pub enum Command {
     /// Sets a cookie in a way.
     Set(Way, Cookie<'static>),
+    /// Removes the cookie of a name, as set in a way.
+    Remove(Way, Text),
     /// Reads the value of a name, as set in a way.
     Get(Way, Text),
 }
@@ -118,34 +121,14 @@ impl From<PrivateError> for SessionError {
     }
 }
 
-/// What a client did with a cookie.
-#[derive(Clone, Copy, Debug, PartialEq, Eq)]
-pub enum StoreAction {
-    /// It is a new row.
-    Inserted,
-    /// It took the place of the row with its key.
-    UpdatedExisting,
-}
-
-/// Why a client refuses a cookie.
-#[derive(Clone, Copy, Debug, PartialEq, Eq, Error)]
-pub enum CookieError {
-    /// The URL isn't https.
-    #[error("request-uri is not an http scheme but HttpOnly attribute set")]
-    NonHttpScheme,
-    /// The line is no cookie that a client keeps.
-    #[error("unable to parse string as cookie::Cookie")]
-    Parse,
-}
-
 /// What became of a line.
 #[derive(Clone, Copy, Debug, PartialEq, Eq)]
 pub enum LineEnd {
-    /// It is a row.
+    /// The store took its cookie, and did this.
     Stored(StoreAction),
-    /// It was refused, and changed nothing.
+    /// The store refused it, and nothing changed.
     Refused(CookieError),
-    /// It isn't UTF-8, and changed nothing.
+    /// It isn't UTF-8, and nothing changed.
     NotText,
 }
 

@@ -4,6 +4,7 @@
 use cookie::{Cookie, Key};
 use cookie_run::{Client, Session, Way};
 use jiff::civil::DateTime;
+use publicsuffix::List;
 use rand_chacha::ChaCha20Rng;
 use rand_core::SeedableRng;
 use std::test::Fail;
@@ -14,7 +15,7 @@ fn comes_back_to_the_site(rt: HostRuntime) -> Result<(), Fail> {
     let url = Url::parse(rt.alloc(), "https://shop.com/")?;
     let now = DateTime::constant(2024, 1, 1, 0, 0, 0, 0);
     let mut rng = ChaCha20Rng::from_seed([7; 32]);
-    let mut client = Client::new(rt.alloc());
+    let mut client = Client::new(rt.alloc(), List::parse(rt.alloc(), b"com\n")?);
     // The site sets a cookie in its answer to a first request.
     let mut session = Session::open(rt.alloc(), b"", Key::from(&[7; 64]))?;
     session.set(Way::Sealed, Cookie::new("user", "7"), &mut rng)?;

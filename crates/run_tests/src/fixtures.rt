@@ -4,6 +4,7 @@ use cookie::{Cookie, Expiration, Key};
 use cookie_run::{Client, Counting, Ended, LineEnd, RunError, Session, Text, Way, run};
 use jiff::SignedDuration;
 use jiff::civil::DateTime;
+use publicsuffix::{List, ListError};
 use std::alloc::{AllocError, Global};
 use std::process::Abort;
 use url::Url;
@@ -43,9 +44,15 @@ pub fn zero_key() -> Key {
     Key::from(&[0; 64])
 }
 
-/// How a script ends for a client begun empty; what it prints is put behind `output`.
+/// A client without a row, with `com` and `net` for its public suffixes.
+pub fn client(alloc: Global) -> Result<Client, ListError> {
+    Ok(Client::new(alloc, List::parse(alloc, b"com\nnet\n")?))
+}
+
+/// How a script ends for a client; what it prints is put behind `output`.
 pub fn run_script(
     alloc: Global,
+    client: &mut Client,
     script: &str,
     output: &mut Vec<u8>,
     rng: &mut Generator,
@@ -54,7 +61,7 @@ pub fn run_script(
         alloc,
         &mut Counting::new(script.as_bytes()),
         &mut Counting::new(output),
-        &mut Client::new(alloc),
+        client,
         &mut beginning(),
         &zero_key(),
         rng,

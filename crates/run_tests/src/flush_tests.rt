@@ -1,9 +1,9 @@
 //! The last call of a writer is the flush.
-use crate::fixtures::{beginning, zero_key};
+use crate::fixtures::{beginning, client, zero_key};
 use crate::generators::zeros;
 use crate::stream_tests::VISIT;
 use cookie_run::program::program;
-use cookie_run::{Client, Counting, Ended, run};
+use cookie_run::{Counting, Ended, run};
 use std::alloc::Global;
 use std::io::{self, Write};
 use std::test::Fail;
@@ -42,7 +42,7 @@ const WHOLE: &str = "header\thttps://shop.com/\t2024-01-01T00:00:00Z\n";
 // Whether a script's run ends so, and its last call of the writer is a flush.
 fn ends_flushed(alloc: Global, script: &str, wanted: Ended) -> Result<bool, Fail> {
     let mut writer = KnowsItsLast::new();
-    let mut client = Client::new(alloc);
+    let mut client = client(alloc)?;
     let mut last = beginning();
     let ended = run(
         alloc,

@@ -33,6 +33,8 @@ mod script_tests;
 #[cfg(test)]
 mod session_tests;
 #[cfg(test)]
+mod site_tests;
+#[cfg(test)]
 mod stream_tests;
 #[cfg(test)]
 mod text_tests;

@@ -3,16 +3,19 @@
 //! A scenario looks at what a refusal leaves, and answers whether it met want of memory. A test ends
 //! with that as its error, so it passes with ample memory alone; `tools/refuse-growths` refuses each
 //! growth in turn, and takes no other failure.
-use crate::fixtures::{cookie, is_line, run_script, second, text, zero_key};
+use crate::fixtures::{client, cookie, is_line, run_script, second, text, zero_key};
 use crate::generators::zeros;
 use cookie::Cookie;
 use cookie_run::play::play;
 use cookie_run::program::program;
 use cookie_run::{
-    Client, Command, Counting, Delivery, Ended, FaultKind, LineEnd, Reading, Session, SessionError,
-    Step, Stopped, StoreAction, Way,
+    Command, Counting, Delivery, Ended, FaultKind, LineEnd, Reading, Session, SessionError, Step,
+    Stopped, Way,
 };
+use cookie_store::{CookieError, StoreAction};
+use jiff::SignedDuration;
 use jiff::civil::DateTime;
+use publicsuffix::List;
 use std::alloc::{AllocError, Global};
 use std::process::Abort;
 use url::Url;
@@ -146,12 +149,11 @@ fn removes(rt: &impl Abort, alloc: Global) -> bool {
 }
 
 fn receives(rt: &impl Abort, alloc: Global) -> bool {
-    let Ok(url) = Url::parse(alloc, SHOP) else {
+    let (Ok(url), Ok(mut client)) = (Url::parse(alloc, SHOP), client(alloc)) else {
         return true;
     };
     let lines: [&[u8]; 3] = [b"a=1; Path=/", b"a=2; HttpOnly; Path=/", b"b=%33; Path=/"];
     let headers = ["", "a=1", "a=2", "a=2; b=%33"];
-    let mut client = Client::new(alloc);
     let applied = match client.receive(&url, &lines, second(0)) {
         Ok(ends) => {
             let new = LineEnd::Stored(StoreAction::Inserted);
@@ -174,6 +176,25 @@ fn receives(rt: &impl Abort, alloc: Global) -> bool {
     applied < 3
 }
 
+// Lines for which no memory is asked: where any is refused, none of them was looked at.
+fn refuses_lines(rt: &impl Abort, alloc: Global) -> bool {
+    let (Ok(url), Ok(mut client)) = (Url::parse(alloc, SHOP), client(alloc)) else {
+        return true;
+    };
+    let lines: [&[u8]; 2] = [b"=v", b"\xff"];
+    match client.receive(&url, &lines, second(0)) {
+        Ok(ends) => {
+            let wanted = [LineEnd::Refused(CookieError::Parse), LineEnd::NotText];
+            assert!(rt; ends.as_slice() == wanted.as_slice());
+            false
+        }
+        Err(stopped) => {
+            assert!(rt; stopped == Stopped(0));
+            true
+        }
+    }
+}
+
 // An exchange at a shop.
 fn visit(alloc: Global, at: DateTime, commands: Vec<Command>, delivery: Delivery) -> Option<Step> {
     let url = Url::parse(alloc, SHOP).ok()?;
@@ -186,7 +207,9 @@ fn visit(alloc: Global, at: DateTime, commands: Vec<Command>, delivery: Delivery
 }
 
 fn sets_two(alloc: Global) -> Option<Step> {
-    let plain = Command::Set(Way::Plain, cookie(alloc, "a", "1").ok()?);
+    let mut ending = cookie(alloc, "a", "1").ok()?;
+    ending.set_max_age(Some(SignedDuration::from_secs(5)));
+    let plain = Command::Set(Way::Plain, ending);
     let sealed = Command::Set(Way::Sealed, cookie(alloc, "b", "2").ok()?);
     let commands = vec![in alloc; plain, sealed].ok()?;
     visit(alloc, second(0), commands, Delivery::At(second(1)))
@@ -195,8 +218,15 @@ fn sets_two(alloc: Global) -> Option<Step> {
 fn gets_two(alloc: Global) -> Option<Step> {
     let plain = Command::Get(Way::Plain, text(alloc, "a").ok()?);
     let sealed = Command::Get(Way::Sealed, text(alloc, "b").ok()?);
-    let commands = vec![in alloc; plain, sealed].ok()?;
-    visit(alloc, second(2), commands, Delivery::Lost)
+    let removal = Command::Remove(Way::Sealed, text(alloc, "b").ok()?);
+    let commands = vec![in alloc; plain, sealed, removal].ok()?;
+    visit(alloc, second(2), commands, Delivery::At(second(3)))
+}
+
+fn gets_none(alloc: Global) -> Option<Step> {
+    let sealed = Command::Get(Way::Sealed, text(alloc, "b").ok()?);
+    let commands = vec![in alloc; sealed].ok()?;
+    visit(alloc, second(4), commands, Delivery::Lost)
 }
 
 fn foreign(alloc: Global) -> Option<Step> {
@@ -216,15 +246,16 @@ fn header(alloc: Global) -> Option<Step> {
     })
 }
 
-// An answer that is delivered, and what it set is read.
+// An answer that is delivered, what it set is read, and a removal that is delivered.
 fn visits(alloc: Global) -> Option<Vec<Step>> {
-    vec![in alloc; sets_two(alloc)?, gets_two(alloc)?].ok()
+    vec![in alloc; sets_two(alloc)?, gets_two(alloc)?, gets_none(alloc)?].ok()
 }
 
 fn read_by_visits(alloc: Global) -> Option<Vec<Reading>> {
     let plain = value(alloc, Way::Plain, "a", "1")?;
     let sealed = value(alloc, Way::Sealed, "b", "2")?;
-    vec![in alloc; plain, sealed].ok()
+    let none = Reading::Value(Way::Sealed, text(alloc, "b").ok()?, None);
+    vec![in alloc; plain, sealed, none].ok()
 }
 
 // Lines from elsewhere, and the header that they make.
@@ -243,16 +274,19 @@ fn value(alloc: Global, way: Way, name: &str, value: &str) -> Option<Reading> {
     Some(Reading::Value(way, name, Some(value)))
 }
 
-// Whether a play of two steps met want of memory; else it reads this.
+// Whether a play met want of memory; else it reads this.
 fn is_stopped(rt: &impl Abort, alloc: Global, steps: &[Step], wanted: &[Reading]) -> bool {
-    match play(alloc, &zero_key(), steps, &mut zeros()) {
+    let Ok(list) = List::parse(alloc, b"com") else {
+        return true;
+    };
+    match play(alloc, list, &zero_key(), steps, &mut zeros()) {
         Ok(readings) => {
             assert!(rt; readings.as_slice() == wanted);
             false
         }
         Err(fault) => {
             assert!(rt; fault.kind == FaultKind::Memory);
-            assert!(rt; 1 <= fault.step && fault.step <= 2);
+            assert!(rt; 1 <= fault.step && fault.step <= steps.len());
             assert!(rt; wanted.starts_with(&fault.readings));
             true
         }
@@ -286,10 +320,10 @@ fn is_cut_at(alloc: Global, output: &[u8], prints: &str, n: u64) -> bool {
 
 // Whether the run of a script met want of memory; else it prints this and ends so.
 fn is_cut(rt: &impl Abort, alloc: Global, script: &str, prints: &str, end: Ended) -> bool {
-    let Ok(mut output) = Vec::with_capacity(alloc, 1000) else {
+    let (Ok(mut client), Ok(mut output)) = (client(alloc), Vec::with_capacity(alloc, 1000)) else {
         return true;
     };
-    let ended = run_script(alloc, script, &mut output, &mut zeros());
+    let ended = run_script(alloc, &mut client, script, &mut output, &mut zeros());
     if let Ok(Ended::Faulty(n)) = ended {
         if is_cut_at(alloc, &output, prints, n) {
             return true;
@@ -389,6 +423,11 @@ fn remove(rt: HostRuntime) -> Result<(), AllocError> {
 #[test]
 fn receive(rt: HostRuntime) -> Result<(), AllocError> {
     told(receives(&rt, rt.alloc()))
+}
+
+#[test]
+fn refuse(rt: HostRuntime) -> Result<(), AllocError> {
+    told(refuses_lines(&rt, rt.alloc()))
 }
 
 #[test]

@@ -3,6 +3,7 @@ use crate::fixtures::{cookie, second, text, zero_key};
 use crate::generators::Failed;
 use cookie_run::play::play;
 use cookie_run::{Command, Delivery, Reading, SessionError, Step, Way};
+use publicsuffix::List;
 use rand_core::TryRng;
 use std::alloc::{AllocError, Global};
 use std::test::Fail;
@@ -61,7 +62,8 @@ fn fills_once_for_each_sealed_set(rt: HostRuntime) -> Result<(), Fail> {
         delivery: Delivery::At(second(0)),
     };
     let mut rng = Numbered { fills: 0 };
-    let readings = play(alloc, &zero_key(), &[step], &mut rng)?;
+    let list = List::parse(alloc, b"com")?;
+    let readings = play(alloc, list, &zero_key(), &[step], &mut rng)?;
     let wanted = [
         Reading::Refused(SessionError::EmptyName),
         Reading::Value(Way::Sealed, text(alloc, "b")?, Some(text(alloc, "1")?)),
@@ -77,6 +79,7 @@ mod memory {
     use crate::fixtures::{second, zero_key};
     use cookie_run::play::play;
     use cookie_run::{Command, Delivery, FaultKind, Step, Way};
+    use publicsuffix::List;
     use std::alloc::{AllocError, Global};
     use std::process::Abort;
     use url::Url;
@@ -96,8 +99,11 @@ mod memory {
 
     // Each get before the last fill was read, and none behind the next one.
     fn reads_as_it_fills(rt: &impl Abort, alloc: Global) -> bool {
-        let (Ok(commands), Ok(url)) = (commands(alloc), Url::parse(alloc, "https://shop.com/"))
-        else {
+        let (Ok(commands), Ok(url), Ok(list)) = (
+            commands(alloc),
+            Url::parse(alloc, "https://shop.com/"),
+            List::parse(alloc, b"com"),
+        ) else {
             return true;
         };
         let step = Step::Exchange {
@@ -107,7 +113,7 @@ mod memory {
             delivery: Delivery::At(second(0)),
         };
         let mut rng = Numbered { fills: 0 };
-        match play(alloc, &zero_key(), &[step], &mut rng) {
+        match play(alloc, list, &zero_key(), &[step], &mut rng) {
             Ok(readings) => {
                 assert_eq!(rt; readings.len(), 3);
                 assert_eq!(rt; rng.fills, 3);

@@ -6,6 +6,7 @@ use cookie_run::play::play;
 use cookie_run::{Command, Delivery, FaultKind, Reading, SessionError, Step, Way};
 use jiff::SignedDuration;
 use jiff::civil::DateTime;
+use publicsuffix::List;
 use std::alloc::{AllocError, Global};
 use std::test::Fail;
 use url::Url;
@@ -48,7 +49,8 @@ fn stops(
         url: Url::parse(alloc, "https://shop.com/")?,
         at: second(8),
     };
-    match play(alloc, &zero_key(), &[first, later], &mut zeros()) {
+    let list = List::parse(alloc, b"com")?;
+    match play(alloc, list, &zero_key(), &[first, later], &mut zeros()) {
         Ok(_) => Ok(false),
         Err(fault) => {
             let is_here = fault.kind == kind && fault.step == step;
@@ -100,7 +102,8 @@ fn goes_on_where_the_generator_fails(rt: HostRuntime) -> Result<(), Fail> {
         Reading::Value(Way::Plain, text(alloc, "b")?, Some(text(alloc, "2")?)),
         Reading::Value(Way::Sealed, text(alloc, "a")?, None),
     ];
-    let readings = play(alloc, &zero_key(), &steps, &mut failing())?;
+    let list = List::parse(alloc, b"com")?;
+    let readings = play(alloc, list, &zero_key(), &steps, &mut failing())?;
     assert!(rt; readings.as_slice() == wanted.as_slice());
     Ok(())
 }
@@ -123,7 +126,8 @@ fn a_site_reads_whatever_its_attributes(rt: HostRuntime) -> Result<(), Fail> {
         exchange(alloc, second(0), sets, Delivery::At(second(0)))?,
         exchange(alloc, second(1), gets, Delivery::At(second(1)))?,
     ];
-    let readings = play(alloc, &zero_key(), &steps, &mut zeros())?;
+    let list = List::parse(alloc, b"com")?;
+    let readings = play(alloc, list, &zero_key(), &steps, &mut zeros())?;
     let wanted = [
         Reading::Value(Way::Plain, text(alloc, "a b")?, Some(text(alloc, "1;=")?)),
         Reading::Value(Way::Plain, text(alloc, "c")?, Some(text(alloc, "")?)),

@@ -1,8 +1,8 @@
 //! What a script leaves that a run of the program doesn't show, and a generator that fails.
 //! What scripts print, and how they end, stands in `cases/`.
-use crate::fixtures::{beginning, gives, run_script, second, zero_key};
+use crate::fixtures::{beginning, client, gives, run_script, second, zero_key};
 use crate::generators::{failing, zeros};
-use cookie_run::{Client, Counting, Ended, run};
+use cookie_run::{Counting, Ended, run};
 use std::test::Fail;
 use url::Url;
 
@@ -16,7 +16,7 @@ fly\thttps://shop.com/\t2024-01-01T00:00:09Z\n";
 #[test]
 fn leaves_what_was_done_before_the_fault(rt: HostRuntime) -> Result<(), Fail> {
     let alloc = rt.alloc();
-    let mut client = Client::new(alloc);
+    let mut client = client(alloc)?;
     let mut last = beginning();
     let mut output = Vec::new(alloc);
     let ended = run(
@@ -40,9 +40,18 @@ set\tsigned\ta\t1\t-\t-\n\
 set\tsealed\ta\t1\t-\t-\n";
 
 #[test]
-fn names_the_generators_failure(rt: HostRuntime) {
-    let mut output = Vec::new(rt.alloc());
-    let ended = run_script(rt.alloc(), SIGNED_AND_SEALED, &mut output, &mut failing());
+fn names_the_generators_failure(rt: HostRuntime) -> Result<(), Fail> {
+    let alloc = rt.alloc();
+    let mut client = client(alloc)?;
+    let mut output = Vec::new(alloc);
+    let ended = run_script(
+        alloc,
+        &mut client,
+        SIGNED_AND_SEALED,
+        &mut output,
+        &mut failing(),
+    );
     assert!(rt; ended == Ok(Ended::Faulty(3)));
     assert!(rt; output.as_slice() == b"line 3: Rng\n".as_slice());
+    Ok(())
 }

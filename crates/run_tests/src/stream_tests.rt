@@ -1,6 +1,6 @@
 //! Readers and writers that are slow, or fail in mid-stream.
 use crate::devices::{ByteByByte, CountsFlushes, FailsAt, TakesNone};
-use crate::fixtures::{beginning, gives, zero_key};
+use crate::fixtures::{beginning, client, gives, zero_key};
 use crate::generators::zeros;
 use cookie_run::{Client, Counting, Ended, RunError, run};
 use std::alloc::Global;
@@ -42,16 +42,17 @@ fn run_over<R: Read + Drop, W: Write + Drop>(
 }
 
 #[test]
-fn flushes_once(rt: HostRuntime) {
+fn flushes_once(rt: HostRuntime) -> Result<(), Fail> {
     let alloc = rt.alloc();
     let mut output = Vec::new(alloc);
-    let mut client = Client::new(alloc);
+    let mut client = client(alloc)?;
     let mut writer = CountsFlushes {
         inner: &mut output,
         flushes: 0,
     };
     let ended = run_over(alloc, VISIT.as_bytes(), &mut writer, &mut client);
     assert!(rt; ended == Ok(Ended::Faulty(9)) && writer.flushes == 1);
+    Ok(())
 }
 
 const HEADER: &str = "foo%20!%25%3F%3D=bar%3B%3B%2C%20a";
@@ -69,7 +70,7 @@ fn ends_so_by_reads(
     wanted: Result<Ended, RunError>,
 ) -> Result<bool, Fail> {
     let mut output = Vec::new(alloc);
-    let mut client = Client::new(alloc);
+    let mut client = client(alloc)?;
     let bytes = VISIT.as_bytes();
     let reader = FailsAt::new(ByteByByte { bytes }, call);
     let ended = run_over(alloc, reader, &mut output, &mut client);
@@ -99,7 +100,7 @@ fn tells_a_read_that_fails(rt: HostRuntime) -> Result<(), Fail> {
 // Whether a visit whose writer fails at this call ends so, with nothing lost but what follows.
 fn ends_so(alloc: Global, call: u64, wanted: Result<Ended, RunError>) -> Result<bool, Fail> {
     let mut output = Vec::new(alloc);
-    let mut client = Client::new(alloc);
+    let mut client = client(alloc)?;
     let writer = FailsAt::new(&mut output, call);
     let ended = run_over(alloc, VISIT.as_bytes(), writer, &mut client);
     let is_whole = output.as_slice() == VISIT_PRINTS.as_bytes();
@@ -114,7 +115,7 @@ fn ends_so(alloc: Global, call: u64, wanted: Result<Ended, RunError>) -> Result<
 // How many calls of the writer a visit makes.
 fn calls_of_a_visit(alloc: Global) -> Result<u64, Fail> {
     let mut output = Vec::new(alloc);
-    let mut client = Client::new(alloc);
+    let mut client = client(alloc)?;
     let mut writer = FailsAt::new(&mut output, u64::MAX);
     run_over(alloc, VISIT.as_bytes(), &mut writer, &mut client)?;
     Ok(writer.calls)
@@ -141,10 +142,10 @@ fn tells_a_write_that_fails(rt: HostRuntime) -> Result<(), Fail> {
 }
 
 #[test]
-fn tells_a_write_that_takes_none(rt: HostRuntime) {
+fn tells_a_write_that_takes_none(rt: HostRuntime) -> Result<(), Fail> {
     let alloc = rt.alloc();
     let mut output = Vec::new(alloc);
-    let mut client = Client::new(alloc);
+    let mut client = client(alloc)?;
     let writer = TakesNone {
         inner: FailsAt::new(&mut output, 1),
     };
@@ -152,4 +153,5 @@ fn tells_a_write_that_takes_none(rt: HostRuntime) {
     assert!(rt; ended == Err(RunError::Write));
     let first = b"plain\tfoo%20!%25?=\t=bar;;,%20a\n";
     assert!(rt; output.as_slice() == first.as_slice());
+    Ok(())
 }

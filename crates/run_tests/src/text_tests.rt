@@ -1,5 +1,5 @@
 //! The texts of errors.
-use cookie_run::{CookieError, RunError, SessionError, Stopped};
+use cookie_run::{RunError, SessionError, Stopped};
 use std::alloc::Global;
 use std::fmt::Display;
 
@@ -11,7 +11,6 @@ fn prints<E: Display + Drop>(alloc: Global, error: E, wanted: &str) -> bool {
     }
 }
 
-// Their names, and a refused cookie's cause as upstream's `CookieError` prints it.
 #[test]
 fn errors_give_their_names(rt: HostRuntime) {
     let alloc = rt.alloc();
@@ -23,8 +22,4 @@ fn errors_give_their_names(rt: HostRuntime) {
     assert!(rt; prints(alloc, Stopped(2), "Stopped(2)"));
     assert!(rt; prints(alloc, RunError::Read, "Read"));
     assert!(rt; prints(alloc, RunError::Write, "Write"));
-    let not_https = "request-uri is not an http scheme but HttpOnly attribute set";
-    assert!(rt; prints(alloc, CookieError::NonHttpScheme, not_https));
-    let unread = "unable to parse string as cookie::Cookie";
-    assert!(rt; prints(alloc, CookieError::Parse, unread));
 }

@@ -25,6 +25,8 @@ pub enum Cause {
     Open,
     /// The name of a cookie is empty.
     EmptyName,
+    /// The expiry of a cookie is of a year below 100.
+    Year,
     /// The value or the name is too long to be sealed.
     TooLong,
     /// The generator's fill failed.
@@ -48,6 +50,7 @@ impl Cause {
             Cause::NoSession => "NoSession",
             Cause::Open => "Open",
             Cause::EmptyName => "EmptyName",
+            Cause::Year => "Year",
             Cause::TooLong => "TooLong",
             Cause::Rng => "Rng",
             Cause::Memory => "Memory",

@@ -1,16 +1,19 @@
 //! What a line of a script asks for.
-ghost use Rattle.std.specs.Prelude.{◌≡◌, ◌⊎◌, map, IfOk, IfErr, Some, None};
-ghost use Rattle.jiff.specs.Words.{civil_nanos};
+ghost use Rattle.std.specs.Prelude.{◌≡◌, ◌⊎◌, map, IfOk, IfErr, IfSome, Some, None, option_map};
+ghost use Rattle.jiff.specs.Words.{civil_nanos, signed_nanos};
+ghost use Rattle.cookie_text.specs.Record.{unsliced};
 ghost use Rattle.cookie_run.specs.ScriptLine as spec;
-ghost use Rattle.cookie_run.specs.ScriptMoment as moments;
+ghost use Rattle.cookie_run.specs.ScriptMoment as dates;
 ghost use Rattle.cookie_run.specs.ScriptText as text_spec;
 ghost use Rattle.cookie_run.specs.ScriptRead.{Reads, line_of};
 
 use crate::script::cause::Cause;
 use crate::script::field::{fields_of, text_of, texts_of};
-use crate::script::moment::moment_of;
+use crate::script::moment::{Moment, date_of, moment_of};
 use crate::step::Way;
 use crate::text::Text;
+use cookie::{Cookie, Expiration};
+use jiff::SignedDuration;
 use jiff::civil::DateTime;
 use std::alloc::Global;
 use url::{ParseError, Url};
@@ -21,13 +24,17 @@ pub enum Line {
     /// `open`: a request comes to a session.
     Open {
         url: Url,
-        at: DateTime,
+        at: Moment,
     },
-    /// `set`: a cookie with no attribute is set.
+    /// `set`: a cookie is set.
     Set {
         way: Way,
+        cookie: Cookie<'static>,
+    },
+    /// `remove`: the cookie of a name is removed.
+    Remove {
+        way: Way,
         name: Text,
-        value: Text,
     },
     /// `get`: the value of a name is read.
     Get {
@@ -35,19 +42,19 @@ pub enum Line {
         name: Text,
     },
     /// `deliver`: the session's answer comes.
-    Deliver(DateTime),
+    Deliver(Moment),
     /// `lose`: it doesn't.
     Lose,
     /// `receive`: an answer that no session made.
     Receive {
         url: Url,
         lines: Vec<Vec<u8>>,
-        at: DateTime,
+        at: Moment,
     },
     /// `header`: a look at the header of a request.
     Header {
         url: Url,
-        at: DateTime,
+        at: Moment,
     },
 }
 
@@ -57,10 +64,10 @@ impl Line {
         ensures { result ≡ text_spec.goes_back (civil_nanos last) (line_of self.now) }
     {
         match self {
-            Line::Open { at, .. } | Line::Receive { at, .. } | Line::Header { at, .. } => *at
+            Line::Open { at, .. } | Line::Receive { at, .. } | Line::Header { at, .. } => at.date
                 < last,
-            Line::Deliver(at) => *at < last,
-            Line::Set { .. } | Line::Get { .. } | Line::Lose => false,
+            Line::Deliver(at) => at.date < last,
+            Line::Set { .. } | Line::Remove { .. } | Line::Get { .. } | Line::Lose => false,
         }
     }
 }
@@ -84,6 +91,8 @@ fn read_word(alloc: Global, word: &[u8], fields: &[Vec<u8>]) -> Result<Line, Cau
         read_open(alloc, &texts_of(alloc, fields)?)
     } else if word == b"set".as_slice() {
         read_set(alloc, &texts_of(alloc, fields)?)
+    } else if word == b"remove".as_slice() {
+        read_remove(alloc, &texts_of(alloc, fields)?)
     } else if word == b"get".as_slice() {
         read_get(alloc, &texts_of(alloc, fields)?)
     } else if word == b"deliver".as_slice() {
@@ -130,13 +139,86 @@ fn read_set(alloc: Global, fields: &[&str]) -> Result<Line, Cause>
     let Some(way) = way_of(way) else {
         return Err(Cause::Fields);
     };
-    if *max_age != "-" || *expires != "-" {
-        return Err(Cause::Fields);
+    let max_age = age_of(max_age)?;
+    let expires = end_of(expires)?;
+    let name = Text::from_str(alloc, name)?;
+    let value = Text::from_str(alloc, value)?;
+    let cookie = dated(name, value, max_age, expires);
+    Ok(Line::Set { way, cookie })
+}
+
+// How long a cookie lives, by its field, where `-` says nothing of it.
+fn age_of(text: &str) -> Result<Option<SignedDuration>, Cause>
+    ensures age { IfOk result (λ age.
+        spec.unless_dash spec.age_of text.now ≡ Some (option_map signed_nanos age)) }
+    ensures err { IfErr result (λ cause.
+        (cause ≡ Cause.Fields) × (spec.unless_dash spec.age_of text.now ≡ None)) }
+{
+    if text == "-" {
+        return Ok(None);
     }
-    Ok(Line::Set {
+    match seconds_of(text) {
+        Some(seconds) => Ok(Some(SignedDuration::from_secs(seconds))),
+        None => Err(Cause::Fields),
+    }
+}
+
+// The seconds of a text: digits, and a `-` may stand before them.
+fn seconds_of(text: &str) -> Option<i64>
+    ensures { result ≡ spec.seconds_of text.now }
+{
+    if text.starts_with('+') {
+        return None;
+    }
+    text.parse::<i64>().ok()
+}
+
+// When a cookie ends, by its field, where `-` says nothing of it.
+fn end_of(text: &str) -> Result<Option<DateTime>, Cause>
+    ensures end { IfOk result (λ end. spec.unless_dash dates.date_of text.now ≡ Some end) }
+    ensures whole { IfOk result (λ end. IfSome end (λ date. date.time.subsec_nanosecond ≡ 0)) }
+    ensures err { IfErr result (λ cause.
+        (cause ≡ Cause.Fields) × (spec.unless_dash dates.date_of text.now ≡ None)) }
+{
+    if text == "-" {
+        return Ok(None);
+    }
+    match date_of(text) {
+        Some(date) => Ok(Some(date)),
+        None => Err(Cause::Fields),
+    }
+}
+
+// A cookie that lives so long and ends then.
+fn dated(
+    name: Text,
+    value: Text,
+    max_age: Option<SignedDuration>,
+    expires: Option<DateTime>,
+) -> Cookie<'static>
+    requires whole { IfSome expires (λ date. date.time.subsec_nanosecond ≡ 0) }
+    ensures { result ≡ unsliced (spec.dated name value (option_map signed_nanos max_age) expires) }
+{
+    let mut cookie = Cookie::new_owned(name.into_string(), value.into_string());
+    cookie.set_max_age(max_age);
+    if let Some(date) = expires {
+        cookie.set_expires(Expiration::DateTime(date));
+    }
+    cookie
+}
+
+fn read_remove(alloc: Global, fields: &[&str]) -> Result<Line, Cause>
+    ensures { Reads result (spec.read_remove (map (λ field. field.now) fields.now)) }
+{
+    let [way, name] = fields else {
+        return Err(Cause::Fields);
+    };
+    let Some(way) = way_of(way) else {
+        return Err(Cause::Fields);
+    };
+    Ok(Line::Remove {
         way,
         name: Text::from_str(alloc, name)?,
-        value: Text::from_str(alloc, value)?,
     })
 }
 
@@ -236,9 +318,9 @@ fn url_of(alloc: Global, text: &str) -> Result<Url, Cause>
 }
 
 // The moment of a text.
-fn timed(text: &str) -> Result<DateTime, Cause>
-    ensures at { IfOk result (λ at. moments.moment_of text.now ≡ Some (civil_nanos at)) }
-    ensures err { IfErr result (λ cause. (cause ≡ Cause.Moment) × (moments.moment_of text.now ≡ None)) }
+fn timed(text: &str) -> Result<Moment, Cause>
+    ensures at { IfOk result (λ at. dates.moment_of text.now ≡ Some (civil_nanos at.date)) }
+    ensures err { IfErr result (λ cause. (cause ≡ Cause.Moment) × (dates.moment_of text.now ≡ None)) }
 {
     match moment_of(text) {
         Some(at) => Ok(at),

@@ -1,7 +1,8 @@
-//! The moments of a script.
-ghost use Rattle.std.specs.Prelude.{◌≡◌, ◌≤◌, ◌<◌, ◌^◌, length, option_map};
+//! The dates and the moments of a script.
+ghost use Rattle.std.specs.Prelude.{◌≡◌, ◌≤◌, ◌<◌, ◌*◌, ◌^◌, ◌≤ℤ◌, pos, length, option_map, IfSome};
 ghost use Rattle.std.specs.Str.Parse.{digits_value, AllDigits};
 ghost use Rattle.jiff.specs.Words.{civil_nanos};
+ghost use Rattle.cookie_run.specs.Moments.{second_1971};
 ghost use Rattle.cookie_run.specs.ScriptMoment as spec;
 
 use jiff::civil::DateTime;
@@ -9,11 +10,31 @@ use jiff::civil::DateTime;
 /// A moment with each digit blanked to `0`.
 const SHAPE: [u8; 20] = *b"0000-00-00T00:00:00Z";
 
+/// A whole second of the years 1971 to 9998.
+#[derive(Clone, Copy)]
+pub struct Moment {
+    pub date: DateTime,
+    pub ghost from: { pos (second_1971 * 1_000_000_000) ≤ℤ civil_nanos date },
+}
+
 /// The moment that a text names in the form `YYYY-MM-DDThh:mm:ssZ`, to be read as UTC, where the
 /// day exists and is of the years 1971 to 9998.
 #[tactic(auto, unfolding(crate::specs::ScriptMoment::moment_of))]
-pub fn moment_of(text: &str) -> Option<DateTime>
-    ensures { option_map civil_nanos result ≡ spec.moment_of text.now }
+pub fn moment_of(text: &str) -> Option<Moment>
+    ensures { option_map (λ moment. civil_nanos moment.date) result ≡ spec.moment_of text.now }
+{
+    let date = date_of(text)?;
+    if date.year() < 1971 || 9998 < date.year() {
+        return None;
+    }
+    Some(Moment { date })
+}
+
+/// The date that a text names in the same form, where the day exists, of the years 0 to 9999.
+#[tactic(auto, unfolding(crate::specs::ScriptMoment::date_of))]
+pub fn date_of(text: &str) -> Option<DateTime>
+    ensures date { result ≡ spec.date_of text.now }
+    ensures whole { IfSome result (λ date. date.time.subsec_nanosecond ≡ 0) }
 {
     let text = text.as_bytes();
     if !has_shape(text) {
@@ -25,29 +46,20 @@ pub fn moment_of(text: &str) -> Option<DateTime>
     let hour = number(&text[11..13]);
     let minute = number(&text[14..16]);
     let second = number(&text[17..19]);
-    moment_at(year, month, day, hour, minute, second)
+    date_at(year, month, day, hour, minute, second)
 }
 
-// The moment of a calendar and a clock that show these numbers.
-fn moment_at(
-    year: u16,
-    month: u16,
-    day: u16,
-    hour: u16,
-    minute: u16,
-    second: u16,
-) -> Option<DateTime>
+// The date of a calendar and a clock that show these numbers.
+fn date_at(year: u16, month: u16, day: u16, hour: u16, minute: u16, second: u16) -> Option<DateTime>
     requires year { year < 10000 }
     requires month { month < 100 }
     requires day { day < 100 }
     requires hour { hour < 100 }
     requires minute { minute < 100 }
     requires second { second < 100 }
-    ensures { option_map civil_nanos result ≡ spec.moment_if year month day hour minute second }
+    ensures date { result ≡ spec.date_if year month day hour minute second }
+    ensures whole { IfSome result (λ date. date.time.subsec_nanosecond ≡ 0) }
 {
-    if year < 1971 || 9998 < year {
-        return None;
-    }
     DateTime::new(
         year as i16,
         month as i8,

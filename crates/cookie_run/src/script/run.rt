@@ -38,8 +38,9 @@ pub fn run<R: Source, W: Sink, G: TryRng>(
 ) -> Result<Ended, RunError>
     ensures text { IfOk result (λ ended. IfSome (R.left reader.old) (λ input. (output : List ℕ)
         × Appends (W.written writer.old) (W.written writer.new) output
-        × Runs G.Error key.now client.old (civil_nanos last.old) input output
-        client.new (civil_nanos last.new) ended)) }
+        × Runs G.Error client.old.suffixes key.now client.old.rows (civil_nanos last.old) input output
+        client.new.rows (civil_nanos last.new) ended)) }
+    ensures list { client.new.suffixes ≡ client.old.suffixes }
     ensures read { IsErrOf result RunError.Read
         → Rose (R.failures reader.old) (R.failures reader.new) ⊎ (R.reads reader.new ≡ 2 ^ 64 - 1) }
     ensures write { IsErrOf result RunError.Write → Rose (W.failures writer.old) (W.failures writer.new) }
@@ -67,8 +68,9 @@ fn play_text<W: Sink, G: TryRng>(
 ) -> Result<Ended, RunError>
     ensures text { IfOk result (λ ended. (output : List ℕ)
         × Appends (W.written writer.old) (W.written writer.new) output
-        × Runs G.Error key.now client.old (civil_nanos last.old) text.now output
-        client.new (civil_nanos last.new) ended) }
+        × Runs G.Error client.old.suffixes key.now client.old.rows (civil_nanos last.old) text.now output
+        client.new.rows (civil_nanos last.new) ended) }
+    ensures list { client.new.suffixes ≡ client.old.suffixes }
     ensures failures { OnOk result (W.failures writer.new ≡ W.failures writer.old) }
     ensures write { OnErr result (Rose (W.failures writer.old) (W.failures writer.new)) }
     ensures only { IfErr result (λ e. e ≡ RunError.Write) }

@@ -5,19 +5,20 @@
 //! refused.
 ghost use Rattle.std.specs.Prelude.{◌≡◌, length, ◌<◌, ℕ, ℤ, List, IfOk, IfErr, OnErr, string_bytes, map};
 ghost use Rattle.jiff.specs.Words.{civil_nanos};
-ghost use Rattle.cookie_text.specs.Record.{bare, unsliced};
+ghost use Rattle.publicsuffix.specs.Rules.{Rule};
+ghost use Rattle.cookie_store.specs.Rows.{Row};
 ghost use Rattle.cookie_run.specs.Jar.{ClosesWith};
-ghost use Rattle.cookie_run.specs.declared.row.Row.{Row};
 ghost use Rattle.cookie_run.specs.ScriptLine as spec;
 ghost use Rattle.cookie_run.specs.ScriptText.{after_line, cause_of};
 ghost use Rattle.cookie_run.specs.Standing.{Goes, Halts, Obeys, Balks};
 ghost use Rattle.cookie_run.specs.ScriptRead.{line_of};
-ghost use Rattle.cookie_run.specs.declared.step.Command.TheVariants.{Set, Get};
+ghost use Rattle.cookie_run.specs.declared.step.Command.TheVariants.{Set, Remove, Get};
 
 use crate::client::Client;
 use crate::play::{bytes_of, views_of};
 use crate::script::cause::Cause;
 use crate::script::line::{Line, read_line};
+use crate::script::moment::Moment;
 use crate::script::print::{header_line, value_line};
 use crate::session::{Session, copy_of};
 use crate::step::{SessionError, Way};
@@ -28,10 +29,11 @@ use rand_core::TryRng;
 use std::alloc::Global;
 use url::Url;
 
-/// The session that is open, and the URL of its request.
+/// The session that is open, with the URL and the moment of its request.
 #[derive(Drop)]
 pub struct Visit {
     pub url: Url,
+    pub at: Moment,
     pub session: Session,
 }
 
@@ -45,11 +47,12 @@ pub fn follow<G: TryRng>(
     visit: &mut Option<Visit>,
     rng: &mut G,
 ) -> Result<String, Cause>
-    ensures ok { IfOk result (λ text. Goes key.now (λ r. after_line r line.now)
-        client.old (civil_nanos last.old) visit.old
-        client.new (civil_nanos last.new) visit.new (string_bytes text)) }
-    ensures err { IfErr result (λ cause. Halts G.Error key.now (λ r. after_line r line.now)
-        client.old (civil_nanos last.old) visit.old cause client.new) }
+    ensures ok { IfOk result (λ text. Goes client.old.suffixes key.now (λ r. after_line r line.now)
+        client.old.rows (civil_nanos last.old) visit.old
+        client.new.rows (civil_nanos last.new) visit.new (string_bytes text)) }
+    ensures err { IfErr result (λ cause. Halts G.Error client.old.suffixes key.now (λ r. after_line r line.now)
+        client.old.rows (civil_nanos last.old) visit.old cause client.new.rows) }
+    ensures list { client.new.suffixes ≡ client.old.suffixes }
     ensures last { OnErr result (last.new ≡ last.old) }
     ensures asks { OnErr result (0 < length line.now) }
 {
@@ -76,21 +79,25 @@ fn obey<G: TryRng>(
     visit: &mut Option<Visit>,
     rng: &mut G,
 ) -> Result<String, Cause>
-    ensures ok { IfOk result (λ text. Obeys key.now (line_of line)
-        client.old (civil_nanos last.old) visit.old
-        client.new (civil_nanos last.new) visit.new (string_bytes text)) }
-    ensures err { IfErr result (λ cause. Balks G.Error key.now (line_of line)
-        client.old (civil_nanos last.old) visit.old cause client.new) }
+    ensures ok { IfOk result (λ text. Obeys client.old.suffixes key.now (line_of line)
+        client.old.rows (civil_nanos last.old) visit.old
+        client.new.rows (civil_nanos last.new) visit.new (string_bytes text)) }
+    ensures err { IfErr result (λ cause. Balks G.Error client.old.suffixes key.now (line_of line)
+        client.old.rows (civil_nanos last.old) visit.old cause client.new.rows) }
+    ensures list { client.new.suffixes ≡ client.old.suffixes }
     ensures last { OnErr result (last.new ≡ last.old) }
 {
     match line {
         Line::Open { url, at } => begin(alloc, key, url, at, client, last, visit),
-        Line::Set { way, name, value } => set(alloc, way, name, value, visit, rng),
+        Line::Set { way, cookie } => set(alloc, way, cookie, visit, rng),
+        Line::Remove { way, name } => remove(alloc, way, &name, visit),
         Line::Get { way, name } => get(alloc, way, &name, visit),
-        Line::Deliver(at) => deliver(alloc, at, client, last, visit),
+        Line::Deliver(at) => deliver(alloc, at.date, client, last, visit),
         Line::Lose => lose(alloc, visit),
-        Line::Receive { url, lines, at } => receive(alloc, &url, &lines, at, client, last, visit),
-        Line::Header { url, at } => header(alloc, &url, at, client, last, visit),
+        Line::Receive { url, lines, at } => {
+            receive(alloc, &url, &lines, at.date, client, last, visit)
+        }
+        Line::Header { url, at } => header(alloc, &url, at.date, client, last, visit),
     }
 }
 
@@ -99,25 +106,27 @@ fn begin(
     alloc: Global,
     key: &Key,
     url: Url,
-    at: DateTime,
+    at: Moment,
     client: &Client,
     last: &mut DateTime,
     visit: &mut Option<Visit>,
 ) -> Result<String, Cause>
-    ensures ok { IfOk result (λ text. Obeys key.now (spec.Opens url (civil_nanos at))
-        client.now (civil_nanos last.old) visit.old
-        client.now (civil_nanos last.new) visit.new (string_bytes text)) }
-    ensures err { IfErr result (λ cause. Balks ⊥ key.now (spec.Opens url (civil_nanos at))
-        client.now (civil_nanos last.old) visit.old cause client.now) }
+    ensures ok { IfOk result
+        (λ text. Obeys client.now.suffixes key.now (spec.Opens url (civil_nanos at.date))
+        client.now.rows (civil_nanos last.old) visit.old
+        client.now.rows (civil_nanos last.new) visit.new (string_bytes text)) }
+    ensures err { IfErr result
+        (λ cause. Balks ⊥ client.now.suffixes key.now (spec.Opens url (civil_nanos at.date))
+        client.now.rows (civil_nanos last.old) visit.old cause client.now.rows) }
     ensures last { OnErr result (last.new ≡ last.old) }
 {
     if visit.is_some() {
         return Err(Cause::Open);
     }
-    let header = client.header(&url, at)?;
+    let header = client.header(&url, at.date)?;
     let session = Session::open(alloc, header.as_str().as_bytes(), copy_of(key))?;
-    *visit = Some(Visit { url, session });
-    *last = at;
+    *last = at.date;
+    *visit = Some(Visit { url, at, session });
     Ok(String::new(alloc))
 }
 
@@ -125,29 +134,60 @@ fn begin(
 fn set<G: TryRng>(
     alloc: Global,
     way: Way,
-    name: Text,
-    value: Text,
+    cookie: Cookie<'static>,
     visit: &mut Option<Visit>,
     rng: &mut G,
 ) -> Result<String, Cause>
     ensures ok { IfOk result
-        (λ text. (key : List ℕ) (rows : List Row) (last : ℤ)
-        → Obeys key (spec.Commands (Set way (unsliced (bare name value))))
+        (λ text. (list : List Rule) (key : List ℕ) (rows : List Row) (last : ℤ)
+        → Obeys list key (spec.Commands (Set way cookie.entry))
         rows last visit.old rows last visit.new (string_bytes text)) }
     ensures err { IfErr result
-        (λ cause. (key : List ℕ) (rows : List Row) (last : ℤ)
-        → Balks G.Error key (spec.Commands (Set way (unsliced (bare name value))))
+        (λ cause. (list : List Rule) (key : List ℕ) (rows : List Row) (last : ℤ)
+        → Balks G.Error list key (spec.Commands (Set way cookie.entry))
         rows last visit.old cause rows) }
 {
-    let Some(Visit { url, mut session }) = visit.take() else {
+    let Some(
+        Visit {
+            url,
+            at,
+            mut session,
+        },
+    ) = visit.take()
+    else {
         return Err(Cause::NoSession);
     };
-    let end = session.set(
-        way,
-        Cookie::new_owned(name.into_string(), value.into_string()),
-        rng,
-    );
-    *visit = Some(Visit { url, session });
+    let end = session.set(way, cookie, rng);
+    *visit = Some(Visit { url, at, session });
+    match end {
+        Ok(()) => Ok(String::new(alloc)),
+        Err(error) => Err(refused(error)),
+    }
+}
+
+// `remove`, at the moment at which the session was opened.
+fn remove(alloc: Global, way: Way, name: &Text, visit: &mut Option<Visit>) -> Result<String, Cause>
+    ensures ok { IfOk result
+        (λ text. (list : List Rule) (key : List ℕ) (rows : List Row) (last : ℤ)
+        → Obeys list key (spec.Commands (Remove way name.now))
+        rows last visit.old rows last visit.new (string_bytes text)) }
+    ensures err { IfErr result
+        (λ cause. (list : List Rule) (key : List ℕ) (rows : List Row) (last : ℤ)
+        → Balks ⊥ list key (spec.Commands (Remove way name.now))
+        rows last visit.old cause rows) }
+{
+    let Some(
+        Visit {
+            url,
+            at,
+            mut session,
+        },
+    ) = visit.take()
+    else {
+        return Err(Cause::NoSession);
+    };
+    let end = session.remove(way, name.as_str(), at.date);
+    *visit = Some(Visit { url, at, session });
     match end {
         Ok(()) => Ok(String::new(alloc)),
         Err(error) => Err(refused(error)),
@@ -157,12 +197,12 @@ fn set<G: TryRng>(
 // `get`.
 fn get(alloc: Global, way: Way, name: &Text, visit: &Option<Visit>) -> Result<String, Cause>
     ensures ok { IfOk result
-        (λ text. (key : List ℕ) (rows : List Row) (last : ℤ)
-        → Obeys key (spec.Commands (Get way name.now))
+        (λ text. (list : List Rule) (key : List ℕ) (rows : List Row) (last : ℤ)
+        → Obeys list key (spec.Commands (Get way name.now))
         rows last visit.now rows last visit.now (string_bytes text)) }
     ensures err { IfErr result
-        (λ cause. (key : List ℕ) (rows : List Row) (last : ℤ)
-        → Balks ⊥ key (spec.Commands (Get way name.now))
+        (λ cause. (list : List Rule) (key : List ℕ) (rows : List Row) (last : ℤ)
+        → Balks ⊥ list key (spec.Commands (Get way name.now))
         rows last visit.now cause rows) }
 {
     let Some(open) = visit else {
@@ -174,13 +214,13 @@ fn get(alloc: Global, way: Way, name: &Text, visit: &Option<Visit>) -> Result<St
     }
 }
 
-// The fault of a command that the session refused. The cookies of a script have no expiry, so it is
-// never refused for its year.
+// The fault of a command that the session refused.
 fn refused(error: SessionError) -> Cause
     ensures { result ≡ cause_of error }
 {
     match error {
-        SessionError::EmptyName | SessionError::Year => Cause::EmptyName,
+        SessionError::EmptyName => Cause::EmptyName,
+        SessionError::Year => Cause::Year,
         SessionError::TooLong => Cause::TooLong,
         SessionError::Rng => Cause::Rng,
         SessionError::OutOfMemory => Cause::Memory,
@@ -195,11 +235,14 @@ fn deliver(
     last: &mut DateTime,
     visit: &mut Option<Visit>,
 ) -> Result<String, Cause>
-    ensures ok { IfOk result (λ text. (key : List ℕ) → Obeys key (spec.Delivers (civil_nanos at))
-        client.old (civil_nanos last.old) visit.old
-        client.new (civil_nanos last.new) visit.new (string_bytes text)) }
-    ensures err { IfErr result (λ cause. (key : List ℕ) → Balks ⊥ key (spec.Delivers (civil_nanos at))
-        client.old (civil_nanos last.old) visit.old cause client.new) }
+    ensures ok { IfOk result
+        (λ text. (key : List ℕ) → Obeys client.old.suffixes key (spec.Delivers (civil_nanos at))
+        client.old.rows (civil_nanos last.old) visit.old
+        client.new.rows (civil_nanos last.new) visit.new (string_bytes text)) }
+    ensures err { IfErr result
+        (λ cause. (key : List ℕ) → Balks ⊥ client.old.suffixes key (spec.Delivers (civil_nanos at))
+        client.old.rows (civil_nanos last.old) visit.old cause client.new.rows) }
+    ensures list { client.new.suffixes ≡ client.old.suffixes }
     ensures last { OnErr result (last.new ≡ last.old) }
 {
     let Some(open) = visit else {
@@ -218,10 +261,10 @@ fn deliver(
 // `lose`: they don't.
 fn lose(alloc: Global, visit: &mut Option<Visit>) -> Result<String, Cause>
     ensures ok { IfOk result
-        (λ text. (key : List ℕ) (rows : List Row) (last : ℤ) → Obeys key spec.Loses
+        (λ text. (list : List Rule) (key : List ℕ) (rows : List Row) (last : ℤ) → Obeys list key spec.Loses
         rows last visit.old rows last visit.new (string_bytes text)) }
     ensures err { IfErr result
-        (λ cause. (key : List ℕ) (rows : List Row) (last : ℤ) → Balks ⊥ key spec.Loses
+        (λ cause. (list : List Rule) (key : List ℕ) (rows : List Row) (last : ℤ) → Balks ⊥ list key spec.Loses
         rows last visit.old cause rows) }
 {
     if visit.is_none() {
@@ -243,13 +286,14 @@ fn receive(
 ) -> Result<String, Cause>
     ensures ok { IfOk result
         (λ text. (key : List ℕ)
-        → Obeys key (spec.Receives url.now (map (λ line. line.items) lines.now) (civil_nanos at))
-        client.old (civil_nanos last.old) visit.now
-        client.new (civil_nanos last.new) visit.now (string_bytes text)) }
+        → Obeys client.old.suffixes key (spec.Receives url.now (map (λ line. line.items) lines.now) (civil_nanos at))
+        client.old.rows (civil_nanos last.old) visit.now
+        client.new.rows (civil_nanos last.new) visit.now (string_bytes text)) }
     ensures err { IfErr result
         (λ cause. (key : List ℕ)
-        → Balks ⊥ key (spec.Receives url.now (map (λ line. line.items) lines.now) (civil_nanos at))
-        client.old (civil_nanos last.old) visit.now cause client.new) }
+        → Balks ⊥ client.old.suffixes key (spec.Receives url.now (map (λ line. line.items) lines.now) (civil_nanos at))
+        client.old.rows (civil_nanos last.old) visit.now cause client.new.rows) }
+    ensures list { client.new.suffixes ≡ client.old.suffixes }
     ensures last { OnErr result (last.new ≡ last.old) }
 {
     if visit.is_some() {
@@ -273,12 +317,12 @@ fn header(
     visit: &Option<Visit>,
 ) -> Result<String, Cause>
     ensures ok { IfOk result
-        (λ text. (key : List ℕ) → Obeys key (spec.Heads url.now (civil_nanos at))
-        client.now (civil_nanos last.old) visit.now
-        client.now (civil_nanos last.new) visit.now (string_bytes text)) }
+        (λ text. (key : List ℕ) → Obeys client.now.suffixes key (spec.Heads url.now (civil_nanos at))
+        client.now.rows (civil_nanos last.old) visit.now
+        client.now.rows (civil_nanos last.new) visit.now (string_bytes text)) }
     ensures err { IfErr result
-        (λ cause. (key : List ℕ) → Balks ⊥ key (spec.Heads url.now (civil_nanos at))
-        client.now (civil_nanos last.old) visit.now cause client.now) }
+        (λ cause. (key : List ℕ) → Balks ⊥ client.now.suffixes key (spec.Heads url.now (civil_nanos at))
+        client.now.rows (civil_nanos last.old) visit.now cause client.now.rows) }
     ensures last { OnErr result (last.new ≡ last.old) }
 {
     if visit.is_some() {

@@ -1,5 +1,5 @@
 use Rattle.cookie_run.proofs.laws.answers_are_confined.Goals as goal
-use Rattle.cookie_run.proofs.store.Confined.{answer_confined}
+use Rattle.cookie_run.proofs.Confined.{answer_confined}
 
 pub returns : goal.returns
 returns c list rows url now lines new takes =

@@ -1,8 +1,8 @@
 use Rattle.std.proofs.Common.{ap, length, sym, ◌∙◌}
-use Rattle.cookie_run.proofs.SiteStep.{OnlyOne}
-use Rattle.cookie_run.proofs.store.Exchange.{Laws}
-use Rattle.cookie_run.proofs.store.Promises.{ends_late, line_utf8}
-use Rattle.cookie_run.proofs.store.Sites.{sites_read, sites_read_until}
+use Rattle.cookie_run.proofs.Showing.{OnlyOne}
+use Rattle.cookie_run.proofs.Exchange.{Laws}
+use Rattle.cookie_run.proofs.Promises.{ends_late, line_utf8}
+use Rattle.cookie_run.proofs.Sites.{sites_read, sites_read_until}
 use Rattle.cookie_run.proofs.laws.sites_read_their_own.Goals as goal
 
 pub returns-clause-whole : goal.returns-clause-whole
@@ -15,7 +15,8 @@ returns-clause-whole c =
       signed_text = c.texts_are_utf8.ensures.signed;
       sealed_text = c.texts_are_utf8.ensures.sealed;
     } in
-    let laws : Laws c.args.key.now = record { back = c.encoded_records_read_back.ensures; only = one; utf8 = line_utf8 } in
+    let laws : Laws c.args.key.now =
+    record { back = c.encoded_records_read_back.ensures; only = one; utf8 = line_utf8 } in
     sites_read c.args.key.now laws ends_late
 
 pub returns-clause-until : goal.returns-clause-until
@@ -28,5 +29,6 @@ returns-clause-until c =
       signed_text = c.texts_are_utf8.ensures.signed;
       sealed_text = c.texts_are_utf8.ensures.sealed;
     } in
-    let laws : Laws c.args.key.now = record { back = c.encoded_records_read_back.ensures; only = one; utf8 = line_utf8 } in
+    let laws : Laws c.args.key.now =
+    record { back = c.encoded_records_read_back.ensures; only = one; utf8 = line_utf8 } in
     sites_read_until c.args.key.now laws ends_late

@@ -1,7 +1,8 @@
 use Rattle.std.proofs.Common.{◌∙◌, [], refl, sym, ap, subst, inl, inr}
 use Rattle.std.specs.Prelude.{map}
 use Rattle.std.proofs.lemmas.Result.{IfErr-weaker}
-use Rattle.cookie_run.specs.Rows.{Takes}
+use Rattle.jiff.specs.Words.{civil_nanos}
+use Rattle.cookie_run.specs.Accept.{Takes}
 use Rattle.cookie_run.proofs.Runs.{err_gives, on_ok, readings_nil}
 use Rattle.cookie_run.proofs.play.act.Goals as goal
 
@@ -34,8 +35,8 @@ returns-in_err-push-in-Header-clause-err g c =
 
 pub returns-in_ok-come_to-in-Exchange-clause-step : goal.returns-in_ok-come_to-in-Exchange-clause-step
 returns-in_ok-come_to-in-Exchange-clause-step g c =
-    rw (c.in-Exchange.is, sym c.deref.ensures.value) (on_ok c.exchange.result _ _
-    (λ t. (t.0, t.1, (t.2, t.3, t.4))) c.exchange.ensures.rows)
+    rw (c.in-Exchange.is, sym c.deref.ensures.value, sym c.in_ok-come_to-in-Exchange.ensures.ok.1)
+    c.exchange.ensures.rows
 
 pub returns-in_ok-come_to-in-Exchange-clause-err : goal.returns-in_ok-come_to-in-Exchange-clause-err
 returns-in_ok-come_to-in-Exchange-clause-err g c =
@@ -50,7 +51,11 @@ returns-in_ok-lines-in-Foreign-clause-step g c =
     rw c.in-Foreign.is (on_ok c.receive.result _ _ (λ takes. (
       [],
       sym (readings_nil _),
-      (refl, subst (λ ls. Takes c.args.client.now c.in-Foreign.url ls c.receive.new.client) lines takes),
+      (
+        refl,
+        subst (λ ls. Takes c.args.client.now.suffixes c.args.client.now.rows c.in-Foreign.url
+            (civil_nanos c.in-Foreign.at) ls c.receive.new.client.rows) lines takes,
+      ),
     ))
     c.receive.ensures.rows)
 

@@ -1,42 +1,37 @@
-use Rattle.std.proofs.Common.{[], ap, length, sym, subst, refl, ◌∙◌}
+use Rattle.std.proofs.Common.{[], ap, sym, subst, refl, ◌∙◌}
 use Rattle.std.specs.List.{AllByRecursion}
+use Rattle.cookie_run.specs.Acts.{acts_of}
 use Rattle.cookie_run.specs.Readings.{MayRead, ActNeedsNoNonce}
 use Rattle.jiff.specs.Words.{civil_nanos}
-use Rattle.cookie_run.proofs.SiteStep.{OnlyOne}
 use Rattle.cookie_run.proofs.Runs.{act_at, run_more}
-use Rattle.cookie_run.proofs.Ends.{follow_next, run_until, sites_until, sites_all}
+use Rattle.cookie_run.proofs.Ends.{follow_next, follow_all, run_all, run_until}
 use Rattle.cookie_run.proofs.play.play.Goals as goal
 
 pub loop-i-init : goal.loop-i-init
 loop-i-init g c = record {
   before = record {
-    run = ([], c.new-readings.ensures.items, c.new-client.ensures);
+    run = ([], c.new-readings.ensures.items, ap (λ s. s.rows) c.new-client.ensures);
     moments = tt;
     last = c.beginning-last.ensures;
   };
+  list = ap (λ s. s.suffixes) c.new-client.ensures;
   failed = subst (AllByRecursion (MayRead g.row.R-Error.Denot)) (sym c.new-readings.ensures.items) tt;
   unasked = λ h. refl;
 }
 
 pub returns-in-Err-clause-run_until : goal.returns-in-Err-clause-run_until
 returns-in-Err-clause-run_until g c =
-    run_until c.args.key.now c.args.steps.now c.loop-i.i c.index-steps-i.result c.loop-i.client c.loop-i.readings.items
+    run_until c.args.list c.args.key.now c.args.steps.now c.loop-i.i c.index-steps-i.result c.loop-i.client.rows
+    c.loop-i.readings.items
     c.act.new.readings.items (civil_nanos c.loop-i.last) c.in-Err.kind
     c.loop-i-test.true c.index-steps-i.is c.loop-i.invariant.before c.in-Err.ensures.err
 
 pub returns-in-Err-clause-sites_until : goal.returns-in-Err-clause-sites_until
 returns-in-Err-clause-sites_until g c =
-    let half = ap length (sym c.encryption.ensures.half) ∙ c.encryption.ensures.len in
-    let one : OnlyOne c.args.key.now =
-    record {
-      signed = c.one_value.ensures.signed c.args.key.now;
-      sealed = λ name v w text. c.one_value.ensures.sealed c.args.key.now name v w text half;
-      signed_text = c.texts_are_utf8.ensures.signed;
-      sealed_text = c.texts_are_utf8.ensures.sealed;
-    } in
-    sites_until c.encoded_records_read_back.ensures c.args.key.now c.args.steps.now c.loop-i.i c.index-steps-i.result
-    c.loop-i.client c.loop-i.readings.items c.act.new.readings.items (civil_nanos c.loop-i.last) c.in-Err.kind
-    one c.loop-i-test.true c.index-steps-i.is c.loop-i.invariant.before c.in-Err.ensures.err
+    c.sites_read_their_own.ensures.until c.args.list (acts_of c.args.steps.now) _ _ _
+    (run_until c.args.list c.args.key.now c.args.steps.now c.loop-i.i c.index-steps-i.result c.loop-i.client.rows
+    c.loop-i.readings.items c.act.new.readings.items (civil_nanos c.loop-i.last) c.in-Err.kind
+    c.loop-i-test.true c.index-steps-i.is c.loop-i.invariant.before c.in-Err.ensures.err)
 
 pub loop-i-preserved : goal.loop-i-preserved
 loop-i-preserved g c =
@@ -45,30 +40,35 @@ loop-i-preserved g c =
     c.loop-i.invariant.before.moments c.loop-i.invariant.before.last c.in_default.ensures.moments in
     record {
       before = record {
-        run = run_more c.args.key.now [] c.loop-i.client c.act.new.client c.args.steps.now c.loop-i.i
-            c.index-steps-i.result [] c.loop-i.readings.items c.act.new.readings.items
-            c.loop-i-test.true c.index-steps-i.is c.loop-i.invariant.before.run c.in_default.ensures.step;
+        run = run_more c.args.list c.args.key.now [] c.loop-i.client.rows c.act.new.client.rows c.args.steps.now
+            c.loop-i.i c.index-steps-i.result [] c.loop-i.readings.items c.act.new.readings.items
+            c.loop-i-test.true c.index-steps-i.is c.loop-i.invariant.before.run
+            c.loop-i.client.suffixes c.loop-i.invariant.list c.in_default.ensures.step;
         moments = moments.0;
         last = moments.1;
       };
+      list = c.in_default.ensures.list ∙ c.loop-i.invariant.list;
       failed = c.act.ensures.failed c.loop-i.invariant.failed;
       unasked = λ all. c.act.ensures.unasked (act_at ActNeedsNoNonce c.args.steps.now c.loop-i.i c.index-steps-i.result
           c.loop-i-test.true c.index-steps-i.is all)
           ∙ c.loop-i.invariant.unasked all;
     }
 
+pub returns-clause-run : goal.returns-clause-run
+returns-clause-run g c = run_all c.args.list c.args.key.now c.args.steps.now c.loop-i.i c.loop-i.client.rows
+    c.loop-i.readings.items _ c.loop-i-test.false c.loop-i.invariant.before
+
+pub returns-clause-moments : goal.returns-clause-moments
+returns-clause-moments g c = follow_all c.args.list c.args.key.now c.args.steps.now c.loop-i.i c.loop-i.client.rows
+    c.loop-i.readings.items _ c.loop-i-test.false c.loop-i.invariant.before
+
 pub returns-clause-sites : goal.returns-clause-sites
 returns-clause-sites g c =
-    let half = ap length (sym c.encryption.ensures.half) ∙ c.encryption.ensures.len in
-    let one : OnlyOne c.args.key.now =
-    record {
-      signed = c.one_value.ensures.signed c.args.key.now;
-      sealed = λ name v w text. c.one_value.ensures.sealed c.args.key.now name v w text half;
-      signed_text = c.texts_are_utf8.ensures.signed;
-      sealed_text = c.texts_are_utf8.ensures.sealed;
-    } in
-    sites_all c.encoded_records_read_back.ensures c.args.key.now c.args.steps.now c.loop-i.i c.loop-i.client
-    c.loop-i.readings.items _ one c.loop-i-test.false c.loop-i.invariant.before
+    c.sites_read_their_own.ensures.whole c.args.list (acts_of c.args.steps.now) _
+    (follow_all c.args.list c.args.key.now c.args.steps.now c.loop-i.i c.loop-i.client.rows
+    c.loop-i.readings.items _ c.loop-i-test.false c.loop-i.invariant.before)
+    (run_all c.args.list c.args.key.now c.args.steps.now c.loop-i.i c.loop-i.client.rows
+    c.loop-i.readings.items _ c.loop-i-test.false c.loop-i.invariant.before)
 
 pub returns-in-Err-clause-unasked : goal.returns-in-Err-clause-unasked
 returns-in-Err-clause-unasked g c =

@@ -8,7 +8,8 @@ use Rattle.cookie_run.proofs.play.play.Given as goal
 
 abbrev pub invariant-loop-i : goal.invariant-loop-i
 invariant-loop-i g l = record {
-  before : Before l.key l.steps l.i l.client l.readings.items (civil_nanos l.last);
+  before : Before l.fn.list l.key l.steps l.i l.client.rows l.readings.items (civil_nanos l.last);
+  list : l.client.suffixes ≡ l.fn.list;
   failed : AllByRecursion (MayRead g.row.R-Error.Denot) l.readings.items;
   unasked : AllByRecursion ActNeedsNoNonce (acts_of l.steps) → l.rng ≡ l.fn.rng;
 }

@@ -1,7 +1,8 @@
-use Rattle.std.proofs.Common.{◌≡◌, refl, inl, inr}
+use Rattle.std.proofs.Common.{◌≡◌, ◌∙◌, ap, refl, inl, inr}
 use Rattle.std.specs.declared.convert.Infallible.{Infallible}
 use Rattle.jiff.specs.Words.{civil_nanos}
 use Rattle.cookie_run.specs.declared.script.ended.Ended.TheVariants.{Whole, Faulty}
+use Rattle.cookie_run.proofs.NoRules.{no_rules}
 use Rattle.cookie_run.proofs.ScriptRun.{script_of}
 use Rattle.cookie_run.proofs.program.program.Goals as goal
 
@@ -18,10 +19,12 @@ returns-in-Ok-Faulty-clause-answers g c =
       (
         n,
         script_of Infallible (g.R.Source.left c.args.reader.now)
-            (g.W.Sink.written c.args.writer.now) (g.W.Sink.written c.run.new.writer) c.derive_from-key.result
-            c.new-client.result c.run.new.client (civil_nanos c.begin_1971-last.result)
-            (civil_nanos c.run.new.last) c.in-Ok-Faulty.field-0 (Faulty n) never c.derive_from-key.ensures
-            c.new-client.ensures c.begin_1971-last.ensures is c.in-Ok-Faulty.ensures.text,
+            (g.W.Sink.written c.args.writer.now) (g.W.Sink.written c.run.new.writer) c.new-client.result.suffixes
+            c.derive_from-key.result c.new-client.result.rows c.run.new.client.rows
+            (civil_nanos c.begin_1971-last.result) (civil_nanos c.run.new.last) c.in-Ok-Faulty.field-0 (Faulty n) never
+            (ap (λ store. store.suffixes) c.new-client.ensures ∙ no_rules c.in-Ok.list c.in-Ok.ensures.rules)
+            c.derive_from-key.ensures (ap (λ store. store.rows) c.new-client.ensures) c.begin_1971-last.ensures is
+            c.in-Ok-Faulty.ensures.text,
       ),
     ))
 
@@ -32,7 +35,10 @@ returns-in-Ok-Whole-clause-answers g c =
       refl,
       refl,
       script_of Infallible (g.R.Source.left c.args.reader.now) (g.W.Sink.written c.args.writer.now)
-          (g.W.Sink.written c.run.new.writer) c.derive_from-key.result c.new-client.result c.run.new.client
-          (civil_nanos c.begin_1971-last.result) (civil_nanos c.run.new.last) c.in-Ok-Whole.field-0 Whole never
-          c.derive_from-key.ensures c.new-client.ensures c.begin_1971-last.ensures is c.in-Ok-Whole.ensures.text,
+          (g.W.Sink.written c.run.new.writer) c.new-client.result.suffixes c.derive_from-key.result
+          c.new-client.result.rows c.run.new.client.rows (civil_nanos c.begin_1971-last.result)
+          (civil_nanos c.run.new.last) c.in-Ok-Whole.field-0 Whole never
+          (ap (λ store. store.suffixes) c.new-client.ensures ∙ no_rules c.in-Ok.list c.in-Ok.ensures.rules)
+          c.derive_from-key.ensures (ap (λ store. store.rows) c.new-client.ensures) c.begin_1971-last.ensures is
+          c.in-Ok-Whole.ensures.text,
     )

@@ -1,6 +1,6 @@
 use Rattle.std.proofs.Common.{Ok, ap, sym, subst}
 use Rattle.cookie_text.specs.Decoding.{ReadsEncoded}
-use Rattle.cookie_run.proofs.AcceptCode.{gives_none}
+use Rattle.cookie_run.proofs.Refusals.{gives_none}
 use Rattle.cookie_run.proofs.reading.header_cookie.Goals as goal
 
 pub returns-in_default : goal.returns-in_default

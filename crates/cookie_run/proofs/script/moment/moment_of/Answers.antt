@@ -1,23 +1,7 @@
-use Rattle.std.proofs.Common.{refl, sym}
-use Rattle.cookie_run.proofs.MomentText.{digits_at}
+use Rattle.std.proofs.Common.{arith}
+use Rattle.jiff.proofs.SpanFacts.{signed_arith}
+use Rattle.cookie_run.proofs.MomentText.{late_enough}
 use Rattle.cookie_run.proofs.script.moment.moment_of.Goals as goal
 
-pub number-year-requires-clause-digits : goal.number-year-requires-clause-digits
-number-year-requires-clause-digits c = digits_at c.as_bytes-text.result.now 0 4 (sym c.if-not-has_shape.ensures)
-    (refl, (refl, (refl, (refl, tt))))
-
-pub number-day-requires-clause-digits : goal.number-day-requires-clause-digits
-number-day-requires-clause-digits c = digits_at c.as_bytes-text.result.now 8 10 (sym c.if-not-has_shape.ensures)
-    (refl, (refl, tt))
-
-pub number-hour-requires-clause-digits : goal.number-hour-requires-clause-digits
-number-hour-requires-clause-digits c = digits_at c.as_bytes-text.result.now 11 13 (sym c.if-not-has_shape.ensures)
-    (refl, (refl, tt))
-
-pub number-minute-requires-clause-digits : goal.number-minute-requires-clause-digits
-number-minute-requires-clause-digits c = digits_at c.as_bytes-text.result.now 14 16 (sym c.if-not-has_shape.ensures)
-    (refl, (refl, tt))
-
-pub number-second-requires-clause-digits : goal.number-second-requires-clause-digits
-number-second-requires-clause-digits c = digits_at c.as_bytes-text.result.now 17 19 (sym c.if-not-has_shape.ensures)
-    (refl, (refl, tt))
+pub invariant_of-result : goal.invariant_of-result
+invariant_of-result c = record { from = late_enough c.in_ok-date.date (omega (arith, signed_arith, c.if-year-lt1971.false, c.year.ensures)) }

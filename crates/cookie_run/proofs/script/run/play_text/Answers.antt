@@ -4,7 +4,8 @@ use Rattle.std.specs.Io.KnownBytes.{Appends}
 use Rattle.std.proofs.KnownBytes.{Appends-kept}
 use Rattle.jiff.specs.Words.{civil_nanos}
 use Rattle.cookie_run.specs.Device.{one_more}
-use Rattle.cookie_run.specs.ScriptText.{fault_text}
+use Rattle.cookie_run.specs.ScriptText.{after_line, fault_text}
+use Rattle.cookie_run.specs.Standing.{Goes, Halts}
 use Rattle.cookie_run.specs.declared.script.ended.Ended.TheVariants.{Faulty}
 use Rattle.cookie_run.proofs.ScriptRun.{Ends, come_first, come_more, come_whole, come_fault, for_one}
 use Rattle.std.proofs.lemmas.List.{nil_from_length}
@@ -13,10 +14,11 @@ use Rattle.cookie_run.proofs.script.run.play_text.Goals as goal
 
 pub loop-rest-init : goal.loop-rest-init
 loop-rest-init g c = record {
-  come = come_first c.args.key.now c.args.client.now (civil_nanos c.args.last.now) c.args.text.now
+  come = come_first c.args.client.now.suffixes c.args.key.now c.args.client.now.rows (civil_nanos c.args.last.now) c.args.text.now
       (g.W.Sink.written c.args.writer.now);
   failures = refl;
   flushes = refl;
+  list = refl;
   room = omega arith;
 }
 
@@ -26,7 +28,8 @@ returns-in-Err-clause-flushed g c = subst (λ n. OnOk c.stop_at.result
 
 pub returns-in-Err-clause-text : goal.returns-in-Err-clause-text
 returns-in-Err-clause-text g c =
-    let start = c.args.client.now in
+    let list = c.args.client.now.suffixes in
+    let start = c.args.client.now.rows in
     let first = civil_nanos c.args.last.now in
     let text = c.args.text.now in
     let old = g.W.Sink.written c.args.writer.now in
@@ -35,18 +38,22 @@ returns-in-Err-clause-text g c =
     let done = c.loop-rest.done in
     let last = civil_nanos c.follow.new.last in
     let come = c.loop-rest.invariant.come in
-    let said = c.in-Err.ensures.err start come.r come.output come.stands in
-    for_one c.stop_at.result (Ends g.row.G-Error.Denot c.args.key.now start first text old new c.follow.new.client last)
+    let halts = subst (λ l. Halts g.row.G-Error.Denot l c.args.key.now (λ r. after_line r c.cut_line.result.0.now)
+    c.loop-rest.client.rows (civil_nanos c.loop-rest.last) c.loop-rest.visit c.in-Err.cause c.follow.new.client.rows)
+    c.loop-rest.invariant.list c.in-Err.ensures.err in
+    let said = halts start come.r come.output come.stands in
+    for_one c.stop_at.result (Ends g.row.G-Error.Denot list c.args.key.now start first text old new c.follow.new.client.rows last)
     (Appends mid new (fault_text (done + 1) c.in-Err.cause))
     (Faulty (done + 1)) c.stop_at.ensures.text c.stop_at.ensures.ended
-    (λ written. come_fault g.row.G-Error.Denot c.args.key.now start first text c.loop-rest.rest.now c.cut_line.result.0.now
-    c.cut_line.result.1.now c.loop-rest.client c.follow.new.client
+    (λ written. come_fault g.row.G-Error.Denot list c.args.key.now start first text c.loop-rest.rest.now c.cut_line.result.0.now
+    c.cut_line.result.1.now c.loop-rest.client.rows c.follow.new.client.rows
     (civil_nanos c.loop-rest.last) last c.loop-rest.visit done old mid new c.in-Err.cause come
     c.cut_line.ensures.line said c.in-Err.ensures.asks (ap civil_nanos c.in-Err.ensures.last) written)
 
 pub loop-rest-preserved : goal.loop-rest-preserved
 loop-rest-preserved g c =
-    let start = c.args.client.now in
+    let list = c.args.client.now.suffixes in
+    let start = c.args.client.now.rows in
     let first = civil_nanos c.args.last.now in
     let text = c.args.text.now in
     let old = g.W.Sink.written c.args.writer.now in
@@ -54,15 +61,19 @@ loop-rest-preserved g c =
     let new = g.W.Sink.written c.write_all.new.writer in
     let come = c.loop-rest.invariant.come in
     let printed = string_bytes c.in-Ok.printed in
-    let goes = c.in-Ok.ensures.ok start come.r come.output come.stands in
+    let leads_on = subst (λ l. Goes l c.args.key.now (λ r. after_line r c.cut_line.result.0.now)
+    c.loop-rest.client.rows (civil_nanos c.loop-rest.last) c.loop-rest.visit c.follow.new.client.rows
+    (civil_nanos c.follow.new.last) c.follow.new.visit printed) c.loop-rest.invariant.list c.in-Ok.ensures.ok in
+    let goes = leads_on start come.r come.output come.stands in
     let same : c.as_bytes.result.now ≡ printed = cc in
     record {
-      come = come_more c.args.key.now start first text c.loop-rest.rest.now c.cut_line.result.0.now
-          c.cut_line.result.1.now c.loop-rest.client c.follow.new.client (civil_nanos c.loop-rest.last)
+      come = come_more list c.args.key.now start first text c.loop-rest.rest.now c.cut_line.result.0.now
+          c.cut_line.result.1.now c.loop-rest.client.rows c.follow.new.client.rows (civil_nanos c.loop-rest.last)
           (civil_nanos c.follow.new.last) c.loop-rest.visit c.follow.new.visit c.loop-rest.done old mid new printed come
           c.cut_line.ensures.line goes (subst (Appends mid new) same c.in_ok-write_all-in-Ok.ensures.bytes);
       failures = c.in_ok-write_all-in-Ok.ensures.failures ∙ c.loop-rest.invariant.failures;
       flushes = c.write_all.ensures.flushes ∙ c.loop-rest.invariant.flushes;
+      list = c.in-Ok.ensures.list ∙ c.loop-rest.invariant.list;
       room = omega (arith, c.loop-rest.invariant.room, c.cut_line.ensures.shorter);
     }
 
@@ -71,8 +82,8 @@ returns-clause-text g c =
     let old = g.W.Sink.written c.args.writer.now in
     let mid = g.W.Sink.written c.loop-rest.writer in
     let new = g.W.Sink.written c.flush.new.writer in
-    let ends = come_whole g.row.G-Error.Denot c.args.key.now c.args.client.now
-    (civil_nanos c.args.last.now) c.args.text.now c.loop-rest.rest.now c.loop-rest.client
+    let ends = come_whole g.row.G-Error.Denot c.args.client.now.suffixes c.args.key.now c.args.client.now.rows
+    (civil_nanos c.args.last.now) c.args.text.now c.loop-rest.rest.now c.loop-rest.client.rows
     (civil_nanos c.loop-rest.last) c.loop-rest.visit c.loop-rest.done old mid c.loop-rest.invariant.come
     (nil_from_length c.loop-rest.rest.now (grind (arith, nat_tests, c.is_empty.ensures, c.loop-rest-test.false))) in
     (ends.0, Appends-kept old mid new ends.0 ends.1 c.in_ok-flush.ensures.bytes, ends.2)

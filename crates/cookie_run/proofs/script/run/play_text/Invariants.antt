@@ -5,10 +5,11 @@ use Rattle.cookie_run.proofs.script.run.play_text.Given as goal
 
 abbrev pub invariant-loop-rest : goal.invariant-loop-rest
 invariant-loop-rest g l = record {
-  come : Come l.key l.fn.client (civil_nanos l.fn.last) l.text l.rest l.client (civil_nanos l.last) l.visit l.done
-      (g.W.Sink.written l.fn.writer) (g.W.Sink.written l.writer);
+  come : Come l.fn.client.suffixes l.key l.fn.client.rows (civil_nanos l.fn.last) l.text l.rest l.client.rows
+      (civil_nanos l.last) l.visit l.done (g.W.Sink.written l.fn.writer) (g.W.Sink.written l.writer);
   failures : g.W.Failing.failures l.writer ≡ g.W.Failing.failures l.fn.writer;
   flushes : g.W.Sink.flushes l.writer ≡ g.W.Sink.flushes l.fn.writer;
+  list : l.client.suffixes ≡ l.fn.client.suffixes;
   room : l.done + length l.rest ≤ length l.text;
 }
 

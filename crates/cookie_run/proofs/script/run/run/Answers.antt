@@ -10,26 +10,28 @@ use Rattle.cookie_run.proofs.script.run.run.Goals as goal
 
 pub returns-in-Ok-clause-text : goal.returns-in-Ok-clause-text
 returns-in-Ok-clause-text g c =
-    let start = c.args.client.now in
+    let list = c.args.client.now.suffixes in
+    let start = c.args.client.now.rows in
     let first = civil_nanos c.args.last.now in
     let old = g.W.Sink.written c.args.writer.now in
     let new = g.W.Sink.written c.play_text.new.writer in
     let last = civil_nanos c.play_text.new.last in
     let same : c.deref.result.now ≡ c.in-Ok.input.items = cc in
     known_text c.play_text.result (g.R.Source.left c.args.reader.now)
-    (λ input ended. Ends g.row.G-Error.Denot c.args.key.now start first input old new c.play_text.new.client last
+    (λ input ended. Ends g.row.G-Error.Denot list c.args.key.now start first input old new c.play_text.new.client.rows last
     ended) c.in-Ok.input.items c.in-Ok.ensures.bytes
-    (subst (λ items. IfOk c.play_text.result (λ ended. Ends g.row.G-Error.Denot c.args.key.now start first items old new
-    c.play_text.new.client last ended)) same c.play_text.ensures.text)
+    (subst (λ items. IfOk c.play_text.result (λ ended. Ends g.row.G-Error.Denot list c.args.key.now start first items old new
+    c.play_text.new.client.rows last ended)) same c.play_text.ensures.text)
 
 pub returns-in-Err-Memory-clause-text : goal.returns-in-Err-Memory-clause-text
 returns-in-Err-Memory-clause-text g c =
-    let start = c.args.client.now in
+    let list = c.args.client.now.suffixes in
+    let start = c.args.client.now.rows in
     let first = civil_nanos c.args.last.now in
     let old = g.W.Sink.written c.args.writer.now in
     let new = g.W.Sink.written c.stop_at.new.writer in
     for_all c.stop_at.result (g.R.Source.left c.args.reader.now)
-    (λ input ended. Ends g.row.G-Error.Denot c.args.key.now start first input old new start first ended)
+    (λ input ended. Ends g.row.G-Error.Denot list c.args.key.now start first input old new start first ended)
     (λ input. 0 < length input) (Appends old new (fault_text 1 Memory)) (Faulty 1)
     (c.in-Err-Memory.ensures.memory cc) c.stop_at.ensures.text c.stop_at.ensures.ended
-    (λ input some written. memory_first g.row.G-Error.Denot c.args.key.now start first input old new some written)
+    (λ input some written. memory_first g.row.G-Error.Denot list c.args.key.now start first input old new some written)

@@ -1,18 +1,17 @@
-use Rattle.std.proofs.Common.{◌∙◌, ℕ, List, subst, refl}
+use Rattle.std.proofs.Common.{◌∙◌, List, ℕ, sym, subst, refl}
 use Rattle.std.specs.Prelude.{string_bytes}
 use Rattle.jiff.specs.Words.{civil_nanos}
 use Rattle.cookie_run.specs.Jar.{IsOpened}
-use Rattle.cookie_run.specs.Rows.{given, header_of}
 use Rattle.cookie_run.proofs.Standings.{begins}
 use Rattle.cookie_run.proofs.script.visit.begin.Goals as goal
 
 pub returns-clause-ok : goal.returns-clause-ok
 returns-clause-ok c = λ start r output s.
-    let header : List ℕ = header_of (given c.args.client.now c.args.url) in
+    let header : List ℕ = string_bytes c.in_ok-header.header in
     let opened : IsOpened c.args.key.now header c.in_ok-session.session = subst
     (λ k. IsOpened k header c.in_ok-session.session) c.copy_of.ensures
     (subst (λ h. IsOpened c.copy_of.result h c.in_ok-session.session)
-    (c.as_bytes.ensures.value ∙ (c.as_str.ensures.value ∙ c.in_ok-header.ensures)) c.in_ok-session.ensures) in
-    begins c.args.key.now start c.args.client.now r (civil_nanos c.args.last.now) c.args.visit.now output
-    (string_bytes c.new.result) c.args.url (civil_nanos c.args.at) _ c.in_ok-session.session s
-    (cc) opened c.new.ensures.bytes refl
+    (c.as_bytes.ensures.value ∙ c.as_str.ensures.value) c.in_ok-session.ensures) in
+    begins c.args.client.now.suffixes c.args.key.now start c.args.client.now.rows r (civil_nanos c.args.last.now)
+    c.args.visit.now output (string_bytes c.new.result) c.args.url c.args.at _ header c.in_ok-session.session s (cc)
+    c.in_ok-header.ensures opened c.new.ensures.bytes refl

@@ -15,7 +15,7 @@ use Rattle.cookie_run.proofs.script.visit.get.Goals as goal
 pub returns-in_ok-value_line-in-Ok-clause-ok : goal.returns-in_ok-value_line-in-Ok-clause-ok
 returns-in_ok-value_line-in-Ok-clause-ok c =
     let value = option_map string_bytes c.in-Ok.value in
-    λ key rows last start r output s. gets key start rows r last c.args.visit.now c.in-Some.open output
+    λ list key rows last start r output s. gets list key start rows r last c.args.visit.now c.in-Some.open output
     (string_bytes c.in_ok-value_line-in-Ok.field-0) c.args.way c.args.name.now value s
     c.in-Some.is (subst (λ n. n ≢ []) c.as_str.ensures.value c.in-Ok.ensures.value.0)
     (subst (λ n. ReadsIn c.in-Some.open.session c.args.way n value) c.as_str.ensures.value c.in-Ok.ensures.value.1)
@@ -23,14 +23,14 @@ returns-in_ok-value_line-in-Ok-clause-ok c =
 
 pub returns-in_err-value_line-in-Ok-clause-err : goal.returns-in_err-value_line-in-Ok-clause-err
 returns-in_err-value_line-in-Ok-clause-err c =
-    err_gives c.from_residual.result _ _ c.from_residual.ensures (λ cause e key rows last start r output s.
-    no_memory ⊥ key start rows r last c.args.visit.now output
+    err_gives c.from_residual.result _ _ c.from_residual.ensures (λ cause e list key rows last start r output s.
+    no_memory ⊥ list key start rows r last c.args.visit.now output
     (obeyed r.acts r.last r.now (spec.Commands (Get c.args.way c.args.name.now))) cause s e)
 
 pub returns-in-Err-clause-err : goal.returns-in-Err-clause-err
 returns-in-Err-clause-err c =
     let some : is_none c.args.visit.now ≡ false = ap is_none c.in-Some.is in
     let error = c.in-Err.error in
-    λ key rows last. get_halts key error c.refused.result rows last c.args.visit.now c.args.way c.args.name.now some
+    λ list key rows last. get_halts list key error c.refused.result rows last c.args.visit.now c.args.way c.args.name.now some
     (subst (λ (n : List ℕ). ((error ≡ EmptyName) × (n ≡ [])) ⊎ ((error ≡ OutOfMemory) × (n ≢ [])))
     c.as_str.ensures.value c.in-Err.ensures.err) c.refused.ensures

@@ -2,7 +2,7 @@ use Rattle.std.proofs.Common.{sym}
 use Rattle.jiff.specs.Words.{civil_nanos}
 use Rattle.std.specs.Prelude.{map}
 use Rattle.cookie_run.specs.ScriptLine as spec
-use Rattle.cookie_run.specs.declared.step.Command.TheVariants.{Get}
+use Rattle.cookie_run.specs.declared.step.Command.TheVariants.{Remove, Get}
 use Rattle.cookie_run.proofs.Following.{if_ok, if_err}
 use Rattle.cookie_run.proofs.Halting.{halts_of_any}
 use Rattle.cookie_run.proofs.script.visit.obey.Goals as goal
@@ -12,27 +12,39 @@ returns-in-Open-clause-ok g c = rw c.in-Open.is c.begin.ensures.ok
 
 pub returns-in-Open-clause-err : goal.returns-in-Open-clause-err
 returns-in-Open-clause-err g c = rw c.in-Open.is
-    (if_err c.begin.result (λ cause h. halts_of_any g.row.G-Error.Denot c.args.key.now
-    (spec.Opens c.in-Open.url (civil_nanos c.in-Open.at)) c.args.client.now c.args.client.now
+    (if_err c.begin.result (λ cause h. halts_of_any g.row.G-Error.Denot c.args.client.now.suffixes c.args.key.now
+    (spec.Opens c.in-Open.url (civil_nanos c.in-Open.at.date)) c.args.client.now.rows c.args.client.now.rows
     (civil_nanos c.args.last.now) c.args.visit.now cause h) c.begin.ensures.err)
 
 pub returns-in-Set-clause-ok : goal.returns-in-Set-clause-ok
 returns-in-Set-clause-ok g c = rw c.in-Set.is (if_ok c.set.result
-    (λ text h. h c.args.key.now c.args.client.now (civil_nanos c.args.last.now)) c.set.ensures.ok)
+    (λ text h. h c.args.client.now.suffixes c.args.key.now c.args.client.now.rows (civil_nanos c.args.last.now)) c.set.ensures.ok)
 
 pub returns-in-Set-clause-err : goal.returns-in-Set-clause-err
 returns-in-Set-clause-err g c = rw c.in-Set.is (if_err c.set.result
-    (λ cause h. h c.args.key.now c.args.client.now (civil_nanos c.args.last.now)) c.set.ensures.err)
+    (λ cause h. h c.args.client.now.suffixes c.args.key.now c.args.client.now.rows (civil_nanos c.args.last.now)) c.set.ensures.err)
+
+pub returns-in-Remove-clause-ok : goal.returns-in-Remove-clause-ok
+returns-in-Remove-clause-ok g c = rw c.in-Remove.is (if_ok c.remove.result
+    (λ text h. h c.args.client.now.suffixes c.args.key.now c.args.client.now.rows (civil_nanos c.args.last.now))
+    c.remove.ensures.ok)
+
+pub returns-in-Remove-clause-err : goal.returns-in-Remove-clause-err
+returns-in-Remove-clause-err g c = rw c.in-Remove.is
+    (if_err c.remove.result (λ cause h. halts_of_any g.row.G-Error.Denot c.args.client.now.suffixes c.args.key.now
+    (spec.Commands (Remove c.in-Remove.way c.in-Remove.name)) c.args.client.now.rows c.args.client.now.rows
+    (civil_nanos c.args.last.now) c.args.visit.now cause (h c.args.client.now.suffixes c.args.key.now
+    c.args.client.now.rows (civil_nanos c.args.last.now))) c.remove.ensures.err)
 
 pub returns-in-Get-clause-ok : goal.returns-in-Get-clause-ok
 returns-in-Get-clause-ok g c = rw c.in-Get.is (if_ok c.get.result
-    (λ text h. h c.args.key.now c.args.client.now (civil_nanos c.args.last.now)) c.get.ensures.ok)
+    (λ text h. h c.args.client.now.suffixes c.args.key.now c.args.client.now.rows (civil_nanos c.args.last.now)) c.get.ensures.ok)
 
 pub returns-in-Get-clause-err : goal.returns-in-Get-clause-err
 returns-in-Get-clause-err g c = rw c.in-Get.is
-    (if_err c.get.result (λ cause h. halts_of_any g.row.G-Error.Denot c.args.key.now
-    (spec.Commands (Get c.in-Get.way c.in-Get.name)) c.args.client.now c.args.client.now
-    (civil_nanos c.args.last.now) c.args.visit.now cause (h c.args.key.now c.args.client.now
+    (if_err c.get.result (λ cause h. halts_of_any g.row.G-Error.Denot c.args.client.now.suffixes c.args.key.now
+    (spec.Commands (Get c.in-Get.way c.in-Get.name)) c.args.client.now.rows c.args.client.now.rows
+    (civil_nanos c.args.last.now) c.args.visit.now cause (h c.args.client.now.suffixes c.args.key.now c.args.client.now.rows
     (civil_nanos c.args.last.now))) c.get.ensures.err)
 
 pub returns-in-Deliver-clause-ok : goal.returns-in-Deliver-clause-ok
@@ -41,19 +53,19 @@ returns-in-Deliver-clause-ok g c = rw c.in-Deliver.is (if_ok c.deliver.result
 
 pub returns-in-Deliver-clause-err : goal.returns-in-Deliver-clause-err
 returns-in-Deliver-clause-err g c = rw c.in-Deliver.is
-    (if_err c.deliver.result (λ cause h. halts_of_any g.row.G-Error.Denot c.args.key.now
-    (spec.Delivers (civil_nanos c.in-Deliver.at)) c.args.client.now c.deliver.new.client
+    (if_err c.deliver.result (λ cause h. halts_of_any g.row.G-Error.Denot c.args.client.now.suffixes c.args.key.now
+    (spec.Delivers (civil_nanos c.in-Deliver.at.date)) c.args.client.now.rows c.deliver.new.client.rows
     (civil_nanos c.args.last.now) c.args.visit.now cause (h c.args.key.now)) c.deliver.ensures.err)
 
 pub returns-in-Lose-clause-ok : goal.returns-in-Lose-clause-ok
 returns-in-Lose-clause-ok g c = rw c.in-Lose.is (if_ok c.lose.result
-    (λ text h. h c.args.key.now c.args.client.now (civil_nanos c.args.last.now)) c.lose.ensures.ok)
+    (λ text h. h c.args.client.now.suffixes c.args.key.now c.args.client.now.rows (civil_nanos c.args.last.now)) c.lose.ensures.ok)
 
 pub returns-in-Lose-clause-err : goal.returns-in-Lose-clause-err
 returns-in-Lose-clause-err g c = rw c.in-Lose.is
-    (if_err c.lose.result (λ cause h. halts_of_any g.row.G-Error.Denot c.args.key.now spec.Loses c.args.client.now
-    c.args.client.now
-    (civil_nanos c.args.last.now) c.args.visit.now cause (h c.args.key.now c.args.client.now
+    (if_err c.lose.result (λ cause h. halts_of_any g.row.G-Error.Denot c.args.client.now.suffixes c.args.key.now spec.Loses c.args.client.now.rows
+    c.args.client.now.rows
+    (civil_nanos c.args.last.now) c.args.visit.now cause (h c.args.client.now.suffixes c.args.key.now c.args.client.now.rows
     (civil_nanos c.args.last.now))) c.lose.ensures.err)
 
 pub returns-in-Receive-clause-ok : goal.returns-in-Receive-clause-ok
@@ -62,9 +74,9 @@ returns-in-Receive-clause-ok g c = rw (c.in-Receive.is, sym c.deref.ensures.valu
 
 pub returns-in-Receive-clause-err : goal.returns-in-Receive-clause-err
 returns-in-Receive-clause-err g c = rw (c.in-Receive.is, sym c.deref.ensures.value)
-    (if_err c.receive.result (λ cause h. halts_of_any g.row.G-Error.Denot c.args.key.now
-    (spec.Receives c.in-Receive.url (map (λ line. line.items) c.deref.result.now) (civil_nanos c.in-Receive.at))
-    c.args.client.now c.receive.new.client
+    (if_err c.receive.result (λ cause h. halts_of_any g.row.G-Error.Denot c.args.client.now.suffixes c.args.key.now
+    (spec.Receives c.in-Receive.url (map (λ line. line.items) c.deref.result.now) (civil_nanos c.in-Receive.at.date))
+    c.args.client.now.rows c.receive.new.client.rows
     (civil_nanos c.args.last.now) c.args.visit.now cause (h c.args.key.now)) c.receive.ensures.err)
 
 pub returns-in-Header-clause-ok : goal.returns-in-Header-clause-ok
@@ -73,6 +85,6 @@ returns-in-Header-clause-ok g c = rw c.in-Header.is (if_ok c.header.result
 
 pub returns-in-Header-clause-err : goal.returns-in-Header-clause-err
 returns-in-Header-clause-err g c = rw c.in-Header.is
-    (if_err c.header.result (λ cause h. halts_of_any g.row.G-Error.Denot c.args.key.now
-    (spec.Heads c.in-Header.url (civil_nanos c.in-Header.at)) c.args.client.now c.args.client.now
+    (if_err c.header.result (λ cause h. halts_of_any g.row.G-Error.Denot c.args.client.now.suffixes c.args.key.now
+    (spec.Heads c.in-Header.url (civil_nanos c.in-Header.at.date)) c.args.client.now.rows c.args.client.now.rows
     (civil_nanos c.args.last.now) c.args.visit.now cause (h c.args.key.now)) c.header.ensures.err)

@@ -1,0 +1,374 @@
+-- What a session shows of a site, and what it keeps.
+use Rattle.std.proofs.Common.{◌≡◌, ◌≢◌, ℕ, ◌<◌, Bool, true, false, cond, ltb, List, All, [], ◌∷◌, ◌++◌, length, sym}
+use Rattle.std.proofs.Common.{refl, ap, ◌∙◌, subst, ⊎_elim, arith, Option, Some, None, Result}
+use Rattle.std.specs.Option.{option_or}
+use Rattle.std.specs.Prelude.{map, IfSome, ⊤}
+use Rattle.std.specs.List.{AllByRecursion}
+use Rattle.std.specs.Str.{bytes_eq, IsUtf8}
+use Rattle.std.specs.FinMap as finmap
+use Rattle.std.proofs.lemmas.Bool.{cond_both, both_ways, ltb-true}
+use Rattle.std.proofs.lemmas.List.Elements.{All-nil, All-append, All-from_recursion}
+use Rattle.std.proofs.lemmas.Str.{IsUtf8-append, IsUtf8-from_ascii}
+use Rattle.std.proofs.lemmas.Str.Ascii.{IsAscii-from_all}
+use Rattle.std.specs.Cmp.{first_so, second_so}
+use lib.Utf8.{scalar, scalars, encode, encodes, scalar_cases}
+use Rattle.percent_encoding.proofs.PercentLemmas.{IsByte}
+use Rattle.jiff_core.specs.Timestamp.{IsDurationNanos}
+use Rattle.cookie_text.specs.declared.error.ParseError.{ParseError}
+use Rattle.cookie_text.specs.Normal.{IsReadable}
+use Rattle.cookie_text.specs.Printing.{encoded}
+use Rattle.cookie_text.specs.Reading.{ReadsPlain}
+use Rattle.cookie_text.specs.ReadingBack.{ReadsBack}
+use Rattle.cookie_text.specs.Record.{Record, Seen}
+use Rattle.cookie.specs.declared.delta.DeltaCookie.{DeltaCookie as Change}
+use Rattle.cookie.specs.declared.delta.DeltaCookie.TheVariants.{Added}
+use Rattle.cookie.specs.ByName.{AreApart as EntriesApart, value_in as entry_in}
+use Rattle.cookie.specs.Jar.{Jar, overlaid, under_names, view, with_change}
+use Rattle.cookie.specs.Prefix.{host_text, secure_text}
+use Rattle.cookie.specs.Reading.{Reads, ReadsFound, IsSigned, IsSealed}
+use Rattle.cookie.specs.Sealing.{IsSealing}
+use Rattle.cookie.specs.Signing.{signing}
+use Rattle.cookie_run.specs.Jar.{Keyed, IsKeptAs, ReadsIn, Sets, sent, value_in, record_in, last_in, lines_of}
+use Rattle.cookie_run.specs.declared.step.Way.{Way}
+use Rattle.cookie_run.specs.declared.step.Way.TheVariants as ways
+use Rattle.cookie_run.specs.declared.step.Reading.{Reading}
+use Rattle.cookie_run.specs.Site.{View, Entry, Kind, Plain, Signed, Sealed, kind_of, stored_name, with_at, entry_of}
+use Rattle.cookie_run.specs.Site.{IsReadAt, GetOn}
+use Rattle.cookie_run.specs.Play.{GetTells, any_nonce}
+use Rattle.cookie_run.proofs.Texts.{same_text, text_is}
+use Rattle.cookie_run.proofs.Sessions.{none_at, get_insert}
+use Rattle.cookie_run.proofs.Records.{found_in, AreApart}
+
+-- what a line reads as, as the crate of cookies promises it
+abbrev pub ReadingBack : Type 0
+ReadingBack = (r : Record) → IsReadable r → IfSome r.max_age IsDurationNanos → (o : Result Seen ParseError)
+    → ReadsPlain (encoded r) o → ReadsBack r o
+
+-- a text is the signing and a sealing of one value at most, and signings and sealings of texts are texts, as the crate
+-- of jars promises it
+pub record OnlyOne (key : List ℕ) : Type 0 where
+  pub signed : (v w : List ℕ) → signing key v ≡ signing key w → v ≡ w
+  pub sealed : (name v w text : List ℕ) → IsSealing key name v text → IsSealing key name w text → v ≡ w
+  pub signed_text : (k value : List ℕ) → IsUtf8 value → IsUtf8 (signing k value)
+  pub sealed_text : (k name value text : List ℕ) → IsSealing k name value text → IsUtf8 text
+
+-- ---- what stands for an entry
+
+abbrev pub StandsAs : List ℕ → List ℕ → Kind → List ℕ → List ℕ → Type 0
+StandsAs key name Plain value text = text ≡ value
+StandsAs key name Signed value text = text ≡ signing key value
+StandsAs key name Sealed value text = IsUtf8 value × IsSealing key name value text
+
+abbrev pub Matches : List ℕ → List ℕ → Option (List ℕ) → Option Entry → Type 0
+Matches key name None None = ⊤
+Matches key name None (Some e) = ⊥
+Matches key name (Some text) None = ⊥
+Matches key name (Some text) (Some e) = StandsAs key name e.kind e.value text
+
+-- a session shows what a request reads
+pub record Shows (key : List ℕ) (session : Keyed) (seen : View) : Type 0 where
+  pub key_is : session.key ≡ key
+  pub named : (q : List ℕ) → IfSome (view session.jar q) (λ s. s.cookie.name ≡ q)
+  pub each : (q : List ℕ) → Matches key q (value_in (record_in (view session.jar q))) (seen q)
+
+-- ---- the session opens
+
+pub or_none : {A : Type 0} (o : Option A) → option_or o None ≡ o
+or_none None = refl
+or_none (Some v) = refl
+
+or_named : (o p : Option Record) (q : List ℕ) → IfSome o (λ c. c.name ≡ q) → IfSome p (λ c. c.name ≡ q)
+    → IfSome (option_or o p) (λ c. c.name ≡ q)
+or_named None p q ho hp = hp
+or_named (Some c) p q ho hp = ho
+
+cond_named : (b : Bool) (c : Record) (q : List ℕ) → (b ≡ true → c.name ≡ q)
+    → IfSome (cond b (Some c) None) (λ d. d.name ≡ q)
+cond_named true c q h = h refl
+cond_named false c q h = tt
+
+pub last_named : (cs : List Record) (q : List ℕ) → IfSome (last_in cs q) (λ c. c.name ≡ q)
+last_named [] q = tt
+last_named (c ∷ cs) q = or_named (last_in cs q) _ q (last_named cs q)
+    (cond_named (bytes_eq q c.name) c q (λ e. sym (same_text q c.name e)))
+
+pub seen_named : (o : Option Seen) (q : List ℕ) → IfSome (record_in o) (λ c. c.name ≡ q)
+    → IfSome o (λ s. s.cookie.name ≡ q)
+seen_named None q h = tt
+seen_named (Some s) q h = h
+
+-- nothing was changed yet
+pub view_original : (jar : Jar) (q : List ℕ) → jar.changes ≡ finmap.empty → view jar q ≡ finmap.get jar.originals q
+view_original jar q e = ap (λ o. overlaid o (finmap.get jar.originals q)) (ap (λ m. finmap.get m q) e ∙ none_at q)
+
+-- ---- a set
+
+pub kept_named : (May : List ℕ → Type 0) (key : List ℕ) (way : Way) (s kept : Seen) → IsKeptAs May key way s kept
+    → kept.cookie.name ≡ stored_name way s.cookie.name
+kept_named May key ways.Plain s kept k = ap (λ (x : Seen). x.cookie.name) k
+kept_named May key ways.Host s kept k = ap (λ (x : Seen). x.cookie.name) k
+kept_named May key ways.Secure s kept k = ap (λ (x : Seen). x.cookie.name) k
+kept_named May key ways.Signed s kept k = ap (λ (x : Seen). x.cookie.name) k
+kept_named May key ways.Sealed s kept k = ap (λ (x : Seen). x.cookie.name) k.2.3
+
+pub kept_stands : (May : List ℕ → Type 0) (key : List ℕ) (way : Way) (s kept : Seen) → IsUtf8 s.cookie.value
+    → IsKeptAs May key way s kept → StandsAs key (stored_name way s.cookie.name)
+    (kind_of way) s.cookie.value kept.cookie.value
+kept_stands May key ways.Plain s kept utf8 k = ap (λ (x : Seen). x.cookie.value) k
+kept_stands May key ways.Host s kept utf8 k = ap (λ (x : Seen). x.cookie.value) k
+kept_stands May key ways.Secure s kept utf8 k = ap (λ (x : Seen). x.cookie.value) k
+kept_stands May key ways.Signed s kept utf8 k = ap (λ (x : Seen). x.cookie.value) k
+kept_stands May key ways.Sealed s kept utf8 k = (
+  utf8,
+  subst (IsSealing key s.cookie.name s.cookie.value) (sym (ap (λ (x : Seen). x.cookie.value) k.2.3))
+      (k.0, k.2.1, k.2.2),
+)
+
+overlaid_cond : (b : Bool) (kept : Seen) (o : Option Change) (p : Option Seen)
+    → overlaid (cond b (Some (Added kept)) o) p ≡ cond b (Some kept) (overlaid o p)
+overlaid_cond true kept o p = refl
+overlaid_cond false kept o p = refl
+
+view_change : (jar : Jar) (kept : Seen) (q : List ℕ) → view (with_change jar (Added kept)) q ≡ cond
+    (bytes_eq q kept.cookie.name) (Some kept) (view jar q)
+view_change jar kept q =
+    ap (λ o. overlaid o (finmap.get jar.originals q)) (get_insert jar.changes kept.cookie.name (Added kept) q)
+    ∙ overlaid_cond (bytes_eq q kept.cookie.name) kept (finmap.get jar.changes q) (finmap.get jar.originals q)
+
+matches_cond : (key q : List ℕ) (b : Bool) (kept : Seen) (o : Option Seen) (entry : Entry) (e : Option Entry)
+    → (b ≡ true → StandsAs key q entry.kind entry.value kept.cookie.value)
+    → Matches key q (value_in (record_in o)) e → Matches key q (value_in (record_in (cond b (Some kept) o)))
+    (cond b (Some entry) e)
+matches_cond key q true kept o entry e h g = h refl
+matches_cond key q false kept o entry e h g = g
+
+named_cond : (q : List ℕ) (b : Bool) (kept : Seen) (o : Option Seen) → (b ≡ true → kept.cookie.name ≡ q)
+    → IfSome o (λ s. s.cookie.name ≡ q) → IfSome (cond b (Some kept) o) (λ s. s.cookie.name ≡ q)
+named_cond q true kept o h g = h refl
+named_cond q false kept o h g = g
+
+kept_shows : (key : List ℕ) (old new : Keyed) (seen : View) (way : Way) (s kept : Seen) → Shows key old seen
+    → new.key ≡ old.key → new.jar ≡ with_change old.jar (Added kept)
+    → kept.cookie.name ≡ stored_name way s.cookie.name → StandsAs key (stored_name way s.cookie.name)
+    (kind_of way) s.cookie.value kept.cookie.value
+    → Shows key new (with_at seen (stored_name way s.cookie.name) (Some (entry_of way s.cookie)))
+kept_shows key old new seen way s kept h same_key changed name stands =
+    let n : List ℕ = stored_name way s.cookie.name in
+    let is : (q : List ℕ) → view new.jar q ≡ cond (bytes_eq q n) (Some kept) (view old.jar q) =
+    λ q. ap (λ j. view j q) changed ∙ (view_change old.jar kept q
+    ∙ ap (λ m. cond (bytes_eq q m) (Some kept) (view old.jar q)) name) in
+    record {
+      key_is = same_key ∙ h.key_is;
+      named = λ q. subst (λ (o : Option Seen). IfSome o (λ x. x.cookie.name ≡ q)) (sym (is q))
+          (named_cond q (bytes_eq q n) kept (view old.jar q) (λ e. name ∙ sym (same_text q n e)) (h.named q));
+      each = λ q. subst (λ (o : Option Seen). Matches key q (value_in (record_in o))
+          (cond (bytes_eq q n) (Some (entry_of way s.cookie)) (seen q))) (sym (is q))
+          (matches_cond key q (bytes_eq q n) kept (view old.jar q) (entry_of way s.cookie) (seen q)
+          (λ e. subst (λ (m : List ℕ). StandsAs key m (kind_of way) s.cookie.value kept.cookie.value)
+          (sym (same_text q n e)) stands) (h.each q));
+    }
+
+pub set_shows : (key : List ℕ) (old new : Keyed) (seen : View) (way : Way) (s : Seen) → Shows key old seen
+    → Sets any_nonce old way s new → Shows key new (with_at seen (stored_name way s.cookie.name)
+    (Some (entry_of way s.cookie)))
+set_shows key old new seen way s h sets =
+    let kept = subst (λ (k : List ℕ). IsKeptAs any_nonce k way (sent s) sets.keeps.0) h.key_is sets.keeps.1 in
+    kept_shows key old new seen way s sets.keeps.0 h sets.key_is sets.keeps.2
+    (kept_named any_nonce key way (sent s) sets.keeps.0 kept)
+    (kept_stands any_nonce key way (sent s) sets.keeps.0 sets.value kept)
+
+-- ---- a get
+
+plain_read : (key q : List ℕ) (o : Option Seen) (e : Option Entry) (v : Option (List ℕ))
+    → Matches key q (value_in (record_in o)) e → v ≡ value_in (record_in o) → IsReadAt Plain e v
+plain_read key q None None v h is = is
+plain_read key q None (Some e) v h is = absurd h
+plain_read key q (Some s) None v h is = absurd h
+plain_read key q (Some s) (Some e) v h is = λ kind. is ∙ ap (λ x. Some x)
+    (subst (λ (k : Kind). StandsAs key q k e.value s.cookie.value) kind h)
+
+-- what stands for one value is read as that value
+only_read : (StandsFor : List ℕ → Type 0) (s : Seen) (value : List ℕ) (read : Option Seen) → StandsFor value
+    → ((v : List ℕ) → StandsFor v → v ≡ value) → Reads StandsFor s read → value_in (record_in read) ≡ Some value
+only_read StandsFor s value None holds only reads = absurd (reads value holds)
+only_read StandsFor s value (Some r) holds only reads = ap (λ (x : Seen). Some x.cookie.value) reads.2
+    ∙ ap (λ x. Some x) (only reads.0 reads.1)
+
+signed_read : (key q : List ℕ) (o : Option Seen) (e : Option Entry) (v : Option (List ℕ)) (read : Option Seen)
+    → OnlyOne key → Matches key q (value_in (record_in o)) e → ReadsFound (IsSigned key) o read
+    → v ≡ value_in (record_in read) → IsReadAt Signed e v
+signed_read key q None None v read law h found is = is ∙ ap (λ o. value_in (record_in o)) found
+signed_read key q None (Some e) v read law h found is = absurd h
+signed_read key q (Some s) None v read law h found is = absurd h
+signed_read key q (Some s) (Some e) v read law h found is = λ kind.
+    let stands : s.cookie.value ≡ signing key e.value = subst
+    (λ (k : Kind). StandsAs key q k e.value s.cookie.value) kind h in
+    is ∙ only_read (IsSigned key s) s e.value read stands (λ w other. law.signed w e.value (sym other ∙ stands)) found
+
+sealed_read : (key q : List ℕ) (o : Option Seen) (e : Option Entry) (v : Option (List ℕ)) (read : Option Seen)
+    → OnlyOne key → IfSome o (λ s. s.cookie.name ≡ q) → Matches key q (value_in (record_in o)) e
+    → ReadsFound (IsSealed key) o read → v ≡ value_in (record_in read) → IsReadAt Sealed e v
+sealed_read key q None None v read law name h found is = is ∙ ap (λ o. value_in (record_in o)) found
+sealed_read key q None (Some e) v read law name h found is = absurd h
+sealed_read key q (Some s) None v read law name h found is = absurd h
+sealed_read key q (Some s) (Some e) v read law name h found is = λ kind.
+    let stands : IsUtf8 e.value × IsSealing key q e.value s.cookie.value = subst
+    (λ (k : Kind). StandsAs key q k e.value s.cookie.value) kind h in
+    let mine : IsSealed key s e.value = (
+      stands.0,
+      subst (λ (n : List ℕ). IsSealing key n e.value s.cookie.value)
+          (sym name) stands.1,
+    ) in
+    is ∙ only_read (IsSealed key s) s e.value read mine (λ w other. law.sealed s.cookie.name w e.value s.cookie.value
+    other.1 mine.1) found
+
+way_read : (key : List ℕ) (session : Keyed) (seen : View) (way : Way) (name : List ℕ) (v : Option (List ℕ))
+    → OnlyOne key → Shows key session seen → ReadsIn session way name v
+    → IsReadAt (kind_of way) (seen (stored_name way name)) v
+way_read key session seen ways.Plain name v law h reads = plain_read key name (view session.jar name) (seen name) v
+    (h.each name) reads
+way_read key session seen ways.Host name v law h reads = let n : List ℕ = host_text
+    ++ name in plain_read key n (view session.jar n) (seen n) v (h.each n) reads
+way_read key session seen ways.Secure name v law h reads = let n : List ℕ = secure_text
+    ++ name in plain_read key n (view session.jar n) (seen n) v (h.each n) reads
+way_read key session seen ways.Signed name v law h reads =
+    signed_read key name (view session.jar name) (seen name) v reads.0 law (h.each name)
+    (subst (λ (k : List ℕ). ReadsFound (IsSigned k) (view session.jar name) reads.0) h.key_is reads.1) reads.2
+way_read key session seen ways.Sealed name v law h reads =
+    sealed_read key name (view session.jar name) (seen name) v reads.0 law (h.named name) (h.each name)
+    (subst (λ (k : List ℕ). ReadsFound (IsSealed k) (view session.jar name) reads.0) h.key_is reads.1) reads.2
+
+pub get_on : (key : List ℕ) (session : Keyed) (seen : View) (way : Way) (name : List ℕ) (told : List Reading)
+    → OnlyOne key → Shows key session seen → GetTells session way name told → GetOn seen way name told
+get_on key session seen way [] told law h tells = tells
+get_on key session seen way (b ∷ bs) told law h tells = (
+  tells.0,
+  tells.1,
+  way_read key session seen way
+      (b ∷ bs) tells.0 law h tells.2,
+)
+
+-- ---- a text is bytes
+
+encode_bytes : (c : ℕ) → scalar c ≡ true → AllByRecursion IsByte (encode c)
+unfolding encode
+encode_bytes c valid =
+    let top : c < 1114112 = ⊎_elim (λ h. omega arith) (λ h. h.1) (scalar_cases c valid) in
+    cond_both (ltb c 128) _ _ (AllByRecursion IsByte) (λ e. (omega (arith, ltb-true c 128 e), tt)) (λ e.
+    cond_both (ltb c 2048) _ _ (AllByRecursion IsByte) (λ e. (omega (arith, ltb-true c 2048 e), (omega arith, tt)))
+    (λ e.
+    cond_both (ltb c 65536) _ _ (AllByRecursion IsByte) (λ e.
+    (omega (arith, ltb-true c 65536 e), (omega arith, (omega arith, tt)))) (λ e.
+    (omega arith, (omega arith, (omega arith, (omega arith, tt)))))))
+
+encodes_bytes : (cs : List ℕ) → scalars cs ≡ true → All IsByte (encodes cs)
+encodes_bytes [] h = All-nil IsByte
+encodes_bytes (c ∷ cs) h = All-append IsByte (encode c) (encodes cs)
+    (All-from_recursion IsByte (encode c) (encode_bytes c (first_so (scalar c) (scalars cs) h)))
+    (encodes_bytes cs (second_so (scalar c) (scalars cs) h))
+
+pub utf8_bytes : (bs : List ℕ) → IsUtf8 bs → All IsByte bs
+utf8_bytes bs h = subst (All IsByte) h.1.1 (encodes_bytes h.0 h.1.0)
+
+-- ---- what is set is a text
+
+pub not_nil : (n : List ℕ) → 0 < length n → n ≢ []
+not_nil [] h e = omega (arith, h)
+not_nil (b ∷ bs) h e = cc
+
+-- a prefix is a text
+host_utf8 : IsUtf8 host_text
+host_utf8 = IsUtf8-from_ascii host_text (IsAscii-from_all host_text
+    (All-from_recursion (λ b. b < 128) host_text (
+      omega arith,
+      (omega arith, (omega arith, (omega arith, (omega arith, (omega arith, (omega arith, tt)))))),
+    )))
+
+secure_utf8 : IsUtf8 secure_text
+secure_utf8 = IsUtf8-from_ascii secure_text (IsAscii-from_all secure_text
+    (All-from_recursion (λ b. b < 128) secure_text (
+      omega arith,
+      (
+        omega arith,
+        (
+          omega arith,
+          (
+            omega arith,
+            (
+              omega arith,
+              (
+                omega arith,
+                (omega arith, (omega arith, (omega arith, tt))),
+              ),
+            ),
+          ),
+        ),
+      ),
+    )))
+
+pub named_text : (way : Way) (name : List ℕ) → IsUtf8 name → IsUtf8 (stored_name way name)
+named_text ways.Plain name h = h
+named_text ways.Host name h = IsUtf8-append host_text name host_utf8 h
+named_text ways.Secure name h = IsUtf8-append secure_text name secure_utf8 h
+named_text ways.Signed name h = h
+named_text ways.Sealed name h = h
+
+pub kept_text : {k : List ℕ} (May : List ℕ → Type 0) (key : List ℕ) (way : Way) (s kept : Seen) → OnlyOne k
+    → IsUtf8 s.cookie.value → IsKeptAs May key way s kept → IsUtf8 kept.cookie.value
+kept_text May key ways.Plain s kept law h k = subst (λ (x : Seen). IsUtf8 x.cookie.value) (sym k) h
+kept_text May key ways.Host s kept law h k = subst (λ (x : Seen). IsUtf8 x.cookie.value) (sym k) h
+kept_text May key ways.Secure s kept law h k = subst (λ (x : Seen). IsUtf8 x.cookie.value) (sym k) h
+kept_text May key ways.Signed s kept law h k =
+    subst (λ (x : Seen). IsUtf8 x.cookie.value) (sym k) (law.signed_text key s.cookie.value h)
+kept_text May key ways.Sealed s kept law h k =
+    subst (λ (x : Seen). IsUtf8 x.cookie.value) (sym k.2.3) (law.sealed_text key s.cookie.name s.cookie.value k.2.0
+    (k.0, k.2.1, k.2.2))
+
+-- ---- the cookies of a delta
+
+abbrev pub records : List Seen → List Record
+records cookies = map (λ s. s.cookie) cookies
+
+pub lines_are : (cookies : List Seen) → lines_of cookies ≡ map encoded (records cookies)
+lines_are [] = refl
+lines_are (s ∷ ss) = ap (λ ls. encoded s.cookie ∷ ls) (lines_are ss)
+
+record_cond : (b : Bool) (s : Seen) (o : Option Seen) → record_in (cond b (Some s) o) ≡ cond b (Some s.cookie)
+    (record_in o)
+record_cond true s o = refl
+record_cond false s o = refl
+
+pub found_records : (cookies : List Seen) (q : List ℕ) → found_in (records cookies) q ≡ record_in
+    (entry_in (under_names cookies) q)
+found_records [] q = refl
+found_records (s ∷ ss) q =
+    ap (cond (bytes_eq q s.cookie.name) (Some s.cookie)) (found_records ss q)
+    ∙ sym (record_cond (bytes_eq q s.cookie.name) s (entry_in (under_names ss) q))
+
+pub apart_records : (cookies : List Seen) → EntriesApart (under_names cookies) → AreApart (records cookies)
+apart_records [] h = tt
+apart_records (s ∷ ss) h = (found_records ss s.cookie.name ∙ ap record_in h.0, apart_records ss h.1)
+
+pub all_records : (P : Record → Type 0) (cookies : List Seen) → AllByRecursion (λ s. P s.cookie) cookies
+    → AllByRecursion P (records cookies)
+all_records P [] h = tt
+all_records P (s ∷ ss) h = (h.0, all_records P ss h.1)
+
+-- ---- the host of a URL, as a test and as an equation
+
+pub is_text : List ℕ → Option (List ℕ) → Bool
+is_text text None = false
+is_text text (Some other) = bytes_eq other text
+
+pub host_is : (host : List ℕ) (o : Option (List ℕ)) → is_text host o ≡ true → o ≡ Some host
+unfolding is_text
+host_is host None e = absurd (cc)
+host_is host (Some other) e = ap Some (same_text other host e)
+
+tests_host : (host : List ℕ) (o : Option (List ℕ)) → o ≡ Some host → is_text host o ≡ true
+unfolding is_text
+tests_host host o e = ap (is_text host) e ∙ text_is host host refl
+
+pub other_host : (host : List ℕ) (o : Option (List ℕ)) → is_text host o ≡ false → o ≢ Some host
+unfolding is_text
+other_host host o e same = both_ways _ e (tests_host host o same)

@@ -1,0 +1,57 @@
+-- What holds of every play on the rows of a client.
+use Rattle.std.specs.Prelude.{◌≡◌, ◌≤ℤ◌, pos, ℕ, ℤ, List, Some, ⊤}
+use Rattle.cookie_text.specs.Printing.{encoded}
+use Rattle.cookie_text.specs.Record.{Record}
+use Rattle.publicsuffix.specs.Rules.{Rule}
+use Rattle.url.specs.Parts.{Parts}
+use Rattle.cookie_store.specs.Confined.{IsConfined}
+use Rattle.cookie_store.specs.Rows.{Row}
+use Rattle.store_parts.specs.Schemes.{host_of}
+use Rattle.cookie_run.specs.Hosts.{secure_host}
+use Rattle.cookie_run.specs.Moments.{AllFollow, the_beginning}
+use Rattle.cookie_run.specs.declared.step.FaultKind.{FaultKind}
+use Rattle.cookie_run.specs.declared.step.Reading.{Reading}
+use Rattle.cookie_run.specs.Accept.{Accepts, Takes}
+use Rattle.cookie_run.specs.declared.step.LineEnd.{LineEnd}
+use Rattle.cookie_run.specs.declared.step.LineEnd.TheVariants.{Stored, Refused, NotText}
+use Rattle.cookie_run.specs.Acts.{Act, moments_of}
+use Rattle.cookie_run.specs.Headline.{SitesReadTheirOwn, SitesReadTheirOwnUntil}
+use Rattle.cookie_run.specs.Play.{IsRun, IsRunUntil}
+use Rattle.cookie_run.specs.Sent.{IsSent, IsRowFor, IsTaken}
+
+-- what a play whose moments are in order reads, its sites read of their own
+abbrev pub EachPlayIsRead : List ℕ → Type 0
+EachPlayIsRead key =
+    (list : List Rule) (acts : List Act) (readings : List Reading) → AllFollow the_beginning (moments_of acts)
+    → IsRun list key acts readings → SitesReadTheirOwn list acts readings
+
+-- so does a play that stops, as far as it came
+abbrev pub EachStoppedPlayIsRead : List ℕ → Type 0
+EachStoppedPlayIsRead key =
+    (list : List Rule) (acts : List Act) (step : ℕ) (kind : FaultKind) (readings : List Reading)
+    → IsRunUntil list key acts step kind readings → SitesReadTheirOwnUntil list acts step kind readings
+
+-- an answer touches the rows that its host may, and no other
+abbrev pub AnswersAreConfined : Type 0
+AnswersAreConfined =
+    (list : List Rule) (rows : List Row) (url : Parts) (now : ℤ) (lines : List (List ℕ)) (new : List Row)
+    → Takes list rows url now lines new → IsConfined list (host_of url) rows new
+
+-- the line of a session's cookie is taken as its row
+abbrev pub SentLinesAreTaken : Type 0
+SentLinesAreTaken =
+    (list : List Rule) (host : List ℕ) (url : Parts) (now : ℤ) (c : Record) (rows : List Row) (end : LineEnd)
+    (new : List Row) → IsSent c → secure_host url ≡ Some host → pos 0 ≤ℤ now
+    → Accepts list rows url now (encoded c) end new
+    → (row : Row) × IsRowFor host c now row × IsTaken rows now row end new
+
+-- a line that isn't stored changes nothing
+abbrev pub IsStored : LineEnd → Type 0
+IsStored (Stored action) = ⊤
+IsStored (Refused cause) = ⊥
+IsStored NotText = ⊥
+
+abbrev pub RefusedLinesChangeNothing : Type 0
+RefusedLinesChangeNothing =
+    (list : List Rule) (rows : List Row) (url : Parts) (now : ℤ) (line : List ℕ) (end : LineEnd) (new : List Row)
+    → Accepts list rows url now line end new → ¬ (IsStored end) → new ≡ rows
