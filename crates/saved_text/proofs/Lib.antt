@@ -8,6 +8,7 @@ mod WriteLemmas
 mod PieceLemmas
 mod WrittenLemmas
 mod ListLemmas
+mod FieldLemmas
 mod JsonLemmas
 mod FeedLemmas
 mod JsonListLemmas

@@ -196,11 +196,11 @@ empty = name (codes "Empty")
 pub domain_host : (text : List ℕ) → Begins 72 text → Goes domain text [] host_only text
 domain_host text b = subst (λ t. Goes domain t [] host_only t) (sym b.1) (Goes-left host_only (either suffix (either not_present empty)) 72 b.0 refl refl)
 
-lacks_tag : (b : ℕ) (s : List ℕ) (text : List ℕ) → Lacks b text → Misses (tagged (b ∷ s)) text
+pub lacks_tag : (b : ℕ) (s : List ℕ) (text : List ℕ) → Lacks b text → Misses (tagged (b ∷ s)) text
 lacks_tag b s [] l = refl
 lacks_tag b s (c ∷ r) l = none_or ((c == b) || false) false (none_or (c == b) false (ne_eqb c b l) refl) refl
 
-lacks_name : (b : ℕ) (s : List ℕ) (text : List ℕ) → Lacks b text → Misses (name (b ∷ s)) text
+pub lacks_name : (b : ℕ) (s : List ℕ) (text : List ℕ) → Lacks b text → Misses (name (b ∷ s)) text
 lacks_name b s [] l = refl
 lacks_name b s (c ∷ r) l = none_or (c == b) false (ne_eqb c b l) refl
 

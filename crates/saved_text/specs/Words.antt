@@ -1,7 +1,7 @@
 -- The words that the parts of a row say.
 use Rattle.std.specs.Prelude.{ℕ, List, [], ◌∷◌, ◌++◌, codes}
 use Rattle.saved_text.specs.Grammar.{Grammar, Word, letters}
-use Rattle.saved_text.specs.Grammar.Grammar.{seq, space}
+use Rattle.saved_text.specs.Grammar.Grammar.{seq, space, sign}
 use Rattle.saved_text.specs.Grammar.Word.{the_name, the_end}
 use Rattle.saved_text.specs.Ron.{name, bracketed, string}
 use Rattle.std.specs.Str.{IsCharBoundary}
@@ -22,6 +22,10 @@ domain_words empty = the_name (codes "Empty") ∷ []
 -- a name, and a string in brackets
 abbrev pub tagged : List ℕ → Grammar
 tagged n = seq (name n) (seq space (bracketed string))
+
+-- a name and a colon
+abbrev pub heading : List ℕ → Grammar
+heading n = seq (name n) (seq space (sign (codes ":")))
 
 -- The text is not of the grammar, and its longest front has n bytes; or memory was refused.
 abbrev pub IsFaultOf : Grammar → List ℕ → Fault → Type 0

@@ -10,6 +10,8 @@ mod json_to_value;
 mod json_value;
 mod json_write;
 pub mod laws;
+mod ron_drafts;
+mod ron_fields;
 mod ron_parts;
 mod ron_rows;
 mod ron_text;
