@@ -1,5 +1,5 @@
 -- The fields of a row of RON.
-use Rattle.std.specs.Prelude.{◌⊎◌, Bool, true, false, Option, Some, None, IsTrue, codes, ◌==◌}
+use Rattle.std.specs.Prelude.{◌⊎◌, Bool, true, false, Option, Some, None, option_map, IsTrue, codes, ◌==◌}
 use Rattle.std.proofs.Common.{◌≡◌, ℕ, ◌++◌, List, [], ◌∷◌, refl, sym, ap, ◌∙◌, arith, subst, append_assoc, inl, inr, Result, MatchResult, Bor, String, Global, string_bytes}
 use Rattle.std.proofs.lemmas.List.{append-nil}
 use Rattle.std.proofs.lemmas.Bool.{ne_eqb, false≢true}
@@ -14,10 +14,10 @@ use Rattle.saved_text.specs.RonReading.{ReadsAs, AreRead}
 use Rattle.saved_text.specs.Saved.{domain_shown, IsCookieText, IsDeath}
 use Rattle.saved_text.specs.JsonReading.{HasDeath}
 use Rattle.saved_text.specs.Row.{Domain, host_only, suffix, not_present, empty}
-use Rattle.saved_text.specs.Drafts.{IsNamed, Unreads, Marks, raw_words, path_words, words_of_domain, words_of_date}
+use Rattle.saved_text.specs.Drafts.{IsWhole, Unreads, Marks, raw_words, path_words, words_of_domain, words_of_date}
 use Rattle.saved_text.specs.declared.ron_text.Stop.{Stop}
+use Rattle.saved_text.specs.declared.row.SavedExpiration.TheVariants as expiration
 use Rattle.saved_text.specs.declared.row.SavedDomain.{SavedDomain}
-use Rattle.saved_text.specs.declared.ron_fields.Death.{Death}
 use Rattle.saved_text.specs.Ron.{string, bracketed, field, name, comma, bool, path, domain, expires, raw_field, path_field, domain_field, expires_field, ◌▹◌}
 use Rattle.saved_text.proofs.StepLemmas.{starts, nullable, Misses, solid, head_same, Same, Same-refl, Same-trans, Same-sym, Same-assoc, seq_parts, Leads-trans, Leads-same, Takes-seq}
 use Rattle.saved_text.proofs.RonLemmas.{Goes, Goes-from, Goes-trans, Goes-same, Goes-first, Goes-left, Takes-behind, StopsAs-behind, StopsAs-first, result_map}
@@ -162,30 +162,11 @@ date_read value h = are_read_string (codes "AtUtc") value [] (reads_date value h
 
 -- ---- words that read, and others behind them
 
--- no word, or a name first
-abbrev pub IsWhole : List Word → Type 0
-IsWhole [] = Unit {0}
-IsWhole (the_name n ∷ said) = Unit {0}
-IsWhole (letter b ∷ said) = ⊥
-IsWhole (the_end ∷ said) = ⊥
-
-pub whole_front : (t w : List Word) → IsNamed (t ++ w) → IsWhole t
-whole_front [] w h = tt
-whole_front (the_name n ∷ t) w h = tt
-whole_front (letter b ∷ t) w h = absurd h
-whole_front (the_end ∷ t) w h = absurd h
-
-pub whole_named : (t : List Word) → IsNamed t → IsWhole t
-whole_named [] h = tt
-whole_named (the_name n ∷ t) h = tt
-whole_named (letter b ∷ t) h = absurd h
-whole_named (the_end ∷ t) h = absurd h
-
-pub named_front : (s t : List Word) → IsNamed s → IsNamed (s ++ t)
-named_front [] t h = absurd h
-named_front (the_name n ∷ s) t h = tt
-named_front (letter b ∷ s) t h = absurd h
-named_front (the_end ∷ s) t h = absurd h
+pub whole_both : (s t : List Word) → IsWhole s → IsWhole t → IsWhole (s ++ t)
+whole_both [] t h k = k
+whole_both (the_name n ∷ s) t h k = tt
+whole_both (letter b ∷ s) t h k = absurd h
+whole_both (the_end ∷ s) t h k = absurd h
 
 read_front : (n begun : List ℕ) (t : List Word) → IsWhole t → AreRead [] [] t → AreRead n begun t
 read_front n begun [] h a = tt
@@ -202,9 +183,9 @@ are_read_both n begun (the_end ∷ s) t h a b = (a.0, are_read_both n [] s t h a
 -- ---- a string that doesn't read
 
 -- behind words that read
-pub Unreads-behind : (g k : Grammar) (text rest q : List ℕ) (s : List Word) → Goes g text s k rest → IsNamed s → AreRead [] [] s → Unreads k rest q → Unreads g text q
+pub Unreads-behind : (g k : Grammar) (text rest q : List ℕ) (s : List Word) → Goes g text s k rest → IsWhole s → AreRead [] [] s → Unreads k rest q → Unreads g text q
 unfolding Goes
-Unreads-behind g k text rest q s l named read u = record {
+Unreads-behind g k text rest q s l whole read u = record {
   before = s ++ u.before;
   name = u.name;
   value = u.value;
@@ -214,8 +195,8 @@ Unreads-behind g k text rest q s l named read u = record {
       (n.0, subst (λ w. Leads (seq g h) text w (seq string n.0) q) (sym (append_assoc s u.before (the_name u.name ∷ [])))
       (Leads-trans (seq g h) (seq k h) (seq string n.0) text rest q s (u.before ++ the_name u.name ∷ []) (l h) n.1));
   string = u.string;
-  named = named_front (s ++ u.before) (the_name u.name ∷ []) (named_front s u.before named);
-  first = are_read_both [] [] s u.before (whole_front u.before (the_name u.name ∷ []) u.named) read u.first;
+  whole = whole_both s u.before whole u.whole;
+  first = are_read_both [] [] s u.before u.whole read u.first;
   unread = u.unread;
 }
 
@@ -230,7 +211,7 @@ Unreads-silent g k text rest q l u = record {
       let n = u.leads h in
       (n.0, Leads-trans (seq g h) (seq k h) (seq string n.0) text rest q [] (u.before ++ the_name u.name ∷ []) (l h) n.1);
   string = u.string;
-  named = u.named;
+  whole = u.whole;
   first = u.first;
   unread = u.unread;
 }
@@ -246,7 +227,7 @@ Unreads-first g k text q u = record {
       (n.0, Leads-trans (seq (seq g k) h) (seq g (seq k h)) (seq string n.0) text text q [] (u.before ++ the_name u.name ∷ [])
       (Leads-same (seq (seq g k) h) (seq g (seq k h)) text (Same-assoc g k h)) n.1);
   string = u.string;
-  named = u.named;
+  whole = u.whole;
   first = u.first;
   unread = u.unread;
 }
@@ -261,7 +242,7 @@ Unreads-here g text q behind n value l t u = record {
   behind = behind;
   leads = λ h. (h, l h);
   string = t;
-  named = tt;
+  whole = tt;
   first = tt;
   unread = u;
 }
@@ -275,7 +256,7 @@ Unreads-within g k text q behind n value l t u = record {
   behind = behind;
   leads = λ h. (seq k h, Leads-trans (seq g h) (seq (seq string k) h) (seq string (seq k h)) text q q (the_name n ∷ []) [] (l h) (Leads-same (seq (seq string k) h) (seq string (seq k h)) q (Same-assoc string k h)));
   string = t;
-  named = tt;
+  whole = tt;
   first = tt;
   unread = u;
 }
@@ -335,13 +316,13 @@ marks_field text b date holds None l m = (are_read_both [] [] (the_name (codes "
     date_whole (Some t) = tt
 marks_field text b date holds (Some q) l m = Unreads-behind expires_field expires text b q.now (the_name (codes "expires") ∷ []) l tt tt m
 
-pub result_expires : (text a b : List ℕ) (r : Result (Death × Bor (List ℕ)) Stop) → Takes (heading (codes "expires")) text (the_name (codes "expires") ∷ []) a → Spaced a b
-    → MatchResult r (λ p. (date : Option (List ℕ)) × Takes expires b (expires_words date) p.1.now × Marks expires b (expires_words date) (IsDeath date p.0.expires) p.0.unread) (StopsAs expires b)
-    → MatchResult r (λ p. (date : Option (List ℕ)) × Takes expires_field text (words_of_date date) p.1.now × Marks expires_field text (words_of_date date) (IsDeath date p.0.expires) p.0.unread) (StopsAs expires_field text)
+pub result_expires : (text a b : List ℕ) (r : Result (Option (String Global) × Option (Bor (List ℕ)) × Bor (List ℕ)) Stop) → Takes (heading (codes "expires")) text (the_name (codes "expires") ∷ []) a → Spaced a b
+    → MatchResult r (λ p. Takes expires b (expires_words (option_map string_bytes p.0)) p.2.now × Marks expires b (expires_words (option_map string_bytes p.0)) (HasDeath (option_map string_bytes p.0)) p.1) (StopsAs expires b)
+    → MatchResult r (λ p. Takes expires_field text (words_of_date (option_map string_bytes p.0)) p.2.now × Marks expires_field text (words_of_date (option_map string_bytes p.0)) (HasDeath (option_map string_bytes p.0)) p.1) (StopsAs expires_field text)
 result_expires text a b r l s m =
     let o : Goes expires_field text (the_name (codes "expires") ∷ []) expires b = field_opens (codes "expires") expires text a b refl refl l s in
     result_map r _ _ _ _
-    (λ p k. (k.0, Takes-behind expires_field expires text b p.1.now (the_name (codes "expires") ∷ []) (expires_words k.0) o k.1, marks_field text b k.0 (IsDeath k.0 p.0.expires) p.0.unread o k.2))
+    (λ p k. (Takes-behind expires_field expires text b p.2.now (the_name (codes "expires") ∷ []) (expires_words (option_map string_bytes p.0)) o k.0, marks_field text b (option_map string_bytes p.0) (HasDeath (option_map string_bytes p.0)) p.1 o k.1))
     (λ f k. StopsAs-behind expires_field expires text b (the_name (codes "expires") ∷ []) f o k) m
 
 pub StopsAs-raw : (text a q : List ℕ) (e : Stop) → Takes (heading (codes "raw_cookie")) text (the_name (codes "raw_cookie") ∷ []) a → Spaced a q → StopsAs string q e → StopsAs raw_field text e
@@ -349,3 +330,6 @@ StopsAs-raw text a q e l s t = StopsAs-behind raw_field string text q (the_name 
 
 pub date_unread : (text q behind value : List ℕ) → Goes expires text (the_name (codes "AtUtc") ∷ []) (seq string (seq space closing)) q → Takes string q (string_words value) behind → ¬ HasDeath (Some value) → Unreads expires text q
 date_unread text q behind value l t u = Unreads-within expires (seq space closing) text q behind (codes "AtUtc") value l t (λ r. u (r.1 refl))
+
+pub session_has_death : HasDeath None
+session_has_death = (expiration.SessionEnd, tt)

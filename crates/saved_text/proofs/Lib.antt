@@ -9,6 +9,8 @@ mod PieceLemmas
 mod WrittenLemmas
 mod ListLemmas
 mod FieldLemmas
+mod PickLemmas
+mod DraftLemmas
 mod JsonLemmas
 mod FeedLemmas
 mod JsonListLemmas

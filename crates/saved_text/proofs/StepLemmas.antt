@@ -81,6 +81,18 @@ Same-refl G = record { down = λ text w o. o; up = λ text w o. o; front_down = 
 pub Same-trans : (G H K : Grammar) → Same G H → Same H K → Same G K
 Same-trans G H K a b = record { down = λ text w o. b.down text w (a.down text w o); up = λ text w o. a.up text w (b.up text w o); front_down = λ text f. b.front_down text (a.front_down text f); front_up = λ text f. a.front_up text (b.front_up text f) }
 
+-- nothing behind
+pub Same-nothing : (g : Grammar) → Same (seq g nothing) g
+Same-nothing g = record {
+  down = λ text w o. subst (λ v. IsOf g v w) (sym (o.6 ∙ ap (λ q. o.0 ++ q) o.5.0 ∙ append-nil o.0)) (subst (IsOf g o.0) (sym (o.7 ∙ ap (λ q. o.2 ++ q) o.5.1 ∙ append-nil o.2)) o.4);
+  up = λ text w o. (text, [], w, [], o, (refl, refl), sym (append-nil text), sym (append-nil w));
+  front_down = λ text f. elim f [
+    | inl k ↦ k
+    | inr k ↦ subst (IsFront g) (sym (k.5 ∙ ap (λ q. k.0 ++ q) k.4 ∙ append-nil k.0)) (front_of_whole g k.0 k.2 k.3)
+  ];
+  front_up = λ text f. inl f;
+}
+
 pub Leads-same : (G H : Grammar) (text : List ℕ) → Same G H → Leads G text [] H text
 Leads-same G H text e = record {
   x = [];

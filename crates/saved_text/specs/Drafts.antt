@@ -1,5 +1,5 @@
 -- A row of RON while it is read: for private clauses.
-use Rattle.std.specs.Prelude.{◌≡◌, ℕ, ◌++◌, ◌∷◌, ◌||◌, List, [], Bool, true, false, Option, Some, None, IsTrue, flat_map, codes, string_bytes}
+use Rattle.std.specs.Prelude.{◌≡◌, ℕ, ◌++◌, ◌∷◌, ◌||◌, List, [], Bool, true, false, Option, Some, None, option_map, IsTrue, flat_map, codes, string_bytes}
 use Rattle.std.specs.List.Sorted.{IsPermutation}
 use Rattle.std.specs.Borrow.{Bor}
 use Rattle.saved_text.specs.Grammar.{Grammar, Word}
@@ -10,19 +10,19 @@ use Rattle.saved_text.specs.Reads.{Leads, Takes}
 use Rattle.saved_text.specs.Row.{Shown, Domain}
 use Rattle.saved_text.specs.RowWords.{SaysRow, bool_words, expires_words}
 use Rattle.saved_text.specs.RonReading.{ReadsAs, AreRead}
-use Rattle.saved_text.specs.Saved.{domain_shown, IsCookieText, IsDeath, IsShown}
+use Rattle.saved_text.specs.Saved.{domain_shown, IsCookieText}
+use Rattle.saved_text.specs.JsonReading.{HasDeath, IsReadable}
 use Rattle.saved_text.specs.Words.{string_words, domain_words}
 use Rattle.saved_text.specs.declared.ron_drafts.Draft.{Draft}
-use Rattle.saved_text.specs.declared.row.SavedRow.{SavedRow}
 
 -- ---- a string that doesn't read
 
--- a name stands first
-abbrev pub IsNamed : List Word → Type 0
-IsNamed [] = ⊥
-IsNamed (the_name n ∷ said) = Unit {0}
-IsNamed (letter b ∷ said) = ⊥
-IsNamed (the_end ∷ said) = ⊥
+-- no word, or a name first
+abbrev pub IsWhole : List Word → Type 0
+IsWhole [] = Unit {0}
+IsWhole (the_name n ∷ said) = Unit {0}
+IsWhole (letter b ∷ said) = ⊥
+IsWhole (the_end ∷ said) = ⊥
 
 -- Behind words that read, the first string that doesn't stands at the rest, whatever grammar comes behind g.
 pub record Unreads (g : Grammar) (text rest : List ℕ) : Type 0 where
@@ -32,7 +32,7 @@ pub record Unreads (g : Grammar) (text rest : List ℕ) : Type 0 where
   pub behind : List ℕ
   pub leads : (h : Grammar) → (next : Grammar) × Leads (seq g h) text (before ++ the_name name ∷ []) (seq string next) rest
   pub string : Takes string rest (string_words value) behind
-  pub named : IsNamed (before ++ the_name name ∷ [])
+  pub whole : IsWhole before
   pub first : AreRead [] [] before
   pub unread : ¬ ReadsAs name value
 
@@ -84,9 +84,9 @@ IsLacking d = IsTrue (is_lacking d.lacks_raw_cookie d.lacks_path d.lacks_domain 
 
 -- ---- what was read of the fields
 
--- what was read, with the text of its date
-abbrev pub drafted : SavedRow → Option (List ℕ) → Shown
-drafted r date = record { raw = string_bytes r.raw_cookie; path = string_bytes r.path; from_attribute = r.is_from_path_attr; domain = domain_shown r.domain; expires = date }
+-- what was read
+abbrev pub drafted : Draft → Shown
+drafted r = record { raw = string_bytes r.raw_cookie; path = string_bytes r.path; from_attribute = r.is_from_path_attr; domain = domain_shown r.domain; expires = option_map string_bytes r.date }
 
 abbrev pub unless : Bool → List Word → List (List Word)
 unless true words = []
@@ -105,46 +105,40 @@ abbrev pub words_of_date : Option (List ℕ) → List Word
 words_of_date date = the_name (codes "expires") ∷ expires_words date
 
 -- the words of the fields that are there
-abbrev pub found : Draft → Option (List ℕ) → List (List Word)
-found d date =
-    unless d.lacks_raw_cookie (raw_words (string_bytes d.row.raw_cookie))
-    ++ (unless d.lacks_path (path_words (string_bytes d.row.path) d.row.is_from_path_attr)
-    ++ (unless d.lacks_domain (words_of_domain (domain_shown d.row.domain))
-    ++ unless d.lacks_expires (words_of_date date)))
+abbrev pub found : Draft → List (List Word)
+found d =
+    unless d.lacks_raw_cookie (raw_words (string_bytes d.raw_cookie))
+    ++ (unless d.lacks_path (path_words (string_bytes d.path) d.is_from_path_attr)
+    ++ (unless d.lacks_domain (words_of_domain (domain_shown d.domain))
+    ++ unless d.lacks_expires (words_of_date (option_map string_bytes d.date))))
 
 -- what is there reads
-pub record IsSound (d : Draft) (date : Option (List ℕ)) : Type 0 where
-  pub cookie : d.lacks_raw_cookie ≡ false → IsCookieText (string_bytes d.row.raw_cookie)
-  pub death : IsDeath date d.row.expires
+pub record IsSound (d : Draft) : Type 0 where
+  pub cookie : d.lacks_raw_cookie ≡ false → IsCookieText (string_bytes d.raw_cookie)
+  pub death : d.lacks_expires ≡ false → HasDeath (option_map string_bytes d.date)
 
 -- ---- steps
 
--- The draft knew of a string that doesn't read, or now does of one in this field, or its words read.
-abbrev pub Notes : Grammar → List ℕ → List Word → Option (Bor (List ℕ)) → Type 0 → Option (Bor (List ℕ)) → Type 0
-Notes g text said None holds new = Marks g text said holds new
-Notes g text said (Some p) holds new = new ≡ Some p
-
 -- One field more was read, up to the rest.
-pub record Adds (old : Draft) (text : List ℕ) (new : Draft) (rest : List ℕ) : Type 0 where
+pub record Adds (old : Draft) (text : List ℕ) (new : Draft) (unread : Option (Bor (List ℕ))) (rest : List ℕ) : Type 0 where
   pub words : List Word
-  pub named : IsNamed words
+  pub whole : IsWhole words
   pub leads : (h : Grammar) → Leads (seq (left old) h) text words (seq (left_behind new) h) rest
-  pub more : (date : Option (List ℕ)) → (next : Option (List ℕ)) × IsPermutation (found old date ++ words ∷ []) (found new next)
-      × Notes (left old) text words old.unread (IsSound old date → IsSound new next) new.unread
+  pub order : IsPermutation (found old ++ words ∷ []) (found new)
+  pub marks : Marks (left old) text words (IsSound old → IsSound new) unread
 
 -- The fields of the draft were read behind the text's beginning, and the others are left.
-pub record IsDrafted (g : Grammar) (text : List ℕ) (d : Draft) (k : Grammar) (rest : List ℕ) : Type 0 where
-  pub date : Option (List ℕ)
+pub record IsDrafted (g : Grammar) (text : List ℕ) (d : Draft) (unread : Option (Bor (List ℕ))) (k : Grammar) (rest : List ℕ) : Type 0 where
   pub parts : List (List Word)
-  pub order : IsPermutation (found d date) parts
+  pub order : IsPermutation (found d) parts
+  pub whole : IsWhole (flat_map (λ f. f) parts)
   pub leads : (h : Grammar) → Leads (seq g h) text (flat_map (λ f. f) parts) (seq k h) rest
-  pub marks : Marks g text (flat_map (λ f. f) parts) (IsSound d date) d.unread
+  pub marks : Marks g text (flat_map (λ f. f) parts) (IsSound d) unread
 
 -- A row was read behind the text's beginning.
-pub record IsRowRead (g : Grammar) (text : List ℕ) (row : SavedRow) (unread : Option (Bor (List ℕ))) (rest : List ℕ) : Type 0 where
-  pub shown : Shown
+pub record IsRowRead (g : Grammar) (text : List ℕ) (d : Draft) (unread : Option (Bor (List ℕ))) (rest : List ℕ) : Type 0 where
   pub said : List Word
-  pub says : SaysRow shown said
-  pub named : IsNamed said
+  pub says : SaysRow (drafted d) said
+  pub whole : IsWhole said
   pub takes : Takes g text said rest
-  pub marks : Marks g text said (IsShown shown row) unread
+  pub marks : Marks g text said (IsReadable (drafted d)) unread

@@ -1,5 +1,5 @@
 //! The fields of a row of RON, in any order.
-ghost use Rattle.std.specs.Prelude.{◌∷◌, ◌++◌, [], MatchResult, List, ℕ, Option, string_bytes, codes};
+ghost use Rattle.std.specs.Prelude.{◌∷◌, ◌++◌, [], MatchResult, MatchBool, Some, option_map, string_bytes, codes};
 ghost use Rattle.saved_text.specs.Drafts.{Marks, raw_words, path_words, words_of_domain, words_of_date};
 ghost use Rattle.saved_text.specs.Faults.{StopsAs, AreAscii, closing};
 ghost use Rattle.saved_text.specs.Grammar.{Grammar};
@@ -8,23 +8,15 @@ ghost use Rattle.saved_text.specs.Grammar.Word.{the_name};
 ghost use Rattle.saved_text.specs.Reads.{Leads, Takes};
 ghost use Rattle.saved_text.specs.Ron.{string, bool, path, expires, raw_field, path_field, domain_field, expires_field};
 ghost use Rattle.saved_text.specs.RowWords.{bool_words, expires_words};
-ghost use Rattle.saved_text.specs.Saved.{domain_shown, IsCookieText, IsDeath};
+ghost use Rattle.saved_text.specs.Saved.{domain_shown, IsCookieText};
+ghost use Rattle.saved_text.specs.JsonReading.{HasDeath};
 ghost use Rattle.saved_text.specs.Words.{heading, string_words, tagged};
 
 use crate::json_read::{death_of, is_cookie};
 use crate::ron_parts::{begins, bytes_of, close, gap, read_domain, sign_of};
 use crate::ron_text::{Stop, read_string};
-use crate::row::{SavedDomain, SavedExpiration};
+use crate::row::SavedDomain;
 use std::alloc::Global;
-
-/// A death, and the rest at its date where that doesn't read.
-#[derive(Debug, Clone, Copy)]
-pub struct Death<'a> {
-    /// The death, or another one where the date doesn't read.
-    pub expires: SavedExpiration,
-    /// The rest at that date.
-    pub unread: Option<&'a str>,
-}
 
 // What is behind a name and its colon.
 fn heading<'a>(text: &'a str, name: &[u8]) -> Result<&'a str, Stop<'a>>
@@ -76,11 +68,18 @@ fn date_quote(text: &str) -> Result<&str, Stop<'_>>
     Ok(gap(rest))
 }
 
-// The death at the front of the text, and what is behind it.
-fn read_expires(alloc: Global, text: &str) -> Result<(Death<'_>, &str), Stop<'_>>
+// Whether a text reads as a date.
+fn is_date(text: &str) -> bool
+    ensures { MatchBool result (HasDeath (Some text.now)) (¬ (HasDeath (Some text.now))) }
+{
+    death_of(Some(text)).is_some()
+}
+
+// The text of the date, or none at the end of the session, the rest at a date that doesn't read, and what is behind.
+fn read_expires(alloc: Global, text: &str) -> Result<(Option<String>, Option<&str>, &str), Stop<'_>>
     ensures { MatchResult result
-        (λ p. (date : Option (List ℕ)) × Takes expires text.now (expires_words date) p.1.now
-            × Marks expires text.now (expires_words date) (IsDeath date p.0.expires) p.0.unread)
+        (λ p. Takes expires text.now (expires_words (option_map string_bytes p.0)) p.2.now
+            × Marks expires text.now (expires_words (option_map string_bytes p.0)) (HasDeath (option_map string_bytes p.0)) p.1)
         (StopsAs expires text.now) }
 {
     if begins(text, b'A') {
@@ -88,17 +87,17 @@ fn read_expires(alloc: Global, text: &str) -> Result<(Death<'_>, &str), Stop<'_>
         let (date, rest) = read_string(alloc, quote)?;
         let rest = gap(rest);
         let rest = close(rest)?;
-        return match death_of(Some(date.as_str())) {
-            Some(expires) => Ok((Death { expires, unread: None }, rest)),
-            None => Ok((Death { expires: SavedExpiration::SessionEnd, unread: Some(quote) }, rest)),
-        };
+        if is_date(date.as_str()) {
+            return Ok((Some(date), None, rest));
+        }
+        return Ok((Some(date), Some(quote), rest));
     }
     let rest = bytes_of(text, b"SessionEnd")?;
-    Ok((Death { expires: SavedExpiration::SessionEnd, unread: None }, rest))
+    Ok((None, None, rest))
 }
 
 // The raw cookie's field: its text, the rest at it where it doesn't read, and what is behind.
-fn raw_field(alloc: Global, text: &str) -> Result<(String, Option<&str>, &str), Stop<'_>>
+pub fn raw_field(alloc: Global, text: &str) -> Result<(String, Option<&str>, &str), Stop<'_>>
     ensures { MatchResult result
         (λ p. Takes raw_field text.now (raw_words (string_bytes p.0)) p.2.now
             × Marks raw_field text.now (raw_words (string_bytes p.0)) (IsCookieText (string_bytes p.0)) p.1)
@@ -113,7 +112,7 @@ fn raw_field(alloc: Global, text: &str) -> Result<(String, Option<&str>, &str), 
     Ok((value, Some(quote), rest))
 }
 
-fn path_field(alloc: Global, text: &str) -> Result<(String, bool, &str), Stop<'_>>
+pub fn path_field(alloc: Global, text: &str) -> Result<(String, bool, &str), Stop<'_>>
     ensures { MatchResult result
         (λ p. Takes path_field text.now (path_words (string_bytes p.0) p.1) p.2.now)
         (StopsAs path_field text.now) }
@@ -123,7 +122,7 @@ fn path_field(alloc: Global, text: &str) -> Result<(String, bool, &str), Stop<'_
     read_path(alloc, rest)
 }
 
-fn domain_field(alloc: Global, text: &str) -> Result<(SavedDomain, &str), Stop<'_>>
+pub fn domain_field(alloc: Global, text: &str) -> Result<(SavedDomain, &str), Stop<'_>>
     ensures { MatchResult result
         (λ p. Takes domain_field text.now (words_of_domain (domain_shown p.0)) p.1.now)
         (StopsAs domain_field text.now) }
@@ -133,10 +132,10 @@ fn domain_field(alloc: Global, text: &str) -> Result<(SavedDomain, &str), Stop<'
     read_domain(alloc, rest)
 }
 
-fn expires_field(alloc: Global, text: &str) -> Result<(Death<'_>, &str), Stop<'_>>
+pub fn expires_field(alloc: Global, text: &str) -> Result<(Option<String>, Option<&str>, &str), Stop<'_>>
     ensures { MatchResult result
-        (λ p. (date : Option (List ℕ)) × Takes expires_field text.now (words_of_date date) p.1.now
-            × Marks expires_field text.now (words_of_date date) (IsDeath date p.0.expires) p.0.unread)
+        (λ p. Takes expires_field text.now (words_of_date (option_map string_bytes p.0)) p.2.now
+            × Marks expires_field text.now (words_of_date (option_map string_bytes p.0)) (HasDeath (option_map string_bytes p.0)) p.1)
         (StopsAs expires_field text.now) }
 {
     let rest = heading(text, b"expires")?;
