@@ -1,13 +1,13 @@
 //! A row of RON, field by field.
 ghost use Rattle.std.specs.Prelude.{◌≡◌, ◌<◌, ◌∷◌, [], true, false, MatchResult, MatchOption, MatchBool, IsTrue, Option, Some, None};
-ghost use Rattle.saved_text.specs.Drafts.{Adds, IsLacking, IsRowRead, left};
+ghost use Rattle.saved_text.specs.Drafts.{Adds, IsLacking, IsRowRead, is_lacking, left};
 ghost use Rattle.saved_text.specs.Faults.{StopsAs, Begins, Lacks};
 ghost use Rattle.saved_text.specs.Ron.{fields, row};
 
 use crate::ron_fields::{domain_field, expires_field, path_field, raw_field};
 use crate::ron_parts::{begins, close, gap, sign_of};
 use crate::ron_text::Stop;
-use crate::row::{SavedDomain, SavedExpiration, SavedRow};
+use crate::row::SavedDomain;
 use std::alloc::Global;
 
 /// A row as far as it was read.
@@ -84,4 +84,60 @@ fn read_field(
         return Ok((draft, unread, rest));
     }
     Err(Stop::Here(text))
+}
+
+// A row of which nothing was read.
+fn bare(alloc: Global) -> Draft
+    ensures { (result.lacks_raw_cookie ≡ true) × (result.lacks_path ≡ true) × (result.lacks_domain ≡ true) × (result.lacks_expires ≡ true) }
+{
+    Draft {
+        raw_cookie: String::new(alloc),
+        path: String::new(alloc),
+        is_from_path_attr: false,
+        domain: SavedDomain::NotPresent,
+        date: None,
+        lacks_raw_cookie: true,
+        lacks_path: true,
+        lacks_domain: true,
+        lacks_expires: true,
+    }
+}
+
+// Whether a field is missing.
+fn lacks_field(draft: &Draft) -> bool
+    ensures { result ≡ is_lacking draft.now.lacks_raw_cookie draft.now.lacks_path draft.now.lacks_domain draft.now.lacks_expires }
+{
+    draft.lacks_raw_cookie || draft.lacks_path || draft.lacks_domain || draft.lacks_expires
+}
+
+// The four fields in any order, the rest at the first string in them that doesn't read, and what is behind.
+fn read_fields(alloc: Global, text: &str) -> Result<(Draft, Option<&str>, &str), Stop<'_>>
+    ensures { MatchResult result (λ p. IsRowRead fields text.now p.0 p.1 p.2.now) (StopsAs fields text.now) }
+{
+    let mut draft = bare(alloc);
+    let mut unread = None;
+    let mut rest = text;
+    loop {
+        let (next, other, behind) = read_field(alloc, rest, draft)?;
+        unread = earlier(unread, other);
+        if !lacks_field(&next) {
+            return Ok((next, unread, behind));
+        }
+        let comma = gap(behind);
+        let behind = sign_of(comma, b',')?;
+        draft = next;
+        rest = gap(behind);
+    }
+}
+
+/// The row at the front of the text, the rest at the first string in it that doesn't read, and what is behind.
+pub fn read_row(alloc: Global, text: &str) -> Result<(Draft, Option<&str>, &str), Stop<'_>>
+    ensures { MatchResult result (λ p. IsRowRead row text.now p.0 p.1 p.2.now) (StopsAs row text.now) }
+{
+    let rest = sign_of(text, b'(')?;
+    let rest = gap(rest);
+    let (draft, unread, rest) = read_fields(alloc, rest)?;
+    let rest = gap(rest);
+    let rest = close(rest)?;
+    Ok((draft, unread, rest))
 }
