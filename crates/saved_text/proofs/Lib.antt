@@ -11,6 +11,7 @@ mod ListLemmas
 mod FieldLemmas
 mod PickLemmas
 mod DraftLemmas
+mod RowsLemmas
 mod JsonLemmas
 mod FeedLemmas
 mod JsonListLemmas

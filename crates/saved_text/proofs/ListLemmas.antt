@@ -28,11 +28,11 @@ or_assoc a b c = record {
 }
 
 -- the bracket that ends a list
-abbrev end : Grammar
+abbrev pub end : Grammar
 end = sign (codes "]")
 
 -- an item, and the white space behind it
-abbrev item : Grammar
+abbrev pub item : Grammar
 item = seq row space
 
 -- what is left of a list behind an item
@@ -49,7 +49,7 @@ both_commas : Same (either (seq comma (seq space (seq item others))) (seq comma 
 both_commas = Same-trans _ _ _ (Same-factor comma (seq space (seq item others)) (seq space end)) (seq_parts comma _ _ (Same-factor space (seq item others) end))
 
 -- a comma leads on, or a bracket ends the list
-others_is : Same others (either (seq comma (seq space (either (seq item others) end))) (seq nothing end))
+pub others_is : Same others (either (seq comma (seq space (either (seq item others) end))) (seq nothing end))
 others_is =
     Same-trans _ _ _ (Same-many (seq comma (seq space item)) (seq (optional (seq comma space)) end))
     (Same-trans _ _ _ (either_parts _ _ _ _ one_more last_comma)

@@ -692,6 +692,17 @@ Leads-else A B text m = record {
   front_up = λ y z e f. inr f;
 }
 
+-- the second can't begin here
+pub Leads-only : (A B : Grammar) (text : List ℕ) → Misses B text → Leads (either A B) text [] A text
+Leads-only A B text m = record {
+  x = [];
+  split = refl;
+  down = λ w o. elim o [ inl p ↦ (w, p, refl) | inr p ↦ absurd (none_at B text m w p) ];
+  up = λ y t o. inl o;
+  front_down = λ y z e f. elim f [ inl p ↦ p | inr p ↦ else_of B A text m y z e p ];
+  front_up = λ y z e f. inl f;
+}
+
 -- two alternatives that begin alike
 pub Same-factor : (a b c : Grammar) → Same (either (seq a b) (seq a c)) (seq a (either b c))
 Same-factor a b c = record {

@@ -5,15 +5,16 @@ use Rattle.std.specs.Borrow.{Bor}
 use Rattle.saved_text.specs.Grammar.{Grammar, Word}
 use Rattle.saved_text.specs.Grammar.Word.{the_name, letter, the_end}
 use Rattle.saved_text.specs.Grammar.Grammar.{nothing, space, seq}
-use Rattle.saved_text.specs.Ron.{string, comma, name, raw_field, path_field, domain_field, expires_field, two, three, four, ◌▹◌}
+use Rattle.saved_text.specs.Ron.{string, comma, name, raw_field, path_field, domain_field, expires_field, two, three, four, list, ◌▹◌}
 use Rattle.saved_text.specs.Reads.{Leads, Takes}
 use Rattle.saved_text.specs.Row.{Shown, Domain}
-use Rattle.saved_text.specs.RowWords.{SaysRow, bool_words, expires_words}
+use Rattle.saved_text.specs.RowWords.{SaysRow, SaysRows, bool_words, expires_words}
 use Rattle.saved_text.specs.RonReading.{ReadsAs, AreRead}
 use Rattle.saved_text.specs.Saved.{domain_shown, IsCookieText}
-use Rattle.saved_text.specs.JsonReading.{HasDeath, IsReadable}
+use Rattle.saved_text.specs.JsonReading.{HasDeath, IsReadable, AreShown}
 use Rattle.saved_text.specs.Words.{string_words, domain_words}
 use Rattle.saved_text.specs.declared.ron_drafts.Draft.{Draft}
+use Rattle.saved_text.specs.declared.row.SavedRow.{SavedRow}
 
 -- ---- a string that doesn't read
 
@@ -142,3 +143,22 @@ pub record IsRowRead (g : Grammar) (text : List ℕ) (d : Draft) (unread : Optio
   pub whole : IsWhole said
   pub takes : Takes g text said rest
   pub marks : Marks g text said (IsReadable (drafted d)) unread
+
+-- ---- lists
+
+-- Rows were read behind the text's beginning, and k is left.
+pub record IsListed (text : List ℕ) (rows : List SavedRow) (unread : Option (Bor (List ℕ))) (k : Grammar) (rest : List ℕ) : Type 0 where
+  pub shown : List Shown
+  pub said : List Word
+  pub says : SaysRows shown said
+  pub whole : IsWhole said
+  pub leads : (h : Grammar) → Leads (seq list h) text said (seq k h) rest
+  pub marks : Marks list text said (AreShown shown rows) unread
+
+-- A text is of the grammar and shows rows, or a string in it doesn't read.
+pub record IsListRead (g : Grammar) (text : List ℕ) (rows : List SavedRow) (unread : Option (Bor (List ℕ))) (rest : List ℕ) : Type 0 where
+  pub shown : List Shown
+  pub said : List Word
+  pub says : SaysRows shown said
+  pub takes : Takes g text said rest
+  pub marks : Marks g text said (AreShown shown rows) unread

@@ -12,6 +12,7 @@ mod json_write;
 pub mod laws;
 mod ron_drafts;
 mod ron_fields;
+mod ron_list;
 mod ron_parts;
 mod ron_rows;
 mod ron_text;

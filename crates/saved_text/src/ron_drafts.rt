@@ -42,7 +42,7 @@ fn is_next(is_missing: bool, text: &str, byte: u8) -> bool
 }
 
 // The first of two strings that don't read, where one is known already.
-fn earlier<'a>(known: Option<&'a str>, next: Option<&'a str>) -> Option<&'a str>
+pub(crate) fn earlier<'a>(known: Option<&'a str>, next: Option<&'a str>) -> Option<&'a str>
     ensures { MatchOption known.entry (result ≡ next.entry) (λ q. result ≡ Some q) }
 {
     if known.is_some() { known } else { next }
