@@ -1,6 +1,6 @@
 -- A row of RON, field by field.
-use Rattle.std.specs.Prelude.{◌⊎◌, ◌||◌, Bool, true, false, Option, Some, None, option_map, IsTrue, codes, flat_map}
-use Rattle.std.proofs.Common.{◌≡◌, ℕ, suc, ◌+◌, ◌<◌, ◌++◌, List, [], ◌∷◌, refl, sym, ap, ◌∙◌, arith, subst, append_assoc, length, length-append, inl, inr, Result, MatchResult, Bor, String, Global, string_bytes}
+use Rattle.std.specs.Prelude.{Bool, true, false, Option, Some, None, option_map, flat_map}
+use Rattle.std.proofs.Common.{◌≡◌, ℕ, suc, ◌+◌, ◌<◌, ◌++◌, List, [], ◌∷◌, refl, sym, ap, ◌∙◌, arith, subst, append_assoc, length, length-append, Bor, String, Global, string_bytes}
 use Rattle.std.proofs.lemmas.List.{append-nil}
 use Rattle.std.proofs.lemmas.Grind.{flat_map-append}
 use Rattle.std.proofs.lemmas.Bool.{false≢true}
@@ -9,19 +9,18 @@ use Rattle.std.specs.List.Sorted.{IsPermutation}
 use Rattle.std.proofs.lemmas.List.Sorted.{IsPermutation-refl, IsPermutation-sym, IsPermutation-trans, IsPermutation-to_front, IsPermutation-append_left, IsPermutation-append_right}
 use Rattle.saved_text.specs.Grammar.{Grammar, Word}
 use Rattle.saved_text.specs.Grammar.Grammar.{nothing, space, sign, seq}
-use Rattle.saved_text.specs.Reads.{Leads, Takes, Stops}
-use Rattle.saved_text.specs.Faults.{StopsAs, Lacks, Spaced, Begins, closing}
-use Rattle.saved_text.specs.Ron.{string, comma, fields, row, raw_field, path_field, domain_field, expires_field, ◌▹◌}
-use Rattle.saved_text.specs.RonReading.{AreRead}
+use Rattle.saved_text.specs.Reads.{Leads, Takes}
+use Rattle.saved_text.specs.Faults.{StopsAs, Spaced, Begins, closing}
+use Rattle.saved_text.specs.Ron.{comma, fields, row, raw_field, path_field, domain_field, expires_field, ◌▹◌}
 use Rattle.saved_text.specs.RowWords.{field_words}
 use Rattle.saved_text.specs.Saved.{domain_shown, IsCookieText}
 use Rattle.saved_text.specs.JsonReading.{HasDeath, IsReadable}
 use Rattle.saved_text.specs.declared.row.SavedDomain.{SavedDomain}
-use Rattle.saved_text.specs.Drafts.{IsWhole, Unreads, Marks, Adds, IsDrafted, IsRowRead, IsLacking, IsSound, remaining, after, is_lacking, left, left_behind, unless, found, drafted, raw_words, path_words, words_of_domain, words_of_date}
+use Rattle.saved_text.specs.Drafts.{IsWhole, Marks, Adds, IsDrafted, IsRowRead, IsLacking, IsSound, remaining, after, is_lacking, left, left_behind, unless, found, drafted, raw_words, path_words, words_of_domain, words_of_date}
 use Rattle.saved_text.specs.declared.ron_text.Stop.{Stop}
 use Rattle.saved_text.specs.declared.ron_drafts.Draft.{Draft}
-use Rattle.saved_text.proofs.StepLemmas.{nullable, solid, Same-refl, Leads-same, Leads-nothing, Leads-trans}
-use Rattle.saved_text.proofs.RonLemmas.{Goes, Goes-from, Goes-trans, Goes-first, Takes-behind, StopsAs-behind, StopsAs-first}
+use Rattle.saved_text.proofs.StepLemmas.{Same-refl, Leads-same, Leads-nothing, Leads-trans}
+use Rattle.saved_text.proofs.RonLemmas.{Goes, Goes-from, Goes-trans, Goes-first, StopsAs-behind}
 use Rattle.saved_text.proofs.RowLemmas.{Goes-spaces, Goes-part}
 use Rattle.saved_text.proofs.FieldLemmas.{Goes-leads, Goes-silent, Takes-silent, StopsAs-within, whole_both, are_read_both, path_read, domain_read, Unreads-behind, Unreads-silent, Unreads-first}
 use Rattle.saved_text.proofs.PickLemmas.{remaining_null, remaining_solid, after_lacking, raw_picked, path_picked, domain_picked, expires_picked}
@@ -41,7 +40,6 @@ fill_last : (flag : Bool) (old w : List Word) → flag ≡ true → IsPermutatio
 fill_last flag old w e = subst (λ f. IsPermutation (unless f old ++ w ∷ []) (unless false w)) (sym e) (IsPermutation-refl (w ∷ []))
 
 -- ---- strings that don't read
-
 
 -- what is known of strings that don't read, behind a step to the first of two parts
 pub marks_first : (g k m : Grammar) (text : List ℕ) (words : List Word) (holds more : Type 0) (u : Option (Bor (List ℕ))) → Goes g text [] (seq k m) text → (holds → more) → Marks k text words holds u → Marks g text words more u
@@ -138,14 +136,16 @@ drafted_goes g k text rest d u i = Goes-from g text (words_of i.parts) k rest i.
 pub drafted_start : (text : List ℕ) (d : Draft) → (d.lacks_raw_cookie ≡ true) × (d.lacks_path ≡ true) × (d.lacks_domain ≡ true) × (d.lacks_expires ≡ true) → IsDrafted fields text d None (left d) text × IsLacking d
 drafted_start text d h =
     let none : found d ≡ [] = λ i. unless (h.0 i) (raw_words (string_bytes d.raw_cookie)) ++ (unless (h.1 i) (path_words (string_bytes d.path) d.is_from_path_attr) ++ (unless (h.2 i) (words_of_domain (domain_shown d.domain)) ++ unless (h.3 i) (words_of_date (option_map string_bytes d.date)))) in
-    let all : left d ≡ fields = λ i. remaining (h.0 i) (h.1 i) (h.2 i) (h.3 i) in
-    (record {
-      parts = [];
-      order = subst (λ q. IsPermutation q []) (sym none) (IsPermutation-refl []);
-      whole = tt;
-      leads = λ k. subst (λ q. Leads (seq fields k) text [] (seq q k) text) (sym all) (Leads-same (seq fields k) (seq fields k) text (Same-refl (seq fields k)));
-      marks = (tt, record { cookie = λ e. absurd (false≢true (sym e ∙ h.0)); death = λ e. absurd (false≢true (sym e ∙ h.3)) });
-    }, λ i. is_lacking (h.0 i) (h.1 i) (h.2 i) (h.3 i))
+    let all : left d ≡ fields = λ i. remaining (h.0 i) (h.1 i) (h.2 i) (h.3 i) in (
+      record {
+        parts = [];
+        order = subst (λ q. IsPermutation q []) (sym none) (IsPermutation-refl []);
+        whole = tt;
+        leads = λ k. subst (λ q. Leads (seq fields k) text [] (seq q k) text) (sym all) (Leads-same (seq fields k) (seq fields k) text (Same-refl (seq fields k)));
+        marks = (tt, record { cookie = λ e. absurd (false≢true (sym e ∙ h.0)); death = λ e. absurd (false≢true (sym e ∙ h.3)) });
+      },
+      λ i. is_lacking (h.0 i) (h.1 i) (h.2 i) (h.3 i),
+    )
 
 pub drafted_more : (text rest behind : List ℕ) (d e : Draft) (u v r : Option (Bor (List ℕ))) → IsDrafted fields text d u (left d) rest → Adds d rest e v behind → MatchOption u (r ≡ v) (λ q. r ≡ Some q) → IsDrafted fields text e r (left_behind e) behind
 drafted_more text rest behind d e u v r i a m =

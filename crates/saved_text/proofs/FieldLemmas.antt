@@ -1,27 +1,25 @@
 -- The fields of a row of RON.
-use Rattle.std.specs.Prelude.{◌⊎◌, Bool, true, false, Option, Some, None, option_map, IsTrue, codes, ◌==◌}
-use Rattle.std.proofs.Common.{◌≡◌, ℕ, ◌++◌, List, [], ◌∷◌, refl, sym, ap, ◌∙◌, arith, subst, append_assoc, inl, inr, Result, MatchResult, Bor, String, Global, string_bytes}
+use Rattle.std.specs.Prelude.{Bool, true, false, Option, Some, None, option_map, IsTrue, codes}
+use Rattle.std.proofs.Common.{◌≡◌, ℕ, ◌++◌, List, [], ◌∷◌, refl, sym, ◌∙◌, arith, subst, append_assoc, Result, MatchResult, Bor, String, Global, string_bytes}
 use Rattle.std.proofs.lemmas.List.{append-nil}
-use Rattle.std.proofs.lemmas.Bool.{ne_eqb, false≢true}
 use Rattle.saved_text.specs.Grammar.{Grammar, Word, letters}
-use Rattle.saved_text.specs.Grammar.Grammar.{nothing, say, space, sign, seq, either}
+use Rattle.saved_text.specs.Grammar.Grammar.{space, sign, seq, either}
 use Rattle.saved_text.specs.Grammar.Word.{the_name, letter, the_end}
-use Rattle.saved_text.specs.Reads.{Leads, Takes, Stops}
+use Rattle.saved_text.specs.Reads.{Leads, Takes}
 use Rattle.saved_text.specs.Faults.{StopsAs, Lacks, Spaced, Begins, closing}
-use Rattle.saved_text.specs.Words.{string_words, domain_words, tagged, heading}
+use Rattle.saved_text.specs.Words.{string_words, tagged, heading}
 use Rattle.saved_text.specs.RowWords.{bool_words, expires_words}
 use Rattle.saved_text.specs.RonReading.{ReadsAs, AreRead}
-use Rattle.saved_text.specs.Saved.{domain_shown, IsCookieText, IsDeath}
+use Rattle.saved_text.specs.Saved.{IsCookieText}
 use Rattle.saved_text.specs.JsonReading.{HasDeath}
 use Rattle.saved_text.specs.Row.{Domain, host_only, suffix, not_present, empty}
 use Rattle.saved_text.specs.Drafts.{IsWhole, Unreads, Marks, raw_words, path_words, words_of_domain, words_of_date}
 use Rattle.saved_text.specs.declared.ron_text.Stop.{Stop}
 use Rattle.saved_text.specs.declared.row.SavedExpiration.TheVariants as expiration
-use Rattle.saved_text.specs.declared.row.SavedDomain.{SavedDomain}
-use Rattle.saved_text.specs.Ron.{string, bracketed, field, name, comma, bool, path, domain, expires, raw_field, path_field, domain_field, expires_field, ◌▹◌}
-use Rattle.saved_text.proofs.StepLemmas.{starts, nullable, Misses, solid, head_same, Same, Same-refl, Same-trans, Same-sym, Same-assoc, seq_parts, Leads-trans, Leads-same, Takes-seq}
-use Rattle.saved_text.proofs.RonLemmas.{Goes, Goes-from, Goes-trans, Goes-same, Goes-first, Goes-left, Takes-behind, StopsAs-behind, StopsAs-first, result_map}
-use Rattle.saved_text.proofs.RowLemmas.{Goes-spaces, Goes-part, Goes-else, Takes-name, StopsAs-name, StopsAs-bracket, bracket_opens, tag_said, StopsAs-tag, lacks_name, lacks_tag}
+use Rattle.saved_text.specs.Ron.{string, bracketed, field, name, comma, bool, path, expires, raw_field, expires_field, ◌▹◌}
+use Rattle.saved_text.proofs.StepLemmas.{starts, nullable, solid, head_same, Same, Same-trans, Same-sym, Same-assoc, seq_parts, Leads-trans, Leads-same}
+use Rattle.saved_text.proofs.RonLemmas.{Goes, Goes-from, Goes-trans, Goes-same, Goes-left, Takes-behind, StopsAs-behind, StopsAs-first, result_map}
+use Rattle.saved_text.proofs.RowLemmas.{Goes-part, Goes-else, Takes-name, StopsAs-name, StopsAs-bracket, bracket_opens, tag_said, lacks_name, lacks_tag}
 use Rattle.saved_text.proofs.ListLemmas.{seq_left}
 
 -- ---- steps
@@ -191,9 +189,11 @@ Unreads-behind g k text rest q s l whole read u = record {
   value = u.value;
   behind = u.behind;
   leads = λ h.
-      let n = u.leads h in
-      (n.0, subst (λ w. Leads (seq g h) text w (seq string n.0) q) (sym (append_assoc s u.before (the_name u.name ∷ [])))
-      (Leads-trans (seq g h) (seq k h) (seq string n.0) text rest q s (u.before ++ the_name u.name ∷ []) (l h) n.1));
+      let n = u.leads h in (
+        n.0,
+        subst (λ w. Leads (seq g h) text w (seq string n.0) q) (sym (append_assoc s u.before (the_name u.name ∷ [])))
+            (Leads-trans (seq g h) (seq k h) (seq string n.0) text rest q s (u.before ++ the_name u.name ∷ []) (l h) n.1),
+      );
   string = u.string;
   whole = whole_both s u.before whole u.whole;
   first = are_read_both [] [] s u.before u.whole read u.first;
@@ -223,9 +223,11 @@ Unreads-first g k text q u = record {
   value = u.value;
   behind = u.behind;
   leads = λ h.
-      let n = u.leads (seq k h) in
-      (n.0, Leads-trans (seq (seq g k) h) (seq g (seq k h)) (seq string n.0) text text q [] (u.before ++ the_name u.name ∷ [])
-      (Leads-same (seq (seq g k) h) (seq g (seq k h)) text (Same-assoc g k h)) n.1);
+      let n = u.leads (seq k h) in (
+        n.0,
+        Leads-trans (seq (seq g k) h) (seq g (seq k h)) (seq string n.0) text text q [] (u.before ++ the_name u.name ∷ [])
+            (Leads-same (seq (seq g k) h) (seq g (seq k h)) text (Same-assoc g k h)) n.1,
+      );
   string = u.string;
   whole = u.whole;
   first = u.first;

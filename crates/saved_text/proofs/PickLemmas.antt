@@ -8,7 +8,7 @@ use Rattle.saved_text.specs.Ron.{comma, raw_field, path_field, domain_field, exp
 use Rattle.saved_text.specs.Faults.{Begins, Lacks}
 use Rattle.saved_text.specs.Reads.{Stops}
 use Rattle.saved_text.specs.Drafts.{remaining, after, is_lacking}
-use Rattle.saved_text.proofs.StepLemmas.{starts, nullable, solid, Misses, Same, Same-sym, Same-refl, Same-nothing, Stops-at}
+use Rattle.saved_text.proofs.StepLemmas.{starts, nullable, solid, Misses, Same-sym, Same-nothing, Stops-at}
 use Rattle.saved_text.proofs.RonLemmas.{Goes, Goes-same}
 use Rattle.saved_text.proofs.ListLemmas.{seq_left, choice, IsPick, Goes-choice}
 

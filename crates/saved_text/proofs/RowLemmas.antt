@@ -27,7 +27,7 @@ starts_solid k h n s = subst (λ b. IsTrue (not b)) (λ i. same 32 i || (same 9 
     same : (c : ℕ) → starts k c ≡ starts (seq k h) c
     same c = or_nothing (starts k c) (nullable k && starts h c) (none_and (nullable k) (starts h c) n)
 
-Leads-spaces : (h : Grammar) → IsTrue (solid h) → (p rest : List ℕ) → AreSpaces p → Unspaced rest → Leads (seq space h) (p ++ rest) [] h rest
+pub Leads-spaces : (h : Grammar) → IsTrue (solid h) → (p rest : List ℕ) → AreSpaces p → Unspaced rest → Leads (seq space h) (p ++ rest) [] h rest
 Leads-spaces h s [] rest a u = Leads-unspaced h rest u
 Leads-spaces h s (b ∷ p) rest a u = Leads-trans (seq space h) (seq space h) h (b ∷ (p ++ rest)) (p ++ rest) rest [] [] (Leads-space b h (p ++ rest) a.0 s) (Leads-spaces h s p rest a.1 u)
 

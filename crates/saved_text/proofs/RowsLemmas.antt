@@ -1,26 +1,26 @@
 -- The rows of a list of RON.
-use Rattle.std.specs.Prelude.{Option, Some, None, IsTrue, false, codes, ◌==◌}
+use Rattle.std.specs.Prelude.{Option, Some, None, false}
 use Rattle.std.proofs.Common.{◌≡◌, ℕ, suc, ◌+◌, ◌<◌, ◌++◌, List, [], ◌∷◌, refl, sym, ap, ◌∙◌, arith, subst, append_assoc, length, length-append, Bor}
 use Rattle.std.proofs.lemmas.List.{append-nil}
 use Rattle.std.proofs.lemmas.Bool.{ne_eqb}
 use Rattle.std.specs.Option.{MatchOption}
 use Rattle.saved_text.specs.Grammar.{Grammar, Word}
 use Rattle.saved_text.specs.Grammar.Grammar.{nothing, space, sign, seq, either, many}
-use Rattle.saved_text.specs.Reads.{Leads, Takes, Stops}
+use Rattle.saved_text.specs.Reads.{Takes}
 use Rattle.saved_text.specs.Faults.{StopsAs, Lacks, Spaced}
 use Rattle.saved_text.specs.Ron.{comma, optional, row, list, ◌▹◌, ◌·◌}
 use Rattle.saved_text.specs.Row.{Shown}
 use Rattle.saved_text.specs.RowWords.{SaysRow, SaysRows}
 use Rattle.saved_text.specs.Saved.{IsShown}
 use Rattle.saved_text.specs.JsonReading.{IsReadable, AreShown}
-use Rattle.saved_text.specs.Drafts.{IsWhole, Unreads, Marks, IsRowRead, IsListed, IsListRead, drafted}
+use Rattle.saved_text.specs.Drafts.{Marks, IsRowRead, IsListed, IsListRead, drafted}
 use Rattle.saved_text.specs.declared.ron_text.Stop.{Stop}
 use Rattle.saved_text.specs.declared.ron_drafts.Draft.{Draft}
 use Rattle.saved_text.specs.declared.row.SavedRow.{SavedRow}
-use Rattle.saved_text.proofs.StepLemmas.{starts, nullable, Misses, misses_seq, Same, Same-refl, Same-trans, Same-sym, Same-assoc, Same-either, seq_parts, Leads-trans, Leads-same, Leads-nothing, Leads-only}
-use Rattle.saved_text.proofs.RonLemmas.{Goes, Goes-from, Goes-trans, Goes-same, Goes-first, Takes-behind, StopsAs-behind, StopsAs-first}
+use Rattle.saved_text.proofs.StepLemmas.{nullable, Misses, misses_seq, Same, Same-trans, Same-sym, Same-assoc, Same-either, seq_parts, Leads-trans, Leads-same, Leads-nothing, Leads-only}
+use Rattle.saved_text.proofs.RonLemmas.{Goes, Goes-from, Goes-trans, Goes-same, StopsAs-behind, StopsAs-first}
 use Rattle.saved_text.proofs.RowLemmas.{Goes-part, Goes-else, Goes-assoc, Takes-cut}
-use Rattle.saved_text.proofs.ListLemmas.{seq_left, end, item, others, others_is, Goes-comma_item}
+use Rattle.saved_text.proofs.ListLemmas.{seq_left, end, item, others, others_is}
 use Rattle.saved_text.proofs.FieldLemmas.{Goes-leads, Goes-inside, Goes-silent, Takes-silent, StopsAs-within, whole_both, Unreads-first}
 use Rattle.saved_text.proofs.DraftLemmas.{marks_more, sign_split}
 use Rattle.saved_text.proofs.JsonReadLemmas.{shown_more}

@@ -2,11 +2,11 @@
 use Rattle.std.specs.Prelude.{◌≡◌, ℕ, ◌++◌, ◌∷◌, ◌||◌, List, [], Bool, true, false, Option, Some, None, option_map, IsTrue, flat_map, codes, string_bytes}
 use Rattle.std.specs.List.Sorted.{IsPermutation}
 use Rattle.std.specs.Borrow.{Bor}
-use Rattle.saved_text.specs.Grammar.{Grammar, Word}
+use Rattle.saved_text.specs.Grammar.{Grammar, Word, IsOf}
 use Rattle.saved_text.specs.Grammar.Word.{the_name, letter, the_end}
 use Rattle.saved_text.specs.Grammar.Grammar.{nothing, space, seq}
-use Rattle.saved_text.specs.Ron.{string, comma, name, raw_field, path_field, domain_field, expires_field, two, three, four, list, ◌▹◌}
-use Rattle.saved_text.specs.Reads.{Leads, Takes}
+use Rattle.saved_text.specs.Ron.{string, comma, raw_field, path_field, domain_field, expires_field, two, three, four, list, ron, ◌▹◌}
+use Rattle.saved_text.specs.Reads.{Leads, Takes, Stuck}
 use Rattle.saved_text.specs.Row.{Shown, Domain}
 use Rattle.saved_text.specs.RowWords.{SaysRow, SaysRows, bool_words, expires_words}
 use Rattle.saved_text.specs.RonReading.{ReadsAs, AreRead}
@@ -14,6 +14,8 @@ use Rattle.saved_text.specs.Saved.{domain_shown, IsCookieText}
 use Rattle.saved_text.specs.JsonReading.{HasDeath, IsReadable, AreShown}
 use Rattle.saved_text.specs.Words.{string_words, domain_words}
 use Rattle.saved_text.specs.declared.ron_drafts.Draft.{Draft}
+use Rattle.saved_text.specs.declared.ron_text.Stop.{Stop}
+use Rattle.saved_text.specs.declared.ron_text.Stop.TheVariants as stop
 use Rattle.saved_text.specs.declared.row.SavedRow.{SavedRow}
 
 -- ---- a string that doesn't read
@@ -162,3 +164,17 @@ pub record IsListRead (g : Grammar) (text : List ℕ) (rows : List SavedRow) (un
   pub says : SaysRows shown said
   pub takes : Takes g text said rest
   pub marks : Marks g text said (AreShown shown rows) unread
+
+-- ---- whole texts
+
+pub record IsTextRead (text : List ℕ) (rows : List SavedRow) (unread : Option (Bor (List ℕ))) : Type 0 where
+  pub shown : List Shown
+  pub said : List Word
+  pub says : SaysRows shown said
+  pub is : IsOf ron text said
+  pub marks : Marks ron text said (AreShown shown rows) unread
+
+-- The text is not of the grammar, and its longest front ends there; or memory was refused.
+abbrev pub StopsText : List ℕ → Stop → Type 0
+StopsText text (stop.Here rest) = Stuck (seq ron nothing) text rest.now
+StopsText text stop.OutOfMemory = Unit {0}

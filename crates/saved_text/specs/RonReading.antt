@@ -1,6 +1,6 @@
 -- Rows that are read from texts of RON, and where a text stops to be read.
-use Rattle.std.specs.Prelude.{◌≡◌, ℕ, ◌⊎◌, List, [], ◌∷◌, ◌++◌, length, Option, Some, None, codes}
-use Rattle.std.specs.Str.{IsCharBoundary}
+use Rattle.std.specs.Prelude.{◌≡◌, ℕ, ◌⊎◌, List, [], ◌∷◌, ◌++◌, length, Some, codes}
+use Rattle.std.specs.Str.{IsCharBoundary, IsUtf8}
 use Rattle.saved_text.specs.Grammar.{Word, IsOf, IsLongestFront}
 use Rattle.saved_text.specs.Grammar.Word.{the_name, letter, the_end}
 use Rattle.saved_text.specs.Ron.{string, ron}
@@ -65,6 +65,6 @@ IsRonFaultAt text n = (((said : List Word) → ¬ IsOf ron text said) × IsLonge
 abbrev pub IsRonFault : List ℕ → SavedTextError → Type 0
 IsRonFault text (fault.Ron n) = IsRonFaultAt text n
 IsRonFault text fault.OutOfMemory = Unit {0}
-IsRonFault text fault.NotText = ⊥
+IsRonFault text fault.NotText = ¬ IsUtf8 text
 IsRonFault text fault.Json = ⊥
 IsRonFault text fault.Shape = ⊥

@@ -4,10 +4,6 @@ use Rattle.saved_text.specs.Grammar.{Grammar, Word, letters}
 use Rattle.saved_text.specs.Grammar.Grammar.{seq, space, sign}
 use Rattle.saved_text.specs.Grammar.Word.{the_name, the_end}
 use Rattle.saved_text.specs.Ron.{name, bracketed, string}
-use Rattle.std.specs.Str.{IsCharBoundary}
-use Rattle.saved_text.specs.Grammar.{IsOf, IsLongestFront}
-use Rattle.saved_text.specs.declared.ron_whole.Fault.{Fault}
-use Rattle.saved_text.specs.declared.ron_whole.Fault.TheVariants as fault
 use Rattle.saved_text.specs.Row.{Domain, host_only, suffix, not_present, empty}
 
 abbrev pub string_words : List ℕ → List Word
@@ -26,8 +22,3 @@ tagged n = seq (name n) (seq space (bracketed string))
 -- a name and a colon
 abbrev pub heading : List ℕ → Grammar
 heading n = seq (name n) (seq space (sign (codes ":")))
-
--- The text is not of the grammar, and its longest front has n bytes; or memory was refused.
-abbrev pub IsFaultOf : Grammar → List ℕ → Fault → Type 0
-IsFaultOf G text (fault.At n) = ((w : List Word) → ¬ IsOf G text w) × IsLongestFront G text n × IsCharBoundary text n
-IsFaultOf G text fault.OutOfMemory = Unit {0}

@@ -14,9 +14,9 @@ mod ron_drafts;
 mod ron_fields;
 mod ron_list;
 mod ron_parts;
+mod ron_read;
 mod ron_rows;
 mod ron_text;
-mod ron_whole;
 mod ron_write;
 mod row;
 
@@ -26,5 +26,6 @@ pub use error::SavedTextError;
 pub use json_read::{from_value, row_from_json, rows_from_json};
 pub use json_rows::{row_to_json, rows_to_json};
 pub use json_to_value::to_value;
+pub use ron_read::rows_from_ron;
 pub use ron_rows::rows_to_ron;
 pub use row::{SavedDomain, SavedExpiration, SavedRow};

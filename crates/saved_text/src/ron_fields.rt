@@ -79,7 +79,7 @@ fn is_date(text: &str) -> bool
 fn read_expires(alloc: Global, text: &str) -> Result<(Option<String>, Option<&str>, &str), Stop<'_>>
     ensures { MatchResult result
         (λ p. Takes expires text.now (expires_words (option_map string_bytes p.0)) p.2.now
-            × Marks expires text.now (expires_words (option_map string_bytes p.0)) (HasDeath (option_map string_bytes p.0)) p.1)
+        × Marks expires text.now (expires_words (option_map string_bytes p.0)) (HasDeath (option_map string_bytes p.0)) p.1)
         (StopsAs expires text.now) }
 {
     if begins(text, b'A') {
@@ -100,7 +100,7 @@ fn read_expires(alloc: Global, text: &str) -> Result<(Option<String>, Option<&st
 pub fn raw_field(alloc: Global, text: &str) -> Result<(String, Option<&str>, &str), Stop<'_>>
     ensures { MatchResult result
         (λ p. Takes raw_field text.now (raw_words (string_bytes p.0)) p.2.now
-            × Marks raw_field text.now (raw_words (string_bytes p.0)) (IsCookieText (string_bytes p.0)) p.1)
+        × Marks raw_field text.now (raw_words (string_bytes p.0)) (IsCookieText (string_bytes p.0)) p.1)
         (StopsAs raw_field text.now) }
 {
     let rest = heading(text, b"raw_cookie")?;
@@ -132,10 +132,13 @@ pub fn domain_field(alloc: Global, text: &str) -> Result<(SavedDomain, &str), St
     read_domain(alloc, rest)
 }
 
-pub fn expires_field(alloc: Global, text: &str) -> Result<(Option<String>, Option<&str>, &str), Stop<'_>>
+pub fn expires_field(
+    alloc: Global,
+    text: &str,
+) -> Result<(Option<String>, Option<&str>, &str), Stop<'_>>
     ensures { MatchResult result
         (λ p. Takes expires_field text.now (words_of_date (option_map string_bytes p.0)) p.2.now
-            × Marks expires_field text.now (words_of_date (option_map string_bytes p.0)) (HasDeath (option_map string_bytes p.0)) p.1)
+        × Marks expires_field text.now (words_of_date (option_map string_bytes p.0)) (HasDeath (option_map string_bytes p.0)) p.1)
         (StopsAs expires_field text.now) }
 {
     let rest = heading(text, b"expires")?;

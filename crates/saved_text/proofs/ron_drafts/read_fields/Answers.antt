@@ -1,4 +1,4 @@
-use Rattle.std.proofs.Common.{rules, sym, ◌∙◌}
+use Rattle.std.proofs.Common.{rules, sym}
 use Rattle.std.proofs.lemmas.Result.{err_from_is_err_and}
 use Rattle.saved_text.proofs.DraftLemmas.{drafted_start, drafted_more, drafted_next, comma_stops, field_stops, fields_read, field_shorter}
 use Rattle.saved_text.proofs.ron_drafts.read_fields.Goals as goal

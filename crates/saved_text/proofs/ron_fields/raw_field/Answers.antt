@@ -1,4 +1,4 @@
-use Rattle.std.proofs.Common.{codes, string_bytes, refl, sym, ◌∙◌, subst}
+use Rattle.std.proofs.Common.{codes, string_bytes, refl, sym, subst}
 use Rattle.std.proofs.lemmas.Result.{err_from_is_err_and}
 use Rattle.std.proofs.lemmas.Bool.{false≢true}
 use Rattle.saved_text.specs.Ron.{string}
@@ -22,7 +22,8 @@ returns-then-is_cookie c =
     (raw_taken c.args.text.now c.in_ok-rest.rest.now c.gap-quote.result.now c.in_ok-value.rest.now (string_bytes c.in_ok-value.value) c.in_ok-rest.ensures c.gap-quote.ensures c.in_ok-value.ensures, (raw_read (string_bytes c.in_ok-value.value) reads, reads))
 
 pub returns : goal.returns
-returns c =
-    (raw_taken c.args.text.now c.in_ok-rest.rest.now c.gap-quote.result.now c.in_ok-value.rest.now (string_bytes c.in_ok-value.value) c.in_ok-rest.ensures c.gap-quote.ensures c.in_ok-value.ensures,
-    raw_unread c.args.text.now c.in_ok-rest.rest.now c.gap-quote.result.now c.in_ok-value.rest.now (string_bytes c.in_ok-value.value) c.in_ok-rest.ensures c.gap-quote.ensures c.in_ok-value.ensures
-        (λ h. false≢true (c.if-is_cookie.ensures.1 (subst IsCookieText (sym c.as_str.ensures.value) h))))
+returns c = (
+  raw_taken c.args.text.now c.in_ok-rest.rest.now c.gap-quote.result.now c.in_ok-value.rest.now (string_bytes c.in_ok-value.value) c.in_ok-rest.ensures c.gap-quote.ensures c.in_ok-value.ensures,
+  raw_unread c.args.text.now c.in_ok-rest.rest.now c.gap-quote.result.now c.in_ok-value.rest.now (string_bytes c.in_ok-value.value) c.in_ok-rest.ensures c.gap-quote.ensures c.in_ok-value.ensures
+      (λ h. false≢true (c.if-is_cookie.ensures.1 (subst IsCookieText (sym c.as_str.ensures.value) h))),
+)

@@ -1,4 +1,4 @@
-use Rattle.std.proofs.Common.{Some, None, ◌∷◌, [], codes, string_bytes, refl, sym, ◌∙◌, subst}
+use Rattle.std.proofs.Common.{Some, ◌∷◌, [], codes, string_bytes, sym, subst}
 use Rattle.std.proofs.lemmas.Result.{err_from_is_err_and}
 use Rattle.saved_text.specs.Ron.{expires, string}
 use Rattle.saved_text.specs.Grammar.Word.{the_name}

@@ -1,4 +1,4 @@
-use Rattle.std.proofs.Common.{◌∷◌, [], codes, string_bytes, ◌++◌}
+use Rattle.std.proofs.Common.{◌∷◌, [], string_bytes, ◌++◌}
 use Rattle.std.proofs.lemmas.Result.{err_from_is_err_and}
 use Rattle.saved_text.specs.Grammar.Grammar.{sign, seq, space}
 use Rattle.saved_text.specs.Ron.{path, string, comma, bool, ◌▹◌}

@@ -1,7 +1,6 @@
 use denote.Shadow.{shadow}
 use denote.Text.{Utf8}
 use Rattle.std.proofs.Common.{length}
-use Rattle.std.specs.Prelude.{Option}
 use Rattle.saved_text.specs.Drafts.{IsListed}
 use Rattle.saved_text.specs.Grammar.Grammar.{seq}
 use Rattle.saved_text.proofs.ListLemmas.{item, others}
