@@ -50,7 +50,9 @@ pub stuck_behind : (g : Grammar) (text : List ℕ) (s : List Word) (b : ℕ) (r 
 stuck_behind g text s b r l = Stuck-behind (seq g nothing) nothing text (b ∷ r) (b ∷ r) s (l nothing) (Stuck-at nothing (b ∷ r) refl)
 
 pub whole_at_end : (g : Grammar) (text rest : List ℕ) (s : List Word) → rest ≡ [] → Takes g text s rest → IsOf (seq g nothing) text s
-whole_at_end g text rest s e l = subst (IsOf (seq g nothing) text) (append-nil s) ((l nothing).up [] (e, refl))
+whole_at_end g text rest s e l =
+    let d = l nothing in
+    subst (IsOf (seq g nothing) text) (append-nil s) (subst (λ t. IsOf (seq g nothing) t (s ++ [])) (sym d.split) (d.up rest [] (e, refl)))
 
 pub no_longer : (G : Grammar) (text rest : List ℕ) → Stuck G text rest → length rest ≤ length text
 no_longer G text rest s =

@@ -12,7 +12,7 @@ use Rattle.saved_text.specs.Letters.{AreSpaces}
 use Rattle.saved_text.specs.Grammar.{Grammar, Word, IsOf}
 use Rattle.saved_text.specs.Grammar.Grammar.{space, sign, many}
 use Rattle.saved_text.specs.Grammar.Word.{the_name}
-use Rattle.saved_text.specs.Ron.{name, string, comma, optional, bracketed, field, bool, domain, expires, two, three, four, row, list, ron, ◌▹◌, ◌·◌}
+use Rattle.saved_text.specs.Ron.{name, string, comma, optional, bracketed, field, bool, domain, expires, raw_field, path_field, domain_field, expires_field, two, three, four, row, list, ron, ◌▹◌, ◌·◌}
 use Rattle.saved_text.specs.Words.{string_words, domain_words}
 use Rattle.saved_text.specs.Written.{quoted}
 use Rattle.saved_text.specs.RonLayout.{bool_layout, domain_layout, expires_layout, row_layout, rows_layout, ron_layout}
@@ -61,18 +61,6 @@ expires_is (Some t) a = inl (tagged_is (codes "AtUtc") t a)
 expires_is None a = inr (name_is (codes "SessionEnd"))
 
 -- ---- a row
-
-abbrev raw_field : Grammar
-raw_field = field (codes "raw_cookie") string
-
-abbrev path_field : Grammar
-path_field = field (codes "path") (bracketed (string ▹ comma ▹ bool))
-
-abbrev domain_field : Grammar
-domain_field = field (codes "domain") domain
-
-abbrev expires_field : Grammar
-expires_field = field (codes "expires") expires
 
 -- the line feed and the blanks before a field, and before the bracket of a row
 abbrev before_field : List ℕ

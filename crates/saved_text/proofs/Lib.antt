@@ -8,6 +8,11 @@ mod WriteLemmas
 mod PieceLemmas
 mod WrittenLemmas
 mod ListLemmas
+mod FieldLemmas
+mod PickLemmas
+mod DraftLemmas
+mod RowsLemmas
+mod TextLemmas
 mod JsonLemmas
 mod FeedLemmas
 mod JsonListLemmas

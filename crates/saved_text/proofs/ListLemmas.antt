@@ -4,14 +4,14 @@ use Rattle.std.proofs.lemmas.List.{append-nil}
 use Rattle.std.proofs.Common.{◌≡◌, ℕ, List, [], ◌∷◌, refl, sym, subst, inl, inr}
 use Rattle.saved_text.specs.Grammar.{Grammar, Word}
 use Rattle.saved_text.specs.Grammar.Grammar.{nothing, space, sign, seq, either, many}
-use Rattle.saved_text.specs.Ron.{row, comma, optional, field, string, bracketed, bool, domain, expires, three, four, ◌▹◌}
+use Rattle.saved_text.specs.Ron.{row, comma, optional, raw_field, path_field, domain_field, expires_field, three, four, ◌▹◌}
 use Rattle.saved_text.specs.Faults.{Spaced}
 use Rattle.saved_text.specs.Reads.{Takes}
 use Rattle.saved_text.proofs.StepLemmas.{starts, nullable, Same, Same-refl, Same-trans, Same-assoc, Same-either, Same-many, Same-factor, either_parts, seq_parts}
 use Rattle.saved_text.proofs.RonLemmas.{Goes, Goes-trans, Goes-same, Goes-left, Goes-first, Takes-byte}
 use Rattle.saved_text.proofs.RowLemmas.{Goes-spaces, Goes-part, Goes-else}
 
-seq_left : (g k h : Grammar) → Same g k → Same (seq g h) (seq k h)
+pub seq_left : (g k h : Grammar) → Same g k → Same (seq g h) (seq k h)
 seq_left g k h e = record {
   down = λ text w o. (o.0, o.1, o.2, o.3, e.down o.0 o.2 o.4, o.5, o.6, o.7);
   up = λ text w o. (o.0, o.1, o.2, o.3, e.up o.0 o.2 o.4, o.5, o.6, o.7);
@@ -28,11 +28,11 @@ or_assoc a b c = record {
 }
 
 -- the bracket that ends a list
-abbrev end : Grammar
+abbrev pub end : Grammar
 end = sign (codes "]")
 
 -- an item, and the white space behind it
-abbrev item : Grammar
+abbrev pub item : Grammar
 item = seq row space
 
 -- what is left of a list behind an item
@@ -49,7 +49,7 @@ both_commas : Same (either (seq comma (seq space (seq item others))) (seq comma 
 both_commas = Same-trans _ _ _ (Same-factor comma (seq space (seq item others)) (seq space end)) (seq_parts comma _ _ (Same-factor space (seq item others) end))
 
 -- a comma leads on, or a bracket ends the list
-others_is : Same others (either (seq comma (seq space (either (seq item others) end))) (seq nothing end))
+pub others_is : Same others (either (seq comma (seq space (either (seq item others) end))) (seq nothing end))
 others_is =
     Same-trans _ _ _ (Same-many (seq comma (seq space item)) (seq (optional (seq comma space)) end))
     (Same-trans _ _ _ (either_parts _ _ _ _ one_more last_comma)
@@ -86,18 +86,6 @@ Goes-choice p g [] c r e = subst (λ q. Goes g (c ∷ r) [] q (c ∷ r)) (sym e)
 Goes-choice p g (k ∷ ks) c r (inl e) = subst (λ q. Goes (either g (choice k ks)) (c ∷ r) [] q (c ∷ r)) (sym e.0) (Goes-left g (choice k ks) c r e.1.0 e.1.1)
 Goes-choice p g (k ∷ ks) c r (inr e) =
     Goes-trans (either g (choice k ks)) (choice k ks) p (c ∷ r) (c ∷ r) (c ∷ r) [] [] (Goes-else g (choice k ks) (c ∷ r) e.0.0 e.0.1) (Goes-choice p k ks c r e.1)
-
-abbrev raw_field : Grammar
-raw_field = field (codes "raw_cookie") string
-
-abbrev path_field : Grammar
-path_field = field (codes "path") (bracketed (string ▹ comma ▹ bool))
-
-abbrev domain_field : Grammar
-domain_field = field (codes "domain") domain
-
-abbrev expires_field : Grammar
-expires_field = field (codes "expires") expires
 
 -- the third of four, by its first byte
 pub domain_first : (r : List ℕ) → Goes (four raw_field path_field domain_field expires_field) (100 ∷ r) [] (domain_field ▹ comma ▹ three raw_field path_field expires_field) (100 ∷ r)

@@ -27,7 +27,7 @@ starts_solid k h n s = subst (λ b. IsTrue (not b)) (λ i. same 32 i || (same 9 
     same : (c : ℕ) → starts k c ≡ starts (seq k h) c
     same c = or_nothing (starts k c) (nullable k && starts h c) (none_and (nullable k) (starts h c) n)
 
-Leads-spaces : (h : Grammar) → IsTrue (solid h) → (p rest : List ℕ) → AreSpaces p → Unspaced rest → Leads (seq space h) (p ++ rest) [] h rest
+pub Leads-spaces : (h : Grammar) → IsTrue (solid h) → (p rest : List ℕ) → AreSpaces p → Unspaced rest → Leads (seq space h) (p ++ rest) [] h rest
 Leads-spaces h s [] rest a u = Leads-unspaced h rest u
 Leads-spaces h s (b ∷ p) rest a u = Leads-trans (seq space h) (seq space h) h (b ∷ (p ++ rest)) (p ++ rest) rest [] [] (Leads-space b h (p ++ rest) a.0 s) (Leads-spaces h s p rest a.1 u)
 
@@ -196,11 +196,11 @@ empty = name (codes "Empty")
 pub domain_host : (text : List ℕ) → Begins 72 text → Goes domain text [] host_only text
 domain_host text b = subst (λ t. Goes domain t [] host_only t) (sym b.1) (Goes-left host_only (either suffix (either not_present empty)) 72 b.0 refl refl)
 
-lacks_tag : (b : ℕ) (s : List ℕ) (text : List ℕ) → Lacks b text → Misses (tagged (b ∷ s)) text
+pub lacks_tag : (b : ℕ) (s : List ℕ) (text : List ℕ) → Lacks b text → Misses (tagged (b ∷ s)) text
 lacks_tag b s [] l = refl
 lacks_tag b s (c ∷ r) l = none_or ((c == b) || false) false (none_or (c == b) false (ne_eqb c b l) refl) refl
 
-lacks_name : (b : ℕ) (s : List ℕ) (text : List ℕ) → Lacks b text → Misses (name (b ∷ s)) text
+pub lacks_name : (b : ℕ) (s : List ℕ) (text : List ℕ) → Lacks b text → Misses (name (b ∷ s)) text
 lacks_name b s [] l = refl
 lacks_name b s (c ∷ r) l = none_or (c == b) false (ne_eqb c b l) refl
 

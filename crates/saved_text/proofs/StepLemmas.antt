@@ -49,7 +49,9 @@ Leads-trans G H K a b c s t l m = record {
   x = l.x ++ m.x;
   split = l.split ∙ ap (λ r. l.x ++ r) m.split ∙ sym (append_assoc l.x m.x c);
   down = λ w o. let p = l.down w o in let q = m.down p.0 p.1 in (q.0, q.1, p.2 ∙ ap (λ r. s ++ r) q.2 ∙ sym (append_assoc s t q.0));
-  up = λ r o. subst (λ v. IsOf G a v) (sym (append_assoc s t r)) (l.up (t ++ r) (m.up r o));
+  up = λ y r o.
+      let p : IsOf G (l.x ++ (m.x ++ y)) (s ++ (t ++ r)) = l.up (m.x ++ y) (t ++ r) (m.up y r o) in
+      subst (λ v. IsOf G v ((s ++ t) ++ r)) (sym (append_assoc l.x m.x y)) (subst (IsOf G (l.x ++ (m.x ++ y))) (sym (append_assoc s t r)) p);
   front_down = λ y z e f. m.front_down y z e (l.front_down (m.x ++ y) z (m.split ∙ ap (λ r. m.x ++ r) e ∙ sym (append_assoc m.x y z)) (subst (IsFront G) (append_assoc l.x m.x y) f));
   front_up = λ y z e f. subst (IsFront G) (sym (append_assoc l.x m.x y)) (l.front_up (m.x ++ y) z (m.split ∙ ap (λ r. m.x ++ r) e ∙ sym (append_assoc m.x y z)) (m.front_up y z e f));
 }
@@ -79,12 +81,24 @@ Same-refl G = record { down = λ text w o. o; up = λ text w o. o; front_down = 
 pub Same-trans : (G H K : Grammar) → Same G H → Same H K → Same G K
 Same-trans G H K a b = record { down = λ text w o. b.down text w (a.down text w o); up = λ text w o. a.up text w (b.up text w o); front_down = λ text f. b.front_down text (a.front_down text f); front_up = λ text f. a.front_up text (b.front_up text f) }
 
+-- nothing behind
+pub Same-nothing : (g : Grammar) → Same (seq g nothing) g
+Same-nothing g = record {
+  down = λ text w o. subst (λ v. IsOf g v w) (sym (o.6 ∙ ap (λ q. o.0 ++ q) o.5.0 ∙ append-nil o.0)) (subst (IsOf g o.0) (sym (o.7 ∙ ap (λ q. o.2 ++ q) o.5.1 ∙ append-nil o.2)) o.4);
+  up = λ text w o. (text, [], w, [], o, (refl, refl), sym (append-nil text), sym (append-nil w));
+  front_down = λ text f. elim f [
+    | inl k ↦ k
+    | inr k ↦ subst (IsFront g) (sym (k.5 ∙ ap (λ q. k.0 ++ q) k.4 ∙ append-nil k.0)) (front_of_whole g k.0 k.2 k.3)
+  ];
+  front_up = λ text f. inl f;
+}
+
 pub Leads-same : (G H : Grammar) (text : List ℕ) → Same G H → Leads G text [] H text
 Leads-same G H text e = record {
   x = [];
   split = refl;
   down = λ w o. (w, e.down text w o, refl);
-  up = λ t o. e.up text t o;
+  up = λ y t o. e.up y t o;
   front_down = λ y z q f. e.front_down y f;
   front_up = λ y z q f. e.front_up y f;
 }
@@ -250,7 +264,7 @@ Leads-sign c s h r = record {
   x = c ∷ [];
   split = refl;
   down = λ w o. (w, (s, o.1, [], o.3, (refl, refl), o.5, tail_same c c r (s ++ o.1) (o.6 ∙ ap (λ q. q ++ o.1) o.4.0), o.7 ∙ ap (λ q. q ++ o.3) o.4.1), refl);
-  up = λ t o. (c ∷ s, o.1, [], o.3, (refl, refl), o.5, ap (λ q. c ∷ q) (o.6 ∙ ap (λ q. q ++ o.1) o.4.0), o.7 ∙ ap (λ q. q ++ o.3) o.4.1);
+  up = λ y t o. (c ∷ s, o.1, [], o.3, (refl, refl), o.5, ap (λ q. c ∷ q) (o.6 ∙ ap (λ q. q ++ o.1) o.4.0), o.7 ∙ ap (λ q. q ++ o.3) o.4.1);
   front_down = λ y z e f. elim f [
     | inl g ↦ inl (g.0, tail_same c c s (y ++ g.0) g.1)
     | inr g ↦ inr (s, g.1, [], (refl, refl), g.4, tail_same c c y (s ++ g.1) (g.5 ∙ ap (λ q. q ++ g.1) g.3.0))
@@ -267,7 +281,7 @@ Leads-empty e v only whole front h r = record {
   x = [];
   split = refl;
   down = λ w o. let p = only o.0 o.2 o.4 in (o.3, subst (λ q. IsOf h q o.3) (sym (o.6 ∙ ap (λ q. q ++ o.1) p.0)) o.5, o.7 ∙ ap (λ q. q ++ o.3) p.1);
-  up = λ t o. ([], r, v, t, whole, o, refl, refl);
+  up = λ y t o. ([], y, v, t, whole, o, refl, refl);
   front_down = λ y z q f. elim f [
     | inl g ↦ subst (IsFront h) (sym (front y g)) (front_nil h)
     | inr g ↦ subst (IsFront h) (sym (g.5 ∙ ap (λ p. p ++ g.1) (only g.0 g.2 g.3).0)) g.4
@@ -295,7 +309,7 @@ Leads-one p f c h r t = record {
   down = λ w o.
       let e : c ∷ r ≡ o.4.0 ∷ o.1 = o.6 ∙ ap (λ q. q ++ o.1) o.4.2 in
       (o.3, subst (λ q. IsOf h q o.3) (sym (tail_same c o.4.0 r o.1 e)) o.5, o.7 ∙ ap (λ q. q ++ o.3) o.4.3 ∙ ap (λ d. letters (f d) ++ o.3) (sym (head_same c o.4.0 r o.1 e)));
-  up = λ u o. (c ∷ [], r, letters (f c), u, (c, t, refl, refl), o, refl, refl);
+  up = λ y u o. (c ∷ [], y, letters (f c), u, (c, t, refl, refl), o, refl, refl);
   front_down = λ y z e g. elim g [
     | inl k ↦ elim k [
       | inl n ↦ absurd (no_cell c y n)
@@ -335,7 +349,7 @@ Leads-left A B c r m = record {
   x = [];
   split = refl;
   down = λ w o. elim o [ inl p ↦ (w, p, refl) | inr p ↦ absurd (none_at B (c ∷ r) m w p) ];
-  up = λ t o. inl o;
+  up = λ y t o. inl o;
   front_down = λ y z e f. elim f [ inl p ↦ p | inr p ↦ left_of A B c r m y z e p ];
   front_up = λ y z e f. inl f;
 }
@@ -345,7 +359,7 @@ Leads-right A B c r m = record {
   x = [];
   split = refl;
   down = λ w o. elim o [ inr p ↦ (w, p, refl) | inl p ↦ absurd (none_at A (c ∷ r) m w p) ];
-  up = λ t o. inr o;
+  up = λ y t o. inr o;
   front_down = λ y z e f. elim f [ inr p ↦ p | inl p ↦ left_of B A c r m y z e p ];
   front_up = λ y z e f. inr f;
 }
@@ -497,7 +511,7 @@ Leads-space c h r t n = record {
   x = c ∷ [];
   split = refl;
   down = λ w o. (w, space_down h n c r t w o.0 o.1 o.2 o.3 o.4.0 o.4.1 o.5 o.6 o.7, refl);
-  up = λ u o. (c ∷ o.0, o.1, o.2, o.3, ((t, o.4.0), o.4.1), o.5, ap (λ q. c ∷ q) o.6, o.7);
+  up = λ y u o. (c ∷ o.0, o.1, o.2, o.3, ((t, o.4.0), o.4.1), o.5, ap (λ q. c ∷ q) o.6, o.7);
   front_down = λ y z e f. elim f [
     | inl a ↦ inl a.1
     | inr p ↦ space_front h n c y t p.0 p.1 p.2 p.3.0 p.3.1 p.4 p.5
@@ -525,7 +539,7 @@ Leads-unspaced h r u = record {
   down = λ w o.
       let n = no_spaces r u o.0 o.1 o.4.0 o.6 in
       (o.3, subst (λ q. IsOf h q o.3) (sym (o.6 ∙ ap (λ q. q ++ o.1) n)) o.5, o.7 ∙ ap (λ q. q ++ o.3) o.4.1);
-  up = λ t o. ([], r, [], t, (tt, refl), o, refl, refl);
+  up = λ y t o. ([], y, [], t, (tt, refl), o, refl, refl);
   front_down = λ y z e f. elim f [
     | inl a ↦ (let n = no_spaces y (unspaced_front r u y z e) y [] a (sym (append-nil y)) in subst (IsFront h) (sym n) (front_nil h))
     | inr p ↦ (let n = no_spaces y (unspaced_front r u y z e) p.0 p.1 p.3.0 p.5 in subst (IsFront h) (sym (p.5 ∙ ap (λ q. q ++ p.1) n)) p.4)
@@ -575,7 +589,7 @@ Leads-digit low high v d h r t free room = record {
   x = d ∷ [];
   split = refl;
   down = λ w o. (w, digits_down low high v d h r free w o.0 o.1 o.2 o.3 o.4 o.5 o.6 o.7, refl);
-  up = λ u o. (d ∷ o.0, o.1, o.2, o.3, ((t, o.4.0), less_one low (length o.0) o.4.1, omega (arith, o.4.2), o.4.3, o.4.4), o.5, ap (λ q. d ∷ q) o.6, o.7);
+  up = λ y u o. (d ∷ o.0, o.1, o.2, o.3, ((t, o.4.0), less_one low (length o.0) o.4.1, omega (arith, o.4.2), o.4.3, o.4.4), o.5, ap (λ q. d ∷ q) o.6, o.7);
   front_down = λ y z e f. elim f [
     | inl n ↦ elim n [
       | inl e ↦ absurd (no_cell d y e)
@@ -624,7 +638,7 @@ Leads-numbered high v h r t end = record {
   down = λ w o.
       let n = end_digits high r end r [] (sym (append-nil r)) o.0 o.1 o.4.0 o.4.2 o.6 in
       (o.3, subst (λ q. IsOf h q o.3) (sym (o.6 ∙ ap (λ q. q ++ o.1) n)) o.5, o.7 ∙ ap (λ q. q ++ o.3) (o.4.4 ∙ ap (λ q. letters (encode_utf8 (number_after v q))) n));
-  up = λ u o. ([], r, letters (encode_utf8 v), u, (tt, omega arith, omega arith, t, refl), o, refl, refl);
+  up = λ y u o. ([], y, letters (encode_utf8 v), u, (tt, omega arith, omega arith, t, refl), o, refl, refl);
   front_down = λ y z e f. elim f [
     | inl k ↦ elim k [
       | inl n ↦ subst (IsFront h) (sym n) (front_nil h)
@@ -673,9 +687,20 @@ Leads-else A B text m = record {
   x = [];
   split = refl;
   down = λ w o. elim o [ inr p ↦ (w, p, refl) | inl p ↦ absurd (none_at A text m w p) ];
-  up = λ t o. inr o;
+  up = λ y t o. inr o;
   front_down = λ y z e f. elim f [ inr p ↦ p | inl p ↦ else_of A B text m y z e p ];
   front_up = λ y z e f. inr f;
+}
+
+-- the second can't begin here
+pub Leads-only : (A B : Grammar) (text : List ℕ) → Misses B text → Leads (either A B) text [] A text
+Leads-only A B text m = record {
+  x = [];
+  split = refl;
+  down = λ w o. elim o [ inl p ↦ (w, p, refl) | inr p ↦ absurd (none_at B text m w p) ];
+  up = λ y t o. inl o;
+  front_down = λ y z e f. elim f [ inl p ↦ p | inr p ↦ else_of B A text m y z e p ];
+  front_up = λ y z e f. inl f;
 }
 
 -- two alternatives that begin alike

@@ -11,6 +11,8 @@ pub mod Words
 pub mod Written
 pub mod RonLayout
 pub mod RowWords
+pub mod RonReading
+pub mod Drafts
 pub mod Json
 pub mod Parts
 pub mod JsonWritten

@@ -67,12 +67,26 @@ three a b c = (a ▹ comma ▹ two b c) or (b ▹ comma ▹ two a c) or (c ▹ c
 abbrev pub four : Grammar → Grammar → Grammar → Grammar → Grammar
 four a b c d = (a ▹ comma ▹ three b c d) or (b ▹ comma ▹ three a c d) or (c ▹ comma ▹ three a b d) or (d ▹ comma ▹ three a b c)
 
+abbrev pub raw_field : Grammar
+raw_field = field (codes "raw_cookie") string
+
+abbrev pub path : Grammar
+path = bracketed (string ▹ comma ▹ bool)
+
+abbrev pub path_field : Grammar
+path_field = field (codes "path") path
+
+abbrev pub domain_field : Grammar
+domain_field = field (codes "domain") domain
+
+abbrev pub expires_field : Grammar
+expires_field = field (codes "expires") expires
+
+abbrev pub fields : Grammar
+fields = four raw_field path_field domain_field expires_field
+
 abbrev pub row : Grammar
-row = bracketed (four
-    (field (codes "raw_cookie") string)
-    (field (codes "path") (bracketed (string ▹ comma ▹ bool)))
-    (field (codes "domain") domain)
-    (field (codes "expires") expires))
+row = bracketed fields
 
 abbrev pub list : Grammar
 list = sign (codes "[") ▹ optional (row ▹ many (comma ▹ row · space) · optional (comma · space)) · sign (codes "]")

@@ -1,13 +1,9 @@
 -- The words that the parts of a row say.
 use Rattle.std.specs.Prelude.{ℕ, List, [], ◌∷◌, ◌++◌, codes}
 use Rattle.saved_text.specs.Grammar.{Grammar, Word, letters}
-use Rattle.saved_text.specs.Grammar.Grammar.{seq, space}
+use Rattle.saved_text.specs.Grammar.Grammar.{seq, space, sign}
 use Rattle.saved_text.specs.Grammar.Word.{the_name, the_end}
 use Rattle.saved_text.specs.Ron.{name, bracketed, string}
-use Rattle.std.specs.Str.{IsCharBoundary}
-use Rattle.saved_text.specs.Grammar.{IsOf, IsLongestFront}
-use Rattle.saved_text.specs.declared.ron_whole.Fault.{Fault}
-use Rattle.saved_text.specs.declared.ron_whole.Fault.TheVariants as fault
 use Rattle.saved_text.specs.Row.{Domain, host_only, suffix, not_present, empty}
 
 abbrev pub string_words : List ℕ → List Word
@@ -23,7 +19,6 @@ domain_words empty = the_name (codes "Empty") ∷ []
 abbrev pub tagged : List ℕ → Grammar
 tagged n = seq (name n) (seq space (bracketed string))
 
--- The text is not of the grammar, and its longest front has n bytes; or memory was refused.
-abbrev pub IsFaultOf : Grammar → List ℕ → Fault → Type 0
-IsFaultOf G text (fault.At n) = ((w : List Word) → ¬ IsOf G text w) × IsLongestFront G text n × IsCharBoundary text n
-IsFaultOf G text fault.OutOfMemory = Unit {0}
+-- a name and a colon
+abbrev pub heading : List ℕ → Grammar
+heading n = seq (name n) (seq space (sign (codes ":")))

@@ -113,14 +113,14 @@ fn row_from(alloc: Global, parts: RowParts) -> Result<SavedRow, SavedTextError>
 }
 
 // Whether a text reads as a cookie.
-fn is_cookie(text: &str) -> bool
+pub(crate) fn is_cookie(text: &str) -> bool
     ensures { IsTrue result ↔ IsCookieText text.now }
 {
     Cookie::parse(text).is_ok()
 }
 
 // The death at a date, or at the end of the session.
-fn death_of(date: Option<&str>) -> Option<SavedExpiration>
+pub(crate) fn death_of(date: Option<&str>) -> Option<SavedExpiration>
     ensures { MatchOption result (¬ (HasDeath (option_map (λ t. t.now) date.entry))) (IsDeath (option_map (λ t. t.now) date.entry)) }
 {
     match date {

@@ -14,7 +14,7 @@ use crate::row::SavedDomain;
 use std::alloc::Global;
 
 // What follows all white space.
-fn gap(text: &str) -> &str
+pub(crate) fn gap(text: &str) -> &str
     ensures { Spaced text.now result.now }
 {
     let mut rest = text;
@@ -36,7 +36,7 @@ fn cut_space(text: &str) -> Option<&str>
 }
 
 // Whether the byte stands first.
-fn begins(text: &str, byte: u8) -> bool
+pub(crate) fn begins(text: &str, byte: u8) -> bool
     requires { byte < 128 }
     ensures { MatchBool result (Begins byte text.now) (Lacks byte text.now) }
 {
@@ -44,7 +44,7 @@ fn begins(text: &str, byte: u8) -> bool
 }
 
 // What is behind a byte that must stand first.
-fn sign_of(text: &str, byte: u8) -> Result<&str, Stop<'_>>
+pub(crate) fn sign_of(text: &str, byte: u8) -> Result<&str, Stop<'_>>
     requires { byte < 128 }
     ensures { MatchResult result (λ r. Takes (sign (byte ∷ [])) text.now [] r.now) (StopsAs (sign (byte ∷ [])) text.now) }
 {
@@ -55,7 +55,7 @@ fn sign_of(text: &str, byte: u8) -> Result<&str, Stop<'_>>
 }
 
 // What is behind bytes that must stand first.
-fn bytes_of<'a>(text: &'a str, bytes: &[u8]) -> Result<&'a str, Stop<'a>>
+pub(crate) fn bytes_of<'a>(text: &'a str, bytes: &[u8]) -> Result<&'a str, Stop<'a>>
     requires { AreAscii bytes.now }
     ensures { MatchResult result (λ r. Takes (sign bytes.now) text.now [] r.now) (StopsAs (sign bytes.now) text.now) }
 {
@@ -69,7 +69,7 @@ fn bytes_of<'a>(text: &'a str, bytes: &[u8]) -> Result<&'a str, Stop<'a>>
 }
 
 // An optional comma and a bracket.
-fn close(text: &str) -> Result<&str, Stop<'_>>
+pub(crate) fn close(text: &str) -> Result<&str, Stop<'_>>
     ensures { MatchResult result (λ r. Takes closing text.now [] r.now) (StopsAs closing text.now) }
 {
     if let Some(rest) = cut(text, b',') {

@@ -10,7 +10,7 @@ ghost use Rattle.saved_text.specs.Grammar.Grammar.{sign, number, seq};
 ghost use Rattle.saved_text.specs.Reads.{Takes, Stops};
 ghost use Rattle.saved_text.specs.Faults.{StopsAs, Undigited, Unplain, Unlettered, BeginsAscii, Lacks, IsEnd, Number};
 
-use std::alloc::{AllocError, Global};
+use std::alloc::{AllocError, AllocFailed, Global};
 
 /// Why a text isn't read on.
 #[derive(Debug, Drop)]
@@ -27,6 +27,16 @@ impl<'a> From<AllocError> for Stop<'a> {
     ghost from_gives = { λ _ e. e ≡ OutOfMemory };
 
     fn from(_: AllocError) -> Stop<'a> {
+        Stop::OutOfMemory
+    }
+}
+
+impl<'a, T: Drop> From<AllocFailed<T>> for Stop<'a> {
+    ghost use Rattle.saved_text.specs.declared.ron_text.Stop.TheVariants.{OutOfMemory};
+
+    ghost from_gives = { λ _ e. e ≡ OutOfMemory };
+
+    fn from(_: AllocFailed<T>) -> Stop<'a> {
         Stop::OutOfMemory
     }
 }
