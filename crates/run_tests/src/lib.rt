@@ -40,3 +40,5 @@ mod stream_tests;
 mod text_tests;
 #[cfg(test)]
 mod way_tests;
+#[cfg(test)]
+mod worked_scripts;
