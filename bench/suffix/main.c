@@ -94,8 +94,8 @@ int main(void) {
         double reading = least_time(once);
         times = 1;
         double look_ups = least_time(once) - reading;
-        // So often that the look-ups take about as long as the reading.
-        times = (size_t)(reading / (look_ups > 100 ? look_ups : 100)) + 1;
+        // So often that the look-ups take some times as long as the reading, whose noise then counts little.
+        times = (size_t)(5 * reading / (look_ups > 1000 ? look_ups : 1000)) + 1;
         look_ups = (least_time(once) - reading) / (double)times;
         char name[40];
         snprintf(name, sizeof name, "read %zu rules", counts[i]);
