@@ -16,6 +16,7 @@ pub mod Commands
 pub mod Exchange
 pub mod Promises
 pub mod Sites
+pub mod Brought
 pub mod Confined
 pub mod SentLines
 pub mod Receiving
