@@ -9,7 +9,7 @@ use Rattle.saved_text.specs.Grammar.Word.{the_name}
 use Rattle.saved_text.specs.Reads.{Leads, Stuck}
 use Rattle.saved_text.specs.Faults.{StopsAs, Spaced}
 use Rattle.saved_text.specs.Ron.{string, list, ron}
-use Rattle.saved_text.specs.RonReading.{IsUnreadAt, IsRonFaultAt, ShowsRows}
+use Rattle.saved_text.specs.RonReading.{IsUnreadAt, IsRonFaultAt, ShowsNoRows, ShowsRows, AreRead}
 use Rattle.saved_text.specs.Words.{string_words}
 use Rattle.saved_text.specs.JsonReading.{AreShown}
 use Rattle.saved_text.specs.Drafts.{Unreads, Marks, IsListRead, IsTextRead, StopsText}
@@ -20,6 +20,7 @@ use Rattle.saved_text.proofs.StepLemmas.{Same-nothing, Leads-trans, Stuck-behind
 use Rattle.saved_text.proofs.RonLemmas.{Goes, Goes-trans, Goes-first}
 use Rattle.saved_text.proofs.RowLemmas.{Goes-spaces, Leads-spaces}
 use Rattle.saved_text.proofs.FieldLemmas.{Goes-leads, StopsAs-within, Unreads-silent, Unreads-first}
+use Rattle.saved_text.proofs.ReadableLemmas.{rows_read, read_behind}
 use Rattle.saved_text.proofs.FrontLemmas.{fault_at}
 
 -- ---- white space, the list, white space
@@ -64,17 +65,22 @@ text_stops text start r rest rows u s i t n = Stuck-behind (seq ron nothing) not
 
 -- ---- faults
 
-pub text_fault : (text rest : List ℕ) → Stuck (seq ron nothing) text rest → IsUtf8 rest → IsRonFaultAt text (length text - length rest)
+pub text_fault : (text rest : List ℕ) → Stuck (seq ron nothing) text rest → IsUtf8 rest
+    → IsRonFaultAt text (length text - length rest)
 text_fault text rest s u =
     let f = fault_at (seq ron nothing) text rest s u in
-    inl (
-      λ w o. f.0 w ((Same-nothing ron).up text w o),
-      record {
-        fits = f.1.fits;
-        front = (Same-nothing ron).front_down _ f.1.front;
-        longest = λ m b g. f.1.longest m b ((Same-nothing ron).front_up _ g);
-      },
-      f.2,
+    let none : (w : List Word) → ¬ IsOf ron text w = λ w o. f.0 w ((Same-nothing ron).up text w o) in
+    (
+      λ shown h a. none h.0 h.1,
+      inl (
+        none,
+        record {
+          fits = f.1.fits;
+          front = (Same-nothing ron).front_down _ f.1.front;
+          longest = λ m b g. f.1.longest m b ((Same-nothing ron).front_up _ g);
+        },
+        f.2
+      )
     )
 
 pub unread_fits : (g : Grammar) (text q : List ℕ) → Unreads g text q → length q ≤ length text
@@ -110,11 +116,21 @@ unread_at text q said u o =
       unread = u.unread;
     }
 
+-- A text with a string that doesn't read shows no rows that read.
+shows_none : (text q : List ℕ) → Unreads ron text q → ShowsNoRows text
+shows_none text q u shown h a =
+    let l = (u.leads nothing).1 in
+    let behind = l.down h.0 ((Same-nothing ron).up text h.0 h.1) in
+    let rest = (u.string (u.leads nothing).0).down behind.0 behind.1 in
+    let b = u.before ++ the_name u.name ∷ [] in
+    u.unread (read_behind [] [] u.before u.name u.value rest.0
+        (subst (AreRead [] []) (behind.2 ∙ ap (λ w. b ++ w) rest.2) (rows_read shown h.0 h.2 a).0))
+
 pub text_rows : (text : List ℕ) (rows : List SavedRow) → IsTextRead text rows None → ShowsRows text rows
 text_rows text rows i = (i.shown, (i.said, i.is, i.says), i.marks.1)
 
 pub text_unread : (text : List ℕ) (rows : List SavedRow) (q : Bor (List ℕ)) → IsTextRead text rows (Some q) → IsRonFaultAt text (length text - length q.now)
-text_unread text rows q i = inr (unread_at text q.now i.said i.marks i.is)
+text_unread text rows q i = (shows_none text q.now i.marks, inr (unread_at text q.now i.said i.marks i.is))
 
 pub text_unread_fits : (text : List ℕ) (rows : List SavedRow) (q : Bor (List ℕ)) → IsTextRead text rows (Some q) → length q.now ≤ length text
 text_unread_fits text rows q i = unread_fits ron text q.now i.marks

@@ -56,9 +56,9 @@ fn read_text<'a>(
 {
     let start = gap(text);
     let (unread, rest) = read_list(alloc, start, rows)?;
-    let rest = gap(rest);
-    if rest.is_empty() {
+    let end = gap(rest);
+    if end.is_empty() {
         return Ok(unread);
     }
-    Err(Stop::Here(rest))
+    Err(Stop::Here(end))
 }
