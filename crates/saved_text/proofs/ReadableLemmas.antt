@@ -1,14 +1,14 @@
 -- Where rows read, so does each string of their words.
 use Rattle.std.specs.Prelude.{Option, Some, None, flat_map}
-use Rattle.std.proofs.Common.{◌≡◌, ℕ, ◌++◌, List, [], ◌∷◌, refl, sym, subst, append_assoc}
+use Rattle.std.proofs.Common.{ℕ, ◌++◌, List, [], ◌∷◌, sym, subst, append_assoc}
 use Rattle.std.proofs.lemmas.List.{append-nil}
 use Rattle.std.specs.List.{All, AllByRecursion}
 use Rattle.std.proofs.lemmas.List.Elements.{All-from_recursion, recursion_from_All}
 use Rattle.std.proofs.lemmas.List.Sorted.{All-permutation}
-use Rattle.saved_text.specs.Grammar.{Word, letters}
+use Rattle.saved_text.specs.Grammar.{Word}
 use Rattle.saved_text.specs.Grammar.Word.{the_name, letter, the_end}
 use Rattle.saved_text.specs.Row.{Shown}
-use Rattle.saved_text.specs.RowWords.{SaysRow, SaysRows, field_words, expires_words}
+use Rattle.saved_text.specs.RowWords.{SaysRow, SaysRows, field_words}
 use Rattle.saved_text.specs.RonReading.{ReadsAs, AreRead}
 use Rattle.saved_text.specs.JsonReading.{HasDeath, IsReadable}
 use Rattle.saved_text.specs.Words.{string_words}
@@ -31,8 +31,13 @@ parts_read [] a = (tt, tt)
 parts_read (p ∷ parts) a = both p (flat_map (λ f. f) parts) a.0 (parts_read parts a.1)
 
 fields_read : (t : Shown) → IsReadable t → AllByRecursion Reads (field_words t)
-fields_read t h =
-    ((raw_read t.raw h.0, tt), ((path_read t.path t.from_attribute, tt), ((domain_read t.domain, tt), (death_read t.expires h.1, tt))))
+fields_read t h = (
+  (raw_read t.raw h.0, tt),
+  (
+    (path_read t.path t.from_attribute, tt),
+    ((domain_read t.domain, tt), (death_read t.expires h.1, tt)),
+  ),
+)
 
 row_reads : (t : Shown) (said : List Word) → SaysRow t said → IsReadable t → Reads said
 row_reads t said s h =
