@@ -12,4 +12,6 @@ mod json_write_tests;
 #[cfg(test)]
 mod memory;
 #[cfg(test)]
+mod ron_read_tests;
+#[cfg(test)]
 mod write_tests;

@@ -6,8 +6,8 @@
 use crate::fixtures::{RON, shop_row};
 use crate::json_write_tests::{LIST, ROW};
 use saved_text::{
-    SavedTextError, from_value, row_from_json, row_to_json, rows_from_json, rows_to_json,
-    rows_to_ron, to_value,
+    SavedTextError, from_value, row_from_json, row_to_json, rows_from_json, rows_from_ron,
+    rows_to_json, rows_to_ron, to_value,
 };
 use std::alloc::{AllocError, Global};
 
@@ -64,4 +64,24 @@ fn rows_are_read_from_json(rt: HostRuntime) {
 #[test]
 fn rows_are_read_from_json_with_ample_memory(rt: HostRuntime) {
     assert!(rt; reads_json(rt.alloc()).unwrap_or(false));
+}
+
+fn reads_ron(alloc: Global) -> Result<bool, SavedTextError> {
+    let rows = rows_from_ron(alloc, RON.as_bytes())?;
+    let back = rows_to_ron(alloc, rows.as_slice())?;
+    Ok(back.as_str() == RON)
+}
+
+#[test]
+fn rows_are_read_from_ron(rt: HostRuntime) {
+    let is_right = match reads_ron(rt.alloc()) {
+        Ok(is_right) => is_right,
+        Err(error) => error == SavedTextError::OutOfMemory,
+    };
+    assert!(rt; is_right);
+}
+
+#[test]
+fn rows_are_read_from_ron_with_ample_memory(rt: HostRuntime) {
+    assert!(rt; reads_ron(rt.alloc()).unwrap_or(false));
 }

@@ -1,6 +1,28 @@
 -- Where a reader is stuck, there the longest front ends.
 use Rattle.std.specs.Prelude.{take, drop}
-use Rattle.std.proofs.Common.{◌≡◌, ℕ, zero, suc, ◌+◌, ◌-◌, ◌≤◌, ◌<◌, ◌++◌, List, [], ◌∷◌, length, refl, sym, ap, ◌∙◌, arith, length-append, subst, Bor}
+use Rattle.std.proofs.Common.{
+  ◌≡◌,
+  ℕ,
+  zero,
+  suc,
+  ◌+◌,
+  ◌-◌,
+  ◌≤◌,
+  ◌<◌,
+  ◌++◌,
+  List,
+  [],
+  ◌∷◌,
+  length,
+  refl,
+  sym,
+  ap,
+  ◌∙◌,
+  arith,
+  length-append,
+  subst,
+  Bor,
+}
 use Rattle.std.specs.Str.{IsUtf8, IsCharBoundary}
 use Rattle.std.proofs.lemmas.Str.{IsCharBoundary-at_seam}
 use Rattle.std.proofs.lemmas.List.{append-nil}
@@ -22,68 +44,89 @@ split_at (suc k) [] = refl
 split_at (suc k) (b ∷ r) = ap (λ q. b ∷ q) (split_at k r)
 
 -- a beginning that is longer than x has x and one byte more
-longer : (x r : List ℕ) (m : ℕ) → length x < m → m ≤ length (x ++ r) → (b : ℕ) × (y z : List ℕ) × (r ≡ b ∷ (y ++ z)) × (take m (x ++ r) ≡ x ++ b ∷ y)
+longer : (x r : List ℕ) (m : ℕ) → length x < m → m ≤ length (x ++ r)
+    → (b : ℕ) × (y z : List ℕ) × (r ≡ b ∷ (y ++ z)) × (take m (x ++ r) ≡ x ++ b ∷ y)
 longer [] [] m l f = absurd (omega (arith, l, f))
 longer [] (b ∷ r) zero l f = absurd (omega (arith, l))
 longer [] (b ∷ r) (suc k) l f = (b, take k r, drop k r, ap (λ q. b ∷ q) (split_at k r), refl)
 longer (a ∷ x) r zero l f = absurd (omega (arith, l))
-longer (a ∷ x) r (suc m) l f = let p = longer x r m (omega (arith, l)) (omega (arith, f)) in (p.0, p.1, p.2, p.3, ap (λ q. a ∷ q) p.4)
+longer (a ∷ x) r (suc m) l f = let p = longer x r m (omega (arith, l)) (omega (arith, f))
+    in (p.0, p.1, p.2, p.3, ap (λ q. a ∷ q) p.4)
 
 at_most : (a b : ℕ) → (b < a → ⊥) → a ≤ b
 at_most a b h = omega (arith, h)
 
-longest_at : (G : Grammar) (x rest : List ℕ) → IsFront G x → ((b : ℕ) (y z : List ℕ) → rest ≡ b ∷ (y ++ z) → ¬ IsFront G (x ++ b ∷ y)) → IsLongestFront G (x ++ rest) (length x)
+longest_at : (G : Grammar) (x rest : List ℕ) → IsFront G x
+    → ((b : ℕ) (y z : List ℕ) → rest ≡ b ∷ (y ++ z) → ¬ IsFront G (x ++ b ∷ y))
+    → IsLongestFront G (x ++ rest) (length x)
 longest_at G x rest front far = record {
   fits = let e = length-append x rest in omega (arith, e);
   front = subst (IsFront G) (sym (take_front x rest)) front;
-  longest = λ m f g. at_most m (length x) (λ l. let p = longer x rest m l f in far p.0 p.1 p.2 p.3 (subst (IsFront G) p.4 g));
+  longest = λ m f g. at_most m (length x)
+      (λ l. let p = longer x rest m l f in far p.0 p.1 p.2 p.3 (subst (IsFront G) p.4 g));
 }
 
-pub longest_where_stuck : (G : Grammar) (text rest : List ℕ) (n : ℕ) → Stuck G text rest → n + length rest ≡ length text → IsLongestFront G text n
+pub longest_where_stuck : (G : Grammar) (text rest : List ℕ) (n : ℕ) → Stuck G text rest
+    → n + length rest ≡ length text → IsLongestFront G text n
 longest_where_stuck G text rest n s e =
     let all : length text ≡ length s.x + length rest = ap length s.split ∙ length-append s.x rest in
     let same : length s.x ≡ n = omega (arith, all, e) in
-    subst (IsLongestFront G text) same (subst (λ t. IsLongestFront G t (length s.x)) (sym s.split) (longest_at G s.x rest s.front s.far))
+    subst (IsLongestFront G text) same
+    (subst (λ t. IsLongestFront G t (length s.x)) (sym s.split) (longest_at G s.x rest s.front s.far))
 
 -- bytes behind what is whole
-pub stuck_behind : (g : Grammar) (text : List ℕ) (s : List Word) (b : ℕ) (r : List ℕ) → Takes g text s (b ∷ r) → Stuck (seq g nothing) text (b ∷ r)
-stuck_behind g text s b r l = Stuck-behind (seq g nothing) nothing text (b ∷ r) (b ∷ r) s (l nothing) (Stuck-at nothing (b ∷ r) refl)
+pub stuck_behind : (g : Grammar) (text : List ℕ) (s : List Word) (b : ℕ) (r : List ℕ) → Takes g text s (b ∷ r)
+    → Stuck (seq g nothing) text (b ∷ r)
+stuck_behind g text s b r l = Stuck-behind (seq g nothing) nothing text (b ∷ r) (b ∷ r) s (l nothing)
+    (Stuck-at nothing (b ∷ r) refl)
 
-pub whole_at_end : (g : Grammar) (text rest : List ℕ) (s : List Word) → rest ≡ [] → Takes g text s rest → IsOf (seq g nothing) text s
+pub whole_at_end : (g : Grammar) (text rest : List ℕ) (s : List Word) → rest ≡ [] → Takes g text s rest
+    → IsOf (seq g nothing) text s
 whole_at_end g text rest s e l =
     let d = l nothing in
-    subst (IsOf (seq g nothing) text) (append-nil s) (subst (λ t. IsOf (seq g nothing) t (s ++ [])) (sym d.split) (d.up rest [] (e, refl)))
+    subst (IsOf (seq g nothing) text) (append-nil s)
+    (subst (λ t. IsOf (seq g nothing) t (s ++ [])) (sym d.split) (d.up rest [] (e, refl)))
 
 pub no_longer : (G : Grammar) (text rest : List ℕ) → Stuck G text rest → length rest ≤ length text
 no_longer G text rest s =
     let all : length text ≡ length s.x + length rest = ap length s.split ∙ length-append s.x rest in
     omega (arith, all)
 
-pub no_longer_taken : (g : Grammar) (text rest : List ℕ) (s : List Word) → Takes g text s rest → length rest ≤ length text
+pub no_longer_taken : (g : Grammar) (text rest : List ℕ) (s : List Word) → Takes g text s rest
+    → length rest ≤ length text
 no_longer_taken g text rest s l =
     let h = l nothing in
     let all : length text ≡ length h.x + length rest = ap length h.split ∙ length-append h.x rest in
     omega (arith, all)
 
-pub stuck_at_more : (g : Grammar) (text rest : List ℕ) (s : List Word) → Takes g text s rest → (length rest ≡ 0 → ⊥) → Stuck (seq g nothing) text rest
+pub stuck_at_more : (g : Grammar) (text rest : List ℕ) (s : List Word) → Takes g text s rest → (length rest ≡ 0 → ⊥)
+    → Stuck (seq g nothing) text rest
 stuck_at_more g text [] s l n = absurd (n refl)
 stuck_at_more g text (b ∷ r) s l n = stuck_behind g text s b r l
 
-pub whole_when_empty : (g : Grammar) (text rest : List ℕ) (s : List Word) → Takes g text s rest → length rest ≡ 0 → IsOf (seq g nothing) text s
+pub whole_when_empty : (g : Grammar) (text rest : List ℕ) (s : List Word) → Takes g text s rest → length rest ≡ 0
+    → IsOf (seq g nothing) text s
 whole_when_empty g text [] s l e = whole_at_end g text [] s refl l
 whole_when_empty g text (b ∷ r) s l e = absurd (omega (arith, e))
 
 -- what a fault at a place says
-pub fault_at : (G : Grammar) (text rest : List ℕ) → Stuck G text rest → IsUtf8 rest → ((w : List Word) → ¬ IsOf G text w) × IsLongestFront G text (length text - length rest) × IsCharBoundary text (length text - length rest)
+pub fault_at : (G : Grammar) (text rest : List ℕ) → Stuck G text rest → IsUtf8 rest
+    → ((w : List Word) → ¬ IsOf G text w) × IsLongestFront G text (length text - length rest)
+    × IsCharBoundary text (length text - length rest)
 fault_at G text rest s u =
     let fits = no_longer G text rest s in
-    let all : length text ≡ length s.x + length rest = ap length s.split ∙ length-append s.x rest in
-    (s.none, longest_where_stuck G text rest (length text - length rest) s (omega (arith, fits)), subst (IsCharBoundary text) (omega (arith, all)) (IsCharBoundary-at_seam text s.x rest s.split u))
+    let all : length text ≡ length s.x + length rest = ap length s.split ∙ length-append s.x rest in (
+      s.none,
+      longest_where_stuck G text rest (length text - length rest) s (omega (arith, fits)),
+      subst (IsCharBoundary text) (omega (arith, all)) (IsCharBoundary-at_seam text s.x rest s.split u),
+    )
 
 -- a whole text says one thing
-pub only_words : (g : Grammar) (text rest : List ℕ) (s : List Word) → Takes g text s rest → length rest ≡ 0 → (w : List Word) → IsOf (seq g nothing) text w → w ≡ s
+pub only_words : (g : Grammar) (text rest : List ℕ) (s : List Word) → Takes g text s rest → length rest ≡ 0
+    → (w : List Word) → IsOf (seq g nothing) text w → w ≡ s
 only_words g text [] s l e w o = let p = (l nothing).down w o in p.2 ∙ ap (λ q. s ++ q) p.1.1 ∙ append-nil s
 only_words g text (b ∷ r) s l e w o = absurd (omega (arith, e))
 
-pub stopped : (g : Grammar) (text : List ℕ) (e : Stop) (r : Bor (List ℕ)) → StopsAs g text e → e ≡ stop.Here r → Stops g text r.now
+pub stopped : (g : Grammar) (text : List ℕ) (e : Stop) (r : Bor (List ℕ)) → StopsAs g text e → e ≡ stop.Here r
+    → Stops g text r.now
 stopped g text e r s q = subst (StopsAs g text) q s

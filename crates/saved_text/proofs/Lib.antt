@@ -12,6 +12,7 @@ mod FieldLemmas
 mod PickLemmas
 mod DraftLemmas
 mod RowsLemmas
+mod ReadableLemmas
 mod TextLemmas
 mod JsonLemmas
 mod FeedLemmas

@@ -1,5 +1,37 @@
 -- Dates of saved texts, as they are read: `date-time` of RFC 3339, section 5.6, with a fraction of one to nine digits.
-use Rattle.std.specs.Prelude.{◌≡◌, ℕ, ℤ, pos, ◌+◌, ◌*◌, ◌-◌, ◌^◌, ◌+ℤ◌, ◌*ℤ◌, ◌-ℤ◌, ◌≤ℤ◌, List, [], ◌∷◌, length, take, drop, map, Bool, ◌&&◌, ◌==◌, nat_lt, nat_le, codes, slice_range, Option, Some, None, if◌then◌else◌, IsTrue}
+use Rattle.std.specs.Prelude.{
+  ◌≡◌,
+  ℕ,
+  ℤ,
+  pos,
+  ◌+◌,
+  ◌*◌,
+  ◌-◌,
+  ◌^◌,
+  ◌+ℤ◌,
+  ◌*ℤ◌,
+  ◌-ℤ◌,
+  ◌≤ℤ◌,
+  List,
+  [],
+  ◌∷◌,
+  length,
+  take,
+  drop,
+  map,
+  Bool,
+  ◌&&◌,
+  ◌==◌,
+  nat_lt,
+  nat_le,
+  codes,
+  slice_range,
+  Option,
+  Some,
+  None,
+  if◌then◌else◌,
+  IsTrue,
+}
 use Rattle.std.specs.Str.{bytes_eq}
 use Rattle.std.specs.Str.Parse.{digits_value}
 use Rattle.std.specs.Char.{is_ascii_digit}
@@ -43,7 +75,8 @@ civil_if year month day hour minute second nanos =
     else None
 
 abbrev pub civil_of : List ℕ → ℕ → Option ℤ
-civil_of text nanos = civil_if (number_at text 0 4) (number_at text 5 7) (number_at text 8 10) (number_at text 11 13) (number_at text 14 16) (number_at text 17 19) nanos
+civil_of text nanos = civil_if (number_at text 0 4) (number_at text 5 7) (number_at text 8 10) (number_at text 11 13)
+    (number_at text 14 16) (number_at text 17 19) nanos
 
 -- ---- the fraction
 

@@ -1,11 +1,43 @@
 -- A row of RON while it is read: for private clauses.
-use Rattle.std.specs.Prelude.{◌≡◌, ℕ, ◌++◌, ◌∷◌, ◌||◌, List, [], Bool, true, false, Option, Some, None, option_map, IsTrue, flat_map, codes, string_bytes}
+use Rattle.std.specs.Prelude.{
+  ◌≡◌,
+  ℕ,
+  ◌++◌,
+  ◌∷◌,
+  ◌||◌,
+  List,
+  [],
+  Bool,
+  true,
+  false,
+  Option,
+  Some,
+  None,
+  option_map,
+  IsTrue,
+  flat_map,
+  codes,
+  string_bytes,
+}
 use Rattle.std.specs.List.Sorted.{IsPermutation}
 use Rattle.std.specs.Borrow.{Bor}
 use Rattle.saved_text.specs.Grammar.{Grammar, Word, IsOf}
 use Rattle.saved_text.specs.Grammar.Word.{the_name, letter, the_end}
 use Rattle.saved_text.specs.Grammar.Grammar.{nothing, space, seq}
-use Rattle.saved_text.specs.Ron.{string, comma, raw_field, path_field, domain_field, expires_field, two, three, four, list, ron, ◌▹◌}
+use Rattle.saved_text.specs.Ron.{
+  string,
+  comma,
+  raw_field,
+  path_field,
+  domain_field,
+  expires_field,
+  two,
+  three,
+  four,
+  list,
+  ron,
+  ◌▹◌,
+}
 use Rattle.saved_text.specs.Reads.{Leads, Takes, Stuck}
 use Rattle.saved_text.specs.Row.{Shown, Domain}
 use Rattle.saved_text.specs.RowWords.{SaysRow, SaysRows, bool_words, expires_words}
@@ -33,7 +65,8 @@ pub record Unreads (g : Grammar) (text rest : List ℕ) : Type 0 where
   pub name : List ℕ
   pub value : List ℕ
   pub behind : List ℕ
-  pub leads : (h : Grammar) → (next : Grammar) × Leads (seq g h) text (before ++ the_name name ∷ []) (seq string next) rest
+  pub leads : (h : Grammar) → (next : Grammar) × Leads (seq g h) text (before ++ the_name name ∷ []) (seq string next)
+      rest
   pub string : Takes string rest (string_words value) behind
   pub whole : IsWhole before
   pub first : AreRead [] [] before
@@ -89,7 +122,14 @@ IsLacking d = IsTrue (is_lacking d.lacks_raw_cookie d.lacks_path d.lacks_domain 
 
 -- what was read
 abbrev pub drafted : Draft → Shown
-drafted r = record { raw = string_bytes r.raw_cookie; path = string_bytes r.path; from_attribute = r.is_from_path_attr; domain = domain_shown r.domain; expires = option_map string_bytes r.date }
+drafted r = record {
+  raw = string_bytes r.raw_cookie;
+  path = string_bytes r.path;
+  from_attribute =
+      r.is_from_path_attr;
+  domain = domain_shown r.domain;
+  expires = option_map string_bytes r.date;
+}
 
 abbrev pub unless : Bool → List Word → List (List Word)
 unless true words = []
@@ -123,15 +163,17 @@ pub record IsSound (d : Draft) : Type 0 where
 -- ---- steps
 
 -- One field more was read, up to the rest.
-pub record Adds (old : Draft) (text : List ℕ) (new : Draft) (unread : Option (Bor (List ℕ))) (rest : List ℕ) : Type 0 where
-  pub words : List Word
-  pub whole : IsWhole words
-  pub leads : (h : Grammar) → Leads (seq (left old) h) text words (seq (left_behind new) h) rest
-  pub order : IsPermutation (found old ++ words ∷ []) (found new)
-  pub marks : Marks (left old) text words (IsSound old → IsSound new) unread
+pub record Adds (old : Draft) (text : List ℕ) (new : Draft) (unread : Option (Bor (List ℕ))) (rest : List ℕ) : Type 0
+  where
+    pub words : List Word
+    pub whole : IsWhole words
+    pub leads : (h : Grammar) → Leads (seq (left old) h) text words (seq (left_behind new) h) rest
+    pub order : IsPermutation (found old ++ words ∷ []) (found new)
+    pub marks : Marks (left old) text words (IsSound old → IsSound new) unread
 
 -- The fields of the draft were read behind the text's beginning, and the others are left.
-pub record IsDrafted (g : Grammar) (text : List ℕ) (d : Draft) (unread : Option (Bor (List ℕ))) (k : Grammar) (rest : List ℕ) : Type 0 where
+pub record IsDrafted (g : Grammar) (text : List ℕ) (d : Draft) (unread : Option (Bor (List ℕ))) (k : Grammar)
+    (rest : List ℕ) : Type 0 where
   pub parts : List (List Word)
   pub order : IsPermutation (found d) parts
   pub whole : IsWhole (flat_map (λ f. f) parts)
@@ -139,7 +181,8 @@ pub record IsDrafted (g : Grammar) (text : List ℕ) (d : Draft) (unread : Optio
   pub marks : Marks g text (flat_map (λ f. f) parts) (IsSound d) unread
 
 -- A row was read behind the text's beginning.
-pub record IsRowRead (g : Grammar) (text : List ℕ) (d : Draft) (unread : Option (Bor (List ℕ))) (rest : List ℕ) : Type 0 where
+pub record IsRowRead (g : Grammar) (text : List ℕ) (d : Draft) (unread : Option (Bor (List ℕ))) (rest : List ℕ) : Type
+    0 where
   pub said : List Word
   pub says : SaysRow (drafted d) said
   pub whole : IsWhole said
@@ -149,7 +192,8 @@ pub record IsRowRead (g : Grammar) (text : List ℕ) (d : Draft) (unread : Optio
 -- ---- lists
 
 -- Rows were read behind the text's beginning, and k is left.
-pub record IsListed (text : List ℕ) (rows : List SavedRow) (unread : Option (Bor (List ℕ))) (k : Grammar) (rest : List ℕ) : Type 0 where
+pub record IsListed (text : List ℕ) (rows : List SavedRow) (unread : Option (Bor (List ℕ))) (k : Grammar)
+    (rest : List ℕ) : Type 0 where
   pub shown : List Shown
   pub said : List Word
   pub says : SaysRows shown said
@@ -158,7 +202,8 @@ pub record IsListed (text : List ℕ) (rows : List SavedRow) (unread : Option (B
   pub marks : Marks list text said (AreShown shown rows) unread
 
 -- A text is of the grammar and shows rows, or a string in it doesn't read.
-pub record IsListRead (g : Grammar) (text : List ℕ) (rows : List SavedRow) (unread : Option (Bor (List ℕ))) (rest : List ℕ) : Type 0 where
+pub record IsListRead (g : Grammar) (text : List ℕ) (rows : List SavedRow) (unread : Option (Bor (List ℕ)))
+    (rest : List ℕ) : Type 0 where
   pub shown : List Shown
   pub said : List Word
   pub says : SaysRows shown said

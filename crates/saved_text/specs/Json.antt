@@ -1,7 +1,19 @@
 -- Rows in JSON: the value that a row is, and the texts that are written.
 use Rattle.std.specs.Prelude.{◌≡◌, ℕ, List, [], ◌∷◌, ◌++◌, Bool, true, false, Option, Some, None, codes}
 use Rattle.json.specs.Print.{quoted}
-use Rattle.serde_json.specs.Data.{Data, boolean, string, array, object, Items, no_items, item, Members, no_members, member}
+use Rattle.serde_json.specs.Data.{
+  Data,
+  boolean,
+  string,
+  array,
+  object,
+  Items,
+  no_items,
+  item,
+  Members,
+  no_members,
+  member,
+}
 use Rattle.serde_json.specs.Read.{read}
 use Rattle.saved_text.specs.Row.{Shown, Domain, host_only, suffix, not_present, empty}
 
@@ -22,7 +34,9 @@ path_value r = array (item (string r.path) (item (boolean r.from_attribute) no_i
 
 -- a value's members stand in the order of their names
 abbrev pub row_value : Shown → Data
-row_value r = object (member (codes "domain") (domain_value r.domain) (member (codes "expires") (expires_value r.expires) (member (codes "path") (path_value r) (member (codes "raw_cookie") (string r.raw) no_members))))
+row_value r = object (member (codes "domain") (domain_value r.domain)
+    (member (codes "expires") (expires_value r.expires)
+    (member (codes "path") (path_value r) (member (codes "raw_cookie") (string r.raw) no_members))))
 
 abbrev pub rows_items : List Shown → Items
 rows_items [] = no_items
@@ -53,7 +67,11 @@ tagged_text tag text close = tag ++ (quoted text ++ close)
 
 -- one line
 abbrev pub row_text : Shown → List ℕ
-row_text r = codes "{\"raw_cookie\":" ++ (quoted r.raw ++ (codes ",\"path\":[" ++ (quoted r.path ++ (codes "," ++ (bool_text r.from_attribute ++ (codes "],\"domain\":" ++ (domain_text r.domain ++ (codes ",\"expires\":" ++ (expires_text r.expires ++ (codes "}"))))))))))
+row_text r = codes "{\"raw_cookie\":" ++
+    (quoted r.raw ++ (codes ",\"path\":[" ++
+    (quoted r.path ++ (codes "," ++
+    (bool_text r.from_attribute ++ (codes "],\"domain\":" ++
+    (domain_text r.domain ++ (codes ",\"expires\":" ++ (expires_text r.expires ++ (codes "}"))))))))))
 
 -- What is written of a row is read as that row.
 abbrev pub ReadsBack : Type 0
@@ -63,7 +81,8 @@ ReadsBack = (r : Shown) → read (row_text r) ≡ Some (row_value r)
 
 -- an object of the four members of a row
 abbrev pub four_members : Data → Data → Data → Data → Members
-four_members domain expires path raw = member (codes "domain") domain (member (codes "expires") expires (member (codes "path") path (member (codes "raw_cookie") raw no_members)))
+four_members domain expires path raw = member (codes "domain") domain
+    (member (codes "expires") expires (member (codes "path") path (member (codes "raw_cookie") raw no_members)))
 
 -- an object of one member
 abbrev pub one_member : List ℕ → Data → Members
@@ -82,10 +101,14 @@ expires_lines (Some date) = codes "{\n      \"AtUtc\": " ++ (quoted date ++ code
 expires_lines None = codes "\"SessionEnd\""
 
 abbrev pub path_lines : Shown → List ℕ
-path_lines r = codes "[\n      " ++ (quoted r.path ++ (codes ",\n      " ++ (bool_text r.from_attribute ++ codes "\n    ]")))
+path_lines r = codes "[\n      " ++
+    (quoted r.path ++ (codes ",\n      " ++ (bool_text r.from_attribute ++ codes "\n    ]")))
 
 abbrev pub row_lines : Shown → List ℕ
-row_lines r = codes "  {\n    \"raw_cookie\": " ++ (quoted r.raw ++ (codes ",\n    \"path\": " ++ (path_lines r ++ (codes ",\n    \"domain\": " ++ (domain_lines r.domain ++ (codes ",\n    \"expires\": " ++ (expires_lines r.expires ++ codes "\n  }")))))))
+row_lines r = codes "  {\n    \"raw_cookie\": " ++
+    (quoted r.raw ++ (codes ",\n    \"path\": " ++
+    (path_lines r ++ (codes ",\n    \"domain\": " ++
+    (domain_lines r.domain ++ (codes ",\n    \"expires\": " ++ (expires_lines r.expires ++ codes "\n  }")))))))
 
 abbrev pub more_lines : List Shown → List ℕ
 more_lines [] = codes "\n]"

@@ -12,4 +12,11 @@ domain_view part.NotPresent = not_present
 domain_view part.Empty = empty
 
 abbrev pub row_view : RowParts → Shown
-row_view r = record { raw = r.raw.now; path = r.path.now; from_attribute = r.from_attribute; domain = domain_view r.domain; expires = option_map (λ t. t.now) r.expires }
+row_view r = record {
+  raw = r.raw.now;
+  path = r.path.now;
+  from_attribute = r.from_attribute;
+  domain =
+      domain_view r.domain;
+  expires = option_map (λ t. t.now) r.expires;
+}

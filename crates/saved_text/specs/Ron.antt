@@ -28,7 +28,8 @@ name n = sign n · say (the_name n)
 
 -- behind a `\`
 abbrev pub escape : Grammar
-escape = one is_letter (λ b. named b ∷ []) or sign (codes "x") · number 2 2 0 or sign (codes "u{") · number 1 6 0 · sign (codes "}")
+escape = one is_letter (λ b. named b ∷ []) or sign (codes "x") · number 2 2 0 or sign (codes "u{") · number 1 6 0 ·
+    sign (codes "}")
 
 abbrev pub character : Grammar
 character = one is_plain (λ b. b ∷ []) or sign (codes "\\") · escape
@@ -52,7 +53,8 @@ abbrev pub bool : Grammar
 bool = name (codes "true") or name (codes "false")
 
 abbrev pub domain : Grammar
-domain = (name (codes "HostOnly") ▹ bracketed string) or (name (codes "Suffix") ▹ bracketed string) or name (codes "NotPresent") or name (codes "Empty")
+domain = (name (codes "HostOnly") ▹ bracketed string) or (name (codes "Suffix") ▹ bracketed string) or name
+    (codes "NotPresent") or name (codes "Empty")
 
 abbrev pub expires : Grammar
 expires = (name (codes "AtUtc") ▹ bracketed string) or name (codes "SessionEnd")
@@ -65,7 +67,8 @@ abbrev pub three : Grammar → Grammar → Grammar → Grammar
 three a b c = (a ▹ comma ▹ two b c) or (b ▹ comma ▹ two a c) or (c ▹ comma ▹ two a b)
 
 abbrev pub four : Grammar → Grammar → Grammar → Grammar → Grammar
-four a b c d = (a ▹ comma ▹ three b c d) or (b ▹ comma ▹ three a c d) or (c ▹ comma ▹ three a b d) or (d ▹ comma ▹ three a b c)
+four a b c d = (a ▹ comma ▹ three b c d) or (b ▹ comma ▹ three a c d) or (c ▹ comma ▹ three a b d) or
+    (d ▹ comma ▹ three a b c)
 
 abbrev pub raw_field : Grammar
 raw_field = field (codes "raw_cookie") string

@@ -1,5 +1,6 @@
 -- Rows that are read from texts of RON, and where a text stops to be read.
 use Rattle.std.specs.Prelude.{◌≡◌, ℕ, ◌⊎◌, List, [], ◌∷◌, ◌++◌, length, Some, codes}
+use Rattle.std.specs.List.{AllByRecursion}
 use Rattle.std.specs.Str.{IsCharBoundary, IsUtf8}
 use Rattle.saved_text.specs.Grammar.{Word, IsOf, IsLongestFront}
 use Rattle.saved_text.specs.Grammar.Word.{the_name, letter, the_end}
@@ -7,7 +8,7 @@ use Rattle.saved_text.specs.Ron.{string, ron}
 use Rattle.saved_text.specs.RowWords.{ShowsRon}
 use Rattle.saved_text.specs.Row.{Shown}
 use Rattle.saved_text.specs.Saved.{IsCookieText}
-use Rattle.saved_text.specs.JsonReading.{HasDeath, AreShown}
+use Rattle.saved_text.specs.JsonReading.{HasDeath, IsReadable, AreShown}
 use Rattle.saved_text.specs.Words.{string_words}
 use Rattle.saved_text.specs.declared.error.SavedTextError.{SavedTextError}
 use Rattle.saved_text.specs.declared.error.SavedTextError.TheVariants as fault
@@ -57,9 +58,17 @@ pub record IsUnreadAt (text : List ℕ) (n : ℕ) : Type 0 where
 abbrev pub ShowsRows : List ℕ → List SavedRow → Type 0
 ShowsRows text rows = (shown : List Shown) × ShowsRon text shown × AreShown shown rows
 
--- The text is of no RON, and its longest front has n bytes; or it is, and its first string that doesn't read stands at n.
+-- The text shows no rows, or a raw cookie or a date in it doesn't read.
+abbrev pub ShowsNoRows : List ℕ → Type 0
+ShowsNoRows text = (shown : List Shown) → ShowsRon text shown → ¬ AllByRecursion IsReadable shown
+
+-- The text is of no RON, and its longest front has n bytes, which are whole characters.
+abbrev pub IsOtherTextFrom : List ℕ → ℕ → Type 0
+IsOtherTextFrom text n = ((said : List Word) → ¬ IsOf ron text said) × IsLongestFront ron text n × IsCharBoundary text n
+
+-- No rows are read: the text stops at n to be one of RON, or its first string that doesn't read stands there.
 abbrev pub IsRonFaultAt : List ℕ → ℕ → Type 0
-IsRonFaultAt text n = (((said : List Word) → ¬ IsOf ron text said) × IsLongestFront ron text n × IsCharBoundary text n) ⊎ IsUnreadAt text n
+IsRonFaultAt text n = ShowsNoRows text × (IsOtherTextFrom text n ⊎ IsUnreadAt text n)
 
 -- Why a text isn't read.
 abbrev pub IsRonFault : List ℕ → SavedTextError → Type 0

@@ -24,7 +24,14 @@ expires_shown expiration.SessionEnd = None
 
 -- what is written of a row
 abbrev pub shown : SavedRow → Shown
-shown r = record { raw = string_bytes r.raw_cookie; path = string_bytes r.path; from_attribute = r.is_from_path_attr; domain = domain_shown r.domain; expires = expires_shown r.expires }
+shown r = record {
+  raw = string_bytes r.raw_cookie;
+  path = string_bytes r.path;
+  from_attribute =
+      r.is_from_path_attr;
+  domain = domain_shown r.domain;
+  expires = expires_shown r.expires;
+}
 
 -- the text reads as a cookie (RFC 6265, section 5.2)
 abbrev pub IsCookieText : List ℕ → Type 0

@@ -1,5 +1,21 @@
 -- How a string is written in RON.
-use Rattle.std.specs.Prelude.{◌≡◌, ℕ, ◌/◌, ◌%◌, ◌<◌, ◌||◌, ◌==◌, nat_lt, if◌then◌else◌, List, [], ◌∷◌, ◌++◌, flat_map, codes}
+use Rattle.std.specs.Prelude.{
+  ◌≡◌,
+  ℕ,
+  ◌/◌,
+  ◌%◌,
+  ◌<◌,
+  ◌||◌,
+  ◌==◌,
+  nat_lt,
+  if◌then◌else◌,
+  List,
+  [],
+  ◌∷◌,
+  ◌++◌,
+  flat_map,
+  codes,
+}
 use Rattle.std.specs.Char.{digit_char}
 use Rattle.std.specs.List.{AllByRecursion}
 use Rattle.saved_text.specs.Grammar.{IsOf}
@@ -12,10 +28,12 @@ hexadecimal b = if nat_lt b 16 then digit_char b ∷ [] else digit_char (b / 16)
 
 -- the letter of a short escape, or 0
 abbrev pub letter_of : ℕ → ℕ
-letter_of b = if b == 34 || b == 92 then b else (if b == 10 then 110 else (if b == 13 then 114 else (if b == 9 then 116 else 0)))
+letter_of b = if b == 34 || b == 92 then b else
+    (if b == 10 then 110 else (if b == 13 then 114 else (if b == 9 then 116 else 0)))
 
 abbrev pub written_byte : ℕ → List ℕ
-written_byte b = if nat_lt 0 (letter_of b) then 92 ∷ letter_of b ∷ [] else (if nat_lt b 32 || b == 127 then codes "\\u{" ++ hexadecimal b ++ codes "}" else b ∷ [])
+written_byte b = if nat_lt 0 (letter_of b) then 92 ∷ letter_of b ∷ [] else
+    (if nat_lt b 32 || b == 127 then codes "\\u{" ++ hexadecimal b ++ codes "}" else b ∷ [])
 
 abbrev pub quoted : List ℕ → List ℕ
 quoted s = 34 ∷ (flat_map written_byte s ++ 34 ∷ [])

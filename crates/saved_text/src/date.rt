@@ -11,7 +11,8 @@ use jiff::civil::{DateTime, datetime};
 ///
 /// `T` and `Z` are read in either case, a fraction has one to nine digits, and an offset is taken off.
 pub fn date_of(text: &str) -> Option<DateTime>
-    ensures { MatchOption result ((at : ℤ) → ¬ (spec.IsDateOf text.now at)) (λ d. spec.IsDateOf text.now (civil_nanos d)) }
+    ensures { MatchOption result ((at : ℤ) → ¬ (spec.IsDateOf text.now at))
+        (λ d. spec.IsDateOf text.now (civil_nanos d)) }
 {
     let (clock, rest) = text.as_bytes().split_at_checked(19)?;
     if !shows(clock, b"0000-00-00T00:00:00") {

@@ -121,7 +121,8 @@ pub(crate) fn is_cookie(text: &str) -> bool
 
 // The death at a date, or at the end of the session.
 pub(crate) fn death_of(date: Option<&str>) -> Option<SavedExpiration>
-    ensures { MatchOption result (¬ (HasDeath (option_map (λ t. t.now) date.entry))) (IsDeath (option_map (λ t. t.now) date.entry)) }
+    ensures { MatchOption result (¬ (HasDeath (option_map (λ t. t.now) date.entry)))
+        (IsDeath (option_map (λ t. t.now) date.entry)) }
 {
     match date {
         Some(text) => Some(SavedExpiration::AtUtc(date_of(text)?)),

@@ -29,7 +29,8 @@ pub struct RowParts<'a> {
 
 // The one member of a map, with its name.
 fn one_of<'a>(map: &'a Map<String, Value>) -> Option<(&'a str, &'a Value)>
-    ensures { MatchOption result ((name : _) (d : Data) → members_view map.now.entries ≢ one_member name d) (λ p. members_view map.now.entries ≡ one_member p.0.now (view p.1.now)) }
+    ensures { MatchOption result ((name : _) (d : Data) → members_view map.now.entries ≢ one_member name d)
+        (λ p. members_view map.now.entries ≡ one_member p.0.now (view p.1.now)) }
 {
     let mut members = map.iter();
     let (name, value) = members.next()?;
@@ -41,7 +42,8 @@ fn one_of<'a>(map: &'a Map<String, Value>) -> Option<(&'a str, &'a Value)>
 
 /// The four members of a row's object: domain, expires, path and raw cookie.
 fn four_of<'a>(map: &'a Map<String, Value>) -> Option<(&'a Value, &'a Value, &'a Value, &'a Value)>
-    ensures { MatchOption result ((a b c d : Data) → members_view map.now.entries ≢ four_members a b c d) (λ p. members_view map.now.entries ≡ four_members (view p.0.now) (view p.1.now) (view p.2.now) (view p.3.now)) }
+    ensures { MatchOption result ((a b c d : Data) → members_view map.now.entries ≢ four_members a b c d)
+        (λ p. members_view map.now.entries ≡ four_members (view p.0.now) (view p.1.now) (view p.2.now) (view p.3.now)) }
 {
     let mut members = map.iter();
     let (first, domain) = members.next()?;
@@ -62,7 +64,8 @@ fn four_of<'a>(map: &'a Map<String, Value>) -> Option<(&'a Value, &'a Value, &'a
 
 /// The domain that a value is.
 fn domain_of<'a>(value: &'a Value) -> Option<DomainPart<'a>>
-    ensures { MatchOption result ((d : domain) → view value.now ≢ domain_value d) (λ d. view value.now ≡ domain_value (domain_view d)) }
+    ensures { MatchOption result ((d : domain) → view value.now ≢ domain_value d)
+        (λ d. view value.now ≡ domain_value (domain_view d)) }
 {
     match value {
         Value::String(text) => match text.as_str() {
@@ -85,7 +88,8 @@ fn domain_of<'a>(value: &'a Value) -> Option<DomainPart<'a>>
 
 /// The expiry that a value is: a date's text, or the end of the session.
 fn expires_of<'a>(value: &'a Value) -> Option<Option<&'a str>>
-    ensures { MatchOption result ((e : Option (List ℕ)) → view value.now ≢ expires_value e) (λ e. view value.now ≡ expires_value (option_map (λ t. t.now) e)) }
+    ensures { MatchOption result ((e : Option (List ℕ)) → view value.now ≢ expires_value e)
+        (λ e. view value.now ≡ expires_value (option_map (λ t. t.now) e)) }
 {
     match value {
         Value::String(text) => {
@@ -110,7 +114,9 @@ fn expires_of<'a>(value: &'a Value) -> Option<Option<&'a str>>
 
 /// The path that a value is, and whether it is of an attribute.
 fn path_of<'a>(value: &'a Value) -> Option<(&'a str, bool)>
-    ensures { MatchOption result ((p : List ℕ) (b : Bool) → view value.now ≢ array (item (string p) (item (boolean b) no_items))) (λ p. view value.now ≡ array (item (string p.0.now) (item (boolean p.1) no_items))) }
+    ensures { MatchOption result ((p : List ℕ) (b : Bool)
+        → view value.now ≢ array (item (string p) (item (boolean b) no_items)))
+        (λ p. view value.now ≡ array (item (string p.0.now) (item (boolean p.1) no_items))) }
 {
     let mut items = value.as_array()?.iter();
     let path = items.next()?;
@@ -123,7 +129,8 @@ fn path_of<'a>(value: &'a Value) -> Option<(&'a str, bool)>
 
 /// The row that a value is.
 pub fn row_of<'a>(value: &'a Value) -> Option<RowParts<'a>>
-    ensures { MatchOption result ((r : Shown) → view value.now ≢ row_value r) (λ r. view value.now ≡ row_value (row_view r)) }
+    ensures { MatchOption result ((r : Shown) → view value.now ≢ row_value r)
+        (λ r. view value.now ≡ row_value (row_view r)) }
 {
     let (domain, expires, path, raw) = four_of(value.as_object()?)?;
     let (path, from_attribute) = path_of(path)?;

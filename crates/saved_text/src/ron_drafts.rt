@@ -88,7 +88,8 @@ fn read_field(
 
 // A row of which nothing was read.
 fn bare(alloc: Global) -> Draft
-    ensures { (result.lacks_raw_cookie ≡ true) × (result.lacks_path ≡ true) × (result.lacks_domain ≡ true) × (result.lacks_expires ≡ true) }
+    ensures { (result.lacks_raw_cookie ≡ true) × (result.lacks_path ≡ true) × (result.lacks_domain ≡ true)
+        × (result.lacks_expires ≡ true) }
 {
     Draft {
         raw_cookie: String::new(alloc),
@@ -105,7 +106,8 @@ fn bare(alloc: Global) -> Draft
 
 // Whether a field is missing.
 fn lacks_field(draft: &Draft) -> bool
-    ensures { result ≡ is_lacking draft.now.lacks_raw_cookie draft.now.lacks_path draft.now.lacks_domain draft.now.lacks_expires }
+    ensures { result ≡ is_lacking draft.now.lacks_raw_cookie draft.now.lacks_path draft.now.lacks_domain
+        draft.now.lacks_expires }
 {
     draft.lacks_raw_cookie || draft.lacks_path || draft.lacks_domain || draft.lacks_expires
 }

@@ -21,7 +21,8 @@ use std::alloc::Global;
 // What is behind a name and its colon.
 fn heading<'a>(text: &'a str, name: &[u8]) -> Result<&'a str, Stop<'a>>
     requires { AreAscii name.now }
-    ensures { MatchResult result (λ r. Takes (heading name.now) text.now (the_name name.now ∷ []) r.now) (StopsAs (heading name.now) text.now) }
+    ensures { MatchResult result (λ r. Takes (heading name.now) text.now (the_name name.now ∷ []) r.now)
+        (StopsAs (heading name.now) text.now) }
 {
     let rest = bytes_of(text, name)?;
     let rest = gap(rest);
@@ -42,7 +43,8 @@ fn read_bool(text: &str) -> Result<(bool, &str), Stop<'_>>
 
 // The path in brackets, whether an attribute gave it, and what is behind.
 fn read_path(alloc: Global, text: &str) -> Result<(String, bool, &str), Stop<'_>>
-    ensures { MatchResult result (λ p. Takes path text.now (string_words (string_bytes p.0) ++ bool_words p.1) p.2.now) (StopsAs path text.now) }
+    ensures { MatchResult result (λ p. Takes path text.now (string_words (string_bytes p.0) ++ bool_words p.1)
+        p.2.now) (StopsAs path text.now) }
 {
     let rest = sign_of(text, b'(')?;
     let rest = gap(rest);

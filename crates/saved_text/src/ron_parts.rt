@@ -46,7 +46,8 @@ pub(crate) fn begins(text: &str, byte: u8) -> bool
 // What is behind a byte that must stand first.
 pub(crate) fn sign_of(text: &str, byte: u8) -> Result<&str, Stop<'_>>
     requires { byte < 128 }
-    ensures { MatchResult result (λ r. Takes (sign (byte ∷ [])) text.now [] r.now) (StopsAs (sign (byte ∷ [])) text.now) }
+    ensures { MatchResult result (λ r. Takes (sign (byte ∷ [])) text.now [] r.now)
+        (StopsAs (sign (byte ∷ [])) text.now) }
 {
     match cut(text, byte) {
         Some(rest) => Ok(rest),
@@ -87,7 +88,8 @@ pub(crate) fn close(text: &str) -> Result<&str, Stop<'_>>
 
 // A string in brackets.
 fn bracketed_string(alloc: Global, text: &str) -> Result<(String, &str), Stop<'_>>
-    ensures { MatchResult result (λ p. Takes (bracketed string) text.now (string_words (string_bytes p.0)) p.1.now) (StopsAs (bracketed string) text.now) }
+    ensures { MatchResult result (λ p. Takes (bracketed string) text.now (string_words (string_bytes p.0)) p.1.now)
+        (StopsAs (bracketed string) text.now) }
 {
     let rest = sign_of(text, b'(')?;
     let rest = gap(rest);
@@ -104,7 +106,8 @@ fn tagged_string<'a>(
     tag: &[u8],
 ) -> Result<(String, &'a str), Stop<'a>>
     requires { AreAscii tag.now }
-    ensures { MatchResult result (λ p. Takes (tagged tag.now) text.now (the_name tag.now ∷ string_words (string_bytes p.0)) p.1.now) (StopsAs (tagged tag.now) text.now) }
+    ensures { MatchResult result (λ p. Takes (tagged tag.now) text.now
+        (the_name tag.now ∷ string_words (string_bytes p.0)) p.1.now) (StopsAs (tagged tag.now) text.now) }
 {
     let rest = bytes_of(text, tag)?;
     let rest = gap(rest);
@@ -113,7 +116,8 @@ fn tagged_string<'a>(
 
 /// The domain at the front of the text, and what is behind it.
 pub fn read_domain(alloc: Global, text: &str) -> Result<(SavedDomain, &str), Stop<'_>>
-    ensures { MatchResult result (λ p. Takes domain text.now (domain_words (domain_shown p.0)) p.1.now) (StopsAs domain text.now) }
+    ensures { MatchResult result (λ p. Takes domain text.now (domain_words (domain_shown p.0)) p.1.now)
+        (StopsAs domain text.now) }
 {
     if begins(text, b'H') {
         let (value, rest) = tagged_string(alloc, text, b"HostOnly")?;

@@ -17,9 +17,9 @@ use std::alloc::Global;
 ///
 /// # Errors
 ///
-/// `NotText` where the bytes aren't UTF-8, which is tested first; `Ron` with the length of the text's longest front of the
-/// grammar, where the text isn't of it, and else with the place of the first raw cookie or date in it that doesn't read;
-/// `OutOfMemory`.
+/// `NotText` where the bytes aren't UTF-8, which is tested first; `Ron` with the length of the longest front of the
+/// grammar, where the text isn't of it, and else with the place of the first raw cookie or date in it that doesn't
+/// read; `OutOfMemory`.
 pub fn rows_from_ron(alloc: Global, text: &[u8]) -> Result<Vec<SavedRow>, SavedTextError>
     ensures not_text { IsErrOf result fault.NotText ↔ (¬ (IsUtf8 text.now)) }
     ensures ok { IfOk result (λ rows. ShowsRows text.now rows.items) }
@@ -56,9 +56,9 @@ fn read_text<'a>(
 {
     let start = gap(text);
     let (unread, rest) = read_list(alloc, start, rows)?;
-    let rest = gap(rest);
-    if rest.is_empty() {
+    let end = gap(rest);
+    if end.is_empty() {
         return Ok(unread);
     }
-    Err(Stop::Here(rest))
+    Err(Stop::Here(end))
 }

@@ -77,7 +77,8 @@ fn digit(b: u8) -> Option<u32>
 // The digit at the front, and what is behind it.
 fn next_digit(text: &str) -> Option<(u32, &str)>
     ensures none { IfNone result (Undigited text.now) }
-    ensures some { IfSome result (λ p. (d : ℕ) × (text.now ≡ d ∷ p.1.now) × IsTrue (is_digit d) × (p.0 ≡ digit_value d) × (p.0 < 16)) }
+    ensures some { IfSome result (λ p. (d : ℕ) × (text.now ≡ d ∷ p.1.now) × IsTrue (is_digit d)
+        × (p.0 ≡ digit_value d) × (p.0 < 16)) }
 {
     match text.as_bytes() {
         [b, ..] => {
@@ -90,7 +91,8 @@ fn next_digit(text: &str) -> Option<(u32, &str)>
 
 // Two digits, and the character of their number.
 fn two_digits(text: &str) -> Result<(char, &str), Stop<'_>>
-    ensures { MatchResult result (λ p. Takes (number 2 2 0) text.now (letters (encode_utf8 p.0)) p.1.now) (StopsAs (number 2 2 0) text.now) }
+    ensures { MatchResult result (λ p. Takes (number 2 2 0) text.now (letters (encode_utf8 p.0)) p.1.now)
+        (StopsAs (number 2 2 0) text.now) }
 {
     let Some((high, rest)) = next_digit(text) else {
         return Err(Stop::Here(text));
@@ -104,7 +106,8 @@ fn two_digits(text: &str) -> Result<(char, &str), Stop<'_>>
 // A brace behind all digits of a number.
 fn closed(text: &str, left: u8, value: u32) -> Result<(char, &str), Stop<'_>>
     requires { IsEnd left text.now }
-    ensures { MatchResult result (λ p. Takes (Number left value) text.now (letters (encode_utf8 p.0)) p.1.now) (StopsAs (Number left value) text.now) }
+    ensures { MatchResult result (λ p. Takes (Number left value) text.now (letters (encode_utf8 p.0)) p.1.now)
+        (StopsAs (Number left value) text.now) }
 {
     match char::from_u32(value) {
         Some(c) => match cut(text, b'}') {
@@ -118,7 +121,8 @@ fn closed(text: &str, left: u8, value: u32) -> Result<(char, &str), Stop<'_>>
 // So many digits at most and a brace, behind digits that spell the value.
 fn more_digits(text: &str, left: u8, value: u32) -> Result<(char, &str), Stop<'_>>
     requires { value < limit left }
-    ensures { MatchResult result (λ p. Takes (Number left value) text.now (letters (encode_utf8 p.0)) p.1.now) (StopsAs (Number left value) text.now) }
+    ensures { MatchResult result (λ p. Takes (Number left value) text.now (letters (encode_utf8 p.0)) p.1.now)
+        (StopsAs (Number left value) text.now) }
 {
     if left == 0 {
         return closed(text, left, value);
@@ -135,7 +139,8 @@ fn more_digits(text: &str, left: u8, value: u32) -> Result<(char, &str), Stop<'_
 
 // From one to six digits and a brace.
 fn braced(text: &str) -> Result<(char, &str), Stop<'_>>
-    ensures { MatchResult result (λ p. Takes (seq (number 1 6 0) (sign (125 ∷ []))) text.now (letters (encode_utf8 p.0)) p.1.now) (StopsAs (seq (number 1 6 0) (sign (125 ∷ []))) text.now) }
+    ensures { MatchResult result (λ p. Takes (seq (number 1 6 0) (sign (125 ∷ []))) text.now
+        (letters (encode_utf8 p.0)) p.1.now) (StopsAs (seq (number 1 6 0) (sign (125 ∷ []))) text.now) }
 {
     match next_digit(text) {
         Some((digit, rest)) => more_digits(rest, 5, digit),
@@ -161,7 +166,8 @@ fn named(b: u8) -> Option<u8>
 // The byte that the letter at the front names, and what is behind it.
 fn next_letter(text: &str) -> Option<(u8, &str)>
     ensures none { IfNone result (Unlettered text.now) }
-    ensures some { IfSome result (λ p. (b : ℕ) × (text.now ≡ b ∷ p.1.now) × IsTrue (is_letter b) × (p.0 ≡ named b) × (p.0 < 128)) }
+    ensures some { IfSome result (λ p. (b : ℕ) × (text.now ≡ b ∷ p.1.now) × IsTrue (is_letter b) × (p.0 ≡ named b)
+        × (p.0 < 128)) }
 {
     match text.as_bytes() {
         [b, ..] => {
@@ -174,7 +180,8 @@ fn next_letter(text: &str) -> Option<(u8, &str)>
 
 // What stands behind a backslash.
 fn escaped(text: &str) -> Result<(char, &str), Stop<'_>>
-    ensures { MatchResult result (λ p. Takes escape text.now (letters (encode_utf8 p.0)) p.1.now) (StopsAs escape text.now) }
+    ensures { MatchResult result (λ p. Takes escape text.now (letters (encode_utf8 p.0)) p.1.now)
+        (StopsAs escape text.now) }
 {
     if let Some(rest) = cut(text, b'x') {
         return two_digits(rest);
@@ -223,7 +230,8 @@ fn plain_len(text: &[u8]) -> usize
 
 /// A string at the front of the text, and what is behind it.
 pub fn read_string(alloc: Global, text: &str) -> Result<(String, &str), Stop<'_>>
-    ensures { MatchResult result (λ p. Takes string text.now (letters (string_bytes p.0) ++ the_end ∷ []) p.1.now) (StopsAs string text.now) }
+    ensures { MatchResult result (λ p. Takes string text.now (letters (string_bytes p.0) ++ the_end ∷ []) p.1.now)
+        (StopsAs string text.now) }
 {
     let Some(mut rest) = cut(text, b'"') else {
         return Err(Stop::Here(text));

@@ -17,7 +17,11 @@ returns-in_err-rest c =
 pub returns-in_err-rest-2 : goal.returns-in_err-rest-2
 returns-in_err-rest-2 c =
     let p = err_from_is_err_and c.from_residual-in_err-rest-2.result c.from_residual-in_err-rest-2.ensures.1 in
-    rw (p.1, p.2) (StopsAs-tag_bracket (codes "AtUtc") c.args.text.now c.in_ok-rest.rest.now c.gap-rest.result.now _ c.in_ok-rest.ensures c.gap-rest.ensures c.in_err-rest-2.ensures)
+    rw (p.1, p.2) (StopsAs-tag_bracket (codes "AtUtc") c.args.text.now c.in_ok-rest.rest.now c.gap-rest.result.now _
+    c.in_ok-rest.ensures c.gap-rest.ensures c.in_err-rest-2.ensures)
 
 pub returns : goal.returns
-returns c = Goes-leads (tagged (codes "AtUtc")) (seq string (seq space closing)) c.args.text.now c.gap.result.now (the_name (codes "AtUtc") ∷ []) (tag_opens (codes "AtUtc") c.args.text.now c.in_ok-rest.rest.now c.gap-rest.result.now c.in_ok-rest-2.rest.now c.gap.result.now c.in_ok-rest.ensures c.gap-rest.ensures c.in_ok-rest-2.ensures c.gap.ensures)
+returns c = Goes-leads (tagged (codes "AtUtc")) (seq string (seq space closing)) c.args.text.now c.gap.result.now
+    (the_name (codes "AtUtc") ∷ [])
+    (tag_opens (codes "AtUtc") c.args.text.now c.in_ok-rest.rest.now c.gap-rest.result.now c.in_ok-rest-2.rest.now
+    c.gap.result.now c.in_ok-rest.ensures c.gap-rest.ensures c.in_ok-rest-2.ensures c.gap.ensures)

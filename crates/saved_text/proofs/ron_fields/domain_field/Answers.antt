@@ -12,4 +12,6 @@ returns-in_err-rest c =
     rw (p.1, p.2) (StopsAs-field (codes "domain") domain c.args.text.now _ c.in_err-rest.ensures)
 
 pub returns : goal.returns
-returns c = result_field (codes "domain") domain (λ p. domain_words (domain_shown p.0)) (λ p. p.1.now) c.args.text.now c.in_ok-rest.rest.now c.gap-rest.result.now c.read_domain.result refl refl c.in_ok-rest.ensures c.gap-rest.ensures c.read_domain.ensures
+returns c = result_field (codes "domain") domain (λ p. domain_words (domain_shown p.0)) (λ p. p.1.now) c.args.text.now
+    c.in_ok-rest.rest.now c.gap-rest.result.now c.read_domain.result refl refl c.in_ok-rest.ensures c.gap-rest.ensures
+    c.read_domain.ensures

@@ -10,4 +10,5 @@ returns-in_err-rest c =
     rw (p.1, p.2) (StopsAs-field (codes "expires") expires c.args.text.now _ c.in_err-rest.ensures)
 
 pub returns : goal.returns
-returns c = result_expires c.args.text.now c.in_ok-rest.rest.now c.gap-rest.result.now c.read_expires.result c.in_ok-rest.ensures c.gap-rest.ensures c.read_expires.ensures
+returns c = result_expires c.args.text.now c.in_ok-rest.rest.now c.gap-rest.result.now c.read_expires.result
+    c.in_ok-rest.ensures c.gap-rest.ensures c.read_expires.ensures

@@ -12,4 +12,7 @@ returns-in_err-rest c =
     rw (p.1, p.2) (StopsAs-heading c.args.name.now c.args.text.now _ c.in_err-rest.ensures)
 
 pub returns : goal.returns
-returns c = result_rest_behind (heading c.args.name.now) (sign (codes ":")) c.args.text.now c.gap-rest.result.now (the_name c.args.name.now ∷ []) c.sign_of.result (heading_opens c.args.name.now c.args.text.now c.in_ok-rest.rest.now c.gap-rest.result.now c.in_ok-rest.ensures c.gap-rest.ensures) c.sign_of.ensures
+returns c = result_rest_behind (heading c.args.name.now) (sign (codes ":")) c.args.text.now c.gap-rest.result.now
+    (the_name c.args.name.now ∷ []) c.sign_of.result
+    (heading_opens c.args.name.now c.args.text.now c.in_ok-rest.rest.now c.gap-rest.result.now c.in_ok-rest.ensures
+    c.gap-rest.ensures) c.sign_of.ensures

@@ -12,4 +12,6 @@ returns-in_err-rest c =
     rw (p.1, p.2) (StopsAs-field (codes "path") path c.args.text.now _ c.in_err-rest.ensures)
 
 pub returns : goal.returns
-returns c = result_field (codes "path") path (λ p. string_words (string_bytes p.0) ++ bool_words p.1) (λ p. p.2.now) c.args.text.now c.in_ok-rest.rest.now c.gap-rest.result.now c.read_path.result refl refl c.in_ok-rest.ensures c.gap-rest.ensures c.read_path.ensures
+returns c = result_field (codes "path") path (λ p. string_words (string_bytes p.0) ++ bool_words p.1) (λ p. p.2.now)
+    c.args.text.now c.in_ok-rest.rest.now c.gap-rest.result.now c.read_path.result refl refl c.in_ok-rest.ensures
+    c.gap-rest.ensures c.read_path.ensures

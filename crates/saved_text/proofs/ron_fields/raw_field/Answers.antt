@@ -14,16 +14,22 @@ returns-in_err-rest c =
 pub returns-in_err-value : goal.returns-in_err-value
 returns-in_err-value c =
     let p = err_from_is_err_and c.from_residual-in_err-value.result c.from_residual-in_err-value.ensures.1 in
-    rw (p.1, p.2) (StopsAs-raw c.args.text.now c.in_ok-rest.rest.now c.gap-quote.result.now _ c.in_ok-rest.ensures c.gap-quote.ensures c.in_err-value.ensures)
+    rw (p.1, p.2) (StopsAs-raw c.args.text.now c.in_ok-rest.rest.now c.gap-quote.result.now _ c.in_ok-rest.ensures
+    c.gap-quote.ensures c.in_err-value.ensures)
 
 pub returns-then-is_cookie : goal.returns-then-is_cookie
 returns-then-is_cookie c =
-    let reads = subst IsCookieText c.as_str.ensures.value (c.if-is_cookie.ensures.0 refl) in
-    (raw_taken c.args.text.now c.in_ok-rest.rest.now c.gap-quote.result.now c.in_ok-value.rest.now (string_bytes c.in_ok-value.value) c.in_ok-rest.ensures c.gap-quote.ensures c.in_ok-value.ensures, (raw_read (string_bytes c.in_ok-value.value) reads, reads))
+    let reads = subst IsCookieText c.as_str.ensures.value (c.if-is_cookie.ensures.0 refl) in (
+      raw_taken c.args.text.now c.in_ok-rest.rest.now c.gap-quote.result.now c.in_ok-value.rest.now
+          (string_bytes c.in_ok-value.value) c.in_ok-rest.ensures c.gap-quote.ensures c.in_ok-value.ensures,
+      (raw_read (string_bytes c.in_ok-value.value) reads, reads),
+    )
 
 pub returns : goal.returns
 returns c = (
-  raw_taken c.args.text.now c.in_ok-rest.rest.now c.gap-quote.result.now c.in_ok-value.rest.now (string_bytes c.in_ok-value.value) c.in_ok-rest.ensures c.gap-quote.ensures c.in_ok-value.ensures,
-  raw_unread c.args.text.now c.in_ok-rest.rest.now c.gap-quote.result.now c.in_ok-value.rest.now (string_bytes c.in_ok-value.value) c.in_ok-rest.ensures c.gap-quote.ensures c.in_ok-value.ensures
+  raw_taken c.args.text.now c.in_ok-rest.rest.now c.gap-quote.result.now c.in_ok-value.rest.now
+      (string_bytes c.in_ok-value.value) c.in_ok-rest.ensures c.gap-quote.ensures c.in_ok-value.ensures,
+  raw_unread c.args.text.now c.in_ok-rest.rest.now c.gap-quote.result.now c.in_ok-value.rest.now
+      (string_bytes c.in_ok-value.value) c.in_ok-rest.ensures c.gap-quote.ensures c.in_ok-value.ensures
       (λ h. false≢true (c.if-is_cookie.ensures.1 (subst IsCookieText (sym c.as_str.ensures.value) h))),
 )

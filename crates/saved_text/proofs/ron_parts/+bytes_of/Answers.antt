@@ -5,4 +5,6 @@ pub returns-in-empty : goal.returns-in-empty
 returns-in-empty t c = word_ends c.args.bytes.now c.args.text.now c.in-empty.len_below
 
 pub returns-in-Some : goal.returns-in-Some
-returns-in-Some t c = result_rest _ _ c.args.text.now c.in-Some.rest.now c.bytes_of.result (word_on c.args.bytes.now c.args.text.now c.in-Some.rest.now c.in-len1-up.len_at_least c.in-Some.ensures.some) c.bytes_of.ensures
+returns-in-Some t c = result_rest _ _ c.args.text.now c.in-Some.rest.now c.bytes_of.result
+    (word_on c.args.bytes.now c.args.text.now c.in-Some.rest.now c.in-len1-up.len_at_least c.in-Some.ensures.some)
+    c.bytes_of.ensures

@@ -8,4 +8,5 @@ returns-in_err-rest c =
     rw (p.1, p.2) (StopsAs-tag c.args.tag.now c.args.text.now _ c.in_err-rest.ensures)
 
 pub returns : goal.returns
-returns c = result_tagged c.args.tag.now c.args.text.now c.in_ok-rest.rest.now c.gap-rest.result.now c.bracketed_string.result c.in_ok-rest.ensures c.gap-rest.ensures c.bracketed_string.ensures
+returns c = result_tagged c.args.tag.now c.args.text.now c.in_ok-rest.rest.now c.gap-rest.result.now
+    c.bracketed_string.result c.in_ok-rest.ensures c.gap-rest.ensures c.bracketed_string.ensures

@@ -10,7 +10,11 @@ returns-in_err-unread c =
     rw (p.1, p.2) (list_stops c.args.text.now c.gap-start.result.now _ c.gap-start.ensures c.in_err-unread.ensures)
 
 pub returns-then-is_empty : goal.returns-then-is_empty
-returns-then-is_empty c = text_read c.args.text.now c.gap-start.result.now c.in_ok-unread.rest.now c.gap-rest.result.now c.read_list.new.rows.items c.in_ok-unread.unread c.gap-start.ensures c.in_ok-unread.ensures c.gap-rest.ensures (eqb-true (length c.gap-rest.result.now) 0 (sym c.if-is_empty.ensures))
+returns-then-is_empty c = text_read c.args.text.now c.gap-start.result.now c.in_ok-unread.rest.now
+    c.gap-end.result.now c.read_list.new.rows.items c.in_ok-unread.unread c.gap-start.ensures c.in_ok-unread.ensures
+    c.gap-end.ensures (eqb-true (length c.gap-end.result.now) 0 (sym c.if-is_empty.ensures))
 
 pub returns : goal.returns
-returns c = text_stops c.args.text.now c.gap-start.result.now c.in_ok-unread.rest.now c.gap-rest.result.now c.read_list.new.rows.items c.in_ok-unread.unread c.gap-start.ensures c.in_ok-unread.ensures c.gap-rest.ensures (eqb-false (length c.gap-rest.result.now) 0 (sym c.if-is_empty.ensures))
+returns c = text_stops c.args.text.now c.gap-start.result.now c.in_ok-unread.rest.now c.gap-end.result.now
+    c.read_list.new.rows.items c.in_ok-unread.unread c.gap-start.ensures c.in_ok-unread.ensures c.gap-end.ensures
+    (eqb-false (length c.gap-end.result.now) 0 (sym c.if-is_empty.ensures))

@@ -3,4 +3,5 @@ use Rattle.saved_text.specs.RonReading.{ShowsRows}
 use Rattle.saved_text.proofs.ron_read.rows_from_ron.Goals as goal
 
 pub returns-in-Ok-clause-ok : goal.returns-in-Ok-clause-ok
-returns-in-Ok-clause-ok c = subst (λ t. IfOk c.rows_of.result (λ rows. ShowsRows t rows.items)) c.in-Ok.ensures.cases.0 c.rows_of.ensures.ok
+returns-in-Ok-clause-ok c = subst (λ t. IfOk c.rows_of.result (λ rows. ShowsRows t rows.items))
+    c.in-Ok.ensures.cases.0 c.rows_of.ensures.ok
