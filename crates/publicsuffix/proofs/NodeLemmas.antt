@@ -284,7 +284,8 @@ module _ (nodes : List Node) (heads : List ℕ) (at : ℕ) (grown : IsGrown node
 
     wildcard_here : wildcard_at more at ≡ Some (length nodes)
     wildcard_here =
-        wildcard_before now leaf at (omega (arith, within, size)) ∙ wildcard_get now at new (omega (arith, within, size))
+        wildcard_before now leaf at (omega (arith, within, size))
+        ∙ wildcard_get now at new (omega (arith, within, size))
         ∙ ap (λ n. n.wildcard) (get_or-set_same nodes at new new within) ∙ has.wildcard
 
     wildcard_other : (i : ℕ) → i < length nodes → i ≢ at → wildcard_at more i ≡ wildcard_at nodes i
@@ -382,7 +383,8 @@ wildcard_set nodes at old new within is same i less =
     let size : length (set nodes at new) ≡ length nodes = length-set nodes at new in
     elim (cases_eq i at) [
       | inl here ↦
-          ap (wildcard_at (set nodes at new)) here ∙ wildcard_get (set nodes at new) at new (omega (arith, within, size))
+          ap (wildcard_at (set nodes at new)) here
+          ∙ wildcard_get (set nodes at new) at new (omega (arith, within, size))
           ∙ ap (λ n. n.wildcard) (get_or-set_same nodes at new new within) ∙ same ∙ ap (λ n. n.wildcard) is
           ∙ sym (wildcard_get nodes at old within) ∙ ap (wildcard_at nodes) (sym here)
       | inr other ↦
@@ -519,7 +521,8 @@ pub IsLinked-marked : (nodes : List Node) (heads : List ℕ) (at : ℕ) (old new
 IsLinked-marked nodes heads at old new kind is marks linked =
     subst (λ es. Linked (length heads) es (nexts_of (set nodes at new)) heads)
     (sym (edges_set nodes at old new is marks.up))
-    (subst (λ ns. Linked (length heads) (edges_of nodes) ns heads) (sym (nexts_set nodes at old new is marks.link)) linked)
+    (subst (λ ns. Linked (length heads) (edges_of nodes) ns heads)
+    (sym (nexts_set nodes at old new is marks.link)) linked)
 
 pub Marks-plain : (old new : Node) → new.up ≡ old.up → new.next ≡ old.next → new.wildcard ≡ old.wildcard
     → new.exception ≡ old.exception → new.plain ≡ true → Marks old new false

@@ -316,7 +316,8 @@ Linked-root size heads some none = record {
   nexts = λ i less fits. absurd (unbound i less fits);
 }
   where
-    root_only : (j i : ℕ) (l : Label) → j < 1 → ◌≡◌ {A = Option (ℕ × Label)} (get_or (None ∷ []) j None) (Some (i, l)) → ⊥
+    root_only : (j i : ℕ) (l : Label) → j < 1
+        → ◌≡◌ {A = Option (ℕ × Label)} (get_or (None ∷ []) j None) (Some (i, l)) → ⊥
     root_only zero i l less is =
         let edge : ℕ × Label = (i, l) in
         none-some edge is

@@ -125,7 +125,8 @@ unfoldable pub nexts_of : List Node → List ℕ
 nexts_of nodes = map (λ n. n.next) nodes
 
 abbrev pub IsLinked : Tree → Type 0
-IsLinked tree = Linked (length tree.heads.items) (edges_of tree.nodes.items) (nexts_of tree.nodes.items) tree.heads.items
+IsLinked tree =
+    Linked (length tree.heads.items) (edges_of tree.nodes.items) (nexts_of tree.nodes.items) tree.heads.items
 
 -- a node with nothing below it, which is no rule
 pub record IsLeaf (node : Node) (up : Option (ℕ × Label)) (link : ℕ) : Type 0 where

@@ -16,7 +16,8 @@ loop-next-init c =
     c.args.text.now c.requires.linked in
     let place : c.index-next.result.now ≡ get_or heads bucket 0 =
     c.index-next.ensures ∙ ap (λ b. get_or heads b c.index-next.result.now) c.requires.falls
-    ∙ get_or_default heads bucket c.index-next.result.now 0 (mod-lt (hashed c.args.at c.args.text.now) c.requires.linked.some) in
+    ∙ get_or_default heads bucket c.index-next.result.now 0
+    (mod-lt (hashed c.args.at c.args.text.now) c.requires.linked.some) in
     subst (IsAlong (edges_of tree.nodes.items) (length heads) c.args.at c.args.text.now) (sym place) along
 
 pub index-node-requires : goal.index-node-requires

@@ -11,7 +11,8 @@ returns-clause-grown c = rw (c.in_ok-push.ensures.items, c.new-nodes.ensures.ite
 pub returns-clause-linked : goal.returns-clause-linked
 returns-clause-linked c =
     let heads = c.in_ok-heads.heads.items in
-    let zeros : heads ≡ replicate {A = ℕ} c.args.buckets 0 = c.in_ok-heads.ensures.items_if_clones_equal (λ y same. same) in
+    let zeros : heads ≡ replicate {A = ℕ} c.args.buckets 0 =
+    c.in_ok-heads.ensures.items_if_clones_equal (λ y same. same) in
     let long : length (replicate {A = ℕ} c.args.buckets 0) ≡ c.args.buckets = length-replicate c.args.buckets 0 in
     rw (c.in_ok-push.ensures.items, c.new-nodes.ensures.items)
     (root_linked c.new.result heads c.new.ensures (omega (arith, ap length zeros, long, c.requires))
