@@ -1,18 +1,18 @@
 -- Words say one list of rows at most.
-use Rattle.std.specs.Prelude.{Bool, true, false, IsTrue, not, ◌||◌, Option, Some, None, codes, flat_map, map}
+use Rattle.std.specs.Prelude.{Bool, true, false, IsTrue, ◌||◌, Option, Some, None, codes, flat_map}
 use Rattle.std.specs.Str.{bytes_eq}
-use Rattle.std.proofs.Common.{◌≡◌, ℕ, ◌++◌, List, [], ◌∷◌, refl, sym, ap, ◌∙◌, arith, subst, append_assoc, length}
+use Rattle.std.proofs.Common.{◌≡◌, ℕ, ◌++◌, List, [], ◌∷◌, refl, sym, ap, ◌∙◌, arith, subst, length}
 use Rattle.std.proofs.lemmas.List.{append-nil}
 use Rattle.std.proofs.lemmas.Grind.{flat_map-append}
 use Rattle.std.proofs.lemmas.Bool.{false≢true}
-use Rattle.std.specs.List.{All, AllByRecursion}
+use Rattle.std.specs.List.{AllByRecursion}
 use Rattle.std.specs.List.Sorted.{IsPermutation}
 use Rattle.std.proofs.lemmas.List.Elements.{All-from_recursion, recursion_from_All}
 use Rattle.std.proofs.lemmas.List.Sorted.{All-permutation, IsPermutation-sym, IsPermutation-trans, length_permutation}
-use Rattle.saved_text.specs.Grammar.{Word, letters}
+use Rattle.saved_text.specs.Grammar.{Word}
 use Rattle.saved_text.specs.Grammar.Word.{the_name, letter, the_end}
 use Rattle.saved_text.specs.Row.{Shown, Domain, host_only, suffix, not_present, empty}
-use Rattle.saved_text.specs.RowWords.{SaysRow, SaysRows, field_words, bool_words, expires_words}
+use Rattle.saved_text.specs.RowWords.{SaysRows, field_words, bool_words, expires_words}
 use Rattle.saved_text.specs.Words.{string_words, domain_words}
 use Rattle.saved_text.specs.Drafts.{raw_words, path_words, words_of_domain, words_of_date}
 use Rattle.saved_text.proofs.StepLemmas.{head_same}
@@ -88,8 +88,8 @@ date_one None None e = refl
 path_one : (x y : List ℕ) (a b : Bool) → path_words x a ≡ path_words y b → (x ≡ y) × (a ≡ b)
 path_one x y a b e =
     let r = string_one x y (bool_words a) (bool_words b)
-        (same_tail (the_name (codes "path")) (the_name (codes "path")) (string_words x ++ bool_words a)
-        (string_words y ++ bool_words b) e) in
+    (same_tail (the_name (codes "path")) (the_name (codes "path")) (string_words x ++ bool_words a)
+    (string_words y ++ bool_words b) e) in
     (r.0, bool_one a b r.1)
 
 -- ---- fields, of which one ends where the next begins
@@ -175,33 +175,63 @@ date_within (Some t) = (refl, string_within t)
 date_within None = (refl, tt)
 
 are_fields : (t : Shown) → AllByRecursion IsField (field_words t)
-are_fields t = ((refl, string_within t.raw),
-    ((refl, within_both (string_words t.path) (bool_words t.from_attribute) (string_within t.path)
-    (bool_within t.from_attribute)), ((refl, domain_within t.domain), ((refl, date_within t.expires), tt))))
+are_fields t = (
+  (refl, string_within t.raw),
+  (
+    (
+      refl,
+      within_both (string_words t.path) (bool_words t.from_attribute) (string_within t.path)
+          (bool_within t.from_attribute),
+    ),
+    ((refl, domain_within t.domain), ((refl, date_within t.expires), tt)),
+  ),
+)
 
 -- the field of this name is this one
 abbrev IsThe : List ℕ → List Word → List Word → Type 0
 IsThe n words f = (w : List Word) → f ≡ the_name n ∷ w → f ≡ words
 
 all_raw : (t : Shown) → AllByRecursion (IsThe (codes "raw_cookie") (raw_words t.raw)) (field_words t)
-all_raw t = (λ w e. refl, (λ w e. absurd (other_name 112 114 _ _ _ _ (λ d. omega (arith, d)) e),
-    (λ w e. absurd (other_name 100 114 _ _ _ _ (λ d. omega (arith, d)) e),
-    (λ w e. absurd (other_name 101 114 _ _ _ _ (λ d. omega (arith, d)) e), tt))))
+all_raw t = (
+  λ w e. refl,
+  (
+    λ w e. absurd (other_name 112 114 _ _ _ _ (λ d. omega (arith, d)) e),
+    (
+      λ w e. absurd (other_name 100 114 _ _ _ _ (λ d. omega (arith, d)) e),
+      (λ w e. absurd (other_name 101 114 _ _ _ _ (λ d. omega (arith, d)) e), tt),
+    ),
+  ),
+)
 
 all_path : (t : Shown) → AllByRecursion (IsThe (codes "path") (path_words t.path t.from_attribute)) (field_words t)
-all_path t = (λ w e. absurd (other_name 114 112 _ _ _ _ (λ d. omega (arith, d)) e),
-    (λ w e. refl, (λ w e. absurd (other_name 100 112 _ _ _ _ (λ d. omega (arith, d)) e),
-    (λ w e. absurd (other_name 101 112 _ _ _ _ (λ d. omega (arith, d)) e), tt))))
+all_path t = (
+  λ w e. absurd (other_name 114 112 _ _ _ _ (λ d. omega (arith, d)) e),
+  (
+    λ w e. refl,
+    (
+      λ w e. absurd (other_name 100 112 _ _ _ _ (λ d. omega (arith, d)) e),
+      (λ w e. absurd (other_name 101 112 _ _ _ _ (λ d. omega (arith, d)) e), tt),
+    ),
+  ),
+)
 
 all_domain : (t : Shown) → AllByRecursion (IsThe (codes "domain") (words_of_domain t.domain)) (field_words t)
-all_domain t = (λ w e. absurd (other_name 114 100 _ _ _ _ (λ d. omega (arith, d)) e),
-    (λ w e. absurd (other_name 112 100 _ _ _ _ (λ d. omega (arith, d)) e),
-    (λ w e. refl, (λ w e. absurd (other_name 101 100 _ _ _ _ (λ d. omega (arith, d)) e), tt))))
+all_domain t = (
+  λ w e. absurd (other_name 114 100 _ _ _ _ (λ d. omega (arith, d)) e),
+  (
+    λ w e. absurd (other_name 112 100 _ _ _ _ (λ d. omega (arith, d)) e),
+    (λ w e. refl, (λ w e. absurd (other_name 101 100 _ _ _ _ (λ d. omega (arith, d)) e), tt)),
+  ),
+)
 
 all_date : (t : Shown) → AllByRecursion (IsThe (codes "expires") (words_of_date t.expires)) (field_words t)
-all_date t = (λ w e. absurd (other_name 114 101 _ _ _ _ (λ d. omega (arith, d)) e),
-    (λ w e. absurd (other_name 112 101 _ _ _ _ (λ d. omega (arith, d)) e),
-    (λ w e. absurd (other_name 100 101 _ _ _ _ (λ d. omega (arith, d)) e), (λ w e. refl, tt))))
+all_date t = (
+  λ w e. absurd (other_name 114 101 _ _ _ _ (λ d. omega (arith, d)) e),
+  (
+    λ w e. absurd (other_name 112 101 _ _ _ _ (λ d. omega (arith, d)) e),
+    (λ w e. absurd (other_name 100 101 _ _ _ _ (λ d. omega (arith, d)) e), (λ w e. refl, tt)),
+  ),
+)
 
 turned : (P : List Word → Type 0) (t u : Shown) → IsPermutation (field_words t) (field_words u)
     → AllByRecursion P (field_words t) → AllByRecursion P (field_words u)
@@ -212,19 +242,19 @@ row_one : (t u : Shown) → IsPermutation (field_words t) (field_words u) → t 
 row_one t u p =
     let raw = (turned (IsThe (codes "raw_cookie") (raw_words t.raw)) t u p (all_raw t)).0 (string_words u.raw) refl in
     let path = (turned (IsThe (codes "path") (path_words t.path t.from_attribute)) t u p (all_path t)).1.0
-        (string_words u.path ++ bool_words u.from_attribute) refl in
+    (string_words u.path ++ bool_words u.from_attribute) refl in
     let domain = (turned (IsThe (codes "domain") (words_of_domain t.domain)) t u p (all_domain t)).1.1.0
-        (domain_words u.domain) refl in
+    (domain_words u.domain) refl in
     let date = (turned (IsThe (codes "expires") (words_of_date t.expires)) t u p (all_date t)).1.1.1.0
-        (expires_words u.expires) refl in
+    (expires_words u.expires) refl in
     let a = tagged_one (codes "raw_cookie") t.raw u.raw (sym raw) in
     let b = path_one t.path u.path t.from_attribute u.from_attribute (sym path) in
     let c = domain_one t.domain u.domain
-        (same_tail (the_name (codes "domain")) (the_name (codes "domain")) (domain_words t.domain)
-        (domain_words u.domain) (sym domain)) in
+    (same_tail (the_name (codes "domain")) (the_name (codes "domain")) (domain_words t.domain)
+    (domain_words u.domain) (sym domain)) in
     let d = date_one t.expires u.expires
-        (same_tail (the_name (codes "expires")) (the_name (codes "expires")) (expires_words t.expires)
-        (expires_words u.expires) (sym date)) in
+    (same_tail (the_name (codes "expires")) (the_name (codes "expires")) (expires_words t.expires)
+    (expires_words u.expires) (sym date)) in
     λ i. record { raw = a i; path = b.0 i; from_attribute = b.1 i; domain = c i; expires = d i }
 
 -- ---- rows, of four fields each
@@ -246,10 +276,13 @@ grouped [] said e = ([], e, tt, refl)
 grouped (t ∷ ts) said s =
     let g = grouped ts s.1 s.3 in
     let a : AllByRecursion IsField s.2.0 = recursion_from_All IsField s.2.0
-        (All-permutation IsField (field_words t) s.2.0 s.2.1
-        (All-from_recursion IsField (field_words t) (are_fields t))) in
-    (s.2.0 ++ g.0, s.4 ∙ (λ i. s.2.2 i ++ g.1 i) ∙ sym (flat_map-append (λ f. f) s.2.0 g.0),
-        fields_both s.2.0 g.0 a g.2, (s.2.0, g.0, s.2.1, g.3, refl))
+    (All-permutation IsField (field_words t) s.2.0 s.2.1
+    (All-from_recursion IsField (field_words t) (are_fields t))) in (
+      s.2.0 ++ g.0,
+      s.4 ∙ (λ i. s.2.2 i ++ g.1 i) ∙ sym (flat_map-append (λ f. f) s.2.0 g.0),
+      fields_both s.2.0 g.0 a g.2,
+      (s.2.0, g.0, s.2.1, g.3, refl),
+    )
 
 four_each : (a b c d : List (List Word)) → length a ≡ length c → a ++ b ≡ c ++ d → (a ≡ c) × (b ≡ d)
 four_each [] b [] d l e = (refl, e)
@@ -262,6 +295,7 @@ four_each (f ∷ a) b (g ∷ c) d l e =
   where
     first_same : (x y : List Word) (v w : List (List Word)) → x ∷ v ≡ y ∷ w → x ≡ y
     first_same x y v w q = cc
+
     rest_same : (x y : List Word) (v w : List (List Word)) → x ∷ v ≡ y ∷ w → v ≡ w
     rest_same x y v w q = cc
 
@@ -278,11 +312,11 @@ groups_one [] (u ∷ us) fs g h = absurd (no_group u h.0 h.1 h.2 (sym h.4 ∙ g)
 groups_one (t ∷ ts) [] fs g h = absurd (no_group t g.0 g.1 g.2 (sym g.4 ∙ h))
 groups_one (t ∷ ts) (u ∷ us) fs g h =
     let l : length g.0 ≡ length h.0 = length_permutation (field_words t) g.0 g.2
-        ∙ sym (length_permutation (field_words u) h.0 h.2) in
+    ∙ sym (length_permutation (field_words u) h.0 h.2) in
     let e = four_each g.0 g.1 h.0 h.1 l (sym g.4 ∙ h.4) in
     let p : IsPermutation (field_words t) h.0 = subst (IsPermutation (field_words t)) e.0 g.2 in
     let same = row_one t u (IsPermutation-trans (field_words t) h.0 (field_words u) p
-        (IsPermutation-sym (field_words u) h.0 h.2)) in
+    (IsPermutation-sym (field_words u) h.0 h.2)) in
     let more = groups_one ts us h.1 (subst (Grouped ts) e.1 g.3) h.3 in
     λ i. same i ∷ more i
 

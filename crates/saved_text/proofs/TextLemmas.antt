@@ -181,7 +181,7 @@ shows_none text q u shown h a =
 pub text_rows : (text : List ℕ) (rows : List SavedRow) → IsTextRead text rows None → ShowsRows text rows
 text_rows text rows i =
     let only : (others : List Shown) → ShowsRon text others → others ≡ i.shown =
-        λ others h. rows_one others i.shown i.said (subst (SaysRows others) (i.only h.0 h.1) h.2) i.says in
+    λ others h. rows_one others i.shown i.said (subst (SaysRows others) (i.only h.0 h.1) h.2) i.says in
     (i.shown, ((i.said, i.is, i.says), only), i.marks.1)
 
 pub text_unread : (text : List ℕ) (rows : List SavedRow) (q : Bor (List ℕ)) → IsTextRead text rows (Some q)
