@@ -13,6 +13,7 @@ mod PickLemmas
 mod DraftLemmas
 mod RowsLemmas
 mod ReadableLemmas
+mod OneLemmas
 mod TextLemmas
 mod JsonLemmas
 mod FeedLemmas

@@ -34,16 +34,25 @@ unescaped_text [] h = refl
 unescaped_text (b ∷ p) h = λ i. h.0 i ++ unescaped_text p h.1 i
 
 -- one run more is written, and the byte behind it
-pub more_escaped : (done rest same behind next : List ℕ) (b : ℕ) (mid last whole : List ℕ) → done ++ flat_map escape_byte rest ≡ whole → rest ≡ same ++ behind → AreUnescaped same → behind ≡ b ∷ next
+pub more_escaped : (done rest same behind next : List ℕ) (b : ℕ) (mid last whole : List ℕ)
+    → done ++ flat_map escape_byte rest ≡ whole → rest ≡ same ++ behind → AreUnescaped same → behind ≡ b ∷ next
     → mid ≡ done ++ same → last ≡ mid ++ escape_byte b → last ++ flat_map escape_byte next ≡ whole
 more_escaped done rest same behind next b mid last whole i e h f m l =
-    ap (λ q. q ++ flat_map escape_byte next) (l ∙ ap (λ q. q ++ escape_byte b) m) ∙ append_assoc (done ++ same) (escape_byte b) (flat_map escape_byte next)
+    ap (λ q. q ++ flat_map escape_byte next) (l ∙ ap (λ q. q ++ escape_byte b) m)
+    ∙ append_assoc (done ++ same) (escape_byte b) (flat_map escape_byte next)
     ∙ ap (λ q. (done ++ same) ++ flat_map escape_byte q) (sym f) ∙ append_assoc done same (flat_map escape_byte behind)
-    ∙ ap (λ q. done ++ (q ++ flat_map escape_byte behind)) (sym (unescaped_text same h)) ∙ ap (λ q. done ++ q) (sym (flat_map-append escape_byte same behind) ∙ ap (flat_map escape_byte) (sym e)) ∙ i
+    ∙ ap (λ q. done ++ (q ++ flat_map escape_byte behind)) (sym (unescaped_text same h))
+    ∙ ap (λ q. done ++ q) (sym (flat_map-append escape_byte same behind) ∙ ap (flat_map escape_byte) (sym e)) ∙ i
 
 -- the last run is written
-pub all_escaped : (done rest same behind : List ℕ) (mid last start text : List ℕ) → done ++ flat_map escape_byte rest ≡ (start ++ 34 ∷ []) ++ flat_map escape_byte text → rest ≡ same ++ behind → AreUnescaped same → behind ≡ []
+pub all_escaped : (done rest same behind : List ℕ) (mid last start text : List ℕ)
+    → done ++ flat_map escape_byte rest ≡ (start ++ 34 ∷ []) ++ flat_map escape_byte text → rest ≡ same ++ behind
+    → AreUnescaped same → behind ≡ []
     → mid ≡ done ++ same → last ≡ mid ++ 34 ∷ [] → last ≡ start ++ quoted text
 all_escaped done rest same behind mid last start text i e h f m l =
-    let end : done ++ same ≡ (start ++ 34 ∷ []) ++ flat_map escape_byte text = ap (λ q. done ++ q) (sym (unescaped_text same h) ∙ ap (flat_map escape_byte) (sym (e ∙ ap (λ q. same ++ q) f ∙ append-nil same))) ∙ i in
-    l ∙ ap (λ q. q ++ 34 ∷ []) (m ∙ end) ∙ ap (λ q. q ++ 34 ∷ []) (append_assoc start (34 ∷ []) (flat_map escape_byte text)) ∙ append_assoc start (34 ∷ flat_map escape_byte text) (34 ∷ [])
+    let end : done ++ same ≡ (start ++ 34 ∷ []) ++ flat_map escape_byte text =
+    ap (λ q. done ++ q) (sym (unescaped_text same h) ∙ ap (flat_map escape_byte)
+    (sym (e ∙ ap (λ q. same ++ q) f ∙ append-nil same))) ∙ i in
+    l ∙ ap (λ q. q ++ 34 ∷ []) (m ∙ end) ∙ ap (λ q. q ++ 34 ∷ [])
+    (append_assoc start (34 ∷ []) (flat_map escape_byte text))
+    ∙ append_assoc start (34 ∷ flat_map escape_byte text) (34 ∷ [])

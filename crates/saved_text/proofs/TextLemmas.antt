@@ -42,6 +42,9 @@ use Rattle.saved_text.proofs.RonLemmas.{Goes, Goes-trans, Goes-first}
 use Rattle.saved_text.proofs.RowLemmas.{Goes-spaces, Leads-spaces}
 use Rattle.saved_text.proofs.FieldLemmas.{Goes-leads, StopsAs-within, Unreads-silent, Unreads-first}
 use Rattle.saved_text.proofs.ReadableLemmas.{rows_read, read_behind}
+use Rattle.saved_text.specs.Row.{Shown}
+use Rattle.saved_text.specs.RowWords.{SaysRows, ShowsRon}
+use Rattle.saved_text.proofs.OneLemmas.{rows_one}
 use Rattle.saved_text.proofs.FrontLemmas.{fault_at}
 
 -- ---- white space, the list, white space
@@ -81,6 +84,12 @@ whole_led g text [] said l e =
     (subst (IsOf (seq g nothing) (l.x ++ [])) (append-nil said) (l.up [] [] (refl, refl))))
 whole_led g text (b ∷ rest) said l e = absurd (omega (arith, e))
 
+only_led : (g : Grammar) (text rest : List ℕ) (said : List Word) → Leads (seq g nothing) text said nothing rest
+    → (other : List Word) → IsOf g text other → other ≡ said
+only_led g text rest said l other o =
+    let p = l.down other ((Same-nothing g).up text other o) in
+    p.2 ∙ ap (λ w. said ++ w) p.1.1 ∙ append-nil said
+
 pub text_read : (text start r rest : List ℕ) (rows : List SavedRow) (u : Option (Bor (List ℕ))) → Spaced text start
     → IsListRead list start rows u r → Spaced r rest → length rest ≡ 0 → IsTextRead text rows u
 text_read text start r rest rows u s i t e = record {
@@ -88,6 +97,7 @@ text_read text start r rest rows u s i t e = record {
   said = i.said;
   says = i.says;
   is = whole_led ron text rest i.said (text_led text start r rest rows u s i t) e;
+  only = only_led ron text rest i.said (text_led text start r rest rows u s i t);
   marks = text_marks text start i.said (AreShown i.shown rows) u s i.marks;
 }
 
@@ -169,7 +179,10 @@ shows_none text q u shown h a =
     (subst (AreRead [] []) (behind.2 ∙ ap (λ w. b ++ w) rest.2) (rows_read shown h.0 h.2 a).0))
 
 pub text_rows : (text : List ℕ) (rows : List SavedRow) → IsTextRead text rows None → ShowsRows text rows
-text_rows text rows i = (i.shown, (i.said, i.is, i.says), i.marks.1)
+text_rows text rows i =
+    let only : (others : List Shown) → ShowsRon text others → others ≡ i.shown =
+    λ others h. rows_one others i.shown i.said (subst (SaysRows others) (i.only h.0 h.1) h.2) i.says in
+    (i.shown, ((i.said, i.is, i.says), only), i.marks.1)
 
 pub text_unread : (text : List ℕ) (rows : List SavedRow) (q : Bor (List ℕ)) → IsTextRead text rows (Some q)
     → IsRonFaultAt text (length text - length q.now)

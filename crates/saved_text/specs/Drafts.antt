@@ -217,6 +217,7 @@ pub record IsTextRead (text : List ℕ) (rows : List SavedRow) (unread : Option 
   pub said : List Word
   pub says : SaysRows shown said
   pub is : IsOf ron text said
+  pub only : (other : List Word) → IsOf ron text other → other ≡ said
   pub marks : Marks ron text said (AreShown shown rows) unread
 
 -- The text is not of the grammar, and its longest front ends there; or memory was refused.

@@ -1,5 +1,5 @@
 //! A row of RON, field by field.
-ghost use Rattle.std.specs.Prelude.{◌≡◌, ◌<◌, ◌∷◌, [], true, false, MatchResult, MatchOption, MatchBool, IsTrue, Option, Some, None};
+ghost use Rattle.std.specs.Prelude.{◌≡◌, ◌<◌, true, MatchResult, MatchOption, MatchBool, Some};
 ghost use Rattle.saved_text.specs.Drafts.{Adds, IsLacking, IsRowRead, is_lacking, left};
 ghost use Rattle.saved_text.specs.Faults.{StopsAs, Begins, Lacks};
 ghost use Rattle.saved_text.specs.Ron.{fields, row};

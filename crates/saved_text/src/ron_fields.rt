@@ -61,7 +61,8 @@ fn read_path(alloc: Global, text: &str) -> Result<(String, bool, &str), Stop<'_>
 // The string of a date, where its tag and its bracket stand first.
 fn date_quote(text: &str) -> Result<&str, Stop<'_>>
     ensures { MatchResult result
-        (λ r. (h : Grammar) → Leads (seq (tagged (codes "AtUtc")) h) text.now (the_name (codes "AtUtc") ∷ []) (seq (seq string (seq space closing)) h) r.now)
+        (λ r. (h : Grammar) → Leads (seq (tagged (codes "AtUtc")) h) text.now (the_name (codes "AtUtc") ∷ [])
+        (seq (seq string (seq space closing)) h) r.now)
         (StopsAs (tagged (codes "AtUtc")) text.now) }
 {
     let rest = bytes_of(text, b"AtUtc")?;
@@ -81,7 +82,8 @@ fn is_date(text: &str) -> bool
 fn read_expires(alloc: Global, text: &str) -> Result<(Option<String>, Option<&str>, &str), Stop<'_>>
     ensures { MatchResult result
         (λ p. Takes expires text.now (expires_words (option_map string_bytes p.0)) p.2.now
-        × Marks expires text.now (expires_words (option_map string_bytes p.0)) (HasDeath (option_map string_bytes p.0)) p.1)
+        × Marks expires text.now (expires_words (option_map string_bytes p.0))
+        (HasDeath (option_map string_bytes p.0)) p.1)
         (StopsAs expires text.now) }
 {
     if begins(text, b'A') {
@@ -140,7 +142,8 @@ pub fn expires_field(
 ) -> Result<(Option<String>, Option<&str>, &str), Stop<'_>>
     ensures { MatchResult result
         (λ p. Takes expires_field text.now (words_of_date (option_map string_bytes p.0)) p.2.now
-        × Marks expires_field text.now (words_of_date (option_map string_bytes p.0)) (HasDeath (option_map string_bytes p.0)) p.1)
+        × Marks expires_field text.now (words_of_date (option_map string_bytes p.0))
+        (HasDeath (option_map string_bytes p.0)) p.1)
         (StopsAs expires_field text.now) }
 {
     let rest = heading(text, b"expires")?;

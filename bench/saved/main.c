@@ -1,0 +1,80 @@
+// Times reading and writing of lists of rows, in RON and in JSON.
+#include <stdint.h>
+#include <stdio.h>
+#include <stdlib.h>
+#include <string.h>
+#include "../time.h"
+
+size_t bench_read_ron(const uint8_t *text, size_t len);
+size_t bench_read_and_write_ron(const uint8_t *text, size_t len);
+size_t bench_read_json(const uint8_t *text, size_t len);
+size_t bench_read_and_write_json(const uint8_t *text, size_t len);
+
+static const char ron_row[] =
+    "    (\n        raw_cookie: \"name=value; Secure; Path=/; Max-Age=3600\",\n        path: (\"/\", true),\n"
+    "        domain: HostOnly(\"shop.example.com\"),\n        expires: AtUtc(\"2024-01-01T01:00:00Z\"),\n    ),\n";
+
+static const char json_row[] =
+    "  {\n    \"raw_cookie\": \"name=value; Secure; Path=/; Max-Age=3600\",\n    \"path\": [\n      \"/\",\n"
+    "      true\n    ],\n    \"domain\": {\n      \"HostOnly\": \"shop.example.com\"\n    },\n"
+    "    \"expires\": {\n      \"AtUtc\": \"2024-01-01T01:00:00Z\"\n    }\n  }";
+
+static char *text;
+static size_t length;
+static size_t rows;
+
+static void same(size_t answer, size_t wanted) {
+    if (answer != wanted) {
+        fprintf(stderr, "%zu in the place of %zu\n", answer, wanted);
+        exit(1);
+    }
+}
+
+static void read_ron(void) {
+    same(bench_read_ron((const uint8_t *)text, length), rows);
+}
+
+static void read_and_write_ron(void) {
+    same(bench_read_and_write_ron((const uint8_t *)text, length), length);
+}
+
+static void read_json(void) {
+    same(bench_read_json((const uint8_t *)text, length), rows);
+}
+
+static void read_and_write_json(void) {
+    same(bench_read_and_write_json((const uint8_t *)text, length), length);
+}
+
+// The list of so many equal rows, in the layout in which it is written.
+static void make(const char *row, const char *between, const char *end) {
+    size_t most = 2 + rows * (strlen(row) + strlen(between)) + strlen(end) + 1;
+    text = realloc(text, most);
+    if (text == NULL) {
+        exit(1);
+    }
+    char *at = text;
+    at += sprintf(at, "[\n");
+    for (size_t i = 0; i < rows; i++) {
+        at += sprintf(at, "%s%s", i == 0 ? "" : between, row);
+    }
+    at += sprintf(at, "%s", end);
+    length = (size_t)(at - text);
+}
+
+static void times(const char *what, void (*call)(void)) {
+    char name[48];
+    snprintf(name, sizeof name, "%s %zu rows", what, rows);
+    report(name, length, least_time(call));
+}
+
+int main(void) {
+    for (rows = 1000; rows <= 100000; rows *= 10) {
+        make(ron_row, "", "]\n");
+        times("RON: read", read_ron);
+        times("RON: read and write", read_and_write_ron);
+        make(json_row, ",\n", "\n]\n");
+        times("JSON: read", read_json);
+        times("JSON: read and write", read_and_write_json);
+    }
+}
