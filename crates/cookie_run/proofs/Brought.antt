@@ -115,7 +115,8 @@ split_pairs splits host url now rows ks header secure reads a is =
     let root_is = rooted url host secure is.valid in
     let live_ks : List Kept = filter (lives now) ks in
     let printed : header ≡ joined (pairs_of live_ks) =
-    is.printed ∙ (ap header_of (pairs_same host live_ks is.given (given_rows host url now rows is.given ks secure root_is
+    is.printed ∙ (ap header_of (pairs_same host live_ks is.given (given_rows host url now rows is.given ks secure
+    root_is
     reads a is.are_given)) ∙ header_joined live_ks) in
     subst (λ h. SplitsInto h (pairs_of live_ks)) (sym printed)
     (splits (pairs_of live_ks) (All-from_recursion (λ p. IsNamed p.0 p.1) (pairs_of live_ks)

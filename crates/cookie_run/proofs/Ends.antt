@@ -89,7 +89,8 @@ stops_there list key steps i s rows now later last kind b stops =
     (subst (λ old. Stops key rows kind last (act_of s) old later) b.run.1 stops)
 
 pub run_until : (list : List Rule) (key : List ℕ) (steps : List Step) (i : ℕ) (s : Step) (rows : List Row)
-    (now later : List Reading) (last : ℤ) (kind : FaultKind) → i < length steps → s ≡ get_or steps i s → Before list key steps i rows now last →
+    (now later : List Reading) (last : ℤ) (kind : FaultKind) → i < length steps → s ≡ get_or steps i s
+    → Before list key steps i rows now last →
     Stops key rows kind last (act_of s) now later → IsRunUntil list key (acts_of steps) (i + 1) kind later
 run_until list key steps i s rows now later last kind h is b stops = record {
   before = acts_of (take i steps);

@@ -29,7 +29,8 @@ use Rattle.jiff.specs.Types.{DateTime}
 use Rattle.cookie_text.specs.Normal.{is_short_year}
 
 pub plays_more : (list : List Rule) (key : List ℕ) (rows mid new : List Row) (acts : List Act)
-    (told : List (List Reading)) (act : Act) (t : List Reading) → Plays list key rows acts told mid → OneStep list key mid act t new
+    (told : List (List Reading)) (act : Act) (t : List Reading) → Plays list key rows acts told mid
+    → OneStep list key mid act t new
     → Plays list key rows (acts ++ act ∷ []) (told ++ t ∷ []) new
 plays_more list key rows mid new [] [] act t p s = (new, subst (λ rs. OneStep list key rs act t new) p s, refl)
 plays_more list key rows mid new [] (u ∷ us) act t p s = absurd p

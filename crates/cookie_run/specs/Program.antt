@@ -20,7 +20,8 @@ abbrev pub IsScriptOf : List ℕ → List ℕ → Ended → Type 0
 IsScriptOf input output ended = (new : List Row) × (end : ℤ)
     × Runs ⊥ [] program_key [] begins_at input output new end ended
 
--- the exit status and what goes to standard error: of a script that ends so, of a reader and of a writer that failed, and
+-- the exit status and what goes to standard error: of a script that ends so, of a reader and of a writer that failed,
+-- and
 -- where there was no memory before the script
 abbrev pub Answers : ℕ → Option (List ℕ) → (Ended → Type 0) → Type 0 → Type 0 → Type 0
 Answers status said Ends Unread Unwritten =

@@ -1,7 +1,8 @@
 -- A copy of a tree, node by node.
 use Rattle.std.proofs.Common.{◌≡◌, ℕ, List, [], ◌∷◌, length, map, suc, zero, refl, sym, ap, subst, ◌∙◌}
 use Rattle.std.specs.List.{AllZip}
-use Rattle.publicsuffix.specs.Tree.{Grown, IsCopy, IsGrown, Linked, child, edges_of, marked, marks_of, nexts_of, paths, rules_of, wildcard_at}
+use Rattle.publicsuffix.specs.Tree.{Grown, IsCopy, IsGrown, Linked, child, edges_of, marked, marks_of, nexts_of, paths}
+use Rattle.publicsuffix.specs.Tree.{rules_of, wildcard_at}
 use Rattle.publicsuffix.specs.declared.tree.Node.{Node}
 use Rattle.publicsuffix.proofs.NodeLemmas.{Grown-same, child_same, edge_of, marks_at, paths_same}
 

@@ -1,14 +1,20 @@
 -- A tree after one of its nodes changed and another was pushed.
-use Rattle.std.proofs.Common.{◌≡◌, ◌≢◌, ℕ, ◌<◌, ◌+◌, ◌%◌, ◌↔◌, ◌⊎◌, Bool, true, false, List, [], ◌∷◌, ◌++◌, length, map, Option, Some, None, Contains, refl, sym, ap, subst, ◌∙◌, inl, inr, arith}
+use Rattle.std.proofs.Common.{◌≡◌, ◌≢◌, ℕ, ◌<◌, ◌+◌, ◌%◌, ◌↔◌, ◌⊎◌, Bool, true, false, List, [], ◌∷◌, ◌++◌, length, map}
+use Rattle.std.proofs.Common.{Option, Some, None, Contains, refl, sym, ap, subst, ◌∙◌, inl, inr, arith}
 use Rattle.std.specs.Prelude.{get_or, set}
 use Rattle.std.specs.Option.{option_and_then}
 use Rattle.std.proofs.lemmas.Bool.{cases_Bool, cases_lt, cases_eq, false≢true}
 use Rattle.std.proofs.lemmas.Option.{slice_get-get_or}
-use Rattle.std.proofs.lemmas.List.{append-nil, append_assoc, get_or_append_left, get_or_push, get_or-map, get_or-set_same, get_or-set_other, length-map, length-set, length_push, map-set, map_push, set-get_or}
+use Rattle.std.proofs.lemmas.List.{append-nil, append_assoc, get_or_append_left, get_or_push, get_or-map}
+use Rattle.std.proofs.lemmas.List.{get_or-set_same, get_or-set_other, length-map, length-set, length_push, map-set}
+use Rattle.std.proofs.lemmas.List.{map_push, set-get_or}
 use Rattle.publicsuffix.specs.Rules.{Label, Wildcard, Text, Rule}
-use Rattle.publicsuffix.specs.Tree.{Grown, HasMore, HasWildcard, IsBelow, IsGrown, IsLeaf, Linked, Marks, child, edge_view, edges_of, grow, hangs_at, hashed, labels_at, latest, mark_of, marked, marks_of, nexts_of, paths, rules_of, wildcard_at}
+use Rattle.publicsuffix.specs.Tree.{Grown, HasMore, HasWildcard, IsBelow, IsGrown, IsLeaf, Linked, Marks, child}
+use Rattle.publicsuffix.specs.Tree.{edge_view, edges_of, grow, hangs_at, hashed, labels_at, latest, mark_of, marked}
+use Rattle.publicsuffix.specs.Tree.{marks_of, nexts_of, paths, rules_of, wildcard_at}
 use Rattle.publicsuffix.specs.declared.tree.Node.{Node}
-use Rattle.publicsuffix.proofs.TableLemmas.{Linked-text, Linked-wildcard, hangs_here, hangs_there, latest_hit, latest_miss, none_below, not_at_wildcard, same_edge}
+use Rattle.publicsuffix.proofs.TableLemmas.{Linked-text, Linked-wildcard, hangs_here, hangs_there, latest_hit}
+use Rattle.publicsuffix.proofs.TableLemmas.{latest_miss, none_below, not_at_wildcard, same_edge}
 use Rattle.publicsuffix.proofs.TreeLemmas.{Grown-hangs, Hangs, from_marked, grow_push, length_grow, to_marked}
 
 abbrev pub edge_of : Node → Option (ℕ × Label)

@@ -1,13 +1,16 @@
 -- The definitions at the rules `*.ck` and `!www.ck`, as the published list has them.
-use Rattle.std.proofs.Common.{◌≡◌, ◌≢◌, ℕ, ◌⊎◌, true, false, List, [], ◌∷◌, ◌++◌, length, Contains, refl, sym, ap, subst, inl, inr, arith}
+use Rattle.std.proofs.Common.{◌≡◌, ◌≢◌, ℕ, ◌⊎◌, true, false, List, [], ◌∷◌, ◌++◌, length, Contains, refl, sym, ap}
+use Rattle.std.proofs.Common.{subst, inl, inr, arith}
 use Rattle.std.specs.Prelude.{Some, None, codes, get_or}
 use Rattle.std.specs.List.{AllZip}
 use Rattle.std.proofs.lemmas.List.{length-append}
 use Rattle.std.proofs.lemmas.List.Elements.{All-cons, All-nil, Contains-append_left, Contains-push, Contains-push_cases}
 use Rattle.std.proofs.lemmas.Slice.Zip.{AllZip-long}
 use Rattle.idna.specs.Labels.{labels_of}
-use Rattle.publicsuffix.specs.Prevailing.{Fits, GoesBefore, IsName, IsSuffix, Listed, Matches, Prevails, covered, without_last_dot}
-use Rattle.publicsuffix.specs.Rules.{Rule, Wildcard, Text, byte_order_mark, exception_of, is_one_label, label_of, without_mark}
+use Rattle.publicsuffix.specs.Prevailing.{Fits, GoesBefore, IsName, IsSuffix, Listed, Matches, Prevails, covered}
+use Rattle.publicsuffix.specs.Prevailing.{without_last_dot}
+use Rattle.publicsuffix.specs.Rules.{Rule, Wildcard, Text, byte_order_mark, exception_of, is_one_label, label_of}
+use Rattle.publicsuffix.specs.Rules.{without_mark}
 use Rattle.publicsuffix.proofs.PrevailingLemmas.{covered-same}
 
 -- `*.ck`

@@ -1,15 +1,18 @@
 -- The table of a tree: its buckets lead to each node that falls into them.
-use Rattle.std.proofs.Common.{◌≡◌, ◌≢◌, ℕ, ◌<◌, ◌+◌, ◌%◌, ◌==◌, ◌⊎◌, ◌&&◌, Bool, true, false, List, [], ◌∷◌, ◌++◌, length, drop, Option, Some, None, suc, zero, refl, sym, ap, subst, ◌∙◌, inl, inr, arith}
+use Rattle.std.proofs.Common.{◌≡◌, ◌≢◌, ℕ, ◌<◌, ◌+◌, ◌%◌, ◌==◌, ◌⊎◌, ◌&&◌, Bool, true, false, List, [], ◌∷◌, ◌++◌}
+use Rattle.std.proofs.Common.{length, drop, Option, Some, None, suc, zero, refl, sym, ap, subst, ◌∙◌, inl, inr, arith}
 use Rattle.std.specs.Prelude.{get_or, set}
 use Rattle.std.proofs.lemmas.Bool.{cases_Bool, cases_eq, cases_lt, false≢true}
 use Rattle.std.proofs.lemmas.Option.{none-some}
 use Rattle.std.proofs.lemmas.Bool.Decides.{Decides-eqb}
-use Rattle.std.proofs.lemmas.List.{drop_more, get_or_append_left, get_or_push, get_or-set_same, get_or-set_other, length_push}
+use Rattle.std.proofs.lemmas.List.{drop_more, get_or_append_left, get_or_push, get_or-set_same, get_or-set_other}
+use Rattle.std.proofs.lemmas.List.{length_push}
 use Rattle.std.proofs.lemmas.Slice.Eq.{bytes_eq-Decides}
 use Rattle.std.proofs.Math.Nat.{mod-lt}
 use Rattle.std.specs.Str.{bytes_eq}
 use Rattle.publicsuffix.specs.Rules.{Label, Wildcard, Text}
-use Rattle.publicsuffix.specs.Tree.{Leads, Linked, bucket_at, bucket_of, hangs_at, hashed, is_text, latest, mixed, one_later}
+use Rattle.publicsuffix.specs.Tree.{Leads, Linked, bucket_at, bucket_of, hangs_at, hashed, is_text, latest, mixed}
+use Rattle.publicsuffix.specs.Tree.{one_later}
 
 -- ---- the last place that passes
 

@@ -1,5 +1,6 @@
 -- A walk down the tree, a label of the name a step.
-use Rattle.std.proofs.Common.{◌≡◌, ℕ, ◌<◌, ◌≤◌, ◌+◌, ◌⊎◌, Bool, true, false, List, [], ◌∷◌, ◌++◌, length, Option, Some, None, Contains, MatchOption, refl, sym, ap, subst, ◌∙◌, inl, inr, arith}
+use Rattle.std.proofs.Common.{◌≡◌, ℕ, ◌<◌, ◌≤◌, ◌+◌, ◌⊎◌, Bool, true, false, List, [], ◌∷◌, ◌++◌, length, Option, Some}
+use Rattle.std.proofs.Common.{None, Contains, MatchOption, refl, sym, ap, subst, ◌∙◌, inl, inr, arith}
 use Rattle.std.specs.Prelude.{get_or, IfSome}
 use Rattle.std.specs.List.{AllZip}
 use Rattle.std.proofs.lemmas.Bool.{false≢true}
@@ -8,7 +9,8 @@ use Rattle.std.proofs.lemmas.List.{append-nil, append_assoc, get_or_at, length-a
 use Rattle.std.proofs.lemmas.Slice.Zip.{AllZip-long}
 use Rattle.publicsuffix.specs.Prevailing.{Fits, GoesBefore, Matches, NoneMatches, Prevails}
 use Rattle.publicsuffix.specs.Rules.{Label, Wildcard, Text, Rule}
-use Rattle.publicsuffix.specs.Tree.{Grown, IsGrown, IsLeaf, Linked, child, edges_of, hangs_at, labels_at, mark_of, marks_of, nexts_of, one_later, paths, rules_of}
+use Rattle.publicsuffix.specs.Tree.{Grown, IsGrown, IsLeaf, Linked, child, edges_of, hangs_at, labels_at, mark_of}
+use Rattle.publicsuffix.specs.Tree.{marks_of, nexts_of, one_later, paths, rules_of}
 use Rattle.publicsuffix.proofs.TableLemmas.{Linked-root}
 use Rattle.publicsuffix.specs.Walk.{FoundBefore, IsAt, IsFirst, IsFirstOf, Reaches, Tells, own_of, ways_by, ways_of}
 use Rattle.publicsuffix.specs.declared.walk.Found.{Found}

@@ -1,5 +1,6 @@
 -- What a walk down the tree finds. No public contract names a word of this file.
-use Rattle.std.specs.Prelude.{◌≡◌, ℕ, ◌-◌, ◌≤◌, ◌⊎◌, if◌then◌else◌, Bool, true, false, List, [], ◌++◌, length, get_or, Option, None, Some, Contains, MatchOption}
+use Rattle.std.specs.Prelude.{◌≡◌, ℕ, ◌-◌, ◌≤◌, ◌⊎◌, if◌then◌else◌, Bool, true, false, List, [], ◌++◌, length, get_or}
+use Rattle.std.specs.Prelude.{Option, None, Some, Contains, MatchOption}
 use Rattle.std.specs.Borrow.{Bor}
 use Rattle.idna.specs.Labels.{labels_of}
 use Rattle.publicsuffix.specs.Rules.{Label, Wildcard, Text, Rule}

@@ -1,7 +1,10 @@
 -- The text of a date, part by part.
-use Rattle.std.proofs.Common.{◌≡◌, ◌≢◌, ℕ, ℤ, pos, ◌+◌, ◌-◌, ◌*◌, ◌^◌, add-one, ◌<◌, ◌≤◌, Bool, true, false, ◌&&◌, List, [], ◌∷◌, length, take, drop, get_or, ◌++◌, append_assoc, Option, Some, None, sym, refl, ap, ◌∙◌, subst, ⊎_elim, arith, FitsSigned, w64, to_z, of_z}
+use Rattle.std.proofs.Common.{◌≡◌, ◌≢◌, ℕ, ℤ, pos, ◌+◌, ◌-◌, ◌*◌, ◌^◌, add-one, ◌<◌, ◌≤◌, Bool, true, false, ◌&&◌, List}
+use Rattle.std.proofs.Common.{[], ◌∷◌, length, take, drop, get_or, ◌++◌, append_assoc, Option, Some, None, sym, refl}
+use Rattle.std.proofs.Common.{ap, ◌∙◌, subst, ⊎_elim, arith, FitsSigned, w64, to_z, of_z}
 use Rattle.std.proofs.lemmas.Int.{to_z-of_z}
-use Rattle.std.specs.Prelude.{option_map, map, slice_range, if◌then◌else◌, nat_le, nat_lt, ◌+ℤ◌, ◌*ℤ◌, ◌-ℤ◌, ◌↔◌, Result, Ok, Err, IsOk, IfOk, IsTrue, MatchOption, neg_ℤ, min}
+use Rattle.std.specs.Prelude.{option_map, map, slice_range, if◌then◌else◌, nat_le, nat_lt, ◌+ℤ◌, ◌*ℤ◌, ◌-ℤ◌, ◌↔◌}
+use Rattle.std.specs.Prelude.{Result, Ok, Err, IsOk, IfOk, IsTrue, MatchOption, neg_ℤ, min}
 use Rattle.std.specs.Result.{result_ok}
 use Rattle.jiff.specs.Words.{civil_nanos, IsDate, IsTime, IsYmd, IsHms, epoch_day, Error}
 use Rattle.jiff.specs.Types.{DateTime}
@@ -16,16 +19,19 @@ use Rattle.std.proofs.lemmas.Bool.Decides.{nat_tests}
 use Rattle.std.proofs.lemmas.Slice.Eq.{bytes_eq-Decides}
 use Rattle.std.proofs.lemmas.Str.Parse.{digit_at}
 use Rattle.std.proofs.lemmas.Int.Digits.{digits_value_more}
-use Rattle.std.proofs.lemmas.List.{get_or-map, length-map, take-map, drop-map, length-take, ext_get_or, take_more, drop_more}
+use Rattle.std.proofs.lemmas.List.{get_or-map, length-map, take-map, drop-map, length-take, ext_get_or, take_more}
+use Rattle.std.proofs.lemmas.List.{drop_more}
 use Rattle.std.proofs.lemmas.Nat.{pow-add}
 use Rattle.std.proofs.lemmas.Option.{none-some}
 use Rattle.jiff_core.specs.DateTime.{IsCivilNanos}
 use Rattle.std.proofs.Math.Nat.{pow-le-pow_right, mul-lt-mul_of_pos_right}
-use Rattle.saved_text.specs.DateReading.{blanked, shows, digits_front, is_civil, seconds_to, civil_if, civil_of, fraction_of, minutes_of, clock_form, first_moment, IsSaved, IsDateOf}
+use Rattle.saved_text.specs.DateReading.{blanked, shows, digits_front, is_civil, seconds_to, civil_if, civil_of}
+use Rattle.saved_text.specs.DateReading.{fraction_of, minutes_of, clock_form, first_moment, IsSaved, IsDateOf}
 
 -- ---- the form
 
-pub form_wrong : (text form : List ℕ) (i : ℕ) → i < length text → blanked (get_or text i 0) ≢ get_or form i 0 → false ≡ shows text form
+pub form_wrong : (text form : List ℕ) (i : ℕ) → i < length text → blanked (get_or text i 0) ≢ get_or form i 0
+    → false ≡ shows text form
 form_wrong text form i h wrong =
     ⊎_elim (λ (e : shows text form ≡ true). absurd (wrong (sym (get_or-map blanked text i 0 0 h)
     ∙ ap (λ xs. get_or xs i 0) ((bytes_eq-Decides (map blanked text) form).0 e))))
@@ -37,11 +43,13 @@ form_short text form wrong =
     ∙ ap length ((bytes_eq-Decides (map blanked text) form).0 e))))
     (λ (e : shows text form ≡ false). sym e) (cases_Bool (shows text form))
 
-pub form_right : (text form : List ℕ) → length text ≡ length form → ((k : ℕ) → k < length text → blanked (get_or text k 0) ≡ get_or form k 0) → true ≡ shows text form
+pub form_right : (text form : List ℕ) → length text ≡ length form → ((k : ℕ) → k < length text
+    → blanked (get_or text k 0) ≡ get_or form k 0) → true ≡ shows text form
 form_right text form len each =
     sym ((bytes_eq-Decides (map blanked text) form).1 (ext_get_or 0 (map blanked text) form
     (length-map text blanked ∙ len)
-    (λ k h. let below : k < length text = omega (arith, h, length-map text blanked) in get_or-map blanked text k 0 0 below ∙ each k below)))
+    (λ k h. let below : k < length text = omega (arith, h, length-map text blanked) in get_or-map blanked text k 0 0
+    below ∙ each k below)))
 
 form_is : (text form : List ℕ) → shows text form ≡ true → map blanked text ≡ form
 form_is text form e = (bytes_eq-Decides (map blanked text) form).0 e
@@ -67,7 +75,8 @@ digits_of_zeros (d ∷ ds) ss e z = let z' = subst Zeros (sym e) z in
 range_map : (text : List ℕ) (a b : ℕ) → map blanked (slice_range text a b) ≡ slice_range (map blanked text) a b
 range_map text a b = sym (take-map blanked (b - a) (drop a text)) ∙ ap (take (b - a)) (sym (drop-map blanked a text))
 
-pub digits_at : (text form : List ℕ) (a b : ℕ) → shows text form ≡ true → Zeros (slice_range form a b) → AllDigits 10 (slice_range text a b)
+pub digits_at : (text form : List ℕ) (a b : ℕ) → shows text form ≡ true → Zeros (slice_range form a b)
+    → AllDigits 10 (slice_range text a b)
 digits_at text form a b e z = digits_of_zeros (slice_range text a b) (slice_range form a b)
     (range_map text a b ∙ ap (λ xs. slice_range xs a b) (form_is text form e)) z
 
@@ -191,7 +200,8 @@ same_pos : (a b : ℕ) → pos a ≡ pos b → a ≡ b
 same_pos a b e = omega (arith, signed_arith)
 
 -- the nanoseconds of a date and a time with these numbers
-nanos_are : (dt : DateTime) (year month day hour minute second nanos : ℕ) → IsYmd (pos year) (pos month) (pos day) dt.date
+nanos_are : (dt : DateTime) (year month day hour minute second nanos : ℕ)
+    → IsYmd (pos year) (pos month) (pos day) dt.date
     → IsHms (pos hour) (pos minute) (pos second) (pos nanos) dt.time
     → civil_nanos dt ≡ seconds_to year month day hour minute second *ℤ pos 1_000_000_000 +ℤ pos nanos
 nanos_are dt year month day hour minute second nanos ymd hms =
@@ -208,7 +218,8 @@ nanos_are dt year month day hour minute second nanos ymd hms =
     civil_nanos-parts dt ∙ nanos_sum (epoch_day dt.date) (days_from_civil (pos year) month day) dt.time.hour
     dt.time.minute dt.time.second dt.time.subsec_nanosecond hour minute second nanos days h i s n
   where
-    nanos_sum : (x y : ℤ) (h i s n hour minute second nanos : ℕ) → x ≡ y → h ≡ hour → i ≡ minute → s ≡ second → n ≡ nanos
+    nanos_sum : (x y : ℤ) (h i s n hour minute second nanos : ℕ) → x ≡ y → h ≡ hour → i ≡ minute → s ≡ second
+        → n ≡ nanos
         → x *ℤ pos 86_400_000_000_000 +ℤ pos ((h * 3600 + i * 60 + s) * 1_000_000_000 + n)
         ≡ (y *ℤ pos 86_400 +ℤ pos (hour * 3600 + minute * 60 + second)) *ℤ pos 1_000_000_000 +ℤ pos nanos
     nanos_sum x y h i s n hour minute second nanos a b c d e = omega (arith, signed_arith)
@@ -221,7 +232,8 @@ if_false : (t : Bool) (x : Option ℤ) → t ≡ false → (if t then x else Non
 if_false true x e = absurd (false≢true (sym e))
 if_false false x e = refl
 
-civil_made : (r : Result DateTime Error) (year month day hour minute second nanos : ℕ) → year < 10000 → nanos < 1_000_000_000
+civil_made : (r : Result DateTime Error) (year month day hour minute second nanos : ℕ) → year < 10000
+    → nanos < 1_000_000_000
     → (IsOk r ↔ (IsDate (pos year) (pos month) (pos day) × IsTime (pos hour) (pos minute) (pos second) (pos nanos)))
     → IfOk r (λ dt. IsYmd (pos year) (pos month) (pos day) dt.date
     × IsHms (pos hour) (pos minute) (pos second) (pos nanos) dt.time)
@@ -246,7 +258,8 @@ abbrev Seven : Type 0
 Seven = ℤ × ℤ × ℤ × ℤ × ℤ × ℤ × ℤ
 
 -- the same of the signed numbers that the call takes
-pub civil_cast : (r : Result DateTime Error) (y mo d h mi s n : ℤ) (year month day hour minute second nanos : ℕ) → y ≡ pos year
+pub civil_cast : (r : Result DateTime Error) (y mo d h mi s n : ℤ) (year month day hour minute second nanos : ℕ)
+    → y ≡ pos year
     → mo ≡ pos month → d ≡ pos day → h ≡ pos hour → mi ≡ pos minute → s ≡ pos second → n ≡ pos nanos
     → year < 10000 → nanos < 1_000_000_000
     → (IsOk r ↔ (IsDate y mo d × IsTime h mi s n))
@@ -294,8 +307,10 @@ front_more text n h d all front =
     let b = get_or text n 0 in
     let next = take_more text n 0 h in (
       subst (AllDigits 10) (sym next) (all_digits (take n text) b all (digit_true b d)),
-      front ∙ ap (λ r. take n text ++ digits_front r) (drop_more text n 0 h) ∙ ap (λ r. take n text ++ r) (front_cons b (drop (n + 1) text) d)
-          ∙ sym (append_assoc (take n text) (b ∷ []) (digits_front (drop (n + 1) text))) ∙ ap (λ r. r ++ digits_front (drop (n + 1) text)) (sym next),
+      front ∙ ap (λ r. take n text ++ digits_front r) (drop_more text n 0 h)
+          ∙ ap (λ r. take n text ++ r) (front_cons b (drop (n + 1) text) d)
+          ∙ sym (append_assoc (take n text) (b ∷ []) (digits_front (drop (n + 1) text)))
+          ∙ ap (λ r. r ++ digits_front (drop (n + 1) text)) (sym next),
     )
 
 -- so many digits and the places behind them are nine
@@ -323,18 +338,32 @@ pub not_ok : {E : Type 0} (r : Result DateTime E) (P : Type 0) → (IsOk r ↔ P
 not_ok (Ok x) P s e p = none-some x e
 not_ok (Err x) P s e p = false≢true (s.1 p)
 
-pub ok_value : {E : Type 0} (r : Result DateTime E) (x : DateTime) (P : DateTime → Type 0) → IfOk r P → Some x ≡ result_ok r → P x
+pub ok_value : {E : Type 0} (r : Result DateTime E) (x : DateTime) (P : DateTime → Type 0) → IfOk r P
+    → Some x ≡ result_ok r → P x
 ok_value (Ok y) x P h e = let f : Some x ≡ Some y = e in subst P (sym (ap (inside x) f)) h
 ok_value (Err y) x P h e = absurd (none-some x (sym e))
 
 -- a length of minutes, handed on as a signed number
-pub minutes_passed : (length a b : ℤ) → FitsSigned w64 b → a ≡ b → length ≡ to_z w64 (of_z w64 a) *ℤ pos 60_000_000_000 → length ≡ b *ℤ pos 60_000_000_000
-minutes_passed length a b fits same e = e ∙ ap (λ z. to_z w64 (of_z w64 z) *ℤ pos 60_000_000_000) same ∙ ap (λ z. z *ℤ pos 60_000_000_000) (to_z-of_z w64 b fits)
+pub minutes_passed : (length a b : ℤ) → FitsSigned w64 b → a ≡ b → length ≡ to_z w64 (of_z w64 a) *ℤ pos 60_000_000_000
+    → length ≡ b *ℤ pos 60_000_000_000
+minutes_passed length a b fits same e = e ∙ ap (λ z. to_z w64 (of_z w64 z) *ℤ pos 60_000_000_000) same
+    ∙ ap (λ z. z *ℤ pos 60_000_000_000) (to_z-of_z w64 b fits)
 
-pub beyond : (local length ahead : ℤ) → length ≡ ahead *ℤ pos 60_000_000_000 → ¬ (IsCivilNanos (local +ℤ neg_ℤ length)) → ¬ (IsSaved (local -ℤ ahead *ℤ pos 60_000_000_000))
-beyond local length ahead e out h = out (omega (arith, signed_arith, e, h.0, h.1), omega (arith, signed_arith, e, h.0, h.1))
+pub beyond : (local length ahead : ℤ) → length ≡ ahead *ℤ pos 60_000_000_000 → ¬ (IsCivilNanos (local +ℤ neg_ℤ length))
+    → ¬ (IsSaved (local -ℤ ahead *ℤ pos 60_000_000_000))
+beyond local length ahead e out h = out (
+  omega (arith, signed_arith, e, h.0, h.1),
+  omega (
+    arith,
+    signed_arith,
+    e,
+    h.0,
+    h.1,
+  ),
+)
 
-pub taken_off : (at local length ahead : ℤ) → length ≡ ahead *ℤ pos 60_000_000_000 → at ≡ local +ℤ neg_ℤ length → at ≡ local -ℤ ahead *ℤ pos 60_000_000_000
+pub taken_off : (at local length ahead : ℤ) → length ≡ ahead *ℤ pos 60_000_000_000 → at ≡ local +ℤ neg_ℤ length
+    → at ≡ local -ℤ ahead *ℤ pos 60_000_000_000
 taken_off at local length ahead e f = omega (arith, signed_arith, e, f)
 
 pub too_short : (bytes text : List ℕ) → bytes ≡ text → length bytes < 19 → (at : ℤ) → ¬ (IsDateOf text at)
@@ -357,7 +386,8 @@ rest_of None = []
 both_of : (a c : ℕ) (b d : List ℕ) → ◌≡◌ {A = Option (ℕ × List ℕ)} (Some (a, b)) (Some (c, d)) → (a ≡ c) × (b ≡ d)
 both_of a c b d e = (ap first_of e, ap rest_of e)
 
-pub no_civil : (bytes text clock rest zone : List ℕ) (nanos : ℕ) → bytes ≡ text → clock ≡ take 19 bytes → rest ≡ drop 19 bytes
+pub no_civil : (bytes text clock rest zone : List ℕ) (nanos : ℕ) → bytes ≡ text → clock ≡ take 19 bytes
+    → rest ≡ drop 19 bytes
     → Some (nanos, zone) ≡ fraction_of rest → None ≡ civil_of clock nanos → (at : ℤ) → ¬ (IsDateOf text at)
 no_civil bytes text clock rest zone nanos e c r f none at d =
     let same = both_of nanos d.nanos zone d.zone (f ∙ ap fraction_of (r ∙ ap (drop 19) e) ∙ d.fraction) in
@@ -371,7 +401,8 @@ Brought local ahead r = MatchOption r (¬ (IsSaved (local -ℤ ahead *ℤ pos 60
 
 pub date_made : (bytes text clock rest zone : List ℕ) (nanos : ℕ) (ahead : ℤ) (local : DateTime) (r : Option DateTime)
     → bytes ≡ text → clock ≡ take 19 bytes → rest ≡ drop 19 bytes → IsTrue (shows clock clock_form)
-    → Some (nanos, zone) ≡ fraction_of rest → Some ahead ≡ minutes_of zone → Some (civil_nanos local) ≡ civil_of clock nanos
+    → Some (nanos, zone) ≡ fraction_of rest → Some ahead ≡ minutes_of zone
+    → Some (civil_nanos local) ≡ civil_of clock nanos
     → Brought (civil_nanos local) ahead r
     → MatchOption r ((at : ℤ) → ¬ (IsDateOf text at)) (λ d. IsDateOf text (civil_nanos d))
 date_made bytes text clock rest zone nanos ahead local None e c' r' s f m l out = λ at d.
@@ -379,8 +410,10 @@ date_made bytes text clock rest zone nanos ahead local None e c' r' s f m l out 
     let r : rest ≡ drop 19 text = r' ∙ ap (drop 19) e in
     let same = both_of nanos d.nanos zone d.zone (f ∙ ap fraction_of r ∙ d.fraction) in
     let minutes : ahead ≡ d.minutes = some_same ahead d.minutes (m ∙ ap minutes_of same.1 ∙ d.offset) in
-    let civil : civil_nanos local ≡ d.civil = some_same (civil_nanos local) d.civil (l ∙ (λ i. civil_of (c i) (same.0 i)) ∙ d.exists) in
-    let is : at ≡ civil_nanos local -ℤ ahead *ℤ pos 60_000_000_000 = d.moment ∙ sym (λ i. civil i -ℤ minutes i *ℤ pos 60_000_000_000) in
+    let civil : civil_nanos local ≡ d.civil = some_same (civil_nanos local) d.civil (l
+    ∙ (λ i. civil_of (c i) (same.0 i)) ∙ d.exists) in
+    let is : at ≡ civil_nanos local -ℤ ahead *ℤ pos 60_000_000_000 = d.moment
+    ∙ sym (λ i. civil i -ℤ minutes i *ℤ pos 60_000_000_000) in
     out (subst IsSaved is (d.from, d.until))
 date_made bytes text clock rest zone nanos ahead local (Some x) e c' r' s f m l made =
     let c : clock ≡ take 19 text = c' ∙ ap (take 19) e in
@@ -402,6 +435,8 @@ date_made bytes text clock rest zone nanos ahead local (Some x) e c' r' s f m l 
 pub of_one_moment : (text : List ℕ) (x y : ℤ) → IsDateOf text x → IsDateOf text y → x ≡ y
 of_one_moment text x y a b =
     let same = both_of a.nanos b.nanos a.zone b.zone (sym a.fraction ∙ b.fraction) in
-    let minutes : a.minutes ≡ b.minutes = some_same a.minutes b.minutes (sym a.offset ∙ ap minutes_of same.1 ∙ b.offset) in
-    let civil : a.civil ≡ b.civil = some_same a.civil b.civil (sym a.exists ∙ ap (civil_of (take 19 text)) same.0 ∙ b.exists) in
+    let minutes : a.minutes ≡ b.minutes = some_same a.minutes b.minutes (sym a.offset ∙ ap minutes_of same.1
+    ∙ b.offset) in
+    let civil : a.civil ≡ b.civil = some_same a.civil b.civil (sym a.exists ∙ ap (civil_of (take 19 text)) same.0
+    ∙ b.exists) in
     a.moment ∙ (λ i. civil i -ℤ minutes i *ℤ pos 60_000_000_000) ∙ sym b.moment

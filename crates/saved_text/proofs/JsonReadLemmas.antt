@@ -1,5 +1,6 @@
 -- Rows from values of JSON.
-use Rattle.std.specs.Prelude.{ℕ, List, [], ◌∷◌, ◌++◌, Bool, true, false, Option, Some, None, Ok, Err, Result, IsTrue, IfOk, IfErr, is_ok, ◌↔◌, codes, unwrap_or, option_and_then}
+use Rattle.std.specs.Prelude.{ℕ, List, [], ◌∷◌, ◌++◌, Bool, true, false, Option, Some, None, Ok, Err, Result, IsTrue}
+use Rattle.std.specs.Prelude.{IfOk, IfErr, is_ok, ◌↔◌, codes, unwrap_or, option_and_then}
 use Rattle.std.proofs.Common.{◌≡◌, length, arith, refl, sym, ap, ◌∙◌, subst}
 use Rattle.std.proofs.lemmas.Bool.{true≢false}
 use Rattle.std.proofs.lemmas.Option.{none-some}
@@ -13,7 +14,8 @@ use Rattle.serde_json.specs.Read.{read}
 use Rattle.serde_json.specs.View.{items_view}
 use Rattle.serde_json.specs.declared.value.Value.{Value}
 use Rattle.saved_text.specs.Json.{row_value, rows_items, expires_value}
-use Rattle.saved_text.specs.JsonReading.{HasDeath, IsReadable, AreShown, ShowsRow, ShowsRows, IsNoRow, AreNoRows, IsShapeFault, IsJsonFault}
+use Rattle.saved_text.specs.JsonReading.{HasDeath, IsReadable, AreShown, ShowsRow, ShowsRows, IsNoRow, AreNoRows}
+use Rattle.saved_text.specs.JsonReading.{IsShapeFault, IsJsonFault}
 use Rattle.saved_text.specs.Row.{Shown}
 use Rattle.saved_text.specs.Saved.{IsCookieText, IsShown}
 use Rattle.saved_text.specs.declared.error.SavedTextError.{SavedTextError}
@@ -25,7 +27,8 @@ use Rattle.saved_text.specs.declared.row.SavedRow.{SavedRow}
 pub unparsed : (text : List ℕ) (e : ParseError) → ReadsPlain text (Err e) → ¬ (IsCookieText text)
 unparsed text e h p = true≢false (sym (h.accepted.1 (p.1.accepted.0 refl)))
 
-pub cookie_test : (text : List ℕ) (r : Result Seen ParseError) (b : Bool) → ReadsPlain text r → b ≡ is_ok r → IsTrue b ↔ IsCookieText text
+pub cookie_test : (text : List ℕ) (r : Result Seen ParseError) (b : Bool) → ReadsPlain text r → b ≡ is_ok r
+    → IsTrue b ↔ IsCookieText text
 cookie_test text (Ok s) b h e = (λ t. (s, h), λ p. e)
 cookie_test text (Err x) b h e = (λ t. absurd (true≢false (sym t ∙ e)), λ p. absurd (unparsed text x h p))
 
@@ -56,13 +59,19 @@ same_date : (t u : Shown) → row_value t ≡ row_value u → t.expires ≡ u.ex
 same_date t u e = sym (date_of_row t t.expires refl) ∙ ap date_in e ∙ date_of_row u u.expires refl
 
 pub no_row : (d : Data) (t : Shown) → d ≡ row_value t → ¬ (IsReadable t) → IsNoRow d
-no_row d t is none u e h = none (subst IsCookieText (same_raw u t (sym e ∙ is)) h.0, subst HasDeath (same_date u t (sym e ∙ is)) h.1)
+no_row d t is none u e h = none (
+  subst IsCookieText (same_raw u t (sym e ∙ is)) h.0,
+  subst HasDeath
+      (same_date u t (sym e ∙ is)) h.1,
+)
 
-pub row_ok : (d : Data) (t : Shown) (r : Result SavedRow SavedTextError) → d ≡ row_value t → IfOk r (IsShown t) → IfOk r (ShowsRow d)
+pub row_ok : (d : Data) (t : Shown) (r : Result SavedRow SavedTextError) → d ≡ row_value t → IfOk r (IsShown t)
+    → IfOk r (ShowsRow d)
 row_ok d t (Ok row) is h = (t, is, h)
 row_ok d t (Err e) is h = tt
 
-pub row_err : (d : Data) (t : Shown) (r : Result SavedRow SavedTextError) → d ≡ row_value t → IfErr r (IsShapeFault (¬ (IsReadable t))) → IfErr r (IsShapeFault (IsNoRow d))
+pub row_err : (d : Data) (t : Shown) (r : Result SavedRow SavedTextError) → d ≡ row_value t
+    → IfErr r (IsShapeFault (¬ (IsReadable t))) → IfErr r (IsShapeFault (IsNoRow d))
 row_err d t (Ok row) is h = tt
 row_err d t (Err e) is h = fault_of (¬ (IsReadable t)) (IsNoRow d) e (no_row d t is) h
 
@@ -73,7 +82,8 @@ abbrev pub items_onto : List Shown → Items → Items
 items_onto [] more = more
 items_onto (t ∷ ts) more = item (row_value t) (items_onto ts more)
 
-pub onto_more : (ts : List Shown) (t : Shown) (more : Items) → items_onto ts (item (row_value t) more) ≡ items_onto (ts ++ t ∷ []) more
+pub onto_more : (ts : List Shown) (t : Shown) (more : Items)
+    → items_onto ts (item (row_value t) more) ≡ items_onto (ts ++ t ∷ []) more
 onto_more [] t more = refl
 onto_more (u ∷ ts) t more = ap (item (row_value u)) (onto_more ts t more)
 
@@ -81,7 +91,8 @@ pub onto_none : (ts : List Shown) → items_onto ts no_items ≡ rows_items ts
 onto_none [] = refl
 onto_none (t ∷ ts) = ap (item (row_value t)) (onto_none ts)
 
-pub shown_more : (ts : List Shown) (rs : List SavedRow) (t : Shown) (r : SavedRow) → AreShown ts rs → IsShown t r → AreShown (ts ++ t ∷ []) (rs ++ r ∷ [])
+pub shown_more : (ts : List Shown) (rs : List SavedRow) (t : Shown) (r : SavedRow) → AreShown ts rs → IsShown t r
+    → AreShown (ts ++ t ∷ []) (rs ++ r ∷ [])
 shown_more [] [] t r h k = (k, tt)
 shown_more [] (q ∷ rs) t r h k = absurd h
 shown_more (u ∷ ts) [] t r h k = absurd h
@@ -103,7 +114,8 @@ abbrev items_in : Option Items → Items
 items_in (Some xs) = xs
 items_in None = no_items
 
-unread_at : (ts us : List Shown) (d : Data) (more : Items) → IsNoRow d → items_onto ts (item d more) ≡ rows_items us → ¬ (AllByRecursion IsReadable us)
+unread_at : (ts us : List Shown) (d : Data) (more : Items) → IsNoRow d → items_onto ts (item d more) ≡ rows_items us
+    → ¬ (AllByRecursion IsReadable us)
 unread_at [] [] d more none e h = true≢false (ap is_item e)
 unread_at [] (u ∷ us) d more none e h = none u (ap (first d) e) h.0
 unread_at (t ∷ ts) [] d more none e h = true≢false (ap is_item e)
@@ -118,7 +130,8 @@ pub record RowsSoFar (d : Data) (rs : List SavedRow) (rest : Items) : Type 0 whe
 pub rows_begin : (d : Data) (items : Items) → d ≡ array items → RowsSoFar d [] items
 rows_begin d items e = record { rows = []; are_shown = tt; split = e }
 
-pub rows_more : (d : Data) (rs : List SavedRow) (x : Data) (more : Items) (r : SavedRow) → RowsSoFar d rs (item x more) → ShowsRow x r → RowsSoFar d (rs ++ r ∷ []) more
+pub rows_more : (d : Data) (rs : List SavedRow) (x : Data) (more : Items) (r : SavedRow) → RowsSoFar d rs (item x more)
+    → ShowsRow x r → RowsSoFar d (rs ++ r ∷ []) more
 rows_more d rs x more r h p = record {
   rows = h.rows ++ p.0 ∷ [];
   are_shown = shown_more h.rows rs p.0 r h.are_shown p.2;
@@ -128,36 +141,43 @@ rows_more d rs x more r h p = record {
 rows_end : (d : Data) (rs : List SavedRow) → RowsSoFar d rs no_items → ShowsRows d rs
 rows_end d rs h = (h.rows, h.split ∙ ap array (onto_none h.rows), h.are_shown)
 
-pub rows_ended : (d : Data) (rs : List SavedRow) (vs : List Value) → RowsSoFar d rs (items_view vs) → length vs ≡ 0 → ShowsRows d rs
+pub rows_ended : (d : Data) (rs : List SavedRow) (vs : List Value) → RowsSoFar d rs (items_view vs) → length vs ≡ 0
+    → ShowsRows d rs
 rows_ended d rs [] h e = rows_end d rs h
 rows_ended d rs (v ∷ vs) h e = absurd (omega arith)
 
-pub rows_stop : (d : Data) (rs : List SavedRow) (x : Data) (more : Items) → RowsSoFar d rs (item x more) → IsNoRow x → AreNoRows d
-rows_stop d rs x more h none us e k = unread_at h.rows us x more none (ap (λ y. items_in (as_array y)) (sym h.split ∙ e)) k
+pub rows_stop : (d : Data) (rs : List SavedRow) (x : Data) (more : Items) → RowsSoFar d rs (item x more) → IsNoRow x
+    → AreNoRows d
+rows_stop d rs x more h none us e k = unread_at h.rows us x more none (ap (λ y. items_in (as_array y)) (sym h.split
+    ∙ e)) k
 
 pub no_array : (d : Data) → as_array d ≡ None → AreNoRows d
 no_array d e us is h = absurd (none-some _ (sym e ∙ ap as_array is))
 
 -- ---- faults
 
-pub fault_of_value : (none : Data → Type 0) (text : List ℕ) (d : Data) (e : SavedTextError) → read text ≡ Some d → IsShapeFault (none d) e → IsJsonFault none text e
+pub fault_of_value : (none : Data → Type 0) (text : List ℕ) (d : Data) (e : SavedTextError) → read text ≡ Some d
+    → IsShapeFault (none d) e → IsJsonFault none text e
 fault_of_value none text d fault.Shape is h = (d, is, h)
 fault_of_value none text d fault.OutOfMemory is h = tt
 fault_of_value none text d fault.NotText is h = absurd h
 fault_of_value none text d fault.Json is h = absurd h
 fault_of_value none text d (fault.Ron n) is h = absurd h
 
-pub fault_of_text : (none : Data → Type 0) (text : List ℕ) (e : SavedTextError) → IsJsonFault (λ d. ⊥) text e → IsJsonFault none text e
+pub fault_of_text : (none : Data → Type 0) (text : List ℕ) (e : SavedTextError) → IsJsonFault (λ d. ⊥) text e
+    → IsJsonFault none text e
 fault_of_text none text fault.Shape h = absurd h.2
 fault_of_text none text fault.OutOfMemory h = tt
 fault_of_text none text fault.NotText h = absurd h
 fault_of_text none text fault.Json h = h
 fault_of_text none text (fault.Ron n) h = absurd h
 
-pub read_ok : {A : Type 0} (shows : Data → A → Type 0) (text : List ℕ) (d : Data) (r : Result A SavedTextError) → read text ≡ Some d → IfOk r (shows d) → IfOk r (λ a. (e : Data) × (read text ≡ Some e) × shows e a)
+pub read_ok : {A : Type 0} (shows : Data → A → Type 0) (text : List ℕ) (d : Data) (r : Result A SavedTextError)
+    → read text ≡ Some d → IfOk r (shows d) → IfOk r (λ a. (e : Data) × (read text ≡ Some e) × shows e a)
 read_ok shows text d (Ok a) is h = (d, is, h)
 read_ok shows text d (Err e) is h = tt
 
-pub read_err : {A : Type 0} (none : Data → Type 0) (text : List ℕ) (d : Data) (r : Result A SavedTextError) → read text ≡ Some d → IfErr r (IsShapeFault (none d)) → IfErr r (IsJsonFault none text)
+pub read_err : {A : Type 0} (none : Data → Type 0) (text : List ℕ) (d : Data) (r : Result A SavedTextError)
+    → read text ≡ Some d → IfErr r (IsShapeFault (none d)) → IfErr r (IsJsonFault none text)
 read_err none text d (Ok a) is h = tt
 read_err none text d (Err e) is h = fault_of_value none text d e is h

@@ -1,5 +1,6 @@
 //! Dates of saved texts, as they are read: `date-time` of RFC 3339, section 5.6.
-ghost use Rattle.std.specs.Prelude.{◌≡◌, ◌≤◌, ◌<◌, ◌^◌, ◌-ℤ◌, ◌*ℤ◌, IsTrue, ℤ, pos, length, take, slice_range, MatchOption, IfSome, Option, option_map};
+ghost use Rattle.std.specs.Prelude.{◌≡◌, ◌≤◌, ◌<◌, ◌^◌, ◌-ℤ◌, ◌*ℤ◌, IsTrue, ℤ, pos, length, take, slice_range};
+ghost use Rattle.std.specs.Prelude.{MatchOption, IfSome, Option, option_map};
 ghost use Rattle.std.specs.Str.Parse.{digits_value, AllDigits};
 ghost use Rattle.jiff.specs.Words.{civil_nanos};
 ghost use Rattle.saved_text.specs.DateReading as spec;

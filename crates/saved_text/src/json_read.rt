@@ -3,7 +3,8 @@ ghost use Rattle.std.specs.Prelude.{◌≡◌, Some, IfOk, IfErr, MatchOption, o
 ghost use Rattle.serde_json.specs.Data.{Data};
 ghost use Rattle.serde_json.specs.Read.{read};
 ghost use Rattle.serde_json.specs.View.{view};
-ghost use Rattle.saved_text.specs.JsonReading.{HasDeath, IsReadable, ShowsRow, ShowsRows, IsNoRow, AreNoRows, IsShapeFault, IsJsonFault};
+ghost use Rattle.saved_text.specs.JsonReading.{HasDeath, IsReadable, ShowsRow, ShowsRows, IsNoRow, AreNoRows};
+ghost use Rattle.saved_text.specs.JsonReading.{IsShapeFault, IsJsonFault};
 ghost use Rattle.saved_text.specs.Parts.{domain_view, row_view};
 ghost use Rattle.saved_text.specs.Saved.{domain_shown, IsCookieText, IsDeath, IsShown};
 

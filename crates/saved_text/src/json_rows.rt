@@ -1,6 +1,7 @@
 //! Rows in JSON, as they are written.
 ghost use Rattle.std.specs.Prelude.{◌≡◌, ◌++◌, map, IfOk, OnOk, string_bytes};
-ghost use Rattle.saved_text.specs.Json.{row_text, domain_text, expires_text, tagged_text, list_text, row_lines, more_lines, path_lines, domain_lines, expires_lines};
+ghost use Rattle.saved_text.specs.Json.{row_text, domain_text, expires_text, tagged_text, list_text, row_lines};
+ghost use Rattle.saved_text.specs.Json.{more_lines, path_lines, domain_lines, expires_lines};
 ghost use Rattle.saved_text.specs.Saved.{shown, domain_shown, expires_shown};
 
 use crate::date_display::SavedDate;

@@ -1,5 +1,6 @@
 //! How strings are written in JSON (RFC 8259, section 7).
-ghost use Rattle.std.specs.Prelude.{◌≡◌, ◌∷◌, [], ◌≤◌, take, drop, length, MatchBool, IfNone, IfSome, ◌++◌, ◌<◌, OnOk, string_bytes};
+ghost use Rattle.std.specs.Prelude.{◌≡◌, ◌∷◌, [], ◌≤◌, take, drop, length, MatchBool, IfNone, IfSome, ◌++◌, ◌<◌, OnOk};
+ghost use Rattle.std.specs.Prelude.{string_bytes};
 ghost use Rattle.json.specs.Print.{escape_byte, quoted};
 ghost use Rattle.saved_text.specs.Written.{IsAsciiFirst};
 ghost use Rattle.saved_text.specs.JsonWritten.{AreUnescaped};

@@ -1,5 +1,6 @@
 //! The parts of a row of RON.
-ghost use Rattle.std.specs.Prelude.{◌≡◌, ◌∷◌, [], ◌++◌, ◌<◌, MatchResult, MatchBool, IfNone, IfSome, IsTrue, List, ℕ, string_bytes};
+ghost use Rattle.std.specs.Prelude.{◌≡◌, ◌∷◌, [], ◌++◌, ◌<◌, MatchResult, MatchBool, IfNone, IfSome, IsTrue, List, ℕ};
+ghost use Rattle.std.specs.Prelude.{string_bytes};
 ghost use Rattle.saved_text.specs.Ron.{string, bracketed, name, domain};
 ghost use Rattle.saved_text.specs.Grammar.Word.{the_name};
 ghost use Rattle.saved_text.specs.Grammar.Grammar.{sign};

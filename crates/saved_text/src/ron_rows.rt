@@ -1,6 +1,7 @@
 //! Rows in RON, as they are written.
 ghost use Rattle.std.specs.Prelude.{◌≡◌, ◌++◌, map, IfOk, OnOk, string_bytes};
-ghost use Rattle.saved_text.specs.RonLayout.{bool_layout, row_layout, rows_layout, domain_layout, expires_layout, ron_layout, tagged_layout};
+ghost use Rattle.saved_text.specs.RonLayout.{bool_layout, row_layout, rows_layout, domain_layout, expires_layout};
+ghost use Rattle.saved_text.specs.RonLayout.{ron_layout, tagged_layout};
 ghost use Rattle.saved_text.specs.Saved.{shown, domain_shown, expires_shown};
 
 use crate::date_display::SavedDate;

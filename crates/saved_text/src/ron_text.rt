@@ -1,5 +1,7 @@
 //! Strings of RON.
-ghost use Rattle.std.specs.Prelude.{◌≡◌, false, ◌++◌, ◌∷◌, [], ◌*◌, ◌+◌, ◌-◌, ◌<◌, ◌≤◌, ◌^◌, IfSome, IfNone, MatchResult, ◌≢◌, MatchOption, length, take, drop, List, ℕ, IsTrue, encode_utf8, string_bytes};
+ghost use Rattle.std.specs.Prelude.{◌≡◌, false, ◌++◌, ◌∷◌, [], ◌*◌, ◌+◌, ◌-◌, ◌<◌, ◌≤◌, ◌^◌, IfSome, IfNone};
+ghost use Rattle.std.specs.Prelude.{MatchResult, ◌≢◌, MatchOption, length, take, drop, List, ℕ, IsTrue, encode_utf8};
+ghost use Rattle.std.specs.Prelude.{string_bytes};
 ghost use Rattle.std.specs.List.{AllByRecursion};
 ghost use Rattle.saved_text.specs.Ron.{string, escape};
 ghost use Rattle.saved_text.specs.Letters.{is_digit, digit_value, is_letter, named, limit};

@@ -1,5 +1,6 @@
 //! How strings are written in RON.
-ghost use Rattle.std.specs.Prelude.{◌≡◌, ◌∷◌, [], ◌≤◌, take, drop, length, IfNone, IfSome, MatchBool, ◌++◌, ◌<◌, ◌||◌, IsTrue, IfOk, OnOk, flat_map, encode_utf8, string_bytes};
+ghost use Rattle.std.specs.Prelude.{◌≡◌, ◌∷◌, [], ◌≤◌, take, drop, length, IfNone, IfSome, MatchBool, ◌++◌, ◌<◌, ◌||◌};
+ghost use Rattle.std.specs.Prelude.{IsTrue, IfOk, OnOk, flat_map, encode_utf8, string_bytes};
 ghost use Rattle.std.specs.Char.{digit_char};
 ghost use Rattle.saved_text.specs.Written.{written_byte, quoted, AreSame, IsAsciiFirst};
 

@@ -12,4 +12,5 @@ returns c =
     c.args.nanos (to_z_pos w16 c.args.year (omega arith)) (to_z_pos w8 c.args.month (omega arith))
     (to_z_pos w8 c.args.day (omega arith)) (to_z_pos w8 c.args.hour (omega arith))
     (to_z_pos w8 c.args.minute (omega arith)) (to_z_pos w8 c.args.second (omega arith))
-    (to_z_pos w32 c.args.nanos (omega arith)) c.requires.year c.requires.nanos c.new.ensures.succeeds c.new.ensures.value
+    (to_z_pos w32 c.args.nanos (omega arith)) c.requires.year c.requires.nanos c.new.ensures.succeeds
+    c.new.ensures.value

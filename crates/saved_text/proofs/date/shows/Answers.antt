@@ -7,4 +7,5 @@ returns-then-blanked-form c = form_wrong c.args.text.now c.args.form.now c.loop-
     (λ e. c.if-blanked-form.true (c.blanked.ensures ∙ e))
 
 pub returns : goal.returns
-returns c = form_right c.args.text.now c.args.form.now c.if-text-form.false (λ k h. c.loop-i.invariant k (omega (arith, h)))
+returns c = form_right c.args.text.now c.args.form.now c.if-text-form.false (λ k h. c.loop-i.invariant k
+    (omega (arith, h)))

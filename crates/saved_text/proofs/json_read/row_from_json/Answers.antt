@@ -10,7 +10,9 @@ returns-in_err-value-clause-err c =
     rw (p.1, p.2) (fault_of_text IsNoRow c.args.text.now _ c.in_err-value.ensures.err)
 
 pub returns-clause-ok : goal.returns-clause-ok
-returns-clause-ok c = read_ok ShowsRow c.args.text.now (view c.in_ok-value.value) c.from_value.result c.in_ok-value.ensures.ok c.from_value.ensures.ok
+returns-clause-ok c = read_ok ShowsRow c.args.text.now (view c.in_ok-value.value) c.from_value.result
+    c.in_ok-value.ensures.ok c.from_value.ensures.ok
 
 pub returns-clause-err : goal.returns-clause-err
-returns-clause-err c = read_err IsNoRow c.args.text.now (view c.in_ok-value.value) c.from_value.result c.in_ok-value.ensures.ok c.from_value.ensures.err
+returns-clause-err c = read_err IsNoRow c.args.text.now (view c.in_ok-value.value) c.from_value.result
+    c.in_ok-value.ensures.ok c.from_value.ensures.err

@@ -10,7 +10,9 @@ returns-in_err-value-clause-err c =
     rw (p.1, p.2) (fault_of_text AreNoRows c.args.text.now _ c.in_err-value.ensures.err)
 
 pub returns-clause-ok : goal.returns-clause-ok
-returns-clause-ok c = read_ok (λ d rows. ShowsRows d rows.items) c.args.text.now (view c.in_ok-value.value) c.rows_from_value.result c.in_ok-value.ensures.ok c.rows_from_value.ensures.ok
+returns-clause-ok c = read_ok (λ d rows. ShowsRows d rows.items) c.args.text.now (view c.in_ok-value.value)
+    c.rows_from_value.result c.in_ok-value.ensures.ok c.rows_from_value.ensures.ok
 
 pub returns-clause-err : goal.returns-clause-err
-returns-clause-err c = read_err AreNoRows c.args.text.now (view c.in_ok-value.value) c.rows_from_value.result c.in_ok-value.ensures.ok c.rows_from_value.ensures.err
+returns-clause-err c = read_err AreNoRows c.args.text.now (view c.in_ok-value.value) c.rows_from_value.result
+    c.in_ok-value.ensures.ok c.rows_from_value.ensures.err

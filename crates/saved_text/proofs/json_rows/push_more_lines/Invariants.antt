@@ -5,7 +5,8 @@ use Rattle.saved_text.specs.Saved.{shown}
 use Rattle.saved_text.proofs.json_rows.push_more_lines.Given as goal
 
 abbrev pub invariant-loop-row : goal.invariant-loop-row
-invariant-loop-row l = string_bytes l.out ++ more_lines (map shown l.rest) ≡ string_bytes l.fn.out ++ more_lines (map shown l.fn.rows)
+invariant-loop-row l = string_bytes l.out ++ more_lines (map shown l.rest) ≡ string_bytes l.fn.out ++ more_lines
+    (map shown l.fn.rows)
 
 abbrev pub decreases-loop-row : goal.decreases-loop-row
 decreases-loop-row l = length l.rest

@@ -8,7 +8,9 @@ use Rattle.saved_text.proofs.json_rows.push_path_lines.Goals as goal
 pub returns : goal.returns
 returns c =
     let r = c.args.row.now in
-    steps (string_bytes c.args.out.now) (codes "[\n      ") ((quoted (string_bytes r.path)) ∷ (codes ",\n      ") ∷ (bool_text r.is_from_path_attr) ∷ (codes "\n    ]") ∷ []) (string_bytes c.push_str-3.new.self) (
+    steps (string_bytes c.args.out.now) (codes "[\n      ")
+    ((quoted (string_bytes r.path)) ∷ (codes ",\n      ") ∷ (bool_text r.is_from_path_attr) ∷ (codes
+    "\n    ]") ∷ []) (string_bytes c.push_str-3.new.self) (
       string_bytes c.push_str.new.self,
       c.in_ok-push_str.ensures.bytes,
       (
@@ -19,7 +21,8 @@ returns c =
           c.in_ok-push_str-2.ensures.bytes,
           (
             string_bytes c.push_bool.new.out,
-            c.in_ok-push_bool.ensures ∙ ap (λ t. string_bytes c.push_str-2.new.self ++ t) (bool_same r.is_from_path_attr),
+            c.in_ok-push_bool.ensures
+                ∙ ap (λ t. string_bytes c.push_str-2.new.self ++ t) (bool_same r.is_from_path_attr),
             c.in_ok-push_str-3.ensures.bytes,
           ),
         ),

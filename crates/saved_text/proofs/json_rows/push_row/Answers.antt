@@ -9,7 +9,11 @@ use Rattle.saved_text.proofs.json_rows.push_row.Goals as goal
 pub returns : goal.returns
 returns c =
     let r = c.args.row.now in
-    steps (string_bytes c.args.out.now) (codes "{\"raw_cookie\":") ((quoted (string_bytes r.raw_cookie)) ∷ (codes ",\"path\":[") ∷ (quoted (string_bytes r.path)) ∷ (codes ",") ∷ (bool_text r.is_from_path_attr) ∷ (codes "],\"domain\":") ∷ (domain_text (domain_shown r.domain)) ∷ (codes ",\"expires\":") ∷ (expires_text (expires_shown r.expires)) ∷ (codes "}") ∷ []) (string_bytes c.push_str-6.new.self) (
+    steps (string_bytes c.args.out.now) (codes "{\"raw_cookie\":")
+    ((quoted (string_bytes r.raw_cookie)) ∷ (codes ",\"path\":[") ∷ (quoted (string_bytes r.path)) ∷ (codes
+    ",") ∷ (bool_text r.is_from_path_attr) ∷ (codes "],\"domain\":") ∷ (domain_text
+    (domain_shown r.domain)) ∷ (codes ",\"expires\":") ∷ (expires_text (expires_shown r.expires)) ∷ (codes
+    "}") ∷ []) (string_bytes c.push_str-6.new.self) (
       string_bytes c.push_str.new.self,
       c.in_ok-push_str.ensures.bytes,
       (
@@ -26,7 +30,8 @@ returns c =
               c.in_ok-push_str-3.ensures.bytes,
               (
                 string_bytes c.push_bool.new.out,
-                c.in_ok-push_bool.ensures ∙ ap (λ t. string_bytes c.push_str-3.new.self ++ t) (bool_same r.is_from_path_attr),
+                c.in_ok-push_bool.ensures
+                    ∙ ap (λ t. string_bytes c.push_str-3.new.self ++ t) (bool_same r.is_from_path_attr),
                 (
                   string_bytes c.push_str-4.new.self,
                   c.in_ok-push_str-4.ensures.bytes,

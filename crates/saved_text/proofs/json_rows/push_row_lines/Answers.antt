@@ -9,7 +9,11 @@ use Rattle.saved_text.proofs.json_rows.push_row_lines.Goals as goal
 pub returns : goal.returns
 returns c =
     let r = c.args.row.now in
-    steps (string_bytes c.args.out.now) (codes "  {\n    \"raw_cookie\": ") ((quoted (string_bytes r.raw_cookie)) ∷ (codes ",\n    \"path\": ") ∷ (path_lines (shown r)) ∷ (codes ",\n    \"domain\": ") ∷ (domain_lines (domain_shown r.domain)) ∷ (codes ",\n    \"expires\": ") ∷ (expires_lines (expires_shown r.expires)) ∷ (codes "\n  }") ∷ []) (string_bytes c.push_str-5.new.self) (
+    steps (string_bytes c.args.out.now) (codes "  {\n    \"raw_cookie\": ")
+    ((quoted (string_bytes r.raw_cookie)) ∷ (codes ",\n    \"path\": ") ∷ (path_lines (shown r)) ∷ (codes
+    ",\n    \"domain\": ") ∷ (domain_lines (domain_shown r.domain)) ∷ (codes
+    ",\n    \"expires\": ") ∷ (expires_lines (expires_shown r.expires)) ∷ (codes "\n  }") ∷ [])
+    (string_bytes c.push_str-5.new.self) (
       string_bytes c.push_str.new.self,
       c.in_ok-push_str.ensures.bytes,
       (

@@ -5,11 +5,15 @@ use Rattle.saved_text.proofs.ron_write.push_quoted.Goals as goal
 pub loop-b-preserved : goal.loop-b-preserved
 loop-b-preserved c = (
   search rules,
-  more_written (string_bytes c.loop-b.out) c.loop-b.rest.now c.same_front.result.0.now c.same_front.result.1.now c.in-Some.next.now c.in-Some.b (string_bytes c.push_str.new.self) (string_bytes c.push_byte.new.out) _
-      c.loop-b.invariant.1 c.same_front.ensures.split c.same_front.ensures.same c.in-Some.ensures.some.0 c.in_ok-push_str.ensures.bytes c.in_ok-push_byte.ensures,
+  more_written (string_bytes c.loop-b.out) c.loop-b.rest.now c.same_front.result.0.now c.same_front.result.1.now
+      c.in-Some.next.now c.in-Some.b (string_bytes c.push_str.new.self) (string_bytes c.push_byte.new.out) _
+      c.loop-b.invariant.1 c.same_front.ensures.split c.same_front.ensures.same c.in-Some.ensures.some.0
+      c.in_ok-push_str.ensures.bytes c.in_ok-push_byte.ensures,
 )
 
 pub returns : goal.returns
 unfolding lib.Utf8.encode
-returns c = all_written (string_bytes c.loop-b.out) c.loop-b.rest.now c.same_front.result.0.now c.same_front.result.1.now (string_bytes c.push_str.new.self) _ (string_bytes c.args.out.now) c.args.text.now
-    c.loop-b.invariant.1 c.same_front.ensures.split c.same_front.ensures.same c.in_default.ensures.none c.in_ok-push_str.ensures.bytes c.in_ok-push-2.ensures.bytes
+returns c = all_written (string_bytes c.loop-b.out) c.loop-b.rest.now c.same_front.result.0.now
+    c.same_front.result.1.now (string_bytes c.push_str.new.self) _ (string_bytes c.args.out.now) c.args.text.now
+    c.loop-b.invariant.1 c.same_front.ensures.split c.same_front.ensures.same c.in_default.ensures.none
+    c.in_ok-push_str.ensures.bytes c.in_ok-push-2.ensures.bytes
