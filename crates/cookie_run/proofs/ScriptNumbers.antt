@@ -1,6 +1,7 @@
 -- The numbers of a script's texts, and the cookies that its sets make.
 use Rattle.std.proofs.Common.{◌≡◌, ◌≢◌, ℕ, ℤ, pos, ◌^◌, ◌<◌, ◌≤◌, Bool, true, false, List, [], ◌∷◌, length, drop}
-use Rattle.std.proofs.Common.{get_or, Option, Some, None, Result, Ok, Err, refl, sym, ap, ◌∙◌, ⊎_elim, arith, w64, subst}
+use Rattle.std.proofs.Common.{get_or, Option, Some, None, Result, Ok, Err, refl, sym, ap, ◌∙◌, ⊎_elim, arith, w64}
+use Rattle.std.proofs.Common.{subst}
 use Rattle.std.proofs.Common.{eqb-true, eq-eqb, le-leb, leb-true, lt-ltb, ltb-true}
 use Rattle.std.specs.Prelude.{neg_ℤ, option_and_then, if◌then◌else◌, nat_le, nat_lt, ◌==◌}
 use Rattle.std.specs.Char.{is_ascii_digit}

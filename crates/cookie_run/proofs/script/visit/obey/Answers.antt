@@ -18,11 +18,13 @@ returns-in-Open-clause-err g c = rw c.in-Open.is
 
 pub returns-in-Set-clause-ok : goal.returns-in-Set-clause-ok
 returns-in-Set-clause-ok g c = rw c.in-Set.is (if_ok c.set.result
-    (λ text h. h c.args.client.now.suffixes c.args.key.now c.args.client.now.rows (civil_nanos c.args.last.now)) c.set.ensures.ok)
+    (λ text h. h c.args.client.now.suffixes c.args.key.now c.args.client.now.rows (civil_nanos c.args.last.now))
+    c.set.ensures.ok)
 
 pub returns-in-Set-clause-err : goal.returns-in-Set-clause-err
 returns-in-Set-clause-err g c = rw c.in-Set.is (if_err c.set.result
-    (λ cause h. h c.args.client.now.suffixes c.args.key.now c.args.client.now.rows (civil_nanos c.args.last.now)) c.set.ensures.err)
+    (λ cause h. h c.args.client.now.suffixes c.args.key.now c.args.client.now.rows (civil_nanos c.args.last.now))
+    c.set.ensures.err)
 
 pub returns-in-Remove-clause-ok : goal.returns-in-Remove-clause-ok
 returns-in-Remove-clause-ok g c = rw c.in-Remove.is (if_ok c.remove.result
@@ -38,14 +40,15 @@ returns-in-Remove-clause-err g c = rw c.in-Remove.is
 
 pub returns-in-Get-clause-ok : goal.returns-in-Get-clause-ok
 returns-in-Get-clause-ok g c = rw c.in-Get.is (if_ok c.get.result
-    (λ text h. h c.args.client.now.suffixes c.args.key.now c.args.client.now.rows (civil_nanos c.args.last.now)) c.get.ensures.ok)
+    (λ text h. h c.args.client.now.suffixes c.args.key.now c.args.client.now.rows (civil_nanos c.args.last.now))
+    c.get.ensures.ok)
 
 pub returns-in-Get-clause-err : goal.returns-in-Get-clause-err
 returns-in-Get-clause-err g c = rw c.in-Get.is
     (if_err c.get.result (λ cause h. halts_of_any g.row.G-Error.Denot c.args.client.now.suffixes c.args.key.now
     (spec.Commands (Get c.in-Get.way c.in-Get.name)) c.args.client.now.rows c.args.client.now.rows
-    (civil_nanos c.args.last.now) c.args.visit.now cause (h c.args.client.now.suffixes c.args.key.now c.args.client.now.rows
-    (civil_nanos c.args.last.now))) c.get.ensures.err)
+    (civil_nanos c.args.last.now) c.args.visit.now cause (h c.args.client.now.suffixes c.args.key.now
+    c.args.client.now.rows (civil_nanos c.args.last.now))) c.get.ensures.err)
 
 pub returns-in-Deliver-clause-ok : goal.returns-in-Deliver-clause-ok
 returns-in-Deliver-clause-ok g c = rw c.in-Deliver.is (if_ok c.deliver.result
@@ -59,14 +62,15 @@ returns-in-Deliver-clause-err g c = rw c.in-Deliver.is
 
 pub returns-in-Lose-clause-ok : goal.returns-in-Lose-clause-ok
 returns-in-Lose-clause-ok g c = rw c.in-Lose.is (if_ok c.lose.result
-    (λ text h. h c.args.client.now.suffixes c.args.key.now c.args.client.now.rows (civil_nanos c.args.last.now)) c.lose.ensures.ok)
+    (λ text h. h c.args.client.now.suffixes c.args.key.now c.args.client.now.rows (civil_nanos c.args.last.now))
+    c.lose.ensures.ok)
 
 pub returns-in-Lose-clause-err : goal.returns-in-Lose-clause-err
 returns-in-Lose-clause-err g c = rw c.in-Lose.is
-    (if_err c.lose.result (λ cause h. halts_of_any g.row.G-Error.Denot c.args.client.now.suffixes c.args.key.now spec.Loses c.args.client.now.rows
-    c.args.client.now.rows
-    (civil_nanos c.args.last.now) c.args.visit.now cause (h c.args.client.now.suffixes c.args.key.now c.args.client.now.rows
-    (civil_nanos c.args.last.now))) c.lose.ensures.err)
+    (if_err c.lose.result (λ cause h. halts_of_any g.row.G-Error.Denot c.args.client.now.suffixes c.args.key.now
+    spec.Loses c.args.client.now.rows c.args.client.now.rows (civil_nanos c.args.last.now) c.args.visit.now cause
+    (h c.args.client.now.suffixes c.args.key.now c.args.client.now.rows (civil_nanos c.args.last.now)))
+    c.lose.ensures.err)
 
 pub returns-in-Receive-clause-ok : goal.returns-in-Receive-clause-ok
 returns-in-Receive-clause-ok g c = rw (c.in-Receive.is, sym c.deref.ensures.value)
