@@ -26,7 +26,8 @@ use Rattle.cookie_run.specs.declared.step.SessionError.{SessionError}
 use Rattle.cookie_run.specs.declared.step.SessionError.TheVariants.{EmptyName, Year}
 use Rattle.cookie_run.specs.declared.step.Way.{Way}
 use Rattle.cookie_run.proofs.Sessions.{get_insert, get_remove, taken_readable}
-use Rattle.cookie_run.proofs.Showing.{OnlyOne, Matches, Shows, get_on, utf8_bytes}
+use Rattle.cookie_run.specs.Brought.{Matches}
+use Rattle.cookie_run.proofs.Showing.{OnlyOne, Shows, get_on, utf8_bytes}
 use Rattle.cookie_run.proofs.Texts.{same_text, some_is_not_none}
 use Rattle.cookie_run.specs.declared.step.Command.{Command}
 use Rattle.cookie_run.specs.declared.step.Command.TheVariants.{Set, Remove, Get}

@@ -144,7 +144,7 @@ given_rows host url now rows given ks secure root_is reads a picked =
 abbrev pub record_of : Kept → Record
 record_of k = bare k.name k.value
 
-pairs_same : (host : List ℕ) (ks : List Kept) (given : List Row) → Pairwise (IsRowOf host) ks given
+pub pairs_same : (host : List ℕ) (ks : List Kept) (given : List Row) → Pairwise (IsRowOf host) ks given
     → map pair_of given ≡ map pair_at (map record_of ks)
 pairs_same host [] [] p = refl
 pairs_same host [] (r ∷ rs) p = absurd p

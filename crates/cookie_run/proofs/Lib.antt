@@ -17,6 +17,7 @@ pub mod Exchange
 pub mod Removals
 pub mod Promises
 pub mod Sites
+pub mod Brought
 pub mod Confined
 pub mod SentLines
 pub mod Receiving

@@ -34,7 +34,7 @@ pub plays_more : (list : List Rule) (key : List ℕ) (rows mid new : List Row) (
 plays_more list key rows mid new [] [] act t p s = (new, subst (λ rs. OneStep list key rs act t new) p s, refl)
 plays_more list key rows mid new [] (u ∷ us) act t p s = absurd p
 plays_more list key rows mid new (a ∷ acts) [] act t p s = absurd p
-plays_more list key rows mid new (a ∷ acts) (u ∷ us) act t p s = 
+plays_more list key rows mid new (a ∷ acts) (u ∷ us) act t p s =
     (p.0, p.1, plays_more list key p.0 mid new acts us act t p.2 s)
 
 pub told_more : (told : List (List Reading)) (t : List Reading) → all_told (told ++ t ∷ []) ≡ all_told told ++ t

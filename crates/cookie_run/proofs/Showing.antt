@@ -2,7 +2,7 @@
 use Rattle.std.proofs.Common.{◌≡◌, ◌≢◌, ℕ, ◌<◌, Bool, true, false, cond, ltb, List, All, [], ◌∷◌, ◌++◌, length, sym}
 use Rattle.std.proofs.Common.{refl, ap, ◌∙◌, subst, ⊎_elim, arith, Option, Some, None, Result}
 use Rattle.std.specs.Option.{option_or}
-use Rattle.std.specs.Prelude.{map, IfSome, ⊤}
+use Rattle.std.specs.Prelude.{map, IfSome}
 use Rattle.std.specs.List.{AllByRecursion}
 use Rattle.std.specs.Str.{bytes_eq, IsUtf8}
 use Rattle.std.specs.FinMap as finmap
@@ -34,6 +34,7 @@ use Rattle.cookie_run.specs.declared.step.Way.TheVariants as ways
 use Rattle.cookie_run.specs.declared.step.Reading.{Reading}
 use Rattle.cookie_run.specs.Site.{View, Entry, Kind, Plain, Signed, Sealed, kind_of, stored_name, with_at, entry_of}
 use Rattle.cookie_run.specs.Site.{IsReadAt, GetOn}
+use Rattle.cookie_run.specs.Brought.{StandsAs, Matches}
 use Rattle.cookie_run.specs.Play.{GetTells, any_nonce}
 use Rattle.cookie_run.proofs.Texts.{same_text, text_is}
 use Rattle.cookie_run.proofs.Sessions.{none_at, get_insert}
@@ -51,19 +52,6 @@ pub record OnlyOne (key : List ℕ) : Type 0 where
   pub sealed : (name v w text : List ℕ) → IsSealing key name v text → IsSealing key name w text → v ≡ w
   pub signed_text : (k value : List ℕ) → IsUtf8 value → IsUtf8 (signing k value)
   pub sealed_text : (k name value text : List ℕ) → IsSealing k name value text → IsUtf8 text
-
--- ---- what stands for an entry
-
-abbrev pub StandsAs : List ℕ → List ℕ → Kind → List ℕ → List ℕ → Type 0
-StandsAs key name Plain value text = text ≡ value
-StandsAs key name Signed value text = text ≡ signing key value
-StandsAs key name Sealed value text = IsUtf8 value × IsSealing key name value text
-
-abbrev pub Matches : List ℕ → List ℕ → Option (List ℕ) → Option Entry → Type 0
-Matches key name None None = ⊤
-Matches key name None (Some e) = ⊥
-Matches key name (Some text) None = ⊥
-Matches key name (Some text) (Some e) = StandsAs key name e.kind e.value text
 
 -- a session shows what a request reads
 pub record Shows (key : List ℕ) (session : Keyed) (seen : View) : Type 0 where

@@ -162,7 +162,7 @@ last_append : (last : ℤ) (ms ns : List ℤ) → last_of last (ms ++ ns) ≡ la
 last_append last [] ns = refl
 last_append last (m ∷ ms) ns = last_append m ms ns
 
-each_leads : (key : List ℕ) (laws : Laws key) (late : (n : ℤ) → IsMoment n → EndsLate n) (list : List Rule)
+pub each_leads : (key : List ℕ) (laws : Laws key) (late : (n : ℤ) → IsMoment n → EndsLate n) (list : List Rule)
     (host : List ℕ) (acts : List Act) (site : Site) (last : ℤ) (rows : List Row) (told : List (List Reading))
     (new : List Row) → IsReadBack host → Each (AnswersBySessions host) acts → Each (AnswersApart list host) acts
     → AllFollow last (moments_of acts) → SiteAgrees key host rows last site → Plays list key rows acts told new
@@ -183,7 +183,7 @@ each_leads key laws late list host (act ∷ acts) site last rows (told ∷ later
           ∙ sym (last_append last (moments_in act) (moments_of acts))) rest.2,
     )
 
-begins : (key host : List ℕ) → SiteAgrees key host [] the_beginning nothing
+pub begins : (key host : List ℕ) → SiteAgrees key host [] the_beginning nothing
 begins key host = record {
   cookies = [];
   agrees = record { good = tt; own = tt; apart = tt; others = tt };

@@ -24,7 +24,8 @@ use Rattle.cookie_run.specs.declared.step.Way.TheVariants as ways
 use Rattle.cookie_run.proofs.ReadBack.{IsGood}
 use Rattle.cookie_run.proofs.ReadCode.{cookies_are}
 use Rattle.cookie_run.proofs.Sessions.{none_at, get_insert, then_none, kept_readable, changed_readable, opened_readable}
-use Rattle.cookie_run.proofs.Showing.{OnlyOne, StandsAs, Matches, Shows, set_shows, kept_named, kept_stands, kept_text}
+use Rattle.cookie_run.specs.Brought.{StandsAs, Matches}
+use Rattle.cookie_run.proofs.Showing.{OnlyOne, Shows, set_shows, kept_named, kept_stands, kept_text}
 use Rattle.cookie_run.proofs.Showing.{named_text, not_nil, utf8_bytes, last_named, seen_named, view_original}
 use Rattle.cookie_run.proofs.Texts.{same_text, some_is_not_none}
 use Rattle.store_parts.specs.Expiry.{is_dead}

@@ -1,5 +1,5 @@
 -- What holds of every play on the rows of a client.
-use Rattle.std.specs.Prelude.{◌≡◌, ◌≤ℤ◌, pos, ℕ, ℤ, List, Some, ⊤}
+use Rattle.std.specs.Prelude.{◌≡◌, ◌≤ℤ◌, pos, ℕ, ℤ, List, [], Some, ⊤}
 use Rattle.cookie_text.specs.Printing.{encoded}
 use Rattle.cookie_text.specs.Record.{Record}
 use Rattle.publicsuffix.specs.Rules.{Rule}
@@ -8,15 +8,17 @@ use Rattle.cookie_store.specs.Confined.{IsConfined}
 use Rattle.cookie_store.specs.Rows.{Row}
 use Rattle.store_parts.specs.Schemes.{host_of}
 use Rattle.cookie_run.specs.Hosts.{secure_host}
-use Rattle.cookie_run.specs.Moments.{AllFollow, the_beginning}
+use Rattle.cookie_run.specs.Moments.{AllFollow, last_of, the_beginning}
 use Rattle.cookie_run.specs.declared.step.FaultKind.{FaultKind}
 use Rattle.cookie_run.specs.declared.step.Reading.{Reading}
 use Rattle.cookie_run.specs.Accept.{Accepts, Takes}
 use Rattle.cookie_run.specs.declared.step.LineEnd.{LineEnd}
 use Rattle.cookie_run.specs.declared.step.LineEnd.TheVariants.{Stored, Refused, NotText}
 use Rattle.cookie_run.specs.Acts.{Act, moments_of}
-use Rattle.cookie_run.specs.Headline.{SitesReadTheirOwn, SitesReadTheirOwnUntil}
-use Rattle.cookie_run.specs.Play.{IsRun, IsRunUntil}
+use Rattle.cookie_run.specs.Headline.{IsSite, EachReadsOn, SitesReadTheirOwn, SitesReadTheirOwnUntil}
+use Rattle.cookie_run.specs.Play.{Plays, IsRun, IsRunUntil}
+use Rattle.cookie_run.specs.Brought.{BringsSite}
+use Rattle.cookie_run.specs.Site.{Site, nothing, live}
 use Rattle.cookie_run.specs.Sent.{IsSent, IsRowFor, IsTaken}
 
 -- what a play whose moments are in order reads, its sites read of their own
@@ -30,6 +32,14 @@ abbrev pub EachStoppedPlayIsRead : List ℕ → Type 0
 EachStoppedPlayIsRead key =
     (list : List Rule) (acts : List Act) (step : ℕ) (kind : FaultKind) (readings : List Reading)
     → IsRunUntil list key acts step kind readings → SitesReadTheirOwnUntil list acts step kind readings
+
+-- and what a play that ended left, its sites' requests are brought
+abbrev pub RowsAreTheSites : List ℕ → Type 0
+RowsAreTheSites key =
+    (list : List Rule) (acts : List Act) (told : List (List Reading)) (rows : List Row)
+    → AllFollow the_beginning (moments_of acts) → Plays list key [] acts told rows
+    → (host : List ℕ) → IsSite list host acts → (end : Site) × EachReadsOn host nothing acts told end
+    × ((now : ℤ) → last_of the_beginning (moments_of acts) ≤ℤ now → BringsSite key host rows now (live end now))
 
 -- an answer touches the rows that its host may, and no other
 abbrev pub AnswersAreConfined : Type 0

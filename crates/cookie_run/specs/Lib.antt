@@ -11,6 +11,7 @@ pub mod Jar
 pub mod Readings
 pub mod Play
 pub mod Headline
+pub mod Brought
 pub mod Sent
 pub mod Laws
 pub mod Counted

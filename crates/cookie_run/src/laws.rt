@@ -3,7 +3,7 @@ ghost use Rattle.cookie_run.specs.Laws as law;
 
 use cookie::Key;
 use cookie::laws::{one_value, texts_are_utf8};
-use cookie_text::laws::encoded_records_read_back;
+use cookie_text::laws::{encoded_records_read_back, joined_pairs_split};
 
 /// At each of its https requests a site reads, in the way it was set, what its own delivered
 /// commands leave: the last set, not removed, not dead. `until` says it as far as a play came that
@@ -13,6 +13,19 @@ pub fn sites_read_their_own(key: &Key)
     ensures until { law.EachStoppedPlayIsRead key.now }
 {
     encoded_records_read_back();
+    one_value();
+    texts_are_utf8();
+    let _ = key.encryption();
+}
+
+/// Where a play came to its end, the live rows under a site's host are what is live of the site,
+/// each stored name once, with its value, its signing or a sealing; the header of a request to the
+/// site at https, split and decoded, gives just these, and no error but want of memory.
+pub fn rows_are_the_sites(key: &Key)
+    ensures { law.RowsAreTheSites key.now }
+{
+    encoded_records_read_back();
+    joined_pairs_split();
     one_value();
     texts_are_utf8();
     let _ = key.encryption();

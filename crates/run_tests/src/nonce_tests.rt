@@ -41,6 +41,17 @@ fn get(alloc: Global, way: Way, name: &str) -> Result<Command, AllocError> {
     Ok(Command::Get(way, text(alloc, name)?))
 }
 
+// Whether a play reads this.
+fn reads(alloc: Global, steps: &[Step], rng: &mut Numbered, wanted: &[Reading]) -> bool {
+    let Ok(list) = List::parse(alloc, b"com") else {
+        return false;
+    };
+    match play(alloc, list, &zero_key(), steps, rng) {
+        Ok(readings) => readings.as_slice() == wanted,
+        Err(_) => false,
+    }
+}
+
 // Two sets are sealed; all other commands, and a set that is refused for its name, need no nonce.
 #[test]
 fn fills_once_for_each_sealed_set(rt: HostRuntime) -> Result<(), Fail> {
@@ -62,13 +73,11 @@ fn fills_once_for_each_sealed_set(rt: HostRuntime) -> Result<(), Fail> {
         delivery: Delivery::At(second(0)),
     };
     let mut rng = Numbered { fills: 0 };
-    let list = List::parse(alloc, b"com")?;
-    let readings = play(alloc, list, &zero_key(), &[step], &mut rng)?;
     let wanted = [
         Reading::Refused(SessionError::EmptyName),
         Reading::Value(Way::Sealed, text(alloc, "b")?, Some(text(alloc, "1")?)),
     ];
-    assert_eq!(rt; readings.as_slice(), wanted.as_slice());
+    assert!(rt; reads(alloc, &[step], &mut rng, &wanted));
     assert_eq!(rt; rng.fills, 2);
     Ok(())
 }

@@ -1,9 +1,9 @@
 //! Plays of one client and a site, where their steps go wrong or hold what no script says.
 use crate::fixtures::{beginning, cookie, second, text, zero_key};
-use crate::generators::{failing, zeros};
+use crate::generators::{Generator, failing, zeros};
 use cookie::SameSite;
 use cookie_run::play::play;
-use cookie_run::{Command, Delivery, FaultKind, Reading, SessionError, Step, Way};
+use cookie_run::{Command, Delivery, Fault, FaultKind, Reading, SessionError, Step, Way};
 use jiff::SignedDuration;
 use jiff::civil::DateTime;
 use publicsuffix::List;
@@ -34,7 +34,36 @@ fn get(alloc: Global, name: &str) -> Result<Command, AllocError> {
     Ok(Command::Get(Way::Plain, text(alloc, name)?))
 }
 
-// Whether a play of an exchange and a header stops so, after so many readings.
+// A play that begins with no row and `com` for its public suffixes.
+fn played(
+    alloc: Global,
+    steps: &[Step],
+    rng: &mut Generator,
+) -> Option<Result<Vec<Reading>, Fault>> {
+    let list = List::parse(alloc, b"com").ok()?;
+    Some(play(alloc, list, &zero_key(), steps, rng))
+}
+
+// Whether a play reads this.
+fn reads(alloc: Global, steps: &[Step], rng: &mut Generator, wanted: &[Reading]) -> bool {
+    match played(alloc, steps, rng) {
+        Some(Ok(readings)) => readings.as_slice() == wanted,
+        _ => false,
+    }
+}
+
+// An exchange of two commands that are refused, and a header.
+fn visit_and_look(alloc: Global, at: DateTime, delivery: Delivery) -> Result<[Step; 2], Fail> {
+    let commands = vec![in alloc; set(alloc, "", "1")?, get(alloc, "")?]?;
+    let first = exchange(alloc, at, commands, delivery)?;
+    let later = Step::Header {
+        url: Url::parse(alloc, "https://shop.com/")?,
+        at: second(8),
+    };
+    Ok([first, later])
+}
+
+// Whether a play of them stops so, after so many readings.
 fn stops(
     alloc: Global,
     at: DateTime,
@@ -43,19 +72,13 @@ fn stops(
     kind: FaultKind,
     count: usize,
 ) -> Result<bool, Fail> {
-    let commands = vec![in alloc; set(alloc, "", "1")?, get(alloc, "")?]?;
-    let first = exchange(alloc, at, commands, delivery)?;
-    let later = Step::Header {
-        url: Url::parse(alloc, "https://shop.com/")?,
-        at: second(8),
-    };
-    let list = List::parse(alloc, b"com")?;
-    match play(alloc, list, &zero_key(), &[first, later], &mut zeros()) {
-        Ok(_) => Ok(false),
-        Err(fault) => {
+    let steps = visit_and_look(alloc, at, delivery)?;
+    match played(alloc, &steps, &mut zeros()) {
+        Some(Err(fault)) => {
             let is_here = fault.kind == kind && fault.step == step;
             Ok(is_here && fault.readings.len() == count && are_refusals(&fault.readings))
         }
+        _ => Ok(false),
     }
 }
 
@@ -102,9 +125,7 @@ fn goes_on_where_the_generator_fails(rt: HostRuntime) -> Result<(), Fail> {
         Reading::Value(Way::Plain, text(alloc, "b")?, Some(text(alloc, "2")?)),
         Reading::Value(Way::Sealed, text(alloc, "a")?, None),
     ];
-    let list = List::parse(alloc, b"com")?;
-    let readings = play(alloc, list, &zero_key(), &steps, &mut failing())?;
-    assert!(rt; readings.as_slice() == wanted.as_slice());
+    assert!(rt; reads(alloc, &steps, &mut failing(), &wanted));
     Ok(())
 }
 
@@ -126,12 +147,10 @@ fn a_site_reads_whatever_its_attributes(rt: HostRuntime) -> Result<(), Fail> {
         exchange(alloc, second(0), sets, Delivery::At(second(0)))?,
         exchange(alloc, second(1), gets, Delivery::At(second(1)))?,
     ];
-    let list = List::parse(alloc, b"com")?;
-    let readings = play(alloc, list, &zero_key(), &steps, &mut zeros())?;
     let wanted = [
         Reading::Value(Way::Plain, text(alloc, "a b")?, Some(text(alloc, "1;=")?)),
         Reading::Value(Way::Plain, text(alloc, "c")?, Some(text(alloc, "")?)),
     ];
-    assert!(rt; readings.as_slice() == wanted.as_slice());
+    assert!(rt; reads(alloc, &steps, &mut zeros(), &wanted));
     Ok(())
 }

@@ -1,0 +1,20 @@
+use Rattle.std.proofs.Common.{ap, length, sym, ◌∙◌}
+use Rattle.cookie_run.proofs.Brought.{sites_brought}
+use Rattle.cookie_run.proofs.Exchange.{Laws}
+use Rattle.cookie_run.proofs.Promises.{ends_late, line_utf8}
+use Rattle.cookie_run.proofs.Showing.{OnlyOne}
+use Rattle.cookie_run.proofs.laws.rows_are_the_sites.Goals as goal
+
+pub returns : goal.returns
+returns c =
+    let half = ap length (sym c.encryption.ensures.half) ∙ c.encryption.ensures.len in
+    let one : OnlyOne c.args.key.now =
+    record {
+      signed = c.one_value.ensures.signed c.args.key.now;
+      sealed = λ name v w text. c.one_value.ensures.sealed c.args.key.now name v w text half;
+      signed_text = c.texts_are_utf8.ensures.signed;
+      sealed_text = c.texts_are_utf8.ensures.sealed;
+    } in
+    let laws : Laws c.args.key.now =
+    record { back = c.encoded_records_read_back.ensures; only = one; utf8 = line_utf8 } in
+    sites_brought c.args.key.now laws ends_late c.joined_pairs_split.ensures
