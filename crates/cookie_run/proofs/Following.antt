@@ -38,9 +38,9 @@ skips true x y e = absurd (false≢true (sym e))
 skips false x y e = refl
 
 -- an empty line is passed over
-pub passes_over : (list : List Rule) (key : List ℕ) (line : List ℕ) (rows : List Row) (last : ℤ) (visit : Option Visit)
-    (text : List ℕ)
-    → line ≡ [] → text ≡ [] → Goes list key (λ r. after_line r line) rows last visit rows last visit text
+pub passes_over : (list : List Rule) (key : List ℕ) (line : List ℕ) (rows : List Row) (last : ℤ)
+    (visit : Option Visit) (text : List ℕ) → line ≡ [] → text ≡ [] → Goes list key (λ r. after_line r line) rows last
+    visit rows last visit text
 passes_over list key line rows last visit text e empty start r output s = (
   r,
   picks (bytes_eq line []) (Ok r) (done r (spec.read_line line)) (empty_line line e),
@@ -62,8 +62,7 @@ read_led r line read some e = skips (bytes_eq line []) (Ok r) (done r (spec.read
 
 -- its text has a fault
 pub misreads : (Error : Type 0) (list : List Rule) (key : List ℕ) (line : List ℕ) (rows : List Row) (last : ℤ)
-    (visit : Option Visit)
-    (cause : Cause) → 0 < length line → (spec.read_line line ≡ Err cause) ⊎ (cause ≡ Memory)
+    (visit : Option Visit) (cause : Cause) → 0 < length line → (spec.read_line line ≡ Err cause) ⊎ (cause ≡ Memory)
     → Halts Error list key (λ r. after_line r line) rows last visit cause rows
 misreads Error list key line rows last visit cause some (inl e) start r output s = inl
     (inl (read_led r line (Err cause) some e), refl)
@@ -72,9 +71,8 @@ misreads Error list key line rows last visit cause some (inr e) start r output s
 
 -- its moment is before the last
 pub comes_back : (Error : Type 0) (list : List Rule) (key : List ℕ) (line : List ℕ) (rows : List Row) (last : ℤ)
-    (visit : Option Visit)
-    (read : Line) → 0 < length line → spec.read_line line ≡ Ok (line_of read) → goes_back last (line_of read) ≡ true
-    → Halts Error list key (λ r. after_line r line) rows last visit Back rows
+    (visit : Option Visit) (read : Line) → 0 < length line → spec.read_line line ≡ Ok (line_of read)
+    → goes_back last (line_of read) ≡ true → Halts Error list key (λ r. after_line r line) rows last visit Back rows
 comes_back Error list key line rows last visit read some e back start r output s =
     inl (
       inl (read_led r line (Ok (line_of read)) some e ∙ picks (goes_back r.last (line_of read)) (Err Back)
@@ -83,8 +81,7 @@ comes_back Error list key line rows last visit read some e back start r output s
     )
 
 led : (list : List Rule) (key : List ℕ) (start rows : List Row) (r : Reached) (last : ℤ) (visit : Option Visit)
-    (output line : List ℕ)
-    (read : Line) → Stands list key start r rows last visit output → 0 < length line
+    (output line : List ℕ) (read : Line) → Stands list key start r rows last visit output → 0 < length line
     → spec.read_line line ≡ Ok (line_of read) → goes_back last (line_of read) ≡ false
     → after_line r line ≡ obeyed r.acts r.last r.now (line_of read)
 led list key start rows r last visit output line read s some e forth =
@@ -101,9 +98,8 @@ goes_on list key line rows new_rows last new_last visit new_visit read text some
     (g.0, led list key start rows r last visit output line read s some e forth ∙ g.1, g.2)
 
 pub halts_there : (Error : Type 0) (list : List Rule) (key : List ℕ) (line : List ℕ) (rows new_rows : List Row)
-    (last : ℤ)
-    (visit : Option Visit) (read : Line) (cause : Cause) → 0 < length line → spec.read_line line ≡ Ok (line_of read)
-    → goes_back last (line_of read) ≡ false
+    (last : ℤ) (visit : Option Visit) (read : Line) (cause : Cause) → 0 < length line
+    → spec.read_line line ≡ Ok (line_of read) → goes_back last (line_of read) ≡ false
     → Halts Error list key (λ r. obeyed r.acts r.last r.now (line_of read)) rows last visit cause new_rows
     → Halts Error list key (λ r. after_line r line) rows last visit cause new_rows
 halts_there Error list key line rows new_rows last visit read cause some e forth halts start r output s =

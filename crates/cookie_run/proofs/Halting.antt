@@ -42,8 +42,7 @@ true_false e = cc
 -- ---- what the lines so far print
 
 prints_at : (list : List Rule) (key : List ℕ) (start rows : List Row) (acts : List Act) (now : Now)
-    (visit : Option Visit)
-    (told : List (List Reading)) (front : List Reading) (output : List ℕ)
+    (visit : Option Visit) (told : List (List Reading)) (front : List Reading) (output : List ℕ)
     → Plays list key start acts told rows → IsOpen key rows now visit front
     → AllByRecursion IsAnswered (all_told told ++ front) → output ≡ readings_text (all_told told ++ front)
     → (all : List (List Reading)) × Plays list key start (acts ++ left_open now) all rows
@@ -58,8 +57,8 @@ prints_at list key start rows acts Closed None told front output plays is_open a
       prints ∙ ap readings_text alone,
     )
 prints_at list key start rows acts Closed (Some v) told front output plays is_open answered prints = absurd is_open
-prints_at list key start rows acts (Within url at cs) None told front output plays is_open answered prints =
-    absurd is_open
+prints_at list key start rows acts (Within url at cs) None told front output plays is_open answered prints = absurd
+    is_open
 prints_at list key start rows acts (Within url at cs) (Some v) told front output plays is_open answered prints = (
   told ++ front ∷ [],
   plays_more list key start rows rows acts told (Visits url at cs Never) front plays
@@ -70,11 +69,10 @@ prints_at list key start rows acts (Within url at cs) (Some v) told front output
 
 -- what was printed is what the steps so far print, the open session lost
 pub prints_all : (list : List Rule) (key : List ℕ) (start rows : List Row) (r : Reached) (last : ℤ)
-    (visit : Option Visit)
-    (output : List ℕ) → Stands list key start r rows last visit output → Prints list key start r output rows
+    (visit : Option Visit) (output : List ℕ) → Stands list key start r rows last visit output
+    → Prints list key start r output rows
 prints_all list key start rows r last visit output s = prints_at list key start rows r.acts r.now visit s.told s.front
-    output
-    s.plays s.is_open s.answered s.prints
+    output s.plays s.is_open s.answered s.prints
 
 -- ---- faults
 
@@ -84,8 +82,8 @@ closed key rows Closed front h = refl
 closed key rows (Within u a cs) front h = absurd h
 
 pub none_open : (list : List Rule) (key : List ℕ) (start rows : List Row) (r : Reached) (last : ℤ)
-    (visit : Option Visit) (output : List ℕ)
-    → Stands list key start r rows last visit output → visit ≡ None → r.now ≡ Closed
+    (visit : Option Visit) (output : List ℕ) → Stands list key start r rows last visit output → visit ≡ None
+    → r.now ≡ Closed
 none_open list key start rows r last visit output s e = closed key rows r.now s.front
     (subst (λ o. IsOpen key rows r.now o s.front) e s.is_open)
 
@@ -111,8 +109,8 @@ within_at key rows Closed (Some v) front h some = absurd h
 within_at key rows (Within u a cs) (Some v) front h some = Is u a cs refl
 
 pub some_open : (list : List Rule) (key : List ℕ) (start rows : List Row) (r : Reached) (last : ℤ)
-    (visit : Option Visit) (output : List ℕ)
-    → Stands list key start r rows last visit output → is_none visit ≡ false → IsWithin r.now
+    (visit : Option Visit) (output : List ℕ) → Stands list key start r rows last visit output → is_none visit ≡ false
+    → IsWithin r.now
 some_open list key start rows r last visit output s some = within_at key rows r.now visit s.front s.is_open some
 
 pub open_open : (r : Reached) (url : Parts) (at : ℤ) → IsWithin r.now
@@ -149,8 +147,7 @@ set_fault Error r way c refusals.Rng (Is u a cs is) h may =
 set_fault Error r way c refusals.OutOfMemory within h may = absurd h
 
 pub set_halts : (Error : Type 0) (list : List Rule) (key : List ℕ) (error : SessionError) (cause : Cause)
-    (rows : List Row) (last : ℤ)
-    (visit : Option Visit) (way : Way) (c : Seen) → is_none visit ≡ false
+    (rows : List Row) (last : ℤ) (visit : Option Visit) (way : Way) (c : Seen) → is_none visit ≡ false
     → Refuses way c.cookie error ⊎ ((error ≡ refusals.OutOfMemory) × (set_refusal way c.cookie ≡ None))
     → (error ≡ refusals.Rng → Error) → cause ≡ cause_of error
     → Halts Error list key (λ r. obeyed r.acts r.last r.now (spec.Commands (Set way c))) rows last visit cause rows
@@ -207,10 +204,9 @@ remove_halts list key error cause rows last visit way name now some late (inr me
 
 -- the rows stay, where memory was refused before a line was taken
 pub no_memory : (Error : Type 0) (list : List Rule) (key : List ℕ) (start rows : List Row) (r : Reached) (last : ℤ)
-    (visit : Option Visit)
-    (output : List ℕ)
-    (led : Result Reached Cause) (cause : Cause) → Stands list key start r rows last visit output → cause ≡ Memory
-    → (HasFault Error r led cause × (rows ≡ rows)) ⊎ ((cause ≡ Memory) × PrintsUntil list key start r led output rows)
+    (visit : Option Visit) (output : List ℕ) (led : Result Reached Cause) (cause : Cause)
+    → Stands list key start r rows last visit output → cause ≡ Memory → (HasFault Error r led cause × (rows ≡ rows)) ⊎
+    ((cause ≡ Memory) × PrintsUntil list key start r led output rows)
 no_memory Error list key start rows r last visit output led cause s is = inr
     (is, inl (prints_all list key start rows r last visit output s))
 
@@ -265,8 +261,7 @@ half_receive_at : (list : List Rule) (key : List ℕ) (start rows new : List Row
     → (next : Reached) × (act : Act) × (obeyed acts m now (spec.Receives url answer at) ≡ Ok next)
     × (next.acts ≡ acts ++ act ∷ []) × PrintsHalf list key start acts act output new
 half_receive_at list key start rows new acts m Closed None told front output url answer n at plays is_open answered
-    prints
-    none stopped = (
+    prints none stopped = (
       record { acts = acts ++ Answers url answer at ∷ []; now = Closed; last = at },
       Answers url answer at,
       refl,
@@ -285,18 +280,14 @@ half_receive_at list key start rows new acts m Closed (Some v) told front output
     prints none stopped =
     absurd is_open
 half_receive_at list key start rows new acts m (Within u a cs) None told front output url answer n at plays is_open
-    answered
-    prints none stopped =
-    absurd is_open
+    answered prints none stopped = absurd is_open
 half_receive_at list key start rows new acts m (Within u a cs) (Some v) told front output url answer n at plays is_open
     answered prints none stopped =
     absurd (true_false none)
 
 pub half_receive : (list : List Rule) (key : List ℕ) (start rows new : List Row) (r : Reached) (last : ℤ)
-    (visit : Option Visit)
-    (output : List ℕ)
-    (url : Parts) (answer : List (List ℕ)) (n : ℕ) (at : ℤ) → Stands list key start r rows last visit output
-    → is_some visit ≡ false → IsStopped list rows url at answer n new
+    (visit : Option Visit) (output : List ℕ) (url : Parts) (answer : List (List ℕ)) (n : ℕ) (at : ℤ)
+    → Stands list key start r rows last visit output → is_some visit ≡ false → IsStopped list rows url at answer n new
     → PrintsUntil list key start r (obeyed r.acts r.last r.now (spec.Receives url answer at)) output new
 half_receive list key start rows new r last visit output url answer n at s none stopped =
     inr (half_receive_at list key start rows new r.acts r.last r.now visit s.told s.front output url answer n at s.plays
@@ -312,9 +303,7 @@ fault_of_any Error r led cause (inl own) = inl own
 fault_of_any Error r led cause (inr failed) = absurd failed.1
 
 halt_of_any : (Error : Type 0) (list : List Rule) (key : List ℕ) (start : List Row) (r : Reached)
-    (led : Result Reached Cause)
-    (output : List ℕ)
-    (cause : Cause) (rows new : List Row)
+    (led : Result Reached Cause) (output : List ℕ) (cause : Cause) (rows new : List Row)
     → (HasFault ⊥ r led cause × (new ≡ rows)) ⊎ ((cause ≡ Memory) × PrintsUntil list key start r led output new)
     → (HasFault Error r led cause × (new ≡ rows)) ⊎ ((cause ≡ Memory) × PrintsUntil list key start r led output new)
 halt_of_any Error list key start r led output cause rows new (inl fault) = inl
@@ -322,9 +311,7 @@ halt_of_any Error list key start r led output cause rows new (inl fault) = inl
 halt_of_any Error list key start r led output cause rows new (inr memory) = inr memory
 
 pub halts_of_any : (Error : Type 0) (list : List Rule) (key : List ℕ) (line : spec.Line) (rows new : List Row)
-    (last : ℤ)
-    (visit : Option Visit) (cause : Cause)
-    → Halts ⊥ list key (λ r. obeyed r.acts r.last r.now line) rows last visit cause new
-    → Halts Error list key (λ r. obeyed r.acts r.last r.now line) rows last visit cause new
+    (last : ℤ) (visit : Option Visit) (cause : Cause) → Halts ⊥ list key (λ r. obeyed r.acts r.last r.now line) rows
+    last visit cause new → Halts Error list key (λ r. obeyed r.acts r.last r.now line) rows last visit cause new
 halts_of_any Error list key line rows new last visit cause halts start r output s =
     halt_of_any Error list key start r (obeyed r.acts r.last r.now line) output cause rows new (halts start r output s)

@@ -85,8 +85,7 @@ a_set = refl
 
 -- `set host a 1 -60 -`
 an_age : read_line (codes "set" ++ 9 ∷ codes "host" ++ 9 ∷ codes "a" ++ 9 ∷ codes "1" ++ 9 ∷ codes "-60" ++ 9 ∷ codes
-    "-")
-    ≡ Ok (Commands (Set Host (unsliced (dated (codes "a") (codes "1") (Some (negsuc 59_999_999_999)) None))))
+    "-") ≡ Ok (Commands (Set Host (unsliced (dated (codes "a") (codes "1") (Some (negsuc 59_999_999_999)) None))))
 unfolding read_line percent_decode is_utf8 chars lib.Utf8.encode
 an_age = refl
 
@@ -100,9 +99,8 @@ a_get = refl
 
 a_delivery : read_line (codes "deliver" ++ 9 ∷ codes "2024-02-29T00:00:00Z") ≡ Ok
     (Delivers (pos 1_709_164_800_000_000_000))
-unfolding read_line percent_decode is_utf8 chars lib.Utf8.encode moment_of date_of civil_nanos days_from_civil day_count
-    days_of_years
-    days_of_months
+unfolding read_line percent_decode is_utf8 chars lib.Utf8.encode moment_of date_of civil_nanos days_from_civil
+    day_count days_of_years days_of_months
 a_delivery = refl
 
 a_loss : read_line (codes "lose") ≡ Ok Loses

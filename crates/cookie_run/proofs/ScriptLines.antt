@@ -156,8 +156,8 @@ set_read (p ∷ q ∷ r ∷ s ∷ t ∷ []) d e f g h way age end low high w a x
     λ i. for_way (w i) (λ v. with_end (cookie_line v q.now r.now) (a i) (x i))
 set_read (p ∷ q ∷ r ∷ s ∷ t ∷ u ∷ more) d e f g h way age end low high w a x = absurd (omega (arith, high))
 
-pub set_few : (fields : List (Bor (List ℕ))) → length fields < 5
-    → read_set (map (λ field. field.now) fields) ≡ Err Fields
+pub set_few : (fields : List (Bor (List ℕ))) → length fields < 5 → read_set (map (λ field. field.now) fields) ≡ Err
+    Fields
 set_few [] few = refl
 set_few (p ∷ []) few = refl
 set_few (p ∷ q ∷ []) few = refl
@@ -165,8 +165,8 @@ set_few (p ∷ q ∷ r ∷ []) few = refl
 set_few (p ∷ q ∷ r ∷ s ∷ []) few = refl
 set_few (p ∷ q ∷ r ∷ s ∷ t ∷ more) few = absurd (omega (arith, few))
 
-pub set_many : (fields : List (Bor (List ℕ))) → 6 ≤ length fields
-    → read_set (map (λ field. field.now) fields) ≡ Err Fields
+pub set_many : (fields : List (Bor (List ℕ))) → 6 ≤ length fields → read_set (map (λ field. field.now) fields) ≡ Err
+    Fields
 set_many [] many = absurd (omega (arith, many))
 set_many (p ∷ []) many = absurd (omega (arith, many))
 set_many (p ∷ q ∷ []) many = absurd (omega (arith, many))

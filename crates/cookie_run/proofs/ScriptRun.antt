@@ -22,9 +22,8 @@ use Rattle.cookie_run.specs.declared.script.visit.Visit.{Visit}
 use Rattle.cookie_run.proofs.Halting.{prints_all}
 
 -- how far the run has come: the lines done, where they led, and what was printed for them
-pub record Come (list : List Rule) (key : List ℕ) (start : List Row) (first : ℤ) (text rest : List ℕ) (rows : List Row)
-    (last : ℤ)
-    (visit : Option Visit) (done : ℕ) (old new : Option (List ℕ)) : Type 0 where
+pub record Come (list : List Rule) (key : List ℕ) (start : List Row) (first : ℤ) (text rest : List ℕ)
+    (rows : List Row) (last : ℤ) (visit : Option Visit) (done : ℕ) (old new : Option (List ℕ)) : Type 0 where
   pub r : Reached
   pub before : List (List ℕ)
   pub output : List ℕ
@@ -53,16 +52,13 @@ leads_more start [] r next line h e = (next, subst (λ s. after_line s line ≡ 
 leads_more start (l ∷ before) r next line h e = (h.0, h.1, leads_more h.0 before r next line h.2 e)
 
 pub come_more : (list : List Rule) (key : List ℕ) (start : List Row) (first : ℤ) (text rest line more : List ℕ)
-    (rows new_rows : List Row)
-    (last new_last : ℤ) (visit new_visit : Option Visit) (done : ℕ) (old mid new : Option (List ℕ)) (printed : List ℕ)
-    → (come : Come list key start first text rest rows last visit done old mid) → lines rest ≡ line ∷ lines more
-    → ((next : Reached) × (after_line come.r line ≡ Ok next) × Stands list key start next new_rows new_last new_visit
-    (come.output ++ printed))
-    → Appends mid new printed
+    (rows new_rows : List Row) (last new_last : ℤ) (visit new_visit : Option Visit) (done : ℕ)
+    (old mid new : Option (List ℕ)) (printed : List ℕ) → (come : Come list key start first text rest rows last visit
+    done old mid) → lines rest ≡ line ∷ lines more → ((next : Reached) × (after_line come.r line ≡ Ok next) × Stands
+    list key start next new_rows new_last new_visit (come.output ++ printed)) → Appends mid new printed
     → Come list key start first text more new_rows new_last new_visit (done + 1) old new
-come_more list key start first text rest line more rows new_rows last new_last visit new_visit done old mid new printed
-    come
-    cut goes written = record {
+come_more list key start first text rest line more rows new_rows last new_last visit new_visit done old mid new
+    printed come cut goes written = record {
       r = goes.0;
       before = come.before ++ line ∷ [];
       output = come.output ++ printed;
@@ -74,16 +70,14 @@ come_more list key start first text rest line more rows new_rows last new_last v
     }
 
 -- what the text prints, and how it ends
-abbrev pub Ends : Type 0 → List Rule → List ℕ → List Row → ℤ → List ℕ → Option (List ℕ) → Option (List ℕ) → List Row → ℤ
-    → Ended
-    → Type 0
+abbrev pub Ends : Type 0 → List Rule → List ℕ → List Row → ℤ → List ℕ → Option (List ℕ) → Option (List ℕ) → List Row
+    → ℤ → Ended → Type 0
 Ends Error list key start first text old new rows last ended = (output : List ℕ) × Appends old new output
     × (ScriptText Error list key start first text output rows last ended
     ⊎ EndsForMemory list key start first text output rows last ended)
 
-pub come_whole : (Error : Type 0) (list : List Rule) (key : List ℕ) (start : List Row) (first : ℤ) (text rest : List ℕ)
-    (rows : List Row)
-    (last : ℤ) (visit : Option Visit) (done : ℕ) (old new : Option (List ℕ))
+pub come_whole : (Error : Type 0) (list : List Rule) (key : List ℕ) (start : List Row) (first : ℤ)
+    (text rest : List ℕ) (rows : List Row) (last : ℤ) (visit : Option Visit) (done : ℕ) (old new : Option (List ℕ))
     → Come list key start first text rest rows last visit done old new → rest ≡ []
     → Ends Error list key start first text old new rows last Whole
 come_whole Error list key start first text rest rows last visit done old new come e =
@@ -102,17 +96,14 @@ no_length : (line : List ℕ) → 0 < length line → line ≡ [] → ⊥
 no_length line some empty = let none = ap length empty in omega arith
 
 pub come_fault : (Error : Type 0) (list : List Rule) (key : List ℕ) (start : List Row) (first : ℤ)
-    (text rest line more : List ℕ)
-    (rows new_rows : List Row) (last new_last : ℤ) (visit : Option Visit) (done : ℕ) (old mid new : Option (List ℕ))
-    (cause : Cause)
-    → (come : Come list key start first text rest rows last visit done old mid) → lines rest ≡ line ∷ lines more
-    → (HasFault Error come.r (after_line come.r line) cause × (new_rows ≡ rows))
-    ⊎ ((cause ≡ Memory) × PrintsUntil list key start come.r (after_line come.r line) come.output new_rows)
-    → 0 < length line → new_last ≡ last → Appends mid new (fault_text (done + 1) cause)
+    (text rest line more : List ℕ) (rows new_rows : List Row) (last new_last : ℤ) (visit : Option Visit) (done : ℕ)
+    (old mid new : Option (List ℕ)) (cause : Cause) → (come : Come list key start first text rest rows last visit done
+    old mid) → lines rest ≡ line ∷ lines more → (HasFault Error come.r (after_line come.r line) cause ×
+    (new_rows ≡ rows)) ⊎ ((cause ≡ Memory) × PrintsUntil list key start come.r (after_line come.r line) come.output
+    new_rows) → 0 < length line → new_last ≡ last → Appends mid new (fault_text (done + 1) cause)
     → Ends Error list key start first text old new new_rows new_last (Faulty (done + 1))
-come_fault Error list key start first text rest line more rows new_rows last new_last visit done old mid new cause come
-    cut
-    (inl fault) some kept written = (
+come_fault Error list key start first text rest line more rows new_rows last new_last visit done old mid new cause
+    come cut (inl fault) some kept written = (
       come.output ++ fault_text (done + 1) cause,
       Appends-trans old mid new come.output _ come.written written,
       inl (record {
@@ -134,9 +125,8 @@ come_fault Error list key start first text rest line more rows new_rows last new
         moment = kept ∙ come.stands.moment;
       }),
     )
-come_fault Error list key start first text rest line more rows new_rows last new_last visit done old mid new cause come
-    cut
-    (inr half) some kept written = (
+come_fault Error list key start first text rest line more rows new_rows last new_last visit done old mid new cause
+    come cut (inr half) some kept written = (
       come.output ++ fault_text (done + 1) cause,
       Appends-trans old mid new come.output _ come.written written,
       inr (record {
@@ -215,9 +205,7 @@ only_write (Err x) P only e = absurd (read_write (sym only ∙ same x e))
 
 -- a generator whose error type has no value doesn't fail
 runs_sure : (Error : Type 0) (list : List Rule) (key : List ℕ) (rows : List Row) (last : ℤ) (input output : List ℕ)
-    (new : List Row)
-    (end : ℤ) (ended : Ended)
-    → (Error → ⊥) → Runs Error list key rows last input output new end ended
+    (new : List Row) (end : ℤ) (ended : Ended) → (Error → ⊥) → Runs Error list key rows last input output new end ended
     → Runs ⊥ list key rows last input output new end ended
 runs_sure Error list key rows last input output new end Whole never (inl s) = inl s
 runs_sure Error list key rows last input output new end (Faulty n) never (inl s) = inl (record {

@@ -216,12 +216,10 @@ removes list key start rows r last visit v w output text way name s is same_url 
     (removal_named way name v.at.date takes.accepted) same_url same_at (v.at.date, refl, inl (refl, takes)) tt empty
 
 pub gets : (list : List Rule) (key : List ℕ) (start rows : List Row) (r : Reached) (last : ℤ) (visit : Option Visit)
-    (v : Visit)
-    (output text : List ℕ) (way : Way) (name : List ℕ) (value : Option (List ℕ))
-    → Stands list key start r rows last visit output
-    → visit ≡ Some v → name ≢ [] → ReadsIn v.session way name value → text ≡ reading_text (Value way name value)
-    → LeadsOn list key start (obeyed r.acts r.last r.now (spec.Commands (Get way name))) rows last visit
-    (output ++ text)
+    (v : Visit) (output text : List ℕ) (way : Way) (name : List ℕ) (value : Option (List ℕ))
+    → Stands list key start r rows last visit output → visit ≡ Some v → name ≢ [] → ReadsIn v.session way name value
+    → text ≡ reading_text (Value way name value) → LeadsOn list key start
+    (obeyed r.acts r.last r.now (spec.Commands (Get way name))) rows last visit (output ++ text)
 gets list key start rows r last visit v output text way name value s is not_empty reads shown =
     subst (λ o. LeadsOn list key start (obeyed r.acts r.last r.now (spec.Commands (Get way name))) rows last o
     (output ++ text)) (sym is)
@@ -231,11 +229,9 @@ gets list key start rows r last visit v output text way name value s is not_empt
 
 -- a step ends, with these readings
 ends_at : (list : List Rule) (key : List ℕ) (start rows new : List Row) (acts : List Act) (act : Act)
-    (told : List (List Reading))
-    (more : List Reading) (output : List ℕ) (last at : ℤ)
+    (told : List (List Reading)) (more : List Reading) (output : List ℕ) (last at : ℤ)
     → Plays list key start acts told rows → OneStep list key rows act more new
-    → AllByRecursion IsAnswered (all_told told ++ more)
-    → output ≡ readings_text (all_told told ++ more) → last ≡ at
+    → AllByRecursion IsAnswered (all_told told ++ more) → output ≡ readings_text (all_told told ++ more) → last ≡ at
     → Stands list key start (record { acts = acts ++ act ∷ []; now = Closed; last = at }) new last None output
 ends_at list key start rows new acts act told more output last at plays step answered prints moment = record {
   told = told ++ more ∷ [];
@@ -249,15 +245,13 @@ ends_at list key start rows new acts act told more output last at plays step ans
 
 -- `deliver` and `lose`
 lose_at : (list : List Rule) (key : List ℕ) (start rows : List Row) (acts : List Act) (m : ℤ) (now : Now)
-    (visit : Option Visit)
-    (told : List (List Reading)) (front : List Reading) (output text : List ℕ) (last : ℤ)
+    (visit : Option Visit) (told : List (List Reading)) (front : List Reading) (output text : List ℕ) (last : ℤ)
     → Plays list key start acts told rows → IsOpen key rows now visit front
     → AllByRecursion IsAnswered (all_told told ++ front) → output ≡ readings_text (all_told told ++ front) → last ≡ m
     → is_none visit ≡ false → text ≡ []
     → LeadsOn list key start (obeyed acts m now spec.Loses) rows last None (output ++ text)
 lose_at list key start rows acts m now None told front output text last plays is_open answered prints moment some
-    empty =
-    absurd (true_false some)
+    empty = absurd (true_false some)
 lose_at list key start rows acts m Closed (Some v) told front output text last plays is_open answered prints moment some
     empty = absurd is_open
 lose_at list key start rows acts m (Within url at cs) (Some v) told front output text last plays is_open answered prints
@@ -265,8 +259,8 @@ lose_at list key start rows acts m (Within url at cs) (Some v) told front output
       record { acts = acts ++ Visits url at cs Never ∷ []; now = Closed; last = m },
       refl,
       ends_at list key start rows rows acts (Visits url at cs Never) told front (output ++ text) last m plays
-          (is_open.2.0, is_open.2.1, (v.session, is_open.2.2, refl)) answered (prints_none output text empty
-          ∙ prints) moment,
+          (is_open.2.0, is_open.2.1, (v.session, is_open.2.2, refl)) answered (prints_none output text empty ∙ prints)
+          moment,
     )
 
 none_or_some : (visit : Option Visit) → true ≡ is_some visit → is_none visit ≡ false
@@ -277,23 +271,20 @@ pub loses : (list : List Rule) (key : List ℕ) (start rows : List Row) (r : Rea
     (output text : List ℕ) → Stands list key start r rows last visit output
     → true ≡ is_some visit → text ≡ []
     → LeadsOn list key start (obeyed r.acts r.last r.now spec.Loses) rows last None (output ++ text)
-loses list key start rows r last visit output text s some empty = lose_at list key start rows r.acts r.last r.now visit
-    s.told
-    s.front output text last s.plays s.is_open s.answered s.prints s.moment (none_or_some visit some) empty
+loses list key start rows r last visit output text s some empty = lose_at list key start rows r.acts r.last r.now
+    visit s.told s.front output text last s.plays s.is_open s.answered s.prints s.moment (none_or_some visit some)
+    empty
 
 deliver_at : (list : List Rule) (key : List ℕ) (start rows new : List Row) (acts : List Act) (m : ℤ) (now : Now)
-    (v : Visit)
-    (answer : List (List ℕ)) (told : List (List Reading)) (front : List Reading) (output text : List ℕ) (at last : ℤ)
-    → Plays list key start acts told rows → IsOpen key rows now (Some v) front
+    (v : Visit) (answer : List (List ℕ)) (told : List (List Reading)) (front : List Reading) (output text : List ℕ)
+    (at last : ℤ) → Plays list key start acts told rows → IsOpen key rows now (Some v) front
     → AllByRecursion IsAnswered (all_told told ++ front) → output ≡ readings_text (all_told told ++ front)
     → ClosesWith v.session.jar answer → Takes list rows v.url at answer new → text ≡ [] → last ≡ at
     → LeadsOn list key start (obeyed acts m now (spec.Delivers at)) new last None (output ++ text)
 deliver_at list key start rows new acts m Closed v answer told front output text at last plays is_open answered prints
-    closes
-    taken empty moment = absurd is_open
+    closes taken empty moment = absurd is_open
 deliver_at list key start rows new acts m (Within url a cs) v answer told front output text at last plays is_open
-    answered
-    prints closes taken empty moment = (
+    answered prints closes taken empty moment = (
       record { acts = acts ++ Visits url a cs (Arrives at) ∷ []; now = Closed; last = at },
       refl,
       ends_at list key start rows new acts (Visits url a cs (Arrives at)) told front (output ++ text) last at plays (
@@ -313,8 +304,7 @@ deliver_at list key start rows new acts m (Within url a cs) v answer told front 
     )
 
 pub delivers : (list : List Rule) (key : List ℕ) (start rows new : List Row) (r : Reached) (old_last : ℤ)
-    (visit : Option Visit)
-    (v : Visit) (answer : List (List ℕ)) (output text : List ℕ) (at last : ℤ)
+    (visit : Option Visit) (v : Visit) (answer : List (List ℕ)) (output text : List ℕ) (at last : ℤ)
     → Stands list key start r rows old_last visit output
     → visit ≡ Some v → ClosesWith v.session.jar answer → Takes list rows v.url at answer new → text ≡ [] → last ≡ at
     → LeadsOn list key start (obeyed r.acts r.last r.now (spec.Delivers at)) new last None (output ++ text)
@@ -324,12 +314,10 @@ delivers list key start rows new r old_last visit v answer output text at last s
 
 -- `receive` and `header`
 alone_at : (list : List Rule) (key : List ℕ) (start rows new : List Row) (acts : List Act) (m : ℤ) (now : Now)
-    (visit : Option Visit)
-    (told : List (List Reading)) (front : List Reading) (output text : List ℕ) (line : spec.Line) (act : Act)
-    (more : List Reading) (last at : ℤ)
-    → Plays list key start acts told rows → IsOpen key rows now visit front
-    → AllByRecursion IsAnswered (all_told told ++ front) → output ≡ readings_text (all_told told ++ front)
-    → is_some visit ≡ false
+    (visit : Option Visit) (told : List (List Reading)) (front : List Reading) (output text : List ℕ)
+    (line : spec.Line) (act : Act) (more : List Reading) (last at : ℤ) → Plays list key start acts told rows
+    → IsOpen key rows now visit front → AllByRecursion IsAnswered (all_told told ++ front)
+    → output ≡ readings_text (all_told told ++ front) → is_some visit ≡ false
     → obeyed acts m Closed line ≡ Ok (record { acts = acts ++ act ∷ []; now = Closed; last = at })
     → OneStep list key rows act more new → AllByRecursion IsAnswered more → text ≡ readings_text more → last ≡ at
     → LeadsOn list key start (obeyed acts m now line) new last visit (output ++ text)
@@ -344,17 +332,14 @@ alone_at list key start rows new acts m Closed None told front output text line 
           (prints_more (all_told told) more output text (prints ∙ ap readings_text alone) shown) moment,
     )
 alone_at list key start rows new acts m Closed (Some v) told front output text line act more last at plays is_open
-    answered
-    prints none led step good shown moment = absurd is_open
+    answered prints none led step good shown moment = absurd is_open
 alone_at list key start rows new acts m (Within u a cs) None told front output text line act more last at plays is_open
     answered prints none led step good shown moment = absurd is_open
 alone_at list key start rows new acts m (Within u a cs) (Some v) told front output text line act more last at plays
-    is_open
-    answered prints none led step good shown moment = absurd (true_false none)
+    is_open answered prints none led step good shown moment = absurd (true_false none)
 
 pub receives : (list : List Rule) (key : List ℕ) (start rows new : List Row) (r : Reached) (old_last : ℤ)
-    (visit : Option Visit)
-    (output text : List ℕ) (url : Parts) (answer : List (List ℕ)) (at last : ℤ)
+    (visit : Option Visit) (output text : List ℕ) (url : Parts) (answer : List (List ℕ)) (at last : ℤ)
     → Stands list key start r rows old_last visit output
     → is_some visit ≡ false → Takes list rows url at answer new → text ≡ [] → last ≡ at
     → LeadsOn list key start (obeyed r.acts r.last r.now (spec.Receives url answer at)) new last visit (output ++ text)

@@ -15,14 +15,13 @@ begins_at = pos (second_1971 * 1_000_000_000)
 abbrev pub program_key : List ℕ
 program_key = derived (replicate 32 0)
 
--- From a client without a row and without a public suffix, and from this moment on, a script prints this, and ends so.
+-- From a client without a row and without a public suffix, and from this moment on, a script prints this and ends so.
 abbrev pub IsScriptOf : List ℕ → List ℕ → Ended → Type 0
 IsScriptOf input output ended = (new : List Row) × (end : ℤ)
     × Runs ⊥ [] program_key [] begins_at input output new end ended
 
 -- the exit status and what goes to standard error: of a script that ends so, of a reader and of a writer that failed,
--- and
--- where there was no memory before the script
+-- and where there was no memory before the script
 abbrev pub Answers : ℕ → Option (List ℕ) → (Ended → Type 0) → Type 0 → Type 0 → Type 0
 Answers status said Ends Unread Unwritten =
     ((status ≡ 0) × (said ≡ None) × Ends Whole)

@@ -52,8 +52,7 @@ abbrev pub begun : ℤ → Reached
 begun last = record { acts = []; now = Closed; last = last }
 
 -- Why a command is refused, but for a generator that fails. A removal ends a year before its moment, which is of 1971
--- or
--- later, so it is never refused for its year.
+-- or later, so it is never refused for its year.
 abbrev pub command_refusal : Command → Option SessionError
 command_refusal (Set way cookie) = set_refusal way cookie.cookie
 command_refusal (Remove way name) = if bytes_eq name [] then Some refusals.EmptyName else None

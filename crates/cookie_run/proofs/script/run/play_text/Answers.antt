@@ -44,14 +44,12 @@ returns-in-Err-clause-text g c =
     c.loop-rest.invariant.list c.in-Err.ensures.err in
     let said = halts start come.r come.output come.stands in
     for_one c.stop_at.result (Ends g.row.G-Error.Denot list c.args.key.now start first text old new
-    c.follow.new.client.rows last)
-    (Appends mid new (fault_text (done + 1) c.in-Err.cause))
-    (Faulty (done + 1)) c.stop_at.ensures.text c.stop_at.ensures.ended
-    (λ written. come_fault g.row.G-Error.Denot list c.args.key.now start first text c.loop-rest.rest.now
-    c.cut_line.result.0.now
-    c.cut_line.result.1.now c.loop-rest.client.rows c.follow.new.client.rows
-    (civil_nanos c.loop-rest.last) last c.loop-rest.visit done old mid new c.in-Err.cause come
-    c.cut_line.ensures.line said c.in-Err.ensures.asks (ap civil_nanos c.in-Err.ensures.last) written)
+    c.follow.new.client.rows last) (Appends mid new (fault_text (done + 1) c.in-Err.cause))
+    (Faulty (done + 1)) c.stop_at.ensures.text c.stop_at.ensures.ended (λ written. come_fault g.row.G-Error.Denot list
+    c.args.key.now start first text c.loop-rest.rest.now c.cut_line.result.0.now c.cut_line.result.1.now
+    c.loop-rest.client.rows c.follow.new.client.rows (civil_nanos c.loop-rest.last) last c.loop-rest.visit done old
+    mid new c.in-Err.cause come c.cut_line.ensures.line said c.in-Err.ensures.asks
+    (ap civil_nanos c.in-Err.ensures.last) written)
 
 pub loop-rest-preserved : goal.loop-rest-preserved
 loop-rest-preserved g c =

@@ -19,11 +19,9 @@ returns-in-Ok-clause-text g c =
     let same : c.deref.result.now ≡ c.in-Ok.input.items = cc in
     known_text c.play_text.result (g.R.Source.left c.args.reader.now)
     (λ input ended. Ends g.row.G-Error.Denot list c.args.key.now start first input old new c.play_text.new.client.rows
-    last
-    ended) c.in-Ok.input.items c.in-Ok.ensures.bytes
-    (subst (λ items. IfOk c.play_text.result (λ ended. Ends g.row.G-Error.Denot list c.args.key.now start first items
-    old new
-    c.play_text.new.client.rows last ended)) same c.play_text.ensures.text)
+    last ended) c.in-Ok.input.items c.in-Ok.ensures.bytes
+    (subst (λ items. IfOk c.play_text.result (λ ended. Ends g.row.G-Error.Denot list c.args.key.now start first
+    items old new c.play_text.new.client.rows last ended)) same c.play_text.ensures.text)
 
 pub returns-in-Err-Memory-clause-text : goal.returns-in-Err-Memory-clause-text
 returns-in-Err-Memory-clause-text g c =

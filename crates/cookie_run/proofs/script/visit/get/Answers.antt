@@ -32,6 +32,5 @@ returns-in-Err-clause-err c =
     let some : is_none c.args.visit.now ≡ false = ap is_none c.in-Some.is in
     let error = c.in-Err.error in
     λ list key rows last. get_halts list key error c.refused.result rows last c.args.visit.now c.args.way
-    c.args.name.now some
-    (subst (λ (n : List ℕ). ((error ≡ EmptyName) × (n ≡ [])) ⊎ ((error ≡ OutOfMemory) × (n ≢ [])))
+    c.args.name.now some (subst (λ (n : List ℕ). ((error ≡ EmptyName) × (n ≡ [])) ⊎ ((error ≡ OutOfMemory) × (n ≢ [])))
     c.as_str.ensures.value c.in-Err.ensures.err) c.refused.ensures

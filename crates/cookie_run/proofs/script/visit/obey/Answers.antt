@@ -48,8 +48,7 @@ returns-in-Get-clause-err g c = rw c.in-Get.is
     (if_err c.get.result (λ cause h. halts_of_any g.row.G-Error.Denot c.args.client.now.suffixes c.args.key.now
     (spec.Commands (Get c.in-Get.way c.in-Get.name)) c.args.client.now.rows c.args.client.now.rows
     (civil_nanos c.args.last.now) c.args.visit.now cause (h c.args.client.now.suffixes c.args.key.now
-    c.args.client.now.rows
-    (civil_nanos c.args.last.now))) c.get.ensures.err)
+    c.args.client.now.rows (civil_nanos c.args.last.now))) c.get.ensures.err)
 
 pub returns-in-Deliver-clause-ok : goal.returns-in-Deliver-clause-ok
 returns-in-Deliver-clause-ok g c = rw c.in-Deliver.is (if_ok c.deliver.result
@@ -69,11 +68,9 @@ returns-in-Lose-clause-ok g c = rw c.in-Lose.is (if_ok c.lose.result
 pub returns-in-Lose-clause-err : goal.returns-in-Lose-clause-err
 returns-in-Lose-clause-err g c = rw c.in-Lose.is
     (if_err c.lose.result (λ cause h. halts_of_any g.row.G-Error.Denot c.args.client.now.suffixes c.args.key.now
-    spec.Loses c.args.client.now.rows
-    c.args.client.now.rows
-    (civil_nanos c.args.last.now) c.args.visit.now cause (h c.args.client.now.suffixes c.args.key.now
-    c.args.client.now.rows
-    (civil_nanos c.args.last.now))) c.lose.ensures.err)
+    spec.Loses c.args.client.now.rows c.args.client.now.rows (civil_nanos c.args.last.now) c.args.visit.now cause
+    (h c.args.client.now.suffixes c.args.key.now c.args.client.now.rows (civil_nanos c.args.last.now)))
+    c.lose.ensures.err)
 
 pub returns-in-Receive-clause-ok : goal.returns-in-Receive-clause-ok
 returns-in-Receive-clause-ok g c = rw (c.in-Receive.is, sym c.deref.ensures.value)
