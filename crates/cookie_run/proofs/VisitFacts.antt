@@ -84,8 +84,7 @@ first_told : (age : Option ℤ) (arrival : Arrival) (told : List Reading) (new :
 first_told age arrival told new h =
     let x = h.0 refl in
     let c = x.2 in
-    let s = set_told age (live nothing (at 0)) c.4 c.0 c.2 c.5 in
-    (
+    let s = set_told age (live nothing (at 0)) c.4 c.0 c.2 c.5 in (
       c.7 ∙ (ap (λ first. first ++ c.1) s.0 ∙ c.6.0),
       x.3 ∙ ap (after_arrival arrival nothing) (c.8 ∙ (ap (λ first. first ++ c.3) s.1
           ∙ ap (λ later. the_set age ∷ later) c.6.1)),
