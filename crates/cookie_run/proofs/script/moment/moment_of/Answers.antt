@@ -5,5 +5,6 @@ use Rattle.cookie_run.proofs.script.moment.moment_of.Goals as goal
 
 pub invariant_of-result : goal.invariant_of-result
 invariant_of-result c = record {
-  from = late_enough c.in_ok-date.date (omega (arith, signed_arith, c.if-year-lt1971.false, c.year.ensures));
+  from = late_enough c.in_ok-date.date
+      (omega (arith, signed_arith, c.if-year-lt1971.false, c.year.ensures));
 }
