@@ -306,13 +306,6 @@ date_cast r y mo d h mi s year month day hour minute second e1 e2 e3 e4 e5 e6 su
     (subst (λ (t : Six). IfOk r (λ dt. IsYmd t.0 t.1 t.2 dt.date × IsHms t.3 t.4 t.5 (pos 0) dt.time))
     (λ i. (e1 i, e2 i, e3 i, e4 i, e5 i, e6 i)) value)
 
--- what was made has no fraction
-pub date_whole : (r : Result DateTime Error) (y mo d h mi s : ℤ)
-    → IfOk r (λ dt. IsYmd y mo d dt.date × IsHms h mi s (pos 0) dt.time)
-    → IfSome (result_ok r) (λ dt. dt.time.subsec_nanosecond ≡ 0)
-date_whole (Ok dt) y mo d h mi s value = same_pos dt.time.subsec_nanosecond 0 value.1.3
-date_whole (Err e) y mo d h mi s value = tt
-
 pub number_grows : (n d i : ℕ) → n < 10 ^ i → d ≤ 9 → n * 10 + d < 10 ^ (i + 1)
 number_grows n d i h small = let e : 10 ^ (i + 1) ≡ 10 ^ i * 10 = power i in omega (arith, h, small, e)
   where

@@ -61,7 +61,7 @@ abbrev pub number_of : List ℕ → Option ℕ
 number_of [] = None
 number_of (b ∷ bs) = if list_all is_ascii_digit (b ∷ bs) then Some (digits_value 10 (b ∷ bs)) else None
 
--- the number below zero, or not, within 64 bits
+-- minus the number, and the number itself, where that is of 64 bits
 abbrev pub below_zero : ℕ → Option ℤ
 below_zero n = if nat_le n (2 ^ 63) then Some (neg_ℤ (pos n)) else None
 

@@ -1,7 +1,6 @@
-use Rattle.std.proofs.Common.{◌∙◌, arith, w8, w16, subst}
-use Rattle.std.specs.Prelude.{IfSome}
+use Rattle.std.proofs.Common.{◌∙◌, arith, w8, w16}
 use Rattle.std.proofs.lemmas.Int.{to_z_pos}
-use Rattle.cookie_run.proofs.MomentText.{date_cast, date_whole}
+use Rattle.cookie_run.proofs.MomentText.{date_cast}
 use Rattle.cookie_run.proofs.script.moment.date_at.Goals as goal
 
 pub returns-clause-date : goal.returns-clause-date

@@ -4,6 +4,7 @@ use Rattle.cookie_run.proofs.MomentText.{late_enough}
 use Rattle.cookie_run.proofs.script.moment.moment_of.Goals as goal
 
 pub invariant_of-result : goal.invariant_of-result
-invariant_of-result c =
-    let year = omega (arith, signed_arith, c.if-year-lt1971.false, c.year.ensures) in
-    record { from = late_enough c.in_ok-date.date year }
+invariant_of-result c = record {
+  from = late_enough c.in_ok-date.date
+      (omega (arith, signed_arith, c.if-year-lt1971.false, c.year.ensures));
+}

@@ -1,4 +1,4 @@
-use Rattle.std.proofs.Common.{◌∙◌, List, ℕ, sym, subst, refl}
+use Rattle.std.proofs.Common.{◌∙◌, List, ℕ, subst, refl}
 use Rattle.std.specs.Prelude.{string_bytes}
 use Rattle.jiff.specs.Words.{civil_nanos}
 use Rattle.cookie_run.specs.Jar.{IsOpened}
