@@ -1,38 +1,10 @@
 -- Where a reader is stuck, there the longest front ends.
 use Rattle.std.specs.Prelude.{take, drop}
-use Rattle.std.proofs.Common.{
-  ◌≡◌,
-  ℕ,
-  zero,
-  suc,
-  ◌+◌,
-  ◌-◌,
-  ◌≤◌,
-  ◌<◌,
-  ◌++◌,
-  List,
-  [],
-  ◌∷◌,
-  length,
-  refl,
-  sym,
-  ap,
-  ◌∙◌,
-  arith,
-  length-append,
-  subst,
-  Bor,
-}
+use Rattle.std.proofs.Common.{◌≡◌, ℕ, zero, suc, ◌+◌, ◌-◌, ◌≤◌, ◌<◌, ◌++◌, List, [], ◌∷◌, length, refl, sym, ap, ◌∙◌, arith, length-append, subst}
 use Rattle.std.specs.Str.{IsUtf8, IsCharBoundary}
 use Rattle.std.proofs.lemmas.Str.{IsCharBoundary-at_seam}
-use Rattle.std.proofs.lemmas.List.{append-nil}
 use Rattle.saved_text.specs.Grammar.{Grammar, Word, IsOf, IsFront, IsLongestFront}
-use Rattle.saved_text.specs.Grammar.Grammar.{nothing, seq}
-use Rattle.saved_text.specs.Faults.{StopsAs}
-use Rattle.saved_text.specs.declared.ron_text.Stop.{Stop}
-use Rattle.saved_text.specs.declared.ron_text.Stop.TheVariants as stop
-use Rattle.saved_text.specs.Reads.{Stuck, Takes, Stops}
-use Rattle.saved_text.proofs.StepLemmas.{Stuck-behind, Stuck-at}
+use Rattle.saved_text.specs.Reads.{Stuck}
 
 take_front : (x r : List ℕ) → take (length x) (x ++ r) ≡ x
 take_front [] r = refl
@@ -74,40 +46,10 @@ longest_where_stuck G text rest n s e =
     subst (IsLongestFront G text) same
     (subst (λ t. IsLongestFront G t (length s.x)) (sym s.split) (longest_at G s.x rest s.front s.far))
 
--- bytes behind what is whole
-pub stuck_behind : (g : Grammar) (text : List ℕ) (s : List Word) (b : ℕ) (r : List ℕ) → Takes g text s (b ∷ r)
-    → Stuck (seq g nothing) text (b ∷ r)
-stuck_behind g text s b r l = Stuck-behind (seq g nothing) nothing text (b ∷ r) (b ∷ r) s (l nothing)
-    (Stuck-at nothing (b ∷ r) refl)
-
-pub whole_at_end : (g : Grammar) (text rest : List ℕ) (s : List Word) → rest ≡ [] → Takes g text s rest
-    → IsOf (seq g nothing) text s
-whole_at_end g text rest s e l =
-    let d = l nothing in
-    subst (IsOf (seq g nothing) text) (append-nil s)
-    (subst (λ t. IsOf (seq g nothing) t (s ++ [])) (sym d.split) (d.up rest [] (e, refl)))
-
 pub no_longer : (G : Grammar) (text rest : List ℕ) → Stuck G text rest → length rest ≤ length text
 no_longer G text rest s =
     let all : length text ≡ length s.x + length rest = ap length s.split ∙ length-append s.x rest in
     omega (arith, all)
-
-pub no_longer_taken : (g : Grammar) (text rest : List ℕ) (s : List Word) → Takes g text s rest
-    → length rest ≤ length text
-no_longer_taken g text rest s l =
-    let h = l nothing in
-    let all : length text ≡ length h.x + length rest = ap length h.split ∙ length-append h.x rest in
-    omega (arith, all)
-
-pub stuck_at_more : (g : Grammar) (text rest : List ℕ) (s : List Word) → Takes g text s rest → (length rest ≡ 0 → ⊥)
-    → Stuck (seq g nothing) text rest
-stuck_at_more g text [] s l n = absurd (n refl)
-stuck_at_more g text (b ∷ r) s l n = stuck_behind g text s b r l
-
-pub whole_when_empty : (g : Grammar) (text rest : List ℕ) (s : List Word) → Takes g text s rest → length rest ≡ 0
-    → IsOf (seq g nothing) text s
-whole_when_empty g text [] s l e = whole_at_end g text [] s refl l
-whole_when_empty g text (b ∷ r) s l e = absurd (omega (arith, e))
 
 -- what a fault at a place says
 pub fault_at : (G : Grammar) (text rest : List ℕ) → Stuck G text rest → IsUtf8 rest
@@ -120,13 +62,3 @@ fault_at G text rest s u =
       longest_where_stuck G text rest (length text - length rest) s (omega (arith, fits)),
       subst (IsCharBoundary text) (omega (arith, all)) (IsCharBoundary-at_seam text s.x rest s.split u),
     )
-
--- a whole text says one thing
-pub only_words : (g : Grammar) (text rest : List ℕ) (s : List Word) → Takes g text s rest → length rest ≡ 0
-    → (w : List Word) → IsOf (seq g nothing) text w → w ≡ s
-only_words g text [] s l e w o = let p = (l nothing).down w o in p.2 ∙ ap (λ q. s ++ q) p.1.1 ∙ append-nil s
-only_words g text (b ∷ r) s l e w o = absurd (omega (arith, e))
-
-pub stopped : (g : Grammar) (text : List ℕ) (e : Stop) (r : Bor (List ℕ)) → StopsAs g text e → e ≡ stop.Here r
-    → Stops g text r.now
-stopped g text e r s q = subst (StopsAs g text) q s

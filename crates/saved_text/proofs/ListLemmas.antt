@@ -1,23 +1,9 @@
 -- A comma between items, or before the bracket.
 use Rattle.std.specs.Prelude.{codes, false, ◌⊎◌}
-use Rattle.std.proofs.lemmas.List.{append-nil}
-use Rattle.std.proofs.Common.{◌≡◌, ℕ, List, [], ◌∷◌, refl, sym, subst, inl, inr}
-use Rattle.saved_text.specs.Grammar.{Grammar, Word}
+use Rattle.std.proofs.Common.{◌≡◌, ℕ, List, [], ◌∷◌, sym, subst, inl, inr}
+use Rattle.saved_text.specs.Grammar.{Grammar}
 use Rattle.saved_text.specs.Grammar.Grammar.{nothing, space, sign, seq, either, many}
-use Rattle.saved_text.specs.Ron.{
-  row,
-  comma,
-  optional,
-  raw_field,
-  path_field,
-  domain_field,
-  expires_field,
-  three,
-  four,
-  ◌▹◌,
-}
-use Rattle.saved_text.specs.Faults.{Spaced}
-use Rattle.saved_text.specs.Reads.{Takes}
+use Rattle.saved_text.specs.Ron.{row, comma, optional}
 use Rattle.saved_text.proofs.StepLemmas.{
   starts,
   nullable,
@@ -31,8 +17,8 @@ use Rattle.saved_text.proofs.StepLemmas.{
   either_parts,
   seq_parts,
 }
-use Rattle.saved_text.proofs.RonLemmas.{Goes, Goes-trans, Goes-same, Goes-left, Goes-first, Takes-byte}
-use Rattle.saved_text.proofs.RowLemmas.{Goes-spaces, Goes-part, Goes-else}
+use Rattle.saved_text.proofs.RonLemmas.{Goes, Goes-trans, Goes-same, Goes-left}
+use Rattle.saved_text.proofs.RowLemmas.{Goes-else}
 
 pub seq_left : (g k h : Grammar) → Same g k → Same (seq g h) (seq k h)
 seq_left g k h e = record {
@@ -91,22 +77,6 @@ others_is =
     (Same-trans _ _ _ (or_assoc (seq comma (seq space (seq item others))) (seq comma (seq space end)) (seq nothing end))
     (either_parts _ _ _ _ both_commas (Same-refl (seq nothing end)))))
 
--- Behind a comma and its white space stands an item or the bracket.
-pub Goes-comma_item : (r m : List ℕ) → Spaced r m → Goes others (44 ∷ r) [] (either (seq item others) end) m
-Goes-comma_item r m s =
-    Goes-trans others (either (seq comma (seq space (either (seq item others) end))) (seq nothing end))
-    (either (seq item others) end) (44 ∷ r) (44 ∷ r) m [] []
-    (Goes-same others (either (seq comma (seq space (either (seq item others) end))) (seq nothing end)) (44 ∷ r)
-    (λ h. seq_left others (either (seq comma (seq space (either (seq item others) end))) (seq nothing end)) h
-    others_is))
-    (Goes-trans (either (seq comma (seq space (either (seq item others) end))) (seq nothing end))
-    (seq comma (seq space (either (seq item others) end))) (either (seq item others) end) (44 ∷ r) (44 ∷ r) m [] []
-    (Goes-left (seq comma (seq space (either (seq item others) end))) (seq nothing end) 44 r refl refl)
-    (Goes-trans (seq comma (seq space (either (seq item others) end))) (seq space (either (seq item others) end))
-    (either (seq item others) end) (44 ∷ r) r m [] []
-    (Goes-first comma (seq space (either (seq item others) end)) (44 ∷ r) r [] (Takes-byte 44 r))
-    (Goes-spaces (either (seq item others) end) r m refl refl s)))
-
 -- ---- any order: one of several alternatives, by its first byte
 
 abbrev pub choice : Grammar → List Grammar → Grammar
@@ -131,31 +101,3 @@ Goes-choice p g (k ∷ ks) c r (inl e) = subst (λ q. Goes (either g (choice k k
 Goes-choice p g (k ∷ ks) c r (inr e) =
     Goes-trans (either g (choice k ks)) (choice k ks) p (c ∷ r) (c ∷ r) (c ∷ r) [] []
     (Goes-else g (choice k ks) (c ∷ r) e.0.0 e.0.1) (Goes-choice p k ks c r e.1)
-
--- the third of four, by its first byte
-pub domain_first : (r : List ℕ) → Goes (four raw_field path_field domain_field expires_field) (100 ∷ r) []
-    (domain_field ▹ comma ▹ three raw_field path_field expires_field) (100 ∷ r)
-domain_first r = Goes-choice (domain_field ▹ comma ▹ three raw_field path_field expires_field)
-    (raw_field ▹ comma ▹ three path_field domain_field expires_field)
-    ((path_field ▹ comma ▹ three raw_field domain_field expires_field) ∷
-    (domain_field ▹ comma ▹ three raw_field path_field expires_field) ∷
-    (expires_field ▹ comma ▹ three raw_field path_field domain_field) ∷ [])
-    100 r (inr ((refl, refl), inr ((refl, refl), inl (refl, (refl, refl)))))
-
--- behind it, and its comma, the other three are left
-pub domain_then : (r a b d e : List ℕ) (s : List Word) → Takes domain_field (100 ∷ r) s a → Spaced a b → b ≡ 44 ∷ d
-    → Spaced d e
-    → Goes (four raw_field path_field domain_field expires_field) (100 ∷ r) s
-    (three raw_field path_field expires_field) e
-domain_then r a b d e s l m f n =
-    Goes-trans (four raw_field path_field domain_field expires_field)
-    (domain_field ▹ comma ▹ three raw_field path_field expires_field) (three raw_field path_field expires_field)
-    (100 ∷ r) (100 ∷ r) e [] s (domain_first r)
-    (subst (λ w. Goes (domain_field ▹ comma ▹ three raw_field path_field expires_field) (100 ∷ r) w
-    (three raw_field path_field expires_field) e) (append-nil s)
-    (Goes-trans (domain_field ▹ comma ▹ three raw_field path_field expires_field)
-    (comma ▹ three raw_field path_field expires_field) (three raw_field path_field expires_field) (100 ∷ r) b e s []
-    (Goes-part domain_field (comma ▹ three raw_field path_field expires_field) (100 ∷ r) a b s refl refl l m)
-    (subst (λ t. Goes (comma ▹ three raw_field path_field expires_field) t []
-    (three raw_field path_field expires_field) e) (sym f)
-    (Goes-part comma (three raw_field path_field expires_field) (44 ∷ d) d e [] refl refl (Takes-byte 44 d) n))))
