@@ -132,8 +132,7 @@ AddsSealed r next = (url : Parts) × (at : ℤ) × (cs : List Command) × (cooki
     × (r.now ≡ Within url at cs) × (next.now ≡ Within url at (cs ++ Set Sealed cookie ∷ []))
 
 -- a line has a fault: its own, or that the generator, whose error type is this one, failed at a set that has to be
--- sealed and
--- that nothing else stands against
+-- sealed and that nothing else stands against
 abbrev pub HasFault : Type 0 → Reached → Result Reached Cause → Cause → Type 0
 HasFault Error r led cause = (led ≡ Err cause) ⊎ ((cause ≡ Rng) × Error
     × ((next : Reached) × (led ≡ Ok next) × AddsSealed r next))
