@@ -15,7 +15,7 @@ header_of [] = []
 header_of (pair ∷ []) = pair_text pair
 header_of (pair ∷ next ∷ pairs) = pair_text pair ++ 59 ∷ 32 ∷ header_of (next ∷ pairs)
 
--- the header with one more pair
+-- a step of the code, for a private contract alone: the header with one more pair
 abbrev pub with_pair : List ℕ → List ℕ × List ℕ → List ℕ
 with_pair text pair = if length text == 0 then pair_text pair else text ++ 59 ∷ 32 ∷ pair_text pair
 
