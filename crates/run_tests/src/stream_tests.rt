@@ -44,10 +44,9 @@ fn run_over<R: Read + Drop, W: Write + Drop>(
 #[test]
 fn flushes_once(rt: HostRuntime) -> Result<(), Fail> {
     let alloc = rt.alloc();
-    let mut output = Vec::new(alloc);
     let mut client = client(alloc)?;
     let mut writer = CountsFlushes {
-        inner: &mut output,
+        inner: Vec::new(alloc),
         flushes: 0,
     };
     let ended = run_over(alloc, VISIT.as_bytes(), &mut writer, &mut client);
@@ -114,9 +113,8 @@ fn ends_so(alloc: Global, call: u64, wanted: Result<Ended, RunError>) -> Result<
 
 // How many calls of the writer a visit makes.
 fn calls_of_a_visit(alloc: Global) -> Result<u64, Fail> {
-    let mut output = Vec::new(alloc);
     let mut client = client(alloc)?;
-    let mut writer = FailsAt::new(&mut output, u64::MAX);
+    let mut writer = FailsAt::new(Vec::new(alloc), u64::MAX);
     run_over(alloc, VISIT.as_bytes(), &mut writer, &mut client)?;
     Ok(writer.calls)
 }
