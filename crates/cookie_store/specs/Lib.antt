@@ -6,6 +6,7 @@ pub mod Insertion
 pub mod Laws
 pub mod Lending
 pub mod Making
+pub mod Placing
 pub mod Rows
 pub mod Same
 pub mod SameEquivalence
