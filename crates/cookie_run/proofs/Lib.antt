@@ -27,7 +27,6 @@ pub mod Headers
 pub mod ScriptLines
 pub mod ScriptNumbers
 pub mod Shown
-pub mod Pouring
 pub mod MomentText
 pub mod Calendar
 pub mod Ends

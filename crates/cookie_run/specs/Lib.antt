@@ -14,8 +14,6 @@ pub mod Headline
 pub mod Brought
 pub mod Sent
 pub mod Laws
-pub mod Counted
-pub mod Device
 pub mod ScriptMoment
 pub mod ScriptLine
 pub mod ScriptText

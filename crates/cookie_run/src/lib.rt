@@ -8,11 +8,9 @@
 #![tactic(auto)]
 
 pub mod client;
-pub mod device;
 pub mod laws;
 mod moment;
 pub mod play;
-mod pour;
 pub mod program;
 mod reading;
 pub mod script;
@@ -21,7 +19,7 @@ pub mod step;
 pub mod text;
 
 pub use client::Client;
-pub use device::{Counting, Failing, Sink, Source};
+pub use cookie_store::{Counting, Failing, Sink, Source};
 pub use script::ended::{Ended, RunError};
 pub use script::run::run;
 pub use session::Session;

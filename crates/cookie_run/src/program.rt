@@ -2,11 +2,11 @@
 ghost use Rattle.std.specs.Prelude.{◌≡◌, ◌⊎◌, ◌^◌, ◌-◌, ℕ, List, IfSome, IsNone};
 ghost use Rattle.std.specs.Option.{option_map};
 ghost use Rattle.std.specs.Io.KnownBytes.{Appends};
-ghost use Rattle.cookie_run.specs.Device.{Rose};
+ghost use Rattle.devices.specs.Device.{Rose};
 ghost use Rattle.cookie_run.specs.Program.{Answers, IsScriptOf};
 
 use crate::client::Client;
-use crate::device::{Sink, Source};
+use devices::{Sink, Source};
 use crate::moment::begin_1971;
 use crate::script::ended::{Ended, RunError};
 use crate::script::run::run;

@@ -1,7 +1,7 @@
 //! `cookie-run`: plays the script of standard input to standard output.
 #![tactic(auto)]
 
-use cookie_run::device::Counting;
+use cookie_run::Counting;
 use cookie_run::program::program;
 use std::alloc::AllocError;
 use std::env;

@@ -1,6 +1,6 @@
 //! How the run of a script ends.
 
-use crate::pour::WriteFailed;
+use devices::pour::WriteFailed;
 use thiserror::Error;
 
 /// How a run ends.

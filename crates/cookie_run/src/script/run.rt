@@ -2,12 +2,12 @@
 ghost use Rattle.std.specs.Prelude.{◌≡◌, ◌⊎◌, ◌^◌, ◌-◌, ℕ, List, IfOk, OnOk, OnErr, IfErr, IfSome, IsErrOf};
 ghost use Rattle.std.specs.Io.KnownBytes.{Appends};
 ghost use Rattle.jiff.specs.Words.{civil_nanos};
-ghost use Rattle.cookie_run.specs.Device.{Rose, one_more};
+ghost use Rattle.devices.specs.Device.{Rose, one_more};
 ghost use Rattle.cookie_run.specs.ScriptText.{Runs, fault_text};
 
 use crate::client::Client;
-use crate::device::{Sink, Source};
-use crate::pour::{Stop, flush, read_all, write_all, write_number};
+use devices::{Sink, Source};
+use devices::pour::{Stop, flush, read_all, write_all, write_number};
 use crate::script::cause::Cause;
 use crate::script::ended::{Ended, RunError};
 use crate::script::field::cut_line;

@@ -3,7 +3,7 @@ use Rattle.std.specs.Prelude.{string_bytes, OnOk}
 use Rattle.std.specs.Io.KnownBytes.{Appends}
 use Rattle.std.proofs.KnownBytes.{Appends-kept}
 use Rattle.jiff.specs.Words.{civil_nanos}
-use Rattle.cookie_run.specs.Device.{one_more}
+use Rattle.devices.specs.Device.{one_more}
 use Rattle.cookie_run.specs.ScriptText.{after_line, fault_text}
 use Rattle.cookie_run.specs.Standing.{Goes, Halts}
 use Rattle.cookie_run.specs.declared.script.ended.Ended.TheVariants.{Faulty}

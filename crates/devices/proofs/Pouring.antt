@@ -7,7 +7,7 @@ use Rattle.std.proofs.lemmas.List.{take_rest}
 use Rattle.std.proofs.lemmas.Fmt.{decimal_digit}
 use Rattle.std.specs.Io.KnownBytes.{Appends}
 use Rattle.std.proofs.KnownBytes.{Appends-trans}
-use Rattle.cookie_run.specs.Device.{one_more}
+use Rattle.devices.specs.Device.{one_more}
 
 pub moves_front : (all done rest : List ℕ) (n : ℕ) → all ≡ done ++ rest
     → all ≡ (done ++ take n rest) ++ take (length rest - n) (drop n rest)

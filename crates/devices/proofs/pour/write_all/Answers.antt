@@ -1,7 +1,7 @@
 use Rattle.std.proofs.Common.{◌++◌, ◌∙◌, take, length, arith}
 use Rattle.std.proofs.KnownBytes.{Appends-trans}
-use Rattle.cookie_run.proofs.Pouring.{moves_front, wrote}
-use Rattle.cookie_run.proofs.pour.write_all.Goals as goal
+use Rattle.devices.proofs.Pouring.{moves_front, wrote}
+use Rattle.devices.proofs.pour.write_all.Goals as goal
 
 pub loop-rest-preserved : goal.loop-rest-preserved
 loop-rest-preserved g c =

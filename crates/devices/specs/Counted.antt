@@ -1,6 +1,6 @@
 -- What a counting reader or writer holds (own: docs/DEFINITIONS.md).
 use Rattle.std.specs.Prelude.{ℕ}
-use Rattle.cookie_run.specs.declared.device.Counting.{Counting}
+use Rattle.devices.specs.declared.device.Counting.{Counting}
 
 abbrev pub inner_of : {T : Type 0} → Counting T → T
 inner_of c = c.inner

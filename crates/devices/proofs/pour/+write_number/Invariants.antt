@@ -1,4 +1,4 @@
-use Rattle.cookie_run.proofs.pour.+write_number.Given as goal
+use Rattle.devices.proofs.pour.+write_number.Given as goal
 
 abbrev pub decreases-write_number : goal.decreases-write_number
 decreases-write_number g l = l.n

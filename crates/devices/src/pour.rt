@@ -1,7 +1,7 @@
 //! All that a source has, and all of a text to a sink. A call that fails isn't tried again.
 ghost use Rattle.std.specs.Prelude.{◌≡◌, ◌⊎◌, ◌^◌, ◌-◌, IfOk, IsOk, OnOk, OnErr, IfSome, IsErrOf, decimal, length, ◌<◌};
 ghost use Rattle.std.specs.Io.KnownBytes.{Appends, Keeps};
-ghost use Rattle.cookie_run.specs.Device.{Rose, one_more};
+ghost use Rattle.devices.specs.Device.{Rose, one_more};
 
 use crate::device::{Sink, Source};
 use std::alloc::Global;

@@ -2,9 +2,9 @@ use Rattle.std.proofs.Common.{◌∷◌, [], ◌+◌, ◌/◌, ◌%◌, sym, sub
 use Rattle.std.specs.Prelude.{decimal, OnOk}
 use Rattle.std.specs.Io.KnownBytes.{Appends}
 use Rattle.std.proofs.lemmas.Fmt.{decimal_step}
-use Rattle.cookie_run.proofs.Pouring.{appends_both, last_digit}
-use Rattle.cookie_run.proofs.pour.+write_number.Goals as goal
-use Rattle.cookie_run.proofs.pour.+write_number.Goals.{then-n-ge10+in_ok-write_number, else-n-ge10}
+use Rattle.devices.proofs.Pouring.{appends_both, last_digit}
+use Rattle.devices.proofs.pour.+write_number.Goals as goal
+use Rattle.devices.proofs.pour.+write_number.Goals.{then-n-ge10+in_ok-write_number, else-n-ge10}
 
 pub returns-clause-bytes : goal.returns-clause-bytes
 returns-clause-bytes g t c =
