@@ -18,14 +18,14 @@ use Rattle.cookie.specs.declared.delta.DeltaCookie.{DeltaCookie as Change}
 use Rattle.cookie.specs.declared.delta.DeltaCookie.TheVariants.{Removed}
 use Rattle.cookie.specs.ByName.{ByName}
 use Rattle.cookie.specs.Jar.{Jar, overlaid, view, with_change, without_change}
-use Rattle.cookie_run.specs.Jar.{Keyed, IsReadableJar, TakesOut, taken, value_in, record_in}
+use Rattle.cookie_run.specs.Jar.{Keyed, TakesOut, taken, value_in, record_in}
 use Rattle.cookie_run.specs.Site.{Entry, stored_name}
 use Rattle.cookie_run.specs.declared.step.Reading.{Reading}
 use Rattle.cookie_run.specs.declared.step.Reading.TheVariants.{Refused}
 use Rattle.cookie_run.specs.declared.step.SessionError.{SessionError}
 use Rattle.cookie_run.specs.declared.step.SessionError.TheVariants.{EmptyName, Year}
 use Rattle.cookie_run.specs.declared.step.Way.{Way}
-use Rattle.cookie_run.proofs.Sessions.{get_insert, get_remove, taken_readable}
+use Rattle.cookie_run.proofs.Sessions.{IsReadableJar, get_insert, get_remove, taken_readable}
 use Rattle.cookie_run.specs.Brought.{Matches}
 use Rattle.cookie_run.proofs.Showing.{OnlyOne, Shows, get_on, utf8_bytes}
 use Rattle.cookie_run.proofs.Texts.{same_text, some_is_not_none}
@@ -136,7 +136,7 @@ known_good : (now : ℤ) (o : Option Kept) (q : List ℕ) (s : Seen) → IfSome 
 known_good now None q s h e = absurd (some_is_not_none s.cookie e)
 known_good now (Some k) q s h e = (k, h.0, h.1)
 
-nil_utf8 : IsUtf8 []
+pub nil_utf8 : IsUtf8 []
 nil_utf8 = IsUtf8-from_ascii [] IsAscii-nil
 
 removal_fit : (way : Way) (name : List ℕ) (k : Kept) (r : Seen) (moment : DateTime) → k.name ≡ stored_name way name

@@ -22,10 +22,10 @@ use Rattle.store_parts.specs.DomainText.{read_domain}
 use Rattle.store_parts.specs.Expiry.{epoch, is_dead}
 use Rattle.cookie_run.specs.Acts.{Arrival, Arrives, Never}
 use Rattle.cookie_run.specs.Hosts.{secure_host}
-use Rattle.cookie_run.specs.Jar.{Keyed, IsReadableJar, record_in}
+use Rattle.cookie_run.specs.Jar.{Keyed, record_in}
 use Rattle.cookie_run.specs.declared.step.Reading.{Reading}
 use Rattle.cookie_run.proofs.Records.{found_in as found_record, lacks as lacks_record, AreApart as RecordsApart}
-use Rattle.cookie_run.proofs.Sessions.{each_of_names, of_change}
+use Rattle.cookie_run.proofs.Sessions.{IsReadableJar, each_of_names, of_change}
 use Rattle.cookie_run.proofs.Showing.{ReadingBack, OnlyOne, records, lines_are, found_records, apart_records}
 use Rattle.cookie_run.proofs.Showing.{all_records}
 use Rattle.cookie_run.proofs.Texts.{same_text}

@@ -13,6 +13,7 @@ pub mod Lines
 pub mod GivenRows
 pub mod Walking
 pub mod Commands
+pub mod Sending
 pub mod Exchange
 pub mod Removals
 pub mod Promises

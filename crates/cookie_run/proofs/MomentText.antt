@@ -1,9 +1,9 @@
 -- The texts of dates and moments.
-use Rattle.std.proofs.Common.{◌≡◌, ◌≢◌, ℕ, ℤ, pos, ◌+◌, ◌-◌, ◌*◌, ◌^◌, add-one, ◌<◌, ◌≤◌, Bool, true, false, ◌&&◌, List}
+use Rattle.std.proofs.Common.{◌≡◌, ◌≢◌, ℕ, ℤ, pos, ◌+◌, ◌-◌, ◌*◌, ◌^◌, add-one, ◌<◌, ◌≤◌, Bool, true, false, List}
 use Rattle.std.proofs.Common.{[], ◌∷◌, length, take, drop, get_or, Option, Some, None, sym, refl, ap, ◌∙◌, subst}
 use Rattle.std.proofs.Common.{⊎_elim, arith, T, leb→le, le→leb, ltb→lt, lt→ltb, lit<}
 use Rattle.std.specs.Prelude.{codes, map, slice_range, if◌then◌else◌, nat_le, nat_lt, ◌+ℤ◌, ◌*ℤ◌, ◌≤ℤ◌, ◌↔◌, Result}
-use Rattle.std.specs.Prelude.{Ok, Err, IsOk, IfOk, IfSome, option_map, option_and_then}
+use Rattle.std.specs.Prelude.{Ok, Err, IsOk, IfOk, option_map, option_and_then}
 use Rattle.std.specs.Result.{result_ok}
 use Rattle.jiff.specs.Words.{civil_nanos, IsDate, IsTime, IsYmd, IsHms, epoch_day, Error}
 use Rattle.jiff.specs.Types.{Date, Time, DateTime}

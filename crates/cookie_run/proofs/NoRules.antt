@@ -1,8 +1,8 @@
 -- The suffix list of the empty text has no rule.
-use Rattle.std.proofs.Common.{◌≡◌, ℕ, zero, suc, ◌<◌, List, [], ◌∷◌, length, refl, subst, arith}
+use Rattle.std.proofs.Common.{◌≡◌, ℕ, zero, suc, ◌<◌, List, [], ◌∷◌, refl, subst, arith}
 use Rattle.std.specs.Prelude.{Contains, slice_index_or}
 use Rattle.std.specs.Str.{chars}
-use Rattle.publicsuffix.specs.Rules.{Rule, Line, PassedOver, Gives, HasRules, lines_of, line_of, without_mark}
+use Rattle.publicsuffix.specs.Rules.{Rule, PassedOver, Gives, HasRules, lines_of, line_of, without_mark}
 use Rattle.publicsuffix.specs.Rules.{is_passed_over, rule_text}
 
 passed_over : lines_of [] ≡ PassedOver ∷ []

@@ -1,26 +1,18 @@
 -- What the calendar and the printer promise of what is set.
-use Rattle.std.proofs.Common.{◌≡◌, ℕ, suc, ◌<◌, ◌≤◌, ℤ, pos, negsuc, ◌+ℤ◌, ◌≤ℤ◌, ◌<ℤ◌, Bool, true, false, List, [], ◌∷◌}
-use Rattle.std.proofs.Common.{IsAscii, sym, refl, ap, ◌∙◌, subst, ⊎_elim, Option, Some, None, arith, codes}
+use Rattle.std.proofs.Common.{◌≡◌, ℕ, suc, ◌<◌, ◌≤◌, ℤ, pos, negsuc, ◌≤ℤ◌, Bool, true, false, List, [], ◌∷◌}
+use Rattle.std.proofs.Common.{IsAscii, sym, refl, subst, Option, Some, None, arith, codes}
 use Rattle.std.specs.Prelude.{int_lt, IfSome, option_map, nat_lt, neg_ℤ}
-use Rattle.std.specs.Int.{int_min}
 use Rattle.std.specs.Fmt.{decimal, signed_decimal}
 use Rattle.std.specs.List.{list_all, AllByRecursion}
 use Rattle.std.specs.Str.{IsUtf8}
-use Rattle.std.proofs.lemmas.Bool.{and_parts, cases_Bool, both_ways}
+use Rattle.std.proofs.lemmas.Bool.{and_parts, both_ways}
 use Rattle.std.proofs.lemmas.Bool.Decides.{nat_tests}
 use Rattle.std.proofs.lemmas.Fmt.{IsAscii-decimal}
 use Rattle.std.proofs.lemmas.Int.{ints}
 use Rattle.std.proofs.lemmas.List.Elements.{All-from_recursion}
 use Rattle.std.proofs.lemmas.Str.{IsAscii-append, IsUtf8-from_ascii}
 use Rattle.std.proofs.lemmas.Str.Ascii.{IsAscii-from_all, IsAscii-nil}
-use Rattle.jiff.specs.Types.{DateTime}
 use Rattle.jiff_core.specs.Timestamp.{IsDurationNanos}
-use Rattle.jiff_core.specs.Calendar.{days_from_civil}
-use Rattle.jiff_core.specs.Date.{epoch_day}
-use Rattle.jiff_core.specs.DateTime.{civil_nanos}
-use Rattle.jiff_core.proofs.CalendarLemmas.{day_count-lt_year}
-use Rattle.jiff_core.proofs.DateLemmas.{civil}
-use Rattle.jiff_core.proofs.DateTimeLemmas.{civil_nanos-parts, time_nanos_bound}
 use Rattle.jiff_core.proofs.SignedLemmas.{signed_arith}
 use Rattle.cookie_text.specs.declared.draft.SameSite.{SameSite}
 use Rattle.cookie_text.specs.declared.draft.SameSite.TheVariants.{Strict, Lax, None as Unrestricted}
@@ -30,8 +22,7 @@ use Rattle.cookie_text.specs.Attribute.{Attribute, HttpOnly, Secure, Partitioned
 use Rattle.cookie_text.specs.Normal.{is_short_year}
 use Rattle.cookie_text.specs.Printing.{piece_text, flag, is_set, prints_secure, whole_seconds, end_of, date_text}
 use Rattle.cookie_text.specs.Printing.{encoded, encoded_pair, printed_attributes}
-use Rattle.cookie_text.specs.Record.{Record, Seen, without_dot}
-use Rattle.cookie_text.specs.Setting.{IsKept, stopped, last_moment, latest_end, one_year}
+use Rattle.cookie_text.specs.Record.{Record, without_dot}
 use Rattle.cookie_text.proofs.PrintedAttributes.{whole_seconds_fit}
 use Rattle.cookie_text.proofs.PrintedDates.{is_quiet, printed_quiet}
 use Rattle.cookie_run.specs.Moments.{IsMoment}

@@ -18,7 +18,8 @@ use Rattle.cookie_store.specs.Insertion.{End, settled, Fits, Admits, InsertsRead
 use Rattle.store_parts.specs.declared.error.CookieError.{CookieError}
 use Rattle.cookie_run.specs.Accept.{text_end}
 use Rattle.cookie_store.specs.Rows.{Row, domain_text, has_key_of, is_live_of, ended, put}
-use Rattle.cookie_run.specs.Sent.{IsSent, IsRowFor, IsTaken}
+use Rattle.cookie_run.specs.Jar.{IsSent}
+use Rattle.cookie_run.specs.Sent.{IsRowFor, IsTaken}
 use Rattle.cookie_run.specs.Laws.{SentLinesAreTaken}
 use Rattle.cookie_store.specs.declared.action.StoreAction.{StoreAction}
 use Rattle.cookie_store.specs.declared.action.StoreAction.TheVariants.{Inserted, UpdatedExisting, ExpiredExisting}

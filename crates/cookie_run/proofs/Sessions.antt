@@ -1,6 +1,6 @@
 -- What a session does to its jar.
 use Rattle.std.proofs.Common.{◌≡◌, ℕ, ◌<◌, Bool, true, false, cond, List, [], ◌∷◌, ◌++◌, length, sym, refl, ap, ◌∙◌}
-use Rattle.std.proofs.Common.{subst, ⊎_elim, arith, Option, Some, None, Result, Ok, Err, OnOk, OnErr, append-nil}
+use Rattle.std.proofs.Common.{subst, ⊎_elim, arith, Option, Some, None, append-nil}
 use Rattle.std.specs.Prelude.{codes, IfSome, MatchOption, option_map, ◌==◌, if◌then◌else◌}
 use Rattle.std.specs.Int.{int_min}
 use Rattle.std.specs.List.{AllByRecursion}
@@ -23,7 +23,7 @@ use Rattle.cookie_text.specs.Pieces.{semicolon}
 use Rattle.cookie_text.specs.Record.{Record, Seen, bare, unsliced}
 use Rattle.cookie_text.specs.Setting.{IsKept, MakesRemoval, latest_end}
 use Rattle.cookie.specs.declared.delta.DeltaCookie.{DeltaCookie as Change}
-use Rattle.cookie.specs.declared.delta.DeltaCookie.TheVariants.{Added, Removed}
+use Rattle.cookie.specs.declared.delta.DeltaCookie.TheVariants.{Removed}
 use Rattle.cookie.specs.ByName.{ByName, Lists, AreApart as EntriesApart, value_in as entry_in}
 use Rattle.cookie.specs.Jar.{Jar, cookie_of as cookie_in, delta, under_names, with_original, with_change}
 use Rattle.cookie.specs.Jar.{without_change, Removes, empty}
@@ -31,7 +31,7 @@ use Rattle.cookie_run.specs.declared.step.SessionError.{SessionError}
 use Rattle.cookie_run.specs.declared.step.SessionError.TheVariants.{Year, Rng}
 use Rattle.cookie_run.specs.declared.step.Way.{Way}
 use Rattle.cookie_run.specs.declared.step.Way.TheVariants.{Plain, Host, Secure, Signed, Sealed}
-use Rattle.cookie_run.specs.Jar.{Holds, IsKeptAs, IsReadableJar, Keeps, last_in, record_in, sent, taken}
+use Rattle.cookie_run.specs.Jar.{Holds, IsKeptAs, last_in, record_in, sent, taken}
 use Rattle.cookie.specs.Prefix.{host_text, secure_text}
 use Rattle.cookie_run.specs.Site.{set_refusal, refusal_of, stored_name, then_long, is_too_long}
 use Rattle.cookie_run.proofs.ReadBack.{trim_graphic}
@@ -97,8 +97,16 @@ holds_past cs jar new o is holds stays =
     subst (λ (x : Option Seen). Holds (cs ++ option_to_list (record_in x)) new) (sym is)
     (subst (λ ds. Holds ds new) (sym (append-nil cs)) (subst (Holds cs) (sym stays) holds))
 
-pub opened_readable : (cs : List Record) (jar : Jar) → Holds cs jar → IsReadableJar jar
-opened_readable cs jar h name change is =
+-- each change of a jar is so
+abbrev pub EachChange : (Record → Type 0) → Jar → Type 0
+EachChange Is jar = (name : List ℕ) (change : Change) → finmap.get jar.changes name ≡ Some change
+    → Is (cookie_in change).cookie
+
+abbrev pub IsReadableJar : Jar → Type 0
+IsReadableJar jar = EachChange IsReadable jar
+
+pub opened_each : (Is : Record → Type 0) (cs : List Record) (jar : Jar) → Holds cs jar → EachChange Is jar
+opened_each Is cs jar h name change is =
     absurd (some_is_not_none change (sym is ∙ (ap (λ m. finmap.get m name) h.changes ∙ none_at name)))
 
 -- ---- what is sent is fit to be read back
@@ -156,35 +164,26 @@ kept_readable May key Sealed s kept e k = subst (λ (x : Seen). IsReadable x.coo
 some_same : {A : Type 0} (c d : A) → Some c ≡ Some d → c ≡ d
 some_same c d e = cc
 
-pub changed_readable : (old : Jar) (n : List ℕ) (change : Change)
-    → IsReadableJar old → IsReadable (cookie_in change).cookie
-    → IsReadableJar (record old { changes = finmap.insert old.changes n change })
-changed_readable old n change all one q other is =
+pub changed_each : (Is : Record → Type 0) (old : Jar) (n : List ℕ) (change : Change) → EachChange Is old
+    → Is (cookie_in change).cookie → EachChange Is (record old { changes = finmap.insert old.changes n change })
+changed_each Is old n change all one q other is =
     let found : cond (bytes_eq q n) (Some change) (finmap.get old.changes q) ≡ Some other = sym
     (get_insert old.changes n change q) ∙ is in
     ⊎_elim
-    (λ (e : bytes_eq q n ≡ true). subst (λ (x : Change). IsReadable (cookie_in x).cookie)
+    (λ (e : bytes_eq q n ≡ true). subst (λ (x : Change). Is (cookie_in x).cookie)
     (some_same change other (sym (cond-true _ _ _ e) ∙ found)) one)
     (λ (e : bytes_eq q n ≡ false). all q other (sym (cond-false _ _ _ e) ∙ found))
     (cases_Bool (bytes_eq q n))
 
-removed_readable : (old : Jar) (n : List ℕ) → IsReadableJar old → IsReadableJar (without_change old n)
-removed_readable old n all q other is =
+removed_each : (Is : Record → Type 0) (old : Jar) (n : List ℕ) → EachChange Is old
+    → EachChange Is (without_change old n)
+removed_each Is old n all q other is =
     let found : cond (bytes_eq q n) None (finmap.get old.changes q) ≡ Some other = sym (get_remove old.changes n q)
     ∙ is in
     ⊎_elim
     (λ (e : bytes_eq q n ≡ true). absurd (some_is_not_none other (sym found ∙ cond-true _ _ _ e)))
     (λ (e : bytes_eq q n ≡ false). all q other (sym (cond-false _ _ _ e) ∙ found))
     (cases_Bool (bytes_eq q n))
-
-pub set_readable : {E : Type 0} (r : Result (Unit {0}) E) (May : List ℕ → Type 0) (key : List ℕ) (way : Way) (s : Seen)
-    (old new : Jar) → set_refusal way s.cookie ≡ None
-    → OnOk r (Keeps May key way s old new) → OnErr r (new ≡ old) → IsReadableJar old → IsReadableJar new
-set_readable (Ok x) May key way s old new accepted keeps same all =
-    subst IsReadableJar (sym keeps.2) (changed_readable old keeps.0.cookie.name (Added keeps.0) all
-    (kept_readable May key way s keeps.0 (then_none _ (is_too_long way s.cookie.name s.cookie.value) accepted).0
-    keeps.1))
-set_readable (Err e) May key way s old new accepted keeps same all = subst IsReadableJar (sym same) all
 
 -- ---- removals
 
@@ -221,17 +220,15 @@ removal_readable c r d now n some path domain hr hd accepted =
       expires = ends;
     }
 
-takes_readable : (c d : Seen) (now : DateTime) (n : List ℕ) (old new : Jar) (o : Option Seen) → 0 < length c.cookie.name
-    → c.cookie.path ≡ Some (codes "/") → c.cookie.domain ≡ None
+pub takes_each : (Is : Record → Type 0) (c : Seen) (now : DateTime) (old new : Jar) (o : Option Seen)
     → MatchOption o (new ≡ without_change old c.cookie.name) (λ _. (removal : Seen) × MakesRemoval c now removal
     × (new ≡ with_change old (Removed removal)))
-    → MakesRemoval (unsliced (bare n [])) now d → refusal_of n d.cookie.expires ≡ None → IsReadableJar old
-    → IsReadableJar new
-takes_readable c d now n old new None some path domain removes hd accepted all = subst IsReadableJar (sym removes)
-    (removed_readable old c.cookie.name all)
-takes_readable c d now n old new (Some x) some path domain removes hd accepted all =
-    subst IsReadableJar (sym removes.2) (changed_readable old removes.0.cookie.name (Removed removes.0) all
-    (removal_readable c removes.0 d now n some path domain removes.1 hd accepted))
+    → ((removal : Seen) → MakesRemoval c now removal → Is removal.cookie) → EachChange Is old → EachChange Is new
+takes_each Is c now old new None removes each all = subst (EachChange Is) (sym removes)
+    (removed_each Is old c.cookie.name all)
+takes_each Is c now old new (Some x) removes each all =
+    subst (EachChange Is) (sym removes.2) (changed_each Is old removes.0.cookie.name (Removed removes.0) all
+    (each removes.0 removes.1))
 
 stored_named : (way : Way) (name : List ℕ) → 0 < length name → 0 < length (stored_name way name)
 stored_named Plain name some = some
@@ -240,21 +237,19 @@ stored_named Secure name some = omega arith
 stored_named Signed name some = some
 stored_named Sealed name some = some
 
+pub removal_reads : (way : Way) (name : List ℕ) (d r : Seen) (now : DateTime)
+    → MakesRemoval (unsliced (bare name [])) now d → refusal_of name d.cookie.expires ≡ None
+    → MakesRemoval (taken way name) now r → IsReadable r.cookie
+removal_reads way name d r now hd e hr = removal_readable (taken way name) r d now name
+    (stored_named way name (named name d.cookie.expires e)) refl refl hr hd e
+
 pub taken_readable : (way : Way) (name : List ℕ) (d : Seen) (now : DateTime) (old new : Jar)
     → Removes old (taken way name) now new
     → MakesRemoval (unsliced (bare name [])) now d → refusal_of name d.cookie.expires ≡ None → IsReadableJar old
     → IsReadableJar new
 taken_readable way name d now old new removes hd e all =
-    takes_readable (taken way name) d now name old new (finmap.get old.originals (stored_name way name))
-    (stored_named way name (named name d.cookie.expires e)) refl refl removes hd e all
-
-pub remove_readable : {E : Type 0} (r : Result (Unit {0}) E) (way : Way) (name : List ℕ) (d : Seen) (now : DateTime)
-    (old new : Jar) → OnOk r (Removes old (taken way name) now new) → OnErr r (new ≡ old)
-    → MakesRemoval (unsliced (bare name [])) now d → refusal_of name d.cookie.expires ≡ None → IsReadableJar old
-    → IsReadableJar new
-remove_readable (Ok x) way name d now old new removes same hd e all = taken_readable way name d now old new removes hd e
-    all
-remove_readable (Err x) way name d now old new removes same hd e all = subst IsReadableJar (sym same) all
+    takes_each IsReadable (taken way name) now old new (finmap.get old.originals (stored_name way name)) removes
+    (λ r makes. removal_reads way name d r now hd e makes) all
 
 -- ---- closing
 
@@ -282,12 +277,12 @@ pub of_change : (o : Option Change) (s : Seen) → option_map cookie_in o ≡ So
 of_change None s e = absurd (some_is_not_none s (sym e))
 of_change (Some change) s e = (change, refl, some_same (cookie_in change) s e)
 
-pub delta_readable : (jar : Jar) (cs : List Seen) → IsReadableJar jar → Lists (under_names cs) (delta jar)
-    → AllByRecursion (λ s. IsReadable s.cookie) cs
-delta_readable jar cs all lists =
-    each_of_names (λ s. IsReadable s.cookie) cs lists.apart (λ q s is.
+pub delta_each : (Is : Record → Type 0) (jar : Jar) (cs : List Seen) → EachChange Is jar
+    → Lists (under_names cs) (delta jar) → AllByRecursion (λ s. Is s.cookie) cs
+delta_each Is jar cs all lists =
+    each_of_names (λ s. Is s.cookie) cs lists.apart (λ q s is.
     let change = of_change (finmap.get jar.changes q) s (sym (lists.each q) ∙ is) in
-    subst (λ (x : Seen). IsReadable x.cookie) change.2 (all q change.0 change.1))
+    subst (λ (x : Seen). Is x.cookie) change.2 (all q change.0 change.1))
 
 -- no refusal that a cookie itself has is the generator's
 pub not_for_the_generator : (way : Way) (c : Record) → set_refusal way c ≡ Some Rng → ⊥

@@ -301,15 +301,17 @@ named_text ways.Secure name h = IsUtf8-append secure_text name secure_utf8 h
 named_text ways.Signed name h = h
 named_text ways.Sealed name h = h
 
-pub kept_text : {k : List ℕ} (May : List ℕ → Type 0) (key : List ℕ) (way : Way) (s kept : Seen) → OnlyOne k
+pub kept_text : (May : List ℕ → Type 0) (key : List ℕ) (way : Way) (s kept : Seen)
+    → ((k value : List ℕ) → IsUtf8 value → IsUtf8 (signing k value))
+    → ((k name value text : List ℕ) → IsSealing k name value text → IsUtf8 text)
     → IsUtf8 s.cookie.value → IsKeptAs May key way s kept → IsUtf8 kept.cookie.value
-kept_text May key ways.Plain s kept law h k = subst (λ (x : Seen). IsUtf8 x.cookie.value) (sym k) h
-kept_text May key ways.Host s kept law h k = subst (λ (x : Seen). IsUtf8 x.cookie.value) (sym k) h
-kept_text May key ways.Secure s kept law h k = subst (λ (x : Seen). IsUtf8 x.cookie.value) (sym k) h
-kept_text May key ways.Signed s kept law h k =
-    subst (λ (x : Seen). IsUtf8 x.cookie.value) (sym k) (law.signed_text key s.cookie.value h)
-kept_text May key ways.Sealed s kept law h k =
-    subst (λ (x : Seen). IsUtf8 x.cookie.value) (sym k.2.3) (law.sealed_text key s.cookie.name s.cookie.value k.2.0
+kept_text May key ways.Plain s kept signed sealed h k = subst (λ (x : Seen). IsUtf8 x.cookie.value) (sym k) h
+kept_text May key ways.Host s kept signed sealed h k = subst (λ (x : Seen). IsUtf8 x.cookie.value) (sym k) h
+kept_text May key ways.Secure s kept signed sealed h k = subst (λ (x : Seen). IsUtf8 x.cookie.value) (sym k) h
+kept_text May key ways.Signed s kept signed sealed h k =
+    subst (λ (x : Seen). IsUtf8 x.cookie.value) (sym k) (signed key s.cookie.value h)
+kept_text May key ways.Sealed s kept signed sealed h k =
+    subst (λ (x : Seen). IsUtf8 x.cookie.value) (sym k.2.3) (sealed key s.cookie.name s.cookie.value k.2.0
     (k.0, k.2.1, k.2.2))
 
 -- ---- the cookies of a delta

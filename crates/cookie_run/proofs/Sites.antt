@@ -13,7 +13,6 @@ use Rattle.store_parts.specs.DomainText.{idna_form, suffix_or_empty}
 use Rattle.cookie.specs.Jar.{Jar}
 use Rattle.cookie_run.specs.Acts.{Arrival, Arrives, Never}
 use Rattle.cookie_run.specs.Hosts.{secure_host}
-use Rattle.store_parts.specs.Schemes.{host_of}
 use Rattle.cookie_run.specs.Jar.{Keyed, lines_of}
 use Rattle.cookie_run.specs.Moments.{IsMoment, AllFollow, last_of, the_beginning}
 use Rattle.cookie_run.specs.Play.{GetTells}
@@ -89,12 +88,13 @@ late_arrival now Never f = omega (arith, signed_arith)
 -- ---- what comes from elsewhere
 
 delivered_other : (list : List Rule) (host : List ℕ) (rows : List Row) (url : Parts) (now : ℤ) (cs : List Command)
-    (jar : Jar) (arrival : Arrival) (new : List Row) (ks : List Kept) → host_of url ≢ Some host
-    → AnswersApart list host (Visits url now cs arrival) → Agrees host rows ks → Delivers list rows url jar arrival new
-    → Agrees host new ks
-delivered_other list host rows url now cs jar Never new ks other apart a d = subst (λ rs. Agrees host rs ks) (sym d) a
-delivered_other list host rows url now cs jar (Arrives at) new ks other apart a d = other_lines list host url at
-    (lines_of d.0) rows ks d.2.0 new other apart a d.2.1
+    (jar : Jar) (arrival : Arrival) (new : List Row) (ks : List Kept) → secure_host url ≢ Some host
+    → AnswersBySessions host (Visits url now cs arrival) → AnswersApart list host (Visits url now cs arrival)
+    → Agrees host rows ks → Delivers list rows url jar arrival new → Agrees host new ks
+delivered_other list host rows url now cs jar Never new ks other answers apart a d =
+    subst (λ rs. Agrees host rs ks) (sym d) a
+delivered_other list host rows url now cs jar (Arrives at) new ks other answers apart a d = other_lines list host url at
+    (lines_of d.0) rows ks d.2.0 new (λ here. other (answers here)) apart a d.2.1
 
 with_rows : (key host : List ℕ) (rows new : List Row) (now : ℤ) (site : Site) (a : SiteAgrees key host rows now site)
     → Agrees host new a.cookies → SiteAgrees key host new now site
@@ -115,20 +115,20 @@ act_leads key laws late list host (Visits url at commands arrival) site last row
     p =
     let now = agrees_later key host rows last at site follows.0.in_order a in
     ⊎_elim
-    (λ (e : is_text host (host_of url) ≡ true).
-    let here = host_is host (host_of url) e in
-    let x = exchanged key laws list host rows new url at site commands arrival told p.0 p.2.0 (answers here) reads
+    (λ (e : is_text host (secure_host url) ≡ true).
+    let here = host_is host (secure_host url) e in
+    let x = exchanged key laws list host rows new url at site commands arrival told p.0 p.2.0 here reads
     (late at follows.0.is_moment) (arrives at arrival follows.1) now p.1 p.2.1 p.2.2 in
     (x.0, ((λ h. x.1), (λ other. absurd (other here))), x.2))
-    (λ (e : is_text host (host_of url) ≡ false).
-    let other = other_host host (host_of url) e in (
+    (λ (e : is_text host (secure_host url) ≡ false).
+    let other = other_host host (secure_host url) e in (
       site,
       ((λ here. absurd (other here)), (λ h. refl)),
       agrees_later key host new at (end_moment at arrival) site (late_arrival at arrival follows.1)
           (with_rows key host rows new at site now (delivered_other list host rows url at commands p.2.0.jar arrival new
-          now.cookies other apart now.agrees p.2.2)),
+          now.cookies other answers apart now.agrees p.2.2)),
     ))
-    (cases_Bool (is_text host (host_of url)))
+    (cases_Bool (is_text host (secure_host url)))
 act_leads key laws late list host (Answers url lines at) site last rows new told reads answers apart follows a p =
     let now = agrees_later key host rows last at site follows.0.in_order a in (
       site,
@@ -298,25 +298,23 @@ inside_on kind last arrival old readings F G A B f g (inr moment) = inr (moment.
 
 act_stops : (key : List ℕ) (laws : Laws key) (late : (n : ℤ) → IsMoment n → EndsLate n) (host : List ℕ) (act : Act)
     (site : Site) (rows : List Row) (kind : FaultKind) (last : ℤ) (old readings : List Reading) → IsReadBack host
-    → AnswersBySessions host act
     → SiteAgrees key host rows last site → StopsFrom kind last act old (ReadsFront key rows act) (ReadsAll key rows act)
     readings → StopsOn host site kind last act old readings
-act_stops key laws late host (Visits url at commands arrival) site rows kind last old readings reads answers a
-    (inl opening) = λ here. inl opening
-act_stops key laws late host (Visits url at commands arrival) site rows kind last old readings reads answers a
-    (inr past) =
+act_stops key laws late host (Visits url at commands arrival) site rows kind last old readings reads a (inl opening) =
+    λ here. inl opening
+act_stops key laws late host (Visits url at commands arrival) site rows kind last old readings reads a (inr past) =
     λ here.
     let now = agrees_later key host rows last at site past.0.in_order a in
     inr (
       past.0,
       inside_on kind at arrival old readings _ _ _ _
-          (λ told front. front_on key laws host rows url at site commands told (answers here) reads
+          (λ told front. front_on key laws host rows url at site commands told here reads
           (late at past.0.is_moment) now front)
-          (λ told all. all_on key laws host rows url at site commands told all.0 (answers here) reads
+          (λ told all. all_on key laws host rows url at site commands told all.0 here reads
           (late at past.0.is_moment) now all.1 all.2) past.1,
     )
-act_stops key laws late host (Answers url lines at) site rows kind last old readings reads answers a s = tt
-act_stops key laws late host (Asks url at) site rows kind last old readings reads answers a s = tt
+act_stops key laws late host (Answers url lines at) site rows kind last old readings reads a s = tt
+act_stops key laws late host (Asks url at) site rows kind last old readings reads a s = tt
 
 front_inside : (key : List ℕ) (rows : List Row) (old readings : List Reading) (kind : FaultKind) (last : ℤ) (act : Act)
     → StopsFrom kind last act old (ReadsFront key rows act) (ReadsAll key rows act) readings → (front : List Reading)
@@ -364,7 +362,6 @@ sites_read_until key laws late list acts step kind readings run =
           site.sessions site.apart run.in_order (begins key host) run.ran in (
             led.0,
             led.1,
-            λ here. act_stops key laws late host run.act led.0 run.rows kind _ (all_told run.told) readings
-                reads here led.2 run.stops,
+            act_stops key laws late host run.act led.0 run.rows kind _ (all_told run.told) readings reads led.2 run.stops,
           );
     }

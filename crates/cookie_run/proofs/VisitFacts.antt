@@ -1,5 +1,5 @@
 -- What the headline says of a site that sets a cookie and then reads it, beside no other host that answers.
-use Rattle.std.proofs.Common.{◌≡◌, ◌≢◌, ℕ, ◌+◌, ◌*◌, ℤ, pos, List, [], ◌∷◌, ◌++◌, refl, ap, sym, subst, ◌∙◌, inl, inr}
+use Rattle.std.proofs.Common.{◌≡◌, ℕ, ◌+◌, ◌*◌, ℤ, pos, List, [], ◌∷◌, ◌++◌, refl, ap, sym, subst, ◌∙◌, inl, inr}
 use Rattle.std.proofs.Common.{Option, Some, None}
 use Rattle.std.specs.Prelude.{codes}
 use Rattle.std.proofs.lemmas.Option.{same_Some}
@@ -8,7 +8,8 @@ use Rattle.url.specs.declared.host.Host.TheVariants.{Domain}
 use Rattle.cookie_text.specs.Record.{Record, bare, unsliced}
 use Rattle.store_parts.specs.Schemes.{host_of}
 use Rattle.cookie_run.specs.Acts.{Act, Visits, Arrival, Arrives, Never}
-use Rattle.cookie_run.specs.Headline.{IsSite, IsApartFrom, AnswersApart, ReadsOn, EachReadsOn, SitesReadTheirOwn}
+use Rattle.cookie_run.specs.Headline.{IsSite, IsApartFrom, AnswersApart, AnswersBySessions, ReadsOn, EachReadsOn}
+use Rattle.cookie_run.specs.Headline.{SitesReadTheirOwn}
 use Rattle.cookie_run.specs.Readings.{all_told, AnswersEach}
 use Rattle.cookie_run.specs.Site as kinds
 use Rattle.cookie_run.specs.Site.{Site, View, nothing, live, after_arrival, Refuses, SetOn, IsReadAt}
@@ -125,11 +126,15 @@ apart_from_none : (arrival : Arrival) (url : Parts) (now : ℤ) (commands : List
 apart_from_none (Arrives later) url now commands here = alone url here
 apart_from_none Never url now commands here = tt
 
+by_session : (age : Option ℤ) (arrival : Arrival) → AnswersBySessions shop (sets_it age arrival)
+by_session age (Arrives later) = λ here. refl
+by_session age Never = tt
+
 a_site : (age : Option ℤ) (arrival : Arrival) (later : ℤ) → IsSite list shop (the_acts age arrival later)
 a_site age arrival later = record {
   own_form = own_form;
   no_empty_label = no_empty_label;
-  sessions = (λ here. refl, (λ here. refl, tt));
+  sessions = (by_session age arrival, (tt, tt));
   apart = (apart_from_none arrival the_url (at 0) (the_set age ∷ []) refl, (tt, tt));
 }
 

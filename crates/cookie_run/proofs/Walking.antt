@@ -16,14 +16,15 @@ use Rattle.cookie.specs.declared.delta.DeltaCookie.TheVariants.{Added, Removed}
 use Rattle.cookie.specs.ByName.{ByName}
 use Rattle.cookie.specs.Jar.{Jar, view}
 use Rattle.store_parts.specs.Expiry.{death}
-use Rattle.cookie_run.specs.Jar.{Keyed, IsOpened, IsKeptAs, IsReadableJar, Sets, sent, value_in, record_in, last_in}
+use Rattle.cookie_run.specs.Jar.{Keyed, IsOpened, IsKeptAs, Sets, sent, value_in, record_in, last_in}
 use Rattle.cookie_run.specs.Play.{any_nonce}
 use Rattle.cookie_run.specs.Site.{kind_of, stored_name, is_too_long}
 use Rattle.cookie_run.specs.declared.step.Way.{Way}
 use Rattle.cookie_run.specs.declared.step.Way.TheVariants as ways
 use Rattle.cookie_run.proofs.ReadBack.{IsGood}
 use Rattle.cookie_run.proofs.ReadCode.{cookies_are}
-use Rattle.cookie_run.proofs.Sessions.{none_at, get_insert, then_none, kept_readable, changed_readable, opened_readable}
+use Rattle.cookie_run.proofs.Sessions.{IsReadableJar, none_at, get_insert, then_none, kept_readable, changed_each}
+use Rattle.cookie_run.proofs.Sessions.{opened_each}
 use Rattle.cookie_run.specs.Brought.{StandsAs, Matches}
 use Rattle.cookie_run.proofs.Showing.{OnlyOne, Shows, set_shows, kept_named, kept_stands, kept_text}
 use Rattle.cookie_run.proofs.Showing.{named_text, not_nil, utf8_bytes, last_named, seen_named, view_original}
@@ -174,7 +175,7 @@ opened_walks key now d ks header session site after brought opened each =
     record {
       shows = opens key now ks header session site brought opened each;
       brought = brought;
-      readable = opened_readable opened.cookies session.jar opened.holds;
+      readable = opened_each IsReadable opened.cookies session.jar opened.holds;
       fit = λ q change is. absurd (some_is_not_none change (sym is ∙ none q));
       leaves = λ q. subst (λ o. MatchesHeld key q (sent_at d o (found_in ks q)) (live_at d (site q))) (sym (none q))
           (matches_later key q now d (found_in ks q) (site q) after (each q));
@@ -188,7 +189,8 @@ pub kept_fit : {k : List ℕ} (May : List ℕ → Type 0) (key : List ℕ) (way 
 kept_fit May key way s kept law name value age readable k =
     let n : IsUtf8 kept.cookie.name = subst IsUtf8 (sym (kept_named May key way (sent s) kept k))
     (named_text way s.cookie.name name) in
-    let v : IsUtf8 kept.cookie.value = kept_text May key way (sent s) kept law value k in
+    let v : IsUtf8 kept.cookie.value = kept_text May key way (sent s) kept law.signed_text law.sealed_text
+    value k in
     record {
       good = record {
         named = not_nil kept.cookie.name readable.name;
@@ -287,7 +289,7 @@ set_walks key now d at old new view left way s law w sets =
     record {
       shows = set_shows key old new view way s w.shows sets;
       brought = λ q. ap (λ (j : Jar). record_in (finmap.get j.originals q)) sets.keeps.2 ∙ w.brought q;
-      readable = subst IsReadableJar (sym sets.keeps.2) (changed_readable old.jar kept.cookie.name (Added kept)
+      readable = subst IsReadableJar (sym sets.keeps.2) (changed_each IsReadable old.jar kept.cookie.name (Added kept)
           w.readable readable);
       fit = subst (λ (j : Jar). AllFit j.changes) (sym sets.keeps.2) (insert_fit old.jar.changes kept.cookie.name
           (Added kept) w.fit (kept_fit any_nonce key way s kept law sets.name sets.value sets.age readable as_kept));

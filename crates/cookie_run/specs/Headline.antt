@@ -21,9 +21,11 @@ use Rattle.cookie_run.specs.Stops.{StopsFrom}
 
 -- ---- the premises
 
--- the host answers by sessions at https URLs, and in no other way
+-- what comes of the host's answers is of sessions at https URLs, and of nothing else
 abbrev pub AnswersBySessions : List ℕ → Act → Type 0
-AnswersBySessions host (Visits url at commands arrival) = host_of url ≡ Some host → secure_host url ≡ Some host
+AnswersBySessions host (Visits url at commands (Arrives later)) =
+    host_of url ≡ Some host → secure_host url ≡ Some host
+AnswersBySessions host (Visits url at commands Never) = ⊤
 AnswersBySessions host (Answers url lines at) = host_of url ≢ Some host
 AnswersBySessions host (Asks url at) = ⊤
 
@@ -61,11 +63,11 @@ pub record IsSite (list : List Rule) (host : List ℕ) (acts : List Act) : Type 
 
 -- ---- the site through a play
 
--- an exchange of the host reads what its commands read on its site; other acts leave that site
+-- an exchange of the host at https reads what its commands read on its site; other acts leave that site
 abbrev pub ReadsOn : List ℕ → Site → Act → List Reading → Site → Type 0
 ReadsOn host site (Visits url at commands arrival) told new =
-    (host_of url ≡ Some host → ExchangeOn site at commands arrival told new)
-    × (host_of url ≢ Some host → new ≡ site)
+    (secure_host url ≡ Some host → ExchangeOn site at commands arrival told new)
+    × (secure_host url ≢ Some host → new ≡ site)
 ReadsOn host site (Answers url lines at) told new = new ≡ site
 ReadsOn host site (Asks url at) told new = new ≡ site
 
@@ -85,10 +87,10 @@ abbrev pub FrontOn : Site → ℤ → List Command → List Reading → Type 0
 FrontOn site now commands told =
     (front : List Command) × (rest : List Command) × (commands ≡ front ++ rest) × AllOn site now front told
 
--- an exchange of the host that the play stopped in read that, as far as it came
+-- an exchange of the host at https that the play stopped in read that, as far as it came
 abbrev pub StopsOn : List ℕ → Site → FaultKind → ℤ → Act → List Reading → List Reading → Type 0
 StopsOn host site kind last (Visits url at commands arrival) old readings =
-    host_of url ≡ Some host → StopsFrom kind last (Visits url at commands arrival) old (FrontOn site at commands)
+    secure_host url ≡ Some host → StopsFrom kind last (Visits url at commands arrival) old (FrontOn site at commands)
     (AllOn site at commands) readings
 StopsOn host site kind last (Answers url lines at) old readings = ⊤
 StopsOn host site kind last (Asks url at) old readings = ⊤
@@ -96,8 +98,8 @@ StopsOn host site kind last (Asks url at) old readings = ⊤
 -- ---- the headline
 
 -- THE HEADLINE: for every host that is its own IDNA form without an empty label, that answers by sessions alone, and
--- that is apart from the other hosts that answer, each of its exchanges reads, in the way it was set, what its own
--- delivered commands before it leave, and what its own commands so far set and removed.
+-- that is apart from the other hosts that answer, each of its exchanges at https reads, in the way it was set, what its
+-- own delivered commands before it leave, and what its own commands so far set and removed.
 pub record SitesReadTheirOwn (list : List Rule) (acts : List Act) (readings : List Reading) : Type 0 where
   pub told : List (List Reading)
   pub read : readings ≡ all_told told
@@ -107,8 +109,7 @@ pub record SitesReadTheirOwn (list : List Rule) (acts : List Act) (readings : Li
 -- a site as it came to an act, and what the play that stopped there read
 abbrev pub ReadsUntil : List ℕ → List Act → List (List Reading) → Act → FaultKind → ℤ → List Reading → Type 0
 ReadsUntil host before told act kind last readings =
-    (site : Site) × EachReadsOn host nothing before told site
-    × (AnswersBySessions host act → StopsOn host site kind last act (all_told told) readings)
+    (site : Site) × EachReadsOn host nothing before told site × StopsOn host site kind last act (all_told told) readings
 
 -- The same as far as a play came that stopped in a step, counted from 1.
 pub record SitesReadTheirOwnUntil (list : List Rule) (acts : List Act) (step : ℕ) (kind : FaultKind)

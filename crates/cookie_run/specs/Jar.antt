@@ -1,6 +1,6 @@
 -- A session's cookies: what its header brought (RFC 6265, section 4.2.1), what was set and removed since, and the
 -- `Set-Cookie` lines of it (section 4.1.1). Names, signings and sealings by way are own: docs/DEFINITIONS.md.
-use Rattle.std.specs.Prelude.{◌≡◌, ℕ, List, [], ◌∷◌, map, Option, Some, None, option_map, IfSome, Result}
+use Rattle.std.specs.Prelude.{◌≡◌, ℕ, List, [], ◌∷◌, codes, map, Option, Some, None, option_map, IfSome, Result}
 use Rattle.std.specs.Prelude.{if◌then◌else◌}
 use Rattle.std.specs.Option.{option_or}
 use Rattle.std.specs.List.{AllByRecursion}
@@ -122,6 +122,15 @@ pub record TakesOut (old : Keyed) (way : Way) (name : List ℕ) (now : DateTime)
 
 -- ---- closing
 
+-- a cookie as a session closes with it: text under a name that isn't empty, with the path `/` and no domain
+pub record IsSent (c : Record) : Type 0 where
+  pub name : IsUtf8 c.name
+  pub value : IsUtf8 c.value
+  pub path : c.path ≡ Some (codes "/")
+  pub domain : c.domain ≡ None
+  pub age : IfSome c.max_age IsDurationNanos
+  pub readable : IsReadable c
+
 -- the line of this cookie reads as its normal form, name and value still escaped
 abbrev pub ReadsAsItself : Seen → Type 0
 ReadsAsItself s = (outcome : Result Seen ParseError) → ReadsPlain (encoded s.cookie) outcome
@@ -136,10 +145,11 @@ lines_of cookies = map (λ s. encoded s.cookie) cookies
 pub record ClosesWith (jar : Jar) (lines : List (List ℕ)) : Type 0 where
   pub cookies : List Seen
   pub lists : Lists (under_names cookies) (delta jar)
+  pub are_sent : AllByRecursion (λ s. IsSent s.cookie) cookies
   pub read_back : AllByRecursion ReadsAsItself cookies
   pub printed : lines ≡ lines_of cookies
 
--- each change is fit to be read back
-abbrev pub IsReadableJar : Jar → Type 0
-IsReadableJar jar = (name : List ℕ) (change : Change) → finmap.get jar.changes name ≡ Some change
-    → IsReadable (cookie_in change).cookie
+-- each change is fit to be sent
+abbrev pub IsSentJar : Jar → Type 0
+IsSentJar jar = (name : List ℕ) (change : Change) → finmap.get jar.changes name ≡ Some change
+    → IsSent (cookie_in change).cookie

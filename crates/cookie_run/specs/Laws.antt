@@ -19,7 +19,8 @@ use Rattle.cookie_run.specs.Headline.{IsSite, EachReadsOn, SitesReadTheirOwn, Si
 use Rattle.cookie_run.specs.Play.{Plays, IsRun, IsRunUntil}
 use Rattle.cookie_run.specs.Brought.{BringsSite}
 use Rattle.cookie_run.specs.Site.{Site, nothing, live}
-use Rattle.cookie_run.specs.Sent.{IsSent, IsRowFor, IsTaken}
+use Rattle.cookie_run.specs.Jar.{IsSent}
+use Rattle.cookie_run.specs.Sent.{IsRowFor, IsTaken}
 
 -- what a play whose moments are in order reads, its sites read of their own
 abbrev pub EachPlayIsRead : List ℕ → Type 0

@@ -10,7 +10,7 @@ use Rattle.jiff.specs.Types.{DateTime}
 use Rattle.percent_encoding.specs.Percent.{percent_decode}
 use Rattle.url.specs.Parts.{Parts}
 use Rattle.url.specs.Parser.{parse_url}
-use Rattle.cookie_text.specs.Record.{Record, Seen, bare, unsliced}
+use Rattle.cookie_text.specs.Record.{Record, bare, unsliced}
 use Rattle.cookie_text.specs.declared.expiration.Expiration.TheVariants.{DateTime as At}
 use Rattle.cookie_run.specs.ScriptMoment.{date_of, moment_of}
 use Rattle.cookie_run.specs.declared.step.Way.{Way}

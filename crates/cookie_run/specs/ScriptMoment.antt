@@ -1,6 +1,6 @@
 -- The dates of a script, `YYYY-MM-DDThh:mm:ssZ`: the form of RFC 3339 without fractions and in UTC alone. A moment of a
 -- script is a date of the years 1971 to 9998.
-use Rattle.std.specs.Prelude.{◌≡◌, ℕ, ℤ, pos, List, map, Bool, true, false, T, ◌&&◌, nat_lt, nat_le, int_le, codes}
+use Rattle.std.specs.Prelude.{ℕ, ℤ, pos, List, map, Bool, true, false, T, ◌&&◌, nat_lt, nat_le, int_le, codes}
 use Rattle.std.specs.Prelude.{slice_range, Option, Some, None, option_map, option_and_then, if◌then◌else◌}
 use Rattle.std.specs.Str.{bytes_eq}
 use Rattle.std.specs.Str.Parse.{digits_value}

@@ -1,6 +1,6 @@
 -- A script: its lines up to the first faulty one as steps of a play, what is printed for them, and what they leave
 -- (own: docs/DEFINITIONS.md).
-use Rattle.std.specs.Prelude.{ℕ, ℤ, ◌+◌, ◌-◌, ◌≤◌, List, [], ◌∷◌, ◌++◌, take, length, Bool, ◌||◌, ◌==◌, nat_lt, codes}
+use Rattle.std.specs.Prelude.{ℕ, ℤ, ◌+◌, List, [], ◌∷◌, ◌++◌, length, Bool, ◌||◌, ◌==◌, nat_lt, codes}
 use Rattle.std.specs.Prelude.{decimal, Option, Some, None, Result, Ok, Err, ◌≡◌, ◌⊎◌, ⊤, false, if◌then◌else◌}
 use Rattle.std.specs.List.{flat_map, AllByRecursion}
 use Rattle.std.specs.Str.{bytes_eq}

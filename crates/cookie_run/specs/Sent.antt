@@ -1,10 +1,8 @@
 -- What becomes of the line of a session's cookie, received at an https URL of the host that sent it.
-use Rattle.std.specs.Prelude.{◌≡◌, ◌⊎◌, ℤ, ℕ, List, codes, true, false, Some, None, IfSome}
+use Rattle.std.specs.Prelude.{◌≡◌, ◌⊎◌, ℤ, ℕ, List, codes, true, false}
 use Rattle.std.specs.List.{list_any}
-use Rattle.std.specs.Str.{IsUtf8}
-use Rattle.jiff_core.specs.Timestamp.{IsDurationNanos}
 use Rattle.cookie_text.specs.Printing.{escaped}
-use Rattle.cookie_text.specs.Normal.{normal, IsReadable}
+use Rattle.cookie_text.specs.Normal.{normal}
 use Rattle.cookie_text.specs.Record.{Record}
 use Rattle.store_parts.specs.DomainMatch.{host_only}
 use Rattle.store_parts.specs.Expiry.{death, is_dead}
@@ -13,15 +11,6 @@ use Rattle.cookie_store.specs.Rows.{Row, is_live_of, put}
 use Rattle.cookie_store.specs.declared.action.StoreAction.TheVariants.{Inserted, ExpiredExisting, UpdatedExisting}
 use Rattle.cookie_run.specs.declared.step.LineEnd.TheVariants.{Stored, Refused}
 use Rattle.cookie_run.specs.declared.step.LineEnd.{LineEnd}
-
--- a cookie as a session closes with it: text under a name that isn't empty, with the path `/` and no domain
-pub record IsSent (c : Record) : Type 0 where
-  pub name : IsUtf8 c.name
-  pub value : IsUtf8 c.value
-  pub path : c.path ≡ Some (codes "/")
-  pub domain : c.domain ≡ None
-  pub age : IfSome c.max_age IsDurationNanos
-  pub readable : IsReadable c
 
 -- its row, received at the moment: of the host alone, under the path `/`, name and value still escaped, with the death
 -- of its normal form

@@ -6,11 +6,11 @@ ghost use Rattle.devices.specs.Device.{Rose};
 ghost use Rattle.cookie_run.specs.Program.{Answers, IsScriptOf};
 
 use crate::client::Client;
-use devices::{Sink, Source};
 use crate::moment::begin_1971;
 use crate::script::ended::{Ended, RunError};
 use crate::script::run::run;
 use cookie::Key;
+use devices::{Sink, Source};
 use rand_chacha::ChaCha20Rng;
 use rand_core::SeedableRng;
 

@@ -152,7 +152,11 @@ fn receives(rt: &impl Abort, alloc: Global) -> bool {
     let (Ok(url), Ok(mut client)) = (Url::parse(alloc, SHOP), client(alloc)) else {
         return true;
     };
-    let lines: [&[u8]; 3] = [b"a=1; Path=/", b"a=2; HttpOnly; Path=/", b"b=%33; Path=/"];
+    let lines: [&[u8]; 3] = [
+        b"a=1; Path=/",
+        b"a=2; HttpOnly; Path=/",
+        b"b=%33; Domain=shop.com; Path=/",
+    ];
     let headers = ["", "a=1", "a=2", "a=2; b=%33"];
     let applied = match client.receive(&url, &lines, second(0)) {
         Ok(ends) => {

@@ -99,18 +99,13 @@ fn reads(alloc: Global, suffixes: &[u8], steps: &[Step], wanted: &str) -> Option
 }
 
 // Max-Age counts from the delivery, and a moment that is the end is past it.
-fn ends(alloc: Global) -> Option<bool> {
+fn ends(alloc: Global, delivery: i64) -> Option<bool> {
+    let set = set_for(alloc, "1", 10);
     let steps = [
-        one(
-            alloc,
-            SHOP,
-            0,
-            set_for(alloc, "1", 10),
-            Delivery::At(second(5)),
-        )?,
-        gets(alloc, SHOP, 14)?,
-        gets(alloc, SHOP, 15)?,
-        gets(alloc, SHOP, 16)?,
+        one(alloc, SHOP, 0, set, Delivery::At(second(delivery)))?,
+        gets(alloc, SHOP, delivery + 9)?,
+        gets(alloc, SHOP, delivery + 10)?,
+        gets(alloc, SHOP, delivery + 11)?,
     ];
     reads(alloc, SUFFIXES, &steps, "1 - - ")
 }
@@ -129,7 +124,8 @@ fn ends_at_once(alloc: Global) -> Option<bool> {
 
 #[test]
 fn reads_nothing_past_the_end(rt: HostRuntime) {
-    assert!(rt; ends(rt.alloc()) == Some(true));
+    assert!(rt; ends(rt.alloc(), 0) == Some(true));
+    assert!(rt; ends(rt.alloc(), 5) == Some(true));
     assert!(rt; ends_at_once(rt.alloc()) == Some(true));
 }
 
@@ -195,6 +191,26 @@ fn reads_its_own_beside_other_hosts(rt: HostRuntime) {
     let evil = "https://evil.github.io/";
     let line = b"a=x; Domain=github.io";
     assert!(rt; stays(alloc, b"io\ngithub.io\n", me, evil, line, "1 ") == Some(true));
+}
+
+// Whether two sites that set a cookie of one name read each its own.
+fn keep_theirs(alloc: Global, suffixes: &[u8]) -> Option<bool> {
+    let me = "https://me.github.io/";
+    let other = "https://other.github.io/";
+    let steps = [
+        sets(alloc, me, "1")?,
+        sets(alloc, other, "2")?,
+        gets(alloc, me, 1)?,
+        gets(alloc, other, 1)?,
+    ];
+    reads(alloc, suffixes, &steps, "1 2 ")
+}
+
+// Sessions set for their own host alone, whether or not what is above it is listed.
+#[test]
+fn two_sites_keep_theirs(rt: HostRuntime) {
+    assert!(rt; keep_theirs(rt.alloc(), b"io\ngithub.io\n") == Some(true));
+    assert!(rt; keep_theirs(rt.alloc(), b"io\n") == Some(true));
 }
 
 // Hosts that share a text which is no public suffix may set for each other: no premise is met there.

@@ -6,13 +6,13 @@ ghost use Rattle.devices.specs.Device.{Rose, one_more};
 ghost use Rattle.cookie_run.specs.ScriptText.{Runs, fault_text};
 
 use crate::client::Client;
-use devices::{Sink, Source};
-use devices::pour::{Stop, flush, read_all, write_all, write_number};
 use crate::script::cause::Cause;
 use crate::script::ended::{Ended, RunError};
 use crate::script::field::cut_line;
 use crate::script::visit::follow;
 use cookie::Key;
+use devices::pour::{Stop, flush, read_all, write_all, write_number};
+use devices::{Sink, Source};
 use jiff::civil::DateTime;
 use rand_core::TryRng;
 use std::alloc::Global;

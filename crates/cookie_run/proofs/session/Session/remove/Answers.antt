@@ -1,10 +1,10 @@
 use Rattle.std.proofs.Common.{◌∙◌, sym}
-use Rattle.cookie_run.proofs.Sessions.{remove_readable}
+use Rattle.cookie_run.proofs.Sending.{remove_sent}
 use Rattle.cookie_run.proofs.session.Session.remove.Goals as goal
 
 pub invariant_of-self : goal.invariant_of-self
 invariant_of-self c =
-    remove_readable c.take_out.result c.args.way c.args.name.now c.removal_refusal.ensures.0 c.args.now
-    c.self.inside.jar c.take_out.new.jar
+    remove_sent c.take_out.result c.args.way c.args.name.now c.removal_refusal.ensures.0 c.args.now
+    c.self.inside.jar c.take_out.new.jar c.utf8.name
     c.take_out.ensures.ok c.take_out.ensures.err c.removal_refusal.ensures.1
     (sym c.removal_refusal.ensures.2 ∙ c.in_default.is) c.self.invariant
