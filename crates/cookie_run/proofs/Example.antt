@@ -9,7 +9,7 @@ use Rattle.publicsuffix.specs.Prevailing.{Listed, Prevails, IsName, GoesBefore}
 use Rattle.publicsuffix.specs.Rules.{Rule, Text}
 use Rattle.store_parts.specs.DomainMatch.{EndsAfterDot}
 use Rattle.store_parts.specs.DomainText.{idna_form}
-use Rattle.cookie_run.specs.Headline.{AreApart}
+use Rattle.cookie_run.specs.Headline.{AreApart, AreRelated}
 
 abbrev pub shop : List ℕ
 shop = codes "shop.com"
@@ -87,3 +87,10 @@ apart text some (inl same) (inr below) = absurd (let n = shorter evil below.1.0 
 apart text some (inr below) (inl other) = absurd (let n = shorter shop below.1.0 text below.1.1 in omega
     (arith, n, ap length other))
 apart text some (inr below) (inr other) = subst (Listed list) (sym (after_dot text below.1)) com_listed
+
+-- hosts that differ and are apart aren't related
+pub apart_unrelated : (rules : List Rule) (host other : List ℕ) → AreApart rules host other → host ≢ other
+    → ¬ (AreRelated rules host other)
+apart_unrelated rules host other apart differ (inl same) = differ same
+apart_unrelated rules host other apart differ (inr shared) =
+    shared.2.2.2 (apart shared.0 shared.1 shared.2.0 shared.2.1)

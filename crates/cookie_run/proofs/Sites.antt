@@ -362,6 +362,7 @@ sites_read_until key laws late list acts step kind readings run =
           site.sessions site.apart run.in_order (begins key host) run.ran in (
             led.0,
             led.1,
-            act_stops key laws late host run.act led.0 run.rows kind _ (all_told run.told) readings reads led.2 run.stops,
+            act_stops key laws late host run.act led.0 run.rows kind _ (all_told run.told) readings reads led.2
+            run.stops,
           );
     }

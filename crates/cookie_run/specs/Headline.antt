@@ -1,6 +1,6 @@
 -- At each request a site reads what its own delivered commands leave (own: docs/DEFINITIONS.md). Nothing here knows a
 -- row, a header or a line of a session, nor how a value is signed or sealed.
-use Rattle.std.specs.Prelude.{ℕ, ℤ, ◌+◌, List, [], ◌∷◌, ◌++◌, length, All, Some, ◌≡◌, ◌≢◌, ⊤}
+use Rattle.std.specs.Prelude.{ℕ, ℤ, ◌+◌, List, [], ◌∷◌, ◌++◌, length, All, Some, ◌≡◌, ◌≢◌, ◌⊎◌, ⊤}
 use Rattle.idna.specs.Labels.{labels_of}
 use Rattle.publicsuffix.specs.Prevailing.{Listed}
 use Rattle.publicsuffix.specs.Rules.{Rule}
@@ -37,6 +37,12 @@ IsInReach host text = DomainMatches host text
 abbrev pub AreApart : List Rule → List ℕ → List ℕ → Type 0
 AreApart list host other =
     (text : List ℕ) → text ≢ [] → IsInReach host text → IsInReach other text → Listed list text
+
+-- two hosts are related: they are equal, or another text than a public suffix is in the reach of both
+abbrev pub AreRelated : List Rule → List ℕ → List ℕ → Type 0
+AreRelated list host other =
+    (host ≡ other)
+    ⊎ ((text : List ℕ) × (text ≢ []) × IsInReach host text × IsInReach other text × (¬ (Listed list text)))
 
 -- the URL is of the host, or its host is apart from it
 abbrev pub IsApartFrom : List Rule → List ℕ → Parts → Type 0

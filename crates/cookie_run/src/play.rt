@@ -10,7 +10,6 @@ ghost use Rattle.cookie_run.specs.Accept.{Takes};
 ghost use Rattle.cookie_run.specs.Acts.{acts_of, act_of, arrival_of, Visits, Arrives, moments_in, moments_of};
 ghost use Rattle.cookie_run.specs.Acts.{arrival_moments};
 ghost use Rattle.cookie_run.specs.Stops.{StopsFrom, StopsInside, GoesOnBy};
-ghost use Rattle.cookie_run.specs.Jar.{Keyed};
 ghost use Rattle.cookie_run.specs.Play.{IsRun, IsRunUntil, SetTells, RemoveTells, GetTells, CommandTells, Tells};
 ghost use Rattle.cookie_run.specs.Play.{TellsFront, OneStep, Delivers, ReadsFront, ReadsAll};
 ghost use Rattle.cookie_run.specs.Readings.{MayRead, NeedsNoNonce, ActNeedsNoNonce};
