@@ -84,6 +84,55 @@ fn asks_its_list_of_suffixes(rt: HostRuntime) -> Result<(), Fail> {
     Ok(())
 }
 
+// A line behind one that isn't stored is looked at all the same.
+#[test]
+fn takes_a_line_behind_refused_ones(rt: HostRuntime) -> Result<(), Fail> {
+    let url = Url::parse(rt.alloc(), "https://shop.com/")?;
+    let mut client = client(rt.alloc())?;
+    let lines: [&[u8]; 3] = [b"=v", b"\xff", b"a=1"];
+    assert!(rt;
+        takes(
+            &mut client,
+            &url,
+            &lines,
+            &[UNREAD, LineEnd::NotText, STORED]
+        )
+    );
+    Ok(())
+}
+
+// A host that isn't the site's can't set for it, neither by a public suffix nor by its name.
+#[test]
+fn refuses_lines_for_another_host(rt: HostRuntime) -> Result<(), Fail> {
+    let shop = Url::parse(rt.alloc(), "https://shop.com/")?;
+    let evil = Url::parse(rt.alloc(), "https://evil.com/")?;
+    let mut client = client(rt.alloc())?;
+    assert!(rt; takes(&mut client, &shop, &[b"a=1; Secure; Path=/"], &[STORED]));
+    let lines: [&[u8]; 2] = [b"a=x; Domain=com", b"a=x; Domain=shop.com"];
+    assert!(rt; takes(&mut client, &evil, &lines, &[SUFFIX, MISMATCH]));
+    assert!(rt; gives(&client, &shop, "a=1"));
+    Ok(())
+}
+
+// A host below the site can, and its cookie takes the place of the site's own.
+#[test]
+fn takes_a_line_of_a_host_below(rt: HostRuntime) -> Result<(), Fail> {
+    let shop = Url::parse(rt.alloc(), "https://shop.com/")?;
+    let sub = Url::parse(rt.alloc(), "https://sub.shop.com/")?;
+    let mut client = client(rt.alloc())?;
+    assert!(rt; takes(&mut client, &shop, &[b"a=1; Secure; Path=/"], &[STORED]));
+    assert!(rt;
+        takes(
+            &mut client,
+            &sub,
+            &[b"a=x; Domain=shop.com; Path=/"],
+            &[UPDATED]
+        )
+    );
+    assert!(rt; gives(&client, &shop, "a=x"));
+    Ok(())
+}
+
 // Whether the client gives this header to the URL then.
 fn gives_at(client: &Client, url: &Url, at: DateTime, wanted: &str) -> bool {
     match client.header(url, at) {
