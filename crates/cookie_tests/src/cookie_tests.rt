@@ -109,13 +109,32 @@ fn shown(alloc: Global, outcome: Result<Cookie<'_>, ParseError>) -> Result<Strin
     }
 }
 
-// What each outcome prints, and a bar.
+// What an outcome prints, and a bar.
+fn push_shown(
+    alloc: Global,
+    text: &mut String,
+    outcome: Result<Cookie<'_>, ParseError>,
+) -> Result<(), AllocError> {
+    let line = shown(alloc, outcome)?;
+    text.push_str(line.as_str())?;
+    text.push_str("|")
+}
+
+fn push_all(
+    alloc: Global,
+    text: &mut String,
+    outcomes: SplitCookies<'_>,
+) -> Result<(), AllocError> {
+    for outcome in outcomes {
+        push_shown(alloc, text, outcome)?;
+    }
+    Ok(())
+}
+
+// The same of each outcome.
 fn shown_all(alloc: Global, outcomes: SplitCookies<'_>) -> Result<String, AllocError> {
     let mut text = String::new(alloc);
-    for outcome in outcomes {
-        text.push_str(shown(alloc, outcome)?.as_str())?;
-        text.push_str("|")?;
-    }
+    push_all(alloc, &mut text, outcomes)?;
     Ok(text)
 }
 
@@ -205,9 +224,15 @@ a=1; Expires=Sun Nov  6 08:49:37 1994 == a=1";
 // Whether the cookies of both sides of a row are equal, each way.
 fn are_equal(row: &str) -> Result<(bool, bool), ParseError> {
     let (left, right) = row.split_once(" == ").unwrap_or(("", ""));
-    let left = Cookie::parse(left)?;
-    let right = Cookie::parse(right)?;
-    Ok((left == right, right == left))
+    match Cookie::parse(left) {
+        Ok(cookie) => are_equal_to(&cookie, right),
+        Err(error) => Err(error),
+    }
+}
+
+fn are_equal_to(cookie: &Cookie<'_>, text: &str) -> Result<(bool, bool), ParseError> {
+    let other = Cookie::parse(text)?;
+    Ok((*cookie == other, other == *cookie))
 }
 
 // Whether a cookie of the session differs from one of whose end nothing is said.

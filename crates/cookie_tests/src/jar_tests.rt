@@ -1,6 +1,6 @@
 //! Jars.
 //!
-//! A scenario answers whether all came out right, or want of memory.
+//! A scenario answers whether all came out right in a new jar, or want of memory.
 use cookie::{Cookie, CookieJar};
 use jiff::civil::DateTime;
 use std::alloc::{AllocError, Global};
@@ -8,6 +8,17 @@ use test_kit::prints;
 
 pub fn new_year() -> DateTime {
     DateTime::constant(2024, 1, 1, 0, 0, 0, 0)
+}
+
+// What a scenario answers of a value that it is lent: what owns one itself is dear to prove.
+pub fn lent<T: Drop, E: Drop, F: FnOnce(&mut T) -> Result<bool, E> + Drop>(
+    owned: T,
+    scenario: F,
+) -> Result<bool, E>
+    requires { F.IsAlwaysCallable scenario }
+{
+    let mut owned = owned;
+    scenario(&mut owned)
 }
 
 // The value under a name; `-` stands for none.
@@ -83,26 +94,23 @@ pub fn settled<E: Drop>(
     }
 }
 
-// A jar with this original.
-pub fn with_original(
-    alloc: Global,
+// An original.
+pub fn add_original(
+    jar: &mut CookieJar,
     name: &'static str,
     value: &'static str,
-) -> Result<CookieJar, AllocError> {
-    let mut jar = CookieJar::new(alloc);
-    jar.add_original(Cookie::new(name, value))?;
-    Ok(jar)
+) -> Result<(), AllocError> {
+    jar.add_original(Cookie::new(name, value))
 }
 
-// A jar with the original `a=1` and `b=2`, `b=3` and `c=4` added, and `a` removed.
-fn changed(alloc: Global) -> Result<CookieJar, AllocError> {
-    let mut jar = with_original(alloc, "a", "1")?;
-    jar.add_original(Cookie::new("b", "2"))?;
-    change(&mut jar)?;
-    Ok(jar)
+fn add_originals(jar: &mut CookieJar) -> Result<(), AllocError> {
+    add_original(jar, "a", "1")?;
+    add_original(jar, "b", "2")
 }
 
+// The originals `a=1` and `b=2`, then `b=3` and `c=4` added, and `a` removed.
 fn change(jar: &mut CookieJar) -> Result<(), AllocError> {
+    add_originals(jar)?;
     jar.add(Cookie::new("b", "3"))?;
     jar.add(Cookie::new("c", "4"))?;
     jar.remove(Cookie::new("a", "any"), new_year())
@@ -116,29 +124,32 @@ fn has_originals(jar: &CookieJar) -> bool {
     are_values(jar, "1", "2", "-") && has_counts(jar, 2, 0)
 }
 
-fn tells_no_originals(alloc: Global) -> Result<bool, AllocError> {
-    let mut jar = with_original(alloc, "a", "1")?;
-    jar.add_original(Cookie::new("b", "2"))?;
-    Ok(has_originals(&jar))
+fn tells_no_originals(jar: &mut CookieJar) -> Result<bool, AllocError> {
+    add_originals(jar)?;
+    Ok(has_originals(jar))
 }
 
-fn shows_changes(alloc: Global) -> Result<bool, AllocError> {
-    let jar = changed(alloc)?;
-    Ok(has_changes(&jar))
+fn shows_changes(jar: &mut CookieJar) -> Result<bool, AllocError> {
+    change(jar)?;
+    Ok(has_changes(jar))
 }
 
-fn forgets_changes(alloc: Global) -> Result<bool, AllocError> {
-    let mut jar = changed(alloc)?;
+fn forgets_changes(jar: &mut CookieJar) -> Result<bool, AllocError> {
+    change(jar)?;
     jar.reset_delta();
-    Ok(has_originals(&jar))
+    Ok(has_originals(jar))
 }
 
 // A copy keeps what the jar gives up.
-fn copies(alloc: Global) -> Result<bool, AllocError> {
-    let mut jar = changed(alloc)?;
+fn copies(jar: &mut CookieJar) -> Result<bool, AllocError> {
+    change(jar)?;
+    keeps_in_a_copy(jar)
+}
+
+fn keeps_in_a_copy(jar: &mut CookieJar) -> Result<bool, AllocError> {
     let copy = jar.clone()?;
     jar.reset_delta();
-    Ok(has_originals(&jar) && has_changes(&copy))
+    Ok(has_originals(jar) && has_changes(&copy))
 }
 
 // Whether the jar has a debug form.
@@ -152,9 +163,9 @@ fn is_debugged(alloc: Global, jar: &CookieJar) -> bool {
 // The view is the overlay, and the delta what an answer has to tell.
 #[test]
 fn keeps_track_of_changes(rt: HostRuntime) {
-    assert!(rt; tells_no_originals(rt.alloc()).unwrap_or(false));
-    assert!(rt; shows_changes(rt.alloc()).unwrap_or(false));
-    assert!(rt; forgets_changes(rt.alloc()).unwrap_or(false));
+    assert!(rt; lent(CookieJar::new(rt.alloc()), tells_no_originals).unwrap_or(false));
+    assert!(rt; lent(CookieJar::new(rt.alloc()), shows_changes).unwrap_or(false));
+    assert!(rt; lent(CookieJar::new(rt.alloc()), forgets_changes).unwrap_or(false));
     assert!(rt; is_debugged(rt.alloc(), &CookieJar::new(rt.alloc())));
 }
 
@@ -163,70 +174,73 @@ fn add_and_remove(jar: &mut CookieJar) -> Result<(), AllocError> {
     jar.remove(Cookie::new("a", ""), new_year())
 }
 
-fn tells_no_removal_of_an_addition(alloc: Global) -> Result<bool, AllocError> {
-    let mut jar = CookieJar::new(alloc);
-    add_and_remove(&mut jar)?;
-    Ok(value(&jar, "a") == "-" && has_counts(&jar, 0, 0))
+fn tells_no_removal_of_an_addition(jar: &mut CookieJar) -> Result<bool, AllocError> {
+    add_and_remove(jar)?;
+    Ok(value(jar, "a") == "-" && has_counts(jar, 0, 0))
 }
 
-fn removed(alloc: Global) -> Result<CookieJar, AllocError> {
-    let mut jar = with_original(alloc, "a", "1")?;
+fn remove_original(jar: &mut CookieJar) -> Result<(), AllocError> {
+    add_original(jar, "a", "1")?;
     let removal = Cookie::build(Cookie::new("a", "x")).path("/").build();
-    jar.remove(removal, new_year())?;
-    Ok(jar)
+    jar.remove(removal, new_year())
 }
 
 const REMOVAL: &str = "a=; Path=/; Max-Age=0; Expires=Sun, 01 Jan 2023 00:00:00 GMT";
 
-fn tells_a_removal(alloc: Global) -> Result<bool, AllocError> {
-    let jar = removed(alloc)?;
-    Ok(tells(alloc, &jar, REMOVAL) && shown(&jar) == 0)
+fn tells_a_removal(alloc: Global, jar: &mut CookieJar) -> Result<bool, AllocError> {
+    remove_original(jar)?;
+    Ok(tells(alloc, jar, REMOVAL) && shown(jar) == 0)
 }
 
-fn tells_no_forced_removal(alloc: Global) -> Result<bool, AllocError> {
-    let mut jar = removed(alloc)?;
+fn tells_no_forced_removal(jar: &mut CookieJar) -> Result<bool, AllocError> {
+    remove_original(jar)?;
     jar.force_remove("a");
-    let forgotten = has_counts(&jar, 0, 0);
+    let forgotten = has_counts(jar, 0, 0);
     jar.reset_delta();
-    Ok(forgotten && value(&jar, "a") == "-")
+    Ok(forgotten && value(jar, "a") == "-")
 }
 
 // A removal of an original is told, one of a cookie that was added is not, a forced one neither.
 #[test]
 fn tells_removals_of_originals(rt: HostRuntime) {
-    assert!(rt; tells_no_removal_of_an_addition(rt.alloc()).unwrap_or(false));
-    assert!(rt; tells_a_removal(rt.alloc()).unwrap_or(false));
-    assert!(rt; tells_no_forced_removal(rt.alloc()).unwrap_or(false));
+    assert!(rt; lent(CookieJar::new(rt.alloc()), tells_no_removal_of_an_addition).unwrap_or(false));
+    assert!(rt;
+        lent(
+            CookieJar::new(rt.alloc()),
+            |jar| tells_a_removal(rt.alloc(), jar)
+        )
+        .unwrap_or(false)
+    );
+    assert!(rt; lent(CookieJar::new(rt.alloc()), tells_no_forced_removal).unwrap_or(false));
 }
 
 // Calls with a growth refused at any place, and with ample memory.
 mod memory {
     use super::*;
 
-    fn adds_an_original(alloc: Global) -> Result<bool, AllocError> {
-        let mut jar = CookieJar::new(alloc);
-        let done = jar.add_original(Cookie::new("a", "1"));
-        settled(&jar, done, "a", "-", "1")
+    fn adds_an_original(jar: &mut CookieJar) -> Result<bool, AllocError> {
+        let done = add_original(jar, "a", "1");
+        settled(jar, done, "a", "-", "1")
     }
 
-    fn adds(alloc: Global) -> Result<bool, AllocError> {
-        let mut jar = with_original(alloc, "a", "1")?;
+    fn adds(jar: &mut CookieJar) -> Result<bool, AllocError> {
+        add_original(jar, "a", "1")?;
         let done = jar.add(Cookie::new("a", "2"));
-        settled(&jar, done, "a", "1", "2")
+        settled(jar, done, "a", "1", "2")
     }
 
-    fn removes(alloc: Global) -> Result<bool, AllocError> {
-        let mut jar = with_original(alloc, "a", "1")?;
+    fn removes(jar: &mut CookieJar) -> Result<bool, AllocError> {
+        add_original(jar, "a", "1")?;
         let done = jar.remove(Cookie::new("a", ""), new_year());
-        settled(&jar, done, "a", "1", "-")
+        settled(jar, done, "a", "1", "-")
     }
 
     #[test]
     fn cookies(rt: HostRuntime) -> Result<(), AllocError> {
-        assert!(rt; adds_an_original(rt.alloc())?);
-        assert!(rt; adds(rt.alloc())?);
-        assert!(rt; removes(rt.alloc())?);
-        assert!(rt; copies(rt.alloc())?);
+        assert!(rt; lent(CookieJar::new(rt.alloc()), adds_an_original)?);
+        assert!(rt; lent(CookieJar::new(rt.alloc()), adds)?);
+        assert!(rt; lent(CookieJar::new(rt.alloc()), removes)?);
+        assert!(rt; lent(CookieJar::new(rt.alloc()), copies)?);
         Ok(())
     }
 }

@@ -1,5 +1,5 @@
 //! Prefixes, and the child jars that put one before each name.
-use crate::jar_tests::{has_counts, is_read, new_year, settled, tells, with_original};
+use crate::jar_tests::{add_original, has_counts, is_read, lent, new_year, settled, tells};
 use cookie::{Cookie, CookieJar, Host, Prefix, Secure};
 use std::alloc::{AllocError, Global};
 use test_kit::prints;
@@ -13,9 +13,16 @@ fn names<P: Prefix>(alloc: Global, whole: &str) -> Result<bool, AllocError> {
 
 fn prefixes<P: Prefix>(alloc: Global, whole: &str) -> Result<bool, AllocError> {
     let cookie = P::prefix(alloc, Cookie::new("sid", "1"))?;
-    let prefixed = cookie.name_value() == (whole, "1");
+    if cookie.name_value() == (whole, "1") {
+        clips::<P>(alloc, cookie)
+    } else {
+        Ok(false)
+    }
+}
+
+fn clips<P: Prefix>(alloc: Global, cookie: Cookie<'static>) -> Result<bool, AllocError> {
     let clipped = P::clip(alloc, cookie)?;
-    Ok(prefixed && clipped.name_value() == ("sid", "1"))
+    Ok(clipped.name_value() == ("sid", "1"))
 }
 
 // What holds of a jar under any prefix: `line` is the cookie `sid=1` as it conforms.
@@ -24,21 +31,28 @@ fn applies<P: Prefix>(alloc: Global, line: &str) -> Result<bool, AllocError> {
     Ok(prints(alloc, &cookie, line))
 }
 
-fn prefixed<P: Prefix>(alloc: Global, prefix: P) -> Result<CookieJar, AllocError> {
-    let mut jar = CookieJar::new(alloc);
-    jar.prefixed_mut(prefix).add(Cookie::new("sid", "1"))?;
-    Ok(jar)
+fn add<P: Prefix>(jar: &mut CookieJar, prefix: P) -> Result<(), AllocError> {
+    jar.prefixed_mut(prefix).add(Cookie::new("sid", "1"))
 }
 
-fn adds<P: Prefix>(alloc: Global, prefix: P, line: &str) -> Result<bool, AllocError> {
-    let jar = prefixed(alloc, prefix)?;
-    Ok(tells(alloc, &jar, line))
+fn adds<P: Prefix>(
+    alloc: Global,
+    jar: &mut CookieJar,
+    prefix: P,
+    line: &str,
+) -> Result<bool, AllocError> {
+    add(jar, prefix)?;
+    Ok(tells(alloc, jar, line))
 }
 
-fn reads<P: Prefix + Copy>(alloc: Global, prefix: P, whole: &str) -> Result<bool, AllocError> {
-    let mut jar = prefixed(alloc, prefix)?;
+fn reads<P: Prefix + Copy>(
+    jar: &mut CookieJar,
+    prefix: P,
+    whole: &str,
+) -> Result<bool, AllocError> {
+    add(jar, prefix)?;
     let plain = is_read(jar.prefixed_mut(prefix).get("sid"), "1")?;
-    Ok(plain && reads_alone(&jar, prefix, whole)?)
+    Ok(plain && reads_alone(jar, prefix, whole)?)
 }
 
 fn reads_alone<P: Prefix + Copy>(
@@ -55,18 +69,12 @@ fn remove<P: Prefix>(jar: &mut CookieJar, prefix: P) -> Result<(), AllocError> {
     jar.prefixed_mut(prefix).remove(removal, new_year())
 }
 
-fn prefixed_original<P: Prefix>(alloc: Global, prefix: P) -> Result<CookieJar, AllocError> {
-    let mut jar = CookieJar::new(alloc);
+fn removes<P: Prefix + Copy>(jar: &mut CookieJar, prefix: P) -> Result<bool, AllocError> {
     let original = Cookie::new("sid", "2");
     jar.prefixed_mut(prefix).add_original(original)?;
-    Ok(jar)
-}
-
-fn removes<P: Prefix + Copy>(alloc: Global, prefix: P) -> Result<bool, AllocError> {
-    let mut jar = prefixed_original(alloc, prefix)?;
     let before = is_read(jar.prefixed(prefix).get("sid"), "2")?;
-    remove(&mut jar, prefix)?;
-    Ok(before && has_counts(&jar, 0, 1))
+    remove(jar, prefix)?;
+    Ok(before && has_counts(jar, 0, 1))
 }
 
 // Whether all of this holds.
@@ -80,9 +88,9 @@ fn holds<P: Prefix + Copy>(
         names::<P>(alloc, whole)?
             && prefixes::<P>(alloc, whole)?
             && applies::<P>(alloc, line)?
-            && adds(alloc, prefix, line)?
-            && reads(alloc, prefix, whole)?
-            && removes(alloc, prefix)?,
+            && lent(CookieJar::new(alloc), |jar| adds(alloc, jar, prefix, line))?
+            && lent(CookieJar::new(alloc), |jar| reads(jar, prefix, whole))?
+            && lent(CookieJar::new(alloc), |jar| removes(jar, prefix))?,
     )
 }
 
@@ -110,32 +118,36 @@ fn puts_prefixes_before_names(rt: HostRuntime) {
 mod memory {
     use super::*;
 
-    fn prefixes_an_original(alloc: Global) -> Result<bool, AllocError> {
-        let mut jar = CookieJar::new(alloc);
+    fn prefixes_an_original(jar: &mut CookieJar) -> Result<bool, AllocError> {
         let done = jar.prefixed_mut(Host).add_original(Cookie::new("a", "1"));
-        settled(&jar, done, "__Host-a", "-", "1")
+        settled(jar, done, "__Host-a", "-", "1")
     }
 
-    fn prefixes(alloc: Global) -> Result<bool, AllocError> {
-        let mut jar = with_original(alloc, "__Host-a", "1")?;
+    fn prefixes(jar: &mut CookieJar) -> Result<bool, AllocError> {
+        add_original(jar, "__Host-a", "1")?;
         let done = jar.prefixed_mut(Host).add(Cookie::new("a", "2"));
-        settled(&jar, done, "__Host-a", "1", "2")
+        settled(jar, done, "__Host-a", "1", "2")
     }
 
-    fn removes_prefixed(alloc: Global) -> Result<bool, AllocError> {
-        let mut jar = with_original(alloc, "__Host-a", "1")?;
+    fn removes_prefixed(jar: &mut CookieJar) -> Result<bool, AllocError> {
+        add_original(jar, "__Host-a", "1")?;
         let done = jar
             .prefixed_mut(Host)
             .remove(Cookie::new("a", ""), new_year());
-        settled(&jar, done, "__Host-a", "1", "-")
+        settled(jar, done, "__Host-a", "1", "-")
     }
 
     #[test]
     fn prefixed(rt: HostRuntime) -> Result<(), AllocError> {
-        assert!(rt; prefixes_an_original(rt.alloc())?);
-        assert!(rt; prefixes(rt.alloc())?);
-        assert!(rt; removes_prefixed(rt.alloc())?);
-        assert!(rt; reads(rt.alloc(), Host, "__Host-sid")?);
+        assert!(rt; lent(CookieJar::new(rt.alloc()), prefixes_an_original)?);
+        assert!(rt; lent(CookieJar::new(rt.alloc()), prefixes)?);
+        assert!(rt; lent(CookieJar::new(rt.alloc()), removes_prefixed)?);
+        assert!(rt;
+            lent(
+                CookieJar::new(rt.alloc()),
+                |jar| reads(jar, Host, "__Host-sid")
+            )?
+        );
         Ok(())
     }
 }

@@ -23,6 +23,10 @@ pub fn shop_row(alloc: Global) -> Result<SavedRow, AllocError> {
     })
 }
 
+/// A list in RON of a row whose texts have each kind of byte that is escaped.
+pub const ESCAPED_RON: &str =
+    "[\n    (\n        raw_cookie: \"a=\\\"\\\\\\n\\r\\t\\u{8}\\u{c}\\u{0}\\u{1f}\\u{7f}é\",\n        path: (\"\", false),\n        domain: Suffix(\".'/\"),\n        expires: SessionEnd,\n    ),\n]\n";
+
 /// A row of the session whose texts have each kind of byte that is escaped.
 pub fn escaped_row(alloc: Global) -> Result<SavedRow, AllocError> {
     Ok(SavedRow {

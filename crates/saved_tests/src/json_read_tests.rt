@@ -19,8 +19,8 @@ fn reads_as(alloc: Global, text: &str, written: &str) -> bool {
     }
 }
 
-// Whether a text is refused for this reason, both as a row and as a list.
-fn is_refused(alloc: Global, text: &str, why: SavedTextError) -> bool {
+/// Whether a text is refused for this reason, both as a row and as a list.
+pub fn is_refused(alloc: Global, text: &str, why: SavedTextError) -> bool {
     let as_row = match row_from_json(alloc, text) {
         Ok(_) => false,
         Err(error) => error == why,
@@ -58,13 +58,21 @@ fn reads_lists(rt: HostRuntime) -> Result<(), Fail> {
 #[test]
 fn refuses_what_is_no_row(rt: HostRuntime) {
     let alloc = rt.alloc();
-    for text in ["", "{", "[{\"raw_cookie\":\"a\tb=1\"}]", "{} {}", "[1,]"] {
+    for text in [
+        "",
+        "{",
+        "[",
+        "[{\"raw_cookie\":\"a\tb=1\"}]",
+        "{} {}",
+        "[1,]",
+    ] {
         assert!(rt; is_refused(alloc, text, SavedTextError::Json), "{text}");
     }
     let shapes = [
         "null",
         "{}",
         "[1]",
+        "[1.5]",
         "{\"raw_cookie\":\"a=1\",\"path\":[\"/\",true],\"domain\":\"Empty\",\"expires\":\"SessionEnd\",\"more\":1}",
         "{\"raw_cookie\":\"a=1\",\"path\":[\"/\",true],\"domain\":\"Empty\"}",
         "{\"raw_cookie\":\"a=1\",\"path\":[\"/\"],\"domain\":\"Empty\",\"expires\":\"SessionEnd\"}",

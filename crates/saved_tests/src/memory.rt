@@ -3,8 +3,8 @@
 //! A scenario answers whether all came out right, or want of memory. The first test of a pair accepts
 //! that, too; the second shows that there is none with ample memory.
 
-use crate::fixtures::{RON, shop_row};
-use crate::json_write_tests::{LIST, ROW};
+use crate::fixtures::{ESCAPED_RON, RON, escaped_row, shop_row};
+use crate::json_write_tests::{ESCAPED, LIST, ROW};
 use saved_text::{
     SavedTextError, from_value, row_from_json, row_to_json, rows_from_json, rows_from_ron,
     rows_to_json, rows_to_ron, to_value,
@@ -84,4 +84,45 @@ fn rows_are_read_from_ron(rt: HostRuntime) {
 #[test]
 fn rows_are_read_from_ron_with_ample_memory(rt: HostRuntime) {
     assert!(rt; reads_ron(rt.alloc()).unwrap_or(false));
+}
+
+// Each escape is written.
+fn writes_escapes(alloc: Global) -> Result<bool, AllocError> {
+    let row = escaped_row(alloc)?;
+    let line = row_to_json(alloc, &row)?;
+    let ron = rows_to_ron(alloc, &[row])?;
+    Ok(line.as_str() == ESCAPED && ron.as_str() == ESCAPED_RON)
+}
+
+#[test]
+fn escapes_are_written(rt: HostRuntime) {
+    assert!(rt; writes_escapes(rt.alloc()).unwrap_or(true));
+}
+
+#[test]
+fn escapes_are_written_with_ample_memory(rt: HostRuntime) {
+    assert!(rt; writes_escapes(rt.alloc()).unwrap_or(false));
+}
+
+// Each escape is read, from JSON and from RON.
+fn reads_escapes(alloc: Global) -> Result<bool, SavedTextError> {
+    let row = row_from_json(alloc, ESCAPED)?;
+    let from_json = rows_to_ron(alloc, &[row])?;
+    let rows = rows_from_ron(alloc, ESCAPED_RON.as_bytes())?;
+    let from_ron = rows_to_ron(alloc, rows.as_slice())?;
+    Ok(from_json.as_str() == ESCAPED_RON && from_ron.as_str() == ESCAPED_RON)
+}
+
+#[test]
+fn escapes_are_read(rt: HostRuntime) {
+    let is_right = match reads_escapes(rt.alloc()) {
+        Ok(is_right) => is_right,
+        Err(error) => error == SavedTextError::OutOfMemory,
+    };
+    assert!(rt; is_right);
+}
+
+#[test]
+fn escapes_are_read_with_ample_memory(rt: HostRuntime) {
+    assert!(rt; reads_escapes(rt.alloc()).unwrap_or(false));
 }

@@ -15,8 +15,8 @@ fn reads_as(alloc: Global, text: &str, written: &str) -> bool {
     }
 }
 
-// Whether a text is refused behind so many bytes.
-fn stops_at(alloc: Global, text: &str, offset: usize) -> bool {
+/// Whether a text is refused behind so many bytes.
+pub fn stops_at(alloc: Global, text: &str, offset: usize) -> bool {
     match rows_from_ron(alloc, text.as_bytes()) {
         Ok(_) => false,
         Err(error) => error == SavedTextError::Ron(offset),
