@@ -111,12 +111,12 @@ and_both true b e = (refl, e)
 and_both false b e = absurd (false≢true e)
 
 -- what is tested of the numbers, `most` being the days of the month
-record Within (month day most hour minute second : ℕ) : Type 0 where
-  months : (1 ≤ month) × (month ≤ 12)
-  days : (1 ≤ day) × (day ≤ most)
-  times : (hour < 24) × (minute < 60) × (second < 60)
+pub record Within (month day most hour minute second : ℕ) : Type 0 where
+  pub months : (1 ≤ month) × (month ≤ 12)
+  pub days : (1 ≤ day) × (day ≤ most)
+  pub times : (hour < 24) × (minute < 60) × (second < 60)
 
-abbrev tested : ℕ → ℕ → ℕ → ℕ → ℕ → ℕ → Bool
+abbrev pub tested : ℕ → ℕ → ℕ → ℕ → ℕ → ℕ → Bool
 tested month day most hour minute second =
     nat_le 1 month && nat_le month 12
     && nat_le 1 day && nat_le day most
@@ -153,7 +153,7 @@ of_le a b h = grind (arith, nat_tests)
 of_lt : (a b : ℕ) → a < b → nat_lt a b ≡ true
 of_lt a b h = grind (arith, nat_tests)
 
-within_tested : (month day most hour minute second : ℕ) → Within month day most hour minute second
+pub within_tested : (month day most hour minute second : ℕ) → Within month day most hour minute second
     → tested month day most hour minute second ≡ true
 within_tested month day most hour minute second w =
     both_true _ _ (both_true _ _ (both_true _ _ (both_true _ _
@@ -200,7 +200,7 @@ same_pos : (a b : ℕ) → pos a ≡ pos b → a ≡ b
 same_pos a b e = omega (arith, signed_arith)
 
 -- the nanoseconds of a date and a time with these numbers
-nanos_are : (dt : DateTime) (year month day hour minute second nanos : ℕ)
+pub nanos_are : (dt : DateTime) (year month day hour minute second nanos : ℕ)
     → IsYmd (pos year) (pos month) (pos day) dt.date
     → IsHms (pos hour) (pos minute) (pos second) (pos nanos) dt.time
     → civil_nanos dt ≡ seconds_to year month day hour minute second *ℤ pos 1_000_000_000 +ℤ pos nanos
@@ -224,7 +224,7 @@ nanos_are dt year month day hour minute second nanos ymd hms =
         ≡ (y *ℤ pos 86_400 +ℤ pos (hour * 3600 + minute * 60 + second)) *ℤ pos 1_000_000_000 +ℤ pos nanos
     nanos_sum x y h i s n hour minute second nanos a b c d e = omega (arith, signed_arith)
 
-if_true : (t : Bool) (x : Option ℤ) → t ≡ true → (if t then x else None) ≡ x
+pub if_true : (t : Bool) (x : Option ℤ) → t ≡ true → (if t then x else None) ≡ x
 if_true true x e = refl
 if_true false x e = absurd (false≢true e)
 
@@ -274,7 +274,7 @@ civil_cast r y mo d h mi s n year month day hour minute second nanos e1 e2 e3 e4
 
 -- ---- the first moment
 
-year_zero : days_from_civil (pos 0) 1 1 ≡ pos 0 -ℤ pos 719_528
+pub year_zero : days_from_civil (pos 0) 1 1 ≡ pos 0 -ℤ pos 719_528
 unfolding days_from_civil day_count days_of_years days_of_months
 year_zero = refl
 

@@ -4,6 +4,7 @@ mod RowLemmas
 mod FrontLemmas
 mod FrontRun
 mod DateLemmas
+pub mod PrintedDateLemmas
 mod WriteLemmas
 mod PieceLemmas
 mod WrittenLemmas

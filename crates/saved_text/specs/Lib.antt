@@ -1,6 +1,7 @@
 pub mod Row
 pub mod Rfc3339
 pub mod DateReading
+pub mod PrintedDates
 pub mod Saved
 pub mod Letters
 pub mod Grammar

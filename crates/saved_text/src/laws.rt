@@ -1,6 +1,7 @@
 //! Laws of what is written.
 ghost use Rattle.saved_text.specs.DateReading.{AreOfOneMoment};
 ghost use Rattle.saved_text.specs.Json.{ReadsBack, ListsReadBack};
+ghost use Rattle.saved_text.specs.PrintedDates.{PrintedDatesAreRead, FractionsAreDropped};
 ghost use Rattle.saved_text.specs.RowWords.{WrittenIsOfGrammar};
 ghost use Rattle.saved_text.specs.Written.{StringsAreOfGrammar};
 
@@ -27,4 +28,10 @@ pub fn lists_read_back()
 /// A text is a date of one moment at most.
 pub fn dates_are_of_one_moment()
     ensures { AreOfOneMoment }
+{}
+
+/// What is printed of a moment of the years 0 to 9999 is a date of that moment without its fraction.
+pub fn printed_dates_are_read()
+    ensures read { PrintedDatesAreRead }
+    ensures dropped { FractionsAreDropped }
 {}
