@@ -1,8 +1,10 @@
-//! Tests of `seal` and `publicsuffix`: vectors and rows from public documents.
+//! Tests of `devices`, `seal` and `publicsuffix`: vectors and rows from public documents.
 #![tactic(auto)]
 
 #[cfg(test)]
 mod cipher_tests;
+#[cfg(test)]
+mod device_tests;
 #[cfg(test)]
 mod memory;
 #[cfg(test)]

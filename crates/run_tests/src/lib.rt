@@ -13,8 +13,6 @@ mod client_tests;
 #[cfg(test)]
 mod cookie_run_readme;
 #[cfg(test)]
-mod devices;
-#[cfg(test)]
 mod fixtures;
 #[cfg(test)]
 mod flush_tests;

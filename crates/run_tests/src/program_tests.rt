@@ -1,8 +1,8 @@
 //! What the program answers where its reader or its writer fails; its other answers are runs in `cases/`.
-use crate::devices::FailsAt;
 use cookie_run::Counting;
 use cookie_run::program::program;
 use std::io::{Read, Write};
+use test_kit::devices::FailsAt;
 
 fn ended<R: Read + Drop, W: Write + Drop>(
     rt: &HostRuntime,

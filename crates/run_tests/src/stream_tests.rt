@@ -1,11 +1,11 @@
 //! Readers and writers that are slow, or fail in mid-stream.
-use crate::devices::{ByteByByte, CountsFlushes, FailsAt, TakesNone};
 use crate::fixtures::{beginning, client, gives, zero_key};
 use crate::generators::zeros;
 use cookie_run::{Client, Counting, Ended, RunError, run};
 use std::alloc::Global;
 use std::io::{Read, Write};
 use std::test::Fail;
+use test_kit::devices::{ByteByByte, CountsFlushes, FailsAt, TakesNone};
 use url::Url;
 
 pub(crate) const VISIT: &str = "open\thttps://shop.com/\t2024-01-01T00:00:00Z\n\

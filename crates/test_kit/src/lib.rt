@@ -1,6 +1,8 @@
 //! What the tests of several crates ask.
 #![tactic(auto)]
 
+pub mod devices;
+
 use std::alloc::Global;
 use std::fmt::Display;
 

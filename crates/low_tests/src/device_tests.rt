@@ -1,0 +1,55 @@
+//! Tests of `devices`.
+use devices::Counting;
+use devices::pour::{Stop, flush, read_all, write_all, write_number};
+use std::alloc::Global;
+use std::test::Fail;
+use test_kit::devices::{ByteByByte, FailsAt};
+
+// The example of the crate's README.
+#[test]
+fn pours_from_one_to_the_other(rt: HostRuntime) -> Result<(), Fail> {
+    // README: crates/devices/README.md
+    let mut reader = Counting::new(b"a=1".as_slice());
+    let mut out = Vec::new(rt.alloc());
+    let mut writer = Counting::new(&mut out);
+    let all = read_all(rt.alloc(), &mut reader)?;
+    write_all(&mut writer, all.as_slice())?;
+    write_number(&mut writer, 17)?;
+    flush(&mut writer)?;
+    assert!(rt; out.as_slice() == b"a=117".as_slice());
+    // README: end
+    Ok(())
+}
+
+// What a reader of one byte a read gives, where the read of this number fails.
+fn read_until(alloc: Global, call: u64) -> Result<Vec<u8>, Stop> {
+    let reader = FailsAt::new(ByteByByte { bytes: b"a=1" }, call);
+    read_all(alloc, &mut Counting::new(reader))
+}
+
+// Three bytes and the end are four reads.
+#[test]
+fn tells_a_failed_read(rt: HostRuntime) {
+    for call in 0..4 {
+        assert!(rt; read_until(rt.alloc(), call) == Err(Stop::Read));
+    }
+    assert!(rt;
+        matches!(read_until(rt.alloc(), 4), Ok(all) if all.as_slice() == b"a=1".as_slice())
+    );
+}
+
+// Whether number and flush are written, where the call of this number fails.
+fn writes_until(alloc: Global, call: u64) -> (bool, bool) {
+    let mut writer = Counting::new(FailsAt::new(Vec::<u8>::new(alloc), call));
+    let is_written = write_number(&mut writer, 17).is_ok();
+    (is_written, flush(&mut writer).is_ok())
+}
+
+// A failed call isn't tried again.
+#[test]
+fn tells_a_failed_write(rt: HostRuntime) {
+    assert_eq!(rt; writes_until(rt.alloc(), 0), (false, true));
+    assert_eq!(rt; writes_until(rt.alloc(), 1), (false, true));
+    assert_eq!(rt; writes_until(rt.alloc(), 2), (true, false));
+    assert_eq!(rt; writes_until(rt.alloc(), 3), (true, true));
+}
