@@ -21,8 +21,8 @@ mod text_map;
 mod unexpired;
 
 pub use action::{InsertResult, StoreAction, StoreResult};
-pub use devices::{Counting, Failing, Sink, Source};
 pub use cookie::{Cookie as RawCookie, ParseError as RawCookieParseError};
+pub use devices::{Counting, Failing, Sink, Source};
 pub use requests::{RequestCookies, RequestValues};
 pub use rows::IterAny;
 pub use store::{CookieStore, laws};
