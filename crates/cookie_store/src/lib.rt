@@ -12,6 +12,7 @@
 #![tactic(auto)]
 
 mod action;
+mod loading;
 mod requests;
 mod rows;
 mod saved_row;
