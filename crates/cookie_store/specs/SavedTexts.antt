@@ -1,14 +1,13 @@
 -- Saved texts of a store's rows, and why rows aren't loaded from a text or saved to one (own: docs/DEFINITIONS.md).
-use Rattle.std.specs.Prelude.{◌≡◌, ◌⊎◌, ℕ, ℤ, List, [], ◌∷◌, ◌++◌, Bool, Option, Some, IfSome}
-use Rattle.std.specs.List.{flat_map}
+use Rattle.std.specs.Prelude.{◌≡◌, ◌⊎◌, ◌^◌, ◌-◌, ℕ, ℤ, List, [], ◌∷◌, ◌++◌, Bool, Option, Some, IfSome}
 use Rattle.std.specs.Str.{IsUtf8}
 use Rattle.cookie_text.specs.ReadingBack.{Pairwise}
 use Rattle.devices.specs.Device.{Rose}
 use Rattle.serde_json.specs.Data.{Data}
 use Rattle.serde_json.specs.Read.{read}
-use Rattle.saved_text.specs.Json.{row_value, rows_value, row_text}
-use Rattle.saved_text.specs.JsonReading.{IsShapeFault, IsJsonFault, AreNoRows, IsNoRow}
-use Rattle.saved_text.specs.RonReading.{ShowsOnly, IsRonFault}
+use Rattle.saved_text.specs.Json.{rows_value}
+use Rattle.saved_text.specs.JsonReading.{IsJsonFault, AreNoRows, IsShapeFault}
+use Rattle.saved_text.specs.RonReading.{IsRonFault}
 use Rattle.saved_text.specs.Row.{Shown}
 use Rattle.saved_text.specs.declared.error.SavedTextError.{SavedTextError}
 use Rattle.saved_text.specs.declared.error.SavedTextError.TheVariants as fault
@@ -42,21 +41,22 @@ IsSaveFault rows e = ((e ≡ Year) × IsAnyBeforeYears rows) ⊎ (e ≡ OutOfMem
 
 -- ---- loading
 
--- the rows that a text shows, loaded; `Shows` is what shows lists
-abbrev pub Loads : {A : Type 0} → (A → List Shown → Type 0) → A → List Row → Type 0
-Loads Shows text rows = (all : List Shown) × Shows text all × Pairwise IsLoadedFrom all rows
+-- a store that loaded the rows that are shown so, and has no list of public suffixes
+abbrev pub HasLoaded : Bool → ℤ → List Shown → Store → Type 0
+HasLoaded with_expired now all store =
+    (rows : List Row) × Pairwise IsLoadedFrom all rows
+    × (store ≡ record { rows = loaded with_expired now rows; suffixes = [] })
 
--- a value of JSON, and a text of it, show these rows
+-- a store that loaded the rows that a text shows; `Shows` tells which
+abbrev pub Loads : {A : Type 0} → (A → List Shown → Type 0) → Bool → ℤ → A → Store → Type 0
+Loads Shows with_expired now text store = (all : List Shown) × Shows text all × HasLoaded with_expired now all store
+
+-- the rows that a value of JSON shows, and those of a text of it
 abbrev pub IsValueOf : Data → List Shown → Type 0
 IsValueOf value all = value ≡ rows_value all
 
 abbrev pub IsJsonOf : List ℕ → List Shown → Type 0
-IsJsonOf text all = read text ≡ Some (rows_value all)
-
--- a store that loaded the rows of a text, and has no list of public suffixes
-abbrev pub IsStoreOf : {A : Type 0} → (A → List Shown → Type 0) → Bool → ℤ → A → Store → Type 0
-IsStoreOf Shows with_expired now text store =
-    (rows : List Row) × Loads Shows text rows × (store ≡ record { rows = loaded with_expired now rows; suffixes = [] })
+IsJsonOf text all = IsUtf8 text × (read text ≡ Some (rows_value all))
 
 -- ---- refusals
 
@@ -76,12 +76,24 @@ IsRefusal Is e = (cause : SavedTextError) × Is cause × (e ≡ of_saved_text ca
 abbrev pub IsJsonRefusal : List ℕ → Error → Type 0
 IsJsonRefusal text e = ((e ≡ NotText) × (¬ IsUtf8 text)) ⊎ (IsUtf8 text × IsRefusal (IsJsonFault AreNoRows text) e)
 
+-- Why a value is refused.
+abbrev pub IsValueRefusal : Type 0 → Error → Type 0
+IsValueRefusal fits e = IsRefusal (IsShapeFault fits) e
+
 -- and why not as RON
 abbrev pub IsRonRefusal : List ℕ → Error → Type 0
 IsRonRefusal text e = IsRefusal (IsRonFault text) e
 
 -- ---- devices
 
--- the text that a reader had left, where that is known
-abbrev pub IsAllOf : Option (List ℕ) → List ℕ → Type 0
-IsAllOf left text = IfSome left (λ input. text ≡ input)
+-- the writer failed in the call
+abbrev pub IsWriteFault : ℕ → ℕ → Error → Type 0
+IsWriteFault before after e = (e ≡ Io) × Rose before after
+
+-- the reader failed in the call, or 2^64 - 1 reads met no end
+abbrev pub IsReadFault : ℕ → ℕ → ℕ → Error → Type 0
+IsReadFault before after reads e = (e ≡ Io) × (Rose before after ⊎ (reads ≡ 2 ^ 64 - 1))
+
+-- so it is with the text that a reader had left, which is this one where that is known
+abbrev pub OfText : Option (List ℕ) → (List ℕ → Type 0) → Type 0
+OfText left Is = (text : List ℕ) × IfSome left (λ input. text ≡ input) × Is text

@@ -16,6 +16,8 @@ mod loading;
 mod requests;
 mod rows;
 mod saved_row;
+mod saved_rows;
+pub mod serde;
 mod store;
 mod stored_cookie;
 mod text_map;

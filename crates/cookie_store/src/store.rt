@@ -359,6 +359,11 @@ impl CookieStore {
         }
     }
 
+    // What the store takes its memory by.
+    pub(crate) fn alloc(&self) -> Global {
+        self.alloc
+    }
+
     /// A copy, with its rows in their order.
     ///
     /// # Errors
