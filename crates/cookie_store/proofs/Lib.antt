@@ -8,8 +8,10 @@ pub mod GroupLemmas
 pub mod LoadLemmas
 pub mod PlaceLaws
 pub mod PlaceLemmas
+pub mod RereadLemmas
 pub mod RowFacts
 pub mod SavedLemmas
+pub mod ShownLemmas
 pub mod StoreLemmas
 pub mod StrippedLemmas
 pub mod TreeLemmas

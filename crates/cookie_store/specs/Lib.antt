@@ -10,6 +10,7 @@ pub mod Placing
 pub mod Rows
 pub mod Same
 pub mod SameEquivalence
+pub mod SavedLaws
 pub mod SavedRows
 pub mod SavedTexts
 pub mod Steps

@@ -22,6 +22,7 @@ mod store;
 mod stored_cookie;
 mod text_map;
 mod unexpired;
+mod value;
 
 pub use action::{InsertResult, StoreAction, StoreResult};
 pub use cookie::{Cookie as RawCookie, ParseError as RawCookieParseError};

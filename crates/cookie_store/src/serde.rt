@@ -2,6 +2,7 @@
 ghost use Rattle.std.specs.Prelude.{◌≡◌, ◌⊎◌, IfOk, IfErr, OnOk};
 ghost use Rattle.std.specs.Io.KnownBytes.{Appends};
 ghost use Rattle.store_parts.specs.declared.error.Error.TheVariants.{OutOfMemory};
+ghost use Rattle.cookie_store.specs.SavedLaws.{RonComesBack, RonIsRead, JsonComesBack, JsonIsRead};
 ghost use Rattle.cookie_store.specs.SavedTexts as form;
 
 pub mod json;
@@ -9,8 +10,26 @@ pub mod ron;
 
 use devices::pour::{Stop, read_all, write_all};
 use devices::{Sink, Source};
+use saved_text::laws::{
+    dates_are_of_one_moment, lists_read_back, printed_dates_are_read, written_is_of_grammar,
+};
 use std::alloc::Global;
 use store_parts::{Error, Result};
+
+/// What was saved of rows and is loaded of that: the rows with each raw cookie as its printed text
+/// reads and each death without its fraction, placed by their keys. Where each of these texts reads,
+/// loading is refused for want of memory alone.
+pub fn laws()
+    ensures ron { RonComesBack }
+    ensures ron_read { RonIsRead }
+    ensures json { JsonComesBack }
+    ensures json_read { JsonIsRead }
+{
+    written_is_of_grammar();
+    lists_read_back();
+    printed_dates_are_read();
+    dates_are_of_one_moment();
+}
 
 /// All that is left to read.
 pub(crate) fn read_text<R: Source>(alloc: Global, reader: &mut R) -> Result<Vec<u8>>
