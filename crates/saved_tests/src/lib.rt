@@ -4,6 +4,8 @@
 #[cfg(test)]
 mod date_tests;
 #[cfg(test)]
+mod error_tests;
+#[cfg(test)]
 mod fixtures;
 #[cfg(test)]
 mod json_read_tests;
