@@ -3,9 +3,9 @@
 use crate::fixtures::shop_row;
 use crate::json_write_tests::{ESCAPED, LIST, ROW};
 use saved_text::{
-    SavedTextError, from_value, row_from_json, row_to_json, rows_from_json, rows_to_json, to_value,
+    SavedTextError, from_value, row_from_json, row_to_json, rows_from_json, rows_to_json,
+    rows_to_value, to_value,
 };
-use serde_json::Value;
 use std::alloc::Global;
 use std::test::Fail;
 
@@ -154,13 +154,11 @@ fn values_are_read_back(rt: HostRuntime) -> Result<(), Fail> {
     Ok(())
 }
 
+// The value of an empty list is no row.
 #[test]
-fn refuses_a_value_that_is_no_row(rt: HostRuntime) {
+fn refuses_a_value_that_is_no_row(rt: HostRuntime) -> Result<(), Fail> {
     let alloc = rt.alloc();
-    assert!(rt;
-        matches!(
-            from_value(alloc, &Value::Bool(true)),
-            Err(SavedTextError::Shape)
-        )
-    );
+    let value = rows_to_value(alloc, &[])?;
+    assert!(rt; matches!(from_value(alloc, &value), Err(SavedTextError::Shape)));
+    Ok(())
 }
