@@ -5,9 +5,13 @@ pub mod Confinement
 pub mod EndLemmas
 pub mod EntryLemmas
 pub mod GroupLemmas
+pub mod LoadLemmas
 pub mod PlaceLaws
 pub mod PlaceLemmas
+pub mod RereadLemmas
 pub mod RowFacts
+pub mod SavedLemmas
+pub mod ShownLemmas
 pub mod StoreLemmas
 pub mod StrippedLemmas
 pub mod TreeLemmas

@@ -10,6 +10,9 @@ pub mod Placing
 pub mod Rows
 pub mod Same
 pub mod SameEquivalence
+pub mod SavedLaws
+pub mod SavedRows
+pub mod SavedTexts
 pub mod Steps
 pub mod StoredCookie
 pub mod Stripped

@@ -12,16 +12,21 @@
 #![tactic(auto)]
 
 mod action;
+mod loading;
 mod requests;
 mod rows;
+mod saved_row;
+mod saved_rows;
+pub mod serde;
 mod store;
 mod stored_cookie;
 mod text_map;
 mod unexpired;
+mod value;
 
 pub use action::{InsertResult, StoreAction, StoreResult};
-pub use devices::{Counting, Failing, Sink, Source};
 pub use cookie::{Cookie as RawCookie, ParseError as RawCookieParseError};
+pub use devices::{Counting, Failing, Sink, Source};
 pub use requests::{RequestCookies, RequestValues};
 pub use rows::IterAny;
 pub use store::{CookieStore, laws};

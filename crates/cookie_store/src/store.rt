@@ -348,6 +348,22 @@ impl CookieStore {
         }
     }
 
+    // A store of these rows, without a list of public suffixes.
+    pub(crate) fn of_rows(alloc: Global, rows: Rows) -> CookieStore
+        ensures { result ≡ record { rows = rows; suffixes = [] } }
+    {
+        CookieStore {
+            alloc,
+            rows,
+            public_suffix_list: None,
+        }
+    }
+
+    // What the store takes its memory by.
+    pub(crate) fn alloc(&self) -> Global {
+        self.alloc
+    }
+
     /// A copy, with its rows in their order.
     ///
     /// # Errors

@@ -38,6 +38,28 @@ pub struct Cookie<'a> {
 }
 
 impl<'a> Cookie<'a> {
+    // The cookie of these parts.
+    pub(crate) fn of_parts(
+        raw_cookie: RawCookie<'a>,
+        path: CookiePath,
+        domain: CookieDomain,
+        expires: CookieExpiration,
+    ) -> Cookie<'a>
+        ensures { stored_of result ≡ record {
+          raw = raw_cookie.entry;
+          path = path_of path;
+          domain = domain_of domain;
+          death = death_of expires;
+        } }
+    {
+        Cookie {
+            raw_cookie,
+            path,
+            domain,
+            expires,
+        }
+    }
+
     /// Whether the cookie goes with a request to the URL (RFC 6265, section 5.4, step 1): path and
     /// domain match, a Secure cookie meets a URL that `utils::is_secure` passes, an HttpOnly one an
     /// HTTP scheme.

@@ -6,6 +6,8 @@ mod date_tests;
 #[cfg(test)]
 mod deep_tests;
 #[cfg(test)]
+mod error_tests;
+#[cfg(test)]
 mod fixtures;
 #[cfg(test)]
 mod json_read_tests;

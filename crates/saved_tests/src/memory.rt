@@ -3,11 +3,11 @@
 //! A scenario answers whether all came out right, or want of memory. The first test of a pair accepts
 //! that, too; the second shows that there is none with ample memory.
 
-use crate::fixtures::{ESCAPED_RON, RON, escaped_row, shop_row};
+use crate::fixtures::{ESCAPED_RON, RON, bare_row, escaped_row, shop_row};
 use crate::json_write_tests::{ESCAPED, LIST, ROW};
 use saved_text::{
-    SavedTextError, from_value, row_from_json, row_to_json, rows_from_json, rows_from_ron,
-    rows_to_json, rows_to_ron, to_value,
+    SavedDomain, SavedRow, SavedTextError, from_value, row_from_json, row_to_json, rows_from_json,
+    rows_from_ron, rows_to_json, rows_to_ron, to_value,
 };
 use std::alloc::{AllocError, Global};
 
@@ -125,4 +125,59 @@ fn escapes_are_read(rt: HostRuntime) {
 #[test]
 fn escapes_are_read_with_ample_memory(rt: HostRuntime) {
     assert!(rt; reads_escapes(rt.alloc()).unwrap_or(false));
+}
+
+// Whether a row's value comes back as a row of the same raw cookie.
+fn value_comes_back(alloc: Global, row: &SavedRow) -> Result<bool, SavedTextError> {
+    let value = to_value(alloc, row)?;
+    let back = from_value(alloc, &value)?;
+    Ok(back.raw_cookie.as_str() == row.raw_cookie.as_str())
+}
+
+// Whether rows come back from RON as rows that are written as the same text.
+fn comes_back_from_ron(alloc: Global, rows: &[SavedRow]) -> Result<bool, SavedTextError> {
+    let text = rows_to_ron(alloc, rows)?;
+    let back = rows_from_ron(alloc, text.as_bytes())?;
+    let again = rows_to_ron(alloc, back.as_slice())?;
+    Ok(again.as_str() == text.as_str() && back.len() == rows.len())
+}
+
+// Whether rows come back from JSON as rows that are written as the same text.
+fn comes_back_from_json(alloc: Global, rows: &[SavedRow]) -> Result<bool, SavedTextError> {
+    let text = rows_to_json(alloc, rows)?;
+    let back = rows_from_json(alloc, text.as_str())?;
+    let again = rows_to_json(alloc, back.as_slice())?;
+    Ok(again.as_str() == text.as_str() && back.len() == rows.len())
+}
+
+fn come_back(alloc: Global, rows: &[SavedRow]) -> Result<bool, SavedTextError> {
+    for row in rows {
+        if !value_comes_back(alloc, row)? {
+            return Ok(false);
+        }
+    }
+    Ok(comes_back_from_ron(alloc, rows)? && comes_back_from_json(alloc, rows)?)
+}
+
+fn lists(alloc: Global) -> Result<bool, SavedTextError> {
+    let rows = [
+        escaped_row(alloc)?,
+        bare_row(alloc, SavedDomain::NotPresent)?,
+        bare_row(alloc, SavedDomain::Empty)?,
+    ];
+    come_back(alloc, &rows)
+}
+
+#[test]
+fn lists_come_back(rt: HostRuntime) {
+    let is_right = match lists(rt.alloc()) {
+        Ok(is_right) => is_right,
+        Err(error) => error == SavedTextError::OutOfMemory,
+    };
+    assert!(rt; is_right);
+}
+
+#[test]
+fn lists_come_back_with_ample_memory(rt: HostRuntime) {
+    assert!(rt; lists(rt.alloc()).unwrap_or(false));
 }

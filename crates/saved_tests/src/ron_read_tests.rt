@@ -4,6 +4,18 @@ use crate::fixtures::RON;
 use saved_text::{SavedTextError, rows_from_ron, rows_to_ron};
 use std::alloc::{AllocError, Global};
 
+// A row whose date is to come.
+const TO_COME: &str =
+    "[\n    (\n        raw_cookie: \"2=two; SameSite=None; Secure; Path=/; Expires=Tue, 03 Aug 2100 00:38:37 GMT\",\n        path: (\"/\", true),\n        domain: HostOnly(\"test.com\"),\n        expires: AtUtc(\"2100-08-03T00:38:37Z\"),\n    ),\n]\n";
+
+// A row whose date is past.
+const PAST: &str =
+    "[\n    (\n        raw_cookie: \"1=one; SameSite=None; Secure; Path=/; Expires=Thu, 03 Aug 2000 00:38:37 GMT\",\n        path: (\"/\", true),\n        domain: HostOnly(\"test.com\"),\n        expires: AtUtc(\"2000-08-03T00:38:37Z\"),\n    ),\n]\n";
+
+// A row of a domain with what is below it.
+const SUFFIX: &str =
+    "[\n    (\n        raw_cookie: \"a=x; Domain=.evil.com; Max-Age=60\",\n        path: (\"/\", false),\n        domain: Suffix(\".evil.com\"),\n        expires: AtUtc(\"2024-01-01T00:01:00Z\"),\n    ),\n]\n";
+
 // Whether a text is read as the rows that are written so.
 fn reads_as(alloc: Global, text: &str, written: &str) -> bool {
     match rows_from_ron(alloc, text.as_bytes()) {
@@ -34,8 +46,8 @@ fn changed_stops_at(
     Ok(stops_at(alloc, text.as_str(), offset))
 }
 
-// What was written; and fields in another order, white space of each kind, commas at the ends, escapes of each kind, and
-// a date with a fraction and an offset.
+// What was written; and fields in another order, white space of each kind, commas at the ends, escapes of each kind,
+// and a date with a fraction and an offset.
 #[test]
 fn reads_rows(rt: HostRuntime) {
     let alloc = rt.alloc();
@@ -49,6 +61,14 @@ fn reads_rows(rt: HostRuntime) {
     assert!(rt; reads_as(alloc, bare, written));
     for text in ["[]", "[]\n", " [ ] ", "\t[\r\n]"] {
         assert!(rt; reads_as(alloc, text, "[]\n"), "{text}");
+    }
+}
+
+#[test]
+fn reads_lists_of_other_rows(rt: HostRuntime) {
+    let alloc = rt.alloc();
+    for text in [TO_COME, PAST, SUFFIX] {
+        assert!(rt; reads_as(alloc, text, text), "{text}");
     }
 }
 
@@ -90,6 +110,13 @@ fn refuses_other_texts(rt: HostRuntime) {
         ("[(expires: AtUtc()", 17),
         ("[(raw_cookie: a", 14),
         ("[(raw_cookie: \"=1\" x", 19),
+        (
+            "[(raw_cookie:\"a=1\",path:(\"\",true),domain:Empty,expires:SessionEnd)(raw_cookie:\"a=1\",path:(\"\",true),domain:Empty,expires:SessionEnd)]",
+            66,
+        ),
+        ("[(path (", 7),
+        ("[(path: (\"\\u0041\"", 12),
+        ("[(path: (\"\\u{1g}\"", 14),
         ("[(domain:Empty,expires:SessionEnd,path:(\"\",true))", 48),
     ];
     for (text, offset) in texts {
@@ -127,6 +154,10 @@ fn refuses_strings_that_do_not_read(rt: HostRuntime) {
         (
             "[(raw_cookie:\"a=1\",path:(\"\",true),domain:Empty,expires:SessionEnd),(raw_cookie:\"=\",path:(\"\",true),domain:Empty,expires:SessionEnd),(raw_cookie:\"=\",path:(\"\",true),domain:Empty,expires:SessionEnd)]",
             79,
+        ),
+        (
+            "[(raw_cookie:\"a\",path:(\"\",true),domain:Empty,expires:SessionEnd)]",
+            13,
         ),
         (
             "[(raw_cookie:\"=\",path:(\"\",true),domain:Empty,expires:SessionEnd)]x",

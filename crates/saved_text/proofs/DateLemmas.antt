@@ -37,12 +37,6 @@ form_wrong text form i h wrong =
     ∙ ap (λ xs. get_or xs i 0) ((bytes_eq-Decides (map blanked text) form).0 e))))
     (λ (e : shows text form ≡ false). sym e) (cases_Bool (shows text form))
 
-pub form_short : (text form : List ℕ) → length text ≢ length form → false ≡ shows text form
-form_short text form wrong =
-    ⊎_elim (λ (e : shows text form ≡ true). absurd (wrong (sym (length-map text blanked)
-    ∙ ap length ((bytes_eq-Decides (map blanked text) form).0 e))))
-    (λ (e : shows text form ≡ false). sym e) (cases_Bool (shows text form))
-
 pub form_right : (text form : List ℕ) → length text ≡ length form → ((k : ℕ) → k < length text
     → blanked (get_or text k 0) ≡ get_or form k 0) → true ≡ shows text form
 form_right text form len each =

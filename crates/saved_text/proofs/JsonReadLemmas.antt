@@ -3,7 +3,6 @@ use Rattle.std.specs.Prelude.{ℕ, List, [], ◌∷◌, ◌++◌, Bool, true, fa
 use Rattle.std.specs.Prelude.{IfOk, IfErr, is_ok, ◌↔◌, codes, unwrap_or, option_and_then}
 use Rattle.std.proofs.Common.{◌≡◌, length, arith, refl, sym, ap, ◌∙◌, subst}
 use Rattle.std.proofs.lemmas.Bool.{true≢false}
-use Rattle.std.proofs.lemmas.Option.{none-some}
 use Rattle.std.specs.List.{AllByRecursion}
 use Rattle.cookie_text.specs.Reading.{ReadsPlain}
 use Rattle.cookie_text.specs.Record.{Seen}
@@ -65,11 +64,6 @@ no_row d t is none u e h = none (
       (same_date u t (sym e ∙ is)) h.1,
 )
 
-pub row_ok : (d : Data) (t : Shown) (r : Result SavedRow SavedTextError) → d ≡ row_value t → IfOk r (IsShown t)
-    → IfOk r (ShowsRow d)
-row_ok d t (Ok row) is h = (t, is, h)
-row_ok d t (Err e) is h = tt
-
 pub row_err : (d : Data) (t : Shown) (r : Result SavedRow SavedTextError) → d ≡ row_value t
     → IfErr r (IsShapeFault (¬ (IsReadable t))) → IfErr r (IsShapeFault (IsNoRow d))
 row_err d t (Ok row) is h = tt
@@ -127,9 +121,6 @@ pub record RowsSoFar (d : Data) (rs : List SavedRow) (rest : Items) : Type 0 whe
   pub are_shown : AreShown rows rs
   pub split : d ≡ array (items_onto rows rest)
 
-pub rows_begin : (d : Data) (items : Items) → d ≡ array items → RowsSoFar d [] items
-rows_begin d items e = record { rows = []; are_shown = tt; split = e }
-
 pub rows_more : (d : Data) (rs : List SavedRow) (x : Data) (more : Items) (r : SavedRow) → RowsSoFar d rs (item x more)
     → ShowsRow x r → RowsSoFar d (rs ++ r ∷ []) more
 rows_more d rs x more r h p = record {
@@ -150,9 +141,6 @@ pub rows_stop : (d : Data) (rs : List SavedRow) (x : Data) (more : Items) → Ro
     → AreNoRows d
 rows_stop d rs x more h none us e k = unread_at h.rows us x more none (ap (λ y. items_in (as_array y)) (sym h.split
     ∙ e)) k
-
-pub no_array : (d : Data) → as_array d ≡ None → AreNoRows d
-no_array d e us is h = absurd (none-some _ (sym e ∙ ap as_array is))
 
 -- ---- faults
 

@@ -344,8 +344,3 @@ written (r ∷ rs) a =
 pub none_layout : (rs : List SavedRow) → length rs ≡ 0 → ron_layout (map shown rs) ≡ codes "[]\n"
 none_layout [] e = refl
 none_layout (r ∷ rs) e = absurd (omega (arith, e))
-
-pub some_layout : (rs : List SavedRow) → (length rs ≡ 0 → ⊥)
-    → ron_layout (map shown rs) ≡ codes "[\n" ++ (rows_layout (map shown rs) ++ codes "]\n")
-some_layout [] n = absurd (n refl)
-some_layout (r ∷ rs) n = refl

@@ -122,7 +122,8 @@ module _ (d : DateTime) (from : pos 0 ≤ℤ d.date.year) where
       let g = two_worth d.time.second (omega (arith, d.time.second_in)) in
       λ i. civil_if (a i) (b i) (c i) (e i) (f i) (g i) 0
 
-  within : Within d.date.month d.date.day (days_in_month (pos year) d.date.month) d.time.hour d.time.minute d.time.second
+  within : Within d.date.month d.date.day (days_in_month (pos year) d.date.month) d.time.hour d.time.minute
+      d.time.second
   within = record {
     months = d.date.month_in;
     days = subst (λ y. IsInRange 1 (days_in_month y d.date.month) d.date.day) year_is d.date.day_in;

@@ -159,9 +159,6 @@ pub limit_bound : (n : ℕ) → limit n ≤ 0x1000000
 limit_bound zero = omega arith
 limit_bound (suc n) = let h = limit_bound n in omega (arith, h)
 
-pub limit_step : (n v d : ℕ) → v < limit (suc n) → d < 16 → v * 16 + d < limit n
-limit_step n v d h k = omega (arith, h, k)
-
 -- ---- two digits
 
 low_scalar : (n : ℕ) → n < 256 → IsScalar n
@@ -556,9 +553,6 @@ Stops-escape text a b u = Stops-at escape text refl (misses_escape text a b u)
 abbrev pub inside : Grammar
 inside = seq (many character) (seq (sign (34 ∷ [])) (say the_end))
 
-escaping : Grammar
-escaping = seq (sign (92 ∷ [])) escape
-
 and_parts : (a b : Bool) → IsTrue (a && b) → IsTrue a × IsTrue b
 and_parts true b h = (refl, h)
 and_parts false b h = absurd (false≢true h)
@@ -693,9 +687,6 @@ pub StopsAs-string : (text rest plain behind escape_rest : List ℕ) (value : Li
     → StopsAs string text s
 StopsAs-string text rest plain behind escape_rest value s g e a f l =
     StopsAs-behind string inside text rest (letters value) s g (StopsAs-escape rest plain behind escape_rest s e a f l)
-
-pub Stops-unquoted : (text : List ℕ) → Lacks 34 text → Stops string text text
-Stops-unquoted text l = Stops-first (sign (34 ∷ [])) inside text text (Stops-byte 34 text l)
 
 -- at the beginning no part has come
 pub Goes-begun : (text rest : List ℕ) (value : List ℕ) → text ≡ 34 ∷ rest → value ≡ []

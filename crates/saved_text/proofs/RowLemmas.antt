@@ -19,7 +19,6 @@ use Rattle.std.proofs.Common.{
   refl,
   sym,
   ap,
-  ◌∙◌,
   arith,
   subst,
   Result,
@@ -34,7 +33,7 @@ use Rattle.std.proofs.lemmas.Bool.{ne_eqb}
 use Rattle.saved_text.specs.Grammar.{Grammar, Word}
 use Rattle.saved_text.specs.Grammar.Grammar.{nothing, say, space, sign, seq, either}
 use Rattle.saved_text.specs.Grammar.Word.{the_name}
-use Rattle.saved_text.specs.Letters.{is_space, AreSpaces}
+use Rattle.saved_text.specs.Letters.{AreSpaces}
 use Rattle.saved_text.specs.Reads.{Leads, Takes, Stops}
 use Rattle.saved_text.specs.Faults.{StopsAs, Lacks, Unspaced, Spaced, Begins, closing}
 use Rattle.saved_text.specs.Words.{string_words, tagged}
@@ -61,7 +60,6 @@ use Rattle.saved_text.proofs.StepLemmas.{
   Leads-else,
   Leads-nothing,
   Leads-left,
-  Stops-at,
   seq_parts,
   Takes-seq,
 }
@@ -124,9 +122,6 @@ Goes-letter b s text rest e h = subst (λ t. Leads (seq (sign (b ∷ s)) h) t []
 misses_word : (b : ℕ) (s text : List ℕ) → Lacks b text → Misses (sign (b ∷ s)) text
 misses_word b s [] l = refl
 misses_word b s (c ∷ r) l = ne_eqb c b l
-
-pub Stops-word : (b : ℕ) (s text : List ℕ) → Lacks b text → Stops (sign (b ∷ s)) text text
-Stops-word b s text l = Stops-at (sign (b ∷ s)) text refl (misses_word b s text l)
 
 pub Takes-nothing : (text : List ℕ) → Takes (sign []) text [] text
 Takes-nothing text h = Leads-signed h text
@@ -218,10 +213,6 @@ Stops-closing text l m = Stops-behind closing (sign (41 ∷ [])) text text text 
 
 -- ---- what the readers of parts answer
 
-pub spaced_more : (b : ℕ) (text rest next : List ℕ) → IsTrue (is_space b) → text ≡ b ∷ rest → Spaced rest next
-    → Spaced text next
-spaced_more b text rest next s e f = (b ∷ f.0, (s, f.1), e ∙ ap (λ r. b ∷ r) f.2, f.3)
-
 pub Takes-cut : (b : ℕ) (text rest : List ℕ) → text ≡ b ∷ rest → Takes (sign (b ∷ [])) text [] rest
 Takes-cut b text rest e = subst (λ t. Takes (sign (b ∷ [])) t [] rest) (sym e) (Takes-byte b rest)
 
@@ -240,11 +231,6 @@ pub word_on : (bytes text rest : List ℕ) → 1 ≤ length bytes → text ≡ s
 word_on [] text rest l e = absurd (omega (arith, l))
 word_on (b ∷ s) text rest l e = subst (λ q. Goes (sign (b ∷ s)) text [] (sign q) rest)
     (sym (take_all (suc (length s) - 1) s (omega arith))) (Goes-letter b s text rest e)
-
-pub word_stops : (bytes text : List ℕ) → 1 ≤ length bytes → Lacks (slice_index bytes 0) text
-    → Stops (sign bytes) text text
-word_stops [] text l e = absurd (omega (arith, l))
-word_stops (b ∷ s) text l e = Stops-word b s text e
 
 -- a step before a text's rest that a call answered
 pub result_rest : (g k : Grammar) (text rest : List ℕ) (r : Result (Bor (List ℕ)) Stop) → Goes g text [] k rest

@@ -514,30 +514,6 @@ Takes-left a b c r s rest n m l k =
     (Leads-trans (either (seq a k) (seq b k)) (seq a k) k (c ∷ r) (c ∷ r) rest [] s
     (Leads-left (seq a k) (seq b k) c r (misses_seq b k (c ∷ r) n m)) (l k))
 
-pub Takes-right : (a b : Grammar) (c : ℕ) (r : List ℕ) (s : List Word) (rest : List ℕ) → nullable a ≡ false
-    → starts a c ≡ false → Takes b (c ∷ r) s rest → Takes (either a b) (c ∷ r) s rest
-Takes-right a b c r s rest n m l k =
-    Leads-trans (seq (either a b) k) (either (seq a k) (seq b k)) k (c ∷ r) (c ∷ r) rest [] s
-    (Leads-same _ _ (c ∷ r) (Same-either a b k))
-    (Leads-trans (either (seq a k) (seq b k)) (seq b k) k (c ∷ r) (c ∷ r) rest [] s
-    (Leads-right (seq a k) (seq b k) c r (misses_seq a k (c ∷ r) n m)) (l k))
-
-pub Stops-left : (a b : Grammar) (c : ℕ) (r rest : List ℕ) → nullable b ≡ false → starts b c ≡ false
-    → Stops a (c ∷ r) rest → Stops (either a b) (c ∷ r) rest
-Stops-left a b c r rest n m l k =
-    Stuck-behind (seq (either a b) k) (either (seq a k) (seq b k)) (c ∷ r) (c ∷ r) rest []
-    (Leads-same _ _ (c ∷ r) (Same-either a b k))
-    (Stuck-behind (either (seq a k) (seq b k)) (seq a k) (c ∷ r) (c ∷ r) rest []
-    (Leads-left (seq a k) (seq b k) c r (misses_seq b k (c ∷ r) n m)) (l k))
-
-pub Stops-right : (a b : Grammar) (c : ℕ) (r rest : List ℕ) → nullable a ≡ false → starts a c ≡ false
-    → Stops b (c ∷ r) rest → Stops (either a b) (c ∷ r) rest
-Stops-right a b c r rest n m l k =
-    Stuck-behind (seq (either a b) k) (either (seq a k) (seq b k)) (c ∷ r) (c ∷ r) rest []
-    (Leads-same _ _ (c ∷ r) (Same-either a b k))
-    (Stuck-behind (either (seq a k) (seq b k)) (seq b k) (c ∷ r) (c ∷ r) rest []
-    (Leads-right (seq a k) (seq b k) c r (misses_seq a k (c ∷ r) n m)) (l k))
-
 -- ---- repetition
 
 abbrev AreParts : Grammar → List (List ℕ × List Word) → Type 0

@@ -1,22 +1,9 @@
 -- A string as it is written, part by part.
-use Rattle.std.specs.Prelude.{slice_index, take, drop, flat_map}
-use Rattle.std.proofs.Common.{◌≡◌, ℕ, suc, ◌+◌, ◌-◌, ◌≤◌, ◌<◌, ◌++◌, List, [], ◌∷◌, length, refl, sym, ap, ◌∙◌, arith}
-use Rattle.std.proofs.Common.{append_assoc, length-append, subst}
+use Rattle.std.specs.Prelude.{flat_map}
+use Rattle.std.proofs.Common.{◌≡◌, ℕ, ◌++◌, List, [], ◌∷◌, refl, sym, ap, ◌∙◌, append_assoc}
 use Rattle.std.proofs.lemmas.Grind.{flat_map-append}
 use Rattle.std.proofs.lemmas.List.{append-nil}
 use Rattle.saved_text.specs.Written.{written_byte, quoted, AreSame}
-use Rattle.saved_text.proofs.RowLemmas.{take_all}
-
-pub same_more : (text : List ℕ) (n : ℕ) → 1 ≤ length text → written_byte (slice_index text 0) ≡ slice_index text 0 ∷ []
-    → AreSame (take n (take (length text - 1) (drop 1 text))) → AreSame (take (1 + n) text)
-same_more [] n l e h = absurd (omega (arith, l))
-same_more (b ∷ s) n l e h =
-    let one : suc n ≡ 1 + n = omega arith in
-    subst (λ k. AreSame (take k (b ∷ s))) one (
-      e,
-      subst (λ q. AreSame (take n q)) (take_all (suc (length s) - 1) s
-          (omega arith)) h,
-    )
 
 same_text : (p : List ℕ) → AreSame p → flat_map written_byte p ≡ p
 same_text [] h = refl
@@ -46,10 +33,3 @@ all_written done rest same behind mid last start text i e h f m l =
     l ∙ ap (λ q. q ++ 34 ∷ []) (m ∙ end)
     ∙ ap (λ q. q ++ 34 ∷ []) (append_assoc start (34 ∷ []) (flat_map written_byte text))
     ∙ append_assoc start (34 ∷ flat_map written_byte text) (34 ∷ [])
-
-pub shorter_next : (rest same behind next : List ℕ) (b : ℕ) → rest ≡ same ++ behind → behind ≡ b ∷ next
-    → length next < length rest
-shorter_next rest same behind next b e f =
-    let x : length rest ≡ length same + length behind = ap length e ∙ length-append same behind in
-    let y : length behind ≡ suc (length next) = ap length f in
-    omega (arith, x, y)

@@ -4,8 +4,7 @@ use Rattle.saved_text.specs.Grammar.{Grammar, Word, IsOf, IsFront}
 use Rattle.saved_text.specs.Grammar.Grammar.{seq}
 
 -- Behind the front x the text is of G where the rest is of H, whatever stands in the place of the rest, and nothing
--- else
--- makes it one of G; and so are their fronts.
+-- else makes it one of G; and so are their fronts.
 pub record Leads (G : Grammar) (text : List ℕ) (s : List Word) (H : Grammar) (rest : List ℕ) : Type 0 where
   pub x : List ℕ
   pub split : text ≡ x ++ rest

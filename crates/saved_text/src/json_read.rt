@@ -59,8 +59,12 @@ pub fn from_value(alloc: Global, value: &Value) -> Result<SavedRow, SavedTextErr
     }
 }
 
-// The rows that a value is.
-fn rows_from_value(alloc: Global, value: &Value) -> Result<Vec<SavedRow>, SavedTextError>
+/// The rows that a value is.
+///
+/// # Errors
+///
+/// `Shape` where the value is of another shape or a raw cookie or a date in it doesn't read, `OutOfMemory`.
+pub fn rows_from_value(alloc: Global, value: &Value) -> Result<Vec<SavedRow>, SavedTextError>
     ensures ok { IfOk result (λ rows. ShowsRows (view value.now) rows.items) }
     ensures err { IfErr result (IsShapeFault (AreNoRows (view value.now))) }
 {

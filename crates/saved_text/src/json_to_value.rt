@@ -1,8 +1,8 @@
-//! A row as a value of JSON.
-ghost use Rattle.std.specs.Prelude.{◌≡◌, IfOk};
+//! Rows as values of JSON.
+ghost use Rattle.std.specs.Prelude.{◌≡◌, IfOk, map};
 ghost use Rattle.serde_json.specs.Data.{object, string, boolean, array, item, no_items};
 ghost use Rattle.serde_json.specs.View.{view};
-ghost use Rattle.saved_text.specs.Json.{row_value, domain_value, expires_value, one_member};
+ghost use Rattle.saved_text.specs.Json.{row_value, rows_value, domain_value, expires_value, one_member};
 ghost use Rattle.saved_text.specs.Saved.{shown, domain_shown, expires_shown};
 
 use crate::date_display::SavedDate;
@@ -28,6 +28,23 @@ pub fn to_value(alloc: Global, row: &SavedRow) -> Result<Value, AllocError>
     let raw = Value::try_from_str(alloc, row.raw_cookie.as_str())?;
     members.insert(String::from_str(alloc, "raw_cookie")?, raw)?;
     Ok(Value::Object(members))
+}
+
+/// Rows as a value, an array of their objects.
+///
+/// # Errors
+///
+/// `AllocError` where memory was refused.
+pub fn rows_to_value(alloc: Global, rows: &[SavedRow]) -> Result<Value, AllocError>
+    ensures { IfOk result (λ v. view v ≡ rows_value (map shown rows.now)) }
+{
+    let mut items = Vec::new(alloc);
+    let mut rest = rows;
+    while let Some((row, tail)) = rest.split_first() {
+        items.push(to_value(alloc, row)?)?;
+        rest = tail;
+    }
+    Ok(Value::Array(items))
 }
 
 fn domain_to_value(alloc: Global, domain: &SavedDomain) -> Result<Value, AllocError>

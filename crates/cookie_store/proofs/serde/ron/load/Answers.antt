@@ -1,0 +1,12 @@
+use Rattle.std.proofs.Common.{subst, false}
+use Rattle.std.specs.Prelude.{IfOk}
+use Rattle.jiff.specs.Words.{civil_nanos}
+use Rattle.saved_text.specs.RonReading.{ShowsOnly}
+use Rattle.cookie_store.specs.SavedTexts.{Loads}
+use Rattle.cookie_store.proofs.SavedLemmas.{of_text_ok}
+use Rattle.cookie_store.proofs.serde.ron.load.Goals as goal
+
+pub returns-clause-ok : goal.returns-clause-ok
+returns-clause-ok g c = of_text_ok (g.R.Source.left c.args.reader.now) c.in_ok-text.text.items
+    (Loads ShowsOnly false (civil_nanos c.args.now)) c.store_of.result c.in_ok-text.ensures.ok
+    (subst (λ bytes. IfOk c.store_of.result (Loads ShowsOnly false (civil_nanos c.args.now) bytes)) c.deref.ensures.value c.store_of.ensures.ok)

@@ -1,0 +1,99 @@
+-- Saved texts of a store's rows, and why rows aren't loaded from a text or saved to one (own: docs/DEFINITIONS.md).
+use Rattle.std.specs.Prelude.{◌≡◌, ◌⊎◌, ◌^◌, ◌-◌, ℕ, ℤ, List, [], ◌∷◌, ◌++◌, Bool, Option, Some, IfSome}
+use Rattle.std.specs.Str.{IsUtf8}
+use Rattle.cookie_text.specs.ReadingBack.{Pairwise}
+use Rattle.devices.specs.Device.{Rose}
+use Rattle.serde_json.specs.Data.{Data}
+use Rattle.serde_json.specs.Read.{read}
+use Rattle.saved_text.specs.Json.{rows_value}
+use Rattle.saved_text.specs.JsonReading.{IsJsonFault, AreNoRows, IsShapeFault}
+use Rattle.saved_text.specs.RonReading.{IsRonFault}
+use Rattle.saved_text.specs.Row.{Shown}
+use Rattle.saved_text.specs.declared.error.SavedTextError.{SavedTextError}
+use Rattle.saved_text.specs.declared.error.SavedTextError.TheVariants as fault
+use Rattle.store_parts.specs.declared.error.Error.{Error}
+use Rattle.store_parts.specs.declared.error.Error.TheVariants.{Io, NotText, Json, Ron, Shape, Year, OutOfMemory}
+use Rattle.cookie_store.specs.Placing.{loaded}
+use Rattle.cookie_store.specs.Rows.{Row, Store}
+use Rattle.cookie_store.specs.SavedRows.{IsShownAs, IsLoadedFrom, IsBeforeYears}
+
+-- ---- saving
+
+-- a list of rows in a form of lists that are shown
+abbrev pub Saves : {A : Type 0} → (List Shown → A) → List Row → A → Type 0
+Saves form rows text = (all : List Shown) × Pairwise IsShownAs rows all × (text ≡ form all)
+
+-- Why a row of this death has no saved text: `Year` only where the death is of a year below 0.
+abbrev pub IsRowFault : Option ℤ → Error → Type 0
+IsRowFault death e = ((e ≡ Year) × IsBeforeYears death) ⊎ (e ≡ OutOfMemory)
+
+-- one of the rows has a death of a year below 0
+pub record IsAnyBeforeYears (rows : List Row) : Type 0 where
+  pub before : List Row
+  pub row : Row
+  pub after : List Row
+  pub split : rows ≡ before ++ row ∷ after
+  pub is : IsBeforeYears row.death
+
+-- Why rows have no saved text: `Year` only where one has a death of a year below 0.
+abbrev pub IsSaveFault : List Row → Error → Type 0
+IsSaveFault rows e = ((e ≡ Year) × IsAnyBeforeYears rows) ⊎ (e ≡ OutOfMemory)
+
+-- ---- loading
+
+-- a store that loaded the rows that are shown so, and has no list of public suffixes
+abbrev pub HasLoaded : Bool → ℤ → List Shown → Store → Type 0
+HasLoaded with_expired now all store =
+    (rows : List Row) × Pairwise IsLoadedFrom all rows
+    × (store ≡ record { rows = loaded with_expired now rows; suffixes = [] })
+
+-- a store that loaded the rows that a text shows; `Shows` tells which
+abbrev pub Loads : {A : Type 0} → (A → List Shown → Type 0) → Bool → ℤ → A → Store → Type 0
+Loads Shows with_expired now text store = (all : List Shown) × Shows text all × HasLoaded with_expired now all store
+
+-- the rows that a value of JSON shows, and those of a text of it
+abbrev pub IsValueOf : Data → List Shown → Type 0
+IsValueOf value all = value ≡ rows_value all
+
+abbrev pub IsJsonOf : List ℕ → List Shown → Type 0
+IsJsonOf text all = IsUtf8 text × (read text ≡ Some (rows_value all))
+
+-- ---- refusals
+
+-- a refusal of a saved text, by its name
+abbrev pub of_saved_text : SavedTextError → Error
+of_saved_text fault.NotText = NotText
+of_saved_text fault.Json = Json
+of_saved_text fault.Shape = Shape
+of_saved_text (fault.Ron n) = Ron n
+of_saved_text fault.OutOfMemory = OutOfMemory
+
+-- a refusal that a fault of this kind is
+abbrev pub IsRefusal : (SavedTextError → Type 0) → Error → Type 0
+IsRefusal Is e = (cause : SavedTextError) × Is cause × (e ≡ of_saved_text cause)
+
+-- Why the bytes aren't read as JSON: they aren't UTF-8, or the text is refused.
+abbrev pub IsJsonRefusal : List ℕ → Error → Type 0
+IsJsonRefusal text e = ((e ≡ NotText) × (¬ IsUtf8 text)) ⊎ (IsUtf8 text × IsRefusal (IsJsonFault AreNoRows text) e)
+
+-- Why a value is refused.
+abbrev pub IsValueRefusal : Type 0 → Error → Type 0
+IsValueRefusal fits e = IsRefusal (IsShapeFault fits) e
+
+-- and why not as RON
+abbrev pub IsRonRefusal : List ℕ → Error → Type 0
+IsRonRefusal text e = IsRefusal (IsRonFault text) e
+
+-- ---- devices
+
+-- the writer failed in the call
+abbrev pub IsWriteFault : ℕ → ℕ → Error → Type 0
+IsWriteFault before after e = (e ≡ Io) × Rose before after
+
+-- the reader failed in the call, or 2^64 - 1 reads met no end
+abbrev pub IsReadFault : ℕ → ℕ → ℕ → Error → Type 0
+IsReadFault before after reads e = (e ≡ Io) × (Rose before after ⊎ (reads ≡ 2 ^ 64 - 1))
+
+-- so it is with the text that a reader had left, which is this one where that is known
+abbrev pub OfText : Option (List ℕ) → (List ℕ → Type 0) → Type 0
+OfText left Is = (text : List ℕ) × IfSome left (λ input. text ≡ input) × Is text

@@ -1,0 +1,116 @@
+//! The rows that are saved of a store, and the cookies that are loaded of rows.
+ghost use Rattle.std.specs.Prelude.{◌≡◌, List, IfOk, IfErr, map, option_map, string_bytes};
+ghost use Rattle.std.specs.List.{AllByRecursion};
+ghost use Rattle.cookie_text.specs.ReadingBack.{Pairwise};
+ghost use Rattle.jiff.specs.Words.{civil_nanos};
+ghost use Rattle.saved_text.specs.JsonReading.{AreShown};
+ghost use Rattle.saved_text.specs.Row.{Shown};
+ghost use Rattle.saved_text.specs.Saved.{shown, IsCookieText};
+ghost use Rattle.cookie_store.specs.SavedRows.{IsShownAs, IsLoadedFrom};
+ghost use Rattle.cookie_store.specs.SavedTexts.{IsSaveFault, HasLoaded, of_saved_text};
+ghost use Rattle.cookie_store.specs.Steps.{is_wanted, wanted};
+ghost use Rattle.cookie_store.specs.StoredCookie.{stored_of};
+
+use crate::rows::IterAny;
+use crate::saved_row::{loaded_of, saved_of};
+use crate::store::CookieStore;
+use crate::stored_cookie::Cookie;
+use jiff::civil::DateTime;
+use saved_text::{SavedRow, SavedTextError};
+use std::alloc::{AllocError, Global};
+use store_parts::Error;
+
+/// The rows that are saved of the cookies, as they are shown.
+///
+/// # Errors
+///
+/// `Year` at the first whose end is of a year below 0, `OutOfMemory`.
+pub(crate) fn saved_list(
+    alloc: Global,
+    cookies: IterAny<'_>,
+    now: Option<DateTime>,
+) -> Result<Vec<SavedRow>, Error>
+    ensures ok { IfOk result (λ rows. Pairwise IsShownAs (wanted (option_map civil_nanos now) cookies.entry)
+        (map shown rows.items)) }
+    ensures err { IfErr result (IsSaveFault (wanted (option_map civil_nanos now) cookies.entry)) }
+{
+    let mut rows = Vec::new(alloc);
+    for cookie in cookies {
+        if is_wanted(cookie, now) {
+            rows.push(saved_of(alloc, cookie)?)?;
+        }
+    }
+    Ok(rows)
+}
+
+/// Copies of those of the cookies that are saved.
+pub(crate) fn copies(
+    alloc: Global,
+    cookies: IterAny<'_>,
+    now: Option<DateTime>,
+) -> Result<Vec<Cookie<'static>>, AllocError>
+    ensures { IfOk result (λ copies. map stored_of copies.items
+        ≡ wanted (option_map civil_nanos now) cookies.entry) }
+{
+    let mut copies = Vec::new(alloc);
+    for cookie in cookies {
+        if is_wanted(cookie, now) {
+            copies.push(cookie.clone(alloc)?)?;
+        }
+    }
+    Ok(copies)
+}
+
+// Whether the cookie is saved: any, or one with an end that is not expired at the moment.
+fn is_wanted(cookie: &Cookie<'static>, now: Option<DateTime>) -> bool
+    ensures { result ≡ is_wanted (option_map civil_nanos now) (stored_of cookie.now) }
+{
+    match now {
+        Some(now) => !cookie.is_expired(now) && cookie.is_persistent(),
+        None => true,
+    }
+}
+
+/// The cookies of the rows, whose texts read.
+pub(crate) fn loaded_list(
+    alloc: Global,
+    rows: Vec<SavedRow>,
+) -> Result<Vec<Cookie<'static>>, AllocError>
+    requires { AllByRecursion (λ r. IsCookieText (string_bytes r.raw_cookie)) rows.items }
+    ensures { IfOk result (λ cookies. (all : List Shown) → AreShown all rows.items
+        → Pairwise IsLoadedFrom all (map stored_of cookies.items)) }
+{
+    let mut cookies = Vec::new(alloc);
+    for row in rows {
+        cookies.push(loaded_of(alloc, row)?)?;
+    }
+    Ok(cookies)
+}
+
+/// A store that loaded the rows, whose texts read: those that are expired at `now` too, or not.
+pub(crate) fn store_of_rows(
+    alloc: Global,
+    rows: Vec<SavedRow>,
+    with_expired: bool,
+    now: DateTime,
+) -> Result<CookieStore, AllocError>
+    requires { AllByRecursion (λ r. IsCookieText (string_bytes r.raw_cookie)) rows.items }
+    ensures { IfOk result (λ store. (all : List Shown) → AreShown all rows.items
+        → HasLoaded with_expired (civil_nanos now) all store) }
+{
+    let cookies = loaded_list(alloc, rows)?;
+    CookieStore::of_loaded(alloc, cookies, with_expired, now)
+}
+
+/// A refusal of a saved text, by its name.
+pub(crate) fn refusal(fault: SavedTextError) -> Error
+    ensures { result ≡ of_saved_text fault }
+{
+    match fault {
+        SavedTextError::NotText => Error::NotText,
+        SavedTextError::Json => Error::Json,
+        SavedTextError::Shape => Error::Shape,
+        SavedTextError::Ron(place) => Error::Ron(place),
+        SavedTextError::OutOfMemory => Error::OutOfMemory,
+    }
+}
