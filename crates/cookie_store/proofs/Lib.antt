@@ -9,6 +9,7 @@ pub mod LoadLemmas
 pub mod PlaceLaws
 pub mod PlaceLemmas
 pub mod RowFacts
+pub mod SaveLemmas
 pub mod StoreLemmas
 pub mod StrippedLemmas
 pub mod TreeLemmas

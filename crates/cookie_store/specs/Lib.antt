@@ -5,11 +5,13 @@ pub mod Giving
 pub mod Insertion
 pub mod Laws
 pub mod Lending
+pub mod LoadedLines
 pub mod Making
 pub mod Placing
 pub mod Rows
 pub mod Same
 pub mod SameEquivalence
+pub mod SavedLines
 pub mod Steps
 pub mod StoredCookie
 pub mod Stripped

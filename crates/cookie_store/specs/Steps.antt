@@ -1,6 +1,6 @@
 -- What private functions answer. No public contract names a word of this file.
 use Rattle.std.specs.Prelude.{◌≡◌, ◌≢◌, ◌⊎◌, ℕ, ℤ, List, Option, Some, None, Ok, Err, Result, IsSomeAnd, MatchResult}
-use Rattle.std.specs.Prelude.{if◌then◌else◌}
+use Rattle.std.specs.Prelude.{if◌then◌else◌, Bool, true}
 use Rattle.std.specs.List.{list_any}
 use Rattle.cookie_text.specs.Record.{Record, Seen}
 use Rattle.cookie_text.specs.Setting.{with_expires}
@@ -13,6 +13,7 @@ use Rattle.store_parts.specs.declared.error.CookieError.TheVariants.{Expired, Ou
 use Rattle.url.specs.Parts.{Parts}
 use Rattle.cookie_store.specs.Insertion.{End, Inserts, Receives, refused}
 use Rattle.cookie_store.specs.Making.{asked_domain, HasNoDomain, IsDomainFor}
+use Rattle.cookie_store.specs.Placing.{is_saved, saved}
 use Rattle.cookie_store.specs.Rows.{Row, is_live_of, ended}
 use Rattle.cookie_store.specs.StoredCookie.{owned}
 use Rattle.cookie_store.specs.Stripped.{IsEndOf}
@@ -67,3 +68,15 @@ PutsEnd (Some death) old new =
 abbrev pub Puts : (Seen → Option (List ℕ) → Seen) → Option (List ℕ) → Seen → Seen → Type 0
 Puts with None old new = new ≡ old
 Puts with (Some text) old new = new ≡ with old (Some text)
+
+-- ---- saving
+
+-- a row that is saved at a moment, or any where there is none
+abbrev pub is_wanted : Option ℤ → Row → Bool
+is_wanted None row = true
+is_wanted (Some now) row = is_saved now row
+
+-- of the rows those that are saved at a moment, or all where there is none
+abbrev pub wanted : Option ℤ → List Row → List Row
+wanted None rows = rows
+wanted (Some now) rows = saved now rows

@@ -15,7 +15,9 @@ mod action;
 mod loading;
 mod requests;
 mod rows;
+mod saving;
 mod store;
+mod store_cookie;
 mod stored_cookie;
 mod text_map;
 mod unexpired;
@@ -26,6 +28,7 @@ pub use devices::{Counting, Failing, Sink, Source};
 pub use requests::{RequestCookies, RequestValues};
 pub use rows::IterAny;
 pub use store::{CookieStore, laws};
+pub use store_cookie::StoreCookie;
 pub use store_parts::{
     CookieDomain, CookieError, CookieExpiration, CookiePath, Error, IdnaErrors, Result,
     cookie_domain, cookie_path, utils,
