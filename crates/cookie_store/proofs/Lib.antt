@@ -10,6 +10,7 @@ pub mod PlaceLaws
 pub mod PlaceLemmas
 pub mod RereadLemmas
 pub mod RowFacts
+pub mod SaveLemmas
 pub mod SavedLemmas
 pub mod ShownLemmas
 pub mod StoreLemmas

@@ -1,5 +1,5 @@
 //! Loading a store.
-ghost use Rattle.std.specs.Prelude.{◌≡◌, ◌∷◌, [], IfOk, OnOk};
+ghost use Rattle.std.specs.Prelude.{◌≡◌, ◌∷◌, [], map, IfOk, OnOk};
 ghost use Rattle.jiff.specs.Words.{civil_nanos};
 ghost use Rattle.cookie_store.specs.Placing.{chosen, put_all, loaded_store};
 ghost use Rattle.cookie_store.specs.StoredCookie.{stored_of};
@@ -37,7 +37,7 @@ impl CookieStore {
         now: DateTime,
     ) -> Result<CookieStore, AllocError>
         ensures { IfOk result (λ store. store
-            ≡ loaded_store with_expired (civil_nanos now) cookies.entry.items) }
+            ≡ loaded_store with_expired (civil_nanos now) (map stored_of cookies.entry.items)) }
     {
         let mut rows = Rows::new(alloc);
         for cookie in cookies {
