@@ -1,7 +1,7 @@
 //! Stores that are saved and loaded as one text.
 
 use crate::fixtures::{at, gives, has_live_rows, has_rows, receive, store_with};
-use cookie_store::serde::{json, ron};
+use cookie_store::serde::{self, json, ron};
 use cookie_store::{Cookie, CookieExpiration, CookieStore, Counting, Error};
 use jiff::civil::DateTime;
 use std::alloc::Global;
@@ -427,4 +427,97 @@ fn values_come_back(rt: HostRuntime) -> Result<(), Fail> {
     assert!(rt; matches!(is_value(rt.alloc(), &store), Ok(true)));
     assert!(rt; are_cookie_values(rt.alloc(), &store));
     Ok(())
+}
+
+// ---- closures of the whole list
+
+// The names, each behind a space.
+fn names(alloc: Global, cookies: &[Cookie<'_>]) -> Result<String, Error> {
+    let mut out = String::new(alloc);
+    for cookie in cookies {
+        out.push(' ')?;
+        out.push_str(cookie.raw().name())?;
+    }
+    Ok(out)
+}
+
+fn saved_names(alloc: Global, store: &CookieStore, all: bool) -> Result<Vec<u8>, Error> {
+    let mut out = Vec::new(alloc);
+    let mut writer = Counting::new(&mut out);
+    let list = |cookies: &[Cookie<'_>]| names(alloc, cookies);
+    if all {
+        serde::save_incl_expired_and_nonpersistent(store, &mut writer, list)?;
+    } else {
+        serde::save(store, &mut writer, list, at(1))?;
+    }
+    Ok(out)
+}
+
+fn are_names(alloc: Global, store: &CookieStore, all: bool, wanted: &str) -> bool {
+    match saved_names(alloc, store, all) {
+        Ok(text) => text.as_slice() == wanted.as_bytes(),
+        Err(_) => false,
+    }
+}
+
+// What is written where a closure refuses, and whether its refusal is handed on.
+fn refuses(alloc: Global, store: &CookieStore) -> (usize, bool) {
+    let mut out = Vec::new(alloc);
+    let mut writer = Counting::new(&mut out);
+    let list = |_: &[Cookie<'_>]| -> Result<String, Error> { Err(Error::Text) };
+    let answer = serde::save(store, &mut writer, list, at(1));
+    (out.len(), matches!(answer, Err(Error::Text)))
+}
+
+#[test]
+fn a_closure_lists_the_store(rt: HostRuntime) -> Result<(), Fail> {
+    let mut store = store_with(rt.alloc(), "com\nnet\n")?;
+    assert!(rt; receive(rt.alloc(), &mut store, SITE));
+    assert!(rt; are_names(rt.alloc(), &store, false, " b\n"));
+    assert!(rt; are_names(rt.alloc(), &store, true, " a b\n"));
+    assert!(rt; refuses(rt.alloc(), &store) == (0, true));
+    Ok(())
+}
+
+// A cookie from https://a.com/ at the beginning of the second.
+fn cookie_of(alloc: Global, line: &str) -> Result<Cookie<'static>, Error> {
+    let Ok(url) = Url::parse(alloc, "https://a.com/") else {
+        return Err(Error::Text);
+    };
+    Ok(Cookie::parse(alloc, line, &url, at(0))?.into_owned(alloc)?)
+}
+
+// Those of the lines.
+fn cookies_of(alloc: Global, text: &str) -> Result<Vec<Cookie<'static>>, Error> {
+    let mut cookies = Vec::new(alloc);
+    for line in text.lines() {
+        cookies.push(cookie_of(alloc, line)?)?;
+    }
+    Ok(cookies)
+}
+
+fn loaded_lines(alloc: Global, bytes: &[u8], all: bool) -> Result<CookieStore, Error> {
+    let mut reader = Counting::new(ByteByByte { bytes });
+    let read = |text: &str| cookies_of(alloc, text);
+    if all {
+        serde::load_all(alloc, &mut reader, read)
+    } else {
+        serde::load(alloc, &mut reader, read, at(5))
+    }
+}
+
+fn has_lines(alloc: Global, bytes: &[u8], all: bool, wanted: &str) -> bool {
+    match loaded_lines(alloc, bytes, all) {
+        Ok(store) => has_rows(alloc, &store, wanted),
+        Err(_) => false,
+    }
+}
+
+#[test]
+fn a_closure_reads_the_list(rt: HostRuntime) {
+    let lines = b"b=2\na=1; Max-Age=5\nb=3\n";
+    assert!(rt; has_lines(rt.alloc(), lines, true, " b=3 a=1"));
+    assert!(rt; has_lines(rt.alloc(), lines, false, " b=3"));
+    assert!(rt; matches!(loaded_lines(rt.alloc(), b"\xff", true), Err(Error::NotText)));
+    assert!(rt; matches!(loaded_lines(rt.alloc(), b"b", true), Err(Error::Cookie(_))));
 }
