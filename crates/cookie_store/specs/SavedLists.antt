@@ -19,7 +19,8 @@ pub record Lister (F : Type 0) : Type 1 where
   pub shows : Item → Row
   pub calls : Mut F (Bor (List Item) × Unit {0}) (Result (String Global) Error)
 
-abbrev pub lister : {F C : Type 0} → (C → Row) → Mut F (Bor (List C) × Unit {0}) (Result (String Global) Error) → Lister F
+abbrev pub lister : {F C : Type 0} → (C → Row) → Mut F (Bor (List C) × Unit {0}) (Result (String Global) Error)
+    → Lister F
 lister {F} {C} shows calls = record { Item = C; shows = shows; calls = calls }
 
 -- the closure answers this at cookies that show the rows

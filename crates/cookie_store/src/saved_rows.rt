@@ -1,5 +1,5 @@
 //! The rows that are saved of a store, and the cookies that are loaded of rows.
-ghost use Rattle.std.specs.Prelude.{◌≡◌, List, IfOk, IfErr, map, option_map, string_bytes};
+ghost use Rattle.std.specs.Prelude.{◌≡◌, List, IfOk, IfErr, map, option_map};
 ghost use Rattle.std.specs.List.{AllByRecursion};
 ghost use Rattle.cookie_text.specs.ReadingBack.{Pairwise};
 ghost use Rattle.jiff.specs.Words.{civil_nanos};
@@ -82,7 +82,7 @@ pub(crate) fn loaded_list(
     alloc: Global,
     rows: Vec<SavedRow>,
 ) -> Result<Vec<Cookie<'static>>, AllocError>
-    requires { AllByRecursion (λ r. IsCookieText (string_bytes r.raw_cookie)) rows.items }
+    requires { AllByRecursion (λ r. IsCookieText (shown r).raw) rows.items }
     ensures { IfOk result (λ cookies. (all : List Shown) → AreShown all rows.items
         → Pairwise IsLoadedFrom all (map stored_of cookies.items)) }
 {
@@ -100,7 +100,7 @@ pub(crate) fn store_of_rows(
     with_expired: bool,
     now: DateTime,
 ) -> Result<CookieStore, AllocError>
-    requires { AllByRecursion (λ r. IsCookieText (string_bytes r.raw_cookie)) rows.items }
+    requires { AllByRecursion (λ r. IsCookieText (shown r).raw) rows.items }
     ensures { IfOk result (λ store. (all : List Shown) → AreShown all rows.items
         → HasLoaded with_expired (civil_nanos now) all store) }
 {

@@ -38,10 +38,12 @@ pub fn save<W: Sink, C: StoreCookie + Drop, F: FnMut(&[C]) -> Result<String>>(
     now: DateTime,
 ) -> Result<()>
     requires { F.IsAlwaysCallable closure }
-    ensures ok { OnOk result ((list : _) × lists.IsListOf (lists.lister C.shows F.FnMut) closure (saved (civil_nanos now) store.now.rows) list
+    ensures ok { OnOk result ((list : _)
+        × lists.IsListOf (lists.lister C.shows F.FnMut) closure (saved (civil_nanos now) store.now.rows) list
         × Appends (W.written writer.old) (W.written writer.new) list) }
     ensures err { IfErr result (λ e. form.IsWriteFault (W.failures writer.old) (W.failures writer.new) e
-        ⊎ ((writer.new ≡ writer.old) × (lists.Lists (lists.lister C.shows F.FnMut) closure (saved (civil_nanos now) store.now.rows) (Err e)
+        ⊎ ((writer.new ≡ writer.old)
+        × (lists.Lists (lists.lister C.shows F.FnMut) closure (saved (civil_nanos now) store.now.rows) (Err e)
         ⊎ (e ≡ OutOfMemory)))) }
     ensures flushes { W.flushes writer.new ≡ W.flushes writer.old }
 {
@@ -62,7 +64,8 @@ pub fn save_incl_expired_and_nonpersistent<
     ensures ok { OnOk result ((list : _) × lists.IsListOf (lists.lister C.shows F.FnMut) closure store.now.rows list
         × Appends (W.written writer.old) (W.written writer.new) list) }
     ensures err { IfErr result (λ e. form.IsWriteFault (W.failures writer.old) (W.failures writer.new) e
-        ⊎ ((writer.new ≡ writer.old) × (lists.Lists (lists.lister C.shows F.FnMut) closure store.now.rows (Err e) ⊎ (e ≡ OutOfMemory)))) }
+        ⊎ ((writer.new ≡ writer.old)
+        × (lists.Lists (lists.lister C.shows F.FnMut) closure store.now.rows (Err e) ⊎ (e ≡ OutOfMemory)))) }
     ensures flushes { W.flushes writer.new ≡ W.flushes writer.old }
 {
     write_list(store, writer, closure, None)
@@ -77,11 +80,13 @@ fn write_list<W: Sink, C: StoreCookie + Drop, F: FnMut(&[C]) -> Result<String>>(
 ) -> Result<()>
     requires { F.IsAlwaysCallable closure }
     ensures ok { OnOk result ((list : _)
-        × lists.IsListOf (lists.lister C.shows F.FnMut) closure (wanted (option_map civil_nanos now) store.now.rows) list
+        × lists.IsListOf (lists.lister C.shows F.FnMut) closure
+        (wanted (option_map civil_nanos now) store.now.rows) list
         × Appends (W.written writer.old) (W.written writer.new) list) }
     ensures err { IfErr result (λ e. form.IsWriteFault (W.failures writer.old) (W.failures writer.new) e
         ⊎ ((writer.new ≡ writer.old)
-        × (lists.Lists (lists.lister C.shows F.FnMut) closure (wanted (option_map civil_nanos now) store.now.rows) (Err e)
+        × (lists.Lists (lists.lister C.shows F.FnMut) closure
+        (wanted (option_map civil_nanos now) store.now.rows) (Err e)
         ⊎ (e ≡ OutOfMemory)))) }
     ensures flushes { W.flushes writer.new ≡ W.flushes writer.old }
 {
@@ -107,7 +112,8 @@ pub fn load<R: Source, C: StoreCookie + Drop, F: FnMut(&str) -> Result<Vec<C>>>(
     requires { F.IsAlwaysCallable closure }
     ensures ok { IfOk result (λ store. form.OfText (R.left reader.old)
         (λ all. lists.LoadsBy (lists.reader C.shows F.FnMut) closure false (civil_nanos now) all store)) }
-    ensures err { IfErr result (λ e. form.IsReadFault (R.failures reader.old) (R.failures reader.new) (R.reads reader.new) e
+    ensures err { IfErr result (λ e.
+        form.IsReadFault (R.failures reader.old) (R.failures reader.new) (R.reads reader.new) e
         ⊎ (e ≡ OutOfMemory)
         ⊎ form.OfText (R.left reader.old) (λ all. lists.IsRefusedBy (lists.reader C.shows F.FnMut) closure all e)) }
 {
@@ -127,7 +133,8 @@ pub fn load_all<R: Source, C: StoreCookie + Drop, F: FnMut(&str) -> Result<Vec<C
     requires { F.IsAlwaysCallable closure }
     ensures ok { IfOk result (λ store. form.OfText (R.left reader.old)
         (λ all. lists.LoadsBy (lists.reader C.shows F.FnMut) closure true (pos 0) all store)) }
-    ensures err { IfErr result (λ e. form.IsReadFault (R.failures reader.old) (R.failures reader.new) (R.reads reader.new) e
+    ensures err { IfErr result (λ e.
+        form.IsReadFault (R.failures reader.old) (R.failures reader.new) (R.reads reader.new) e
         ⊎ (e ≡ OutOfMemory)
         ⊎ form.OfText (R.left reader.old) (λ all. lists.IsRefusedBy (lists.reader C.shows F.FnMut) closure all e)) }
 {
@@ -145,7 +152,8 @@ fn read_list<R: Source, C: StoreCookie + Drop, F: FnMut(&str) -> Result<Vec<C>>>
     requires { F.IsAlwaysCallable closure }
     ensures ok { IfOk result (λ store. form.OfText (R.left reader.old)
         (λ all. lists.LoadsBy (lists.reader C.shows F.FnMut) closure with_expired (civil_nanos now) all store)) }
-    ensures err { IfErr result (λ e. form.IsReadFault (R.failures reader.old) (R.failures reader.new) (R.reads reader.new) e
+    ensures err { IfErr result (λ e.
+        form.IsReadFault (R.failures reader.old) (R.failures reader.new) (R.reads reader.new) e
         ⊎ (e ≡ OutOfMemory)
         ⊎ form.OfText (R.left reader.old) (λ all. lists.IsRefusedBy (lists.reader C.shows F.FnMut) closure all e)) }
 {

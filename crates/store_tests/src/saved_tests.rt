@@ -275,7 +275,8 @@ fn the_later_of_one_key_takes_the_place_of_the_earlier(rt: HostRuntime) -> Resul
 // ---- refusals
 
 const LINE: &str =
-    "{\"raw_cookie\":\"cookie1=value1\",\"path\":[\"/foo\",false],\"domain\":{\"HostOnly\":\"example.com\"},\"expires\":\"SessionEnd\"}\n";
+    "{\"raw_cookie\":\"cookie1=value1\",\"path\":[\"/foo\",false],\
+\"domain\":{\"HostOnly\":\"example.com\"},\"expires\":\"SessionEnd\"}\n";
 
 // Each line: the form, a text, how it is refused.
 const REFUSED: &str = "\
@@ -290,7 +291,8 @@ json#[#Json
 json#{}#Shape
 json#[{}]#Shape
 json#[{\"raw_cookie\":\"b\",\"path\":[\"/\",true],\"domain\":\"Empty\",\"expires\":\"SessionEnd\"}]#Shape
-json#[{\"raw_cookie\":\"b=1\",\"path\":[\"/\",true],\"domain\":\"Empty\",\"expires\":{\"AtUtc\":\"2024-01-01\"}}]#Shape";
+json#[{\"raw_cookie\":\"b=1\",\"path\":[\"/\",true],\"domain\":\"Empty\",\
+\"expires\":{\"AtUtc\":\"2024-01-01\"}}]#Shape";
 
 fn is_refused_so(alloc: Global, line: &str) -> bool {
     let mut fields = line.split('#');

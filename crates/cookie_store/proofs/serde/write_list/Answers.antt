@@ -14,7 +14,8 @@ pub returns-clause-ok : goal.returns-clause-ok
 returns-clause-ok g c =
     let now = option_map civil_nanos c.args.now in
     let text = string_bytes c.in_ok-list.list ++ 10 ∷ [] in
-    let is : IsListOf (lister g.C.StoreCookie.shows g.F.FnMut) c.args.closure (wanted now c.args.store.now.rows) text = (
+    let closures = lister g.C.StoreCookie.shows g.F.FnMut in
+    let is : IsListOf closures c.args.closure (wanted now c.args.store.now.rows) text = (
       c.in_ok-list.list,
       (
         c.in_ok-cookies.cookies.items,
