@@ -5,6 +5,7 @@ pub mod Confinement
 pub mod EndLemmas
 pub mod EntryLemmas
 pub mod GroupLemmas
+pub mod LineLemmas
 pub mod LoadLemmas
 pub mod PlaceLaws
 pub mod PlaceLemmas

@@ -25,7 +25,7 @@ pub kept_first : (with_expired : Bool) (now : ℤ) (row : Row) (more rows : List
 kept_first true now row more rows = refl
 kept_first false now row more rows = live_first now row more rows
 
-none_kept : (with_expired : Bool) (now : ℤ) (rows : List Row) → kept with_expired now [] rows ≡ rows
+pub none_kept : (with_expired : Bool) (now : ℤ) (rows : List Row) → kept with_expired now [] rows ≡ rows
 none_kept true now rows = refl
 none_kept false now rows = refl
 

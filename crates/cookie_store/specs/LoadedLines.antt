@@ -67,9 +67,9 @@ StopsAtLine {F} closures closure (line ∷ more) error =
     × StopsAtLine closures mid more error)
 
 -- a text begins with these lines, whatever comes behind it, and behind them has no line feed
-pub record Cuts (text : List ℕ) (whole : List (List ℕ)) (open : List ℕ) : Type 0 where
-  pub first : (rest : List ℕ) → lines (text ++ rest) ≡ whole ++ lines (open ++ rest)
-  pub unended : All (λ b. b ≢ 10) open
+pub record Cuts (text : List ℕ) (whole : List (List ℕ)) (begun : List ℕ) : Type 0 where
+  pub first : (rest : List ℕ) → lines (text ++ rest) ≡ whole ++ lines (begun ++ rest)
+  pub unended : All (λ b. b ≢ 10) begun
 
 -- a read failed, or 2^64 - 1 reads met no end, and each line that ends in what was read had given a cookie
 pub record StopsReading {F : Type 0} (closures : Reader F) (closure : F) (old new : Input) : Type 0 where
@@ -77,8 +77,8 @@ pub record StopsReading {F : Type 0} (closures : Reader F) (closure : F) (old ne
   pub text : List ℕ
   pub read : Consumes old.left new.left text
   pub whole : List (List ℕ)
-  pub open : List ℕ
-  pub cut : Cuts text whole open
+  pub begun : List ℕ
+  pub cut : Cuts text whole begun
   pub rows : List Row
   pub last : F
   pub taken : TakesLines closures closure whole rows last

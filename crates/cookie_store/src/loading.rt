@@ -1,14 +1,21 @@
 //! Loading a store.
-ghost use Rattle.std.specs.Prelude.{◌≡◌, ◌∷◌, [], map, IfOk, OnOk};
+ghost use Rattle.std.specs.Prelude.{◌≡◌, ◌≢◌, ◌⊎◌, ◌<◌, ◌++◌, ◌∷◌, [], ℕ, List, All, length, map, option_map, IfOk, OnOk, IfErr};
+ghost use Rattle.std.specs.Str.Lines.{lines, strip_carriage_return};
 ghost use Rattle.jiff.specs.Words.{civil_nanos};
+ghost use Rattle.store_parts.specs.declared.error.Error.TheVariants.{OutOfMemory};
+ghost use Rattle.cookie_store.specs.LoadedLines.{IsFault, StopsAtLine, reader};
 ghost use Rattle.cookie_store.specs.Placing.{chosen, put_all, loaded_store};
+ghost use Rattle.cookie_store.specs.Steps.{Fills, TakesOne, TakesWhole};
 ghost use Rattle.cookie_store.specs.StoredCookie.{stored_of};
 
+use crate::action::StoreResult;
 use crate::rows::Rows;
 use crate::store::CookieStore;
+use crate::store_cookie::StoreCookie;
 use crate::stored_cookie::Cookie;
 use jiff::civil::DateTime;
 use std::alloc::{AllocError, Global};
+use store_parts::Error;
 
 /// Puts a loaded cookie among the rows: any, or one that is not expired at `now`.
 pub(crate) fn put_loaded(
@@ -45,4 +52,93 @@ impl CookieStore {
         }
         Ok(CookieStore::of_rows(alloc, rows))
     }
+}
+
+// The line without the carriage return at its end, where it has one.
+fn without_return(line: &[u8]) -> &[u8]
+    ensures { result.now ≡ strip_carriage_return line.now }
+{
+    match line {
+        [front @ .., b'\r'] => front,
+        _ => line,
+    }
+}
+
+// Makes a cookie of the line, and puts it among the rows.
+fn take_line<C: StoreCookie, F: FnMut(&str) -> Result<C, Error>>(
+    alloc: Global,
+    line: &[u8],
+    closure: &mut F,
+    rows: &mut Rows,
+    with_expired: bool,
+    now: DateTime,
+) -> StoreResult<()>
+    requires { F.IsAlwaysCallable closure.old }
+    ensures callable { F.IsAlwaysCallable closure.new }
+    ensures ok { OnOk result (TakesOne (reader C.shows F.FnMut) with_expired (civil_nanos now)
+        closure.old rows.old line.now closure.new rows.new) }
+    ensures err { IfErr result (λ error. IsFault (reader C.shows F.FnMut) closure.old line.now error
+        ⊎ (error ≡ OutOfMemory)) }
+{
+    let Ok(line) = str::from_utf8(line) else {
+        return Err(Error::NotText);
+    };
+    let cookie = closure(line)?;
+    put_loaded(alloc, rows, cookie.into_store(), with_expired, now)?;
+    Ok(())
+}
+
+// Takes bytes up to the first line feed behind what is begun. Answers those behind it, or none where
+// there is no line feed.
+fn fill<'b>(begun: &mut Vec<u8>, bytes: &'b [u8]) -> Result<Option<&'b [u8]>, AllocError>
+    ensures { IfOk result (λ after. Fills begun.old.items bytes.now begun.new.items (option_map (λ b. b.now) after)) }
+{
+    match bytes.iter().position(|b| *b == b'\n') {
+        Some(i) => {
+            begun.extend_from_slice(&bytes[..i])?;
+            Ok(Some(&bytes[i + 1..]))
+        }
+        None => {
+            begun.extend_from_slice(bytes)?;
+            Ok(None)
+        }
+    }
+}
+
+// Takes the lines that end in the bytes, and leaves begun what is behind the last of them.
+fn take_lines<C: StoreCookie, F: FnMut(&str) -> Result<C, Error>>(
+    alloc: Global,
+    bytes: &[u8],
+    begun: &mut Vec<u8>,
+    closure: &mut F,
+    rows: &mut Rows,
+    with_expired: bool,
+    now: DateTime,
+) -> StoreResult<()>
+    requires callable { F.IsAlwaysCallable closure.old }
+    requires unended { All (λ b. b ≢ 10) begun.old.items }
+    ensures callable { F.IsAlwaysCallable closure.new }
+    ensures ok { OnOk result (TakesWhole (reader C.shows F.FnMut) with_expired (civil_nanos now)
+        closure.old rows.old (begun.old.items ++ bytes.now) closure.new rows.new begun.new.items) }
+    ensures err { IfErr result (λ error. (rest : List ℕ)
+        → StopsAtLine (reader C.shows F.FnMut) closure.old (lines ((begun.old.items ++ bytes.now) ++ rest)) error) }
+{
+    let mut bytes = bytes;
+    while !bytes.is_empty() {
+        let after = match fill(begun, bytes)? {
+            Some(after) => after,
+            None => return Ok(()),
+        };
+        take_line(
+            alloc,
+            without_return(begun),
+            closure,
+            rows,
+            with_expired,
+            now,
+        )?;
+        begun.clear();
+        bytes = after;
+    }
+    Ok(())
 }
