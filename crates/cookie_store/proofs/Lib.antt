@@ -9,6 +9,7 @@ pub mod LineLemmas
 pub mod LoadLemmas
 pub mod PlaceLaws
 pub mod PlaceLemmas
+pub mod ReadLemmas
 pub mod RowFacts
 pub mod SaveLemmas
 pub mod StoreLemmas

@@ -7,12 +7,12 @@ use Rattle.std.specs.Prelude.{◌==◌, ◌⊎◌, Some, None, if◌then◌else�
 use Rattle.std.specs.List.{slice_split, onto_first}
 use Rattle.std.specs.Str.{IsUtf8}
 use Rattle.std.specs.Str.Lines.{lines, lines_of_parts, strip_carriage_return}
-use Rattle.std.proofs.lemmas.List.Splits.{slice_split_at}
+use Rattle.std.proofs.lemmas.List.Splits.{slice_split_at, slice_split_none}
 use Rattle.store_parts.specs.declared.error.Error.{Error}
 use Rattle.store_parts.specs.declared.error.Error.TheVariants.{OutOfMemory}
 use Rattle.cookie_store.specs.LoadedLines.{Cuts, IsFault, MakesRow, Reader, StopsAtLine, TakesLines}
 use Rattle.cookie_store.specs.Rows.{Row}
-use Rattle.cookie_store.specs.Steps.{Fills, TakesOne, TakesWhole}
+use Rattle.cookie_store.specs.Steps.{Fills, TakesOne, TakesRest, TakesWhole}
 use Rattle.cookie_store.proofs.LoadLemmas.{kept, kept_first, none_kept}
 
 abbrev is_line_feed : ℕ → Bool
@@ -88,6 +88,15 @@ some_lines [] [] rest h = absurd (omega (arith, h))
 some_lines [] (x ∷ xs) rest h = lines_some x (xs ++ rest)
 some_lines (x ∷ xs) bytes rest h = lines_some x ((xs ++ bytes) ++ rest)
 
+-- a line that lacks its end
+pub line_last : (begun : List ℕ) → All (λ b. b ≢ 10) begun → 0 < length begun → lines begun ≡ begun ∷ []
+line_last begun unended some =
+    ap lines_of_parts (slice_split_none is_line_feed begun (λ k d h. not_feed _ (unended k d h)))
+    ∙ ap (λ t. if t then [] else begun ∷ []) (some_bytes (length begun) some)
+
+pub none_unended : (begun : List ℕ) → begun ≡ [] → All (λ b. b ≢ 10) begun
+none_unended begun e = subst (All (λ b. b ≢ 10)) (sym e) (λ k d h. absurd (omega (arith, h)))
+
 pub nothing_more : (begun bytes : List ℕ) → length bytes ≡ 0 → begun ++ bytes ≡ begun
 nothing_more begun [] e = append-nil begun
 nothing_more begun (x ∷ xs) e = absurd (omega (arith, e))
@@ -146,3 +155,18 @@ module _ {F : Type 0} (closures : Reader F) where
           (mid, utf8, makes, taken),
           placed ∙ ap (kept with_expired now made) put ∙ sym (kept_first with_expired now row made old),
         )
+
+    pub takes_rest : (closure after : F) (old new : List Row) (begun : List ℕ) → lines begun ≡ begun ∷ []
+        → TakesOne closures with_expired now closure old begun after new
+        → TakesRest closures with_expired now closure old begun after new
+    takes_rest closure after old new begun e (row, utf8, makes, put) =
+        (
+          row ∷ [],
+          subst (λ ls. TakesLines closures closure ls (row ∷ []) after) (sym e) (after, utf8, makes, refl),
+          put,
+        )
+
+    pub takes_no_rest : (closure : F) (rows : List Row) (begun : List ℕ) → length begun ≡ 0
+        → TakesRest closures with_expired now closure rows begun closure rows
+    takes_no_rest closure rows [] e = ([], refl, sym (none_kept with_expired now rows))
+    takes_no_rest closure rows (x ∷ xs) e = absurd (omega (arith, e))

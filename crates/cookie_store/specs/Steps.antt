@@ -3,6 +3,7 @@ use Rattle.std.specs.Prelude.{◌≡◌, ◌≢◌, ◌⊎◌, ℕ, ℤ, List, O
 use Rattle.std.specs.Prelude.{if◌then◌else◌, Bool, true, [], ◌∷◌, ◌++◌, All}
 use Rattle.std.specs.List.{list_any}
 use Rattle.std.specs.Str.{IsUtf8}
+use Rattle.std.specs.Str.Lines.{lines}
 use Rattle.cookie_text.specs.Record.{Record, Seen}
 use Rattle.cookie_text.specs.Setting.{with_expires}
 use Rattle.cookie_text.specs.declared.expiration.Expiration.{Expiration}
@@ -101,4 +102,10 @@ Fills begun bytes new (Some after) =
 abbrev pub TakesWhole : {F : Type 0} → Reader F → Bool → ℤ → F → List Row → List ℕ → F → List Row → List ℕ → Type 0
 TakesWhole closures with_expired now closure rows text after new begun =
     (whole : List (List ℕ)) × (made : List Row) × Cuts text whole begun × TakesLines closures closure whole made after
+    × (new ≡ put_all (chosen with_expired now made) rows)
+
+-- what is behind the last line feed gave a cookie where it isn't empty, and this was put where it is kept
+abbrev pub TakesRest : {F : Type 0} → Reader F → Bool → ℤ → F → List Row → List ℕ → F → List Row → Type 0
+TakesRest closures with_expired now closure rows begun after new =
+    (made : List Row) × TakesLines closures closure (lines begun) made after
     × (new ≡ put_all (chosen with_expired now made) rows)

@@ -5,15 +5,15 @@ use Rattle.std.proofs.lemmas.Result.{err_from_is_err_and}
 use Rattle.std.proofs.lemmas.List.Elements.{All-append}
 use Rattle.std.proofs.lemmas.Bool.Decides.{nat_tests}
 use Rattle.jiff.specs.Words.{civil_nanos}
-use Rattle.cookie_store.specs.LoadedLines.{reader}
+use Rattle.cookie_store.specs.LoadedLines.{line_reader}
 use Rattle.cookie_store.specs.Steps.{Fills}
 use Rattle.cookie_store.proofs.LineLemmas.{ends_here, some_lines, stops_wanting, stops_here, stops_behind, takes_none}
-use Rattle.cookie_store.proofs.LineLemmas.{nothing_more, takes_behind, takes_unended}
+use Rattle.cookie_store.proofs.LineLemmas.{none_unended, nothing_more, takes_behind, takes_unended}
 use Rattle.cookie_store.proofs.loading.take_lines.Goals as goal
 
 pub returns-in_err-after-clause-err : goal.returns-in_err-after-clause-err
 returns-in_err-after-clause-err g c =
-    let closures = reader g.C.StoreCookie.shows g.F.FnMut in
+    let closures = line_reader g.C.StoreCookie.shows g.F.FnMut in
     let some : 0 < length c.loop-bytes.bytes.now = grind (arith, nat_tests) in
     let p = err_from_is_err_and c.from_residual.result c.from_residual.ensures.1 in
     rw (p.1, p.2) (λ rest. c.loop-bytes.invariant.stops _ rest (stops_wanting closures c.loop-bytes.closure
@@ -22,7 +22,7 @@ returns-in_err-after-clause-err g c =
 
 pub returns-in-None-clause-ok : goal.returns-in-None-clause-ok
 returns-in-None-clause-ok g c =
-    c.loop-bytes.invariant.takes _ _ _ (takes_unended (reader g.C.StoreCookie.shows g.F.FnMut) c.args.with_expired
+    c.loop-bytes.invariant.takes _ _ _ (takes_unended (line_reader g.C.StoreCookie.shows g.F.FnMut) c.args.with_expired
     (civil_nanos c.args.now) c.loop-bytes.closure c.loop-bytes.rows c.loop-bytes.begun.items c.loop-bytes.bytes.now
     c.fill.new.begun.items c.loop-bytes.invariant.unended
     (subst (λ o. Fills c.loop-bytes.begun.items c.loop-bytes.bytes.now c.fill.new.begun.items (option_map (λ b. b.now) o))
@@ -30,7 +30,7 @@ returns-in-None-clause-ok g c =
 
 pub returns-in_err-take_line-clause-err : goal.returns-in_err-take_line-clause-err
 returns-in_err-take_line-clause-err g c =
-    let closures = reader g.C.StoreCookie.shows g.F.FnMut in
+    let closures = line_reader g.C.StoreCookie.shows g.F.FnMut in
     let begun = c.loop-bytes.begun.items in
     let bytes = c.loop-bytes.bytes.now in
     let after = c.in-Some.after.now in
@@ -45,7 +45,7 @@ returns-in_err-take_line-clause-err g c =
 
 pub loop-bytes-preserved : goal.loop-bytes-preserved
 loop-bytes-preserved g c =
-    let closures = reader g.C.StoreCookie.shows g.F.FnMut in
+    let closures = line_reader g.C.StoreCookie.shows g.F.FnMut in
     let now = civil_nanos c.args.now in
     let begun = c.loop-bytes.begun.items in
     let bytes = c.loop-bytes.bytes.now in
@@ -59,7 +59,7 @@ loop-bytes-preserved g c =
     c.loop-bytes.invariant.unended fills c.deref.ensures.value c.without_return.ensures c.clear.ensures.items in
     record {
       callable = c.in_ok-take_line.ensures.callable;
-      unended = subst (All (λ b. b ≢ 10)) (sym c.clear.ensures.items) (λ k d h. absurd (omega (arith, h)));
+      unended = none_unended c.clear.new.self.items c.clear.ensures.items;
       takes = λ last end open_line whole. c.loop-bytes.invariant.takes last end open_line
           (takes_behind closures c.args.with_expired now c.loop-bytes.closure c.take_line.new.closure last
           c.loop-bytes.rows c.take_line.new.rows end line (begun ++ bytes) more open_line ends
@@ -74,6 +74,6 @@ pub returns-clause-ok : goal.returns-clause-ok
 returns-clause-ok g c =
     let begun = c.loop-bytes.begun.items in
     let none : length c.loop-bytes.bytes.now ≡ 0 = grind (arith, nat_tests) in
-    c.loop-bytes.invariant.takes _ _ _ (takes_none (reader g.C.StoreCookie.shows g.F.FnMut) c.args.with_expired
+    c.loop-bytes.invariant.takes _ _ _ (takes_none (line_reader g.C.StoreCookie.shows g.F.FnMut) c.args.with_expired
     (civil_nanos c.args.now) c.loop-bytes.closure c.loop-bytes.rows (begun ++ c.loop-bytes.bytes.now) begun
     (nothing_more begun c.loop-bytes.bytes.now none) c.loop-bytes.invariant.unended)

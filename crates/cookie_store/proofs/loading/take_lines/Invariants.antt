@@ -2,7 +2,7 @@ use Rattle.std.proofs.Common.{◌≢◌, ◌++◌, ℕ, List, All, length}
 use Rattle.std.specs.Str.Lines.{lines}
 use Rattle.jiff.specs.Words.{civil_nanos}
 use Rattle.store_parts.specs.declared.error.Error.{Error}
-use Rattle.cookie_store.specs.LoadedLines.{StopsAtLine, reader}
+use Rattle.cookie_store.specs.LoadedLines.{StopsAtLine, line_reader}
 use Rattle.cookie_store.specs.Rows.{Row}
 use Rattle.cookie_store.specs.Steps.{TakesWhole}
 use Rattle.cookie_store.proofs.loading.take_lines.Given as goal
@@ -10,7 +10,7 @@ use Rattle.cookie_store.proofs.loading.take_lines.Given as goal
 -- what becomes of the rest becomes of all
 abbrev pub invariant-loop-bytes : goal.invariant-loop-bytes
 invariant-loop-bytes g l =
-    let closures = reader g.C.StoreCookie.shows g.F.FnMut in
+    let closures = line_reader g.C.StoreCookie.shows g.F.FnMut in
     let now = civil_nanos l.fn.now in
     let all = l.fn.begun.items ++ l.fn.bytes in
     let rest = l.begun.items ++ l.bytes in
