@@ -5,12 +5,11 @@ use Rattle.std.proofs.lemmas.Bool.Decides.{nat_tests}
 use Rattle.std.proofs.lemmas.List.Elements.{All-append}
 use Rattle.std.specs.Prelude.{◌==◌, ◌⊎◌, Some, None, if◌then◌else◌}
 use Rattle.std.specs.List.{slice_split, onto_first}
-use Rattle.std.specs.Str.{IsUtf8}
 use Rattle.std.specs.Str.Lines.{lines, lines_of_parts, strip_carriage_return}
 use Rattle.std.proofs.lemmas.List.Splits.{slice_split_at, slice_split_none}
 use Rattle.store_parts.specs.declared.error.Error.{Error}
 use Rattle.store_parts.specs.declared.error.Error.TheVariants.{OutOfMemory}
-use Rattle.cookie_store.specs.LoadedLines.{Cuts, IsFault, MakesRow, Reader, StopsAtLine, TakesLines}
+use Rattle.cookie_store.specs.LoadedLines.{Cuts, IsFault, Reader, StopsAtLine, TakesLines}
 use Rattle.cookie_store.specs.Rows.{Row}
 use Rattle.cookie_store.specs.Steps.{Fills, TakesOne, TakesRest, TakesWhole}
 use Rattle.cookie_store.proofs.LoadLemmas.{kept, kept_first, none_kept}
@@ -144,8 +143,7 @@ module _ {F : Type 0} (closures : Reader F) where
         → TakesWhole closures with_expired now mid new more last end begun
         → TakesWhole closures with_expired now closure old text last end begun
     takes_behind closure mid last old new end line text more begun e (row, utf8, makes, put)
-        (whole, made, cut, taken, placed) =
-        (
+        (whole, made, cut, taken, placed) = (
           line ∷ whole,
           row ∷ made,
           record {
@@ -159,12 +157,11 @@ module _ {F : Type 0} (closures : Reader F) where
     pub takes_rest : (closure after : F) (old new : List Row) (begun : List ℕ) → lines begun ≡ begun ∷ []
         → TakesOne closures with_expired now closure old begun after new
         → TakesRest closures with_expired now closure old begun after new
-    takes_rest closure after old new begun e (row, utf8, makes, put) =
-        (
-          row ∷ [],
-          subst (λ ls. TakesLines closures closure ls (row ∷ []) after) (sym e) (after, utf8, makes, refl),
-          put,
-        )
+    takes_rest closure after old new begun e (row, utf8, makes, put) = (
+      row ∷ [],
+      subst (λ ls. TakesLines closures closure ls (row ∷ []) after) (sym e) (after, utf8, makes, refl),
+      put,
+    )
 
     pub takes_no_rest : (closure : F) (rows : List Row) (begun : List ℕ) → length begun ≡ 0
         → TakesRest closures with_expired now closure rows begun closure rows

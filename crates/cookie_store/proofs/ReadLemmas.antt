@@ -1,11 +1,11 @@
 -- Lines of what is read, chunk by chunk.
-use Rattle.std.proofs.Common.{◌≡◌, ◌≢◌, ℕ, ℤ, Bool, List, [], ◌∷◌, ◌++◌, All, take, refl, sym, ap, subst, ◌∙◌, arith}
+use Rattle.std.proofs.Common.{◌≡◌, ℕ, ℤ, Bool, List, [], ◌∷◌, ◌++◌, take, refl, sym, ap, subst, ◌∙◌, arith}
 use Rattle.std.proofs.lemmas.Grind.{common_steps}
 use Rattle.std.proofs.Common.{append_assoc, append-nil, inl, inr, ◌-◌, ◌^◌}
 use Rattle.std.specs.Prelude.{◌⊎◌, Option, Some, None, IfSome}
-use Rattle.std.specs.Io.KnownBytes.{Consumes, IsAtEnd, Keeps}
+use Rattle.std.specs.Io.KnownBytes.{Consumes, IsAtEnd}
 use Rattle.std.specs.Str.Lines.{lines}
-use Rattle.std.proofs.KnownBytes.{Consumes-kept, Consumes-trans}
+use Rattle.std.proofs.KnownBytes.{Consumes-trans}
 use Rattle.devices.specs.Device.{Rose, one_more}
 use Rattle.store_parts.specs.declared.error.Error.{Error}
 use Rattle.cookie_store.specs.LoadedLines.{Cuts, Input, LoadsLines, Reader, StopsAtLine, StopsLoading, StopsReading}
@@ -59,14 +59,13 @@ module _ {F : Type 0} (closures : Reader F) where
     -- nothing was read yet
     pub takes_start : (closure : F) (rows : List Row) (begun : List ℕ) → rows ≡ [] → begun ≡ []
         → TakesWhole closures with_expired now closure [] [] closure rows begun
-    takes_start closure rows begun none empty =
-        (
-          [],
-          [],
-          nothing_whole [] begun (sym empty) (none_unended begun empty),
-          refl,
-          none ∙ sym (none_kept with_expired now []),
-        )
+    takes_start closure rows begun none empty = (
+      [],
+      [],
+      nothing_whole [] begun (sym empty) (none_unended begun empty),
+      refl,
+      none ∙ sym (none_kept with_expired now []),
+    )
 
     -- more was read
     pub takes_more : (first mid last : F) (old new end : List Row) (text begun bytes later : List ℕ)
@@ -74,8 +73,7 @@ module _ {F : Type 0} (closures : Reader F) where
         → TakesWhole closures with_expired now mid new (begun ++ bytes) last end later
         → TakesWhole closures with_expired now first old (text ++ bytes) last end later
     takes_more first mid last old new end text begun bytes later (whole, made, cut, taken, placed)
-        (whole-2, made-2, cut-2, taken-2, placed-2) =
-        (
+        (whole-2, made-2, cut-2, taken-2, placed-2) = (
           whole ++ whole-2,
           made ++ made-2,
           record {

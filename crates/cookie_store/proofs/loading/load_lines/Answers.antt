@@ -1,4 +1,4 @@
-use Rattle.std.proofs.Common.{◌≡◌, [], rules, of_calls, refl, sym, ◌∙◌, arith, take, inl, inr, ◌++◌, subst}
+use Rattle.std.proofs.Common.{◌≡◌, [], refl, ◌∙◌, arith, take, inl, inr, ◌++◌, subst}
 use Rattle.std.proofs.KnownBytes.{Consumes-nil, Consumes-kept, Consumes-trans}
 use Rattle.std.proofs.lemmas.Bool.Decides.{nat_tests}
 use Rattle.std.proofs.lemmas.Result.{err_from_is_err_and}
@@ -27,9 +27,9 @@ pub returns-in_err-take_last-in-Ok-eq0-clause-err : goal.returns-in_err-take_las
 returns-in_err-take_last-in-Ok-eq0-clause-err g c =
     let (text, read, taken) = c.reads.invariant.taken in
     let before = input (g.R.Source.left c.args.reader.now) (g.R.Failing.failures c.args.reader.now)
-        (g.R.Source.reads c.args.reader.now) in
+    (g.R.Source.reads c.args.reader.now) in
     let after = input (g.R.Source.left c.read.new.self) (g.R.Failing.failures c.read.new.self)
-        (g.R.Source.reads c.read.new.self) in
+    (g.R.Source.reads c.read.new.self) in
     let none : c.in-Ok-eq0.field-0 ≡ 0 = grind (arith, nat_tests) in
     let p = err_from_is_err_and c.from_residual.result c.from_residual.ensures.1 in
     rw (p.1, p.2) (stops_last (line_reader g.C.StoreCookie.shows g.F.FnMut) c.args.with_expired (civil_nanos c.args.now)
@@ -44,9 +44,9 @@ returns-in-Ok-eq0-clause-ok g c =
     let (text, read, taken) = c.reads.invariant.taken in
     let closures = line_reader g.C.StoreCookie.shows g.F.FnMut in
     let before = input (g.R.Source.left c.args.reader.now) (g.R.Failing.failures c.args.reader.now)
-        (g.R.Source.reads c.args.reader.now) in
+    (g.R.Source.reads c.args.reader.now) in
     let after = input (g.R.Source.left c.read.new.self) (g.R.Failing.failures c.read.new.self)
-        (g.R.Source.reads c.read.new.self) in
+    (g.R.Source.reads c.read.new.self) in
     let none : c.in-Ok-eq0.field-0 ≡ 0 = grind (arith, nat_tests) in
     loads_all closures c.args.with_expired (civil_nanos c.args.now) c.args.closure c.reads.closure c.take_last.new.closure
     c.reads.rows c.take_last.new.rows text c.reads.begun.items before after c.of_rows.result taken
@@ -62,11 +62,11 @@ pub returns-in_err-take_lines-in-Ok-clause-err : goal.returns-in_err-take_lines-
 returns-in_err-take_lines-in-Ok-clause-err g c =
     let (text, read, taken) = c.reads.invariant.taken in
     let before = input (g.R.Source.left c.args.reader.now) (g.R.Failing.failures c.args.reader.now)
-        (g.R.Source.reads c.args.reader.now) in
+    (g.R.Source.reads c.args.reader.now) in
     let after = input (g.R.Source.left c.read.new.self) (g.R.Failing.failures c.read.new.self)
-        (g.R.Source.reads c.read.new.self) in
+    (g.R.Source.reads c.read.new.self) in
     let p = err_from_is_err_and c.from_residual-in_err-take_lines-in-Ok.result
-        c.from_residual-in_err-take_lines-in-Ok.ensures.1 in
+    c.from_residual-in_err-take_lines-in-Ok.ensures.1 in
     rw (p.1, p.2) (stops_more (line_reader g.C.StoreCookie.shows g.F.FnMut) c.args.with_expired (civil_nanos c.args.now)
     c.args.closure c.reads.closure [] c.reads.rows text c.reads.begun.items (take c.in-Ok.n c.read.new.buf) _ before after
     (g.R.Source.left c.reads.reader) taken read c.in-Ok.ensures.bytes.0 c.in_err-take_lines-in-Ok.ensures.err)
@@ -75,14 +75,17 @@ pub returns-in-Err-clause-err : goal.returns-in-Err-clause-err
 returns-in-Err-clause-err g c =
     let (text, read, taken) = c.reads.invariant.taken in
     let before = input (g.R.Source.left c.args.reader.now) (g.R.Failing.failures c.args.reader.now)
-        (g.R.Source.reads c.args.reader.now) in
+    (g.R.Source.reads c.args.reader.now) in
     let after = input (g.R.Source.left c.read.new.self) (g.R.Failing.failures c.read.new.self)
-        (g.R.Source.reads c.read.new.self) in
-    inr (refl, stops_reading (line_reader g.C.StoreCookie.shows g.F.FnMut) c.args.with_expired (civil_nanos c.args.now)
-    c.args.closure c.reads.closure c.reads.rows text c.reads.begun.items before after taken
-    (Consumes-kept (g.R.Source.left c.args.reader.now) (g.R.Source.left c.reads.reader) (g.R.Source.left c.read.new.self)
-    text read c.in-Err.ensures.bytes)
-    (inl (rose_by_one _ _ _ c.reads.invariant.failures c.in-Err.ensures.failures)))
+    (g.R.Source.reads c.read.new.self) in
+    inr (
+      refl,
+      stops_reading (line_reader g.C.StoreCookie.shows g.F.FnMut) c.args.with_expired (civil_nanos c.args.now)
+          c.args.closure c.reads.closure c.reads.rows text c.reads.begun.items before after taken
+          (Consumes-kept (g.R.Source.left c.args.reader.now) (g.R.Source.left c.reads.reader) (g.R.Source.left c.read.new.self)
+          text read c.in-Err.ensures.bytes)
+          (inl (rose_by_one _ _ _ c.reads.invariant.failures c.in-Err.ensures.failures)),
+    )
 
 pub reads-preserved : goal.reads-preserved
 reads-preserved g c =
@@ -107,8 +110,11 @@ pub returns-clause-err : goal.returns-clause-err
 returns-clause-err g c =
     let (text, read, taken) = c.reads.invariant.taken in
     let before = input (g.R.Source.left c.args.reader.now) (g.R.Failing.failures c.args.reader.now)
-        (g.R.Source.reads c.args.reader.now) in
+    (g.R.Source.reads c.args.reader.now) in
     let after = input (g.R.Source.left c.reads.reader) (g.R.Failing.failures c.reads.reader)
-        (g.R.Source.reads c.reads.reader) in
-    inr (refl, stops_reading (line_reader g.C.StoreCookie.shows g.F.FnMut) c.args.with_expired (civil_nanos c.args.now)
-    c.args.closure c.reads.closure c.reads.rows text c.reads.begun.items before after taken read (inr (omega arith)))
+    (g.R.Source.reads c.reads.reader) in
+    inr (
+      refl,
+      stops_reading (line_reader g.C.StoreCookie.shows g.F.FnMut) c.args.with_expired (civil_nanos c.args.now)
+          c.args.closure c.reads.closure c.reads.rows text c.reads.begun.items before after taken read (inr (omega arith)),
+    )

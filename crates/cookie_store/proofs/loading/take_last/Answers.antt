@@ -1,10 +1,10 @@
-use Rattle.std.proofs.Common.{◌≡◌, ◌<◌, ◌∷◌, [], arith, length}
+use Rattle.std.proofs.Common.{◌<◌, [], arith, length}
 use Rattle.std.specs.Str.Lines.{lines}
 use Rattle.std.proofs.lemmas.Bool.Decides.{nat_tests}
 use Rattle.std.proofs.lemmas.Result.{err_from_is_err_and}
 use Rattle.jiff.specs.Words.{civil_nanos}
 use Rattle.cookie_store.specs.LoadedLines.{line_reader}
-use Rattle.cookie_store.proofs.LineLemmas.{line_last, stops_here, takes_rest, takes_no_rest}
+use Rattle.cookie_store.proofs.LineLemmas.{line_last, stops_here, takes_rest}
 use Rattle.cookie_store.proofs.loading.take_last.Goals as goal
 
 pub returns-clause-ok : goal.returns-clause-ok

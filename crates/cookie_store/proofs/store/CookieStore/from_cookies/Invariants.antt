@@ -1,4 +1,4 @@
-use Rattle.std.proofs.Common.{◌≡◌, List, [], Ok, map}
+use Rattle.std.proofs.Common.{◌≡◌, List, Ok, map}
 use Rattle.jiff.specs.Words.{civil_nanos}
 use Rattle.cookie_store.specs.Placing.{loaded}
 use Rattle.cookie_store.specs.StoredCookie.{stored_of}
