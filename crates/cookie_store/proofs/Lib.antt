@@ -6,9 +6,11 @@ pub mod Confinement
 pub mod EndLemmas
 pub mod EntryLemmas
 pub mod GroupLemmas
+pub mod LineLemmas
 pub mod LoadLemmas
 pub mod PlaceLaws
 pub mod PlaceLemmas
+pub mod ReadLemmas
 pub mod RereadLemmas
 pub mod RowFacts
 pub mod SaveLemmas

@@ -16,6 +16,7 @@ use Rattle.store_parts.specs.declared.error.Error.{Error}
 use Rattle.store_parts.specs.declared.error.Error.TheVariants.{Io, NotText, OutOfMemory}
 use Rattle.cookie_store.specs.Placing.{loaded_store}
 use Rattle.cookie_store.specs.Rows.{Row, Store}
+use Rattle.cookie_store.specs.StoredCookie.{stored_of}
 use Rattle.cookie_store.specs.declared.stored_cookie.Cookie.{Cookie}
 
 -- what is seen of a reader: the bytes that are left, where they are known, how many of its calls failed, and how many
@@ -34,8 +35,8 @@ pub record Reader (F : Type 0) : Type 1 where
   pub shows : Item → Row
   pub calls : Mut F (Bor (List ℕ) × Unit {0}) (Result Item Error)
 
-abbrev pub reader : {F C : Type 0} → (C → Row) → Mut F (Bor (List ℕ) × Unit {0}) (Result C Error) → Reader F
-reader {F} {C} shows calls = record { Item = C; shows = shows; calls = calls }
+abbrev pub line_reader : {F C : Type 0} → (C → Row) → Mut F (Bor (List ℕ) × Unit {0}) (Result C Error) → Reader F
+line_reader {F} {C} shows calls = record { Item = C; shows = shows; calls = calls }
 
 -- the closure made a cookie of the line that shows the row
 abbrev pub MakesRow : {F : Type 0} → Reader F → F → List ℕ → Row → F → Type 0
@@ -103,9 +104,11 @@ StopsLoading closures closure old new error =
 
 -- ---- cookies of an iterator
 
--- all that it gives are cookies
-abbrev pub GivesCookies : {S : Type 0} → (S → Option (Result Cookie Error) → S → Type 0) → S → List Cookie → Type 0
-GivesCookies steps iter cookies = Drains steps iter (map Ok cookies)
+-- all that it gives are cookies, which the store loaded
+abbrev pub GivesStore : {S : Type 0} → (S → Option (Result Cookie Error) → S → Type 0) → S → Bool → ℤ → Store → Type 0
+GivesStore steps iter with_expired now store =
+    (cookies : List Cookie) × Drains steps iter (map Ok cookies)
+    × (store ≡ loaded_store with_expired now (map stored_of cookies))
 
 -- it gives cookies and then a refusal; or it gave cookies, and memory was refused
 abbrev pub StopsGiving : {S : Type 0} → (S → Option (Result Cookie Error) → S → Type 0) → S → Error → Type 0
