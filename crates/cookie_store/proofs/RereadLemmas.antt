@@ -1,5 +1,5 @@
 -- Rows that were saved and are loaded.
-use Rattle.std.proofs.Common.{◌≡◌, ◌⊎◌, inl, inr, ℕ, ℤ, Bool, List, [], ◌∷◌, Option, Some, None, refl, sym, ap, subst, ◌∙◌}
+use Rattle.std.proofs.Common.{◌≡◌, inl, inr, ℕ, ℤ, List, [], ◌∷◌, Option, Some, None, refl, sym, ap, subst, ◌∙◌}
 use Rattle.std.specs.Prelude.{Ok}
 use Rattle.std.proofs.lemmas.Option.{none-some, same_Some}
 use Rattle.std.specs.List.{AllByRecursion}
@@ -17,7 +17,8 @@ use Rattle.saved_text.specs.Rfc3339.{date_text}
 use Rattle.saved_text.specs.RonLayout.{ron_layout}
 use Rattle.saved_text.specs.Row as saved
 use Rattle.saved_text.specs.Row.{Shown}
-use Rattle.saved_text.specs.RowWords.{AreBytes, IsRowOfBytes, ShowsRon, text_in_domain, text_of_date, WrittenIsOfGrammar}
+use Rattle.saved_text.specs.RowWords.{AreBytes, IsRowOfBytes, ShowsRon, WrittenIsOfGrammar}
+use Rattle.saved_text.specs.RowWords.{text_in_domain, text_of_date}
 use Rattle.saved_text.specs.RonReading.{IsRonFault}
 use Rattle.saved_text.specs.Saved.{IsCookieText}
 use Rattle.saved_text.specs.declared.error.SavedTextError.{SavedTextError}
@@ -163,8 +164,9 @@ module _ (read_printed : PrintedDatesAreRead) (dropped : FractionsAreDropped) (o
 
   pub ron_back : WrittenIsOfGrammar → RonComesBack
   ron_back written rows text with_expired now store bytes (ts, shown, is) (all, only, (loaded, pairs, held)) =
-      let written_so : ShowsRon text ts = subst (λ x. ShowsRon x ts) (sym is) (written ts (rows_bytes rows ts bytes shown)) in
-      let same : ts ≡ all = only.1 ts written_so in
+      let shows : ShowsRon text ts =
+      subst (λ x. ShowsRon x ts) (sym is) (written ts (rows_bytes rows ts bytes shown)) in
+      let same : ts ≡ all = only.1 ts shows in
       (loaded, rows_back rows ts loaded shown (subst (λ us. Pairwise IsLoadedFrom us loaded) (sym same) pairs), held)
 
   pub json_back : ListsReadBack → JsonComesBack

@@ -1,5 +1,7 @@
 -- Rows of JSON from the values that they are, and the bytes of dates.
-use Rattle.std.proofs.Common.{◌≡◌, ℕ, ℤ, pos, ◌+◌, ◌*◌, ◌+ℤ◌, ◌-ℤ◌, ◌*ℤ◌, ◌/◌, ◌%◌, ◌<◌, Bool, true, false, List, [], ◌∷◌, ◌++◌, Some, None, Option}
+use Rattle.std.proofs.Common.{◌≡◌, ℕ, ℤ, pos, ◌+◌, ◌*◌, ◌+ℤ◌, ◌-ℤ◌, ◌*ℤ◌, ◌/◌, ◌%◌, ◌<◌}
+use Rattle.std.proofs.Common.{false, List, [], ◌∷◌, Some, None}
+use Rattle.std.proofs.Common.{Option}
 use Rattle.std.proofs.Common.{refl, sym, ap, ◌∙◌, arith}
 use Rattle.std.specs.Prelude.{codes, if◌then◌else◌, unsigned_abs}
 use Rattle.std.specs.Str.{bytes_eq}
@@ -9,7 +11,7 @@ use Rattle.jiff.proofs.Family.{civil_nanos-parts}
 use Rattle.jiff.proofs.SpanFacts.{signed_arith}
 use Rattle.jiff_core.specs.Time.{time_seconds}
 use Rattle.jiff_core.proofs.CalendarLemmas.{days_in_month_bounds}
-use Rattle.serde_json.specs.Data.{Data, boolean, string, array, object, Items, no_items, item, Members, no_members, member}
+use Rattle.serde_json.specs.Data.{Data, boolean, string, array, object, Items, no_items, item, no_members, member}
 use Rattle.saved_text.specs.Json.{domain_value, expires_value, row_value, rows_items, rows_value}
 use Rattle.saved_text.specs.PrintedDates.{without_fraction}
 use Rattle.saved_text.specs.Rfc3339.{date_text}
@@ -87,8 +89,40 @@ date_bytes d =
     let dash : 45 < 256 = omega arith in
     let colon : 58 < 256 = omega arith in
     let tee : 84 < 256 = omega arith in
-    let zed : 90 < 256 = omega arith in
-    (a, (b, (c, (e, (dash, (f, (g, (dash, (h, (j, (tee, (k, (l, (colon, (m, (n, (colon, (o, (p, (zed, tt))))))))))))))))))))
+    let zed : 90 < 256 = omega arith in (
+      a,
+      (
+        b,
+        (
+          c,
+          (
+            e,
+            (
+              dash,
+              (
+                f,
+                (
+                  g,
+                  (
+                    dash,
+                    (
+                      h,
+                      (
+                        j,
+                        (
+                          tee,
+                          (k, (l, (colon, (m, (n, (colon, (o, (p, (zed, tt))))))))),
+                        ),
+                      ),
+                    ),
+                  ),
+                ),
+              ),
+            ),
+          ),
+        ),
+      ),
+    )
 
 -- the same date and time without the fraction
 pub whole : DateTime → DateTime

@@ -5,12 +5,15 @@ pub mod Giving
 pub mod Insertion
 pub mod Laws
 pub mod Lending
+pub mod LoadedLines
 pub mod Making
 pub mod Placing
 pub mod Rows
 pub mod Same
 pub mod SameEquivalence
 pub mod SavedLaws
+pub mod SavedLines
+pub mod SavedLists
 pub mod SavedRows
 pub mod SavedTexts
 pub mod Steps

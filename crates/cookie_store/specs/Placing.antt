@@ -1,8 +1,6 @@
 -- Which rows are saved, and where loaded rows are placed (own: docs/DEFINITIONS.md).
-use Rattle.std.specs.Prelude.{ℤ, List, [], ◌∷◌, map, filter, Bool, ◌&&◌, is_some, if◌then◌else◌}
+use Rattle.std.specs.Prelude.{ℤ, List, [], ◌∷◌, filter, Bool, ◌&&◌, is_some, if◌then◌else◌}
 use Rattle.cookie_store.specs.Rows.{Row, Store, is_live, live, put}
-use Rattle.cookie_store.specs.StoredCookie.{stored_of}
-use Rattle.cookie_store.specs.declared.stored_cookie.Cookie.{Cookie}
 
 -- the row isn't dead at the moment, and has a death
 abbrev pub is_saved : ℤ → Row → Bool
@@ -25,9 +23,6 @@ chosen with_expired now rows = if with_expired then rows else live now rows
 abbrev pub loaded : Bool → ℤ → List Row → List Row
 loaded with_expired now rows = put_all (chosen with_expired now rows) []
 
--- a store that loaded these cookies, without a list of public suffixes
-abbrev pub loaded_store : Bool → ℤ → List Cookie → Store
-loaded_store with_expired now cookies = record {
-  rows = loaded with_expired now (map stored_of cookies);
-  suffixes = [];
-}
+-- a store that loaded these rows, without a list of public suffixes
+abbrev pub loaded_store : Bool → ℤ → List Row → Store
+loaded_store with_expired now rows = record { rows = loaded with_expired now rows; suffixes = [] }

@@ -1,5 +1,5 @@
 -- What becomes of rows that are saved and then loaded.
-use Rattle.std.specs.Prelude.{◌≡◌, ℕ, ℤ, List, [], Bool}
+use Rattle.std.specs.Prelude.{◌≡◌, ℕ, ℤ, List, Bool}
 use Rattle.std.specs.List.{AllByRecursion}
 use Rattle.std.specs.Str.{IsUtf8}
 use Rattle.cookie_text.specs.Printing.{printed}
@@ -11,7 +11,7 @@ use Rattle.saved_text.specs.RowWords.{AreBytes}
 use Rattle.saved_text.specs.Saved.{IsCookieText}
 use Rattle.store_parts.specs.declared.error.Error.{Error}
 use Rattle.store_parts.specs.declared.error.Error.TheVariants.{OutOfMemory}
-use Rattle.cookie_store.specs.Placing.{loaded}
+use Rattle.cookie_store.specs.Placing.{loaded_store}
 use Rattle.cookie_store.specs.Rows.{Row, Store, domain_text}
 use Rattle.cookie_store.specs.SavedRows.{IsReread}
 use Rattle.cookie_store.specs.SavedTexts.{Saves, Loads, IsJsonOf, IsRonRefusal, IsJsonRefusal}
@@ -29,8 +29,7 @@ PrintsCookie row = IsCookieText (printed row.raw.cookie)
 -- a store of the rows as they are reread, placed by their keys
 abbrev pub HoldsReread : Bool → ℤ → List Row → Store → Type 0
 HoldsReread with_expired now rows store =
-    (reread : List Row) × Pairwise IsReread rows reread
-    × (store ≡ record { rows = loaded with_expired now reread; suffixes = [] })
+    (reread : List Row) × Pairwise IsReread rows reread × (store ≡ loaded_store with_expired now reread)
 
 -- what was saved in RON and is loaded of that is the rows as they are reread
 abbrev pub RonComesBack : Type 0

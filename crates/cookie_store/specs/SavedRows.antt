@@ -1,4 +1,4 @@
--- What is shown of a store's row in a saved text, and what is loaded of a row that a text shows (own: docs/DEFINITIONS.md).
+-- What is shown of a store's row in a saved text, and what is loaded of a row that is shown (own: docs/DEFINITIONS.md).
 use Rattle.std.specs.Prelude.{◌≡◌, ℕ, ℤ, pos, ◌≤ℤ◌, ◌<ℤ◌, List, Option, Some, None, Ok}
 use Rattle.cookie_text.specs.Printing.{printed}
 use Rattle.cookie_text.specs.Reading.{ReadsPlain}

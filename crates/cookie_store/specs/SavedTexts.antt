@@ -13,7 +13,7 @@ use Rattle.saved_text.specs.declared.error.SavedTextError.{SavedTextError}
 use Rattle.saved_text.specs.declared.error.SavedTextError.TheVariants as fault
 use Rattle.store_parts.specs.declared.error.Error.{Error}
 use Rattle.store_parts.specs.declared.error.Error.TheVariants.{Io, NotText, Json, Ron, Shape, Year, OutOfMemory}
-use Rattle.cookie_store.specs.Placing.{loaded}
+use Rattle.cookie_store.specs.Placing.{loaded_store}
 use Rattle.cookie_store.specs.Rows.{Row, Store}
 use Rattle.cookie_store.specs.SavedRows.{IsShownAs, IsLoadedFrom, IsBeforeYears}
 
@@ -44,8 +44,7 @@ IsSaveFault rows e = ((e ≡ Year) × IsAnyBeforeYears rows) ⊎ (e ≡ OutOfMem
 -- a store that loaded the rows that are shown so, and has no list of public suffixes
 abbrev pub HasLoaded : Bool → ℤ → List Shown → Store → Type 0
 HasLoaded with_expired now all store =
-    (rows : List Row) × Pairwise IsLoadedFrom all rows
-    × (store ≡ record { rows = loaded with_expired now rows; suffixes = [] })
+    (rows : List Row) × Pairwise IsLoadedFrom all rows × (store ≡ loaded_store with_expired now rows)
 
 -- a store that loaded the rows that a text shows; `Shows` tells which
 abbrev pub Loads : {A : Type 0} → (A → List Shown → Type 0) → Bool → ℤ → A → Store → Type 0

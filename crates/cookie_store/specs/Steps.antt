@@ -1,7 +1,9 @@
 -- What private functions answer. No public contract names a word of this file.
 use Rattle.std.specs.Prelude.{◌≡◌, ◌≢◌, ◌⊎◌, ℕ, ℤ, List, Option, Some, None, Ok, Err, Result, IsSomeAnd, MatchResult}
-use Rattle.std.specs.Prelude.{if◌then◌else◌, Bool, true}
+use Rattle.std.specs.Prelude.{if◌then◌else◌, Bool, true, [], ◌∷◌, ◌++◌, All}
 use Rattle.std.specs.List.{list_any}
+use Rattle.std.specs.Str.{IsUtf8}
+use Rattle.std.specs.Str.Lines.{lines}
 use Rattle.cookie_text.specs.Record.{Record, Seen}
 use Rattle.cookie_text.specs.Setting.{with_expires}
 use Rattle.cookie_text.specs.declared.expiration.Expiration.{Expiration}
@@ -13,7 +15,8 @@ use Rattle.store_parts.specs.declared.error.CookieError.TheVariants.{Expired, Ou
 use Rattle.url.specs.Parts.{Parts}
 use Rattle.cookie_store.specs.Insertion.{End, Inserts, Receives, refused}
 use Rattle.cookie_store.specs.Making.{asked_domain, HasNoDomain, IsDomainFor}
-use Rattle.cookie_store.specs.Placing.{is_saved, saved}
+use Rattle.cookie_store.specs.LoadedLines.{Cuts, MakesRow, Reader, TakesLines}
+use Rattle.cookie_store.specs.Placing.{chosen, is_saved, put_all, saved}
 use Rattle.cookie_store.specs.Rows.{Row, is_live_of, ended}
 use Rattle.cookie_store.specs.StoredCookie.{owned}
 use Rattle.cookie_store.specs.Stripped.{IsEndOf}
@@ -80,3 +83,29 @@ is_wanted (Some now) row = is_saved now row
 abbrev pub wanted : Option ℤ → List Row → List Row
 wanted None rows = rows
 wanted (Some now) rows = saved now rows
+
+-- ---- loading
+
+-- the line is UTF-8, the closure made a cookie of it, and this was put where it is kept
+abbrev pub TakesOne : {F : Type 0} → Reader F → Bool → ℤ → F → List Row → List ℕ → F → List Row → Type 0
+TakesOne closures with_expired now closure rows line after new =
+    (row : Row) × IsUtf8 line × MakesRow closures closure line row after
+    × (new ≡ put_all (chosen with_expired now (row ∷ [])) rows)
+
+-- the bytes up to the first line feed come behind what is begun; without one, all
+abbrev pub Fills : List ℕ → List ℕ → List ℕ → Option (List ℕ) → Type 0
+Fills begun bytes new None = (new ≡ begun ++ bytes) × All (λ b. b ≢ 10) bytes
+Fills begun bytes new (Some after) =
+    (front : List ℕ) × (new ≡ begun ++ front) × All (λ b. b ≢ 10) front × (bytes ≡ front ++ 10 ∷ after)
+
+-- the whole lines of the text gave cookies, which were put where they are kept, and what is behind them is begun
+abbrev pub TakesWhole : {F : Type 0} → Reader F → Bool → ℤ → F → List Row → List ℕ → F → List Row → List ℕ → Type 0
+TakesWhole closures with_expired now closure rows text after new begun =
+    (whole : List (List ℕ)) × (made : List Row) × Cuts text whole begun × TakesLines closures closure whole made after
+    × (new ≡ put_all (chosen with_expired now made) rows)
+
+-- what is behind the last line feed gave a cookie where it isn't empty, and this was put where it is kept
+abbrev pub TakesRest : {F : Type 0} → Reader F → Bool → ℤ → F → List Row → List ℕ → F → List Row → Type 0
+TakesRest closures with_expired now closure rows begun after new =
+    (made : List Row) × TakesLines closures closure (lines begun) made after
+    × (new ≡ put_all (chosen with_expired now made) rows)

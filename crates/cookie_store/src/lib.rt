@@ -17,8 +17,10 @@ mod requests;
 mod rows;
 mod saved_row;
 mod saved_rows;
+mod saving;
 pub mod serde;
 mod store;
+mod store_cookie;
 mod stored_cookie;
 mod text_map;
 mod unexpired;
@@ -30,6 +32,7 @@ pub use devices::{Counting, Failing, Sink, Source};
 pub use requests::{RequestCookies, RequestValues};
 pub use rows::IterAny;
 pub use store::{CookieStore, laws};
+pub use store_cookie::StoreCookie;
 pub use store_parts::{
     CookieDomain, CookieError, CookieExpiration, CookiePath, Error, IdnaErrors, Result,
     cookie_domain, cookie_path, utils,

@@ -1,9 +1,10 @@
 //! A row of a saved text and a cookie of a store, each made of the other.
-ghost use Rattle.std.specs.Prelude.{◌≡◌, Ok, List, ℕ, Option, IfOk, IfErr, MatchOption, string_bytes};
+ghost use Rattle.std.specs.Prelude.{◌≡◌, Ok, List, ℕ, Option, IfOk, IfErr, MatchOption};
 ghost use Rattle.cookie_text.specs.Reading.{ReadsPlain};
 ghost use Rattle.cookie_text.specs.Record.{Seen, unsliced};
 ghost use Rattle.saved_text.specs.Row.{Shown};
-ghost use Rattle.saved_text.specs.Saved.{shown, domain_shown as domain_text, expires_shown, IsCookieText, IsShown, IsDeath};
+ghost use Rattle.saved_text.specs.Saved.{shown, domain_shown as domain_text, expires_shown, IsCookieText, IsShown};
+ghost use Rattle.saved_text.specs.Saved.{IsDeath};
 ghost use Rattle.store_parts.specs.DomainMatch.{domain_of};
 ghost use Rattle.store_parts.specs.Expiry.{death_of};
 ghost use Rattle.cookie_store.specs.SavedRows.{IsShownAs, IsLoadedFrom, IsExpiryOf, IsDeathOf, IsBeforeYears};
@@ -77,7 +78,7 @@ fn saved_domain(alloc: Global, domain: &CookieDomain) -> Result<SavedDomain, All
 
 /// The cookie that a saved row is, owning its texts.
 pub(crate) fn loaded_of(alloc: Global, row: SavedRow) -> Result<Cookie<'static>, AllocError>
-    requires { IsCookieText (string_bytes row.raw_cookie) }
+    requires { IsCookieText (shown row).raw }
     ensures { IfOk result (λ cookie. (t : Shown) → IsShown t row → IsLoadedFrom t (stored_of cookie)) }
 {
     let SavedRow {

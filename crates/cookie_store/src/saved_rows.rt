@@ -1,5 +1,5 @@
 //! The rows that are saved of a store, and the cookies that are loaded of rows.
-ghost use Rattle.std.specs.Prelude.{◌≡◌, List, IfOk, IfErr, map, option_map, string_bytes};
+ghost use Rattle.std.specs.Prelude.{◌≡◌, List, IfOk, IfErr, map, option_map};
 ghost use Rattle.std.specs.List.{AllByRecursion};
 ghost use Rattle.cookie_text.specs.ReadingBack.{Pairwise};
 ghost use Rattle.jiff.specs.Words.{civil_nanos};
@@ -8,12 +8,14 @@ ghost use Rattle.saved_text.specs.Row.{Shown};
 ghost use Rattle.saved_text.specs.Saved.{shown, IsCookieText};
 ghost use Rattle.cookie_store.specs.SavedRows.{IsShownAs, IsLoadedFrom};
 ghost use Rattle.cookie_store.specs.SavedTexts.{IsSaveFault, HasLoaded, of_saved_text};
-ghost use Rattle.cookie_store.specs.Steps.{is_wanted, wanted};
+ghost use Rattle.cookie_store.specs.Steps.{wanted};
 ghost use Rattle.cookie_store.specs.StoredCookie.{stored_of};
 
 use crate::rows::IterAny;
 use crate::saved_row::{loaded_of, saved_of};
+use crate::saving::is_wanted;
 use crate::store::CookieStore;
+use crate::store_cookie::StoreCookie;
 use crate::stored_cookie::Cookie;
 use jiff::civil::DateTime;
 use saved_text::{SavedRow, SavedTextError};
@@ -36,39 +38,43 @@ pub(crate) fn saved_list(
 {
     let mut rows = Vec::new(alloc);
     for cookie in cookies {
-        if is_wanted(cookie, now) {
+        if is_wanted(cookie, &now) {
             rows.push(saved_of(alloc, cookie)?)?;
         }
     }
     Ok(rows)
 }
 
-/// Copies of those of the cookies that are saved.
-pub(crate) fn copies(
+/// Copies of those of the cookies that are saved, as a caller's closure takes them.
+pub(crate) fn copies<C: StoreCookie + Drop>(
     alloc: Global,
     cookies: IterAny<'_>,
     now: Option<DateTime>,
-) -> Result<Vec<Cookie<'static>>, AllocError>
-    ensures { IfOk result (λ copies. map stored_of copies.items
+) -> Result<Vec<C>, AllocError>
+    ensures { IfOk result (λ copies. map C.shows copies.items
         ≡ wanted (option_map civil_nanos now) cookies.entry) }
 {
     let mut copies = Vec::new(alloc);
     for cookie in cookies {
-        if is_wanted(cookie, now) {
-            copies.push(cookie.clone(alloc)?)?;
+        if is_wanted(cookie, &now) {
+            copies.push(C::from_store(cookie.clone(alloc)?))?;
         }
     }
     Ok(copies)
 }
 
-// Whether the cookie is saved: any, or one with an end that is not expired at the moment.
-fn is_wanted(cookie: &Cookie<'static>, now: Option<DateTime>) -> bool
-    ensures { result ≡ is_wanted (option_map civil_nanos now) (stored_of cookie.now) }
+/// The cookies that a caller's closure answered.
+pub(crate) fn taken<C: StoreCookie + Drop>(
+    alloc: Global,
+    cookies: Vec<C>,
+) -> Result<Vec<Cookie<'static>>, AllocError>
+    ensures { IfOk result (λ taken. map stored_of taken.items ≡ map C.shows cookies.items) }
 {
-    match now {
-        Some(now) => !cookie.is_expired(now) && cookie.is_persistent(),
-        None => true,
+    let mut taken = Vec::new(alloc);
+    for cookie in cookies {
+        taken.push(cookie.into_store())?;
     }
+    Ok(taken)
 }
 
 /// The cookies of the rows, whose texts read.
@@ -76,7 +82,7 @@ pub(crate) fn loaded_list(
     alloc: Global,
     rows: Vec<SavedRow>,
 ) -> Result<Vec<Cookie<'static>>, AllocError>
-    requires { AllByRecursion (λ r. IsCookieText (string_bytes r.raw_cookie)) rows.items }
+    requires { AllByRecursion (λ r. IsCookieText (shown r).raw) rows.items }
     ensures { IfOk result (λ cookies. (all : List Shown) → AreShown all rows.items
         → Pairwise IsLoadedFrom all (map stored_of cookies.items)) }
 {
@@ -94,7 +100,7 @@ pub(crate) fn store_of_rows(
     with_expired: bool,
     now: DateTime,
 ) -> Result<CookieStore, AllocError>
-    requires { AllByRecursion (λ r. IsCookieText (string_bytes r.raw_cookie)) rows.items }
+    requires { AllByRecursion (λ r. IsCookieText (shown r).raw) rows.items }
     ensures { IfOk result (λ store. (all : List Shown) → AreShown all rows.items
         → HasLoaded with_expired (civil_nanos now) all store) }
 {

@@ -26,7 +26,8 @@ impl<'a> Cookie<'a> {
     ///
     /// `Year` where the cookie ends in a year below 0, `OutOfMemory`.
     pub fn to_value(&self, alloc: Global) -> Result<Value>
-        ensures ok { IfOk result (λ value. (t : Shown) × IsShownAs (stored_of self.now) t × (view value ≡ row_value t)) }
+        ensures ok { IfOk result (λ value. (t : Shown) × IsShownAs (stored_of self.now) t
+            × (view value ≡ row_value t)) }
         ensures err { IfErr result (IsRowFault (stored_of self.now).death) }
     {
         let row = saved_of(alloc, self)?;

@@ -1,7 +1,7 @@
 //! All that a source has, and all of a text to a sink. A call that fails isn't tried again.
 ghost use Rattle.std.specs.Prelude.{◌≡◌, ◌⊎◌, ◌^◌, ◌-◌, IfOk, IsOk, OnOk, OnErr, IfSome, IsErrOf, decimal, length, ◌<◌};
 ghost use Rattle.std.specs.Io.KnownBytes.{Appends, Keeps};
-ghost use Rattle.devices.specs.Device.{Rose, one_more};
+ghost use Rattle.devices.specs.Device.{AppendsFront, Rose, one_more};
 
 use crate::device::{Sink, Source};
 use std::alloc::Global;
@@ -45,6 +45,7 @@ pub struct WriteFailed;
 /// All of the bytes. A failed call isn't tried again.
 pub fn write_all<W: Sink>(writer: &mut W, bytes: &[u8]) -> Result<(), WriteFailed>
     ensures bytes { OnOk result (Appends (W.written writer.old) (W.written writer.new) bytes.now) }
+    ensures front { OnErr result (AppendsFront (W.written writer.old) (W.written writer.new) bytes.now) }
     ensures failures { OnOk result (W.failures writer.new ≡ W.failures writer.old) }
     ensures err { OnErr result (Rose (W.failures writer.old) (W.failures writer.new)) }
     ensures flushes { W.flushes writer.new ≡ W.flushes writer.old }

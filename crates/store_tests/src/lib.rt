@@ -14,4 +14,6 @@ mod readme_store_tests;
 #[cfg(test)]
 mod row_tests;
 #[cfg(test)]
+mod saved_tests;
+#[cfg(test)]
 mod store_cookie_tests;

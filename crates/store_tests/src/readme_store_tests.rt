@@ -1,6 +1,6 @@
 //! The examples of the READMEs of `store_parts` and `cookie_store`, word for word.
 
-use cookie_store::{Cookie, CookieError, CookieStore, StoreAction};
+use cookie_store::{Cookie, CookieError, CookieStore, Counting, StoreAction, serde};
 use jiff::civil::DateTime;
 use publicsuffix::List;
 use std::test::Fail;
@@ -49,6 +49,20 @@ fn a_store_of_cookies(rt: HostRuntime) -> Result<(), Fail> {
     assert!(rt; store.contains("example.com", "/foo", "a", now));
     let mut values = store.get_request_values(&url, now)?;
     assert!(rt; values.next() == Some(("a", "1")) && values.next().is_none());
+    // README: end
+    Ok(())
+}
+
+#[test]
+fn a_saved_store(rt: HostRuntime) -> Result<(), Fail> {
+    let (alloc, now) = (rt.alloc(), now());
+    let store = CookieStore::new(alloc);
+    // README: crates/cookie_store/README.md
+    let mut out = Vec::new(alloc);
+    serde::ron::save(&store, &mut Counting::new(&mut out), now)?;
+    let mut reader = Counting::new(out.as_slice());
+    let other = serde::ron::load(alloc, &mut reader, now)?;
+    assert!(rt; other.iter_any().next().is_none());
     // README: end
     Ok(())
 }

@@ -1,6 +1,7 @@
 //! A store as a list of JSON.
 ghost use Rattle.std.specs.Prelude.{◌≡◌, ◌⊎◌, IfOk, IfErr, OnOk, option_map, pos, string_bytes, true, false};
 ghost use Rattle.std.specs.Io.KnownBytes.{Appends};
+ghost use Rattle.std.specs.Str.{IsUtf8};
 ghost use Rattle.jiff.specs.Words.{civil_nanos};
 ghost use Rattle.saved_text.specs.Json.{list_text};
 ghost use Rattle.store_parts.specs.declared.error.Error.TheVariants.{OutOfMemory};
@@ -25,7 +26,8 @@ use store_parts::{Error, Result};
 /// `Year` where one of them ends in a year below 0, or `OutOfMemory`: nothing is written then. `Io`
 /// where the writer failed.
 pub fn save<W: Sink>(store: &CookieStore, writer: &mut W, now: DateTime) -> Result<()>
-    ensures ok { OnOk result ((list : _) × form.Saves list_text (saved (civil_nanos now) store.now.rows) list
+    ensures ok { OnOk result ((list : _) × IsUtf8 list
+        × form.Saves list_text (saved (civil_nanos now) store.now.rows) list
         × Appends (W.written writer.old) (W.written writer.new) list) }
     ensures err { IfErr result (λ e. form.IsWriteFault (W.failures writer.old) (W.failures writer.new) e
         ⊎ ((writer.new ≡ writer.old) × form.IsSaveFault (saved (civil_nanos now) store.now.rows) e)) }
@@ -44,7 +46,7 @@ pub fn save_incl_expired_and_nonpersistent<W: Sink>(
     store: &CookieStore,
     writer: &mut W,
 ) -> Result<()>
-    ensures ok { OnOk result ((list : _) × form.Saves list_text store.now.rows list
+    ensures ok { OnOk result ((list : _) × IsUtf8 list × form.Saves list_text store.now.rows list
         × Appends (W.written writer.old) (W.written writer.new) list) }
     ensures err { IfErr result (λ e. form.IsWriteFault (W.failures writer.old) (W.failures writer.new) e
         ⊎ ((writer.new ≡ writer.old) × form.IsSaveFault store.now.rows e)) }
@@ -76,7 +78,8 @@ fn list_of(store: &CookieStore, now: Option<DateTime>) -> Result<String>
 pub fn load<R: Source>(alloc: Global, reader: &mut R, now: DateTime) -> Result<CookieStore>
     ensures ok { IfOk result (λ store. form.OfText (R.left reader.old)
         (λ text. form.Loads form.IsJsonOf false (civil_nanos now) text store)) }
-    ensures err { IfErr result (λ e. form.IsReadFault (R.failures reader.old) (R.failures reader.new) (R.reads reader.new) e
+    ensures err { IfErr result (λ e.
+        form.IsReadFault (R.failures reader.old) (R.failures reader.new) (R.reads reader.new) e
         ⊎ (e ≡ OutOfMemory) ⊎ form.OfText (R.left reader.old) (λ text. form.IsJsonRefusal text e)) }
 {
     let text = read_text(alloc, reader)?;
@@ -91,7 +94,8 @@ pub fn load<R: Source>(alloc: Global, reader: &mut R, now: DateTime) -> Result<C
 pub fn load_all<R: Source>(alloc: Global, reader: &mut R) -> Result<CookieStore>
     ensures ok { IfOk result (λ store. form.OfText (R.left reader.old)
         (λ text. form.Loads form.IsJsonOf true (pos 0) text store)) }
-    ensures err { IfErr result (λ e. form.IsReadFault (R.failures reader.old) (R.failures reader.new) (R.reads reader.new) e
+    ensures err { IfErr result (λ e.
+        form.IsReadFault (R.failures reader.old) (R.failures reader.new) (R.reads reader.new) e
         ⊎ (e ≡ OutOfMemory) ⊎ form.OfText (R.left reader.old) (λ text. form.IsJsonRefusal text e)) }
 {
     let text = read_text(alloc, reader)?;

@@ -1,11 +1,14 @@
 //! A store as a list of RON.
 ghost use Rattle.std.specs.Prelude.{◌≡◌, ◌⊎◌, IfOk, IfErr, OnOk, option_map, pos, string_bytes, true, false};
 ghost use Rattle.std.specs.Io.KnownBytes.{Appends};
+ghost use Rattle.std.specs.List.{AllByRecursion};
+ghost use Rattle.std.specs.Str.{IsUtf8};
 ghost use Rattle.jiff.specs.Words.{civil_nanos};
 ghost use Rattle.saved_text.specs.RonLayout.{ron_layout};
 ghost use Rattle.saved_text.specs.RonReading.{ShowsOnly};
 ghost use Rattle.store_parts.specs.declared.error.Error.TheVariants.{OutOfMemory};
 ghost use Rattle.cookie_store.specs.Placing.{saved};
+ghost use Rattle.cookie_store.specs.SavedLaws.{IsOfBytes};
 ghost use Rattle.cookie_store.specs.SavedTexts as form;
 ghost use Rattle.cookie_store.specs.Steps.{wanted};
 
@@ -26,8 +29,10 @@ use store_parts::Result;
 /// `Year` where one of them ends in a year below 0, or `OutOfMemory`: nothing is written then. `Io`
 /// where the writer failed.
 pub fn save<W: Sink>(store: &CookieStore, writer: &mut W, now: DateTime) -> Result<()>
-    ensures ok { OnOk result ((list : _) × form.Saves ron_layout (saved (civil_nanos now) store.now.rows) list
+    ensures ok { OnOk result ((list : _) × IsUtf8 list
+        × form.Saves ron_layout (saved (civil_nanos now) store.now.rows) list
         × Appends (W.written writer.old) (W.written writer.new) list) }
+    ensures bytes { OnOk result (AllByRecursion IsOfBytes (saved (civil_nanos now) store.now.rows)) }
     ensures err { IfErr result (λ e. form.IsWriteFault (W.failures writer.old) (W.failures writer.new) e
         ⊎ ((writer.new ≡ writer.old) × form.IsSaveFault (saved (civil_nanos now) store.now.rows) e)) }
     ensures flushes { W.flushes writer.new ≡ W.flushes writer.old }
@@ -45,8 +50,9 @@ pub fn save_incl_expired_and_nonpersistent<W: Sink>(
     store: &CookieStore,
     writer: &mut W,
 ) -> Result<()>
-    ensures ok { OnOk result ((list : _) × form.Saves ron_layout store.now.rows list
+    ensures ok { OnOk result ((list : _) × IsUtf8 list × form.Saves ron_layout store.now.rows list
         × Appends (W.written writer.old) (W.written writer.new) list) }
+    ensures bytes { OnOk result (AllByRecursion IsOfBytes store.now.rows) }
     ensures err { IfErr result (λ e. form.IsWriteFault (W.failures writer.old) (W.failures writer.new) e
         ⊎ ((writer.new ≡ writer.old) × form.IsSaveFault store.now.rows e)) }
     ensures flushes { W.flushes writer.new ≡ W.flushes writer.old }
@@ -59,6 +65,7 @@ pub fn save_incl_expired_and_nonpersistent<W: Sink>(
 fn list_of(store: &CookieStore, now: Option<DateTime>) -> Result<String>
     ensures ok { IfOk result (λ list.
         form.Saves ron_layout (wanted (option_map civil_nanos now) store.now.rows) (string_bytes list)) }
+    ensures bytes { OnOk result (AllByRecursion IsOfBytes (wanted (option_map civil_nanos now) store.now.rows)) }
     ensures err { IfErr result (form.IsSaveFault (wanted (option_map civil_nanos now) store.now.rows)) }
 {
     let rows = saved_list(store.alloc(), store.iter_any(), now)?;
@@ -76,7 +83,8 @@ fn list_of(store: &CookieStore, now: Option<DateTime>) -> Result<String>
 pub fn load<R: Source>(alloc: Global, reader: &mut R, now: DateTime) -> Result<CookieStore>
     ensures ok { IfOk result (λ store. form.OfText (R.left reader.old)
         (λ text. form.Loads ShowsOnly false (civil_nanos now) text store)) }
-    ensures err { IfErr result (λ e. form.IsReadFault (R.failures reader.old) (R.failures reader.new) (R.reads reader.new) e
+    ensures err { IfErr result (λ e.
+        form.IsReadFault (R.failures reader.old) (R.failures reader.new) (R.reads reader.new) e
         ⊎ (e ≡ OutOfMemory) ⊎ form.OfText (R.left reader.old) (λ text. form.IsRonRefusal text e)) }
 {
     let text = read_text(alloc, reader)?;
@@ -91,7 +99,8 @@ pub fn load<R: Source>(alloc: Global, reader: &mut R, now: DateTime) -> Result<C
 pub fn load_all<R: Source>(alloc: Global, reader: &mut R) -> Result<CookieStore>
     ensures ok { IfOk result (λ store. form.OfText (R.left reader.old)
         (λ text. form.Loads ShowsOnly true (pos 0) text store)) }
-    ensures err { IfErr result (λ e. form.IsReadFault (R.failures reader.old) (R.failures reader.new) (R.reads reader.new) e
+    ensures err { IfErr result (λ e.
+        form.IsReadFault (R.failures reader.old) (R.failures reader.new) (R.reads reader.new) e
         ⊎ (e ≡ OutOfMemory) ⊎ form.OfText (R.left reader.old) (λ text. form.IsRonRefusal text e)) }
 {
     let text = read_text(alloc, reader)?;

@@ -25,4 +25,6 @@ loop-row-preserved c =
 pub returns : goal.returns
 returns c = λ all shown.
     let done = map stored_of c.loop-row.cookies.items in
-    loads_all all done (subst (LoadsSoFar all done) (nil_from_length _ (sym c.loop-row.row-iterator.rest.ok.0 ∙ c.in-None.ensures.steps.0)) (c.loop-row.invariant.loads all shown))
+    let rest = c.loop-row.row-iterator.rest in
+    let ended = nil_from_length rest.items (sym rest.ok.0 ∙ c.in-None.ensures.steps.0) in
+    loads_all all done (subst (LoadsSoFar all done) ended (c.loop-row.invariant.loads all shown))

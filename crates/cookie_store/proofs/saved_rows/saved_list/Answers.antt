@@ -33,6 +33,7 @@ loop-cookie-preserved-in_ok-push c =
     subst (SavesSoFar all done) (ap (wanted at) c.in-Some.ensures.steps
     ∙ wanted_in at row rest (sym c.is_wanted.ensures ∙ c.if-is_wanted.true)) c.loop-cookie.invariant in
     let new : map shown c.push.new.self.items ≡ done ++ shown c.in_ok-saved_of.field-0 ∷ [] =
-    ap (map shown) c.in_ok-push.ensures.items ∙ map-append shown c.loop-cookie.rows.items (c.in_ok-saved_of.field-0 ∷ []) in
+    ap (map shown) c.in_ok-push.ensures.items
+    ∙ map-append shown c.loop-cookie.rows.items (c.in_ok-saved_of.field-0 ∷ []) in
     subst (λ ts. SavesSoFar all ts (wanted at rest)) (sym new)
     (saves_more all done row (wanted at rest) (shown c.in_ok-saved_of.field-0) far c.in_ok-saved_of.ensures.ok)

@@ -8,4 +8,5 @@ use Rattle.cookie_store.proofs.serde.ron.load_all.Goals as goal
 pub returns-clause-ok : goal.returns-clause-ok
 returns-clause-ok g c = of_text_ok (g.R.Source.left c.args.reader.now) c.in_ok-text.text.items
     (Loads ShowsOnly true (pos 0)) c.store_of.result c.in_ok-text.ensures.ok
-    (subst (λ bytes. IfOk c.store_of.result (Loads ShowsOnly true (pos 0) bytes)) c.deref.ensures.value c.store_of.ensures.ok)
+    (subst (λ bytes. IfOk c.store_of.result (Loads ShowsOnly true (pos 0) bytes))
+    c.deref.ensures.value c.store_of.ensures.ok)
