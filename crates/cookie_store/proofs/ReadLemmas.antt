@@ -139,7 +139,8 @@ module _ {F : Type 0} (closures : Reader F) where
           failures = steady;
           rows = made ++ made-2;
           last = last;
-          taken = subst (λ ls. TakesLines closures first ls (made ++ made-2) last) (sym (lines_whole text begun whole cut))
+          taken = subst (λ ls. TakesLines closures first ls (made ++ made-2) last) (sym (lines_whole text begun whole
+              cut))
               (lines_append first mid last whole (lines begun) made made-2 taken taken-2);
           placed = is ∙ ap (λ rows. the_store rows) (placed-2 ∙ ap (kept with_expired now made-2) placed
               ∙ sym (kept_append with_expired now made made-2 []));

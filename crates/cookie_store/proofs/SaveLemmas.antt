@@ -28,8 +28,13 @@ front_of_longer a b xs ys (front, back, split, appended) =
 
 pub front_behind : (a b c : Option (List ℕ)) (xs ys : List ℕ) → Appends a b xs → AppendsFront b c ys
     → AppendsFront a c (xs ++ ys)
-front_behind a b c xs ys first (front, back, split, appended) =
-    (xs ++ front, back, ap (λ l. xs ++ l) split ∙ sym (append_assoc xs front back), Appends-trans a b c xs front first appended)
+front_behind a b c xs ys first (front, back, split, appended) = (
+  xs ++ front,
+  back,
+  ap (λ l. xs ++ l) split ∙ sym (append_assoc xs front back),
+  Appends-trans a b c xs front
+      first appended,
+)
 
 -- ---- the rows that are saved
 

@@ -1,5 +1,6 @@
 //! Loading a store.
-ghost use Rattle.std.specs.Prelude.{◌≡◌, ◌≢◌, ◌⊎◌, ◌++◌, ◌∷◌, [], ℕ, ℤ, List, true, false, All, map, option_map, IfOk, OnOk, IfErr};
+ghost use Rattle.std.specs.Prelude.{◌≡◌, ◌≢◌, ◌⊎◌, ◌++◌, ◌∷◌, [], ℕ, ℤ};
+ghost use Rattle.std.specs.Prelude.{List, true, false, All, map, option_map, IfOk, OnOk, IfErr};
 ghost use Rattle.std.specs.Iterator.{IsFinite};
 ghost use Rattle.std.specs.Str.Lines.{lines, strip_carriage_return};
 ghost use Rattle.jiff.specs.Words.{civil_nanos};
@@ -197,7 +198,8 @@ fn take_lines<C: StoreCookie, F: FnMut(&str) -> Result<C, Error>>(
     ensures ok { OnOk result (TakesWhole (line_reader C.shows F.FnMut) with_expired (civil_nanos now)
         closure.old rows.old (begun.old.items ++ bytes.now) closure.new rows.new begun.new.items) }
     ensures err { IfErr result (λ error. (rest : List ℕ)
-        → StopsAtLine (line_reader C.shows F.FnMut) closure.old (lines ((begun.old.items ++ bytes.now) ++ rest)) error) }
+        → StopsAtLine (line_reader C.shows F.FnMut) closure.old (lines ((begun.old.items ++ bytes.now) ++ rest))
+        error) }
 {
     let mut bytes = bytes;
     while !bytes.is_empty() {
@@ -232,7 +234,8 @@ fn take_last<C: StoreCookie, F: FnMut(&str) -> Result<C, Error>>(
     requires unended { All (λ b. b ≢ 10) begun.now }
     ensures ok { OnOk result (TakesRest (line_reader C.shows F.FnMut) with_expired (civil_nanos now)
         closure.old rows.old begun.now closure.new rows.new) }
-    ensures err { IfErr result (λ error. StopsAtLine (line_reader C.shows F.FnMut) closure.old (lines begun.now) error) }
+    ensures err { IfErr result (λ error. StopsAtLine (line_reader C.shows F.FnMut) closure.old (lines begun.now)
+        error) }
 {
     if begun.is_empty() {
         return Ok(());

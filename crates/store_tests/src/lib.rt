@@ -8,6 +8,8 @@ mod fixtures;
 #[cfg(test)]
 mod given_tests;
 #[cfg(test)]
+mod lines_tests;
+#[cfg(test)]
 mod memory;
 #[cfg(test)]
 mod readme_store_tests;

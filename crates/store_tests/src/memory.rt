@@ -5,7 +5,8 @@
 
 use crate::fixtures::at;
 use cookie_store::{
-    CookieDomain, CookieError, CookieStore, Error, RawCookie, StoreAction, cookie_domain,
+    Cookie, CookieDomain, CookieError, CookieStore, Counting, Error, RawCookie, StoreAction,
+    StoreResult, cookie_domain,
 };
 use std::alloc::{AllocError, Global};
 use url::Url;
@@ -162,6 +163,45 @@ fn reads_domains(alloc: Global) -> Result<bool, AllocError> {
     Ok(none && cookie_domain::is_match(alloc, "B\u{fc}cher.example", &source)?)
 }
 
+// The cookie of a line.
+fn cookie_of(alloc: Global, url: &Url, line: &str) -> Result<Cookie<'static>, Error> {
+    let cookie = Cookie::parse(alloc, line, url, at(0))?;
+    Ok(cookie.into_owned(alloc)?)
+}
+
+// Whether the answer is a store of these rows, or want of memory.
+fn is_made(answer: StoreResult<CookieStore>, wanted: &str) -> Result<bool, AllocError> {
+    match answer {
+        Ok(store) => Ok(are_rows(&store, wanted)),
+        Err(Error::OutOfMemory) => Err(AllocError),
+        Err(_) => Ok(false),
+    }
+}
+
+// A store is loaded by lines.
+fn loads_lines(alloc: Global) -> Result<bool, AllocError> {
+    let source = url(alloc, "https://a.example/")?;
+    let mut reader = Counting::new(b"a=1\nb=2; Path=/p\na=3".as_slice());
+    let loaded = CookieStore::load_all(
+        alloc,
+        &mut reader,
+        |line: &str| cookie_of(alloc, &source, line),
+    );
+    is_made(loaded, "a=3 b=2")
+}
+
+// A store is made of an iterator's cookies.
+fn takes_cookies(alloc: Global) -> Result<bool, AllocError> {
+    let source = url(alloc, "https://a.example/")?;
+    let cookies = "a=1|b=2|a=3"
+        .split('|')
+        .map(|line| cookie_of(alloc, &source, line));
+    is_made(
+        CookieStore::from_cookies(alloc, cookies, true, at(0)),
+        "a=3 b=2",
+    )
+}
+
 #[test]
 fn rows_are_put(rt: HostRuntime) {
     assert!(rt; puts_rows(rt.alloc()).unwrap_or(true));
@@ -220,4 +260,24 @@ fn a_store_is_copied(rt: HostRuntime) {
 #[test]
 fn a_store_is_copied_with_ample_memory(rt: HostRuntime) {
     assert!(rt; copies(rt.alloc()).unwrap_or(false));
+}
+
+#[test]
+fn lines_are_loaded(rt: HostRuntime) {
+    assert!(rt; loads_lines(rt.alloc()).unwrap_or(true));
+}
+
+#[test]
+fn lines_are_loaded_with_ample_memory(rt: HostRuntime) {
+    assert!(rt; loads_lines(rt.alloc()).unwrap_or(false));
+}
+
+#[test]
+fn cookies_are_taken(rt: HostRuntime) {
+    assert!(rt; takes_cookies(rt.alloc()).unwrap_or(true));
+}
+
+#[test]
+fn cookies_are_taken_with_ample_memory(rt: HostRuntime) {
+    assert!(rt; takes_cookies(rt.alloc()).unwrap_or(false));
 }

@@ -34,7 +34,8 @@ returns-in_err-take_last-in-Ok-eq0-clause-err g c =
     let p = err_from_is_err_and c.from_residual.result c.from_residual.ensures.1 in
     rw (p.1, p.2) (stops_last (line_reader g.C.StoreCookie.shows g.F.FnMut) c.args.with_expired (civil_nanos c.args.now)
     c.args.closure c.reads.closure [] c.reads.rows text c.reads.begun.items _ before after taken
-    (read_none (g.R.Source.left c.args.reader.now) (g.R.Source.left c.reads.reader) (g.R.Source.left c.read.new.self) text
+    (read_none (g.R.Source.left c.args.reader.now) (g.R.Source.left c.reads.reader) (g.R.Source.left c.read.new.self)
+    text
     c.read.new.buf c.in-Ok-eq0.field-0 none read c.in-Ok-eq0.ensures.bytes.0)
     (c.in-Ok-eq0.ensures.bytes.1 none (omega arith))
     c.deref.result.now c.deref.ensures.value c.in_err-take_last-in-Ok-eq0.ensures.err)
@@ -48,9 +49,11 @@ returns-in-Ok-eq0-clause-ok g c =
     let after = input (g.R.Source.left c.read.new.self) (g.R.Failing.failures c.read.new.self)
     (g.R.Source.reads c.read.new.self) in
     let none : c.in-Ok-eq0.field-0 ≡ 0 = grind (arith, nat_tests) in
-    loads_all closures c.args.with_expired (civil_nanos c.args.now) c.args.closure c.reads.closure c.take_last.new.closure
+    loads_all closures c.args.with_expired (civil_nanos c.args.now) c.args.closure c.reads.closure
+    c.take_last.new.closure
     c.reads.rows c.take_last.new.rows text c.reads.begun.items before after c.of_rows.result taken
-    (read_none (g.R.Source.left c.args.reader.now) (g.R.Source.left c.reads.reader) (g.R.Source.left c.read.new.self) text
+    (read_none (g.R.Source.left c.args.reader.now) (g.R.Source.left c.reads.reader) (g.R.Source.left c.read.new.self)
+    text
     c.read.new.buf c.in-Ok-eq0.field-0 none read c.in-Ok-eq0.ensures.bytes.0)
     (c.in-Ok-eq0.ensures.bytes.1 none (omega arith))
     (c.in-Ok-eq0.ensures.failures ∙ c.reads.invariant.failures)
@@ -68,7 +71,8 @@ returns-in_err-take_lines-in-Ok-clause-err g c =
     let p = err_from_is_err_and c.from_residual-in_err-take_lines-in-Ok.result
     c.from_residual-in_err-take_lines-in-Ok.ensures.1 in
     rw (p.1, p.2) (stops_more (line_reader g.C.StoreCookie.shows g.F.FnMut) c.args.with_expired (civil_nanos c.args.now)
-    c.args.closure c.reads.closure [] c.reads.rows text c.reads.begun.items (take c.in-Ok.n c.read.new.buf) _ before after
+    c.args.closure c.reads.closure [] c.reads.rows text c.reads.begun.items (take c.in-Ok.n c.read.new.buf) _ before
+    after
     (g.R.Source.left c.reads.reader) taken read c.in-Ok.ensures.bytes.0 c.in_err-take_lines-in-Ok.ensures.err)
 
 pub returns-in-Err-clause-err : goal.returns-in-Err-clause-err
@@ -82,7 +86,8 @@ returns-in-Err-clause-err g c =
       refl,
       stops_reading (line_reader g.C.StoreCookie.shows g.F.FnMut) c.args.with_expired (civil_nanos c.args.now)
           c.args.closure c.reads.closure c.reads.rows text c.reads.begun.items before after taken
-          (Consumes-kept (g.R.Source.left c.args.reader.now) (g.R.Source.left c.reads.reader) (g.R.Source.left c.read.new.self)
+          (Consumes-kept (g.R.Source.left c.args.reader.now) (g.R.Source.left c.reads.reader) (g.R.Source.left
+          c.read.new.self)
           text read c.in-Err.ensures.bytes)
           (inl (rose_by_one _ _ _ c.reads.invariant.failures c.in-Err.ensures.failures)),
     )
@@ -116,5 +121,6 @@ returns-clause-err g c =
     inr (
       refl,
       stops_reading (line_reader g.C.StoreCookie.shows g.F.FnMut) c.args.with_expired (civil_nanos c.args.now)
-          c.args.closure c.reads.closure c.reads.rows text c.reads.begun.items before after taken read (inr (omega arith)),
+          c.args.closure c.reads.closure c.reads.rows text c.reads.begun.items before after taken read (inr (omega
+          arith)),
     )

@@ -10,7 +10,8 @@ abbrev pub invariant-reads : goal.invariant-reads
 invariant-reads g l = record {
   callable : goal.F-IsAlwaysCallable g l.closure;
   taken : (text : List ℕ) × Consumes (g.R.Source.left l.fn.reader) (g.R.Source.left l.reader) text
-      × TakesWhole (line_reader g.C.StoreCookie.shows g.F.FnMut) l.fn.with_expired (civil_nanos l.fn.now) l.fn.closure []
+      × TakesWhole (line_reader g.C.StoreCookie.shows g.F.FnMut) l.fn.with_expired (civil_nanos l.fn.now)
+      l.fn.closure []
       text l.closure l.rows l.begun.items;
   failures : g.R.Failing.failures l.reader ≡ g.R.Failing.failures l.fn.reader;
   made : l.counter ≤ g.R.Source.reads l.reader;

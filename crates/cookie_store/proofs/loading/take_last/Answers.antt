@@ -11,7 +11,8 @@ pub returns-clause-ok : goal.returns-clause-ok
 returns-clause-ok g c =
     let begun = c.args.begun.now in
     let some : 0 < length begun = grind (arith, nat_tests) in
-    takes_rest (line_reader g.C.StoreCookie.shows g.F.FnMut) c.args.with_expired (civil_nanos c.args.now) c.args.closure.now
+    takes_rest (line_reader g.C.StoreCookie.shows g.F.FnMut) c.args.with_expired (civil_nanos c.args.now)
+    c.args.closure.now
     c.take_line.new.closure c.args.rows.now c.take_line.new.rows begun (line_last begun c.requires.unended some)
     c.in_ok-take_line.ensures.ok
 

@@ -10,6 +10,7 @@ returns-clause-ok g c =
       search rules,
       (cookie, refl, record { shown = c.in-Ok.line; shows = search rules; called = c.in_ok-cookie.ensures }),
       subst (λ row. c.put_loaded.new.rows
-          ≡ put_all (chosen c.args.with_expired (civil_nanos c.args.now) (row ∷ [])) c.args.rows.now) c.into_store.ensures
+          ≡ put_all (chosen c.args.with_expired (civil_nanos c.args.now) (row ∷ [])) c.args.rows.now)
+          c.into_store.ensures
           c.in_ok-put_loaded.ensures,
     )

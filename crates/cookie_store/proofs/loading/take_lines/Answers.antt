@@ -24,7 +24,8 @@ returns-in-None-clause-ok g c =
     c.loop-bytes.invariant.takes _ _ _ (takes_unended (line_reader g.C.StoreCookie.shows g.F.FnMut) c.args.with_expired
     (civil_nanos c.args.now) c.loop-bytes.closure c.loop-bytes.rows c.loop-bytes.begun.items c.loop-bytes.bytes.now
     c.fill.new.begun.items c.loop-bytes.invariant.unended
-    (subst (λ o. Fills c.loop-bytes.begun.items c.loop-bytes.bytes.now c.fill.new.begun.items (option_map (λ b. b.now) o))
+    (subst (λ o. Fills c.loop-bytes.begun.items c.loop-bytes.bytes.now c.fill.new.begun.items (option_map (λ b.
+    b.now) o))
     c.in-None.is c.in_ok-after.ensures))
 
 pub returns-in_err-take_line-clause-err : goal.returns-in_err-take_line-clause-err
@@ -34,7 +35,8 @@ returns-in_err-take_line-clause-err g c =
     let bytes = c.loop-bytes.bytes.now in
     let after = c.in-Some.after.now in
     let fills : Fills begun bytes c.fill.new.begun.items (Some after) =
-    subst (λ o. Fills begun bytes c.fill.new.begun.items (option_map (λ b. b.now) o)) c.in-Some.is c.in_ok-after.ensures in
+    subst (λ o. Fills begun bytes c.fill.new.begun.items (option_map (λ b. b.now) o)) c.in-Some.is
+    c.in_ok-after.ensures in
     let p = err_from_is_err_and c.from_residual-in_err-take_line.result c.from_residual-in_err-take_line.ensures.1 in
     rw (p.1, p.2) (λ rest. c.loop-bytes.invariant.stops _ rest (stops_here closures c.loop-bytes.closure
     c.without_return.result.now (lines (([] ++ after) ++ rest)) (lines ((begun ++ bytes) ++ rest)) _
@@ -52,7 +54,8 @@ loop-bytes-preserved g c =
     let line = c.without_return.result.now in
     let more = c.clear.new.self.items ++ after in
     let fills : Fills begun bytes c.fill.new.begun.items (Some after) =
-    subst (λ o. Fills begun bytes c.fill.new.begun.items (option_map (λ b. b.now) o)) c.in-Some.is c.in_ok-after.ensures in
+    subst (λ o. Fills begun bytes c.fill.new.begun.items (option_map (λ b. b.now) o)) c.in-Some.is
+    c.in_ok-after.ensures in
     let ends : (rest : List ℕ) → lines ((begun ++ bytes) ++ rest) ≡ line ∷ lines (more ++ rest) =
     ends_here begun bytes c.fill.new.begun.items c.deref.result.now line c.clear.new.self.items after
     c.loop-bytes.invariant.unended fills c.deref.ensures.value c.without_return.ensures c.clear.ensures.items in

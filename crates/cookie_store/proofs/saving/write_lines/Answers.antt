@@ -77,9 +77,11 @@ loop-cookie-preserved-then-is_wanted g c =
     ) in
     record {
       callable = search (rules, of_calls);
-      saves = λ last later. c.loop-cookie.invariant.saves last (saves_first closures start mid last row rest all first step
+      saves = λ last later. c.loop-cookie.invariant.saves last (saves_first closures start mid last row rest all
+          first step
           later);
-      stops = λ error out later. c.loop-cookie.invariant.stops error out (stops_later closures start mid row rest all error
+      stops = λ error out later. c.loop-cookie.invariant.stops error out (stops_later closures start mid row rest all
+          error
           out first step later);
       flushes = c.in-Ok.ensures.flushes ∙ c.loop-cookie.invariant.flushes;
     }
