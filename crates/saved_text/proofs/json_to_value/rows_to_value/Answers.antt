@@ -1,4 +1,19 @@
-use Rattle.std.proofs.Common.{◌≡◌, ◌++◌, ◌∷◌, [], List, ap, sym, refl, ◌∙◌, append_assoc, append-nil, length, arith, rules}
+use Rattle.std.proofs.Common.{
+  ◌≡◌,
+  ◌++◌,
+  ◌∷◌,
+  [],
+  List,
+  ap,
+  sym,
+  refl,
+  ◌∙◌,
+  append_assoc,
+  append-nil,
+  length,
+  arith,
+  rules,
+}
 use Rattle.std.specs.Prelude.{map}
 use Rattle.std.proofs.lemmas.List.{map-append}
 use Rattle.serde_json.specs.Data.{Data, array, item}
