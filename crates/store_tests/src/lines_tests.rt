@@ -79,14 +79,18 @@ fn load_from<R: Read + Drop>(alloc: Global, url: &Url, reader: R) -> StoreResult
     CookieStore::load(
         alloc,
         &mut reader,
-        |line: &str| cookie_of(alloc, url, line),
+        move |line: &str| cookie_of(alloc, url, line),
         at(10),
     )
 }
 
 fn load_all_from<R: Read + Drop>(alloc: Global, url: &Url, reader: R) -> StoreResult<CookieStore> {
     let mut reader = Counting::new(reader);
-    CookieStore::load_all(alloc, &mut reader, |line: &str| cookie_of(alloc, url, line))
+    CookieStore::load_all(
+        alloc,
+        &mut reader,
+        move |line: &str| cookie_of(alloc, url, line),
+    )
 }
 
 // Whether a text of the table is loaded so, at once and a byte a read.
@@ -164,12 +168,12 @@ fn save_to<W: Write + Drop>(
     match second {
         Some(second) => store.save(
             &mut writer,
-            |cookie: &Cookie<'_>| name_of(alloc, cookie),
+            move |cookie: &Cookie<'_>| name_of(alloc, cookie),
             at(second),
         ),
         None => store.save_incl_expired_and_nonpersistent(
             &mut writer,
-            |cookie: &Cookie<'_>| name_of(alloc, cookie),
+            move |cookie: &Cookie<'_>| name_of(alloc, cookie),
         ),
     }
 }
@@ -263,6 +267,19 @@ fn are_stopped(alloc: Global, store: &CookieStore) -> bool {
     true
 }
 
+// What becomes of each of these lines.
+fn cookies_of(
+    alloc: Global,
+    url: &Url,
+    lines: &str,
+) -> Result<Vec<Result<Cookie<'static>, Error>>, Error> {
+    let mut cookies = Vec::new(alloc);
+    for line in lines.split('|') {
+        cookies.push(cookie_of(alloc, url, line))?;
+    }
+    Ok(cookies)
+}
+
 // What an iterator of these lines' cookies makes, with those that are expired at second 10 or
 // without them.
 fn made_of(
@@ -271,8 +288,8 @@ fn made_of(
     lines: &str,
     include_expired: bool,
 ) -> StoreResult<CookieStore> {
-    let cookies = lines.split('|').map(|line| cookie_of(alloc, url, line));
-    CookieStore::from_cookies(alloc, cookies, include_expired, at(10))
+    let cookies = cookies_of(alloc, url, lines)?;
+    CookieStore::from_cookies(alloc, cookies.into_iter(), include_expired, at(10))
 }
 
 #[test]

@@ -180,24 +180,35 @@ fn is_made(answer: StoreResult<CookieStore>, wanted: &str) -> Result<bool, Alloc
 
 // A store is loaded by lines.
 fn loads_lines(alloc: Global) -> Result<bool, AllocError> {
-    let source = url(alloc, "https://a.example/")?;
+    let source = &url(alloc, "https://a.example/")?;
     let mut reader = Counting::new(b"a=1\nb=2; Path=/p\na=3".as_slice());
     let loaded = CookieStore::load_all(
         alloc,
         &mut reader,
-        |line: &str| cookie_of(alloc, &source, line),
+        move |line: &str| cookie_of(alloc, source, line),
     );
     is_made(loaded, "a=3 b=2")
+}
+
+// What becomes of each of these lines.
+fn cookies_of(
+    alloc: Global,
+    url: &Url,
+    lines: &str,
+) -> Result<Vec<Result<Cookie<'static>, Error>>, AllocError> {
+    let mut cookies = Vec::new(alloc);
+    for line in lines.split('|') {
+        cookies.push(cookie_of(alloc, url, line))?;
+    }
+    Ok(cookies)
 }
 
 // A store is made of an iterator's cookies.
 fn takes_cookies(alloc: Global) -> Result<bool, AllocError> {
     let source = url(alloc, "https://a.example/")?;
-    let cookies = "a=1|b=2|a=3"
-        .split('|')
-        .map(|line| cookie_of(alloc, &source, line));
+    let cookies = cookies_of(alloc, &source, "a=1|b=2|a=3")?;
     is_made(
-        CookieStore::from_cookies(alloc, cookies, true, at(0)),
+        CookieStore::from_cookies(alloc, cookies.into_iter(), true, at(0)),
         "a=3 b=2",
     )
 }
