@@ -363,6 +363,6 @@ sites_read_until key laws late list acts step kind readings run =
             led.0,
             led.1,
             act_stops key laws late host run.act led.0 run.rows kind _ (all_told run.told) readings reads led.2
-            run.stops,
+                run.stops,
           );
     }

@@ -274,8 +274,7 @@ fn the_later_of_one_key_takes_the_place_of_the_earlier(rt: HostRuntime) -> Resul
 
 // ---- refusals
 
-const LINE: &str =
-    "{\"raw_cookie\":\"cookie1=value1\",\"path\":[\"/foo\",false],\
+const LINE: &str = "{\"raw_cookie\":\"cookie1=value1\",\"path\":[\"/foo\",false],\
 \"domain\":{\"HostOnly\":\"example.com\"},\"expires\":\"SessionEnd\"}\n";
 
 // Each line: the form, a text, how it is refused.
