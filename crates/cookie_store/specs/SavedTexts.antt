@@ -1,11 +1,12 @@
 -- Saved texts of a store's rows, and why rows aren't loaded from a text or saved to one (own: docs/DEFINITIONS.md).
 use Rattle.std.specs.Prelude.{◌≡◌, ◌⊎◌, ◌^◌, ◌-◌, ℕ, ℤ, List, [], ◌∷◌, ◌++◌, Bool, Option, Some, IfSome}
+use Rattle.std.specs.List.{flat_map}
 use Rattle.std.specs.Str.{IsUtf8}
 use Rattle.cookie_text.specs.ReadingBack.{Pairwise}
 use Rattle.devices.specs.Device.{Rose}
 use Rattle.serde_json.specs.Data.{Data}
 use Rattle.serde_json.specs.Read.{read}
-use Rattle.saved_text.specs.Json.{rows_value}
+use Rattle.saved_text.specs.Json.{rows_value, row_text}
 use Rattle.saved_text.specs.JsonReading.{IsJsonFault, AreNoRows, IsShapeFault}
 use Rattle.saved_text.specs.RonReading.{IsRonFault}
 use Rattle.saved_text.specs.Row.{Shown}
@@ -38,6 +39,19 @@ pub record IsAnyBeforeYears (rows : List Row) : Type 0 where
 -- Why rows have no saved text: `Year` only where one has a death of a year below 0.
 abbrev pub IsSaveFault : List Row → Error → Type 0
 IsSaveFault rows e = ((e ≡ Year) × IsAnyBeforeYears rows) ⊎ (e ≡ OutOfMemory)
+
+-- one row a line, in compact JSON
+abbrev pub json_lines : List Shown → List ℕ
+json_lines all = flat_map (λ shown. row_text shown ++ 10 ∷ []) all
+
+-- the rows before one that has no saved text have these lines
+pub record SavesUntil (rows : List Row) (e : Error) (text : List ℕ) : Type 0 where
+  pub before : List Row
+  pub row : Row
+  pub after : List Row
+  pub split : rows ≡ before ++ row ∷ after
+  pub fault : IsRowFault row.death e
+  pub lines : Saves json_lines before text
 
 -- ---- loading
 
