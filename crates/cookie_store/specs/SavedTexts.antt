@@ -2,12 +2,13 @@
 use Rattle.std.specs.Prelude.{◌≡◌, ◌⊎◌, ◌^◌, ◌-◌, ℕ, ℤ, List, [], ◌∷◌, ◌++◌, Bool, Option, Some, IfSome}
 use Rattle.std.specs.List.{flat_map}
 use Rattle.std.specs.Str.{IsUtf8}
+use Rattle.std.specs.Str.Lines.{lines}
 use Rattle.cookie_text.specs.ReadingBack.{Pairwise}
 use Rattle.devices.specs.Device.{Rose}
 use Rattle.serde_json.specs.Data.{Data}
 use Rattle.serde_json.specs.Read.{read}
-use Rattle.saved_text.specs.Json.{rows_value, row_text}
-use Rattle.saved_text.specs.JsonReading.{IsJsonFault, AreNoRows, IsShapeFault}
+use Rattle.saved_text.specs.Json.{rows_value, row_value, row_text}
+use Rattle.saved_text.specs.JsonReading.{IsJsonFault, AreNoRows, IsNoRow, IsShapeFault}
 use Rattle.saved_text.specs.RonReading.{IsRonFault}
 use Rattle.saved_text.specs.Row.{Shown}
 use Rattle.saved_text.specs.declared.error.SavedTextError.{SavedTextError}
@@ -96,6 +97,30 @@ IsValueRefusal fits e = IsRefusal (IsShapeFault fits) e
 -- and why not as RON
 abbrev pub IsRonRefusal : List ℕ → Error → Type 0
 IsRonRefusal text e = IsRefusal (IsRonFault text) e
+
+-- ---- lines of JSON
+
+-- the line is a row's JSON
+abbrev pub IsJsonRow : List ℕ → Row → Type 0
+IsJsonRow line row = (t : Shown) × (read line ≡ Some (row_value t)) × IsLoadedFrom t row
+
+abbrev pub IsLineOf : List ℕ → Row → Type 0
+IsLineOf line row = IsUtf8 line × IsJsonRow line row
+
+-- why it is none: it isn't UTF-8, or it is refused
+abbrev pub IsLineRefusal : List ℕ → Error → Type 0
+IsLineRefusal line e = ((e ≡ NotText) × (¬ IsUtf8 line)) ⊎ (IsUtf8 line × IsRefusal (IsJsonFault IsNoRow line) e)
+
+-- a store that loaded the rows of a text's lines
+abbrev pub LoadsLines : Bool → ℤ → List ℕ → Store → Type 0
+LoadsLines with_expired now text store =
+    (rows : List Row) × Pairwise IsLineOf (lines text) rows × (store ≡ loaded_store with_expired now rows)
+
+-- the first fault in the order of the lines, or want of memory
+abbrev pub StopsAt : List (List ℕ) → Error → Type 0
+StopsAt [] e = ⊥
+StopsAt (line ∷ more) e =
+    IsLineRefusal line e ⊎ (e ≡ OutOfMemory) ⊎ ((row : Row) × IsLineOf line row × StopsAt more e)
 
 -- ---- devices
 

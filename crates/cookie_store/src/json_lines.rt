@@ -1,8 +1,10 @@
 //! A store by lines of JSON.
-ghost use Rattle.std.specs.Prelude.{◌≡◌, ◌⊎◌, IfOk, IfErr, OnOk, option_map, string_bytes};
+ghost use Rattle.std.specs.Prelude.{◌≡◌, ◌⊎◌, IfOk, IfErr, OnOk, option_map, pos, true, false, string_bytes};
 ghost use Rattle.std.specs.Io.KnownBytes.{Appends};
 ghost use Rattle.jiff.specs.Words.{civil_nanos};
+ghost use Rattle.std.specs.Str.Lines.{lines};
 ghost use Rattle.saved_text.specs.Json.{row_text};
+ghost use Rattle.saved_text.specs.JsonReading.{IsJsonFault, IsNoRow};
 ghost use Rattle.saved_text.specs.Row.{Shown};
 ghost use Rattle.cookie_store.specs.Placing.{saved};
 ghost use Rattle.cookie_store.specs.SavedRows.{IsShownAs};
@@ -12,14 +14,15 @@ ghost use Rattle.cookie_store.specs.StoredCookie.{stored_of};
 
 use crate::action::StoreResult;
 use crate::rows::IterAny;
-use crate::saved_row::saved_of;
+use crate::saved_row::{loaded_of, saved_of};
+use crate::saved_rows::refusal;
 use crate::saving::is_wanted;
 use crate::serde::write_line;
 use crate::store::CookieStore;
 use crate::stored_cookie::Cookie;
-use devices::Sink;
+use devices::{Sink, Source};
 use jiff::civil::DateTime;
-use saved_text::row_to_json;
+use saved_text::{row_from_json, row_to_json};
 use std::alloc::Global;
 
 impl CookieStore {
@@ -60,6 +63,62 @@ impl CookieStore {
         ensures flushes { W.flushes writer.new ≡ W.flushes writer.old }
     {
         write_json(self.alloc(), self.iter_any(), writer, None)
+    }
+
+    /// Reads a line of JSON for each cookie, and answers a store of those that are not expired at
+    /// `now`, without a list of public suffixes. Of two with one key the later replaces the earlier in
+    /// its place. Deprecated: `serde::json::load` reads one text, which this one does not read.
+    ///
+    /// # Errors
+    ///
+    /// The first in the order of the lines: `NotText`, `Json`, or `Shape` where the value is of another
+    /// shape or the raw cookie or the date in it does not read; `Io` where a read fails; `OutOfMemory`.
+    pub fn load_json<R: Source>(
+        alloc: Global,
+        reader: &mut R,
+        now: DateTime,
+    ) -> StoreResult<CookieStore>
+        ensures ok { IfOk result (λ store. form.OfText (R.left reader.old)
+            (λ text. form.LoadsLines false (civil_nanos now) text store)) }
+        ensures err { IfErr result (λ e.
+            form.IsReadFault (R.failures reader.old) (R.failures reader.new) (R.reads reader.new) e
+            ⊎ form.OfText (R.left reader.old) (λ text. form.StopsAt (lines text) e)) }
+    {
+        let read = |line: &str|
+            ensures ok { IfOk result (λ cookie. form.IsJsonRow line.now (stored_of cookie)) }
+            ensures err { IfErr result (form.IsRefusal (IsJsonFault IsNoRow line.now)) }
+        { cookie_of_json(alloc, line) };
+        CookieStore::load(alloc, reader, read, now)
+    }
+
+    /// As `load_json`, with the cookies that are expired. Deprecated, as that is.
+    ///
+    /// # Errors
+    ///
+    /// As `load_json`.
+    pub fn load_json_all<R: Source>(alloc: Global, reader: &mut R) -> StoreResult<CookieStore>
+        ensures ok { IfOk result (λ store. form.OfText (R.left reader.old)
+            (λ text. form.LoadsLines true (pos 0) text store)) }
+        ensures err { IfErr result (λ e.
+            form.IsReadFault (R.failures reader.old) (R.failures reader.new) (R.reads reader.new) e
+            ⊎ form.OfText (R.left reader.old) (λ text. form.StopsAt (lines text) e)) }
+    {
+        let read = |line: &str|
+            ensures ok { IfOk result (λ cookie. form.IsJsonRow line.now (stored_of cookie)) }
+            ensures err { IfErr result (form.IsRefusal (IsJsonFault IsNoRow line.now)) }
+        { cookie_of_json(alloc, line) };
+        CookieStore::load_all(alloc, reader, read)
+    }
+}
+
+// The cookie of a line of JSON.
+fn cookie_of_json(alloc: Global, line: &str) -> StoreResult<Cookie<'static>>
+    ensures ok { IfOk result (λ cookie. form.IsJsonRow line.now (stored_of cookie)) }
+    ensures err { IfErr result (form.IsRefusal (IsJsonFault IsNoRow line.now)) }
+{
+    match row_from_json(alloc, line) {
+        Ok(row) => Ok(loaded_of(alloc, row)?),
+        Err(fault) => Err(refusal(fault)),
     }
 }
 
