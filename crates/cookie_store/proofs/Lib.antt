@@ -6,6 +6,7 @@ pub mod Confinement
 pub mod EndLemmas
 pub mod EntryLemmas
 pub mod GroupLemmas
+pub mod JsonLineLemmas
 pub mod LineLemmas
 pub mod LoadLemmas
 pub mod PlaceLaws

@@ -4,6 +4,10 @@ use Rattle.std.specs.Prelude.{ℕ, Result, Ok, Err, IfOk}
 use Rattle.std.proofs.Common.{inl, inr, refl, sym, ap, subst, ◌∙◌, append_assoc, append-nil}
 use Rattle.std.proofs.lemmas.Bool.{cond-true, cond-false, true≢false}
 use Rattle.std.specs.List.{AllByRecursion}
+use Rattle.std.specs.Io.KnownBytes.{Appends}
+use Rattle.std.proofs.KnownBytes.{Appends-nil, Appends-trans}
+use Rattle.std.proofs.lemmas.Grind.{flat_map-append}
+use Rattle.saved_text.specs.Json.{row_text}
 use Rattle.cookie_text.specs.ReadingBack.{Pairwise}
 use Rattle.saved_text.specs.JsonReading.{AreShown}
 use Rattle.saved_text.specs.Row.{Shown}
@@ -13,7 +17,7 @@ use Rattle.store_parts.specs.declared.error.Error.{Error}
 use Rattle.cookie_store.specs.Placing.{is_saved}
 use Rattle.cookie_store.specs.Rows.{Row}
 use Rattle.cookie_store.specs.SavedRows.{IsShownAs, IsLoadedFrom, IsBeforeYears}
-use Rattle.cookie_store.specs.SavedTexts.{OfText, IsRowFault, IsSaveFault, IsAnyBeforeYears}
+use Rattle.cookie_store.specs.SavedTexts.{OfText, Saves, SavesUntil, json_lines, IsRowFault, IsSaveFault, IsAnyBeforeYears}
 use Rattle.cookie_store.specs.Steps.{is_wanted, wanted}
 
 -- ---- those that are saved
@@ -112,3 +116,50 @@ pub of_text_ok : {S : Type 0} (left : Option (List ℕ)) (text : List ℕ) (P : 
     → OfText left (λ bytes. text ≡ bytes) → IfOk r (P text) → IfOk r (λ s. OfText left (λ t. P t s))
 of_text_ok left text P (Ok s) (bytes, is, e) h = (bytes, is, subst (λ t. P t s) e h)
 of_text_ok left text P (Err e) of h = tt
+
+-- ---- lines
+
+-- these rows have their lines, and the others of all follow
+pub record LinesSoFar (all : List Row) (old new : Option (List ℕ)) (rest : List Row) : Type 0 where
+  pub shown : List Shown
+  pub far : SavesSoFar all shown rest
+  pub written : Appends old new (json_lines shown)
+
+pub lines_begin : (all : List Row) (old : Option (List ℕ)) → LinesSoFar all old old all
+lines_begin all old = record {
+  shown = [];
+  far = record { done = []; whole = refl; pairs = tt };
+  written = Appends-nil old;
+}
+
+pub lines_more : (all : List Row) (old mid new : Option (List ℕ)) (row : Row) (rest : List Row) (t : Shown)
+    → LinesSoFar all old mid (row ∷ rest) → IsShownAs row t → Appends mid new (row_text t ++ 10 ∷ [])
+    → LinesSoFar all old new rest
+lines_more all old mid new row rest t far is line = record {
+  shown = far.shown ++ t ∷ [];
+  far = saves_more all far.shown row rest t far.far is;
+  written = subst (Appends old new)
+      (sym (flat_map-append (λ u. row_text u ++ 10 ∷ []) far.shown (t ∷ [])
+      ∙ ap (λ x. json_lines far.shown ++ x) (append-nil (row_text t ++ 10 ∷ []))))
+      (Appends-trans old mid new (json_lines far.shown) (row_text t ++ 10 ∷ []) far.written line);
+}
+
+pub lines_all : (all : List Row) (old new : Option (List ℕ)) → LinesSoFar all old new []
+    → (lines : List ℕ) × Saves json_lines all lines × Appends old new lines
+lines_all all old new far = (json_lines far.shown, (far.shown, saves_all all far.shown far.far, refl), far.written)
+
+pub lines_stop : (all : List Row) (old new : Option (List ℕ)) (row : Row) (rest : List Row) (e : Error)
+    → LinesSoFar all old new (row ∷ rest) → IsRowFault row.death e
+    → (lines : List ℕ) × SavesUntil all e lines × Appends old new lines
+lines_stop all old new row rest e far why = (
+  json_lines far.shown,
+  record {
+    before = far.far.done;
+    row = row;
+    after = rest;
+    split = sym far.far.whole;
+    fault = why;
+    lines = (far.shown, far.far.pairs, refl);
+  },
+  far.written,
+)

@@ -1,12 +1,14 @@
 -- Saved texts of a store's rows, and why rows aren't loaded from a text or saved to one (own: docs/DEFINITIONS.md).
 use Rattle.std.specs.Prelude.{◌≡◌, ◌⊎◌, ◌^◌, ◌-◌, ℕ, ℤ, List, [], ◌∷◌, ◌++◌, Bool, Option, Some, IfSome}
+use Rattle.std.specs.List.{flat_map}
 use Rattle.std.specs.Str.{IsUtf8}
+use Rattle.std.specs.Str.Lines.{lines}
 use Rattle.cookie_text.specs.ReadingBack.{Pairwise}
 use Rattle.devices.specs.Device.{Rose}
 use Rattle.serde_json.specs.Data.{Data}
 use Rattle.serde_json.specs.Read.{read}
-use Rattle.saved_text.specs.Json.{rows_value}
-use Rattle.saved_text.specs.JsonReading.{IsJsonFault, AreNoRows, IsShapeFault}
+use Rattle.saved_text.specs.Json.{rows_value, row_value, row_text}
+use Rattle.saved_text.specs.JsonReading.{IsJsonFault, AreNoRows, IsNoRow, IsShapeFault}
 use Rattle.saved_text.specs.RonReading.{IsRonFault}
 use Rattle.saved_text.specs.Row.{Shown}
 use Rattle.saved_text.specs.declared.error.SavedTextError.{SavedTextError}
@@ -38,6 +40,19 @@ pub record IsAnyBeforeYears (rows : List Row) : Type 0 where
 -- Why rows have no saved text: `Year` only where one has a death of a year below 0.
 abbrev pub IsSaveFault : List Row → Error → Type 0
 IsSaveFault rows e = ((e ≡ Year) × IsAnyBeforeYears rows) ⊎ (e ≡ OutOfMemory)
+
+-- one row a line, in compact JSON
+abbrev pub json_lines : List Shown → List ℕ
+json_lines all = flat_map (λ shown. row_text shown ++ 10 ∷ []) all
+
+-- the rows before one that has no saved text have these lines
+pub record SavesUntil (rows : List Row) (e : Error) (text : List ℕ) : Type 0 where
+  pub before : List Row
+  pub row : Row
+  pub after : List Row
+  pub split : rows ≡ before ++ row ∷ after
+  pub fault : IsRowFault row.death e
+  pub lines : Saves json_lines before text
 
 -- ---- loading
 
@@ -82,6 +97,30 @@ IsValueRefusal fits e = IsRefusal (IsShapeFault fits) e
 -- and why not as RON
 abbrev pub IsRonRefusal : List ℕ → Error → Type 0
 IsRonRefusal text e = IsRefusal (IsRonFault text) e
+
+-- ---- lines of JSON
+
+-- the line is a row's JSON
+abbrev pub IsJsonRow : List ℕ → Row → Type 0
+IsJsonRow line row = (t : Shown) × (read line ≡ Some (row_value t)) × IsLoadedFrom t row
+
+abbrev pub IsLineOf : List ℕ → Row → Type 0
+IsLineOf line row = IsUtf8 line × IsJsonRow line row
+
+-- why it is none: it isn't UTF-8, or it is refused
+abbrev pub IsLineRefusal : List ℕ → Error → Type 0
+IsLineRefusal line e = ((e ≡ NotText) × (¬ IsUtf8 line)) ⊎ (IsUtf8 line × IsRefusal (IsJsonFault IsNoRow line) e)
+
+-- a store that loaded the rows of a text's lines
+abbrev pub LoadsLines : Bool → ℤ → List ℕ → Store → Type 0
+LoadsLines with_expired now text store =
+    (rows : List Row) × Pairwise IsLineOf (lines text) rows × (store ≡ loaded_store with_expired now rows)
+
+-- the first fault in the order of the lines, or want of memory
+abbrev pub StopsAt : List (List ℕ) → Error → Type 0
+StopsAt [] e = ⊥
+StopsAt (line ∷ more) e =
+    IsLineRefusal line e ⊎ (e ≡ OutOfMemory) ⊎ ((row : Row) × IsLineOf line row × StopsAt more e)
 
 -- ---- devices
 

@@ -12,6 +12,7 @@
 #![tactic(auto)]
 
 mod action;
+mod json_lines;
 mod loading;
 mod requests;
 mod rows;

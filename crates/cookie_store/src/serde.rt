@@ -207,9 +207,10 @@ pub(crate) fn write_text<W: Sink>(writer: &mut W, text: &str) -> Result<()>
     }
 }
 
-// The text and a line feed.
-fn write_line<W: Sink>(writer: &mut W, text: &str) -> Result<()>
+/// The text and a line feed.
+pub(crate) fn write_line<W: Sink>(writer: &mut W, text: &str) -> Result<()>
     ensures bytes { OnOk result (Appends (W.written writer.old) (W.written writer.new) (text.now ++ 10 ∷ [])) }
+    ensures failures { OnOk result (W.failures writer.new ≡ W.failures writer.old) }
     ensures err { IfErr result (form.IsWriteFault (W.failures writer.old) (W.failures writer.new)) }
     ensures flushes { W.flushes writer.new ≡ W.flushes writer.old }
 {

@@ -522,3 +522,41 @@ fn a_closure_reads_the_list(rt: HostRuntime) {
     assert!(rt; matches!(loaded_lines(rt.alloc(), b"\xff", true), Err(Error::NotText)));
     assert!(rt; matches!(loaded_lines(rt.alloc(), b"b", true), Err(Error::Cookie(_))));
 }
+
+// ---- lines of JSON
+
+fn saved_lines(alloc: Global, store: &CookieStore) -> Result<Vec<u8>, Error> {
+    let mut out = Vec::new(alloc);
+    store.save_incl_expired_and_nonpersistent_json(&mut Counting::new(&mut out))?;
+    Ok(out)
+}
+
+fn are_lines(alloc: Global, store: &CookieStore, wanted: &str) -> bool {
+    match saved_lines(alloc, store) {
+        Ok(text) => text.as_slice() == wanted.as_bytes(),
+        Err(_) => false,
+    }
+}
+
+fn lines_come_back(alloc: Global, bytes: &[u8]) -> bool {
+    match CookieStore::load_json_all(alloc, &mut Counting::new(ByteByByte { bytes })) {
+        Ok(store) => has_rows(alloc, &store, " cookie1=value1"),
+        Err(_) => false,
+    }
+}
+
+fn is_no_json(alloc: Global, bytes: &[u8]) -> bool {
+    let answer = CookieStore::load_json(alloc, &mut Counting::new(ByteByByte { bytes }), at(0));
+    matches!(answer, Err(Error::Json))
+}
+
+#[test]
+fn a_row_is_a_line_of_json(rt: HostRuntime) -> Result<(), Fail> {
+    let mut store = CookieStore::new(rt.alloc());
+    let line = "http://example.com/foo/bar|cookie1=value1";
+    assert!(rt; receive(rt.alloc(), &mut store, line));
+    assert!(rt; are_lines(rt.alloc(), &store, LINE));
+    assert!(rt; lines_come_back(rt.alloc(), LINE.as_bytes()));
+    assert!(rt; is_no_json(rt.alloc(), LATER_JSON.as_bytes()));
+    Ok(())
+}

@@ -1,0 +1,158 @@
+//! A store by lines of JSON.
+ghost use Rattle.std.specs.Prelude.{◌≡◌, ◌⊎◌, IfOk, IfErr, OnOk, option_map, pos, true, false, string_bytes};
+ghost use Rattle.std.specs.Io.KnownBytes.{Appends};
+ghost use Rattle.jiff.specs.Words.{civil_nanos};
+ghost use Rattle.std.specs.Str.Lines.{lines};
+ghost use Rattle.saved_text.specs.Json.{row_text};
+ghost use Rattle.saved_text.specs.JsonReading.{IsJsonFault, IsNoRow};
+ghost use Rattle.saved_text.specs.Row.{Shown};
+ghost use Rattle.cookie_store.specs.Placing.{saved};
+ghost use Rattle.cookie_store.specs.SavedRows.{IsShownAs};
+ghost use Rattle.cookie_store.specs.SavedTexts as form;
+ghost use Rattle.cookie_store.specs.Steps.{wanted};
+ghost use Rattle.cookie_store.specs.StoredCookie.{stored_of};
+
+use crate::action::StoreResult;
+use crate::rows::IterAny;
+use crate::saved_row::{loaded_of, saved_of};
+use crate::saved_rows::refusal;
+use crate::saving::is_wanted;
+use crate::serde::write_line;
+use crate::store::CookieStore;
+use crate::stored_cookie::Cookie;
+use devices::{Sink, Source};
+use jiff::civil::DateTime;
+use saved_text::{row_from_json, row_to_json};
+use std::alloc::Global;
+
+impl CookieStore {
+    /// Writes a line of JSON for each cookie that has an end and is not expired at `now`, in the order
+    /// of the rows. Nothing is flushed. Deprecated: `serde::json::save` writes one text, which this
+    /// one's readers do not read.
+    ///
+    /// # Errors
+    ///
+    /// `Year` at a cookie that ends in a year below 0, or `OutOfMemory`: the lines of those before it
+    /// are written then. `Io` where the writer failed.
+    pub fn save_json<W: Sink>(&self, writer: &mut W, now: DateTime) -> StoreResult<()>
+        ensures ok { OnOk result ((lines : _)
+            × form.Saves form.json_lines (saved (civil_nanos now) self.now.rows) lines
+            × Appends (W.written writer.old) (W.written writer.new) lines) }
+        ensures err { IfErr result (λ e. form.IsWriteFault (W.failures writer.old) (W.failures writer.new) e
+            ⊎ ((lines : _) × form.SavesUntil (saved (civil_nanos now) self.now.rows) e lines
+            × Appends (W.written writer.old) (W.written writer.new) lines)) }
+        ensures flushes { W.flushes writer.new ≡ W.flushes writer.old }
+    {
+        write_json(self.alloc(), self.iter_any(), writer, Some(now))
+    }
+
+    /// As `save_json`, of all cookies. Deprecated, as that is.
+    ///
+    /// # Errors
+    ///
+    /// As `save_json`.
+    pub fn save_incl_expired_and_nonpersistent_json<W: Sink>(
+        &self,
+        writer: &mut W,
+    ) -> StoreResult<()>
+        ensures ok { OnOk result ((lines : _) × form.Saves form.json_lines self.now.rows lines
+            × Appends (W.written writer.old) (W.written writer.new) lines) }
+        ensures err { IfErr result (λ e. form.IsWriteFault (W.failures writer.old) (W.failures writer.new) e
+            ⊎ ((lines : _) × form.SavesUntil self.now.rows e lines
+            × Appends (W.written writer.old) (W.written writer.new) lines)) }
+        ensures flushes { W.flushes writer.new ≡ W.flushes writer.old }
+    {
+        write_json(self.alloc(), self.iter_any(), writer, None)
+    }
+
+    /// Reads a line of JSON for each cookie, and answers a store of those that are not expired at
+    /// `now`, without a list of public suffixes. Of two with one key the later replaces the earlier in
+    /// its place. Deprecated: `serde::json::load` reads one text, which this one does not read.
+    ///
+    /// # Errors
+    ///
+    /// The first in the order of the lines: `NotText`, `Json`, or `Shape` where the value is of another
+    /// shape or the raw cookie or the date in it does not read; `Io` where a read fails; `OutOfMemory`.
+    pub fn load_json<R: Source>(
+        alloc: Global,
+        reader: &mut R,
+        now: DateTime,
+    ) -> StoreResult<CookieStore>
+        ensures ok { IfOk result (λ store. form.OfText (R.left reader.old)
+            (λ text. form.LoadsLines false (civil_nanos now) text store)) }
+        ensures err { IfErr result (λ e.
+            form.IsReadFault (R.failures reader.old) (R.failures reader.new) (R.reads reader.new) e
+            ⊎ form.OfText (R.left reader.old) (λ text. form.StopsAt (lines text) e)) }
+    {
+        let read = |line: &str|
+            ensures ok { IfOk result (λ cookie. form.IsJsonRow line.now (stored_of cookie)) }
+            ensures err { IfErr result (form.IsRefusal (IsJsonFault IsNoRow line.now)) }
+        { cookie_of_json(alloc, line) };
+        CookieStore::load(alloc, reader, read, now)
+    }
+
+    /// As `load_json`, with the cookies that are expired. Deprecated, as that is.
+    ///
+    /// # Errors
+    ///
+    /// As `load_json`.
+    pub fn load_json_all<R: Source>(alloc: Global, reader: &mut R) -> StoreResult<CookieStore>
+        ensures ok { IfOk result (λ store. form.OfText (R.left reader.old)
+            (λ text. form.LoadsLines true (pos 0) text store)) }
+        ensures err { IfErr result (λ e.
+            form.IsReadFault (R.failures reader.old) (R.failures reader.new) (R.reads reader.new) e
+            ⊎ form.OfText (R.left reader.old) (λ text. form.StopsAt (lines text) e)) }
+    {
+        let read = |line: &str|
+            ensures ok { IfOk result (λ cookie. form.IsJsonRow line.now (stored_of cookie)) }
+            ensures err { IfErr result (form.IsRefusal (IsJsonFault IsNoRow line.now)) }
+        { cookie_of_json(alloc, line) };
+        CookieStore::load_all(alloc, reader, read)
+    }
+}
+
+// The cookie of a line of JSON.
+fn cookie_of_json(alloc: Global, line: &str) -> StoreResult<Cookie<'static>>
+    ensures ok { IfOk result (λ cookie. form.IsJsonRow line.now (stored_of cookie)) }
+    ensures err { IfErr result (form.IsRefusal (IsJsonFault IsNoRow line.now)) }
+{
+    match row_from_json(alloc, line) {
+        Ok(row) => Ok(loaded_of(alloc, row)?),
+        Err(fault) => Err(refusal(fault)),
+    }
+}
+
+// A line of each of the cookies that is saved.
+fn write_json<W: Sink>(
+    alloc: Global,
+    cookies: IterAny<'_>,
+    writer: &mut W,
+    now: Option<DateTime>,
+) -> StoreResult<()>
+    ensures ok { OnOk result ((lines : _)
+        × form.Saves form.json_lines (wanted (option_map civil_nanos now) cookies.entry) lines
+        × Appends (W.written writer.old) (W.written writer.new) lines) }
+    ensures err { IfErr result (λ e. form.IsWriteFault (W.failures writer.old) (W.failures writer.new) e
+        ⊎ ((lines : _) × form.SavesUntil (wanted (option_map civil_nanos now) cookies.entry) e lines
+        × Appends (W.written writer.old) (W.written writer.new) lines)) }
+    ensures flushes { W.flushes writer.new ≡ W.flushes writer.old }
+{
+    for cookie in cookies {
+        if is_wanted(cookie, &now) {
+            let line = json_of(alloc, cookie)?;
+            write_line(writer, line.as_str())?;
+        }
+    }
+    Ok(())
+}
+
+// The cookie in compact JSON.
+fn json_of(alloc: Global, cookie: &Cookie<'_>) -> StoreResult<String>
+    ensures ok { IfOk result (λ line. (t : Shown) × IsShownAs (stored_of cookie.now) t
+        × (string_bytes line ≡ row_text t)) }
+    ensures err { IfErr result (form.IsRowFault (stored_of cookie.now).death) }
+{
+    let row = saved_of(alloc, cookie)?;
+    let line = row_to_json(alloc, &row)?;
+    Ok(line)
+}
