@@ -38,6 +38,8 @@ pub mod Halting
 pub mod NoRules
 pub mod ScriptRun
 pub mod Following
+pub mod PairsAgain
+pub mod FromLines
 mod Facts
 mod SiteFacts
 mod Example

@@ -14,6 +14,9 @@ pub mod Headline
 pub mod Brought
 pub mod Sent
 pub mod Laws
+pub mod Again
+pub mod Keeping
+pub mod KeepingLaws
 pub mod ScriptMoment
 pub mod ScriptLine
 pub mod ScriptText

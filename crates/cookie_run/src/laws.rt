@@ -1,4 +1,6 @@
 //! What holds of every play on the rows of a store (RFC 6265, sections 5.2 to 5.4).
+ghost use Rattle.cookie_run.specs.Again.{TextsGivePairs, PairsReadAgain};
+ghost use Rattle.cookie_run.specs.KeepingLaws as kept;
 ghost use Rattle.cookie_run.specs.Laws as law;
 
 use cookie::Key;
@@ -53,3 +55,25 @@ pub fn sent_lines_are_taken()
 {
     encoded_records_read_back();
 }
+
+/// Name and value of what a text reads as, by `Cookie::parse`, read back from its printed text, which
+/// always reads, whatever attributes it has.
+pub fn pairs_read_again()
+    ensures read { TextsGivePairs }
+    ensures again { PairsReadAgain }
+{}
+
+/// Every row that a play left comes back where it is saved and loaded again: the printed text of its raw
+/// cookie reads, and domain, path, name, value and death are the same, whatever else of that cookie
+/// changes.
+pub fn rows_come_back(key: &Key)
+    ensures { kept.RowsComeBack key.now }
+{
+    pairs_read_again();
+}
+
+/// Of rows that come back those with a death that is to come are kept, one by one the same, where they
+/// are saved and loaded again at one moment, and none is added.
+pub fn restarts_keep_rows()
+    ensures { kept.RestartsKeepRows }
+{}
