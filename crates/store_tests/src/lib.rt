@@ -16,6 +16,8 @@ mod readme_store_tests;
 #[cfg(test)]
 mod row_tests;
 #[cfg(test)]
+mod saved_memory;
+#[cfg(test)]
 mod saved_tests;
 #[cfg(test)]
 mod store_cookie_tests;

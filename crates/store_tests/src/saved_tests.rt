@@ -4,6 +4,7 @@ use crate::fixtures::{at, gives, has_live_rows, has_rows, receive, store_with};
 use cookie_store::serde::{self, json, ron};
 use cookie_store::{Cookie, CookieExpiration, CookieStore, Counting, Error};
 use jiff::civil::DateTime;
+use serde_json::Value;
 use std::alloc::Global;
 use std::test::Fail;
 use test_kit::devices::{ByteByByte, FailsAt, TakesNone};
@@ -559,4 +560,51 @@ fn a_row_is_a_line_of_json(rt: HostRuntime) -> Result<(), Fail> {
     assert!(rt; lines_come_back(rt.alloc(), LINE.as_bytes()));
     assert!(rt; is_no_json(rt.alloc(), LATER_JSON.as_bytes()));
     Ok(())
+}
+
+// Whether neither a line nor a value is made of a row of the store, since it ends in a year below 0.
+fn has_no_json(alloc: Global, store: &CookieStore) -> bool {
+    matches!(saved_lines(alloc, store), Err(Error::Year))
+        && matches!(store.to_value(DateTime::MIN), Err(Error::Year))
+}
+
+#[test]
+fn an_end_of_a_year_below_0_has_no_json(rt: HostRuntime) -> Result<(), Fail> {
+    let store = ends_in(rt.alloc(), -1)?;
+    assert!(rt; has_no_json(rt.alloc(), &store));
+    Ok(())
+}
+
+// How a value that is the text is refused as a store and as a cookie.
+fn value_refusals(alloc: Global, text: &str) -> Option<(bool, bool)> {
+    let value = Value::from_str(alloc, text).ok()?;
+    let store = matches!(
+        CookieStore::from_value(alloc, &value, at(0)),
+        Err(Error::Shape)
+    );
+    let cookie = matches!(Cookie::from_value(alloc, &value), Err(Error::Shape));
+    Some((store, cookie))
+}
+
+#[test]
+fn refuses_values_of_another_shape(rt: HostRuntime) {
+    assert!(rt; value_refusals(rt.alloc(), "[]") == Some((false, true)));
+    assert!(rt; value_refusals(rt.alloc(), "{}") == Some((true, true)));
+    assert!(rt; value_refusals(rt.alloc(), "[1.5]") == Some((true, true)));
+    assert!(rt; value_refusals(rt.alloc(), "null") == Some((true, true)));
+}
+
+// How loading lines of JSON ends where the read of this number fails: LINE and the end are so many reads.
+fn lines_until(alloc: Global, call: u64) -> Result<CookieStore, Error> {
+    let bytes = LINE.as_bytes();
+    let mut reader = Counting::new(FailsAt::new(ByteByByte { bytes }, call));
+    CookieStore::load_json_all(alloc, &mut reader)
+}
+
+#[test]
+fn a_failed_read_of_lines_is_told(rt: HostRuntime) {
+    for call in 0..LINE.len() as u64 + 1 {
+        assert!(rt; is_io(&lines_until(rt.alloc(), call)));
+    }
+    assert!(rt; lines_until(rt.alloc(), LINE.len() as u64 + 1).is_ok());
 }

@@ -1,0 +1,123 @@
+//! Stores that are saved and loaded, with ample memory and with a growth refused at any place.
+//!
+//! A scenario answers whether all came out right, or the error. The first test of a pair accepts want of
+//! memory, too; the second shows that there is none with ample memory.
+
+use crate::fixtures::at;
+use cookie_store::serde::{json, ron};
+use cookie_store::{Cookie, CookieStore, Counting, Error};
+use std::alloc::Global;
+use url::Url;
+
+// A store of two rows, of which one has an end.
+fn two_rows(alloc: Global) -> Result<CookieStore, Error> {
+    let Ok(url) = Url::parse(alloc, "https://a.example/p/q") else {
+        return Err(Error::OutOfMemory);
+    };
+    let mut store = CookieStore::new(alloc);
+    store.parse("a=1; Domain=a.example; Max-Age=60", &url, at(0))?;
+    store.parse("b=2; Path=/", &url, at(0))?;
+    Ok(store)
+}
+
+// Whether the rows are those two.
+fn are_both(store: &CookieStore) -> bool {
+    store.contains_any("a.example", "/p", "a") && store.contains_any("a.example", "/", "b")
+}
+
+// Room for what is written, so that the writer takes no memory.
+fn room(alloc: Global) -> Result<Vec<u8>, Error> {
+    Ok(Vec::with_capacity(alloc, 1000)?)
+}
+
+fn saved_as_ron(alloc: Global, store: &CookieStore) -> Result<Vec<u8>, Error> {
+    let mut out = room(alloc)?;
+    ron::save_incl_expired_and_nonpersistent(store, &mut Counting::new(&mut out))?;
+    Ok(out)
+}
+
+fn saved_as_json(alloc: Global, store: &CookieStore) -> Result<Vec<u8>, Error> {
+    let mut out = room(alloc)?;
+    json::save_incl_expired_and_nonpersistent(store, &mut Counting::new(&mut out))?;
+    Ok(out)
+}
+
+fn saved_as_lines(alloc: Global, store: &CookieStore) -> Result<Vec<u8>, Error> {
+    let mut out = room(alloc)?;
+    store.save_incl_expired_and_nonpersistent_json(&mut Counting::new(&mut out))?;
+    Ok(out)
+}
+
+fn ron_comes_back(alloc: Global, store: &CookieStore) -> Result<bool, Error> {
+    let text = saved_as_ron(alloc, store)?;
+    let loaded = ron::load_all(alloc, &mut Counting::new(text.as_slice()))?;
+    Ok(are_both(&loaded))
+}
+
+fn json_comes_back(alloc: Global, store: &CookieStore) -> Result<bool, Error> {
+    let text = saved_as_json(alloc, store)?;
+    let loaded = json::load_all(alloc, &mut Counting::new(text.as_slice()))?;
+    Ok(are_both(&loaded))
+}
+
+fn lines_come_back(alloc: Global, store: &CookieStore) -> Result<bool, Error> {
+    let text = saved_as_lines(alloc, store)?;
+    let loaded = CookieStore::load_json_all(alloc, &mut Counting::new(text.as_slice()))?;
+    Ok(are_both(&loaded))
+}
+
+fn value_comes_back(alloc: Global, store: &CookieStore) -> Result<bool, Error> {
+    let value = store.to_value(at(0))?;
+    let loaded = CookieStore::from_value(alloc, &value, at(0))?;
+    Ok(loaded.contains_any("a.example", "/p", "a"))
+}
+
+fn cookie_comes_back(alloc: Global, cookie: &Cookie<'_>) -> Result<bool, Error> {
+    let value = cookie.to_value(alloc)?;
+    let loaded = Cookie::from_value(alloc, &value)?;
+    Ok(loaded == *cookie)
+}
+
+fn cookies_come_back(alloc: Global, store: &CookieStore) -> Result<bool, Error> {
+    for cookie in store.iter_any() {
+        if !cookie_comes_back(alloc, cookie)? {
+            return Ok(false);
+        }
+    }
+    Ok(true)
+}
+
+fn all_come_back(alloc: Global, store: &CookieStore) -> Result<bool, Error> {
+    Ok(
+        ron_comes_back(alloc, store)?
+            && json_comes_back(alloc, store)?
+            && lines_come_back(alloc, store)?
+            && value_comes_back(alloc, store)?
+            && cookies_come_back(alloc, store)?,
+    )
+}
+
+mod memory {
+    use super::{all_come_back, two_rows};
+    use cookie_store::Error;
+    use std::alloc::Global;
+
+    fn comes_back(alloc: Global) -> Result<bool, Error> {
+        let store = two_rows(alloc)?;
+        all_come_back(alloc, &store)
+    }
+
+    #[test]
+    fn a_store_comes_back(rt: HostRuntime) {
+        let is_right = match comes_back(rt.alloc()) {
+            Ok(is_right) => is_right,
+            Err(error) => matches!(error, Error::OutOfMemory),
+        };
+        assert!(rt; is_right);
+    }
+
+    #[test]
+    fn a_store_comes_back_with_ample_memory(rt: HostRuntime) {
+        assert!(rt; comes_back(rt.alloc()).unwrap_or(false));
+    }
+}
