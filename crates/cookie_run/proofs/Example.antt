@@ -93,4 +93,4 @@ pub apart_unrelated : (rules : List Rule) (host other : List ℕ) → AreApart r
     → ¬ (AreRelated rules host other)
 apart_unrelated rules host other apart differ (inl same) = differ same
 apart_unrelated rules host other apart differ (inr shared) =
-    shared.2.2.2 (apart shared.0 shared.1 shared.2.0 shared.2.1)
+    shared.4 (apart shared.0 shared.1 shared.2 shared.3)
