@@ -322,12 +322,12 @@ fn refuses_bytes_that_are_no_text(rt: HostRuntime) {
 
 // ---- ends of years below 0
 
-// A store of a cookie that ends in this year.
-fn ends_in(alloc: Global, year: i16) -> Result<CookieStore, Fail> {
+// A store of a cookie that ends then.
+fn ends_in(alloc: Global, end: DateTime) -> Result<CookieStore, Fail> {
     let mut store = CookieStore::new(alloc);
     let url = Url::parse(alloc, "https://a.com/")?;
     let mut cookie = Cookie::parse(alloc, "a=1", &url, DateTime::MIN)?.into_owned(alloc)?;
-    cookie.expires = CookieExpiration::AtUtc(DateTime::constant(year, 12, 31, 0, 0, 0, 0));
+    cookie.expires = CookieExpiration::AtUtc(end);
     store.insert(cookie, &url, DateTime::MIN)?;
     Ok(store)
 }
@@ -349,7 +349,7 @@ fn is_year(alloc: Global, store: &CookieStore, form: Form) -> bool {
 
 #[test]
 fn an_end_of_a_year_below_0_is_not_saved(rt: HostRuntime) -> Result<(), Fail> {
-    let store = ends_in(rt.alloc(), -1)?;
+    let store = ends_in(rt.alloc(), DateTime::constant(-1, 12, 31, 0, 0, 0, 0))?;
     assert!(rt; is_year(rt.alloc(), &store, Form::Ron));
     assert!(rt; is_year(rt.alloc(), &store, Form::Json));
     assert!(rt; is_saved(rt.alloc(), &store, Form::Ron, Some(0), "[]\n"));
@@ -358,7 +358,7 @@ fn an_end_of_a_year_below_0_is_not_saved(rt: HostRuntime) -> Result<(), Fail> {
 
 #[test]
 fn an_end_of_the_year_0_is_saved(rt: HostRuntime) -> Result<(), Fail> {
-    let store = ends_in(rt.alloc(), 0)?;
+    let store = ends_in(rt.alloc(), DateTime::constant(0, 12, 31, 0, 0, 0, 0))?;
     assert!(rt; saved(rt.alloc(), &store, Form::Ron, None).is_ok());
     Ok(())
 }
@@ -570,7 +570,7 @@ fn has_no_json(alloc: Global, store: &CookieStore) -> bool {
 
 #[test]
 fn an_end_of_a_year_below_0_has_no_json(rt: HostRuntime) -> Result<(), Fail> {
-    let store = ends_in(rt.alloc(), -1)?;
+    let store = ends_in(rt.alloc(), DateTime::constant(-1, 12, 31, 0, 0, 0, 0))?;
     assert!(rt; has_no_json(rt.alloc(), &store));
     Ok(())
 }
