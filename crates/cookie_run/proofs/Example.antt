@@ -14,7 +14,7 @@ use Rattle.cookie_run.specs.Headline.{AreApart, AreRelated}
 abbrev pub shop : List ℕ
 shop = codes "shop.com"
 
-abbrev evil : List ℕ
+abbrev pub evil : List ℕ
 evil = codes "evil.com"
 
 abbrev com_rule : Rule
@@ -37,7 +37,7 @@ com_named : IsName (codes "com")
 com_named = All-from_recursion (λ label. label ≢ []) (labels_of (codes "com"))
     ((λ e. let wrong : codes "com" ≡ [] = e in cc), tt)
 
-only : (other : Rule) (k : ℕ) → k < 1 → get_or list k other ≡ other → com_rule ≡ other
+pub only : (other : Rule) (k : ℕ) → k < 1 → get_or list k other ≡ other → com_rule ≡ other
 only other zero h e = e
 only other (suc k) h e = absurd (omega (arith, h))
 
@@ -79,7 +79,7 @@ after_dot text h =
 shorter : (host before text : List ℕ) → host ≡ before ++ 46 ∷ text → length text < length host
 shorter host before text e = omega (arith, ap length e, length-append before (46 ∷ text))
 
-apart : AreApart list shop evil
+pub apart : AreApart list shop evil
 apart text some (inl same) (inl other) = absurd (let wrong : 115 ≡ 101 = ap (λ xs. get_or xs 0 0) (same ∙ sym other) in
     omega (arith, wrong))
 apart text some (inl same) (inr below) = absurd (let n = shorter evil below.1.0 text below.1.1 in omega
@@ -91,6 +91,6 @@ apart text some (inr below) (inr other) = subst (Listed list) (sym (after_dot te
 -- hosts that differ and are apart aren't related
 pub apart_unrelated : (rules : List Rule) (host other : List ℕ) → AreApart rules host other → host ≢ other
     → ¬ (AreRelated rules host other)
-apart_unrelated rules host other apart differ (inl same) = differ same
-apart_unrelated rules host other apart differ (inr shared) =
-    shared.4 (apart shared.0 shared.1 shared.2 shared.3)
+apart_unrelated rules host other are differ (inl same) = differ same
+apart_unrelated rules host other are differ (inr shared) =
+    shared.4 (are shared.0 shared.1 shared.2 shared.3)

@@ -31,6 +31,7 @@ use Rattle.cookie_run.proofs.Showing.{all_records}
 use Rattle.cookie_run.proofs.Texts.{same_text}
 use Rattle.cookie_store.specs.Rows.{Row}
 use Rattle.cookie_run.specs.Accept.{AcceptsAll}
+use Rattle.cookie_run.specs.Again.{PairsReadAgain}
 use Rattle.cookie_run.specs.declared.step.LineEnd.{LineEnd}
 use Rattle.cookie_run.specs.Header.{IsHeader}
 use Rattle.cookie_run.specs.declared.step.Command.{Command}
@@ -45,11 +46,12 @@ use Rattle.cookie_run.proofs.Walking.{MatchesHeld, brings, IsFitChange, AllFit, 
 use Rattle.cookie_run.proofs.Walking.{matches_later}
 use Rattle.cookie_run.proofs.Commands.{Known, EndsLate, all_go}
 
--- what the crates below promise
+-- what public laws promise
 pub record Laws (key : List ℕ) : Type 0 where
   pub back : ReadingBack
   pub only : OnlyOne key
   pub utf8 : (c : Record) → IsClosed c → IsUtf8 (encoded c)
+  pub again : PairsReadAgain
 
 -- ---- THE LINES OF A SESSION
 

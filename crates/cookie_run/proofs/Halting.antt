@@ -125,6 +125,10 @@ pub open_header : (r : Reached) (url : Parts) (at : ℤ) → IsWithin r.now
     → obeyed r.acts r.last r.now (spec.Heads url at) ≡ Err Open
 open_header r url at (Is u a cs e) = ap (λ now. obeyed r.acts r.last now (spec.Heads url at)) e
 
+pub open_restart : (r : Reached) (at : ℤ) → IsWithin r.now
+    → obeyed r.acts r.last r.now (spec.Restarts at) ≡ Err Open
+open_restart r at (Is u a cs e) = ap (λ now. obeyed r.acts r.last now (spec.Restarts at)) e
+
 pub refused_command : (r : Reached) (c : Command) (e : SessionError) → IsWithin r.now → command_refusal c ≡ Some e
     → obeyed r.acts r.last r.now (spec.Commands c) ≡ Err (cause_of e)
 refused_command r c e (Is u a cs is) refused =

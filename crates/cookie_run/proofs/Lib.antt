@@ -15,6 +15,7 @@ pub mod Walking
 pub mod Commands
 pub mod Sending
 pub mod Exchange
+pub mod Restarting
 pub mod Removals
 pub mod Promises
 pub mod Sites
@@ -40,8 +41,16 @@ pub mod ScriptRun
 pub mod Following
 pub mod PairsAgain
 pub mod FromLines
+pub mod ReadOnce
+pub mod Picks
+pub mod Tried
+pub mod ClientRows
+pub mod AloneRuns
+pub mod Strangers
+pub mod Untouched
 mod Facts
 mod SiteFacts
 mod Example
+mod RelatedFacts
 mod ScriptFacts
 mod VisitFacts

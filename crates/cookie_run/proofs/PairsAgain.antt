@@ -21,7 +21,7 @@ use Rattle.cookie_text.specs.Attribute.{Attribute}
 use Rattle.cookie_text.specs.Printing.{printed, printed_attributes, attributes_of, piece_text}
 use Rattle.cookie_text.specs.Reading.{ReadsPlain, IsPair, first_piece}
 use Rattle.cookie_text.specs.Record.{Record, Seen}
-use Rattle.cookie_run.specs.Again.{Lacks, IsReadPair, ReadsSamePair, TextsGivePairs, PairsReadAgain}
+use Rattle.cookie_run.specs.Again.{Lacks, IsReadPair, TextsGivePairs, PairsReadAgain}
 
 -- ---- no byte of the list is this one
 
@@ -37,9 +37,14 @@ encode_lacks : (k c : ℕ) → k < 128 → c ≢ k → Lacks k (encode c)
 unfolding encode
 encode_lacks k c small other =
     cond_both (ltb c 128) _ _ (Lacks k) (λ e. (other, tt)) (λ e.
-    cond_both (ltb c 2048) _ _ (Lacks k) (λ e. ((λ s. omega (arith, s, small)), ((λ s. omega (arith, s, small)), tt))) (λ e.
-    cond_both (ltb c 65536) _ _ (Lacks k) (λ e. ((λ s. omega (arith, s, small)), ((λ s. omega (arith, s, small)), ((λ s. omega (arith, s, small)), tt)))) (λ e.
-    ((λ s. omega (arith, s, small)), ((λ s. omega (arith, s, small)), ((λ s. omega (arith, s, small)), ((λ s. omega (arith, s, small)), tt)))))))
+    cond_both (ltb c 2048) _ _ (Lacks k) (λ e. ((λ s. omega (arith, s, small)), ((λ s. omega (arith, s, small)), tt)))
+    (λ e.
+    cond_both (ltb c 65536) _ _ (Lacks k)
+    (λ e. ((λ s. omega (arith, s, small)), ((λ s. omega (arith, s, small)), ((λ s. omega (arith, s, small)), tt))))
+    (λ e. (
+      (λ s. omega (arith, s, small)),
+      ((λ s. omega (arith, s, small)), ((λ s. omega (arith, s, small)), ((λ s. omega (arith, s, small)), tt))),
+    ))))
 
 itself : (k : ℕ) → k < 128 → encode k ≡ k ∷ []
 unfolding encode
@@ -53,7 +58,8 @@ chars_lacks k (c ∷ cs) small h =
 
 encodes_lacks : (k : ℕ) (cs : List ℕ) → k < 128 → Lacks k cs → Lacks k (encodes cs)
 encodes_lacks k [] small h = tt
-encodes_lacks k (c ∷ cs) small h = join_lacks k (encode c) (encodes cs) (encode_lacks k c small h.0) (encodes_lacks k cs small h.1)
+encodes_lacks k (c ∷ cs) small h = join_lacks k (encode c) (encodes cs) (encode_lacks k c small h.0)
+    (encodes_lacks k cs small h.1)
 
 -- ---- trimming characters
 
@@ -72,17 +78,22 @@ drop_lacks : (P : ℕ → Type 0) (cs : List ℕ) → AllByRecursion P cs → Al
 drop_lacks P [] h = tt
 drop_lacks P (c ∷ cs) h =
     ⊎_elim
-    (λ (e : (is_whitespace c && length (drop_trailing_whitespace cs) == 0) ≡ true). subst (AllByRecursion P) (sym (cond-true _ _ _ e)) tt)
-    (λ (e : (is_whitespace c && length (drop_trailing_whitespace cs) == 0) ≡ false). subst (AllByRecursion P) (sym (cond-false _ _ _ e)) (h.0, drop_lacks P cs h.1))
+    (λ (e : (is_whitespace c && length (drop_trailing_whitespace cs) == 0) ≡ true). subst (AllByRecursion P)
+    (sym (cond-true _ _ _ e)) tt)
+    (λ (e : (is_whitespace c && length (drop_trailing_whitespace cs) == 0) ≡ false). subst (AllByRecursion P)
+    (sym (cond-false _ _ _ e)) (h.0, drop_lacks P cs h.1))
     (cases_Bool (is_whitespace c && length (drop_trailing_whitespace cs) == 0))
 
 drop_twice : (cs : List ℕ) → drop_trailing_whitespace (drop_trailing_whitespace cs) ≡ drop_trailing_whitespace cs
 drop_twice [] = refl
 drop_twice (c ∷ cs) =
     ⊎_elim
-    (λ (e : (is_whitespace c && length (drop_trailing_whitespace cs) == 0) ≡ true). ap drop_trailing_whitespace (cond-true _ _ _ e) ∙ sym (cond-true _ _ _ e))
+    (λ (e : (is_whitespace c && length (drop_trailing_whitespace cs) == 0) ≡ true). ap drop_trailing_whitespace
+    (cond-true _ _ _ e) ∙ sym (cond-true _ _ _ e))
     (λ (e : (is_whitespace c && length (drop_trailing_whitespace cs) == 0) ≡ false).
-    let same : cond (is_whitespace c && length (drop_trailing_whitespace (drop_trailing_whitespace cs)) == 0) [] (c ∷ drop_trailing_whitespace (drop_trailing_whitespace cs)) ≡ cond (is_whitespace c && length (drop_trailing_whitespace cs) == 0) [] (c ∷ drop_trailing_whitespace cs) =
+    let same : cond (is_whitespace c && length (drop_trailing_whitespace (drop_trailing_whitespace cs)) == 0) []
+    (c ∷ drop_trailing_whitespace (drop_trailing_whitespace cs)) ≡ cond
+    (is_whitespace c && length (drop_trailing_whitespace cs) == 0) [] (c ∷ drop_trailing_whitespace cs) =
     ap (λ ds. cond (is_whitespace c && length ds == 0) [] (c ∷ ds)) (drop_twice cs) in
     ap drop_trailing_whitespace (cond-false _ _ _ e) ∙ same)
     (cases_Bool (is_whitespace c && length (drop_trailing_whitespace cs) == 0))
@@ -95,8 +106,10 @@ skip_strip (c ∷ cs) =
     let same : strip (c ∷ cs) ≡ strip cs = ap drop_trailing_whitespace (cond-true _ _ _ e) in
     ap skip_leading_whitespace same ∙ (skip_strip cs ∙ sym same))
     (λ (e : is_whitespace c ≡ false).
-    let kept : (is_whitespace c && length (drop_trailing_whitespace cs) == 0) ≡ false = ap (λ b. b && length (drop_trailing_whitespace cs) == 0) e in
-    let same : strip (c ∷ cs) ≡ c ∷ drop_trailing_whitespace cs = ap drop_trailing_whitespace (cond-false _ _ _ e) ∙ cond-false _ _ _ kept in
+    let kept : (is_whitespace c && length (drop_trailing_whitespace cs) == 0) ≡ false = ap
+    (λ b. b && length (drop_trailing_whitespace cs) == 0) e in
+    let same : strip (c ∷ cs) ≡ c ∷ drop_trailing_whitespace cs = ap drop_trailing_whitespace (cond-false _ _ _ e)
+    ∙ cond-false _ _ _ kept in
     ap skip_leading_whitespace same ∙ (cond-false _ _ _ e ∙ sym same))
     (cases_Bool (is_whitespace c))
 
@@ -117,24 +130,30 @@ skip_scalars : (cs : List ℕ) → scalars cs ≡ true → scalars (skip_leading
 skip_scalars cs h = scalars_all _ (skip_lacks (λ c. scalar c ≡ true) cs (all_scalars cs h))
 
 strip_scalars : (cs : List ℕ) → scalars cs ≡ true → scalars (strip cs) ≡ true
-strip_scalars cs h = scalars_all _ (drop_lacks (λ c. scalar c ≡ true) _ (skip_lacks (λ c. scalar c ≡ true) cs (all_scalars cs h)))
+strip_scalars cs h = scalars_all _
+    (drop_lacks (λ c. scalar c ≡ true) _ (skip_lacks (λ c. scalar c ≡ true) cs (all_scalars cs h)))
 
 trim_is : (x : List ℕ) → IsUtf8 x → trim x ≡ encodes (strip (chars x))
 unfolding trim_start trim_end
-trim_is x h = ap (λ cs. encodes (drop_trailing_whitespace cs)) (chars-encodes (skip_leading_whitespace (chars x)) (skip_scalars (chars x) (scalars-chars x h)))
+trim_is x h = ap (λ cs. encodes (drop_trailing_whitespace cs)) (chars-encodes (skip_leading_whitespace (chars x))
+    (skip_scalars (chars x) (scalars-chars x h)))
 
 trim_utf8 : (x : List ℕ) → IsUtf8 x → IsUtf8 (trim x)
 trim_utf8 x h = (strip (chars x), (strip_scalars (chars x) (scalars-chars x h), sym (trim_is x h)))
 
 trim_twice : (x : List ℕ) → IsUtf8 x → trim (trim x) ≡ trim x
 trim_twice x h =
-    let again : chars (trim x) ≡ strip (chars x) = ap chars (trim_is x h) ∙ chars-encodes (strip (chars x)) (strip_scalars (chars x) (scalars-chars x h)) in
-    trim_is (trim x) (trim_utf8 x h) ∙ (ap (λ cs. encodes (strip cs)) again ∙ (ap encodes (strip_twice (chars x)) ∙ sym (trim_is x h)))
+    let again : chars (trim x) ≡ strip (chars x) = ap chars (trim_is x h)
+    ∙ chars-encodes (strip (chars x)) (strip_scalars (chars x) (scalars-chars x h)) in
+    trim_is (trim x) (trim_utf8 x h)
+    ∙ (ap (λ cs. encodes (strip cs)) again ∙ (ap encodes (strip_twice (chars x)) ∙ sym (trim_is x h)))
 
 trim_lacks : (k : ℕ) (x : List ℕ) → k < 128 → IsUtf8 x → Lacks k x → Lacks k (trim x)
 trim_lacks k x small h free =
     subst (Lacks k) (sym (trim_is x h))
-    (encodes_lacks k (strip (chars x)) small (drop_lacks (λ b. b ≢ k) _ (skip_lacks (λ b. b ≢ k) (chars x) (chars_lacks k (chars x) small (subst (Lacks k) (sym (encodes-chars x h)) free)))))
+    (encodes_lacks k (strip (chars x)) small
+    (drop_lacks (λ b. b ≢ k) _ (skip_lacks (λ b. b ≢ k) (chars x)
+    (chars_lacks k (chars x) small (subst (Lacks k) (sym (encodes-chars x h)) free)))))
 
 -- ---- cutting a text
 
@@ -159,7 +178,8 @@ cut_lacks c (x ∷ xs) =
     let here : position_or_len (λ b. b == c) (x ∷ xs) ≡ 0 = grind (arith, nat_tests, e) in
     subst (λ n. Lacks c (take n (x ∷ xs))) (sym here) tt)
     (λ (e : (x == c) ≡ false).
-    let later : position_or_len (λ b. b == c) (x ∷ xs) ≡ suc (position_or_len (λ b. b == c) xs) = grind (arith, nat_tests, e) in
+    let later : position_or_len (λ b. b == c) (x ∷ xs) ≡ suc (position_or_len (λ b. b == c) xs) = grind
+    (arith, nat_tests, e) in
     subst (λ n. Lacks c (take n (x ∷ xs))) (sym later) (not_byte c x e, cut_lacks c xs))
     (cases_Bool (x == c))
 
@@ -174,7 +194,8 @@ cut_utf8 c xs small h =
     subst IsUtf8 (sym (take_all (position_or_len (λ b. b == c) xs) xs (grind (arith, nat_tests, e)))) h)
     (cases_Bool (ltb (position_or_len (λ b. b == c) xs) (length xs)))
 
-behind_utf8 : (c : ℕ) (xs : List ℕ) → c < 128 → IsUtf8 xs → position_or_len (λ b. b == c) xs < length xs → IsUtf8 (after_first (λ b. b == c) xs)
+behind_utf8 : (c : ℕ) (xs : List ℕ) → c < 128 → IsUtf8 xs → position_or_len (λ b. b == c) xs < length xs
+    → IsUtf8 (after_first (λ b. b == c) xs)
 behind_utf8 c xs small h lt =
     let at : (get_or xs (position_or_len (λ b. b == c) xs) 0 == c) ≡ true = passes_at_first (λ b. b == c) xs 0 lt in
     IsUtf8-drop xs _ h (IsCharBoundary-after_ascii xs _ h lt (grind (arith, nat_tests, at, small)))
@@ -271,11 +292,15 @@ ok_again c (Ok t) h reads =
       reads.value ∙ (ap text_after front ∙ (value_after c.name c.value uncut ∙ h.value_trimmed)),
     )
 
-pub pair_reads_again : PairsReadAgain
-pair_reads_again c o h reads =
+pub prints_pair : (c : Record) → IsReadPair c.name c.value → IsPair (first_piece (printed c))
+prints_pair c h =
     let uncut = tests_lacks 61 c.name h.name_uncut in
     let is_pair : IsPair (c.name ++ 61 ∷ c.value) = (
       ltb-true _ _ (has_equals c.name c.value uncut),
       subst (λ n. 0 < length n) (sym (name_before c.name c.value uncut ∙ h.name_trimmed)) h.named,
     ) in
-    record { accepted = reads.accepted.1 (subst IsPair (sym (front_again c h)) is_pair); pair = ok_again c o h reads }
+    subst IsPair (sym (front_again c h)) is_pair
+
+pub pair_reads_again : PairsReadAgain
+pair_reads_again c o h reads =
+    record { accepted = reads.accepted.1 (prints_pair c h); pair = ok_again c o h reads }

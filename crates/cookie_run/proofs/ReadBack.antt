@@ -17,6 +17,7 @@ use Rattle.percent_encoding.proofs.PercentLemmas.{IsByte, percent_decode-nil}
 use Rattle.cookie_text.specs.Pieces.{name_of, text_after, value_of}
 use Rattle.cookie_text.specs.Printing.{encoded_pair, escaped, stripped}
 use Rattle.cookie_text.specs.Record.{Record, bare}
+use Rattle.cookie_run.specs.Again.{Lacks, IsReadPair}
 use Rattle.cookie_run.proofs.HeaderCookies.{pair_in, decoded, cookie_of}
 use Rattle.cookie_run.proofs.Escaped.{IsPlain, escaped_plain, decoded_escaped}
 
@@ -164,6 +165,32 @@ escaped_nonempty n named bytes e = named (sym (decoded_escaped n bytes) ∙ (ap 
 pair_named : (n v : List ℕ) → n ≢ [] → pair_in n (Some v) ≡ decoded n v
 pair_named [] v h = absurd (h refl)
 pair_named (b ∷ bs) v h = refl
+
+-- ---- it reads as itself where it is read undecoded
+
+plain_no_equals : (bs : List ℕ) → AllByRecursion IsPlain bs → Lacks 61 bs
+plain_no_equals [] h = tt
+plain_no_equals (b ∷ bs) h = (h.0.no_equals, plain_no_equals bs h.1)
+
+plain_no_semicolon : (bs : List ℕ) → AllByRecursion IsPlain bs → Lacks 59 bs
+plain_no_semicolon [] h = tt
+plain_no_semicolon (b ∷ bs) h = (h.0.no_semicolon, plain_no_semicolon bs h.1)
+
+some_bytes : (bs : List ℕ) → bs ≢ [] → 0 < length bs
+some_bytes [] h = absurd (h refl)
+some_bytes (b ∷ bs) h = omega arith
+
+pub escaped_pair : (n v : List ℕ) → n ≢ [] → All IsByte n → IsReadPair (escaped n) (escaped v)
+escaped_pair n v named bytes = record {
+  named = some_bytes (escaped n) (escaped_nonempty n named bytes);
+  name_uncut = plain_no_equals (escaped n) (escaped_plain n);
+  name_whole = plain_no_semicolon (escaped n) (escaped_plain n);
+  name_trimmed = trim_graphic (escaped n) (plain_graphic (escaped n) (escaped_plain n));
+  value_whole = plain_no_semicolon (escaped v) (escaped_plain v);
+  value_trimmed = trim_graphic (escaped v) (plain_graphic (escaped v) (escaped_plain v));
+}
+
+-- ---- it reads back where it is decoded
 
 pub ascii_is_utf8 : (bs : List ℕ) → IsAscii bs → is_utf8 bs ≡ true
 ascii_is_utf8 bs h = is_utf8-from_IsUtf8 bs (IsUtf8-from_ascii bs h)

@@ -22,7 +22,7 @@ use Rattle.cookie_run.specs.Moments.{second_1971}
 stopped_after : (n : ℤ) → pos 0 ≤ℤ n → n ≤ℤ last_moment → stopped n ≡ n
 stopped_after n h g = grind (arith, ints)
 
-early_year : (d : DateTime) → d.date.year <ℤ pos 1970 → civil_nanos d <ℤ pos 0
+pub early_year : (d : DateTime) → d.date.year <ℤ pos 1970 → civil_nanos d <ℤ pos 0
 unfolding days_from_civil
 early_year d h =
     let before = day_count-lt_year d.date.year d.date.month d.date.day (pos 1970) 1 1 (civil d.date) (omega arith) h in

@@ -10,7 +10,7 @@ use Rattle.cookie_run.specs.Site.{Plain, Signed}
 use Rattle.cookie_run.specs.declared.step.Way.TheVariants as ways
 use Rattle.cookie_store.specs.Insertion.{settled}
 use Rattle.cookie_store.specs.Rows.{Row}
-use Rattle.cookie_run.specs.Site.{nothing, live, left_by_all}
+use Rattle.cookie_run.specs.Site.{Held, nothing, live, left_by_all, restarted}
 use Rattle.cookie_store.specs.declared.action.StoreAction.TheVariants.{Inserted, ExpiredExisting, UpdatedExisting}
 use Rattle.cookie_run.specs.declared.step.Command.{Command}
 use Rattle.cookie_run.specs.declared.step.Command.TheVariants.{Set, Remove}
@@ -102,6 +102,22 @@ last_wins = refl
 other_way : left_by_all (at 5) nothing (set (plain a (codes "1")) ∷ Set ways.Signed (plain a (codes "2")) ∷ []) a ≡ Some
     (record { entry = record { kind = Signed; value = codes "2" }; death = None })
 other_way = refl
+
+-- ---- a restart
+
+-- what has no death is gone, and what has one stays until then
+abbrev after_restart : Seen → ℤ → Option Held
+after_restart c later = restarted (left_by_all (at 5) nothing (set c ∷ [])) later a
+
+no_death : after_restart (plain a (codes "1")) (at 6) ≡ None
+no_death = refl
+
+lasting : after_restart (aged a (codes "1") 10) (at 14) ≡ Some
+    (record { entry = record { kind = Plain; value = codes "1" }; death = Some (at 15) })
+lasting = refl
+
+no_longer : after_restart (aged a (codes "1") 10) (at 15) ≡ None
+no_longer = refl
 
 -- ---- the rows
 

@@ -31,10 +31,10 @@ use Rattle.cookie_run.specs.Readings.{IsRemovalAnswer, AnswersTo, AnswersAct, An
 use Rattle.cookie_run.specs.Stops.{StopsFrom, StopsInside, GoesOnBy}
 use Rattle.cookie_run.specs.Laws.{EachPlayIsRead, EachStoppedPlayIsRead}
 use Rattle.cookie_store.specs.Rows.{Row}
-use Rattle.cookie_run.specs.Acts.{Act, Visits, Answers, Asks, moments_in, moments_of, opening_of, arrival_in}
+use Rattle.cookie_run.specs.Acts.{Act, Visits, Answers, Asks, Restarts, moments_in, moments_of, opening_of, arrival_in}
 use Rattle.cookie_run.specs.declared.step.Command.{Command}
 use Rattle.cookie_run.specs.declared.step.Command.TheVariants.{Set, Remove, Get}
-use Rattle.cookie_run.specs.Site.{Site, nothing, live}
+use Rattle.cookie_run.specs.Site.{Site, nothing, live, restarted}
 use Rattle.cookie_run.specs.Headline.{AnswersBySessions, AnswersApart, Each, ReadsOn, EachReadsOn, AllOn, FrontOn}
 use Rattle.cookie_run.specs.Headline.{StopsOn}
 use Rattle.cookie_run.specs.Play.{Delivers, OneStep, Plays, RemoveTells, Tells, ServesAll, ServesFront, ReadsAll}
@@ -45,6 +45,7 @@ use Rattle.cookie_run.proofs.Lines.{IsTime, other_lines}
 use Rattle.cookie_run.proofs.Commands.{EndsLate}
 use Rattle.cookie_run.proofs.Exchange.{Laws, SiteAgrees, agrees_later, IsReadBack, IsArrival, end_moment, exchanged}
 use Rattle.cookie_run.proofs.Exchange.{walked}
+use Rattle.cookie_run.proofs.Restarting.{restarts}
 
 -- ---- a host that is its own form and has no empty label
 
@@ -142,21 +143,28 @@ act_leads key laws late list host (Asks url at) site last rows new told reads an
   subst (λ rs. SiteAgrees key host rs at site) (sym p.1) (agrees_later key host rows last at site
       follows.0.in_order a),
 )
+act_leads key laws late list host (Restarts at) site last rows new told reads answers apart follows a p = (
+  restarted site at,
+  refl,
+  restarts laws.again key host at rows new site (agrees_later key host rows last at site follows.0.in_order a) p.1,
+)
 
 -- ---- all acts
 
-front_follows : (last : ℤ) (act : Act) (later : List ℤ) → AllFollow last (moments_in act ++ later)
+pub front_follows : (last : ℤ) (act : Act) (later : List ℤ) → AllFollow last (moments_in act ++ later)
     → AllFollow last (moments_in act) × AllFollow (ends_at act) later
 front_follows last (Visits url at commands (Arrives d)) later f = ((f.0, (f.1.0, tt)), f.1.1)
 front_follows last (Visits url at commands Never) later f = ((f.0, tt), f.1)
 front_follows last (Answers url lines at) later f = ((f.0, tt), f.1)
 front_follows last (Asks url at) later f = ((f.0, tt), f.1)
+front_follows last (Restarts at) later f = ((f.0, tt), f.1)
 
 ends_last : (last : ℤ) (act : Act) → ends_at act ≡ last_of last (moments_in act)
 ends_last last (Visits url at commands (Arrives d)) = refl
 ends_last last (Visits url at commands Never) = refl
 ends_last last (Answers url lines at) = refl
 ends_last last (Asks url at) = refl
+ends_last last (Restarts at) = refl
 
 last_append : (last : ℤ) (ms ns : List ℤ) → last_of last (ms ++ ns) ≡ last_of (last_of last ms) ns
 last_append last [] ns = refl
@@ -236,6 +244,7 @@ one_answers list key rows new (Visits url at commands arrival) told late s = ans
     late s.2.1.2
 one_answers list key rows new (Answers url lines at) told late s = s.0
 one_answers list key rows new (Asks url at) told late s = (s.0.0, s.0.2)
+one_answers list key rows new (Restarts at) told late s = s.0
 
 opens_late : (late : (n : ℤ) → IsMoment n → EndsLate n) (last : ℤ) (act : Act) → AllFollow last (moments_in act)
     → EndsLate (opening_of act)
@@ -315,6 +324,7 @@ act_stops key laws late host (Visits url at commands arrival) site rows kind las
     )
 act_stops key laws late host (Answers url lines at) site rows kind last old readings reads a s = tt
 act_stops key laws late host (Asks url at) site rows kind last old readings reads a s = tt
+act_stops key laws late host (Restarts at) site rows kind last old readings reads a s = tt
 
 front_inside : (key : List ℕ) (rows : List Row) (old readings : List Reading) (kind : FaultKind) (last : ℤ) (act : Act)
     → StopsFrom kind last act old (ReadsFront key rows act) (ReadsAll key rows act) readings → (front : List Reading)

@@ -13,7 +13,8 @@ use Rattle.jiff.specs.Words.{civil_nanos}
 use Rattle.cookie_run.specs.declared.script.moment.Moment.{Moment}
 use Rattle.cookie_run.specs.Accept.{Takes}
 use Rattle.cookie_run.specs.Header.{IsHeader}
-use Rattle.cookie_run.specs.Acts.{Act, Visits, Answers, Asks, Arrives, Never}
+use Rattle.cookie_run.specs.Keeping.{Keeps}
+use Rattle.cookie_run.specs.Acts.{Act, Visits, Answers, Asks, Restarts, Arrives, Never}
 use Rattle.cookie_run.specs.Play.{Plays, OneStep, CommandTells, GetTells}
 use Rattle.cookie_run.specs.Readings.{all_told}
 use Rattle.cookie_run.specs.ScriptLine as spec
@@ -312,7 +313,7 @@ delivers list key start rows new r old_last visit v answer output text at last s
     deliver_at list key start rows new r.acts r.last r.now v answer s.told s.front output text at last s.plays
     (subst (λ o. IsOpen key rows r.now o s.front) is s.is_open) s.answered s.prints closes taken empty moment
 
--- `receive` and `header`
+-- `receive`, `header` and `restart`
 alone_at : (list : List Rule) (key : List ℕ) (start rows new : List Row) (acts : List Act) (m : ℤ) (now : Now)
     (visit : Option Visit) (told : List (List Reading)) (front : List Reading) (output text : List ℕ)
     (line : spec.Line) (act : Act) (more : List Reading) (last at : ℤ) → Plays list key start acts told rows
@@ -356,3 +357,12 @@ heads list key start rows r old_last visit output text url header at last s none
     alone_at list key start rows rows r.acts r.last r.now visit s.told s.front output text (spec.Heads url at)
     (Asks url at) (Header header ∷ []) last at s.plays s.is_open s.answered s.prints none refl
     ((header, head, refl), refl) (tt, tt) (shown ∙ sym (one_reading (Header header))) moment
+
+pub restarts : (list : List Rule) (key : List ℕ) (start rows new : List Row) (r : Reached) (old_last : ℤ)
+    (visit : Option Visit) (output text : List ℕ) (at last : ℤ)
+    → Stands list key start r rows old_last visit output
+    → is_some visit ≡ false → Keeps rows at at new → text ≡ [] → last ≡ at
+    → LeadsOn list key start (obeyed r.acts r.last r.now (spec.Restarts at)) new last visit (output ++ text)
+restarts list key start rows new r old_last visit output text at last s none kept empty moment =
+    alone_at list key start rows new r.acts r.last r.now visit s.told s.front output text (spec.Restarts at)
+    (Restarts at) [] last at s.plays s.is_open s.answered s.prints none refl (refl, kept) tt empty moment

@@ -7,12 +7,12 @@ use Rattle.url.specs.Parts.{Parts}
 use Rattle.url.specs.declared.host.Host.TheVariants.{Domain}
 use Rattle.cookie_text.specs.Record.{Record, bare, unsliced}
 use Rattle.store_parts.specs.Schemes.{host_of}
-use Rattle.cookie_run.specs.Acts.{Act, Visits, Arrival, Arrives, Never}
+use Rattle.cookie_run.specs.Acts.{Act, Visits, Restarts, Arrival, Arrives, Never}
 use Rattle.cookie_run.specs.Headline.{IsSite, IsApartFrom, AnswersApart, AnswersBySessions, ReadsOn, EachReadsOn}
 use Rattle.cookie_run.specs.Headline.{SitesReadTheirOwn}
 use Rattle.cookie_run.specs.Readings.{all_told, AnswersEach}
 use Rattle.cookie_run.specs.Site as kinds
-use Rattle.cookie_run.specs.Site.{Site, View, nothing, live, after_arrival, Refuses, SetOn, IsReadAt}
+use Rattle.cookie_run.specs.Site.{Site, View, nothing, live, after_arrival, restarted, Refuses, SetOn, IsReadAt}
 use Rattle.cookie_run.specs.declared.step.Command.{Command}
 use Rattle.cookie_run.specs.declared.step.Command.TheVariants.{Set, Get}
 use Rattle.cookie_run.specs.declared.step.Reading.{Reading}
@@ -167,3 +167,62 @@ gone : (readings : List Reading)
     → SitesReadTheirOwn list (the_acts (Some (pos 10_000_000_000)) (Arrives (at 5)) (at 15)) readings
     → readings ≡ Value Plain the_name None ∷ []
 gone = the_visit (Some (pos 10_000_000_000)) (Arrives (at 5)) (at 15) None (λ v read. read)
+
+-- ---- the same with a restart before the later request
+
+abbrev restart_acts : Option ℤ → ℤ → List Act
+restart_acts age later = sets_it age (Arrives (at 5)) ∷ Restarts later ∷ reads_it later ∷ []
+
+-- what the later request finds then
+abbrev kept : Option ℤ → ℤ → View
+kept age later = live (restarted (after_arrival (Arrives (at 5)) nothing (the_set age ∷ [])) later) later
+
+three_told : (age : Option ℤ) (later : ℤ) (value : Option (List ℕ))
+    → ((v : Option (List ℕ)) → IsReadAt kinds.Plain (kept age later the_name) v → v ≡ value)
+    → (told : List (List Reading)) (end : Site) → AnswersEach (restart_acts age later) told
+    → EachReadsOn shop nothing (restart_acts age later) told end → all_told told ≡ Value Plain the_name value ∷ []
+three_told age later value reads [] end own h = absurd h
+three_told age later value reads (first ∷ []) end own h = absurd h.2
+three_told age later value reads (first ∷ between ∷ []) end own h = absurd h.2.2
+three_told age later value reads (first ∷ between ∷ second ∷ third ∷ more) end own h = absurd own.1.1.1
+three_told age later value reads (first ∷ between ∷ second ∷ []) end own h =
+    let began = first_told age (Arrives (at 5)) first h.0 h.1 in
+    let left : h.2.0 ≡ restarted (after_arrival (Arrives (at 5)) nothing (the_set age ∷ [])) later =
+    h.2.1 ∙ ap (λ (site : Site). restarted site later) began.1 in
+    let same : (v : Option (List ℕ)) → IsReadAt kinds.Plain (live h.2.0 later the_name) v
+    → v ≡ value = λ v r. reads v
+    (subst (λ (site : Site). IsReadAt kinds.Plain (live site later the_name) v) left r) in
+    let read = second_told h.2.0 later value same second h.2.2.0 h.2.2.1 in
+    ap (λ told. told ++ (between ++ (second ++ []))) began.0 ∙ (ap (λ told. told ++ (second ++ [])) own.1.0
+    ∙ ap (λ told. told ++ []) read)
+
+restart_site : (age : Option ℤ) (later : ℤ) → IsSite list shop (restart_acts age later)
+restart_site age later = record {
+  own_form = own_form;
+  no_empty_label = no_empty_label;
+  sessions = (by_session age (Arrives (at 5)), (tt, (tt, tt)));
+  apart = (apart_from_none (Arrives (at 5)) the_url (at 0) (the_set age ∷ []) refl, (tt, (tt, tt)));
+}
+
+restart_visit : (age : Option ℤ) (later : ℤ) (value : Option (List ℕ))
+    → ((v : Option (List ℕ)) → IsReadAt kinds.Plain (kept age later the_name) v → v ≡ value)
+    → (readings : List Reading)
+    → SitesReadTheirOwn list (restart_acts age later) readings → readings ≡ Value Plain the_name value ∷ []
+restart_visit age later value reads readings h =
+    let e = h.sites shop (restart_site age later) in
+    h.read ∙ three_told age later value reads h.told e.0 h.own e.1
+
+-- without a death it is read no longer, with one until then
+not_kept : (readings : List Reading) → SitesReadTheirOwn list (restart_acts None (at 6)) readings
+    → readings ≡ Value Plain the_name None ∷ []
+not_kept = restart_visit None (at 6) None (λ v read. read)
+
+still_kept : (readings : List Reading)
+    → SitesReadTheirOwn list (restart_acts (Some (pos 10_000_000_000)) (at 14)) readings
+    → readings ≡ Value Plain the_name (Some the_value) ∷ []
+still_kept = restart_visit (Some (pos 10_000_000_000)) (at 14) (Some the_value) (λ v read. read refl)
+
+kept_no_longer : (readings : List Reading)
+    → SitesReadTheirOwn list (restart_acts (Some (pos 10_000_000_000)) (at 15)) readings
+    → readings ≡ Value Plain the_name None ∷ []
+kept_no_longer = restart_visit (Some (pos 10_000_000_000)) (at 15) None (λ v read. read)

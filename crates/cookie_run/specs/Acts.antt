@@ -6,18 +6,19 @@ use Rattle.cookie_run.specs.declared.step.Command.{Command}
 use Rattle.cookie_run.specs.declared.step.Delivery.{Delivery}
 use Rattle.cookie_run.specs.declared.step.Delivery.TheVariants.{At, Lost}
 use Rattle.cookie_run.specs.declared.step.Step.{Step}
-use Rattle.cookie_run.specs.declared.step.Step.TheVariants.{Exchange, Foreign, Header}
+use Rattle.cookie_run.specs.declared.step.Step.TheVariants.{Exchange, Foreign, Header, Restart}
 
 -- whether and when the answer of an exchange comes
 pub data Arrival : Type 0 where
   Arrives : (at : ℤ) → Arrival
   Never : Arrival
 
--- an exchange by a session; an answer of any lines; a look at a header
+-- an exchange by a session; an answer of any lines; a look at a header; a restart of the client
 pub data Act : Type 0 where
   Visits : (url : Parts) (at : ℤ) (commands : List Command) (arrival : Arrival) → Act
   Answers : (url : Parts) (lines : List (List ℕ)) (at : ℤ) → Act
   Asks : (url : Parts) (at : ℤ) → Act
+  Restarts : (at : ℤ) → Act
 
 abbrev pub arrival_of : Delivery → Arrival
 arrival_of (At moment) = Arrives (civil_nanos moment)
@@ -27,6 +28,7 @@ abbrev pub act_of : Step → Act
 act_of (Exchange url at commands delivery) = Visits url (civil_nanos at) commands.items (arrival_of delivery)
 act_of (Foreign url lines at) = Answers url (map (λ line. line.items) lines.items) (civil_nanos at)
 act_of (Header url at) = Asks url (civil_nanos at)
+act_of (Restart at) = Restarts (civil_nanos at)
 
 abbrev pub acts_of : List Step → List Act
 acts_of steps = map act_of steps
@@ -36,12 +38,14 @@ abbrev pub opening_of : Act → ℤ
 opening_of (Visits url at commands arrival) = at
 opening_of (Answers url lines at) = at
 opening_of (Asks url at) = at
+opening_of (Restarts at) = at
 
 -- the delivery of an act, if it has one
 abbrev pub arrival_in : Act → Arrival
 arrival_in (Visits url at commands arrival) = arrival
 arrival_in (Answers url lines at) = Never
 arrival_in (Asks url at) = Never
+arrival_in (Restarts at) = Never
 
 -- the moments that a play comes to, in order
 abbrev pub arrival_moments : Arrival → List ℤ

@@ -12,8 +12,8 @@ use Rattle.cookie_text.specs.Record.{Record, Seen}
 abbrev pub Lacks : ℕ → List ℕ → Type 0
 Lacks byte text = AllByRecursion (λ b. b ≢ byte) text
 
--- a name and a value as a text gives them: the name isn't empty and has no `=`, neither has a semicolon, nor white space
--- at an end
+-- a name and a value as a text gives them: the name isn't empty and has no `=`, neither has a semicolon, nor white
+-- space at an end
 pub record IsReadPair (name value : List ℕ) : Type 0 where
   pub named : 0 < length name
   pub name_uncut : Lacks equals name

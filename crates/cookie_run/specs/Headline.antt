@@ -1,5 +1,7 @@
 -- At each request a site reads what its own delivered commands leave (own: docs/DEFINITIONS.md). Nothing here knows a
--- row, a header or a line of a session, nor how a value is signed or sealed.
+-- row, a header, a line of a session or a saved text, nor how a value is signed or sealed. What commands read and what
+-- they and a restart leave, `Site` says; `play` promises the headline of its own readings, by its clauses `sites` and
+-- `sites_until`.
 use Rattle.std.specs.Prelude.{ℕ, ℤ, ◌+◌, List, [], ◌∷◌, ◌++◌, length, All, Some, ◌≡◌, ◌≢◌, ◌⊎◌, ⊤}
 use Rattle.idna.specs.Labels.{labels_of}
 use Rattle.publicsuffix.specs.Prevailing.{Listed}
@@ -13,10 +15,10 @@ use Rattle.cookie_run.specs.Moments.{last_of, the_beginning}
 use Rattle.cookie_run.specs.Readings.{all_told}
 use Rattle.cookie_run.specs.declared.step.FaultKind.{FaultKind}
 use Rattle.cookie_run.specs.declared.step.Reading.{Reading}
-use Rattle.cookie_run.specs.Acts.{Act, Visits, Answers, Asks, Arrives, Never, moments_of}
+use Rattle.cookie_run.specs.Acts.{Act, Visits, Answers, Asks, Restarts, Arrives, Never, moments_of}
 use Rattle.cookie_run.specs.declared.step.Command.{Command}
 use Rattle.cookie_run.specs.Readings.{AnswersEach}
-use Rattle.cookie_run.specs.Site.{Site, View, nothing, live, CommandsOn, ExchangeOn}
+use Rattle.cookie_run.specs.Site.{Site, View, nothing, live, CommandsOn, ExchangeOn, restarted}
 use Rattle.cookie_run.specs.Stops.{StopsFrom}
 
 -- ---- the premises
@@ -28,6 +30,7 @@ AnswersBySessions host (Visits url at commands (Arrives later)) =
 AnswersBySessions host (Visits url at commands Never) = ⊤
 AnswersBySessions host (Answers url lines at) = host_of url ≢ Some host
 AnswersBySessions host (Asks url at) = ⊤
+AnswersBySessions host (Restarts at) = ⊤
 
 -- the reach of a host: the texts that it domain-matches, itself and, of a host name, what stands behind its dots
 abbrev pub IsInReach : List ℕ → List ℕ → Type 0
@@ -54,6 +57,7 @@ AnswersApart list host (Visits url at commands (Arrives later)) = IsApartFrom li
 AnswersApart list host (Visits url at commands Never) = ⊤
 AnswersApart list host (Answers url lines at) = IsApartFrom list host url
 AnswersApart list host (Asks url at) = ⊤
+AnswersApart list host (Restarts at) = ⊤
 
 abbrev pub Each : (Act → Type 0) → List Act → Type 0
 Each Is [] = ⊤
@@ -69,13 +73,15 @@ pub record IsSite (list : List Rule) (host : List ℕ) (acts : List Act) : Type 
 
 -- ---- the site through a play
 
--- an exchange of the host at https reads what its commands read on its site; other acts leave that site
+-- an exchange of the host at https reads what its commands read on its site; a restart leaves of that site what has a
+-- death that is to come; other acts leave it as it is
 abbrev pub ReadsOn : List ℕ → Site → Act → List Reading → Site → Type 0
 ReadsOn host site (Visits url at commands arrival) told new =
     (secure_host url ≡ Some host → ExchangeOn site at commands arrival told new)
     × (secure_host url ≢ Some host → new ≡ site)
 ReadsOn host site (Answers url lines at) told new = new ≡ site
 ReadsOn host site (Asks url at) told new = new ≡ site
+ReadsOn host site (Restarts at) told new = new ≡ restarted site at
 
 -- so does each of the acts, each with its own readings
 abbrev pub EachReadsOn : List ℕ → Site → List Act → List (List Reading) → Site → Type 0
@@ -100,12 +106,14 @@ StopsOn host site kind last (Visits url at commands arrival) old readings =
     (AllOn site at commands) readings
 StopsOn host site kind last (Answers url lines at) old readings = ⊤
 StopsOn host site kind last (Asks url at) old readings = ⊤
+StopsOn host site kind last (Restarts at) old readings = ⊤
 
 -- ---- the headline
 
 -- THE HEADLINE: for every host that is its own IDNA form without an empty label, that answers by sessions alone, and
 -- that is apart from the other hosts that answer, each of its exchanges at https reads, in the way it was set, what its
--- own delivered commands before it leave, and what its own commands so far set and removed.
+-- own delivered commands before it leave, after a restart only what had a death, and what its own commands so far set
+-- and removed.
 pub record SitesReadTheirOwn (list : List Rule) (acts : List Act) (readings : List Reading) : Type 0 where
   pub told : List (List Reading)
   pub read : readings ≡ all_told told

@@ -17,6 +17,8 @@ pub mod Laws
 pub mod Again
 pub mod Keeping
 pub mod KeepingLaws
+pub mod Once
+pub mod Strangers
 pub mod ScriptMoment
 pub mod ScriptLine
 pub mod ScriptText

@@ -1,7 +1,7 @@
 -- The moments of a play: whole seconds of the years 1971 to 9998, which never go back (own: docs/DEFINITIONS.md).
 use Rattle.std.specs.Prelude.{ℕ, ℤ, pos, List, [], ◌∷◌, ◌*◌, ◌≤◌, ◌<◌, ◌≤ℤ◌, ◌<ℤ◌, ◌≡◌, ⊤}
 use Rattle.cookie_run.specs.declared.step.FaultKind.{FaultKind}
-use Rattle.cookie_run.specs.declared.step.FaultKind.TheVariants.{Moment, Back, Memory}
+use Rattle.cookie_run.specs.declared.step.FaultKind.TheVariants.{Moment, Back, Restart, Memory}
 
 -- the first second of 1971 and of 9999, counted from 1970-01-01T00:00:00
 abbrev pub second_1971 : ℕ
@@ -21,6 +21,7 @@ pub record IsMoment (at : ℤ) : Type 0 where
 abbrev pub IsWrong : FaultKind → ℤ → ℤ → Type 0
 IsWrong Moment last at = ¬ IsMoment at
 IsWrong Back last at = IsMoment at × (at <ℤ last)
+IsWrong Restart last at = ⊥
 IsWrong Memory last at = ⊥
 
 -- nothing is wrong with it

@@ -22,8 +22,9 @@ use Rattle.cookie_run.specs.declared.step.SessionError.{SessionError}
 use Rattle.cookie_run.specs.declared.step.SessionError.TheVariants.{EmptyName}
 use Rattle.cookie_run.specs.declared.step.Way.{Way}
 use Rattle.cookie_run.specs.Accept.{Takes}
-use Rattle.cookie_run.specs.Acts.{Act, Visits, Answers, Asks, Arrival, Arrives, Never, moments_of}
+use Rattle.cookie_run.specs.Acts.{Act, Visits, Answers, Asks, Restarts, Arrival, Arrives, Never, moments_of}
 use Rattle.cookie_run.specs.Header.{IsHeader}
+use Rattle.cookie_run.specs.Keeping.{Keeps}
 use Rattle.cookie_run.specs.Stops.{StopsFrom}
 
 -- ---- a session
@@ -89,7 +90,7 @@ Delivers list rows url jar (Arrives at) new =
     (cookies : List Seen) × Lists (under_names cookies) (delta jar) × Takes list rows url at (lines_of cookies) new
 Delivers list rows url jar Never new = new ≡ rows
 
--- from these rows the step reads this and leaves those rows
+-- from these rows the step reads this and leaves those rows; a restart saves and loads them at its moment
 abbrev pub OneStep : List Rule → List ℕ → List Row → Act → List Reading → List Row → Type 0
 OneStep list key rows (Visits url at commands arrival) told new =
     (header : List ℕ) × IsHeader rows url at header
@@ -98,6 +99,7 @@ OneStep list key rows (Visits url at commands arrival) told new =
 OneStep list key rows (Answers url lines at) told new = (told ≡ []) × Takes list rows url at lines new
 OneStep list key rows (Asks url at) told new =
     ((header : List ℕ) × IsHeader rows url at header × (told ≡ Header header ∷ [])) × (new ≡ rows)
+OneStep list key rows (Restarts at) told new = (told ≡ []) × Keeps rows at at new
 
 -- what each of the steps reads, and the rows after them
 abbrev pub Plays : List Rule → List ℕ → List Row → List Act → List (List Reading) → List Row → Type 0
@@ -114,6 +116,7 @@ ReadsAll key rows (Visits url at commands arrival) told =
 ReadsAll key rows (Answers url lines at) told = told ≡ []
 ReadsAll key rows (Asks url at) told =
     (header : List ℕ) × IsHeader rows url at header × (told ≡ Header header ∷ [])
+ReadsAll key rows (Restarts at) told = told ≡ []
 
 -- what it reads by the first of its commands, or before it has read
 abbrev pub ReadsFront : List ℕ → List Row → Act → List Reading → Type 0
@@ -122,6 +125,7 @@ ReadsFront key rows (Visits url at commands arrival) told =
     ⊎ ((header : List ℕ) × IsHeader rows url at header × ServesFront key header at commands told)
 ReadsFront key rows (Answers url lines at) told = told ≡ []
 ReadsFront key rows (Asks url at) told = told ≡ []
+ReadsFront key rows (Restarts at) told = told ≡ []
 
 -- THE PLAY: what a client that begins with no row and this list of public suffixes reads by all the acts
 pub record IsRun (list : List Rule) (key : List ℕ) (acts : List Act) (readings : List Reading) : Type 0 where

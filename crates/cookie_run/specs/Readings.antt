@@ -2,7 +2,7 @@
 use Rattle.std.specs.Prelude.{ℕ, List, [], ◌∷◌, ◌++◌, None, ◌≡◌, ◌≢◌, ◌⊎◌, ⊤}
 use Rattle.std.specs.List.{AllByRecursion}
 use Rattle.cookie_text.specs.Record.{Record}
-use Rattle.cookie_run.specs.Acts.{Act, Visits, Answers, Asks}
+use Rattle.cookie_run.specs.Acts.{Act, Visits, Answers, Asks, Restarts}
 use Rattle.cookie_run.specs.Site.{set_refusal, Refuses}
 use Rattle.cookie_run.specs.declared.step.Command.{Command}
 use Rattle.cookie_run.specs.declared.step.Command.TheVariants.{Set, Remove, Get}
@@ -55,6 +55,7 @@ abbrev pub ActNeedsNoNonce : Act → Type 0
 ActNeedsNoNonce (Visits url at commands arrival) = AllByRecursion NeedsNoNonce commands
 ActNeedsNoNonce (Answers url lines at) = ⊤
 ActNeedsNoNonce (Asks url at) = ⊤
+ActNeedsNoNonce (Restarts at) = ⊤
 
 -- what may be read where the generator's error type is this one: that a fill failed only where it has a value
 abbrev pub MayRead : Type 0 → Reading → Type 0
@@ -62,11 +63,12 @@ MayRead Error (Value way name value) = ⊤
 MayRead Error (Refused error) = error ≡ Rng → Error
 MayRead Error (Header header) = ⊤
 
--- an exchange reads what answers its commands, other answers nothing, a look at a header that header
+-- an exchange reads what answers its commands, a look at a header that header, other answers and restarts nothing
 abbrev pub AnswersAct : Act → List Reading → Type 0
 AnswersAct (Visits url at commands arrival) told = AnswersTo commands told
 AnswersAct (Answers url lines at) told = told ≡ []
 AnswersAct (Asks url at) told = (header : List ℕ) × (told ≡ Header header ∷ [])
+AnswersAct (Restarts at) told = told ≡ []
 
 abbrev pub AnswersEach : List Act → List (List Reading) → Type 0
 AnswersEach [] [] = ⊤

@@ -28,6 +28,7 @@ pub data Line : Type 0 where
   Loses : Line
   Receives : (url : Parts) (lines : List (List ℕ)) (at : ℤ) → Line
   Heads : (url : Parts) (at : ℤ) → Line
+  Restarts : (at : ℤ) → Line
 
 -- fields stand between tabs, each percent-decoded
 abbrev pub is_tab : ℕ → Bool
@@ -46,9 +47,10 @@ placed line None at = Err Url
 placed line (Some url) None = Err Moment
 placed line (Some url) (Some at) = Ok (line url at)
 
-abbrev pub timed : Option ℤ → Result Line Cause
-timed None = Err Moment
-timed (Some at) = Ok (Delivers at)
+-- a line of a moment
+abbrev pub timed : (ℤ → Line) → Option ℤ → Result Line Cause
+timed line None = Err Moment
+timed line (Some at) = Ok (line at)
 
 -- ---- when a cookie ends
 
@@ -135,8 +137,13 @@ read_get fields = Err Fields
 
 -- `deliver moment`
 abbrev pub read_deliver : List (List ℕ) → Result Line Cause
-read_deliver (at ∷ []) = timed (moment_of at)
+read_deliver (at ∷ []) = timed Delivers (moment_of at)
 read_deliver fields = Err Fields
+
+-- `restart moment`
+abbrev pub read_restart : List (List ℕ) → Result Line Cause
+read_restart (at ∷ []) = timed Restarts (moment_of at)
+read_restart fields = Err Fields
 
 -- `lose`
 abbrev pub read_lose : List (List ℕ) → Result Line Cause
@@ -167,6 +174,7 @@ read_word word fields =
     else if bytes_eq word (codes "lose") then of_texts read_lose fields
     else if bytes_eq word (codes "receive") then read_receive fields
     else if bytes_eq word (codes "header") then of_texts read_header fields
+    else if bytes_eq word (codes "restart") then of_texts read_restart fields
     else Err Word
 
 abbrev pub read_fields : List (List ℕ) → Result Line Cause

@@ -6,7 +6,7 @@ use Rattle.cookie_run.specs.declared.script.cause.Cause.{Cause}
 use Rattle.cookie_run.specs.declared.script.cause.Cause.TheVariants.{Memory}
 use Rattle.cookie_run.specs.declared.script.line.Line.{Line}
 use Rattle.cookie_run.specs.declared.script.line.Line.TheVariants.{Open, Set, Remove, Get, Deliver, Lose, Receive}
-use Rattle.cookie_run.specs.declared.script.line.Line.TheVariants.{Header}
+use Rattle.cookie_run.specs.declared.script.line.Line.TheVariants.{Header, Restart}
 use Rattle.cookie_run.specs.declared.step.Command.TheVariants as commands
 
 -- the line as a plain value
@@ -19,6 +19,7 @@ line_of (Deliver at) = spec.Delivers (civil_nanos at.date)
 line_of Lose = spec.Loses
 line_of (Receive url lines at) = spec.Receives url (map (λ line. line.items) lines.items) (civil_nanos at.date)
 line_of (Header url at) = spec.Heads url (civil_nanos at.date)
+line_of (Restart at) = spec.Restarts (civil_nanos at.date)
 
 -- the line that its text gives, or that text's fault, or want of memory
 abbrev pub Reads : Result Line Cause → Result spec.Line Cause → Type 0

@@ -17,10 +17,11 @@ use Rattle.cookie_run.specs.Accept.{IsStopped}
 use Rattle.cookie_run.specs.Header.{IsHeader}
 use Rattle.cookie_run.specs.Jar.{Keyed, lines_of}
 use Rattle.cookie_run.specs.Site.{set_refusal}
+use Rattle.cookie_run.specs.Acts as steps
 use Rattle.cookie_run.specs.Acts.{Act, Visits, Answers, Asks, Arrives, Never}
 use Rattle.cookie_run.specs.Play.{Plays, Serves}
 use Rattle.cookie_run.specs.Readings.{all_told}
-use Rattle.cookie_run.specs.ScriptLine.{Line, Opens, Commands, Delivers, Loses, Receives, Heads, read_line}
+use Rattle.cookie_run.specs.ScriptLine.{Line, Opens, Commands, Delivers, Loses, Receives, Heads, Restarts, read_line}
 use Rattle.cookie_run.specs.declared.step.Way.{Way}
 use Rattle.cookie_run.specs.declared.step.Way.TheVariants.{Plain, Host, Secure, Signed, Sealed}
 use Rattle.cookie_run.specs.declared.step.SessionError.{SessionError}
@@ -34,6 +35,7 @@ use Rattle.cookie_run.specs.declared.script.ended.Ended.TheVariants.{Whole, Faul
 use Rattle.cookie_run.specs.declared.script.cause.Cause.{Cause}
 use Rattle.cookie_run.specs.declared.script.cause.Cause.TheVariants.{Word, Text, Fields, Url, Moment, Back, NoSession}
 use Rattle.cookie_run.specs.declared.script.cause.Cause.TheVariants.{Open, EmptyName, Year, TooLong, Rng, Memory}
+use Rattle.cookie_run.specs.declared.script.cause.Cause.TheVariants.{Restart}
 
 -- ---- where a script is after some of its lines
 
@@ -100,6 +102,8 @@ obeyed acts last Closed (Receives url lines at) = Ok (record {
 obeyed acts last (Within u m cs) (Receives url lines at) = Err Open
 obeyed acts last Closed (Heads url at) = Ok (record { acts = acts ++ Asks url at ∷ []; now = Closed; last = at })
 obeyed acts last (Within u m cs) (Heads url at) = Err Open
+obeyed acts last Closed (Restarts at) = Ok (record { acts = acts ++ steps.Restarts at ∷ []; now = Closed; last = at })
+obeyed acts last (Within u m cs) (Restarts at) = Err Open
 
 abbrev pub is_before : ℤ → ℤ → Bool
 is_before at last = is_lt (int_cmp at last)
@@ -112,6 +116,7 @@ goes_back last (Delivers at) = is_before at last
 goes_back last Loses = false
 goes_back last (Receives url lines at) = is_before at last
 goes_back last (Heads url at) = is_before at last
+goes_back last (Restarts at) = is_before at last
 
 abbrev pub done : Reached → Result Line Cause → Result Reached Cause
 done r (Err cause) = Err cause
@@ -186,6 +191,7 @@ cause_text EmptyName = codes "EmptyName"
 cause_text Year = codes "Year"
 cause_text TooLong = codes "TooLong"
 cause_text Rng = codes "Rng"
+cause_text Restart = codes "Restart"
 cause_text Memory = codes "Memory"
 
 -- `line N: Name`
@@ -259,6 +265,7 @@ HalfStep list key rows (Visits url at commands (Arrives moment)) told new =
 HalfStep list key rows (Visits url at commands Never) told new = ⊥
 HalfStep list key rows (Answers url answer at) told new = (told ≡ []) × TakesFront list rows url at answer new
 HalfStep list key rows (Asks url at) told new = ⊥
+HalfStep list key rows (steps.Restarts at) told new = ⊥
 
 -- the steps, and behind them one whose answer is taken up to a line, print this and leave those rows
 abbrev pub PrintsHalf : List Rule → List ℕ → List Row → List Act → Act → List ℕ → List Row → Type 0

@@ -1,5 +1,6 @@
 -- A site as its own delivered commands leave it. Nothing here knows a header, a line, a row, a signing or a sealing.
-use Rattle.std.specs.Prelude.{◌≡◌, ◌⊎◌, ℕ, ℤ, List, [], ◌∷◌, ◌++◌, Bool, false, not, Option, Some, None, if◌then◌else◌}
+use Rattle.std.specs.Prelude.{◌≡◌, ◌⊎◌, ℕ, ℤ, List, [], ◌∷◌, ◌++◌, Bool, false, not, ◌&&◌, Option, Some, None, is_some}
+use Rattle.std.specs.Prelude.{if◌then◌else◌}
 use Rattle.std.specs.Str.{bytes_eq}
 use Rattle.cookie.specs.Prefix.{host_text, secure_text}
 use Rattle.cookie.specs.Sealing.{is_sealable}
@@ -176,3 +177,18 @@ abbrev pub ExchangeOn : Site → ℤ → List Command → Arrival → List Readi
 ExchangeOn site now commands arrival told new =
     (noted : List Command) × (after : View) × CommandsOn (live site now) commands told noted after
     × (new ≡ after_arrival arrival site noted)
+
+-- ---- a restart
+
+-- it has a death, and isn't dead at the moment
+abbrev pub is_lasting : ℤ → Option ℤ → Bool
+is_lasting now death = not (is_dead now death) && is_some death
+
+-- what is held, where it lasts past the moment
+abbrev pub lasting_at : ℤ → Option Held → Option Held
+lasting_at now None = None
+lasting_at now (Some held) = if is_lasting now held.death then Some held else None
+
+-- the site after a restart at the moment: what has a death that is to come
+abbrev pub restarted : Site → ℤ → Site
+restarted site now = λ name. lasting_at now (site name)

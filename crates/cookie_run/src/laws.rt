@@ -2,19 +2,22 @@
 ghost use Rattle.cookie_run.specs.Again.{TextsGivePairs, PairsReadAgain};
 ghost use Rattle.cookie_run.specs.KeepingLaws as kept;
 ghost use Rattle.cookie_run.specs.Laws as law;
+ghost use Rattle.cookie_run.specs.Once as once;
+ghost use Rattle.cookie_run.specs.Strangers as stranger;
 
 use cookie::Key;
 use cookie::laws::{one_value, texts_are_utf8};
-use cookie_text::laws::{encoded_records_read_back, joined_pairs_split};
+use cookie_text::laws::{encoded_records_read_back, joined_pairs_split, one_outcome};
 
 /// At each of its https requests a site reads, in the way it was set, what its own delivered
-/// commands leave: the last set, not removed, not dead. `until` says it as far as a play came that
-/// stopped.
+/// commands leave: the last set, not removed, not dead, after a restart only what had a death.
+/// `until` says it as far as a play came that stopped.
 pub fn sites_read_their_own(key: &Key)
     ensures whole { law.EachPlayIsRead key.now }
     ensures until { law.EachStoppedPlayIsRead key.now }
 {
     encoded_records_read_back();
+    pairs_read_again();
     one_value();
     texts_are_utf8();
     let _ = key.encryption();
@@ -27,6 +30,7 @@ pub fn rows_are_the_sites(key: &Key)
     ensures { law.RowsAreTheSites key.now }
 {
     encoded_records_read_back();
+    pairs_read_again();
     joined_pairs_split();
     one_value();
     texts_are_utf8();
@@ -77,3 +81,24 @@ pub fn rows_come_back(key: &Key)
 pub fn restarts_keep_rows()
     ensures { kept.RestartsKeepRows }
 {}
+
+/// A line makes one row at most at a URL and a moment, and the rows that are kept where rows are saved
+/// and loaded are determined.
+pub fn rows_are_one()
+    ensures made { once.LinesMakeOneRow }
+    ensures kept { once.KeptOnce }
+{
+    one_outcome();
+}
+
+/// What a host is sent is the same without the answers of hosts that it isn't related to, whatever
+/// bytes they hold: each header that a play reads, where no exchange before it is with a related host,
+/// equals the header after those steps alone that concern its host; without a host it is empty. `until`
+/// says it as far as a play came that stopped.
+pub fn strangers_dont_show()
+    ensures whole { stranger.EachPlayIsUntouched }
+    ensures until { stranger.EachStoppedPlayIsUntouched }
+{
+    one_outcome();
+    cookie_store::laws();
+}

@@ -5,7 +5,8 @@ ghost use Rattle.std.specs.List.{AllByRecursion};
 ghost use Rattle.std.specs.Option.{option_to_list};
 ghost use Rattle.jiff.specs.Words.{civil_nanos};
 ghost use Rattle.cookie_run.specs.declared.step.Reading.{Reading};
-ghost use Rattle.cookie_run.specs.Moments.{AllFollow, last_of, the_beginning};
+ghost use Rattle.cookie_run.specs.Moments.{AllFollow, IsMoment, last_of, the_beginning};
+ghost use Rattle.cookie_run.specs.Keeping.{Keeps};
 ghost use Rattle.cookie_run.specs.Accept.{Takes};
 ghost use Rattle.cookie_run.specs.Acts.{acts_of, act_of, arrival_of, Visits, Arrives, moments_in, moments_of};
 ghost use Rattle.cookie_run.specs.Acts.{arrival_moments};
@@ -15,14 +16,16 @@ ghost use Rattle.cookie_run.specs.Play.{TellsFront, OneStep, Delivers, ReadsFron
 ghost use Rattle.cookie_run.specs.Readings.{MayRead, NeedsNoNonce, ActNeedsNoNonce};
 ghost use Rattle.cookie_run.specs.Site.{set_refusal};
 ghost use Rattle.cookie_run.specs.Headline.{SitesReadTheirOwn, SitesReadTheirOwnUntil};
+ghost use Rattle.cookie_run.specs.Strangers.{StrangersDontShow, StrangersDontShowUntil};
 
 use crate::client::Client;
-use crate::laws::sites_read_their_own;
+use crate::laws::{sites_read_their_own, strangers_dont_show};
 use crate::moment::{beginning, come_to};
 use crate::session::{Session, copy_of};
 use crate::step::{Command, Delivery, Fault, FaultKind, Reading, SessionError, Step, Way};
 use crate::text::Text;
 use cookie::{Cookie, Key};
+use cookie_store::Error;
 use jiff::civil::DateTime;
 use rand_core::TryRng;
 use std::alloc::{AllocError, Global};
@@ -33,7 +36,8 @@ use url::Url;
 ///
 /// An exchange opens a session on the header of its request, does its commands, removals at the moment
 /// of the request, and hands the lines of the session to the client at the moment of delivery, if there
-/// is one. A refused command reads as `Refused` and the play goes on.
+/// is one. A refused command reads as `Refused` and the play goes on. A restart reads nothing: of the
+/// client's cookies those that have an end which is to come are kept.
 ///
 /// # Errors
 ///
@@ -55,11 +59,16 @@ pub fn play<R: TryRng>(
         IsRunUntil list key.now (acts_of steps.now) fault.step fault.kind fault.readings.items) }
     ensures sites_until { IfErr result (λ fault.
         SitesReadTheirOwnUntil list (acts_of steps.now) fault.step fault.kind fault.readings.items) }
+    ensures strangers { IfOk result (λ readings.
+        StrangersDontShow list key.now (acts_of steps.now) readings.items) }
+    ensures strangers_until { IfErr result (λ fault.
+        StrangersDontShowUntil list key.now (acts_of steps.now) fault.step fault.readings.items) }
     ensures failed { MatchResult result (λ readings. AllByRecursion (MayRead R.Error) readings.items)
         (λ fault. AllByRecursion (MayRead R.Error) fault.readings.items) }
     ensures unasked { AllByRecursion ActNeedsNoNonce (acts_of steps.now) → rng.new ≡ rng.old }
 {
     sites_read_their_own(key);
+    strangers_dont_show();
     let mut client = Client::new(alloc, list);
     let mut last = beginning();
     let mut readings = Vec::new(alloc);
@@ -119,6 +128,10 @@ fn act<R: TryRng>(
             let header = client.header(url, *at)?;
             readings.push(Reading::Header(Text::of(header)))?;
             Ok(())
+        }
+        Step::Restart { at } => {
+            come_to(last, *at)?;
+            restart(client, *at)
         }
     }
 }
@@ -200,6 +213,21 @@ fn receive(
     match client.receive(url, lines, moment) {
         Ok(_) => Ok(()),
         Err(_) => Err(FaultKind::Memory),
+    }
+}
+
+// Restarts the client. A cookie that is kept ends after this moment, so in no year below 0.
+fn restart(client: &mut Client, moment: DateTime) -> Result<(), FaultKind>
+    requires { IsMoment (civil_nanos moment) }
+    ensures rows { OnOk result
+        (Keeps client.old.rows (civil_nanos moment) (civil_nanos moment) client.new.rows) }
+    ensures list { client.new.suffixes ≡ client.old.suffixes }
+    ensures err { IfErr result (λ kind. kind ≡ FaultKind.Memory) }
+{
+    match client.restart(moment) {
+        Ok(()) => Ok(()),
+        Err(Error::OutOfMemory) => Err(FaultKind::Memory),
+        Err(_) => Err(FaultKind::Restart),
     }
 }
 

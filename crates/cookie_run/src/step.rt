@@ -68,6 +68,10 @@ pub enum Step {
         url: Url,
         at: DateTime,
     },
+    /// A restart of the client: its cookies are saved and loaded again.
+    Restart {
+        at: DateTime,
+    },
 }
 
 /// What a play reads.
@@ -145,6 +149,8 @@ pub enum FaultKind {
     Moment,
     /// A moment is before an earlier one.
     Back,
+    /// A restart was refused, and not for want of memory. No play ends so.
+    Restart,
     /// Memory was refused.
     Memory,
 }

@@ -1,9 +1,7 @@
 -- Lines of JSON that a closure makes cookies of.
-use Rattle.std.proofs.Common.{◌≡◌, ◌⊎◌, inl, inr, ℕ, ℤ, Bool, List, [], ◌∷◌, ◌++◌, Option, Some, None, sym, subst, ◌∙◌}
-use Rattle.std.proofs.Common.{append-nil, ap}
-use Rattle.std.specs.Prelude.{Ok, Err, IfSome, Result, IfOk, IfErr}
+use Rattle.std.proofs.Common.{inl, inr, ℕ, ℤ, Bool, List, [], ◌∷◌}
+use Rattle.std.specs.Prelude.{Ok, Err, Result, IfOk, IfErr}
 use Rattle.std.specs.Fn.{CalledAt}
-use Rattle.std.specs.Io.KnownBytes.{Consumes, IsAtEnd}
 use Rattle.std.specs.Str.Lines.{lines}
 use Rattle.cookie_text.specs.ReadingBack.{Pairwise}
 use Rattle.saved_text.specs.JsonReading.{IsJsonFault, IsNoRow}
@@ -11,12 +9,6 @@ use Rattle.store_parts.specs.declared.error.Error.{Error}
 use Rattle.cookie_store.specs.LoadedLines.{Reader, Input, TakesLines, StopsAtLine, StopsLoading, LoadsLines, MakesRow}
 use Rattle.cookie_store.specs.Rows.{Row, Store}
 use Rattle.cookie_store.specs.SavedTexts as form
-
-all_consumed : (left after : Option (List ℕ)) (text : List ℕ) → Consumes left after text → IsAtEnd after
-    → IfSome left (λ input. text ≡ input)
-all_consumed None after text h e = tt
-all_consumed (Some xs) None text h e = absurd h
-all_consumed (Some xs) (Some ys) text h e = sym (h ∙ ap (λ q. text ++ q) e ∙ append-nil text)
 
 module _ {F : Type 0} (closures : Reader F)
     (makes : (f : F) (line : List ℕ) (row : Row) (g : F) → MakesRow closures f line row g → form.IsJsonRow line row)
@@ -32,12 +24,16 @@ module _ {F : Type 0} (closures : Reader F)
 
   pub loads : (f : F) (with_expired : Bool) (now : ℤ) (old new : Input) (store : Store)
       → LoadsLines closures f with_expired now old new store
-      → form.OfText old.left (λ text. form.LoadsLines with_expired now text store)
-  loads f with_expired now old new store h = (
-    h.text,
-    all_consumed old.left new.left h.text h.read h.ended,
-    (h.rows, taken f h.last (lines h.text) h.rows h.taken, h.placed),
-  )
+      → form.LoadsLines with_expired now old new store
+  loads f with_expired now old new store h = record {
+    text = h.text;
+    read = h.read;
+    ended = h.ended;
+    failures = h.failures;
+    rows = h.rows;
+    taken = taken f h.last (lines h.text) h.rows h.taken;
+    placed = h.placed;
+  }
 
   stops_at : (f : F) (ls : List (List ℕ)) (e : Error) → StopsAtLine closures f ls e → form.StopsAt ls e
   stops_at f [] e h = absurd h
@@ -48,10 +44,21 @@ module _ {F : Type 0} (closures : Reader F)
       inr (inr (row, (utf8, makes f line row mid made), stops_at mid ls e more))
 
   pub stops : (f : F) (old new : Input) (e : Error) → StopsLoading closures f old new e
-      → form.IsReadFault old.failures new.failures new.reads e
-      ⊎ form.OfText old.left (λ text. form.StopsAt (lines text) e)
-  stops f old new e (inl (text, is, h)) = inr (text, is, stops_at f (lines text) e h)
-  stops f old new e (inr (is, h)) = inl (is, h.failed)
+      → form.StopsLoading old new e
+  stops f old new e (inl (steady, text, is, h)) = inl (steady, text, is, stops_at f (lines text) e h)
+  stops f old new e (inr (is, h)) = inr (
+    is,
+    record {
+      failed = h.failed;
+      text = h.text;
+      read = h.read;
+      whole = h.whole;
+      begun = h.begun;
+      cut = h.cut;
+      rows = h.rows;
+      taken = taken f h.last h.whole h.rows h.taken;
+    },
+  )
 
 pub ok_map : {T E : Type 0} (P Q : T → Type 0) (r : Result T E) → ((x : T) → P x → Q x) → IfOk r P → IfOk r Q
 ok_map P Q (Ok x) f h = f x h

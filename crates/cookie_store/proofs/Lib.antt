@@ -6,12 +6,14 @@ pub mod Confinement
 pub mod EndLemmas
 pub mod EntryLemmas
 pub mod GroupLemmas
+pub mod GroupedLemmas
 pub mod JsonLineLemmas
 pub mod LineLemmas
 pub mod LoadLemmas
 pub mod PlaceLaws
 pub mod PlaceLemmas
 pub mod ReadLemmas
+pub mod ReadableLemmas
 pub mod RereadLemmas
 pub mod RowFacts
 pub mod SaveLemmas

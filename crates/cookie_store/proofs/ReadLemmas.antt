@@ -92,12 +92,14 @@ module _ {F : Type 0} (closures : Reader F) where
     pub stops_more : (first mid : F) (old new : List Row) (text begun bytes : List ℕ) (error : Error) (a b : Input)
         (held : Option (List ℕ))
         → TakesWhole closures with_expired now first old text mid new begun → Consumes a.left held text
-        → Consumes held b.left bytes
+        → Consumes held b.left bytes → b.failures ≡ a.failures
         → ((rest : List ℕ) → StopsAtLine closures mid (lines ((begun ++ bytes) ++ rest)) error)
         → StopsLoading closures first a b error
-    stops_more first mid old new text begun bytes error a b held (whole, made, cut, taken, placed) read more stops =
+    stops_more first mid old new text begun bytes error a b held (whole, made, cut, taken, placed) read more steady
+        stops =
         let h = had a.left b.left (text ++ bytes) (Consumes-trans a.left held b.left text bytes read more) in
         inl (
+          steady,
           (text ++ bytes) ++ h.0,
           h.1,
           subst (λ ls. StopsAtLine closures first ls error)
@@ -114,10 +116,12 @@ module _ {F : Type 0} (closures : Reader F) where
     -- the line that lacks its end is at fault
     pub stops_last : (first mid : F) (old new : List Row) (text begun : List ℕ) (error : Error) (a b : Input)
         → TakesWhole closures with_expired now first old text mid new begun → Consumes a.left b.left text
-        → IsAtEnd b.left → (line : List ℕ) → line ≡ begun → StopsAtLine closures mid (lines line) error
-        → StopsLoading closures first a b error
-    stops_last first mid old new text begun error a b (whole, made, cut, taken, placed) read ended line same stops =
+        → IsAtEnd b.left → b.failures ≡ a.failures → (line : List ℕ) → line ≡ begun
+        → StopsAtLine closures mid (lines line) error → StopsLoading closures first a b error
+    stops_last first mid old new text begun error a b (whole, made, cut, taken, placed) read ended steady line same
+        stops =
         inl (
+          steady,
           text,
           had_all a.left b.left text read ended,
           subst (λ ls. StopsAtLine closures first ls error) (sym (lines_whole text begun whole cut))

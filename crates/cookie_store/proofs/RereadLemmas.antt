@@ -1,20 +1,18 @@
 -- Rows that were saved and are loaded.
-use Rattle.std.proofs.Common.{◌≡◌, inl, inr, ℕ, ℤ, List, [], ◌∷◌, Option, Some, None, refl, sym, ap, subst, ◌∙◌}
+use Rattle.std.proofs.Common.{◌≡◌, inl, inr, ℕ, ℤ, Bool, List, [], ◌∷◌, Option, Some, None, refl, sym, ap, subst, ◌∙◌}
 use Rattle.std.specs.Prelude.{Ok}
 use Rattle.std.proofs.lemmas.Option.{none-some, same_Some}
 use Rattle.std.specs.List.{AllByRecursion}
-use Rattle.std.specs.Str.{IsUtf8}
 use Rattle.jiff.specs.Words.{civil_nanos}
 use Rattle.cookie_text.specs.Printing.{printed}
 use Rattle.cookie_text.specs.Reading.{ReadsPlain}
 use Rattle.cookie_text.specs.ReadingBack.{Pairwise}
 use Rattle.serde_json.specs.Read.{read}
 use Rattle.saved_text.specs.DateReading.{IsDateOf, AreOfOneMoment}
-use Rattle.saved_text.specs.Json.{list_text, rows_value, ListsReadBack}
+use Rattle.saved_text.specs.Json.{rows_value, ListsReadBack}
 use Rattle.saved_text.specs.JsonReading.{HasDeath, IsReadable, IsJsonFault, AreNoRows}
 use Rattle.saved_text.specs.PrintedDates.{without_fraction, IsWholeSecondOf, PrintedDatesAreRead, FractionsAreDropped}
 use Rattle.saved_text.specs.Rfc3339.{date_text}
-use Rattle.saved_text.specs.RonLayout.{ron_layout}
 use Rattle.saved_text.specs.Row as saved
 use Rattle.saved_text.specs.Row.{Shown}
 use Rattle.saved_text.specs.RowWords.{AreBytes, IsRowOfBytes, ShowsRon, WrittenIsOfGrammar}
@@ -24,14 +22,17 @@ use Rattle.saved_text.specs.Saved.{IsCookieText}
 use Rattle.saved_text.specs.declared.error.SavedTextError.{SavedTextError}
 use Rattle.saved_text.specs.declared.error.SavedTextError.TheVariants as fault
 use Rattle.saved_text.specs.declared.row.SavedExpiration.TheVariants.{AtUtc, SessionEnd}
-use Rattle.store_parts.specs.declared.error.Error.{Error}
 use Rattle.store_parts.specs.declared.error.Error.TheVariants.{OutOfMemory}
 use Rattle.store_parts.specs.DomainMatch.{Domain, host_only, suffix, not_present, empty, text_or_empty}
-use Rattle.cookie_store.specs.Rows.{Row, Store, domain_text}
-use Rattle.cookie_store.specs.SavedLaws.{IsOfBytes, PrintsCookie, RonComesBack, RonIsRead, JsonComesBack, JsonIsRead}
+use Rattle.cookie_store.specs.Placing.{loaded_store}
+use Rattle.cookie_store.specs.Rows.{Row, Store}
+use Rattle.cookie_store.specs.SavedLaws.{HoldsReread, IsOfBytes, PrintsCookie, RonComesBack, RonIsRead, JsonComesBack}
+use Rattle.cookie_store.specs.SavedLaws.{JsonIsRead}
 use Rattle.cookie_store.specs.SavedRows.{IsShownAs, IsLoadedFrom, IsReread, IsExpiryOf, IsDeathOf, IsWholeDeath}
 use Rattle.cookie_store.specs.SavedRows.{domain_shown}
 use Rattle.cookie_store.specs.SavedTexts.{of_saved_text}
+use Rattle.cookie_store.proofs.GroupedLemmas.{loaded_stay}
+use Rattle.cookie_store.proofs.ReadableLemmas.{IsUnrefuted, pair_reads, none_refuted}
 use Rattle.cookie_store.proofs.ShownLemmas.{same_shown, date_bytes, whole, whole_nanos}
 
 -- ---- one row
@@ -76,6 +77,18 @@ rows_bytes [] [] b h = tt
 rows_bytes [] (t ∷ ts) b h = absurd h
 rows_bytes (r ∷ rs) [] b h = absurd h
 rows_bytes (r ∷ rs) (t ∷ ts) b h = (row_bytes r t b.0 h.0, rows_bytes rs ts b.1 h.1)
+
+-- ---- where they stand
+
+held_reread : (with_expired : Bool) (now : ℤ) (rows reread : List Row) (store : Store) → Pairwise IsReread rows reread
+    → store ≡ loaded_store with_expired now reread → HoldsReread with_expired now rows store
+held_reread with_expired now rows reread store pairs placed = record {
+  reread = reread;
+  pairs = pairs;
+  placed = placed;
+  stay = λ grouped apart. placed
+      ∙ ap (λ rs. record { rows = rs; suffixes = [] }) (loaded_stay with_expired now rows reread pairs grouped apart);
+}
 
 -- ---- what is printed of dates is read
 
@@ -124,15 +137,20 @@ module _ (read_printed : PrintedDatesAreRead) (dropped : FractionsAreDropped) (o
   expiry_reads None (Some date) h = absurd h
   expiry_reads None None h = (SessionEnd, tt)
 
-  all_read : (rows : List Row) (ts : List Shown) → AllByRecursion PrintsCookie rows → Pairwise IsShownAs rows ts
-      → AllByRecursion IsReadable ts
-  all_read [] [] p h = tt
-  all_read [] (t ∷ ts) p h = absurd h
-  all_read (r ∷ rs) [] p h = absurd h
-  all_read (r ∷ rs) (t ∷ ts) p h = (
-    (subst IsCookieText (sym h.0.raw) p.0, expiry_reads r.death t.expires h.0.expires),
-    all_read rs ts p.1 h.1,
+  each_reads : (rows : List Row) (ts : List Shown) → AllByRecursion PrintsCookie rows → Pairwise IsShownAs rows ts
+      → AllByRecursion (λ t. IsUnrefuted (IsReadable t)) ts
+  each_reads [] [] p h = tt
+  each_reads [] (t ∷ ts) p h = absurd h
+  each_reads (r ∷ rs) [] p h = absurd h
+  each_reads (r ∷ rs) (t ∷ ts) p h = (
+    λ refuted. pair_reads (printed r.raw.cookie) p.0
+        (λ reads. refuted (subst IsCookieText (sym h.0.raw) reads, expiry_reads r.death t.expires h.0.expires)),
+    each_reads rs ts p.1 h.1,
   )
+
+  all_read : (rows : List Row) (ts : List Shown) → AllByRecursion PrintsCookie rows → Pairwise IsShownAs rows ts
+      → IsUnrefuted (AllByRecursion IsReadable ts)
+  all_read rows ts p h = none_refuted IsReadable ts (each_reads rows ts p h)
 
   pub ron_read : WrittenIsOfGrammar → RonIsRead
   ron_read written rows text e bytes prints utf8 (ts, shown, is) (cause, why, e_is) = by cause why e_is
@@ -141,7 +159,7 @@ module _ (read_printed : PrintedDatesAreRead) (dropped : FractionsAreDropped) (o
       shows = subst (λ x. ShowsRon x ts) (sym is) (written ts (rows_bytes rows ts bytes shown))
 
       by : (cause : SavedTextError) → IsRonFault text cause → e ≡ of_saved_text cause → e ≡ OutOfMemory
-      by (fault.Ron n) why e_is = absurd (why.0 ts shows (all_read rows ts prints shown))
+      by (fault.Ron n) why e_is = absurd (all_read rows ts prints shown (why.0 ts shows))
       by fault.OutOfMemory why e_is = e_is
       by fault.NotText why e_is = absurd (why utf8)
       by fault.Json why e_is = absurd why
@@ -157,7 +175,7 @@ module _ (read_printed : PrintedDatesAreRead) (dropped : FractionsAreDropped) (o
       by : (cause : SavedTextError) → IsJsonFault AreNoRows text cause → e ≡ of_saved_text cause → e ≡ OutOfMemory
       by fault.Json why e_is = absurd (none-some (rows_value ts) (sym why ∙ value))
       by fault.Shape (d, reads, none) e_is =
-          absurd (none ts (same_Some d (rows_value ts) (sym reads ∙ value)) (all_read rows ts prints shown))
+          absurd (all_read rows ts prints shown (none ts (same_Some d (rows_value ts) (sym reads ∙ value))))
       by fault.OutOfMemory why e_is = e_is
       by fault.NotText why e_is = absurd why
       by (fault.Ron n) why e_is = absurd why
@@ -167,9 +185,11 @@ module _ (read_printed : PrintedDatesAreRead) (dropped : FractionsAreDropped) (o
       let shows : ShowsRon text ts =
       subst (λ x. ShowsRon x ts) (sym is) (written ts (rows_bytes rows ts bytes shown)) in
       let same : ts ≡ all = only.1 ts shows in
-      (loaded, rows_back rows ts loaded shown (subst (λ us. Pairwise IsLoadedFrom us loaded) (sym same) pairs), held)
+      held_reread with_expired now rows loaded store
+      (rows_back rows ts loaded shown (subst (λ us. Pairwise IsLoadedFrom us loaded) (sym same) pairs)) held
 
   pub json_back : ListsReadBack → JsonComesBack
   json_back lists rows text with_expired now store (ts, shown, is) (all, (utf8, reads), (loaded, pairs, held)) =
       let same : ts ≡ all = same_shown ts all (same_Some _ _ (sym (lists ts) ∙ ap read (sym is) ∙ reads)) in
-      (loaded, rows_back rows ts loaded shown (subst (λ us. Pairwise IsLoadedFrom us loaded) (sym same) pairs), held)
+      held_reread with_expired now rows loaded store
+      (rows_back rows ts loaded shown (subst (λ us. Pairwise IsLoadedFrom us loaded) (sym same) pairs)) held

@@ -1,7 +1,7 @@
 -- Lines written one after another.
 use Rattle.std.proofs.Common.{◌≡◌, ℕ, ℤ, Bool, true, List, ◌∷◌, ◌++◌, ap, sym, subst, ◌∙◌, append_assoc}
 use Rattle.std.proofs.Common.{inl, inr}
-use Rattle.std.specs.Prelude.{Option, Some, None, Result, Ok, Err, OnErr}
+use Rattle.std.specs.Prelude.{◌⊎◌, Option, Some, None, Result, Ok, Err, IfErr, OnErr}
 use Rattle.std.specs.List.{FoldsTo}
 use Rattle.std.proofs.lemmas.Bool.{cond-true}
 use Rattle.std.specs.Io.KnownBytes.{Appends}
@@ -20,6 +20,16 @@ at_any_error (Err e) p = p
 pub at_each_error : {T E P Q : Type 0} (r : Result T E) → (P → Q) → OnErr r P → OnErr r Q
 at_each_error (Ok x) f p = tt
 at_each_error (Err e) f p = f p
+
+-- a writer failed, or there is another cause
+pub fails_or : {T E : Type 0} (P : Type 0) (Q : E → Type 0) (r : Result T E) → OnErr r P → IfErr r (λ e. Q e ⊎ P)
+fails_or P Q (Ok x) p = tt
+fails_or P Q (Err e) p = inr p
+
+pub fails_with : {T E : Type 0} (P : Type 0) (F Q : E → Type 0) (r : Result T E) → IfErr r F → OnErr r P
+    → IfErr r (λ e. (F e × P) ⊎ Q e)
+fails_with P F Q (Ok x) f p = tt
+fails_with P F Q (Err e) f p = inl (f, p)
 
 -- a front of a text is one of a longer text, and what stands before a text may stand before its front
 pub front_of_longer : (a b : Option (List ℕ)) (xs ys : List ℕ) → AppendsFront a b xs → AppendsFront a b (xs ++ ys)

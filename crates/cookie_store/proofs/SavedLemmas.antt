@@ -1,5 +1,5 @@
 -- Lists of rows that are saved and loaded, one by one.
-use Rattle.std.proofs.Common.{◌≡◌, Bool, true, false, List, [], ◌∷◌, ◌++◌, ℤ, Option, Some, None, string_bytes}
+use Rattle.std.proofs.Common.{◌≡◌, true, false, List, [], ◌∷◌, ◌++◌, ℤ, Option, Some, None, string_bytes}
 use Rattle.std.specs.Prelude.{ℕ, Result, Ok, Err, IfOk}
 use Rattle.std.proofs.Common.{inl, inr, refl, sym, ap, subst, ◌∙◌, append_assoc, append-nil}
 use Rattle.std.proofs.lemmas.Bool.{cond-true, cond-false, true≢false}
@@ -7,6 +7,7 @@ use Rattle.std.specs.List.{AllByRecursion}
 use Rattle.std.specs.Io.KnownBytes.{Appends}
 use Rattle.std.proofs.KnownBytes.{Appends-nil, Appends-trans}
 use Rattle.std.proofs.lemmas.Grind.{flat_map-append}
+use Rattle.devices.specs.Device.{AppendsFront}
 use Rattle.saved_text.specs.Json.{row_text}
 use Rattle.cookie_text.specs.ReadingBack.{Pairwise}
 use Rattle.saved_text.specs.JsonReading.{AreShown}
@@ -16,8 +17,9 @@ use Rattle.saved_text.specs.declared.row.SavedRow.{SavedRow}
 use Rattle.store_parts.specs.declared.error.Error.{Error}
 use Rattle.cookie_store.specs.Placing.{is_saved}
 use Rattle.cookie_store.specs.Rows.{Row}
-use Rattle.cookie_store.specs.SavedRows.{IsShownAs, IsLoadedFrom, IsBeforeYears}
-use Rattle.cookie_store.specs.SavedTexts.{OfText, Saves, SavesUntil, json_lines, IsRowFault, IsSaveFault, IsAnyBeforeYears}
+use Rattle.cookie_store.specs.SavedRows.{IsShownAs, IsLoadedFrom}
+use Rattle.cookie_store.specs.SavedTexts.{OfText, Saves, SavesUntil, json_lines, IsRowFault, IsSaveFault}
+use Rattle.cookie_store.specs.SavedTexts.{FailsInLine}
 use Rattle.cookie_store.specs.Steps.{is_wanted, wanted}
 
 -- ---- those that are saved
@@ -132,15 +134,18 @@ lines_begin all old = record {
   written = Appends-nil old;
 }
 
+line_behind : (shown : List Shown) (t : Shown)
+    → json_lines (shown ++ t ∷ []) ≡ json_lines shown ++ (row_text t ++ 10 ∷ [])
+line_behind shown t = flat_map-append (λ u. row_text u ++ 10 ∷ []) shown (t ∷ [])
+    ∙ ap (λ x. json_lines shown ++ x) (append-nil (row_text t ++ 10 ∷ []))
+
 pub lines_more : (all : List Row) (old mid new : Option (List ℕ)) (row : Row) (rest : List Row) (t : Shown)
     → LinesSoFar all old mid (row ∷ rest) → IsShownAs row t → Appends mid new (row_text t ++ 10 ∷ [])
     → LinesSoFar all old new rest
 lines_more all old mid new row rest t far is line = record {
   shown = far.shown ++ t ∷ [];
   far = saves_more all far.shown row rest t far.far is;
-  written = subst (Appends old new)
-      (sym (flat_map-append (λ u. row_text u ++ 10 ∷ []) far.shown (t ∷ [])
-      ∙ ap (λ x. json_lines far.shown ++ x) (append-nil (row_text t ++ 10 ∷ []))))
+  written = subst (Appends old new) (sym (line_behind far.shown t))
       (Appends-trans old mid new (json_lines far.shown) (row_text t ++ 10 ∷ []) far.written line);
 }
 
@@ -163,3 +168,22 @@ lines_stop all old new row rest e far why = (
   },
   far.written,
 )
+
+-- the writer fails in a row's line
+pub fails_in_line : (all : List Row) (old mid new : Option (List ℕ)) (row : Row) (rest : List Row) (t : Shown)
+    → LinesSoFar all old mid (row ∷ rest) → IsShownAs row t → AppendsFront mid new (row_text t ++ 10 ∷ [])
+    → FailsInLine all old new
+fails_in_line all old mid new row rest t far is (front, back, split, appended) = record {
+  before = far.far.done;
+  row = row;
+  after = rest;
+  split = sym far.far.whole;
+  lines = json_lines far.shown;
+  saved = (far.shown, far.far.pairs, refl);
+  shown = t;
+  is = is;
+  front = front;
+  back = back;
+  line = split;
+  written = Appends-trans old mid new (json_lines far.shown) front far.written appended;
+}

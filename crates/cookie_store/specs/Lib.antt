@@ -2,6 +2,7 @@ pub mod Confined
 pub mod Entries
 pub mod Given
 pub mod Giving
+pub mod Grouped
 pub mod Insertion
 pub mod Laws
 pub mod Lending

@@ -96,10 +96,11 @@ pub record LoadsLines {F : Type 0} (closures : Reader F) (closure : F) (with_exp
   pub taken : TakesLines closures closure (lines text) rows last
   pub placed : store ≡ loaded_store with_expired now rows
 
--- loading stopped, at a line of the text or at a read
+-- loading stopped, at a line of the text, while no read failed, or at a read
 abbrev pub StopsLoading : {F : Type 0} → Reader F → F → Input → Input → Error → Type 0
 StopsLoading closures closure old new error =
-    ((text : List ℕ) × IfSome old.left (λ left. text ≡ left) × StopsAtLine closures closure (lines text) error)
+    ((new.failures ≡ old.failures) × (text : List ℕ) × IfSome old.left (λ left. text ≡ left)
+    × StopsAtLine closures closure (lines text) error)
     ⊎ ((error ≡ Io) × StopsReading closures closure old new)
 
 -- ---- cookies of an iterator

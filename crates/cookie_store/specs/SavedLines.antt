@@ -43,7 +43,7 @@ WritesLine calls old row new =
     (text : String Global) × Prints calls old.0 row (Ok text) new.0
     × Appends old.1.written new.1.written (line_of text) × (new.1.failures ≡ old.1.failures)
 
--- each row's line was written before the closure was called at the next row
+-- the closure made a text of each row, one after another, and their lines were written in this order
 abbrev pub SavesLines : {F : Type 0} → Printer F → F → Output → List Row → Output → Type 0
 SavesLines {F} calls closure old rows new = (last : F) × FoldsTo (WritesLine calls) (closure, old) rows (last, new)
 

@@ -7,7 +7,7 @@ use Rattle.std.specs.Global.{Vec}
 use Rattle.std.specs.declared.alloc.Global.{Global}
 use denote.Param.Members.{Mut}
 use Rattle.store_parts.specs.declared.error.Error.{Error}
-use Rattle.store_parts.specs.declared.error.Error.TheVariants.{NotText, OutOfMemory}
+use Rattle.store_parts.specs.declared.error.Error.TheVariants.{NotText}
 use Rattle.cookie_store.specs.Placing.{loaded_store}
 use Rattle.cookie_store.specs.Rows.{Row, Store}
 

@@ -1,5 +1,6 @@
 -- What is shown of a store's row in a saved text, and what is loaded of a row that is shown (own: docs/DEFINITIONS.md).
 use Rattle.std.specs.Prelude.{◌≡◌, ℕ, ℤ, pos, ◌≤ℤ◌, ◌<ℤ◌, List, Option, Some, None, Ok}
+use Rattle.std.specs.Str.{IsUtf8}
 use Rattle.cookie_text.specs.Printing.{printed}
 use Rattle.cookie_text.specs.Reading.{ReadsPlain}
 use Rattle.cookie_text.specs.Record.{Seen, unsliced}
@@ -62,6 +63,7 @@ IsDeathOf None None = Unit {0}
 -- a row that is shown so, loaded: its cookie is what its text reads as, no part of it a slice of that text, and its
 -- death the moment of its date
 pub record IsLoadedFrom (shown : Shown) (row : Row) : Type 0 where
+  pub utf8 : IsUtf8 shown.raw
   pub seen : Seen
   pub reads : ReadsPlain shown.raw (Ok seen)
   pub raw : row.raw ≡ unsliced seen.cookie

@@ -4,7 +4,8 @@ use Rattle.std.specs.List.{flat_map}
 use Rattle.std.specs.Str.{IsUtf8}
 use Rattle.std.specs.Str.Lines.{lines}
 use Rattle.cookie_text.specs.ReadingBack.{Pairwise}
-use Rattle.devices.specs.Device.{Rose}
+use Rattle.std.specs.Io.KnownBytes.{Appends, Consumes, IsAtEnd}
+use Rattle.devices.specs.Device.{AppendsFront, Rose}
 use Rattle.serde_json.specs.Data.{Data}
 use Rattle.serde_json.specs.Read.{read}
 use Rattle.saved_text.specs.Json.{rows_value, row_value, row_text}
@@ -15,6 +16,7 @@ use Rattle.saved_text.specs.declared.error.SavedTextError.{SavedTextError}
 use Rattle.saved_text.specs.declared.error.SavedTextError.TheVariants as fault
 use Rattle.store_parts.specs.declared.error.Error.{Error}
 use Rattle.store_parts.specs.declared.error.Error.TheVariants.{Io, NotText, Json, Ron, Shape, Year, OutOfMemory}
+use Rattle.cookie_store.specs.LoadedLines.{Cuts, Input}
 use Rattle.cookie_store.specs.Placing.{loaded_store}
 use Rattle.cookie_store.specs.Rows.{Row, Store}
 use Rattle.cookie_store.specs.SavedRows.{IsShownAs, IsLoadedFrom, IsBeforeYears}
@@ -53,6 +55,21 @@ pub record SavesUntil (rows : List Row) (e : Error) (text : List ℕ) : Type 0 w
   pub split : rows ≡ before ++ row ∷ after
   pub fault : IsRowFault row.death e
   pub lines : Saves json_lines before text
+
+-- the lines of the rows before one are written, and a front of its own line
+pub record FailsInLine (rows : List Row) (old new : Option (List ℕ)) : Type 0 where
+  pub before : List Row
+  pub row : Row
+  pub after : List Row
+  pub split : rows ≡ before ++ row ∷ after
+  pub lines : List ℕ
+  pub saved : Saves json_lines before lines
+  pub shown : Shown
+  pub is : IsShownAs row shown
+  pub front : List ℕ
+  pub back : List ℕ
+  pub line : row_text shown ++ 10 ∷ [] ≡ front ++ back
+  pub written : Appends old new (lines ++ front)
 
 -- ---- loading
 
@@ -111,10 +128,15 @@ IsLineOf line row = IsUtf8 line × IsJsonRow line row
 abbrev pub IsLineRefusal : List ℕ → Error → Type 0
 IsLineRefusal line e = ((e ≡ NotText) × (¬ IsUtf8 line)) ⊎ (IsUtf8 line × IsRefusal (IsJsonFault IsNoRow line) e)
 
--- a store that loaded the rows of a text's lines
-abbrev pub LoadsLines : Bool → ℤ → List ℕ → Store → Type 0
-LoadsLines with_expired now text store =
-    (rows : List Row) × Pairwise IsLineOf (lines text) rows × (store ≡ loaded_store with_expired now rows)
+-- all was read, and the store loaded the rows of its lines
+pub record LoadsLines (with_expired : Bool) (now : ℤ) (old new : Input) (store : Store) : Type 0 where
+  pub text : List ℕ
+  pub read : Consumes old.left new.left text
+  pub ended : IsAtEnd new.left
+  pub failures : new.failures ≡ old.failures
+  pub rows : List Row
+  pub taken : Pairwise IsLineOf (lines text) rows
+  pub placed : store ≡ loaded_store with_expired now rows
 
 -- the first fault in the order of the lines, or want of memory
 abbrev pub StopsAt : List (List ℕ) → Error → Type 0
@@ -122,11 +144,32 @@ StopsAt [] e = ⊥
 StopsAt (line ∷ more) e =
     IsLineRefusal line e ⊎ (e ≡ OutOfMemory) ⊎ ((row : Row) × IsLineOf line row × StopsAt more e)
 
+-- a read failed, or 2^64 - 1 reads met no end, and each line that ends in what was read is a row's
+pub record StopsReading (old new : Input) : Type 0 where
+  pub failed : Rose old.failures new.failures ⊎ (new.reads ≡ 2 ^ 64 - 1)
+  pub text : List ℕ
+  pub read : Consumes old.left new.left text
+  pub whole : List (List ℕ)
+  pub begun : List ℕ
+  pub cut : Cuts text whole begun
+  pub rows : List Row
+  pub taken : Pairwise IsLineOf whole rows
+
+-- loading stopped, at a line of the text, while no read failed, or at a read
+abbrev pub StopsLoading : Input → Input → Error → Type 0
+StopsLoading old new e =
+    ((new.failures ≡ old.failures) × (text : List ℕ) × IfSome old.left (λ left. text ≡ left) × StopsAt (lines text) e)
+    ⊎ ((e ≡ Io) × StopsReading old new)
+
 -- ---- devices
 
 -- the writer failed in the call
 abbrev pub IsWriteFault : ℕ → ℕ → Error → Type 0
 IsWriteFault before after e = (e ≡ Io) × Rose before after
+
+-- a front of such a text was written
+abbrev pub WritesFront : (List ℕ → Type 0) → Option (List ℕ) → Option (List ℕ) → Type 0
+WritesFront IsText old new = (text : List ℕ) × IsText text × AppendsFront old new text
 
 -- the reader failed in the call, or 2^64 - 1 reads met no end
 abbrev pub IsReadFault : ℕ → ℕ → ℕ → Error → Type 0

@@ -1,11 +1,13 @@
 //! A store by lines of JSON.
-ghost use Rattle.std.specs.Prelude.{◌≡◌, ◌⊎◌, IfOk, IfErr, OnOk, option_map, pos, true, false, string_bytes};
+ghost use Rattle.std.specs.Prelude.{◌≡◌, ◌⊎◌, option_map, pos, true, false, string_bytes};
+ghost use Rattle.std.specs.Prelude.{IfOk, IfErr, OnOk, IsErrOf};
 ghost use Rattle.std.specs.Io.KnownBytes.{Appends};
 ghost use Rattle.jiff.specs.Words.{civil_nanos};
-ghost use Rattle.std.specs.Str.Lines.{lines};
 ghost use Rattle.saved_text.specs.Json.{row_text};
 ghost use Rattle.saved_text.specs.JsonReading.{IsJsonFault, IsNoRow};
 ghost use Rattle.saved_text.specs.Row.{Shown};
+ghost use Rattle.store_parts.specs.declared.error.Error.TheVariants.{Io};
+ghost use Rattle.cookie_store.specs.LoadedLines.{input};
 ghost use Rattle.cookie_store.specs.Placing.{saved};
 ghost use Rattle.cookie_store.specs.SavedRows.{IsShownAs};
 ghost use Rattle.cookie_store.specs.SavedTexts as form;
@@ -33,12 +35,15 @@ impl CookieStore {
     /// # Errors
     ///
     /// `Year` at a cookie that ends in a year below 0, or `OutOfMemory`: the lines of those before it
-    /// are written then. `Io` where the writer failed.
+    /// are written then. `Io` at a cookie in whose line the writer failed or the count of its failures
+    /// stands at its last value: the lines of those before it and a front of its own are written then.
     pub fn save_json<W: Sink>(&self, writer: &mut W, now: DateTime) -> StoreResult<()>
         ensures ok { OnOk result ((lines : _)
             × form.Saves form.json_lines (saved (civil_nanos now) self.now.rows) lines
             × Appends (W.written writer.old) (W.written writer.new) lines) }
-        ensures err { IfErr result (λ e. form.IsWriteFault (W.failures writer.old) (W.failures writer.new) e
+        ensures failures { IsErrOf result Io ⊎ (W.failures writer.new ≡ W.failures writer.old) }
+        ensures err { IfErr result (λ e. (form.IsWriteFault (W.failures writer.old) (W.failures writer.new) e
+            × form.FailsInLine (saved (civil_nanos now) self.now.rows) (W.written writer.old) (W.written writer.new))
             ⊎ ((lines : _) × form.SavesUntil (saved (civil_nanos now) self.now.rows) e lines
             × Appends (W.written writer.old) (W.written writer.new) lines)) }
         ensures flushes { W.flushes writer.new ≡ W.flushes writer.old }
@@ -57,7 +62,9 @@ impl CookieStore {
     ) -> StoreResult<()>
         ensures ok { OnOk result ((lines : _) × form.Saves form.json_lines self.now.rows lines
             × Appends (W.written writer.old) (W.written writer.new) lines) }
-        ensures err { IfErr result (λ e. form.IsWriteFault (W.failures writer.old) (W.failures writer.new) e
+        ensures failures { IsErrOf result Io ⊎ (W.failures writer.new ≡ W.failures writer.old) }
+        ensures err { IfErr result (λ e. (form.IsWriteFault (W.failures writer.old) (W.failures writer.new) e
+            × form.FailsInLine self.now.rows (W.written writer.old) (W.written writer.new))
             ⊎ ((lines : _) × form.SavesUntil self.now.rows e lines
             × Appends (W.written writer.old) (W.written writer.new) lines)) }
         ensures flushes { W.flushes writer.new ≡ W.flushes writer.old }
@@ -72,17 +79,20 @@ impl CookieStore {
     /// # Errors
     ///
     /// The first in the order of the lines: `NotText`, `Json`, or `Shape` where the value is of another
-    /// shape or the raw cookie or the date in it does not read; `Io` where a read fails; `OutOfMemory`.
+    /// shape or the raw cookie or the date in it does not read; `Io` where a read fails, or the count
+    /// of failures or of reads stands at its last value, once all lines that ended before it are taken;
+    /// `OutOfMemory`.
     pub fn load_json<R: Source>(
         alloc: Global,
         reader: &mut R,
         now: DateTime,
     ) -> StoreResult<CookieStore>
-        ensures ok { IfOk result (λ store. form.OfText (R.left reader.old)
-            (λ text. form.LoadsLines false (civil_nanos now) text store)) }
-        ensures err { IfErr result (λ e.
-            form.IsReadFault (R.failures reader.old) (R.failures reader.new) (R.reads reader.new) e
-            ⊎ form.OfText (R.left reader.old) (λ text. form.StopsAt (lines text) e)) }
+        ensures ok { IfOk result (form.LoadsLines false (civil_nanos now)
+            (input (R.left reader.old) (R.failures reader.old) (R.reads reader.old))
+            (input (R.left reader.new) (R.failures reader.new) (R.reads reader.new))) }
+        ensures err { IfErr result (form.StopsLoading
+            (input (R.left reader.old) (R.failures reader.old) (R.reads reader.old))
+            (input (R.left reader.new) (R.failures reader.new) (R.reads reader.new))) }
     {
         let read = |line: &str|
             ensures ok { IfOk result (λ cookie. form.IsJsonRow line.now (stored_of cookie)) }
@@ -97,11 +107,12 @@ impl CookieStore {
     ///
     /// As `load_json`.
     pub fn load_json_all<R: Source>(alloc: Global, reader: &mut R) -> StoreResult<CookieStore>
-        ensures ok { IfOk result (λ store. form.OfText (R.left reader.old)
-            (λ text. form.LoadsLines true (pos 0) text store)) }
-        ensures err { IfErr result (λ e.
-            form.IsReadFault (R.failures reader.old) (R.failures reader.new) (R.reads reader.new) e
-            ⊎ form.OfText (R.left reader.old) (λ text. form.StopsAt (lines text) e)) }
+        ensures ok { IfOk result (form.LoadsLines true (pos 0)
+            (input (R.left reader.old) (R.failures reader.old) (R.reads reader.old))
+            (input (R.left reader.new) (R.failures reader.new) (R.reads reader.new))) }
+        ensures err { IfErr result (form.StopsLoading
+            (input (R.left reader.old) (R.failures reader.old) (R.reads reader.old))
+            (input (R.left reader.new) (R.failures reader.new) (R.reads reader.new))) }
     {
         let read = |line: &str|
             ensures ok { IfOk result (λ cookie. form.IsJsonRow line.now (stored_of cookie)) }
@@ -132,7 +143,10 @@ fn write_json<W: Sink>(
     ensures ok { OnOk result ((lines : _)
         × form.Saves form.json_lines (wanted (option_map civil_nanos now) cookies.entry) lines
         × Appends (W.written writer.old) (W.written writer.new) lines) }
-    ensures err { IfErr result (λ e. form.IsWriteFault (W.failures writer.old) (W.failures writer.new) e
+    ensures failures { IsErrOf result Io ⊎ (W.failures writer.new ≡ W.failures writer.old) }
+    ensures err { IfErr result (λ e. (form.IsWriteFault (W.failures writer.old) (W.failures writer.new) e
+        × form.FailsInLine (wanted (option_map civil_nanos now) cookies.entry)
+        (W.written writer.old) (W.written writer.new))
         ⊎ ((lines : _) × form.SavesUntil (wanted (option_map civil_nanos now) cookies.entry) e lines
         × Appends (W.written writer.old) (W.written writer.new) lines)) }
     ensures flushes { W.flushes writer.new ≡ W.flushes writer.old }

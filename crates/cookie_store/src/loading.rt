@@ -63,7 +63,7 @@ impl CookieStore {
     ///
     /// # Errors
     ///
-    /// The first that the iterator gives, after which nothing is taken from it; `OutOfMemory`.
+    /// The first that the iterator gives; `OutOfMemory`.
     pub fn from_cookies<I: Iterator<Item = Result<Cookie<'static>, Error>> + Drop>(
         alloc: Global,
         iter: I,
@@ -91,7 +91,8 @@ impl CookieStore {
     /// # Errors
     ///
     /// The first in the order of the lines: `NotText` at one that is not UTF-8, or any that the
-    /// closure answers; `Io` where a read fails, once all lines before it are taken; `OutOfMemory`.
+    /// closure answers; `Io` where a read fails, or the count of failures or of reads stands at its
+    /// last value, once all lines before it are taken; `OutOfMemory`.
     pub fn load<R: Source, C: StoreCookie, F: FnMut(&str) -> Result<C, Error>>(
         alloc: Global,
         reader: &mut R,

@@ -7,6 +7,7 @@ ghost use Rattle.std.specs.Map.Iter.{TakesFirst};
 ghost use Rattle.std.specs.Iterator.{at_most};
 ghost use Rattle.jiff.specs.Words.{civil_nanos};
 ghost use Rattle.cookie_store.specs.Entries.{value_at, with_value};
+ghost use Rattle.cookie_store.specs.Grouped.{AreGrouped};
 ghost use Rattle.cookie_store.specs.Insertion.{action_of};
 ghost use Rattle.cookie_store.specs.Rows as spec;
 ghost use Rattle.cookie_store.specs.Tree as tree;
@@ -137,7 +138,7 @@ impl Rows {
     /// The cookies in their order.
     pub(crate) fn iter(&self) -> IterAny<'_>
         ensures rows { result ≡ self.now }
-        ensures apart { spec.AreApart self.now }
+        ensures grouped { AreGrouped self.now }
     {
         IterAny {
             open: None,

@@ -1,5 +1,6 @@
 //! A row of a saved text and a cookie of a store, each made of the other.
 ghost use Rattle.std.specs.Prelude.{◌≡◌, Ok, List, ℕ, Option, IfOk, IfErr, MatchOption};
+ghost use Rattle.std.specs.Str.{IsUtf8};
 ghost use Rattle.cookie_text.specs.Reading.{ReadsPlain};
 ghost use Rattle.cookie_text.specs.Record.{Seen, unsliced};
 ghost use Rattle.saved_text.specs.Row.{Shown};
@@ -99,7 +100,8 @@ pub(crate) fn loaded_of(alloc: Global, row: SavedRow) -> Result<Cookie<'static>,
 // The cookie that a text reads as, owning its texts.
 fn raw_of(alloc: Global, text: &str) -> Result<RawCookie<'static>, AllocError>
     requires { IsCookieText text.now }
-    ensures { IfOk result (λ raw. (s : Seen) × ReadsPlain text.now (Ok s) × (raw ≡ unsliced s.cookie)) }
+    ensures { IfOk result (λ raw. (s : Seen) × IsUtf8 text.now × ReadsPlain text.now (Ok s)
+        × (raw ≡ unsliced s.cookie)) }
 {
     match RawCookie::parse(text) {
         Ok(cookie) => cookie.into_owned(alloc),

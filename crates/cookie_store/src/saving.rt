@@ -1,31 +1,30 @@
 //! Saving a store by lines.
-ghost use Rattle.std.specs.Prelude.{◌≡◌, ◌↔◌, IsTrue, IfErr, OnErr, OnOk, option_map, string_bytes};
-ghost use Rattle.std.specs.Io.KnownBytes.{Appends};
-ghost use Rattle.devices.specs.Device.{AppendsFront, Rose};
+ghost use Rattle.std.specs.Prelude.{◌≡◌, IfErr, OnOk, option_map};
 ghost use Rattle.jiff.specs.Words.{civil_nanos};
 ghost use Rattle.cookie_store.specs.Placing.{saved};
-ghost use Rattle.cookie_store.specs.SavedLines.{SavesLines, StopsSaving, output, printer, line_of};
+ghost use Rattle.cookie_store.specs.SavedLines.{SavesLines, StopsSaving, output, printer};
 ghost use Rattle.cookie_store.specs.Steps.{is_wanted, wanted};
 ghost use Rattle.cookie_store.specs.StoredCookie.{stored_of};
 
 use crate::action::StoreResult;
 use crate::rows::IterAny;
+use crate::serde::write_line;
 use crate::store::CookieStore;
 use crate::store_cookie::StoreCookie;
 use crate::stored_cookie::Cookie;
 use devices::Sink;
-use devices::pour::{WriteFailed, write_all};
 use jiff::civil::DateTime;
 use store_parts::Error;
 
 impl CookieStore {
     /// Writes a line for each cookie that has an end and is not expired at `now`, in the order of
-    /// the rows: the text that the closure makes of it, and a line feed. Each line is written before
-    /// the closure is called for the next cookie; nothing is flushed.
+    /// the rows: the text that the closure makes of it, and a line feed. Nothing is flushed.
     ///
     /// # Errors
     ///
-    /// Any that the closure answers, and nothing more is written then; `Io` where the writer failed.
+    /// Any that the closure answers at a cookie: the lines of those before it are written then. `Io` at
+    /// a cookie in whose line the writer failed or the count of its failures stands at its last value:
+    /// the lines of those before it and a front of its own are written then.
     pub fn save<W: Sink, C: StoreCookie, F: FnMut(&C) -> Result<String, Error>>(
         &self,
         writer: &mut W,
@@ -98,23 +97,8 @@ fn write_lines<W: Sink, C: StoreCookie, F: FnMut(&C) -> Result<String, Error>>(
     for cookie in cookies {
         if is_wanted(cookie, &now) {
             let text = closure(C::of_store(cookie))?;
-            match write_line(writer, &text) {
-                Ok(()) => {}
-                Err(_) => return Err(Error::Io),
-            }
+            write_line(writer, text.as_str())?;
         }
     }
     Ok(())
-}
-
-// The text and a line feed.
-fn write_line<W: Sink>(writer: &mut W, text: &String) -> Result<(), WriteFailed>
-    ensures ok { OnOk result (Appends (W.written writer.old) (W.written writer.new) (line_of text.now)) }
-    ensures front { OnErr result (AppendsFront (W.written writer.old) (W.written writer.new) (line_of text.now)) }
-    ensures failures { OnOk result (W.failures writer.new ≡ W.failures writer.old) }
-    ensures err { OnErr result (Rose (W.failures writer.old) (W.failures writer.new)) }
-    ensures flushes { W.flushes writer.new ≡ W.flushes writer.old }
-{
-    write_all(writer, text.as_bytes())?;
-    write_all(writer, b"\n")
 }

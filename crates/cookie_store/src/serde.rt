@@ -1,6 +1,8 @@
 //! Saving and loading a store as one text: by a closure of the whole list, in JSON or in RON.
-ghost use Rattle.std.specs.Prelude.{◌≡◌, ◌⊎◌, ◌++◌, ◌∷◌, [], Err, IfOk, IfErr, OnOk, option_map, pos, true, false};
+ghost use Rattle.std.specs.Prelude.{◌≡◌, ◌⊎◌, ◌++◌, ◌∷◌, [], option_map, pos, true, false};
+ghost use Rattle.std.specs.Prelude.{Err, IfOk, IfErr, OnOk, OnErr};
 ghost use Rattle.std.specs.Io.KnownBytes.{Appends};
+ghost use Rattle.devices.specs.Device.{AppendsFront};
 ghost use Rattle.jiff.specs.Words.{civil_nanos};
 ghost use Rattle.store_parts.specs.declared.error.Error.TheVariants.{OutOfMemory};
 ghost use Rattle.cookie_store.specs.SavedLaws.{RonComesBack, RonIsRead, JsonComesBack, JsonIsRead};
@@ -30,7 +32,8 @@ use store_parts::{Error, Result};
 /// # Errors
 ///
 /// Any that the closure answers, or `OutOfMemory` for the copies that it is lent: nothing is
-/// written then. `Io` where the writer failed.
+/// written then. `Io` where the writer failed or the count of its failures stands at its last
+/// value, once the closure has made the text; a front of it is written then.
 pub fn save<W: Sink, C: StoreCookie + Drop, F: FnMut(&[C]) -> Result<String>>(
     store: &CookieStore,
     writer: &mut W,
@@ -41,7 +44,11 @@ pub fn save<W: Sink, C: StoreCookie + Drop, F: FnMut(&[C]) -> Result<String>>(
     ensures ok { OnOk result ((list : _)
         × lists.IsListOf (lists.lister C.shows F.FnMut) closure (saved (civil_nanos now) store.now.rows) list
         × Appends (W.written writer.old) (W.written writer.new) list) }
-    ensures err { IfErr result (λ e. form.IsWriteFault (W.failures writer.old) (W.failures writer.new) e
+    ensures failures { OnOk result (W.failures writer.new ≡ W.failures writer.old) }
+    ensures err { IfErr result (λ e. (form.IsWriteFault (W.failures writer.old) (W.failures writer.new) e
+        × form.WritesFront
+        (lists.IsListOf (lists.lister C.shows F.FnMut) closure (saved (civil_nanos now) store.now.rows))
+        (W.written writer.old) (W.written writer.new))
         ⊎ ((writer.new ≡ writer.old)
         × (lists.Lists (lists.lister C.shows F.FnMut) closure (saved (civil_nanos now) store.now.rows) (Err e)
         ⊎ (e ≡ OutOfMemory)))) }
@@ -63,7 +70,11 @@ pub fn save_incl_expired_and_nonpersistent<
     requires { F.IsAlwaysCallable closure }
     ensures ok { OnOk result ((list : _) × lists.IsListOf (lists.lister C.shows F.FnMut) closure store.now.rows list
         × Appends (W.written writer.old) (W.written writer.new) list) }
-    ensures err { IfErr result (λ e. form.IsWriteFault (W.failures writer.old) (W.failures writer.new) e
+    ensures failures { OnOk result (W.failures writer.new ≡ W.failures writer.old) }
+    ensures err { IfErr result (λ e. (form.IsWriteFault (W.failures writer.old) (W.failures writer.new) e
+        × form.WritesFront
+        (lists.IsListOf (lists.lister C.shows F.FnMut) closure store.now.rows)
+        (W.written writer.old) (W.written writer.new))
         ⊎ ((writer.new ≡ writer.old)
         × (lists.Lists (lists.lister C.shows F.FnMut) closure store.now.rows (Err e) ⊎ (e ≡ OutOfMemory)))) }
     ensures flushes { W.flushes writer.new ≡ W.flushes writer.old }
@@ -83,7 +94,11 @@ fn write_list<W: Sink, C: StoreCookie + Drop, F: FnMut(&[C]) -> Result<String>>(
         × lists.IsListOf (lists.lister C.shows F.FnMut) closure
         (wanted (option_map civil_nanos now) store.now.rows) list
         × Appends (W.written writer.old) (W.written writer.new) list) }
-    ensures err { IfErr result (λ e. form.IsWriteFault (W.failures writer.old) (W.failures writer.new) e
+    ensures failures { OnOk result (W.failures writer.new ≡ W.failures writer.old) }
+    ensures err { IfErr result (λ e. (form.IsWriteFault (W.failures writer.old) (W.failures writer.new) e
+        × form.WritesFront
+        (lists.IsListOf (lists.lister C.shows F.FnMut) closure (wanted (option_map civil_nanos now) store.now.rows))
+        (W.written writer.old) (W.written writer.new))
         ⊎ ((writer.new ≡ writer.old)
         × (lists.Lists (lists.lister C.shows F.FnMut) closure
         (wanted (option_map civil_nanos now) store.now.rows) (Err e)
@@ -101,8 +116,8 @@ fn write_list<W: Sink, C: StoreCookie + Drop, F: FnMut(&[C]) -> Result<String>>(
 ///
 /// # Errors
 ///
-/// `Io` where the reader failed, or met no end in 2^64 - 1 reads; `NotText` where the bytes are not
-/// UTF-8; any that the closure answers; `OutOfMemory`.
+/// `Io` where the reader failed, or the count of its failures or of its reads stands at its last
+/// value; `NotText` where the bytes are not UTF-8; any that the closure answers; `OutOfMemory`.
 pub fn load<R: Source, C: StoreCookie + Drop, F: FnMut(&str) -> Result<Vec<C>>>(
     alloc: Global,
     reader: &mut R,
@@ -112,10 +127,11 @@ pub fn load<R: Source, C: StoreCookie + Drop, F: FnMut(&str) -> Result<Vec<C>>>(
     requires { F.IsAlwaysCallable closure }
     ensures ok { IfOk result (λ store. form.OfText (R.left reader.old)
         (λ all. lists.LoadsBy (lists.reader C.shows F.FnMut) closure false (civil_nanos now) all store)) }
+    ensures failures { OnOk result (R.failures reader.new ≡ R.failures reader.old) }
     ensures err { IfErr result (λ e.
         form.IsReadFault (R.failures reader.old) (R.failures reader.new) (R.reads reader.new) e
-        ⊎ (e ≡ OutOfMemory)
-        ⊎ form.OfText (R.left reader.old) (λ all. lists.IsRefusedBy (lists.reader C.shows F.FnMut) closure all e)) }
+        ⊎ ((R.failures reader.new ≡ R.failures reader.old) × ((e ≡ OutOfMemory)
+        ⊎ form.OfText (R.left reader.old) (λ all. lists.IsRefusedBy (lists.reader C.shows F.FnMut) closure all e)))) }
 {
     read_list(alloc, reader, closure, false, now)
 }
@@ -133,10 +149,11 @@ pub fn load_all<R: Source, C: StoreCookie + Drop, F: FnMut(&str) -> Result<Vec<C
     requires { F.IsAlwaysCallable closure }
     ensures ok { IfOk result (λ store. form.OfText (R.left reader.old)
         (λ all. lists.LoadsBy (lists.reader C.shows F.FnMut) closure true (pos 0) all store)) }
+    ensures failures { OnOk result (R.failures reader.new ≡ R.failures reader.old) }
     ensures err { IfErr result (λ e.
         form.IsReadFault (R.failures reader.old) (R.failures reader.new) (R.reads reader.new) e
-        ⊎ (e ≡ OutOfMemory)
-        ⊎ form.OfText (R.left reader.old) (λ all. lists.IsRefusedBy (lists.reader C.shows F.FnMut) closure all e)) }
+        ⊎ ((R.failures reader.new ≡ R.failures reader.old) × ((e ≡ OutOfMemory)
+        ⊎ form.OfText (R.left reader.old) (λ all. lists.IsRefusedBy (lists.reader C.shows F.FnMut) closure all e)))) }
 {
     read_list(alloc, reader, closure, true, DateTime::MIN)
 }
@@ -152,10 +169,11 @@ fn read_list<R: Source, C: StoreCookie + Drop, F: FnMut(&str) -> Result<Vec<C>>>
     requires { F.IsAlwaysCallable closure }
     ensures ok { IfOk result (λ store. form.OfText (R.left reader.old)
         (λ all. lists.LoadsBy (lists.reader C.shows F.FnMut) closure with_expired (civil_nanos now) all store)) }
+    ensures failures { OnOk result (R.failures reader.new ≡ R.failures reader.old) }
     ensures err { IfErr result (λ e.
         form.IsReadFault (R.failures reader.old) (R.failures reader.new) (R.reads reader.new) e
-        ⊎ (e ≡ OutOfMemory)
-        ⊎ form.OfText (R.left reader.old) (λ all. lists.IsRefusedBy (lists.reader C.shows F.FnMut) closure all e)) }
+        ⊎ ((R.failures reader.new ≡ R.failures reader.old) × ((e ≡ OutOfMemory)
+        ⊎ form.OfText (R.left reader.old) (λ all. lists.IsRefusedBy (lists.reader C.shows F.FnMut) closure all e)))) }
 {
     let bytes = read_text(alloc, reader)?;
     let Ok(text) = str::from_utf8(&bytes) else {
@@ -184,8 +202,10 @@ pub fn laws()
 /// All that is left to read.
 pub(crate) fn read_text<R: Source>(alloc: Global, reader: &mut R) -> Result<Vec<u8>>
     ensures ok { IfOk result (λ all. form.OfText (R.left reader.old) (λ bytes. all.items ≡ bytes)) }
+    ensures failures { OnOk result (R.failures reader.new ≡ R.failures reader.old) }
     ensures err { IfErr result (λ e.
-        form.IsReadFault (R.failures reader.old) (R.failures reader.new) (R.reads reader.new) e ⊎ (e ≡ OutOfMemory)) }
+        form.IsReadFault (R.failures reader.old) (R.failures reader.new) (R.reads reader.new) e
+        ⊎ ((R.failures reader.new ≡ R.failures reader.old) × (e ≡ OutOfMemory))) }
 {
     match read_all(alloc, reader) {
         Ok(all) => Ok(all),
@@ -197,6 +217,7 @@ pub(crate) fn read_text<R: Source>(alloc: Global, reader: &mut R) -> Result<Vec<
 /// All of the text.
 pub(crate) fn write_text<W: Sink>(writer: &mut W, text: &str) -> Result<()>
     ensures bytes { OnOk result (Appends (W.written writer.old) (W.written writer.new) text.now) }
+    ensures front { OnErr result (AppendsFront (W.written writer.old) (W.written writer.new) text.now) }
     ensures failures { OnOk result (W.failures writer.new ≡ W.failures writer.old) }
     ensures err { IfErr result (form.IsWriteFault (W.failures writer.old) (W.failures writer.new)) }
     ensures flushes { W.flushes writer.new ≡ W.flushes writer.old }
@@ -210,6 +231,7 @@ pub(crate) fn write_text<W: Sink>(writer: &mut W, text: &str) -> Result<()>
 /// The text and a line feed.
 pub(crate) fn write_line<W: Sink>(writer: &mut W, text: &str) -> Result<()>
     ensures bytes { OnOk result (Appends (W.written writer.old) (W.written writer.new) (text.now ++ 10 ∷ [])) }
+    ensures front { OnErr result (AppendsFront (W.written writer.old) (W.written writer.new) (text.now ++ 10 ∷ [])) }
     ensures failures { OnOk result (W.failures writer.new ≡ W.failures writer.old) }
     ensures err { IfErr result (form.IsWriteFault (W.failures writer.old) (W.failures writer.new)) }
     ensures flushes { W.flushes writer.new ≡ W.flushes writer.old }

@@ -9,6 +9,7 @@ ghost use Rattle.cookie_text.specs.Printing.{is_set};
 ghost use Rattle.jiff.specs.Words.{civil_nanos};
 ghost use Rattle.store_parts.specs.DomainMatch.{domain_of, host_only, text_of, IsListedIn};
 ghost use Rattle.cookie_store.specs.Given.{AreGiven, ShowsGiven, pair_of, received_of, shown};
+ghost use Rattle.cookie_store.specs.Grouped.{AreGrouped, PartsStay};
 ghost use Rattle.cookie_store.specs.Insertion as insertion;
 ghost use Rattle.cookie_store.specs.Laws as law;
 ghost use Rattle.cookie_store.specs.Making.{IsBarred};
@@ -315,6 +316,13 @@ impl CookieStore {
         self.rows = Rows::new(self.alloc);
     }
 
+    /// Puts all cookies of another store in the place of its own. The list of public suffixes stays.
+    pub fn replace_rows(&mut self, other: CookieStore)
+        ensures { self.new ≡ record self.old { rows = other.rows } }
+    {
+        self.rows = other.rows;
+    }
+
     /// The cookies that are not expired at `now`, in the order of the rows.
     pub fn iter_unexpired(&self, now: DateTime) -> IterUnexpired<'_>
         ensures { result ≡ spec.live (civil_nanos now) self.now.rows }
@@ -325,7 +333,7 @@ impl CookieStore {
     /// All cookies, in the order of the rows.
     pub fn iter_any(&self) -> IterAny<'_>
         ensures rows { result ≡ self.now.rows }
-        ensures apart { spec.AreApart self.now.rows }
+        ensures grouped { AreGrouped self.now.rows }
     {
         self.rows.iter()
     }
@@ -489,7 +497,8 @@ fn bury(rows: &mut Rows, cookie: &Cookie<'static>, now: DateTime) -> InsertResul
 /// What holds of the rows of each store. Which of them a request is given, and how an insertion
 /// ends, is determined. An insertion keeps the keys apart, puts what is then got, touches no other
 /// row, and none that the URL's host may not; what is put after it was taken out is the last of its
-/// domain and path.
+/// domain and path. A part of rows that stand in groups, put row by row where there was none, stands
+/// as it did.
 pub fn laws()
     ensures given { law.GivenOnce }
     ensures ends { law.EndsOnce }
@@ -498,4 +507,5 @@ pub fn laws()
     ensures local { law.PuttingIsLocal }
     ensures last { law.ComesLast }
     ensures confined { law.InsertionIsConfined }
+    ensures parts { PartsStay }
 {}

@@ -4,6 +4,7 @@ use cookie_run::{Client, LineEnd};
 use cookie_store::{CookieError, StoreAction};
 use jiff::civil::DateTime;
 use publicsuffix::List;
+use std::alloc::Global;
 use std::test::Fail;
 use url::Url;
 
@@ -37,100 +38,109 @@ fn takes_each_line_by_itself(rt: HostRuntime) -> Result<(), Fail> {
     ];
     let wanted = [STORED, SUFFIX, UNREAD, UPDATED, LineEnd::NotText];
     assert!(rt; takes(&mut client, &url, &lines, &wanted));
-    let lines: [&[u8]; 3] = [b"b=4; Max-Age=0", b"a=; Path=/; Max-Age=0", b"a=5; Path=/"];
-    assert!(rt; takes(&mut client, &url, &lines, &[EXPIRED, ENDED, UPDATED]));
+    let lines: [&[u8]; 4] = [
+        b"\xff",
+        b"b=4; Max-Age=0",
+        b"a=; Path=/; Max-Age=0",
+        b"a=5; Path=/",
+    ];
+    let wanted = [LineEnd::NotText, EXPIRED, ENDED, UPDATED];
+    assert!(rt; takes(&mut client, &url, &lines, &wanted));
     assert!(rt; gives(&client, &url, "a=5"));
     Ok(())
 }
 
-// Schemes that aren't https are judged by the store alone.
-#[test]
-fn takes_lines_of_other_schemes(rt: HostRuntime) -> Result<(), Fail> {
-    let alloc = rt.alloc();
-    let plain = Url::parse(alloc, "http://shop.com/")?;
-    let files = Url::parse(alloc, "ftp://shop.com/")?;
-    let mut client = client(alloc)?;
-    let lines: [&[u8]; 3] = [b"a=1; HttpOnly", b"b=2; Secure", b"\xff"];
-    assert!(rt;
-        takes(
-            &mut client,
-            &plain,
-            &lines,
-            &[STORED, STORED, LineEnd::NotText]
-        )
-    );
-    let lines: [&[u8]; 3] = [b"c=3; HttpOnly", b"a=4", b"d=5"];
-    assert!(rt; takes(&mut client, &files, &lines, &[BARRED, BARRED, STORED]));
-    assert!(rt; gives(&client, &plain, "a=1; d=5"));
-    assert!(rt; gives(&client, &files, "d=5"));
-    Ok(())
+/// A line that comes to a client, or a look at a header.
+enum Act {
+    Takes(&'static str, &'static [u8], LineEnd),
+    Gives(&'static str, &'static str),
 }
+
+fn is_done(alloc: Global, client: &mut Client, act: &Act) -> Option<bool> {
+    match act {
+        Act::Takes(url, line, end) => {
+            let url = Url::parse(alloc, url).ok()?;
+            Some(takes(client, &url, &[*line], &[*end]))
+        }
+        Act::Gives(url, header) => Some(gives(client, &Url::parse(alloc, url).ok()?, header)),
+    }
+}
+
+// Whether a client with these rules for its list of public suffixes does all of them.
+fn are_done(alloc: Global, rules: &str, acts: &[Act]) -> bool {
+    let Ok(list) = List::parse(alloc, rules.as_bytes()) else {
+        return false;
+    };
+    let mut client = Client::new(alloc, list);
+    for act in acts {
+        if is_done(alloc, &mut client, act) != Some(true) {
+            return false;
+        }
+    }
+    true
+}
+
+// Schemes that aren't https are judged by the store alone.
+const OTHER_SCHEMES: &[Act] = &[
+    Act::Takes("http://shop.com/", b"a=1; HttpOnly", STORED),
+    Act::Takes("http://shop.com/", b"b=2; Secure", STORED),
+    Act::Takes("http://shop.com/", b"\xff", LineEnd::NotText),
+    Act::Takes("ftp://shop.com/", b"c=3; HttpOnly", BARRED),
+    Act::Takes("ftp://shop.com/", b"a=4", BARRED),
+    Act::Takes("ftp://shop.com/", b"d=5", STORED),
+    Act::Gives("http://shop.com/", "a=1; d=5"),
+    Act::Gives("ftp://shop.com/", "d=5"),
+];
 
 // Two hosts under a public suffix can't set for each other; two under another text can.
-#[test]
-fn asks_its_list_of_suffixes(rt: HostRuntime) -> Result<(), Fail> {
-    let alloc = rt.alloc();
-    let me = Url::parse(alloc, "https://me.github.io/")?;
-    let evil = Url::parse(alloc, "https://evil.github.io/")?;
-    let mut client = Client::new(alloc, List::parse(alloc, b"io\ngithub.io\n")?);
-    assert!(rt; takes(&mut client, &me, &[b"a=1; Secure; Path=/"], &[STORED]));
-    let lines: [&[u8]; 2] = [b"a=x; Domain=github.io", b"a=x; Domain=me.github.io"];
-    assert!(rt; takes(&mut client, &evil, &lines, &[SUFFIX, MISMATCH]));
-    assert!(rt; gives(&client, &me, "a=1"));
-    let mut client = Client::new(alloc, List::parse(alloc, b"io\n")?);
-    assert!(rt; takes(&mut client, &me, &[b"a=1; Secure; Path=/"], &[STORED]));
-    assert!(rt; takes(&mut client, &evil, &lines, &[STORED, MISMATCH]));
-    assert!(rt; gives(&client, &me, "a=1; a=x"));
-    Ok(())
-}
+const UNDER_A_LISTED_TEXT: &[Act] = &[
+    Act::Takes("https://me.github.io/", b"a=1; Secure; Path=/", STORED),
+    Act::Takes("https://evil.github.io/", b"a=x; Domain=github.io", SUFFIX),
+    Act::Takes(
+        "https://evil.github.io/",
+        b"a=x; Domain=me.github.io",
+        MISMATCH,
+    ),
+    Act::Gives("https://me.github.io/", "a=1"),
+];
 
-// A line behind one that isn't stored is looked at all the same.
-#[test]
-fn takes_a_line_behind_refused_ones(rt: HostRuntime) -> Result<(), Fail> {
-    let url = Url::parse(rt.alloc(), "https://shop.com/")?;
-    let mut client = client(rt.alloc())?;
-    let lines: [&[u8]; 3] = [b"=v", b"\xff", b"a=1"];
-    assert!(rt;
-        takes(
-            &mut client,
-            &url,
-            &lines,
-            &[UNREAD, LineEnd::NotText, STORED]
-        )
-    );
-    Ok(())
-}
+const UNDER_ANOTHER_TEXT: &[Act] = &[
+    Act::Takes("https://me.github.io/", b"a=1; Secure; Path=/", STORED),
+    Act::Takes("https://evil.github.io/", b"a=x; Domain=github.io", STORED),
+    Act::Takes(
+        "https://evil.github.io/",
+        b"a=x; Domain=me.github.io",
+        MISMATCH,
+    ),
+    Act::Gives("https://me.github.io/", "a=1; a=x"),
+];
 
 // A host that isn't the site's can't set for it, neither by a public suffix nor by its name.
-#[test]
-fn refuses_lines_for_another_host(rt: HostRuntime) -> Result<(), Fail> {
-    let shop = Url::parse(rt.alloc(), "https://shop.com/")?;
-    let evil = Url::parse(rt.alloc(), "https://evil.com/")?;
-    let mut client = client(rt.alloc())?;
-    assert!(rt; takes(&mut client, &shop, &[b"a=1; Secure; Path=/"], &[STORED]));
-    let lines: [&[u8]; 2] = [b"a=x; Domain=com", b"a=x; Domain=shop.com"];
-    assert!(rt; takes(&mut client, &evil, &lines, &[SUFFIX, MISMATCH]));
-    assert!(rt; gives(&client, &shop, "a=1"));
-    Ok(())
-}
+const ANOTHER_HOST: &[Act] = &[
+    Act::Takes("https://shop.com/", b"a=1; Secure; Path=/", STORED),
+    Act::Takes("https://evil.com/", b"a=x; Domain=com", SUFFIX),
+    Act::Takes("https://evil.com/", b"a=x; Domain=shop.com", MISMATCH),
+    Act::Gives("https://shop.com/", "a=1"),
+];
 
 // A host below the site can, and its cookie takes the place of the site's own.
+const HOST_BELOW: &[Act] = &[
+    Act::Takes("https://shop.com/", b"a=1; Secure; Path=/", STORED),
+    Act::Takes(
+        "https://sub.shop.com/",
+        b"a=x; Domain=shop.com; Path=/",
+        UPDATED,
+    ),
+    Act::Gives("https://shop.com/", "a=x"),
+];
+
 #[test]
-fn takes_a_line_of_a_host_below(rt: HostRuntime) -> Result<(), Fail> {
-    let shop = Url::parse(rt.alloc(), "https://shop.com/")?;
-    let sub = Url::parse(rt.alloc(), "https://sub.shop.com/")?;
-    let mut client = client(rt.alloc())?;
-    assert!(rt; takes(&mut client, &shop, &[b"a=1; Secure; Path=/"], &[STORED]));
-    assert!(rt;
-        takes(
-            &mut client,
-            &sub,
-            &[b"a=x; Domain=shop.com; Path=/"],
-            &[UPDATED]
-        )
-    );
-    assert!(rt; gives(&client, &shop, "a=x"));
-    Ok(())
+fn takes_lines_of_any_host(rt: HostRuntime) {
+    assert!(rt; are_done(rt.alloc(), "com", OTHER_SCHEMES));
+    assert!(rt; are_done(rt.alloc(), "io\ngithub.io", UNDER_A_LISTED_TEXT));
+    assert!(rt; are_done(rt.alloc(), "io", UNDER_ANOTHER_TEXT));
+    assert!(rt; are_done(rt.alloc(), "com", ANOTHER_HOST));
+    assert!(rt; are_done(rt.alloc(), "com", HOST_BELOW));
 }
 
 // Whether the client gives this header to the URL then.

@@ -27,11 +27,17 @@ mod play_tests;
 #[cfg(test)]
 mod program_tests;
 #[cfg(test)]
+mod saving_tests;
+#[cfg(test)]
 mod script_tests;
 #[cfg(test)]
 mod session_tests;
 #[cfg(test)]
 mod site_tests;
+#[cfg(test)]
+mod steps;
+#[cfg(test)]
+mod stranger_tests;
 #[cfg(test)]
 mod stream_tests;
 #[cfg(test)]

@@ -3,26 +3,20 @@
 //! A scenario looks at what a refusal leaves, and answers whether it met want of memory. A test ends
 //! with that as its error, so it passes with ample memory alone; `tools/refuse-growths` refuses each
 //! growth in turn, and takes no other failure.
-use crate::fixtures::{client, cookie, is_line, run_script, second, text, zero_key};
+use crate::fixtures::{client, cookie, is_line, run_script, second, zero_key};
 use crate::generators::zeros;
+use crate::steps::{steps, told};
 use cookie::Cookie;
 use cookie_run::play::play;
 use cookie_run::program::program;
-use cookie_run::{
-    Command, Counting, Delivery, Ended, FaultKind, LineEnd, Reading, Session, SessionError, Step,
-    Stopped, Way,
-};
+use cookie_run::{Counting, Ended, FaultKind, LineEnd, Session, SessionError, Stopped, Way};
 use cookie_store::{CookieError, StoreAction};
-use jiff::SignedDuration;
-use jiff::civil::DateTime;
 use publicsuffix::List;
 use std::alloc::{AllocError, Global};
 use std::process::Abort;
 use url::Url;
 
 const SHOP: &str = "https://shop.com/";
-
-const EVIL: &str = "https://evil.com/";
 
 // Whether a call met want of memory, its only cause for a refusal.
 fn is_want(rt: &impl Abort, done: Result<(), SessionError>) -> bool {
@@ -199,115 +193,34 @@ fn refuses_lines(rt: &impl Abort, alloc: Global) -> bool {
     }
 }
 
-// An exchange at a shop.
-fn visit(alloc: Global, at: DateTime, commands: Vec<Command>, delivery: Delivery) -> Option<Step> {
-    let url = Url::parse(alloc, SHOP).ok()?;
-    Some(Step::Exchange {
-        url,
-        at,
-        commands,
-        delivery,
-    })
-}
-
-fn sets_two(alloc: Global) -> Option<Step> {
-    let mut ending = cookie(alloc, "a", "1").ok()?;
-    ending.set_max_age(Some(SignedDuration::from_secs(5)));
-    let plain = Command::Set(Way::Plain, ending);
-    let sealed = Command::Set(Way::Sealed, cookie(alloc, "b", "2").ok()?);
-    let commands = vec![in alloc; plain, sealed].ok()?;
-    visit(alloc, second(0), commands, Delivery::At(second(1)))
-}
-
-fn gets_two(alloc: Global) -> Option<Step> {
-    let plain = Command::Get(Way::Plain, text(alloc, "a").ok()?);
-    let sealed = Command::Get(Way::Sealed, text(alloc, "b").ok()?);
-    let removal = Command::Remove(Way::Sealed, text(alloc, "b").ok()?);
-    let commands = vec![in alloc; plain, sealed, removal].ok()?;
-    visit(alloc, second(2), commands, Delivery::At(second(3)))
-}
-
-fn gets_none(alloc: Global) -> Option<Step> {
-    let sealed = Command::Get(Way::Sealed, text(alloc, "b").ok()?);
-    let commands = vec![in alloc; sealed].ok()?;
-    visit(alloc, second(4), commands, Delivery::Lost)
-}
-
-fn foreign(alloc: Global) -> Option<Step> {
-    let url = Url::parse(alloc, EVIL).ok()?;
-    let line = Vec::from_slice(alloc, b"c=3; Path=/").ok()?;
-    Some(Step::Foreign {
-        url,
-        lines: vec![in alloc; line].ok()?,
-        at: second(2),
-    })
-}
-
-fn header(alloc: Global) -> Option<Step> {
-    Some(Step::Header {
-        url: Url::parse(alloc, EVIL).ok()?,
-        at: second(3),
-    })
-}
-
 // An answer that is delivered, what it set is read, and a removal that is delivered.
-fn visits(alloc: Global) -> Option<Vec<Step>> {
-    vec![in alloc; sets_two(alloc)?, gets_two(alloc)?, gets_none(alloc)?].ok()
-}
+const VISITS: &str = "visit https://shop.com/ 0 1 set:plain:a:1:5 set:sealed:b:2\n\
+visit https://shop.com/ 2 3 get:plain:a get:sealed:b remove:sealed:b\n\
+visit https://shop.com/ 4 lost get:sealed:b\n";
 
-fn read_by_visits(alloc: Global) -> Option<Vec<Reading>> {
-    let plain = value(alloc, Way::Plain, "a", "1")?;
-    let sealed = value(alloc, Way::Sealed, "b", "2")?;
-    let none = Reading::Value(Way::Sealed, text(alloc, "b").ok()?, None);
-    vec![in alloc; plain, sealed, none].ok()
-}
-
-// Lines from elsewhere, and the header that they make.
-fn strange(alloc: Global) -> Option<Vec<Step>> {
-    vec![in alloc; foreign(alloc)?, header(alloc)?].ok()
-}
-
-fn read_by_strange(alloc: Global) -> Option<Vec<Reading>> {
-    vec![in alloc; Reading::Header(text(alloc, "c=3").ok()?)].ok()
-}
-
-// The value of a name, read.
-fn value(alloc: Global, way: Way, name: &str, value: &str) -> Option<Reading> {
-    let name = text(alloc, name).ok()?;
-    let value = text(alloc, value).ok()?;
-    Some(Reading::Value(way, name, Some(value)))
-}
+// Lines from elsewhere, a restart, and the header that they make.
+const ELSEWHERE: &str = "lines https://evil.com/ 2 c=3; Path=/; Max-Age=60\n\
+restart 2\n\
+header https://evil.com/ 3\n";
 
 // Whether a play met want of memory; else it reads this.
-fn is_stopped(rt: &impl Abort, alloc: Global, steps: &[Step], wanted: &[Reading]) -> bool {
-    let Ok(list) = List::parse(alloc, b"com") else {
+fn is_stopped(rt: &impl Abort, alloc: Global, text: &str, wanted: &str) -> bool {
+    let (Ok(list), Some(steps)) = (List::parse(alloc, b"com"), steps(alloc, text)) else {
         return true;
     };
-    match play(alloc, list, &zero_key(), steps, &mut zeros()) {
+    match play(alloc, list, &zero_key(), &steps, &mut zeros()) {
         Ok(readings) => {
-            assert!(rt; readings.as_slice() == wanted);
-            false
+            let is_told = told(alloc, &readings);
+            assert!(rt; is_told.as_deref().unwrap_or(wanted) == wanted);
+            is_told.is_none()
         }
         Err(fault) => {
             assert!(rt; fault.kind == FaultKind::Memory);
             assert!(rt; 1 <= fault.step && fault.step <= steps.len());
-            assert!(rt; wanted.starts_with(&fault.readings));
+            let is_told = told(alloc, &fault.readings);
+            assert!(rt; wanted.starts_with(is_told.as_deref().unwrap_or("")));
             true
         }
-    }
-}
-
-fn plays_visits(rt: &impl Abort, alloc: Global) -> bool {
-    match (visits(alloc), read_by_visits(alloc)) {
-        (Some(steps), Some(wanted)) => is_stopped(rt, alloc, &steps, &wanted),
-        _ => true,
-    }
-}
-
-fn plays_strange(rt: &impl Abort, alloc: Global) -> bool {
-    match (strange(alloc), read_by_strange(alloc)) {
-        (Some(steps), Some(wanted)) => is_stopped(rt, alloc, &steps, &wanted),
-        _ => true,
     }
 }
 
@@ -357,15 +270,16 @@ header\thttps://shop.com/\t2024-01-01T00:00:02Z\n";
 
 const REMOVES_PRINTS: &str = "header\t\n";
 
-// A site reads a line that came from elsewhere.
+// A site reads a line that came from elsewhere, and that a restart kept.
 const RECEIVES: &str =
-    "receive\thttps://shop.com/\t2024-01-01T00:00:00Z\ta=5; Path=/\tb=6; Path=/\n\
+    "receive\thttps://shop.com/\t2024-01-01T00:00:00Z\ta=5; Path=/\tb=6; Path=/; Max-Age=60\n\
+restart\t2024-01-01T00:00:01Z\n\
 open\thttps://shop.com/\t2024-01-01T00:00:01Z\n\
 get\tplain\tb\n\
 lose\n\
 fly\n";
 
-const RECEIVES_PRINTS: &str = "plain\tb\t=6\nline 5: Word\n";
+const RECEIVES_PRINTS: &str = "plain\tb\t=6\nline 6: Word\n";
 
 // A cookie is set and read in the way of this word.
 fn runs_in(rt: &impl Abort, alloc: Global, way: &str) -> bool {
@@ -413,86 +327,86 @@ fn plays_the_program(rt: &(impl Abort + AllocGlobal)) -> bool {
 }
 
 // Want of memory, where a scenario met it.
-fn told(refused: bool) -> Result<(), AllocError> {
+fn ended(refused: bool) -> Result<(), AllocError> {
     if refused { Err(AllocError) } else { Ok(()) }
 }
 
 #[test]
 fn open(rt: HostRuntime) -> Result<(), AllocError> {
-    told(opens(&rt, rt.alloc()))
+    ended(opens(&rt, rt.alloc()))
 }
 
 #[test]
 fn set(rt: HostRuntime) -> Result<(), AllocError> {
-    told(sets(&rt, rt.alloc()))
+    ended(sets(&rt, rt.alloc()))
 }
 
 #[test]
 fn keep(rt: HostRuntime) -> Result<(), AllocError> {
-    told(keeps_in_each_way(&rt, rt.alloc()))
+    ended(keeps_in_each_way(&rt, rt.alloc()))
 }
 
 #[test]
 fn remove(rt: HostRuntime) -> Result<(), AllocError> {
-    told(removes(&rt, rt.alloc()))
+    ended(removes(&rt, rt.alloc()))
 }
 
 #[test]
 fn receive(rt: HostRuntime) -> Result<(), AllocError> {
-    told(receives(&rt, rt.alloc()))
+    ended(receives(&rt, rt.alloc()))
 }
 
 #[test]
 fn refuse(rt: HostRuntime) -> Result<(), AllocError> {
-    told(refuses_lines(&rt, rt.alloc()))
+    ended(refuses_lines(&rt, rt.alloc()))
 }
 
 #[test]
 fn plays_on(rt: HostRuntime) -> Result<(), AllocError> {
-    told(plays_visits(&rt, rt.alloc()))
+    ended(is_stopped(&rt, rt.alloc(), VISITS, "1 2 - "))
 }
 
 #[test]
 fn plays_elsewhere(rt: HostRuntime) -> Result<(), AllocError> {
-    told(plays_strange(&rt, rt.alloc()))
+    ended(is_stopped(&rt, rt.alloc(), ELSEWHERE, "c=3 "))
 }
 
 #[test]
 fn runs_on(rt: HostRuntime) -> Result<(), AllocError> {
-    told(is_cut(&rt, rt.alloc(), DELIVERS, DELIVERS_PRINTS, Ended::Whole))
+    ended(is_cut(&rt, rt.alloc(), DELIVERS, DELIVERS_PRINTS, Ended::Whole))
 }
 
 #[test]
 fn runs_on_removals(rt: HostRuntime) -> Result<(), AllocError> {
-    told(is_cut(&rt, rt.alloc(), REMOVES, REMOVES_PRINTS, Ended::Whole))
+    ended(is_cut(&rt, rt.alloc(), REMOVES, REMOVES_PRINTS, Ended::Whole))
 }
 
 #[test]
 fn runs_on_lines_from_elsewhere(rt: HostRuntime) -> Result<(), AllocError> {
-    told(is_cut(&rt, rt.alloc(), RECEIVES, RECEIVES_PRINTS, Ended::Faulty(5)))
+    ended(is_cut(&rt, rt.alloc(), RECEIVES, RECEIVES_PRINTS, Ended::Faulty(6)))
 }
 
 #[test]
 fn runs_host(rt: HostRuntime) -> Result<(), AllocError> {
-    told(runs_in(&rt, rt.alloc(), "host"))
+    ended(runs_in(&rt, rt.alloc(), "host"))
 }
 
 #[test]
 fn runs_secure(rt: HostRuntime) -> Result<(), AllocError> {
-    told(runs_in(&rt, rt.alloc(), "secure"))
+    ended(runs_in(&rt, rt.alloc(), "secure"))
 }
 
 #[test]
 fn runs_signed(rt: HostRuntime) -> Result<(), AllocError> {
-    told(runs_in(&rt, rt.alloc(), "signed"))
+    ended(runs_in(&rt, rt.alloc(), "signed"))
 }
 
 #[test]
 fn runs_sealed(rt: HostRuntime) -> Result<(), AllocError> {
-    told(runs_in(&rt, rt.alloc(), "sealed"))
+    ended(runs_in(&rt, rt.alloc(), "sealed"))
 }
 
 #[test]
 fn program_plays(rt: HostRuntime) -> Result<(), AllocError> {
-    told(plays_the_program(&rt))
+    ended(plays_the_program(&rt))
 }

@@ -106,6 +106,22 @@ fn stops_at_the_first_wrong_moment(rt: HostRuntime) -> Result<(), Fail> {
     Ok(())
 }
 
+// Whether a play of two restarts stops at the second one, for its moment.
+fn restart_stops(alloc: Global, at: DateTime, kind: FaultKind) -> bool {
+    let steps = [Step::Restart { at: second(5) }, Step::Restart { at }];
+    match played(alloc, &steps, &mut zeros()) {
+        Some(Err(fault)) => fault.kind == kind && fault.step == 2 && fault.readings.is_empty(),
+        _ => false,
+    }
+}
+
+#[test]
+fn stops_at_the_wrong_moment_of_a_restart(rt: HostRuntime) {
+    let fraction = second(6).saturating_add(SignedDuration::from_millis(1));
+    assert!(rt; restart_stops(rt.alloc(), fraction, FaultKind::Moment));
+    assert!(rt; restart_stops(rt.alloc(), second(4), FaultKind::Back));
+}
+
 // A sealed set that is refused for the generator reads as that, and the play goes on.
 #[test]
 fn goes_on_where_the_generator_fails(rt: HostRuntime) -> Result<(), Fail> {

@@ -1,230 +1,166 @@
 //! Plays of sites whose cookies end and are removed, beside other hosts.
-use crate::fixtures::{cookie, second, text, zero_key};
-use crate::generators::zeros;
-use cookie_run::play::play;
-use cookie_run::{Command, Delivery, Reading, Step, Way};
-use jiff::SignedDuration;
-use publicsuffix::List;
+use crate::steps::reads;
 use std::alloc::Global;
-use url::Url;
 
-const SHOP: &str = "https://shop.com/";
+// The rules of a list of public suffixes, a play, and what it reads.
+type Row = (&'static str, &'static str, &'static str);
 
-const SUFFIXES: &[u8] = b"com\nnet\n";
-
-fn set(alloc: Global, value: &str) -> Option<Command> {
-    Some(Command::Set(Way::Plain, cookie(alloc, "a", value).ok()?))
-}
-
-// With a Max-Age of so many seconds.
-fn set_for(alloc: Global, value: &str, seconds: i64) -> Option<Command> {
-    let mut ending = cookie(alloc, "a", value).ok()?;
-    ending.set_max_age(Some(SignedDuration::from_secs(seconds)));
-    Some(Command::Set(Way::Plain, ending))
-}
-
-fn remove(alloc: Global) -> Option<Command> {
-    Some(Command::Remove(Way::Plain, text(alloc, "a").ok()?))
-}
-
-fn get(alloc: Global) -> Option<Command> {
-    Some(Command::Get(Way::Plain, text(alloc, "a").ok()?))
-}
-
-// A request to the URL with one command.
-fn one(
-    alloc: Global,
-    url: &str,
-    at: i64,
-    command: Option<Command>,
-    delivery: Delivery,
-) -> Option<Step> {
-    Some(Step::Exchange {
-        url: Url::parse(alloc, url).ok()?,
-        at: second(at),
-        commands: vec![in alloc; command?].ok()?,
-        delivery,
-    })
-}
-
-// With one command and a get behind it.
-fn two(alloc: Global, url: &str, at: i64, command: Option<Command>, end: i64) -> Option<Step> {
-    Some(Step::Exchange {
-        url: Url::parse(alloc, url).ok()?,
-        at: second(at),
-        commands: vec![in alloc; command?, get(alloc)?].ok()?,
-        delivery: Delivery::At(second(end)),
-    })
-}
-
-fn sets(alloc: Global, url: &str, value: &str) -> Option<Step> {
-    one(alloc, url, 0, set(alloc, value), Delivery::At(second(0)))
-}
-
-fn gets(alloc: Global, url: &str, at: i64) -> Option<Step> {
-    one(alloc, url, at, get(alloc), Delivery::Lost)
-}
-
-// A line from elsewhere.
-fn foreign(alloc: Global, url: &str, line: &[u8]) -> Option<Step> {
-    let line = Vec::from_slice(alloc, line).ok()?;
-    Some(Step::Foreign {
-        url: Url::parse(alloc, url).ok()?,
-        lines: vec![in alloc; line].ok()?,
-        at: second(1),
-    })
-}
-
-// The values that are read, each with a space behind it: `-` where there is none.
-fn told(alloc: Global, readings: &[Reading]) -> Option<String> {
-    let mut told = String::new(alloc);
-    for reading in readings {
-        let word = match reading {
-            Reading::Value(_, _, Some(value)) => value.as_str(),
-            Reading::Value(_, _, None) => "-",
-            Reading::Refused(_) => "refused",
-            Reading::Header(header) => header.as_str(),
-        };
-        told.push_str(word).ok()?;
-        told.push_str(" ").ok()?;
+fn are_read(alloc: Global, rows: &[Row]) -> bool {
+    for (rules, play, wanted) in rows {
+        if reads(alloc, rules, play, wanted) != Some(true) {
+            return false;
+        }
     }
-    Some(told)
+    true
 }
 
-// Whether a play with these public suffixes reads so.
-fn reads(alloc: Global, suffixes: &[u8], steps: &[Step], wanted: &str) -> Option<bool> {
-    let list = List::parse(alloc, suffixes).ok()?;
-    let readings = play(alloc, list, &zero_key(), steps, &mut zeros()).ok()?;
-    Some(told(alloc, &readings)?.as_str() == wanted)
-}
-
-// Max-Age counts from the delivery, and a moment that is the end is past it.
-fn ends(alloc: Global) -> Option<bool> {
-    let steps = [
-        one(
-            alloc,
-            SHOP,
-            0,
-            set_for(alloc, "1", 10),
-            Delivery::At(second(5)),
-        )?,
-        gets(alloc, SHOP, 14)?,
-        gets(alloc, SHOP, 15)?,
-        gets(alloc, SHOP, 16)?,
-    ];
-    reads(alloc, SUFFIXES, &steps, "1 - - ")
-}
-
-// A set that has ended when it is delivered is read in its own request, and takes out what there was.
-fn ends_at_once(alloc: Global) -> Option<bool> {
-    let steps = [
-        sets(alloc, SHOP, "1")?,
-        two(alloc, SHOP, 1, set_for(alloc, "2", 0), 2)?,
-        gets(alloc, SHOP, 2)?,
-        two(alloc, SHOP, 3, set(alloc, "3"), 3)?,
-        gets(alloc, SHOP, 4)?,
-    ];
-    reads(alloc, SUFFIXES, &steps, "2 - 3 3 ")
-}
-
-#[test]
-fn reads_nothing_past_the_end(rt: HostRuntime) {
-    assert!(rt; ends(rt.alloc()) == Some(true));
-    assert!(rt; ends_at_once(rt.alloc()) == Some(true));
-}
-
-// A removal counts where its answer comes.
-fn removes(alloc: Global) -> Option<bool> {
-    let steps = [
-        sets(alloc, SHOP, "1")?,
-        one(alloc, SHOP, 1, remove(alloc), Delivery::Lost)?,
-        two(alloc, SHOP, 2, get(alloc), 2)?,
-        two(alloc, SHOP, 3, remove(alloc), 3)?,
-        gets(alloc, SHOP, 4)?,
-    ];
-    reads(alloc, SUFFIXES, &steps, "1 1 - - ")
-}
-
-// What was set and removed in one request is forgotten.
-fn forgets(alloc: Global) -> Option<bool> {
-    let both = Step::Exchange {
-        url: Url::parse(alloc, SHOP).ok()?,
-        at: second(0),
-        commands: vec![in alloc; set(alloc, "1")?, remove(alloc)?, get(alloc)?].ok()?,
-        delivery: Delivery::At(second(0)),
-    };
-    let nameless = Command::Remove(Way::Sealed, text(alloc, "").ok()?);
-    let steps = [
-        both,
-        one(alloc, SHOP, 1, Some(nameless), Delivery::Lost)?,
-        gets(alloc, SHOP, 2)?,
-    ];
-    reads(alloc, SUFFIXES, &steps, "- refused - ")
-}
+const ENDS_AND_REMOVALS: &[Row] = &[
+    // Max-Age counts from the delivery, and a moment that is the end is past it.
+    (
+        "com",
+        "visit https://shop.com/ 0 5 set:plain:a:1:10\n\
+visit https://shop.com/ 14 lost get:plain:a\n\
+visit https://shop.com/ 15 lost get:plain:a\n\
+visit https://shop.com/ 16 lost get:plain:a\n",
+        "1 - - ",
+    ),
+    // A set that has ended when it is delivered is read in its own request, and takes out what there was.
+    (
+        "com",
+        "visit https://shop.com/ 0 0 set:plain:a:1\n\
+visit https://shop.com/ 1 2 set:plain:a:2:0 get:plain:a\n\
+visit https://shop.com/ 2 lost get:plain:a\n\
+visit https://shop.com/ 3 3 set:plain:a:3 get:plain:a\n\
+visit https://shop.com/ 4 lost get:plain:a\n",
+        "2 - 3 3 ",
+    ),
+    // A removal counts where its answer comes.
+    (
+        "com",
+        "visit https://shop.com/ 0 0 set:plain:a:1\n\
+visit https://shop.com/ 1 lost remove:plain:a\n\
+visit https://shop.com/ 2 2 get:plain:a get:plain:a\n\
+visit https://shop.com/ 3 3 remove:plain:a get:plain:a\n\
+visit https://shop.com/ 4 lost get:plain:a\n",
+        "1 1 - - ",
+    ),
+    // What was set and removed in one request is forgotten.
+    (
+        "com",
+        "visit https://shop.com/ 0 0 set:plain:a:1 remove:plain:a get:plain:a\n\
+visit https://shop.com/ 1 lost remove:sealed:\n\
+visit https://shop.com/ 2 lost get:plain:a\n",
+        "- refused - ",
+    ),
+];
 
 #[test]
-fn reads_nothing_past_a_removal(rt: HostRuntime) {
-    assert!(rt; removes(rt.alloc()) == Some(true));
-    assert!(rt; forgets(rt.alloc()) == Some(true));
+fn read_nothing_past_an_end_or_a_removal(rt: HostRuntime) {
+    assert!(rt; are_read(rt.alloc(), ENDS_AND_REMOVALS));
 }
 
-// Whether the site reads this once the line came from the other URL.
-fn stays(
-    alloc: Global,
-    suffixes: &[u8],
-    site: &str,
-    other: &str,
-    line: &[u8],
-    wanted: &str,
-) -> Option<bool> {
-    let steps = [
-        sets(alloc, site, "1")?,
-        foreign(alloc, other, line)?,
-        gets(alloc, site, 2)?,
-    ];
-    reads(alloc, suffixes, &steps, wanted)
-}
+const OTHER_HOSTS: &[Row] = &[
+    (
+        "com",
+        "visit https://shop.com/ 0 0 set:plain:a:1\n\
+lines https://evil.com/ 1 a=x; Domain=com\n\
+lines https://evil.com/ 1 a=x; Domain=shop.com\n\
+visit https://shop.com/ 2 lost get:plain:a\n",
+        "1 ",
+    ),
+    (
+        "io\ngithub.io",
+        "visit https://me.github.io/ 0 0 set:plain:a:1\n\
+lines https://evil.github.io/ 1 a=x; Domain=github.io\n\
+visit https://me.github.io/ 2 lost get:plain:a\n",
+        "1 ",
+    ),
+    // Sessions set for their own host alone, whether or not what is above it is listed.
+    (
+        "io\ngithub.io",
+        "visit https://me.github.io/ 0 0 set:plain:a:1\n\
+visit https://other.github.io/ 0 0 set:plain:a:2\n\
+visit https://me.github.io/ 1 lost get:plain:a\n\
+visit https://other.github.io/ 1 lost get:plain:a\n",
+        "1 2 ",
+    ),
+    (
+        "io",
+        "visit https://me.github.io/ 0 0 set:plain:a:1\n\
+visit https://other.github.io/ 0 0 set:plain:a:2\n\
+visit https://me.github.io/ 1 lost get:plain:a\n\
+visit https://other.github.io/ 1 lost get:plain:a\n",
+        "1 2 ",
+    ),
+    // Hosts that share a text which is no public suffix may set for each other: no premise is met there.
+    (
+        "com",
+        "visit https://shop.com/ 0 0 set:plain:a:1\n\
+lines https://sub.shop.com/ 1 a=x; Domain=shop.com; Path=/\n\
+visit https://shop.com/ 2 lost get:plain:a\n",
+        "x ",
+    ),
+    (
+        "com",
+        "visit https://sub.shop.com/ 0 0 set:plain:a:1\n\
+lines https://other.shop.com/ 1 a=x; Domain=shop.com; Path=/\n\
+visit https://sub.shop.com/ 2 lost get:plain:a\n",
+        "x ",
+    ),
+    (
+        "com",
+        "visit https://sub.shop.com/ 0 0 set:plain:a:1\n\
+lines https://other.shop.com/ 1 a=x; Path=/\n\
+visit https://sub.shop.com/ 2 lost get:plain:a\n",
+        "1 ",
+    ),
+];
 
 #[test]
-fn reads_its_own_beside_other_hosts(rt: HostRuntime) {
-    let alloc = rt.alloc();
-    let evil = "https://evil.com/";
-    assert!(rt; stays(alloc, SUFFIXES, SHOP, evil, b"a=x; Domain=com", "1 ") == Some(true));
-    assert!(rt; stays(alloc, SUFFIXES, SHOP, evil, b"a=x; Domain=shop.com", "1 ") == Some(true));
-    let me = "https://me.github.io/";
-    let evil = "https://evil.github.io/";
-    let line = b"a=x; Domain=github.io";
-    assert!(rt; stays(alloc, b"io\ngithub.io\n", me, evil, line, "1 ") == Some(true));
+fn read_their_own_beside_other_hosts(rt: HostRuntime) {
+    assert!(rt; are_read(rt.alloc(), OTHER_HOSTS));
 }
 
-// Whether two sites that set a cookie of one name read each its own.
-fn keep_theirs(alloc: Global, suffixes: &[u8]) -> Option<bool> {
-    let me = "https://me.github.io/";
-    let other = "https://other.github.io/";
-    let steps = [
-        sets(alloc, me, "1")?,
-        sets(alloc, other, "2")?,
-        gets(alloc, me, 1)?,
-        gets(alloc, other, 1)?,
-    ];
-    reads(alloc, suffixes, &steps, "1 2 ")
-}
+const RESTARTS: &[Row] = &[
+    // What has no end is gone after a restart, and what has one is kept until then.
+    (
+        "com",
+        "visit https://shop.com/ 0 0 set:plain:a:1\n\
+restart 1\n\
+visit https://shop.com/ 1 lost get:plain:a\n\
+visit https://shop.com/ 2 5 set:plain:a:2:10\n\
+restart 14\n\
+visit https://shop.com/ 14 lost get:plain:a\n\
+visit https://shop.com/ 15 lost get:plain:a\n",
+        "- 2 - ",
+    ),
+    // A moment that is the end is past it, and what is set over what ends ends no more.
+    (
+        "com",
+        "visit https://shop.com/ 0 0 set:plain:a:1:10\n\
+restart 10\n\
+visit https://shop.com/ 10 10 set:plain:a:2:20 get:plain:a\n\
+restart 11\n\
+visit https://shop.com/ 11 11 set:plain:a:3 get:plain:a\n\
+restart 12\n\
+visit https://shop.com/ 12 lost get:plain:a\n",
+        "2 3 - ",
+    ),
+    // The list of public suffixes stays, and so does what another host set, whatever its text.
+    (
+        "io\ngithub.io",
+        "visit https://me.github.io/ 0 0 set:plain:a:1:10\n\
+restart 0\n\
+lines https://evil.github.io/ 1 a=x; Domain=github.io; Max-Age=60\n\
+lines https://evil.github.io/ 1  \"b\" = \u{e9} ; Max-Age=60; Expires=never\n\
+restart 2\n\
+visit https://me.github.io/ 2 lost get:plain:a\n\
+header https://evil.github.io/ 2\n",
+        "1 \"b\"=\u{e9} ",
+    ),
+];
 
-// Sessions set for their own host alone, whether or not what is above it is listed.
 #[test]
-fn two_sites_keep_theirs(rt: HostRuntime) {
-    assert!(rt; keep_theirs(rt.alloc(), b"io\ngithub.io\n") == Some(true));
-    assert!(rt; keep_theirs(rt.alloc(), b"io\n") == Some(true));
-}
-
-// Hosts that share a text which is no public suffix may set for each other: no premise is met there.
-#[test]
-fn reads_what_a_related_host_set(rt: HostRuntime) {
-    let alloc = rt.alloc();
-    let sub = "https://sub.shop.com/";
-    let line = b"a=x; Domain=shop.com; Path=/";
-    assert!(rt; stays(alloc, SUFFIXES, SHOP, sub, line, "x ") == Some(true));
-    let other = "https://other.shop.com/";
-    assert!(rt; stays(alloc, SUFFIXES, sub, other, line, "x ") == Some(true));
-    assert!(rt; stays(alloc, SUFFIXES, sub, other, b"a=x; Path=/", "1 ") == Some(true));
+fn read_what_a_restart_keeps(rt: HostRuntime) {
+    assert!(rt; are_read(rt.alloc(), RESTARTS));
 }

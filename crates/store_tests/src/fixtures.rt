@@ -1,6 +1,6 @@
 //! Stores by the lines that fill them.
 
-use cookie_store::{Cookie, CookieStore, InsertResult};
+use cookie_store::{Cookie, CookieStore, Error, InsertResult};
 use jiff::SignedDuration;
 use jiff::civil::DateTime;
 use publicsuffix::List;
@@ -139,4 +139,43 @@ pub(crate) fn gives(
         Some(found) => found.as_str() == wanted,
         None => false,
     }
+}
+
+/// A cookie as it is received from the URL at second 0.
+pub(crate) fn cookie_from(alloc: Global, url: &str, line: &str) -> Result<Cookie<'static>, Error> {
+    let Ok(url) = Url::parse(alloc, url) else {
+        return Err(Error::OutOfMemory);
+    };
+    Ok(Cookie::parse(alloc, line, &url, at(0))?.into_owned(alloc)?)
+}
+
+/// The cookies of these lines.
+pub(crate) fn cookies_from(
+    alloc: Global,
+    url: &str,
+    lines: &str,
+) -> Result<Vec<Cookie<'static>>, Error> {
+    let mut cookies = Vec::new(alloc);
+    for line in lines.lines() {
+        cookies.push(cookie_from(alloc, url, line)?)?;
+    }
+    Ok(cookies)
+}
+
+/// The line that a cookie was received as.
+pub(crate) fn line_of(alloc: Global, cookie: &Cookie<'_>) -> Result<String, Error> {
+    Ok(cookie.raw().to_string(alloc)?)
+}
+
+/// The lines that cookies were received as, parted by line feeds.
+pub(crate) fn lines_of(alloc: Global, cookies: &[Cookie<'_>]) -> Result<String, Error> {
+    let mut out = String::new(alloc);
+    for cookie in cookies {
+        if !out.is_empty() {
+            out.push('\n')?;
+        }
+        let line = line_of(alloc, cookie)?;
+        out.push_str(&line)?;
+    }
+    Ok(out)
 }

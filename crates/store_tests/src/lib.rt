@@ -4,9 +4,13 @@
 #[cfg(test)]
 mod answer_tests;
 #[cfg(test)]
+mod device_tests;
+#[cfg(test)]
 mod fixtures;
 #[cfg(test)]
 mod given_tests;
+#[cfg(test)]
+mod json_line_tests;
 #[cfg(test)]
 mod lines_tests;
 #[cfg(test)]

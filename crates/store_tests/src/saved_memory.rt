@@ -3,15 +3,17 @@
 //! A scenario answers whether all came out right, or the error. The first test of a pair accepts want of
 //! memory, too; the second shows that there is none with ample memory.
 
-use crate::fixtures::at;
-use cookie_store::serde::{json, ron};
+use crate::fixtures::{at, cookie_from, cookies_from, line_of, lines_of};
+use cookie_store::serde::{self, json, ron};
 use cookie_store::{Cookie, CookieStore, Counting, Error};
 use std::alloc::Global;
 use url::Url;
 
+const SOURCE: &str = "https://a.example/p/q";
+
 // A store of two rows, of which one has an end.
 fn two_rows(alloc: Global) -> Result<CookieStore, Error> {
-    let Ok(url) = Url::parse(alloc, "https://a.example/p/q") else {
+    let Ok(url) = Url::parse(alloc, SOURCE) else {
         return Err(Error::OutOfMemory);
     };
     let mut store = CookieStore::new(alloc);
@@ -66,6 +68,42 @@ fn lines_come_back(alloc: Global, store: &CookieStore) -> Result<bool, Error> {
     Ok(are_both(&loaded))
 }
 
+fn listed(alloc: Global, store: &CookieStore) -> Result<Vec<u8>, Error> {
+    let mut out = room(alloc)?;
+    serde::save_incl_expired_and_nonpersistent(
+        store,
+        &mut Counting::new(&mut out),
+        move |cookies: &[Cookie<'_>]| lines_of(alloc, cookies),
+    )?;
+    Ok(out)
+}
+
+fn listed_by_lines(alloc: Global, store: &CookieStore) -> Result<Vec<u8>, Error> {
+    let mut out = room(alloc)?;
+    store.save_incl_expired_and_nonpersistent(
+        &mut Counting::new(&mut out),
+        move |cookie: &Cookie<'_>| line_of(alloc, cookie),
+    )?;
+    Ok(out)
+}
+
+// What closures make comes back as one text, and by lines.
+fn closures_come_back(alloc: Global, store: &CookieStore) -> Result<bool, Error> {
+    let list = listed(alloc, store)?;
+    let lines = listed_by_lines(alloc, store)?;
+    let first = serde::load_all(
+        alloc,
+        &mut Counting::new(list.as_slice()),
+        move |text: &str| cookies_from(alloc, SOURCE, text),
+    )?;
+    let second = CookieStore::load_all(
+        alloc,
+        &mut Counting::new(lines.as_slice()),
+        move |line: &str| cookie_from(alloc, SOURCE, line),
+    )?;
+    Ok(are_both(&first) && are_both(&second))
+}
+
 fn value_comes_back(alloc: Global, store: &CookieStore) -> Result<bool, Error> {
     let value = store.to_value(at(0))?;
     let loaded = CookieStore::from_value(alloc, &value, at(0))?;
@@ -98,7 +136,7 @@ fn all_come_back(alloc: Global, store: &CookieStore) -> Result<bool, Error> {
 }
 
 mod memory {
-    use super::{all_come_back, two_rows};
+    use super::{all_come_back, closures_come_back, two_rows};
     use cookie_store::Error;
     use std::alloc::Global;
 
@@ -119,5 +157,24 @@ mod memory {
     #[test]
     fn a_store_comes_back_with_ample_memory(rt: HostRuntime) {
         assert!(rt; comes_back(rt.alloc()).unwrap_or(false));
+    }
+
+    fn lists_come_back(alloc: Global) -> Result<bool, Error> {
+        let store = two_rows(alloc)?;
+        closures_come_back(alloc, &store)
+    }
+
+    #[test]
+    fn what_closures_make_comes_back(rt: HostRuntime) {
+        let is_right = match lists_come_back(rt.alloc()) {
+            Ok(is_right) => is_right,
+            Err(error) => matches!(error, Error::OutOfMemory),
+        };
+        assert!(rt; is_right);
+    }
+
+    #[test]
+    fn what_closures_make_comes_back_with_ample_memory(rt: HostRuntime) {
+        assert!(rt; lists_come_back(rt.alloc()).unwrap_or(false));
     }
 }

@@ -1,8 +1,9 @@
 //! Stores that are saved and loaded as one text.
 
-use crate::fixtures::{at, gives, has_live_rows, has_rows, receive, store_with};
+use crate::fixtures::{at, cookies_from, gives, has_live_rows, has_rows, receive, store_with};
+use crate::json_line_tests::LINE;
 use cookie_store::serde::{self, json, ron};
-use cookie_store::{Cookie, CookieExpiration, CookieStore, Counting, Error};
+use cookie_store::{Cookie, CookieExpiration, CookieStore, Counting, Error, Sink};
 use jiff::civil::DateTime;
 use serde_json::Value;
 use std::alloc::Global;
@@ -26,14 +27,22 @@ fn saved(
     second: Option<i8>,
 ) -> Result<Vec<u8>, Error> {
     let mut out = Vec::new(alloc);
-    let mut writer = Counting::new(&mut out);
-    match (form, second) {
-        (Form::Json, Some(second)) => json::save(store, &mut writer, at(second))?,
-        (Form::Json, None) => json::save_incl_expired_and_nonpersistent(store, &mut writer)?,
-        (Form::Ron, Some(second)) => ron::save(store, &mut writer, at(second))?,
-        (Form::Ron, None) => ron::save_incl_expired_and_nonpersistent(store, &mut writer)?,
-    }
+    save_to(&mut Counting::new(&mut out), store, form, second)?;
     Ok(out)
+}
+
+fn save_to<W: Sink>(
+    writer: &mut W,
+    store: &CookieStore,
+    form: Form,
+    second: Option<i8>,
+) -> Result<(), Error> {
+    match (form, second) {
+        (Form::Json, Some(second)) => json::save(store, writer, at(second)),
+        (Form::Json, None) => json::save_incl_expired_and_nonpersistent(store, writer),
+        (Form::Ron, Some(second)) => ron::save(store, writer, at(second)),
+        (Form::Ron, None) => ron::save_incl_expired_and_nonpersistent(store, writer),
+    }
 }
 
 fn is_saved(
@@ -266,17 +275,20 @@ const TWICE: &str = "\
     (raw_cookie: \"b=4\", path: (\"/\", true), domain: HostOnly(\"a.com\"), expires: SessionEnd),
 ]";
 
+fn are_rows_of(alloc: Global, text: &str, wanted: &str) -> bool {
+    match loaded(alloc, Form::Ron, text.as_bytes(), Some(0)) {
+        Ok(store) => has_rows(alloc, &store, wanted),
+        Err(_) => false,
+    }
+}
+
 #[test]
-fn the_later_of_one_key_takes_the_place_of_the_earlier(rt: HostRuntime) -> Result<(), Fail> {
-    let store = loaded(rt.alloc(), Form::Ron, TWICE.as_bytes(), Some(0))?;
-    assert!(rt; has_rows(rt.alloc(), &store, " b=4 c=3"));
-    Ok(())
+fn the_later_of_one_key_takes_the_place_of_the_earlier(rt: HostRuntime) {
+    assert!(rt; are_rows_of(rt.alloc(), TWICE, " b=4 c=3"));
+    assert!(rt; are_rows_of(rt.alloc(), "[]\n", ""));
 }
 
 // ---- refusals
-
-const LINE: &str = "{\"raw_cookie\":\"cookie1=value1\",\"path\":[\"/foo\",false],\
-\"domain\":{\"HostOnly\":\"example.com\"},\"expires\":\"SessionEnd\"}\n";
 
 // Each line: the form, a text, how it is refused.
 const REFUSED: &str = "\
@@ -322,29 +334,22 @@ fn refuses_bytes_that_are_no_text(rt: HostRuntime) {
 
 // ---- ends of years below 0
 
-// A store of a cookie that ends then.
-fn ends_in(alloc: Global, end: DateTime) -> Result<CookieStore, Fail> {
+/// A store of a cookie of the session, and of one that ends then.
+pub(crate) fn ends_in(alloc: Global, end: DateTime) -> Result<CookieStore, Fail> {
     let mut store = CookieStore::new(alloc);
     let url = Url::parse(alloc, "https://a.com/")?;
+    store.parse("b=2", &url, DateTime::MIN)?;
     let mut cookie = Cookie::parse(alloc, "a=1", &url, DateTime::MIN)?.into_owned(alloc)?;
     cookie.expires = CookieExpiration::AtUtc(end);
     store.insert(cookie, &url, DateTime::MIN)?;
     Ok(store)
 }
 
-// How saving all rows is refused, as it is printed.
-fn save_refusal(alloc: Global, store: &CookieStore, form: Form) -> Option<String> {
-    match saved(alloc, store, form, None) {
-        Ok(_) => None,
-        Err(error) => format!(in alloc; "{error}").ok(),
-    }
-}
-
+// Whether saving all rows is refused as `Year`, and nothing is written.
 fn is_year(alloc: Global, store: &CookieStore, form: Form) -> bool {
-    match save_refusal(alloc, store, form) {
-        Some(found) => found.as_str() == "Year",
-        None => false,
-    }
+    let mut out = Vec::<u8>::new(alloc);
+    let answer = save_to(&mut Counting::new(&mut out), store, form, None);
+    out.is_empty() && matches!(answer, Err(Error::Year))
 }
 
 #[test]
@@ -352,6 +357,7 @@ fn an_end_of_a_year_below_0_is_not_saved(rt: HostRuntime) -> Result<(), Fail> {
     let store = ends_in(rt.alloc(), DateTime::constant(-1, 12, 31, 0, 0, 0, 0))?;
     assert!(rt; is_year(rt.alloc(), &store, Form::Ron));
     assert!(rt; is_year(rt.alloc(), &store, Form::Json));
+    assert!(rt; matches!(store.to_value(DateTime::MIN), Err(Error::Year)));
     assert!(rt; is_saved(rt.alloc(), &store, Form::Ron, Some(0), "[]\n"));
     Ok(())
 }
@@ -363,40 +369,21 @@ fn an_end_of_the_year_0_is_saved(rt: HostRuntime) -> Result<(), Fail> {
     Ok(())
 }
 
-// ---- devices that fail
+// ---- a writer that takes nothing
 
-fn is_io(answer: &Result<CookieStore, Error>) -> bool {
-    matches!(answer, Err(Error::Io))
-}
-
-// Whether the read of this number, counted from 0, is told.
-fn tells_read(alloc: Global, call: u64) -> bool {
-    let mut reader = Counting::new(FailsAt::new(ByteByByte { bytes: b"[]" }, call));
-    is_io(&ron::load_all(alloc, &mut reader))
-}
-
-#[test]
-fn a_failed_read_is_told(rt: HostRuntime) {
-    for call in 0..3 {
-        assert!(rt; tells_read(rt.alloc(), call));
-    }
-    assert!(rt; !tells_read(rt.alloc(), 3));
-}
-
-// Whether the first write is told, where it fails or takes nothing.
-fn tells_write(alloc: Global, store: &CookieStore) -> bool {
-    let mut fails = Counting::new(FailsAt::new(Vec::<u8>::new(alloc), 0));
-    let mut takes_none = Counting::new(TakesNone {
+fn takes_nothing(alloc: Global) -> Counting<TakesNone<Vec<u8>>> {
+    Counting::new(TakesNone {
         inner: FailsAt::new(Vec::<u8>::new(alloc), 0),
-    });
-    matches!(ron::save(store, &mut fails, at(0)), Err(Error::Io))
-        && matches!(json::save(store, &mut takes_none, at(0)), Err(Error::Io))
+    })
 }
 
 #[test]
-fn a_failed_write_is_told(rt: HostRuntime) {
+fn a_write_of_nothing_is_told(rt: HostRuntime) {
     let store = CookieStore::new(rt.alloc());
-    assert!(rt; tells_write(rt.alloc(), &store));
+    for form in [Form::Json, Form::Ron] {
+        let answer = save_to(&mut takes_nothing(rt.alloc()), &store, form, Some(0));
+        assert!(rt; matches!(answer, Err(Error::Io)));
+    }
 }
 
 // ---- values
@@ -429,6 +416,25 @@ fn values_come_back(rt: HostRuntime) -> Result<(), Fail> {
     assert!(rt; matches!(is_value(rt.alloc(), &store), Ok(true)));
     assert!(rt; are_cookie_values(rt.alloc(), &store));
     Ok(())
+}
+
+// How a value that is the text is refused as a store and as a cookie.
+fn value_refusals(alloc: Global, text: &str) -> Option<(bool, bool)> {
+    let value = Value::from_str(alloc, text).ok()?;
+    let store = matches!(
+        CookieStore::from_value(alloc, &value, at(0)),
+        Err(Error::Shape)
+    );
+    let cookie = matches!(Cookie::from_value(alloc, &value), Err(Error::Shape));
+    Some((store, cookie))
+}
+
+#[test]
+fn refuses_values_of_another_shape(rt: HostRuntime) {
+    assert!(rt; value_refusals(rt.alloc(), "[]") == Some((false, true)));
+    assert!(rt; value_refusals(rt.alloc(), "{}") == Some((true, true)));
+    assert!(rt; value_refusals(rt.alloc(), "[1.5]") == Some((true, true)));
+    assert!(rt; value_refusals(rt.alloc(), "null") == Some((true, true)));
 }
 
 // ---- closures of the whole list
@@ -481,26 +487,9 @@ fn a_closure_lists_the_store(rt: HostRuntime) -> Result<(), Fail> {
     Ok(())
 }
 
-// A cookie from https://a.com/ at the beginning of the second.
-fn cookie_of(alloc: Global, line: &str) -> Result<Cookie<'static>, Error> {
-    let Ok(url) = Url::parse(alloc, "https://a.com/") else {
-        return Err(Error::Text);
-    };
-    Ok(Cookie::parse(alloc, line, &url, at(0))?.into_owned(alloc)?)
-}
-
-// Those of the lines.
-fn cookies_of(alloc: Global, text: &str) -> Result<Vec<Cookie<'static>>, Error> {
-    let mut cookies = Vec::new(alloc);
-    for line in text.lines() {
-        cookies.push(cookie_of(alloc, line)?)?;
-    }
-    Ok(cookies)
-}
-
 fn loaded_lines(alloc: Global, bytes: &[u8], all: bool) -> Result<CookieStore, Error> {
     let mut reader = Counting::new(ByteByByte { bytes });
-    let read = |text: &str| cookies_of(alloc, text);
+    let read = |text: &str| cookies_from(alloc, "https://a.com/", text);
     if all {
         serde::load_all(alloc, &mut reader, read)
     } else {
@@ -522,89 +511,4 @@ fn a_closure_reads_the_list(rt: HostRuntime) {
     assert!(rt; has_lines(rt.alloc(), lines, false, " b=3"));
     assert!(rt; matches!(loaded_lines(rt.alloc(), b"\xff", true), Err(Error::NotText)));
     assert!(rt; matches!(loaded_lines(rt.alloc(), b"b", true), Err(Error::Cookie(_))));
-}
-
-// ---- lines of JSON
-
-fn saved_lines(alloc: Global, store: &CookieStore) -> Result<Vec<u8>, Error> {
-    let mut out = Vec::new(alloc);
-    store.save_incl_expired_and_nonpersistent_json(&mut Counting::new(&mut out))?;
-    Ok(out)
-}
-
-fn are_lines(alloc: Global, store: &CookieStore, wanted: &str) -> bool {
-    match saved_lines(alloc, store) {
-        Ok(text) => text.as_slice() == wanted.as_bytes(),
-        Err(_) => false,
-    }
-}
-
-fn lines_come_back(alloc: Global, bytes: &[u8]) -> bool {
-    match CookieStore::load_json_all(alloc, &mut Counting::new(ByteByByte { bytes })) {
-        Ok(store) => has_rows(alloc, &store, " cookie1=value1"),
-        Err(_) => false,
-    }
-}
-
-fn is_no_json(alloc: Global, bytes: &[u8]) -> bool {
-    let answer = CookieStore::load_json(alloc, &mut Counting::new(ByteByByte { bytes }), at(0));
-    matches!(answer, Err(Error::Json))
-}
-
-#[test]
-fn a_row_is_a_line_of_json(rt: HostRuntime) -> Result<(), Fail> {
-    let mut store = CookieStore::new(rt.alloc());
-    let line = "http://example.com/foo/bar|cookie1=value1";
-    assert!(rt; receive(rt.alloc(), &mut store, line));
-    assert!(rt; are_lines(rt.alloc(), &store, LINE));
-    assert!(rt; lines_come_back(rt.alloc(), LINE.as_bytes()));
-    assert!(rt; is_no_json(rt.alloc(), LATER_JSON.as_bytes()));
-    Ok(())
-}
-
-// Whether neither a line nor a value is made of a row of the store, since it ends in a year below 0.
-fn has_no_json(alloc: Global, store: &CookieStore) -> bool {
-    matches!(saved_lines(alloc, store), Err(Error::Year))
-        && matches!(store.to_value(DateTime::MIN), Err(Error::Year))
-}
-
-#[test]
-fn an_end_of_a_year_below_0_has_no_json(rt: HostRuntime) -> Result<(), Fail> {
-    let store = ends_in(rt.alloc(), DateTime::constant(-1, 12, 31, 0, 0, 0, 0))?;
-    assert!(rt; has_no_json(rt.alloc(), &store));
-    Ok(())
-}
-
-// How a value that is the text is refused as a store and as a cookie.
-fn value_refusals(alloc: Global, text: &str) -> Option<(bool, bool)> {
-    let value = Value::from_str(alloc, text).ok()?;
-    let store = matches!(
-        CookieStore::from_value(alloc, &value, at(0)),
-        Err(Error::Shape)
-    );
-    let cookie = matches!(Cookie::from_value(alloc, &value), Err(Error::Shape));
-    Some((store, cookie))
-}
-
-#[test]
-fn refuses_values_of_another_shape(rt: HostRuntime) {
-    assert!(rt; value_refusals(rt.alloc(), "[]") == Some((false, true)));
-    assert!(rt; value_refusals(rt.alloc(), "{}") == Some((true, true)));
-    assert!(rt; value_refusals(rt.alloc(), "[1.5]") == Some((true, true)));
-    assert!(rt; value_refusals(rt.alloc(), "null") == Some((true, true)));
-}
-
-// How loading lines of JSON ends where the read of this number fails: LINE and the end are so many reads.
-fn lines_until(alloc: Global, call: u64) -> Result<CookieStore, Error> {
-    let bytes = LINE.as_bytes();
-    let mut reader = Counting::new(FailsAt::new(ByteByByte { bytes }, call));
-    CookieStore::load_json_all(alloc, &mut reader)
-}
-
-#[test]
-fn a_failed_read_of_lines_is_told(rt: HostRuntime) {
-    for call in 0..LINE.len() as u64 + 1 {
-        assert!(rt; is_io(&lines_until(rt.alloc(), call)));
-    }
-    assert!(rt; lines_until(rt.alloc(), LINE.len() as u64 + 1).is_ok());
 }

@@ -31,6 +31,8 @@ pub enum Cause {
     TooLong,
     /// The generator's fill failed.
     Rng,
+    /// A restart was refused, and not for want of memory. No script ends so.
+    Restart,
     /// Memory was refused.
     Memory,
 }
@@ -53,6 +55,7 @@ impl Cause {
             Cause::Year => "Year",
             Cause::TooLong => "TooLong",
             Cause::Rng => "Rng",
+            Cause::Restart => "Restart",
             Cause::Memory => "Memory",
         }
     }

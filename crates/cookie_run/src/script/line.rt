@@ -56,6 +56,8 @@ pub enum Line {
         url: Url,
         at: Moment,
     },
+    /// `restart`: the client's cookies are saved and loaded again.
+    Restart(Moment),
 }
 
 impl Line {
@@ -66,7 +68,7 @@ impl Line {
         match self {
             Line::Open { at, .. } | Line::Receive { at, .. } | Line::Header { at, .. } => at.date
                 < last,
-            Line::Deliver(at) => at.date < last,
+            Line::Deliver(at) | Line::Restart(at) => at.date < last,
             Line::Set { .. } | Line::Remove { .. } | Line::Get { .. } | Line::Lose => false,
         }
     }
@@ -103,6 +105,8 @@ fn read_word(alloc: Global, word: &[u8], fields: &[Vec<u8>]) -> Result<Line, Cau
         read_receive(alloc, fields)
     } else if word == b"header".as_slice() {
         read_header(alloc, &texts_of(alloc, fields)?)
+    } else if word == b"restart".as_slice() {
+        read_restart(&texts_of(alloc, fields)?)
     } else {
         Err(Cause::Word)
     }
@@ -258,6 +262,15 @@ fn read_deliver(fields: &[&str]) -> Result<Line, Cause>
         return Err(Cause::Fields);
     };
     Ok(Line::Deliver(timed(at)?))
+}
+
+fn read_restart(fields: &[&str]) -> Result<Line, Cause>
+    ensures { Reads result (spec.read_restart (map (λ field. field.now) fields.now)) }
+{
+    let [at] = fields else {
+        return Err(Cause::Fields);
+    };
+    Ok(Line::Restart(timed(at)?))
 }
 
 fn read_lose(fields: &[&str]) -> Result<Line, Cause>

@@ -24,6 +24,7 @@ use crate::session::{Session, copy_of};
 use crate::step::{SessionError, Way};
 use crate::text::Text;
 use cookie::{Cookie, Key};
+use cookie_store::Error;
 use jiff::civil::DateTime;
 use rand_core::TryRng;
 use std::alloc::Global;
@@ -98,6 +99,7 @@ fn obey<G: TryRng>(
             receive(alloc, &url, &lines, at.date, client, last, visit)
         }
         Line::Header { url, at } => header(alloc, &url, at.date, client, last, visit),
+        Line::Restart(at) => restart(alloc, at, client, last, visit),
     }
 }
 
@@ -332,6 +334,38 @@ fn header(
     let line = header_line(alloc, header.as_str())?;
     *last = at;
     Ok(line)
+}
+
+// `restart`: the client's cookies are saved and loaded again. One that is kept ends after this moment, so
+// in no year below 0.
+fn restart(
+    alloc: Global,
+    at: Moment,
+    client: &mut Client,
+    last: &mut DateTime,
+    visit: &Option<Visit>,
+) -> Result<String, Cause>
+    ensures ok { IfOk result
+        (λ text. (key : List ℕ) → Obeys client.old.suffixes key (spec.Restarts (civil_nanos at.date))
+        client.old.rows (civil_nanos last.old) visit.now
+        client.new.rows (civil_nanos last.new) visit.now (string_bytes text)) }
+    ensures err { IfErr result
+        (λ cause. (key : List ℕ) → Balks ⊥ client.old.suffixes key (spec.Restarts (civil_nanos at.date))
+        client.old.rows (civil_nanos last.old) visit.now cause client.new.rows) }
+    ensures list { client.new.suffixes ≡ client.old.suffixes }
+    ensures last { OnErr result (last.new ≡ last.old) }
+{
+    if visit.is_some() {
+        return Err(Cause::Open);
+    }
+    match client.restart(at.date) {
+        Ok(()) => {
+            *last = at.date;
+            Ok(String::new(alloc))
+        }
+        Err(Error::OutOfMemory) => Err(Cause::Memory),
+        Err(_) => Err(Cause::Restart),
+    }
 }
 
 // The lines that a session closes with.

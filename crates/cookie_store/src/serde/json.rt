@@ -1,10 +1,11 @@
 //! A store as a list of JSON.
-ghost use Rattle.std.specs.Prelude.{◌≡◌, ◌⊎◌, IfOk, IfErr, OnOk, option_map, pos, string_bytes, true, false};
+ghost use Rattle.std.specs.Prelude.{◌≡◌, ◌⊎◌, option_map, pos, string_bytes, true, false};
+ghost use Rattle.std.specs.Prelude.{IfOk, IfErr, OnOk, IsErrOf};
 ghost use Rattle.std.specs.Io.KnownBytes.{Appends};
 ghost use Rattle.std.specs.Str.{IsUtf8};
 ghost use Rattle.jiff.specs.Words.{civil_nanos};
 ghost use Rattle.saved_text.specs.Json.{list_text};
-ghost use Rattle.store_parts.specs.declared.error.Error.TheVariants.{OutOfMemory};
+ghost use Rattle.store_parts.specs.declared.error.Error.TheVariants.{Io, OutOfMemory};
 ghost use Rattle.cookie_store.specs.Placing.{saved};
 ghost use Rattle.cookie_store.specs.SavedTexts as form;
 ghost use Rattle.cookie_store.specs.Steps.{wanted};
@@ -24,11 +25,16 @@ use store_parts::{Error, Result};
 /// # Errors
 ///
 /// `Year` where one of them ends in a year below 0, or `OutOfMemory`: nothing is written then. `Io`
-/// where the writer failed.
+/// where the writer failed or the count of its failures stands at its last value, once the whole list
+/// was made; a front of it is written then.
 pub fn save<W: Sink>(store: &CookieStore, writer: &mut W, now: DateTime) -> Result<()>
     ensures ok { OnOk result ((list : _) × IsUtf8 list
         × form.Saves list_text (saved (civil_nanos now) store.now.rows) list
         × Appends (W.written writer.old) (W.written writer.new) list) }
+    ensures failures { OnOk result (W.failures writer.new ≡ W.failures writer.old) }
+    ensures front { IfErr result (λ e. form.IsSaveFault (saved (civil_nanos now) store.now.rows) e
+        ⊎ form.WritesFront (form.Saves list_text (saved (civil_nanos now) store.now.rows))
+        (W.written writer.old) (W.written writer.new)) }
     ensures err { IfErr result (λ e. form.IsWriteFault (W.failures writer.old) (W.failures writer.new) e
         ⊎ ((writer.new ≡ writer.old) × form.IsSaveFault (saved (civil_nanos now) store.now.rows) e)) }
     ensures flushes { W.flushes writer.new ≡ W.flushes writer.old }
@@ -48,6 +54,9 @@ pub fn save_incl_expired_and_nonpersistent<W: Sink>(
 ) -> Result<()>
     ensures ok { OnOk result ((list : _) × IsUtf8 list × form.Saves list_text store.now.rows list
         × Appends (W.written writer.old) (W.written writer.new) list) }
+    ensures failures { OnOk result (W.failures writer.new ≡ W.failures writer.old) }
+    ensures front { IfErr result (λ e. form.IsSaveFault store.now.rows e
+        ⊎ form.WritesFront (form.Saves list_text store.now.rows) (W.written writer.old) (W.written writer.new)) }
     ensures err { IfErr result (λ e. form.IsWriteFault (W.failures writer.old) (W.failures writer.new) e
         ⊎ ((writer.new ≡ writer.old) × form.IsSaveFault store.now.rows e)) }
     ensures flushes { W.flushes writer.new ≡ W.flushes writer.old }
@@ -72,12 +81,13 @@ fn list_of(store: &CookieStore, now: Option<DateTime>) -> Result<String>
 ///
 /// # Errors
 ///
-/// `Io` where the reader failed, or met no end in 2^64 - 1 reads; `NotText` where the bytes are not
-/// UTF-8; `Json` where the text is no JSON; `Shape` where its value is of another shape, or a raw
-/// cookie or a date in it does not read; `OutOfMemory`.
+/// `Io` where the reader failed, or the count of its failures or of its reads stands at its last
+/// value; `NotText` where the bytes are not UTF-8; `Json` where the text is no JSON; `Shape` where
+/// its value is of another shape, or a raw cookie or a date in it does not read; `OutOfMemory`.
 pub fn load<R: Source>(alloc: Global, reader: &mut R, now: DateTime) -> Result<CookieStore>
     ensures ok { IfOk result (λ store. form.OfText (R.left reader.old)
         (λ text. form.Loads form.IsJsonOf false (civil_nanos now) text store)) }
+    ensures failures { IsErrOf result Io ⊎ (R.failures reader.new ≡ R.failures reader.old) }
     ensures err { IfErr result (λ e.
         form.IsReadFault (R.failures reader.old) (R.failures reader.new) (R.reads reader.new) e
         ⊎ (e ≡ OutOfMemory) ⊎ form.OfText (R.left reader.old) (λ text. form.IsJsonRefusal text e)) }
@@ -94,6 +104,7 @@ pub fn load<R: Source>(alloc: Global, reader: &mut R, now: DateTime) -> Result<C
 pub fn load_all<R: Source>(alloc: Global, reader: &mut R) -> Result<CookieStore>
     ensures ok { IfOk result (λ store. form.OfText (R.left reader.old)
         (λ text. form.Loads form.IsJsonOf true (pos 0) text store)) }
+    ensures failures { IsErrOf result Io ⊎ (R.failures reader.new ≡ R.failures reader.old) }
     ensures err { IfErr result (λ e.
         form.IsReadFault (R.failures reader.old) (R.failures reader.new) (R.reads reader.new) e
         ⊎ (e ≡ OutOfMemory) ⊎ form.OfText (R.left reader.old) (λ text. form.IsJsonRefusal text e)) }

@@ -16,5 +16,10 @@ returns c =
       sealed_text = c.texts_are_utf8.ensures.sealed;
     } in
     let laws : Laws c.args.key.now =
-    record { back = c.encoded_records_read_back.ensures; only = one; utf8 = line_utf8 } in
+    record {
+      back = c.encoded_records_read_back.ensures;
+      only = one;
+      utf8 = line_utf8;
+      again = c.pairs_read_again.ensures.again;
+    } in
     sites_brought c.args.key.now laws ends_late c.joined_pairs_split.ensures

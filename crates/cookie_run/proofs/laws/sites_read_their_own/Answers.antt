@@ -16,7 +16,12 @@ returns-clause-whole c =
       sealed_text = c.texts_are_utf8.ensures.sealed;
     } in
     let laws : Laws c.args.key.now =
-    record { back = c.encoded_records_read_back.ensures; only = one; utf8 = line_utf8 } in
+    record {
+      back = c.encoded_records_read_back.ensures;
+      only = one;
+      utf8 = line_utf8;
+      again = c.pairs_read_again.ensures.again;
+    } in
     sites_read c.args.key.now laws ends_late
 
 pub returns-clause-until : goal.returns-clause-until
@@ -30,5 +35,10 @@ returns-clause-until c =
       sealed_text = c.texts_are_utf8.ensures.sealed;
     } in
     let laws : Laws c.args.key.now =
-    record { back = c.encoded_records_read_back.ensures; only = one; utf8 = line_utf8 } in
+    record {
+      back = c.encoded_records_read_back.ensures;
+      only = one;
+      utf8 = line_utf8;
+      again = c.pairs_read_again.ensures.again;
+    } in
     sites_read_until c.args.key.now laws ends_late

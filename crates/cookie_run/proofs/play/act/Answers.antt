@@ -63,3 +63,12 @@ pub returns-in_ok-lines-in-Foreign-clause-err : goal.returns-in_ok-lines-in-Fore
 returns-in_ok-lines-in-Foreign-clause-err g c =
     rw c.in-Foreign.is (IfErr-weaker c.receive.result _ _ (λ kind e. inr
     (c.in_ok-come_to-in-Foreign.ensures.ok.0, inl (e, ([], refl, sym (readings_nil _))))) c.receive.ensures.err)
+
+pub returns-in_ok-come_to-in-Restart-clause-step : goal.returns-in_ok-come_to-in-Restart-clause-step
+returns-in_ok-come_to-in-Restart-clause-step g c = rw c.in-Restart.is
+    (on_ok c.restart.result _ _ (λ kept. ([], sym (readings_nil _), (refl, kept))) c.restart.ensures.rows)
+
+pub returns-in_ok-come_to-in-Restart-clause-err : goal.returns-in_ok-come_to-in-Restart-clause-err
+returns-in_ok-come_to-in-Restart-clause-err g c =
+    rw c.in-Restart.is (IfErr-weaker c.restart.result _ _ (λ kind e. inr
+    (c.in_ok-come_to-in-Restart.ensures.ok.0, inl (e, ([], refl, sym (readings_nil _))))) c.restart.ensures.err)

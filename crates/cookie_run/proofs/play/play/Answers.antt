@@ -75,3 +75,16 @@ returns-in-Err-clause-unasked g c =
     λ all. c.act.ensures.unasked (act_at ActNeedsNoNonce c.args.steps.now c.loop-i.i c.index-steps-i.result
     c.loop-i-test.true c.index-steps-i.is all)
     ∙ c.loop-i.invariant.unasked all
+
+pub returns-clause-strangers : goal.returns-clause-strangers
+returns-clause-strangers g c =
+    c.strangers_dont_show.ensures.whole c.args.list c.args.key.now (acts_of c.args.steps.now) _
+    (run_all c.args.list c.args.key.now c.args.steps.now c.loop-i.i c.loop-i.client.rows
+    c.loop-i.readings.items _ c.loop-i-test.false c.loop-i.invariant.before)
+
+pub returns-in-Err-clause-strangers_until : goal.returns-in-Err-clause-strangers_until
+returns-in-Err-clause-strangers_until g c =
+    c.strangers_dont_show.ensures.until c.args.list c.args.key.now (acts_of c.args.steps.now) _ _ _
+    (run_until c.args.list c.args.key.now c.args.steps.now c.loop-i.i c.index-steps-i.result c.loop-i.client.rows
+    c.loop-i.readings.items c.act.new.readings.items (civil_nanos c.loop-i.last) c.in-Err.kind
+    c.loop-i-test.true c.index-steps-i.is c.loop-i.invariant.before c.in-Err.ensures.err)

@@ -37,7 +37,7 @@ returns-in_err-take_last-in-Ok-eq0-clause-err g c =
     (read_none (g.R.Source.left c.args.reader.now) (g.R.Source.left c.reads.reader) (g.R.Source.left c.read.new.self)
     text
     c.read.new.buf c.in-Ok-eq0.field-0 none read c.in-Ok-eq0.ensures.bytes.0)
-    (c.in-Ok-eq0.ensures.bytes.1 none (omega arith))
+    (c.in-Ok-eq0.ensures.bytes.1 none (omega arith)) (c.in-Ok-eq0.ensures.failures ∙ c.reads.invariant.failures)
     c.deref.result.now c.deref.ensures.value c.in_err-take_last-in-Ok-eq0.ensures.err)
 
 pub returns-in-Ok-eq0-clause-ok : goal.returns-in-Ok-eq0-clause-ok
@@ -73,7 +73,8 @@ returns-in_err-take_lines-in-Ok-clause-err g c =
     rw (p.1, p.2) (stops_more (line_reader g.C.StoreCookie.shows g.F.FnMut) c.args.with_expired (civil_nanos c.args.now)
     c.args.closure c.reads.closure [] c.reads.rows text c.reads.begun.items (take c.in-Ok.n c.read.new.buf) _ before
     after
-    (g.R.Source.left c.reads.reader) taken read c.in-Ok.ensures.bytes.0 c.in_err-take_lines-in-Ok.ensures.err)
+    (g.R.Source.left c.reads.reader) taken read c.in-Ok.ensures.bytes.0
+    (c.in-Ok.ensures.failures ∙ c.reads.invariant.failures) c.in_err-take_lines-in-Ok.ensures.err)
 
 pub returns-in-Err-clause-err : goal.returns-in-Err-clause-err
 returns-in-Err-clause-err g c =

@@ -1,5 +1,6 @@
 use Rattle.std.proofs.Common.{◌∙◌, ap, sym, subst}
 use Rattle.std.specs.Prelude.{Ok}
+use Rattle.std.specs.Str.{IsUtf8}
 use Rattle.cookie_text.specs.Reading.{ReadsPlain}
 use Rattle.saved_text.specs.Saved.{IsCookieText}
 use Rattle.cookie_store.specs.SavedRows.{domain_shown, IsDeathOf}
@@ -10,8 +11,9 @@ raw_of-requires c = subst IsCookieText (sym c.as_str.ensures.value) c.requires
 
 pub returns : goal.returns
 returns c = λ t h.
-    let (seen, reads, raw) = c.in_ok-raw_of.ensures in
+    let (seen, utf8, reads, raw) = c.in_ok-raw_of.ensures in
     record {
+      utf8 = subst IsUtf8 (c.as_str.ensures.value ∙ h.raw) utf8;
       seen = seen;
       reads = subst (λ text. ReadsPlain text (Ok seen)) (c.as_str.ensures.value ∙ h.raw) reads;
       raw = ap (λ s. s.raw) c.of_parts.ensures ∙ raw;

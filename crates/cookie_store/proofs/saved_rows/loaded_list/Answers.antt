@@ -2,7 +2,6 @@ use Rattle.std.proofs.Common.{◌≡◌, ◌∷◌, ◌++◌, [], map, ap, sym, 
 use Rattle.std.specs.List.{AllByRecursion}
 use Rattle.std.proofs.lemmas.List.{map-append, nil_from_length}
 use Rattle.saved_text.specs.Saved.{IsCookieText}
-use Rattle.saved_text.specs.declared.row.SavedRow.{SavedRow}
 use Rattle.cookie_store.specs.StoredCookie.{stored_of}
 use Rattle.cookie_store.proofs.SavedLemmas.{LoadsSoFar, loads_more, loads_all}
 use Rattle.cookie_store.proofs.saved_rows.loaded_list.Goals as goal

@@ -1,6 +1,8 @@
-use Rattle.std.proofs.Common.{◌≡◌, ◌∙◌, ◌∷◌, rules, of_calls, refl, option_map}
+use Rattle.std.proofs.Common.{◌≡◌, ◌∙◌, ◌∷◌, ◌++◌, [], rules, of_calls, refl, option_map, subst}
+use Rattle.std.specs.Io.KnownBytes.{Appends}
 use Rattle.std.proofs.KnownBytes.{Keeps-refl}
 use Rattle.std.proofs.lemmas.Result.{err_from_is_err_and}
+use Rattle.devices.specs.Device.{AppendsFront}
 use Rattle.jiff.specs.Words.{civil_nanos}
 use Rattle.cookie_store.specs.Given.{shown}
 use Rattle.cookie_store.specs.SavedLines.{WritesLine, printer}
@@ -29,17 +31,21 @@ returns-in_err-text-clause-err g c =
       refl,
     )))
 
-pub returns-in-Err-clause-err : goal.returns-in-Err-clause-err
-returns-in-Err-clause-err g c =
+pub returns-in_err-write_line-clause-err : goal.returns-in_err-write_line-clause-err
+returns-in_err-write_line-clause-err g c =
     let closures = printer g.C.StoreCookie.shows g.F.FnMut in
     let now = option_map civil_nanos c.args.now in
     let writer = c.loop-cookie.writer in
-    c.loop-cookie.invariant.stops _ _ (stops_failed closures
+    let old = g.W.Sink.written writer in
+    let new = g.W.Sink.written c.write_line.new.writer in
+    let p = err_from_is_err_and c.from_residual-in_err-write_line.result
+    c.from_residual-in_err-write_line.ensures.1 in
+    rw (p.1, p.2) (c.loop-cookie.invariant.stops _ _ (stops_failed closures
     (saving c.loop-cookie.closure (g.W.Sink.written writer) (g.W.Failing.failures writer)) (shown c.in-Some.cookie)
     (wanted now c.next.new.self) (wanted now c.loop-cookie.cookie-iterator) _ _
     (wanted_first now (shown c.in-Some.cookie) c.next.new.self c.loop-cookie.cookie-iterator c.is_wanted.result
     c.in-Some.ensures.steps c.is_wanted.ensures c.if-is_wanted.true) (
-      refl,
+      c.in_err-write_line.ensures.err.0,
       c.in_ok-text.text,
       c.closure.new.self,
       (
@@ -47,9 +53,10 @@ returns-in-Err-clause-err g c =
         c.of_store.ensures,
         record { shown = c.of_store.result; shows = refl; called = c.in_ok-text.ensures },
       ),
-      c.in-Err.ensures.front,
-      c.in-Err.ensures.err,
-    ))
+      subst (λ text. AppendsFront old new (text ++ 10 ∷ [])) c.as_str.ensures.value
+          c.in_err-write_line.ensures.front,
+      c.in_err-write_line.ensures.err.1,
+    )))
 
 pub loop-cookie-preserved-then-is_wanted : goal.loop-cookie-preserved-then-is_wanted
 loop-cookie-preserved-then-is_wanted g c =
@@ -72,8 +79,9 @@ loop-cookie-preserved-then-is_wanted g c =
         c.of_store.ensures,
         record { shown = c.of_store.result; shows = refl; called = c.in_ok-text.ensures },
       ),
-      c.in-Ok.ensures.ok,
-      c.in-Ok.ensures.failures,
+      subst (λ text. Appends (g.W.Sink.written old) (g.W.Sink.written new) (text ++ 10 ∷ []))
+          c.as_str.ensures.value c.in_ok-write_line.ensures.bytes,
+      c.in_ok-write_line.ensures.failures,
     ) in
     record {
       callable = search (rules, of_calls);
@@ -83,5 +91,5 @@ loop-cookie-preserved-then-is_wanted g c =
       stops = λ error out later. c.loop-cookie.invariant.stops error out (stops_later closures start mid row rest all
           error
           out first step later);
-      flushes = c.in-Ok.ensures.flushes ∙ c.loop-cookie.invariant.flushes;
+      flushes = c.in_ok-write_line.ensures.flushes ∙ c.loop-cookie.invariant.flushes;
     }

@@ -1,4 +1,4 @@
-use Rattle.std.proofs.Common.{◌≡◌, ◌∙◌, inl, inr, refl, sym, ap, subst}
+use Rattle.std.proofs.Common.{◌≡◌, ◌∙◌, inl, inr, refl, ap, subst}
 use Rattle.std.specs.Str.{IsUtf8}
 use Rattle.jiff.specs.Words.{civil_nanos}
 use Rattle.cookie_store.specs.Placing.{loaded_store}
@@ -7,7 +7,10 @@ use Rattle.cookie_store.proofs.serde.read_list.Goals as goal
 pub returns-in_default-clause-err : goal.returns-in_default-clause-err
 returns-in_default-clause-err g c =
     let (bytes, is, e) = c.in_ok-bytes.ensures.ok in
-    inr (inr (bytes, is, inl (refl, subst (λ t. ¬ IsUtf8 t) (c.deref.ensures.value ∙ e) c.in_default.ensures.cases.0)))
+    inr (
+      c.in_ok-bytes.ensures.failures,
+      inr (bytes, is, inl (refl, subst (λ t. ¬ IsUtf8 t) (c.deref.ensures.value ∙ e) c.in_default.ensures.cases.0)),
+    )
 
 pub returns-clause-ok : goal.returns-clause-ok
 returns-clause-ok g c =

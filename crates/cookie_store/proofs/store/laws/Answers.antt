@@ -2,6 +2,7 @@ use Rattle.cookie_store.specs.Given.{IsGiven}
 use Rattle.cookie_store.specs.Rows.{key_of}
 use Rattle.cookie_store.proofs.Confinement.{inserts_confined}
 use Rattle.cookie_store.proofs.EndLemmas.{picked_once, inserts_once, inserts_apart, inserted_got}
+use Rattle.cookie_store.proofs.GroupedLemmas.{parts_stay}
 use Rattle.cookie_store.proofs.PlaceLaws.{others_stay, put_is_found, comes_last}
 use Rattle.cookie_store.proofs.store.laws.Goals as goal
 
@@ -29,3 +30,6 @@ returns-clause-last c = comes_last
 
 pub returns-clause-confined : goal.returns-clause-confined
 returns-clause-confined c = λ list rows url now row end how. inserts_confined list rows url now end row how
+
+pub returns-clause-parts : goal.returns-clause-parts
+returns-clause-parts c = parts_stay

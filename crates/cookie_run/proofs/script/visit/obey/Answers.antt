@@ -92,3 +92,13 @@ returns-in-Header-clause-err g c = rw c.in-Header.is
     (if_err c.header.result (λ cause h. halts_of_any g.row.G-Error.Denot c.args.client.now.suffixes c.args.key.now
     (spec.Heads c.in-Header.url (civil_nanos c.in-Header.at.date)) c.args.client.now.rows c.args.client.now.rows
     (civil_nanos c.args.last.now) c.args.visit.now cause (h c.args.key.now)) c.header.ensures.err)
+
+pub returns-in-Restart-clause-ok : goal.returns-in-Restart-clause-ok
+returns-in-Restart-clause-ok g c = rw c.in-Restart.is (if_ok c.restart.result
+    (λ text h. h c.args.key.now) c.restart.ensures.ok)
+
+pub returns-in-Restart-clause-err : goal.returns-in-Restart-clause-err
+returns-in-Restart-clause-err g c = rw c.in-Restart.is
+    (if_err c.restart.result (λ cause h. halts_of_any g.row.G-Error.Denot c.args.client.now.suffixes c.args.key.now
+    (spec.Restarts (civil_nanos c.in-Restart.at.date)) c.args.client.now.rows c.restart.new.client.rows
+    (civil_nanos c.args.last.now) c.args.visit.now cause (h c.args.key.now)) c.restart.ensures.err)

@@ -1,4 +1,4 @@
-use Rattle.std.proofs.Common.{◌≡◌, subst, pos}
+use Rattle.std.proofs.Common.{subst, pos}
 use Rattle.saved_text.specs.JsonReading.{IsJsonFault, IsNoRow}
 use Rattle.cookie_store.specs.SavedTexts as form
 use Rattle.cookie_store.proofs.JsonLineLemmas.{loads, stops, ok_map, err_map}

@@ -1,0 +1,254 @@
+-- A line is refused whatever the rows are, or it is one row that is tried against them.
+use Rattle.std.proofs.Common.{◌≡◌, ◌≢◌, ◌⊎◌, ℕ, ℤ, false, List, [], sym, refl, ap, ◌∙◌, subst, inl, inr, Option}
+use Rattle.std.proofs.Common.{Some, None, Result, Ok, Err}
+use Rattle.std.specs.Prelude.{option_map, unwrap_or, IsSomeAnd}
+use Rattle.std.specs.Str.{IsUtf8}
+use Rattle.std.proofs.lemmas.Bool.{both_ways}
+use Rattle.cookie_text.specs.Reading.{ReadsPlain}
+use Rattle.cookie_text.specs.Record.{Seen, unsliced}
+use Rattle.cookie_text.specs.declared.error.ParseError.{ParseError}
+use Rattle.publicsuffix.specs.Prevailing.{Listed}
+use Rattle.publicsuffix.specs.Rules.{Rule}
+use Rattle.store_parts.specs.DomainMatch.{Domain, host_only, suffix, not_present, empty, text_of, text_or_empty, Covers}
+use Rattle.store_parts.specs.DomainMatch.{CoversAt, IsHostOf, IsListedIn}
+use Rattle.store_parts.specs.Schemes.{host_of}
+use Rattle.store_parts.specs.declared.error.CookieError.{CookieError}
+use Rattle.store_parts.specs.declared.error.CookieError.TheVariants.{NonHttpScheme, NonRelativeScheme, DomainMismatch}
+use Rattle.store_parts.specs.declared.error.CookieError.TheVariants.{Expired, Parse, PublicSuffix, UnspecifiedDomain}
+use Rattle.store_parts.specs.declared.error.CookieError.TheVariants.{OutOfMemory}
+use Rattle.url.specs.Parts.{Parts}
+use Rattle.cookie_store.specs.Insertion.{End, Settles, Fits, Admits, InsertsRead, alone}
+use Rattle.cookie_store.specs.Making.{IsBarred, IsMade, IsRefused, IsDomainFor, IsUncovered, AsksForNone, asked_domain}
+use Rattle.cookie_store.specs.Rows.{Row, domain_text}
+use Rattle.cookie_store.specs.declared.action.StoreAction.{StoreAction}
+use Rattle.cookie_run.specs.Accept.{Accepts}
+use Rattle.cookie_run.specs.Once.{Makes}
+use Rattle.cookie_run.specs.declared.step.LineEnd.{LineEnd}
+use Rattle.cookie_run.proofs.Lines.{Comes, comes, some_and, some_domain}
+use Rattle.cookie_run.proofs.ReadOnce.{ReadsOnce, read_once, row_once}
+use Rattle.cookie_run.proofs.Texts.{some_is_not_none}
+
+-- ---- the row
+
+-- what is put under a listed text is of its host alone, and what isn't listed is as it was made
+abbrev pub IsAdmitted : List Rule → Parts → Row → Row → Type 0
+IsAdmitted list url made row =
+    ((¬ (IsListedIn made.domain list)) × (row ≡ made))
+    ⊎ (IsListedIn made.domain list × IsHostOf made.domain url × (row ≡ alone made))
+
+-- all that a line meets before rows are looked at
+pub record IsTried (list : List Rule) (url : Parts) (now : ℤ) (line : List ℕ) (row : Row) : Type 0 where
+  pub utf8 : IsUtf8 line
+  pub made : Row
+  pub makes : Makes line url now made
+  pub allowed : ¬ (IsBarred made.raw.cookie url)
+  pub admitted : IsAdmitted list url made row
+  pub covers : CoversAt row.domain url
+
+-- what a line does to the rows: nothing, whatever they are, or its row is settled among them
+abbrev pub Does : List Rule → List Row → Parts → ℤ → List ℕ → List Row → Type 0
+Does list rows url now line new =
+    (((row : Row) → ¬ (IsTried list url now line row)) × (new ≡ rows))
+    ⊎ ((row : Row) × IsTried list url now line row × ((answer : Result StoreAction CookieError)
+    × Settles rows url now row (answer, new)))
+
+-- ---- there is one
+
+admitted_once : (list : List Rule) (url : Parts) (m n a b : Row) → m ≡ n → IsAdmitted list url m a
+    → IsAdmitted list url n b → a ≡ b
+admitted_once list url m n a b same (inl h) (inl g) = h.1 ∙ (same ∙ sym g.1)
+admitted_once list url m n a b same (inr h) (inr g) = h.2 ∙ (ap alone same ∙ sym g.2)
+admitted_once list url m n a b same (inl h) (inr g) =
+    absurd (h.0 (subst (λ (r : Row). IsListedIn r.domain list) (sym same) g.0))
+admitted_once list url m n a b same (inr h) (inl g) =
+    absurd (g.0 (subst (λ (r : Row). IsListedIn r.domain list) same h.0))
+
+pub tried_once : (one : ReadsOnce) (list : List Rule) (url : Parts) (now : ℤ) (line : List ℕ) (a b : Row)
+    → IsTried list url now line a → IsTried list url now line b → a ≡ b
+tried_once one list url now line a b t u =
+    admitted_once list url t.made u.made a b (row_once one line url now t.made u.made t.makes u.makes) t.admitted
+    u.admitted
+
+-- ---- what is refused isn't tried
+
+uncovered_not : (url : Parts) (d : Domain) (o : Option Domain) → IsSomeAnd o (λ asked. IsUncovered asked url)
+    → IsSomeAnd o (λ asked. IsDomainFor asked url d) → ⊥
+uncovered_not url d None h g = absurd h
+uncovered_not url d (Some (host_only text)) h g = absurd g
+uncovered_not url d (Some (suffix text)) h g = h.1 (subst (λ x. CoversAt x url) g.0 g.1)
+uncovered_not url d (Some not_present) h g = let wrong : not_present ≡ suffix h.0.0 = h.0.1 in absurd (cc)
+uncovered_not url d (Some empty) h g = let wrong : empty ≡ suffix h.0.0 = h.0.1 in absurd (cc)
+
+hostless_not : (url : Parts) (d : Domain) (o : Option Domain) → host_of url ≡ None → IsSomeAnd o AsksForNone
+    → IsSomeAnd o (λ asked. IsDomainFor asked url d) → ⊥
+hostless_not url d None e h g = absurd h
+hostless_not url d (Some (host_only text)) e h g = absurd g
+hostless_not url d (Some (suffix text)) e h g = subst (λ o. IsSomeAnd o (Covers d)) e g.1
+hostless_not url d (Some not_present) e h g = some_is_not_none d (sym g ∙ ap (option_map host_only) e)
+hostless_not url d (Some empty) e h g = some_is_not_none d (sym g ∙ ap (option_map host_only) e)
+
+refused_not : (received : Seen) (url : Parts) (now : ℤ) (made : Row) (cause : CookieError) → cause ≢ OutOfMemory
+    → IsRefused received.cookie url cause → IsMade received url now made → ⊥
+refused_not received url now made NonHttpScheme mem h m = m.allowed h
+refused_not received url now made Parse mem h m =
+    subst (λ o. IsSomeAnd o (λ asked. IsDomainFor asked url made.domain)) h.1 m.domain
+refused_not received url now made DomainMismatch mem h m =
+    uncovered_not url made.domain (asked_domain received.cookie) h.1 m.domain
+refused_not received url now made NonRelativeScheme mem h m =
+    hostless_not url made.domain (asked_domain received.cookie) h.1.1 h.1.0 m.domain
+refused_not received url now made OutOfMemory mem h m = mem refl
+refused_not received url now made Expired mem h m = h.1
+refused_not received url now made PublicSuffix mem h m = h.1
+refused_not received url now made UnspecifiedDomain mem h m = h.1
+
+error_not : (line : List ℕ) (e : ParseError) (s : Seen) → ReadsPlain line (Err e) → ReadsPlain line (Ok s) → ⊥
+error_not line e s h g = both_ways false refl (h.accepted.1 (g.accepted.0 refl))
+
+-- ---- what a line does
+
+module _ (one : ReadsOnce) (list : List Rule) (url : Parts) (now : ℤ) (line : List ℕ) (rows new : List Row) where
+  abbrev Tried : Row → Type 0
+  Tried row = IsTried list url now line row
+
+  -- what was made of a line is one
+  made_same : (made : Row) → Makes line url now made → (row : Row) (t : Tried row) → t.made ≡ made
+  made_same made is row t = row_once one line url now t.made made t.makes is
+
+  fits_does : (answer : Result StoreAction CookieError) (row : Row) → ((other : Row) → Tried other → other ≡ row)
+      → (CoversAt row.domain url → Tried row) → Fits rows url now row (answer, new) → Does list rows url now line new
+  fits_does answer row once tried (inl mismatch) = inl (
+    (λ other t. mismatch.0 (subst (λ (r : Row). CoversAt r.domain url) (once other t) t.covers)),
+    ap (λ (e : End). e.1) mismatch.1,
+  )
+  fits_does answer row once tried (inr (covers, settles)) = inr (row, tried covers, (answer, settles))
+
+  admits_does : (answer : Result StoreAction CookieError) (made : Row) → IsUtf8 line → Makes line url now made
+      → ¬ (IsBarred made.raw.cookie url) → Admits list rows url now made (answer, new)
+      → Does list rows url now line new
+  admits_does answer made utf8 is allowed (inl free) =
+      let admitted : IsAdmitted list url made made = inl (free.0, refl) in
+      fits_does answer made
+      (λ other t. admitted_once list url t.made made other made (made_same made is other t) t.admitted admitted)
+      (λ covers. record {
+        utf8 = utf8;
+        made = made;
+        makes = is;
+        allowed = allowed;
+        admitted = admitted;
+        covers = covers;
+      })
+      free.1
+  admits_does answer made utf8 is allowed (inr (inl own)) =
+      let admitted : IsAdmitted list url made (alone made) = inr (own.0, own.1, refl) in
+      fits_does answer (alone made)
+      (λ other t. admitted_once list url t.made made other (alone made) (made_same made is other t) t.admitted admitted)
+      (λ covers. record {
+        utf8 = utf8;
+        made = made;
+        makes = is;
+        allowed = allowed;
+        admitted = admitted;
+        covers = covers;
+      })
+      own.2
+  admits_does answer made utf8 is allowed (inr (inr listed)) = inl (
+    (λ other t. not_admitted other t.made (made_same made is other t) t.admitted),
+    ap (λ (e : End). e.1) listed.2,
+  )
+    where
+      not_admitted : (other m : Row) → m ≡ made → IsAdmitted list url m other → ⊥
+      not_admitted other m same (inl h) = h.0 (subst (λ (r : Row). IsListedIn r.domain list) (sym same) listed.0)
+      not_admitted other m same (inr h) = listed.1 (subst (λ (r : Row). IsHostOf r.domain url) same h.1)
+
+  read_does : (answer : Result StoreAction CookieError) (read : Result Seen ParseError) → IsUtf8 line
+      → ReadsPlain line read → InsertsRead list rows url now read (answer, new) → Does list rows url now line new
+  read_does answer (Err e) utf8 reads refused = inl (
+    (λ other t. error_not line e t.makes.0 reads t.makes.1),
+    ap (λ (e : End). e.1) refused,
+  )
+  read_does answer (Ok s) utf8 reads (inl refused) = inl (
+    (λ other t. refused_not (unsliced s.cookie) url now t.made refused.0 refused.1 refused.2
+        (as_read t.makes)),
+    ap (λ (e : End). e.1) refused.3,
+  )
+    where
+      as_read : {made : Row} → Makes line url now made → IsMade (unsliced s.cookie) url now made
+      as_read {made} m = subst (λ (x : Seen). IsMade (unsliced x.cookie) url now made)
+          (read_once one line m.0 s m.1 reads) m.2
+  read_does answer (Ok s) utf8 reads (inr (made, is, inl barred)) = inl (
+    (λ other t. t.allowed (subst (λ (r : Row). IsBarred r.raw.cookie url) (sym (made_same made (s, reads, is) other t))
+        barred.0)),
+    ap (λ (e : End). e.1) barred.1,
+  )
+  read_does answer (Ok s) utf8 reads (inr (made, is, inr allowed)) =
+      admits_does answer made utf8 (s, reads, is) allowed.0 allowed.1
+
+  pub line_does : (end : LineEnd) → Accepts list rows url now line end new → Does list rows url now line new
+  line_does end (inl wrong) = inl ((λ other t. wrong.0 t.utf8), wrong.2)
+  line_does end (inr right) = read_does right.1.2.0 right.1.0 right.0 right.1.1 right.1.2.1
+
+-- ---- where it stands
+
+-- a suffix that a row has isn't empty, nor listed
+abbrev pub IsSound : List Rule → Row → Type 0
+IsSound list row = (text : List ℕ) → row.domain ≡ suffix text → (text ≢ []) × (¬ (Listed list text))
+
+-- the text is listed or isn't
+abbrev pub IsWeighed : List Rule → List ℕ → Type 0
+IsWeighed list text = (¬ (Listed list text)) ⊎ Listed list text
+
+-- the row that is tried has the URL's host as its text, or is a suffix that covers it
+abbrev pub Stands : List Rule → Parts → Domain → Type 0
+Stands list url d =
+    ((host : List ℕ) × (host_of url ≡ Some host) × (d ≡ host_only host))
+    ⊎ ((text : List ℕ) × (text ≢ []) × (d ≡ suffix text) × (¬ (Listed list text)) × CoversAt d url)
+
+host_alone : (d : Domain) (o : Option (List ℕ)) → option_map host_only o ≡ Some d
+    → (host : List ℕ) × (o ≡ Some host) × (d ≡ host_only host)
+host_alone d None h = absurd (some_is_not_none d (sym h))
+host_alone d (Some g) h = (g, refl, sym (some_domain (host_only g) d h))
+
+listed_or : (list : List Rule) (url : Parts) (d : Domain) → Comes url d
+    → ((¬ (IsListedIn d list)) ⊎ IsListedIn d list) → IsWeighed list (text_or_empty d)
+listed_or list url d (inl below) h =
+    subst (λ x. IsWeighed list (text_or_empty x)) (sym below.2)
+    (subst (λ x. (¬ (IsListedIn x list)) ⊎ IsListedIn x list) below.2 h)
+listed_or list url d (inr own) h =
+    let g = host_alone d (host_of url) own in
+    subst (λ x. IsWeighed list (text_or_empty x)) (sym g.2)
+    (subst (λ x. (¬ (IsListedIn x list)) ⊎ IsListedIn x list) g.2 h)
+
+module _ (list : List Rule) (url : Parts) (now : ℤ) (line : List ℕ) (row : Row) where
+  comes_so : (t : IsTried list url now line row) → Comes url t.made.domain
+  comes_so t = comes url t.made.domain _ t.makes.2.domain
+
+  admitted_stands : (m : Row) → Comes url m.domain → IsAdmitted list url m row → Stands list url row.domain
+  admitted_stands m (inr own) (inl h) =
+      subst (λ (r : Row). Stands list url r.domain) (sym h.1) (inl (host_alone m.domain (host_of url) own))
+  admitted_stands m (inl below) (inl h) =
+      subst (λ (r : Row). Stands list url r.domain) (sym h.1)
+      (inr (below.0, below.1, below.2, subst (λ d. ¬ (IsListedIn d list)) below.2 h.0, below.3))
+  admitted_stands m from (inr h) =
+      let g = some_and (λ x. text_of m.domain ≡ Some x) (host_of url) h.1 in
+      inl (g.0, g.1, ap (λ (r : Row). r.domain) h.2 ∙ ap (λ o. host_only (unwrap_or o [])) g.2)
+
+  pub tried_stands : IsTried list url now line row → Stands list url row.domain
+  tried_stands t = admitted_stands t.made (comes_so t) t.admitted
+
+  admitted_weighed : (m : Row) → Comes url m.domain → IsAdmitted list url m row → IsWeighed list (domain_text row)
+  admitted_weighed m from (inl h) =
+      subst (λ (r : Row). IsWeighed list (domain_text r)) (sym h.1) (listed_or list url m.domain from (inl h.0))
+  admitted_weighed m from (inr h) =
+      subst (λ (r : Row). IsWeighed list (domain_text r)) (sym h.2) (listed_or list url m.domain from (inr h.0))
+
+  pub tried_weighed : IsTried list url now line row → IsWeighed list (domain_text row)
+  tried_weighed t = admitted_weighed t.made (comes_so t) t.admitted
+
+pub stands_sound : (list : List Rule) (url : Parts) (d : Domain) → Stands list url d → (text : List ℕ)
+    → d ≡ suffix text → (text ≢ []) × (¬ (Listed list text))
+stands_sound list url d (inl own) text e =
+    let wrong : host_only own.0 ≡ suffix text = sym own.2 ∙ e in absurd (cc)
+stands_sound list url d (inr below) text e =
+    let wrap : suffix below.0 ≡ suffix text = sym below.2 ∙ e in
+    let same : below.0 ≡ text = cc in
+    (subst (λ t. t ≢ []) same below.1, subst (λ t. ¬ (Listed list t)) same below.3)

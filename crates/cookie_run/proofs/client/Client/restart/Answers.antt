@@ -1,0 +1,34 @@
+use Rattle.std.proofs.Common.{sym, subst}
+use Rattle.std.proofs.lemmas.Result.{err_from_is_err_and}
+use Rattle.jiff.specs.Words.{civil_nanos}
+use Rattle.cookie_store.specs.Placing.{saved}
+use Rattle.cookie_store.specs.Rows.{Store}
+use Rattle.cookie_store.specs.SavedTexts.{IsSaveFault}
+use Rattle.cookie_run.specs.Keeping.{Keeps, HaveReadPairs}
+use Rattle.cookie_run.proofs.ClientRows.{saved_print, kept_rows, kept_pairs}
+use Rattle.cookie_run.proofs.client.Client.restart.Goals as goal
+
+pub returns-in_err-kept-clause-err : goal.returns-in_err-kept-clause-err
+returns-in_err-kept-clause-err c =
+    let p = err_from_is_err_and c.from_residual.result c.from_residual.ensures.1 in
+    let now = civil_nanos c.args.now in
+    rw (p.1, p.2) (subst (λ (s : Store). IsSaveFault (saved now s.rows) c.in_err-kept.field-0.0) c.self.view_is
+    (c.in_err-kept.ensures.read (saved_print now c.self.inside.store.rows c.self.invariant)))
+
+pub invariant_of-self : goal.invariant_of-self
+invariant_of-self c =
+    let now = civil_nanos c.args.now in
+    let old = c.self.inside.store.rows in
+    let kept = c.in_ok-kept.kept in
+    subst (λ (s : Store). HaveReadPairs s.rows) (sym c.replace_rows.ensures)
+    (kept_pairs old now c.self.invariant kept.rows
+    (kept_rows old now c.self.invariant kept c.in_ok-kept.ensures.grouped c.in_ok-kept.ensures.ok))
+
+pub returns-clause-ok : goal.returns-clause-ok
+returns-clause-ok c =
+    let now = civil_nanos c.args.now in
+    let old = c.self.inside.store.rows in
+    let kept = c.in_ok-kept.kept in
+    subst (λ (s : Store). Keeps s.rows now now c.replace_rows.new.self.rows) c.self.view_is
+    (subst (λ (s : Store). Keeps old now now s.rows) (sym c.replace_rows.ensures)
+    (kept_rows old now c.self.invariant kept c.in_ok-kept.ensures.grouped c.in_ok-kept.ensures.ok))
