@@ -1,5 +1,5 @@
 -- Of the rows of a client a restart leaves some, each with its key, and want of memory alone refuses it.
-use Rattle.std.proofs.Common.{◌≡◌, ℤ, pos, Bool, true, false, cond, List, [], ◌∷◌, ◌++◌, sym, refl, ap, ◌∙◌, subst}
+use Rattle.std.proofs.Common.{◌≡◌, ℤ, pos, Bool, true, false, cond, List, [], ◌∷◌, sym, refl, ap, ◌∙◌, subst}
 use Rattle.std.proofs.Common.{◌≤ℤ◌, ◌<ℤ◌, inl, inr, Some, Ok, arith}
 use Rattle.std.specs.Prelude.{not}
 use Rattle.std.specs.List.{AllByRecursion}
