@@ -299,7 +299,7 @@ and_first : (a b : Bool) → (a && b) ≡ true → a ≡ true
 and_first true b e = refl
 and_first false b e = e
 
-saved_live : (now : ℤ) (rows : List Row) → AllByRecursion (λ r. is_live now r ≡ true) (saved now rows)
+pub saved_live : (now : ℤ) (rows : List Row) → AllByRecursion (λ r. is_live now r ≡ true) (saved now rows)
 saved_live now [] = tt
 saved_live now (r ∷ rs) = by (is_saved now r) refl (saved_live now rs)
   where
@@ -317,7 +317,7 @@ not_before now row late lives is =
     let dead : is_dead now (Some (civil_nanos is.moment)) ≡ true = grind (arith, ints, early, late) in
     both_ways _ (ap not (ap (is_dead now) is.nanos ∙ dead)) lives
 
-middle_of : (P : Row → Type 0) (before : List Row) (row : Row) (after : List Row)
+pub middle_of : (P : Row → Type 0) (before : List Row) (row : Row) (after : List Row)
     → AllByRecursion P (before ++ row ∷ after) → P row
 middle_of P [] row after all = all.0
 middle_of P (r ∷ rs) row after all = middle_of P rs row after all.1

@@ -45,6 +45,7 @@ pub mod ReadOnce
 pub mod Picks
 pub mod Tried
 pub mod ClientRows
+pub mod RowsKept
 pub mod AloneRuns
 pub mod Strangers
 pub mod Untouched

@@ -17,6 +17,7 @@ pub mod Laws
 pub mod Again
 pub mod Keeping
 pub mod KeepingLaws
+pub mod KeptKeys
 pub mod Once
 pub mod Strangers
 pub mod ScriptMoment

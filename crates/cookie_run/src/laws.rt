@@ -1,6 +1,7 @@
 //! What holds of every play on the rows of a store (RFC 6265, sections 5.2 to 5.4).
 ghost use Rattle.cookie_run.specs.Again.{TextsGivePairs, PairsReadAgain};
 ghost use Rattle.cookie_run.specs.KeepingLaws as kept;
+ghost use Rattle.cookie_run.specs.KeptKeys.{RestartsKeepKeys, SavesButForMemory};
 ghost use Rattle.cookie_run.specs.Laws as law;
 ghost use Rattle.cookie_run.specs.Once as once;
 ghost use Rattle.cookie_run.specs.Strangers as stranger;
@@ -81,6 +82,17 @@ pub fn rows_come_back(key: &Key)
 pub fn restarts_keep_rows()
     ensures { kept.RestartsKeepRows }
 {}
+
+/// Of rows whose names and values are as texts give them, as a client's are, some of those that are
+/// saved are left where these are loaded again, each with its domain, path, name and value, its death
+/// without a fraction of a second, and none is added. In the year 0 or later no such row lacks a saved
+/// text but for want of memory.
+pub fn restarts_keep_keys()
+    ensures keys { RestartsKeepKeys }
+    ensures memory { SavesButForMemory }
+{
+    pairs_read_again();
+}
 
 /// A line makes one row at most at a URL and a moment, and the rows that are kept where rows are saved
 /// and loaded are determined.

@@ -2,11 +2,12 @@
 use crate::fixtures::{client, gives, second};
 use cookie_run::{Client, Counting};
 use cookie_store::Error;
+use jiff::SignedDuration;
 use jiff::civil::DateTime;
 use publicsuffix::List;
 use std::alloc::Global;
 use std::test::Fail;
-use test_kit::devices::{ByteByByte, FailsAt};
+use test_kit::devices::{ByteByByte, FailsAt, TakesOne};
 use url::Url;
 
 const SHOP: &str = "https://shop.com/";
@@ -178,54 +179,53 @@ fn gives_the_list_back(rt: HostRuntime) -> Result<(), Fail> {
     Ok(())
 }
 
-// Whether a load that is given a byte a call, and fails at this one, tells that.
-fn is_unread_at(alloc: Global, list: List, call: u64) -> bool {
+// What is loaded a byte a call, where the read of this number fails.
+fn loaded_until(alloc: Global, list: List, call: u64) -> Result<Client, (Error, List)> {
     let bytes = SHOP_TEXT.as_bytes();
     let mut reader = Counting::new(FailsAt::new(ByteByByte { bytes }, call));
-    matches!(
-        cause_of(Client::load(alloc, list, &mut reader, second(1))),
-        Some(Error::Io)
-    )
+    Client::load(alloc, list, &mut reader, second(1))
 }
 
 #[test]
 fn tells_a_read_that_fails(rt: HostRuntime) -> Result<(), Fail> {
+    let url = Url::parse(rt.alloc(), SHOP)?;
     // The last read finds the end.
     let reads = SHOP_TEXT.len() as u64 + 1;
     for call in 0..reads {
         let list = List::parse(rt.alloc(), b"com")?;
-        assert!(rt; is_unread_at(rt.alloc(), list, call), "at call {call}");
+        let cause = cause_of(loaded_until(rt.alloc(), list, call));
+        assert!(rt; matches!(cause, Some(Error::Io)), "at call {call}");
     }
     let list = List::parse(rt.alloc(), b"com")?;
-    assert!(rt; !is_unread_at(rt.alloc(), list, reads));
+    let is_loaded = match loaded_until(rt.alloc(), list, reads) {
+        Ok(client) => gives(&client, &url, "b=2"),
+        Err(_) => false,
+    };
+    assert!(rt; is_loaded);
     Ok(())
 }
 
-// Whether a save whose writer fails at this call tells that, the text unwritten or begun.
-fn is_unwritten_at(alloc: Global, client: &Client, call: u64) -> Result<bool, Error> {
-    let mut out = Vec::with_capacity(alloc, 1000)?;
-    let writer = FailsAt::new(&mut out, call);
-    let saved = client.save(&mut Counting::new(writer), second(1));
-    let is_front = SHOP_TEXT.as_bytes().starts_with(&out) && out.len() < SHOP_TEXT.len();
-    Ok(matches!(saved, Err(Error::Io)) && is_front)
+// Whether a save writes these bytes, one a call, where the write behind them fails. That is told,
+// unless they are the whole text.
+fn is_written(alloc: Global, client: &Client, wanted: &[u8]) -> bool {
+    let bytes = Vec::<u8>::new(alloc);
+    let mut device = FailsAt::new(TakesOne { bytes }, wanted.len() as u64);
+    let is_told = match client.save(&mut Counting::new(&mut device), second(1)) {
+        Ok(()) => wanted.len() == SHOP_TEXT.len(),
+        Err(error) => wanted.len() < SHOP_TEXT.len() && matches!(error, Error::Io),
+    };
+    is_told && device.inner.bytes.as_slice() == wanted
 }
 
-// How many calls of the writer a save makes.
-fn calls_of_a_save(alloc: Global, client: &Client) -> Result<u64, Error> {
-    let mut writer = FailsAt::new(Vec::with_capacity(alloc, 1000)?, u64::MAX);
-    client.save(&mut Counting::new(&mut writer), second(1))?;
-    Ok(writer.calls)
-}
-
-// Whether a save tells a failed write at each of the writer's calls, and at no other.
-fn fails_at_each_write(alloc: Global, client: &Client) -> Result<bool, Error> {
-    let calls = calls_of_a_save(alloc, client)?;
-    for call in 0..calls {
-        if !is_unwritten_at(alloc, client, call)? {
-            return Ok(false);
+// Whether a save tells each write that fails, what is before it being written.
+fn tells_each_write(alloc: Global, client: &Client) -> bool {
+    let text = SHOP_TEXT.as_bytes();
+    for call in 0..text.len() {
+        if !is_written(alloc, client, &text[..call]) {
+            return false;
         }
     }
-    Ok(calls > 0 && !is_unwritten_at(alloc, client, calls)?)
+    is_written(alloc, client, text)
 }
 
 #[test]
@@ -235,7 +235,54 @@ fn tells_a_write_that_fails(rt: HostRuntime) -> Result<(), Fail> {
     let Ok(client) = shop_client(alloc, &url) else {
         return Err(Fail::from("no client"));
     };
-    assert!(rt; fails_at_each_write(alloc, &client).unwrap_or(false));
+    assert!(rt; tells_each_write(alloc, &client));
+    Ok(())
+}
+
+// Tenths of a second after the beginning of 2024.
+fn tenths(n: i64) -> DateTime {
+    second(0).saturating_add(SignedDuration::from_millis(n.saturating_mul(100)))
+}
+
+// Of a cookie that ends at 10.5 s: the tenth of a restart, that of a header, and the header.
+const CUTS: &[(Option<i64>, i64, &str)] = &[
+    // Unless it is saved, it ends in the middle of the second.
+    (None, 104, "a=1"),
+    (None, 105, ""),
+    // A restart in an earlier second keeps it, without the fraction of its end.
+    (Some(99), 99, "a=1"),
+    (Some(99), 100, ""),
+    // In the second of its end it is saved, for it isn't dead, and loaded as one that ended at 10 s.
+    (Some(100), 100, ""),
+    (Some(104), 104, ""),
+    // At its end it isn't saved.
+    (Some(105), 105, ""),
+];
+
+fn is_cut(
+    alloc: Global,
+    url: &Url,
+    restart: Option<i64>,
+    header: i64,
+    wanted: &str,
+) -> Result<bool, Error> {
+    let line: [&[u8]; 1] = [b"a=1; Secure; Path=/; Max-Age=10"];
+    let mut client = client_of(alloc, url, &line, tenths(5))?;
+    if let Some(at) = restart {
+        client.restart(tenths(at))?;
+    }
+    Ok(client.header(url, tenths(header))?.as_str() == wanted)
+}
+
+#[test]
+fn cuts_the_fraction_of_an_end(rt: HostRuntime) -> Result<(), Fail> {
+    let url = Url::parse(rt.alloc(), SHOP)?;
+    for (restart, header, wanted) in CUTS {
+        assert!(rt;
+            is_cut(rt.alloc(), &url, *restart, *header, wanted).unwrap_or(false),
+            "restarted at {restart:?}, asked at {header}"
+        );
+    }
     Ok(())
 }
 

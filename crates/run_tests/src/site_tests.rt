@@ -146,6 +146,14 @@ restart 12\n\
 visit https://shop.com/ 12 lost get:plain:a\n",
         "2 3 - ",
     ),
+    // Of two cookies of one answer the one that has an end is kept.
+    (
+        "com",
+        "visit https://shop.com/ 0 0 set:plain:a:1 set:plain:b:2:3600\n\
+restart 1\n\
+visit https://shop.com/ 1 lost get:plain:a get:plain:b\n",
+        "- 2 ",
+    ),
     // The list of public suffixes stays, and so does what another host set, whatever its text.
     (
         "io\ngithub.io",

@@ -5,9 +5,8 @@ use cookie_store::serde::{self, json, ron};
 use cookie_store::{Cookie, CookieStore, Counting, Error, Sink, Source};
 use std::alloc::Global;
 use std::cell::Cell;
-use std::io::{self, Write};
 use std::rc::Rc;
-use test_kit::devices::{ByteByByte, FailsAt};
+use test_kit::devices::{ByteByByte, FailsAt, TakesOne};
 
 // By lines or as one text: of closures, in JSON or in RON.
 #[derive(Clone, Copy, Debug)]
@@ -146,23 +145,6 @@ fn whole_text(form: Form) -> &'static str {
 }
 
 // ---- each write
-
-// Takes one byte a call.
-#[derive(Drop)]
-struct TakesOne {
-    bytes: Vec<u8>,
-}
-
-impl Write for TakesOne {
-    fn write(&mut self, buf: &[u8]) -> io::Result<usize> {
-        let most = buf.len().min(1);
-        self.bytes.write(&buf[..most])
-    }
-
-    fn flush(&mut self) -> io::Result<()> {
-        self.bytes.flush()
-    }
-}
 
 // Saves the rows that have an end at second 1.
 fn save<W: Sink>(

@@ -14,6 +14,23 @@ impl Read for ByteByByte<'_> {
     }
 }
 
+/// Takes one byte a call.
+#[derive(Drop)]
+pub struct TakesOne {
+    pub bytes: Vec<u8>,
+}
+
+impl Write for TakesOne {
+    fn write(&mut self, buf: &[u8]) -> io::Result<usize> {
+        let most = buf.len().min(1);
+        self.bytes.write(&buf[..most])
+    }
+
+    fn flush(&mut self) -> io::Result<()> {
+        self.bytes.flush()
+    }
+}
+
 /// Fails at one call, counted from 0, and else does as `inner`.
 #[derive(Drop)]
 pub struct FailsAt<T> {

@@ -5,6 +5,7 @@ use Rattle.cookie_store.specs.Placing.{saved}
 use Rattle.cookie_store.specs.Rows.{Store}
 use Rattle.cookie_store.specs.SavedTexts.{IsSaveFault}
 use Rattle.cookie_run.specs.Keeping.{Keeps, HaveReadPairs}
+use Rattle.cookie_run.specs.KeptKeys.{KeepsKeys}
 use Rattle.cookie_run.proofs.ClientRows.{saved_print, kept_rows, kept_pairs}
 use Rattle.cookie_run.proofs.client.Client.restart.Goals as goal
 
@@ -32,3 +33,20 @@ returns-clause-ok c =
     subst (λ (s : Store). Keeps s.rows now now c.replace_rows.new.self.rows) c.self.view_is
     (subst (λ (s : Store). Keeps old now now s.rows) (sym c.replace_rows.ensures)
     (kept_rows old now c.self.invariant kept c.in_ok-kept.ensures.grouped c.in_ok-kept.ensures.ok))
+
+pub returns-in_err-kept-clause-memory : goal.returns-in_err-kept-clause-memory
+returns-in_err-kept-clause-memory c = λ late.
+    let p = err_from_is_err_and c.from_residual.result c.from_residual.ensures.1 in
+    let old = c.self.inside.store.rows in
+    rw (p.1, p.2) (c.restarts_keep_keys.ensures.memory old c.args.now c.in_err-kept.field-0.0 late
+    (c.in_err-kept.ensures.read (saved_print (civil_nanos c.args.now) old c.self.invariant)))
+
+pub returns-clause-keys : goal.returns-clause-keys
+returns-clause-keys c =
+    let now = civil_nanos c.args.now in
+    let old = c.self.inside.store.rows in
+    let kept = c.in_ok-kept.kept in
+    let keeps = kept_rows old now c.self.invariant kept c.in_ok-kept.ensures.grouped c.in_ok-kept.ensures.ok in
+    subst (λ (s : Store). KeepsKeys s.rows now c.replace_rows.new.self.rows) c.self.view_is
+    (subst (λ (s : Store). KeepsKeys old now s.rows) (sym c.replace_rows.ensures)
+    (c.restarts_keep_keys.ensures.keys old now now kept.rows c.self.invariant keeps))
