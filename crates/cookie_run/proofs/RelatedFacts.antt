@@ -1,6 +1,6 @@
 -- Which hosts are related, and which steps concern a host, at small values.
 use Rattle.std.proofs.Common.{◌≡◌, ◌≢◌, ℕ, ℤ, List, [], ◌∷◌, ◌++◌, Some, None, codes, sym, refl, ap, ◌∙◌, inl}
-use Rattle.std.proofs.Common.{inr, arith, append-nil, get_or, lit≤}
+use Rattle.std.proofs.Common.{◌⊎◌, ⊎_elim, inr, arith, append-nil, get_or, lit≤}
 use Rattle.std.proofs.lemmas.Option.{none-some}
 use Rattle.std.proofs.NetLemmas.Ipv4.{read_ipv4_complete}
 use Rattle.std.proofs.NetLemmas.Ipv6.{read_ipv6_complete, EndsGroups-nil}
@@ -17,7 +17,8 @@ use Rattle.cookie_run.specs.Acts.{Act, Visits, Answers, Asks, Restarts, Arrival}
 use Rattle.cookie_run.specs.Headline.{IsInReach, AreRelated}
 use Rattle.cookie_run.specs.Strangers.{Concerns, IsOnly}
 use Rattle.cookie_run.specs.declared.step.Command.{Command}
-use Rattle.cookie_run.proofs.Example.{shop, evil, list, apart, apart_unrelated, only, no_dot, none_after}
+use Rattle.cookie_run.proofs.Example.{shop, evil, list, apart, apart_unrelated, only}
+use Rattle.cookie_run.proofs.Example.{step, no_dot, none_after, after_dot}
 
 -- ---- host names
 
@@ -49,6 +50,24 @@ evil_named : IsHostName evil
 unfolding read_number read_octet read_ipv4 read_segment read_segments read_ipv6
 evil_named = named evil refl refl
 
+-- ---- a reach
+
+-- in the reach of `sub.shop.com` are itself, `shop.com` and `com`
+pub shop_reached : IsInReach below shop
+shop_reached = inr (below_named, (codes "sub", refl))
+
+pub com_reached : IsInReach below (codes "com")
+com_reached = inr (below_named, (codes "sub.shop", refl))
+
+-- and nothing else
+pub below_reach : (text : List ℕ) → IsInReach below text → (below ≡ text) ⊎ ((text ≡ shop) ⊎ (text ≡ codes "com"))
+below_reach text (inl same) = inl same
+below_reach text (inr reached) =
+    let dotted = no_dot 98 (codes ".shop.com") text (λ e. omega (arith, e))
+    (no_dot 117 (codes "b.shop.com") text (λ e. omega (arith, e))
+    (no_dot 115 (codes "ub.shop.com") text (λ e. omega (arith, e)) reached.1)) in
+    inr (⊎_elim (λ here. inl here.1) (λ later. inr (after_dot text later)) (step 46 shop text dotted))
+
 -- ---- a host and its parent
 
 -- a rule of the list `com` covers one label
@@ -58,10 +77,9 @@ one_label rule here = ap covered (sym (only rule here.0 here.1 here.2))
 shop_unlisted : ¬ (Listed list shop)
 shop_unlisted h = omega (arith, one_label h.rule h.prevails.of_list, h.whole)
 
--- `sub.shop.com` and `shop.com` are related, by `shop.com`
-pub parent_related : AreRelated list below shop
-parent_related =
-    inr (shop, (λ e. let wrong : shop ≡ [] = e in cc), inr (below_named, (codes "sub", refl)), inl refl, shop_unlisted)
+-- `sub.shop.com` and `shop.com` are related, by `shop.com`, where that isn't listed
+pub parent_related : (rules : List Rule) → ¬ (Listed rules shop) → AreRelated rules below shop
+parent_related rules free = inr (shop, (λ e. let wrong : shop ≡ [] = e in cc), shop_reached, inl refl, free)
 
 -- ---- two hosts under one suffix
 
@@ -124,13 +142,13 @@ named_address_named : IsHostName named_address
 unfolding read_number read_octet read_ipv4 read_segment read_segments read_ipv6
 named_address_named = named named_address refl refl
 
-pub named_address_related : AreRelated [] named_address address
-named_address_related = inr (
+pub named_address_related : (rules : List Rule) → ¬ (Listed rules address) → AreRelated rules named_address address
+named_address_related rules free = inr (
   address,
   (λ e. let wrong : address ≡ [] = e in cc),
   inr (named_address_named, (codes "a", refl)),
   inl refl,
-  none_listed address,
+  free,
 )
 
 -- an IPv6 address between brackets, as a URL writes it: the last group is one digit
@@ -176,7 +194,7 @@ at_host host = record {
 
 below_concerns : AreRelated list shop below
 below_concerns =
-    inr (shop, (λ e. let wrong : shop ≡ [] = e in cc), inl refl, inr (below_named, (codes "sub", refl)), shop_unlisted)
+    inr (shop, (λ e. let wrong : shop ≡ [] = e in cc), inl refl, shop_reached, shop_unlisted)
 
 -- those with itself and with `sub.shop.com`
 pub own_visit : (at : ℤ) (commands : List Command) (arrival : Arrival)
