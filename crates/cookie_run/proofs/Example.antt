@@ -53,17 +53,17 @@ com_listed = record { is_name = com_named; rule = com_rule; prevails = com_preva
 
 -- ---- what both domain-match
 
-step : (c : ℕ) (cs text : List ℕ) → EndsAfterDot (c ∷ cs) text → ((c ≡ 46) × (text ≡ cs)) ⊎ EndsAfterDot cs text
+pub step : (c : ℕ) (cs text : List ℕ) → EndsAfterDot (c ∷ cs) text → ((c ≡ 46) × (text ≡ cs)) ⊎ EndsAfterDot cs text
 step c cs text ([], e) = inl (ap (λ xs. get_or xs 0 0) e, sym (ap (drop 1) e))
 step c cs text (b ∷ bs, e) = inr (bs, ap (drop 1) e)
 
-no_dot : (c : ℕ) (cs text : List ℕ) → (c ≡ 46 → ⊥) → EndsAfterDot (c ∷ cs) text → EndsAfterDot cs text
+pub no_dot : (c : ℕ) (cs text : List ℕ) → (c ≡ 46 → ⊥) → EndsAfterDot (c ∷ cs) text → EndsAfterDot cs text
 no_dot c cs text other h = ⊎_elim (λ here. absurd (other here.0)) (λ later. later) (step c cs text h)
 
-none_after : (text : List ℕ) → EndsAfterDot [] text → ⊥
+pub none_after : (text : List ℕ) → EndsAfterDot [] text → ⊥
 none_after text (before, e) = omega (arith, ap length e, length-append before (46 ∷ text))
 
-after_dot : (text : List ℕ) → EndsAfterDot shop text → text ≡ codes "com"
+pub after_dot : (text : List ℕ) → EndsAfterDot shop text → text ≡ codes "com"
 after_dot text h =
     let dotted = no_dot 112 (codes ".com") text (λ e. omega (arith, e))
     (no_dot 111 (codes "p.com") text (λ e. omega (arith, e))

@@ -13,6 +13,8 @@ mod client_tests;
 #[cfg(test)]
 mod cookie_run_readme;
 #[cfg(test)]
+mod drawn_stranger_tests;
+#[cfg(test)]
 mod fixtures;
 #[cfg(test)]
 mod flush_tests;

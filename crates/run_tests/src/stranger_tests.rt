@@ -1,9 +1,10 @@
 //! What a host is sent beside hosts that it isn't related to: the same as without their answers.
 use crate::fixtures::{client, gives, run_script, second, takes, zero_key};
 use crate::generators::zeros;
+use crate::steps::steps;
 use cookie_run::play::play;
-use cookie_run::{Client, Ended, Fault, LineEnd, Reading, Step};
-use cookie_store::{CookieError, StoreAction};
+use cookie_run::{Client, Ended, LineEnd, Reading, Step};
+use cookie_store::{Cookie, CookieDomain, CookieError, CookieExpiration, StoreAction};
 use jiff::civil::DateTime;
 use publicsuffix::List;
 use std::alloc::Global;
@@ -16,11 +17,143 @@ const SUFFIX: LineEnd = LineEnd::Refused(CookieError::PublicSuffix);
 
 const MISMATCH: LineEnd = LineEnd::Refused(CookieError::DomainMismatch);
 
-// Whether this becomes of a line from the URL, and the URL is sent this header then.
-fn is_sent(alloc: Global, url: &str, line: &[u8], end: LineEnd, header: &str) -> Option<bool> {
+// What a client holds of a host: one row at most, of this domain.
+#[derive(Clone, Copy)]
+enum Held {
+    Nothing,
+    HostOnly(&'static str),
+    Suffix(&'static str),
+}
+
+// A URL, the line that it answers and what becomes of it; what is held then, and the header of the URL.
+type Answer = (&'static str, &'static [u8], LineEnd, Held, &'static str);
+
+// Dots in a Domain, a date that isn't one, a public suffix behind a dot, an address, and a host with
+// an empty label.
+const ANSWERS: [Answer; 7] = [
+    (
+        "https://evil.com/",
+        b"a=x; Domain=.",
+        STORED,
+        Held::HostOnly("evil.com"),
+        "a=x",
+    ),
+    (
+        "https://evil.com/",
+        b"a=x; Domain=..",
+        MISMATCH,
+        Held::Nothing,
+        "",
+    ),
+    (
+        "https://evil.com/",
+        b"a=x; Expires=Foo",
+        STORED,
+        Held::HostOnly("evil.com"),
+        "a=x",
+    ),
+    (
+        "https://shop.com./",
+        b"a=x; Domain=shop.com",
+        MISMATCH,
+        Held::Nothing,
+        "",
+    ),
+    (
+        "https://shop.com./",
+        b"a=x; Domain=com.",
+        SUFFIX,
+        Held::Nothing,
+        "",
+    ),
+    (
+        "https://[::1]/",
+        b"a=x; Domain=[::1]",
+        STORED,
+        Held::Suffix("[::1]"),
+        "a=x",
+    ),
+    (
+        "https://a..b.com/",
+        b"a=x; Domain=..b.com",
+        STORED,
+        Held::Suffix(".b.com"),
+        "a=x",
+    ),
+];
+
+// Whether the row is `a=x` of this domain, and ends with the session.
+fn is_held(row: &Cookie<'static>, held: Held) -> bool {
+    let is_of_the_domain = match (&row.domain, held) {
+        (CookieDomain::HostOnly(text), Held::HostOnly(wanted)) => text.as_str() == wanted,
+        (CookieDomain::Suffix(text), Held::Suffix(wanted)) => text.as_str() == wanted,
+        _ => false,
+    };
+    let raw = row.raw();
+    let lasts = matches!(row.expires, CookieExpiration::SessionEnd);
+    is_of_the_domain && lasts && raw.name() == "a" && raw.value() == "x"
+}
+
+// Whether the client holds this and nothing else, but for the shop's rows.
+fn holds(client: &Client, held: Held) -> bool {
+    let mut rows = 0u32;
+    for row in client.store().iter_any() {
+        if row.domain.as_cow() != Some("shop.com") {
+            if !is_held(row, held) {
+                return false;
+            }
+            rows = rows.saturating_add(1);
+        }
+    }
+    rows == u32::from(!matches!(held, Held::Nothing))
+}
+
+// What the shop answers, for itself and for others.
+const OF_THE_SHOP: [&[u8]; 8] = [
+    b"a=1",
+    b"a=2; Domain=shop.com; Path=/; Max-Age=60",
+    b"a=3; Domain=evil.com",
+    b"a=4; Domain=com",
+    b"a=5; Domain=[::1]",
+    b"a=6; Domain=.b.com",
+    b"a=7; Domain=..b.com",
+    b"a=; Domain=evil.com; Max-Age=0",
+];
+
+// Lets the shop answer, where it does. What it sets for itself is held then.
+fn shop_answers(alloc: Global, client: &mut Client, answers: bool) -> Option<bool> {
+    if answers {
+        let url = Url::parse(alloc, "https://shop.com/").ok()?;
+        client.receive(&url, &OF_THE_SHOP, second(0)).ok()?;
+    }
+    Some(client.store().contains_any("shop.com", "/", "a") == answers)
+}
+
+// Whether an answer meets its row, with what the shop answers before and behind it or without.
+fn is_met(alloc: Global, answer: Answer, beside_the_shop: bool) -> Option<bool> {
+    let (url, line, end, held, header) = answer;
     let url = Url::parse(alloc, url).ok()?;
     let mut client = client(alloc).ok()?;
-    Some(takes(&mut client, &url, &[line], &[end]) && gives(&client, &url, header))
+    let before = shop_answers(alloc, &mut client, beside_the_shop)?;
+    let taken = takes(&mut client, &url, &[line], &[end]);
+    let behind = shop_answers(alloc, &mut client, beside_the_shop)?;
+    Some(before && taken && behind && holds(&client, held) && gives(&client, &url, header))
+}
+
+#[test]
+fn takes_what_any_host_answers(rt: HostRuntime) {
+    for answer in ANSWERS {
+        assert!(rt;
+            is_met(rt.alloc(), answer, false) == Some(true),
+            "{}",
+            answer.0
+        );
+        assert!(rt;
+            is_met(rt.alloc(), answer, true) == Some(true),
+            "{} beside the shop",
+            answer.0
+        );
+    }
 }
 
 // Whether a line of the first URL comes to the second.
@@ -31,23 +164,63 @@ fn comes_to(alloc: Global, url: &str, line: &[u8], other: &str) -> Option<bool> 
     Some(takes(&mut client, &url, &[line], &[STORED]) && gives(&client, &other, "a=x"))
 }
 
-// Dots in a Domain, a public suffix behind a dot, an address, and a host with an empty label.
 #[test]
-fn takes_what_any_host_answers(rt: HostRuntime) {
+fn comes_to_hosts_below_a_domain(rt: HostRuntime) {
     let alloc = rt.alloc();
-    let evil = "https://evil.com/";
-    let dotted = "https://shop.com./";
     let labels = "https://a..b.com/";
-    let sent = Some(true);
-    assert!(rt; is_sent(alloc, evil, b"a=x; Domain=.", STORED, "a=x") == sent);
-    assert!(rt; is_sent(alloc, evil, b"a=x; Domain=..", MISMATCH, "") == sent);
-    assert!(rt; is_sent(alloc, dotted, b"a=x; Domain=shop.com", MISMATCH, "") == sent);
-    assert!(rt; is_sent(alloc, dotted, b"a=x; Domain=com.", SUFFIX, "") == sent);
-    assert!(rt; is_sent(alloc, "https://[::1]/", b"a=x; Domain=[::1]", STORED, "a=x") == sent);
-    assert!(rt; is_sent(alloc, labels, b"a=x; Domain=..b.com", STORED, "a=x") == sent);
-    assert!(rt; comes_to(alloc, evil, b"a=x; Domain=.", "https://www.evil.com/") == Some(false));
-    assert!(rt; comes_to(alloc, labels, b"a=x; Domain=..b.com", "https://c..b.com/") == sent);
+    assert!(rt;
+        comes_to(
+            alloc,
+            "https://evil.com/",
+            b"a=x; Domain=.",
+            "https://www.evil.com/"
+        ) == Some(false)
+    );
+    assert!(rt; comes_to(alloc, labels, b"a=x; Domain=..b.com", "https://c..b.com/") == Some(true));
     assert!(rt; comes_to(alloc, labels, b"a=x; Domain=..b.com", "https://b.com/") == Some(false));
+}
+
+// Whether the client sends this to the URL in that second.
+fn sends(client: &Client, url: &Url, at: i64, wanted: &str) -> bool {
+    match client.header(url, second(at)) {
+        Ok(header) => header.as_str() == wanted,
+        Err(_) => false,
+    }
+}
+
+// Whether the row of evil.com alone is so Secure, and ends after a minute.
+fn is_secure(client: &Client, secure: Option<bool>) -> bool {
+    let Some(row) = client.store().get_any("evil.com", "/", "a") else {
+        return false;
+    };
+    let is_alone = matches!(&row.domain, CookieDomain::HostOnly(_));
+    let ends = matches!(&row.expires, CookieExpiration::AtUtc(end) if *end == second(60));
+    is_alone && ends && row.raw().secure() == secure
+}
+
+// Whether a cookie that prints as Secure is Secure once it was saved.
+fn is_saved_as_secure(alloc: Global, beside_the_shop: bool) -> Option<bool> {
+    let plain = Url::parse(alloc, "http://evil.com/").ok()?;
+    let https = Url::parse(alloc, "https://evil.com/").ok()?;
+    let mut client = client(alloc).ok()?;
+    let taken = takes(
+        &mut client,
+        &plain,
+        &[b"a=1; SameSite=None; Max-Age=60"],
+        &[STORED],
+    );
+    let answered = shop_answers(alloc, &mut client, beside_the_shop)?;
+    let before = is_secure(&client, None) && sends(&client, &plain, 1, "a=1");
+    client.restart(second(2)).ok()?;
+    let again = shop_answers(alloc, &mut client, beside_the_shop)?;
+    let left = is_secure(&client, Some(true)) && sends(&client, &plain, 3, "");
+    Some(taken && answered && before && again && left && sends(&client, &https, 3, "a=1"))
+}
+
+#[test]
+fn a_saving_makes_secure(rt: HostRuntime) {
+    assert!(rt; is_saved_as_secure(rt.alloc(), false) == Some(true));
+    assert!(rt; is_saved_as_secure(rt.alloc(), true) == Some(true));
 }
 
 // Whether the client sends this to the URL in the last second of the year 9999.
@@ -125,6 +298,10 @@ header\thttps://shop.com/\t2024-01-01T00:00:00Z\n",
     "header\ta=x\n",
 );
 
+const WITHOUT_THE_HOST_BELOW: &str =
+    "receive\thttps://shop.com/\t2024-01-01T00:00:00Z\ta=1; Secure; Path=/\n\
+header\thttps://shop.com/\t2024-01-01T00:00:00Z\n";
+
 // Whether the script prints this.
 fn prints(alloc: Global, script: &str, wanted: &str) -> Option<bool> {
     let mut client = client(alloc).ok()?;
@@ -143,120 +320,50 @@ fn are_sent_the_same_without_strangers(rt: HostRuntime) {
     assert!(rt; both_print(rt.alloc(), SAVED_AS_SECURE));
     assert!(rt; both_print(rt.alloc(), ODD_HOSTS));
     assert!(rt; both_print(rt.alloc(), HOST_BELOW));
+    assert!(rt; prints(rt.alloc(), WITHOUT_THE_HOST_BELOW, "header\ta=1\n") == Some(true));
 }
 
-// The next of some numbers that are drawn (Knuth's linear congruence for MMIX).
-fn draw(state: &mut u64) -> u64 {
-    *state = state
-        .wrapping_mul(6_364_136_223_846_793_005)
-        .wrapping_add(1_442_695_040_888_963_407);
-    *state >> 33
-}
+const DIGITS: [u8; 16] = *b"0123456789abcdef";
 
-// The last three are of a host that the shop isn't related to.
-fn url_of(drawn: u64) -> &'static str {
-    match drawn % 9 {
-        0 => "https://shop.com/",
-        1 => "http://shop.com/a/b",
-        2 => "ftp://shop.com/",
-        3 => "https://sub.shop.com/a/",
-        4 => "http://sub.shop.com/",
-        5 => "ftp://sub.shop.com/",
-        6 => "https://evil.com/",
-        7 => "http://evil.com/a/b",
-        _ => "ftp://evil.com/a/",
+// An answer that sets 256 cookies.
+fn flood(alloc: Global, url: &str) -> Option<Step> {
+    let mut lines = Vec::new(alloc);
+    for high in DIGITS {
+        for low in DIGITS {
+            let line = Vec::from_slice(alloc, &[b'n', high, low, b'=']).ok()?;
+            lines.push(line).ok()?;
+        }
     }
-}
-
-fn is_strange(drawn: u64) -> bool {
-    drawn % 9 > 5
-}
-
-fn line_of(drawn: u64) -> &'static [u8] {
-    match drawn % 14 {
-        0 => b"a=1",
-        1 => b"a=2; Domain=shop.com",
-        2 => b"a=3; Domain=.shop.com; Path=/",
-        3 => b"a=4; Domain=com",
-        4 => b"a=5; Domain=evil.com; Max-Age=60",
-        5 => b"b=6; Domain=sub.shop.com; Max-Age=3",
-        6 => b"b=7; Path=/; HttpOnly",
-        7 => b"b=8; Path=/a; Max-Age=60",
-        8 => b"a=; Path=/; Domain=shop.com; Max-Age=0",
-        9 => b"b=; Path=/; Max-Age=0",
-        10 => b"c=9; SameSite=None; Path=/; Max-Age=60",
-        11 => b"c=10; Domain=shop.com; Path=/; HttpOnly; Max-Age=60",
-        12 => b"a=11; Domain=.",
-        _ => b"\xff",
-    }
-}
-
-fn answer(alloc: Global, url: &str, line: &[u8], at: i64) -> Option<Step> {
-    let line = Vec::from_slice(alloc, line).ok()?;
     Some(Step::Foreign {
         url: Url::parse(alloc, url).ok()?,
-        lines: vec![in alloc; line].ok()?,
-        at: second(at),
+        lines,
+        at: second(0),
     })
 }
 
-fn look(alloc: Global, at: i64) -> Option<Step> {
-    Some(Step::Header {
-        url: Url::parse(alloc, "https://shop.com/a/b").ok()?,
-        at: second(at),
-    })
-}
+const LOOKS: &str = "header https://shop.com/ 1\nheader https://evil.com/p/q 1";
 
-// Answers that are drawn, each with a look at the shop's header behind it, and restarts between them;
-// with those of the stranger or without them.
-fn drawn(alloc: Global, seed: u64, with_strangers: bool) -> Option<Vec<Step>> {
-    let mut state = seed;
-    let mut steps = Vec::new(alloc);
-    for at in 0..24 {
-        let from = draw(&mut state);
-        let line = draw(&mut state);
-        if with_strangers || !is_strange(from) {
-            steps
-                .push(answer(alloc, url_of(from), line_of(line), at)?)
-                .ok()?;
-        }
-        if draw(&mut state) % 8 == 0 {
-            steps.push(Step::Restart { at: second(at) }).ok()?;
-        }
-        steps.push(look(alloc, at)?).ok()?;
+// What a shop and a stranger with two floods of cookies read.
+fn read_in_a_flood(alloc: Global) -> Option<Vec<Reading>> {
+    let mut play_steps = steps(alloc, "lines https://shop.com/ 0 a=1")?;
+    play_steps.push(flood(alloc, "https://evil.com/")?).ok()?;
+    play_steps.push(flood(alloc, "https://evil.com/p/")?).ok()?;
+    for step in steps(alloc, LOOKS)? {
+        play_steps.push(step).ok()?;
     }
-    Some(steps)
-}
-
-fn played(alloc: Global, steps: &[Step]) -> Option<Result<Vec<Reading>, Fault>> {
     let list = List::parse(alloc, b"com").ok()?;
-    Some(play(alloc, list, &zero_key(), steps, &mut zeros()))
+    play(alloc, list, &zero_key(), &play_steps, &mut zeros()).ok()
 }
 
-// Whether one of the headers has something.
-fn are_some_sent(readings: &[Reading]) -> bool {
-    for reading in readings {
-        if let Reading::Header(header) = reading {
-            if !header.as_str().is_empty() {
-                return true;
-            }
-        }
-    }
-    false
-}
-
-fn are_the_same(alloc: Global, seed: u64) -> Option<bool> {
-    let whole = played(alloc, &drawn(alloc, seed, true)?)?;
-    let rest = played(alloc, &drawn(alloc, seed, false)?)?;
-    match (whole, rest) {
-        (Ok(whole), Ok(rest)) => Some(are_some_sent(&whole) && whole.as_slice() == rest.as_slice()),
-        _ => None,
-    }
-}
-
+// The stranger's 512 pairs are of four bytes, with 511 separators of two between them.
 #[test]
-fn drawn_answers_of_strangers_dont_show(rt: HostRuntime) {
-    for seed in 0..20 {
-        assert!(rt; are_the_same(rt.alloc(), seed) == Some(true));
-    }
+fn a_flood_takes_no_row_of_another_host(rt: HostRuntime) {
+    let Some(readings) = read_in_a_flood(rt.alloc()) else {
+        panic!(rt; "no play");
+    };
+    let [Reading::Header(shop), Reading::Header(evil)] = readings.as_slice() else {
+        panic!(rt; "other readings");
+    };
+    assert_eq!(rt; shop.as_str(), "a=1");
+    assert_eq!(rt; evil.as_str().len(), 3070);
 }
