@@ -34,7 +34,7 @@ use Rattle.cookie_run.specs.declared.step.Reading.{Reading}
 use Rattle.cookie_run.specs.declared.step.Reading.TheVariants.{Header}
 use Rattle.cookie_run.proofs.ClientRows.{kept_pairs, received_pairs}
 use Rattle.cookie_run.proofs.FromLines.{filter_all}
-use Rattle.cookie_run.proofs.PairsAgain.{prints_pair}
+use Rattle.cookie_text.proofs.PairsAgain.{prints_pair}
 
 either : (P : Type 0) → IsUnrefuted (P ⊎ (¬ P))
 either P refuted = refuted (inr (λ p. refuted (inl p)))

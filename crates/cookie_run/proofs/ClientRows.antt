@@ -17,11 +17,11 @@ use Rattle.cookie_store.specs.SavedLaws.{HoldsReread, PrintsCookie}
 use Rattle.cookie_store.specs.SavedRows.{IsLoadedFrom, IsReread}
 use Rattle.cookie_store.specs.SavedTexts.{HasLoaded}
 use Rattle.cookie_run.specs.Accept.{AcceptsAll, IsStopped}
-use Rattle.cookie_run.specs.Again.{IsReadPair}
+use Rattle.cookie_text.specs.Again.{IsReadPair}
 use Rattle.cookie_run.specs.Keeping.{Keeps, HasReadPair, HaveReadPairs}
 use Rattle.cookie_run.specs.declared.step.LineEnd.{LineEnd}
 use Rattle.cookie_run.proofs.FromLines.{filter_all, lines_from, pair_made, put_from}
-use Rattle.cookie_run.proofs.PairsAgain.{pair_of, pair_reads_again, prints_pair}
+use Rattle.cookie_text.proofs.PairsAgain.{pair_of, pair_reads_again, prints_pair}
 
 -- ---- rows that are received
 
@@ -129,9 +129,9 @@ module _ (rows : List Row) (now : ℤ) (own : HaveReadPairs rows) where
   saved_pairs : HaveReadPairs (saved now rows)
   saved_pairs = filter_all HasReadPair (is_saved now) rows own
 
-  pub kept_rows : (store : Store) → AreGrouped (saved now rows) → HoldsReread false now (saved now rows) store
-      → Keeps rows now now store.rows
-  kept_rows store grouped h = record {
+  pub kept_rows : (loading : ℤ) (store : Store) → AreGrouped (saved now rows)
+      → HoldsReread false loading (saved now rows) store → Keeps rows now loading store.rows
+  kept_rows loading store grouped h = record {
     read = h.reread;
     reread = h.pairs;
     lives = ap (λ (s : Store). s.rows)

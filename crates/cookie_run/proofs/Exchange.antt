@@ -31,7 +31,7 @@ use Rattle.cookie_run.proofs.Showing.{all_records}
 use Rattle.cookie_run.proofs.Texts.{same_text}
 use Rattle.cookie_store.specs.Rows.{Row}
 use Rattle.cookie_run.specs.Accept.{AcceptsAll}
-use Rattle.cookie_run.specs.Again.{PairsReadAgain}
+use Rattle.cookie_text.specs.Again.{PairsReadAgain}
 use Rattle.cookie_run.specs.declared.step.LineEnd.{LineEnd}
 use Rattle.cookie_run.specs.Header.{IsHeader}
 use Rattle.cookie_run.specs.declared.step.Command.{Command}

@@ -13,7 +13,7 @@ use Rattle.jiff.specs.Words.{civil_nanos, civil_seconds}
 use Rattle.url.specs.Parts.{Parts}
 use Rattle.publicsuffix.specs.Rules.{Rule}
 use Rattle.cookie.specs.Jar.{Jar}
-use Rattle.cookie_run.specs.Again.{IsReadPair, TextsGivePairs, PairsReadAgain}
+use Rattle.cookie_text.specs.Again.{IsReadPair, TextsGivePairs, PairsReadAgain}
 use Rattle.cookie_text.specs.Reading.{HasAttributes, HasLast, GivesAge, GivesEnd, ReadsPlain}
 use Rattle.cookie_text.specs.ReadingBack.{Pairwise}
 use Rattle.cookie_text.specs.Record.{Record, Seen, moment_of, unsliced}

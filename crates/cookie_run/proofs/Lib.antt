@@ -39,7 +39,6 @@ pub mod Halting
 pub mod NoRules
 pub mod ScriptRun
 pub mod Following
-pub mod PairsAgain
 pub mod FromLines
 pub mod ReadOnce
 pub mod Picks

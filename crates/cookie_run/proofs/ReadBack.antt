@@ -17,7 +17,7 @@ use Rattle.percent_encoding.proofs.PercentLemmas.{IsByte, percent_decode-nil}
 use Rattle.cookie_text.specs.Pieces.{name_of, text_after, value_of}
 use Rattle.cookie_text.specs.Printing.{encoded_pair, escaped, stripped}
 use Rattle.cookie_text.specs.Record.{Record, bare}
-use Rattle.cookie_run.specs.Again.{Lacks, IsReadPair}
+use Rattle.cookie_text.specs.Again.{Lacks, IsReadPair}
 use Rattle.cookie_run.proofs.HeaderCookies.{pair_in, decoded, cookie_of}
 use Rattle.cookie_run.proofs.Escaped.{IsPlain, escaped_plain, decoded_escaped}
 

@@ -15,7 +15,7 @@ use Rattle.store_parts.specs.Expiry.{is_dead}
 use Rattle.cookie_store.specs.Placing.{is_saved, saved}
 use Rattle.cookie_store.specs.Rows.{Row, is_live, live}
 use Rattle.cookie_store.specs.SavedRows.{IsReread, IsWholeDeath}
-use Rattle.cookie_run.specs.Again.{IsReadPair, PairsReadAgain}
+use Rattle.cookie_text.specs.Again.{IsReadPair, PairsReadAgain}
 use Rattle.cookie_run.specs.Keeping.{Keeps}
 use Rattle.cookie_run.specs.Site.{Held, Site, live_at, is_lasting, lasting_at, restarted}
 use Rattle.cookie_run.proofs.Exchange.{SiteAgrees}

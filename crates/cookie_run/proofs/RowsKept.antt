@@ -20,7 +20,7 @@ use Rattle.cookie_store.specs.Placing.{is_saved, saved}
 use Rattle.cookie_store.specs.Rows.{Row, is_live, live}
 use Rattle.cookie_store.specs.SavedRows.{IsReread, IsBeforeYears}
 use Rattle.cookie_store.specs.SavedTexts.{IsAnyBeforeYears, IsSaveFault}
-use Rattle.cookie_run.specs.Again.{PairsReadAgain}
+use Rattle.cookie_text.specs.Again.{PairsReadAgain}
 use Rattle.cookie_run.specs.Keeping.{Keeps, HasReadPair, HaveReadPairs}
 use Rattle.cookie_run.specs.KeptKeys.{IsRowKept, KeepsKeys}
 use Rattle.cookie_run.proofs.FromLines.{filter_all, middle_of, saved_live}

@@ -9,7 +9,7 @@ use Rattle.cookie_text.specs.declared.error.ParseError.{ParseError}
 use Rattle.cookie_store.specs.Placing.{saved}
 use Rattle.cookie_store.specs.Rows.{Row, live}
 use Rattle.cookie_store.specs.SavedRows.{IsReread}
-use Rattle.cookie_run.specs.Again.{IsReadPair}
+use Rattle.cookie_text.specs.Again.{IsReadPair}
 
 -- Saved at a moment and loaded at another: the rows with a death that aren't dead at the first, each as it is read
 -- back, without those that are dead then at the second.

@@ -14,7 +14,6 @@ pub mod Headline
 pub mod Brought
 pub mod Sent
 pub mod Laws
-pub mod Again
 pub mod Keeping
 pub mod KeepingLaws
 pub mod KeptKeys

@@ -1,5 +1,4 @@
 //! What holds of every play on the rows of a store (RFC 6265, sections 5.2 to 5.4).
-ghost use Rattle.cookie_run.specs.Again.{TextsGivePairs, PairsReadAgain};
 ghost use Rattle.cookie_run.specs.KeepingLaws as kept;
 ghost use Rattle.cookie_run.specs.KeptKeys.{RestartsKeepKeys, SavesButForMemory};
 ghost use Rattle.cookie_run.specs.Laws as law;
@@ -8,7 +7,9 @@ ghost use Rattle.cookie_run.specs.Strangers as stranger;
 
 use cookie::Key;
 use cookie::laws::{one_value, texts_are_utf8};
-use cookie_text::laws::{encoded_records_read_back, joined_pairs_split, one_outcome};
+use cookie_text::laws::{
+    encoded_records_read_back, joined_pairs_split, one_outcome, pairs_read_again,
+};
 
 /// At each of its https requests a site reads, in the way it was set, what its own delivered
 /// commands leave: the last set, not removed, not dead, after a restart only what had a death.
@@ -61,13 +62,6 @@ pub fn sent_lines_are_taken()
     encoded_records_read_back();
 }
 
-/// Name and value of what a text reads as, by `Cookie::parse`, read back from its printed text, which
-/// always reads, whatever attributes it has.
-pub fn pairs_read_again()
-    ensures read { TextsGivePairs }
-    ensures again { PairsReadAgain }
-{}
-
 /// Every row that a play left comes back where it is saved and loaded again: the printed text of its raw
 /// cookie reads, and domain, path, name, value and death are the same, whatever else of that cookie
 /// changes.
@@ -82,6 +76,16 @@ pub fn rows_come_back(key: &Key)
 pub fn restarts_keep_rows()
     ensures { kept.RestartsKeepRows }
 {}
+
+/// What is saved of a client's rows at one moment, and is loaded of that text at another, are the rows
+/// that are kept; and want of memory alone refuses the text, whatever the raw cookies.
+pub fn saved_rows_are_kept()
+    ensures kept { kept.SavedRowsAreKept }
+    ensures read { kept.SavedTextsAreRead }
+{
+    cookie_store::serde::laws();
+    pairs_read_again();
+}
 
 /// Of rows whose names and values are as texts give them, as a client's are, some of those that are
 /// saved are left where these are loaded again, each with its domain, path, name and value, its death

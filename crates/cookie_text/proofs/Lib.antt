@@ -18,3 +18,4 @@ pub mod ReadsBack
 pub mod ReadingFacts
 pub mod PairsBack
 pub mod OneOutcome
+pub mod PairsAgain

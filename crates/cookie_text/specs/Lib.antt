@@ -19,3 +19,4 @@ pub mod SplittingView
 pub mod Printing
 pub mod Normal
 pub mod ReadingBack
+pub mod Again

@@ -1,6 +1,7 @@
 //! Laws that join reading and printing. Each function changes nothing: its contract is the law.
 ghost use Rattle.std.specs.Prelude.{ℕ, ◌≡◌, ◌<◌, List, All, Result, Ok, length, true, IsTrue, IfSome};
 ghost use Rattle.jiff_core.specs.Timestamp.{IsDurationNanos};
+ghost use Rattle.cookie_text.specs.Again.{TextsGivePairs, PairsReadAgain};
 ghost use Rattle.cookie_text.specs.declared.error.ParseError.{ParseError as Refusals};
 ghost use Rattle.cookie_text.specs.Decoding.{ReadsEncoded};
 ghost use Rattle.cookie_text.specs.Normal.{IsReadable};
@@ -35,6 +36,13 @@ pub fn one_outcome()
         → ReadsPlain text o → ReadsPlain text p → o ≡ p }
     ensures decoded { (text : List ℕ) (s t : Seen)
         → ReadsEncoded text (Ok s) → ReadsEncoded text (Ok t) → s.cookie ≡ t.cookie }
+{}
+
+/// Name and value of what a text reads as, by [`Cookie::parse`], read back from its printed text, which
+/// always reads, whatever attributes it has.
+pub fn pairs_read_again()
+    ensures read { TextsGivePairs }
+    ensures again { PairsReadAgain }
 {}
 
 /// A text shows one date at most, whatever form it has.

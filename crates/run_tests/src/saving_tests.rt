@@ -1,7 +1,8 @@
 //! A client that is saved, loaded and restarted.
-use crate::fixtures::{client, gives, second};
-use cookie_run::{Client, Counting};
-use cookie_store::Error;
+use crate::fixtures::{client, gives, run_script, second, takes};
+use crate::generators::zeros;
+use cookie_run::{Client, Counting, Ended, LineEnd};
+use cookie_store::{Error, StoreAction};
 use jiff::SignedDuration;
 use jiff::civil::DateTime;
 use publicsuffix::List;
@@ -60,6 +61,25 @@ fn shop_client(alloc: Global, url: &Url) -> Result<Client, Error> {
     client_of(alloc, url, &lines, second(0))
 }
 
+// A site's session sets `a`, and `b` for an hour.
+const SETS: &str = "open\thttps://shop.com/\t2024-01-01T00:00:00Z
+set\tplain\ta\t1\t-\t-
+set\tplain\tb\t2\t3600\t-
+deliver\t2024-01-01T00:00:00Z
+";
+
+// The client of that session's site.
+fn set_client(alloc: Global) -> Result<Client, Error> {
+    let Ok(mut client) = client(alloc) else {
+        return Err(Error::OutOfMemory);
+    };
+    let mut output = Vec::new(alloc);
+    match run_script(alloc, &mut client, SETS, &mut output, &mut zeros()) {
+        Ok(Ended::Whole) => Ok(client),
+        _ => Err(Error::OutOfMemory),
+    }
+}
+
 // Whether a client is saved so.
 fn is_saved_so(alloc: Global, client: &Client, now: DateTime, text: &str) -> Result<bool, Error> {
     let mut out = Vec::with_capacity(alloc, 1000)?;
@@ -96,7 +116,7 @@ fn keeps_rows_with_an_end(rt: HostRuntime) -> Result<(), Fail> {
 }
 
 fn keeps_at_the_shop(alloc: Global, url: &Url) -> Result<bool, Error> {
-    let mut client = shop_client(alloc, url)?;
+    let mut client = set_client(alloc)?;
     let begins = gives(&client, url, "a=1; b=2");
     let saves = is_saved_so(alloc, &client, second(1), SHOP_TEXT)?;
     client.restart(second(1))?;
@@ -117,12 +137,36 @@ fn keeps_a_domain_with_dots(rt: HostRuntime) -> Result<(), Fail> {
 
 fn keeps_dots(alloc: Global, url: &Url) -> Result<bool, Error> {
     let line: [&[u8]; 1] = [b"a=x; Domain=..evil.com; Max-Age=60"];
-    let mut client = client_of(alloc, url, &line, second(0))?;
-    let begins = gives(&client, url, "a=x");
+    let Ok(mut client) = client(alloc) else {
+        return Err(Error::OutOfMemory);
+    };
+    let stored = LineEnd::Stored(StoreAction::Inserted);
+    let is_stored = takes(&mut client, url, &line, &[stored]);
+    let begins = is_stored && gives(&client, url, "a=x");
     let saves = is_saved_so(alloc, &client, second(1), EVIL_TEXT)?;
     client.restart(second(1))?;
     let goes_on = gives(&client, url, "a=x");
     Ok(begins && saves && goes_on && is_saved_so(alloc, &client, second(2), EVIL_TEXT_AGAIN)?)
+}
+
+const JSON_LINE: &str = "{\"raw_cookie\":\"cookie1=value1\",\"path\":[\"/foo\",false],\
+\"domain\":{\"HostOnly\":\"example.com\"},\"expires\":\"SessionEnd\"}\n";
+
+// Whether the store of a client that took a line is saved as this line of JSON.
+fn is_a_line_of_json(alloc: Global, url: &Url) -> Result<bool, Error> {
+    let client = client_of(alloc, url, &[b"cookie1=value1"], second(0))?;
+    let mut out = Vec::with_capacity(alloc, 1000)?;
+    client
+        .store()
+        .save_incl_expired_and_nonpersistent_json(&mut Counting::new(&mut out))?;
+    Ok(out.as_slice() == JSON_LINE.as_bytes())
+}
+
+#[test]
+fn lends_its_store(rt: HostRuntime) -> Result<(), Fail> {
+    let url = Url::parse(rt.alloc(), "http://example.com/foo/bar")?;
+    assert!(rt; is_a_line_of_json(rt.alloc(), &url).unwrap_or(false));
+    Ok(())
 }
 
 // A row that ends in the year -1 has no saved text: the client stays as it was.

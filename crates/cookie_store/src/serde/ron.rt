@@ -130,6 +130,7 @@ pub fn load_all<R: Source>(alloc: Global, reader: &mut R) -> Result<CookieStore>
 /// not read; `OutOfMemory`.
 pub fn reload(store: &CookieStore, now: DateTime) -> Result<CookieStore>
     ensures ok { IfOk result (HoldsReread false (civil_nanos now) (saved (civil_nanos now) store.now.rows)) }
+    ensures text { OnOk result ((list : _) × form.Saves ron_layout (saved (civil_nanos now) store.now.rows) list) }
     ensures grouped { AreGrouped (saved (civil_nanos now) store.now.rows) }
     ensures err { IfErr result (λ e. form.IsSaveFault (saved (civil_nanos now) store.now.rows) e
         ⊎ ((list : _) × form.Saves ron_layout (saved (civil_nanos now) store.now.rows) list

@@ -1,9 +1,10 @@
 use Rattle.std.proofs.Common.{sym, subst}
 use Rattle.std.proofs.lemmas.Result.{err_from_is_err_and}
 use Rattle.jiff.specs.Words.{civil_nanos}
+use Rattle.saved_text.specs.RonLayout.{ron_layout}
 use Rattle.cookie_store.specs.Placing.{saved}
 use Rattle.cookie_store.specs.Rows.{Store}
-use Rattle.cookie_store.specs.SavedTexts.{IsSaveFault}
+use Rattle.cookie_store.specs.SavedTexts.{IsSaveFault, Saves}
 use Rattle.cookie_run.specs.Keeping.{Keeps, HaveReadPairs}
 use Rattle.cookie_run.specs.KeptKeys.{KeepsKeys}
 use Rattle.cookie_run.proofs.ClientRows.{saved_print, kept_rows, kept_pairs}
@@ -23,7 +24,7 @@ invariant_of-self c =
     let kept = c.in_ok-kept.kept in
     subst (λ (s : Store). HaveReadPairs s.rows) (sym c.replace_rows.ensures)
     (kept_pairs old now c.self.invariant kept.rows
-    (kept_rows old now c.self.invariant kept c.in_ok-kept.ensures.grouped c.in_ok-kept.ensures.ok))
+    (kept_rows old now c.self.invariant now kept c.in_ok-kept.ensures.grouped c.in_ok-kept.ensures.ok))
 
 pub returns-clause-ok : goal.returns-clause-ok
 returns-clause-ok c =
@@ -32,7 +33,7 @@ returns-clause-ok c =
     let kept = c.in_ok-kept.kept in
     subst (λ (s : Store). Keeps s.rows now now c.replace_rows.new.self.rows) c.self.view_is
     (subst (λ (s : Store). Keeps old now now s.rows) (sym c.replace_rows.ensures)
-    (kept_rows old now c.self.invariant kept c.in_ok-kept.ensures.grouped c.in_ok-kept.ensures.ok))
+    (kept_rows old now c.self.invariant now kept c.in_ok-kept.ensures.grouped c.in_ok-kept.ensures.ok))
 
 pub returns-in_err-kept-clause-memory : goal.returns-in_err-kept-clause-memory
 returns-in_err-kept-clause-memory c = λ late.
@@ -46,7 +47,13 @@ returns-clause-keys c =
     let now = civil_nanos c.args.now in
     let old = c.self.inside.store.rows in
     let kept = c.in_ok-kept.kept in
-    let keeps = kept_rows old now c.self.invariant kept c.in_ok-kept.ensures.grouped c.in_ok-kept.ensures.ok in
+    let keeps = kept_rows old now c.self.invariant now kept c.in_ok-kept.ensures.grouped c.in_ok-kept.ensures.ok in
     subst (λ (s : Store). KeepsKeys s.rows now c.replace_rows.new.self.rows) c.self.view_is
     (subst (λ (s : Store). KeepsKeys old now s.rows) (sym c.replace_rows.ensures)
     (c.restarts_keep_keys.ensures.keys old now now kept.rows c.self.invariant keeps))
+
+pub returns-clause-text : goal.returns-clause-text
+returns-clause-text c =
+    let now = civil_nanos c.args.now in
+    subst (λ (s : Store). (list : _) × Saves ron_layout (saved now s.rows) list) c.self.view_is
+    c.in_ok-kept.ensures.text

@@ -1,5 +1,5 @@
-use Rattle.cookie_run.proofs.PairsAgain.{pair_of, pair_reads_again}
-use Rattle.cookie_run.proofs.laws.pairs_read_again.Goals as goal
+use Rattle.cookie_text.proofs.PairsAgain.{pair_of, pair_reads_again}
+use Rattle.cookie_text.proofs.laws.pairs_read_again.Goals as goal
 
 pub returns-clause-read : goal.returns-clause-read
 returns-clause-read c = pair_of

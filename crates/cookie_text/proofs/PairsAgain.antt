@@ -21,7 +21,7 @@ use Rattle.cookie_text.specs.Attribute.{Attribute}
 use Rattle.cookie_text.specs.Printing.{printed, printed_attributes, attributes_of, piece_text}
 use Rattle.cookie_text.specs.Reading.{ReadsPlain, IsPair, first_piece}
 use Rattle.cookie_text.specs.Record.{Record, Seen}
-use Rattle.cookie_run.specs.Again.{Lacks, IsReadPair, TextsGivePairs, PairsReadAgain}
+use Rattle.cookie_text.specs.Again.{Lacks, IsReadPair, TextsGivePairs, PairsReadAgain}
 
 -- ---- no byte of the list is this one
 
