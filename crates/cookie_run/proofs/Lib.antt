@@ -36,7 +36,6 @@ pub mod ReadCode
 pub mod OpenCode
 pub mod Standings
 pub mod Halting
-pub mod NoRules
 pub mod ScriptRun
 pub mod Following
 pub mod PairsAgain
