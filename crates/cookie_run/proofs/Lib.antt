@@ -37,6 +37,7 @@ pub mod OpenCode
 pub mod Standings
 pub mod Halting
 pub mod ScriptRun
+pub mod ProgramFacts
 pub mod Following
 pub mod PairsAgain
 pub mod FromLines

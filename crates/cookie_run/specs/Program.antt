@@ -12,7 +12,7 @@ use Rattle.publicsuffix.specs.Rules.{Rule, HasRules, HasFirstFault}
 use Rattle.saved_text.specs.RonLayout.{ron_layout}
 use Rattle.saved_text.specs.RonReading.{ShowsOnly}
 use Rattle.store_parts.specs.declared.error.Error.{Error}
-use Rattle.store_parts.specs.declared.error.Error.TheVariants.{OutOfMemory}
+use Rattle.store_parts.specs.declared.error.Error.TheVariants.{Io, OutOfMemory}
 use Rattle.cookie_store.specs.Placing.{saved}
 use Rattle.cookie_store.specs.Rows.{Row, Store}
 use Rattle.cookie_store.specs.SavedTexts.{Saves, Loads, IsAnyBeforeYears, IsRonRefusal}
@@ -77,6 +77,11 @@ AreLoaded at (Some text) rows = (loaded : Store) × Loads ShowsOnly false at tex
 -- the text is no saved text
 abbrev pub IsNoStore : List ℕ → Type 0
 IsNoStore text = (cause : Error) × (cause ≢ OutOfMemory) × IsRonRefusal text cause
+
+-- what a refusal to load is told as: a failed read, want of memory, and every other cause
+abbrev pub IsToldAs : Error → Failure → Type 0
+IsToldAs cause failure = ((cause ≡ Io) × (failure ≡ StoreFile)) ⊎ (((cause ≡ OutOfMemory) × (failure ≡ Memory))
+    ⊎ ((cause ≢ Io) × (cause ≢ OutOfMemory) × (failure ≡ StoreText)))
 
 -- the list of some suffix text, and the rows of some saved text, or of none: what the files hold is not known
 abbrev pub Begins : ℤ → List Rule → List Row → Type 0

@@ -74,6 +74,7 @@ pub fn program<H: Files + AllocGlobal, R: Source, W: Sink>(
 
 // Makes the client of the files, plays the script on it, and keeps what is to be saved. Answers the
 // exit status.
+#[tactic(auto, using(crate::proofs::ProgramFacts::ends_whole, crate::proofs::ProgramFacts::ends_faulty, crate::proofs::ProgramFacts::gives_up))]
 fn serve<H: Files + AllocGlobal, R: Source, W: Sink>(
     rt: &H,
     asked: &Asked<'_>,
@@ -104,12 +105,13 @@ fn serve<H: Files + AllocGlobal, R: Source, W: Sink>(
 {
     let list = read_list(rt, asked.suffix_file)?;
     let client = read_client(rt, list, asked.store_file, asked.at.date)?;
-    match play(rt.alloc(), asked, client, reader, writer)? {
-        Some(text) => {
+    match play(rt.alloc(), asked, client, reader, writer) {
+        Ok(Some(text)) => {
             files::replace(rt, asked.store_file, &text)?;
             Ok(0)
         }
-        None => Ok(1),
+        Ok(None) => Ok(1),
+        Err(failure) => Err(failure),
     }
 }
 
@@ -168,9 +170,18 @@ fn client_of(alloc: Global, list: List, text: &[u8], at: DateTime) -> Result<Cli
 {
     match Client::load(alloc, list, &mut Counting::new(text), at) {
         Ok(client) => Ok(client),
-        Err((Error::Io, _)) => Err(Failure::StoreFile),
-        Err((Error::OutOfMemory, _)) => Err(Failure::Memory),
-        Err(_) => Err(Failure::StoreText),
+        Err((cause, _)) => Err(unloaded(cause)),
+    }
+}
+
+// What a refusal to load a client is told as.
+fn unloaded(cause: Error) -> Failure
+    ensures { spec.IsToldAs cause result }
+{
+    match cause {
+        Error::Io => Failure::StoreFile,
+        Error::OutOfMemory => Failure::Memory,
+        _ => Failure::StoreText,
     }
 }
 
