@@ -74,7 +74,6 @@ pub fn program<H: Files + AllocGlobal, R: Source, W: Sink>(
 
 // Makes the client of the files, plays the script on it, and keeps what is to be saved. Answers the
 // exit status.
-#[tactic(auto, using(crate::proofs::ProgramFacts::ends_whole, crate::proofs::ProgramFacts::ends_faulty, crate::proofs::ProgramFacts::gives_up))]
 fn serve<H: Files + AllocGlobal, R: Source, W: Sink>(
     rt: &H,
     asked: &Asked<'_>,
@@ -162,6 +161,7 @@ fn read_client<H: Files + AllocGlobal>(
 }
 
 // The client of a saved text.
+#[tactic(auto, using(crate::proofs::ProgramFacts::not_loaded))]
 fn client_of(alloc: Global, list: List, text: &[u8], at: DateTime) -> Result<Client, Failure>
     ensures ok { IfOk result (λ client. (client.suffixes ≡ list)
         × spec.AreLoaded (civil_nanos at) (Some text.now) client.rows) }

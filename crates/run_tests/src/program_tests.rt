@@ -33,7 +33,9 @@ fn ends_with_2_where_a_device_fails(rt: HostRuntime) -> Result<(), Fail> {
     fs::write(&rt, "devices.dat", b"com\n")?;
     let mut output = Vec::new(rt.alloc());
     let reader = FailsAt::new(b"fly".as_slice(), 0);
-    assert!(rt; ended(&rt, "devices.dat", "devices.ron", reader, &mut output) == (2, Some("input")));
+    assert!(rt;
+        ended(&rt, "devices.dat", "devices.ron", reader, &mut output) == (2, Some("input"))
+    );
     let writer = FailsAt::new(&mut output, 0);
     let answer = ended(&rt, "devices.dat", "devices.ron", b"fly".as_slice(), writer);
     assert!(rt; answer == (2, Some("output")));
