@@ -1,16 +1,19 @@
 -- What the program answers, put together of what its steps say.
 use Rattle.std.proofs.Common.{◌≡◌, ◌≢◌, ◌⊎◌, ℕ, ℤ, List, [], ◌++◌, Option, Some, None, Result, Ok, Err, inl, inr, refl, sym}
-use Rattle.std.proofs.Common.{subst}
-use Rattle.std.specs.Prelude.{IfOk, false}
-use Rattle.publicsuffix.specs.Rules.{Rule, HasRules}
+use Rattle.std.proofs.Common.{subst, ap, ◌∙◌}
+use Rattle.std.specs.Prelude.{IfOk, IsErrOf, ◌↔◌, false}
+use Rattle.std.specs.Str.{IsUtf8}
+use Rattle.publicsuffix.specs.declared.error.ListError.{ListError}
+use Rattle.publicsuffix.specs.declared.error.ListError.TheVariants as list
+use Rattle.publicsuffix.specs.Rules.{Rule, HasRules, HasFirstFault}
 use Rattle.cookie_store.specs.Rows.{Row, Store}
 use Rattle.cookie_store.specs.SavedTexts.{OfText, IsReadFault, IsRonRefusal}
 use Rattle.store_parts.specs.declared.error.Error.{Error}
 use Rattle.store_parts.specs.declared.error.Error.TheVariants.{Io, OutOfMemory}
 use Rattle.cookie_run.specs.Program.{Asked, AreLoaded, Begins, Devices, OfDevices, Plays, PlayFails, Ends, Fails}
-use Rattle.cookie_run.specs.Program.{IsToldAs, IsNoStore}
+use Rattle.cookie_run.specs.Program.{IsToldAs, IsListToldAs, IsNoStore, IsNoList}
 use Rattle.cookie_run.specs.declared.program.failure.Failure.{Failure}
-use Rattle.cookie_run.specs.declared.program.failure.Failure.TheVariants.{StoreFile, StoreText, Memory}
+use Rattle.cookie_run.specs.declared.program.failure.Failure.TheVariants.{SuffixList, StoreFile, StoreText, Memory}
 
 begins_of : (at : ℤ) (list given : List Rule) (rows : List Row) → given ≡ list → ((text : List ℕ) × HasRules text list)
     → ((stored : Option (List ℕ)) × AreLoaded at stored rows) → Begins at given rows
@@ -75,3 +78,18 @@ not_loaded text cause failure before after reads (inr (inr told)) (inl read) = a
 not_loaded text cause failure before after reads (inr (inr told)) (inr (inl memory)) = absurd (told.1 memory)
 not_loaded text cause failure before after reads (inr (inr told)) (inr (inr of)) =
     inr (inr (told.2, (cause, told.1, subst (λ t. IsRonRefusal t cause) of.1 of.2)))
+
+-- why a text is no list
+pub not_listed : {L : Type 0} (r : Result L ListError) (text : List ℕ) (cause : ListError) (failure : Failure)
+    → r ≡ Err cause → IsListToldAs cause failure → (IsErrOf r list.NotText ↔ (¬ IsUtf8 text))
+    → ((number : ℕ) → r ≡ Err (list.Rule number) → HasFirstFault text number)
+    → (failure ≡ Memory) ⊎ ((failure ≡ SuffixList) × IsNoList text)
+not_listed r text cause failure is (inl told) not_text fault = inl told.1
+not_listed r text list.NotText failure is (inr told) not_text fault = inr (told.1, inl (not_text.0 is))
+not_listed r text (list.Rule number) failure is (inr told) not_text fault =
+    inr (told.1, inr (number, fault number is))
+not_listed r text list.OutOfMemory failure is (inr told) not_text fault = absurd (told.0 refl)
+
+-- what is put behind nothing
+pub behind_nothing : (old list text : List ℕ) → old ≡ [] → text ≡ old ++ list → text ≡ list
+behind_nothing old list text none is = is ∙ ap (λ front. front ++ list) none

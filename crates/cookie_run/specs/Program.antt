@@ -8,6 +8,8 @@ use Rattle.std.specs.declared.convert.Infallible.{Infallible}
 use Rattle.devices.specs.Device.{Rose}
 use Rattle.hex.specs.Hex.{decode_sized}
 use Rattle.cookie.specs.Key.{derived}
+use Rattle.publicsuffix.specs.declared.error.ListError.{ListError}
+use Rattle.publicsuffix.specs.declared.error.ListError.TheVariants as list
 use Rattle.publicsuffix.specs.Rules.{Rule, HasRules, HasFirstFault}
 use Rattle.saved_text.specs.RonLayout.{ron_layout}
 use Rattle.saved_text.specs.RonReading.{ShowsOnly}
@@ -77,6 +79,11 @@ AreLoaded at (Some text) rows = (loaded : Store) × Loads ShowsOnly false at tex
 -- the text is no saved text
 abbrev pub IsNoStore : List ℕ → Type 0
 IsNoStore text = (cause : Error) × (cause ≢ OutOfMemory) × IsRonRefusal text cause
+
+-- what a refusal to parse a list is told as: want of memory, and every other cause
+abbrev pub IsListToldAs : ListError → Failure → Type 0
+IsListToldAs cause failure =
+    ((cause ≡ list.OutOfMemory) × (failure ≡ Memory)) ⊎ ((cause ≢ list.OutOfMemory) × (failure ≡ SuffixList))
 
 -- what a refusal to load is told as: a failed read, want of memory, and every other cause
 abbrev pub IsToldAs : Error → Failure → Type 0

@@ -128,6 +128,7 @@ fn read_list<H: Files + AllocGlobal>(rt: &H, path: &str) -> Result<List, Failure
 }
 
 // The suffix list of a text.
+#[tactic(auto, using(crate::proofs::ProgramFacts::not_listed))]
 fn list_of(alloc: Global, text: &[u8]) -> Result<List, Failure>
     ensures ok { IfOk result (HasRules text.now) }
     ensures err { IfErr result (λ failure. (failure ≡ Failure.Memory)
@@ -135,8 +136,17 @@ fn list_of(alloc: Global, text: &[u8]) -> Result<List, Failure>
 {
     match List::parse(alloc, text) {
         Ok(list) => Ok(list),
-        Err(ListError::OutOfMemory) => Err(Failure::Memory),
-        Err(ListError::NotText | ListError::Rule(_)) => Err(Failure::SuffixList),
+        Err(cause) => Err(unlisted(cause)),
+    }
+}
+
+// What a refusal to parse a list is told as.
+fn unlisted(cause: ListError) -> Failure
+    ensures { spec.IsListToldAs cause result }
+{
+    match cause {
+        ListError::OutOfMemory => Failure::Memory,
+        _ => Failure::SuffixList,
     }
 }
 

@@ -1,8 +1,9 @@
-use Rattle.std.proofs.Common.{◌≡◌, ◌∙◌, arith}
-use Rattle.std.proofs.lemmas.Grind.{common_steps}
+use Rattle.std.proofs.Common.{◌∙◌, ap}
+use Rattle.cookie_run.proofs.ProgramFacts.{behind_nothing}
 use Rattle.cookie_run.proofs.program.saved_text.Goals as goal
 
 pub returns-in-Ok-clause-ok : goal.returns-in-Ok-clause-ok
 returns-in-Ok-clause-ok c =
     let saved = c.in-Ok.ensures.ok in
-    (saved.1.0, saved.1.1, (grind (arith, common_steps)) ∙ saved.1.2)
+    let none = ap (λ w. w.now.items) c.new.ensures.inner ∙ c.new-text.ensures.items in
+    (saved.1.0, saved.1.1, behind_nothing _ _ _ none saved.2 ∙ saved.1.2)
