@@ -128,7 +128,6 @@ fn read_list<H: Files + AllocGlobal>(rt: &H, path: &str) -> Result<List, Failure
 }
 
 // The suffix list of a text.
-#[tactic(auto, using(crate::proofs::ProgramFacts::not_listed))]
 fn list_of(alloc: Global, text: &[u8]) -> Result<List, Failure>
     ensures ok { IfOk result (HasRules text.now) }
     ensures err { IfErr result (λ failure. (failure ≡ Failure.Memory)
