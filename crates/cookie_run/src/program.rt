@@ -9,11 +9,13 @@ ghost use Rattle.cookie_run.specs.Program as spec;
 ghost use Rattle.cookie_run.specs.ProgramRead.{asked_for};
 
 mod arguments;
+mod draft;
 mod failure;
 mod files;
 
 use crate::client::Client;
 use crate::program::arguments::Asked;
+use crate::program::draft::Draft;
 use crate::program::failure::Failure;
 use crate::program::files::Unread;
 use crate::script::ended::{Ended, RunError};
@@ -245,16 +247,16 @@ fn play<R: Source, W: Sink>(
     }
 }
 
-// The saved text of a client at a moment. A vector refuses a write for want of memory alone.
+// The saved text of a client at a moment. A draft refuses a write for want of memory alone.
 fn saved_text(alloc: Global, client: &Client, at: DateTime) -> Result<Vec<u8>, Failure>
     ensures ok { IfOk result (λ text.
         Saves ron_layout (saved (civil_nanos at) client.now.rows) text.items) }
     ensures err { IfErr result (λ failure. (failure ≡ Failure.Memory)
         ⊎ ((failure ≡ Failure.StoreText) × IsAnyBeforeYears (saved (civil_nanos at) client.now.rows))) }
 {
-    let mut text = Vec::new(alloc);
-    match client.save(&mut Counting::new(&mut text), at) {
-        Ok(()) => Ok(text),
+    let mut draft = Draft::new(alloc);
+    match client.save(&mut draft, at) {
+        Ok(()) => Ok(draft.text),
         Err(Error::Year) => Err(Failure::StoreText),
         Err(_) => Err(Failure::Memory),
     }
