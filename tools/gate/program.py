@@ -70,15 +70,18 @@ def build(command):
     os.utime(BUILT)
 
 
-def unproved_output(command, script):
-    """What the program writes for a script, by the toolchain's run that proves nothing."""
+def unproved_output(command, script, files, words):
+    """What the program writes for a script, files and words, by the toolchain's run that proves nothing. It runs over
+    copies of the files, and keeps none."""
     demand_rt(command)
     progress, log = Progress(command), log_of(command)
     progress.show("compiling and running, with no proof")
-    with open(script, "rb") as given, open(log, "wb") as to:
-        how = {"stdin": given, "stdout": subprocess.PIPE, "stderr": to}
+    given = [it for name, path in files.items() for it in ("--data", f"{name}={path}")]
+    with open(script, "rb") as script_file, open(log, "wb") as to:
+        how = {"stdin": script_file, "stdout": subprocess.PIPE, "stderr": to}
         # (the interpreter can't run a program that reads: one step of it will do, and the compiled run answers)
-        ran = subprocess.run(["rt", "try", "--steps", "1"], cwd=f"{TOP}/crates/{NAME}", **how)
+        all_words = ["rt", "try", "--steps", "1", *given, "--", *words]
+        ran = subprocess.run(all_words, cwd=f"{TOP}/crates/{NAME}", **how)
     progress.end()
     if ran.returncode:
         print(f"{command}: the run failed; {os.path.relpath(log)} tells why", file=sys.stderr)

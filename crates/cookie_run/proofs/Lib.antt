@@ -36,8 +36,8 @@ pub mod ReadCode
 pub mod OpenCode
 pub mod Standings
 pub mod Halting
-pub mod NoRules
 pub mod ScriptRun
+pub mod ProgramFacts
 pub mod Following
 pub mod FromLines
 pub mod ReadOnce

@@ -8,7 +8,6 @@ use Rattle.std.proofs.KnownBytes.{Appends-trans, Appends-nil}
 use Rattle.cookie_run.specs.ScriptText.{Reached, begun, LeadsTo, after_line, ScriptText, EndsForMemory, Runs, HasFault}
 use Rattle.cookie_run.specs.ScriptText.{PrintsUntil, fault_text, Prints}
 use Rattle.cookie_run.specs.Standing.{Stands}
-use Rattle.cookie_run.specs.Program.{begins_at, program_key, IsScriptOf}
 use Rattle.cookie_store.specs.Rows.{Row}
 use Rattle.publicsuffix.specs.Rules.{Rule}
 use Rattle.cookie_run.specs.declared.script.cause.Cause.{Cause}
@@ -200,47 +199,3 @@ only_write (Err x) P only e = absurd (read_write (sym only ∙ same x e))
 
     read_write : Write ≡ Read → ⊥
     read_write e = cc
-
--- ---- the program
-
--- a generator whose error type has no value doesn't fail
-runs_sure : (Error : Type 0) (list : List Rule) (key : List ℕ) (rows : List Row) (last : ℤ) (input output : List ℕ)
-    (new : List Row) (end : ℤ) (ended : Ended) → (Error → ⊥) → Runs Error list key rows last input output new end ended
-    → Runs ⊥ list key rows last input output new end ended
-runs_sure Error list key rows last input output new end Whole never (inl s) = inl s
-runs_sure Error list key rows last input output new end (Faulty n) never (inl s) = inl (record {
-  r = s.r;
-  before = s.before;
-  line = s.line;
-  cause = s.cause;
-  readings = s.readings;
-  place = s.place;
-  leads = s.leads;
-  fault = fault_sure s.r (after_line s.r s.line) s.cause s.fault;
-  prints = s.prints;
-  text = s.text;
-  moment = s.moment;
-})
-  where
-    fault_sure : (r : Reached) (led : Result Reached Cause) (cause : Cause) → HasFault Error r led cause
-        → HasFault ⊥ r led cause
-    fault_sure r led cause (inl own) = inl own
-    fault_sure r led cause (inr failed) = absurd (never failed.1)
-runs_sure Error list key rows last input output new end Whole never (inr m) = inr m
-runs_sure Error list key rows last input output new end (Faulty n) never (inr m) = inr m
-
--- a run from no rows, no public suffix and the program's first moment is a script's
-pub script_of : (Error : Type 0) (left old new : Option (List ℕ)) (list : List Rule) (key : List ℕ)
-    (start rows : List Row) (first last : ℤ) (ended same : Ended) → (Error → ⊥) → list ≡ [] → key ≡ program_key
-    → start ≡ [] → first ≡ begins_at → ended ≡ same
-    → IfSome left (λ input. Ends Error list key start first input old new rows last ended)
-    → IfSome left (λ input. (output : List ℕ) × Appends old new output × IsScriptOf input output same)
-script_of Error None old new list key start rows first last ended same never unlisted with_key none begins is h = tt
-script_of Error (Some input) old new list key start rows first last ended same never unlisted with_key none begins is
-    h =
-    let from_list = subst (λ l. Ends Error l key start first input old new rows last ended) unlisted h in
-    let from_key = subst (λ k. Ends Error [] k start first input old new rows last ended) with_key from_list in
-    let from_none = subst (λ s. Ends Error [] program_key s first input old new rows last ended) none from_key in
-    let from_first = subst (λ f. Ends Error [] program_key [] f input old new rows last ended) begins from_none in
-    let ends = subst (λ e. Ends Error [] program_key [] begins_at input old new rows last e) is from_first in
-    (ends.0, ends.1, (rows, last, runs_sure Error [] program_key [] begins_at input ends.0 rows last same never ends.2))

@@ -25,3 +25,4 @@ pub mod ScriptText
 pub mod ScriptRead
 pub mod Standing
 pub mod Program
+pub mod ProgramRead

@@ -1,4 +1,4 @@
-//! `cookie-run`: plays the script of standard input to standard output.
+//! `cookie-run`: plays the script of standard input to standard output, for a client that is kept in a file.
 #![tactic(auto)]
 
 use cookie_run::Counting;
@@ -41,8 +41,7 @@ fn play(rt: &HostRuntime) -> Result<(u8, Option<&'static str>), AllocError> {
     ))
 }
 
-// The words behind the program's name. The program doesn't look at them, so it goes on without any
-// where one isn't UTF-8.
+// The words behind the program's name. One that isn't UTF-8 is no text, so there aren't four then.
 fn words(rt: &HostRuntime) -> Result<Vec<String>, AllocError> {
     match env::args(rt) {
         Ok(words) => words.skip(1).collect(rt.alloc()),

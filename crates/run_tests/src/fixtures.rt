@@ -49,6 +49,21 @@ pub fn client(alloc: Global) -> Result<Client, ListError> {
     Ok(Client::new(alloc, List::parse(alloc, b"com\nnet\n")?))
 }
 
+/// The program's words for these files, a seed of zeros and the beginning of 2024.
+pub fn words(
+    alloc: Global,
+    suffix_file: &str,
+    store_file: &str,
+) -> Result<Vec<String>, AllocError> {
+    let seed = "0000000000000000000000000000000000000000000000000000000000000000";
+    let mut words = Vec::with_capacity(alloc, 4)?;
+    words.push(String::from_str(alloc, suffix_file)?)?;
+    words.push(String::from_str(alloc, seed)?)?;
+    words.push(String::from_str(alloc, store_file)?)?;
+    words.push(String::from_str(alloc, "2024-01-01T00:00:00Z")?)?;
+    Ok(words)
+}
+
 /// How a script ends for a client; what it prints is put behind `output`.
 pub fn run_script(
     alloc: Global,

@@ -1,10 +1,11 @@
 //! The last call of a writer is the flush.
-use crate::fixtures::{beginning, client, zero_key};
+use crate::fixtures::{beginning, client, words, zero_key};
 use crate::generators::zeros;
 use crate::stream_tests::VISIT;
 use cookie_run::program::program;
 use cookie_run::{Counting, Ended, run};
 use std::alloc::Global;
+use std::fs;
 use std::io::{self, Write};
 use std::test::Fail;
 
@@ -67,10 +68,13 @@ fn flushes_behind_the_last_write(rt: HostRuntime) -> Result<(), Fail> {
 
 // Whether the program answers so, and its last call of the writer is a flush.
 fn answers_flushed(rt: &HostRuntime, script: &str, status: u8) -> bool {
+    let Ok(words) = words(rt.alloc(), "flush.dat", "flush.ron") else {
+        return false;
+    };
     let mut writer = KnowsItsLast::new();
     let answer = program(
         rt,
-        &[],
+        &words,
         &mut Counting::new(script.as_bytes()),
         &mut Counting::new(&mut writer),
     );
@@ -78,7 +82,9 @@ fn answers_flushed(rt: &HostRuntime, script: &str, status: u8) -> bool {
 }
 
 #[test]
-fn program_flushes_behind_the_last_write(rt: HostRuntime) {
+fn program_flushes_behind_the_last_write(rt: HostRuntime) -> Result<(), Fail> {
+    fs::write(&rt, "flush.dat", b"com\nnet\n")?;
     assert!(rt; answers_flushed(&rt, WHOLE, 0));
     assert!(rt; answers_flushed(&rt, "fly", 1));
+    Ok(())
 }

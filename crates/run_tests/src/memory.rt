@@ -3,7 +3,7 @@
 //! A scenario looks at what a refusal leaves, and answers whether it met want of memory. A test ends
 //! with that as its error, so it passes with ample memory alone; `tools/refuse-growths` refuses each
 //! growth in turn, and takes no other failure.
-use crate::fixtures::{client, cookie, is_line, run_script, second, zero_key};
+use crate::fixtures::{client, cookie, is_line, run_script, second, words, zero_key};
 use crate::generators::zeros;
 use crate::steps::{steps, told};
 use cookie::Cookie;
@@ -13,6 +13,7 @@ use cookie_run::{Counting, Ended, FaultKind, LineEnd, Session, SessionError, Sto
 use cookie_store::{CookieError, StoreAction};
 use publicsuffix::List;
 use std::alloc::{AllocError, Global};
+use std::fs::{self, Files};
 use std::process::Abort;
 use url::Url;
 
@@ -304,14 +305,23 @@ fn is_cut_somewhere(alloc: Global, output: &[u8]) -> bool {
     false
 }
 
-fn plays_the_program(rt: &(impl Abort + AllocGlobal)) -> bool {
+// Memory is wanted before the script, or behind it, where its client is saved.
+fn is_whole_or_empty(output: &[u8]) -> bool {
+    output.is_empty() || output == DELIVERS_PRINTS.as_bytes()
+}
+
+fn plays_the_program(rt: &(impl Abort + AllocGlobal + Files)) -> bool {
     let alloc = rt.alloc();
+    assert!(rt; fs::write(rt, "memory.dat", b"com\n").is_ok());
+    let Ok(words) = words(alloc, "memory.dat", "memory.ron") else {
+        return true;
+    };
     let Ok(mut output) = Vec::with_capacity(alloc, 1000) else {
         return true;
     };
     let answer = program(
         rt,
-        &[],
+        &words,
         &mut Counting::new(DELIVERS.as_bytes()),
         &mut Counting::new(&mut output),
     );
@@ -321,7 +331,7 @@ fn plays_the_program(rt: &(impl Abort + AllocGlobal)) -> bool {
     }
     assert!(rt;
         answer == (1, None) && is_cut_somewhere(alloc, &output)
-            || answer == (2, Some("memory")) && output.is_empty()
+            || answer == (2, Some("memory")) && is_whole_or_empty(&output)
     );
     true
 }

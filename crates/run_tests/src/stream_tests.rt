@@ -18,7 +18,7 @@ lose\n\
 header\thttps://shop.com/x/y\t2024-01-01T00:00:02Z\n\
 fly\n";
 
-const VISIT_PRINTS: &str = "plain\tfoo%20!%25?=\t=bar;;,%20a\n\
+pub(crate) const VISIT_PRINTS: &str = "plain\tfoo%20!%25?=\t=bar;;,%20a\n\
 plain\tzz\t-\n\
 header\tfoo%2520!%2525%253F%253D=bar%253B%253B%252C%2520a\n\
 line 9: Word\n";
