@@ -7,7 +7,7 @@ use std::io::{self, ErrorKind};
 
 /// A writer to memory, which gives back what was written.
 #[derive(Drop)]
-pub struct Draft {
+pub(crate) struct Draft {
     pub text: Vec<u8>,
     failed: u64,
     flushed: u64,
