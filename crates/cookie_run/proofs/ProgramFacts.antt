@@ -7,9 +7,9 @@ use Rattle.publicsuffix.specs.declared.error.ListError.{ListError}
 use Rattle.publicsuffix.specs.declared.error.ListError.TheVariants as list
 use Rattle.publicsuffix.specs.Rules.{Rule, HasRules, HasFirstFault}
 use Rattle.cookie_store.specs.Rows.{Row, Store}
-use Rattle.cookie_store.specs.SavedTexts.{OfText, IsReadFault, IsRonRefusal}
+use Rattle.cookie_store.specs.SavedTexts.{OfText, IsAnyBeforeYears, IsReadFault, IsRonRefusal, IsSaveFault, IsWriteFault}
 use Rattle.store_parts.specs.declared.error.Error.{Error}
-use Rattle.store_parts.specs.declared.error.Error.TheVariants.{Io, OutOfMemory}
+use Rattle.store_parts.specs.declared.error.Error.TheVariants.{Io, OutOfMemory, Year}
 use Rattle.cookie_run.specs.Program.{Asked, AreLoaded, Begins, Devices, OfDevices, Plays, PlayFails, Ends, Fails}
 use Rattle.cookie_run.specs.Program.{IsToldAs, IsListToldAs, IsNoStore, IsNoList}
 use Rattle.cookie_run.specs.declared.program.failure.Failure.{Failure}
@@ -93,3 +93,15 @@ not_listed r text list.OutOfMemory failure is (inr told) not_text fault = absurd
 -- what is put behind nothing
 pub behind_nothing : (old list text : List ℕ) → old ≡ [] → text ≡ old ++ list → text ≡ list
 behind_nothing old list text none is = is ∙ ap (λ front. front ++ list) none
+
+-- a client that isn't saved for `Year`
+IsYear : Error → Type 0
+IsYear Year = Unit {0}
+IsYear e = ⊥
+
+pub year_only : {Same : Type 0} (rows : List Row) (before after : ℕ) (e : Error) → e ≡ Year
+    → (IsWriteFault before after e ⊎ (Same × IsSaveFault rows e)) → IsAnyBeforeYears rows
+unfolding IsYear
+year_only rows before after e is (inl wrote) = absurd (subst IsYear (sym is ∙ wrote.0) tt)
+year_only rows before after e is (inr (same, inl year)) = year.1
+year_only rows before after e is (inr (same, inr memory)) = absurd (subst IsYear (sym is ∙ memory) tt)
