@@ -312,7 +312,9 @@ fn is_whole_or_empty(output: &[u8]) -> bool {
 
 fn plays_the_program(rt: &(impl Abort + AllocGlobal + Files)) -> bool {
     let alloc = rt.alloc();
-    assert!(rt; fs::write(rt, "memory.dat", b"com\n").is_ok());
+    if fs::write(rt, "memory.dat", b"com\n").is_err() {
+        return true;
+    }
     let Ok(words) = words(alloc, "memory.dat", "memory.ron") else {
         return true;
     };
