@@ -1,0 +1,4 @@
+pub mod CandidateLemmas
+pub mod EntryLemmas
+pub mod IndexLemmas
+pub mod PartLemmas
