@@ -1,13 +1,15 @@
 -- What a table with texts as keys holds, with the texts as bytes.
-use Rattle.std.proofs.Common.{◌≡◌, ℕ, Bool, true, false, cond, List, [], ◌∷◌, refl, ap}
-use Rattle.std.specs.Prelude.{string_bytes}
+use Rattle.std.proofs.Common.{◌≡◌, ◌≤◌, ◌+◌, ℕ, Bool, true, false, cond, List, [], ◌∷◌, length, map, refl, sym, ap, ◌∙◌, arith, zero, suc}
+use Rattle.std.specs.Prelude.{Some, None, slice_get, option_map, string_bytes}
+use Rattle.indexmap.specs.IndexMap.{set_value_at}
+use Rattle.std.proofs.lemmas.Option.{none-some, same_Some}
 use Rattle.std.specs.Map.{lookup, set_value, remove_entry}
 use Rattle.std.specs.Str.{bytes_eq}
 use Rattle.std.specs.String.{string_eq}
 use Rattle.std.specs.declared.string.String.{String}
 use Rattle.std.proofs.lemmas.Slice.Eq.{bytes_eq-Decides}
 use Rattle.indexmap.specs.IndexMap.{insert_entry}
-use Rattle.place_index.specs.Entries.{by_bytes, value_at, set_at, with_value, without}
+use Rattle.place_index.specs.Entries.{by_bytes, value_at, set_at, with_value, without, with_values}
 
 pub same_text : (x y : List ℕ) → bytes_eq x y ≡ true → x ≡ y
 same_text x y e = (bytes_eq-Decides x y).0 e
@@ -54,3 +56,62 @@ module _ {V Y : Type 0} where
           ((string_bytes e.0, e.1) ∷ with_value (by_bytes es) (string_bytes k) v)
       by true rest = refl
       by false rest = ap (λ fs. (string_bytes e.0, e.1) ∷ fs) rest
+
+-- ---- one value after another
+
+module _ {K V : Type 0} (f : V → V) where
+  -- f of the first n values
+  abbrev pub first_with : ℕ → List (K × V) → List (K × V)
+  first_with zero es = es
+  first_with (suc n) [] = []
+  first_with (suc n) (e ∷ es) = (e.0, f e.1) ∷ first_with n es
+
+  pub first_with-next : (es : List (K × V)) (i : ℕ) (v : V) → slice_get (map (λ e. e.1) (first_with i es)) i ≡ Some v
+      → set_value_at (first_with i es) i (f v) ≡ first_with (suc i) es
+  first_with-next [] zero v at = refl
+  first_with-next [] (suc i) v at = refl
+  first_with-next (e ∷ es) zero v at = ap (λ w. (e.0, f w) ∷ es) (sym (same_Some e.1 v at))
+  first_with-next (e ∷ es) (suc i) v at = ap (λ l. (e.0, f e.1) ∷ l) (first_with-next es i v at)
+
+  pub first_with-none : (es : List (K × V)) (i : ℕ) → slice_get (map (λ e. e.1) (first_with i es)) i ≡ None
+      → first_with i es ≡ first_with (suc i) es
+  first_with-none [] zero none = refl
+  first_with-none [] (suc i) none = refl
+  first_with-none (e ∷ es) zero none = absurd (none-some e.1 (sym none))
+  first_with-none (e ∷ es) (suc i) none = ap (λ l. (e.0, f e.1) ∷ l) (first_with-none es i none)
+
+  one_more : (es : List (K × V)) (i : ℕ) → first_with (suc i) es ≡ first_with (i + 1) es
+  one_more es i = let n : suc i ≡ i + 1 = omega arith in ap (λ m. first_with m es) n
+
+  pub first_with-step : (es now : List (K × V)) (i : ℕ) (v w : V) → now ≡ first_with i es
+      → slice_get (map (λ e. e.1) now) i ≡ Some v → w ≡ f v → set_value_at now i w ≡ first_with (i + 1) es
+  first_with-step es now i v w is at e =
+      (λ j. set_value_at (is j) i (e j))
+      ∙ first_with-next es i v (ap (λ m. slice_get (map (λ e. e.1) m) i) (sym is) ∙ at)
+      ∙ one_more es i
+
+  pub first_with-end : (es now : List (K × V)) (i : ℕ) → now ≡ first_with i es
+      → slice_get (map (λ e. e.1) now) i ≡ None → now ≡ first_with (i + 1) es
+  first_with-end es now i is at =
+      is ∙ first_with-none es i (ap (λ m. slice_get (map (λ e. e.1) m) i) (sym is) ∙ at) ∙ one_more es i
+
+  pub first_with-all : (es : List (K × V)) (n : ℕ) → length es ≤ n → first_with n es ≡ map (λ e. (e.0, f e.1)) es
+  first_with-all [] zero le = refl
+  first_with-all [] (suc n) le = refl
+  first_with-all (e ∷ es) zero le = absurd (omega arith)
+  first_with-all (e ∷ es) (suc n) le = ap (λ l. (e.0, f e.1) ∷ l) (first_with-all es n (omega arith))
+
+module _ {V Y : Type 0} (f : V → V) where
+  pub with_values-by_bytes : (es : List (String Y × V)) → by_bytes (map (λ e. (e.0, f e.1)) es) ≡ with_values f (by_bytes es)
+  with_values-by_bytes [] = refl
+  with_values-by_bytes (e ∷ es) = ap (λ l. (string_bytes e.0, f e.1) ∷ l) (with_values-by_bytes es)
+
+module _ {V : Type 0} (f : V → V) where
+  pub value_at-with_values : (text : List ℕ) (es : List (List ℕ × V)) → value_at text (with_values f es) ≡ option_map f (value_at text es)
+  value_at-with_values text [] = refl
+  value_at-with_values text (e ∷ es) = by (bytes_eq text e.0) (value_at-with_values text es)
+    where
+      by : (b : Bool) → value_at text (with_values f es) ≡ option_map f (value_at text es)
+          → cond b (Some (f e.1)) (value_at text (with_values f es)) ≡ option_map f (cond b (Some e.1) (value_at text es))
+      by true rest = refl
+      by false rest = rest

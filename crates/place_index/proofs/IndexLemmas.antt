@@ -1,6 +1,6 @@
 -- The index agrees with the rows after one more.
-use Rattle.std.proofs.Common.{◌≡◌, ◌≢◌, ◌⊎◌, ◌+◌, ◌<◌, ◌≤◌, ℕ, Bool, true, false, cond, List, [], ◌∷◌, length, refl, sym, ap, subst, ◌∙◌, inl, inr, arith, true≢false, suc}
-use Rattle.std.specs.Prelude.{Option, Some, None, option_map, nat_le}
+use Rattle.std.proofs.Common.{◌≡◌, ◌≢◌, ◌⊎◌, ◌+◌, ◌<◌, ◌≤◌, ◌&&◌, ℕ, Bool, true, false, cond, List, [], ◌∷◌, length, refl, sym, ap, subst, ◌∙◌, inl, inr, arith, true≢false, suc}
+use Rattle.std.specs.Prelude.{Option, Some, None, option_map, nat_le, nat_lt}
 use Rattle.std.specs.List.{insert}
 use Rattle.std.specs.Str.{bytes_eq}
 use Rattle.std.proofs.lemmas.Bool.{cond-true, cond-false, and_parts, and_from, and_left, and_right, false_from_ne_true}
@@ -10,7 +10,7 @@ use Rattle.place_index.specs.Places.{Place, is_of, is_at}
 use Rattle.place_index.proofs.EntryLemmas.{same_text, text_is}
 use Rattle.place_index.specs.declared.part.DomainPart.{DomainPart}
 use Rattle.place_index.specs.declared.part.Part.{Part}
-use Rattle.place_index.specs.Index.{Index, IsPart, IsNowhere, PathAgrees, PathsAgree, DomainAgrees, Agrees, moved, moved_domain, moved_path, BeginsDomain, BeginsPath, GrowsPath}
+use Rattle.place_index.specs.Index.{Index, IsPart, IsNowhere, PathAgrees, PathsAgree, DomainAgrees, Agrees, last, moved, moved_domain, moved_path, BeginsDomain, BeginsPath, GrowsPath}
 use Rattle.place_index.proofs.PartLemmas.{part_after, part_before, part_grows, nowhere_stays, part_begins, apart, nested}
 
 -- ---- tests
@@ -37,17 +37,21 @@ own_path x = and_from (is_of x.domain x) (bytes_eq x.path x.path) (own_domain x)
 
 -- ---- where a part goes
 
-moved_up : (p at : ℕ) → p ≤ at → moved p at ≡ suc at
-moved_up p at le = cond-true (nat_le p at) (suc at) at (grind (arith, common_steps))
+moved_up : (p at : ℕ) → p ≤ at → at < last → moved p at ≡ suc at
+moved_up p at le l = cond-true (nat_le p at && nat_lt at last) (suc at) at
+    (and_from (nat_le p at) (nat_lt at last) (grind (arith, common_steps)) (grind (arith, common_steps)))
 
 not_moved : (p at : ℕ) → at < p → moved p at ≡ at
-not_moved p at l = cond-false (nat_le p at) (suc at) at (grind (arith, common_steps))
+not_moved p at l = cond-false (nat_le p at && nat_lt at last) (suc at) at
+    (and_left (nat_le p at) (nat_lt at last) (grind (arith, common_steps)))
 
-module _ (rows : List Place) (p : ℕ) (x : Place) (le : p ≤ length rows) where
+module _ (rows : List Place) (p : ℕ) (x : Place) (le : p ≤ length rows) (small : length rows ≤ last) where
   part_moves : (test : Place → Bool) (start len : ℕ) → IsPart test rows start len → test x ≡ false
       → (p ≤ start) ⊎ (start + len ≤ p) → IsPart test (insert rows p x) (moved p start) len
   part_moves test start len part fails (inl low) =
-      subst (λ n. IsPart test (insert rows p x) n len) (sym (moved_up p start low)) (part_after test rows p x le start len part fails low)
+      let some = part.some in
+      let within = part.within in
+      subst (λ n. IsPart test (insert rows p x) n len) (sym (moved_up p start low (omega (arith, some, within, small)))) (part_after test rows p x le start len part fails low)
   part_moves test start len part fails (inr high) =
       let some = part.some in
       subst (λ n. IsPart test (insert rows p x) n len) (sym (not_moved p start (omega (arith, some, high)))) (part_before test rows p x le start len part fails high)
@@ -59,7 +63,9 @@ module _ (rows : List Place) (p : ℕ) (x : Place) (le : p ≤ length rows) wher
   path_moves domain text start len part fails side None none =
       nowhere_stays (is_at domain text) rows p x le none (domain_no_path domain text x fails)
   path_moves domain text start len part fails (inl low) (Some path) is =
-      let up = moved_up p start low in
+      let some = part.some in
+      let within = part.within in
+      let up = moved_up p start low (omega (arith, some, within, small)) in
       subst (λ n. IsPart (is_at domain text) (insert rows p x) n path.len) (omega (arith, up))
       (part_after (is_at domain text) rows p x le (start + path.start) path.len is (domain_no_path domain text x fails) (omega (arith, low)))
   path_moves domain text start len part fails (inr high) (Some path) is =
@@ -92,7 +98,9 @@ module _ (rows : List Place) (p : ℕ) (x : Place) (le : p ≤ length rows) wher
       by : (p ≤ start + path.start) ⊎ (start + path.start + path.len ≤ p)
           → IsPart (is_at domain text) (insert rows p x) (start + moved q path.start) path.len
       by (inl low) =
-          let up = moved_up q path.start (omega (arith, low, at)) in
+          let some = is.some in
+          let within = is.within in
+          let up = moved_up q path.start (omega (arith, low, at)) (omega (arith, some, within, small)) in
           subst (λ n. IsPart (is_at domain text) (insert rows p x) n path.len) (omega (arith, up))
           (part_after (is_at domain text) rows p x le (start + path.start) path.len is fails low)
       by (inr high) =
@@ -161,7 +169,7 @@ path_at : (rows : List Place) (domain : List ℕ) (start : ℕ) (text : List ℕ
     → PathAgrees rows domain start text b → PathAgrees rows domain start text a
 path_at rows domain start text a b e is = subst (PathAgrees rows domain start text) (sym e) is
 
-module _ (rows : List Place) (x : Place) (p : ℕ) (old new : Index) (agrees : Agrees rows old) where
+module _ (rows : List Place) (x : Place) (p : ℕ) (old new : Index) (agrees : Agrees rows old) (small : length rows ≤ last) where
   -- a new domain, at the end
   pub begins_domain : p ≡ length rows → BeginsDomain x p old new → Agrees (insert rows p x) new
   begins_domain at b domain = text_cases domain x.domain same differ
@@ -200,7 +208,7 @@ module _ (rows : List Place) (x : Place) (p : ℕ) (old new : Index) (agrees : A
       differ : domain ≢ x.domain → DomainAgrees (insert rows p x) domain (value_at domain new)
       differ d =
           agrees_at (insert rows p x) domain _ _ (b.others domain d ∙ sym (kept (value_at domain old) (agrees domain)))
-          (domain_moves rows p x le domain (foreign x domain d) (value_at domain old) (agrees domain) sides)
+          (domain_moves rows p x le small domain (foreign x domain d) (value_at domain old) (agrees domain) sides)
 
   -- a row is put in within x's domain, or at its end: the domains
   in_domain : (part : DomainPart) → value_at x.domain old ≡ Some part → part.start ≤ p → p ≤ part.start + part.len
@@ -227,7 +235,7 @@ module _ (rows : List Place) (x : Place) (p : ℕ) (old new : Index) (agrees : A
       differ : domain ≢ x.domain → DomainAgrees (insert rows p x) domain (value_at domain new)
       differ d =
           agrees_at (insert rows p x) domain _ _ (others domain d)
-          (domain_moves rows p x le domain (foreign x domain d) (value_at domain old) (agrees domain)
+          (domain_moves rows p x le small domain (foreign x domain d) (value_at domain old) (agrees domain)
           (sides (is_of domain) (λ r e. unequal domain x.domain r.domain d e)))
 
   -- a new path, at the domain's end
@@ -277,7 +285,7 @@ module _ (rows : List Place) (x : Place) (p : ℕ) (old new : Index) (agrees : A
           (λ d. path_at (insert rows p x) x.domain b.part.start text _ _
           (value_at-with_other x.path text b.part.paths (record { start = b.part.len; len = 1 }) (false_from_ne_true (bytes_eq text x.path) (λ e. d (same_text text x.path e)))
           ∙ sym (kept text (value_at text b.part.paths) (own.1 text)))
-          (own_path_moves rows p x le x.domain text b.part.start b.part.len at (foreign_path x text d) (value_at text b.part.paths) (own.1 text) (inside text)))
+          (own_path_moves rows p x le small x.domain text b.part.start b.part.len at (foreign_path x text d) (value_at text b.part.paths) (own.1 text) (inside text)))
 
   -- a path that is there, at its end
   pub grows_path : GrowsPath x p old new → Agrees (insert rows p x) new
@@ -322,5 +330,5 @@ module _ (rows : List Place) (x : Place) (p : ℕ) (old new : Index) (agrees : A
           (path_at (insert rows p x) x.domain b.part.start x.path _ _ b.path_grown
           (part_grows (is_at x.domain x.path) rows p x le (b.part.start + b.path.start) b.path.len mine (own_path x) (omega (arith, at)) (omega (arith, at)))))
           (λ d. path_at (insert rows p x) x.domain b.part.start text _ _ (b.other_paths text d)
-          (own_path_moves rows p x le x.domain text b.part.start (b.path.start + b.path.len) at (foreign_path x text d) (value_at text b.part.paths) (own.1 text)
+          (own_path_moves rows p x le small x.domain text b.part.start (b.path.start + b.path.len) at (foreign_path x text d) (value_at text b.part.paths) (own.1 text)
           (uncrossed (is_at x.domain text) (λ r e. path_no_path x.domain x.path text r d e))))

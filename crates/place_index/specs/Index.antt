@@ -1,5 +1,5 @@
 -- The index of a vector of rows: from domain text to its part of the vector, and in it from path text to a part of that.
-use Rattle.std.specs.Prelude.{◌≡◌, ◌≢◌, ◌<◌, ◌≤◌, ◌+◌, ℕ, suc, List, [], ◌∷◌, length, Bool, true, false, Option, Some, None, slice_get, option_map, nat_le, if◌then◌else◌}
+use Rattle.std.specs.Prelude.{◌≡◌, ◌≢◌, ◌<◌, ◌≤◌, ◌+◌, ℕ, suc, List, [], ◌∷◌, length, Bool, true, false, Option, Some, None, slice_get, option_map, nat_le, nat_lt, ◌&&◌, ◌^◌, ◌-◌, if◌then◌else◌}
 use Rattle.place_index.specs.Entries.{value_at, with_value}
 use Rattle.place_index.specs.declared.part.DomainPart.{DomainPart}
 use Rattle.place_index.specs.declared.part.Part.{Part}
@@ -42,9 +42,13 @@ Agrees rows index = (domain : List ℕ) → DomainAgrees rows domain (value_at d
 
 -- ---- one row more
 
+-- the largest number of 64 bits
+abbrev pub last : ℕ
+last = 2 ^ 64 - 1
+
 -- where an element stands after one was put in at p
 abbrev pub moved : ℕ → ℕ → ℕ
-moved p at = if nat_le p at then suc at else at
+moved p at = if nat_le p at && nat_lt at last then suc at else at
 
 abbrev pub moved_domain : ℕ → DomainPart → DomainPart
 moved_domain p part = record part { start = moved p part.start }

@@ -2,7 +2,9 @@
 #![tactic(auto)]
 
 pub mod candidates;
+mod index;
 mod looks;
+mod moving;
 mod part;
 mod text_map;
 

@@ -14,7 +14,7 @@ use std::marker::Model;
 /// Values by text, in the order in which their texts came.
 #[derive(Debug, Drop)]
 pub(crate) struct TextMap<V> {
-    entries: IndexMap<String, V>,
+    pub(crate) entries: IndexMap<String, V>,
 }
 
 impl<V> Model for TextMap<V> {
