@@ -1,8 +1,8 @@
 //! Where the rows of a vector stand, by the domain and the path of each.
 #![tactic(auto)]
 
-pub mod candidates;
 mod index;
+pub mod laws;
 mod looks;
 mod moving;
 mod part;

@@ -1,5 +1,5 @@
 use Rattle.place_index.proofs.CandidateLemmas.{are_domains, are_paths, domains_of-count, paths_of-count}
-use Rattle.place_index.proofs.candidates.laws.Goals as goal
+use Rattle.place_index.proofs.laws.candidates.Goals as goal
 
 pub returns-clause-domains : goal.returns-clause-domains
 returns-clause-domains c = are_domains
