@@ -57,6 +57,18 @@ module _ {V Y : Type 0} where
       by true rest = refl
       by false rest = ap (λ fs. (string_bytes e.0, e.1) ∷ fs) rest
 
+module _ {V : Type 0} where
+  pub set_at-present : (text : List ℕ) (es : List (List ℕ × V)) (v w : V) → value_at text es ≡ Some v
+      → set_at text es w ≡ with_value es text w
+  set_at-present text [] v w at = absurd (none-some v at)
+  set_at-present text (e ∷ es) v w at = by (bytes_eq text e.0) at (λ h. set_at-present text es v w h)
+    where
+      by : (b : Bool) → cond b (Some e.1) (value_at text es) ≡ Some v
+          → (value_at text es ≡ Some v → set_at text es w ≡ with_value es text w)
+          → cond b ((e.0, w) ∷ es) (e ∷ set_at text es w) ≡ cond b ((e.0, w) ∷ es) (e ∷ with_value es text w)
+      by true h rest = refl
+      by false h rest = ap (λ l. e ∷ l) (rest h)
+
 -- ---- one value after another
 
 module _ {K V : Type 0} (f : V → V) where

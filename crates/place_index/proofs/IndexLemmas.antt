@@ -41,7 +41,7 @@ moved_up : (p at : ℕ) → p ≤ at → at < last → moved p at ≡ suc at
 moved_up p at le l = cond-true (nat_le p at && nat_lt at last) (suc at) at
     (and_from (nat_le p at) (nat_lt at last) (grind (arith, common_steps)) (grind (arith, common_steps)))
 
-not_moved : (p at : ℕ) → at < p → moved p at ≡ at
+pub not_moved : (p at : ℕ) → at < p → moved p at ≡ at
 not_moved p at l = cond-false (nat_le p at && nat_lt at last) (suc at) at
     (and_left (nat_le p at) (nat_lt at last) (grind (arith, common_steps)))
 
@@ -111,7 +111,7 @@ module _ (rows : List Place) (p : ℕ) (x : Place) (le : p ≤ length rows) (sma
 
 -- ---- the value of a text that was put in
 
-value_at-with_value : {V : Type 0} (text : List ℕ) (es : List (List ℕ × V)) (w : V) → value_at text (with_value es text w) ≡ Some w
+pub value_at-with_value : {V : Type 0} (text : List ℕ) (es : List (List ℕ × V)) (w : V) → value_at text (with_value es text w) ≡ Some w
 value_at-with_value text [] w = cond-true (bytes_eq text text) _ _ (text_is text text refl)
 value_at-with_value text (e ∷ es) w = by (bytes_eq text e.0) refl (value_at-with_value text es w)
   where
@@ -120,7 +120,7 @@ value_at-with_value text (e ∷ es) w = by (bytes_eq text e.0) refl (value_at-wi
     by true is rest = cond-true (bytes_eq text e.0) _ _ is
     by false is rest = cond-false (bytes_eq text e.0) _ _ is ∙ rest
 
-value_at-with_other : {V : Type 0} (text other : List ℕ) (es : List (List ℕ × V)) (w : V) → bytes_eq other text ≡ false → value_at other (with_value es text w) ≡ value_at other es
+pub value_at-with_other : {V : Type 0} (text other : List ℕ) (es : List (List ℕ × V)) (w : V) → bytes_eq other text ≡ false → value_at other (with_value es text w) ≡ value_at other es
 value_at-with_other text other [] w fails = cond-false (bytes_eq other text) _ _ fails
 value_at-with_other text other (e ∷ es) w fails = by (bytes_eq text e.0) refl (value_at-with_other text other es w fails)
   where

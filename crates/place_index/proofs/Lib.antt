@@ -2,3 +2,4 @@ pub mod CandidateLemmas
 pub mod EntryLemmas
 pub mod IndexLemmas
 pub mod PartLemmas
+pub mod PuttingLemmas
