@@ -13,7 +13,8 @@ use Rattle.place_index.proofs.IndexLemmas.{not_moved, value_at-with_value, value
 
 module _ (path : List ℕ) (old : DomainPart) (paths : List (List ℕ × Part)) (part : Part) (at : ℕ)
     (there : value_at path old.paths ≡ Some part) (some : 0 < part.len) (at_end : at ≡ part.start + part.len)
-    (is : paths ≡ with_values (moved_path at) (set_at path old.paths (record { start = part.start; len = part.len + 1 }))) where
+    (is : paths ≡ with_values (moved_path at)
+    (set_at path old.paths (record { start = part.start; len = part.len + 1 }))) where
   abbrev longer : Part
   longer = record { start = part.start; len = part.len + 1 }
 
