@@ -3,3 +3,4 @@ pub mod EntryLemmas
 pub mod IndexLemmas
 pub mod PartLemmas
 pub mod PuttingLemmas
+pub mod RowLemmas

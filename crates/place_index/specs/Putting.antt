@@ -1,9 +1,11 @@
 -- A row more in a domain's part.
-use Rattle.std.specs.Prelude.{◌≡◌, ◌⊎◌, ◌<◌, ◌≤◌, ◌+◌, ℕ, suc, List, Some, None, IfSome}
+use Rattle.std.specs.Prelude.{◌≡◌, ◌⊎◌, ◌<◌, ◌≤◌, ◌+◌, ℕ, suc, length, List, Some, None, IfSome}
 use Rattle.place_index.specs.Entries.{value_at, with_value}
 use Rattle.place_index.specs.declared.part.DomainPart.{DomainPart}
 use Rattle.place_index.specs.declared.part.Part.{Part}
-use Rattle.place_index.specs.Index.{OtherPathsMove, last}
+use Rattle.std.specs.List.{insert}
+use Rattle.place_index.specs.Index.{Index, Agrees, OtherPathsMove, last}
+use Rattle.place_index.specs.Places.{Place}
 
 -- there is room for a row more, and the path's part, where it has one, lies in the domain's
 pub record HasRoom (path : List ℕ) (domain : DomainPart) : Type 0 where
@@ -32,3 +34,15 @@ pub record PutsBehind (path : List ℕ) (old new : DomainPart) (at : ℕ) : Type
 
 abbrev pub Puts : List ℕ → DomainPart → DomainPart → ℕ → Type 0
 Puts path old new at = PutsLast path old new at ⊎ PutsBehind path old new at
+
+-- the index is that of some rows, as many as told, with room for one more
+pub record IsReady (rows : ℕ) (index : Index) : Type 0 where
+  pub places : List Place
+  pub agrees : Agrees places index
+  pub counted : length places ≡ rows
+  pub room : rows < last
+
+-- whatever rows the index was that of, it is that of them and the place's, put in at `at`
+abbrev pub PutsAt : Place → ℕ → Index → Index → ℕ → Type 0
+PutsAt place rows old new at =
+    (places : List Place) → Agrees places old → length places ≡ rows → Agrees (insert places at place) new
