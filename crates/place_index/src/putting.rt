@@ -52,7 +52,8 @@ pub(crate) fn put_row(
     path: &str,
 ) -> Result<usize, AllocError>
     requires { IsReady rows domains.old }
-    ensures ok { IfOk result (λ at. PutsAt (record { domain = domain.now; path = path.now }) rows domains.old domains.new at) }
+    ensures ok { IfOk result (λ at.
+        PutsAt (record { domain = domain.now; path = path.now }) rows domains.old domains.new at) }
     ensures err { OnErr result (domains.new ≡ domains.old) }
 {
     match domains.get_mut(domain) {
@@ -65,7 +66,11 @@ pub(crate) fn put_row(
         None => {
             let paths = one_path(alloc, path)?;
             let text = String::from_str(alloc, domain)?;
-            let part = DomainPart { start: rows, len: 1, paths };
+            let part = DomainPart {
+                start: rows,
+                len: 1,
+                paths,
+            };
             domains.insert(text, part)?;
             Ok(rows)
         }
