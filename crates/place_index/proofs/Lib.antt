@@ -1,4 +1,6 @@
 pub mod CandidateLemmas
 pub mod EntryLemmas
+pub mod FoundLemmas
 pub mod IndexLemmas
 pub mod PartLemmas
+pub mod StepLemmas
