@@ -1,5 +1,6 @@
 -- Which texts a host and a request-path can meet.
-use Rattle.std.proofs.Common.{◌≡◌, ◌↔◌, ◌⊎◌, ◌++◌, ◌+◌, ◌-◌, ◌*◌, ◌||◌, ℕ, Bool, true, false, cond, eqb, List, [], ◌∷◌, length, map, refl, sym, ap, subst, ◌∙◌, inl, inr, arith, true≢false, suc}
+use Rattle.std.proofs.Common.{◌≡◌, ◌↔◌, ◌⊎◌, ◌++◌, ◌+◌, ◌-◌, ◌*◌, ◌||◌, ℕ, Bool, true, false, cond, eqb, List, []}
+use Rattle.std.proofs.Common.{◌∷◌, length, map, refl, sym, ap, subst, ◌∙◌, inl, inr, arith, true≢false, suc}
 use Rattle.std.specs.Prelude.{Some, slice_get}
 use Rattle.std.specs.List.{list_any}
 use Rattle.std.specs.Str.{bytes_eq}
@@ -30,18 +31,21 @@ among_head text t ts e = or_left (bytes_eq text t) (is_among text ts) (text_is t
 pub among_tail : (text t : List ℕ) (ts : List (List ℕ)) → is_among text ts ≡ true → is_among text (t ∷ ts) ≡ true
 among_tail text t ts e = or_right (bytes_eq text t) (is_among text ts) e
 
-pub among_case : (text t : List ℕ) (ts : List (List ℕ)) → is_among text (t ∷ ts) ≡ true → (t ≡ text) ⊎ (is_among text ts ≡ true)
+pub among_case : (text t : List ℕ) (ts : List (List ℕ)) → is_among text (t ∷ ts) ≡ true
+    → (t ≡ text) ⊎ (is_among text ts ≡ true)
 among_case text t ts e = by (or_split (bytes_eq text t) (is_among text ts) e)
   where
     by : ((bytes_eq text t ≡ true) ⊎ (is_among text ts ≡ true)) → (t ≡ text) ⊎ (is_among text ts ≡ true)
     by (inl is) = inl (sym (same_text text t is))
     by (inr is) = inr is
 
-among_map : (b : ℕ) (text : List ℕ) (ts : List (List ℕ)) → is_among text ts ≡ true → is_among (b ∷ text) (map (λ t. b ∷ t) ts) ≡ true
+among_map : (b : ℕ) (text : List ℕ) (ts : List (List ℕ)) → is_among text ts ≡ true
+    → is_among (b ∷ text) (map (λ t. b ∷ t) ts) ≡ true
 among_map b text [] e = absurd (true≢false (sym e))
 among_map b text (t ∷ ts) e = by (among_case text t ts e) (λ h. among_map b text ts h)
   where
-    by : ((t ≡ text) ⊎ (is_among text ts ≡ true)) → (is_among text ts ≡ true → is_among (b ∷ text) (map (λ s. b ∷ s) ts) ≡ true)
+    by : ((t ≡ text) ⊎ (is_among text ts ≡ true)) → (is_among text ts ≡ true
+        → is_among (b ∷ text) (map (λ s. b ∷ s) ts) ≡ true)
         → is_among (b ∷ text) (map (λ s. b ∷ s) (t ∷ ts)) ≡ true
     by (inl is) rest = among_head (b ∷ text) (b ∷ t) (map (λ s. b ∷ s) ts) (ap (λ l. b ∷ l) is)
     by (inr is) rest = among_tail (b ∷ text) (b ∷ t) (map (λ s. b ∷ s) ts) (rest is)
@@ -66,7 +70,9 @@ after_dots-ends host (b ∷ before) text e =
     ap (λ h. is_among text (after_dots h)) e ∙ by (eqb b dot) (after_dots-ends (before ++ dot ∷ text) before text refl)
   where
     by : (c : Bool) → is_among text (after_dots (before ++ dot ∷ text)) ≡ true
-        → is_among text (cond c ((before ++ dot ∷ text) ∷ after_dots (before ++ dot ∷ text)) (after_dots (before ++ dot ∷ text))) ≡ true
+        → is_among text
+        (cond c ((before ++ dot ∷ text) ∷ after_dots (before ++ dot ∷ text))
+        (after_dots (before ++ dot ∷ text))) ≡ true
     by true rest = among_tail text (before ++ dot ∷ text) (after_dots (before ++ dot ∷ text)) rest
     by false rest = rest
 
@@ -87,7 +93,8 @@ ends-after_dots (b ∷ bs) text e = by (eqb b dot) refl e (λ h. ends-after_dots
     by true is h rest = first is (among_case text bs (after_dots bs) h) rest
     by false is h rest = deeper (rest h)
 
-pub are_domains : (host text : List ℕ) → (is_among text (domains_of host) ≡ true) ↔ ((host ≡ text) ⊎ EndsAfterDot host text)
+pub are_domains : (host text : List ℕ)
+    → (is_among text (domains_of host) ≡ true) ↔ ((host ≡ text) ⊎ EndsAfterDot host text)
 are_domains host text = (λ e. there (among_case text host (after_dots host) e), back)
   where
     there : (host ≡ text) ⊎ (is_among text (after_dots host) ≡ true) → (host ≡ text) ⊎ EndsAfterDot host text
@@ -103,7 +110,8 @@ are_domains host text = (λ e. there (among_case text host (after_dots host) e),
 -- a beginning that a slash follows, or that ends with one
 at_slashes-before : (text rest : List ℕ) → is_among text (at_slashes (text ++ slash ∷ rest)) ≡ true
 at_slashes-before [] rest = among_head [] [] ((slash ∷ []) ∷ map (λ t. slash ∷ t) (at_slashes rest)) refl
-at_slashes-before (b ∷ text) rest = by (eqb b slash) (among_map b text (at_slashes (text ++ slash ∷ rest)) (at_slashes-before text rest))
+at_slashes-before (b ∷ text) rest = by (eqb b slash)
+    (among_map b text (at_slashes (text ++ slash ∷ rest)) (at_slashes-before text rest))
   where
     more : List (List ℕ)
     more = map (λ t. b ∷ t) (at_slashes (text ++ slash ∷ rest))
@@ -112,11 +120,13 @@ at_slashes-before (b ∷ text) rest = by (eqb b slash) (among_map b text (at_sla
     by true h = among_tail (b ∷ text) [] ((b ∷ []) ∷ more) (among_tail (b ∷ text) (b ∷ []) more h)
     by false h = h
 
-at_slashes-with : (front rest : List ℕ) → is_among (front ++ slash ∷ []) (at_slashes ((front ++ slash ∷ []) ++ rest)) ≡ true
+at_slashes-with : (front rest : List ℕ)
+    → is_among (front ++ slash ∷ []) (at_slashes ((front ++ slash ∷ []) ++ rest)) ≡ true
 at_slashes-with [] rest =
     let more = map (λ t. slash ∷ t) (at_slashes rest) in
     among_tail (slash ∷ []) [] ((slash ∷ []) ∷ more) (among_head (slash ∷ []) (slash ∷ []) more refl)
-at_slashes-with (b ∷ front) rest = by (eqb b slash) (among_map b (front ++ slash ∷ []) (at_slashes ((front ++ slash ∷ []) ++ rest)) (at_slashes-with front rest))
+at_slashes-with (b ∷ front) rest = by (eqb b slash)
+    (among_map b (front ++ slash ∷ []) (at_slashes ((front ++ slash ∷ []) ++ rest)) (at_slashes-with front rest))
   where
     text : List ℕ
     text = front ++ slash ∷ []
@@ -129,14 +139,16 @@ at_slashes-with (b ∷ front) rest = by (eqb b slash) (among_map b (front ++ sla
     by false h = h
 
 -- the last byte of a text of more than one is that of its rest
-last_step : (b c : ℕ) (ts : List ℕ) → slice_get (b ∷ c ∷ ts) (length (b ∷ c ∷ ts) - 1) ≡ slice_get (c ∷ ts) (length (c ∷ ts) - 1)
+last_step : (b c : ℕ) (ts : List ℕ)
+    → slice_get (b ∷ c ∷ ts) (length (b ∷ c ∷ ts) - 1) ≡ slice_get (c ∷ ts) (length (c ∷ ts) - 1)
 last_step b c ts =
     let e : length (b ∷ c ∷ ts) - 1 ≡ suc (length ts) = omega arith in
     let f : length (c ∷ ts) - 1 ≡ length ts = omega arith in
     ap (slice_get (b ∷ c ∷ ts)) e ∙ sym (ap (slice_get (c ∷ ts)) f)
 
 -- a text whose last byte is a slash
-ends_so : (text : List ℕ) → slice_get text (length text - 1) ≡ Some slash → (front : List ℕ) × (text ≡ front ++ slash ∷ [])
+ends_so : (text : List ℕ) → slice_get text (length text - 1) ≡ Some slash
+    → (front : List ℕ) × (text ≡ front ++ slash ∷ [])
 ends_so [] e = absurd (none-some slash e)
 ends_so (b ∷ []) e = ([], ap (λ c. c ∷ []) (same_Some b slash e))
 ends_so (b ∷ c ∷ text) e =
@@ -146,7 +158,8 @@ begins_so : (rest : List ℕ) → BeginsWithSlash rest → (more : List ℕ) × 
 begins_so [] e = absurd (none-some slash e)
 begins_so (b ∷ rest) e = (rest, ap (λ c. c ∷ rest) (same_Some b slash e))
 
-prefix_among : (path text rest : List ℕ) → path ≡ text ++ rest → MeetAtSlash text rest → is_among text (at_slashes path) ≡ true
+prefix_among : (path text rest : List ℕ) → path ≡ text ++ rest → MeetAtSlash text rest
+    → is_among text (at_slashes path) ≡ true
 prefix_among path text rest e (inl ends) =
     let f = ends_so text ends in
     (λ i. is_among (f.1 i) (at_slashes ((e ∙ ap (λ t. t ++ rest) f.1) i))) ∙ at_slashes-with f.0 rest
@@ -161,7 +174,12 @@ deeper_meet b (c ∷ text) rest (inl ends) = inl (last_step b c text ∙ ends)
 deeper_meet b text rest (inr begins) = inr begins
 
 deeper : (b : ℕ) (path text : List ℕ) → IsPathPrefix text path → IsPathPrefix (b ∷ text) (b ∷ path)
-deeper b path text p = record { rest = p.rest; split = ap (λ l. b ∷ l) p.split; at_slash = deeper_meet b text p.rest p.at_slash }
+deeper b path text p = record {
+  rest = p.rest;
+  split = ap
+      (λ l. b ∷ l) p.split;
+  at_slash = deeper_meet b text p.rest p.at_slash;
+}
 
 among_prefix : (path text : List ℕ) → is_among text (at_slashes path) ≡ true → IsPathPrefix text path
 among_prefix [] text e = absurd (true≢false (sym e))
@@ -177,14 +195,18 @@ among_prefix (b ∷ path) text e = by (eqb b slash) refl e (λ t h. among_prefix
     moved further (t, is, among) = subst (λ x. IsPathPrefix x (b ∷ path)) (sym is) (deeper b path t (further t among))
 
     third : Rest → (b ≡ slash) → ((b ∷ [] ≡ text) ⊎ (is_among text more ≡ true)) → IsPathPrefix text (b ∷ path)
-    third further at (inl is) = subst (λ x. IsPathPrefix x (b ∷ path)) is (record { rest = path; split = refl; at_slash = inl (ap Some at) })
+    third further at (inl is) = subst (λ x. IsPathPrefix x (b ∷ path)) is
+        (record { rest = path; split = refl; at_slash = inl (ap Some at) })
     third further at (inr h) = moved further (among_unmap b text (at_slashes path) h)
 
-    second : Rest → (b ≡ slash) → (([] ≡ text) ⊎ (is_among text ((b ∷ []) ∷ more) ≡ true)) → IsPathPrefix text (b ∷ path)
-    second further at (inl is) = subst (λ x. IsPathPrefix x (b ∷ path)) is (record { rest = b ∷ path; split = refl; at_slash = inr (ap Some at) })
+    second : Rest → (b ≡ slash) → (([] ≡ text) ⊎ (is_among text ((b ∷ []) ∷ more) ≡ true))
+        → IsPathPrefix text (b ∷ path)
+    second further at (inl is) = subst (λ x. IsPathPrefix x (b ∷ path)) is
+        (record { rest = b ∷ path; split = refl; at_slash = inr (ap Some at) })
     second further at (inr h) = third further at (among_case text (b ∷ []) more h)
 
-    by : (c : Bool) → eqb b slash ≡ c → is_among text (cond c ([] ∷ (b ∷ []) ∷ more) more) ≡ true → Rest → IsPathPrefix text (b ∷ path)
+    by : (c : Bool) → eqb b slash ≡ c → is_among text (cond c ([] ∷ (b ∷ []) ∷ more) more) ≡ true → Rest
+        → IsPathPrefix text (b ∷ path)
     by true is h further = second further (same_nat b slash is) (among_case text [] ((b ∷ []) ∷ more) h)
     by false is h further = moved further (among_unmap b text (at_slashes path) h)
 
@@ -212,7 +234,8 @@ after_dots-count (b ∷ bs) = by (eqb b dot) (after_dots-count bs)
 
 pub at_slashes-count : (path : List ℕ) → length (at_slashes path) ≡ 2 * count_of slash path
 at_slashes-count [] = refl
-at_slashes-count (b ∷ bs) = by (eqb b slash) (map (λ t. b ∷ t) (at_slashes bs)) (length-map (at_slashes bs) (λ t. b ∷ t) ∙ at_slashes-count bs)
+at_slashes-count (b ∷ bs) = by (eqb b slash) (map (λ t. b ∷ t) (at_slashes bs))
+    (length-map (at_slashes bs) (λ t. b ∷ t) ∙ at_slashes-count bs)
   where
     by : (c : Bool) (more : List (List ℕ)) → length more ≡ 2 * count_of slash bs
         → length (cond c ([] ∷ (b ∷ []) ∷ more) more) ≡ 2 * cond c (1 + count_of slash bs) (count_of slash bs)
@@ -235,13 +258,16 @@ pub at_slashes-snoc : (xs : List ℕ) (b : ℕ) → at_slashes (xs ++ b ∷ []) 
 at_slashes-snoc [] b = refl
 at_slashes-snoc (x ∷ xs) b =
     ap (λ ts. front (eqb x slash) (map (λ t. x ∷ t) ts)) (at_slashes-snoc xs b)
-    ∙ ap (front (eqb x slash)) (map-append (λ t. x ∷ t) (at_slashes xs) (at_end xs b) ∙ ap (λ ts. map (λ t. x ∷ t) (at_slashes xs) ++ ts) (last (eqb b slash)))
-    ∙ apart (eqb x slash) (map (λ t. x ∷ t) (at_slashes xs)) (cond (eqb b slash) ((x ∷ xs) ∷ (x ∷ xs ++ b ∷ []) ∷ []) [])
+    ∙ ap (front (eqb x slash)) (map-append (λ t. x ∷ t) (at_slashes xs) (at_end xs b)
+    ∙ ap (λ ts. map (λ t. x ∷ t) (at_slashes xs) ++ ts) (last (eqb b slash)))
+    ∙ apart (eqb x slash) (map (λ t. x ∷ t) (at_slashes xs))
+    (cond (eqb b slash) ((x ∷ xs) ∷ (x ∷ xs ++ b ∷ []) ∷ []) [])
   where
     front : Bool → List (List ℕ) → List (List ℕ)
     front c ts = cond c ([] ∷ (x ∷ []) ∷ ts) ts
 
-    last : (c : Bool) → map (λ t. x ∷ t) (cond c (xs ∷ (xs ++ b ∷ []) ∷ []) []) ≡ cond c ((x ∷ xs) ∷ (x ∷ xs ++ b ∷ []) ∷ []) []
+    last : (c : Bool)
+        → map (λ t. x ∷ t) (cond c (xs ∷ (xs ++ b ∷ []) ∷ []) []) ≡ cond c ((x ∷ xs) ∷ (x ∷ xs ++ b ∷ []) ∷ []) []
     last true = refl
     last false = refl
 
@@ -250,7 +276,8 @@ at_slashes-snoc (x ∷ xs) b =
     apart false ts us = refl
 
 -- past a text with no dot, and the dot
-pub after_dots-next : (before rest : List ℕ) → list_any (λ b. eqb b dot) before ≡ false → after_dots (before ++ dot ∷ rest) ≡ domains_of rest
+pub after_dots-next : (before rest : List ℕ) → list_any (λ b. eqb b dot) before ≡ false
+    → after_dots (before ++ dot ∷ rest) ≡ domains_of rest
 after_dots-next [] rest none = refl
 after_dots-next (b ∷ before) rest none =
     let p = or_parts (eqb b dot) (list_any (λ c. eqb c dot) before) none in

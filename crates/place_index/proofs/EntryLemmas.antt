@@ -1,5 +1,6 @@
 -- What a table with texts as keys holds, with the texts as bytes.
-use Rattle.std.proofs.Common.{◌≡◌, ◌≤◌, ◌+◌, ℕ, Bool, true, false, cond, List, [], ◌∷◌, length, map, refl, sym, ap, ◌∙◌, arith, zero, suc}
+use Rattle.std.proofs.Common.{◌≡◌, ◌≤◌, ◌+◌, ℕ, Bool, true, false, cond, List, [], ◌∷◌, length, map, refl, sym, ap}
+use Rattle.std.proofs.Common.{◌∙◌, arith, zero, suc}
 use Rattle.std.specs.Prelude.{Some, None, slice_get, option_map, string_bytes}
 use Rattle.indexmap.specs.IndexMap.{set_value_at}
 use Rattle.std.proofs.lemmas.Option.{none-some, same_Some}
@@ -57,6 +58,18 @@ module _ {V Y : Type 0} where
       by true rest = refl
       by false rest = ap (λ fs. (string_bytes e.0, e.1) ∷ fs) rest
 
+module _ {V : Type 0} where
+  pub set_at-present : (text : List ℕ) (es : List (List ℕ × V)) (v w : V) → value_at text es ≡ Some v
+      → set_at text es w ≡ with_value es text w
+  set_at-present text [] v w at = absurd (none-some v at)
+  set_at-present text (e ∷ es) v w at = by (bytes_eq text e.0) at (λ h. set_at-present text es v w h)
+    where
+      by : (b : Bool) → cond b (Some e.1) (value_at text es) ≡ Some v
+          → (value_at text es ≡ Some v → set_at text es w ≡ with_value es text w)
+          → cond b ((e.0, w) ∷ es) (e ∷ set_at text es w) ≡ cond b ((e.0, w) ∷ es) (e ∷ with_value es text w)
+      by true h rest = refl
+      by false h rest = ap (λ l. e ∷ l) (rest h)
+
 -- ---- one value after another
 
 module _ {K V : Type 0} (f : V → V) where
@@ -102,16 +115,19 @@ module _ {K V : Type 0} (f : V → V) where
   first_with-all (e ∷ es) (suc n) le = ap (λ l. (e.0, f e.1) ∷ l) (first_with-all es n (omega arith))
 
 module _ {V Y : Type 0} (f : V → V) where
-  pub with_values-by_bytes : (es : List (String Y × V)) → by_bytes (map (λ e. (e.0, f e.1)) es) ≡ with_values f (by_bytes es)
+  pub with_values-by_bytes : (es : List (String Y × V))
+      → by_bytes (map (λ e. (e.0, f e.1)) es) ≡ with_values f (by_bytes es)
   with_values-by_bytes [] = refl
   with_values-by_bytes (e ∷ es) = ap (λ l. (string_bytes e.0, f e.1) ∷ l) (with_values-by_bytes es)
 
 module _ {V : Type 0} (f : V → V) where
-  pub value_at-with_values : (text : List ℕ) (es : List (List ℕ × V)) → value_at text (with_values f es) ≡ option_map f (value_at text es)
+  pub value_at-with_values : (text : List ℕ) (es : List (List ℕ × V))
+      → value_at text (with_values f es) ≡ option_map f (value_at text es)
   value_at-with_values text [] = refl
   value_at-with_values text (e ∷ es) = by (bytes_eq text e.0) (value_at-with_values text es)
     where
       by : (b : Bool) → value_at text (with_values f es) ≡ option_map f (value_at text es)
-          → cond b (Some (f e.1)) (value_at text (with_values f es)) ≡ option_map f (cond b (Some e.1) (value_at text es))
+          → cond b (Some (f e.1)) (value_at text (with_values f es)) ≡ option_map f
+          (cond b (Some e.1) (value_at text es))
       by true rest = refl
       by false rest = rest

@@ -3,4 +3,5 @@ pub mod EntryLemmas
 pub mod FoundLemmas
 pub mod IndexLemmas
 pub mod PartLemmas
+pub mod PuttingLemmas
 pub mod StepLemmas

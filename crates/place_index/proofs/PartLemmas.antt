@@ -1,5 +1,6 @@
 -- Parts of a list after an insertion and after a removal.
-use Rattle.std.proofs.Common.{◌≡◌, ◌⊎◌, ◌+◌, ◌-◌, ◌<◌, ◌≤◌, ℕ, Bool, true, false, List, [], ◌∷◌, length, refl, sym, ap, ◌∙◌, inl, inr, arith, true≢false, zero, suc}
+use Rattle.std.proofs.Common.{◌≡◌, ◌⊎◌, ◌+◌, ◌-◌, ◌<◌, ◌≤◌, ℕ, Bool, true, false, List, [], ◌∷◌, length, refl, sym}
+use Rattle.std.proofs.Common.{ap, ◌∙◌, inl, inr, arith, true≢false, zero, suc}
 use Rattle.std.proofs.lemmas.Bool.{cases_lt}
 use Rattle.std.specs.Prelude.{Some, slice_get}
 use Rattle.std.specs.List.{insert, remove}
@@ -13,12 +14,14 @@ module _ {A : Type 0} where
       ((i < p) × (slice_get xs i ≡ Some y)) ⊎ ((i ≡ p) × (x ≡ y))
       ⊎ ((j : ℕ) × (i ≡ suc j) × (p ≤ j) × (slice_get xs j ≡ Some y))
 
-  deeper : (z : A) (zs : List A) (p : ℕ) (x : A) (i : ℕ) (y : A) → AtInsert zs p x i y → AtInsert (z ∷ zs) (suc p) x (suc i) y
+  deeper : (z : A) (zs : List A) (p : ℕ) (x : A) (i : ℕ) (y : A) → AtInsert zs p x i y
+      → AtInsert (z ∷ zs) (suc p) x (suc i) y
   deeper z zs p x i y (inl h) = let l = h.0 in inl (omega (arith, l), h.1)
   deeper z zs p x i y (inr (inl h)) = inr (inl (ap suc h.0, h.1))
   deeper z zs p x i y (inr (inr h)) = let l = h.2 in inr (inr (suc h.0, ap suc h.1, omega (arith, l), h.3))
 
-  pub at_insert : (xs : List A) (p : ℕ) (x : A) (i : ℕ) (y : A) → p ≤ length xs → slice_get (insert xs p x) i ≡ Some y → AtInsert xs p x i y
+  pub at_insert : (xs : List A) (p : ℕ) (x : A) (i : ℕ) (y : A) → p ≤ length xs
+      → slice_get (insert xs p x) i ≡ Some y → AtInsert xs p x i y
   at_insert [] zero x zero y le e = inr (inl (refl, same_Some x y e))
   at_insert [] zero x (suc i) y le e = absurd (none-some y e)
   at_insert [] (suc p) x i y le e = absurd (omega arith)
@@ -35,7 +38,8 @@ module _ {A : Type 0} where
   deeper_out z zs p i y (inl h) = let l = h.0 in inl (omega (arith, l), h.1)
   deeper_out z zs p i y (inr h) = let l = h.0 in inr (omega (arith, l), h.1)
 
-  pub at_remove : (xs : List A) (p i : ℕ) (y : A) → p < length xs → slice_get (remove xs p) i ≡ Some y → AtRemove xs p i y
+  pub at_remove : (xs : List A) (p i : ℕ) (y : A) → p < length xs → slice_get (remove xs p) i ≡ Some y
+      → AtRemove xs p i y
   at_remove [] p i y l e = absurd (omega arith)
   at_remove (z ∷ zs) zero i y l e = inr (omega arith, e)
   at_remove (z ∷ zs) (suc p) zero y l e = inl (omega arith, e)
@@ -54,7 +58,8 @@ module _ {A : Type 0} where
 
   module _ (test : A → Bool) (xs : List A) (p : ℕ) (x : A) (le : p ≤ length xs) where
     -- x is put in before the part
-    pub part_after : (start len : ℕ) → IsPart test xs start len → test x ≡ false → p ≤ start → IsPart test (insert xs p x) (suc start) len
+    pub part_after : (start len : ℕ) → IsPart test xs start len → test x ≡ false → p ≤ start
+        → IsPart test (insert xs p x) (suc start) len
     part_after start len part fails low =
         let some = part.some in
         let within = part.within in
@@ -83,7 +88,8 @@ module _ {A : Type 0} where
         after i y a (inr (inr h)) = let l = h.1 in part.after h.0 y (omega (arith, l)) h.3
 
     -- x is put in after the part
-    pub part_before : (start len : ℕ) → IsPart test xs start len → test x ≡ false → start + len ≤ p → IsPart test (insert xs p x) start len
+    pub part_before : (start len : ℕ) → IsPart test xs start len → test x ≡ false → start + len ≤ p
+        → IsPart test (insert xs p x) start len
     part_before start len part fails high =
         let within = part.within in
         let l = insert-length xs p x le in
@@ -111,7 +117,8 @@ module _ {A : Type 0} where
         after i y a (inr (inr h)) = let m = h.2 in part.after h.0 y (omega (arith, m, high)) h.3
 
     -- x is put in within the part or at one of its ends, and passes
-    pub part_grows : (start len : ℕ) → IsPart test xs start len → test x ≡ true → start ≤ p → p ≤ start + len → IsPart test (insert xs p x) start (suc len)
+    pub part_grows : (start len : ℕ) → IsPart test xs start len → test x ≡ true → start ≤ p → p ≤ start + len
+        → IsPart test (insert xs p x) start (suc len)
     part_grows start len part passes low high =
         let within = part.within in
         let l = insert-length xs p x le in
@@ -131,7 +138,8 @@ module _ {A : Type 0} where
         inside : (i : ℕ) (y : A) → start ≤ i → i < start + suc len → AtInsert xs p x i y → test y ≡ true
         inside i y a b (inl h) = let l = h.0 in part.inside i y a (omega (arith, l, high)) h.1
         inside i y a b (inr (inl h)) = ap test (sym h.1) ∙ passes
-        inside i y a b (inr (inr h)) = let l = h.1 in let m = h.2 in part.inside h.0 y (omega (arith, m, low)) (omega (arith, l)) h.3
+        inside i y a b (inr (inr h)) = let l = h.1 in let m = h.2 in part.inside h.0 y (omega (arith, m, low))
+            (omega (arith, l)) h.3
 
         after : (i : ℕ) (y : A) → start + suc len ≤ i → AtInsert xs p x i y → test y ≡ false
         after i y a (inl h) = let l = h.0 in absurd (omega (arith, l, high))
@@ -222,7 +230,8 @@ module _ {A : Type 0} where
 
   module _ (test : A → Bool) (xs : List A) (p : ℕ) (lt : p < length xs) where
     -- one is taken out before the part
-    pub part_after_out : (start len : ℕ) → IsPart test xs (suc start) len → p ≤ start → IsPart test (remove xs p) start len
+    pub part_after_out : (start len : ℕ) → IsPart test xs (suc start) len → p ≤ start
+        → IsPart test (remove xs p) start len
     part_after_out start len part low =
         let within = part.within in
         let l = remove-length xs p lt in
@@ -247,7 +256,8 @@ module _ {A : Type 0} where
         after i y a (inr h) = part.after (suc i) y (omega (arith, a)) h.1
 
     -- one is taken out after the part
-    pub part_before_out : (start len : ℕ) → IsPart test xs start len → start + len ≤ p → IsPart test (remove xs p) start len
+    pub part_before_out : (start len : ℕ) → IsPart test xs start len → start + len ≤ p
+        → IsPart test (remove xs p) start len
     part_before_out start len part high =
         let l = remove-length xs p lt in
         record {
@@ -271,7 +281,8 @@ module _ {A : Type 0} where
         after i y a (inr h) = part.after (suc i) y (omega (arith, a)) h.1
 
     -- one of the part's own is taken out, and others stay
-    pub part_shrinks : (start len : ℕ) → IsPart test xs start (suc len) → 0 < len → start ≤ p → p < start + suc len → IsPart test (remove xs p) start len
+    pub part_shrinks : (start len : ℕ) → IsPart test xs start (suc len) → 0 < len → start ≤ p → p < start + suc len
+        → IsPart test (remove xs p) start len
     part_shrinks start len part more low high =
         let within = part.within in
         let l = remove-length xs p lt in

@@ -1,5 +1,7 @@
--- The index of a vector of rows: from domain text to its part of the vector, and in it from path text to a part of that.
-use Rattle.std.specs.Prelude.{◌≡◌, ◌≢◌, ◌<◌, ◌≤◌, ◌+◌, ℕ, suc, List, [], ◌∷◌, length, Bool, true, false, Option, Some, None, slice_get, option_map, nat_le, nat_lt, ◌&&◌, ◌^◌, ◌-◌, if◌then◌else◌}
+-- The index of a vector of rows: from domain text to its part of the vector, and in it from path text to a
+-- part of that.
+use Rattle.std.specs.Prelude.{◌≡◌, ◌≢◌, ◌<◌, ◌≤◌, ◌+◌, ℕ, suc, List, [], ◌∷◌, length, Bool, true, false, Option, Some}
+use Rattle.std.specs.Prelude.{None, slice_get, option_map, nat_le, nat_lt, ◌&&◌, ◌^◌, ◌-◌, if◌then◌else◌}
 use Rattle.place_index.specs.Entries.{value_at, with_value}
 use Rattle.place_index.specs.declared.part.DomainPart.{DomainPart}
 use Rattle.place_index.specs.declared.part.Part.{Part}

@@ -6,3 +6,4 @@ pub mod Inserting
 pub mod Lending
 pub mod Paths
 pub mod Places
+pub mod Putting

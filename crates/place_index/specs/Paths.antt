@@ -1,4 +1,5 @@
--- The hosts that a domain covers by its text, and the request-paths that a cookie's path covers (RFC 6265, 5.1.3 and 5.1.4).
+-- The hosts that a domain covers by its text, and the request-paths that a cookie's path covers (RFC 6265,
+-- 5.1.3 and 5.1.4).
 use Rattle.std.specs.Prelude.{◌≡◌, ◌⊎◌, ◌++◌, ◌-◌, ℕ, List, ◌∷◌, length, Some, slice_get}
 
 -- `b'.'`

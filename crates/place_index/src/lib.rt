@@ -7,6 +7,7 @@ pub mod laws;
 mod looks;
 mod moving;
 mod part;
+mod putting;
 mod text_map;
 
 pub use looks::Looks;

@@ -10,11 +10,13 @@ pub loop-i-preserved : goal.loop-i-preserved
 loop-i-preserved c = elim c.match-get_index_mut.branch [
   | in-Some w ↦
       ap (λ m. m.entries.entries) w.domains-inside-is
-      ∙ first_with-step (moved_domain c.args.at) c.domains.inside.entries.entries c.loop-i.domains-inside.entries.entries c.loop-i.i
+      ∙ first_with-step
+      (moved_domain c.args.at) c.domains.inside.entries.entries c.loop-i.domains-inside.entries.entries c.loop-i.i
       w.in-Some.part.now w.move_from.new.self c.loop-i.invariant (sym w.in-Some.ensures.value) w.move_from.ensures
   | in_default w ↦
       ap (λ m. m.entries.entries) w.domains-inside-is
-      ∙ first_with-end (moved_domain c.args.at) c.domains.inside.entries.entries c.loop-i.domains-inside.entries.entries c.loop-i.i
+      ∙ first_with-end
+      (moved_domain c.args.at) c.domains.inside.entries.entries c.loop-i.domains-inside.entries.entries c.loop-i.i
       c.loop-i.invariant (sym c.get_index_mut.ensures.value ∙ ap option_copied_mut w.in_default.is)
 ]
 

@@ -1,0 +1,34 @@
+-- A row more in a domain's part.
+use Rattle.std.specs.Prelude.{◌≡◌, ◌⊎◌, ◌<◌, ◌≤◌, ◌+◌, ℕ, suc, List, Some, None, IfSome}
+use Rattle.place_index.specs.Entries.{value_at, with_value}
+use Rattle.place_index.specs.declared.part.DomainPart.{DomainPart}
+use Rattle.place_index.specs.declared.part.Part.{Part}
+use Rattle.place_index.specs.Index.{OtherPathsMove, last}
+
+-- there is room for a row more, and the path's part, where it has one, lies in the domain's
+pub record HasRoom (path : List ℕ) (domain : DomainPart) : Type 0 where
+  pub room : domain.len < last
+  pub inside : IfSome (value_at path domain.paths) (λ part. (0 < part.len) × (part.start + part.len ≤ domain.len))
+
+-- the path is new, and its first row goes last
+pub record PutsLast (path : List ℕ) (old new : DomainPart) (at : ℕ) : Type 0 where
+  pub absent : value_at path old.paths ≡ None
+  pub at_end : at ≡ old.len
+  pub is : new ≡ record {
+    start = old.start;
+    len = suc old.len;
+    paths = with_value old.paths path (record { start = old.len; len = 1 });
+  }
+
+-- the path is there, and the row goes behind its last
+pub record PutsBehind (path : List ℕ) (old new : DomainPart) (at : ℕ) : Type 0 where
+  pub part : Part
+  pub there : value_at path old.paths ≡ Some part
+  pub at_end : at ≡ part.start + part.len
+  pub start : new.start ≡ old.start
+  pub len : new.len ≡ suc old.len
+  pub grown : value_at path new.paths ≡ Some (record { start = part.start; len = suc part.len })
+  pub others : OtherPathsMove at path old.paths new.paths
+
+abbrev pub Puts : List ℕ → DomainPart → DomainPart → ℕ → Type 0
+Puts path old new at = PutsLast path old new at ⊎ PutsBehind path old new at
