@@ -1,5 +1,6 @@
 -- What a request finds by the index, and how many questions that takes.
-use Rattle.std.proofs.Common.{◌≡◌, ◌⊎◌, ◌+◌, ◌*◌, ◌<◌, ◌≤◌, ◌||◌, ℕ, Bool, true, false, List, [], ◌∷◌, length, refl, sym, ap, subst, ◌∙◌, inl, inr, arith, true≢false}
+use Rattle.std.proofs.Common.{◌≡◌, ◌⊎◌, ◌+◌, ◌*◌, ◌<◌, ◌≤◌, ◌||◌, ℕ, Bool, true, false, List, [], ◌∷◌, length, refl}
+use Rattle.std.proofs.Common.{sym, ap, subst, ◌∙◌, inl, inr, arith, true≢false}
 use Rattle.std.specs.Prelude.{Option, Some, None, slice_get, nat_le, nat_lt}
 use Rattle.std.specs.Str.{bytes_eq}
 use Rattle.std.specs.List.{flat_map, list_any}
@@ -10,18 +11,21 @@ use Rattle.place_index.specs.Paths.{dot, slash}
 use Rattle.place_index.specs.Places.{Place, is_at, is_of}
 use Rattle.place_index.specs.Entries.{value_at}
 use Rattle.place_index.specs.Candidates.{is_among, domains_of, paths_of, count_of}
-use Rattle.place_index.specs.Found.{FindsExactly, Span, is_in, span_of, spans_of, spans, looks_for, path_looks, found_domain, found_domains}
+use Rattle.place_index.specs.Found.{FindsExactly, Span, is_in, span_of, spans_of, spans, looks_for, path_looks}
+use Rattle.place_index.specs.Found.{found_domain, found_domains}
 use Rattle.place_index.specs.declared.part.DomainPart.{DomainPart}
 use Rattle.place_index.specs.declared.part.Part.{Part}
 use Rattle.place_index.specs.Index.{Index, IsPart, PathAgrees, DomainAgrees, Agrees}
-use Rattle.place_index.proofs.CandidateLemmas.{among_case, among_head, among_tail, or_split, domains_of-count, paths_of-count}
+use Rattle.place_index.proofs.CandidateLemmas.{among_case, among_head, among_tail, or_split, domains_of-count}
+use Rattle.place_index.proofs.CandidateLemmas.{paths_of-count}
 use Rattle.place_index.proofs.EntryLemmas.{same_text}
 use Rattle.place_index.proofs.IndexLemmas.{own_domain, own_path}
 
 -- ---- its place is in its part
 
 within : (i start end : ℕ) → start ≤ i → i < end → is_in i (start, end) ≡ true
-within i start end a b = and_from (nat_le start i) (nat_lt i end) (grind (arith, common_steps)) (grind (arith, common_steps))
+within i start end a b =
+    and_from (nat_le start i) (nat_lt i end) (grind (arith, common_steps)) (grind (arith, common_steps))
 
 in_part : (test : Place → Bool) (rows : List Place) (start len i : ℕ) (row : Place)
     → IsPart test rows start len → slice_get rows i ≡ Some row → test row ≡ true → is_in i (start, start + len) ≡ true
@@ -42,7 +46,8 @@ any_of test f text (t ∷ ts) e h =
   where
     by : (t ≡ text) ⊎ (is_among text ts ≡ true) → (is_among text ts ≡ true → list_any test (flat_map f ts) ≡ true)
         → (list_any test (f t) || list_any test (flat_map f ts)) ≡ true
-    by (inl same) rest = or_left (list_any test (f t)) (list_any test (flat_map f ts)) (ap (λ x. list_any test (f x)) same ∙ h)
+    by (inl same) rest =
+        or_left (list_any test (f t)) (list_any test (flat_map f ts)) (ap (λ x. list_any test (f x)) same ∙ h)
     by (inr more) rest = or_right (list_any test (f t)) (list_any test (flat_map f ts)) (rest more)
 
 module _ (rows : List Place) (i : ℕ) (row : Place) (at : slice_get rows i ≡ Some row) where
@@ -60,7 +65,8 @@ module _ (rows : List Place) (i : ℕ) (row : Place) (at : slice_get rows i ≡ 
       any_of (is_in i) (λ path. span_of domain (value_at path domain.paths)) row.path paths asked
       (path_span domain (value_at row.path domain.paths) (is.1 row.path))
 
-  pub is_found : (index : Index) → Agrees rows index → (domains paths : List (List ℕ)) → is_among row.domain domains ≡ true
+  pub is_found : (index : Index) → Agrees rows index → (domains paths : List (List ℕ))
+      → is_among row.domain domains ≡ true
       → is_among row.path paths ≡ true → list_any (is_in i) (spans index domains paths) ≡ true
   is_found index agrees domains paths asked path_asked =
       any_of (is_in i) (λ domain. spans_of paths (value_at domain index)) row.domain domains asked
@@ -72,7 +78,8 @@ some_of : (test : Span → Bool) (f : List ℕ → List Span) (ts : List (List �
     → (t : List ℕ) × (is_among t ts ≡ true) × (list_any test (f t) ≡ true)
 some_of test f [] e = absurd (true≢false (sym e))
 some_of test f (t ∷ ts) e =
-    by (or_split (list_any test (f t)) (list_any test (flat_map f ts)) (sym (list_any-append test (f t) (flat_map f ts)) ∙ e)) (λ h. some_of test f ts h)
+    by (or_split (list_any test (f t)) (list_any test (flat_map f ts))
+    (sym (list_any-append test (f t) (flat_map f ts)) ∙ e)) (λ h. some_of test f ts h)
   where
     by : (list_any test (f t) ≡ true) ⊎ (list_any test (flat_map f ts) ≡ true)
         → (list_any test (flat_map f ts) ≡ true → (u : List ℕ) × (is_among u ts ≡ true) × (list_any test (f u) ≡ true))
@@ -92,8 +99,9 @@ in_span i start end e = by (cases_lt i start) (cases_lt i end)
     by (inr low) (inr high) = none (and_right (nat_le start i) (nat_lt i end) (grind (arith, common_steps)))
 
 module _ (rows : List Place) (i : ℕ) (row : Place) (at : slice_get rows i ≡ Some row) where
-  span_path : (domain : List ℕ) (part : DomainPart) (text : List ℕ) (path : Option Part) → PathAgrees rows domain part.start text path
-      → list_any (is_in i) (span_of part path) ≡ true → is_at domain text row ≡ true
+  span_path : (domain : List ℕ) (part : DomainPart) (text : List ℕ) (path : Option Part)
+      → PathAgrees rows domain part.start text path → list_any (is_in i) (span_of part path) ≡ true
+      → is_at domain text row ≡ true
   span_path domain part text None is e = absurd (true≢false (sym e))
   span_path domain part text (Some path) is e =
       let h = in_span i (part.start + path.start) (part.start + path.start + path.len) e in
@@ -105,7 +113,8 @@ module _ (rows : List Place) (i : ℕ) (row : Place) (at : slice_get rows i ≡ 
   spans_domain domain paths None is e = absurd (true≢false (sym e))
   spans_domain domain paths (Some part) is e =
       let f = some_of (is_in i) (λ path. span_of part (value_at path part.paths)) paths e in
-      let p = and_parts (is_of domain row) (bytes_eq f.0 row.path) (span_path domain part f.0 (value_at f.0 part.paths) (is.1 f.0) f.2) in
+      let p = and_parts (is_of domain row) (bytes_eq f.0 row.path)
+      (span_path domain part f.0 (value_at f.0 part.paths) (is.1 f.0) f.2) in
       (p.0, subst (λ t. is_among t paths ≡ true) (same_text f.0 row.path p.1) f.1)
 
   pub found_is : (index : Index) → Agrees rows index → (domains paths : List (List ℕ))
@@ -124,14 +133,19 @@ finds_exactly rows index agrees host path i row at = (
 
 -- ---- how many questions
 
-looks_split : (index : Index) (domains : List (List ℕ)) (paths : ℕ) → looks_for index domains paths ≡ length domains + found_domains index domains * paths
+looks_split : (index : Index) (domains : List (List ℕ)) (paths : ℕ)
+    → looks_for index domains paths ≡ length domains + found_domains index domains * paths
 looks_split index [] paths = omega arith
 looks_split index (domain ∷ domains) paths = by (value_at domain index) (looks_split index domains paths)
   where
     by : (d : Option DomainPart) → looks_for index domains paths ≡ length domains + found_domains index domains * paths
-        → 1 + path_looks paths d + looks_for index domains paths ≡ length (domain ∷ domains) + (found_domain d + found_domains index domains) * paths
+        → 1 + path_looks paths d + looks_for index domains paths
+        ≡ length (domain ∷ domains) + (found_domain d + found_domains index domains) * paths
     by None e = omega (arith, e)
-    by (Some d) e = let m : (1 + found_domains index domains) * paths ≡ paths + found_domains index domains * paths = grind (arith, common_steps) in omega (arith, e, m)
+    by (Some d) e =
+        let m : (1 + found_domains index domains) * paths ≡ paths + found_domains index domains * paths
+        = grind (arith, common_steps) in
+        omega (arith, e, m)
 
 pub looks_are_few : (index : Index) (host path : List ℕ) → looks_for index (domains_of host) (length (paths_of path))
     ≡ 1 + count_of dot host + found_domains index (domains_of host) * (1 + 2 * count_of slash path)
