@@ -12,23 +12,23 @@ use Rattle.place_index.specs.Paths.{dot, slash, EndsAfterDot, PathMatches, IsPat
 use Rattle.place_index.proofs.EntryLemmas.{same_text, text_is}
 use Rattle.place_index.specs.Candidates.{is_among, after_dots, domains_of, at_slashes, paths_of, count_of}
 
-same_nat : (a b : ℕ) → eqb a b ≡ true → a ≡ b
+pub same_nat : (a b : ℕ) → eqb a b ≡ true → a ≡ b
 same_nat a b e = grind (arith, common_steps)
 
-nat_is : (a b : ℕ) → a ≡ b → eqb a b ≡ true
+pub nat_is : (a b : ℕ) → a ≡ b → eqb a b ≡ true
 nat_is a b e = grind (arith, common_steps)
 
 -- one way or the other
-or_split : (x y : Bool) → (x || y) ≡ true → (x ≡ true) ⊎ (y ≡ true)
+pub or_split : (x y : Bool) → (x || y) ≡ true → (x ≡ true) ⊎ (y ≡ true)
 or_split true y e = inl refl
 or_split false y e = inr e
 
 -- ---- membership
 
-among_head : (text t : List ℕ) (ts : List (List ℕ)) → t ≡ text → is_among text (t ∷ ts) ≡ true
+pub among_head : (text t : List ℕ) (ts : List (List ℕ)) → t ≡ text → is_among text (t ∷ ts) ≡ true
 among_head text t ts e = or_left (bytes_eq text t) (is_among text ts) (text_is text t (sym e))
 
-among_tail : (text t : List ℕ) (ts : List (List ℕ)) → is_among text ts ≡ true → is_among text (t ∷ ts) ≡ true
+pub among_tail : (text t : List ℕ) (ts : List (List ℕ)) → is_among text ts ≡ true → is_among text (t ∷ ts) ≡ true
 among_tail text t ts e = or_right (bytes_eq text t) (is_among text ts) e
 
 pub among_case : (text t : List ℕ) (ts : List (List ℕ)) → is_among text (t ∷ ts) ≡ true

@@ -1,5 +1,6 @@
 pub mod Candidates
 pub mod Entries
+pub mod Found
 pub mod Index
 pub mod Inserting
 pub mod Lending

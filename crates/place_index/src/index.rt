@@ -12,7 +12,7 @@ use std::sync::ledger::Ledger;
 /// The parts of the domains.
 #[derive(Debug, Drop)]
 pub(crate) struct Domains {
-    parts: TextMap<DomainPart>,
+    pub(crate) parts: TextMap<DomainPart>,
 }
 
 impl Domains {

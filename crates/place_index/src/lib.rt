@@ -1,6 +1,7 @@
 //! Where the rows of a vector stand, by the domain and the path of each.
 #![tactic(auto)]
 
+mod find;
 mod index;
 pub mod laws;
 mod looks;
