@@ -1,0 +1,8 @@
+pub mod CandidateLemmas
+pub mod EntryLemmas
+pub mod FoundLemmas
+pub mod IndexLemmas
+pub mod PartLemmas
+pub mod PuttingLemmas
+pub mod RowLemmas
+pub mod StepLemmas

@@ -1,0 +1,9 @@
+use Rattle.std.proofs.Common.{◌∙◌, ap}
+use Rattle.place_index.specs.Entries.{value_at}
+use Rattle.place_index.proofs.EntryLemmas.{value_at-by_bytes}
+use Rattle.place_index.proofs.text_map.TextMap.get.Goals as goal
+
+pub returns : goal.returns
+returns g c =
+    c.get.ensures.value ∙ value_at-by_bytes c.self.inside.entries.entries c.args.key.now
+    ∙ ap (value_at c.args.key.now) c.self.view_is

@@ -1,0 +1,74 @@
+-- What a request finds by the index: the parts that can have a row of it, and how many questions that takes.
+use Rattle.std.specs.Prelude.{◌≡◌, ◌↔◌, ◌^◌, IfSome, ◌<◌, ◌+◌, ◌*◌, ◌&&◌, ℕ, List, [], ◌∷◌, length, Bool, true, Option}
+use Rattle.std.specs.Prelude.{Some, None, slice_get, nat_le, nat_lt}
+use Rattle.std.specs.List.{flat_map, list_any}
+use Rattle.place_index.specs.Paths.{dot, slash}
+use Rattle.place_index.specs.Places.{Place}
+use Rattle.place_index.specs.Entries.{value_at}
+use Rattle.place_index.specs.Candidates.{is_among, domains_of, paths_of, count_of}
+use Rattle.place_index.specs.declared.part.DomainPart.{DomainPart}
+use Rattle.place_index.specs.declared.part.Part.{Part}
+use Rattle.place_index.specs.Index.{Index, Agrees}
+
+-- where a part of the vector begins and ends
+abbrev pub Span : Type 0
+Span = ℕ × ℕ
+
+abbrev pub is_in : ℕ → Span → Bool
+is_in i span = nat_le span.0 i && nat_lt i span.1
+
+abbrev pub span_of : DomainPart → Option Part → List Span
+span_of domain None = []
+span_of domain (Some part) =
+    (domain.start + part.start, domain.start + part.start + part.len) ∷ []
+
+abbrev pub spans_of : List (List ℕ) → Option DomainPart → List Span
+spans_of paths None = []
+spans_of paths (Some domain) = flat_map (λ path. span_of domain (value_at path domain.paths)) paths
+
+-- the parts of these domains and paths
+abbrev pub spans : Index → List (List ℕ) → List (List ℕ) → List Span
+spans index domains paths = flat_map (λ domain. spans_of paths (value_at domain index)) domains
+
+-- how many questions they take: one for each domain, and one for each path in each that is found
+abbrev pub path_looks : ℕ → Option DomainPart → ℕ
+path_looks paths None = 0
+path_looks paths (Some domain) = paths
+
+abbrev pub looks_for : Index → List (List ℕ) → ℕ → ℕ
+looks_for index [] paths = 0
+looks_for index (domain ∷ domains) paths =
+    1 + path_looks paths (value_at domain index) + looks_for index domains paths
+
+abbrev pub found_domain : Option DomainPart → ℕ
+found_domain None = 0
+found_domain (Some domain) = 1
+
+abbrev pub found_domains : Index → List (List ℕ) → ℕ
+found_domains index [] = 0
+found_domains index (domain ∷ domains) = found_domain (value_at domain index) + found_domains index domains
+
+-- where the parts of a domain's paths end is a number of 64 bits; and so for each domain
+abbrev pub Fits : DomainPart → Type 0
+Fits domain =
+    (text : List ℕ) → IfSome (value_at text domain.paths) (λ part. domain.start + part.start + part.len < 2 ^ 64)
+
+abbrev pub AllFit : Index → Type 0
+AllFit index = (text : List ℕ) → IfSome (value_at text index) Fits
+
+-- ---- laws
+
+-- a row is in a found part exactly where its domain and its path are among those asked for
+abbrev pub FindsExactly : Type 0
+FindsExactly =
+    (rows : List Place) (index : Index) → Agrees rows index → (host path : List ℕ) (i : ℕ) (row : Place)
+    → slice_get rows i ≡ Some row
+    → (list_any (is_in i) (spans index (domains_of host) (paths_of path)) ≡ true)
+    ↔ ((is_among row.domain (domains_of host) ≡ true) × (is_among row.path (paths_of path) ≡ true))
+
+-- that takes one question and the host's dots, and for each domain found one and twice the path's slashes
+abbrev pub LooksAreFew : Type 0
+LooksAreFew =
+    (index : Index) (host path : List ℕ) →
+    looks_for index (domains_of host) (length (paths_of path))
+    ≡ 1 + count_of dot host + found_domains index (domains_of host) * (1 + 2 * count_of slash path)

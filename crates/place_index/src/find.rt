@@ -1,0 +1,97 @@
+//! What an index is asked for a host and a path of a request.
+
+ghost use Rattle.std.specs.Prelude.{◌≡◌, ◌+◌, ◌*◌, ◌++◌, ◌≤◌, OnOk, Some};
+ghost use Rattle.place_index.specs.Entries.{value_at};
+ghost use Rattle.place_index.specs.Candidates.{domains_of, paths_of, count_of};
+ghost use Rattle.place_index.specs.Paths.{slash};
+ghost use Rattle.place_index.specs.Found.{span_of, spans_of, spans, path_looks, looks_for, Fits, AllFit};
+
+use crate::index::Domains;
+use crate::looks::Looks;
+use crate::part::DomainPart;
+use std::alloc::AllocError;
+use std::sync::ledger::Ledger;
+
+// Asks for a path, and notes where its part is.
+fn ask_path<L: Ledger>(
+    domain: &DomainPart,
+    path: &str,
+    found: &mut Vec<(usize, usize)>,
+    looks: &mut Looks<L>,
+) -> Result<(), AllocError>
+    requires { Fits domain.now }
+    ensures spans { OnOk result (found.new.items
+        ≡ found.old.items ++ span_of domain.now (value_at path.now domain.now.paths)) }
+    ensures look { looks.new ≡ looks.old + 1 }
+{
+    if let Some(part) = domain.ask(path, looks) {
+        let start = domain.start + part.start;
+        found.push((start, start + part.len))?;
+    }
+    Ok(())
+}
+
+// Asks for the path and its two beginnings at each slash.
+fn ask_paths<L: Ledger>(
+    domain: &DomainPart,
+    path: &str,
+    found: &mut Vec<(usize, usize)>,
+    looks: &mut Looks<L>,
+) -> Result<(), AllocError>
+    requires { Fits domain.now }
+    ensures spans { OnOk result (found.new.items
+        ≡ found.old.items ++ spans_of (paths_of path.now) (Some domain.now)) }
+    ensures looks { looks.new ≤ looks.old + (1 + 2 * count_of slash path.now) }
+{
+    ask_path(domain, path, found, looks)?;
+    for i in 0..path.len() {
+        if path.as_bytes()[i] == b'/' {
+            ask_path(domain, &path[..i], found, looks)?;
+            ask_path(domain, &path[..i + 1], found, looks)?;
+        }
+    }
+    Ok(())
+}
+
+// Asks for a domain, and where it has a part for the paths in it.
+fn ask_domain<L: Ledger>(
+    domains: &Domains,
+    domain: &str,
+    path: &str,
+    found: &mut Vec<(usize, usize)>,
+    looks: &mut Looks<L>,
+) -> Result<(), AllocError>
+    requires { AllFit domains.now.parts }
+    ensures spans { OnOk result (found.new.items
+        ≡ found.old.items ++ spans_of (paths_of path.now) (value_at domain.now domains.now.parts)) }
+    ensures looks { looks.new
+        ≤ looks.old + (1 + path_looks (1 + 2 * count_of slash path.now) (value_at domain.now domains.now.parts)) }
+{
+    match domains.ask(domain, looks) {
+        Some(part) => ask_paths(part, path, found, looks),
+        None => Ok(()),
+    }
+}
+
+/// Asks for the host and for the text after each of its dots.
+pub(crate) fn ask_domains<L: Ledger>(
+    domains: &Domains,
+    host: &str,
+    path: &str,
+    found: &mut Vec<(usize, usize)>,
+    looks: &mut Looks<L>,
+) -> Result<(), AllocError>
+    requires { AllFit domains.now.parts }
+    ensures spans { OnOk result (found.new.items
+        ≡ found.old.items ++ spans domains.now.parts (domains_of host.now) (paths_of path.now)) }
+    ensures looks { looks.new
+        ≤ looks.old + looks_for domains.now.parts (domains_of host.now) (1 + 2 * count_of slash path.now) }
+{
+    ask_domain(domains, host, path, found, looks)?;
+    for i in 0..host.len() {
+        if host.as_bytes()[i] == b'.' {
+            ask_domain(domains, &host[i + 1..], path, found, looks)?;
+        }
+    }
+    Ok(())
+}

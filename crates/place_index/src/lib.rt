@@ -1,0 +1,13 @@
+//! Where the rows of a vector stand, by the domain and the path of each.
+#![tactic(auto)]
+
+mod find;
+mod index;
+pub mod laws;
+mod looks;
+mod moving;
+mod part;
+mod putting;
+mod text_map;
+
+pub use looks::Looks;

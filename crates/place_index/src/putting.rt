@@ -1,0 +1,78 @@
+//! A row more in a domain's part.
+
+ghost use Rattle.std.specs.Prelude.{◌≡◌, [], ◌∷◌, IfOk, OnErr};
+ghost use Rattle.place_index.specs.Putting.{HasRoom, IsReady, Puts, PutsAt};
+
+use crate::moving::{move_domains, move_paths};
+use crate::part::{DomainPart, Part};
+use crate::text_map::TextMap;
+use std::alloc::{AllocError, Global};
+
+/// Has one row more of the path: behind its others, else last. Answers where, counted from where the domain begins.
+pub(crate) fn put(alloc: Global, domain: &mut DomainPart, path: &str) -> Result<usize, AllocError>
+    requires { HasRoom path.now domain.old }
+    ensures ok { IfOk result (λ at. Puts path.now domain.old domain.new at) }
+    ensures err { OnErr result (domain.new ≡ domain.old) }
+{
+    match domain.paths.get_mut(path) {
+        Some(part) => {
+            let at = part.start + part.len;
+            part.len += 1;
+            domain.len += 1;
+            move_paths(&mut domain.paths, at);
+            Ok(at)
+        }
+        None => {
+            let at = domain.len;
+            let text = String::from_str(alloc, path)?;
+            let part = Part { start: at, len: 1 };
+            domain.paths.insert(text, part)?;
+            domain.len += 1;
+            Ok(at)
+        }
+    }
+}
+
+// The parts of one path, which has the domain's one row.
+fn one_path(alloc: Global, path: &str) -> Result<TextMap<Part>, AllocError>
+    ensures { IfOk result (λ paths. paths ≡ (path.now, record { start = 0; len = 1 }) ∷ []) }
+{
+    let mut paths = TextMap::new(alloc);
+    let text = String::from_str(alloc, path)?;
+    paths.insert(text, Part { start: 0, len: 1 })?;
+    Ok(paths)
+}
+
+/// Has one row more of the domain and the path. Answers where in the vector it goes.
+pub(crate) fn put_row(
+    alloc: Global,
+    domains: &mut TextMap<DomainPart>,
+    rows: usize,
+    domain: &str,
+    path: &str,
+) -> Result<usize, AllocError>
+    requires { IsReady rows domains.old }
+    ensures ok { IfOk result (λ at.
+        PutsAt (record { domain = domain.now; path = path.now }) rows domains.old domains.new at) }
+    ensures err { OnErr result (domains.new ≡ domains.old) }
+{
+    match domains.get_mut(domain) {
+        Some(part) => {
+            let inner = put(alloc, part, path)?;
+            let at = part.start + inner;
+            move_domains(domains, at);
+            Ok(at)
+        }
+        None => {
+            let paths = one_path(alloc, path)?;
+            let text = String::from_str(alloc, domain)?;
+            let part = DomainPart {
+                start: rows,
+                len: 1,
+                paths,
+            };
+            domains.insert(text, part)?;
+            Ok(rows)
+        }
+    }
+}

@@ -1,0 +1,93 @@
+//! Values by text, in the order in which their texts came.
+
+ghost use Rattle.std.specs.Prelude.{◌≡◌, ◌↔◌, [], IsTrue, IfOk, OnOk, OnErr, string_bytes, option_copied};
+ghost use Rattle.std.specs.Option.{option_copied_mut};
+ghost use Rattle.std.specs.Borrow.{sem};
+ghost use Rattle.place_index.specs.Entries.{value_at, with_value, without, by_bytes};
+ghost use Rattle.place_index.specs.Lending.{LendsValue};
+
+use indexmap::IndexMap;
+use indexmap::map::Iter;
+use std::alloc::{AllocError, Global};
+use std::marker::Model;
+
+/// Values by text, in the order in which their texts came.
+#[derive(Debug, Drop)]
+pub(crate) struct TextMap<V> {
+    pub(crate) entries: IndexMap<String, V>,
+}
+
+impl<V> Model for TextMap<V> {
+    ghost use Rattle.std.specs.Prelude.{List, ℕ};
+    ghost use Rattle.std.specs.Coded.{coded_list, coded×, coded_ℕ};
+    ghost use Rattle.place_index.specs.Entries.{by_bytes};
+
+    ghost Value = { List (List ℕ × V) };
+
+    ghost coded = { coded_list (coded× (coded_list coded_ℕ) V.code) };
+
+    ghost view = { λ m. by_bytes m.entries.entries };
+}
+
+impl<V> TextMap<V> {
+    /// The map with nothing in it.
+    pub(crate) fn new(alloc: Global) -> TextMap<V>
+        ensures { result ≡ [] }
+    {
+        TextMap {
+            entries: IndexMap::new(alloc),
+        }
+    }
+
+    /// The value of a text.
+    pub(crate) fn get(&self, key: &str) -> Option<&V>
+        ensures { option_copied result ≡ value_at key.now self.now }
+    {
+        self.entries.get(key)
+    }
+
+    /// The value of a text, to be changed.
+    pub(crate) fn get_mut(&mut self, key: &str) -> Option<&mut V>
+        ensures* writes_back { sem 𝓛 (LendsValue V.row self.entry key.now result) }
+        ensures value { option_copied_mut result ≡ value_at key.now self.old }
+    {
+        self.entries.get_mut(key)
+    }
+
+    /// Whether there is no value.
+    pub(crate) fn is_empty(&self) -> bool
+        ensures { IsTrue result ↔ (self.now ≡ []) }
+    {
+        self.entries.is_empty()
+    }
+
+    /// The values in their order.
+    pub(crate) fn iter(&self) -> Iter<'_, String, V>
+        ensures { by_bytes result ≡ self.now }
+    {
+        self.entries.iter()
+    }
+}
+
+impl<V: Drop> TextMap<V> {
+    /// Puts the value in the place of the one that the text has, else at the end.
+    /// Answers that one.
+    pub(crate) fn insert(&mut self, key: String, value: V) -> Result<Option<V>, AllocError>
+        ensures ok { OnOk result (self.new ≡ with_value self.old (string_bytes key) value) }
+        ensures before { IfOk result (λ before. before ≡ value_at (string_bytes key) self.old) }
+        ensures err { OnErr result (self.new ≡ self.old) }
+    {
+        match self.entries.insert(key, value) {
+            Ok(before) => Ok(before),
+            Err(_) => Err(AllocError),
+        }
+    }
+
+    /// Takes the value of the text out, where there is one.
+    pub(crate) fn remove(&mut self, key: &str) -> Option<V>
+        ensures value { result ≡ value_at key.now self.old }
+        ensures rest { self.new ≡ without key.now self.old }
+    {
+        self.entries.shift_remove(key)
+    }
+}
