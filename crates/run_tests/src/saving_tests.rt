@@ -283,6 +283,70 @@ fn tells_a_write_that_fails(rt: HostRuntime) -> Result<(), Fail> {
     Ok(())
 }
 
+// What is saved of `a=1` with a minute to live.
+const KEPT: &str = "[
+    (
+        raw_cookie: \"a=1; Secure; Path=/; Max-Age=60\",
+        path: (\"/\", true),
+        domain: HostOnly(\"shop.com\"),
+        expires: AtUtc(\"2024-01-01T00:01:00Z\"),
+    ),
+]
+";
+
+// A run each: the text that its client is loaded of, the second, the script, what that prints, and
+// what is saved then.
+const RUNS: &[(&str, i64, &str, &str, &str)] = &[
+    (
+        "[]\n",
+        0,
+        "open\thttps://shop.com/\t2024-01-01T00:00:00Z\n\
+set\tplain\ta\t1\t60\t-\n\
+deliver\t2024-01-01T00:00:00Z\n",
+        "",
+        KEPT,
+    ),
+    (
+        KEPT,
+        59,
+        "open\thttps://shop.com/\t2024-01-01T00:00:59Z\nget\tplain\ta\nlose\n",
+        "plain\ta\t=1\n",
+        KEPT,
+    ),
+    (
+        KEPT,
+        60,
+        "open\thttps://shop.com/\t2024-01-01T00:01:00Z\nget\tplain\ta\nlose\n",
+        "plain\ta\t-\n",
+        "[]\n",
+    ),
+];
+
+fn runs_so(
+    alloc: Global,
+    text: &str,
+    now: DateTime,
+    script: &str,
+    prints: &str,
+    saved: &str,
+) -> Result<bool, Error> {
+    let mut client = loaded(alloc, text, now)?;
+    let mut output = Vec::with_capacity(alloc, 1000)?;
+    let ended = run_script(alloc, &mut client, script, &mut output, &mut zeros());
+    let printed = matches!(ended, Ok(Ended::Whole)) && output.as_slice() == prints.as_bytes();
+    Ok(printed && is_saved_so(alloc, &client, now, saved)?)
+}
+
+#[test]
+fn goes_on_from_run_to_run(rt: HostRuntime) {
+    for (text, at, script, prints, saved) in RUNS {
+        assert!(rt;
+            runs_so(rt.alloc(), text, second(*at), script, prints, saved).unwrap_or(false),
+            "at {at}"
+        );
+    }
+}
+
 // Tenths of a second after the beginning of 2024.
 fn tenths(n: i64) -> DateTime {
     second(0).saturating_add(SignedDuration::from_millis(n.saturating_mul(100)))
