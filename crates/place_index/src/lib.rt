@@ -10,4 +10,5 @@ mod part;
 mod putting;
 mod text_map;
 
+pub use index::Index;
 pub use looks::Looks;
