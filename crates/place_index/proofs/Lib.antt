@@ -1,8 +1,10 @@
 pub mod CandidateLemmas
+pub mod EndLemmas
 pub mod EntryLemmas
 pub mod FoundLemmas
 pub mod IndexLemmas
 pub mod PartLemmas
+pub mod PlacesLemmas
 pub mod PuttingLemmas
 pub mod RowLemmas
 pub mod StepLemmas

@@ -45,10 +45,7 @@ impl Index {
         ensures { (places : List Place) → Agrees places self.now
             → PartIs (is_at domain.now path.now) places result }
     {
-        let domain = self.domains.parts.get(domain)?;
-        let part = domain.paths.get(path)?;
-        let start = domain.start + part.start;
-        Some((start, start + part.len))
+        self.domains.part(domain, path)
     }
 
     /// Has one row more of the domain and the path: behind the last of both, else behind the domain's last, else last.
@@ -117,6 +114,18 @@ impl Domains {
         Domains {
             parts: TextMap::new(alloc),
         }
+    }
+
+    /// Where the part of a domain and a path begins and ends.
+    fn part(&self, domain: &str, path: &str) -> Option<(usize, usize)>
+        requires { IsIndex self.now.parts }
+        ensures { (places : List Place) → Agrees places self.now.parts
+            → PartIs (is_at domain.now path.now) places result }
+    {
+        let domain = self.parts.get(domain)?;
+        let part = domain.paths.get(path)?;
+        let start = domain.start + part.start;
+        Some((start, start + part.len))
     }
 
     /// Asks for a domain.
