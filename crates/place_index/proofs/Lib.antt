@@ -6,3 +6,4 @@ pub mod PartLemmas
 pub mod PuttingLemmas
 pub mod RowLemmas
 pub mod StepLemmas
+mod IndexOutLemmas
