@@ -7,3 +7,5 @@ pub mod PuttingLemmas
 pub mod RowLemmas
 pub mod StepLemmas
 mod IndexOutLemmas
+mod TakingLemmas
+mod RowOutLemmas

@@ -13,9 +13,7 @@ fn shorten(paths: &mut TextMap<Part>, path: &str)
 {
     match paths.get_mut(path) {
         Some(part) if part.len > 1 => part.len -= 1,
-        _ => {
-            paths.remove(path);
-        }
+        _ => paths.remove(path),
     }
 }
 
@@ -36,9 +34,7 @@ pub(crate) fn take_row(domains: &mut TextMap<DomainPart>, at: usize, domain: &st
 {
     match domains.get_mut(domain) {
         Some(part) if part.len > 1 => take(part, at - part.start, path),
-        _ => {
-            domains.remove(domain);
-        }
+        _ => domains.remove(domain),
     }
     move_domains_back(domains, at);
 }

@@ -84,11 +84,10 @@ impl<V: Drop> TextMap<V> {
     }
 
     /// Takes the value of the text out, where there is one.
-    pub(crate) fn remove(&mut self, key: &str) -> Option<V>
-        ensures value { result ≡ value_at key.now self.old }
+    pub(crate) fn remove(&mut self, key: &str)
         ensures rest { self.new ≡ without key.now self.old }
         ensures gone { value_at key.now self.new ≡ None }
     {
-        self.entries.shift_remove(key)
+        self.entries.shift_remove(key);
     }
 }
