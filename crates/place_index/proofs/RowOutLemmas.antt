@@ -118,30 +118,21 @@ module _ (row : Place) (p : ℕ) (old mid new : Index) (is : new ≡ with_values
         by (Some path) path_is = by_len path path_is (cases_lt 1 path.len)
 
   -- the row's domain has no more
-  pub takes_only : ((part : DomainPart) → value_at row.domain old ≡ Some part → part.len ≤ 1)
+  pub takes_only : (part : DomainPart) → value_at row.domain old ≡ Some part → part.len ≤ 1
       → mid ≡ without row.domain old → value_at row.domain mid ≡ None → TakesAt row p old new
-  takes_only few out gone places agrees here = by (value_at row.domain old) refl
-    where
-      by : (o : Option DomainPart) → value_at row.domain old ≡ o → Agrees (remove places p) new
-      by None none =
-          let nowhere = domain_agrees row p old places agrees here None none in
-          absurd (true≢false (sym (own_domain row) ∙ nowhere p row here))
-      by (Some part) there =
-          let some = (domain_agrees row p old places agrees here (Some part) there).0.some in
-          let most = few part there in
-          ends_domain places row p old new agrees here (record {
-            part = part;
-            there = there;
-            only = omega (arith, some, most);
-            ended = value row.domain ∙ ap (option_map (domain_back p)) gone;
-            others = λ text d. value text ∙ ap (λ es. option_map (domain_back p) (value_at text es)) out
-                ∙ ap (option_map (domain_back p)) (value_at-without_other row.domain text old d);
-          })
+  takes_only part there few out gone places agrees here =
+      let some = (domain_agrees row p old places agrees here (Some part) there).0.some in
+      ends_domain places row p old new agrees here (record {
+        part = part;
+        there = there;
+        only = omega (arith, some, few);
+        ended = value row.domain ∙ ap (option_map (domain_back p)) gone;
+        others = λ text d. value text ∙ ap (λ es. option_map (domain_back p) (value_at text es)) out
+            ∙ ap (option_map (domain_back p)) (value_at-without_other row.domain text old d);
+      })
 
--- no part but one of a single row
-pub few_at : (o : Option DomainPart) (part : DomainPart) → o ≡ Some part → part.len ≤ 1
-    → (other : DomainPart) → o ≡ Some other → other.len ≤ 1
-few_at o part is few other is_other = subst (λ d. d.len ≤ 1) (same_Some part other (sym is ∙ is_other)) few
-
-pub few_none : (o : Option DomainPart) → o ≡ None → (other : DomainPart) → o ≡ Some other → other.len ≤ 1
-few_none o none other is = absurd (none-some other (sym none ∙ is))
+-- the row's domain has a part
+pub takes_none : (row : Place) (p : ℕ) (old new : Index) → value_at row.domain old ≡ None → TakesAt row p old new
+takes_none row p old new none places agrees here =
+    let nowhere = domain_agrees row p old places agrees here None none in
+    absurd (true≢false (sym (own_domain row) ∙ nowhere p row here))

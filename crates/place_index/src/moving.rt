@@ -34,8 +34,8 @@ pub(crate) fn move_domains(domains: &mut TextMap<DomainPart>, at: usize)
 pub(crate) fn move_paths_back(paths: &mut TextMap<Part>, at: usize)
     ensures { paths.new ≡ with_values (path_back at) paths.old }
 {
-    for i in 0..paths.entries.len() {
-        if let Some(part) = paths.entries.get_index_mut(i) {
+    for index in 0..paths.entries.len() {
+        if let Some(part) = paths.entries.get_index_mut(index) {
             part.move_back(at);
         }
     }
@@ -45,8 +45,8 @@ pub(crate) fn move_paths_back(paths: &mut TextMap<Part>, at: usize)
 pub(crate) fn move_domains_back(domains: &mut TextMap<DomainPart>, at: usize)
     ensures { domains.new ≡ with_values (domain_back at) domains.old }
 {
-    for i in 0..domains.entries.len() {
-        if let Some(part) = domains.entries.get_index_mut(i) {
+    for index in 0..domains.entries.len() {
+        if let Some(part) = domains.entries.get_index_mut(index) {
             part.move_back(at);
         }
     }

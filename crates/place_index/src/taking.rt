@@ -13,7 +13,8 @@ fn shorten(paths: &mut TextMap<Part>, path: &str)
 {
     match paths.get_mut(path) {
         Some(part) if part.len > 1 => part.len -= 1,
-        _ => paths.remove(path),
+        Some(_) => paths.remove(path),
+        None => {}
     }
 }
 
@@ -34,7 +35,8 @@ pub(crate) fn take_row(domains: &mut TextMap<DomainPart>, at: usize, domain: &st
 {
     match domains.get_mut(domain) {
         Some(part) if part.len > 1 => take(part, at - part.start, path),
-        _ => domains.remove(domain),
+        Some(_) => domains.remove(domain),
+        None => {}
     }
     move_domains_back(domains, at);
 }
