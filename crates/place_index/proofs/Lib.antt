@@ -8,3 +8,6 @@ pub mod PlacesLemmas
 pub mod PuttingLemmas
 pub mod RowLemmas
 pub mod StepLemmas
+mod IndexOutLemmas
+mod TakingLemmas
+mod RowOutLemmas

@@ -11,6 +11,7 @@ ghost use Rattle.place_index.specs.Taking.{HasRow, TakesAt};
 use crate::looks::Looks;
 use crate::part::{DomainPart, Part};
 use crate::putting::put_row;
+use crate::taking::take_row;
 use crate::text_map::TextMap;
 use std::alloc::{AllocError, Global};
 use std::marker::Model;
@@ -74,7 +75,7 @@ impl Index {
         requires { HasRow (record { domain = domain.now; path = path.now }) at self.old }
         ensures { TakesAt (record { domain = domain.now; path = path.now }) at self.old self.new }
     {
-        unreachable!()
+        take_row(&mut self.domains.parts, at, domain, path)
     }
 
     /// Where the parts begin and end that can have a row for a request to the host and the request-path, in the order

@@ -8,6 +8,7 @@ mod looks;
 mod moving;
 mod part;
 mod putting;
+mod taking;
 mod text_map;
 
 pub use index::Index;
