@@ -2,6 +2,7 @@ pub mod CandidateLemmas
 pub mod EntryLemmas
 pub mod FoundLemmas
 pub mod IndexLemmas
+pub mod OrderLemmas
 pub mod PartLemmas
 pub mod PuttingLemmas
 pub mod RowLemmas

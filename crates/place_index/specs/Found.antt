@@ -1,6 +1,6 @@
 -- What a request finds by the index: the parts that can have a row of it, and how many questions that takes.
 use Rattle.std.specs.Prelude.{◌≡◌, ◌↔◌, ◌^◌, IfSome, ◌<◌, ◌≤◌, ◌+◌, ◌*◌, ◌&&◌, ℕ, List, [], ◌∷◌, length, Bool, true, Option}
-use Rattle.std.specs.Prelude.{Some, None, Unit, slice_get, nat_le, nat_lt, filter}
+use Rattle.std.specs.Prelude.{Some, None, slice_get, nat_le, nat_lt, filter}
 use Rattle.std.specs.List.{flat_map, list_any, AllByRecursion}
 use Rattle.place_index.specs.Paths.{dot, slash}
 use Rattle.place_index.specs.Places.{Place, is_of}
