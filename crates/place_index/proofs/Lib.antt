@@ -1,5 +1,6 @@
 pub mod CandidateLemmas
 pub mod EntryLemmas
+pub mod FindLemmas
 pub mod FoundLemmas
 pub mod IndexLemmas
 pub mod OrderLemmas

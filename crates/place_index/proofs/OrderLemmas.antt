@@ -40,7 +40,7 @@ outside : (i : ℕ) (span : Span) → (i < span.0) ⊎ (span.1 ≤ i) → is_in 
 outside i span (inl low) = and_left (nat_le span.0 i) (nat_lt i span.1) (lt-leb span.0 i low)
 outside i span (inr high) = and_right (nat_le span.0 i) (nat_lt i span.1) (le-ltb i span.1 high)
 
-inside : (i : ℕ) (span : Span) → span.0 ≤ i → i < span.1 → is_in i span ≡ true
+pub inside : (i : ℕ) (span : Span) → span.0 ≤ i → i < span.1 → is_in i span ≡ true
 inside i span low high =
     and_from (nat_le span.0 i) (nat_lt i span.1) (le-leb span.0 i low) (lt-ltb i span.1 high)
 
