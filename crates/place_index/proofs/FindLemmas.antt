@@ -1,6 +1,6 @@
 -- What an index that agrees with rows finds, in the words of the rows.
 use Rattle.std.proofs.Common.{◌≡◌, ◌+◌, ◌*◌, ◌-◌, ◌^◌, ◌<◌, ◌≤◌, ◌↔◌, ◌∙◌, ℕ, Bool, true, false, cond, List, [], ◌∷◌, length}
-use Rattle.std.proofs.Common.{refl, sym, ap, arith, true≢false}
+use Rattle.std.proofs.Common.{refl, sym, ap, arith, suc, true≢false}
 use Rattle.std.specs.Prelude.{Option, Some, None, IfSome, slice_get, filter}
 use Rattle.std.specs.List.{list_any, AllByRecursion}
 use Rattle.std.proofs.lemmas.Bool.{cond-true, cond-false, or_left, or_right}
@@ -65,10 +65,15 @@ found_domains-rows rows index agrees (domain ∷ domains) =
         → found_domains index domains ≡ length (filter test domains)
         → found_domain part + found_domains index domains ≡ length (filter test (domain ∷ domains))
     by None none rest =
-        rest ∙ sym (ap length (cond-false (test domain) (domain ∷ filter test domains) (filter test domains) (nowhere_any (is_of domain) rows none)))
+        let same : length (filter test (domain ∷ domains)) ≡ length (filter test domains) = ap length
+        (cond-false (test domain) (domain ∷ filter test domains) (filter test domains)
+        (nowhere_any (is_of domain) rows none)) in
+        omega (arith, rest, same)
     by (Some part) own rest =
-        ap (λ n. 1 + n) rest
-        ∙ sym (ap length (cond-true (test domain) (domain ∷ filter test domains) (filter test domains) (part_any (is_of domain) rows part.start part.len own.0)))
+        let more : length (filter test (domain ∷ domains)) ≡ suc (length (filter test domains)) = ap length
+        (cond-true (test domain) (domain ∷ filter test domains) (filter test domains)
+        (part_any (is_of domain) rows part.start part.len own.0)) in
+        omega (arith, rest, more)
 
 -- the questions, in the words of the rows
 pub looks_for-rows : (rows : List Place) (index : Index) → Agrees rows index → (host path : List ℕ)

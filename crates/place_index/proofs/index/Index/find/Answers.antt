@@ -1,4 +1,4 @@
-use Rattle.std.proofs.Common.{◌∙◌, ap}
+use Rattle.std.proofs.Common.{◌++◌, ◌∙◌, ap}
 use Rattle.std.specs.List.{list_any}
 use Rattle.place_index.specs.Candidates.{domains_of, paths_of}
 use Rattle.place_index.specs.Found.{is_in, spans}
@@ -16,7 +16,8 @@ returns-clause-found g c places agrees =
     c.put_in_order.ensures.ascend
     (λ i. c.put_in_order.ensures.same i ∙ ap (list_any (is_in i))
     (c.in_ok-ask_domains.ensures.spans
-    ∙ ap (λ index. spans index (domains_of c.args.host.now) (paths_of c.args.path.now)) c.self.view_is))
+    ∙ (λ j. c.new-found.ensures.items j
+        ++ spans (c.self.view_is j) (domains_of c.args.host.now) (paths_of c.args.path.now))))
 
 pub returns-clause-looks : goal.returns-clause-looks
 returns-clause-looks g c places agrees =
