@@ -20,23 +20,6 @@ use Rattle.place_index.proofs.FoundLemmas.{finds_exactly, in_span, looks_are_few
 use Rattle.place_index.proofs.OrderLemmas.{inside}
 use Rattle.place_index.proofs.PartLemmas.{is_there}
 
--- ---- where a part ends is a number of 64 bits
-
-pub all_fit : (index : Index) → IsIndex index → AllFit index
-all_fit index is text = domain (value_at text index) (is.agrees text)
-  where
-    path : (start : ℕ) (of text : List ℕ) (part : Option Part) → PathAgrees is.places of start text part
-        → IfSome part (λ part. start + part.start + part.len < 2 ^ 64)
-    path start of text None none = tt
-    path start of text (Some part) own =
-        let within = own.within in
-        let room = is.room in
-        omega (arith, within, room)
-
-    domain : (part : Option DomainPart) → DomainAgrees is.places text part → IfSome part Fits
-    domain None none = tt
-    domain (Some part) own = λ t. path part.start text t (value_at t part.paths) (own.1 t)
-
 -- ---- a domain has a part where some row is of it
 
 nowhere_any : (test : Place → Bool) (rows : List Place) → IsNowhere test rows → list_any test rows ≡ false

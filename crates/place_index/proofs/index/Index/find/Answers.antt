@@ -2,7 +2,7 @@ use Rattle.std.proofs.Common.{◌++◌, ◌∙◌, ap}
 use Rattle.std.specs.List.{list_any}
 use Rattle.place_index.specs.Candidates.{domains_of, paths_of}
 use Rattle.place_index.specs.Found.{is_in, spans}
-use Rattle.place_index.proofs.FindLemmas.{all_fit, few_looks, finds}
+use Rattle.place_index.proofs.FindLemmas.{few_looks, finds}
 use Rattle.place_index.proofs.index.Index.find.Goals as goal
 
 pub returns-in_err-ask_domains-clause-looks : goal.returns-in_err-ask_domains-clause-looks
