@@ -1,18 +1,18 @@
 -- What an index that agrees with rows finds, in the words of the rows.
-use Rattle.std.proofs.Common.{◌≡◌, ◌+◌, ◌*◌, ◌-◌, ◌^◌, ◌<◌, ◌≤◌, ◌↔◌, ◌∙◌, ℕ, Bool, true, false, cond, List, [], ◌∷◌, length}
+use Rattle.std.proofs.Common.{◌≡◌, ◌+◌, ◌*◌, ◌-◌, ◌<◌, ◌≤◌, ◌∙◌, ℕ, Bool, true, false, List, [], ◌∷◌, length}
 use Rattle.std.proofs.Common.{refl, sym, ap, arith, suc, true≢false}
-use Rattle.std.specs.Prelude.{Option, Some, None, IfSome, slice_get, filter}
+use Rattle.std.specs.Prelude.{Option, Some, None, filter}
 use Rattle.std.specs.List.{list_any, AllByRecursion}
 use Rattle.std.proofs.lemmas.Bool.{cond-true, cond-false, or_left, or_right}
 use Rattle.std.proofs.lemmas.List.Folds.{list_any_at, list_any_none}
 use Rattle.std.proofs.lemmas.Option.{get_or_from_slice_get, slice_get-get_or}
 use Rattle.place_index.specs.Paths.{dot, slash}
-use Rattle.place_index.specs.Places.{Place, is_at, is_of}
+use Rattle.place_index.specs.Places.{Place, is_of}
 use Rattle.place_index.specs.Entries.{value_at}
 use Rattle.place_index.specs.Candidates.{domains_of, paths_of, count_of}
-use Rattle.place_index.specs.Found.{AllFit, AscendFrom, Finds, Fits, found_domain, found_domains, is_in, looks_at}
+use Rattle.place_index.specs.Found.{AscendFrom, Finds, found_domain, found_domains, is_in, looks_at}
 use Rattle.place_index.specs.Found.{looks_for, span_of, spans, spans_of}
-use Rattle.place_index.specs.Index.{Agrees, DomainAgrees, Index, IsIndex, IsNowhere, IsPart, PathAgrees, Span}
+use Rattle.place_index.specs.Index.{Agrees, DomainAgrees, Index, IsNowhere, IsPart, PathAgrees, Span}
 use Rattle.place_index.specs.declared.part.DomainPart.{DomainPart}
 use Rattle.place_index.specs.declared.part.Part.{Part}
 use Rattle.place_index.proofs.CandidateLemmas.{paths_of-count}

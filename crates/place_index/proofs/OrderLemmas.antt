@@ -1,6 +1,6 @@
 -- Parts merged in the order of their beginnings: what is left of each, and the positions in them.
-use Rattle.std.proofs.Common.{◌≡◌, ◌⊎◌, ◌+◌, ◌<◌, ◌≤◌, ◌++◌, ◌||◌, ℕ, Bool, true, false, cond, List, [], ◌∷◌, length}
-use Rattle.std.proofs.Common.{refl, sym, ap, ◌∙◌, inl, inr, arith, zero, suc, take, drop, set, get_or, max, append_assoc}
+use Rattle.std.proofs.Common.{◌≡◌, ◌⊎◌, ◌+◌, ◌<◌, ◌≤◌, ◌++◌, ◌||◌, ℕ, true, false, cond, List, [], ◌∷◌, length}
+use Rattle.std.proofs.Common.{refl, sym, ap, ◌∙◌, inl, inr, arith, suc, take, drop, set, get_or, max, append_assoc}
 use Rattle.std.proofs.Common.{append-nil}
 use Rattle.std.specs.Prelude.{nat_le, nat_lt}
 use Rattle.std.specs.List.{list_any}
@@ -8,7 +8,6 @@ use Rattle.std.specs.List.Sorted.{IsNonDecreasingBy}
 use Rattle.std.proofs.Math.Nat.{le-max_left, le-max_right, max-le}
 use Rattle.std.proofs.lemmas.Bool.{cases_lt, cond_both, ltb-true, ltb-false, lt-ltb, le-ltb, le-leb, lt-leb, and_from}
 use Rattle.std.proofs.lemmas.Bool.{and_left, and_right, cond-true, cond-false}
-use Rattle.std.proofs.lemmas.Grind.{common_steps}
 use Rattle.std.proofs.lemmas.List.{drop_more, drop_all, take_more_set, drop-set-lt}
 use Rattle.std.proofs.lemmas.List.Folds.{list_any_none}
 use Rattle.place_index.specs.Found.{AscendFrom, is_in}
@@ -48,8 +47,8 @@ before_all : (i : ℕ) (span : Span) (spans : List Span) → by_start (span ∷ 
     → list_any (is_in i) spans ≡ false
 before_all i span spans up low =
     list_any_none (is_in i) spans (λ k d l.
-        let later : span.0 ≤ (get_or spans k d).0 = up 0 (suc k) d (omega arith) (omega (arith, l)) in
-        outside i (get_or spans k d) (inl (omega (arith, low, later))))
+    let later : span.0 ≤ (get_or spans k d).0 = up 0 (suc k) d (omega arith) (omega (arith, l)) in
+    outside i (get_or spans k d) (inl (omega (arith, low, later))))
 
 merged_none : (i done : ℕ) (spans : List Span) → i < done → list_any (is_in i) (merged done spans) ≡ false
 unfolding merged
@@ -57,11 +56,11 @@ merged_none i done [] low = refl
 merged_none i done (span ∷ spans) low =
     cond_both (nat_lt (max span.0 done) span.1) _ _ (λ rest. list_any (is_in i) rest ≡ false)
     (λ e.
-        let more = le-max_right span.0 done in
-        let over = ltb-true (max span.0 done) span.1 e in
-        ap (λ b. b || list_any (is_in i) (merged span.1 spans))
-        (outside i (max span.0 done, span.1) (inl (omega (arith, low, more))))
-        ∙ merged_none i span.1 spans (omega (arith, low, more, over)))
+    let more = le-max_right span.0 done in
+    let over = ltb-true (max span.0 done) span.1 e in
+    ap (λ b. b || list_any (is_in i) (merged span.1 spans))
+    (outside i (max span.0 done, span.1) (inl (omega (arith, low, more))))
+    ∙ merged_none i span.1 spans (omega (arith, low, more, over)))
     (λ e. merged_none i done spans low)
 
 -- a part of which nothing is left has no position from `done` on
@@ -105,9 +104,9 @@ merged_same i done [] up le = refl
 merged_same i done (span ∷ spans) up le =
     cond_both (nat_lt (max span.0 done) span.1) _ _ (λ rest. list_any (is_in i) rest ≡ list_any (is_in i) (span ∷ spans))
     (λ e. kept i done span spans up le (ltb-true (max span.0 done) span.1 e)
-        (λ m. merged_same i span.1 spans (by_start-tail span spans up) m))
+    (λ m. merged_same i span.1 spans (by_start-tail span spans up) m))
     (λ e. merged_same i done spans (by_start-tail span spans up) le
-        ∙ ap (λ b. b || list_any (is_in i) spans) (sym (passed i done span le (ltb-false (max span.0 done) span.1 e))))
+    ∙ ap (λ b. b || list_any (is_in i) spans) (sym (passed i done span le (ltb-false (max span.0 done) span.1 e))))
 
 -- ---- a step of the loop: the first `kept` places have what is done, and those from `i` on are as they were
 
@@ -118,7 +117,7 @@ pub merged_keeps : (spans all : List Span) (kept i done start end : ℕ) (d : Sp
 unfolding merged
 merged_keeps spans all kept i done start end d le l is_start is_end over is =
     (λ j. take_more_set spans kept (start, end) (omega (arith, le, l)) j
-        ++ merged end (drop-set-lt (i + 1) spans kept (start, end) (omega (arith, le)) j))
+    ++ merged end (drop-set-lt (i + 1) spans kept (start, end) (omega (arith, le)) j))
     ∙ append_assoc (take kept spans) ((start, end) ∷ []) (merged end (drop (i + 1) spans))
     ∙ ap (λ rest. take kept spans ++ rest) (sym (step d is_start is_end))
     ∙ is

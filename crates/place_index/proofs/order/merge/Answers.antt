@@ -1,8 +1,7 @@
-use Rattle.std.proofs.Common.{rules, ◌≡◌, ℕ, ◌+◌, ◌<◌, ◌≤◌, length, List, [], ◌∷◌, ◌++◌, ◌∙◌, sym, ap, subst, arith, take, drop, max}
+use Rattle.std.proofs.Common.{◌+◌, ◌<◌, ◌≤◌, length, ◌++◌, ◌∙◌, sym, ap, subst, arith, take, drop, max}
 use Rattle.std.proofs.lemmas.Grind.{common_steps}
 use Rattle.std.proofs.lemmas.List.{length-set}
 use Rattle.std.specs.List.{list_any}
-use Rattle.std.specs.List.Sorted.{IsNonDecreasingBy}
 use Rattle.place_index.specs.Found.{AscendFrom, is_in}
 use Rattle.place_index.proofs.OrderLemmas.{merged, merged_ascend, merged_same, merged_keeps, merged_passes, merged_end}
 use Rattle.place_index.proofs.order.merge.Goals.{then-start-end, else-start-end}

@@ -17,7 +17,7 @@ returns-clause-found g c places agrees =
     (λ i. c.put_in_order.ensures.same i ∙ ap (list_any (is_in i))
     (c.in_ok-ask_domains.ensures.spans
     ∙ (λ j. c.new-found.ensures.items j
-        ++ spans (c.self.view_is j) (domains_of c.args.host.now) (paths_of c.args.path.now))))
+    ++ spans (c.self.view_is j) (domains_of c.args.host.now) (paths_of c.args.path.now))))
 
 pub returns-clause-looks : goal.returns-clause-looks
 returns-clause-looks g c places agrees =
