@@ -1,8 +1,10 @@
 pub mod CandidateLemmas
 pub mod EndLemmas
 pub mod EntryLemmas
+pub mod FindLemmas
 pub mod FoundLemmas
 pub mod IndexLemmas
+pub mod OrderLemmas
 pub mod PartLemmas
 pub mod PlacesLemmas
 pub mod PuttingLemmas

@@ -8,7 +8,9 @@ ghost use Rattle.place_index.specs.Places.{Place, is_at};
 ghost use Rattle.place_index.specs.Putting.{IsReady, PutsAt};
 ghost use Rattle.place_index.specs.Taking.{HasRow, TakesAt};
 
+use crate::find::ask_domains;
 use crate::looks::Looks;
+use crate::order::put_in_order;
 use crate::part::{DomainPart, Part};
 use crate::putting::put_row;
 use crate::taking::take_row;
@@ -97,7 +99,10 @@ impl Index {
         ensures looks { (places : List Place) → Agrees places self.now
             → looks.new ≤ looks.old + looks_at host.now path.now places }
     {
-        Err(AllocError)
+        let mut found = Vec::new(alloc);
+        ask_domains(&self.domains, host, path, &mut found, looks)?;
+        put_in_order(&mut found);
+        Ok(found)
     }
 }
 

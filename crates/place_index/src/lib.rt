@@ -6,6 +6,7 @@ mod index;
 pub mod laws;
 mod looks;
 mod moving;
+mod order;
 mod part;
 mod putting;
 mod taking;
