@@ -12,12 +12,12 @@ loop-index-preserved c = elim c.match-get_index_mut.branch [
       ap (λ m. m.entries.entries) w.paths-inside-is
       ∙ first_with-step
       (path_back c.args.at) c.paths.inside.entries.entries c.loop-index.paths-inside.entries.entries c.loop-index.index
-      w.in-Some.part.now w.move_back.new.self c.loop-index.indexnvariant (sym w.in-Some.ensures.value) w.move_back.ensures
+      w.in-Some.part.now w.move_back.new.self c.loop-index.invariant (sym w.in-Some.ensures.value) w.move_back.ensures
   | in_default w ↦
       ap (λ m. m.entries.entries) w.paths-inside-is
       ∙ first_with-end
       (path_back c.args.at) c.paths.inside.entries.entries c.loop-index.paths-inside.entries.entries c.loop-index.index
-      c.loop-index.indexnvariant (sym c.get_index_mut.ensures.value ∙ ap option_copied_mut w.in_default.is)
+      c.loop-index.invariant (sym c.get_index_mut.ensures.value ∙ ap option_copied_mut w.in_default.is)
 ]
 
 pub returns : goal.returns
@@ -25,6 +25,6 @@ returns c =
     let old = c.paths.inside.entries.entries in
     let done = c.loop-index-test.false in
     let is = c.len-index-end.ensures.len in
-    ap by_bytes (c.loop-index.indexnvariant ∙ first_with-all (path_back c.args.at) old c.loop-index.index (omega (arith, done, is)))
+    ap by_bytes (c.loop-index.invariant ∙ first_with-all (path_back c.args.at) old c.loop-index.index (omega (arith, done, is)))
     ∙ with_values-by_bytes (path_back c.args.at) old
     ∙ ap (with_values (path_back c.args.at)) c.paths.view_is
