@@ -1,5 +1,5 @@
 -- The index agrees with the rows after one fewer.
-use Rattle.std.proofs.Common.{◌≡◌, ◌≢◌, ◌⊎◌, ◌+◌, ◌-◌, ◌<◌, ◌≤◌, ℕ, Bool, true, false, List, length, refl, sym, subst}
+use Rattle.std.proofs.Common.{◌≡◌, ◌≢◌, ◌⊎◌, ◌+◌, ◌-◌, ◌<◌, ◌≤◌, ℕ, Bool, true, false, List, length, sym, subst}
 use Rattle.std.proofs.Common.{◌∙◌, inl, inr, arith, true≢false, suc}
 use Rattle.std.specs.Prelude.{Option, Some, None, slice_get, option_map, nat_lt}
 use Rattle.std.specs.List.{remove}

@@ -4,9 +4,8 @@ use Rattle.std.proofs.Common.{inl, inr, arith, true≢false}
 use Rattle.std.specs.Prelude.{Option, Some, None, slice_get, option_map}
 use Rattle.std.specs.List.{remove}
 use Rattle.std.proofs.lemmas.Bool.{cases_lt}
-use Rattle.std.proofs.lemmas.Option.{none-some, same_Some}
 use Rattle.place_index.specs.Entries.{value_at, set_at, without, with_values}
-use Rattle.place_index.specs.Index.{Index, IsPart, IsNowhere, DomainAgrees, PathAgrees, Agrees}
+use Rattle.place_index.specs.Index.{Index, DomainAgrees, PathAgrees, Agrees}
 use Rattle.place_index.specs.Places.{Place, is_of, is_at}
 use Rattle.place_index.specs.Taking.{HasRow, TakesAt, OthersMoveBack, domain_back, path_back, shorter, Takes}
 use Rattle.place_index.specs.declared.part.DomainPart.{DomainPart}

@@ -1,6 +1,6 @@
 -- A row fewer.
-use Rattle.std.specs.Prelude.{◌≡◌, ◌≢◌, ◌<◌, ◌≤◌, ◌-◌, ℕ, List, length, Option, Some, None, slice_get, option_map, nat_lt}
-use Rattle.std.specs.Prelude.{if◌then◌else◌}
+use Rattle.std.specs.Prelude.{◌≡◌, ◌≢◌, ◌<◌, ◌≤◌, ◌-◌, ℕ, List, length, Option, Some, None, slice_get, option_map}
+use Rattle.std.specs.Prelude.{nat_lt, if◌then◌else◌}
 use Rattle.std.specs.List.{remove}
 use Rattle.place_index.specs.Entries.{value_at}
 use Rattle.place_index.specs.Index.{Index, Agrees, last}
