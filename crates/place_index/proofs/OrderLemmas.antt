@@ -102,7 +102,8 @@ pub merged_same : (i done : ℕ) (spans : List Span) → by_start spans → done
 unfolding merged
 merged_same i done [] up le = refl
 merged_same i done (span ∷ spans) up le =
-    cond_both (nat_lt (max span.0 done) span.1) _ _ (λ rest. list_any (is_in i) rest ≡ list_any (is_in i) (span ∷ spans))
+    cond_both (nat_lt (max span.0 done) span.1) _ _
+    (λ rest. list_any (is_in i) rest ≡ list_any (is_in i) (span ∷ spans))
     (λ e. kept i done span spans up le (ltb-true (max span.0 done) span.1 e)
     (λ m. merged_same i span.1 spans (by_start-tail span spans up) m))
     (λ e. merged_same i done spans (by_start-tail span spans up) le
@@ -119,24 +120,27 @@ merged_keeps spans all kept i done start end d le l is_start is_end over is =
     (λ j. take_more_set spans kept (start, end) (omega (arith, le, l)) j
     ++ merged end (drop-set-lt (i + 1) spans kept (start, end) (omega (arith, le)) j))
     ∙ append_assoc (take kept spans) ((start, end) ∷ []) (merged end (drop (i + 1) spans))
-    ∙ ap (λ rest. take kept spans ++ rest) (sym (step d is_start is_end))
+    ∙ ap (λ rest. take kept spans ++ rest) (sym step)
     ∙ is
   where
-    step : (d : Span) → start ≡ max (get_or spans i d).0 done → end ≡ (get_or spans i d).1
-        → merged done (drop i spans) ≡ (start, end) ∷ merged end (drop (i + 1) spans)
-    step d s e = ap (merged done) (drop_more spans i d l)
-        ∙ cond-true _ _ _ (lt-ltb (max (get_or spans i d).0 done) (get_or spans i d).1 (omega (arith, s, e, over)))
-        ∙ sym (λ j. (s j, e j) ∷ merged (e j) (drop (i + 1) spans))
+    step : merged done (drop i spans) ≡ (start, end) ∷ merged end (drop (i + 1) spans)
+    step = ap (merged done) (drop_more spans i d l)
+        ∙ cond-true _ _ _ (lt-ltb (max (get_or spans i d).0 done) (get_or spans i d).1
+        (omega (arith, is_start, is_end, over)))
+        ∙ sym (λ j. (is_start j, is_end j) ∷ merged (is_end j) (drop (i + 1) spans))
 
 pub merged_passes : (spans : List Span) (i done start : ℕ) (d : Span) → i < length spans
     → start ≡ max (get_or spans i d).0 done → (get_or spans i d).1 ≤ start
     → merged done (drop i spans) ≡ merged done (drop (i + 1) spans)
 unfolding merged
 merged_passes spans i done start d l is over =
-    ap (merged done) (drop_more spans i d l) ∙ cond-false _ _ _ (le-ltb (max (get_or spans i d).0 done) (get_or spans i d).1 (omega (arith, is, over)))
+    ap (merged done) (drop_more spans i d l)
+    ∙ cond-false _ _ _ (le-ltb (max (get_or spans i d).0 done) (get_or spans i d).1 (omega (arith, is, over)))
 
 pub merged_end : (spans all : List Span) (kept i done : ℕ) → length spans ≤ i
     → take kept spans ++ merged done (drop i spans) ≡ all → take kept spans ≡ all
 unfolding merged
 merged_end spans all kept i done over is =
-    sym (append-nil (take kept spans)) ∙ ap (λ rest. take kept spans ++ merged done rest) (sym (drop_all i spans over)) ∙ is
+    sym (append-nil (take kept spans))
+    ∙ ap (λ rest. take kept spans ++ merged done rest) (sym (drop_all i spans over))
+    ∙ is

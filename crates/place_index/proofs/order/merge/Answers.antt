@@ -11,30 +11,35 @@ pub loop-i-preserved : goal.loop-i-preserved
 loop-i-preserved c =
     let old = c.loop-i.parts.items in
     let span = c.index.result.now in
-    let low = c.loop-i.invariant.0 in
-    let len = c.loop-i.invariant.1 in
+    let low = c.loop-i.invariant.low in
+    let len = c.loop-i.invariant.len in
     let l : c.loop-i.i < length old = grind (arith, common_steps) in
     let start = c.max-start.ensures ∙ ap (λ s. max s.0 c.loop-i.done) c.index.ensures in
+    let end = ap (λ s. s.1) c.index.ensures in
     elim c.if-start-end.branch [
       | then-start-end w ↦
-          let more = w.kept-is in (
-            omega (arith, low, more),
-            ap (λ parts. length parts.items) w.parts-is ∙ length-set old c.loop-i.kept _ ∙ len,
-            (λ j. take (w.kept-is j) (w.parts-is j).items ++ merged (w.done-is j) (drop (c.loop-i.i + 1) (w.parts-is j).items))
+          let more = w.kept-is in
+          record {
+            low = omega (arith, low, more);
+            len = ap (λ parts. length parts.items) w.parts-is ∙ length-set old c.loop-i.kept _ ∙ len;
+            left = (λ j. take (w.kept-is j) (w.parts-is j).items
+                ++ merged (w.done-is j) (drop (c.loop-i.i + 1) (w.parts-is j).items))
                 ∙ merged_keeps old _ c.loop-i.kept c.loop-i.i c.loop-i.done c.max-start.result span.1 span low l
-                start (ap (λ s. s.1) c.index.ensures) w.if-start-end.true c.loop-i.invariant.2,
-          )
+                start end w.if-start-end.true c.loop-i.invariant.left;
+          }
       | else-start-end w ↦
           let same = w.kept-is in
           let over = w.if-start-end.false in
-          let end = ap (λ s. s.1) c.index.ensures in (
-            omega (arith, low, same),
-            ap (λ parts. length parts.items) w.parts-is ∙ len,
-            (λ j. take (w.kept-is j) (w.parts-is j).items ++ merged (w.done-is j) (drop (c.loop-i.i + 1) (w.parts-is j).items))
+          record {
+            low = omega (arith, low, same);
+            len = ap (λ parts. length parts.items) w.parts-is ∙ len;
+            left = (λ j. take (w.kept-is j) (w.parts-is j).items
+                ++ merged (w.done-is j) (drop (c.loop-i.i + 1) (w.parts-is j).items))
                 ∙ ap (λ rest. take c.loop-i.kept old ++ rest)
-                (sym (merged_passes old c.loop-i.i c.loop-i.done c.max-start.result span l start (omega (arith, over, end))))
-                ∙ c.loop-i.invariant.2,
-          )
+                (sym (merged_passes old c.loop-i.i c.loop-i.done c.max-start.result span l start
+                (omega (arith, over, end))))
+                ∙ c.loop-i.invariant.left;
+          }
     ]
 
 pub returns-clause-ascend : goal.returns-clause-ascend
@@ -42,7 +47,7 @@ returns-clause-ascend c =
     let over : length c.loop-i.parts.items ≤ c.loop-i.i = grind (arith, common_steps) in
     subst (AscendFrom 0)
     (sym (c.truncate.ensures.items
-    ∙ merged_end c.loop-i.parts.items _ c.loop-i.kept c.loop-i.i c.loop-i.done over c.loop-i.invariant.2))
+    ∙ merged_end c.loop-i.parts.items _ c.loop-i.kept c.loop-i.i c.loop-i.done over c.loop-i.invariant.left))
     (merged_ascend 0 c.args.parts.now.items)
 
 pub returns-clause-same : goal.returns-clause-same
@@ -50,5 +55,5 @@ returns-clause-same c i =
     let over : length c.loop-i.parts.items ≤ c.loop-i.i = grind (arith, common_steps) in
     ap (list_any (is_in i))
     (c.truncate.ensures.items
-    ∙ merged_end c.loop-i.parts.items _ c.loop-i.kept c.loop-i.i c.loop-i.done over c.loop-i.invariant.2)
+    ∙ merged_end c.loop-i.parts.items _ c.loop-i.kept c.loop-i.i c.loop-i.done over c.loop-i.invariant.left)
     ∙ merged_same i 0 c.args.parts.now.items c.requires (omega arith)
