@@ -1,6 +1,6 @@
 -- Where a row more goes: behind the last of its part.
-use Rattle.std.proofs.Common.{◌≡◌, ◌⊎◌, ◌+◌, ◌-◌, ◌<◌, ◌≤◌, ◌&&◌, ◌||◌, ℕ, Bool, true, false, List, [], ◌∷◌, length, refl}
-use Rattle.std.proofs.Common.{sym, ap, subst, ◌∙◌, arith, zero, suc, true≢false, if◌then◌else◌, not}
+use Rattle.std.proofs.Common.{◌≡◌, ◌+◌, ◌-◌, ◌<◌, ◌&&◌, ◌||◌, ℕ, Bool, true, false, List, [], ◌∷◌, length, refl}
+use Rattle.std.proofs.Common.{sym, ap, subst, ◌∙◌, arith, zero, suc, if◌then◌else◌, not}
 use Rattle.std.specs.Prelude.{Some, None, slice_get}
 use Rattle.std.specs.List.{list_any}
 use Rattle.std.specs.Str.{bytes_eq}
@@ -8,10 +8,9 @@ use Rattle.std.proofs.lemmas.Bool.{or_left, or_right}
 use Rattle.std.proofs.lemmas.Option.{none-some, same_Some}
 use Rattle.place_index.specs.Entries.{value_at}
 use Rattle.place_index.specs.Index.{Index, Agrees, IsPart, IsNowhere, DomainAgrees, PathAgrees}
-use Rattle.place_index.specs.Index.{BeginsDomain, BeginsPath, GrowsPath}
+use Rattle.place_index.specs.Index.{BeginsPath, GrowsPath}
 use Rattle.place_index.specs.Places.{Place, is_at, is_of}
 use Rattle.place_index.specs.Putting.{end_of, end_at}
-use Rattle.place_index.proofs.IndexLemmas.{path_domain}
 use Rattle.place_index.proofs.PartLemmas.{is_there}
 
 module _ {A : Type 0} (test : A → Bool) where

@@ -1,10 +1,10 @@
 -- The part of a domain and a path, by what an index has for their texts.
-use Rattle.std.proofs.Common.{◌≡◌, ◌+◌, ◌-◌, ◌<◌, ◌≤◌, ◌&&◌, ℕ, List, length, refl, sym, ap, subst, arith, false}
-use Rattle.std.specs.Prelude.{Some, None, slice_get}
+use Rattle.std.proofs.Common.{◌≡◌, ◌+◌, ◌-◌, ◌≤◌, ◌&&◌, ℕ, List, ap, subst, arith}
+use Rattle.std.specs.Prelude.{Some, None}
 use Rattle.std.specs.Str.{bytes_eq}
 use Rattle.place_index.specs.Entries.{value_at}
 use Rattle.place_index.specs.Index.{Index, Agrees, IsIndex, IsPart, IsNowhere, DomainAgrees, PathAgrees, last}
-use Rattle.place_index.specs.Places.{Place, is_at, is_of}
+use Rattle.place_index.specs.Places.{Place, is_at}
 use Rattle.place_index.specs.declared.part.DomainPart.{DomainPart}
 use Rattle.place_index.specs.declared.part.Part.{Part}
 

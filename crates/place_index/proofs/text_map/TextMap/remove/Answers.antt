@@ -1,5 +1,5 @@
 use Rattle.std.proofs.Common.{◌∙◌, ap, sym}
-use Rattle.place_index.specs.Entries.{by_bytes, value_at, without}
+use Rattle.place_index.specs.Entries.{by_bytes, without}
 use Rattle.place_index.proofs.EntryLemmas.{value_at-by_bytes, without-by_bytes}
 use Rattle.place_index.proofs.text_map.TextMap.remove.Goals as goal
 
