@@ -1,5 +1,5 @@
 -- A plain list of rows, each a domain and a path, and the index that goes with it.
-use Rattle.std.specs.Prelude.{ℕ, List, ◌×◌, map}
+use Rattle.std.specs.Prelude.{ℕ, List, map}
 use Rattle.std.specs.Borrow.{Bor}
 use Rattle.place_index.specs.Index.{Index, Agrees}
 use Rattle.place_index.specs.Places.{Place}
