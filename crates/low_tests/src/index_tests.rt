@@ -27,25 +27,39 @@ fn find_deep<L: Ledger>(
     index.find(alloc, "a.b.c.com", "/x/y", looks)
 }
 
-// The same of any host and path, counted from none.
-fn find_from<L: Ledger>(
+// Whether these are the parts that are found so, counted from none.
+fn finds_deep<L: Ledger>(
     alloc: Global,
     index: &Index,
-    host: &str,
-    path: &str,
+    parts: &[(usize, usize)],
     blank: Blank,
-) -> Result<Vec<(usize, usize)>, AllocError>
+) -> Result<bool, AllocError>
     requires name { blank.name ≡ L.name }
     requires parts { blank.parts ≡ L.parts }
     requires some { 0 < L.parts }
     requires index { IsIndex index.now }
 {
     let mut looks = Looks::<L>::new(blank);
-    if host == "a.b.c.com" && path == "/x/y" {
-        find_deep(alloc, index, &mut looks)
-    } else {
-        index.find(alloc, host, path, &mut looks)
-    }
+    let found = find_deep(alloc, index, &mut looks)?;
+    Ok(found.as_slice() == parts)
+}
+
+// Whether the index finds the rows that a plain scan finds for a host and a request-path, counted from none.
+fn finds_from<L: Ledger>(
+    alloc: Global,
+    index: &Index,
+    rows: &[(&str, &str)],
+    request: (&str, &str),
+    blank: Blank,
+) -> Result<bool, AllocError>
+    requires name { blank.name ≡ L.name }
+    requires parts { blank.parts ≡ L.parts }
+    requires some { 0 < L.parts }
+    requires index { IsIndex index.now }
+{
+    let mut looks = Looks::<L>::new(blank);
+    let found = index.find(alloc, request.0, request.1, &mut looks)?;
+    Ok(are_found(&found, rows, request.0, request.1))
 }
 
 // Whether the index finds the rows that a plain scan finds.
@@ -60,8 +74,7 @@ fn finds_as_a_scan(
 {
     for host in hosts.split(' ') {
         for path in paths.split(' ') {
-            let found = find_from::<Brand>(alloc, index, host, path, Blank::new(1))?;
-            if !are_found(&found, rows, host, path) {
+            if !finds_from::<Brand>(alloc, index, rows, (host, path), Blank::new(1))? {
                 return Ok(false);
             }
         }
@@ -174,10 +187,11 @@ fn finds_parts(
     let mut index = Index::new(alloc);
     let mut rows = Vec::new(alloc);
     fill(rt, alloc, &mut index, &mut rows, lines)?;
-    finds_deep(alloc, &index, &rows, parts)
+    finds_both(alloc, &index, &rows, parts)
 }
 
-fn finds_deep(
+// The same of an index and its rows.
+fn finds_both(
     alloc: Global,
     index: &Index,
     rows: &Vec<(&str, &str)>,
@@ -185,8 +199,10 @@ fn finds_deep(
 ) -> Result<bool, AllocError>
     requires { AreIndexed rows.now.items index.now }
 {
-    let found = find_from::<Brand>(alloc, index, "a.b.c.com", "/x/y", Blank::new(1))?;
-    Ok(found.as_slice() == parts && are_found(&found, rows, "a.b.c.com", "/x/y"))
+    Ok(
+        finds_deep::<Brand>(alloc, index, parts, Blank::new(1))?
+            && finds_as_a_scan(alloc, index, rows, HOSTS, PATHS)?,
+    )
 }
 
 // None of the request's domains, one and all four, with rows between that it doesn't meet.

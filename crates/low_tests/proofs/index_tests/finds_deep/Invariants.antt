@@ -1,4 +1,0 @@
-use Rattle.low_tests.proofs.index_tests.finds_deep.Given as goal
-
-abbrev pub ghosts-find_from : goal.ghosts-find_from
-ghosts-find_from a = record { name = a.blank.name; parts = a.blank.parts }
