@@ -2,8 +2,14 @@
 //!
 //! A scenario answers whether all came out right, or want of memory. A test ends with that as its error,
 //! so it passes with ample memory alone.
+ghost use Rattle.low_tests.specs.Rows.{AreIndexed};
+
+use crate::index_rows::fill;
+use crate::index_tests::answers_as_a_scan;
+use place_index::Index;
 use publicsuffix::{List, ListError};
-use std::alloc::Global;
+use std::alloc::{AllocError, Global};
+use std::process::Abort;
 
 // Whether the words are listed that the rules say.
 fn lists(list: &List) -> bool {
@@ -40,5 +46,36 @@ fn a_list_is_read(rt: HostRuntime) -> Result<(), ListError> {
     let alloc = rt.alloc();
     assert!(rt; reads_a_list(alloc)?);
     assert!(rt; refuses_a_list(alloc)?);
+    Ok(())
+}
+
+// Rows of an index: of new domains, of new paths of a domain, and behind others.
+const ROWS: &str = "com /\nc.com /x\nc.com /\ncom /\nd.com /\nb.c.com /x\nc.com /x\na.b.c.com /x/y";
+
+// Rows put into an index, and what it finds of them. An index for which memory was refused answers as before.
+fn grows(
+    rt: &impl Abort,
+    alloc: Global,
+    index: &mut Index,
+    rows: &mut Vec<(&'static str, &'static str)>,
+) -> Result<bool, AllocError>
+    requires { AreIndexed rows.old.items index.old }
+{
+    let filled = fill(rt, alloc, index, rows, ROWS);
+    match answers_as_a_scan(alloc, index, rows) {
+        Ok(true) if filled.is_err() => Err(AllocError),
+        answer => answer,
+    }
+}
+
+fn fills_an_index(rt: &impl Abort, alloc: Global) -> Result<bool, AllocError> {
+    let mut index = Index::new(alloc);
+    let mut rows = Vec::new(alloc);
+    grows(rt, alloc, &mut index, &mut rows)
+}
+
+#[test]
+fn an_index_is_filled(rt: HostRuntime) -> Result<(), AllocError> {
+    assert!(rt; fills_an_index(&rt, rt.alloc())?);
     Ok(())
 }

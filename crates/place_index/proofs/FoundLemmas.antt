@@ -11,11 +11,11 @@ use Rattle.place_index.specs.Paths.{dot, slash}
 use Rattle.place_index.specs.Places.{Place, is_at, is_of}
 use Rattle.place_index.specs.Entries.{value_at}
 use Rattle.place_index.specs.Candidates.{is_among, domains_of, paths_of, count_of}
-use Rattle.place_index.specs.Found.{FindsExactly, Span, is_in, span_of, spans_of, spans, looks_for, path_looks}
+use Rattle.place_index.specs.Found.{FindsExactly, is_in, span_of, spans_of, spans, looks_for, path_looks}
 use Rattle.place_index.specs.Found.{found_domain, found_domains}
 use Rattle.place_index.specs.declared.part.DomainPart.{DomainPart}
 use Rattle.place_index.specs.declared.part.Part.{Part}
-use Rattle.place_index.specs.Index.{Index, IsPart, PathAgrees, DomainAgrees, Agrees}
+use Rattle.place_index.specs.Index.{Index, IsPart, PathAgrees, DomainAgrees, Agrees, Span}
 use Rattle.place_index.proofs.CandidateLemmas.{among_case, among_head, among_tail, or_split, domains_of-count}
 use Rattle.place_index.proofs.CandidateLemmas.{paths_of-count}
 use Rattle.place_index.proofs.EntryLemmas.{same_text}
@@ -74,7 +74,7 @@ module _ (rows : List Place) (i : ℕ) (row : Place) (at : slice_get rows i ≡ 
 
 -- ---- nothing else is found
 
-some_of : (test : Span → Bool) (f : List ℕ → List Span) (ts : List (List ℕ)) → list_any test (flat_map f ts) ≡ true
+pub some_of : (test : Span → Bool) (f : List ℕ → List Span) (ts : List (List ℕ)) → list_any test (flat_map f ts) ≡ true
     → (t : List ℕ) × (is_among t ts ≡ true) × (list_any test (f t) ≡ true)
 some_of test f [] e = absurd (true≢false (sym e))
 some_of test f (t ∷ ts) e =
@@ -87,7 +87,7 @@ some_of test f (t ∷ ts) e =
     by (inl here) rest = (t, among_head t t ts refl, here)
     by (inr more) rest = let r = rest more in (r.0, among_tail r.0 t ts r.1, r.2)
 
-in_span : (i start end : ℕ) → list_any (is_in i) ((start, end) ∷ []) ≡ true → (start ≤ i) × (i < end)
+pub in_span : (i start end : ℕ) → list_any (is_in i) ((start, end) ∷ []) ≡ true → (start ≤ i) × (i < end)
 in_span i start end e = by (cases_lt i start) (cases_lt i end)
   where
     none : is_in i (start, end) ≡ false → (start ≤ i) × (i < end)

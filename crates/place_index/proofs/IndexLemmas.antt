@@ -18,7 +18,7 @@ use Rattle.place_index.proofs.PartLemmas.{nested}
 
 -- ---- tests
 
-unequal : (a b text : List ℕ) → a ≢ b → bytes_eq b text ≡ true → bytes_eq a text ≡ false
+pub unequal : (a b text : List ℕ) → a ≢ b → bytes_eq b text ≡ true → bytes_eq a text ≡ false
 unequal a b text differ e = false_from_ne_true (bytes_eq a text) (λ f. differ (same_text a text f
     ∙ sym (same_text b text e)))
 
@@ -28,7 +28,7 @@ path_domain domain text r e = (and_parts (is_of domain r) (bytes_eq text r.path)
 pub domain_no_path : (domain text : List ℕ) (r : Place) → is_of domain r ≡ false → is_at domain text r ≡ false
 domain_no_path domain text r e = and_left (is_of domain r) (bytes_eq text r.path) e
 
-path_no_path : (domain text other : List ℕ) (r : Place) → other ≢ text → is_at domain text r ≡ true
+pub path_no_path : (domain text other : List ℕ) (r : Place) → other ≢ text → is_at domain text r ≡ true
     → is_at domain other r ≡ false
 path_no_path domain text other r differ e =
     and_right (is_of domain r) (bytes_eq other r.path)
@@ -152,17 +152,17 @@ texts_differ : (a b : List ℕ) → bytes_eq a b ≡ false → a ≢ b
 texts_differ a b e same = true≢false (sym (text_is a b same) ∙ e)
 
 -- each text is this one or not
-text_cases : {P : Type 0} (a b : List ℕ) → (a ≡ b → P) → (a ≢ b → P) → P
+pub text_cases : {P : Type 0} (a b : List ℕ) → (a ≡ b → P) → (a ≢ b → P) → P
 text_cases {P} a b same differ = by (bytes_eq a b) refl
   where
     by : (c : Bool) → bytes_eq a b ≡ c → P
     by true e = same (same_text a b e)
     by false e = differ (texts_differ a b e)
 
-foreign : (x : Place) (domain : List ℕ) → domain ≢ x.domain → is_of domain x ≡ false
+pub foreign : (x : Place) (domain : List ℕ) → domain ≢ x.domain → is_of domain x ≡ false
 foreign x domain differ = unequal domain x.domain x.domain differ (own_domain x)
 
-foreign_path : (x : Place) (text : List ℕ) → text ≢ x.path → is_at x.domain text x ≡ false
+pub foreign_path : (x : Place) (text : List ℕ) → text ≢ x.path → is_at x.domain text x ≡ false
 foreign_path x text differ = path_no_path x.domain x.path text x differ (own_path x)
 
 -- the part of a first row
@@ -178,11 +178,11 @@ only_path x text differ = cond-false (bytes_eq text x.path) _ _
 unmoved : (p : ℕ) (part : DomainPart) → part.start < p → moved_domain p part ≡ part
 unmoved p part l = ap (λ n. record part { start = n }) (not_moved p part.start l)
 
-agrees_at : (rows : List Place) (domain : List ℕ) (a b : Option DomainPart) → a ≡ b → DomainAgrees rows domain b
+pub agrees_at : (rows : List Place) (domain : List ℕ) (a b : Option DomainPart) → a ≡ b → DomainAgrees rows domain b
     → DomainAgrees rows domain a
 agrees_at rows domain a b e is = subst (DomainAgrees rows domain) (sym e) is
 
-path_at : (rows : List Place) (domain : List ℕ) (start : ℕ) (text : List ℕ) (a b : Option Part) → a ≡ b
+pub path_at : (rows : List Place) (domain : List ℕ) (start : ℕ) (text : List ℕ) (a b : Option Part) → a ≡ b
     → PathAgrees rows domain start text b → PathAgrees rows domain start text a
 path_at rows domain start text a b e is = subst (PathAgrees rows domain start text) (sym e) is
 

@@ -6,11 +6,13 @@ use Rattle.std.specs.Str.{bytes_eq}
 use Rattle.std.proofs.lemmas.Bool.{false_from_ne_true}
 use Rattle.place_index.specs.Entries.{value_at, set_at, with_value, with_values}
 use Rattle.place_index.specs.Index.{Index, DomainAgrees, PathAgrees, OthersMove, moved_domain, moved_path, last}
+use Rattle.place_index.specs.Index.{BeginsPath, GrowsPath}
 use Rattle.place_index.specs.Places.{Place, is_of, is_at}
 use Rattle.place_index.specs.Putting.{HasRoom, Puts, PutsAt, IsReady}
 use Rattle.place_index.specs.declared.part.DomainPart.{DomainPart}
 use Rattle.place_index.specs.declared.part.Part.{Part}
 use Rattle.place_index.proofs.EntryLemmas.{same_text, set_at-present, value_at-with_values}
+use Rattle.place_index.proofs.EndLemmas.{end_new, end_path, end_row}
 use Rattle.place_index.proofs.IndexLemmas.{not_moved, value_at-with_value, value_at-with_other, path_domain}
 use Rattle.place_index.proofs.IndexLemmas.{begins_domain, begins_path, grows_path}
 use Rattle.place_index.proofs.PartLemmas.{nested}
@@ -43,18 +45,23 @@ module _ (row : Place) (p : ℕ) (old new : Index) (part w : DomainPart)
   puts_row inner rows at room (inl b) places agrees counted =
       let e = b.at_end in
       let start : w.start ≡ part.start = ap (λ d. d.start) b.is in
-      begins_path places row p old new agrees (omega (arith, counted, room)) (record {
+      let begins : BeginsPath row p old new
+      = record {
         part = part;
         there = there;
         absent = b.absent;
         at = omega (arith, at, e, start);
         grown = grown ∙ ap Some b.is;
         others = others;
-      })
+      } in (
+        begins_path places row p old new agrees (omega (arith, counted, room)) begins,
+        end_path row places p old new agrees begins,
+      )
   puts_row inner rows at room (inr b) places agrees counted =
       let e = b.at_end in
       let start = b.start in
-      grows_path places row p old new agrees (omega (arith, counted, room)) (record {
+      let grows : GrowsPath row p old new
+      = record {
         part = part;
         there = there;
         path = b.part;
@@ -65,7 +72,10 @@ module _ (row : Place) (p : ℕ) (old new : Index) (part w : DomainPart)
         path_grown = b.grown;
         other_paths = λ text d. b.others text d ∙ ap (λ n. option_map (moved_path n) (value_at text part.paths)) e;
         others = others;
-      })
+      } in (
+        grows_path places row p old new agrees (omega (arith, counted, room)) grows,
+        end_row row places p old new agrees grows,
+      )
 
 pub has_room : (rows : ℕ) (index : Index) (domain path : List ℕ) (part : DomainPart) → IsReady rows index
     → value_at domain index ≡ Some part → HasRoom path part × (part.start + part.len ≤ rows) × (0 < part.len)
@@ -112,13 +122,15 @@ pub puts_first : (row : Place) (rows : ℕ) (old new : Index) → rows < last �
       paths = (row.path, record { start = 0; len = 1 }) ∷ [];
     })
     → PutsAt row rows old new rows
-puts_first row rows old new room absent is places agrees counted =
-    begins_domain places row rows old new agrees (omega (arith, counted, room)) (sym counted) (record {
-      absent = absent;
-      begun = ap (value_at row.domain) is ∙ value_at-with_value row.domain old _;
-      others = λ text d. ap (value_at text) is ∙ value_at-with_other row.domain text old _
-          (false_from_ne_true (bytes_eq text row.domain) (λ e. d (same_text text row.domain e)));
-    })
+puts_first row rows old new room absent is places agrees counted = (
+  begins_domain places row rows old new agrees (omega (arith, counted, room)) (sym counted) (record {
+    absent = absent;
+    begun = ap (value_at row.domain) is ∙ value_at-with_value row.domain old _;
+    others = λ text d. ap (value_at text) is ∙ value_at-with_other row.domain text old _
+        (false_from_ne_true (bytes_eq text row.domain) (λ e. d (same_text text row.domain e)));
+  }),
+  sym (end_new row places old agrees absent ∙ counted),
+)
 
 pub on_err : {T E : Type 0} {P : Type 0} (r : Result T E) → P → OnErr r P
 on_err (Ok x) p = tt

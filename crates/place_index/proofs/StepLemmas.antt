@@ -7,7 +7,8 @@ use Rattle.std.proofs.lemmas.Bool.{cond-true, cond-false, false_from_ne_true}
 use Rattle.std.proofs.lemmas.List.Concat.{flat_map-append}
 use Rattle.place_index.specs.declared.part.DomainPart.{DomainPart}
 use Rattle.place_index.specs.Entries.{value_at}
-use Rattle.place_index.specs.Found.{Span, span_of, spans_of}
+use Rattle.place_index.specs.Found.{span_of, spans_of}
+use Rattle.place_index.specs.Index.{Span}
 use Rattle.place_index.specs.Paths.{slash}
 use Rattle.place_index.specs.Candidates.{at_slashes, count_of}
 use Rattle.place_index.proofs.CandidateLemmas.{at_slashes-snoc, at_end, same_nat, nat_is}

@@ -1,18 +1,14 @@
 -- What a request finds by the index: the parts that can have a row of it, and how many questions that takes.
-use Rattle.std.specs.Prelude.{◌≡◌, ◌↔◌, ◌^◌, IfSome, ◌<◌, ◌+◌, ◌*◌, ◌&&◌, ℕ, List, [], ◌∷◌, length, Bool, true, Option}
-use Rattle.std.specs.Prelude.{Some, None, slice_get, nat_le, nat_lt}
-use Rattle.std.specs.List.{flat_map, list_any}
+use Rattle.std.specs.Prelude.{◌≡◌, ◌↔◌, ◌^◌, IfSome, ◌<◌, ◌≤◌, ◌+◌, ◌*◌, ◌&&◌, ℕ, List, [], ◌∷◌, length, Bool, true, Option}
+use Rattle.std.specs.Prelude.{Some, None, slice_get, nat_le, nat_lt, filter}
+use Rattle.std.specs.List.{flat_map, list_any, AllByRecursion}
 use Rattle.place_index.specs.Paths.{dot, slash}
-use Rattle.place_index.specs.Places.{Place}
+use Rattle.place_index.specs.Places.{Place, is_of}
 use Rattle.place_index.specs.Entries.{value_at}
 use Rattle.place_index.specs.Candidates.{is_among, domains_of, paths_of, count_of}
 use Rattle.place_index.specs.declared.part.DomainPart.{DomainPart}
 use Rattle.place_index.specs.declared.part.Part.{Part}
-use Rattle.place_index.specs.Index.{Index, Agrees}
-
--- where a part of the vector begins and ends
-abbrev pub Span : Type 0
-Span = ℕ × ℕ
+use Rattle.place_index.specs.Index.{Index, Agrees, Span}
 
 abbrev pub is_in : ℕ → Span → Bool
 is_in i span = nat_le span.0 i && nat_lt i span.1
@@ -55,6 +51,31 @@ Fits domain =
 
 abbrev pub AllFit : Index → Type 0
 AllFit index = (text : List ℕ) → IfSome (value_at text index) Fits
+
+-- ---- what is found
+
+-- each part has a row, and ends where the next one begins or before
+abbrev pub AscendFrom : ℕ → List Span → Type 0
+AscendFrom start [] = Unit {0}
+AscendFrom start (span ∷ spans) = (start ≤ span.0) × (span.0 < span.1) × AscendFrom span.1 spans
+
+-- The parts are in the vector's order and within it, and in them are the rows whose domain and path are among those
+-- asked for, and no others.
+pub record Finds (host path : List ℕ) (places : List Place) (found : List Span) : Type 0 where
+  pub ascend : AscendFrom 0 found
+  pub within : AllByRecursion (λ span. span.1 ≤ length places) found
+  pub exactly : (i : ℕ) (row : Place) → slice_get places i ≡ Some row
+      → (list_any (is_in i) found ≡ true)
+      ↔ ((is_among row.domain (domains_of host) ≡ true) × (is_among row.path (paths_of path) ≡ true))
+
+-- how many of the domains asked for have a row
+abbrev pub domains_with_rows : List ℕ → List Place → ℕ
+domains_with_rows host places = length (filter (λ domain. list_any (is_of domain) places) (domains_of host))
+
+-- one question and the host's dots, and for each domain found one and twice the path's slashes
+abbrev pub looks_at : List ℕ → List ℕ → List Place → ℕ
+looks_at host path places =
+    1 + count_of dot host + domains_with_rows host places * (1 + 2 * count_of slash path)
 
 -- ---- laws
 

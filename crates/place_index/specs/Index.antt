@@ -42,11 +42,26 @@ DomainAgrees rows domain (Some part) =
 abbrev pub Agrees : List Place → Index → Type 0
 Agrees rows index = (domain : List ℕ) → DomainAgrees rows domain (value_at domain index)
 
--- ---- one row more
-
 -- the largest number of 64 bits
 abbrev pub last : ℕ
 last = 2 ^ 64 - 1
+
+-- the index is that of some rows, no more than 64 bits can number
+pub record IsIndex (index : Index) : Type 0 where
+  pub places : List Place
+  pub agrees : Agrees places index
+  pub room : length places ≤ last
+
+-- where a part begins and ends
+abbrev pub Span : Type 0
+Span = ℕ × ℕ
+
+-- the elements that pass are those of the part, and at `None` there are none
+abbrev pub PartIs : {A : Type 0} → (A → Bool) → List A → Option Span → Type 0
+PartIs test xs None = IsNowhere test xs
+PartIs test xs (Some span) = IsPart test xs span.0 (span.1 - span.0)
+
+-- ---- one row more
 
 -- where an element stands after one was put in at p
 abbrev pub moved : ℕ → ℕ → ℕ

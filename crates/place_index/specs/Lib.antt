@@ -7,3 +7,4 @@ pub mod Lending
 pub mod Paths
 pub mod Places
 pub mod Putting
+pub mod Taking

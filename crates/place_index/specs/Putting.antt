@@ -1,11 +1,12 @@
 -- A row more in a domain's part.
-use Rattle.std.specs.Prelude.{◌≡◌, ◌⊎◌, ◌<◌, ◌≤◌, ◌+◌, ℕ, suc, length, List, Some, None, IfSome}
+use Rattle.std.specs.Prelude.{◌≡◌, ◌⊎◌, ◌<◌, ◌≤◌, ◌+◌, ◌&&◌, ℕ, suc, length, List, [], ◌∷◌, Bool, Some, None, IfSome}
+use Rattle.std.specs.Prelude.{not, if◌then◌else◌}
 use Rattle.place_index.specs.Entries.{value_at, with_value}
 use Rattle.place_index.specs.declared.part.DomainPart.{DomainPart}
 use Rattle.place_index.specs.declared.part.Part.{Part}
-use Rattle.std.specs.List.{insert}
+use Rattle.std.specs.List.{insert, list_any}
 use Rattle.place_index.specs.Index.{Index, Agrees, OtherPathsMove, last}
-use Rattle.place_index.specs.Places.{Place}
+use Rattle.place_index.specs.Places.{Place, is_at, is_of}
 
 -- there is room for a row more, and the path's part, where it has one, lies in the domain's
 pub record HasRoom (path : List ℕ) (domain : DomainPart) : Type 0 where
@@ -42,7 +43,19 @@ pub record IsReady (rows : ℕ) (index : Index) : Type 0 where
   pub counted : length places ≡ rows
   pub room : rows < last
 
--- whatever rows the index was that of, it is that of them and the place's, put in at `at`
+-- how many elements there are up to the last that passes, that too; all where none does
+abbrev pub end_of : {A : Type 0} → (A → Bool) → List A → ℕ
+end_of test [] = 0
+end_of test (x ∷ xs) = if test x && not (list_any test xs) then 1 else suc (end_of test xs)
+
+-- behind the last row of the domain and the path, else behind the last of the domain, else at the end
+abbrev pub end_at : Place → List Place → ℕ
+end_at place places =
+    if list_any (is_at place.domain place.path) places then end_of (is_at place.domain place.path) places
+    else end_of (is_of place.domain) places
+
+-- whatever rows the index was that of, it is that of them and the place's, put in there
 abbrev pub PutsAt : Place → ℕ → Index → Index → ℕ → Type 0
 PutsAt place rows old new at =
-    (places : List Place) → Agrees places old → length places ≡ rows → Agrees (insert places at place) new
+    (places : List Place) → Agrees places old → length places ≡ rows
+    → Agrees (insert places at place) new × (at ≡ end_at place places)

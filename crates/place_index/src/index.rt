@@ -1,13 +1,110 @@
 //! From domain text to its part of a vector of rows, and in it from path text to a part of that.
 
-ghost use Rattle.std.specs.Prelude.{◌≡◌, ◌+◌, [], option_copied};
+ghost use Rattle.std.specs.Prelude.{◌≡◌, ◌+◌, ◌≤◌, [], List, IfOk, OnErr, option_copied};
 ghost use Rattle.place_index.specs.Entries.{value_at};
+ghost use Rattle.place_index.specs.Found.{Finds, looks_at};
+ghost use Rattle.place_index.specs.Index.{Agrees, IsIndex, PartIs};
+ghost use Rattle.place_index.specs.Places.{Place, is_at};
+ghost use Rattle.place_index.specs.Putting.{IsReady, PutsAt};
+ghost use Rattle.place_index.specs.Taking.{HasRow, TakesAt};
 
+use crate::find::ask_domains;
 use crate::looks::Looks;
+use crate::order::put_in_order;
 use crate::part::{DomainPart, Part};
+use crate::putting::put_row;
+use crate::taking::take_row;
 use crate::text_map::TextMap;
-use std::alloc::Global;
+use std::alloc::{AllocError, Global};
+use std::marker::Model;
 use std::sync::ledger::Ledger;
+
+/// Where the rows of a vector stand: for each domain's text its part of the vector, and for each path's text in it a
+/// part of that.
+#[derive(Debug, Drop)]
+pub struct Index {
+    domains: Domains,
+}
+
+impl Model for Index {
+    ghost Value = { Rattle.place_index.specs.Index.Index };
+
+    ghost view = { λ s. s.domains.parts };
+}
+
+impl Index {
+    /// That of no row.
+    pub fn new(alloc: Global) -> Index
+        ensures { Agrees [] result }
+    {
+        Index {
+            domains: Domains::new(alloc),
+        }
+    }
+
+    /// Where the part of a domain and a path begins and ends.
+    pub fn part(&self, domain: &str, path: &str) -> Option<(usize, usize)>
+        requires { IsIndex self.now }
+        ensures { (places : List Place) → Agrees places self.now
+            → PartIs (is_at domain.now path.now) places result }
+    {
+        self.domains.part(domain, path)
+    }
+
+    /// Has one row more of the domain and the path: behind the last of both, else behind the domain's last, else last.
+    /// Answers where.
+    ///
+    /// # Errors
+    ///
+    /// `AllocError`, for want of memory. The index is then as it was.
+    pub fn put(
+        &mut self,
+        alloc: Global,
+        rows: usize,
+        domain: &str,
+        path: &str,
+    ) -> Result<usize, AllocError>
+        requires { IsReady rows self.old }
+        ensures ok { IfOk result (λ at.
+            PutsAt (record { domain = domain.now; path = path.now }) rows self.old self.new at) }
+        ensures err { OnErr result (self.new ≡ self.old) }
+    {
+        put_row(alloc, &mut self.domains.parts, rows, domain, path)
+    }
+
+    /// Has the row at `at`, which is of the domain and the path, no more.
+    pub fn remove(&mut self, at: usize, domain: &str, path: &str)
+        requires { HasRow (record { domain = domain.now; path = path.now }) at self.old }
+        ensures { TakesAt (record { domain = domain.now; path = path.now }) at self.old self.new }
+    {
+        take_row(&mut self.domains.parts, at, domain, path)
+    }
+
+    /// Where the parts begin and end that can have a row for a request to the host and the request-path, in the order
+    /// of the vector.
+    ///
+    /// # Errors
+    ///
+    /// `AllocError`, for want of memory.
+    pub fn find<L: Ledger>(
+        &self,
+        alloc: Global,
+        host: &str,
+        path: &str,
+        looks: &mut Looks<L>,
+    ) -> Result<Vec<(usize, usize)>, AllocError>
+        requires { IsIndex self.now }
+        ensures found { IfOk result (λ found. (places : List Place) → Agrees places self.now
+            → Finds host.now path.now places found.items) }
+        ensures looks { (places : List Place) → Agrees places self.now
+            → looks.new ≤ looks.old + looks_at host.now path.now places }
+    {
+        let mut found = Vec::new(alloc);
+        ask_domains(&self.domains, host, path, &mut found, looks)?;
+        put_in_order(&mut found);
+        Ok(found)
+    }
+}
 
 /// The parts of the domains.
 #[derive(Debug, Drop)]
@@ -23,6 +120,18 @@ impl Domains {
         Domains {
             parts: TextMap::new(alloc),
         }
+    }
+
+    /// Where the part of a domain and a path begins and ends.
+    fn part(&self, domain: &str, path: &str) -> Option<(usize, usize)>
+        requires { IsIndex self.now.parts }
+        ensures { (places : List Place) → Agrees places self.now.parts
+            → PartIs (is_at domain.now path.now) places result }
+    {
+        let domain = self.parts.get(domain)?;
+        let part = domain.paths.get(path)?;
+        let start = domain.start + part.start;
+        Some((start, start + part.len))
     }
 
     /// Asks for a domain.

@@ -1,8 +1,9 @@
-//! Which domains and paths a request can meet, and what an index of rows is after one more.
+//! Which domains and paths a request can meet, and what an index of rows is after one more and one fewer.
 
 ghost use Rattle.place_index.specs.Candidates.{AreDomains, ArePaths, AreCounted};
 ghost use Rattle.place_index.specs.Found.{FindsExactly, LooksAreFew};
 ghost use Rattle.place_index.specs.Inserting.{AgreesAfter};
+ghost use Rattle.place_index.specs.Taking.{AgreesWithout};
 
 /// The domains asked for are the host and what it ends with after a dot; the paths are those that the request-path
 /// path-matches (RFC 6265, 5.1.4); and how many they are.
@@ -16,6 +17,12 @@ pub fn candidates()
 /// behind the domain's rows for a new path, else behind the path's.
 pub fn insertions()
     ensures { AgreesAfter }
+{}
+
+/// An index whose later parts were moved back agrees with the rows after one was taken out: the part of a domain's
+/// only row is gone, else that of a path's only row, else the path's is one shorter.
+pub fn removals()
+    ensures { AgreesWithout }
 {}
 
 /// The rows in the parts that are found for a host and a request-path are those whose domain and path are asked for;

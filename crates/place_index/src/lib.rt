@@ -6,8 +6,11 @@ mod index;
 pub mod laws;
 mod looks;
 mod moving;
+mod order;
 mod part;
 mod putting;
+mod taking;
 mod text_map;
 
+pub use index::Index;
 pub use looks::Looks;

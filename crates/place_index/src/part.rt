@@ -2,6 +2,7 @@
 
 ghost use Rattle.std.specs.Prelude.{◌≡◌};
 ghost use Rattle.place_index.specs.Index.{moved_path, moved_domain};
+ghost use Rattle.place_index.specs.Taking.{path_back, domain_back};
 
 use crate::text_map::TextMap;
 
@@ -29,6 +30,15 @@ impl Part {
             self.start += 1;
         }
     }
+
+    /// Begins one earlier, where it begins behind `at`.
+    pub(crate) fn move_back(&mut self, at: usize)
+        ensures { self.new ≡ path_back at self.old }
+    {
+        if at < self.start {
+            self.start -= 1;
+        }
+    }
 }
 
 impl DomainPart {
@@ -38,6 +48,15 @@ impl DomainPart {
     {
         if at <= self.start && self.start < usize::MAX {
             self.start += 1;
+        }
+    }
+
+    /// Begins one earlier, where it begins behind `at`.
+    pub(crate) fn move_back(&mut self, at: usize)
+        ensures { self.new ≡ domain_back at self.old }
+    {
+        if at < self.start {
+            self.start -= 1;
         }
     }
 }

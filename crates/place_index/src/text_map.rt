@@ -1,6 +1,6 @@
 //! Values by text, in the order in which their texts came.
 
-ghost use Rattle.std.specs.Prelude.{◌≡◌, ◌↔◌, [], IsTrue, IfOk, OnOk, OnErr, string_bytes, option_copied};
+ghost use Rattle.std.specs.Prelude.{◌≡◌, ◌↔◌, [], IsTrue, IfOk, OnOk, OnErr, None, string_bytes, option_copied};
 ghost use Rattle.std.specs.Option.{option_copied_mut};
 ghost use Rattle.std.specs.Borrow.{sem};
 ghost use Rattle.place_index.specs.Entries.{value_at, with_value, without, by_bytes};
@@ -84,10 +84,10 @@ impl<V: Drop> TextMap<V> {
     }
 
     /// Takes the value of the text out, where there is one.
-    pub(crate) fn remove(&mut self, key: &str) -> Option<V>
-        ensures value { result ≡ value_at key.now self.old }
+    pub(crate) fn remove(&mut self, key: &str)
         ensures rest { self.new ≡ without key.now self.old }
+        ensures gone { value_at key.now self.new ≡ None }
     {
-        self.entries.shift_remove(key)
+        self.entries.shift_remove(key);
     }
 }

@@ -1,12 +1,11 @@
-use Rattle.std.proofs.Common.{◌∙◌, ap}
-use Rattle.place_index.specs.Entries.{by_bytes, value_at, without}
+use Rattle.std.proofs.Common.{◌∙◌, ap, sym}
+use Rattle.place_index.specs.Entries.{by_bytes, without}
 use Rattle.place_index.proofs.EntryLemmas.{value_at-by_bytes, without-by_bytes}
 use Rattle.place_index.proofs.text_map.TextMap.remove.Goals as goal
 
-pub returns-clause-value : goal.returns-clause-value
-returns-clause-value g c =
-    c.shift_remove.ensures.value ∙ value_at-by_bytes c.self.inside.entries.entries c.args.key.now
-    ∙ ap (value_at c.args.key.now) c.self.view_is
+pub returns-clause-gone : goal.returns-clause-gone
+returns-clause-gone g c =
+    sym (value_at-by_bytes c.shift_remove.new.self.entries c.args.key.now) ∙ c.shift_remove.ensures.updates.1
 
 pub returns-clause-rest : goal.returns-clause-rest
 returns-clause-rest g c =
