@@ -97,7 +97,7 @@ pub(crate) fn answers_as_a_scan(
 }
 
 // The texts of rows and of requests; the last path is empty.
-const DOMAINS: &str = "com c.com b.c.com a.b.c.com d.com z.com";
+const DOMAINS: &str = "com c.com b.c.com a.b.c.com d.com xc.com z.com";
 
 const PATHS: &str = "/ /x /x/ /x/y /x/yz /x/y/ ";
 

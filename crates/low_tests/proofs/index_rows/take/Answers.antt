@@ -1,5 +1,4 @@
 use Rattle.std.proofs.Common.{length, sym, subst, refl, arith}
-use Rattle.std.proofs.lemmas.Grind.{common_steps}
 use Rattle.std.proofs.lemmas.Option.{slice_get_read}
 use Rattle.low_tests.specs.Rows.{AreIndexed}
 use Rattle.low_tests.proofs.RowsLemmas.{has_row, taken}
