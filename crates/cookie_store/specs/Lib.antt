@@ -1,11 +1,11 @@
+pub mod Asking
 pub mod Confined
-pub mod Entries
 pub mod Given
 pub mod Giving
 pub mod Grouped
+pub mod Indexed
 pub mod Insertion
 pub mod Laws
-pub mod Lending
 pub mod LoadedLines
 pub mod Making
 pub mod Placing
@@ -20,4 +20,3 @@ pub mod SavedTexts
 pub mod Steps
 pub mod StoredCookie
 pub mod Stripped
-pub mod Tree

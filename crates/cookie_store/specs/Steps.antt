@@ -1,6 +1,6 @@
 -- What private functions answer. No public contract names a word of this file.
-use Rattle.std.specs.Prelude.{◌≡◌, ◌≢◌, ◌⊎◌, ℕ, ℤ, List, Option, Some, None, Ok, Err, Result, IsSomeAnd, MatchResult}
-use Rattle.std.specs.Prelude.{if◌then◌else◌, Bool, true, [], ◌∷◌, ◌++◌, All}
+use Rattle.std.specs.Prelude.{◌≡◌, ◌≢◌, ◌⊎◌, ◌≤◌, ℕ, ℤ, List, Option, Some, None, Ok, Err, Result, IsSomeAnd, MatchResult}
+use Rattle.std.specs.Prelude.{if◌then◌else◌, Bool, true, [], ◌∷◌, ◌++◌, All, length, slice_range}
 use Rattle.std.specs.List.{list_any}
 use Rattle.std.specs.Str.{IsUtf8}
 use Rattle.std.specs.Str.Lines.{lines}
@@ -13,6 +13,7 @@ use Rattle.store_parts.specs.declared.cookie_domain.CookieDomain.{CookieDomain}
 use Rattle.store_parts.specs.declared.error.CookieError.{CookieError}
 use Rattle.store_parts.specs.declared.error.CookieError.TheVariants.{Expired, OutOfMemory}
 use Rattle.url.specs.Parts.{Parts}
+use Rattle.cookie_store.specs.Given.{AreGiven}
 use Rattle.cookie_store.specs.Insertion.{End, Inserts, Receives, refused}
 use Rattle.cookie_store.specs.Making.{asked_domain, HasNoDomain, IsDomainFor}
 use Rattle.cookie_store.specs.LoadedLines.{Cuts, MakesRow, Reader, TakesLines}
@@ -71,6 +72,24 @@ PutsEnd (Some death) old new =
 abbrev pub Puts : (Seen → Option (List ℕ) → Seen) → Option (List ℕ) → Seen → Seen → Type 0
 Puts with None old new = new ≡ old
 Puts with (Some text) old new = new ≡ with old (Some text)
+
+-- ---- what a request is given
+
+-- the parts lie within the rows
+abbrev pub AreInside : List Row → List (ℕ × ℕ) → Type 0
+AreInside rows [] = Unit {0}
+AreInside rows (part ∷ parts) = (part.0 ≤ part.1) × (part.1 ≤ length rows) × AreInside rows parts
+
+-- the rows of one part after another that are given
+abbrev pub AreGivenOf : List (ℕ × ℕ) → List Row → Parts → ℤ → List Row → Type 0
+AreGivenOf [] rows url now given = given ≡ []
+AreGivenOf (part ∷ parts) rows url now given =
+    (own : List Row) × (later : List Row) × AreGiven (slice_range rows part.0 part.1) url now own
+    × AreGivenOf parts rows url now later × (given ≡ own ++ later)
+
+-- the rows that are given are put behind those before
+abbrev pub GivesMore : List Row → Parts → ℤ → List Row → List Row → Type 0
+GivesMore rows url now old new = (own : List Row) × AreGiven rows url now own × (new ≡ old ++ own)
 
 -- ---- saving
 

@@ -12,6 +12,7 @@
 #![tactic(auto)]
 
 mod action;
+mod given;
 mod json_lines;
 mod loading;
 mod requests;
@@ -23,13 +24,13 @@ pub mod serde;
 mod store;
 mod store_cookie;
 mod stored_cookie;
-mod text_map;
 mod unexpired;
 mod value;
 
 pub use action::{InsertResult, StoreAction, StoreResult};
 pub use cookie::{Cookie as RawCookie, ParseError as RawCookieParseError};
 pub use devices::{Counting, Failing, Sink, Source};
+pub use place_index::Looks;
 pub use requests::{RequestCookies, RequestValues};
 pub use rows::IterAny;
 pub use store::{CookieStore, laws};

@@ -1,6 +1,6 @@
 //! A store of cookies (RFC 6265, sections 5.3 and 5.4).
 
-ghost use Rattle.std.specs.Prelude.{◌≡◌, ◌↔◌, ◌&&◌, [], length, map, is_some, unwrap_or, IsTrue, IfOk, MatchOption};
+ghost use Rattle.std.specs.Prelude.{◌≡◌, ◌↔◌, ◌&&◌, ◌+◌, ◌<◌, ◌≤◌, [], length, map, is_some, unwrap_or, IsTrue, IfOk, MatchOption};
 ghost use Rattle.std.specs.Prelude.{OnOk, OnErr, option_copied, option_map};
 ghost use Rattle.std.specs.Iterator.{at_most, IsFinite};
 ghost use Rattle.std.specs.List.{list_any};
@@ -8,6 +8,7 @@ ghost use Rattle.std.specs.Map.Iter.{TakesFirst};
 ghost use Rattle.cookie_text.specs.Printing.{is_set};
 ghost use Rattle.jiff.specs.Words.{civil_nanos};
 ghost use Rattle.store_parts.specs.DomainMatch.{domain_of, host_only, text_of, IsListedIn};
+ghost use Rattle.cookie_store.specs.Asking.{looks_at_url};
 ghost use Rattle.cookie_store.specs.Given.{AreGiven, ShowsGiven, pair_of, received_of, shown};
 ghost use Rattle.cookie_store.specs.Grouped.{AreGrouped, PartsStay};
 ghost use Rattle.cookie_store.specs.Insertion as insertion;
@@ -18,15 +19,17 @@ ghost use Rattle.cookie_store.specs.Steps.{InsertsOwned, Passes, MeetsWant, buri
 ghost use Rattle.cookie_store.specs.StoredCookie.{stored_of};
 
 use crate::action::{InsertResult, StoreAction};
-use crate::requests::{RequestCookies, RequestValues, is_given};
+use crate::requests::{RequestCookies, RequestValues};
 use crate::rows::{IterAny, Rows, domain_text};
 use crate::stored_cookie::Cookie;
 use crate::unexpired::IterUnexpired;
 use cookie::Cookie as RawCookie;
 use jiff::civil::DateTime;
+use place_index::Looks;
 use publicsuffix::List;
 use std::alloc::{AllocError, Global};
-use std::marker::Model;
+use std::marker::{Brand, Model};
+use std::sync::ledger::{Blank, Ledger};
 use store_parts::utils::is_http_scheme;
 use store_parts::{CookieDomain, CookieError};
 use url::Url;
@@ -210,13 +213,44 @@ impl CookieStore {
         ensures { IfOk result (λ cookies. AreGiven self.now.rows request_url.now (civil_nanos now)
             (map shown cookies.items)) }
     {
-        let mut given = Vec::new(self.alloc);
-        for cookie in self.rows.iter() {
-            if is_given(self.alloc, cookie, request_url, now)? {
-                given.push(cookie)?;
-            }
-        }
-        Ok(given)
+        self.matches_from::<Brand>(request_url, now, Blank::new(1))
+    }
+
+    // The same with a count that is let go.
+    fn matches_from<L: Ledger>(
+        &self,
+        request_url: &Url,
+        now: DateTime,
+        blank: Blank,
+    ) -> Result<Vec<&Cookie<'static>>, AllocError>
+        requires name { blank.name ≡ L.name }
+        requires parts { blank.parts ≡ L.parts }
+        requires some { 0 < L.parts }
+        ensures { IfOk result (λ cookies. AreGiven self.now.rows request_url.now (civil_nanos now)
+            (map shown cookies.items)) }
+    {
+        let mut looks = Looks::<L>::new(blank);
+        self.matches_counted(request_url, now, &mut looks)
+    }
+
+    /// The same, counting the questions that are put to the index of the rows: at most one for the
+    /// host and for each of its dots, and for each of these domains that has a row one for the path
+    /// and two for each of its slashes. Without a host there are none.
+    ///
+    /// # Errors
+    ///
+    /// `AllocError`, for want of memory.
+    pub fn matches_counted<L: Ledger>(
+        &self,
+        request_url: &Url,
+        now: DateTime,
+        looks: &mut Looks<L>,
+    ) -> Result<Vec<&Cookie<'static>>, AllocError>
+        ensures given { IfOk result (λ cookies. AreGiven self.now.rows request_url.now
+            (civil_nanos now) (map shown cookies.items)) }
+        ensures looks { looks.new ≤ looks.old + looks_at_url self.now.rows request_url.now }
+    {
+        self.rows.given(self.alloc, request_url, now, looks)
     }
 
     /// Reads a cookie that was received from the URL at `now`, and puts it into the store.

@@ -1,0 +1,58 @@
+//! The rows that a request is given, of parts of a vector of rows.
+
+ghost use Rattle.std.specs.Prelude.{IfOk, OnOk, map};
+ghost use Rattle.jiff.specs.Words.{civil_nanos};
+ghost use Rattle.cookie_store.specs.Given.{shown};
+ghost use Rattle.cookie_store.specs.Steps.{AreGivenOf, AreInside, GivesMore};
+ghost use Rattle.cookie_store.specs.StoredCookie.{stored_of};
+
+use crate::requests::is_given;
+use crate::stored_cookie::Cookie;
+use jiff::civil::DateTime;
+use std::alloc::{AllocError, Global};
+use url::Url;
+
+// Puts those of the cookies that go with a request to the URL at `now` behind those that are given.
+fn give<'c>(
+    alloc: Global,
+    cookies: &'c [Cookie<'static>],
+    request_url: &Url,
+    now: DateTime,
+    given: &mut Vec<&'c Cookie<'static>>,
+) -> Result<(), AllocError>
+    ensures { OnOk result (GivesMore (map stored_of cookies.now) request_url.now (civil_nanos now)
+        (map shown given.old.items) (map shown given.new.items)) }
+{
+    for cookie in cookies {
+        if is_given(alloc, cookie, request_url, now)? {
+            given.push(cookie)?;
+        }
+    }
+    Ok(())
+}
+
+/// Those of the cookies in the parts that go with a request to the URL at `now`, in their order. The parts stand in the
+/// order of the cookies.
+pub(crate) fn give_parts<'c>(
+    alloc: Global,
+    cookies: &'c [Cookie<'static>],
+    parts: &[(usize, usize)],
+    request_url: &Url,
+    now: DateTime,
+) -> Result<Vec<&'c Cookie<'static>>, AllocError>
+    requires { AreInside (map stored_of cookies.now) parts.now }
+    ensures { IfOk result (λ given. AreGivenOf parts.now (map stored_of cookies.now) request_url.now
+        (civil_nanos now) (map shown given.items)) }
+{
+    let mut given = Vec::new(alloc);
+    for part in parts {
+        give(
+            alloc,
+            &cookies[part.0..part.1],
+            request_url,
+            now,
+            &mut given,
+        )?;
+    }
+    Ok(given)
+}
