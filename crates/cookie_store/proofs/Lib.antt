@@ -5,6 +5,7 @@ pub mod CallLemmas
 pub mod Confinement
 pub mod EndLemmas
 pub mod EntryLemmas
+pub mod GivenLemmas
 pub mod GroupLemmas
 pub mod GroupedLemmas
 pub mod JsonLineLemmas

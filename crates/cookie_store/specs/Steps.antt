@@ -1,7 +1,7 @@
 -- What private functions answer. No public contract names a word of this file.
 use Rattle.std.specs.Prelude.{◌≡◌, ◌≢◌, ◌⊎◌, ◌≤◌, ℕ, ℤ, List, Option, Some, None, Ok, Err, Result, IsSomeAnd, MatchResult}
 use Rattle.std.specs.Prelude.{if◌then◌else◌, Bool, true, [], ◌∷◌, ◌++◌, All, length, slice_range}
-use Rattle.std.specs.List.{list_any}
+use Rattle.std.specs.List.{flat_map, list_any}
 use Rattle.std.specs.Str.{IsUtf8}
 use Rattle.std.specs.Str.Lines.{lines}
 use Rattle.cookie_text.specs.Record.{Record, Seen}
@@ -77,15 +77,11 @@ Puts with (Some text) old new = new ≡ with old (Some text)
 
 -- the parts lie within the rows
 abbrev pub AreInside : List Row → List (ℕ × ℕ) → Type 0
-AreInside rows [] = Unit {0}
-AreInside rows (part ∷ parts) = (part.0 ≤ part.1) × (part.1 ≤ length rows) × AreInside rows parts
+AreInside rows parts = All (λ part. (part.0 ≤ part.1) × (part.1 ≤ length rows)) parts
 
--- the rows of one part after another that are given
-abbrev pub AreGivenOf : List (ℕ × ℕ) → List Row → Parts → ℤ → List Row → Type 0
-AreGivenOf [] rows url now given = given ≡ []
-AreGivenOf (part ∷ parts) rows url now given =
-    (own : List Row) × (later : List Row) × AreGiven (slice_range rows part.0 part.1) url now own
-    × AreGivenOf parts rows url now later × (given ≡ own ++ later)
+-- the rows in one part after another
+abbrev pub rows_in : List (ℕ × ℕ) → List Row → List Row
+rows_in parts rows = flat_map (λ part. slice_range rows part.0 part.1) parts
 
 -- the rows that are given are put behind those before
 abbrev pub GivesMore : List Row → Parts → ℤ → List Row → List Row → Type 0

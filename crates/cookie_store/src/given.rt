@@ -2,8 +2,8 @@
 
 ghost use Rattle.std.specs.Prelude.{IfOk, OnOk, map};
 ghost use Rattle.jiff.specs.Words.{civil_nanos};
-ghost use Rattle.cookie_store.specs.Given.{shown};
-ghost use Rattle.cookie_store.specs.Steps.{AreGivenOf, AreInside, GivesMore};
+ghost use Rattle.cookie_store.specs.Given.{AreGiven, shown};
+ghost use Rattle.cookie_store.specs.Steps.{AreInside, GivesMore, rows_in};
 ghost use Rattle.cookie_store.specs.StoredCookie.{stored_of};
 
 use crate::requests::is_given;
@@ -41,8 +41,8 @@ pub(crate) fn give_parts<'c>(
     now: DateTime,
 ) -> Result<Vec<&'c Cookie<'static>>, AllocError>
     requires { AreInside (map stored_of cookies.now) parts.now }
-    ensures { IfOk result (λ given. AreGivenOf parts.now (map stored_of cookies.now) request_url.now
-        (civil_nanos now) (map shown given.items)) }
+    ensures { IfOk result (λ given. AreGiven (rows_in parts.now (map stored_of cookies.now))
+        request_url.now (civil_nanos now) (map shown given.items)) }
 {
     let mut given = Vec::new(alloc);
     for part in parts {

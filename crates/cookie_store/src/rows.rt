@@ -222,10 +222,14 @@ impl Rows {
         let Some(host) = request_url.host_str() else {
             return Ok(Vec::new(alloc));
         };
-        let parts = self
-            .index
-            .find(alloc, host, request_url.path(), looks)?;
-        give_parts(alloc, self.cookies.as_slice(), parts.as_slice(), request_url, now)
+        let parts = self.index.find(alloc, host, request_url.path(), looks)?;
+        give_parts(
+            alloc,
+            self.cookies.as_slice(),
+            parts.as_slice(),
+            request_url,
+            now,
+        )
     }
 }
 
