@@ -172,20 +172,26 @@ module _ (rows : List Row) (url : Parts) (now : ℤ) where
 -- ---- one step further
 
 module _ (url : Parts) (now : ℤ) where
-  pub first_given : (cookies : List Cookie) (i : ℕ) (d : Cookie) (rest : List Row) → i < length cookies
-      → IsGiven (stored_of (get_or cookies i d)) url now → AreGiven (map stored_of (drop (i + 1) cookies)) url now rest
-      → AreGiven (map stored_of (drop i cookies)) url now (stored_of (get_or cookies i d) ∷ rest)
-  first_given cookies i d rest l is picks =
-      subst (λ rows. AreGiven rows url now (stored_of (get_or cookies i d) ∷ rest))
-      (sym (at_drop_more (map stored_of) cookies i d l)) (rest, picks, inl (is, refl))
+  left : (cookies : List Cookie) (i : ℕ) (cookie : Cookie) → i < length cookies → cookie ≡ get_or cookies i cookie
+      → map stored_of (drop i cookies) ≡ stored_of cookie ∷ map stored_of (drop (i + 1) cookies)
+  left cookies i cookie l at =
+      at_drop_more (map stored_of) cookies i cookie l
+      ∙ ap (λ c. stored_of c ∷ map stored_of (drop (i + 1) cookies)) (sym at)
 
-  pub first_passed : (cookies : List Cookie) (i : ℕ) (d : Cookie) (rest : List Row) → i < length cookies
-      → ¬ (IsGiven (stored_of (get_or cookies i d)) url now)
+  pub first_given : (cookies : List Cookie) (i : ℕ) (cookie : Cookie) (rest : List Row) → i < length cookies
+      → cookie ≡ get_or cookies i cookie → IsGiven (stored_of cookie) url now
+      → AreGiven (map stored_of (drop (i + 1) cookies)) url now rest
+      → AreGiven (map stored_of (drop i cookies)) url now (stored_of cookie ∷ rest)
+  first_given cookies i cookie rest l at is picks =
+      subst (λ rows. AreGiven rows url now (stored_of cookie ∷ rest)) (sym (left cookies i cookie l at))
+      (rest, picks, inl (is, refl))
+
+  pub first_passed : (cookies : List Cookie) (i : ℕ) (cookie : Cookie) (rest : List Row) → i < length cookies
+      → cookie ≡ get_or cookies i cookie → ¬ (IsGiven (stored_of cookie) url now)
       → AreGiven (map stored_of (drop (i + 1) cookies)) url now rest
       → AreGiven (map stored_of (drop i cookies)) url now rest
-  first_passed cookies i d rest l not picks =
-      subst (λ rows. AreGiven rows url now rest) (sym (at_drop_more (map stored_of) cookies i d l))
-      (rest, picks, inr (not, refl))
+  first_passed cookies i cookie rest l at not picks =
+      subst (λ rows. AreGiven rows url now rest) (sym (left cookies i cookie l at)) (rest, picks, inr (not, refl))
 
   pub part_given : (rows : List Row) (parts : List Span) (i : ℕ) (d : Span) (own rest : List Row) → i < length parts
       → AreGiven (slice_range rows (get_or parts i d).0 (get_or parts i d).1) url now own
