@@ -1,12 +1,11 @@
 pub mod ApartLemmas
 pub mod BuildLemmas
 pub mod ByteLemmas
-pub mod CallLemmas
 pub mod Confinement
 pub mod EndLemmas
-pub mod EntryLemmas
 pub mod GroupLemmas
 pub mod GroupedLemmas
+pub mod IndexedLemmas
 pub mod JsonLineLemmas
 pub mod LineLemmas
 pub mod LoadLemmas
@@ -21,4 +20,3 @@ pub mod SavedLemmas
 pub mod ShownLemmas
 pub mod StoreLemmas
 pub mod StrippedLemmas
-pub mod TreeLemmas
