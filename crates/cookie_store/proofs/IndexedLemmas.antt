@@ -1,15 +1,17 @@
 -- Rows in a vector with an index: where a row stands, and what becomes of them where one is put in, written over or
 -- taken out.
-use Rattle.std.proofs.Common.{◌≡◌, ◌⊎◌, ◌-◌, ◌<◌, ◌≤◌, ◌&&◌, ◌||◌, ℕ, zero, suc, Bool, true, false, not}
+use Rattle.std.proofs.Common.{◌≡◌, ◌⊎◌, ◌+◌, ◌-◌, ◌<◌, ◌≤◌, ◌&&◌, ◌||◌, ℕ, zero, suc, Bool, true, false, not}
 use Rattle.std.proofs.Common.{List, [], ◌∷◌, ◌++◌, map, filter, length, set, take, drop, refl, sym, ap, subst, ◌∙◌}
-use Rattle.std.proofs.Common.{inl, inr, arith, true≢false}
-use Rattle.std.specs.Prelude.{Some, None, IsSomeAnd, slice_get, option_map, if◌then◌else◌}
+use Rattle.std.proofs.Common.{get_or, inl, inr, arith, true≢false}
+use Rattle.std.specs.Prelude.{Option, Some, None, IsSomeAnd, slice_get, option_map, if◌then◌else◌}
 use Rattle.std.specs.List.{find, list_any, insert, remove}
 use Rattle.std.specs.Str.{bytes_eq}
 use Rattle.std.proofs.lemmas.Bool.{cond-true, cond-false, or_left, or_right, and_from, cases_lt}
 use Rattle.std.proofs.lemmas.List.{map-append, map-set, take-map, drop-map, length-map, set-get_or}
-use Rattle.std.proofs.lemmas.Option.{none-some, same_Some, slice_get-map, get_or_from_slice_get}
-use Rattle.place_index.specs.Index.{Index, Agrees, IsPart, IsNowhere, last}
+use Rattle.std.proofs.lemmas.Option.{none-some, same_Some, slice_get-map, slice_get_read, slice_get_within}
+use Rattle.std.proofs.lemmas.Option.{get_or_from_slice_get}
+use Rattle.std.specs.declared.vec.Vec.{Vec}
+use Rattle.place_index.specs.Index.{Index, Agrees, IsIndex, IsPart, IsNowhere, last}
 use Rattle.place_index.specs.Places.{Place, is_at, is_of}
 use Rattle.place_index.specs.Putting.{PutsAt, end_of, end_at}
 use Rattle.place_index.specs.Taking.{HasRow, TakesAt}
@@ -17,7 +19,10 @@ use Rattle.place_index.proofs.EndLemmas.{any_at, none_any}
 use Rattle.cookie_store.specs.Indexed.{place_of, places_of, IsIndexed, StandsAt}
 use Rattle.cookie_store.specs.Rows.{Row, Key, AreApart, key, key_of, has_key, has_key_of, has_place, has_place_of}
 use Rattle.cookie_store.specs.Rows.{has_domain_of, put_in_place, behind_last, inserted, put, found, removed}
+use Rattle.cookie_store.specs.StoredCookie.{stored_of}
+use Rattle.cookie_store.specs.declared.stored_cookie.Cookie.{Cookie}
 use Rattle.cookie_store.proofs.ApartLemmas.{key_is, none_behind, put_apart, filter_apart}
+use Rattle.cookie_store.proofs.GroupLemmas.{same_text, text_is, other_way}
 use Rattle.cookie_store.proofs.PlaceLemmas.{put_in_place-none, filter-none, no_key}
 
 -- ---- a list and its image
@@ -197,7 +202,71 @@ module _ (row : Row) (rows : List Row) (at : ℕ) (index new : Index) (indexed :
         (put_apart row rows indexed.apart);
   }
 
+-- ---- a vector of cookies
+
+pub fits : {X Y Z : Type 0} (f : X → Y) (v : Vec X Z) → length (map f v.items) ≤ last
+fits f v =
+    let small = v.small in
+    let own = v.ok in
+    omega (arith, length-map v.items f, own.0, own.1, small)
+
+pub is_index : (rows : List Row) (index : Index) → IsIndexed rows index → length rows ≤ last → IsIndex index
+is_index rows index indexed low = record {
+  places = places_of rows;
+  agrees = indexed.agrees;
+  room = subst (λ n. n ≤ last) (sym (length-map rows place_of)) low;
+}
+
+pub row_read : (items : List Cookie) (at : ℕ) (cookie : Cookie) → at < length (map stored_of items)
+    → cookie ≡ get_or items at cookie → slice_get (map stored_of items) at ≡ Some (stored_of cookie)
+row_read items at cookie within read =
+    slice_get-map stored_of items at
+    ∙ ap (option_map stored_of)
+    (slice_get_read items (length items) at cookie refl (omega (arith, length-map items stored_of, within)) read)
+
+-- the row that stands there
+pub stands : (key : Key) (rows : List Row) (at : ℕ) → StandsAt key rows (Some at)
+    → (row : Row) × (slice_get rows at ≡ Some row) × (has_key key row ≡ true)
+stands key rows at there = by (slice_get rows at) refl there
+  where
+    by : (o : Option Row) → slice_get rows at ≡ o → IsSomeAnd o (λ row. has_key key row ≡ true)
+        → (row : Row) × (slice_get rows at ≡ Some row) × (has_key key row ≡ true)
+    by None is there = absurd there
+    by (Some row) is there = (row, is, there)
+
+module _ (key : Key) (items : List Cookie) (at : ℕ) (there : StandsAt key (map stored_of items) (Some at)) where
+  within_items : at < length (map stored_of items)
+  within_items = let row = stands key (map stored_of items) at there in
+      slice_get_within (map stored_of items) at row.0 row.1
+
+  pub within_vec : (len : ℕ) → len ≡ length items → at < len
+  within_vec len own = omega (arith, own, length-map items stored_of, within_items)
+
+  module _ (cookie : Cookie) (read : cookie ≡ get_or items at cookie) where
+    pub read_there : slice_get (map stored_of items) at ≡ Some (stored_of cookie)
+    read_there = row_read items at cookie within_items read
+
+    pub key_there : has_key key (stored_of cookie) ≡ true
+    key_there = let row = stands key (map stored_of items) at there in
+        ap (has_key key) (same_Some (stored_of cookie) row.0 (sym read_there ∙ row.1)) ∙ row.2
+
 -- ---- the search within a part
+
+-- no row of the name from the one place up to the other
+abbrev pub HasNone : List ℕ → List Row → ℕ → ℕ → Type 0
+HasNone name rows start end =
+    (i : ℕ) (row : Row) → start ≤ i → i < end → slice_get rows i ≡ Some row → bytes_eq row.raw.cookie.name name ≡ false
+
+pub has_none_more : (name : List ℕ) (rows : List Row) (start at : ℕ) (row : Row) → slice_get rows at ≡ Some row
+    → bytes_eq row.raw.cookie.name name ≡ false → HasNone name rows start at → HasNone name rows start (at + 1)
+has_none_more name rows start at row is fails none i other low high there = by (cases_lt i at)
+  where
+    by : (i < at) ⊎ (at ≤ i) → bytes_eq other.raw.cookie.name name ≡ false
+    by (inl before) = none i other low before there
+    by (inr behind) =
+        let here : i ≡ at = omega arith in
+        let same = same_Some row other (sym is ∙ ap (slice_get rows) (sym here) ∙ there) in
+        ap (λ r. bytes_eq r.raw.cookie.name name) (sym same) ∙ fails
 
 module _ (domain path name : List ℕ) (rows : List Row) where
   pub no_part : IsNowhere (is_at domain path) (places_of rows) → StandsAt (key domain path name) rows None
@@ -207,19 +276,24 @@ module _ (domain path name : List ℕ) (rows : List Row) where
       ∙ none_any (is_at domain path) (places_of rows) nowhere)
 
   module _ (start end : ℕ) (part : IsPart (is_at domain path) (places_of rows) start (end - start)) where
+    pub within_rows : (at : ℕ) → at < end → at < length rows
+    within_rows at high =
+        let within = part.within in
+        omega (arith, length-map rows place_of, within, high)
+
     placed : (i : ℕ) (row : Row) → slice_get rows i ≡ Some row → slice_get (places_of rows) i ≡ Some (place_of row)
     placed i row is = slice_get-map place_of rows i ∙ ap (option_map place_of) is
 
     pub in_part : (at : ℕ) (row : Row) → start ≤ at → at < end → slice_get rows at ≡ Some row
-        → bytes_eq name row.raw.cookie.name ≡ true → StandsAt (key domain path name) rows (Some at)
+        → bytes_eq row.raw.cookie.name name ≡ true → StandsAt (key domain path name) rows (Some at)
     in_part at row low high is named =
         subst (λ o. IsSomeAnd o (λ r. has_key (key domain path name) r ≡ true)) (sym is)
         (and_from (has_place (key domain path name) row) (bytes_eq name row.raw.cookie.name)
-        (part.inside at (place_of row) low (omega arith) (placed at row is)) named)
+        (part.inside at (place_of row) low (omega arith) (placed at row is))
+        (text_is name row.raw.cookie.name (sym (same_text row.raw.cookie.name name named))))
 
-    pub not_in_part : ((i : ℕ) (row : Row) → start ≤ i → i < end → slice_get rows i ≡ Some row
-        → bytes_eq name row.raw.cookie.name ≡ false) → StandsAt (key domain path name) rows None
-    not_in_part others = none_any (has_key (key domain path name)) rows (λ i row is. by i row is (cases_lt i start))
+    pub not_in_part : HasNone name rows start end → StandsAt (key domain path name) rows None
+    not_in_part none = none_any (has_key (key domain path name)) rows (λ i row is. by i row is (cases_lt i start))
       where
         outside : (row : Row) → has_place (key domain path name) row ≡ false
             → has_key (key domain path name) row ≡ false
@@ -232,9 +306,12 @@ module _ (domain path name : List ℕ) (rows : List Row) where
 
         behind : (i : ℕ) (row : Row) → slice_get rows i ≡ Some row → start ≤ i → (i < end) ⊎ (end ≤ i)
             → has_key (key domain path name) row ≡ false
-        behind i row is low (inl high) = within row (has_place (key domain path name) row) (others i row low high is)
+        behind i row is low (inl high) =
+            within row (has_place (key domain path name) row)
+            (other_way row.raw.cookie.name name (none i row low high is))
         behind i row is low (inr high) =
-            outside row (part.after i (place_of row) (omega arith) (placed i row is))
+            let some = part.some in
+            outside row (part.after i (place_of row) (omega (arith, some, high)) (placed i row is))
 
         by : (i : ℕ) (row : Row) → slice_get rows i ≡ Some row → (i < start) ⊎ (start ≤ i)
             → has_key (key domain path name) row ≡ false
