@@ -1,6 +1,6 @@
 -- Rows of which no two have one key.
-use Rattle.std.proofs.Common.{◌≡◌, ℤ, Bool, true, false, cond, not, ◌&&◌, ◌||◌, List, [], ◌∷◌, map, refl, sym, ap, ◌∙◌}
-use Rattle.std.proofs.Common.{true≢false}
+use Rattle.std.proofs.Common.{◌≡◌, ℤ, Bool, true, false, cond, not, ◌&&◌, ◌||◌, List, [], ◌∷◌, map, filter, refl, sym, ap}
+use Rattle.std.proofs.Common.{◌∙◌, true≢false}
 use Rattle.std.specs.Prelude.{Option, Some, None, MatchOption, is_some, option_and_then, if◌then◌else◌}
 use Rattle.std.specs.List.{find, list_any}
 use Rattle.std.specs.Str.{bytes_eq}
@@ -24,7 +24,7 @@ key_is key r is =
       name = same_text key.name (key_of r).name own.1 i;
     }
 
-none_behind : (key : Key) (r : Row) (rows : List Row) → has_key key r ≡ true
+pub none_behind : (key : Key) (r : Row) (rows : List Row) → has_key key r ≡ true
     → list_any (has_key_of r) rows ≡ false → list_any (has_key key) rows ≡ false
 none_behind key r rows is none = ap (λ k. list_any (has_key k) rows) (key_is key r is) ∙ none
 
@@ -256,3 +256,23 @@ put_apart row rows apart = by (list_any (has_key_of row) rows) refl (list_any (h
     by true any p = replaced_apart row rows apart
     by false none true = behind_apart (has_place_of row) row rows none apart
     by false none false = behind_apart (has_domain (key_of row)) row rows none apart
+
+none_kept : {A : Type 0} (p t : A → Bool) (ys : List A) → list_any p ys ≡ false → list_any p (filter t ys) ≡ false
+none_kept p t [] none = refl
+none_kept p t (y ∷ ys) none = by (t y) (none_kept p t ys q.1)
+  where
+    q : (p y ≡ false) × (list_any p ys ≡ false)
+    q = or_parts (p y) (list_any p ys) none
+
+    by : (b : Bool) → list_any p (filter t ys) ≡ false
+        → list_any p (cond b (y ∷ filter t ys) (filter t ys)) ≡ false
+    by true rest = or_from (p y) _ q.0 rest
+    by false rest = rest
+
+pub filter_apart : (t : Row → Bool) (rows : List Row) → AreApart rows → AreApart (filter t rows)
+filter_apart t [] apart = tt
+filter_apart t (r ∷ rows) apart = by (t r) (filter_apart t rows apart.1)
+  where
+    by : (b : Bool) → AreApart (filter t rows) → AreApart (cond b (r ∷ filter t rows) (filter t rows))
+    by true rest = (none_kept (has_key_of r) t rows apart.0, rest)
+    by false rest = rest

@@ -1,13 +1,12 @@
 pub mod ApartLemmas
 pub mod BuildLemmas
 pub mod ByteLemmas
-pub mod CallLemmas
 pub mod Confinement
 pub mod EndLemmas
-pub mod EntryLemmas
 pub mod GivenLemmas
 pub mod GroupLemmas
 pub mod GroupedLemmas
+pub mod IndexedLemmas
 pub mod JsonLineLemmas
 pub mod LineLemmas
 pub mod LoadLemmas
@@ -22,4 +21,3 @@ pub mod SavedLemmas
 pub mod ShownLemmas
 pub mod StoreLemmas
 pub mod StrippedLemmas
-pub mod TreeLemmas

@@ -148,7 +148,7 @@ impl Rows {
 
     // Puts a cookie whose key no row has where a new one goes.
     fn insert(&mut self, alloc: Global, cookie: Cookie<'static>) -> Result<(), AllocError>
-        requires { list_any (spec.has_key_of (stored_of cookie.entry)) self.old ≡ false }
+        requires { list_any (spec.has_key_of (stored_of cookie)) self.old ≡ false }
         ensures ok { OnOk result (self.new ≡ spec.inserted (stored_of cookie.entry) self.old) }
         ensures err { OnErr result (self.new ≡ self.old) }
     {

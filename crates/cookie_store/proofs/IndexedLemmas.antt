@@ -1,0 +1,319 @@
+-- Rows in a vector with an index: where a row stands, and what becomes of them where one is put in, written over or
+-- taken out.
+use Rattle.std.proofs.Common.{◌≡◌, ◌⊎◌, ◌+◌, ◌-◌, ◌<◌, ◌≤◌, ◌&&◌, ◌||◌, ℕ, zero, suc, Bool, true, false, not}
+use Rattle.std.proofs.Common.{List, [], ◌∷◌, ◌++◌, map, filter, length, set, take, drop, refl, sym, ap, subst, ◌∙◌}
+use Rattle.std.proofs.Common.{get_or, inl, inr, arith, true≢false}
+use Rattle.std.specs.Prelude.{Option, Some, None, IsSomeAnd, slice_get, option_map, if◌then◌else◌}
+use Rattle.std.specs.List.{find, list_any, insert, remove}
+use Rattle.std.specs.Str.{bytes_eq}
+use Rattle.std.proofs.lemmas.Bool.{cond-true, cond-false, or_left, or_right, and_from, cases_lt}
+use Rattle.std.proofs.lemmas.List.{map-append, map-set, take-map, drop-map, length-map, set-get_or}
+use Rattle.std.proofs.lemmas.Option.{none-some, same_Some, slice_get-map, slice_get_read, slice_get_within}
+use Rattle.std.proofs.lemmas.Option.{get_or_from_slice_get}
+use Rattle.std.specs.declared.vec.Vec.{Vec}
+use Rattle.place_index.specs.Index.{Index, Agrees, IsIndex, IsPart, IsNowhere, last}
+use Rattle.place_index.specs.Places.{Place, is_at, is_of}
+use Rattle.place_index.specs.Putting.{PutsAt, end_of, end_at}
+use Rattle.place_index.specs.Taking.{HasRow, TakesAt}
+use Rattle.place_index.proofs.EndLemmas.{any_at, none_any}
+use Rattle.cookie_store.specs.Indexed.{place_of, places_of, IsIndexed, StandsAt}
+use Rattle.cookie_store.specs.Rows.{Row, Key, AreApart, key, key_of, has_key, has_key_of, has_place, has_place_of}
+use Rattle.cookie_store.specs.Rows.{has_domain_of, put_in_place, behind_last, inserted, put, found, removed}
+use Rattle.cookie_store.specs.StoredCookie.{stored_of}
+use Rattle.cookie_store.specs.declared.stored_cookie.Cookie.{Cookie}
+use Rattle.cookie_store.proofs.ApartLemmas.{key_is, none_behind, put_apart, filter_apart}
+use Rattle.cookie_store.proofs.GroupLemmas.{same_text, text_is, other_way}
+use Rattle.cookie_store.proofs.PlaceLemmas.{put_in_place-none, filter-none, no_key}
+
+-- ---- a list and its image
+
+module _ {A B : Type 0} (f : A → B) where
+  any_map : (test : B → Bool) (xs : List A) → list_any test (map f xs) ≡ list_any (λ x. test (f x)) xs
+  any_map test [] = refl
+  any_map test (x ∷ xs) = ap (λ b. test (f x) || b) (any_map test xs)
+
+  end_of_map : (test : B → Bool) (xs : List A) → end_of test (map f xs) ≡ end_of (λ x. test (f x)) xs
+  end_of_map test [] = refl
+  end_of_map test (x ∷ xs) =
+      λ i. if test (f x) && not (any_map test xs i) then 1 else suc (end_of_map test xs i)
+
+  pub map-insert : (xs : List A) (i : ℕ) (x : A) → map f (insert xs i x) ≡ insert (map f xs) i (f x)
+  map-insert xs i x =
+      map-append f (take i xs) (x ∷ drop i xs)
+      ∙ (λ j. sym (take-map f i xs) j ++ f x ∷ sym (drop-map f i xs) j)
+
+  pub map-remove : (xs : List A) (i : ℕ) → map f (remove xs i) ≡ remove (map f xs) i
+  map-remove xs i =
+      map-append f (take i xs) (drop (suc i) xs)
+      ∙ (λ j. sym (take-map f i xs) j ++ sym (drop-map f (suc i) xs) j)
+
+-- ---- the one element that passes a test
+
+module _ {A : Type 0} (test : A → Bool) (x : A) where
+  insert_behind : (ys : List A) → insert ys (end_of test ys) x ≡ behind_last test x ys
+  insert_behind [] = refl
+  insert_behind (y ∷ ys) = by (test y && not (list_any test ys)) (insert_behind ys)
+    where
+      by : (b : Bool) → insert ys (end_of test ys) x ≡ behind_last test x ys
+          → insert (y ∷ ys) (if b then 1 else suc (end_of test ys)) x
+          ≡ (if b then y ∷ x ∷ ys else y ∷ behind_last test x ys)
+      by true rest = refl
+      by false rest = ap (λ l. y ∷ l) rest
+
+  -- x is at the index, and no other element passes
+  abbrev IsOnly : List A → ℕ → Type 0
+  IsOnly [] at = ⊥
+  IsOnly (y ∷ ys) zero = (y ≡ x) × (test y ≡ true) × (list_any test ys ≡ false)
+  IsOnly (y ∷ ys) (suc at) = (test y ≡ false) × IsOnly ys at
+
+  any_only : (ys : List A) (at : ℕ) → IsOnly ys at → list_any test ys ≡ true
+  any_only [] at only = absurd only
+  any_only (y ∷ ys) zero only = or_left (test y) (list_any test ys) only.1
+  any_only (y ∷ ys) (suc at) only = or_right (test y) (list_any test ys) (any_only ys at only.1)
+
+  find_only : (ys : List A) (at : ℕ) → IsOnly ys at → find test ys ≡ Some x
+  find_only [] at only = absurd only
+  find_only (y ∷ ys) zero only = cond-true (test y) _ _ only.1 ∙ ap Some only.0
+  find_only (y ∷ ys) (suc at) only = cond-false (test y) _ _ only.0 ∙ find_only ys at only.1
+
+  set_only : (z : A) (ys : List A) (at : ℕ) → IsOnly ys at → put_in_place test z ys ≡ set ys at z
+  set_only z [] at only = absurd only
+  set_only z (y ∷ ys) zero only =
+      λ i. cond-true (test y) z y only.1 i ∷ put_in_place-none test z ys only.2 i
+  set_only z (y ∷ ys) (suc at) only = λ i. cond-false (test y) z y only.0 i ∷ set_only z ys at only.1 i
+
+  remove_only : (ys : List A) (at : ℕ) → IsOnly ys at → filter (λ y. not (test y)) ys ≡ remove ys at
+  remove_only [] at only = absurd only
+  remove_only (y ∷ ys) zero only =
+      cond-false (not (test y)) _ _ (ap not only.1) ∙ filter-none test ys only.2
+  remove_only (y ∷ ys) (suc at) only =
+      cond-true (not (test y)) _ _ (ap not only.0) ∙ ap (λ l. y ∷ l) (remove_only ys at only.1)
+
+-- ---- the row of a key
+
+only_there : (key : Key) (rows : List Row) (at : ℕ) (row : Row) → AreApart rows → slice_get rows at ≡ Some row
+    → has_key key row ≡ true → IsOnly (has_key key) row rows at
+only_there key [] at row apart is has = absurd (none-some row is)
+only_there key (r ∷ rows) zero row apart is has =
+    let same = same_Some r row is in
+    let own = ap (has_key key) same ∙ has in (same, own, none_behind key r rows own apart.0)
+only_there key (r ∷ rows) (suc at) row apart is has =
+    (by (has_key key r) refl, only_there key rows at row apart.1 is has)
+  where
+    by : (b : Bool) → has_key key r ≡ b → has_key key r ≡ false
+    by true own =
+        absurd (true≢false (sym (any_at (has_key key) rows at row is has) ∙ none_behind key r rows own apart.0))
+    by false fails = fails
+
+module _ (key : Key) (rows : List Row) (at : ℕ) (row : Row) (apart : AreApart rows)
+    (is : slice_get rows at ≡ Some row) (has : has_key key row ≡ true) where
+  pub found_there : found key rows ≡ Some row
+  found_there = find_only (has_key key) row rows at (only_there key rows at row apart is has)
+
+  pub removed_there : remove rows at ≡ removed key rows
+  removed_there = sym (remove_only (has_key key) row rows at (only_there key rows at row apart is has))
+
+-- ---- its place
+
+abbrev place_at : Key → Place
+place_at key = record { domain = key.domain; path = key.path }
+
+place_is : (key : Key) (row : Row) → has_key key row ≡ true → place_of row ≡ place_at key
+place_is key row has = ap place_at (sym (key_is key row has))
+
+module _ (key : Key) (rows : List Row) (at : ℕ) (row : Row) (index : Index) (indexed : IsIndexed rows index)
+    (is : slice_get rows at ≡ Some row) (has : has_key key row ≡ true) where
+  place_there : slice_get (places_of rows) at ≡ Some (place_at key)
+  place_there = slice_get-map place_of rows at ∙ ap (option_map place_of) is ∙ ap Some (place_is key row has)
+
+  pub has_row : length rows ≤ last → HasRow (place_at key) at index
+  has_row fits = record {
+    places = places_of rows;
+    agrees = indexed.agrees;
+    there = place_there;
+    room = subst (λ n. n ≤ last) (sym (length-map rows place_of)) fits;
+  }
+
+  pub removed_indexed : (new : Index) → TakesAt (place_at key) at index new → IsIndexed (remove rows at) new
+  removed_indexed new takes = record {
+    agrees = subst (λ places. Agrees places new) (sym (map-remove place_of rows at))
+        (takes (places_of rows) indexed.agrees place_there);
+    apart = subst AreApart (sym (removed_there key rows at row indexed.apart is has))
+        (filter_apart (λ r. not (has_key key r)) rows indexed.apart);
+  }
+
+module _ (new : Row) (rows : List Row) (at : ℕ) (row : Row) (is : slice_get rows at ≡ Some row)
+    (has : has_key_of new row ≡ true) where
+  pub set_there : AreApart rows → set rows at new ≡ put new rows
+  set_there apart =
+      let only = only_there (key_of new) rows at row apart is has in
+      sym (set_only (has_key_of new) row new rows at only)
+      ∙ sym (cond-true (list_any (has_key_of new) rows) _ _ (any_only (has_key_of new) row rows at only))
+
+  places_stay : places_of (set rows at new) ≡ places_of rows
+  places_stay =
+      let there = get_or_from_slice_get rows at row row is in
+      map-set place_of rows at new
+      ∙ ap (set (places_of rows) at) (sym (place_is (key_of new) row has) ∙ ap place_of (sym there))
+      ∙ sym (map-set place_of rows at _) ∙ ap places_of (set-get_or rows at row)
+
+  pub set_indexed : (index : Index) → IsIndexed rows index → IsIndexed (set rows at new) index
+  set_indexed index indexed = record {
+    agrees = subst (λ places. Agrees places index) (sym places_stay) indexed.agrees;
+    apart = subst AreApart (sym (set_there indexed.apart)) (put_apart new rows indexed.apart);
+  }
+
+-- ---- a row more
+
+goes_behind : (row : Row) (rows : List Row) (at : ℕ) → at ≡ end_at (place_of row) (places_of rows)
+    → insert rows at row ≡ inserted row rows
+goes_behind row rows at is = ap (λ i. insert rows i row) (is ∙ same) ∙ by (list_any (has_place_of row) rows)
+  where
+    of : Place → Bool
+    of = is_of (place_of row).domain
+
+    beside : Place → Bool
+    beside = is_at (place_of row).domain (place_of row).path
+
+    same : end_at (place_of row) (places_of rows)
+        ≡ (if list_any (has_place_of row) rows then end_of (has_place_of row) rows
+        else end_of (has_domain_of row) rows)
+    same = λ i. if any_map place_of beside rows i then end_of_map place_of beside rows i
+        else end_of_map place_of of rows i
+
+    by : (b : Bool)
+        → insert rows (if b then end_of (has_place_of row) rows else end_of (has_domain_of row) rows) row
+        ≡ (if b then behind_last (has_place_of row) row rows else behind_last (has_domain_of row) row rows)
+    by true = insert_behind (has_place_of row) row rows
+    by false = insert_behind (has_domain_of row) row rows
+
+module _ (row : Row) (rows : List Row) (at : ℕ) (index new : Index) (indexed : IsIndexed rows index)
+    (puts : PutsAt (place_of row) (length rows) index new at) where
+  put_at : Agrees (insert (places_of rows) at (place_of row)) new × (at ≡ end_at (place_of row) (places_of rows))
+  put_at = puts (places_of rows) indexed.agrees (length-map rows place_of)
+
+  pub insert_there : insert rows at row ≡ inserted row rows
+  insert_there = goes_behind row rows at put_at.1
+
+  pub insert_indexed : list_any (has_key_of row) rows ≡ false → IsIndexed (insert rows at row) new
+  insert_indexed none = record {
+    agrees = subst (λ places. Agrees places new) (sym (map-insert place_of rows at row)) put_at.0;
+    apart = subst AreApart (cond-false (list_any (has_key_of row) rows) _ _ none ∙ sym insert_there)
+        (put_apart row rows indexed.apart);
+  }
+
+-- ---- a vector of cookies
+
+pub fits : {X Y Z : Type 0} (f : X → Y) (v : Vec X Z) → length (map f v.items) ≤ last
+fits f v =
+    let small = v.small in
+    let own = v.ok in
+    omega (arith, length-map v.items f, own.0, own.1, small)
+
+pub is_index : (rows : List Row) (index : Index) → IsIndexed rows index → length rows ≤ last → IsIndex index
+is_index rows index indexed low = record {
+  places = places_of rows;
+  agrees = indexed.agrees;
+  room = subst (λ n. n ≤ last) (sym (length-map rows place_of)) low;
+}
+
+pub row_read : (items : List Cookie) (at : ℕ) (cookie : Cookie) → at < length (map stored_of items)
+    → cookie ≡ get_or items at cookie → slice_get (map stored_of items) at ≡ Some (stored_of cookie)
+row_read items at cookie within read =
+    slice_get-map stored_of items at
+    ∙ ap (option_map stored_of)
+    (slice_get_read items (length items) at cookie refl (omega (arith, length-map items stored_of, within)) read)
+
+-- the row that stands there
+pub stands : (key : Key) (rows : List Row) (at : ℕ) → StandsAt key rows (Some at)
+    → (row : Row) × (slice_get rows at ≡ Some row) × (has_key key row ≡ true)
+stands key rows at there = by (slice_get rows at) refl there
+  where
+    by : (o : Option Row) → slice_get rows at ≡ o → IsSomeAnd o (λ row. has_key key row ≡ true)
+        → (row : Row) × (slice_get rows at ≡ Some row) × (has_key key row ≡ true)
+    by None is there = absurd there
+    by (Some row) is there = (row, is, there)
+
+module _ (key : Key) (items : List Cookie) (at : ℕ) (there : StandsAt key (map stored_of items) (Some at)) where
+  within_items : at < length (map stored_of items)
+  within_items = let row = stands key (map stored_of items) at there in
+      slice_get_within (map stored_of items) at row.0 row.1
+
+  pub within_vec : (len : ℕ) → len ≡ length items → at < len
+  within_vec len own = omega (arith, own, length-map items stored_of, within_items)
+
+  module _ (cookie : Cookie) (read : cookie ≡ get_or items at cookie) where
+    pub read_there : slice_get (map stored_of items) at ≡ Some (stored_of cookie)
+    read_there = row_read items at cookie within_items read
+
+    pub key_there : has_key key (stored_of cookie) ≡ true
+    key_there = let row = stands key (map stored_of items) at there in
+        ap (has_key key) (same_Some (stored_of cookie) row.0 (sym read_there ∙ row.1)) ∙ row.2
+
+-- ---- the search within a part
+
+-- no row of the name from the one place up to the other
+abbrev pub HasNone : List ℕ → List Row → ℕ → ℕ → Type 0
+HasNone name rows start end =
+    (i : ℕ) (row : Row) → start ≤ i → i < end → slice_get rows i ≡ Some row → bytes_eq row.raw.cookie.name name ≡ false
+
+pub has_none_more : (name : List ℕ) (rows : List Row) (start at : ℕ) (row : Row) → slice_get rows at ≡ Some row
+    → bytes_eq row.raw.cookie.name name ≡ false → HasNone name rows start at → HasNone name rows start (at + 1)
+has_none_more name rows start at row is fails none i other low high there = by (cases_lt i at)
+  where
+    by : (i < at) ⊎ (at ≤ i) → bytes_eq other.raw.cookie.name name ≡ false
+    by (inl before) = none i other low before there
+    by (inr behind) =
+        let here : i ≡ at = omega arith in
+        let same = same_Some row other (sym is ∙ ap (slice_get rows) (sym here) ∙ there) in
+        ap (λ r. bytes_eq r.raw.cookie.name name) (sym same) ∙ fails
+
+module _ (domain path name : List ℕ) (rows : List Row) where
+  pub no_part : IsNowhere (is_at domain path) (places_of rows) → StandsAt (key domain path name) rows None
+  no_part nowhere =
+      no_key (key domain path name) rows
+      (sym (any_map place_of (is_at domain path) rows)
+      ∙ none_any (is_at domain path) (places_of rows) nowhere)
+
+  module _ (start end : ℕ) (part : IsPart (is_at domain path) (places_of rows) start (end - start)) where
+    pub within_rows : (at : ℕ) → at < end → at < length rows
+    within_rows at high =
+        let within = part.within in
+        omega (arith, length-map rows place_of, within, high)
+
+    placed : (i : ℕ) (row : Row) → slice_get rows i ≡ Some row → slice_get (places_of rows) i ≡ Some (place_of row)
+    placed i row is = slice_get-map place_of rows i ∙ ap (option_map place_of) is
+
+    pub in_part : (at : ℕ) (row : Row) → start ≤ at → at < end → slice_get rows at ≡ Some row
+        → bytes_eq row.raw.cookie.name name ≡ true → StandsAt (key domain path name) rows (Some at)
+    in_part at row low high is named =
+        subst (λ o. IsSomeAnd o (λ r. has_key (key domain path name) r ≡ true)) (sym is)
+        (and_from (has_place (key domain path name) row) (bytes_eq name row.raw.cookie.name)
+        (part.inside at (place_of row) low (omega arith) (placed at row is))
+        (text_is name row.raw.cookie.name (sym (same_text row.raw.cookie.name name named))))
+
+    pub not_in_part : HasNone name rows start end → StandsAt (key domain path name) rows None
+    not_in_part none = none_any (has_key (key domain path name)) rows (λ i row is. by i row is (cases_lt i start))
+      where
+        outside : (row : Row) → has_place (key domain path name) row ≡ false
+            → has_key (key domain path name) row ≡ false
+        outside row fails = ap (λ b. b && bytes_eq name row.raw.cookie.name) fails
+
+        within : (row : Row) (b : Bool) → bytes_eq name row.raw.cookie.name ≡ false
+            → (b && bytes_eq name row.raw.cookie.name) ≡ false
+        within row true fails = fails
+        within row false fails = refl
+
+        behind : (i : ℕ) (row : Row) → slice_get rows i ≡ Some row → start ≤ i → (i < end) ⊎ (end ≤ i)
+            → has_key (key domain path name) row ≡ false
+        behind i row is low (inl high) =
+            within row (has_place (key domain path name) row)
+            (other_way row.raw.cookie.name name (none i row low high is))
+        behind i row is low (inr high) =
+            let some = part.some in
+            outside row (part.after i (place_of row) (omega (arith, some, high)) (placed i row is))
+
+        by : (i : ℕ) (row : Row) → slice_get rows i ≡ Some row → (i < start) ⊎ (start ≤ i)
+            → has_key (key domain path name) row ≡ false
+        by i row is (inl low) = outside row (part.before i (place_of row) low (placed i row is))
+        by i row is (inr low) = behind i row is low (cases_lt i end)
