@@ -1,7 +1,7 @@
 -- The parts that the index finds have each row that a request is given; and how many questions that takes.
 use Rattle.std.proofs.Common.{◌≡◌, ◌⊎◌, ◌+◌, ◌-◌, ◌*◌, ◌<◌, ◌≤◌, ◌++◌, ◌||◌, ℕ, ℤ, true, false, List, [], ◌∷◌, length}
 use Rattle.std.proofs.Common.{zero, suc, take, drop, map, get_or, refl, sym, ap, subst, ◌∙◌, inl, inr, arith, true≢false}
-use Rattle.std.specs.Prelude.{Some, None, IsSomeAnd, slice_get, slice_range, option_map, nat_le, nat_lt, filter}
+use Rattle.std.specs.Prelude.{Some, None, IsSomeAnd, slice_get, slice_range, option_map, unwrap_or, nat_le, nat_lt, filter}
 use Rattle.std.specs.List.{AllByRecursion, flat_map, list_any}
 use Rattle.std.proofs.lemmas.Bool.{lt-leb, le-ltb, and_left, and_right}
 use Rattle.std.proofs.lemmas.List.Folds.{drop_split}
@@ -16,7 +16,7 @@ use Rattle.store_parts.specs.DomainMatch.{Domain, host_only, suffix, not_present
 use Rattle.store_parts.specs.PathMatch.{PathMatches, slash}
 use Rattle.store_parts.specs.Schemes.{host_of}
 use Rattle.url.specs.Parts.{Parts}
-use Rattle.cookie_store.specs.Asking.{has_row, looks_at_host}
+use Rattle.cookie_store.specs.Asking.{has_row, looks_at_host, looks_at_url}
 use Rattle.cookie_store.specs.Given.{AreGiven, ArePicked, IsGiven}
 use Rattle.cookie_store.specs.Indexed.{place_of, places_of}
 use Rattle.cookie_store.specs.Rows.{Row}
@@ -225,8 +225,14 @@ domain_found : (rows : List Row) (domain : List ℕ) → list_any (is_of domain)
 domain_found [] domain = refl
 domain_found (row ∷ rows) domain = ap (λ b. is_of domain (place_of row) || b) (domain_found rows domain)
 
-pub looks_same : (rows : List Row) (path host : List ℕ)
+looks_same : (rows : List Row) (path host : List ℕ)
     → looks_at host path (places_of rows) ≡ looks_at_host rows path host
 looks_same rows path host =
     λ i. 1 + count_of dot host + length (filter (λ domain. domain_found rows domain i) (domains_of host))
     * (1 + 2 * count_of slash path)
+
+pub looks_at_host_of : (rows seen : List Row) (url : Parts) (path host : List ℕ) → rows ≡ seen → path ≡ url.path
+    → Some host ≡ host_of url → looks_at host path (places_of rows) ≡ looks_at_url seen url
+looks_at_host_of rows seen url path host same path_is at =
+    looks_same rows path host
+    ∙ (λ i. unwrap_or (option_map (looks_at_host (same i) (path_is i)) (at i)) 0)

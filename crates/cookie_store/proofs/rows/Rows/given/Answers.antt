@@ -1,19 +1,68 @@
+use Rattle.std.proofs.Common.{◌≡◌, ◌+◌, ◌≤◌, ◌∙◌, List, ap, map, subst, sym}
+use Rattle.std.proofs.lemmas.Result.{IfOk-weaker}
+use Rattle.jiff.specs.Words.{civil_nanos}
+use Rattle.place_index.specs.Found.{Finds}
+use Rattle.cookie_store.specs.Asking.{looks_at_url}
+use Rattle.cookie_store.specs.Given.{AreGiven, shown}
+use Rattle.cookie_store.specs.Indexed.{places_of}
+use Rattle.cookie_store.specs.Steps.{AreInside, rows_in}
+use Rattle.cookie_store.specs.StoredCookie.{stored_of}
+use Rattle.cookie_store.proofs.GivenLemmas.{are_inside, given_of_parts, looks_at_host_of, none_given}
+use Rattle.cookie_store.proofs.IndexedLemmas.{fits, is_index}
 use Rattle.cookie_store.proofs.rows.Rows.given.Goals as goal
 
 pub returns-in_default-clause-given : goal.returns-in_default-clause-given
-returns-in_default-clause-given g c = let a = c.host_str.ensures in let b = c.in_default.ensures in let d = c.in_default.is in let e = c.new.ensures.items in ?
+returns-in_default-clause-given g c =
+    let url = c.args.request_url.now in
+    let now = civil_nanos c.args.now in
+    subst (AreGiven c.args.self.now url now) (sym (ap (map shown) c.new.ensures.items))
+    (none_given c.args.self.now url now (sym c.in_default.ensures))
 
 pub find-requires : goal.find-requires
-find-requires g c = let a = c.self.view_is in let b = c.self.inside.cookies.small in let d = c.self.inside.cookies.ok in let e = c.self.invariant in ?
+find-requires g c =
+    let v = c.self.inside.cookies in is_index (map stored_of v.items) c.self.inside.index c.self.invariant (fits stored_of v)
 
 pub returns-in_err-parts-clause-looks : goal.returns-in_err-parts-clause-looks
-returns-in_err-parts-clause-looks g c = let a = c.find.ensures.looks in let b = c.in-Some.ensures in let d = c.in-Some.host-is in let e = c.in-Some.is in let f = c.path.ensures.value in ?
+returns-in_err-parts-clause-looks g c =
+    let rows = map stored_of c.self.inside.cookies.items in
+    subst (λ n. c.find.new.looks ≤ c.args.looks.now + n)
+    (looks_at_host_of rows c.args.self.now c.args.request_url.now c.path.result.now c.in-Some.host.now c.self.view_is
+    c.path.ensures.value c.in-Some.ensures)
+    (c.find.ensures.looks (places_of rows) c.self.invariant.agrees)
 
 pub give_parts-requires : goal.give_parts-requires
-give_parts-requires g c = let a = c.in_ok-parts.ensures.found in let b = c.as_slice.ensures.value in let e = c.as_slice-2.ensures.value in ?
+give_parts-requires g c =
+    let cookies = c.self.inside.cookies.items in
+    let parts = c.in_ok-parts.parts.items in
+    let finds = c.in_ok-parts.ensures.found (places_of (map stored_of cookies)) c.self.invariant.agrees in
+    subst (AreInside (map stored_of c.as_slice.result.now)) (sym c.as_slice-2.ensures.value)
+    (subst (λ those. AreInside (map stored_of those) parts) (sym c.as_slice.ensures.value)
+    (are_inside (map stored_of cookies) 0 parts finds.ascend finds.within))
 
 pub returns-clause-given : goal.returns-clause-given
-returns-clause-given g c = let a = c.give_parts.ensures in ?
+returns-clause-given g c =
+    let cookies = c.self.inside.cookies.items in
+    let parts = c.in_ok-parts.parts.items in
+    let url = c.args.request_url.now in
+    let now = civil_nanos c.args.now in
+    let host = c.in-Some.host.now in
+    let finds = c.in_ok-parts.ensures.found (places_of (map stored_of cookies)) c.self.invariant.agrees in
+    IfOk-weaker c.give_parts.result _ _
+    (λ given picks.
+    subst (λ rows. AreGiven rows url now (map shown given.items)) c.self.view_is
+    (given_of_parts (map stored_of cookies) url now host (sym c.in-Some.ensures) parts
+    (subst (λ path. Finds host path (places_of (map stored_of cookies)) parts) c.path.ensures.value finds)
+    (map shown given.items)
+    (subst (λ those. AreGiven (rows_in those (map stored_of cookies)) url now (map shown given.items))
+    c.as_slice-2.ensures.value
+    (subst (λ those. AreGiven (rows_in c.as_slice-2.result.now (map stored_of those)) url now (map shown given.items))
+    c.as_slice.ensures.value picks))))
+    c.give_parts.ensures
 
 pub returns-clause-looks : goal.returns-clause-looks
-returns-clause-looks g c = let a = c.find.ensures.looks in let b = c.in-Some.ensures in ?
+returns-clause-looks g c =
+    let rows = map stored_of c.self.inside.cookies.items in
+    subst (λ n. c.find.new.looks ≤ c.args.looks.now + n)
+    (looks_at_host_of rows c.args.self.now c.args.request_url.now c.path.result.now c.in-Some.host.now c.self.view_is
+    c.path.ensures.value c.in-Some.ensures)
+    (c.find.ensures.looks (places_of rows) c.self.invariant.agrees)
