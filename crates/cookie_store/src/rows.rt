@@ -157,10 +157,8 @@ impl Rows {
         let at = self
             .index
             .put(alloc, rows, domain_text(&cookie), cookie.path.as_str())?;
-        match self.cookies.insert(at, cookie) {
-            Ok(()) => Ok(()),
-            Err(_) => Err(AllocError),
-        }
+        self.cookies.insert(at, cookie)?;
+        Ok(())
     }
 
     /// Expires the cookie of the key, where there is one. It keeps its place.
