@@ -1,5 +1,4 @@
 pub mod ApartLemmas
-pub mod BuildLemmas
 pub mod ByteLemmas
 pub mod CallLemmas
 pub mod Confinement
