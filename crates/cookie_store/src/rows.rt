@@ -185,7 +185,6 @@ impl Rows {
     pub(crate) fn clone(&self, alloc: Global) -> Result<Rows, AllocError>
         ensures { IfOk result (λ rows. rows ≡ self.now) }
     {
-        let _ = &self.cookies;
         let mut rows = Rows::new(alloc);
         for cookie in self.iter() {
             let _ = rows.put(alloc, cookie.clone(alloc)?)?;
