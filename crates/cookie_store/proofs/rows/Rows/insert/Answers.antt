@@ -1,7 +1,6 @@
-use Rattle.std.proofs.Common.{◌≡◌, ◌∙◌, ap, arith, false, length, map, subst, sym}
+use Rattle.std.proofs.Common.{◌≡◌, ◌∙◌, ap, arith, false, map, subst, sym}
 use Rattle.std.specs.List.{insert, list_any}
 use Rattle.std.proofs.lemmas.List.{length-map}
-use Rattle.place_index.specs.Places.{Place}
 use Rattle.cookie_store.specs.Indexed.{IsIndexed}
 use Rattle.cookie_store.specs.Rows.{has_key_of, inserted}
 use Rattle.cookie_store.specs.StoredCookie.{stored_of}
