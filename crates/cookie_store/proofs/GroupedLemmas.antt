@@ -1,125 +1,132 @@
--- The rows of a tree are grouped, and so is each part of them; rows that are grouped stand where they are put.
-use Rattle.std.proofs.Common.{◌≡◌, Bool, true, false, cond, List, [], ◌∷◌, ◌++◌, ℤ, filter, refl, sym, ap, subst, ◌∙◌}
-use Rattle.std.proofs.Common.{inl, inr, append_assoc, append-nil, true≢false}
-use Rattle.std.specs.Prelude.{Option, Some, None}
+-- Rows in a vector with an index are grouped, and so is each part of them; rows that are grouped stand where they are
+-- put.
+use Rattle.std.proofs.Common.{◌≡◌, ◌+◌, ◌<◌, ◌&&◌, ℕ, zero, suc, Bool, true, false, cond, List, [], ◌∷◌, ◌++◌, ℤ}
+use Rattle.std.proofs.Common.{map, filter, take, drop, refl, sym, ap, subst, ◌∙◌, inl, inr, append_assoc, append-nil}
+use Rattle.std.proofs.Common.{arith, true≢false}
+use Rattle.std.specs.Prelude.{Option, Some, None, slice_get, option_map}
 use Rattle.std.specs.List.{list_any, AllByRecursion}
 use Rattle.std.specs.Str.{bytes_eq}
 use Rattle.std.proofs.lemmas.Bool.{cond-false, or_parts, or_from, or_left, or_right, and_from}
+use Rattle.std.proofs.lemmas.List.{take-append-drop}
 use Rattle.std.proofs.lemmas.List.Folds.{list_any-append}
+use Rattle.std.proofs.lemmas.Option.{none-some, slice_get-map}
 use Rattle.cookie_text.specs.ReadingBack.{Pairwise}
+use Rattle.place_index.specs.Entries.{value_at}
+use Rattle.place_index.specs.Index.{Index, IsNowhere, DomainAgrees, PathAgrees, IsPart as IsPartAt}
+use Rattle.place_index.specs.Places.{is_of, is_at}
+use Rattle.place_index.specs.declared.part.DomainPart.{DomainPart}
+use Rattle.place_index.specs.declared.part.Part.{Part}
+use Rattle.place_index.proofs.EndLemmas.{none_any}
 use Rattle.store_parts.specs.DomainMatch.{text_or_empty}
-use Rattle.cookie_store.specs.Entries.{value_at}
 use Rattle.cookie_store.specs.Grouped.{StandTogether, AreGrouped, IsPart, PartsStay}
+use Rattle.cookie_store.specs.Indexed.{IsIndexed, place_of, places_of}
 use Rattle.cookie_store.specs.Placing.{chosen, loaded, put_all}
 use Rattle.cookie_store.specs.Rows.{Row, Key, AreApart, key_of, has_key, has_key_of, has_place, has_place_of}
 use Rattle.cookie_store.specs.Rows.{has_domain, has_domain_of, behind_last, is_live, put}
 use Rattle.cookie_store.specs.SavedRows.{IsReread}
-use Rattle.cookie_store.specs.Tree.{Names, Paths, Domains, ArePaths, AreDomains, rows_of_names, rows_of_paths, rows_of}
 use Rattle.cookie_store.proofs.ApartLemmas.{key_is}
-use Rattle.cookie_store.proofs.GroupLemmas.{text_is, tidy-value_at, none_absent, splits}
+use Rattle.cookie_store.proofs.GroupLemmas.{text_is}
 use Rattle.cookie_store.proofs.PlaceLaws.{has_own_key}
-use Rattle.cookie_store.proofs.PlaceLemmas.{no_place, behind_last-none, behind_last-all, behind_last-within}
-use Rattle.cookie_store.proofs.TreeLemmas.{of_path, of_domain, own_names, own_paths, rows_apart}
+use Rattle.cookie_store.proofs.PlaceLemmas.{behind_last-none, behind_last-all, behind_last-within}
 
 -- ---- those that stand together
 
-module _ {A : Type 0} (test : A → Bool) where
-  none_in_both : (xs ys : List A) → list_any test xs ≡ false → list_any test ys ≡ false
-      → list_any test (xs ++ ys) ≡ false
-  none_in_both xs ys a b = list_any-append test xs ys ∙ or_from (list_any test xs) (list_any test ys) a b
+module _ {A : Type 0} where
+  all_at : (P : A → Type 0) (xs : List A) → ((i : ℕ) (x : A) → slice_get xs i ≡ Some x → P x) → AllByRecursion P xs
+  all_at P [] h = tt
+  all_at P (x ∷ xs) h = (h zero x refl, all_at P xs (λ i y e. h (suc i) y e))
 
-  nowhere : (xs : List A) → list_any test xs ≡ false → StandTogether test xs
-  nowhere xs none = record {
+  in_take : (n : ℕ) (xs : List A) (i : ℕ) (x : A) → slice_get (take n xs) i ≡ Some x
+      → (i < n) × (slice_get xs i ≡ Some x)
+  in_take zero xs i x e = absurd (none-some x e)
+  in_take (suc n) [] i x e = absurd (none-some x e)
+  in_take (suc n) (y ∷ ys) zero x e = (omega arith, e)
+  in_take (suc n) (y ∷ ys) (suc i) x e = let r = in_take n ys i x e in let l = r.0 in (omega (arith, l), r.1)
+
+  in_drop : (n : ℕ) (xs : List A) (i : ℕ) → slice_get xs (n + i) ≡ slice_get (drop n xs) i
+  in_drop zero xs i = ap (slice_get xs) (omega arith)
+  in_drop (suc n) [] i = refl
+  in_drop (suc n) (x ∷ xs) i =
+      let e : suc n + i ≡ suc (n + i) = omega arith in
+      ap (slice_get (x ∷ xs)) e ∙ in_drop n xs i
+
+module _ {A B : Type 0} (f : A → B) (test : B → Bool) (xs : List A) where
+  at_image : (i : ℕ) (x : A) → slice_get xs i ≡ Some x → slice_get (map f xs) i ≡ Some (f x)
+  at_image i x e = slice_get-map f xs i ∙ ap (option_map f) e
+
+  none_of_image : IsNowhere test (map f xs) → list_any (λ x. test (f x)) xs ≡ false
+  none_of_image none = none_any (λ x. test (f x)) xs (λ i x e. none i (f x) (at_image i x e))
+
+  nowhere_together : IsNowhere test (map f xs) → StandTogether (λ x. test (f x)) xs
+  nowhere_together none = record {
     before = xs;
     own = [];
     after = [];
     split = sym (append-nil xs);
-    none_before = none;
+    none_before = none_of_image none;
     all_own = tt;
     none_after = refl;
   }
 
-  within : (front ys back : List A) → list_any test front ≡ false → list_any test back ≡ false
-      → StandTogether test ys → StandTogether test (front ++ (ys ++ back))
-  within front ys back f b s = record {
-    before = front ++ s.before;
-    own = s.own;
-    after = s.after ++ back;
-    split = ap (λ l. front ++ (l ++ back)) s.split ∙ regroup front s.before s.own s.after back;
-    none_before = none_in_both front s.before f s.none_before;
-    all_own = s.all_own;
-    none_after = none_in_both s.after back s.none_after b;
-  }
+  part_of_image : (start len : ℕ) → IsPartAt test (map f xs) start len → StandTogether (λ x. test (f x)) xs
+  part_of_image start len part =
+      let rest = drop start xs in
+      record {
+        before = take start xs;
+        own = take len rest;
+        after = drop len rest;
+        split = sym (take-append-drop start xs)
+            ∙ ap (λ l. take start xs ++ l) (sym (take-append-drop len rest));
+        none_before = none_any (λ x. test (f x)) (take start xs) before;
+        all_own = all_at (λ x. test (f x) ≡ true) (take len rest) inside;
+        none_after = none_any (λ x. test (f x)) (drop len rest) after;
+      }
     where
-      regroup : (a b c d e : List A) → a ++ ((b ++ (c ++ d)) ++ e) ≡ (a ++ b) ++ (c ++ (d ++ e))
-      regroup a b c d e = simp append_assoc
+      before : (i : ℕ) (x : A) → slice_get (take start xs) i ≡ Some x → test (f x) ≡ false
+      before i x e = let t = in_take start xs i x e in part.before i (f x) t.0 (at_image i x t.1)
 
--- ---- the rows of a tree
+      inside : (i : ℕ) (x : A) → slice_get (take len (drop start xs)) i ≡ Some x → test (f x) ≡ true
+      inside i x e =
+          let t = in_take len (drop start xs) i x e in
+          let l = t.0 in
+          part.inside (start + i) (f x) (omega arith) (omega (arith, l))
+          (at_image (start + i) x (in_drop start xs i ∙ t.1))
 
-domains_together : (key : Key) (domains : Domains) → AreDomains domains
-    → StandTogether (has_domain key) (rows_of domains)
-domains_together key domains tidy = by (value_at key.domain domains) refl
-  where
-    by : (o : Option Paths) → value_at key.domain domains ≡ o → StandTogether (has_domain key) (rows_of domains)
-    by (Some paths) at =
-        let s = splits _ (has_domain key) rows_of_paths key.domain
-        (λ domain ps t. of_domain key domain ps t.0) domains paths tidy at in
-        record {
-          before = s.front;
-          own = rows_of_paths paths;
-          after = s.back;
-          split = s.whole;
-          none_before = s.no_front;
-          all_own = own_paths key paths (tidy-value_at _ key.domain domains paths tidy at).0;
-          none_after = s.no_back;
-        }
-    by None at =
-        nowhere (has_domain key) (rows_of domains) (none_absent _ (has_domain key) rows_of_paths key.domain
-        (λ domain ps t. of_domain key domain ps t.0) domains tidy at)
+      after : (i : ℕ) (x : A) → slice_get (drop len (drop start xs)) i ≡ Some x → test (f x) ≡ false
+      after i x e =
+          part.after (start + (len + i)) (f x) (omega arith)
+          (at_image (start + (len + i)) x (in_drop start xs (len + i) ∙ in_drop len (drop start xs) i ∙ e))
 
-places_of_domain : (key : Key) (paths : Paths) → ArePaths key.domain paths
-    → StandTogether (has_place key) (rows_of_paths paths)
-places_of_domain key paths tidy = by (value_at key.path paths) refl
-  where
-    by : (o : Option Names) → value_at key.path paths ≡ o → StandTogether (has_place key) (rows_of_paths paths)
-    by (Some names) at =
-        let s = splits _ (has_place key) rows_of_names key.path
-        (λ path ns t. of_path key path ns t.0) paths names tidy at in
-        record {
-          before = s.front;
-          own = rows_of_names names;
-          after = s.back;
-          split = s.whole;
-          none_before = s.no_front;
-          all_own = own_names key names (tidy-value_at _ key.path paths names tidy at).0;
-          none_after = s.no_back;
-        }
-    by None at =
-        nowhere (has_place key) (rows_of_paths paths) (none_absent _ (has_place key) rows_of_names key.path
-        (λ path ns t. of_path key path ns t.0) paths tidy at)
+-- ---- rows in a vector with an index
 
-places_together : (key : Key) (domains : Domains) → AreDomains domains
-    → StandTogether (has_place key) (rows_of domains)
-places_together key domains tidy = by (value_at key.domain domains) refl
-  where
-    by : (o : Option Paths) → value_at key.domain domains ≡ o → StandTogether (has_place key) (rows_of domains)
-    by (Some paths) at =
-        let s = splits _ (has_domain key) rows_of_paths key.domain
-        (λ domain ps t. of_domain key domain ps t.0) domains paths tidy at in
-        subst (StandTogether (has_place key)) (sym s.whole)
-        (within (has_place key) s.front (rows_of_paths paths) s.back (no_place key s.front s.no_front)
-        (no_place key s.back s.no_back)
-        (places_of_domain key paths (tidy-value_at _ key.domain domains paths tidy at).0))
-    by None at =
-        nowhere (has_place key) (rows_of domains) (no_place key (rows_of domains)
-        (none_absent _ (has_domain key) rows_of_paths key.domain
-        (λ domain ps t. of_domain key domain ps t.0) domains tidy at))
+module _ (rows : List Row) (index : Index) (indexed : IsIndexed rows index) (key : Key) where
+  domains_together : StandTogether (has_domain key) rows
+  domains_together = by (value_at key.domain index) (indexed.agrees key.domain)
+    where
+      by : (o : Option DomainPart) → DomainAgrees (places_of rows) key.domain o → StandTogether (has_domain key) rows
+      by None none = nowhere_together place_of (is_of key.domain) rows none
+      by (Some part) own = part_of_image place_of (is_of key.domain) rows part.start part.len own.0
 
-pub rows_grouped : (domains : Domains) → AreDomains domains → AreGrouped (rows_of domains)
-rows_grouped domains tidy = record {
-  domains = λ key. domains_together key domains tidy;
-  places = λ key. places_together key domains tidy;
-  apart = rows_apart domains tidy;
+  places_together : StandTogether (has_place key) rows
+  places_together = by (value_at key.domain index) (indexed.agrees key.domain)
+    where
+      at_path : (start : ℕ) (o : Option Part) → PathAgrees (places_of rows) key.domain start key.path o
+          → StandTogether (has_place key) rows
+      at_path start None none = nowhere_together place_of (is_at key.domain key.path) rows none
+      at_path start (Some part) own =
+          part_of_image place_of (is_at key.domain key.path) rows (start + part.start) part.len own
+
+      by : (o : Option DomainPart) → DomainAgrees (places_of rows) key.domain o → StandTogether (has_place key) rows
+      by None none =
+          nowhere_together place_of (is_at key.domain key.path) rows
+          (λ i place e. ap (λ b. b && bytes_eq key.path place.path) (none i place e))
+      by (Some part) own = at_path part.start (value_at key.path part.paths) (own.1 key.path)
+
+pub indexed_grouped : (rows : List Row) (index : Index) → IsIndexed rows index → AreGrouped rows
+indexed_grouped rows index indexed = record {
+  domains = λ key. domains_together rows index indexed key;
+  places = λ key. places_together rows index indexed key;
+  apart = indexed.apart;
 }
 
 -- ---- a list behind whose last x goes
@@ -212,7 +219,7 @@ none_of_key (d ∷ done) rest row apart =
     (other_key row d (or_parts (has_key_of d row) (list_any (has_key_of d) rest) later.1).0)
     (none_of_key done rest row apart.1)
 
-put_last : (done rest : List Row) (row : Row) → AreGrouped (done ++ row ∷ rest) → put row done ≡ done ++ row ∷ []
+pub put_last : (done rest : List Row) (row : Row) → AreGrouped (done ++ row ∷ rest) → put row done ≡ done ++ row ∷ []
 put_last done rest row g =
     cond-false (list_any (has_key_of row) done) _ _ (none_of_key done rest row g.apart)
     ∙ by (list_any (has_place_of row) done)

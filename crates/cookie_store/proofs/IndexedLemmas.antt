@@ -13,7 +13,7 @@ use Rattle.std.proofs.lemmas.Option.{get_or_from_slice_get}
 use Rattle.std.specs.declared.vec.Vec.{Vec}
 use Rattle.place_index.specs.Index.{Index, Agrees, IsIndex, IsPart, IsNowhere, last}
 use Rattle.place_index.specs.Places.{Place, is_at, is_of}
-use Rattle.place_index.specs.Putting.{PutsAt, end_of, end_at}
+use Rattle.place_index.specs.Putting.{IsReady, PutsAt, end_of, end_at}
 use Rattle.place_index.specs.Taking.{HasRow, TakesAt}
 use Rattle.place_index.proofs.EndLemmas.{any_at, none_any}
 use Rattle.cookie_store.specs.Indexed.{place_of, places_of, IsIndexed, StandsAt}
@@ -187,10 +187,43 @@ goes_behind row rows at is = ap (λ i. insert rows i row) (is ∙ same) ∙ by (
     by true = insert_behind (has_place_of row) row rows
     by false = insert_behind (has_domain_of row) row rows
 
+end_low : {A : Type 0} (test : A → Bool) (xs : List A) → end_of test xs ≤ length xs
+end_low test [] = omega arith
+end_low test (x ∷ xs) = by (test x && not (list_any test xs)) (end_low test xs)
+  where
+    by : (b : Bool) → end_of test xs ≤ length xs → (if b then 1 else suc (end_of test xs)) ≤ suc (length xs)
+    by true low = omega arith
+    by false low = omega (arith, low)
+
+end_at_low : (place : Place) (places : List Place) → end_at place places ≤ length places
+end_at_low place places = by (list_any (is_at place.domain place.path) places)
+  where
+    by : (b : Bool) → (if b then end_of (is_at place.domain place.path) places else end_of (is_of place.domain) places)
+        ≤ length places
+    by true = end_low (is_at place.domain place.path) places
+    by false = end_low (is_of place.domain) places
+
+pub is_ready : (rows : List Row) (index : Index) (count : ℕ) → IsIndexed rows index → count ≡ length rows
+    → count < last → IsReady count index
+is_ready rows index count indexed counted room = record {
+  places = places_of rows;
+  agrees = indexed.agrees;
+  counted = length-map rows place_of ∙ sym counted;
+  room = room;
+}
+
 module _ (row : Row) (rows : List Row) (at : ℕ) (index new : Index) (indexed : IsIndexed rows index)
-    (puts : PutsAt (place_of row) (length rows) index new at) where
+    (place : Place) (count : ℕ) (own : place ≡ place_of row) (counted : count ≡ length rows)
+    (puts : PutsAt place count index new at) where
   put_at : Agrees (insert (places_of rows) at (place_of row)) new × (at ≡ end_at (place_of row) (places_of rows))
-  put_at = puts (places_of rows) indexed.agrees (length-map rows place_of)
+  put_at =
+      subst (λ p. Agrees (insert (places_of rows) at p) new × (at ≡ end_at p (places_of rows))) own
+      (puts (places_of rows) indexed.agrees (length-map rows place_of ∙ sym counted))
+
+  pub insert_within : at ≤ count
+  insert_within =
+      let e = put_at.1 in
+      omega (arith, e, end_at_low (place_of row) (places_of rows), length-map rows place_of, counted)
 
   pub insert_there : insert rows at row ≡ inserted row rows
   insert_there = goes_behind row rows at put_at.1
@@ -233,6 +266,11 @@ stands key rows at there = by (slice_get rows at) refl there
         → (row : Row) × (slice_get rows at ≡ Some row) × (has_key key row ≡ true)
     by None is there = absurd there
     by (Some row) is there = (row, is, there)
+
+pub any_there : (key : Key) (rows : List Row) (at : ℕ) → StandsAt key rows (Some at)
+    → list_any (has_key key) rows ≡ true
+any_there key rows at there =
+    let row = stands key rows at there in any_at (has_key key) rows at row.0 row.1 row.2
 
 module _ (key : Key) (items : List Cookie) (at : ℕ) (there : StandsAt key (map stored_of items) (Some at)) where
   within_items : at < length (map stored_of items)

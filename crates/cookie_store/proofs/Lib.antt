@@ -1,5 +1,4 @@
 pub mod ApartLemmas
-pub mod BuildLemmas
 pub mod ByteLemmas
 pub mod Confinement
 pub mod EndLemmas

@@ -1,5 +1,5 @@
 -- Rows in a vector with an index of where they stand. No public contract names a word of this file.
-use Rattle.std.specs.Prelude.{◌≡◌, ℕ, List, map, Bool, true, false, Option, Some, None, IsSomeAnd, slice_get}
+use Rattle.std.specs.Prelude.{◌≡◌, ℕ, List, map, true, false, Option, Some, None, IsSomeAnd, slice_get}
 use Rattle.std.specs.List.{list_any}
 use Rattle.place_index.specs.Index.{Index, Agrees}
 use Rattle.place_index.specs.Places.{Place}

@@ -157,10 +157,8 @@ impl Rows {
         let at = self
             .index
             .put(alloc, rows, domain_text(&cookie), cookie.path.as_str())?;
-        match self.cookies.insert(at, cookie) {
-            Ok(()) => Ok(()),
-            Err(_) => Err(AllocError),
-        }
+        self.cookies.insert(at, cookie)?;
+        Ok(())
     }
 
     /// Expires the cookie of the key, where there is one. It keeps its place.
@@ -187,7 +185,6 @@ impl Rows {
     pub(crate) fn clone(&self, alloc: Global) -> Result<Rows, AllocError>
         ensures { IfOk result (λ rows. rows ≡ self.now) }
     {
-        let _ = &self.cookies;
         let mut rows = Rows::new(alloc);
         for cookie in self.iter() {
             let _ = rows.put(alloc, cookie.clone(alloc)?)?;
