@@ -4,6 +4,8 @@
 #[cfg(test)]
 mod answer_tests;
 #[cfg(test)]
+mod asking_tests;
+#[cfg(test)]
 mod device_tests;
 #[cfg(test)]
 mod fixtures;

@@ -1,0 +1,90 @@
+//! The questions that requests put to the index of a store's rows.
+
+ghost use Rattle.std.specs.Prelude.{◌≡◌, ◌≤◌, ◌<◌, ◌+◌, ◌*◌, codes};
+ghost use Rattle.cookie_store.specs.Asking.{domains_with_rows};
+
+use crate::fixtures::{at, receive};
+use cookie_store::{Cookie, CookieStore, Looks};
+use std::alloc::{AllocError, Global};
+use std::marker::Brand;
+use std::sync::ledger::{Blank, Ledger};
+use std::test::Fail;
+use url::Url;
+
+// What a request of four domain texts and five path texts is given: so many questions, those of the paths for each
+// domain that has a row. Nothing of another request.
+fn match_deep<'s, L: Ledger>(
+    store: &'s CookieStore,
+    url: &Url,
+    looks: &mut Looks<L>,
+) -> Result<Option<Vec<&'s Cookie<'static>>>, AllocError>
+    ensures { looks.new ≤ looks.old + (4 + domains_with_rows (codes "a.b.c.com") store.now.rows * 5) }
+{
+    if url.host_str() != Some("a.b.c.com") || url.path() != "/x/y" {
+        return Ok(None);
+    }
+    Ok(Some(store.matches_counted(url, at(0), looks)?))
+}
+
+// ` NAME=VALUE` of each of the cookies.
+fn pairs(alloc: Global, cookies: &[&Cookie<'static>]) -> Option<String> {
+    let mut out = String::new(alloc);
+    for cookie in cookies {
+        let (name, value) = cookie.raw().name_value();
+        write!(out, " {name}={value}").ok()?;
+    }
+    Some(out)
+}
+
+// Whether these are the cookies.
+fn are(alloc: Global, cookies: &[&Cookie<'static>], wanted: &str) -> bool {
+    match pairs(alloc, cookies) {
+        Some(found) => found.as_str() == wanted,
+        None => false,
+    }
+}
+
+// Whether the request is given these, counted from none and not counted.
+fn gives_both<L: Ledger>(
+    alloc: Global,
+    store: &CookieStore,
+    url: &Url,
+    wanted: &str,
+    blank: Blank,
+) -> Result<bool, AllocError>
+    requires name { blank.name ≡ L.name }
+    requires parts { blank.parts ≡ L.parts }
+    requires some { 0 < L.parts }
+{
+    let mut looks = Looks::<L>::new(blank);
+    let Some(counted) = match_deep(store, url, &mut looks)? else {
+        return Ok(false);
+    };
+    let given = store.matches(url, at(0))?;
+    Ok(are(alloc, &counted, wanted) && are(alloc, &given, wanted))
+}
+
+// What is received, and what the request is given then: one of its domains has rows, two have, and all four.
+const STEPS: [(&str, &str); 3] = [
+    (
+        "http://d.com/|other=0\nhttp://c.com/|one=1; Domain=c.com; Path=/x",
+        " one=1",
+    ),
+    ("http://a.b.c.com/|two=2; Path=/x/", " one=1 two=2"),
+    (
+        "http://b.c.com/|three=3; Domain=b.c.com; Path=/\nhttp://c.com/|four=4; Domain=com; Path=/x/y",
+        " one=1 two=2 three=3 four=4",
+    ),
+];
+
+#[test]
+fn asks_for_what_a_request_can_meet(rt: HostRuntime) -> Result<(), Fail> {
+    let alloc = rt.alloc();
+    let url = Url::parse(alloc, "http://a.b.c.com/x/y")?;
+    let mut store = CookieStore::new(alloc);
+    for (lines, wanted) in STEPS {
+        assert!(rt; receive(alloc, &mut store, lines));
+        assert!(rt; gives_both::<Brand>(alloc, &store, &url, wanted, Blank::new(1))?);
+    }
+    Ok(())
+}
