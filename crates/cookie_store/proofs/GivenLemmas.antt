@@ -1,7 +1,7 @@
 -- The parts that the index finds have each row that a request is given; and how many questions that takes.
 use Rattle.std.proofs.Common.{◌≡◌, ◌⊎◌, ◌+◌, ◌-◌, ◌*◌, ◌<◌, ◌≤◌, ◌++◌, ◌||◌, ℕ, ℤ, true, false, List, [], ◌∷◌, length}
 use Rattle.std.proofs.Common.{zero, suc, take, drop, map, get_or, refl, sym, ap, subst, ◌∙◌, inl, inr, arith, true≢false}
-use Rattle.std.specs.Prelude.{Some, None, IsSomeAnd, slice_get, slice_range, option_map, unwrap_or, nat_le, nat_lt, filter}
+use Rattle.std.specs.Prelude.{Box, Some, None, IsSomeAnd, slice_get, slice_range, option_map, unwrap_or, nat_le, nat_lt, filter}
 use Rattle.std.specs.List.{AllByRecursion, flat_map, list_any}
 use Rattle.std.proofs.lemmas.Bool.{lt-leb, le-ltb, and_left, and_right}
 use Rattle.std.proofs.lemmas.List.Folds.{drop_split}
@@ -21,7 +21,7 @@ use Rattle.cookie_store.specs.Given.{AreGiven, ArePicked, IsGiven}
 use Rattle.cookie_store.specs.Indexed.{place_of, places_of}
 use Rattle.cookie_store.specs.Rows.{Row}
 use Rattle.cookie_store.specs.Steps.{AreInside, rows_in}
-use Rattle.cookie_store.specs.StoredCookie.{stored_of}
+use Rattle.cookie_store.specs.StoredCookie.{stored_in}
 use Rattle.cookie_store.specs.declared.stored_cookie.Cookie.{Cookie}
 
 -- ---- elements of parts
@@ -172,24 +172,24 @@ module _ (rows : List Row) (url : Parts) (now : ℤ) where
 -- ---- one step further
 
 module _ (url : Parts) (now : ℤ) where
-  left : (cookies : List Cookie) (i : ℕ) (cookie : Cookie) → i < length cookies → cookie ≡ get_or cookies i cookie
-      → map stored_of (drop i cookies) ≡ stored_of cookie ∷ map stored_of (drop (i + 1) cookies)
+  left : {Z : Type 0} (cookies : List (Box Cookie Z)) (i : ℕ) (cookie : Box Cookie Z) → i < length cookies → cookie ≡ get_or cookies i cookie
+      → map stored_in (drop i cookies) ≡ stored_in cookie ∷ map stored_in (drop (i + 1) cookies)
   left cookies i cookie l at =
-      at_drop_more (map stored_of) cookies i cookie l
-      ∙ ap (λ c. stored_of c ∷ map stored_of (drop (i + 1) cookies)) (sym at)
+      at_drop_more (map stored_in) cookies i cookie l
+      ∙ ap (λ c. stored_in c ∷ map stored_in (drop (i + 1) cookies)) (sym at)
 
-  pub first_given : (cookies : List Cookie) (i : ℕ) (cookie : Cookie) (rest : List Row) → i < length cookies
-      → cookie ≡ get_or cookies i cookie → IsGiven (stored_of cookie) url now
-      → AreGiven (map stored_of (drop (i + 1) cookies)) url now rest
-      → AreGiven (map stored_of (drop i cookies)) url now (stored_of cookie ∷ rest)
+  pub first_given : {Z : Type 0} (cookies : List (Box Cookie Z)) (i : ℕ) (cookie : Box Cookie Z) (rest : List Row) → i < length cookies
+      → cookie ≡ get_or cookies i cookie → IsGiven (stored_in cookie) url now
+      → AreGiven (map stored_in (drop (i + 1) cookies)) url now rest
+      → AreGiven (map stored_in (drop i cookies)) url now (stored_in cookie ∷ rest)
   first_given cookies i cookie rest l at is picks =
-      subst (λ rows. AreGiven rows url now (stored_of cookie ∷ rest)) (sym (left cookies i cookie l at))
+      subst (λ rows. AreGiven rows url now (stored_in cookie ∷ rest)) (sym (left cookies i cookie l at))
       (rest, picks, inl (is, refl))
 
-  pub first_passed : (cookies : List Cookie) (i : ℕ) (cookie : Cookie) (rest : List Row) → i < length cookies
-      → cookie ≡ get_or cookies i cookie → ¬ (IsGiven (stored_of cookie) url now)
-      → AreGiven (map stored_of (drop (i + 1) cookies)) url now rest
-      → AreGiven (map stored_of (drop i cookies)) url now rest
+  pub first_passed : {Z : Type 0} (cookies : List (Box Cookie Z)) (i : ℕ) (cookie : Box Cookie Z) (rest : List Row) → i < length cookies
+      → cookie ≡ get_or cookies i cookie → ¬ (IsGiven (stored_in cookie) url now)
+      → AreGiven (map stored_in (drop (i + 1) cookies)) url now rest
+      → AreGiven (map stored_in (drop i cookies)) url now rest
   first_passed cookies i cookie rest l at not picks =
       subst (λ rows. AreGiven rows url now rest) (sym (left cookies i cookie l at)) (rest, picks, inr (not, refl))
 
@@ -202,10 +202,10 @@ module _ (url : Parts) (now : ℤ) where
       (picks_append (λ row. IsGiven row url now) (slice_range rows (get_or parts i d).0 (get_or parts i d).1)
       (rows_in (drop (i + 1) parts) rows) own rest picks later)
 
-pub rows_of_part : (cookies : List Cookie) (start end : ℕ)
-    → map stored_of (slice_range cookies start end) ≡ slice_range (map stored_of cookies) start end
+pub rows_of_part : {Z : Type 0} (cookies : List (Box Cookie Z)) (start end : ℕ)
+    → map stored_in (slice_range cookies start end) ≡ slice_range (map stored_in cookies) start end
 rows_of_part cookies start end =
-    sym (ap (take (end - start)) (drop-map stored_of start cookies) ∙ take-map stored_of (end - start) (drop start cookies))
+    sym (ap (take (end - start)) (drop-map stored_in start cookies) ∙ take-map stored_in (end - start) (drop start cookies))
 
 -- ---- the parts that are found
 

@@ -3,7 +3,7 @@
 use Rattle.std.proofs.Common.{◌≡◌, ◌⊎◌, ◌+◌, ◌-◌, ◌<◌, ◌≤◌, ◌&&◌, ◌||◌, ℕ, zero, suc, Bool, true, false, not}
 use Rattle.std.proofs.Common.{List, [], ◌∷◌, ◌++◌, map, filter, length, set, take, drop, refl, sym, ap, subst, ◌∙◌}
 use Rattle.std.proofs.Common.{get_or, inl, inr, arith, true≢false}
-use Rattle.std.specs.Prelude.{Option, Some, None, IsSomeAnd, slice_get, option_map, if◌then◌else◌}
+use Rattle.std.specs.Prelude.{Box, Option, Some, None, IsSomeAnd, slice_get, option_map, if◌then◌else◌}
 use Rattle.std.specs.List.{find, list_any, insert, remove}
 use Rattle.std.specs.Str.{bytes_eq}
 use Rattle.std.proofs.lemmas.Bool.{cond-true, cond-false, or_left, or_right, and_from, cases_lt}
@@ -19,7 +19,7 @@ use Rattle.place_index.proofs.EndLemmas.{any_at, none_any}
 use Rattle.cookie_store.specs.Indexed.{place_of, places_of, IsIndexed, StandsAt}
 use Rattle.cookie_store.specs.Rows.{Row, Key, AreApart, key, key_of, has_key, has_key_of, has_place, has_place_of}
 use Rattle.cookie_store.specs.Rows.{has_domain_of, put_in_place, behind_last, inserted, put, found, removed}
-use Rattle.cookie_store.specs.StoredCookie.{stored_of}
+use Rattle.cookie_store.specs.StoredCookie.{stored_in}
 use Rattle.cookie_store.specs.declared.stored_cookie.Cookie.{Cookie}
 use Rattle.cookie_store.proofs.ApartLemmas.{key_is, none_behind, put_apart, filter_apart}
 use Rattle.cookie_store.proofs.GroupLemmas.{same_text, text_is, other_way}
@@ -250,12 +250,12 @@ is_index rows index indexed low = record {
   room = subst (λ n. n ≤ last) (sym (length-map rows place_of)) low;
 }
 
-pub row_read : (items : List Cookie) (at : ℕ) (cookie : Cookie) → at < length (map stored_of items)
-    → cookie ≡ get_or items at cookie → slice_get (map stored_of items) at ≡ Some (stored_of cookie)
+pub row_read : {Z : Type 0} (items : List (Box Cookie Z)) (at : ℕ) (cookie : Box Cookie Z)
+    → at < length (map stored_in items) → cookie ≡ get_or items at cookie → slice_get (map stored_in items) at ≡ Some (stored_in cookie)
 row_read items at cookie within read =
-    slice_get-map stored_of items at
-    ∙ ap (option_map stored_of)
-    (slice_get_read items (length items) at cookie refl (omega (arith, length-map items stored_of, within)) read)
+    slice_get-map stored_in items at
+    ∙ ap (option_map stored_in)
+    (slice_get_read items (length items) at cookie refl (omega (arith, length-map items stored_in, within)) read)
 
 -- the row that stands there
 pub stands : (key : Key) (rows : List Row) (at : ℕ) → StandsAt key rows (Some at)
@@ -272,21 +272,22 @@ pub any_there : (key : Key) (rows : List Row) (at : ℕ) → StandsAt key rows (
 any_there key rows at there =
     let row = stands key rows at there in any_at (has_key key) rows at row.0 row.1 row.2
 
-module _ (key : Key) (items : List Cookie) (at : ℕ) (there : StandsAt key (map stored_of items) (Some at)) where
-  within_items : at < length (map stored_of items)
-  within_items = let row = stands key (map stored_of items) at there in
-      slice_get_within (map stored_of items) at row.0 row.1
+module _ {Z : Type 0} (key : Key) (items : List (Box Cookie Z)) (at : ℕ)
+    (there : StandsAt key (map stored_in items) (Some at)) where
+  within_items : at < length (map stored_in items)
+  within_items = let row = stands key (map stored_in items) at there in
+      slice_get_within (map stored_in items) at row.0 row.1
 
   pub within_vec : (len : ℕ) → len ≡ length items → at < len
-  within_vec len own = omega (arith, own, length-map items stored_of, within_items)
+  within_vec len own = omega (arith, own, length-map items stored_in, within_items)
 
-  module _ (cookie : Cookie) (read : cookie ≡ get_or items at cookie) where
-    pub read_there : slice_get (map stored_of items) at ≡ Some (stored_of cookie)
+  module _ (cookie : Box Cookie Z) (read : cookie ≡ get_or items at cookie) where
+    pub read_there : slice_get (map stored_in items) at ≡ Some (stored_in cookie)
     read_there = row_read items at cookie within_items read
 
-    pub key_there : has_key key (stored_of cookie) ≡ true
-    key_there = let row = stands key (map stored_of items) at there in
-        ap (has_key key) (same_Some (stored_of cookie) row.0 (sym read_there ∙ row.1)) ∙ row.2
+    pub key_there : has_key key (stored_in cookie) ≡ true
+    key_there = let row = stands key (map stored_in items) at there in
+        ap (has_key key) (same_Some (stored_in cookie) row.0 (sym read_there ∙ row.1)) ∙ row.2
 
 -- ---- the search within a part
 

@@ -1,5 +1,5 @@
 -- The cookie of a store as contracts see it (RFC 6265, 5.3, step 2).
-use Rattle.std.specs.Prelude.{ℤ, Option, Result, Ok, Err}
+use Rattle.std.specs.Prelude.{ℤ, Box, Option, Result, Ok, Err}
 use Rattle.cookie_text.specs.Record.{Seen, unsliced}
 use Rattle.store_parts.specs.DomainMatch.{Domain, domain_of}
 use Rattle.store_parts.specs.Expiry.{death_of}
@@ -23,6 +23,10 @@ stored_of c = record {
   domain = domain_of c.domain;
   death = death_of c.expires;
 }
+
+-- the same of a cookie in a box
+abbrev pub stored_in : {Z : Type 0} → Box Cookie Z → StoredCookie
+stored_in c = stored_of c.value
 
 -- what contracts see of the answer of a call that makes a cookie
 abbrev pub made_of : Result Cookie CookieError → Result StoredCookie CookieError

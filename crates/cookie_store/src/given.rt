@@ -4,7 +4,7 @@ ghost use Rattle.std.specs.Prelude.{IfOk, OnOk, map};
 ghost use Rattle.jiff.specs.Words.{civil_nanos};
 ghost use Rattle.cookie_store.specs.Given.{AreGiven, shown};
 ghost use Rattle.cookie_store.specs.Steps.{AreInside, GivesMore, rows_in};
-ghost use Rattle.cookie_store.specs.StoredCookie.{stored_of};
+ghost use Rattle.cookie_store.specs.StoredCookie.{stored_in};
 
 use crate::requests::is_given;
 use crate::stored_cookie::Cookie;
@@ -15,15 +15,16 @@ use url::Url;
 // Puts those of the cookies that go with a request to the URL at `now` behind those that are given.
 fn give<'c>(
     alloc: Global,
-    cookies: &'c [Cookie<'static>],
+    cookies: &'c [Box<Cookie<'static>>],
     request_url: &Url,
     now: DateTime,
     given: &mut Vec<&'c Cookie<'static>>,
 ) -> Result<(), AllocError>
-    ensures { OnOk result (GivesMore (map stored_of cookies.now) request_url.now (civil_nanos now)
+    ensures { OnOk result (GivesMore (map stored_in cookies.now) request_url.now (civil_nanos now)
         (map shown given.old.items) (map shown given.new.items)) }
 {
     for cookie in cookies {
+        let cookie = &**cookie;
         if is_given(alloc, cookie, request_url, now)? {
             given.push(cookie)?;
         }
@@ -35,13 +36,13 @@ fn give<'c>(
 /// order of the cookies.
 pub(crate) fn give_parts<'c>(
     alloc: Global,
-    cookies: &'c [Cookie<'static>],
+    cookies: &'c [Box<Cookie<'static>>],
     parts: &[(usize, usize)],
     request_url: &Url,
     now: DateTime,
 ) -> Result<Vec<&'c Cookie<'static>>, AllocError>
-    requires { AreInside (map stored_of cookies.now) parts.now }
-    ensures { IfOk result (λ given. AreGiven (rows_in parts.now (map stored_of cookies.now))
+    requires { AreInside (map stored_in cookies.now) parts.now }
+    ensures { IfOk result (λ given. AreGiven (rows_in parts.now (map stored_in cookies.now))
         request_url.now (civil_nanos now) (map shown given.items)) }
 {
     let mut given = Vec::new(alloc);

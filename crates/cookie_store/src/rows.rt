@@ -29,7 +29,7 @@ use url::Url;
 /// these those of one path, with an index of where they stand.
 #[derive(Debug, Drop)]
 pub(crate) struct Rows {
-    cookies: Vec<Cookie<'static>>,
+    cookies: Vec<Box<Cookie<'static>>>,
     index: Index,
 }
 
@@ -37,13 +37,13 @@ impl Model for Rows {
     ghost use Rattle.std.specs.Prelude.{List, map};
     ghost use Rattle.cookie_store.specs.Indexed.{IsIndexed};
     ghost use Rattle.cookie_store.specs.Rows.{Row};
-    ghost use Rattle.cookie_store.specs.StoredCookie.{stored_of};
+    ghost use Rattle.cookie_store.specs.StoredCookie.{stored_in};
 
     ghost Value = { List Row };
 
-    ghost view = { λ r. map stored_of r.cookies.items };
+    ghost view = { λ r. map stored_in r.cookies.items };
 
-    ghost invariant = { λ r. IsIndexed (map stored_of r.cookies.items) r.index };
+    ghost invariant = { λ r. IsIndexed (map stored_in r.cookies.items) r.index };
 }
 
 impl Rows {
@@ -78,7 +78,7 @@ impl Rows {
         ensures apart { spec.AreApart self.now }
     {
         let at = self.position(domain, path, name)?;
-        Some(&self.cookies[at])
+        Some(&*self.cookies[at])
     }
 
     /// The cookie of the key, unless it is expired at `now`.
@@ -136,7 +136,7 @@ impl Rows {
             cookie.raw().name(),
         ) {
             Some(at) => {
-                self.cookies[at] = cookie;
+                *self.cookies[at] = cookie;
                 Ok(StoreAction::UpdatedExisting)
             }
             None => {
@@ -153,10 +153,11 @@ impl Rows {
         ensures err { OnErr result (self.new ≡ self.old) }
     {
         self.cookies.reserve(1)?;
+        let cookie = Box::new(alloc, cookie)?;
         let rows = self.cookies.len();
         let at = self
             .index
-            .put(alloc, rows, domain_text(&cookie), cookie.path.as_str())?;
+            .put(alloc, rows, domain_text(&*cookie), cookie.path.as_str())?;
         self.cookies.insert(at, cookie)?;
         Ok(())
     }
@@ -201,7 +202,7 @@ impl Rows {
     {
         let at = self.position(domain, path, name)?;
         self.index.remove(at, domain, path);
-        Some(self.cookies.remove(at))
+        Some(Box::into_inner(self.cookies.remove(at)))
     }
 
     /// The cookies that go with a request to the URL at `now`, in their order.
@@ -240,18 +241,18 @@ pub(crate) fn domain_text<'c>(cookie: &'c Cookie<'static>) -> &'c str
 /// The cookies of a store in the order of its rows.
 #[derive(Drop)]
 pub struct IterAny<'a> {
-    cookies: slice::Iter<'a, Cookie<'static>>,
+    cookies: slice::Iter<'a, Box<Cookie<'static>>>,
 }
 
 impl<'a> Model for IterAny<'a> {
     ghost use Rattle.std.specs.Prelude.{List, map};
     ghost use Rattle.std.specs.Slice.Iter.{iter_rest};
     ghost use Rattle.cookie_store.specs.Rows.{Row};
-    ghost use Rattle.cookie_store.specs.StoredCookie.{stored_of};
+    ghost use Rattle.cookie_store.specs.StoredCookie.{stored_in};
 
     ghost Value = { List Row };
 
-    ghost view = { λ i. map stored_of (iter_rest i.cookies) };
+    ghost view = { λ i. map stored_in (iter_rest i.cookies) };
 }
 
 impl<'a> Iterator for IterAny<'a> {
@@ -262,6 +263,9 @@ impl<'a> Iterator for IterAny<'a> {
     ghost remaining = { λ s. at_most (length s) };
 
     fn next(&mut self) -> Option<&'a Cookie<'static>> {
-        self.cookies.next()
+        match self.cookies.next() {
+            Some(cookie) => Some(&**cookie),
+            None => None,
+        }
     }
 }

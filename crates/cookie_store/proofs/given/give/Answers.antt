@@ -1,9 +1,9 @@
 use Rattle.std.proofs.Common.{map, ◌≡◌, ◌∙◌, ◌+◌, length, drop, List, [], ◌∷◌, ◌++◌, ap, sym, subst, refl, append_assoc, append-nil, true≢false}
 use Rattle.std.proofs.lemmas.List.{at_drop_all, map-append}
 use Rattle.jiff.specs.Words.{civil_nanos}
-use Rattle.cookie_store.specs.Given.{AreGiven, shown}
+use Rattle.cookie_store.specs.Given.{AreGiven, IsGiven, shown}
 use Rattle.cookie_store.specs.Steps.{GivesMore}
-use Rattle.cookie_store.specs.StoredCookie.{stored_of}
+use Rattle.cookie_store.specs.StoredCookie.{stored_in, stored_of}
 use Rattle.cookie_store.proofs.GivenLemmas.{first_given, first_passed}
 use Rattle.cookie_store.proofs.given.give.Goals as goal
 use Rattle.cookie_store.proofs.given.give.Goals.{then-branch+in_ok-push, else-branch}
@@ -16,23 +16,26 @@ loop-cookie-preserved c =
     let i = c.loop-cookie.cookie-index in
     let cookie = c.cookie-item.result in
     let old = map shown c.loop-cookie.given.items in
-    let whole = GivesMore (map stored_of cookies) url now (map shown c.args.given.now.items) in
+    let same : stored_in cookie ≡ stored_of c.deref-cookie.result.now = ap stored_of (sym c.deref-cookie.ensures) in
+    let whole = GivesMore (map stored_in cookies) url now (map shown c.args.given.now.items) in
     elim c.if-branch.branch [
       then-branch+in_ok-push w ↦ λ rest picks.
-          let more : map shown c.if-branch.given.items ≡ old ++ (stored_of cookie ∷ []) =
+          let more : map shown c.if-branch.given.items ≡ old ++ (stored_in cookie ∷ []) =
               ap (λ given. map shown given.items) w.given-is
               ∙ ap (map shown) w.in_ok-push.ensures.items
-              ∙ map-append shown c.loop-cookie.given.items _ in
+              ∙ map-append shown c.loop-cookie.given.items _
+              ∙ ap (λ row. old ++ row ∷ []) (sym same) in
           subst whole
-          (sym (append_assoc old (stored_of cookie ∷ []) rest) ∙ ap (λ l. l ++ rest) (sym more))
-          (c.loop-cookie.invariant (stored_of cookie ∷ rest)
+          (sym (append_assoc old (stored_in cookie ∷ []) rest) ∙ ap (λ l. l ++ rest) (sym more))
+          (c.loop-cookie.invariant (stored_in cookie ∷ rest)
           (first_given url now cookies i cookie rest c.loop-cookie-test.true c.cookie-item.is
-          (c.in_ok-is_given.ensures.0 w.if-branch.true) picks))
+          (subst (λ row. IsGiven row url now) (sym same) (c.in_ok-is_given.ensures.0 w.if-branch.true)) picks))
       | else-branch w ↦ λ rest picks.
           subst whole (ap (λ given. map shown given.items ++ rest) (sym w.given-is))
           (c.loop-cookie.invariant rest
           (first_passed url now cookies i cookie rest c.loop-cookie-test.true c.cookie-item.is
-          (λ is. true≢false (sym (c.in_ok-is_given.ensures.1 is) ∙ w.if-branch.false)) picks))
+          (λ is. true≢false (sym (c.in_ok-is_given.ensures.1 (subst (λ row. IsGiven row url now) same is))
+          ∙ w.if-branch.false)) picks))
     ]
 
 pub returns : goal.returns
@@ -40,8 +43,8 @@ returns c =
     let cookies = c.args.cookies.now in
     let url = c.args.request_url.now in
     let now = civil_nanos c.args.now in
-    subst (GivesMore (map stored_of cookies) url now (map shown c.args.given.now.items))
+    subst (GivesMore (map stored_in cookies) url now (map shown c.args.given.now.items))
     (append-nil (map shown c.loop-cookie.given.items))
     (c.loop-cookie.invariant []
     (subst (λ rows. AreGiven rows url now [])
-    (sym (at_drop_all (map stored_of) cookies c.loop-cookie.cookie-index c.loop-cookie-test.false)) refl))
+    (sym (at_drop_all (map stored_in) cookies c.loop-cookie.cookie-index c.loop-cookie-test.false)) refl))

@@ -3,13 +3,13 @@ use Rattle.jiff.specs.Words.{civil_nanos}
 use Rattle.cookie_store.specs.Given.{AreGiven, shown}
 use Rattle.cookie_store.specs.Rows.{Row}
 use Rattle.cookie_store.specs.Steps.{GivesMore}
-use Rattle.cookie_store.specs.StoredCookie.{stored_of}
+use Rattle.cookie_store.specs.StoredCookie.{stored_in}
 use Rattle.cookie_store.proofs.given.give.Given as goal
 
 -- what the rest gives completes what was given
 abbrev pub invariant-loop-cookie : goal.invariant-loop-cookie
 invariant-loop-cookie l =
     (rest : List Row)
-    → AreGiven (map stored_of (drop l.cookie-index l.cookies)) l.request_url (civil_nanos l.now) rest
-    → GivesMore (map stored_of l.cookies) l.request_url (civil_nanos l.now) (map shown l.fn.given.items)
+    → AreGiven (map stored_in (drop l.cookie-index l.cookies)) l.request_url (civil_nanos l.now) rest
+    → GivesMore (map stored_in l.cookies) l.request_url (civil_nanos l.now) (map shown l.fn.given.items)
     (map shown l.given.items ++ rest)

@@ -4,20 +4,20 @@ use Rattle.std.proofs.lemmas.List.{at_drop_all}
 use Rattle.jiff.specs.Words.{civil_nanos}
 use Rattle.cookie_store.specs.Given.{AreGiven, shown}
 use Rattle.cookie_store.specs.Steps.{GivesMore, rows_in}
-use Rattle.cookie_store.specs.StoredCookie.{stored_of}
+use Rattle.cookie_store.specs.StoredCookie.{stored_in}
 use Rattle.cookie_store.proofs.GivenLemmas.{part_given, rows_of_part}
 use Rattle.cookie_store.proofs.given.give_parts.Goals as goal
 
 pub loop-part-preserved : goal.loop-part-preserved
 loop-part-preserved c = λ rest picks.
-    let rows = map stored_of c.args.cookies.now in
+    let rows = map stored_in c.args.cookies.now in
     let parts = c.args.parts.now in
     let url = c.args.request_url.now in
     let now = civil_nanos c.args.now in
     let i = c.loop-part.part-index in
     let part = get_or parts i (0, 0) in
     let old = map shown c.loop-part.given.items in
-    let gives : GivesMore (map stored_of (slice_range c.args.cookies.now part.0 part.1)) url now old (map shown c.give.new.given.items) =
+    let gives : GivesMore (map stored_in (slice_range c.args.cookies.now part.0 part.1)) url now old (map shown c.give.new.given.items) =
         c.in_ok-give.ensures in
     let own = gives.0 in
     subst (AreGiven (rows_in parts rows) url now)
@@ -28,7 +28,7 @@ loop-part-preserved c = λ rest picks.
 
 pub returns : goal.returns
 returns c =
-    let rows = map stored_of c.args.cookies.now in
+    let rows = map stored_in c.args.cookies.now in
     let url = c.args.request_url.now in
     let now = civil_nanos c.args.now in
     subst (AreGiven (rows_in c.args.parts.now rows) url now) (append-nil (map shown c.loop-part.given.items))

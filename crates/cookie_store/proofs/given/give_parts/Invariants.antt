@@ -3,13 +3,13 @@ use Rattle.jiff.specs.Words.{civil_nanos}
 use Rattle.cookie_store.specs.Given.{AreGiven, shown}
 use Rattle.cookie_store.specs.Rows.{Row}
 use Rattle.cookie_store.specs.Steps.{rows_in}
-use Rattle.cookie_store.specs.StoredCookie.{stored_of}
+use Rattle.cookie_store.specs.StoredCookie.{stored_in}
 use Rattle.cookie_store.proofs.given.give_parts.Given as goal
 
 -- what the rest of the parts give completes what was given
 abbrev pub invariant-loop-part : goal.invariant-loop-part
 invariant-loop-part l =
     (rest : List Row)
-    → AreGiven (rows_in (drop l.part-index l.parts) (map stored_of l.cookies)) l.request_url (civil_nanos l.now) rest
-    → AreGiven (rows_in l.parts (map stored_of l.cookies)) l.request_url (civil_nanos l.now)
+    → AreGiven (rows_in (drop l.part-index l.parts) (map stored_in l.cookies)) l.request_url (civil_nanos l.now) rest
+    → AreGiven (rows_in l.parts (map stored_in l.cookies)) l.request_url (civil_nanos l.now)
     (map shown l.given.items ++ rest)

@@ -2,57 +2,65 @@ use Rattle.std.proofs.Common.{◌≡◌, ◌∙◌, ap, arith, false, map, subst
 use Rattle.std.specs.List.{insert, list_any}
 use Rattle.std.proofs.lemmas.List.{length-map}
 use Rattle.cookie_store.specs.Indexed.{IsIndexed}
-use Rattle.cookie_store.specs.Rows.{has_key_of, inserted}
-use Rattle.cookie_store.specs.StoredCookie.{stored_of}
+use Rattle.cookie_store.specs.Rows.{domain_text, has_key_of, inserted}
+use Rattle.cookie_store.specs.StoredCookie.{stored_in, stored_of}
 use Rattle.cookie_store.proofs.IndexedLemmas.{insert_indexed, insert_there, insert_within, is_ready, map-insert}
 use Rattle.cookie_store.proofs.rows.Rows.insert.Goals as goal
 
 pub put-requires : goal.put-requires
 put-requires c =
     let v = c.self.inside.cookies in
-    let counted = c.len-rows.ensures ∙ c.reserve.ensures.len ∙ v.ok.0 ∙ sym (length-map v.items stored_of) in
+    let counted = c.len-rows.ensures ∙ c.reserve.ensures.len ∙ v.ok.0 ∙ sym (length-map v.items stored_in) in
     let rows = c.len-rows.ensures in
     let room = c.in_ok-reserve.ensures.ok in
     let small = c.reserve.new.self.small in
-    is_ready (map stored_of v.items) c.self.inside.index c.len-rows.result c.self.invariant counted
+    is_ready (map stored_in v.items) c.self.inside.index c.len-rows.result c.self.invariant counted
     (omega (arith, rows, room, small))
 
 pub insert-requires : goal.insert-requires
 insert-requires c =
     let v = c.self.inside.cookies in
-    let row = stored_of c.args.cookie in
-    let counted = c.len-rows.ensures ∙ c.reserve.ensures.len ∙ v.ok.0 ∙ sym (length-map v.items stored_of) in
-    let within = insert_within row (map stored_of v.items) c.in_ok-at.at c.self.inside.index c.put.new.self c.self.invariant
-    _ c.len-rows.result (λ i. record { domain = c.domain_text.ensures i; path = c.as_str.ensures i }) counted
-    c.in_ok-at.ensures.ok in
+    let row = stored_in c.in_ok-cookie.cookie in
+    let counted = c.len-rows.ensures ∙ c.reserve.ensures.len ∙ v.ok.0 ∙ sym (length-map v.items stored_in) in
+    let domain = c.domain_text.ensures ∙ ap (λ k. domain_text (stored_of k)) c.deref.ensures in
+    let path = c.as_str.ensures ∙ ap (λ k. (stored_of k).path.text) c.deref-2.ensures in
+    let within = insert_within row (map stored_in v.items) c.in_ok-at.at c.self.inside.index c.put.new.self c.self.invariant
+    _ c.len-rows.result (λ i. record { domain = domain i; path = path i }) counted c.in_ok-at.ensures.ok in
     let rows = c.len-rows.ensures in
     omega (arith, within, rows)
 
 pub invariant_of-self-2 : goal.invariant_of-self-2
 invariant_of-self-2 c =
     let v = c.self.inside.cookies in
-    let row = stored_of c.args.cookie in
-    let rows = map stored_of v.items in
+    let cookie = c.in_ok-cookie.cookie in
+    let row = stored_in cookie in
+    let rows = map stored_in v.items in
     let at = c.in_ok-at.at in
-    let counted = c.len-rows.ensures ∙ c.reserve.ensures.len ∙ v.ok.0 ∙ sym (length-map v.items stored_of) in
+    let counted = c.len-rows.ensures ∙ c.reserve.ensures.len ∙ v.ok.0 ∙ sym (length-map v.items stored_in) in
+    let domain = c.domain_text.ensures ∙ ap (λ k. domain_text (stored_of k)) c.deref.ensures in
+    let path = c.as_str.ensures ∙ ap (λ k. (stored_of k).path.text) c.deref-2.ensures in
     subst (λ r. IsIndexed r c.put.new.self)
-    (sym (ap (map stored_of)
-    (c.in_ok-insert.ensures.items ∙ ap (λ items. insert items at c.args.cookie) c.reserve.ensures.items)
-    ∙ map-insert stored_of v.items at c.args.cookie))
+    (sym (ap (map stored_in)
+    (c.in_ok-insert.ensures.items ∙ ap (λ items. insert items at cookie) c.reserve.ensures.items)
+    ∙ map-insert stored_in v.items at cookie))
     (insert_indexed row rows at c.self.inside.index c.put.new.self c.self.invariant _ c.len-rows.result
-    (λ i. record { domain = c.domain_text.ensures i; path = c.as_str.ensures i }) counted c.in_ok-at.ensures.ok
-    (subst (λ r. list_any (has_key_of row) r ≡ false) (sym c.self.view_is) c.requires))
+    (λ i. record { domain = domain i; path = path i }) counted c.in_ok-at.ensures.ok
+    (subst (λ k. list_any (has_key_of (stored_of k)) rows ≡ false) (sym c.in_ok-cookie.ensures.ok)
+    (subst (λ r. list_any (has_key_of (stored_of c.args.cookie)) r ≡ false) (sym c.self.view_is) c.requires)))
 
 pub returns-clause-ok : goal.returns-clause-ok
 returns-clause-ok c =
     let v = c.self.inside.cookies in
-    let row = stored_of c.args.cookie in
-    let rows = map stored_of v.items in
+    let cookie = c.in_ok-cookie.cookie in
+    let row = stored_in cookie in
+    let rows = map stored_in v.items in
     let at = c.in_ok-at.at in
-    let counted = c.len-rows.ensures ∙ c.reserve.ensures.len ∙ v.ok.0 ∙ sym (length-map v.items stored_of) in
-    ap (map stored_of)
-    (c.in_ok-insert.ensures.items ∙ ap (λ items. insert items at c.args.cookie) c.reserve.ensures.items)
-    ∙ map-insert stored_of v.items at c.args.cookie
+    let counted = c.len-rows.ensures ∙ c.reserve.ensures.len ∙ v.ok.0 ∙ sym (length-map v.items stored_in) in
+    let domain = c.domain_text.ensures ∙ ap (λ k. domain_text (stored_of k)) c.deref.ensures in
+    let path = c.as_str.ensures ∙ ap (λ k. (stored_of k).path.text) c.deref-2.ensures in
+    ap (map stored_in)
+    (c.in_ok-insert.ensures.items ∙ ap (λ items. insert items at cookie) c.reserve.ensures.items)
+    ∙ map-insert stored_in v.items at cookie
     ∙ insert_there row rows at c.self.inside.index c.put.new.self c.self.invariant _ c.len-rows.result
-    (λ i. record { domain = c.domain_text.ensures i; path = c.as_str.ensures i }) counted c.in_ok-at.ensures.ok
-    ∙ ap (inserted row) c.self.view_is
+    (λ i. record { domain = domain i; path = path i }) counted c.in_ok-at.ensures.ok
+    ∙ (λ i. inserted (stored_of (c.in_ok-cookie.ensures.ok i)) (c.self.view_is i))
