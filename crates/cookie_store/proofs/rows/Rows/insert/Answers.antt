@@ -22,9 +22,9 @@ insert-requires c =
     let v = c.self.inside.cookies in
     let row = stored_of c.args.cookie in
     let counted = c.len-rows.ensures ∙ c.reserve.ensures.len ∙ v.ok.0 ∙ sym (length-map v.items stored_of) in
-    let within = insert_within row (map stored_of v.items) c.in_ok-at.at c.self.inside.index c.put.new.self c.self.invariant
-    _ c.len-rows.result (λ i. record { domain = c.domain_text.ensures i; path = c.as_str.ensures i }) counted
-    c.in_ok-at.ensures.ok in
+    let within = insert_within row (map stored_of v.items) c.in_ok-at.at c.self.inside.index c.put.new.self
+    c.self.invariant _ c.len-rows.result (λ i. record { domain = c.domain_text.ensures i; path = c.as_str.ensures i })
+    counted c.in_ok-at.ensures.ok in
     let rows = c.len-rows.ensures in
     omega (arith, within, rows)
 
