@@ -2,7 +2,6 @@ pub mod ApartLemmas
 pub mod ByteLemmas
 pub mod Confinement
 pub mod EndLemmas
-pub mod GroupLemmas
 pub mod GroupedLemmas
 pub mod IndexedLemmas
 pub mod JsonLineLemmas
@@ -19,3 +18,4 @@ pub mod SavedLemmas
 pub mod ShownLemmas
 pub mod StoreLemmas
 pub mod StrippedLemmas
+pub mod TextLemmas
