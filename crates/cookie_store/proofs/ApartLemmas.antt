@@ -9,9 +9,9 @@ use Rattle.std.proofs.lemmas.Option.{none-some, same_Some}
 use Rattle.cookie_store.specs.Rows.{Row, Key, AreApart, key_of, has_key, has_key_of, has_place, has_domain, behind_last}
 use Rattle.cookie_store.specs.Rows.{put_in_place, found, found_live, is_live, is_live_at, is_live_of, expired, ended}
 use Rattle.cookie_store.specs.Rows.{put, has_place_of}
-use Rattle.cookie_store.proofs.GroupLemmas.{same_text}
 use Rattle.cookie_store.proofs.PlaceLaws.{has_own_key}
 use Rattle.cookie_store.proofs.PlaceLemmas.{find-none, none_stricter, put_in_place-none}
+use Rattle.cookie_store.proofs.TextLemmas.{same_text}
 
 -- whose key it is
 pub key_is : (key : Key) (r : Row) → has_key key r ≡ true → key ≡ key_of r

@@ -19,8 +19,8 @@ use Rattle.cookie_store.specs.Rows.{Row, Key, key_of, domain_text, has_key_of, h
 use Rattle.cookie_store.specs.Rows.{is_live_of, expired, ended, behind_last, put_in_place, put}
 use Rattle.cookie_store.specs.declared.action.StoreAction.TheVariants.{ExpiredExisting}
 use Rattle.cookie_store.proofs.ApartLemmas.{key_is}
-use Rattle.cookie_store.proofs.GroupLemmas.{same_text}
 use Rattle.cookie_store.proofs.PlaceLaws.{others_stay}
+use Rattle.cookie_store.proofs.TextLemmas.{same_text}
 
 -- ---- the rows under other texts
 

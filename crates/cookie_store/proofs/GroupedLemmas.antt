@@ -25,9 +25,9 @@ use Rattle.cookie_store.specs.Rows.{Row, Key, AreApart, key_of, has_key, has_key
 use Rattle.cookie_store.specs.Rows.{has_domain, has_domain_of, behind_last, is_live, put}
 use Rattle.cookie_store.specs.SavedRows.{IsReread}
 use Rattle.cookie_store.proofs.ApartLemmas.{key_is}
-use Rattle.cookie_store.proofs.GroupLemmas.{text_is}
 use Rattle.cookie_store.proofs.PlaceLaws.{has_own_key}
 use Rattle.cookie_store.proofs.PlaceLemmas.{behind_last-none, behind_last-all, behind_last-within}
+use Rattle.cookie_store.proofs.TextLemmas.{text_is}
 
 -- ---- those that stand together
 
@@ -54,22 +54,19 @@ module _ {A B : Type 0} (f : A → B) (test : B → Bool) (xs : List A) where
   at_image : (i : ℕ) (x : A) → slice_get xs i ≡ Some x → slice_get (map f xs) i ≡ Some (f x)
   at_image i x e = slice_get-map f xs i ∙ ap (option_map f) e
 
-  none_of_image : IsNowhere test (map f xs) → list_any (λ x. test (f x)) xs ≡ false
-  none_of_image none = none_any (λ x. test (f x)) xs (λ i x e. none i (f x) (at_image i x e))
-
   nowhere_together : IsNowhere test (map f xs) → StandTogether (λ x. test (f x)) xs
   nowhere_together none = record {
     before = xs;
     own = [];
     after = [];
     split = sym (append-nil xs);
-    none_before = none_of_image none;
+    none_before = none_any (λ x. test (f x)) xs (λ i x e. none i (f x) (at_image i x e));
     all_own = tt;
     none_after = refl;
   }
 
-  part_of_image : (start len : ℕ) → IsPartAt test (map f xs) start len → StandTogether (λ x. test (f x)) xs
-  part_of_image start len part =
+  span_together : (start len : ℕ) → IsPartAt test (map f xs) start len → StandTogether (λ x. test (f x)) xs
+  span_together start len part =
       let rest = drop start xs in
       record {
         before = take start xs;
@@ -105,7 +102,7 @@ module _ (rows : List Row) (index : Index) (indexed : IsIndexed rows index) (key
     where
       by : (o : Option DomainPart) → DomainAgrees (places_of rows) key.domain o → StandTogether (has_domain key) rows
       by None none = nowhere_together place_of (is_of key.domain) rows none
-      by (Some part) own = part_of_image place_of (is_of key.domain) rows part.start part.len own.0
+      by (Some part) own = span_together place_of (is_of key.domain) rows part.start part.len own.0
 
   places_together : StandTogether (has_place key) rows
   places_together = by (value_at key.domain index) (indexed.agrees key.domain)
@@ -114,7 +111,7 @@ module _ (rows : List Row) (index : Index) (indexed : IsIndexed rows index) (key
           → StandTogether (has_place key) rows
       at_path start None none = nowhere_together place_of (is_at key.domain key.path) rows none
       at_path start (Some part) own =
-          part_of_image place_of (is_at key.domain key.path) rows (start + part.start) part.len own
+          span_together place_of (is_at key.domain key.path) rows (start + part.start) part.len own
 
       by : (o : Option DomainPart) → DomainAgrees (places_of rows) key.domain o → StandTogether (has_place key) rows
       by None none =

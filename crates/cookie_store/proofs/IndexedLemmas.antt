@@ -22,8 +22,8 @@ use Rattle.cookie_store.specs.Rows.{has_domain_of, put_in_place, behind_last, in
 use Rattle.cookie_store.specs.StoredCookie.{stored_in}
 use Rattle.cookie_store.specs.declared.stored_cookie.Cookie.{Cookie}
 use Rattle.cookie_store.proofs.ApartLemmas.{key_is, none_behind, put_apart, filter_apart}
-use Rattle.cookie_store.proofs.GroupLemmas.{same_text, text_is, other_way}
 use Rattle.cookie_store.proofs.PlaceLemmas.{put_in_place-none, filter-none, no_key}
+use Rattle.cookie_store.proofs.TextLemmas.{same_text, text_is, other_way}
 
 -- ---- a list and its image
 

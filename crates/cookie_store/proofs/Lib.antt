@@ -3,7 +3,6 @@ pub mod ByteLemmas
 pub mod Confinement
 pub mod EndLemmas
 pub mod GivenLemmas
-pub mod GroupLemmas
 pub mod GroupedLemmas
 pub mod IndexedLemmas
 pub mod JsonLineLemmas
@@ -20,3 +19,4 @@ pub mod SavedLemmas
 pub mod ShownLemmas
 pub mod StoreLemmas
 pub mod StrippedLemmas
+pub mod TextLemmas

@@ -9,8 +9,8 @@ use Rattle.std.proofs.lemmas.Option.{same_Some}
 use Rattle.cookie_store.specs.Laws.{IsLastOfPlace}
 use Rattle.cookie_store.specs.Rows.{Row, Key, key_of, has_key, has_key_of, has_place, has_domain, has_place_of}
 use Rattle.cookie_store.specs.Rows.{behind_last, put_in_place, put, found, removed}
-use Rattle.cookie_store.proofs.GroupLemmas.{text_is}
 use Rattle.cookie_store.proofs.PlaceLemmas.{put_by, no_place}
+use Rattle.cookie_store.proofs.TextLemmas.{text_is}
 
 module _ {A : Type 0} (t : A → Bool) (x : A) (out : t x ≡ false) where
   filter-behind_last : (test : A → Bool) (ys : List A) → filter t (behind_last test x ys) ≡ filter t ys
