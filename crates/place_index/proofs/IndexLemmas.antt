@@ -1,7 +1,7 @@
 -- The index agrees with the rows after one more.
 use Rattle.std.proofs.Common.{◌≡◌, ◌≢◌, ◌⊎◌, ◌+◌, ◌<◌, ◌≤◌, ◌&&◌, ℕ, Bool, true, false, cond, List, [], ◌∷◌, length}
 use Rattle.std.proofs.Common.{refl, sym, ap, subst, ◌∙◌, inl, inr, arith, true≢false, suc}
-use Rattle.std.specs.Prelude.{Option, Some, None, option_map, nat_le, nat_lt}
+use Rattle.std.specs.Prelude.{Option, Some, None, IfSome, option_map, nat_le, nat_lt}
 use Rattle.std.specs.List.{insert}
 use Rattle.std.specs.Str.{bytes_eq}
 use Rattle.std.proofs.lemmas.Bool.{cond-true, cond-false, and_parts, and_from, and_left, and_right, false_from_ne_true}
@@ -12,6 +12,7 @@ use Rattle.place_index.proofs.EntryLemmas.{same_text, text_is}
 use Rattle.place_index.specs.declared.part.DomainPart.{DomainPart}
 use Rattle.place_index.specs.declared.part.Part.{Part}
 use Rattle.place_index.specs.Index.{Index, IsPart, IsNowhere, PathAgrees, PathsAgree, DomainAgrees, Agrees, last}
+use Rattle.place_index.specs.Index.{PathsInside}
 use Rattle.place_index.specs.Index.{moved, moved_domain, moved_path, BeginsDomain, BeginsPath, GrowsPath}
 use Rattle.place_index.proofs.PartLemmas.{part_after, part_before, part_grows, nowhere_stays, part_begins, apart}
 use Rattle.place_index.proofs.PartLemmas.{nested}
@@ -39,6 +40,20 @@ own_domain x = text_is x.domain x.domain refl
 
 pub own_path : (x : Place) → is_at x.domain x.path x ≡ true
 own_path x = and_from (is_of x.domain x) (bytes_eq x.path x.path) (own_domain x) (text_is x.path x.path refl)
+
+-- each path's part lies in its domain's
+pub paths_inside : (rows : List Place) (domain : List ℕ) (part : DomainPart) → DomainAgrees rows domain (Some part)
+    → PathsInside part
+paths_inside rows domain part own text = inside (value_at text part.paths) (own.1 text)
+  where
+    inside : (o : Option Part) → PathAgrees rows domain part.start text o
+        → IfSome o (λ path. (0 < path.len) × (path.start + path.len ≤ part.len))
+    inside None none = tt
+    inside (Some path) is =
+        let n = nested (is_of domain) (is_at domain text) rows part.start part.len (part.start + path.start) path.len
+        own.0 is (path_domain domain text) in
+        let inner = n.1 in
+        (is.some, omega (arith, inner))
 
 -- ---- where a part goes
 

@@ -1,47 +1,41 @@
 -- A domain's part after a row of a path that is there.
-use Rattle.std.proofs.Common.{◌≡◌, ◌≢◌, ◌+◌, ◌<◌, ℕ, List, refl, ap, ◌∙◌, arith, suc}
-use Rattle.std.specs.Prelude.{Some, option_map}
-use Rattle.std.specs.Str.{bytes_eq}
-use Rattle.std.proofs.lemmas.Bool.{false_from_ne_true}
-use Rattle.place_index.specs.Entries.{value_at, set_at, with_value, with_values}
-use Rattle.place_index.specs.Index.{moved_path}
+use Rattle.std.proofs.Common.{◌≡◌, ◌≢◌, ◌+◌, ◌<◌, ◌≤◌, ℕ, List, refl, sym, ap, subst, ◌∙◌, arith, suc}
+use Rattle.std.specs.Prelude.{Option, Some, None, IfSome, option_map}
+use Rattle.place_index.specs.Entries.{value_at, set_at, with_values}
+use Rattle.place_index.specs.Index.{PathsInside, OtherPathsMove, moved_path}
 use Rattle.place_index.specs.Putting.{PutsBehind}
 use Rattle.place_index.specs.declared.part.DomainPart.{DomainPart}
 use Rattle.place_index.specs.declared.part.Part.{Part}
-use Rattle.place_index.proofs.EntryLemmas.{same_text, set_at-present, value_at-with_values}
-use Rattle.place_index.proofs.IndexLemmas.{not_moved, value_at-with_value, value_at-with_other}
+use Rattle.place_index.proofs.EntryLemmas.{value_at-with_values}
+use Rattle.place_index.proofs.IndexLemmas.{not_moved}
+use Rattle.place_index.proofs.TakingLemmas.{value_at-set_at, value_at-set_other}
 
-module _ (path : List ℕ) (old : DomainPart) (paths : List (List ℕ × Part)) (part : Part) (at : ℕ)
-    (there : value_at path old.paths ≡ Some part) (some : 0 < part.len) (at_end : at ≡ part.start + part.len)
-    (is : paths ≡ with_values (moved_path at)
-    (set_at path old.paths (record { start = part.start; len = part.len + 1 }))) where
+module _ (path : List ℕ) (old : DomainPart) (part : Part) (at : ℕ) (there : value_at path old.paths ≡ Some part)
+    (at_end : at ≡ part.start + part.len) (inside : PathsInside old) (lent : List (List ℕ × Part))
+    (is : lent ≡ set_at path old.paths (record { start = part.start; len = part.len + 1 })) where
   abbrev longer : Part
-  longer = record { start = part.start; len = part.len + 1 }
+  longer = record { start = part.start; len = suc part.len }
 
-  entries : paths ≡ with_values (moved_path at) (with_value old.paths path longer)
-  entries = is ∙ ap (with_values (moved_path at)) (set_at-present path old.paths part longer there)
-
-  unmoved : moved_path at longer ≡ record { start = part.start; len = suc part.len }
-  unmoved =
+  own : value_at path lent ≡ Some longer
+  own =
       let n : part.len + 1 ≡ suc part.len = omega arith in
-      (λ i. record { start = not_moved at part.start (omega (arith, some, at_end)) i; len = n i })
+      ap (value_at path) is
+      ∙ value_at-set_at path old.paths part _ there
+      ∙ (λ i. Some (record { start = part.start; len = n i }))
 
-  grown : value_at path paths ≡ Some (record { start = part.start; len = suc part.len })
-  grown =
-      ap (value_at path) entries
-      ∙ value_at-with_values (moved_path at) path (with_value old.paths path longer)
-      ∙ ap (option_map (moved_path at)) (value_at-with_value path old.paths longer)
-      ∙ ap Some unmoved
+  other : (text : List ℕ) → text ≢ path → value_at text lent ≡ value_at text old.paths
+  other text d = ap (value_at text) is ∙ value_at-set_other path text old.paths part _ there d
 
-  others : (text : List ℕ) → text ≢ path → value_at text paths ≡ option_map (moved_path at) (value_at text old.paths)
-  others text d =
-      ap (value_at text) entries
-      ∙ value_at-with_values (moved_path at) text (with_value old.paths path longer)
-      ∙ ap (option_map (moved_path at)) (value_at-with_other path text old.paths longer
-      (false_from_ne_true (bytes_eq text path) (λ e. d (same_text text path e))))
+  begins_before : part.start < at
+  begins_before =
+      let part_inside = subst (λ o. IfSome o (λ p. (0 < p.len) × (p.start + p.len ≤ old.len))) there (inside path) in
+      let some = part_inside.0 in
+      omega (arith, some, at_end)
 
-  pub puts_behind : PutsBehind path old (record { start = old.start; len = old.len + 1; paths = paths }) at
-  puts_behind = record {
+  puts : (paths : List (List ℕ × Part)) → value_at path paths ≡ Some longer
+      → OtherPathsMove at path old.paths paths
+      → PutsBehind path old (record { start = old.start; len = old.len + 1; paths = paths }) at
+  puts paths grown others = record {
     part = part;
     there = there;
     at_end = at_end;
@@ -50,3 +44,26 @@ module _ (path : List ℕ) (old : DomainPart) (paths : List (List ℕ × Part)) 
     grown = grown;
     others = others;
   }
+
+  pub puts_before_others : (paths : List (List ℕ × Part)) → paths ≡ with_values (moved_path at) lent
+      → PutsBehind path old (record { start = old.start; len = old.len + 1; paths = paths }) at
+  puts_before_others paths moved = puts paths
+      (value path ∙ ap (option_map (moved_path at)) own
+      ∙ ap (λ n. Some (record { start = n; len = suc part.len })) (not_moved at part.start begins_before))
+      (λ text d. value text ∙ ap (option_map (moved_path at)) (other text d))
+    where
+      value : (text : List ℕ) → value_at text paths ≡ option_map (moved_path at) (value_at text lent)
+      value text = ap (value_at text) moved ∙ value_at-with_values (moved_path at) text lent
+
+  -- no path begins there or later
+  pub puts_at_end : old.len ≤ at
+      → PutsBehind path old (record { start = old.start; len = old.len + 1; paths = lent }) at
+  puts_at_end end = puts lent own (λ text d. other text d ∙ sym (stays (value_at text old.paths) (inside text)))
+    where
+      stays : (o : Option Part) → IfSome o (λ p. (0 < p.len) × (p.start + p.len ≤ old.len))
+          → option_map (moved_path at) o ≡ o
+      stays None _ = refl
+      stays (Some p) p_inside =
+          let some = p_inside.0 in
+          let within = p_inside.1 in
+          ap (λ n. Some (record p { start = n })) (not_moved at p.start (omega (arith, some, within, end)))

@@ -1,48 +1,32 @@
 -- An index after a row of a domain that is there.
-use Rattle.std.proofs.Common.{◌≡◌, ◌+◌, ◌<◌, ◌≤◌, ℕ, List, [], ◌∷◌, sym, ap, subst, ◌∙◌, inl, inr}
-use Rattle.std.proofs.Common.{arith}
+use Rattle.std.proofs.Common.{◌≡◌, ◌≢◌, ◌+◌, ◌<◌, ◌≤◌, ℕ, List, [], ◌∷◌, length, refl, sym, ap, subst, ◌∙◌, inl}
+use Rattle.std.proofs.Common.{inr, arith}
 use Rattle.std.specs.Prelude.{Result, Ok, Err, OnErr, Option, Some, None, IfSome, option_map}
 use Rattle.std.specs.Str.{bytes_eq}
 use Rattle.std.proofs.lemmas.Bool.{false_from_ne_true}
 use Rattle.place_index.specs.Entries.{value_at, set_at, with_value, with_values}
-use Rattle.place_index.specs.Index.{Index, DomainAgrees, PathAgrees, OthersMove, moved_domain, moved_path, last}
+use Rattle.place_index.specs.Index.{Index, Agrees, DomainAgrees, OthersMove, moved_domain, moved_path, last}
 use Rattle.place_index.specs.Index.{BeginsPath, GrowsPath}
-use Rattle.place_index.specs.Places.{Place, is_of, is_at}
+use Rattle.place_index.specs.Places.{Place}
 use Rattle.place_index.specs.Putting.{HasRoom, Puts, PutsAt, IsReady}
 use Rattle.place_index.specs.declared.part.DomainPart.{DomainPart}
-use Rattle.place_index.specs.declared.part.Part.{Part}
-use Rattle.place_index.proofs.EntryLemmas.{same_text, set_at-present, value_at-with_values}
+use Rattle.place_index.proofs.EntryLemmas.{same_text, value_at-with_values}
 use Rattle.place_index.proofs.EndLemmas.{end_new, end_path, end_row}
-use Rattle.place_index.proofs.IndexLemmas.{not_moved, value_at-with_value, value_at-with_other, path_domain}
+use Rattle.place_index.proofs.IndexLemmas.{not_moved, value_at-with_value, value_at-with_other, paths_inside}
 use Rattle.place_index.proofs.IndexLemmas.{begins_domain, begins_path, grows_path}
-use Rattle.place_index.proofs.PartLemmas.{nested}
+use Rattle.place_index.proofs.TakingLemmas.{value_at-set_at, value_at-set_other}
 
-module _ (row : Place) (p : ℕ) (old new : Index) (part w : DomainPart)
-    (there : value_at row.domain old ≡ Some part) (low : w.start < p)
-    (is : new ≡ with_values (moved_domain p) (set_at row.domain old w)) where
-  entries : new ≡ with_values (moved_domain p) (with_value old row.domain w)
-  entries = is ∙ ap (with_values (moved_domain p)) (set_at-present row.domain old part w there)
+-- whatever rows the index was that of, so many of them, each other domain's part is where it was or one further
+abbrev pub OthersMoveOf : Place → ℕ → ℕ → Index → Index → Type 0
+OthersMoveOf row p rows old new =
+    (places : List Place) → Agrees places old → length places ≡ rows → OthersMove p row.domain old new
 
-  unmoved : moved_domain p w ≡ w
-  unmoved = ap (λ n. record w { start = n }) (not_moved p w.start low)
-
-  grown : value_at row.domain new ≡ Some w
-  grown =
-      ap (value_at row.domain) entries
-      ∙ value_at-with_values (moved_domain p) row.domain (with_value old row.domain w)
-      ∙ ap (option_map (moved_domain p)) (value_at-with_value row.domain old w)
-      ∙ ap Some unmoved
-
-  others : OthersMove p row.domain old new
-  others text d =
-      ap (value_at text) entries
-      ∙ value_at-with_values (moved_domain p) text (with_value old row.domain w)
-      ∙ ap (option_map (moved_domain p)) (value_at-with_other row.domain text old w
-      (false_from_ne_true (bytes_eq text row.domain) (λ e. d (same_text text row.domain e))))
-
-  pub puts_row : (inner rows : ℕ) → p ≡ w.start + inner → rows < last → Puts row.path part w inner
+module _ (row : Place) (p rows : ℕ) (old new : Index) (part w : DomainPart)
+    (there : value_at row.domain old ≡ Some part) (grown : value_at row.domain new ≡ Some w)
+    (others : OthersMoveOf row p rows old new) where
+  pub puts_row : (inner : ℕ) → p ≡ w.start + inner → rows < last → Puts row.path part w inner
       → PutsAt row rows old new p
-  puts_row inner rows at room (inl b) places agrees counted =
+  puts_row inner at room (inl b) places agrees counted =
       let e = b.at_end in
       let start : w.start ≡ part.start = ap (λ d. d.start) b.is in
       let begins : BeginsPath row p old new
@@ -52,12 +36,12 @@ module _ (row : Place) (p : ℕ) (old new : Index) (part w : DomainPart)
         absent = b.absent;
         at = omega (arith, at, e, start);
         grown = grown ∙ ap Some b.is;
-        others = others;
+        others = others places agrees counted;
       } in (
         begins_path places row p old new agrees (omega (arith, counted, room)) begins,
         end_path row places p old new agrees begins,
       )
-  puts_row inner rows at room (inr b) places agrees counted =
+  puts_row inner at room (inr b) places agrees counted =
       let e = b.at_end in
       let start = b.start in
       let grows : GrowsPath row p old new
@@ -71,49 +55,72 @@ module _ (row : Place) (p : ℕ) (old new : Index) (part w : DomainPart)
         grown = grown ∙ ap Some (λ i. record { start = b.start i; len = b.len i; paths = w.paths });
         path_grown = b.grown;
         other_paths = λ text d. b.others text d ∙ ap (λ n. option_map (moved_path n) (value_at text part.paths)) e;
-        others = others;
+        others = others places agrees counted;
       } in (
         grows_path places row p old new agrees (omega (arith, counted, room)) grows,
         end_row row places p old new agrees grows,
       )
 
-pub has_room : (rows : ℕ) (index : Index) (domain path : List ℕ) (part : DomainPart) → IsReady rows index
-    → value_at domain index ≡ Some part → HasRoom path part × (part.start + part.len ≤ rows) × (0 < part.len)
-has_room rows index domain path part ready there =
+pub has_room : (rows : ℕ) (index : Index) (domain : List ℕ) (part : DomainPart) → IsReady rows index
+    → value_at domain index ≡ Some part → HasRoom part × (0 < part.len)
+has_room rows index domain part ready there =
+    let own = subst (DomainAgrees ready.places domain) there (ready.agrees domain) in
     let room = ready.room in
     let within = own.0.within in
     let counted = ready.counted in (
-      record { room = omega (arith, room, within, counted); inside = inside (value_at path part.paths) (own.1 path) },
-      omega (arith, within, counted),
+      record {
+        room = omega (arith, room, within, counted);
+        inside = paths_inside ready.places domain part own;
+      },
       own.0.some,
     )
-  where
-    own : DomainAgrees ready.places domain (Some part)
-    own = subst (DomainAgrees ready.places domain) there (ready.agrees domain)
 
-    inside : (q : Option Part) → PathAgrees ready.places domain part.start path q
-        → IfSome q (λ q. (0 < q.len) × (q.start + q.len ≤ part.len))
-    inside None none = tt
-    inside (Some q) is =
-        let n = nested (is_of domain) (is_at domain path) ready.places part.start part.len (part.start + q.start) q.len
-        own.0 is (path_domain domain path) in
-        let inner = n.1 in
-        (is.some, omega (arith, inner))
+module _ (row : Place) (p rows : ℕ) (old lent : Index) (part w : DomainPart)
+    (there : value_at row.domain old ≡ Some part) (is : lent ≡ set_at row.domain old w) where
+  own : value_at row.domain lent ≡ Some w
+  own = ap (value_at row.domain) is ∙ value_at-set_at row.domain old part w there
 
-pub puts_lent : (row : Place) (p : ℕ) (old new : Index) (part w : DomainPart) → value_at row.domain old ≡ Some part
-    → new ≡ with_values (moved_domain p) (set_at row.domain old w) → (inner rows : ℕ) → p ≡ w.start + inner
-    → rows < last
-    → HasRoom row.path part → 0 < part.len → Puts row.path part w inner → PutsAt row rows old new p
-puts_lent row p old new part w there is inner rows at room has some puts =
-    puts_row row p old new part w there (low puts) is inner rows at room puts
-  where
+  other : (text : List ℕ) → text ≢ row.domain → value_at text lent ≡ value_at text old
+  other text d = ap (value_at text) is ∙ value_at-set_other row.domain text old part w there d
+
+  module _ (inner : ℕ) (at : p ≡ w.start + inner) (room : rows < last) (has : HasRoom part) (some : 0 < part.len)
+      (puts : Puts row.path part w inner) where
     low : Puts row.path part w inner → w.start < p
     low (inl b) = let e = b.at_end in omega (arith, e, some, at)
     low (inr b) =
         let e = b.at_end in
-        let q = subst (λ o. IfSome o (λ q. (0 < q.len) × (q.start + q.len ≤ part.len))) b.there has.inside in
-        let more = q.0 in
+        let part_inside = subst (λ o. IfSome o (λ q. (0 < q.len) × (q.start + q.len ≤ part.len))) b.there
+        (has.inside row.path) in
+        let more = part_inside.0 in
         omega (arith, e, more, at)
+
+    -- the domains behind are moved
+    pub puts_before_others : (new : Index) → new ≡ with_values (moved_domain p) lent → PutsAt row rows old new p
+    puts_before_others new moved =
+        puts_row row p rows old new part w there
+        (value row.domain ∙ ap (option_map (moved_domain p)) own
+        ∙ ap (λ n. Some (record w { start = n })) (not_moved p w.start (low puts)))
+        (λ _ _ _ text d. value text ∙ ap (option_map (moved_domain p)) (other text d)) inner at room puts
+      where
+        value : (text : List ℕ) → value_at text new ≡ option_map (moved_domain p) (value_at text lent)
+        value text = ap (value_at text) moved ∙ value_at-with_values (moved_domain p) text lent
+
+    -- no domain begins there or later
+    pub puts_at_end : rows ≤ p → PutsAt row rows old lent p
+    puts_at_end end = puts_row row p rows old lent part w there own others inner at room puts
+      where
+        stays : (places : List Place) → length places ≤ p → (text : List ℕ) (o : Option DomainPart)
+            → DomainAgrees places text o → option_map (moved_domain p) o ≡ o
+        stays places few text None _ = refl
+        stays places few text (Some d) is =
+            let d_some = is.0.some in
+            let within = is.0.within in
+            ap (λ n. Some (record d { start = n })) (not_moved p d.start (omega (arith, d_some, within, few)))
+
+        others : OthersMoveOf row p rows old lent
+        others places agrees counted text d =
+            other text d
+            ∙ sym (stays places (omega (arith, counted, end)) text (value_at text old) (agrees text))
 
 pub puts_first : (row : Place) (rows : ℕ) (old new : Index) → rows < last → value_at row.domain old ≡ None
     → new ≡ with_value old row.domain (record {

@@ -5,13 +5,13 @@ use Rattle.std.specs.Prelude.{Option, Some, None, slice_get, option_map}
 use Rattle.std.specs.List.{remove}
 use Rattle.std.proofs.lemmas.Bool.{cases_lt}
 use Rattle.place_index.specs.Entries.{value_at, set_at, without, with_values}
-use Rattle.place_index.specs.Index.{Index, DomainAgrees, PathAgrees, Agrees}
+use Rattle.place_index.specs.Index.{Index, DomainAgrees, PathAgrees, PathsInside, Agrees}
 use Rattle.place_index.specs.Places.{Place, is_of, is_at}
 use Rattle.place_index.specs.Taking.{HasRow, TakesAt, OthersMoveBack, domain_back, path_back, shorter, Takes}
 use Rattle.place_index.specs.declared.part.DomainPart.{DomainPart}
 use Rattle.place_index.specs.declared.part.Part.{Part}
 use Rattle.place_index.proofs.EntryLemmas.{value_at-with_values}
-use Rattle.place_index.proofs.IndexLemmas.{own_domain, own_path}
+use Rattle.place_index.proofs.IndexLemmas.{own_domain, own_path, paths_inside}
 use Rattle.place_index.proofs.IndexOutLemmas.{in_part, not_back, ends_domain, ends_path, shrinks_path}
 use Rattle.place_index.proofs.TakingLemmas.{value_at-set_at, value_at-set_other, value_at-without_other, shorter-more}
 use Rattle.place_index.proofs.TakingLemmas.{shorter-only}
@@ -41,6 +41,13 @@ module _ (row : Place) (p : ℕ) (index : Index) (places : List Place) (agrees :
 pub starts_before : (row : Place) (p : ℕ) (index : Index) (part : DomainPart) → HasRow row p index
     → value_at row.domain index ≡ Some part → part.start ≤ p
 starts_before row p index part has is = low_in_domain row p index has.places has.agrees has.there part is
+
+-- its paths' parts lie in it
+pub inside_of : (row : Place) (p : ℕ) (index : Index) (part : DomainPart) → HasRow row p index
+    → value_at row.domain index ≡ Some part → PathsInside part
+inside_of row p index part has is =
+    paths_inside has.places row.domain part
+    (domain_agrees row p index has.places has.agrees has.there (Some part) is)
 
 module _ (row : Place) (p : ℕ) (old mid new : Index) (is : new ≡ with_values (domain_back p) mid) where
   value : (text : List ℕ) → value_at text new ≡ option_map (domain_back p) (value_at text mid)

@@ -1,16 +1,18 @@
 -- A table of parts after a row fewer of a path.
-use Rattle.std.proofs.Common.{◌≡◌, ◌≢◌, ◌<◌, ◌≤◌, ◌-◌, ℕ, Bool, true, false, cond}
-use Rattle.std.proofs.Common.{List, [], ◌∷◌, refl, sym, ap, ◌∙◌, arith}
-use Rattle.std.specs.Prelude.{Some, None, nat_lt, option_map}
+use Rattle.std.proofs.Common.{◌≡◌, ◌≢◌, ◌⊎◌, ◌<◌, ◌≤◌, ◌+◌, ◌-◌, ℕ, Bool, true, false, cond}
+use Rattle.std.proofs.Common.{List, [], ◌∷◌, refl, sym, ap, ◌∙◌, inl, inr, arith}
+use Rattle.std.specs.Prelude.{Option, Some, None, IfSome, nat_lt, option_map}
 use Rattle.std.specs.Str.{bytes_eq}
-use Rattle.std.proofs.lemmas.Bool.{cond-true, cond-false, false_from_ne_true}
+use Rattle.std.proofs.lemmas.Bool.{cases_lt, cond-true, cond-false, false_from_ne_true}
 use Rattle.std.proofs.lemmas.Grind.{common_steps}
 use Rattle.place_index.specs.Entries.{value_at, set_at, without, with_values}
-use Rattle.place_index.specs.Taking.{path_back, shorter, Shortens, Takes}
+use Rattle.place_index.specs.Index.{PathsInside}
+use Rattle.place_index.specs.Taking.{path_back, shorter, OtherPathsMoveBack, Shortens, Takes}
 use Rattle.place_index.specs.declared.part.DomainPart.{DomainPart}
 use Rattle.place_index.specs.declared.part.Part.{Part}
 use Rattle.place_index.proofs.EntryLemmas.{same_text, set_at-present, value_at-with_values}
 use Rattle.place_index.proofs.IndexLemmas.{value_at-with_value, value_at-with_other}
+use Rattle.place_index.proofs.IndexOutLemmas.{not_back}
 
 -- ---- tables
 
@@ -65,15 +67,52 @@ module _ (path : List ℕ) (old : List (List ℕ × Part)) where
 
 -- ---- a domain's part
 
-pub takes : (path : List ℕ) (at : ℕ) (old : DomainPart) (mid paths : List (List ℕ × Part)) → Shortens path old.paths mid
-    → paths ≡ with_values (path_back at) mid
-    → Takes path at old (record { start = old.start; len = old.len - 1; paths = paths })
-takes path at old mid paths shortens is = record {
-  start = refl;
-  len = refl;
-  own = value path ∙ ap (option_map (path_back at)) shortens.own;
-  others = λ text d. value text ∙ ap (option_map (path_back at)) (shortens.others text d);
-}
-  where
-    value : (text : List ℕ) → value_at text paths ≡ option_map (path_back at) (value_at text mid)
-    value text = ap (value_at text) is ∙ value_at-with_values (path_back at) text mid
+module _ (path : List ℕ) (at : ℕ) (old : DomainPart) (mid : List (List ℕ × Part))
+    (shortens : Shortens path old.paths mid) where
+  takes : (paths : List (List ℕ × Part))
+      → value_at path paths ≡ option_map (path_back at) (shorter (value_at path old.paths))
+      → OtherPathsMoveBack at path old.paths paths
+      → Takes path at old (record { start = old.start; len = old.len - 1; paths = paths })
+  takes paths own others = record { start = refl; len = refl; own = own; others = others }
+
+  pub takes_before_others : (paths : List (List ℕ × Part)) → paths ≡ with_values (path_back at) mid
+      → Takes path at old (record { start = old.start; len = old.len - 1; paths = paths })
+  takes_before_others paths moved =
+      takes paths (value path ∙ ap (option_map (path_back at)) shortens.own)
+      (λ text d. value text ∙ ap (option_map (path_back at)) (shortens.others text d))
+    where
+      value : (text : List ℕ) → value_at text paths ≡ option_map (path_back at) (value_at text mid)
+      value text = ap (value_at text) moved ∙ value_at-with_values (path_back at) text mid
+
+  -- no path begins behind the row
+  pub takes_at_end : PathsInside old → old.len - 1 ≤ at
+      → Takes path at old (record { start = old.start; len = old.len - 1; paths = mid })
+  takes_at_end inside end =
+      takes mid (shortens.own ∙ sym (shorter_stays (value_at path old.paths) (inside path)))
+      (λ text d. shortens.others text d ∙ sym (stays (value_at text old.paths) (inside text)))
+    where
+      back : (part : Part) → part.start < old.len → option_map (path_back at) (Some part) ≡ Some part
+      back part low = ap (λ n. Some (record part { start = n })) (not_back at part.start (omega (arith, low, end)))
+
+      stays : (o : Option Part) → IfSome o (λ part. (0 < part.len) × (part.start + part.len ≤ old.len))
+          → option_map (path_back at) o ≡ o
+      stays None _ = refl
+      stays (Some part) part_inside =
+          let some = part_inside.0 in
+          let within = part_inside.1 in
+          back part (omega (arith, some, within))
+
+      shorter_stays : (o : Option Part) → IfSome o (λ part. (0 < part.len) × (part.start + part.len ≤ old.len))
+          → option_map (path_back at) (shorter o) ≡ shorter o
+      shorter_stays None _ = refl
+      shorter_stays (Some part) part_inside = by (cases_lt 1 part.len)
+        where
+          by : (1 < part.len) ⊎ (part.len ≤ 1) → option_map (path_back at) (shorter (Some part)) ≡ shorter (Some part)
+          by (inl more) =
+              let some = part_inside.0 in
+              let within = part_inside.1 in
+              let is = shorter-more part more in
+              ap (option_map (path_back at)) is
+              ∙ back (record part { len = part.len - 1 }) (omega (arith, some, within)) ∙ sym is
+          by (inr few) =
+              let is = shorter-only part few in ap (option_map (path_back at)) is ∙ sym is

@@ -1,7 +1,7 @@
 -- The index of a vector of rows: from domain text to its part of the vector, and in it from path text to a
 -- part of that.
 use Rattle.std.specs.Prelude.{◌≡◌, ◌≢◌, ◌<◌, ◌≤◌, ◌+◌, ℕ, suc, List, [], ◌∷◌, length, Bool, true, false, Option, Some}
-use Rattle.std.specs.Prelude.{None, slice_get, option_map, nat_le, nat_lt, ◌&&◌, ◌^◌, ◌-◌, if◌then◌else◌}
+use Rattle.std.specs.Prelude.{None, IfSome, slice_get, option_map, nat_le, nat_lt, ◌&&◌, ◌^◌, ◌-◌, if◌then◌else◌}
 use Rattle.place_index.specs.Entries.{value_at, with_value}
 use Rattle.place_index.specs.declared.part.DomainPart.{DomainPart}
 use Rattle.place_index.specs.declared.part.Part.{Part}
@@ -37,6 +37,12 @@ abbrev pub DomainAgrees : List Place → List ℕ → Option DomainPart → Type
 DomainAgrees rows domain None = IsNowhere (is_of domain) rows
 DomainAgrees rows domain (Some part) =
     IsPart (is_of domain) rows part.start part.len × PathsAgree rows domain part
+
+-- each path's part has a row, and lies in the domain's
+abbrev pub PathsInside : DomainPart → Type 0
+PathsInside domain =
+    (text : List ℕ)
+    → IfSome (value_at text domain.paths) (λ part. (0 < part.len) × (part.start + part.len ≤ domain.len))
 
 -- the index is that of the rows
 abbrev pub Agrees : List Place → Index → Type 0

@@ -1,17 +1,17 @@
 -- A row more in a domain's part.
-use Rattle.std.specs.Prelude.{◌≡◌, ◌⊎◌, ◌<◌, ◌≤◌, ◌+◌, ◌&&◌, ℕ, suc, length, List, [], ◌∷◌, Bool, Some, None, IfSome}
+use Rattle.std.specs.Prelude.{◌≡◌, ◌⊎◌, ◌<◌, ◌+◌, ◌&&◌, ℕ, suc, length, List, [], ◌∷◌, Bool, Some, None}
 use Rattle.std.specs.Prelude.{not, if◌then◌else◌}
 use Rattle.place_index.specs.Entries.{value_at, with_value}
 use Rattle.place_index.specs.declared.part.DomainPart.{DomainPart}
 use Rattle.place_index.specs.declared.part.Part.{Part}
 use Rattle.std.specs.List.{insert, list_any}
-use Rattle.place_index.specs.Index.{Index, Agrees, OtherPathsMove, last}
+use Rattle.place_index.specs.Index.{Index, Agrees, PathsInside, OtherPathsMove, last}
 use Rattle.place_index.specs.Places.{Place, is_at, is_of}
 
--- there is room for a row more, and the path's part, where it has one, lies in the domain's
-pub record HasRoom (path : List ℕ) (domain : DomainPart) : Type 0 where
+-- there is room for a row more, and the paths' parts lie in the domain's
+pub record HasRoom (domain : DomainPart) : Type 0 where
   pub room : domain.len < last
-  pub inside : IfSome (value_at path domain.paths) (λ part. (0 < part.len) × (part.start + part.len ≤ domain.len))
+  pub inside : PathsInside domain
 
 -- the path is new, and its first row goes last
 pub record PutsLast (path : List ℕ) (old new : DomainPart) (at : ℕ) : Type 0 where

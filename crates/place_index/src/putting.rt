@@ -10,7 +10,7 @@ use std::alloc::{AllocError, Global};
 
 /// Has one row more of the path: behind its others, else last. Answers where, counted from where the domain begins.
 pub(crate) fn put(alloc: Global, domain: &mut DomainPart, path: &str) -> Result<usize, AllocError>
-    requires { HasRoom path.now domain.old }
+    requires { HasRoom domain.old }
     ensures ok { IfOk result (λ at. Puts path.now domain.old domain.new at) }
     ensures err { OnErr result (domain.new ≡ domain.old) }
 {
@@ -18,8 +18,10 @@ pub(crate) fn put(alloc: Global, domain: &mut DomainPart, path: &str) -> Result<
         Some(part) => {
             let at = part.start + part.len;
             part.len += 1;
+            if at < domain.len {
+                move_paths(&mut domain.paths, at);
+            }
             domain.len += 1;
-            move_paths(&mut domain.paths, at);
             Ok(at)
         }
         None => {
@@ -60,7 +62,9 @@ pub(crate) fn put_row(
         Some(part) => {
             let inner = put(alloc, part, path)?;
             let at = part.start + inner;
-            move_domains(domains, at);
+            if at < rows {
+                move_domains(domains, at);
+            }
             Ok(at)
         }
         None => {

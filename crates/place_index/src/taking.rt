@@ -1,6 +1,7 @@
 //! A row fewer in an index.
 
 ghost use Rattle.std.specs.Prelude.{◌<◌};
+ghost use Rattle.place_index.specs.Index.{PathsInside};
 ghost use Rattle.place_index.specs.Taking.{HasRow, Shortens, Takes, TakesAt};
 
 use crate::moving::{move_domains_back, move_paths_back};
@@ -20,12 +21,15 @@ fn shorten(paths: &mut TextMap<Part>, path: &str)
 
 /// Has one row fewer of the path, the one at `at`, counted from where the domain begins.
 fn take(domain: &mut DomainPart, at: usize, path: &str)
-    requires { 0 < domain.old.len }
+    requires some { 0 < domain.old.len }
+    requires inside { PathsInside domain.old }
     ensures { Takes path.now at domain.old domain.new }
 {
     domain.len -= 1;
     shorten(&mut domain.paths, path);
-    move_paths_back(&mut domain.paths, at);
+    if at < domain.len {
+        move_paths_back(&mut domain.paths, at);
+    }
 }
 
 /// Has the row at `at`, which is of the domain and the path, no more.

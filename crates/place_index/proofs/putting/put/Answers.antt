@@ -1,17 +1,25 @@
-use Rattle.std.proofs.Common.{◌+◌, ◌<◌, ◌≤◌, ◌∙◌, ap, inr, refl, subst, sym}
-use Rattle.std.specs.Prelude.{IfSome}
-use Rattle.place_index.specs.Entries.{with_values}
-use Rattle.place_index.specs.Index.{moved_path}
-use Rattle.place_index.proofs.PuttingLemmas.{puts_behind}
+use Rattle.std.proofs.Common.{◌+◌, inr, refl, subst, sym}
+use Rattle.place_index.specs.Putting.{Puts}
+use Rattle.place_index.specs.declared.part.DomainPart.{DomainPart}
+use Rattle.place_index.proofs.PuttingLemmas.{puts_before_others, puts_at_end}
+use Rattle.place_index.proofs.putting.put.Goals.{then-at-domain, else-at-domain}
 use Rattle.place_index.proofs.putting.put.Goals as goal
 
-pub returns-in-Some-clause-ok : goal.returns-in-Some-clause-ok
-returns-in-Some-clause-ok c =
+pub returns-after-at-domain-clause-ok : goal.returns-after-at-domain-clause-ok
+returns-after-at-domain-clause-ok c =
+    let path = c.args.path.now in
+    let old = c.args.domain.now in
     let part = c.in-Some.part.now in
     let at = part.start + part.len in
     let there = sym c.in-Some.ensures.value in
-    let inside = subst (λ o. IfSome o (λ p. (0 < p.len) × (p.start + p.len ≤ c.args.domain.now.len))) there
-    c.requires.inside in
-    inr (puts_behind c.args.path.now c.args.domain.now c.move_paths.new.paths part at there inside.0 refl
-    (c.move_paths.ensures ∙ ap (with_values (moved_path at))
-    (c.get_mut.follows.holds (record { start = part.start; len = part.len + 1 }))))
+    let lent = c.get_mut.follows.holds (record { start = part.start; len = part.len + 1 }) in
+    let puts = λ (d : DomainPart). Puts path old (record { start = d.start; len = d.len + 1; paths = d.paths }) at in
+    elim c.if-at-domain.branch [
+      | then-at-domain w ↦
+          subst puts (sym w.domain-is)
+          (inr (puts_before_others path old part at there refl c.requires.inside _ lent w.move_paths.new.paths
+          w.move_paths.ensures))
+      | else-at-domain w ↦
+          subst puts (sym w.domain-is)
+          (inr (puts_at_end path old part at there refl c.requires.inside _ lent w.if-at-domain.false))
+    ]

@@ -1,7 +1,12 @@
-use Rattle.place_index.proofs.TakingLemmas.{takes}
+use Rattle.place_index.proofs.TakingLemmas.{takes_before_others, takes_at_end}
 use Rattle.place_index.proofs.taking.take.Goals as goal
 
-pub returns : goal.returns
-returns c =
-    takes c.args.path.now c.args.at c.args.domain.now c.shorten.new.paths c.move_paths_back.new.paths c.shorten.ensures
-    c.move_paths_back.ensures
+pub returns-then-at-domain : goal.returns-then-at-domain
+returns-then-at-domain c =
+    takes_before_others c.args.path.now c.args.at c.args.domain.now c.shorten.new.paths c.shorten.ensures
+    c.move_paths_back.new.paths c.move_paths_back.ensures
+
+pub returns-else-at-domain : goal.returns-else-at-domain
+returns-else-at-domain c =
+    takes_at_end c.args.path.now c.args.at c.args.domain.now c.shorten.new.paths c.shorten.ensures c.requires.inside
+    c.if-at-domain.false

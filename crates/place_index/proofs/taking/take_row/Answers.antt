@@ -3,13 +3,18 @@ use Rattle.std.specs.Str.{bytes_eq}
 use Rattle.std.proofs.lemmas.Map.Steps.{set_value_same}
 use Rattle.place_index.specs.Entries.{value_at, without}
 use Rattle.place_index.specs.Places.{Place}
-use Rattle.place_index.proofs.RowOutLemmas.{starts_before, takes_more, takes_only, takes_none}
+use Rattle.place_index.proofs.RowOutLemmas.{starts_before, inside_of, takes_more, takes_only, takes_none}
 use Rattle.place_index.proofs.taking.take_row.Goals.{in-Some, in-Some-2, in-None}
 use Rattle.place_index.proofs.taking.take_row.Goals as goal
 
 pub overflow_sub-at : goal.overflow_sub-at
 overflow_sub-at c =
     starts_before (record { domain = c.args.domain.now; path = c.args.path.now }) c.args.at c.args.domains.now
+    c.in-Some.part.now c.requires (sym c.in-Some.ensures.value)
+
+pub take-requires-clause-inside : goal.take-requires-clause-inside
+take-requires-clause-inside c =
+    inside_of (record { domain = c.args.domain.now; path = c.args.path.now }) c.args.at c.args.domains.now
     c.in-Some.part.now c.requires (sym c.in-Some.ensures.value)
 
 pub returns : goal.returns
