@@ -1,7 +1,7 @@
 //! A store of cookies (RFC 6265, sections 5.3 and 5.4).
 
-ghost use Rattle.std.specs.Prelude.{◌≡◌, ◌↔◌, ◌&&◌, ◌+◌, ◌<◌, ◌≤◌, [], length, map, is_some, unwrap_or, IsTrue, IfOk, MatchOption};
-ghost use Rattle.std.specs.Prelude.{OnOk, OnErr, option_copied, option_map};
+ghost use Rattle.std.specs.Prelude.{◌≡◌, ◌↔◌, ◌&&◌, ◌+◌, ◌<◌, ◌≤◌, [], length, map, is_some, unwrap_or, IsTrue, IfOk};
+ghost use Rattle.std.specs.Prelude.{MatchOption, OnOk, OnErr, option_copied, option_map};
 ghost use Rattle.std.specs.Iterator.{at_most, IsFinite};
 ghost use Rattle.std.specs.List.{list_any};
 ghost use Rattle.std.specs.Map.Iter.{TakesFirst};

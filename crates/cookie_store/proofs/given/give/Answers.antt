@@ -19,12 +19,12 @@ loop-cookie-preserved c =
     let same : stored_in cookie ≡ stored_of c.deref-cookie.result.now = ap stored_of (sym c.deref-cookie.ensures) in
     let whole = GivesMore (map stored_in cookies) url now (map shown c.args.given.now.items) in
     elim c.if-branch.branch [
-      then-branch+in_ok-push w ↦ λ rest picks.
+      | then-branch+in_ok-push w ↦ λ rest picks.
           let more : map shown c.if-branch.given.items ≡ old ++ (stored_in cookie ∷ []) =
-              ap (λ given. map shown given.items) w.given-is
-              ∙ ap (map shown) w.in_ok-push.ensures.items
-              ∙ map-append shown c.loop-cookie.given.items _
-              ∙ ap (λ row. old ++ row ∷ []) (sym same) in
+          ap (λ given. map shown given.items) w.given-is
+          ∙ ap (map shown) w.in_ok-push.ensures.items
+          ∙ map-append shown c.loop-cookie.given.items _
+          ∙ ap (λ row. old ++ row ∷ []) (sym same) in
           subst whole
           (sym (append_assoc old (stored_in cookie ∷ []) rest) ∙ ap (λ l. l ++ rest) (sym more))
           (c.loop-cookie.invariant (stored_in cookie ∷ rest)

@@ -18,7 +18,7 @@ loop-part-preserved c = λ rest picks.
     let part = get_or parts i (0, 0) in
     let old = map shown c.loop-part.given.items in
     let gives : GivesMore (map stored_in (slice_range c.args.cookies.now part.0 part.1)) url now old (map shown c.give.new.given.items) =
-        c.in_ok-give.ensures in
+    c.in_ok-give.ensures in
     let own = gives.0 in
     subst (AreGiven (rows_in parts rows) url now)
     (sym (append_assoc old own rest) ∙ ap (λ l. l ++ rest) (sym gives.2))
