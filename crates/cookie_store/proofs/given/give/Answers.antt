@@ -1,4 +1,4 @@
-use Rattle.std.proofs.Common.{map, ◌≡◌, ◌∙◌, ◌+◌, length, drop, List, [], ◌∷◌, ◌++◌, ap, sym, subst, refl, append_assoc, append-nil, true≢false}
+use Rattle.std.proofs.Common.{map, ◌≡◌, ◌∙◌, [], ◌∷◌, ◌++◌, ap, sym, subst, refl, append_assoc, append-nil, true≢false}
 use Rattle.std.proofs.lemmas.List.{at_drop_all, map-append}
 use Rattle.jiff.specs.Words.{civil_nanos}
 use Rattle.cookie_store.specs.Given.{AreGiven, IsGiven, shown}

@@ -1,4 +1,4 @@
-use Rattle.std.proofs.Common.{map, ◌≡◌, ◌∙◌, ◌+◌, length, drop, get_or, List, [], ◌∷◌, ◌++◌, ap, sym, subst, refl, append_assoc, append-nil}
+use Rattle.std.proofs.Common.{map, ◌∙◌, get_or, [], ◌++◌, ap, sym, subst, refl, append_assoc, append-nil}
 use Rattle.std.specs.Prelude.{slice_range}
 use Rattle.std.proofs.lemmas.List.{at_drop_all}
 use Rattle.jiff.specs.Words.{civil_nanos}

@@ -1,8 +1,7 @@
-use Rattle.std.proofs.Common.{◌≡◌, ◌+◌, ◌≤◌, ◌∙◌, List, ap, map, subst, sym}
+use Rattle.std.proofs.Common.{◌+◌, ◌≤◌, ap, map, subst, sym}
 use Rattle.std.proofs.lemmas.Result.{IfOk-weaker}
 use Rattle.jiff.specs.Words.{civil_nanos}
 use Rattle.place_index.specs.Found.{Finds}
-use Rattle.cookie_store.specs.Asking.{looks_at_url}
 use Rattle.cookie_store.specs.Given.{AreGiven, shown}
 use Rattle.cookie_store.specs.Indexed.{places_of}
 use Rattle.cookie_store.specs.Steps.{AreInside, rows_in}
