@@ -51,7 +51,14 @@ fn puts(
     }
 }
 
-// A row in a new domain, in a new path of it, and in that path.
+// Takes out the first row of a path that has another, and the only row of a domain.
+fn takes_out(store: &mut CookieStore) -> bool {
+    store.remove("a.example", "/p", "a").is_some()
+        && store.remove("b.example", "/", "z").is_some()
+        && are_rows(store, "c=3 b=2")
+}
+
+// A row in a new domain, in a new path of it, and in that path; and in a domain whose only row was taken out.
 fn puts_rows(alloc: Global) -> Result<bool, AllocError> {
     let first = url(alloc, "https://a.example/p/q")?;
     let second = url(alloc, "https://b.example/")?;
@@ -60,7 +67,9 @@ fn puts_rows(alloc: Global) -> Result<bool, AllocError> {
         && puts(&mut store, &first, "a=1", "z=1", "z=1 a=1")?;
     let new_path = puts(&mut store, &first, "b=2; Path=/", "z=1 a=1", "z=1 a=1 b=2")?;
     let new_name = puts(&mut store, &first, "c=3", "z=1 a=1 b=2", "z=1 a=1 c=3 b=2")?;
-    Ok(new_domain && new_path && new_name)
+    let again = takes_out(&mut store)
+        && puts(&mut store, &second, "z=4", "c=3 b=2", "c=3 b=2 z=4")?;
+    Ok(new_domain && new_path && new_name && again)
 }
 
 // An expired cookie ends a row. Where there is no memory for making it, the row stays alive.
