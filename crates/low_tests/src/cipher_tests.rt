@@ -65,8 +65,8 @@ fn tags_as(text_len: usize, aad_len: usize, tag: &str) -> bool {
 
 #[test]
 fn tags_as_another_program(rt: HostRuntime) {
-    for (text_len, aad_len, tag) in TAGS {
-        assert!(rt; tags_as(text_len, aad_len, tag), "{tag}");
+    for (text_len, aad_len, tag) in &TAGS {
+        assert!(rt; tags_as(*text_len, *aad_len, tag), "{tag}");
     }
 }
 

@@ -248,17 +248,28 @@ fn lists(alloc: Global, text: &str, rule: &str, other: &str) -> Result<bool, Lis
     Ok(list.is_listed(rule.as_bytes()) && !list.is_listed(other.as_bytes()))
 }
 
+// Whether each text has the one rule and not the other.
+fn check_texts(
+    rt: &impl Abort,
+    alloc: Global,
+    texts: &str,
+    rule: &str,
+    other: &str,
+) -> Result<(), ListError> {
+    for text in texts.split('|') {
+        assert!(rt; lists(alloc, text, rule, other)?, "{text}");
+    }
+    Ok(())
+}
+
 // A line is a rule up to its first white space; no text has the rule `junk`.
 #[test]
 fn reads_lines(rt: HostRuntime) -> Result<(), ListError> {
-    for text in COM.split('|') {
-        assert!(rt; lists(rt.alloc(), text, "com", "junk")?, "{text}");
-    }
-    for text in "公司.cn|xn--55qx5d.cn|XN--55QX5D.CN".split('|') {
-        assert!(rt; lists(rt.alloc(), text, "xn--55qx5d.cn", "junk")?, "{text}");
-    }
-    assert!(rt; lists(rt.alloc(), "＊.ck", "*.ck", "foo.ck")?);
-    Ok(())
+    let alloc = rt.alloc();
+    check_texts(&rt, alloc, COM, "com", "junk")?;
+    let cn = "公司.cn|xn--55qx5d.cn|XN--55QX5D.CN";
+    check_texts(&rt, alloc, cn, "xn--55qx5d.cn", "junk")?;
+    check_texts(&rt, alloc, "＊.ck", "*.ck", "foo.ck")
 }
 
 // Whether the bytes are refused so.
@@ -266,25 +277,24 @@ fn refuses(alloc: Global, bytes: &[u8], error: ListError) -> bool {
     List::parse(alloc, bytes).err() == Some(error)
 }
 
+// Whether the line of this number is the first of each text that is no rule.
+fn check_faulty(rt: &impl Abort, alloc: Global, texts: &str, number: usize) {
+    for text in texts.split('|') {
+        let is_refused = refuses(alloc, text.as_bytes(), ListError::Rule(number));
+        assert!(rt; is_refused, "{text}");
+    }
+}
+
 // The number of the first line that is no rule, or that the bytes are no text.
 #[test]
 fn refuses_what_is_no_list(rt: HostRuntime) {
     let alloc = rt.alloc();
-    for (number, texts) in [
-        (1, "!ck|com.|.com|!|!!|.|a．b|a。b|xn--a"),
-        (2, "com\na..b|a\u{ad}\n\u{ad}|com\n!.ck\n!ck"),
-        (5, "// x\n\ncom\nnet junk\na..b c\n!ck"),
-    ] {
-        for text in texts.split('|') {
-            assert!(rt;
-                refuses(alloc, text.as_bytes(), ListError::Rule(number)),
-                "{text}"
-            );
-        }
-    }
-    for bytes in [b"\xff".as_slice(), b"a..b\n\xff", b"\xef\xbb"] {
-        assert!(rt; refuses(alloc, bytes, ListError::NotText));
-    }
+    check_faulty(&rt, alloc, "!ck|com.|.com|!|!!|.|a．b|a。b|xn--a", 1);
+    check_faulty(&rt, alloc, "com\na..b|a\u{ad}\n\u{ad}|com\n!.ck\n!ck", 2);
+    check_faulty(&rt, alloc, "// x\n\ncom\nnet junk\na..b c\n!ck", 5);
+    assert!(rt; refuses(alloc, b"\xff", ListError::NotText));
+    assert!(rt; refuses(alloc, b"a..b\n\xff", ListError::NotText));
+    assert!(rt; refuses(alloc, b"\xef\xbb", ListError::NotText));
 }
 
 // The variant's name, a number that it carries in round brackets after it.

@@ -5,20 +5,30 @@ use crate::suffix_tests::has_suffix;
 use publicsuffix::{List, ListError};
 use std::alloc::{AllocError, Global};
 
+fn count_labels(text: &str) -> usize {
+    text.split('.').count()
+}
+
+// The last labels of the name, or all.
+fn last_labels(name: &str, count: usize) -> &str {
+    let mut rest = name;
+    for _ in count..count_labels(name) {
+        rest = rest.split_once('.').unwrap_or(("", "")).1;
+    }
+    rest
+}
+
 // Whether the last labels of the name fit the labels of the rule, one each.
 fn fits(rule: &str, name: &str) -> bool {
-    let mut labels = name.rsplit('.');
-    for label in rule.rsplit('.') {
+    let count = count_labels(rule);
+    let mut labels = last_labels(name, count).split('.');
+    for label in rule.split('.') {
         let text = labels.next();
-        if text.is_none() || (label != "*" && text != Some(label)) {
+        if label != "*" && text != Some(label) {
             return false;
         }
     }
-    true
-}
-
-fn count_labels(text: &str) -> usize {
-    text.split('.').count()
+    count <= count_labels(name)
 }
 
 // How many labels the longest rule that fits has, of the exceptions or of the others; 0 where none fits.
@@ -46,15 +56,6 @@ fn covered(rules: &str, name: &str) -> (usize, bool) {
     } else {
         (1, false)
     }
-}
-
-// The last labels of the name.
-fn last_labels(name: &str, count: usize) -> &str {
-    let mut rest = name;
-    for _ in count..count_labels(name) {
-        rest = rest.split_once('.').unwrap_or(("", "")).1;
-    }
-    rest
 }
 
 // Whether the list answers for the name as its rules say.
@@ -165,30 +166,31 @@ fn answers_as_the_rules_one_by_one(rt: HostRuntime) -> Result<(), ListError> {
 
 // Exceptions of two lengths, a rule beside a wildcard with the same labels before it, wildcards at each place, one text
 // as a rule and as an exception, and the same rule twice.
+const WAYS: [(&str, &str); 10] = [
+    (
+        "*.ck\n!www.ck\n!a.www.ck",
+        "foo.ck\nwww.ck\nck\na.foo.ck\na.www.ck\nb.a.www.ck\nb.www.ck",
+    ),
+    (
+        "*.ck\n!www.ck\na.www.ck",
+        "b.a.www.ck\na.www.ck\nwww.ck\nb.c.www.ck\nfoo.ck",
+    ),
+    ("a.*.c\nx.b.c", "a.b.c\nx.b.c\ny.b.c\na.d.c\nb.c\nz.a.b.c"),
+    ("x.b.c\na.*.c", "a.b.c\nx.b.c\ny.b.c\na.d.c\nb.c\nz.a.b.c"),
+    ("!*.b.c\na.b.c\n*.*.c", "a.b.c\nb.c\nx.a.b.c\na.d.c\nc"),
+    ("*\n*.*\n*.*.*", "a\na.b\na.b.c\na.b.c.d"),
+    ("a.b\n!a.b", "a.b\nx.a.b\nb\nc.b"),
+    ("com\ncom\nnet", "com\na.com\nnet\norg"),
+    ("!a.*\n!*.b", "a.b\nx.a.b\na.c\nc.b"),
+    (
+        "a.a.a\na.*.a.a\n*.a.*.a.a",
+        "a.a.a\na.a.a.a\na.a.a.a.a\nb.a.b.a.a",
+    ),
+];
+
 #[test]
 fn answers_where_ways_part(rt: HostRuntime) -> Result<(), ListError> {
-    let lists = [
-        (
-            "*.ck\n!www.ck\n!a.www.ck",
-            "foo.ck\nwww.ck\nck\na.foo.ck\na.www.ck\nb.a.www.ck\nb.www.ck",
-        ),
-        (
-            "*.ck\n!www.ck\na.www.ck",
-            "b.a.www.ck\na.www.ck\nwww.ck\nb.c.www.ck\nfoo.ck",
-        ),
-        ("a.*.c\nx.b.c", "a.b.c\nx.b.c\ny.b.c\na.d.c\nb.c\nz.a.b.c"),
-        ("x.b.c\na.*.c", "a.b.c\nx.b.c\ny.b.c\na.d.c\nb.c\nz.a.b.c"),
-        ("!*.b.c\na.b.c\n*.*.c", "a.b.c\nb.c\nx.a.b.c\na.d.c\nc"),
-        ("*\n*.*\n*.*.*", "a\na.b\na.b.c\na.b.c.d"),
-        ("a.b\n!a.b", "a.b\nx.a.b\nb\nc.b"),
-        ("com\ncom\nnet", "com\na.com\nnet\norg"),
-        ("!a.*\n!*.b", "a.b\nx.a.b\na.c\nc.b"),
-        (
-            "a.a.a\na.*.a.a\n*.a.*.a.a",
-            "a.a.a\na.a.a.a\na.a.a.a.a\nb.a.b.a.a",
-        ),
-    ];
-    for (rules, names) in lists {
+    for (rules, names) in &WAYS {
         assert!(rt; agrees(rt.alloc(), rules, names)?, "{rules}");
     }
     Ok(())
