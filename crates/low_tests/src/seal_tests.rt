@@ -266,8 +266,7 @@ pub(crate) fn is_sealing(
         && *text == *plain
 }
 
-// Whether a vector's text is sealed and opened as the document says.
-fn is_as_published(
+fn is_sealed_so(
     alloc: Global,
     vector: &Vector,
     key: &[u8; 32],
@@ -280,17 +279,18 @@ fn is_as_published(
     Ok(plain.len() <= 64 && is_sealing(key, nonce, &aad, &plain, &ciphertext, tag))
 }
 
+// Whether a vector's text is sealed and opened as the document says.
+fn is_as_published(alloc: Global, vector: &Vector) -> Result<bool, FromHexError> {
+    let key = <[u8; 32] as FromHex>::from_hex(vector.key)?;
+    let nonce = <[u8; 12] as FromHex>::from_hex(vector.nonce)?;
+    let tag = <[u8; 16] as FromHex>::from_hex(vector.tag)?;
+    is_sealed_so(alloc, vector, &key, &nonce, &tag)
+}
+
 #[test]
 fn seals_and_opens_as_published(rt: HostRuntime) -> Result<(), FromHexError> {
     for vector in &VECTORS {
-        let key = <[u8; 32] as FromHex>::from_hex(vector.key)?;
-        let nonce = <[u8; 12] as FromHex>::from_hex(vector.nonce)?;
-        let tag = <[u8; 16] as FromHex>::from_hex(vector.tag)?;
-        assert!(rt;
-            is_as_published(rt.alloc(), vector, &key, &nonce, &tag)?,
-            "{}",
-            vector.tag
-        );
+        assert!(rt; is_as_published(rt.alloc(), vector)?, "{}", vector.tag);
     }
     Ok(())
 }
@@ -315,18 +315,23 @@ fn refuses(key: &[u8; 32], nonce: &[u8; 12], aad: &[u8], ciphertext: &[u8], tag:
     answer == Err(SealError::Refused) && *text == *ciphertext
 }
 
+// The bit of the tag with which the sealing is opened though it is turned, if there is one.
+fn turned_in_vain(ciphertext: &[u8; 16], tag: &[u8; 16]) -> Option<usize> {
+    for bit in 0..128usize {
+        let turned = turned(tag, bit / 8, bit % 8);
+        if !refuses(&[0; 32], &[0; 12], &[], ciphertext, &turned) {
+            return Some(bit);
+        }
+    }
+    None
+}
+
 // The second vector above, with one bit of its tag turned.
 #[test]
 fn refuses_a_turned_tag(rt: HostRuntime) -> Result<(), FromHexError> {
     let ciphertext = <[u8; 16] as FromHex>::from_hex("cea7403d4d606b6e074ec5d3baf39d18")?;
     let tag = <[u8; 16] as FromHex>::from_hex("d0d1c8a799996bf0265b98b5d48ab919")?;
-    for bit in 0..128usize {
-        let turned = turned(&tag, bit / 8, bit % 8);
-        assert!(rt;
-            refuses(&[0; 32], &[0; 12], &[], &ciphertext, &turned),
-            "bit {bit}"
-        );
-    }
+    assert!(rt; turned_in_vain(&ciphertext, &tag) == None);
     assert!(rt; !refuses(&[0; 32], &[0; 12], &[], &ciphertext, &tag));
     Ok(())
 }

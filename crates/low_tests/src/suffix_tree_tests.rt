@@ -196,10 +196,14 @@ fn answers_where_ways_part(rt: HostRuntime) -> Result<(), ListError> {
     Ok(())
 }
 
+fn list_of_a_rule(alloc: Global, texts: &str) -> Result<List, ListError> {
+    let rules = format!(in alloc; "{texts}a\n*.c")?;
+    List::parse(alloc, rules.as_bytes())
+}
+
 // Whether a rule of the labels is borne, and a name of one label more.
 fn bears_a_rule(alloc: Global, texts: &str) -> Result<bool, ListError> {
-    let rules = format!(in alloc; "{texts}a\n*.c")?;
-    let list = List::parse(alloc, rules.as_bytes())?;
+    let list = list_of_a_rule(alloc, texts)?;
     let name = format!(in alloc; "{texts}a")?;
     let longer = format!(in alloc; "b.{texts}a.")?;
     Ok(
