@@ -48,8 +48,9 @@ fn writes_until(alloc: Global, call: u64) -> (bool, bool) {
 // A failed call isn't tried again.
 #[test]
 fn tells_a_failed_write(rt: HostRuntime) {
-    assert_eq!(rt; writes_until(rt.alloc(), 0), (false, true));
-    assert_eq!(rt; writes_until(rt.alloc(), 1), (false, true));
-    assert_eq!(rt; writes_until(rt.alloc(), 2), (true, false));
-    assert_eq!(rt; writes_until(rt.alloc(), 3), (true, true));
+    let alloc = rt.alloc();
+    assert!(rt; writes_until(alloc, 0) == (false, true));
+    assert!(rt; writes_until(alloc, 1) == (false, true));
+    assert!(rt; writes_until(alloc, 2) == (true, false));
+    assert!(rt; writes_until(alloc, 3) == (true, true));
 }

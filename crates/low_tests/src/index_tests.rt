@@ -168,12 +168,15 @@ fn walks(
     Ok(true)
 }
 
-#[test]
-fn answers_as_a_plain_list(rt: HostRuntime) -> Result<(), AllocError> {
-    let alloc = rt.alloc();
+fn walks_from_none(rt: &impl Abort, alloc: Global) -> Result<bool, AllocError> {
     let mut index = Index::new(alloc);
     let mut rows = Vec::new(alloc);
-    assert!(rt; walks(&rt, alloc, &mut index, &mut rows)?);
+    walks(rt, alloc, &mut index, &mut rows)
+}
+
+#[test]
+fn answers_as_a_plain_list(rt: HostRuntime) -> Result<(), AllocError> {
+    assert!(rt; walks_from_none(&rt, rt.alloc())?);
     Ok(())
 }
 

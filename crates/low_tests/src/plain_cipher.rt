@@ -79,19 +79,26 @@ fn schedule(key: &[u8; 32]) -> [u8; 240] {
     w[..32].copy_from_slice(key);
     let mut constant = 1;
     for i in 8..60usize {
-        let (mut p, mut q, mut r, mut s) = (w[4 * i - 4], w[4 * i - 3], w[4 * i - 2], w[4 * i - 1]);
-        if i % 8 == 0 {
-            (p, q, r, s) = (s_box(q) ^ constant, s_box(r), s_box(s), s_box(p));
-            constant = double(constant);
-        } else if i % 8 == 4 {
-            (p, q, r, s) = (s_box(p), s_box(q), s_box(r), s_box(s));
+        let word = [w[4 * i - 4], w[4 * i - 3], w[4 * i - 2], w[4 * i - 1]];
+        let word = expanded(word, i, constant);
+        for j in 0..4usize {
+            w[4 * i + j] = w[4 * i + j - 32] ^ word[j];
         }
-        w[4 * i] = w[4 * i - 32] ^ p;
-        w[4 * i + 1] = w[4 * i - 31] ^ q;
-        w[4 * i + 2] = w[4 * i - 30] ^ r;
-        w[4 * i + 3] = w[4 * i - 29] ^ s;
+        if i % 8 == 0 {
+            constant = double(constant);
+        }
     }
     w
+}
+
+// What is added to the word eight before word i; `word` is the one before it.
+fn expanded(word: [u8; 4], i: usize, constant: u8) -> [u8; 4] {
+    let [p, q, r, s] = word;
+    match i % 8 {
+        0 => [s_box(q) ^ constant, s_box(r), s_box(s), s_box(p)],
+        4 => [s_box(p), s_box(q), s_box(r), s_box(s)],
+        _ => word,
+    }
 }
 
 // A block under the key of a schedule (5.1): 14 rounds, the last without MixColumns.
