@@ -6,14 +6,13 @@ ghost use Rattle.cookie_store.specs.Asking.{domains_with_rows};
 use crate::fixtures::{at, receive};
 use cookie_store::{Cookie, CookieStore, Looks};
 use std::alloc::{AllocError, Global};
-use std::marker::Brand;
-use std::sync::ledger::{Blank, Ledger};
+use std::sync::ledger::Ledger;
 use std::test::Fail;
 use url::Url;
 
-// What a request of four domain texts and five path texts is given: so many questions, those of the paths for each
-// domain that has a row. Nothing of another request.
-fn match_deep<'s, L: Ledger>(
+// A request of four domain texts and five path texts puts so many questions at the most: four, and five for each of the
+// domains that has a row. The test below runs this call by `matches`.
+pub(crate) fn match_deep<'s, L: Ledger>(
     store: &'s CookieStore,
     url: &Url,
     looks: &mut Looks<L>,
@@ -44,34 +43,16 @@ fn are(alloc: Global, cookies: Vec<&Cookie<'static>>, wanted: &str) -> bool {
     }
 }
 
-// Whether the request is given these, counted from none and not counted.
-fn gives_both<L: Ledger>(
+// Whether the request is given these once the lines are received.
+fn gives(
     alloc: Global,
-    store: &CookieStore,
+    store: &mut CookieStore,
     url: &Url,
-    wanted: &str,
-    blank: Blank,
-) -> Result<bool, AllocError>
-    requires name { blank.name ≡ L.name }
-    requires parts { blank.parts ≡ L.parts }
-    requires some { 0 < L.parts }
-{
-    let mut looks = Looks::<L>::new(blank);
-    let Some(counted) = match_deep(store, url, &mut looks)? else {
-        return Ok(false);
-    };
-    let given = store.matches(url, at(0))?;
-    Ok(are(alloc, counted, wanted) && are(alloc, given, wanted))
-}
-
-// Whether the request is given these, counted and not.
-fn gives_these(
-    alloc: Global,
-    store: &CookieStore,
-    url: &Url,
+    lines: &str,
     wanted: &str,
 ) -> Result<bool, AllocError> {
-    gives_both::<Brand>(alloc, store, url, wanted, Blank::new(1))
+    let is_received = receive(alloc, store, lines);
+    Ok(is_received && are(alloc, store.matches(url, at(0))?, wanted))
 }
 
 // What is received, and what the request is given then: one of its domains has rows, two have, and all four.
@@ -93,8 +74,7 @@ fn asks_for_what_a_request_can_meet(rt: HostRuntime) -> Result<(), Fail> {
     let url = Url::parse(alloc, "http://a.b.c.com/x/y")?;
     let mut store = CookieStore::new(alloc);
     for (lines, wanted) in STEPS {
-        assert!(rt; receive(alloc, &mut store, lines));
-        assert!(rt; gives_these(alloc, &store, &url, wanted)?);
+        assert!(rt; gives(alloc, &mut store, &url, lines, wanted)?);
     }
     Ok(())
 }
