@@ -20,15 +20,14 @@ fn last_labels(name: &str, count: usize) -> &str {
 
 // Whether the last labels of the name fit the labels of the rule, one each.
 fn fits(rule: &str, name: &str) -> bool {
-    let count = count_labels(rule);
-    let mut labels = last_labels(name, count).split('.');
-    for label in rule.split('.') {
+    let mut labels = name.rsplit('.');
+    for label in rule.rsplit('.') {
         let text = labels.next();
-        if label != "*" && text != Some(label) {
+        if text.is_none() || (label != "*" && text != Some(label)) {
             return false;
         }
     }
-    count <= count_labels(name)
+    true
 }
 
 // How many labels the longest rule that fits has, of the exceptions or of the others; 0 where none fits.
