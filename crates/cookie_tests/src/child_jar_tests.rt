@@ -248,18 +248,19 @@ fn opens_under_one(jar: &CookieJar, key: &Key) -> Result<bool, AllocError> {
 
 // Each sealing takes the next twelve bytes, and is read under its own name alone.
 #[test]
-fn seals_under_the_bytes_of_a_fill(rt: HostRuntime) {
+fn seals_under_the_bytes_of_a_fill(rt: HostRuntime) -> Result<(), PrivateError> {
     let alloc = rt.alloc();
-    assert!(rt; lent(CookieJar::new(alloc), seals_at_random) == Ok(true));
-    assert!(rt; lent(CookieJar::new(alloc), seals_both) == Ok(true));
-    assert!(rt; lent(CookieJar::new(alloc), adds_both) == Ok(true));
+    assert!(rt; lent(CookieJar::new(alloc), seals_at_random)?);
+    assert!(rt; lent(CookieJar::new(alloc), seals_both)?);
+    assert!(rt; lent(CookieJar::new(alloc), adds_both)?);
     assert!(rt;
         lent(
             CookieJar::new(alloc),
             |jar| opens_under_its_name(alloc, jar)
-        ) == Ok(true)
+        )?
     );
-    assert!(rt; lent(CookieJar::new(alloc), refuses) == Ok(true));
+    assert!(rt; lent(CookieJar::new(alloc), refuses)?);
+    Ok(())
 }
 
 fn decrypts_no(jar: &CookieJar, key: &Key, text: &'static str) -> Result<bool, AllocError> {
