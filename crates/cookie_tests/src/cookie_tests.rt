@@ -232,25 +232,24 @@ fn compare_so(row: &str, wanted: bool) -> bool {
 
 fn compares_so(cookie: &Cookie<'_>, text: &str, wanted: bool) -> bool {
     match Cookie::parse(text) {
-        Ok(other) => are_equal(cookie, &other) == (wanted, wanted),
+        Ok(other) => compare_both_ways(cookie, &other, wanted),
         Err(_) => false,
     }
 }
 
-fn are_equal(cookie: &Cookie<'_>, other: &Cookie<'_>) -> (bool, bool) {
-    (cookie == other, other == cookie)
+fn compare_both_ways(cookie: &Cookie<'_>, other: &Cookie<'_>, wanted: bool) -> bool {
+    (cookie == other) == wanted && (other == cookie) == wanted
 }
 
-// Whether a cookie of the session differs from one of whose end nothing is said.
-fn tells_the_session() -> bool {
-    let mut cookie = Cookie::new("a", "1");
+// Whether the cookie, once it is the session's, differs from one of whose end nothing is said.
+fn tells_the_session(cookie: &mut Cookie<'_>) -> bool {
     cookie.set_expires(Expiration::Session);
-    are_equal(&cookie, &Cookie::new("a", "1")) == (false, false)
+    compare_both_ways(cookie, &Cookie::new("a", "1"), false)
 }
 
 #[test]
 fn compares(rt: HostRuntime) {
-    assert!(rt; tells_the_session());
+    assert!(rt; tells_the_session(&mut Cookie::new("a", "1")));
     for row in EQUAL.split('\n') {
         assert!(rt; compare_so(row, true), "{row}");
     }
@@ -259,10 +258,13 @@ fn compares(rt: HostRuntime) {
     }
 }
 
-// Whether a value is this without its quotes.
-fn is_trimmed(value: &str, trimmed: &str) -> bool {
-    let cookie = Cookie::new("a", value);
+// Whether the value is this without its quotes.
+fn has_trimmed(cookie: &Cookie<'_>, trimmed: &str) -> bool {
     cookie.value_trimmed() == trimmed && cookie.name_value_trimmed() == ("a", trimmed)
+}
+
+fn is_trimmed(value: &str, trimmed: &str) -> bool {
+    has_trimmed(&Cookie::new("a", value), trimmed)
 }
 
 // Values without one pair of double quotes.

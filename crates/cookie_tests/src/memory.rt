@@ -10,6 +10,14 @@ use std::alloc::{AllocError, Global};
 
 const TEXT: &str = "a%20b=%31; Path=/; Domain=x.com";
 
+fn has_pair(cookie: &Cookie<'_>, name: &str, value: &str) -> bool {
+    cookie.name_value() == (name, value)
+}
+
+fn has_path(cookie: &Cookie<'_>, name: &str, value: &str) -> bool {
+    has_pair(cookie, name, value) && cookie.path() == Some("/")
+}
+
 // Whether the cookie that was read has this pair and the text's path.
 fn is_read(
     read: Result<Cookie<'_>, ParseError>,
@@ -17,7 +25,7 @@ fn is_read(
     value: &str,
 ) -> Result<bool, ParseError> {
     match read {
-        Ok(cookie) => Ok(cookie.name_value() == (name, value) && cookie.path() == Some("/")),
+        Ok(cookie) => Ok(has_path(&cookie, name, value)),
         Err(error) => Err(error),
     }
 }
@@ -51,11 +59,22 @@ fn decodes_owned(alloc: Global) -> Result<bool, ParseError> {
     )
 }
 
-// Whether the next outcome is the cookie of this name and value.
+// Whether the outcome is the cookie of this name and value.
+fn is_pair(
+    outcome: Result<Cookie<'_>, ParseError>,
+    name: &str,
+    value: &str,
+) -> Result<bool, ParseError> {
+    match outcome {
+        Ok(cookie) => Ok(has_pair(&cookie, name, value)),
+        Err(error) => Err(error),
+    }
+}
+
+// The same of the next outcome.
 fn is_next(outcomes: &mut SplitCookies<'_>, name: &str, value: &str) -> Result<bool, ParseError> {
     match outcomes.next() {
-        Some(Ok(cookie)) => Ok(cookie.name_value() == (name, value)),
-        Some(Err(error)) => Err(error),
+        Some(outcome) => is_pair(outcome, name, value),
         None => Ok(false),
     }
 }
@@ -115,10 +134,14 @@ fn placed() -> Cookie<'static> {
     cookie
 }
 
+fn is_as_placed(cookie: &Cookie<'_>) -> bool {
+    *cookie == placed()
+}
+
 // Whether what was made is that cookie.
 fn is_placed(made: Result<Cookie<'_>, AllocError>) -> Result<bool, AllocError> {
     match made {
-        Ok(cookie) => Ok(cookie == placed()),
+        Ok(cookie) => Ok(is_as_placed(&cookie)),
         Err(error) => Err(error),
     }
 }
@@ -130,7 +153,7 @@ fn owns(alloc: Global) -> Result<bool, AllocError> {
 // A cookie of which no copy could be made is as it was.
 fn is_copied(alloc: Global, cookie: &Cookie<'_>) -> Result<bool, AllocError> {
     let copied = is_placed(cookie.clone(alloc));
-    if *cookie == placed() {
+    if is_as_placed(cookie) {
         copied
     } else {
         Ok(false)
@@ -142,7 +165,10 @@ fn copies(alloc: Global) -> Result<bool, AllocError> {
 }
 
 fn is_built(alloc: Global, builder: &CookieBuilder<'_>) -> Result<bool, AllocError> {
-    is_placed(Ok(builder.clone(alloc)?.build()))
+    match builder.clone(alloc) {
+        Ok(copy) => Ok(is_as_placed(&copy.build())),
+        Err(error) => Err(error),
+    }
 }
 
 fn copies_a_builder(alloc: Global) -> Result<bool, AllocError> {

@@ -6,8 +6,11 @@ use test_kit::prints;
 
 // What holds of the names of any prefix: `whole` is it and `sid`.
 fn names<P: Prefix>(alloc: Global, whole: &str) -> Result<bool, AllocError> {
-    let is_whole = P::prefixed_name(alloc, "sid")?.as_str() == whole;
-    Ok(is_whole && clips::<P>(alloc, Cookie::new("sid", "1"))?)
+    Ok(is_whole::<P>(alloc, whole)? && clips::<P>(alloc, Cookie::new("sid", "1"))?)
+}
+
+fn is_whole<P: Prefix>(alloc: Global, whole: &str) -> Result<bool, AllocError> {
+    Ok(P::prefixed_name(alloc, "sid")?.as_str() == whole)
 }
 
 fn prefixes<P: Prefix>(alloc: Global, whole: &str) -> Result<bool, AllocError> {
