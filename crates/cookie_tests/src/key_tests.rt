@@ -279,14 +279,18 @@ fn is_sealed(text: Result<String, PrivateError>) -> bool {
     }
 }
 
+fn seals_and_opens(alloc: Global, key: &Key) -> bool {
+    is_sealed(sealed_text(alloc, key, "", "", &[0; 12]))
+        && is_sealed(sealed_by(alloc, key, "", "", &mut counter(0, false)))
+        && opens_as(alloc, key, "", SEALED, Some(""))
+        && opens_as(alloc, key, "", SEALED_LETTERS, Some("abc"))
+}
+
 #[test]
 fn seals_as_the_specification_of_gcm(rt: HostRuntime) {
     let alloc = rt.alloc();
     let key = zero_key();
-    assert!(rt; is_sealed(sealed_text(alloc, &key, "", "", &[0; 12])));
-    assert!(rt; is_sealed(sealed_by(alloc, &key, "", "", &mut counter(0, false))));
-    assert!(rt; opens_as(alloc, &key, "", SEALED, Some("")));
-    assert!(rt; opens_as(alloc, &key, "", SEALED_LETTERS, Some("abc")));
+    assert!(rt; seals_and_opens(alloc, &key));
     for text in NO_SEALINGS.split('\n') {
         assert!(rt; opens_as(alloc, &key, "", text, None), "{text}");
     }

@@ -82,11 +82,12 @@ fn reads_escapes(alloc: Global) -> Result<bool, AllocError> {
     has_letters(alloc, escapes(alloc)?.as_str())
 }
 
+fn reads_all(alloc: Global) -> Result<bool, AllocError> {
+    Ok(reads_blanks(alloc)? && reads_pairs(alloc)? && reads_digits(alloc)? && reads_escapes(alloc)?)
+}
+
 #[test]
 fn reads_long_texts(rt: HostRuntime) -> Result<(), AllocError> {
-    assert!(rt; reads_blanks(rt.alloc())?);
-    assert!(rt; reads_pairs(rt.alloc())?);
-    assert!(rt; reads_digits(rt.alloc())?);
-    assert!(rt; reads_escapes(rt.alloc())?);
+    assert!(rt; reads_all(rt.alloc())?);
     Ok(())
 }

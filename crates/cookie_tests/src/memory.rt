@@ -210,33 +210,44 @@ fn opens(alloc: Global) -> Result<bool, AllocError> {
     Ok(opened_value(alloc, &zero_key(), "", SEALED)?.as_deref() == Some(""))
 }
 
+fn reads(alloc: Global) -> Result<bool, ParseError> {
+    Ok(
+        decodes(alloc)?
+            && reads_in_own_memory(alloc)?
+            && reads_owned(alloc)?
+            && decodes_owned(alloc)?,
+    )
+}
+
 #[test]
 fn cookies_are_read(rt: HostRuntime) -> Result<(), ParseError> {
-    let alloc = rt.alloc();
-    assert!(rt; decodes(alloc)?);
-    assert!(rt; reads_in_own_memory(alloc)?);
-    assert!(rt; reads_owned(alloc)?);
-    assert!(rt; decodes_owned(alloc)?);
+    assert!(rt; reads(rt.alloc())?);
     Ok(())
+}
+
+fn splits(alloc: Global) -> Result<bool, ParseError> {
+    Ok(splits_escaped(alloc)? && splits_owned(alloc)? && splits_escaped_owned(alloc)?)
 }
 
 #[test]
 fn texts_are_split(rt: HostRuntime) -> Result<(), ParseError> {
-    let alloc = rt.alloc();
-    assert!(rt; splits_escaped(alloc)?);
-    assert!(rt; splits_owned(alloc)?);
-    assert!(rt; splits_escaped_owned(alloc)?);
+    assert!(rt; splits(rt.alloc())?);
     Ok(())
+}
+
+fn copies_and_prints(alloc: Global) -> Result<bool, AllocError> {
+    Ok(
+        owns(alloc)?
+            && copies(alloc)?
+            && copies_a_builder(alloc)?
+            && prints_escaped(alloc)?
+            && prints_at_the_end(alloc)?,
+    )
 }
 
 #[test]
 fn cookies_are_copied_and_printed(rt: HostRuntime) -> Result<(), AllocError> {
-    let alloc = rt.alloc();
-    assert!(rt; owns(alloc)?);
-    assert!(rt; copies(alloc)?);
-    assert!(rt; copies_a_builder(alloc)?);
-    assert!(rt; prints_escaped(alloc)?);
-    assert!(rt; prints_at_the_end(alloc)?);
+    assert!(rt; copies_and_prints(rt.alloc())?);
     Ok(())
 }
 

@@ -41,12 +41,19 @@ fn prints_as_set(alloc: Global, cookie: &mut Cookie<'_>) -> bool {
         && prints_unset(alloc, cookie)
 }
 
+fn prints_built(alloc: Global) -> bool {
+    prints(alloc, &built(), "foo=bar; SameSite=None; Secure")
+}
+
+fn sets_built(alloc: Global) -> bool {
+    prints_as_set(alloc, &mut built().build())
+}
+
 // `Secure` where it is true, or `SameSite=None` stands and nothing is said of it, or `Partitioned`.
 #[test]
 fn prints_secure(rt: HostRuntime) {
-    let alloc = rt.alloc();
-    assert!(rt; prints(alloc, &built(), "foo=bar; SameSite=None; Secure"));
-    assert!(rt; prints_as_set(alloc, &mut built().build()));
+    assert!(rt; prints_built(rt.alloc()));
+    assert!(rt; sets_built(rt.alloc()));
 }
 
 // Whether a cookie with this max-age prints it so.
@@ -107,6 +114,10 @@ fn prints_encoded(alloc: Global, cookie: &Cookie<'_>, wanted: &str) -> bool {
     prints(alloc, &cookie.encoded(), wanted)
 }
 
+fn views_are_printed(alloc: Global) -> bool {
+    prints_views(alloc, named().inner())
+}
+
 // Whether this pair is escaped so.
 fn prints_pair(alloc: Global, name: &str, value: &str, wanted: &str) -> bool {
     prints_encoded(alloc, &Cookie::new(name, value), wanted)
@@ -115,7 +126,7 @@ fn prints_pair(alloc: Global, name: &str, value: &str, wanted: &str) -> bool {
 #[test]
 fn prints_escaped_and_stripped(rt: HostRuntime) {
     let alloc = rt.alloc();
-    assert!(rt; prints_views(alloc, named().inner()));
+    assert!(rt; views_are_printed(alloc));
     assert!(rt; prints_pair(alloc, "\u{e9}", "1", "%C3%A9=1"));
     assert!(rt; prints(alloc, &SameSite::Strict, "Strict"));
 }
@@ -177,10 +188,14 @@ fn digit(number: u8) -> char {
         .unwrap_or('0')
 }
 
+fn has_byte(cookie: &Cookie<'_>, byte: u8) -> bool {
+    byte < 128 && cookie.value().as_bytes() == [byte].as_slice()
+}
+
 // Whether that byte was read, or refused where it isn't UTF-8 alone.
 fn is_byte(read: Result<Cookie<'_>, ParseError>, byte: u8) -> bool {
     match read {
-        Ok(cookie) => byte < 128 && cookie.value().as_bytes() == [byte].as_slice(),
+        Ok(cookie) => has_byte(&cookie, byte),
         Err(error) => byte >= 128 && error == ParseError::Utf8Error,
     }
 }
