@@ -246,20 +246,27 @@ fn opens_under_one(jar: &CookieJar, key: &Key) -> Result<bool, AllocError> {
     Ok(own && gives_sealed(jar, key, "a%20b", "-")?)
 }
 
+fn seals_by_fills(alloc: Global) -> Result<bool, PrivateError> {
+    Ok(
+        lent(CookieJar::new(alloc), seals_at_random)?
+            && lent(CookieJar::new(alloc), seals_both)?
+            && lent(CookieJar::new(alloc), adds_both)?
+            && lent(CookieJar::new(alloc), refuses)?,
+    )
+}
+
 // Each sealing takes the next twelve bytes, and is read under its own name alone.
 #[test]
-fn seals_under_the_bytes_of_a_fill(rt: HostRuntime) {
+fn seals_under_the_bytes_of_a_fill(rt: HostRuntime) -> Result<(), PrivateError> {
     let alloc = rt.alloc();
-    assert!(rt; lent(CookieJar::new(alloc), seals_at_random) == Ok(true));
-    assert!(rt; lent(CookieJar::new(alloc), seals_both) == Ok(true));
-    assert!(rt; lent(CookieJar::new(alloc), adds_both) == Ok(true));
+    assert!(rt; seals_by_fills(alloc)?);
     assert!(rt;
         lent(
             CookieJar::new(alloc),
             |jar| opens_under_its_name(alloc, jar)
-        ) == Ok(true)
+        )?
     );
-    assert!(rt; lent(CookieJar::new(alloc), refuses) == Ok(true));
+    Ok(())
 }
 
 fn decrypts_no(jar: &CookieJar, key: &Key, text: &'static str) -> Result<bool, AllocError> {
@@ -304,27 +311,48 @@ fn reads_no_other_sealings(rt: HostRuntime) {
 mod memory {
     use super::*;
 
+    fn writes_signed(alloc: Global) -> Result<bool, AllocError> {
+        Ok(
+            lent(CookieJar::new(alloc), signs)?
+                && lent(CookieJar::new(alloc), signs_an_original)?
+                && lent(CookieJar::new(alloc), removes_signed)?,
+        )
+    }
+
+    fn reads_all_signed(alloc: Global) -> Result<bool, AllocError> {
+        Ok(
+            lent(CookieJar::new(alloc), reads_signed)?
+                && lent(CookieJar::new(alloc), reads_signed_of_mut)?
+                && lent(CookieJar::new(alloc), verifies)?,
+        )
+    }
+
     // As RFC 4231 has the code.
     #[test]
     fn signed(rt: HostRuntime) -> Result<(), AllocError> {
-        assert!(rt; lent(CookieJar::new(rt.alloc()), signs)?);
-        assert!(rt; lent(CookieJar::new(rt.alloc()), signs_an_original)?);
-        assert!(rt; lent(CookieJar::new(rt.alloc()), removes_signed)?);
-        assert!(rt; lent(CookieJar::new(rt.alloc()), reads_signed)?);
-        assert!(rt; lent(CookieJar::new(rt.alloc()), reads_signed_of_mut)?);
-        assert!(rt; lent(CookieJar::new(rt.alloc()), verifies)?);
+        assert!(rt; writes_signed(rt.alloc())?);
+        assert!(rt; reads_all_signed(rt.alloc())?);
         Ok(())
+    }
+
+    fn writes_sealed(alloc: Global) -> Result<bool, PrivateError> {
+        Ok(lent(CookieJar::new(alloc), seals)? && lent(CookieJar::new(alloc), seals_an_original)?)
+    }
+
+    fn reads_all_sealed(alloc: Global) -> Result<bool, AllocError> {
+        Ok(
+            lent(CookieJar::new(alloc), removes_sealed)?
+                && lent(CookieJar::new(alloc), reads_sealed)?
+                && lent(CookieJar::new(alloc), reads_sealed_of_mut)?
+                && lent(CookieJar::new(alloc), decrypts)?,
+        )
     }
 
     // As the specification of GCM has the tag.
     #[test]
     fn sealed(rt: HostRuntime) -> Result<(), PrivateError> {
-        assert!(rt; lent(CookieJar::new(rt.alloc()), seals)?);
-        assert!(rt; lent(CookieJar::new(rt.alloc()), seals_an_original)?);
-        assert!(rt; lent(CookieJar::new(rt.alloc()), removes_sealed)?);
-        assert!(rt; lent(CookieJar::new(rt.alloc()), reads_sealed)?);
-        assert!(rt; lent(CookieJar::new(rt.alloc()), reads_sealed_of_mut)?);
-        assert!(rt; lent(CookieJar::new(rt.alloc()), decrypts)?);
+        assert!(rt; writes_sealed(rt.alloc())?);
+        assert!(rt; reads_all_sealed(rt.alloc())?);
         Ok(())
     }
 }

@@ -221,36 +221,55 @@ a=1; Max-Age=1 == a=1\n\
 a=1; Expires=Sun Nov  6 08:49:37 1994 == a=1; Expires=Sun Nov  6 08:49:38 1994\n\
 a=1; Expires=Sun Nov  6 08:49:37 1994 == a=1";
 
-// Whether the cookies of both sides of a row are equal, each way.
-fn are_equal(row: &str) -> Result<(bool, bool), ParseError> {
+// Whether the cookies of both sides of a row are equal or not, each way.
+fn compare_so(row: &str, wanted: bool) -> bool {
     let (left, right) = row.split_once(" == ").unwrap_or(("", ""));
     match Cookie::parse(left) {
-        Ok(cookie) => are_equal_to(&cookie, right),
-        Err(error) => Err(error),
+        Ok(cookie) => compares_so(&cookie, right, wanted),
+        Err(_) => false,
     }
 }
 
-fn are_equal_to(cookie: &Cookie<'_>, text: &str) -> Result<(bool, bool), ParseError> {
-    let other = Cookie::parse(text)?;
-    Ok((*cookie == other, other == *cookie))
+fn compares_so(cookie: &Cookie<'_>, text: &str, wanted: bool) -> bool {
+    match Cookie::parse(text) {
+        Ok(other) => compare_both_ways(cookie, &other, wanted),
+        Err(_) => false,
+    }
 }
 
-// Whether a cookie of the session differs from one of whose end nothing is said.
-fn tells_the_session() -> bool {
-    let mut cookie = Cookie::new("a", "1");
+fn compare_both_ways(cookie: &Cookie<'_>, other: &Cookie<'_>, wanted: bool) -> bool {
+    (cookie == other) == wanted && (other == cookie) == wanted
+}
+
+fn differ(cookie: &Cookie<'_>, other: &Cookie<'_>) -> bool {
+    *cookie != *other && *other != *cookie
+}
+
+// Whether the cookie, once it is the session's, differs from one of whose end nothing is said.
+fn tells_the_session(cookie: &mut Cookie<'_>) -> bool {
     cookie.set_expires(Expiration::Session);
-    cookie != Cookie::new("a", "1") && Cookie::new("a", "1") != cookie
+    differ(cookie, &Cookie::new("a", "1"))
 }
 
 #[test]
 fn compares(rt: HostRuntime) {
-    assert!(rt; tells_the_session());
+    assert!(rt; tells_the_session(&mut Cookie::new("a", "1")));
     for row in EQUAL.split('\n') {
-        assert!(rt; are_equal(row) == Ok((true, true)), "{row}");
+        assert!(rt; compare_so(row, true), "{row}");
     }
     for row in UNEQUAL.split('\n') {
-        assert!(rt; are_equal(row) == Ok((false, false)), "{row}");
+        assert!(rt; compare_so(row, false), "{row}");
     }
+}
+
+// Whether the value is this without its quotes.
+fn has_trimmed(cookie: &Cookie<'_>, trimmed: &str) -> bool {
+    cookie.value_trimmed() == trimmed && cookie.name_value_trimmed() == ("a", trimmed)
+}
+
+fn is_trimmed(row: &str) -> bool {
+    let (value, trimmed) = row.split_once(" -> ").unwrap_or(("", "no row"));
+    has_trimmed(&Cookie::new("a", value), trimmed)
 }
 
 // Values without one pair of double quotes.
@@ -259,9 +278,6 @@ fn trims_quotes(rt: HostRuntime) {
     let rows =
         "\"1\" -> 1\n\"\" -> \n\" -> \"\n\"1 -> \"1\n1\" -> 1\"\n\"\"1\"\" -> \"1\"\n1 -> 1\n -> ";
     for row in rows.split('\n') {
-        let (value, trimmed) = row.split_once(" -> ").unwrap_or(("", ""));
-        let cookie = Cookie::new("a", value);
-        assert!(rt; cookie.value_trimmed() == trimmed, "{row}");
-        assert!(rt; cookie.name_value_trimmed() == ("a", trimmed), "{row}");
+        assert!(rt; is_trimmed(row), "{row}");
     }
 }

@@ -160,13 +160,24 @@ fn is_debugged(alloc: Global, jar: &CookieJar) -> bool {
     }
 }
 
+fn is_new_debugged(alloc: Global) -> bool {
+    is_debugged(alloc, &CookieJar::new(alloc))
+}
+
+fn keeps_track(alloc: Global) -> Result<bool, AllocError> {
+    Ok(
+        lent(CookieJar::new(alloc), tells_no_originals)?
+            && lent(CookieJar::new(alloc), shows_changes)?
+            && lent(CookieJar::new(alloc), forgets_changes)?,
+    )
+}
+
 // The view is the overlay, and the delta what an answer has to tell.
 #[test]
-fn keeps_track_of_changes(rt: HostRuntime) {
-    assert!(rt; lent(CookieJar::new(rt.alloc()), tells_no_originals).unwrap_or(false));
-    assert!(rt; lent(CookieJar::new(rt.alloc()), shows_changes).unwrap_or(false));
-    assert!(rt; lent(CookieJar::new(rt.alloc()), forgets_changes).unwrap_or(false));
-    assert!(rt; is_debugged(rt.alloc(), &CookieJar::new(rt.alloc())));
+fn keeps_track_of_changes(rt: HostRuntime) -> Result<(), AllocError> {
+    assert!(rt; keeps_track(rt.alloc())?);
+    assert!(rt; is_new_debugged(rt.alloc()));
+    Ok(())
 }
 
 fn add_and_remove(jar: &mut CookieJar) -> Result<(), AllocError> {
@@ -235,12 +246,18 @@ mod memory {
         settled(jar, done, "a", "1", "-")
     }
 
+    fn changes(alloc: Global) -> Result<bool, AllocError> {
+        Ok(
+            lent(CookieJar::new(alloc), adds_an_original)?
+                && lent(CookieJar::new(alloc), adds)?
+                && lent(CookieJar::new(alloc), removes)?
+                && lent(CookieJar::new(alloc), copies)?,
+        )
+    }
+
     #[test]
     fn cookies(rt: HostRuntime) -> Result<(), AllocError> {
-        assert!(rt; lent(CookieJar::new(rt.alloc()), adds_an_original)?);
-        assert!(rt; lent(CookieJar::new(rt.alloc()), adds)?);
-        assert!(rt; lent(CookieJar::new(rt.alloc()), removes)?);
-        assert!(rt; lent(CookieJar::new(rt.alloc()), copies)?);
+        assert!(rt; changes(rt.alloc())?);
         Ok(())
     }
 }

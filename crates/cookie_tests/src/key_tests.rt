@@ -100,25 +100,64 @@ fn is_key(key: &Key, digits: &str) -> bool {
 const DERIVED: &str = "0384c7d1f767d621e8b8ff5c3cbb99ee33e62ab8aeef64a79e2b2c090ba4c646\
 d67399661c7296e81f7fb7a730323210f33185d3f1086276ab0219c787f92024";
 
+// Whether this key is read of the bytes, of no fewer, and is no other.
+fn is_key_of(key: &Key, bytes: &[u8; 65]) -> bool {
+    is_equal(Key::try_from(&bytes[..64]), key)
+        && is_short(Key::try_from(&bytes[..63]), 63)
+        && is_short(Key::try_from(&bytes[..0]), 0)
+        && *key != zero_key()
+}
+
+fn is_equal(read: Result<Key, KeyError>, key: &Key) -> bool {
+    match read {
+        Ok(read) => read == *key,
+        Err(_) => false,
+    }
+}
+
+fn is_short(read: Result<Key, KeyError>, length: usize) -> bool {
+    match read {
+        Ok(_) => false,
+        Err(error) => error == KeyError::TooShort(length),
+    }
+}
+
+fn is_copied(key: &Key) -> bool {
+    match key.clone() {
+        Ok(copy) => copy == *key,
+        Err(_) => false,
+    }
+}
+
+fn has_halves(key: &Key, bytes: &[u8; 64]) -> bool {
+    key.master().as_slice() == bytes.as_slice()
+        && key.signing().as_slice() == [1; 32].as_slice()
+        && key.encryption().as_slice() == [2; 32].as_slice()
+}
+
+fn halves() -> [u8; 64] {
+    let mut bytes = [1; 64];
+    bytes[32..].copy_from_slice(&[2; 32]);
+    bytes
+}
+
+fn is_derived(derived: Result<Key, KeyError>) -> bool {
+    match derived {
+        Ok(key) => is_key(&key, DERIVED),
+        Err(_) => false,
+    }
+}
+
 // Bytes from outside are a key where there are enough of them.
 #[test]
 fn keys_of_bytes(rt: HostRuntime) {
-    let bytes = [7; 65];
-    let key = Key::from(&bytes);
-    assert!(rt; Key::try_from(&bytes[..63]) == Err(KeyError::TooShort(63)));
-    assert!(rt; Key::try_from(&bytes[..0]) == Err(KeyError::TooShort(0)));
-    assert!(rt; Key::try_from(&bytes[..64]).is_ok_and(|read| read == key));
-    assert!(rt; key != zero_key());
-    assert!(rt; key.clone().is_ok_and(|copy| copy == key));
-    let mut bytes = [1; 64];
-    bytes[32..].copy_from_slice(&[2; 32]);
-    let key = Key::from(&bytes);
-    assert!(rt; key.master().as_slice() == bytes.as_slice());
-    assert!(rt; key.signing().as_slice() == [1; 32].as_slice());
-    assert!(rt; key.encryption().as_slice() == [2; 32].as_slice());
+    let key = Key::from(&[7; 65]);
+    assert!(rt; is_key_of(&key, &[7; 65]));
+    assert!(rt; is_copied(&key));
+    assert!(rt; has_halves(&Key::from(&halves()), &halves()));
     assert!(rt; is_key(&Key::derive_from(&[0; 32]), DERIVED));
-    assert!(rt; Key::try_derive_from(&[0; 32]).is_ok_and(|key| is_key(&key, DERIVED)));
-    assert!(rt; Key::try_derive_from(&[0; 31]) == Err(KeyError::TooShort(31)));
+    assert!(rt; is_derived(Key::try_derive_from(&[0; 32])));
+    assert!(rt; is_short(Key::try_derive_from(&[0; 31]), 31));
 }
 
 // RFC 8439, appendix A.1, test vector 1: ChaCha20's first block under the key of zeros.
@@ -233,16 +272,25 @@ what do ya want for nothing?\n\
 \x20AAAAAAAAAAAAAAAAUw+K+8dFNrmpY7TxxMtziw==\n\
 ";
 
+fn is_sealed(text: Result<String, PrivateError>) -> bool {
+    match text {
+        Ok(text) => text.as_str() == SEALED,
+        Err(_) => false,
+    }
+}
+
+fn seals_and_opens(alloc: Global, key: &Key) -> bool {
+    is_sealed(sealed_text(alloc, key, "", "", &[0; 12]))
+        && is_sealed(sealed_by(alloc, key, "", "", &mut counter(0, false)))
+        && opens_as(alloc, key, "", SEALED, Some(""))
+        && opens_as(alloc, key, "", SEALED_LETTERS, Some("abc"))
+}
+
 #[test]
 fn seals_as_the_specification_of_gcm(rt: HostRuntime) {
     let alloc = rt.alloc();
     let key = zero_key();
-    let text = sealed_text(alloc, &key, "", "", &[0; 12]);
-    assert!(rt; text.is_ok_and(|text| text.as_str() == SEALED));
-    let text = sealed_by(alloc, &key, "", "", &mut counter(0, false));
-    assert!(rt; text.is_ok_and(|text| text.as_str() == SEALED));
-    assert!(rt; opens_as(alloc, &key, "", SEALED, Some("")));
-    assert!(rt; opens_as(alloc, &key, "", SEALED_LETTERS, Some("abc")));
+    assert!(rt; seals_and_opens(alloc, &key));
     for text in NO_SEALINGS.split('\n') {
         assert!(rt; opens_as(alloc, &key, "", text, None), "{text}");
     }

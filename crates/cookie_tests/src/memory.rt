@@ -5,19 +5,37 @@
 use crate::key_tests::{DATA, SEALED, SIGNED, jefe, zero_key};
 use cookie::PrivateError;
 use cookie::secure::{opened_value, sealed_text, signed_text};
-use cookie_text::{Cookie, ParseError, SplitCookies};
+use cookie_text::{Cookie, CookieBuilder, ParseError, SplitCookies};
 use std::alloc::{AllocError, Global};
 
 const TEXT: &str = "a%20b=%31; Path=/; Domain=x.com";
 
+fn has_pair(cookie: &Cookie<'_>, name: &str, value: &str) -> bool {
+    cookie.name_value() == (name, value)
+}
+
+fn has_path(cookie: &Cookie<'_>, name: &str, value: &str) -> bool {
+    has_pair(cookie, name, value) && cookie.path() == Some("/")
+}
+
+// Whether the cookie that was read has this pair and the text's path.
+fn is_read(
+    read: Result<Cookie<'_>, ParseError>,
+    name: &str,
+    value: &str,
+) -> Result<bool, ParseError> {
+    match read {
+        Ok(cookie) => Ok(has_path(&cookie, name, value)),
+        Err(error) => Err(error),
+    }
+}
+
 fn decodes(alloc: Global) -> Result<bool, ParseError> {
-    let cookie = Cookie::parse_encoded(alloc, TEXT)?;
-    Ok(cookie.name_value() == ("a b", "1") && cookie.path() == Some("/"))
+    is_read(Cookie::parse_encoded(alloc, TEXT), "a b", "1")
 }
 
 fn reads_in_own_memory(alloc: Global) -> Result<bool, ParseError> {
-    let cookie = Cookie::from_str(alloc, TEXT)?;
-    Ok(cookie.name_value() == ("a%20b", "%31") && cookie.path() == Some("/"))
+    is_read(Cookie::from_str(alloc, TEXT), "a%20b", "%31")
 }
 
 // A copy of the text.
@@ -26,53 +44,85 @@ fn copy_of(alloc: Global, text: &str) -> Result<String, ParseError> {
 }
 
 fn reads_owned(alloc: Global) -> Result<bool, ParseError> {
-    let cookie = Cookie::parse_owned(alloc, copy_of(alloc, TEXT)?)?;
-    Ok(cookie.name_value() == ("a%20b", "%31") && cookie.path() == Some("/"))
+    is_read(
+        Cookie::parse_owned(alloc, copy_of(alloc, TEXT)?),
+        "a%20b",
+        "%31",
+    )
 }
 
 fn decodes_owned(alloc: Global) -> Result<bool, ParseError> {
-    let cookie = Cookie::parse_encoded_owned(alloc, copy_of(alloc, TEXT)?)?;
-    Ok(cookie.name_value() == ("a b", "1") && cookie.path() == Some("/"))
+    is_read(
+        Cookie::parse_encoded_owned(alloc, copy_of(alloc, TEXT)?),
+        "a b",
+        "1",
+    )
 }
 
-// Whether the next outcome is the cookie of this name and value.
+// Whether the outcome is the cookie of this name and value.
+fn is_pair(
+    outcome: Result<Cookie<'_>, ParseError>,
+    name: &str,
+    value: &str,
+) -> Result<bool, ParseError> {
+    match outcome {
+        Ok(cookie) => Ok(has_pair(&cookie, name, value)),
+        Err(error) => Err(error),
+    }
+}
+
+// The same of the next outcome.
 fn is_next(outcomes: &mut SplitCookies<'_>, name: &str, value: &str) -> Result<bool, ParseError> {
     match outcomes.next() {
-        Some(outcome) => Ok(outcome?.name_value() == (name, value)),
+        Some(outcome) => is_pair(outcome, name, value),
         None => Ok(false),
     }
 }
 
-// Both outcomes come, and only one growth is refused: at most one is want of memory.
-fn gives_both(outcomes: SplitCookies<'_>, first: &str, second: &str) -> Result<bool, ParseError> {
-    let mut outcomes = outcomes;
-    let first = is_next(&mut outcomes, "a", first);
-    let second = is_next(&mut outcomes, "b", second);
-    let ended = outcomes.next().is_none();
+// Only one growth is refused: at most one is want of memory.
+fn are_both(
+    first: Result<bool, ParseError>,
+    second: Result<bool, ParseError>,
+) -> Result<bool, ParseError> {
     match (first, second) {
-        (Ok(first), Ok(second)) => Ok(first && second && ended),
-        (Ok(true), Err(error)) => if ended { Err(error) } else { Ok(false) },
-        (Err(error), Ok(true)) => if ended { Err(error) } else { Ok(false) },
+        (Ok(first), Ok(second)) => Ok(first && second),
+        (Ok(true), Err(error)) => Err(error),
+        (Err(error), Ok(true)) => Err(error),
         _ => Ok(false),
+    }
+}
+
+// Both outcomes come, and no other.
+fn gives_both(
+    outcomes: &mut SplitCookies<'_>,
+    first: &str,
+    second: &str,
+) -> Result<bool, ParseError> {
+    let first = is_next(outcomes, "a", first);
+    let second = is_next(outcomes, "b", second);
+    if outcomes.next().is_none() {
+        are_both(first, second)
+    } else {
+        Ok(false)
     }
 }
 
 const PAIRS: &str = "a=%31; ; b=%32";
 
 fn splits_escaped(alloc: Global) -> Result<bool, ParseError> {
-    gives_both(Cookie::split_parse_encoded(alloc, PAIRS), "1", "2")
+    gives_both(&mut Cookie::split_parse_encoded(alloc, PAIRS), "1", "2")
 }
 
 fn splits_owned(alloc: Global) -> Result<bool, ParseError> {
     match Cookie::split_parse_owned(alloc, copy_of(alloc, PAIRS)?) {
-        Ok(outcomes) => gives_both(outcomes, "%31", "%32"),
+        Ok(mut outcomes) => gives_both(&mut outcomes, "%31", "%32"),
         Err(_) => Err(ParseError::OutOfMemory),
     }
 }
 
 fn splits_escaped_owned(alloc: Global) -> Result<bool, ParseError> {
     match Cookie::split_parse_encoded_owned(alloc, copy_of(alloc, PAIRS)?) {
-        Ok(outcomes) => gives_both(outcomes, "1", "2"),
+        Ok(mut outcomes) => gives_both(&mut outcomes, "1", "2"),
         Err(_) => Err(ParseError::OutOfMemory),
     }
 }
@@ -84,41 +134,66 @@ fn placed() -> Cookie<'static> {
     cookie
 }
 
-fn owns(alloc: Global) -> Result<bool, AllocError> {
-    Ok(placed().into_owned(alloc)? == placed())
+fn is_as_placed(cookie: &Cookie<'_>) -> bool {
+    *cookie == placed()
 }
 
-fn is_copied(alloc: Global, cookie: &Cookie<'_>) -> Result<bool, AllocError> {
-    Ok(cookie.clone(alloc)? == placed())
+// Whether what was made is that cookie.
+fn is_placed(made: Result<Cookie<'_>, AllocError>) -> Result<bool, AllocError> {
+    match made {
+        Ok(cookie) => Ok(is_as_placed(&cookie)),
+        Err(error) => Err(error),
+    }
+}
+
+fn owns(alloc: Global) -> Result<bool, AllocError> {
+    is_placed(placed().into_owned(alloc))
 }
 
 // A cookie of which no copy could be made is as it was.
+fn is_copied(alloc: Global, cookie: &Cookie<'_>) -> Result<bool, AllocError> {
+    let copied = is_placed(cookie.clone(alloc));
+    if is_as_placed(cookie) {
+        copied
+    } else {
+        Ok(false)
+    }
+}
+
 fn copies(alloc: Global) -> Result<bool, AllocError> {
-    let owned = placed().into_owned(alloc)?;
-    let copied = is_copied(alloc, &owned);
-    if owned == placed() { copied } else { Ok(false) }
+    is_copied(alloc, &placed().into_owned(alloc)?)
+}
+
+fn is_built(alloc: Global, builder: &CookieBuilder<'_>) -> Result<bool, AllocError> {
+    match builder.clone(alloc) {
+        Ok(copy) => Ok(is_as_placed(&copy.build())),
+        Err(error) => Err(error),
+    }
 }
 
 fn copies_a_builder(alloc: Global) -> Result<bool, AllocError> {
-    let builder = Cookie::build(placed().into_owned(alloc)?);
-    Ok(builder.clone(alloc)?.build() == placed())
+    is_built(alloc, &Cookie::build(placed().into_owned(alloc)?))
 }
 
 const PLACED: &str = "a=1; Path=/; Domain=x.com";
 
-fn prints_escaped(alloc: Global) -> Result<bool, AllocError> {
-    let escaped = Cookie::new("a b", "1;").encoded().to_string(alloc)?;
+fn is_escaped(alloc: Global, cookie: &Cookie<'_>) -> Result<bool, AllocError> {
+    let escaped = cookie.encoded().to_string(alloc)?;
     Ok(escaped.as_str() == "a%20b=1%3B")
 }
 
-fn write_placed(text: &mut String) -> Result<(), AllocError> {
-    write!(text, "{}", placed())?;
+fn prints_escaped(alloc: Global) -> Result<bool, AllocError> {
+    is_escaped(alloc, &Cookie::new("a b", "1;"))
+}
+
+fn write_cookie(text: &mut String, cookie: &Cookie<'_>) -> Result<(), AllocError> {
+    write!(text, "{cookie}")?;
     Ok(())
 }
 
 fn prints_at_the_end(alloc: Global) -> Result<bool, AllocError> {
     let mut text = String::new(alloc);
-    write_placed(&mut text)?;
+    write_cookie(&mut text, &placed())?;
     Ok(text.as_str() == PLACED)
 }
 
@@ -135,33 +210,44 @@ fn opens(alloc: Global) -> Result<bool, AllocError> {
     Ok(opened_value(alloc, &zero_key(), "", SEALED)?.as_deref() == Some(""))
 }
 
+fn reads(alloc: Global) -> Result<bool, ParseError> {
+    Ok(
+        decodes(alloc)?
+            && reads_in_own_memory(alloc)?
+            && reads_owned(alloc)?
+            && decodes_owned(alloc)?,
+    )
+}
+
 #[test]
 fn cookies_are_read(rt: HostRuntime) -> Result<(), ParseError> {
-    let alloc = rt.alloc();
-    assert!(rt; decodes(alloc)?);
-    assert!(rt; reads_in_own_memory(alloc)?);
-    assert!(rt; reads_owned(alloc)?);
-    assert!(rt; decodes_owned(alloc)?);
+    assert!(rt; reads(rt.alloc())?);
     Ok(())
+}
+
+fn splits(alloc: Global) -> Result<bool, ParseError> {
+    Ok(splits_escaped(alloc)? && splits_owned(alloc)? && splits_escaped_owned(alloc)?)
 }
 
 #[test]
 fn texts_are_split(rt: HostRuntime) -> Result<(), ParseError> {
-    let alloc = rt.alloc();
-    assert!(rt; splits_escaped(alloc)?);
-    assert!(rt; splits_owned(alloc)?);
-    assert!(rt; splits_escaped_owned(alloc)?);
+    assert!(rt; splits(rt.alloc())?);
     Ok(())
+}
+
+fn copies_and_prints(alloc: Global) -> Result<bool, AllocError> {
+    Ok(
+        owns(alloc)?
+            && copies(alloc)?
+            && copies_a_builder(alloc)?
+            && prints_escaped(alloc)?
+            && prints_at_the_end(alloc)?,
+    )
 }
 
 #[test]
 fn cookies_are_copied_and_printed(rt: HostRuntime) -> Result<(), AllocError> {
-    let alloc = rt.alloc();
-    assert!(rt; owns(alloc)?);
-    assert!(rt; copies(alloc)?);
-    assert!(rt; copies_a_builder(alloc)?);
-    assert!(rt; prints_escaped(alloc)?);
-    assert!(rt; prints_at_the_end(alloc)?);
+    assert!(rt; copies_and_prints(rt.alloc())?);
     Ok(())
 }
 

@@ -6,9 +6,11 @@ use test_kit::prints;
 
 // What holds of the names of any prefix: `whole` is it and `sid`.
 fn names<P: Prefix>(alloc: Global, whole: &str) -> Result<bool, AllocError> {
-    let name = P::prefixed_name(alloc, "sid")?;
-    let plain = P::clip(alloc, Cookie::new("sid", "1"))?;
-    Ok(name.as_str() == whole && plain.name() == "sid")
+    Ok(is_whole::<P>(alloc, whole)? && clips::<P>(alloc, Cookie::new("sid", "1"))?)
+}
+
+fn is_whole<P: Prefix>(alloc: Global, whole: &str) -> Result<bool, AllocError> {
+    Ok(P::prefixed_name(alloc, "sid")?.as_str() == whole)
 }
 
 fn prefixes<P: Prefix>(alloc: Global, whole: &str) -> Result<bool, AllocError> {
@@ -88,10 +90,20 @@ fn holds<P: Prefix + Copy>(
         names::<P>(alloc, whole)?
             && prefixes::<P>(alloc, whole)?
             && applies::<P>(alloc, line)?
-            && lent(CookieJar::new(alloc), |jar| adds(alloc, jar, prefix, line))?
-            && lent(CookieJar::new(alloc), |jar| reads(jar, prefix, whole))?
-            && lent(CookieJar::new(alloc), |jar| removes(jar, prefix))?,
+            && holds_in_jars(alloc, prefix, whole, line)?,
     )
+}
+
+fn holds_in_jars<P: Prefix + Copy>(
+    alloc: Global,
+    prefix: P,
+    whole: &str,
+    line: &str,
+) -> Result<bool, AllocError> {
+    let added = lent(CookieJar::new(alloc), |jar| adds(alloc, jar, prefix, line))?;
+    let read = lent(CookieJar::new(alloc), |jar| reads(jar, prefix, whole))?;
+    let removed = lent(CookieJar::new(alloc), |jar| removes(jar, prefix))?;
+    Ok(added && read && removed)
 }
 
 // A cookie as it conforms to the prefix.
@@ -104,14 +116,15 @@ fn conforms_to_host(alloc: Global) -> bool {
 }
 
 #[test]
-fn puts_prefixes_before_names(rt: HostRuntime) {
+fn puts_prefixes_before_names(rt: HostRuntime) -> Result<(), AllocError> {
     let alloc = rt.alloc();
     let line = "__Host-sid=1; Secure; Path=/";
-    assert!(rt; holds(alloc, Host, "__Host-sid", line).unwrap_or(false));
+    assert!(rt; holds(alloc, Host, "__Host-sid", line)?);
     let line = "__Secure-sid=1; Secure";
-    assert!(rt; holds(alloc, Secure, "__Secure-sid", line).unwrap_or(false));
+    assert!(rt; holds(alloc, Secure, "__Secure-sid", line)?);
     assert!(rt; conforms_to_host(alloc));
     assert!(rt; Host::PREFIX == "__Host-" && Secure::PREFIX == "__Secure-");
+    Ok(())
 }
 
 // Calls with a growth refused at any place, and with ample memory.

@@ -5,33 +5,55 @@ use jiff::civil::DateTime;
 use std::alloc::{AllocError, Global};
 use test_kit::prints;
 
+fn built() -> CookieBuilder<'static> {
+    Cookie::build(Cookie::new("foo", "bar")).same_site(SameSite::None)
+}
+
+// Whether a cookie that is set so prints this.
+fn prints_set(alloc: Global, cookie: &mut Cookie<'_>, secure: bool, wanted: &str) -> bool {
+    cookie.set_secure(Some(secure));
+    prints(alloc, cookie, wanted)
+}
+
+fn prints_partitioned(alloc: Global, cookie: &mut Cookie<'_>) -> bool {
+    cookie.set_partitioned(Some(true));
+    let wanted = "foo=bar; SameSite=Strict; Partitioned; Secure";
+    prints_set(alloc, cookie, false, wanted)
+}
+
+fn prints_strict(alloc: Global, cookie: &mut Cookie<'_>) -> bool {
+    cookie.set_same_site(Some(SameSite::Strict));
+    prints(alloc, cookie, "foo=bar; SameSite=Strict; Secure")
+}
+
+fn prints_unset(alloc: Global, cookie: &mut Cookie<'_>) -> bool {
+    cookie.set_partitioned(Some(false));
+    cookie.set_http_only(Some(false));
+    prints(alloc, cookie, "foo=bar; SameSite=Strict")
+}
+
+fn prints_as_set(alloc: Global, cookie: &mut Cookie<'_>) -> bool {
+    prints(alloc, cookie, "foo=bar; SameSite=None; Secure")
+        && prints_set(alloc, cookie, false, "foo=bar; SameSite=None")
+        && prints_set(alloc, cookie, true, "foo=bar; SameSite=None; Secure")
+        && prints_strict(alloc, cookie)
+        && prints_partitioned(alloc, cookie)
+        && prints_unset(alloc, cookie)
+}
+
+fn prints_built(alloc: Global) -> bool {
+    prints(alloc, &built(), "foo=bar; SameSite=None; Secure")
+}
+
+fn sets_built(alloc: Global) -> bool {
+    prints_as_set(alloc, &mut built().build())
+}
+
 // `Secure` where it is true, or `SameSite=None` stands and nothing is said of it, or `Partitioned`.
 #[test]
 fn prints_secure(rt: HostRuntime) {
-    let alloc = rt.alloc();
-    let base = Cookie::new("foo", "bar");
-    let builder = Cookie::build(base).same_site(SameSite::None);
-    assert!(rt; prints(alloc, &builder, "foo=bar; SameSite=None; Secure"));
-    let mut cookie = builder.build();
-    assert!(rt; prints(alloc, &cookie, "foo=bar; SameSite=None; Secure"));
-    cookie.set_secure(Some(false));
-    assert!(rt; prints(alloc, &cookie, "foo=bar; SameSite=None"));
-    cookie.set_secure(Some(true));
-    assert!(rt; prints(alloc, &cookie, "foo=bar; SameSite=None; Secure"));
-    cookie.set_same_site(Some(SameSite::Strict));
-    assert!(rt; prints(alloc, &cookie, "foo=bar; SameSite=Strict; Secure"));
-    cookie.set_secure(Some(false));
-    cookie.set_partitioned(Some(true));
-    assert!(rt;
-        prints(
-            alloc,
-            &cookie,
-            "foo=bar; SameSite=Strict; Partitioned; Secure"
-        )
-    );
-    cookie.set_partitioned(Some(false));
-    cookie.set_http_only(Some(false));
-    assert!(rt; prints(alloc, &cookie, "foo=bar; SameSite=Strict"));
+    assert!(rt; prints_built(rt.alloc()));
+    assert!(rt; sets_built(rt.alloc()));
 }
 
 // Whether a cookie with this max-age prints it so.
@@ -78,35 +100,41 @@ fn prints_lengths_and_ends(rt: HostRuntime) {
 fn prints_views(alloc: Global, cookie: &Cookie<'_>) -> bool {
     let both = "my%20name=this%3B%20value%3F";
     prints(alloc, cookie, "my name=this; value?; Secure")
-        && prints(
-            alloc,
-            &cookie.encoded(),
-            "my%20name=this%3B%20value%3F; Secure",
-        )
+        && prints_encoded(alloc, cookie, "my%20name=this%3B%20value%3F; Secure")
         && prints(alloc, &cookie.stripped(), "my name=this; value?")
         && prints(alloc, &cookie.stripped().encoded(), both)
         && prints(alloc, &cookie.encoded().stripped(), both)
 }
 
+fn named() -> CookieBuilder<'static> {
+    CookieBuilder::new("my name", "this; value?").secure(true)
+}
+
+fn prints_encoded(alloc: Global, cookie: &Cookie<'_>, wanted: &str) -> bool {
+    prints(alloc, &cookie.encoded(), wanted)
+}
+
+fn views_are_printed(alloc: Global) -> bool {
+    prints_views(alloc, named().inner())
+}
+
+// Whether this pair is escaped so.
+fn prints_pair(alloc: Global, name: &str, value: &str, wanted: &str) -> bool {
+    prints_encoded(alloc, &Cookie::new(name, value), wanted)
+}
+
 #[test]
 fn prints_escaped_and_stripped(rt: HostRuntime) {
-    let builder = CookieBuilder::new("my name", "this; value?").secure(true);
-    assert!(rt; prints_views(rt.alloc(), builder.inner()));
-    assert!(rt;
-        prints(
-            rt.alloc(),
-            &Cookie::new("\u{e9}", "1").encoded(),
-            "%C3%A9=1"
-        )
-    );
-    assert!(rt; prints(rt.alloc(), &SameSite::Strict, "Strict"));
+    let alloc = rt.alloc();
+    assert!(rt; views_are_printed(alloc));
+    assert!(rt; prints_pair(alloc, "\u{e9}", "1", "%C3%A9=1"));
+    assert!(rt; prints(alloc, &SameSite::Strict, "Strict"));
 }
 
 // Whether a text is escaped so, as a name and as a value.
 fn is_escaped(alloc: Global, text: &str, wanted: &str) -> bool {
-    let cookie = Cookie::new(text, text);
     match format!(in alloc; "{wanted}={wanted}") {
-        Ok(wanted) => prints(alloc, &cookie.encoded(), &wanted),
+        Ok(wanted) => prints_pair(alloc, text, text, &wanted),
         Err(_) => false,
     }
 }
@@ -160,13 +188,22 @@ fn digit(number: u8) -> char {
         .unwrap_or('0')
 }
 
-// Whether the escape of the byte reads as that byte, or is refused where it isn't UTF-8 alone.
+fn has_byte(cookie: &Cookie<'_>, byte: u8) -> bool {
+    byte < 128 && cookie.value().as_bytes() == [byte].as_slice()
+}
+
+// Whether that byte was read, or refused where it isn't UTF-8 alone.
+fn is_byte(read: Result<Cookie<'_>, ParseError>, byte: u8) -> bool {
+    match read {
+        Ok(cookie) => has_byte(&cookie, byte),
+        Err(error) => byte >= 128 && error == ParseError::Utf8Error,
+    }
+}
+
+// Whether the escape of the byte reads as that byte.
 fn reads_escape(alloc: Global, byte: u8) -> Result<bool, AllocError> {
     let text = format!(in alloc; "a=%{}{}", digit(byte / 16), digit(byte % 16))?;
-    match Cookie::parse_encoded(alloc, &text) {
-        Ok(cookie) => Ok(byte < 128 && cookie.value().as_bytes() == [byte].as_slice()),
-        Err(error) => Ok(byte >= 128 && error == ParseError::Utf8Error),
-    }
+    Ok(is_byte(Cookie::parse_encoded(alloc, &text), byte))
 }
 
 // Of ASCII those of the profile are escaped, with upper-case digits.
@@ -179,7 +216,7 @@ fn escapes_and_reads_escapes(rt: HostRuntime) -> Result<(), AllocError> {
         assert!(rt; is_escaped(alloc, text, wanted), "{row}");
     }
     for byte in 0..=255u8 {
-        assert!(rt; reads_escape(alloc, byte) == Ok(true), "{byte}");
+        assert!(rt; reads_escape(alloc, byte)?, "{byte}");
     }
     Ok(())
 }

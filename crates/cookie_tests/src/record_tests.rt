@@ -8,93 +8,123 @@ use jiff::civil::DateTime;
 use std::alloc::{AllocError, Global};
 use test_kit::prints;
 
-// Whether the raw forms of name, value, path and domain are these; `-` stands for none.
-fn are_raw(cookie: &Cookie<'_>, name: &str, value: &str, path: &str, domain: &str) -> bool {
-    cookie.name_raw().unwrap_or("-") == name
-        && cookie.value_raw().unwrap_or("-") == value
-        && cookie.path_raw().unwrap_or("-") == path
-        && cookie.domain_raw().unwrap_or("-") == domain
+// Whether the raw forms of name, value, path and domain are these words; `-` stands for none.
+fn are_raw(cookie: &Cookie<'_>, wanted: &str) -> bool {
+    let mut words = wanted.split(' ');
+    words.next() == Some(cookie.name_raw().unwrap_or("-"))
+        && words.next() == Some(cookie.value_raw().unwrap_or("-"))
+        && words.next() == Some(cookie.path_raw().unwrap_or("-"))
+        && words.next() == Some(cookie.domain_raw().unwrap_or("-"))
 }
 
 // Whether the cookie is read and has these raw forms.
-fn is_raw(
-    read: Result<Cookie<'_>, ParseError>,
-    name: &str,
-    value: &str,
-    path: &str,
-    domain: &str,
-) -> bool {
+fn is_raw(read: Result<Cookie<'_>, ParseError>, wanted: &str) -> bool {
     match read {
-        Ok(cookie) => are_raw(&cookie, name, value, path, domain),
+        Ok(cookie) => are_raw(&cookie, wanted),
         Err(_) => false,
     }
 }
 
-// The raw forms are gone where the part was set.
-fn sets_what_was_read(cookie: Cookie<'_>) -> bool {
-    let mut cookie = cookie;
+fn sets_read_name(cookie: &mut Cookie<'_>) -> bool {
     cookie.set_name("a");
-    let name = are_raw(&cookie, "-", "1", "/y", "x");
+    are_raw(cookie, "- 1 /y x")
+}
+
+fn sets_read_value(cookie: &mut Cookie<'_>) -> bool {
     cookie.set_value("1");
-    let value = are_raw(&cookie, "-", "-", "/y", "x");
+    are_raw(cookie, "- - /y x")
+}
+
+fn sets_read_path(cookie: &mut Cookie<'_>) -> bool {
     cookie.set_path("/y");
-    let path = are_raw(&cookie, "-", "-", "-", "x");
+    are_raw(cookie, "- - - x")
+}
+
+fn sets_read_domain(cookie: &mut Cookie<'_>) -> bool {
     cookie.set_domain("x");
-    let domain = are_raw(&cookie, "-", "-", "-", "-");
-    name && value && path && domain
+    are_raw(cookie, "- - - -")
+}
+
+// The raw forms are gone where the part was set.
+fn sets_what_was_read(cookie: &mut Cookie<'_>) -> bool {
+    sets_read_name(cookie)
+        && sets_read_value(cookie)
+        && sets_read_path(cookie)
+        && sets_read_domain(cookie)
+}
+
+// Whether the cookie is the other, with these raw forms.
+fn is_same(cookie: &Cookie<'_>, other: &Cookie<'_>, wanted: &str) -> bool {
+    cookie == other && are_raw(cookie, wanted)
 }
 
 // Whether a copy is the cookie, with its raw forms.
 fn is_copied(alloc: Global, cookie: &Cookie<'_>) -> bool {
     match cookie.clone(alloc) {
-        Ok(copy) => copy == *cookie && are_raw(&copy, "a", "1", "/y", "x"),
+        Ok(copy) => is_same(&copy, cookie, "a 1 /y x"),
         Err(_) => false,
     }
 }
 
-// Whether a cookie that owns its texts is the other, and has no raw form.
-fn is_owned(alloc: Global, cookie: Cookie<'_>, other: &Cookie<'_>) -> bool {
-    match cookie.into_owned(alloc) {
-        Ok(owned) => owned == *other && are_raw(&owned, "-", "-", "-", "-"),
+// Whether what owns its texts is the other, and has no raw form.
+fn is_owned(owned: Result<Cookie<'_>, AllocError>, other: &Cookie<'_>) -> bool {
+    match owned {
+        Ok(owned) => is_same(&owned, other, "- - - -"),
         Err(_) => false,
     }
 }
 
-fn is_copied_and_owned(alloc: Global, cookie: Cookie<'_>, text: &str) -> bool {
+fn owns(alloc: Global, text: &str, other: &Cookie<'_>) -> bool {
     match Cookie::parse(text) {
-        Ok(other) => is_copied(alloc, &other) && is_owned(alloc, cookie, &other),
+        Ok(cookie) => is_owned(cookie.into_owned(alloc), other),
         Err(_) => false,
     }
 }
 
-fn copies(alloc: Global, text: &str) -> bool {
-    match Cookie::parse(text) {
-        Ok(cookie) => is_copied_and_owned(alloc, cookie, text),
+const WITH_PLACE: &str = "a=1; Domain=x; Path=/y";
+
+fn sets_and_copies(alloc: Global, cookie: &mut Cookie<'_>) -> bool {
+    is_copied(alloc, cookie) && owns(alloc, WITH_PLACE, cookie) && sets_what_was_read(cookie)
+}
+
+fn changes_what_was_read(alloc: Global) -> bool {
+    match Cookie::parse(WITH_PLACE) {
+        Ok(mut cookie) => sets_and_copies(alloc, &mut cookie),
         Err(_) => false,
     }
 }
+
+// A text and the raw forms of what is read of it.
+const SLICED: &str = "\x20a = 1 ; Domain=.x.com; Path=/y -> a 1 /y x.com\n\
+\x20a = 1  -> a 1 - -\n\
+a=1; Domain=..x -> a 1 - .x";
+
+// The same with percent-decoding.
+const DECODED: &str = "a=%31 -> - - - -\n\
+a=%31; Path=/y -> - - /y -\n\
+%61=1; Domain=x -> - - - x\n\
+a=%; Path=/y -> a % /y -";
 
 // Raw forms are slices of a borrowed text; name and value are gone where reading decoded either.
 #[test]
 fn hands_out_slices(rt: HostRuntime) {
-    let alloc = rt.alloc();
-    let text = " a = 1 ; Domain=.x.com; Path=/y";
-    assert!(rt; is_raw(Cookie::parse(text), "a", "1", "/y", "x.com"));
-    assert!(rt; is_raw(Cookie::parse(" a = 1 "), "a", "1", "-", "-"));
-    assert!(rt; is_raw(Cookie::parse("a=1; Domain=..x"), "a", "1", "-", ".x"));
-    assert!(rt; is_raw(Cookie::from_str(alloc, text), "-", "-", "-", "-"));
-    let decoded = Cookie::parse_encoded(alloc, "a=%31");
-    assert!(rt; is_raw(decoded, "-", "-", "-", "-"));
-    let decoded = Cookie::parse_encoded(alloc, "a=%31; Path=/y");
-    assert!(rt; is_raw(decoded, "-", "-", "/y", "-"));
-    let decoded = Cookie::parse_encoded(alloc, "%61=1; Domain=x");
-    assert!(rt; is_raw(decoded, "-", "-", "-", "x"));
-    let decoded = Cookie::parse_encoded(alloc, "a=%; Path=/y");
-    assert!(rt; is_raw(decoded, "a", "%", "/y", "-"));
-    assert!(rt; are_raw(&Cookie::new("a", "1"), "-", "-", "-", "-"));
-    let text = "a=1; Domain=x; Path=/y";
-    assert!(rt; Cookie::parse(text).is_ok_and(|cookie| sets_what_was_read(cookie)));
-    assert!(rt; copies(alloc, text));
+    for row in SLICED.split('\n') {
+        let (text, wanted) = row.split_once(" -> ").unwrap_or(("", "no row"));
+        assert!(rt; is_raw(Cookie::parse(text), wanted), "{row}");
+        assert!(rt;
+            is_raw(Cookie::from_str(rt.alloc(), text), "- - - -"),
+            "{row}"
+        );
+    }
+    for row in DECODED.split('\n') {
+        let (text, wanted) = row.split_once(" -> ").unwrap_or(("", "no row"));
+        assert!(rt;
+            is_raw(Cookie::parse_encoded(rt.alloc(), text), wanted),
+            "{row}"
+        );
+    }
+    assert!(rt; are_raw(&Cookie::new("a", "1"), "- - - -"));
+    assert!(rt; changes_what_was_read(rt.alloc()));
 }
 
 // Whether the getters answer what was read.
@@ -118,12 +148,24 @@ fn lasts(cookie: &Cookie<'_>, seconds: i64) -> bool {
     cookie.max_age() == Some(SignedDuration::from_secs(seconds))
 }
 
+fn reads_flags() -> bool {
+    match Cookie::parse("a=1; HttpOnly; Secure; SameSite=Lax; Partitioned") {
+        Ok(cookie) => has_flags(&cookie),
+        Err(_) => false,
+    }
+}
+
+fn reads_place() -> bool {
+    match Cookie::parse("a=1; Path=/x; Domain=.x; Max-Age=5") {
+        Ok(cookie) => has_place(&cookie),
+        Err(_) => false,
+    }
+}
+
 #[test]
 fn has_what_was_read(rt: HostRuntime) {
-    let flags = Cookie::parse("a=1; HttpOnly; Secure; SameSite=Lax; Partitioned");
-    assert!(rt; flags.is_ok_and(|cookie| has_flags(&cookie)));
-    let place = Cookie::parse("a=1; Path=/x; Domain=.x; Max-Age=5");
-    assert!(rt; place.is_ok_and(|cookie| has_place(&cookie)));
+    assert!(rt; reads_flags());
+    assert!(rt; reads_place());
 }
 
 const WHOLE: &str =
@@ -156,36 +198,62 @@ fn unset_attributes(cookie: &mut Cookie<'_>) {
     cookie.set_max_age(None);
 }
 
-// Whether borrowed parts are set and taken away.
-fn sets_borrowed_parts(alloc: Global) -> bool {
-    let mut cookie = Cookie::named("a");
+fn set_texts(cookie: &mut Cookie<'_>) {
     cookie.set_name("b");
     cookie.set_value("2");
     cookie.set_path("/p");
     cookie.set_domain(".d");
-    set_attributes(&mut cookie);
-    let is_whole = prints(alloc, &cookie, WHOLE);
-    unset_attributes(&mut cookie);
-    is_whole && cookie == Cookie::new("b", "2") && cookie.same_site().is_none()
 }
 
-// The same of owned parts.
-fn sets_owned_parts(alloc: Global) -> Result<bool, AllocError> {
+fn is_whole_set(alloc: Global, cookie: &mut Cookie<'_>) -> bool {
+    set_attributes(cookie);
+    prints(alloc, cookie, WHOLE)
+}
+
+fn is_bare(cookie: &mut Cookie<'_>) -> bool {
+    unset_attributes(cookie);
+    *cookie == Cookie::new("b", "2") && cookie.same_site().is_none()
+}
+
+// Whether borrowed parts are set and taken away.
+fn sets_borrowed_parts(alloc: Global, cookie: &mut Cookie<'_>) -> bool {
+    set_texts(cookie);
+    is_whole_set(alloc, cookie) && is_bare(cookie)
+}
+
+fn owned_pair(alloc: Global) -> Result<Cookie<'static>, AllocError> {
     let name = String::from_str(alloc, "x")?;
-    let mut cookie = Cookie::new_owned(name, String::from_str(alloc, "y")?);
-    let is_pair = prints(alloc, &cookie, "x=y");
+    let value = String::from_str(alloc, "y")?;
+    Ok(Cookie::new_owned(name, value))
+}
+
+fn set_owned_texts(alloc: Global, cookie: &mut Cookie<'_>) -> Result<(), AllocError> {
     cookie.set_name_owned(String::from_str(alloc, "b")?);
     cookie.set_value_owned(String::from_str(alloc, "2")?);
     cookie.set_path_owned(String::from_str(alloc, "/p")?);
     cookie.set_domain_owned(String::from_str(alloc, ".d")?);
-    set_attributes(&mut cookie);
-    Ok(is_pair && prints(alloc, &cookie, WHOLE))
+    Ok(())
+}
+
+// The same of owned parts.
+fn sets_owned_parts(alloc: Global, cookie: &mut Cookie<'_>) -> Result<bool, AllocError> {
+    let is_pair = prints(alloc, cookie, "x=y");
+    set_owned_texts(alloc, cookie)?;
+    Ok(is_pair && is_whole_set(alloc, cookie))
+}
+
+fn sets_borrowed(alloc: Global) -> bool {
+    sets_borrowed_parts(alloc, &mut Cookie::named("a"))
+}
+
+fn sets_owned(alloc: Global) -> Result<bool, AllocError> {
+    sets_owned_parts(alloc, &mut owned_pair(alloc)?)
 }
 
 #[test]
 fn sets_parts(rt: HostRuntime) {
-    assert!(rt; sets_borrowed_parts(rt.alloc()));
-    assert!(rt; sets_owned_parts(rt.alloc()) == Ok(true));
+    assert!(rt; sets_borrowed(rt.alloc()));
+    assert!(rt; sets_owned(rt.alloc()).unwrap_or(false));
 }
 
 fn built() -> CookieBuilder<'static> {
@@ -256,16 +324,30 @@ fn cuts_late_expiries() -> bool {
     are_latest && removal == Some(DateTime::MIN) && is_session
 }
 
+fn is_made_permanent(alloc: Global, cookie: &mut Cookie<'_>) -> bool {
+    cookie.make_permanent(new_year());
+    prints(alloc, cookie, PERMANENT)
+}
+
+fn is_made_removal(alloc: Global, cookie: &mut Cookie<'_>) -> bool {
+    cookie.make_removal(new_year());
+    prints(alloc, cookie, REMOVAL)
+}
+
+fn is_made_both(alloc: Global, cookie: &mut Cookie<'_>) -> bool {
+    is_made_permanent(alloc, cookie) && is_made_removal(alloc, cookie)
+}
+
+fn permanent() -> CookieBuilder<'static> {
+    CookieBuilder::new("a", "1").permanent(new_year())
+}
+
 #[test]
 fn makes_permanent_and_removal(rt: HostRuntime) {
-    let mut cookie = Cookie::new("a", "1");
-    cookie.make_permanent(new_year());
-    assert!(rt; prints(rt.alloc(), &cookie, PERMANENT));
-    cookie.make_removal(new_year());
-    assert!(rt; prints(rt.alloc(), &cookie, REMOVAL));
-    let builder = CookieBuilder::new("a", "1").permanent(new_year());
-    assert!(rt; prints(rt.alloc(), builder.inner(), PERMANENT));
-    assert!(rt; prints(rt.alloc(), builder.removal(new_year()).inner(), REMOVAL));
+    let alloc = rt.alloc();
+    assert!(rt; is_made_both(alloc, &mut Cookie::new("a", "1")));
+    assert!(rt; prints(alloc, permanent().inner(), PERMANENT));
+    assert!(rt; prints(alloc, permanent().removal(new_year()).inner(), REMOVAL));
     assert!(rt; cuts_late_expiries());
 }
 
@@ -274,20 +356,46 @@ fn is_named(alloc: Global, error: ParseError, name: &str) -> bool {
     error.as_str() == name && prints(alloc, &error, name)
 }
 
-// The session is after every moment, and mapping leaves it.
-#[test]
-fn orders_expiries_and_names_errors(rt: HostRuntime) {
+// The session is after every moment.
+fn orders_expiries() -> bool {
     let first = Expiration::DateTime(DateTime::MIN);
     let last = Expiration::DateTime(DateTime::MAX);
-    assert!(rt; first < last && last < Expiration::Session);
-    assert!(rt; last.is_datetime() && Expiration::Session.is_session());
-    assert!(rt; last.datetime() == Some(DateTime::MAX));
-    assert!(rt; Expiration::from(None) == Expiration::Session);
-    assert!(rt; last.map(|_| DateTime::MIN) == first);
-    assert!(rt; Expiration::Session.map(|_| DateTime::MIN) == Expiration::Session);
-    assert!(rt; SameSite::Strict.is_strict() && !SameSite::Lax.is_strict());
-    assert!(rt; SameSite::Lax.is_lax() && !SameSite::None.is_lax());
-    assert!(rt; SameSite::None.is_none() && !SameSite::Strict.is_none());
+    first < last && last < Expiration::Session
+}
+
+fn tells_moments() -> bool {
+    let last = Expiration::DateTime(DateTime::MAX);
+    last.is_datetime()
+        && last.datetime() == Some(DateTime::MAX)
+        && Expiration::Session.is_session()
+        && Expiration::from(None) == Expiration::Session
+}
+
+fn at_first(expiration: Expiration) -> Expiration {
+    expiration.map(|_| DateTime::MIN)
+}
+
+// Mapping leaves the session.
+fn maps_moments() -> bool {
+    at_first(Expiration::DateTime(DateTime::MAX)) == Expiration::DateTime(DateTime::MIN)
+        && at_first(Expiration::Session) == Expiration::Session
+}
+
+fn tells_same_sites() -> bool {
+    SameSite::Strict.is_strict()
+        && !SameSite::Lax.is_strict()
+        && SameSite::Lax.is_lax()
+        && !SameSite::None.is_lax()
+        && SameSite::None.is_none()
+        && !SameSite::Strict.is_none()
+}
+
+#[test]
+fn orders_expiries_and_names_errors(rt: HostRuntime) {
+    assert!(rt; orders_expiries());
+    assert!(rt; tells_moments());
+    assert!(rt; maps_moments());
+    assert!(rt; tells_same_sites());
     let alloc = rt.alloc();
     assert!(rt; is_named(alloc, ParseError::MissingPair, "MissingPair"));
     assert!(rt; is_named(alloc, ParseError::EmptyName, "EmptyName"));
