@@ -1,7 +1,9 @@
 -- The parts that the index finds have each row that a request is given; and how many questions that takes.
 use Rattle.std.proofs.Common.{◌≡◌, ◌⊎◌, ◌+◌, ◌-◌, ◌*◌, ◌<◌, ◌≤◌, ◌++◌, ◌||◌, ℕ, ℤ, true, false, List, [], ◌∷◌, length}
-use Rattle.std.proofs.Common.{zero, suc, take, drop, map, get_or, refl, sym, ap, subst, ◌∙◌, inl, inr, arith, true≢false}
-use Rattle.std.specs.Prelude.{Box, Some, None, IsSomeAnd, slice_get, slice_range, option_map, unwrap_or, nat_le, nat_lt, filter}
+use Rattle.std.proofs.Common.{zero, suc, take, drop, map, get_or, refl, sym, ap, subst, ◌∙◌, inl, inr, arith}
+use Rattle.std.proofs.Common.{true≢false}
+use Rattle.std.specs.Prelude.{Box, Some, None, IsSomeAnd, slice_get, slice_range, option_map, unwrap_or, nat_le}
+use Rattle.std.specs.Prelude.{nat_lt, filter}
 use Rattle.std.specs.List.{AllByRecursion, flat_map, list_any}
 use Rattle.std.proofs.lemmas.Bool.{lt-leb, le-ltb, and_left, and_right}
 use Rattle.std.proofs.lemmas.List.Folds.{drop_split}
@@ -106,7 +108,8 @@ picks_parts {A} Is (part ∷ parts) start xs picked up all picks =
     (picks_append Is (slice_range xs start part.0) (drop part.0 xs) [] picked
     (picks_none Is (slice_range xs start part.0) none)
     (subst (λ l. ArePicked Is l picked) (sym (drop_split xs part.0 part.1 within))
-    (picks_behind Is (slice_range xs part.0 part.1) (flat_map (λ p. slice_range xs p.0 p.1) parts) (drop part.1 xs) picked
+    (picks_behind Is (slice_range xs part.0 part.1) (flat_map (λ p. slice_range xs p.0 p.1) parts) (drop part.1 xs)
+    picked
     (λ more. picks_parts Is parts part.1 xs more up.2 later) picks)))
   where
     within : part.0 ≤ part.1
@@ -172,22 +175,23 @@ module _ (rows : List Row) (url : Parts) (now : ℤ) where
 -- ---- one step further
 
 module _ (url : Parts) (now : ℤ) where
-  left : {Z : Type 0} (cookies : List (Box Cookie Z)) (i : ℕ) (cookie : Box Cookie Z) → i < length cookies → cookie ≡ get_or cookies i cookie
+  left : {Z : Type 0} (cookies : List (Box Cookie Z)) (i : ℕ) (cookie : Box Cookie Z) → i < length cookies
+      → cookie ≡ get_or cookies i cookie
       → map stored_in (drop i cookies) ≡ stored_in cookie ∷ map stored_in (drop (i + 1) cookies)
   left cookies i cookie l at =
       at_drop_more (map stored_in) cookies i cookie l
       ∙ ap (λ c. stored_in c ∷ map stored_in (drop (i + 1) cookies)) (sym at)
 
-  pub first_given : {Z : Type 0} (cookies : List (Box Cookie Z)) (i : ℕ) (cookie : Box Cookie Z) (rest : List Row) → i < length cookies
-      → cookie ≡ get_or cookies i cookie → IsGiven (stored_in cookie) url now
+  pub first_given : {Z : Type 0} (cookies : List (Box Cookie Z)) (i : ℕ) (cookie : Box Cookie Z) (rest : List Row)
+      → i < length cookies → cookie ≡ get_or cookies i cookie → IsGiven (stored_in cookie) url now
       → AreGiven (map stored_in (drop (i + 1) cookies)) url now rest
       → AreGiven (map stored_in (drop i cookies)) url now (stored_in cookie ∷ rest)
   first_given cookies i cookie rest l at is picks =
       subst (λ rows. AreGiven rows url now (stored_in cookie ∷ rest)) (sym (left cookies i cookie l at))
       (rest, picks, inl (is, refl))
 
-  pub first_passed : {Z : Type 0} (cookies : List (Box Cookie Z)) (i : ℕ) (cookie : Box Cookie Z) (rest : List Row) → i < length cookies
-      → cookie ≡ get_or cookies i cookie → ¬ (IsGiven (stored_in cookie) url now)
+  pub first_passed : {Z : Type 0} (cookies : List (Box Cookie Z)) (i : ℕ) (cookie : Box Cookie Z) (rest : List Row)
+      → i < length cookies → cookie ≡ get_or cookies i cookie → ¬ (IsGiven (stored_in cookie) url now)
       → AreGiven (map stored_in (drop (i + 1) cookies)) url now rest
       → AreGiven (map stored_in (drop i cookies)) url now rest
   first_passed cookies i cookie rest l at not picks =
@@ -205,7 +209,8 @@ module _ (url : Parts) (now : ℤ) where
 pub rows_of_part : {Z : Type 0} (cookies : List (Box Cookie Z)) (start end : ℕ)
     → map stored_in (slice_range cookies start end) ≡ slice_range (map stored_in cookies) start end
 rows_of_part cookies start end =
-    sym (ap (take (end - start)) (drop-map stored_in start cookies) ∙ take-map stored_in (end - start) (drop start cookies))
+    sym (ap (take (end - start)) (drop-map stored_in start cookies)
+    ∙ take-map stored_in (end - start) (drop start cookies))
 
 -- ---- the parts that are found
 
@@ -217,7 +222,8 @@ are_inside rows start (part ∷ parts) up within zero d l =
     let le = within.0 in
     let e = length-map rows place_of in
     (omega (arith, some), omega (arith, le, e))
-are_inside rows start (part ∷ parts) up within (suc k) d l = are_inside rows part.1 parts up.2 within.1 k d (omega arith)
+are_inside rows start (part ∷ parts) up within (suc k) d l =
+    are_inside rows part.1 parts up.2 within.1 k d (omega arith)
 
 -- ---- how many questions
 

@@ -251,7 +251,8 @@ is_index rows index indexed low = record {
 }
 
 pub row_read : {Z : Type 0} (items : List (Box Cookie Z)) (at : ℕ) (cookie : Box Cookie Z)
-    → at < length (map stored_in items) → cookie ≡ get_or items at cookie → slice_get (map stored_in items) at ≡ Some (stored_in cookie)
+    → at < length (map stored_in items) → cookie ≡ get_or items at cookie
+    → slice_get (map stored_in items) at ≡ Some (stored_in cookie)
 row_read items at cookie within read =
     slice_get-map stored_in items at
     ∙ ap (option_map stored_in)

@@ -1,6 +1,6 @@
 -- What private functions answer. No public contract names a word of this file.
-use Rattle.std.specs.Prelude.{◌≡◌, ◌≢◌, ◌⊎◌, ◌≤◌, ℕ, ℤ, List, Option, Some, None, Ok, Err, Result, IsSomeAnd, MatchResult}
-use Rattle.std.specs.Prelude.{if◌then◌else◌, Bool, true, [], ◌∷◌, ◌++◌, All, length, slice_range}
+use Rattle.std.specs.Prelude.{◌≡◌, ◌≢◌, ◌⊎◌, ◌≤◌, ℕ, ℤ, List, Option, Some, None, Ok, Err, Result, IsSomeAnd}
+use Rattle.std.specs.Prelude.{MatchResult, if◌then◌else◌, Bool, true, [], ◌∷◌, ◌++◌, All, length, slice_range}
 use Rattle.std.specs.List.{flat_map, list_any}
 use Rattle.std.specs.Str.{IsUtf8}
 use Rattle.std.specs.Str.Lines.{lines}

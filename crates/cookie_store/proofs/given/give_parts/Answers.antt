@@ -17,7 +17,8 @@ loop-part-preserved c = λ rest picks.
     let i = c.loop-part.part-index in
     let part = get_or parts i (0, 0) in
     let old = map shown c.loop-part.given.items in
-    let gives : GivesMore (map stored_in (slice_range c.args.cookies.now part.0 part.1)) url now old (map shown c.give.new.given.items) =
+    let gives : GivesMore (map stored_in (slice_range c.args.cookies.now part.0 part.1)) url now old
+    (map shown c.give.new.given.items) =
     c.in_ok-give.ensures in
     let own = gives.0 in
     subst (AreGiven (rows_in parts rows) url now)
@@ -34,4 +35,5 @@ returns c =
     subst (AreGiven (rows_in c.args.parts.now rows) url now) (append-nil (map shown c.loop-part.given.items))
     (c.loop-part.invariant []
     (subst (λ those. AreGiven those url now [])
-    (sym (at_drop_all (λ parts. rows_in parts rows) c.args.parts.now c.loop-part.part-index c.loop-part-test.false)) refl))
+    (sym (at_drop_all (λ parts. rows_in parts rows) c.args.parts.now c.loop-part.part-index c.loop-part-test.false))
+    refl))

@@ -19,7 +19,8 @@ invariant_of-self c =
     let old = c.index_mut.result.now in
     let there = subst (λ r. StandsAt k r (Some at)) (sym c.self.view_is) c.in-Some.ensures.at in
     subst (λ r. IsIndexed r c.self.inside.index)
-    (sym (map-set stored_in items at (with_value old c.expire.new.self) ∙ ap (set rows at) (c.expire.ensures ∙ ap (λ k. expired (stored_of k)) c.deref_mut.ensures.value)))
+    (sym (map-set stored_in items at (with_value old c.expire.new.self)
+    ∙ ap (set rows at) (c.expire.ensures ∙ ap (λ k. expired (stored_of k)) c.deref_mut.ensures.value)))
     (set_indexed (expired (stored_in old)) rows at (stored_in old)
     (read_there k items at there old c.index_mut.ensures.value) (has_own_key (stored_in old)) c.self.inside.index
     c.self.invariant)
@@ -38,7 +39,8 @@ returns-in-Some c =
     (subst (λ o. MatchOption o (new ≡ rows) (λ row. new ≡ put (expired row) rows))
     (sym (found_there k rows at (stored_in old) c.self.invariant.apart is
     (key_there k items at there old c.index_mut.ensures.value)))
-    (map-set stored_in items at (with_value old c.expire.new.self) ∙ ap (set rows at) (c.expire.ensures ∙ ap (λ k. expired (stored_of k)) c.deref_mut.ensures.value)
+    (map-set stored_in items at (with_value old c.expire.new.self)
+    ∙ ap (set rows at) (c.expire.ensures ∙ ap (λ k. expired (stored_of k)) c.deref_mut.ensures.value)
     ∙ set_there (expired (stored_in old)) rows at (stored_in old) is (has_own_key (stored_in old))
     c.self.invariant.apart))
 

@@ -19,7 +19,8 @@ returns-in_default-clause-given g c =
 
 pub find-requires : goal.find-requires
 find-requires g c =
-    let v = c.self.inside.cookies in is_index (map stored_in v.items) c.self.inside.index c.self.invariant (fits stored_in v)
+    let v = c.self.inside.cookies in
+    is_index (map stored_in v.items) c.self.inside.index c.self.invariant (fits stored_in v)
 
 pub returns-in_err-parts-clause-looks : goal.returns-in_err-parts-clause-looks
 returns-in_err-parts-clause-looks g c =

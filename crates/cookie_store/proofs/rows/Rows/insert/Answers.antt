@@ -24,8 +24,9 @@ insert-requires c =
     let counted = c.len-rows.ensures ∙ c.reserve.ensures.len ∙ v.ok.0 ∙ sym (length-map v.items stored_in) in
     let domain = c.domain_text.ensures ∙ ap (λ k. domain_text (stored_of k)) c.deref.ensures in
     let path = c.as_str.ensures ∙ ap (λ k. (stored_of k).path.text) c.deref-2.ensures in
-    let within = insert_within row (map stored_in v.items) c.in_ok-at.at c.self.inside.index c.put.new.self c.self.invariant
-    _ c.len-rows.result (λ i. record { domain = domain i; path = path i }) counted c.in_ok-at.ensures.ok in
+    let within = insert_within row (map stored_in v.items) c.in_ok-at.at c.self.inside.index c.put.new.self
+    c.self.invariant _ c.len-rows.result (λ i. record { domain = domain i; path = path i }) counted
+    c.in_ok-at.ensures.ok in
     let rows = c.len-rows.ensures in
     omega (arith, within, rows)
 

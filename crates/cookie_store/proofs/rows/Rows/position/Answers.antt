@@ -10,7 +10,8 @@ use Rattle.cookie_store.proofs.rows.Rows.position.Goals as goal
 
 pub part-requires : goal.part-requires
 part-requires c =
-    let v = c.self.inside.cookies in is_index (map stored_in v.items) c.self.inside.index c.self.invariant (fits stored_in v)
+    let v = c.self.inside.cookies in
+    is_index (map stored_in v.items) c.self.inside.index c.self.invariant (fits stored_in v)
 
 pub returns-in_err-start-clause-at : goal.returns-in_err-start-clause-at
 returns-in_err-start-clause-at c =

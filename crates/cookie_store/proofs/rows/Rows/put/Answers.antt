@@ -21,7 +21,8 @@ invariant_of-self c =
     (subst (λ r. StandsAt (key_of new) r (Some at)) (sym c.self.view_is)
     (subst (λ k. StandsAt k c.args.self.now (Some at))
     (λ i. key (c.domain_text.ensures i) (c.as_str.ensures i) (named i)) c.in-Some.ensures.at)) in
-    subst (λ r. IsIndexed r c.self.inside.index) (sym (map-set stored_in items at (with_value c.index_mut.result.now c.args.cookie)))
+    subst (λ r. IsIndexed r c.self.inside.index)
+    (sym (map-set stored_in items at (with_value c.index_mut.result.now c.args.cookie)))
     (set_indexed new rows at old.0 old.1 old.2 c.self.inside.index c.self.invariant)
 
 pub returns-in-Some-clause-ok : goal.returns-in-Some-clause-ok
@@ -35,7 +36,8 @@ returns-in-Some-clause-ok c =
     (subst (λ r. StandsAt (key_of new) r (Some at)) (sym c.self.view_is)
     (subst (λ k. StandsAt k c.args.self.now (Some at))
     (λ i. key (c.domain_text.ensures i) (c.as_str.ensures i) (named i)) c.in-Some.ensures.at)) in
-    map-set stored_in items at (with_value c.index_mut.result.now c.args.cookie) ∙ set_there new rows at old.0 old.1 old.2 c.self.invariant.apart
+    map-set stored_in items at (with_value c.index_mut.result.now c.args.cookie)
+    ∙ set_there new rows at old.0 old.1 old.2 c.self.invariant.apart
     ∙ ap (put new) c.self.view_is
 
 pub returns-in-Some-clause-action : goal.returns-in-Some-clause-action
