@@ -1,8 +1,11 @@
 -- What a table with texts as keys holds, with the texts as bytes.
 use Rattle.std.proofs.Common.{◌≡◌, ◌≤◌, ◌+◌, ℕ, Bool, true, false, cond, List, [], ◌∷◌, length, map, refl, sym, ap}
-use Rattle.std.proofs.Common.{◌∙◌, arith, zero, suc}
-use Rattle.std.specs.Prelude.{Some, None, slice_get, option_map, string_bytes}
+use Rattle.std.proofs.Common.{◌∙◌, ◌⊎◌, ◌<◌, arith, zero, suc, inl, inr, not}
+use Rattle.std.specs.Prelude.{Some, None, nat_lt, position, slice_get, option_map, string_bytes}
+use Rattle.std.specs.List.{position_or_len}
 use Rattle.indexmap.specs.IndexMap.{set_value_at}
+use Rattle.std.proofs.lemmas.Bool.{cases_lt, cond-true, cond-false}
+use Rattle.std.proofs.lemmas.Grind.{common_steps}
 use Rattle.std.proofs.lemmas.Option.{none-some, same_Some}
 use Rattle.std.specs.Map.{lookup, set_value, remove_entry}
 use Rattle.std.specs.Str.{bytes_eq}
@@ -10,7 +13,7 @@ use Rattle.std.specs.String.{string_eq}
 use Rattle.std.specs.declared.string.String.{String}
 use Rattle.std.proofs.lemmas.Slice.Eq.{bytes_eq-Decides}
 use Rattle.indexmap.specs.IndexMap.{insert_entry}
-use Rattle.place_index.specs.Entries.{by_bytes, value_at, set_at, with_value, without, with_values}
+use Rattle.place_index.specs.Entries.{by_bytes, place_of, value_at, set_at, with_value, without, with_values}
 
 pub same_text : (x y : List ℕ) → bytes_eq x y ≡ true → x ≡ y
 same_text x y e = (bytes_eq-Decides x y).0 e
@@ -18,7 +21,50 @@ same_text x y e = (bytes_eq-Decides x y).0 e
 pub text_is : (x y : List ℕ) → x ≡ y → bytes_eq x y ≡ true
 text_is x y e = (bytes_eq-Decides x y).1 e
 
+-- the place of the first that passes, one step on
+position-step : {K : Type 0} (test : K → Bool) (k : K) (ks : List K)
+    → position test (k ∷ ks) ≡ cond (test k) (Some 0) (option_map suc (position test ks))
+position-step test k ks = by (test k)
+  where
+    n : ℕ
+    n = position_or_len test ks
+
+    further : (n < length ks) ⊎ (length ks ≤ n)
+        → cond (nat_lt (suc n) (suc (length ks))) (Some (suc n)) None
+        ≡ option_map suc (cond (nat_lt n (length ks)) (Some n) None)
+    further (inl less) =
+        cond-true (nat_lt (suc n) (suc (length ks))) (Some (suc n)) None (grind (arith, common_steps))
+        ∙ ap (option_map suc) (sym (cond-true (nat_lt n (length ks)) (Some n) None (grind (arith, common_steps))))
+    further (inr past) =
+        cond-false (nat_lt (suc n) (suc (length ks))) (Some (suc n)) None (grind (arith, common_steps))
+        ∙ ap (option_map suc) (sym (cond-false (nat_lt n (length ks)) (Some n) None (grind (arith, common_steps))))
+
+    by : (b : Bool) → cond (nat_lt (cond (not b) (1 + n) 0) (suc (length ks))) (Some (cond (not b) (1 + n) 0)) None
+        ≡ cond b (Some 0) (option_map suc (position test ks))
+    by true = cond-true (nat_lt 0 (suc (length ks))) (Some 0) None (grind (arith, common_steps))
+    by false =
+        let one : 1 + n ≡ suc n = omega arith in
+        (λ i. cond (nat_lt (one i) (suc (length ks))) (Some (one i)) None) ∙ further (cases_lt n (length ks))
+
 module _ {V Y : Type 0} where
+  pub place_of-by_bytes : (es : List (String Y × V)) (q : List ℕ)
+      → position (λ k. bytes_eq q (string_bytes k)) (map (λ e. e.0) es) ≡ place_of q (by_bytes es)
+  place_of-by_bytes [] q = refl
+  place_of-by_bytes (e ∷ es) q =
+      position-step (λ k. bytes_eq q (string_bytes k)) e.0 (map (λ e. e.0) es)
+      ∙ ap (λ o. cond (bytes_eq q (string_bytes e.0)) (Some 0) (option_map suc o)) (place_of-by_bytes es q)
+
+  pub set_value_at-by_bytes : (es : List (String Y × V)) (i : ℕ) (w : V)
+      → by_bytes (set_value_at es i w) ≡ set_value_at (by_bytes es) i w
+  set_value_at-by_bytes [] i w = refl
+  set_value_at-by_bytes (e ∷ es) zero w = refl
+  set_value_at-by_bytes (e ∷ es) (suc i) w =
+      ap (λ fs. (string_bytes e.0, e.1) ∷ fs) (set_value_at-by_bytes es i w)
+
+  pub values-by_bytes : (es : List (String Y × V)) → map (λ e. e.1) es ≡ map (λ e. e.1) (by_bytes es)
+  values-by_bytes [] = refl
+  values-by_bytes (e ∷ es) = ap (λ vs. e.1 ∷ vs) (values-by_bytes es)
+
   pub value_at-by_bytes : (es : List (String Y × V)) (q : List ℕ)
       → lookup (λ k. bytes_eq q (string_bytes k)) es ≡ value_at q (by_bytes es)
   value_at-by_bytes [] q = refl

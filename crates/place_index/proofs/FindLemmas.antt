@@ -13,7 +13,7 @@ use Rattle.place_index.specs.Candidates.{domains_of, paths_of, count_of}
 use Rattle.place_index.specs.Found.{AscendFrom, Finds, found_domain, found_domains, is_in, looks_at}
 use Rattle.place_index.specs.Found.{looks_for, span_of, spans, spans_of}
 use Rattle.place_index.specs.Index.{Agrees, DomainAgrees, Index, IsNowhere, IsPart, PathAgrees, Span}
-use Rattle.place_index.specs.declared.part.DomainPart.{DomainPart}
+use Rattle.place_index.specs.Index.{DomainPart}
 use Rattle.place_index.specs.declared.part.Part.{Part}
 use Rattle.place_index.proofs.CandidateLemmas.{paths_of-count}
 use Rattle.place_index.proofs.FoundLemmas.{finds_exactly, in_span, looks_are_few, some_of}

@@ -13,7 +13,7 @@ use Rattle.place_index.specs.Entries.{value_at}
 use Rattle.place_index.specs.Candidates.{is_among, domains_of, paths_of, count_of}
 use Rattle.place_index.specs.Found.{FindsExactly, is_in, span_of, spans_of, spans, looks_for, path_looks}
 use Rattle.place_index.specs.Found.{found_domain, found_domains}
-use Rattle.place_index.specs.declared.part.DomainPart.{DomainPart}
+use Rattle.place_index.specs.Index.{DomainPart}
 use Rattle.place_index.specs.declared.part.Part.{Part}
 use Rattle.place_index.specs.Index.{Index, IsPart, PathAgrees, DomainAgrees, Agrees, Span}
 use Rattle.place_index.proofs.CandidateLemmas.{among_case, among_head, among_tail, or_split, domains_of-count}

@@ -9,7 +9,7 @@ use Rattle.std.proofs.lemmas.Grind.{common_steps}
 use Rattle.place_index.specs.Entries.{value_at, with_value}
 use Rattle.place_index.specs.Places.{Place, is_of, is_at}
 use Rattle.place_index.proofs.EntryLemmas.{same_text, text_is}
-use Rattle.place_index.specs.declared.part.DomainPart.{DomainPart}
+use Rattle.place_index.specs.Index.{DomainPart}
 use Rattle.place_index.specs.declared.part.Part.{Part}
 use Rattle.place_index.specs.Index.{Index, IsPart, IsNowhere, PathAgrees, PathsAgree, DomainAgrees, Agrees, last}
 use Rattle.place_index.specs.Index.{PathsInside}
@@ -43,7 +43,7 @@ own_path x = and_from (is_of x.domain x) (bytes_eq x.path x.path) (own_domain x)
 
 -- each path's part lies in its domain's
 pub paths_inside : (rows : List Place) (domain : List ℕ) (part : DomainPart) → DomainAgrees rows domain (Some part)
-    → PathsInside part
+    → PathsInside (record { len = part.len; paths = part.paths })
 paths_inside rows domain part own text = inside (value_at text part.paths) (own.1 text)
   where
     inside : (o : Option Part) → PathAgrees rows domain part.start text o

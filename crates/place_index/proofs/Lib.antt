@@ -9,6 +9,7 @@ pub mod PartLemmas
 pub mod PlacesLemmas
 pub mod PuttingLemmas
 pub mod RowLemmas
+pub mod StartLemmas
 pub mod StepLemmas
 mod IndexOutLemmas
 mod TakingLemmas

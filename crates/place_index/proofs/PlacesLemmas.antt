@@ -5,7 +5,7 @@ use Rattle.std.specs.Str.{bytes_eq}
 use Rattle.place_index.specs.Entries.{value_at}
 use Rattle.place_index.specs.Index.{Index, Agrees, IsIndex, IsPart, IsNowhere, DomainAgrees, PathAgrees, last}
 use Rattle.place_index.specs.Places.{Place, is_at}
-use Rattle.place_index.specs.declared.part.DomainPart.{DomainPart}
+use Rattle.place_index.specs.Index.{DomainPart}
 use Rattle.place_index.specs.declared.part.Part.{Part}
 
 module _ (domain path : List ℕ) (index : Index) where

@@ -4,13 +4,13 @@ use Rattle.std.specs.Prelude.{Option, Some, None, IfSome, option_map}
 use Rattle.place_index.specs.Entries.{value_at, set_at, with_values}
 use Rattle.place_index.specs.Index.{PathsInside, OtherPathsMove, moved_path}
 use Rattle.place_index.specs.Putting.{PutsBehind}
-use Rattle.place_index.specs.declared.part.DomainPart.{DomainPart}
+use Rattle.place_index.specs.declared.part.DomainRows.{DomainRows}
 use Rattle.place_index.specs.declared.part.Part.{Part}
 use Rattle.place_index.proofs.EntryLemmas.{value_at-with_values}
 use Rattle.place_index.proofs.IndexLemmas.{not_moved}
 use Rattle.place_index.proofs.TakingLemmas.{value_at-set_at, value_at-set_other}
 
-module _ (path : List ℕ) (old : DomainPart) (part : Part) (at : ℕ) (there : value_at path old.paths ≡ Some part)
+module _ (path : List ℕ) (old : DomainRows) (part : Part) (at : ℕ) (there : value_at path old.paths ≡ Some part)
     (at_end : at ≡ part.start + part.len) (inside : PathsInside old) (lent : List (List ℕ × Part))
     (is : lent ≡ set_at path old.paths (record { start = part.start; len = part.len + 1 })) where
   abbrev longer : Part
@@ -34,19 +34,18 @@ module _ (path : List ℕ) (old : DomainPart) (part : Part) (at : ℕ) (there : 
 
   puts : (paths : List (List ℕ × Part)) → value_at path paths ≡ Some longer
       → OtherPathsMove at path old.paths paths
-      → PutsBehind path old (record { start = old.start; len = old.len + 1; paths = paths }) at
+      → PutsBehind path old (record { len = old.len + 1; paths = paths }) at
   puts paths grown others = record {
     part = part;
     there = there;
     at_end = at_end;
-    start = refl;
     len = omega arith;
     grown = grown;
     others = others;
   }
 
   pub puts_before_others : (paths : List (List ℕ × Part)) → paths ≡ with_values (moved_path at) lent
-      → PutsBehind path old (record { start = old.start; len = old.len + 1; paths = paths }) at
+      → PutsBehind path old (record { len = old.len + 1; paths = paths }) at
   puts_before_others paths moved = puts paths
       (value path ∙ ap (option_map (moved_path at)) own
       ∙ ap (λ n. Some (record { start = n; len = suc part.len })) (not_moved at part.start begins_before))
@@ -57,7 +56,7 @@ module _ (path : List ℕ) (old : DomainPart) (part : Part) (at : ℕ) (there : 
 
   -- no path begins there or later
   pub puts_at_end : old.len ≤ at
-      → PutsBehind path old (record { start = old.start; len = old.len + 1; paths = lent }) at
+      → PutsBehind path old (record { len = old.len + 1; paths = lent }) at
   puts_at_end end = puts lent own (λ text d. other text d ∙ sym (stays (value_at text old.paths) (inside text)))
     where
       stays : (o : Option Part) → IfSome o (λ p. (0 < p.len) × (p.start + p.len ≤ old.len))

@@ -5,11 +5,12 @@ use Rattle.std.specs.Prelude.{Result, Ok, Err, OnErr, Option, Some, None, IfSome
 use Rattle.std.specs.Str.{bytes_eq}
 use Rattle.std.proofs.lemmas.Bool.{false_from_ne_true}
 use Rattle.place_index.specs.Entries.{value_at, set_at, with_value, with_values}
-use Rattle.place_index.specs.Index.{Index, Agrees, DomainAgrees, OthersMove, moved_domain, moved_path, last}
-use Rattle.place_index.specs.Index.{BeginsPath, GrowsPath}
+use Rattle.place_index.specs.Index.{Index, Agrees, DomainPart, DomainAgrees, OthersMove, moved_domain, moved_path}
+use Rattle.place_index.specs.Index.{BeginsPath, GrowsPath, last}
 use Rattle.place_index.specs.Places.{Place}
 use Rattle.place_index.specs.Putting.{HasRoom, Puts, PutsAt, IsReady}
-use Rattle.place_index.specs.declared.part.DomainPart.{DomainPart}
+use Rattle.place_index.specs.Starts.{part_at}
+use Rattle.place_index.specs.declared.part.DomainRows.{DomainRows}
 use Rattle.place_index.proofs.EntryLemmas.{same_text, value_at-with_values}
 use Rattle.place_index.proofs.EndLemmas.{end_new, end_path, end_row}
 use Rattle.place_index.proofs.IndexLemmas.{not_moved, value_at-with_value, value_at-with_other, paths_inside}
@@ -21,21 +22,21 @@ abbrev pub OthersMoveOf : Place → ℕ → ℕ → Index → Index → Type 0
 OthersMoveOf row p rows old new =
     (places : List Place) → Agrees places old → length places ≡ rows → OthersMove p row.domain old new
 
-module _ (row : Place) (p rows : ℕ) (old new : Index) (part w : DomainPart)
-    (there : value_at row.domain old ≡ Some part) (grown : value_at row.domain new ≡ Some w)
+module _ (row : Place) (p rows : ℕ) (old new : Index) (start : ℕ) (part w : DomainRows)
+    (there : value_at row.domain old ≡ Some (part_at start part))
+    (grown : value_at row.domain new ≡ Some (part_at start w))
     (others : OthersMoveOf row p rows old new) where
-  pub puts_row : (inner : ℕ) → p ≡ w.start + inner → rows < last → Puts row.path part w inner
+  pub puts_row : (inner : ℕ) → p ≡ start + inner → rows < last → Puts row.path part w inner
       → PutsAt row rows old new p
   puts_row inner at room (inl b) places agrees counted =
       let e = b.at_end in
-      let start : w.start ≡ part.start = ap (λ d. d.start) b.is in
       let begins : BeginsPath row p old new
       = record {
-        part = part;
+        part = part_at start part;
         there = there;
         absent = b.absent;
-        at = omega (arith, at, e, start);
-        grown = grown ∙ ap Some b.is;
+        at = omega (arith, at, e);
+        grown = grown ∙ ap (λ d. Some (part_at start d)) b.is;
         others = others places agrees counted;
       } in (
         begins_path places row p old new agrees (omega (arith, counted, room)) begins,
@@ -43,16 +44,15 @@ module _ (row : Place) (p rows : ℕ) (old new : Index) (part w : DomainPart)
       )
   puts_row inner at room (inr b) places agrees counted =
       let e = b.at_end in
-      let start = b.start in
       let grows : GrowsPath row p old new
       = record {
-        part = part;
+        part = part_at start part;
         there = there;
         path = b.part;
         path_there = b.there;
-        at = omega (arith, at, e, start);
+        at = omega (arith, at, e);
         paths = w.paths;
-        grown = grown ∙ ap Some (λ i. record { start = b.start i; len = b.len i; paths = w.paths });
+        grown = grown ∙ ap (λ n. Some (record { start = start; len = n; paths = w.paths })) b.len;
         path_grown = b.grown;
         other_paths = λ text d. b.others text d ∙ ap (λ n. option_map (moved_path n) (value_at text part.paths)) e;
         others = others places agrees counted;
@@ -61,31 +61,59 @@ module _ (row : Place) (p rows : ℕ) (old new : Index) (part w : DomainPart)
         end_row row places p old new agrees grows,
       )
 
-pub has_room : (rows : ℕ) (index : Index) (domain : List ℕ) (part : DomainPart) → IsReady rows index
-    → value_at domain index ≡ Some part → HasRoom part × (0 < part.len)
-has_room rows index domain part ready there =
+pub has_room : (rows : ℕ) (index : Index) (domain : List ℕ) (start : ℕ) (part : DomainRows) → IsReady rows index
+    → value_at domain index ≡ Some (part_at start part) → HasRoom part × (0 < part.len)
+has_room rows index domain start part ready there =
     let own = subst (DomainAgrees ready.places domain) there (ready.agrees domain) in
     let room = ready.room in
     let within = own.0.within in
     let counted = ready.counted in (
       record {
         room = omega (arith, room, within, counted);
-        inside = paths_inside ready.places domain part own;
+        inside = paths_inside ready.places domain (part_at start part) own;
       },
       own.0.some,
     )
 
-module _ (row : Place) (p rows : ℕ) (old lent : Index) (part w : DomainPart)
-    (there : value_at row.domain old ≡ Some part) (is : lent ≡ set_at row.domain old w) where
-  own : value_at row.domain lent ≡ Some w
-  own = ap (value_at row.domain) is ∙ value_at-set_at row.domain old part w there
+-- a row more of the domain goes no further than the last row
+pub row_fits : (rows : ℕ) (index : Index) (domain path : List ℕ) (start : ℕ) (part w : DomainRows) (inner : ℕ)
+    → IsReady rows index → value_at domain index ≡ Some (part_at start part) → Puts path part w inner
+    → start + inner ≤ last
+row_fits rows index domain path start part w inner ready there puts = by puts
+  where
+    own : DomainAgrees ready.places domain (Some (part_at start part))
+    own = subst (DomainAgrees ready.places domain) there (ready.agrees domain)
+
+    low : inner ≤ part.len → start + inner ≤ last
+    low within =
+        let all = own.0.within in
+        let counted = ready.counted in
+        let room = ready.room in
+        omega (arith, within, all, counted, room)
+
+    by : Puts path part w inner → start + inner ≤ last
+    by (inl b) = let e = b.at_end in low (omega (arith, e))
+    by (inr b) =
+        let e = b.at_end in
+        let inside = subst (λ o. IfSome o (λ q. (0 < q.len) × (q.start + q.len ≤ part.len))) b.there
+        (paths_inside ready.places domain (part_at start part) own path) in
+        let within = inside.1 in
+        low (omega (arith, e, within))
+
+module _ (row : Place) (p rows : ℕ) (old lent : Index) (start : ℕ) (part w : DomainRows)
+    (there : value_at row.domain old ≡ Some (part_at start part))
+    (is : lent ≡ set_at row.domain old (part_at start w)) where
+  own : value_at row.domain lent ≡ Some (part_at start w)
+  own = ap (value_at row.domain) is ∙ value_at-set_at row.domain old (part_at start part) (part_at start w) there
 
   other : (text : List ℕ) → text ≢ row.domain → value_at text lent ≡ value_at text old
-  other text d = ap (value_at text) is ∙ value_at-set_other row.domain text old part w there d
+  other text d =
+      ap (value_at text) is
+      ∙ value_at-set_other row.domain text old (part_at start part) (part_at start w) there d
 
-  module _ (inner : ℕ) (at : p ≡ w.start + inner) (room : rows < last) (has : HasRoom part) (some : 0 < part.len)
+  module _ (inner : ℕ) (at : p ≡ start + inner) (room : rows < last) (has : HasRoom part) (some : 0 < part.len)
       (puts : Puts row.path part w inner) where
-    low : Puts row.path part w inner → w.start < p
+    low : Puts row.path part w inner → start < p
     low (inl b) = let e = b.at_end in omega (arith, e, some, at)
     low (inr b) =
         let e = b.at_end in
@@ -97,9 +125,9 @@ module _ (row : Place) (p rows : ℕ) (old lent : Index) (part w : DomainPart)
     -- the domains behind are moved
     pub puts_before_others : (new : Index) → new ≡ with_values (moved_domain p) lent → PutsAt row rows old new p
     puts_before_others new moved =
-        puts_row row p rows old new part w there
+        puts_row row p rows old new start part w there
         (value row.domain ∙ ap (option_map (moved_domain p)) own
-        ∙ ap (λ n. Some (record w { start = n })) (not_moved p w.start (low puts)))
+        ∙ ap (λ n. Some (part_at n w)) (not_moved p start (low puts)))
         (λ _ _ _ text d. value text ∙ ap (option_map (moved_domain p)) (other text d)) inner at room puts
       where
         value : (text : List ℕ) → value_at text new ≡ option_map (moved_domain p) (value_at text lent)
@@ -107,7 +135,7 @@ module _ (row : Place) (p rows : ℕ) (old lent : Index) (part w : DomainPart)
 
     -- no domain begins there or later
     pub puts_at_end : rows ≤ p → PutsAt row rows old lent p
-    puts_at_end end = puts_row row p rows old lent part w there own others inner at room puts
+    puts_at_end end = puts_row row p rows old lent start part w there own others inner at room puts
       where
         stays : (places : List Place) → length places ≤ p → (text : List ℕ) (o : Option DomainPart)
             → DomainAgrees places text o → option_map (moved_domain p) o ≡ o

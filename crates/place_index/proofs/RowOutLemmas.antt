@@ -5,10 +5,11 @@ use Rattle.std.specs.Prelude.{Option, Some, None, slice_get, option_map}
 use Rattle.std.specs.List.{remove}
 use Rattle.std.proofs.lemmas.Bool.{cases_lt}
 use Rattle.place_index.specs.Entries.{value_at, set_at, without, with_values}
-use Rattle.place_index.specs.Index.{Index, DomainAgrees, PathAgrees, PathsInside, Agrees}
+use Rattle.place_index.specs.Index.{Index, DomainPart, DomainAgrees, PathAgrees, PathsInside, Agrees}
 use Rattle.place_index.specs.Places.{Place, is_of, is_at}
+use Rattle.place_index.specs.Starts.{part_at}
 use Rattle.place_index.specs.Taking.{HasRow, TakesAt, OthersMoveBack, domain_back, path_back, shorter, Takes}
-use Rattle.place_index.specs.declared.part.DomainPart.{DomainPart}
+use Rattle.place_index.specs.declared.part.DomainRows.{DomainRows}
 use Rattle.place_index.specs.declared.part.Part.{Part}
 use Rattle.place_index.proofs.EntryLemmas.{value_at-with_values}
 use Rattle.place_index.proofs.IndexLemmas.{own_domain, own_path, paths_inside}
@@ -43,53 +44,58 @@ pub starts_before : (row : Place) (p : ℕ) (index : Index) (part : DomainPart) 
 starts_before row p index part has is = low_in_domain row p index has.places has.agrees has.there part is
 
 -- its paths' parts lie in it
-pub inside_of : (row : Place) (p : ℕ) (index : Index) (part : DomainPart) → HasRow row p index
-    → value_at row.domain index ≡ Some part → PathsInside part
-inside_of row p index part has is =
-    paths_inside has.places row.domain part
-    (domain_agrees row p index has.places has.agrees has.there (Some part) is)
+pub inside_of : (row : Place) (p : ℕ) (index : Index) (start : ℕ) (part : DomainRows) → HasRow row p index
+    → value_at row.domain index ≡ Some (part_at start part) → PathsInside part
+inside_of row p index start part has is =
+    paths_inside has.places row.domain (part_at start part)
+    (domain_agrees row p index has.places has.agrees has.there (Some (part_at start part)) is)
 
 module _ (row : Place) (p : ℕ) (old mid new : Index) (is : new ≡ with_values (domain_back p) mid) where
   value : (text : List ℕ) → value_at text new ≡ option_map (domain_back p) (value_at text mid)
   value text = ap (value_at text) is ∙ value_at-with_values (domain_back p) text mid
 
   -- the row's domain has others
-  module _ (part w : DomainPart) (there : value_at row.domain old ≡ Some part) (more : 1 < part.len)
-      (t : Takes row.path (p - part.start) part w) (put : mid ≡ set_at row.domain old w) where
+  module _ (start : ℕ) (part w : DomainRows) (there : value_at row.domain old ≡ Some (part_at start part))
+      (more : 1 < part.len) (t : Takes row.path (p - start) part w)
+      (put : mid ≡ set_at row.domain old (part_at start w)) where
     others : OthersMoveBack p row.domain old new
     others text d =
         value text
         ∙ ap (λ es. option_map (domain_back p) (value_at text es)) put
-        ∙ ap (option_map (domain_back p)) (value_at-set_other row.domain text old part w there d)
+        ∙ ap (option_map (domain_back p))
+        (value_at-set_other row.domain text old (part_at start part) (part_at start w) there d)
 
-    shrunk : part.start ≤ p
-        → value_at row.domain new ≡ Some (record { start = part.start; len = part.len - 1; paths = w.paths })
+    shrunk : start ≤ p
+        → value_at row.domain new ≡ Some (record { start = start; len = part.len - 1; paths = w.paths })
     shrunk low =
-        let start = t.start in
-        let stays = not_back p w.start (omega (arith, low, start)) ∙ t.start in
+        let stays = not_back p start (omega (arith, low)) in
         value row.domain
         ∙ ap (λ es. option_map (domain_back p) (value_at row.domain es)) put
-        ∙ ap (option_map (domain_back p)) (value_at-set_at row.domain old part w there)
+        ∙ ap (option_map (domain_back p))
+        (value_at-set_at row.domain old (part_at start part) (part_at start w) there)
         ∙ (λ i. Some (record { start = stays i; len = t.len i; paths = w.paths }))
 
     pub takes_more : TakesAt row p old new
     takes_more places agrees here = by (value_at row.path part.paths) refl
       where
-        low : part.start ≤ p
-        low = low_in_domain row p old places agrees here part there
+        whole : DomainPart
+        whole = part_at start part
+
+        low : start ≤ p
+        low = low_in_domain row p old places agrees here whole there
 
         own : (path : Part) → value_at row.path part.paths ≡ Some path
-            → value_at row.path w.paths ≡ option_map (path_back (p - part.start)) (shorter (Some path))
-        own path path_is = t.own ∙ ap (λ o. option_map (path_back (p - part.start)) (shorter o)) path_is
+            → value_at row.path w.paths ≡ option_map (path_back (p - start)) (shorter (Some path))
+        own path path_is = t.own ∙ ap (λ o. option_map (path_back (p - start)) (shorter o)) path_is
 
         by_len : (path : Part) → value_at row.path part.paths ≡ Some path → (1 < path.len) ⊎ (path.len ≤ 1)
             → Agrees (remove places p) new
         by_len path path_is (inl many) =
-            let q = p - part.start in
-            let inner = low_in_path row p old places agrees here part there path path_is in
+            let q = p - start in
+            let inner = low_in_path row p old places agrees here whole there path path_is in
             let stays = not_back q path.start (omega (arith, inner)) in
             shrinks_path places row p old new agrees here (record {
-              part = part;
+              part = whole;
               there = there;
               path = path;
               path_there = path_is;
@@ -102,9 +108,9 @@ module _ (row : Place) (p : ℕ) (old mid new : Index) (is : new ≡ with_values
               others = others;
             })
         by_len path path_is (inr few) =
-            let some = (path_agrees row p old places agrees here part there (Some path) path_is).some in
+            let some = (path_agrees row p old places agrees here whole there (Some path) path_is).some in
             ends_path places row p old new agrees here (record {
-              part = part;
+              part = whole;
               there = there;
               more = more;
               path = path;
@@ -112,14 +118,14 @@ module _ (row : Place) (p : ℕ) (old mid new : Index) (is : new ≡ with_values
               only = omega (arith, some, few);
               paths = w.paths;
               shrunk = shrunk low;
-              path_ended = own path path_is ∙ ap (option_map (path_back (p - part.start))) (shorter-only path few);
+              path_ended = own path path_is ∙ ap (option_map (path_back (p - start))) (shorter-only path few);
               other_paths = t.others;
               others = others;
             })
 
         by : (o : Option Part) → value_at row.path part.paths ≡ o → Agrees (remove places p) new
         by None none =
-            let nowhere = path_agrees row p old places agrees here part there None none in
+            let nowhere = path_agrees row p old places agrees here whole there None none in
             absurd (true≢false (sym (own_path row) ∙ nowhere p row here))
         by (Some path) path_is = by_len path path_is (cases_lt 1 path.len)
 

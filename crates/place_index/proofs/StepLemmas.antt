@@ -5,7 +5,7 @@ use Rattle.std.specs.Prelude.{Some}
 use Rattle.std.specs.List.{flat_map, slice_range}
 use Rattle.std.proofs.lemmas.Bool.{cond-true, cond-false, false_from_ne_true}
 use Rattle.std.proofs.lemmas.List.Concat.{flat_map-append}
-use Rattle.place_index.specs.declared.part.DomainPart.{DomainPart}
+use Rattle.place_index.specs.Index.{DomainPart}
 use Rattle.place_index.specs.Entries.{value_at}
 use Rattle.place_index.specs.Found.{span_of, spans_of}
 use Rattle.place_index.specs.Index.{Span}

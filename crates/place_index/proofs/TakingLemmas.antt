@@ -8,7 +8,7 @@ use Rattle.std.proofs.lemmas.Grind.{common_steps}
 use Rattle.place_index.specs.Entries.{value_at, set_at, without, with_values}
 use Rattle.place_index.specs.Index.{PathsInside}
 use Rattle.place_index.specs.Taking.{path_back, shorter, OtherPathsMoveBack, Shortens, Takes}
-use Rattle.place_index.specs.declared.part.DomainPart.{DomainPart}
+use Rattle.place_index.specs.declared.part.DomainRows.{DomainRows}
 use Rattle.place_index.specs.declared.part.Part.{Part}
 use Rattle.place_index.proofs.EntryLemmas.{same_text, set_at-present, value_at-with_values}
 use Rattle.place_index.proofs.IndexLemmas.{value_at-with_value, value_at-with_other}
@@ -67,16 +67,16 @@ module _ (path : List ℕ) (old : List (List ℕ × Part)) where
 
 -- ---- a domain's part
 
-module _ (path : List ℕ) (at : ℕ) (old : DomainPart) (mid : List (List ℕ × Part))
+module _ (path : List ℕ) (at : ℕ) (old : DomainRows) (mid : List (List ℕ × Part))
     (shortens : Shortens path old.paths mid) where
   takes : (paths : List (List ℕ × Part))
       → value_at path paths ≡ option_map (path_back at) (shorter (value_at path old.paths))
       → OtherPathsMoveBack at path old.paths paths
-      → Takes path at old (record { start = old.start; len = old.len - 1; paths = paths })
-  takes paths own others = record { start = refl; len = refl; own = own; others = others }
+      → Takes path at old (record { len = old.len - 1; paths = paths })
+  takes paths own others = record { len = refl; own = own; others = others }
 
   pub takes_before_others : (paths : List (List ℕ × Part)) → paths ≡ with_values (path_back at) mid
-      → Takes path at old (record { start = old.start; len = old.len - 1; paths = paths })
+      → Takes path at old (record { len = old.len - 1; paths = paths })
   takes_before_others paths moved =
       takes paths (value path ∙ ap (option_map (path_back at)) shortens.own)
       (λ text d. value text ∙ ap (option_map (path_back at)) (shortens.others text d))
@@ -86,7 +86,7 @@ module _ (path : List ℕ) (at : ℕ) (old : DomainPart) (mid : List (List ℕ �
 
   -- no path begins behind the row
   pub takes_at_end : PathsInside old → old.len - 1 ≤ at
-      → Takes path at old (record { start = old.start; len = old.len - 1; paths = mid })
+      → Takes path at old (record { len = old.len - 1; paths = mid })
   takes_at_end inside end =
       takes mid (shortens.own ∙ sym (shorter_stays (value_at path old.paths) (inside path)))
       (λ text d. shortens.others text d ∙ sym (stays (value_at text old.paths) (inside text)))

@@ -6,9 +6,8 @@ use Rattle.place_index.specs.Paths.{dot, slash}
 use Rattle.place_index.specs.Places.{Place, is_of}
 use Rattle.place_index.specs.Entries.{value_at}
 use Rattle.place_index.specs.Candidates.{is_among, domains_of, paths_of, count_of}
-use Rattle.place_index.specs.declared.part.DomainPart.{DomainPart}
 use Rattle.place_index.specs.declared.part.Part.{Part}
-use Rattle.place_index.specs.Index.{Index, Agrees, Span}
+use Rattle.place_index.specs.Index.{Index, DomainPart, Agrees, Span}
 
 abbrev pub is_in : ℕ → Span → Bool
 is_in i span = nat_le span.0 i && nat_lt i span.1

@@ -3,9 +3,15 @@
 use Rattle.std.specs.Prelude.{◌≡◌, ◌≢◌, ◌<◌, ◌≤◌, ◌+◌, ℕ, suc, List, [], ◌∷◌, length, Bool, true, false, Option, Some}
 use Rattle.std.specs.Prelude.{None, IfSome, slice_get, option_map, nat_le, nat_lt, ◌&&◌, ◌^◌, ◌-◌, if◌then◌else◌}
 use Rattle.place_index.specs.Entries.{value_at, with_value}
-use Rattle.place_index.specs.declared.part.DomainPart.{DomainPart}
+use Rattle.place_index.specs.declared.part.DomainRows.{DomainRows}
 use Rattle.place_index.specs.declared.part.Part.{Part}
 use Rattle.place_index.specs.Places.{Place, is_of, is_at}
+
+-- a domain's part: where it begins, how many rows it has, and its paths' parts, which count from where it begins
+pub record DomainPart : Type 0 where
+  pub start : ℕ
+  pub len : ℕ
+  pub paths : List (List ℕ × Part)
 
 abbrev pub Index : Type 0
 Index = List (List ℕ × DomainPart)
@@ -39,7 +45,7 @@ DomainAgrees rows domain (Some part) =
     IsPart (is_of domain) rows part.start part.len × PathsAgree rows domain part
 
 -- each path's part has a row, and lies in the domain's
-abbrev pub PathsInside : DomainPart → Type 0
+abbrev pub PathsInside : DomainRows → Type 0
 PathsInside domain =
     (text : List ℕ)
     → IfSome (value_at text domain.paths) (λ part. (0 < part.len) × (part.start + part.len ≤ domain.len))

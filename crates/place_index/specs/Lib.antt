@@ -7,4 +7,5 @@ pub mod Lending
 pub mod Paths
 pub mod Places
 pub mod Putting
+pub mod Starts
 pub mod Taking

@@ -2,38 +2,36 @@
 use Rattle.std.specs.Prelude.{◌≡◌, ◌⊎◌, ◌<◌, ◌+◌, ◌&&◌, ℕ, suc, length, List, [], ◌∷◌, Bool, Some, None}
 use Rattle.std.specs.Prelude.{not, if◌then◌else◌}
 use Rattle.place_index.specs.Entries.{value_at, with_value}
-use Rattle.place_index.specs.declared.part.DomainPart.{DomainPart}
+use Rattle.place_index.specs.declared.part.DomainRows.{DomainRows}
 use Rattle.place_index.specs.declared.part.Part.{Part}
 use Rattle.std.specs.List.{insert, list_any}
 use Rattle.place_index.specs.Index.{Index, Agrees, PathsInside, OtherPathsMove, last}
 use Rattle.place_index.specs.Places.{Place, is_at, is_of}
 
 -- there is room for a row more, and the paths' parts lie in the domain's
-pub record HasRoom (domain : DomainPart) : Type 0 where
+pub record HasRoom (domain : DomainRows) : Type 0 where
   pub room : domain.len < last
   pub inside : PathsInside domain
 
 -- the path is new, and its first row goes last
-pub record PutsLast (path : List ℕ) (old new : DomainPart) (at : ℕ) : Type 0 where
+pub record PutsLast (path : List ℕ) (old new : DomainRows) (at : ℕ) : Type 0 where
   pub absent : value_at path old.paths ≡ None
   pub at_end : at ≡ old.len
   pub is : new ≡ record {
-    start = old.start;
     len = suc old.len;
     paths = with_value old.paths path (record { start = old.len; len = 1 });
   }
 
 -- the path is there, and the row goes behind its last
-pub record PutsBehind (path : List ℕ) (old new : DomainPart) (at : ℕ) : Type 0 where
+pub record PutsBehind (path : List ℕ) (old new : DomainRows) (at : ℕ) : Type 0 where
   pub part : Part
   pub there : value_at path old.paths ≡ Some part
   pub at_end : at ≡ part.start + part.len
-  pub start : new.start ≡ old.start
   pub len : new.len ≡ suc old.len
   pub grown : value_at path new.paths ≡ Some (record { start = part.start; len = suc part.len })
   pub others : OtherPathsMove at path old.paths new.paths
 
-abbrev pub Puts : List ℕ → DomainPart → DomainPart → ℕ → Type 0
+abbrev pub Puts : List ℕ → DomainRows → DomainRows → ℕ → Type 0
 Puts path old new at = PutsLast path old new at ⊎ PutsBehind path old new at
 
 -- the index is that of some rows, as many as told, with room for one more

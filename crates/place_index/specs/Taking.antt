@@ -3,9 +3,9 @@ use Rattle.std.specs.Prelude.{◌≡◌, ◌≢◌, ◌<◌, ◌≤◌, ◌-◌,
 use Rattle.std.specs.Prelude.{nat_lt, if◌then◌else◌}
 use Rattle.std.specs.List.{remove}
 use Rattle.place_index.specs.Entries.{value_at}
-use Rattle.place_index.specs.Index.{Index, Agrees, last}
+use Rattle.place_index.specs.Index.{Index, DomainPart, Agrees, last}
 use Rattle.place_index.specs.Places.{Place}
-use Rattle.place_index.specs.declared.part.DomainPart.{DomainPart}
+use Rattle.place_index.specs.declared.part.DomainRows.{DomainRows}
 use Rattle.place_index.specs.declared.part.Part.{Part}
 
 -- the index is that of some rows, of which the one at `at` is the place's
@@ -107,8 +107,7 @@ pub record Shortens (path : List ℕ) (old new : List (List ℕ × Part)) : Type
   pub others : (text : List ℕ) → text ≢ path → value_at text new ≡ value_at text old
 
 -- the domain has a row fewer, at `at` from where it begins, and it is the path's
-pub record Takes (path : List ℕ) (at : ℕ) (old new : DomainPart) : Type 0 where
-  pub start : new.start ≡ old.start
+pub record Takes (path : List ℕ) (at : ℕ) (old new : DomainRows) : Type 0 where
   pub len : new.len ≡ old.len - 1
   pub own : value_at path new.paths ≡ option_map (path_back at) (shorter (value_at path old.paths))
   pub others : OtherPathsMoveBack at path old.paths new.paths

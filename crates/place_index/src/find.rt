@@ -4,28 +4,30 @@ ghost use Rattle.std.specs.Prelude.{◌≡◌, ◌+◌, ◌*◌, ◌++◌, ◌�
 ghost use Rattle.place_index.specs.Entries.{value_at};
 ghost use Rattle.place_index.specs.Candidates.{domains_of, paths_of, count_of};
 ghost use Rattle.place_index.specs.Paths.{slash};
+ghost use Rattle.place_index.specs.Starts.{part_at};
 ghost use Rattle.place_index.specs.Found.{span_of, spans_of, spans, path_looks, looks_for, Fits, AllFit};
 
 use crate::index::Domains;
 use crate::looks::Looks;
-use crate::part::DomainPart;
+use crate::part::DomainRows;
 use std::alloc::AllocError;
 use std::sync::ledger::Ledger;
 
-// Asks for a path, and notes where its part is.
+// Asks for a path of the domain that begins at `start`, and notes where its part is.
 fn ask_path<L: Ledger>(
-    domain: &DomainPart,
+    start: usize,
+    domain: &DomainRows,
     path: &str,
     found: &mut Vec<(usize, usize)>,
     looks: &mut Looks<L>,
 ) -> Result<(), AllocError>
-    requires { Fits domain.now }
+    requires { Fits (part_at start domain.now) }
     ensures spans { OnOk result (found.new.items
-        ≡ found.old.items ++ span_of domain.now (value_at path.now domain.now.paths)) }
+        ≡ found.old.items ++ span_of (part_at start domain.now) (value_at path.now domain.now.paths)) }
     ensures look { looks.new ≡ looks.old + 1 }
 {
     if let Some(part) = domain.ask(path, looks) {
-        let start = domain.start + part.start;
+        let start = start + part.start;
         found.push((start, start + part.len))?;
     }
     Ok(())
@@ -33,21 +35,22 @@ fn ask_path<L: Ledger>(
 
 // Asks for the path and its two beginnings at each slash.
 fn ask_paths<L: Ledger>(
-    domain: &DomainPart,
+    start: usize,
+    domain: &DomainRows,
     path: &str,
     found: &mut Vec<(usize, usize)>,
     looks: &mut Looks<L>,
 ) -> Result<(), AllocError>
-    requires { Fits domain.now }
+    requires { Fits (part_at start domain.now) }
     ensures spans { OnOk result (found.new.items
-        ≡ found.old.items ++ spans_of (paths_of path.now) (Some domain.now)) }
+        ≡ found.old.items ++ spans_of (paths_of path.now) (Some (part_at start domain.now))) }
     ensures looks { looks.new ≤ looks.old + (1 + 2 * count_of slash path.now) }
 {
-    ask_path(domain, path, found, looks)?;
+    ask_path(start, domain, path, found, looks)?;
     for i in 0..path.len() {
         if path.as_bytes()[i] == b'/' {
-            ask_path(domain, &path[..i], found, looks)?;
-            ask_path(domain, &path[..i + 1], found, looks)?;
+            ask_path(start, domain, &path[..i], found, looks)?;
+            ask_path(start, domain, &path[..i + 1], found, looks)?;
         }
     }
     Ok(())
@@ -61,14 +64,14 @@ fn ask_domain<L: Ledger>(
     found: &mut Vec<(usize, usize)>,
     looks: &mut Looks<L>,
 ) -> Result<(), AllocError>
-    requires { AllFit domains.now.parts }
+    requires { AllFit domains.now }
     ensures spans { OnOk result (found.new.items
-        ≡ found.old.items ++ spans_of (paths_of path.now) (value_at domain.now domains.now.parts)) }
+        ≡ found.old.items ++ spans_of (paths_of path.now) (value_at domain.now domains.now)) }
     ensures looks { looks.new
-        ≤ looks.old + (1 + path_looks (1 + 2 * count_of slash path.now) (value_at domain.now domains.now.parts)) }
+        ≤ looks.old + (1 + path_looks (1 + 2 * count_of slash path.now) (value_at domain.now domains.now)) }
 {
     match domains.ask(domain, looks) {
-        Some(part) => ask_paths(part, path, found, looks),
+        Some((start, rows)) => ask_paths(start, rows, path, found, looks),
         None => Ok(()),
     }
 }
@@ -81,11 +84,11 @@ pub(crate) fn ask_domains<L: Ledger>(
     found: &mut Vec<(usize, usize)>,
     looks: &mut Looks<L>,
 ) -> Result<(), AllocError>
-    requires { AllFit domains.now.parts }
+    requires { AllFit domains.now }
     ensures spans { OnOk result (found.new.items
-        ≡ found.old.items ++ spans domains.now.parts (domains_of host.now) (paths_of path.now)) }
+        ≡ found.old.items ++ spans domains.now (domains_of host.now) (paths_of path.now)) }
     ensures looks { looks.new
-        ≤ looks.old + looks_for domains.now.parts (domains_of host.now) (1 + 2 * count_of slash path.now) }
+        ≤ looks.old + looks_for domains.now (domains_of host.now) (1 + 2 * count_of slash path.now) }
 {
     ask_domain(domains, host, path, found, looks)?;
     for i in 0..host.len() {

@@ -1,17 +1,18 @@
 //! From domain text to its part of a vector of rows, and in it from path text to a part of that.
 
-ghost use Rattle.std.specs.Prelude.{◌≡◌, ◌+◌, ◌≤◌, [], List, IfOk, OnErr, option_copied};
+ghost use Rattle.std.specs.Prelude.{◌≡◌, ◌+◌, ◌≤◌, [], List, IfOk, OnErr, length, option_copied, option_map};
 ghost use Rattle.place_index.specs.Entries.{value_at};
 ghost use Rattle.place_index.specs.Found.{Finds, looks_at};
 ghost use Rattle.place_index.specs.Index.{Agrees, IsIndex, PartIs};
 ghost use Rattle.place_index.specs.Places.{Place, is_at};
 ghost use Rattle.place_index.specs.Putting.{IsReady, PutsAt};
+ghost use Rattle.place_index.specs.Starts.{part_at, with_starts};
 ghost use Rattle.place_index.specs.Taking.{HasRow, TakesAt};
 
 use crate::find::ask_domains;
 use crate::looks::Looks;
 use crate::order::put_in_order;
-use crate::part::{DomainPart, Part};
+use crate::part::{DomainRows, Part};
 use crate::putting::put_row;
 use crate::taking::take_row;
 use crate::text_map::TextMap;
@@ -29,7 +30,7 @@ pub struct Index {
 impl Model for Index {
     ghost Value = { Rattle.place_index.specs.Index.Index };
 
-    ghost view = { λ s. s.domains.parts };
+    ghost view = { λ s. s.domains };
 }
 
 impl Index {
@@ -69,7 +70,7 @@ impl Index {
             PutsAt (record { domain = domain.now; path = path.now }) rows self.old self.new at) }
         ensures err { OnErr result (self.new ≡ self.old) }
     {
-        put_row(alloc, &mut self.domains.parts, rows, domain, path)
+        put_row(alloc, &mut self.domains, rows, domain, path)
     }
 
     /// Has the row at `at`, which is of the domain and the path, no more.
@@ -77,7 +78,7 @@ impl Index {
         requires { HasRow (record { domain = domain.now; path = path.now }) at self.old }
         ensures { TakesAt (record { domain = domain.now; path = path.now }) at self.old self.new }
     {
-        take_row(&mut self.domains.parts, at, domain, path)
+        take_row(&mut self.domains, at, domain, path)
     }
 
     /// Where the parts begin and end that can have a row for a request to the host and the request-path, in the order
@@ -106,45 +107,68 @@ impl Index {
     }
 }
 
-/// The parts of the domains.
+/// The parts of the domains. Where they begin stands apart from their rows, for an insertion or a removal goes over
+/// the starts of all.
 #[derive(Debug, Drop)]
 pub(crate) struct Domains {
-    pub(crate) parts: TextMap<DomainPart>,
+    pub(crate) starts: Vec<usize>,
+    pub(crate) rows: TextMap<DomainRows>,
+}
+
+impl Model for Domains {
+    ghost Value = { Rattle.place_index.specs.Index.Index };
+
+    ghost view = { λ d. with_starts d.starts.items d.rows };
+
+    ghost invariant = { λ d. length d.starts.items ≡ length d.rows };
 }
 
 impl Domains {
     /// No part.
     pub(crate) fn new(alloc: Global) -> Domains
-        ensures { result.parts ≡ [] }
+        ensures { result ≡ [] }
     {
         Domains {
-            parts: TextMap::new(alloc),
+            starts: Vec::new(alloc),
+            rows: TextMap::new(alloc),
         }
     }
 
     /// Where the part of a domain and a path begins and ends.
     fn part(&self, domain: &str, path: &str) -> Option<(usize, usize)>
-        requires { IsIndex self.now.parts }
-        ensures { (places : List Place) → Agrees places self.now.parts
+        requires { IsIndex self.now }
+        ensures { (places : List Place) → Agrees places self.now
             → PartIs (is_at domain.now path.now) places result }
     {
-        let domain = self.parts.get(domain)?;
-        let part = domain.paths.get(path)?;
-        let start = domain.start + part.start;
+        let (start, rows) = self.get(domain)?;
+        let part = rows.paths.get(path)?;
+        let start = start + part.start;
         Some((start, start + part.len))
     }
 
-    /// Asks for a domain.
-    pub(crate) fn ask<L: Ledger>(&self, text: &str, looks: &mut Looks<L>) -> Option<&DomainPart>
-        ensures part { option_copied result ≡ value_at text.now self.now.parts }
+    // Where the domain begins, and its rows.
+    fn get(&self, text: &str) -> Option<(usize, &DomainRows)>
+        ensures { option_map (λ found. part_at found.0 found.1.now) result ≡ value_at text.now self.now }
+    {
+        let (place, rows) = self.rows.get_full(text)?;
+        Some((self.starts[place], rows))
+    }
+
+    /// Asks for a domain: where it begins, and its rows.
+    pub(crate) fn ask<L: Ledger>(
+        &self,
+        text: &str,
+        looks: &mut Looks<L>,
+    ) -> Option<(usize, &DomainRows)>
+        ensures part { option_map (λ found. part_at found.0 found.1.now) result ≡ value_at text.now self.now }
         ensures look { looks.new ≡ looks.old + 1 }
     {
         looks.raise();
-        self.parts.get(text)
+        self.get(text)
     }
 }
 
-impl DomainPart {
+impl DomainRows {
     /// Asks for a path.
     pub(crate) fn ask<L: Ledger>(&self, text: &str, looks: &mut Looks<L>) -> Option<&Part>
         ensures part { option_copied result ≡ value_at text.now self.now.paths }

@@ -1,11 +1,11 @@
 //! Parts that move by a row.
 
-ghost use Rattle.std.specs.Prelude.{◌≡◌};
+ghost use Rattle.std.specs.Prelude.{◌≡◌, map};
 ghost use Rattle.place_index.specs.Entries.{with_values};
-ghost use Rattle.place_index.specs.Index.{moved_path, moved_domain};
-ghost use Rattle.place_index.specs.Taking.{path_back, domain_back};
+ghost use Rattle.place_index.specs.Index.{moved, moved_path};
+ghost use Rattle.place_index.specs.Taking.{moved_back, path_back};
 
-use crate::part::{DomainPart, Part};
+use crate::part::{Part, one_earlier, one_later};
 use crate::text_map::TextMap;
 
 /// Has each path that begins at `at` or later begin one later.
@@ -19,14 +19,12 @@ pub(crate) fn move_paths(paths: &mut TextMap<Part>, at: usize)
     }
 }
 
-/// Has each domain that begins at `at` or later begin one later.
-pub(crate) fn move_domains(domains: &mut TextMap<DomainPart>, at: usize)
-    ensures { domains.new ≡ with_values (moved_domain at) domains.old }
+/// Has each start at `at` or later be one later.
+pub(crate) fn move_starts(starts: &mut [usize], at: usize)
+    ensures { starts.new ≡ map (moved at) starts.old }
 {
-    for i in 0..domains.entries.len() {
-        if let Some(part) = domains.entries.get_index_mut(i) {
-            part.move_from(at);
-        }
+    for i in 0..starts.len() {
+        starts[i] = one_later(starts[i], at);
     }
 }
 
@@ -41,13 +39,11 @@ pub(crate) fn move_paths_back(paths: &mut TextMap<Part>, at: usize)
     }
 }
 
-/// Has each domain that begins behind `at` begin one earlier.
-pub(crate) fn move_domains_back(domains: &mut TextMap<DomainPart>, at: usize)
-    ensures { domains.new ≡ with_values (domain_back at) domains.old }
+/// Has each start behind `at` be one earlier.
+pub(crate) fn move_starts_back(starts: &mut [usize], at: usize)
+    ensures { starts.new ≡ map (moved_back at) starts.old }
 {
-    for index in 0..domains.entries.len() {
-        if let Some(part) = domains.entries.get_index_mut(index) {
-            part.move_back(at);
-        }
+    for index in 0..starts.len() {
+        starts[index] = one_earlier(starts[index], at);
     }
 }

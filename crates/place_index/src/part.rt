@@ -1,8 +1,8 @@
-//! The part of a vector that a domain's rows are, and the parts of it that their paths' rows are.
+//! The rows of a domain, and the parts of them that its paths' rows are.
 
 ghost use Rattle.std.specs.Prelude.{◌≡◌};
-ghost use Rattle.place_index.specs.Index.{moved_path, moved_domain};
-ghost use Rattle.place_index.specs.Taking.{path_back, domain_back};
+ghost use Rattle.place_index.specs.Index.{moved, moved_path};
+ghost use Rattle.place_index.specs.Taking.{moved_back, path_back};
 
 use crate::text_map::TextMap;
 
@@ -13,10 +13,9 @@ pub(crate) struct Part {
     pub(crate) len: usize,
 }
 
-/// The part of a domain, and those of its paths, which count from where the domain begins.
+/// How many rows a domain has, and its paths' parts, which count from where the domain begins.
 #[derive(Debug, Drop)]
-pub(crate) struct DomainPart {
-    pub(crate) start: usize,
+pub(crate) struct DomainRows {
     pub(crate) len: usize,
     pub(crate) paths: TextMap<Part>,
 }
@@ -26,37 +25,29 @@ impl Part {
     pub(crate) fn move_from(&mut self, at: usize)
         ensures { self.new ≡ moved_path at self.old }
     {
-        if at <= self.start && self.start < usize::MAX {
-            self.start += 1;
-        }
+        self.start = one_later(self.start, at);
     }
 
     /// Begins one earlier, where it begins behind `at`.
     pub(crate) fn move_back(&mut self, at: usize)
         ensures { self.new ≡ path_back at self.old }
     {
-        if at < self.start {
-            self.start -= 1;
-        }
+        self.start = one_earlier(self.start, at);
     }
 }
 
-impl DomainPart {
-    /// Begins one later, where it begins at `at` or later.
-    pub(crate) fn move_from(&mut self, at: usize)
-        ensures { self.new ≡ moved_domain at self.old }
-    {
-        if at <= self.start && self.start < usize::MAX {
-            self.start += 1;
-        }
-    }
+/// Where a part begins that began at `start`, once a row was put in at `at`.
+pub(crate) fn one_later(start: usize, at: usize) -> usize
+    ensures { result ≡ moved at start }
+{
+    // 0 behind the last number, which stays
+    let next = start.wrapping_add(1);
+    if at < next { next } else { start }
+}
 
-    /// Begins one earlier, where it begins behind `at`.
-    pub(crate) fn move_back(&mut self, at: usize)
-        ensures { self.new ≡ domain_back at self.old }
-    {
-        if at < self.start {
-            self.start -= 1;
-        }
-    }
+/// Where a part begins that began at `start`, once the row at `at` was taken out.
+pub(crate) fn one_earlier(start: usize, at: usize) -> usize
+    ensures { result ≡ moved_back at start }
+{
+    if at < start { start - 1 } else { start }
 }

@@ -4,8 +4,9 @@ ghost use Rattle.std.specs.Prelude.{◌<◌};
 ghost use Rattle.place_index.specs.Index.{PathsInside};
 ghost use Rattle.place_index.specs.Taking.{HasRow, Shortens, Takes, TakesAt};
 
-use crate::moving::{move_domains_back, move_paths_back};
-use crate::part::{DomainPart, Part};
+use crate::index::Domains;
+use crate::moving::{move_paths_back, move_starts_back};
+use crate::part::{DomainRows, Part};
 use crate::text_map::TextMap;
 
 // Has one row fewer of the path, and no part where that was the only one.
@@ -20,7 +21,7 @@ fn shorten(paths: &mut TextMap<Part>, path: &str)
 }
 
 /// Has one row fewer of the path, the one at `at`, counted from where the domain begins.
-fn take(domain: &mut DomainPart, at: usize, path: &str)
+fn take(domain: &mut DomainRows, at: usize, path: &str)
     requires some { 0 < domain.old.len }
     requires inside { PathsInside domain.old }
     ensures { Takes path.now at domain.old domain.new }
@@ -33,14 +34,19 @@ fn take(domain: &mut DomainPart, at: usize, path: &str)
 }
 
 /// Has the row at `at`, which is of the domain and the path, no more.
-pub(crate) fn take_row(domains: &mut TextMap<DomainPart>, at: usize, domain: &str, path: &str)
+pub(crate) fn take_row(domains: &mut Domains, at: usize, domain: &str, path: &str)
     requires { HasRow (record { domain = domain.now; path = path.now }) at domains.old }
     ensures { TakesAt (record { domain = domain.now; path = path.now }) at domains.old domains.new }
 {
-    match domains.get_mut(domain) {
-        Some(part) if part.len > 1 => take(part, at - part.start, path),
-        Some(_) => domains.remove(domain),
-        None => {}
+    if let Some(place) = domains.rows.place(domain) {
+        let inner = at - domains.starts[place];
+        let rows = domains.rows.value_mut(place);
+        if rows.len > 1 {
+            take(rows, inner, path);
+        } else {
+            domains.rows.remove(domain);
+            domains.starts.remove(place);
+        }
     }
-    move_domains_back(domains, at);
+    move_starts_back(&mut domains.starts, at);
 }

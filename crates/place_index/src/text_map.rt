@@ -1,10 +1,11 @@
 //! Values by text, in the order in which their texts came.
 
-ghost use Rattle.std.specs.Prelude.{◌≡◌, ◌↔◌, [], IsTrue, IfOk, OnOk, OnErr, None, string_bytes, option_copied};
+ghost use Rattle.std.specs.Prelude.{◌≡◌, ◌↔◌, ◌<◌, [], IsTrue, IfOk, OnOk, OnErr, Some, None, length, map, slice_get};
+ghost use Rattle.std.specs.Prelude.{string_bytes, option_copied, option_map};
 ghost use Rattle.std.specs.Option.{option_copied_mut};
 ghost use Rattle.std.specs.Borrow.{sem};
-ghost use Rattle.place_index.specs.Entries.{value_at, with_value, without, by_bytes};
-ghost use Rattle.place_index.specs.Lending.{LendsValue};
+ghost use Rattle.place_index.specs.Entries.{place_of, value_at, with_value, without, by_bytes};
+ghost use Rattle.place_index.specs.Lending.{LendsValue, LendsAt};
 
 use indexmap::IndexMap;
 use indexmap::map::Iter;
@@ -52,6 +53,31 @@ impl<V> TextMap<V> {
         ensures value { option_copied_mut result ≡ value_at key.now self.old }
     {
         self.entries.get_mut(key)
+    }
+
+    /// Which value is the text's, counted from 0.
+    pub(crate) fn place(&self, key: &str) -> Option<usize>
+        ensures { result ≡ place_of key.now self.now }
+    {
+        self.entries.get_index_of(key)
+    }
+
+    /// The value of a text, and which it is.
+    pub(crate) fn get_full(&self, key: &str) -> Option<(usize, &V)>
+        ensures place { option_map (λ found. found.0) result ≡ place_of key.now self.now }
+        ensures value { option_map (λ found. found.1.now) result ≡ value_at key.now self.now }
+    {
+        let (place, _, value) = self.entries.get_full(key)?;
+        Some((place, value))
+    }
+
+    /// The value at a place, to be changed.
+    pub(crate) fn value_mut(&mut self, place: usize) -> &mut V
+        requires { place < length self.old }
+        ensures* writes_back { sem 𝓛 (LendsAt V.row self.entry place result) }
+        ensures value { slice_get (map (λ e. e.1) self.old) place ≡ Some result.now }
+    {
+        &mut self.entries[place]
     }
 
     /// Whether there is no value.

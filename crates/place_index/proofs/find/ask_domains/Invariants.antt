@@ -6,7 +6,7 @@ use Rattle.place_index.proofs.find.ask_domains.Given as goal
 
 abbrev pub invariant-loop-i : goal.invariant-loop-i
 invariant-loop-i g l =
-    (l.found.items ++ spans l.domains.parts (after_dots (drop l.i l.host)) (paths_of l.path)
-    ≡ l.fn.found.items ++ spans l.domains.parts (domains_of l.host) (paths_of l.path))
-    × (l.looks + looks_for l.domains.parts (after_dots (drop l.i l.host)) (1 + 2 * count_of slash l.path)
-    ≤ l.fn.looks + looks_for l.domains.parts (domains_of l.host) (1 + 2 * count_of slash l.path))
+    (l.found.items ++ spans l.domains (after_dots (drop l.i l.host)) (paths_of l.path)
+    ≡ l.fn.found.items ++ spans l.domains (domains_of l.host) (paths_of l.path))
+    × (l.looks + looks_for l.domains (after_dots (drop l.i l.host)) (1 + 2 * count_of slash l.path)
+    ≤ l.fn.looks + looks_for l.domains (domains_of l.host) (1 + 2 * count_of slash l.path))

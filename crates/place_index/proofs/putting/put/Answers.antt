@@ -1,6 +1,6 @@
 use Rattle.std.proofs.Common.{◌+◌, inr, refl, subst, sym}
 use Rattle.place_index.specs.Putting.{Puts}
-use Rattle.place_index.specs.declared.part.DomainPart.{DomainPart}
+use Rattle.place_index.specs.declared.part.DomainRows.{DomainRows}
 use Rattle.place_index.proofs.PuttingLemmas.{puts_before_others, puts_at_end}
 use Rattle.place_index.proofs.putting.put.Goals.{then-at-domain, else-at-domain}
 use Rattle.place_index.proofs.putting.put.Goals as goal
@@ -13,7 +13,7 @@ returns-after-at-domain-clause-ok c =
     let at = part.start + part.len in
     let there = sym c.in-Some.ensures.value in
     let lent = c.get_mut.follows.holds (record { start = part.start; len = part.len + 1 }) in
-    let puts = λ (d : DomainPart). Puts path old (record { start = d.start; len = d.len + 1; paths = d.paths }) at in
+    let puts = λ (d : DomainRows). Puts path old (record { len = d.len + 1; paths = d.paths }) at in
     elim c.if-at-domain.branch [
       | then-at-domain w ↦
           subst puts (sym w.domain-is)

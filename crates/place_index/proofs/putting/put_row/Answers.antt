@@ -1,49 +1,122 @@
-use Rattle.std.proofs.Common.{◌∙◌, ◌+◌, ap, refl, sym}
-use Rattle.std.specs.Str.{bytes_eq}
-use Rattle.std.proofs.lemmas.Map.Steps.{set_value_same}
-use Rattle.place_index.specs.Entries.{set_at, with_value}
-use Rattle.place_index.proofs.RowLemmas.{has_room, puts_before_others, puts_at_end, puts_first, on_err}
+use Rattle.std.proofs.Common.{◌+◌, ◌∙◌, ap, arith, refl, sym}
+use Rattle.std.specs.Vec.{with_items}
+use Rattle.indexmap.specs.Layout.{length-set_value_at}
+use Rattle.indexmap.specs.IndexMap.{set_value_at}
+use Rattle.place_index.specs.Entries.{value_at}
+use Rattle.place_index.specs.Index.{moved}
+use Rattle.place_index.specs.Starts.{with_starts}
+use Rattle.place_index.proofs.RowLemmas.{has_room, puts_before_others, puts_at_end, puts_first, on_err, row_fits}
+use Rattle.place_index.proofs.StartLemmas.{all_moved, no_value, none_found, part_set, part_there, place_within}
+use Rattle.place_index.proofs.StartLemmas.{set_value_at-same, starts_moved}
 use Rattle.place_index.proofs.putting.put_row.Goals as goal
+
+pub value_mut-requires : goal.value_mut-requires
+value_mut-requires c = place_within c.args.domain.now c.domains.inside.rows c.in-Some.place (sym c.in-Some.ensures)
 
 pub put-requires : goal.put-requires
 put-requires c =
-    (has_room c.args.rows c.args.domains.now c.args.domain.now c.in-Some.part.now c.requires
-    (sym c.in-Some.ensures.value)).0
+    (has_room c.args.rows c.args.domains.now c.args.domain.now _ c.value_mut.result.now c.requires
+    (part_there c.args.domain.now c.domains.inside.starts.items c.domains.inside.rows c.args.domains.now
+    c.domains.view_is c.domains.invariant c.in-Some.place (sym c.in-Some.ensures) c.value_mut.result.now
+    c.value_mut.ensures.value _ 0 refl)).0
+
+pub invariant_of-domains : goal.invariant_of-domains
+invariant_of-domains c =
+    c.domains.invariant ∙ sym (length-set_value_at c.domains.inside.rows c.in-Some.place c.put.new.domain)
 
 pub returns-in_err-inner-in-Some-clause-err : goal.returns-in_err-inner-in-Some-clause-err
 returns-in_err-inner-in-Some-clause-err c =
+    let text = c.args.domain.now in
+    let starts = c.domains.inside.starts.items in
+    let rows = c.domains.inside.rows in
     let old = c.args.domains.now in
+    let own = c.value_mut.result.now in
+    let place = c.in-Some.place in
     on_err c.from_residual.result
-    (c.get_mut.follows.holds c.put.new.domain
-    ∙ ap (set_at c.args.domain.now old) c.in_err-inner-in-Some.ensures.err
-    ∙ set_value_same (bytes_eq c.args.domain.now) old c.in-Some.part.now (sym c.in-Some.ensures.value))
+    (ap (λ w. with_starts starts (set_value_at rows place w)) c.in_err-inner-in-Some.ensures.err
+    ∙ ap (with_starts starts) (set_value_at-same rows place own c.value_mut.ensures.value)
+    ∙ c.domains.view_is)
+
+pub index-requires : goal.index-requires
+index-requires c =
+    let within = place_within c.args.domain.now c.domains.inside.rows c.in-Some.place (sym c.in-Some.ensures) in
+    let same = c.domains.invariant in
+    let counted = c.domains.inside.starts.ok.0 in
+    omega (arith, within, same, counted)
+
+pub overflow_add-at : goal.overflow_add-at
+overflow_add-at c =
+    let start = c.index.result.now in
+    let fits = row_fits c.args.rows c.args.domains.now c.args.domain.now c.args.path.now start c.value_mut.result.now
+    c.put.new.domain c.in_ok-inner-in-Some.inner c.requires
+    (part_there c.args.domain.now c.domains.inside.starts.items c.domains.inside.rows c.args.domains.now
+    c.domains.view_is c.domains.invariant c.in-Some.place (sym c.in-Some.ensures) c.value_mut.result.now
+    c.value_mut.ensures.value start start c.index.ensures) c.in_ok-inner-in-Some.ensures.ok in
+    omega (arith, fits)
+
+pub invariant_of-domains-then-at-rows : goal.invariant_of-domains-then-at-rows
+invariant_of-domains-then-at-rows c =
+    let starts = c.domains.inside.starts in
+    sym (with_items starts c.move_starts.new.starts).ok.0 ∙ starts.ok.0 ∙ c.domains.invariant
+    ∙ sym (length-set_value_at c.domains.inside.rows c.in-Some.place c.put.new.domain)
+
+pub invariant_of-domains-else-at-rows : goal.invariant_of-domains-else-at-rows
+invariant_of-domains-else-at-rows c =
+    c.domains.invariant ∙ sym (length-set_value_at c.domains.inside.rows c.in-Some.place c.put.new.domain)
+
+pub begin-requires : goal.begin-requires
+begin-requires c =
+    ap (value_at c.args.domain.now) (sym c.domains.view_is)
+    ∙ none_found c.args.domain.now c.domains.inside.starts.items c.domains.inside.rows
+    (no_value c.args.domain.now c.domains.inside.rows (sym c.in-None.ensures))
 
 pub returns-then-at-rows-clause-ok : goal.returns-then-at-rows-clause-ok
 returns-then-at-rows-clause-ok c =
+    let text = c.args.domain.now in
+    let v = c.domains.inside.starts in
+    let starts = v.items in
+    let rows = c.domains.inside.rows in
     let old = c.args.domains.now in
+    let own = c.value_mut.result.now in
     let w = c.put.new.domain in
-    let there = sym c.in-Some.ensures.value in
-    let has = has_room c.args.rows old c.args.domain.now c.in-Some.part.now c.requires there in
-    puts_before_others (record { domain = c.args.domain.now; path = c.args.path.now })
-    (w.start + c.in_ok-inner-in-Some.inner) c.args.rows old _ c.in-Some.part.now w there (c.get_mut.follows.holds w)
-    c.in_ok-inner-in-Some.inner refl c.requires.room has.0 has.1 c.in_ok-inner-in-Some.ensures.ok
-    c.move_domains.new.domains c.move_domains.ensures
+    let start = c.index.result.now in
+    let p = start + c.in_ok-inner-in-Some.inner in
+    let there = part_there text starts rows old c.domains.view_is c.domains.invariant c.in-Some.place
+    (sym c.in-Some.ensures) own c.value_mut.ensures.value start start c.index.ensures in
+    let lent = part_set text starts rows old c.domains.view_is c.domains.invariant c.in-Some.place
+    (sym c.in-Some.ensures) own c.value_mut.ensures.value start start c.index.ensures w in
+    let has = has_room c.args.rows old text start own c.requires there in
+    puts_before_others (record { domain = text; path = c.args.path.now }) p c.args.rows old _ start own w there lent
+    c.in_ok-inner-in-Some.inner refl c.requires.room has.0 has.1 c.in_ok-inner-in-Some.ensures.ok _
+    (ap (λ ss. with_starts ss (set_value_at rows c.in-Some.place w))
+    (all_moved (moved p) v c.deref_mut.result.now c.move_starts.new.starts c.deref_mut.ensures.value
+    c.move_starts.ensures)
+    ∙ starts_moved (moved p) starts (set_value_at rows c.in-Some.place w))
 
 pub returns-else-at-rows-clause-ok : goal.returns-else-at-rows-clause-ok
 returns-else-at-rows-clause-ok c =
+    let text = c.args.domain.now in
+    let starts = c.domains.inside.starts.items in
+    let rows = c.domains.inside.rows in
     let old = c.args.domains.now in
+    let own = c.value_mut.result.now in
     let w = c.put.new.domain in
-    let there = sym c.in-Some.ensures.value in
-    let has = has_room c.args.rows old c.args.domain.now c.in-Some.part.now c.requires there in
-    puts_at_end (record { domain = c.args.domain.now; path = c.args.path.now })
-    (w.start + c.in_ok-inner-in-Some.inner) c.args.rows old _ c.in-Some.part.now w there (c.get_mut.follows.holds w)
-    c.in_ok-inner-in-Some.inner refl c.requires.room has.0 has.1 c.in_ok-inner-in-Some.ensures.ok
-    c.if-at-rows.false
+    let start = c.index.result.now in
+    let there = part_there text starts rows old c.domains.view_is c.domains.invariant c.in-Some.place
+    (sym c.in-Some.ensures) own c.value_mut.ensures.value start start c.index.ensures in
+    let lent = part_set text starts rows old c.domains.view_is c.domains.invariant c.in-Some.place
+    (sym c.in-Some.ensures) own c.value_mut.ensures.value start start c.index.ensures w in
+    let has = has_room c.args.rows old text start own c.requires there in
+    puts_at_end (record { domain = text; path = c.args.path.now }) (start + c.in_ok-inner-in-Some.inner) c.args.rows
+    old _ start own w there lent c.in_ok-inner-in-Some.inner refl c.requires.room has.0 has.1
+    c.in_ok-inner-in-Some.ensures.ok c.if-at-rows.false
 
-pub returns-in_ok-insert-in-None-clause-ok : goal.returns-in_ok-insert-in-None-clause-ok
-returns-in_ok-insert-in-None-clause-ok c =
-    puts_first (record { domain = c.args.domain.now; path = c.args.path.now }) c.args.rows c.args.domains.now
-    c.insert.new.self c.requires.room (sym c.in-None.ensures.value)
-    (c.in_ok-insert-in-None.ensures.ok
-    ∙ (λ i. with_value (c.get_mut.follows.holds-at-none i) (c.in_ok-text-in-None.ensures.ok i)
-    (record { start = c.args.rows; len = 1; paths = c.in_ok-paths-in-None.ensures i })))
+pub returns-in_ok-begin-in-None-clause-ok : goal.returns-in_ok-begin-in-None-clause-ok
+returns-in_ok-begin-in-None-clause-ok c =
+    let text = c.args.domain.now in
+    puts_first (record { domain = text; path = c.args.path.now }) c.args.rows c.args.domains.now c.begin.new.domains
+    c.requires.room
+    (ap (value_at text) (sym c.domains.view_is)
+    ∙ none_found text c.domains.inside.starts.items c.domains.inside.rows
+    (no_value text c.domains.inside.rows (sym c.in-None.ensures)))
+    c.in_ok-begin-in-None.ensures.ok

@@ -1,39 +1,132 @@
-use Rattle.std.proofs.Common.{◌∙◌, ap, sym}
-use Rattle.std.specs.Str.{bytes_eq}
-use Rattle.std.proofs.lemmas.Map.Steps.{set_value_same}
+use Rattle.std.proofs.Common.{◌∙◌, ap, arith, length, sym}
+use Rattle.std.specs.List.{remove}
+use Rattle.std.specs.Vec.{with_items}
+use Rattle.indexmap.specs.Layout.{length-set_value_at}
 use Rattle.place_index.specs.Entries.{value_at, without}
 use Rattle.place_index.specs.Places.{Place}
+use Rattle.place_index.specs.Starts.{part_at, with_starts}
+use Rattle.place_index.specs.Taking.{moved_back}
 use Rattle.place_index.proofs.RowOutLemmas.{starts_before, inside_of, takes_more, takes_only, takes_none}
-use Rattle.place_index.proofs.taking.take_row.Goals.{in-Some, in-Some-2, in-None}
+use Rattle.place_index.proofs.StartLemmas.{all_moved, entry_at, no_value, none_found, part_removed, part_set}
+use Rattle.place_index.proofs.StartLemmas.{part_there, place_within, remove-length, set_value_at-same, starts_moved}
+use Rattle.place_index.proofs.StartLemmas.{without-length}
+use Rattle.place_index.proofs.taking.take_row.Goals.{in-Some+then-rows-gt1, in-Some+else-rows-gt1, in_default}
 use Rattle.place_index.proofs.taking.take_row.Goals as goal
 
-pub overflow_sub-at : goal.overflow_sub-at
-overflow_sub-at c =
+pub index-requires : goal.index-requires
+index-requires c =
+    let within = place_within c.args.domain.now c.domains.inside.rows c.in-Some.place (sym c.in-Some.ensures) in
+    let same = c.domains.invariant in
+    let counted = c.domains.inside.starts.ok.0 in
+    omega (arith, within, same, counted)
+
+pub overflow_sub-inner : goal.overflow_sub-inner
+overflow_sub-inner c =
+    let rows = c.domains.inside.rows in
+    let place = c.in-Some.place in
+    let at = sym c.in-Some.ensures in
+    let start = c.index.result.now in
+    let within = place_within c.args.domain.now rows place at in
+    let own = entry_at rows place within in
     starts_before (record { domain = c.args.domain.now; path = c.args.path.now }) c.args.at c.args.domains.now
-    c.in-Some.part.now c.requires (sym c.in-Some.ensures.value)
+    (part_at start own.0) c.requires
+    (part_there c.args.domain.now c.domains.inside.starts.items rows c.args.domains.now c.domains.view_is
+    c.domains.invariant place at own.0 own.1 start start c.index.ensures)
+
+pub value_mut-rows-requires : goal.value_mut-rows-requires
+value_mut-rows-requires c =
+    place_within c.args.domain.now c.domains.inside.rows c.in-Some.place (sym c.in-Some.ensures)
 
 pub take-requires-clause-inside : goal.take-requires-clause-inside
 take-requires-clause-inside c =
-    inside_of (record { domain = c.args.domain.now; path = c.args.path.now }) c.args.at c.args.domains.now
-    c.in-Some.part.now c.requires (sym c.in-Some.ensures.value)
+    let start = c.index.result.now in
+    inside_of (record { domain = c.args.domain.now; path = c.args.path.now }) c.args.at c.args.domains.now start
+    c.value_mut-rows.result.now c.requires
+    (part_there c.args.domain.now c.domains.inside.starts.items c.domains.inside.rows c.args.domains.now
+    c.domains.view_is c.domains.invariant c.in-Some.place (sym c.in-Some.ensures) c.value_mut-rows.result.now
+    c.value_mut-rows.ensures.value start start c.index.ensures)
+
+pub remove-requires-else-rows-gt1 : goal.remove-requires-else-rows-gt1
+remove-requires-else-rows-gt1 c =
+    let within = place_within c.args.domain.now c.domains.inside.rows c.in-Some.place (sym c.in-Some.ensures) in
+    let same = c.domains.invariant in
+    let counted = c.domains.inside.starts.ok.0 in
+    omega (arith, within, same, counted)
+
+pub invariant_of-domains : goal.invariant_of-domains
+invariant_of-domains c =
+    let text = c.args.domain.now in
+    let rows = c.domains.inside.rows in
+    let same = c.domains.invariant in
+    let mid = c.match-place.domains-inside in
+    sym (with_items mid.starts c.move_starts_back.new.starts).ok.0 ∙ mid.starts.ok.0
+    ∙ elim c.match-place.branch [
+      | in-Some+then-rows-gt1 w ↦
+          ap (λ d. length d.starts.items) w.domains-inside-is ∙ same
+          ∙ sym (ap (λ d. length d.rows) w.domains-inside-is
+          ∙ length-set_value_at rows w.in-Some.place w.take.new.domain)
+      | in-Some+else-rows-gt1 w ↦
+          let place = w.in-Some.place in
+          let at = sym w.in-Some.ensures in
+          let within = place_within text rows place at in
+          let starts = remove-length c.domains.inside.starts.items place (omega (arith, within, same)) in
+          let left = without-length text rows place at in
+          let own = w.value_mut-rows.result.now in
+          let out = ap length (w.remove.ensures.rest
+          ∙ ap (without text) (set_value_at-same rows place own w.value_mut-rows.ensures.value)) in
+          let one = ap (λ d. length d.starts.items) w.domains-inside-is
+          ∙ ap length w.remove-else-rows-gt1.ensures.items in
+          let other = ap (λ d. length d.rows) w.domains-inside-is in
+          omega (arith, starts, left, out, one, other, same)
+      | in_default w ↦
+          ap (λ d. length d.starts.items) w.domains-inside-is ∙ same
+          ∙ sym (ap (λ d. length d.rows) w.domains-inside-is)
+    ]
 
 pub returns : goal.returns
 returns c =
-    let row : Place = record { domain = c.args.domain.now; path = c.args.path.now } in
+    let text = c.args.domain.now in
+    let row : Place = record { domain = text; path = c.args.path.now } in
     let old = c.args.domains.now in
-    let mid = c.match-get_mut.domains in
-    let new = c.move_domains_back.new.domains in
-    elim c.match-get_mut.branch [
-      | in-Some w ↦
-          takes_more row c.args.at old mid new c.move_domains_back.ensures w.in-Some.part.now w.take.new.domain
-          (sym w.in-Some.ensures.value) w.if-get_mut-gt1.true w.take.ensures
-          (w.domains-is ∙ c.get_mut.follows.holds w.take.new.domain)
-      | in-Some-2 w ↦
-          let part = w.in-Some.part.now in
-          let there = sym w.in-Some.ensures.value in
-          takes_only row c.args.at old mid new c.move_domains_back.ensures part there w.if-get_mut-gt1.false
-          (w.domains-is ∙ w.remove.ensures.rest ∙ ap (without row.domain)
-          (c.get_mut.follows.holds part ∙ set_value_same (bytes_eq row.domain) old part there))
-          (ap (value_at row.domain) w.domains-is ∙ w.remove.ensures.gone)
-      | in-None w ↦ takes_none row c.args.at old new (sym w.in-None.ensures.value)
+    let starts = c.domains.inside.starts.items in
+    let rows = c.domains.inside.rows in
+    let is = c.domains.view_is in
+    let same = c.domains.invariant in
+    let inside = c.match-place.domains-inside in
+    let mid = with_starts inside.starts.items inside.rows in
+    let moved = ap (λ ss. with_starts ss inside.rows)
+    (all_moved (moved_back c.args.at) inside.starts c.deref_mut.result.now c.move_starts_back.new.starts
+    c.deref_mut.ensures.value c.move_starts_back.ensures)
+    ∙ starts_moved (moved_back c.args.at) inside.starts.items inside.rows in
+    elim c.match-place.branch [
+      | in-Some+then-rows-gt1 w ↦
+          let place = w.in-Some.place in
+          let at = sym w.in-Some.ensures in
+          let own = w.value_mut-rows.result.now in
+          let value = w.value_mut-rows.ensures.value in
+          let start = w.index.result.now in
+          let there = part_there text starts rows old is same place at own value start start w.index.ensures in
+          takes_more row c.args.at old mid _ moved start own w.take.new.domain there w.if-rows-gt1.true w.take.ensures
+          (ap (λ d. with_starts d.starts.items d.rows) w.domains-inside-is
+          ∙ part_set text starts rows old is same place at own value start start w.index.ensures w.take.new.domain)
+      | in-Some+else-rows-gt1 w ↦
+          let place = w.in-Some.place in
+          let at = sym w.in-Some.ensures in
+          let own = w.value_mut-rows.result.now in
+          let value = w.value_mut-rows.ensures.value in
+          let start = w.index.result.now in
+          let there = part_there text starts rows old is same place at own value start start w.index.ensures in
+          takes_only row c.args.at old mid _ moved (part_at start own) there w.if-rows-gt1.false
+          (ap (λ d. with_starts d.starts.items d.rows) w.domains-inside-is
+          ∙ ap (λ ss. with_starts ss w.remove.new.self) w.remove-else-rows-gt1.ensures.items
+          ∙ ap (with_starts (remove starts place))
+          (w.remove.ensures.rest ∙ ap (without text) (set_value_at-same rows place own value))
+          ∙ part_removed text starts rows place same at
+          ∙ ap (without text) is)
+          (ap (λ d. value_at text (with_starts d.starts.items d.rows)) w.domains-inside-is
+          ∙ none_found text _ w.remove.new.self w.remove.ensures.gone)
+      | in_default w ↦
+          takes_none row c.args.at old _
+          (ap (value_at text) (sym is)
+          ∙ none_found text starts rows (no_value text rows (sym c.place.ensures ∙ w.in_default.is)))
     ]

@@ -7,7 +7,7 @@ use Rattle.place_index.proofs.index.Index.find.Goals as goal
 
 pub returns-in_err-ask_domains-clause-looks : goal.returns-in_err-ask_domains-clause-looks
 returns-in_err-ask_domains-clause-looks g c places agrees =
-    few_looks places c.args.self.now c.self.inside.domains.parts c.self.view_is agrees c.args.host.now
+    few_looks places c.args.self.now c.self.inside.domains c.self.view_is agrees c.args.host.now
     c.args.path.now c.args.looks.now c.ask_domains.new.looks c.in_err-ask_domains.ensures.looks
 
 pub returns-clause-found : goal.returns-clause-found
@@ -21,5 +21,5 @@ returns-clause-found g c places agrees =
 
 pub returns-clause-looks : goal.returns-clause-looks
 returns-clause-looks g c places agrees =
-    few_looks places c.args.self.now c.self.inside.domains.parts c.self.view_is agrees c.args.host.now
+    few_looks places c.args.self.now c.self.inside.domains c.self.view_is agrees c.args.host.now
     c.args.path.now c.args.looks.now c.ask_domains.new.looks c.in_ok-ask_domains.ensures.looks

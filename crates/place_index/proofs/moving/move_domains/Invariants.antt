@@ -1,8 +1,0 @@
-use Rattle.std.proofs.Common.{◌≡◌}
-use Rattle.place_index.specs.Index.{moved_domain}
-use Rattle.place_index.proofs.EntryLemmas.{first_with}
-use Rattle.place_index.proofs.moving.move_domains.Given as goal
-
-abbrev pub invariant-loop-i : goal.invariant-loop-i
-invariant-loop-i l =
-    l.domains-inside.entries.entries ≡ first_with (moved_domain l.fn.at) l.i l.initial.domains-inside.entries.entries

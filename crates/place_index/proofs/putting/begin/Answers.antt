@@ -1,0 +1,38 @@
+use Rattle.std.proofs.Common.{◌≡◌, ◌+◌, ◌++◌, ◌∷◌, [], ◌∙◌, ap, arith, length, length-append, suc, sym}
+use Rattle.place_index.specs.Entries.{value_at, with_value}
+use Rattle.place_index.specs.Starts.{part_at, with_starts}
+use Rattle.place_index.specs.declared.part.DomainRows.{DomainRows}
+use Rattle.place_index.specs.declared.part.Part.{Part}
+use Rattle.place_index.proofs.StartLemmas.{no_place, part_added, with_value-length}
+use Rattle.place_index.proofs.putting.begin.Goals as goal
+
+pub invariant_of-domains-2 : goal.invariant_of-domains-2
+invariant_of-domains-2 c =
+    let text = c.args.domain.now in
+    let starts = c.domains.inside.starts.items in
+    let rows = c.domains.inside.rows in
+    let same = c.domains.invariant in
+    let none = no_place text starts rows same (ap (value_at text) c.domains.view_is ∙ c.requires) in
+    let own : DomainRows = record { len = 1; paths = c.in_ok-paths.paths } in
+    let one : length starts + length (c.args.start ∷ []) ≡ suc (length rows) = omega (arith, same) in
+    ap length (c.in_ok-push.ensures.items ∙ ap (λ xs. xs ++ c.args.start ∷ []) c.reserve.ensures.items)
+    ∙ length-append starts (c.args.start ∷ [])
+    ∙ one
+    ∙ sym (ap length (c.in_ok-insert.ensures.ok ∙ ap (λ key. with_value rows key own) c.in_ok-text.ensures.ok)
+    ∙ with_value-length text rows own none)
+
+pub returns-clause-ok : goal.returns-clause-ok
+returns-clause-ok c =
+    let text = c.args.domain.now in
+    let starts = c.domains.inside.starts.items in
+    let rows = c.domains.inside.rows in
+    let same = c.domains.invariant in
+    let none = no_place text starts rows same (ap (value_at text) c.domains.view_is ∙ c.requires) in
+    let pushed = c.in_ok-push.ensures.items ∙ ap (λ xs. xs ++ c.args.start ∷ []) c.reserve.ensures.items in
+    let first : Part = record { start = 0; len = 1 } in
+    let own : DomainRows = record { len = 1; paths = (c.args.path.now, first) ∷ [] } in
+    let put = c.in_ok-insert.ensures.ok
+    ∙ (λ i. with_value rows (c.in_ok-text.ensures.ok i) (record { len = 1; paths = c.in_ok-paths.ensures i })) in
+    (λ i. with_starts (pushed i) (put i))
+    ∙ part_added text starts rows c.args.start own same none
+    ∙ ap (λ index. with_value index text (part_at c.args.start own)) c.domains.view_is
