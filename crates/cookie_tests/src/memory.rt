@@ -2,7 +2,11 @@
 //!
 //! A scenario answers whether all came out right, or want of memory. A test ends with that as its error,
 //! so it passes with ample memory alone.
-use crate::key_tests::{DATA, SEALED, SIGNED, jefe, zero_key};
+mod child_jars;
+mod jars;
+mod prefixes;
+
+use crate::keys::{DATA, SEALED, SIGNED, jefe, zero_key};
 use cookie::PrivateError;
 use cookie::secure::{opened_value, sealed_text, signed_text};
 use cookie_text::{Cookie, CookieBuilder, ParseError, SplitCookies};

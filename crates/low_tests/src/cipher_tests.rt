@@ -1,152 +1,11 @@
-//! Tests of `seal` over lengths and drawn texts, and of the calls that count their turns.
+//! The calls of `seal` that count their turns: how many they take is proved.
 
-ghost use Rattle.std.specs.Prelude.{◌≡◌, ◌≤◌, ◌<◌, ◌+◌, length};
+ghost use Rattle.std.specs.Prelude.{◌≡◌, ◌≤◌, ◌<◌, ◌+◌};
 
-use crate::plain_cipher;
-use crate::seal_tests::is_sealing;
 use hex::{FromHex, FromHexError};
-use rand_chacha::ChaCha20Rng;
-use rand_core::{Rng, SeedableRng};
-use seal::{Multiples, SealError, Turns, open, open_counted, seal, seal_counted};
-use sha2::{Digest, Sha256};
+use seal::{Multiples, SealError, Turns, open_counted, seal_counted};
 use std::marker::Brand;
 use std::sync::ledger::{Blank, Ledger};
-
-const KEY: [u8; 32] = [
-    0, 1, 2, 3, 4, 5, 6, 7, 8, 9, 10, 11, 12, 13, 14, 15, 16, 17, 18, 19, 20, 21, 22, 23, 24, 25,
-    26, 27, 28, 29, 30, 31,
-];
-
-const NONCE: [u8; 12] = *b"@ABCDEFGHIJK";
-
-// The bytes first, first + step, .., each modulo 256.
-fn steps(first: u8, step: u8) -> [u8; 64] {
-    let mut bytes = [0; 64];
-    let mut next = first;
-    for i in 0..64usize {
-        bytes[i] = next;
-        next = next.wrapping_add(step);
-    }
-    bytes
-}
-
-// The tag of the text 3, 10, 17, .. under the additional data 1, 6, 11, .., and its ciphertext in place of the text.
-fn seal_steps(text: &mut [u8; 64], text_len: usize, aad_len: usize) -> Result<[u8; 16], SealError>
-    requires { (text_len ≤ 64) × (aad_len ≤ 64) }
-{
-    *text = steps(3, 7);
-    seal(&KEY, &NONCE, &steps(1, 5)[..aad_len], &mut text[..text_len])
-}
-
-// The tags by another program: the lengths of text and of additional data, and the tag.
-const TAGS: [(usize, usize, &str); 11] = [
-    (0, 0, "c9b3c23ebecd69c4c2d87bc27ee34810"),
-    (1, 0, "88d33485065f60535c701cfd8c99b281"),
-    (15, 1, "a1d40dd353eb377f8d5d2d3e4b37413d"),
-    (16, 16, "7a6ee93d70f04ad09d3ab62a51e2909f"),
-    (17, 17, "c2fd1bb98a00380b7a3cd3120abca03b"),
-    (31, 0, "e20b95cd6a8e5ad0c943222b54073829"),
-    (32, 1, "84b2ee533be6c25aad2da4d0ceb4288b"),
-    (33, 16, "fc47c14ab453eda400363556bb7c1a4a"),
-    (48, 17, "53c68e7b968db531f0320ba6b80e453f"),
-    (63, 1, "0b9330b2d97775127de3a6ac13b22767"),
-    (64, 17, "39b30e11eeebb5803615465c94d8873b"),
-];
-
-fn tags_as(text_len: usize, aad_len: usize, tag: &str) -> bool {
-    if text_len > 64 || aad_len > 64 {
-        return false;
-    }
-    match <[u8; 16] as FromHex>::from_hex(tag) {
-        Ok(tag) => seal_steps(&mut [0; 64], text_len, aad_len) == Ok(tag),
-        Err(_) => false,
-    }
-}
-
-#[test]
-fn tags_as_another_program(rt: HostRuntime) {
-    for (text_len, aad_len, tag) in &TAGS {
-        assert!(rt; tags_as(*text_len, *aad_len, tag), "{tag}");
-    }
-}
-
-// The SHA-256 of ciphertext and tag of every text length from 0 to 64 under additional data of 0,
-// then of 1, 16 and 17 bytes, of the same texts and by the same program.
-const ALL: &str = "7ded288f9fa3762c5344245e7fbe6c8c1a136e2500203aab204e756d2660ab7b";
-
-fn add_sealing(digest: &mut Sha256, text_len: usize, aad_len: usize) -> Result<(), SealError>
-    requires { (text_len ≤ 64) × (aad_len ≤ 64) }
-{
-    let mut text = [0; 64];
-    let tag = seal_steps(&mut text, text_len, aad_len)?;
-    digest.update(&text[..text_len]);
-    digest.update(&tag);
-    Ok(())
-}
-
-fn digest_of_all() -> Result<[u8; 32], SealError> {
-    let mut digest = Sha256::new();
-    for aad_len in [0usize, 1, 16, 17] {
-        for text_len in 0..65usize {
-            add_sealing(&mut digest, text_len, aad_len)?;
-        }
-    }
-    Ok(digest.finalize())
-}
-
-#[test]
-fn seals_every_length_as_another_program(rt: HostRuntime) -> Result<(), FromHexError> {
-    let all = <[u8; 32] as FromHex>::from_hex(ALL)?;
-    assert!(rt; digest_of_all() == Ok(all));
-    Ok(())
-}
-
-// Draws key, nonce, additional data and text, seals them by both, and opens the sealing.
-fn agrees(rng: &mut ChaCha20Rng, aad_len: usize, text_len: usize) -> bool
-    requires { (aad_len ≤ 64) × (text_len ≤ 64) }
-{
-    let (mut key, mut nonce) = ([0; 32], [0; 12]);
-    let (mut aad, mut plain) = ([0; 64], [0; 64]);
-    rng.fill_bytes(&mut key);
-    rng.fill_bytes(&mut nonce);
-    rng.fill_bytes(&mut aad[..aad_len]);
-    rng.fill_bytes(&mut plain[..text_len]);
-    seals_as_the_plain_cipher(&key, &nonce, &aad, aad_len, &plain, text_len)
-}
-
-fn seals_as_the_plain_cipher(
-    key: &[u8; 32],
-    nonce: &[u8; 12],
-    aad: &[u8; 64],
-    aad_len: usize,
-    plain: &[u8; 64],
-    text_len: usize,
-) -> bool
-    requires { (aad_len ≤ 64) × (text_len ≤ 64) }
-{
-    let (ciphertext, tag) = plain_cipher::seal(key, nonce, aad, aad_len, plain, text_len);
-    is_sealing(
-        key,
-        nonce,
-        &aad[..aad_len],
-        &plain[..text_len],
-        &ciphertext[..text_len],
-        &tag,
-    )
-}
-
-#[test]
-fn seals_drawn_texts_as_the_plain_cipher(rt: HostRuntime) {
-    let mut rng = ChaCha20Rng::from_seed([17; 32]);
-    for aad_len in [0usize, 1, 16, 17] {
-        for text_len in 0..65usize {
-            assert!(rt;
-                agrees(&mut rng, aad_len, text_len),
-                "{text_len} and {aad_len}"
-            );
-        }
-    }
-}
 
 // Seals a block and opens the sealing, 67 turns each: three, and 32 for the block and for the
 // lengths. Answers the tag and what was opened.
@@ -224,19 +83,5 @@ fn steps_as_published(rt: HostRuntime) -> Result<(), FromHexError> {
     let one = <[u8; 16] as FromHex>::from_hex("5e2ec746917062882c85b0685353deb7")?;
     let two = <[u8; 16] as FromHex>::from_hex("f38cbb1ad69223dcc3457ae5b6b0f885")?;
     assert!(rt; two_steps_from::<Brand>(&h, &block, &lengths, Blank::new(1)) == (one, two));
-    Ok(())
-}
-
-// The example of the crate's README.
-#[test]
-fn readme_seal(rt: HostRuntime) -> Result<(), SealError> {
-    // README: crates/seal/README.md
-    let (key, nonce) = ([7; 32], [9; 12]);
-    let mut text = *b"attack at dawn";
-    let tag = seal(&key, &nonce, b"header", &mut text)?;
-    assert!(rt; text != *b"attack at dawn");
-    open(&key, &nonce, b"header", &mut text, &tag)?;
-    assert!(rt; text == *b"attack at dawn");
-    // README: end
     Ok(())
 }

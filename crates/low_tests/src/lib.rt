@@ -1,10 +1,9 @@
-//! Tests of `devices`, `seal`, `publicsuffix` and `place_index`: vectors and rows from public documents.
+//! Tests of `devices`, `seal`, `publicsuffix` and `place_index`: what is proved of a use of theirs, calls that take
+//! memory, and the READMEs' examples.
 #![tactic(auto)]
 
 #[cfg(test)]
 mod cipher_tests;
-#[cfg(test)]
-mod device_tests;
 #[cfg(test)]
 mod index_rows;
 #[cfg(test)]
@@ -12,10 +11,4 @@ mod index_tests;
 #[cfg(test)]
 mod memory;
 #[cfg(test)]
-mod plain_cipher;
-#[cfg(test)]
-mod seal_tests;
-#[cfg(test)]
-mod suffix_tests;
-#[cfg(test)]
-mod suffix_tree_tests;
+mod readme_tests;

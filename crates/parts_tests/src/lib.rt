@@ -1,9 +1,5 @@
-//! Tests of `store_parts`: examples from public documents.
+//! Calls of `store_parts` that take memory.
 #![tactic(auto)]
 
 #[cfg(test)]
-mod domain_tests;
-#[cfg(test)]
-mod expiry_tests;
-#[cfg(test)]
-mod parts_tests;
+mod memory;

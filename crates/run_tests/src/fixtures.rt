@@ -1,13 +1,11 @@
-//! What several tests begin with, and what they ask of a session and of a client.
-use crate::generators::{Generator, zeros};
-use cookie::{Cookie, Expiration, Key};
-use cookie_run::{Client, Counting, Ended, LineEnd, RunError, Session, Text, Way, run};
+//! What scenarios begin with, and how a script runs.
+use crate::generators::Generator;
+use cookie::{Cookie, Key};
+use cookie_run::{Client, Counting, Ended, RunError, Text, run};
 use jiff::SignedDuration;
 use jiff::civil::DateTime;
 use publicsuffix::{List, ListError};
 use std::alloc::{AllocError, Global};
-use std::process::Abort;
-use url::Url;
 
 /// So many seconds after the beginning of 2024.
 pub fn second(n: i64) -> DateTime {
@@ -25,13 +23,6 @@ pub fn cookie(alloc: Global, name: &str, value: &str) -> Result<Cookie<'static>,
         String::from_str(alloc, name)?,
         String::from_str(alloc, value)?,
     ))
-}
-
-/// A cookie of this name that ends then.
-pub fn ending(alloc: Global, name: &str, end: DateTime) -> Result<Cookie<'static>, AllocError> {
-    let mut ending = cookie(alloc, name, "1")?;
-    ending.set_expires(Expiration::DateTime(end));
-    Ok(ending)
 }
 
 /// An owned text.
@@ -83,66 +74,10 @@ pub fn run_script(
     )
 }
 
-/// A session on this header.
-pub fn opened(rt: &impl Abort, alloc: Global, header: &[u8]) -> Session {
-    match Session::open(alloc, header, zero_key()) {
-        Ok(session) => session,
-        Err(_) => panic!(rt; "no memory for a session"),
-    }
-}
-
-/// Whether a cookie is set in this way.
-pub fn sets(session: &mut Session, way: Way, cookie: Result<Cookie<'static>, AllocError>) -> bool {
-    match cookie {
-        Ok(cookie) => session.set(way, cookie, &mut zeros()).is_ok(),
-        Err(_) => false,
-    }
-}
-
-/// Whether a name reads so in this way.
-pub fn reads(session: &Session, way: Way, name: &str, wanted: Option<&str>) -> bool {
-    match session.get(way, name) {
-        Ok(value) => value.as_deref() == wanted,
-        Err(_) => false,
-    }
-}
-
-/// Whether a session closes with this line alone.
-pub fn closes_with(session: &Session, wanted: &str) -> bool {
-    match session.close() {
-        Ok(lines) => is_line(&lines, wanted),
-        Err(_) => false,
-    }
-}
-
 /// Whether these lines are this one alone.
 pub fn is_line(lines: &[String], wanted: &str) -> bool {
     match lines {
         [line] => line.as_str() == wanted,
         _ => false,
-    }
-}
-
-/// Whether a session closes with so many lines.
-pub fn closes_with_lines(session: &Session, count: usize) -> bool {
-    match session.close() {
-        Ok(lines) => lines.len() == count,
-        Err(_) => false,
-    }
-}
-
-/// Whether these become of lines that come to a client from a URL.
-pub fn takes(client: &mut Client, url: &Url, lines: &[&[u8]], wanted: &[LineEnd]) -> bool {
-    match client.receive(url, lines, second(0)) {
-        Ok(ends) => ends.as_slice() == wanted,
-        Err(_) => false,
-    }
-}
-
-/// Whether a client gives this header to a URL.
-pub fn gives(client: &Client, url: &Url, wanted: &str) -> bool {
-    match client.header(url, second(8)) {
-        Ok(header) => header.as_str() == wanted,
-        Err(_) => false,
     }
 }

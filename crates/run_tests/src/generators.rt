@@ -50,3 +50,27 @@ pub fn zeros() -> Generator {
 pub fn failing() -> Generator {
     Generator { fails: true }
 }
+
+/// Counts its fills, and gives each the bytes of its number.
+#[derive(Drop)]
+pub struct Numbered {
+    pub fills: u8,
+}
+
+impl TryRng for Numbered {
+    type Error = Failed;
+
+    fn try_next_u32(&mut self) -> Result<u32, Failed> {
+        Err(Failed)
+    }
+
+    fn try_next_u64(&mut self) -> Result<u64, Failed> {
+        Err(Failed)
+    }
+
+    fn try_fill_bytes(&mut self, dst: &mut [u8]) -> Result<(), Failed> {
+        self.fills = self.fills.saturating_add(1);
+        dst.fill(self.fills);
+        Ok(())
+    }
+}

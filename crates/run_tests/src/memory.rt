@@ -3,6 +3,9 @@
 //! A scenario looks at what a refusal leaves, and answers whether it met want of memory. A test ends
 //! with that as its error, so it passes with ample memory alone; `tools/refuse-growths` refuses each
 //! growth in turn, and takes no other failure.
+mod fills;
+mod saving;
+
 use crate::fixtures::{client, cookie, is_line, run_script, second, words, zero_key};
 use crate::generators::zeros;
 use crate::steps::{steps, told};

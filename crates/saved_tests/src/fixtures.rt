@@ -48,3 +48,15 @@ pub fn bare_row(alloc: Global, domain: SavedDomain) -> Result<SavedRow, AllocErr
         expires: SavedExpiration::SessionEnd,
     })
 }
+
+/// A row in compact JSON.
+pub const ROW: &str =
+    "{\"raw_cookie\":\"b=2; Secure; Path=/; Max-Age=3600\",\"path\":[\"/\",true],\"domain\":{\"HostOnly\":\"shop.com\"},\"expires\":{\"AtUtc\":\"2024-01-01T01:00:00Z\"}}";
+
+/// A row with each escape, in compact JSON.
+pub const ESCAPED: &str =
+    "{\"raw_cookie\":\"a=\\\"\\\\\\n\\r\\t\\b\\f\\u0000\\u001f\u{7f}é\",\"path\":[\"\",false],\"domain\":{\"Suffix\":\".'/\"},\"expires\":\"SessionEnd\"}";
+
+/// Two rows in indented JSON.
+pub const LIST: &str =
+    "[\n  {\n    \"raw_cookie\": \"b=2; Secure; Path=/; Max-Age=3600\",\n    \"path\": [\n      \"/\",\n      true\n    ],\n    \"domain\": {\n      \"HostOnly\": \"shop.com\"\n    },\n    \"expires\": {\n      \"AtUtc\": \"2024-01-01T01:00:00Z\"\n    }\n  },\n  {\n    \"raw_cookie\": \"cookie1=value1\",\n    \"path\": [\n      \"/foo\",\n      false\n    ],\n    \"domain\": \"Empty\",\n    \"expires\": \"SessionEnd\"\n  }\n]\n";

@@ -1,21 +1,6 @@
-//! Tests of saved texts: the formats' own texts, and public documents' examples.
+//! Calls of `saved_text` that take memory, and rows that its other tests share.
 #![tactic(auto)]
 
-#[cfg(test)]
-mod date_tests;
-#[cfg(test)]
-mod deep_tests;
-#[cfg(test)]
-mod error_tests;
-#[cfg(test)]
-mod fixtures;
-#[cfg(test)]
-mod json_read_tests;
-#[cfg(test)]
-mod json_write_tests;
+pub mod fixtures;
 #[cfg(test)]
 mod memory;
-#[cfg(test)]
-mod ron_read_tests;
-#[cfg(test)]
-mod write_tests;

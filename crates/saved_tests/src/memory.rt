@@ -3,8 +3,7 @@
 //! A scenario answers whether all came out right, or want of memory. The first test of a pair accepts
 //! that, too; the second shows that there is none with ample memory.
 
-use crate::fixtures::{ESCAPED_RON, RON, bare_row, escaped_row, shop_row};
-use crate::json_write_tests::{ESCAPED, LIST, ROW};
+use crate::fixtures::{ESCAPED, ESCAPED_RON, LIST, RON, ROW, bare_row, escaped_row, shop_row};
 use saved_text::{
     SavedDomain, SavedRow, SavedTextError, from_value, row_from_json, row_to_json, rows_from_json,
     rows_from_ron, rows_to_json, rows_to_ron, to_value,

@@ -3,6 +3,9 @@
 //! A scenario answers whether all came out right, or want of memory. The first test of a pair accepts
 //! that, too; the second shows that there is none with ample memory.
 
+mod cookies;
+mod forms;
+
 use crate::fixtures::at;
 use cookie_store::{
     Cookie, CookieDomain, CookieError, CookieStore, Counting, Error, RawCookie, StoreAction,

@@ -1,0 +1,5 @@
+//! A store's domains, paths and expiries: examples from public documents.
+
+mod domain_tests;
+mod expiry_tests;
+mod parts_tests;
