@@ -1,5 +1,10 @@
 //! Scenarios over calls that take memory, of which each growth is refused in turn.
 
+use cookie::Cookie as RawCookie;
+use std::alloc::Global;
+use store_parts::{CookieDomain, CookiePath, Error, cookie_domain};
+use url::Url;
+
 // The texts of a path that was given and of a default one, each copied.
 fn path_texts(alloc: Global) -> Result<(String, String), Error> {
     let url = url_of(alloc, "http://example.com/b/c")?;
