@@ -34,9 +34,9 @@ class Edit:
     def locate(self, functions, texts):
         """Finds the functions that must be refused, and returns why it can only be tried whole, if that is so."""
         if self.named:
-            self.is_global = True
             self.functions = [it for it in functions if it.name in self.named]
             lost = {*self.named} - {it.name for it in self.functions}
+            self.is_global = not all(self.is_in_a_body(file, old, texts) for file, old, _ in self.pairs)
             return f"no function is named {', '.join(sorted(lost))}" if lost else None
         for file, old, _ in self.pairs:
             if file not in texts:
@@ -51,6 +51,12 @@ class Edit:
             self.functions += [it for it in holders if it not in self.functions]
             self.is_global |= any(line < it.body for it in holders)
         return None
+
+    def is_in_a_body(self, file, old, texts):
+        """Whether the text stands once there, in the body of a function that must be refused."""
+        text = texts.get(file, "")
+        line = text.count("\n", 0, text.find(old))
+        return text.count(old) == 1 and any(it.file == file and it.body <= line <= it.last for it in self.functions)
 
     def places(self, texts):
         """Where its texts stand in the crate's own, as (file, first, last, new text)."""
