@@ -38,7 +38,8 @@ class Verdicts:
 
     def keep(self, edit, told):
         if self.folder:
-            with tempfile.NamedTemporaryFile("w", dir=self.folder, suffix=".new", delete=False, encoding="utf-8") as file:
+            how = {"dir": self.folder, "suffix": ".new", "delete": False, "encoding": "utf-8"}
+            with tempfile.NamedTemporaryFile("w", **how) as file:
                 json.dump({"edit": edit.label, "told": told}, file)
             os.replace(file.name, self.path(edit))
 
