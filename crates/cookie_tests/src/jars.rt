@@ -10,7 +10,7 @@ pub fn new_year() -> DateTime {
     DateTime::constant(2024, 1, 1, 0, 0, 0, 0)
 }
 
-// What a scenario answers of a value that it is lent: what owns one itself is dear to prove.
+/// What a scenario answers of a value that it is lent: what owns one itself is dear to prove.
 pub fn lent<T: Drop, E: Drop, F: FnOnce(&mut T) -> Result<bool, E> + Drop>(
     owned: T,
     scenario: F,
@@ -21,7 +21,7 @@ pub fn lent<T: Drop, E: Drop, F: FnOnce(&mut T) -> Result<bool, E> + Drop>(
     scenario(&mut owned)
 }
 
-// The value under a name; `-` stands for none.
+/// The value under a name; `-` stands for none.
 pub fn value<'j>(jar: &'j CookieJar, name: &str) -> &'j str {
     match jar.get(name) {
         Some(cookie) => cookie.value(),
@@ -33,7 +33,7 @@ pub fn are_values(jar: &CookieJar, a: &str, b: &str, c: &str) -> bool {
     value(jar, "a") == a && value(jar, "b") == b && value(jar, "c") == c
 }
 
-// How many cookies the view has.
+/// How many cookies the view has.
 pub fn shown(jar: &CookieJar) -> u8 {
     let mut count = 0u8;
     for _ in jar.iter() {
@@ -42,7 +42,7 @@ pub fn shown(jar: &CookieJar) -> u8 {
     count
 }
 
-// How many cookies the delta has.
+/// How many cookies the delta has.
 pub fn told(jar: &CookieJar) -> u8 {
     let mut count = 0u8;
     for _ in jar.delta() {
@@ -55,7 +55,7 @@ pub fn has_counts(jar: &CookieJar, cookies: u8, changes: u8) -> bool {
     shown(jar) == cookies && told(jar) == changes
 }
 
-// Whether the cookie that a child jar read has this value; `-` stands for none.
+/// Whether the cookie that a child jar read has this value; `-` stands for none.
 pub fn is_read(
     read: Result<Option<Cookie<'static>>, AllocError>,
     wanted: &str,
@@ -66,8 +66,8 @@ pub fn is_read(
     }
 }
 
-// Whether the name has the value that it has after what was done. Where that was refused, it has the
-// value from before.
+/// Whether the name has the value that it has after what was done. Where that was refused, it has the
+/// value from before.
 pub fn settled<E: Drop>(
     jar: &CookieJar,
     done: Result<(), E>,
@@ -85,7 +85,7 @@ pub fn settled<E: Drop>(
     }
 }
 
-// An original.
+/// An original.
 pub fn add_original(
     jar: &mut CookieJar,
     name: &'static str,
@@ -99,7 +99,7 @@ pub fn add_originals(jar: &mut CookieJar) -> Result<(), AllocError> {
     add_original(jar, "b", "2")
 }
 
-// The originals `a=1` and `b=2`, then `b=3` and `c=4` added, and `a` removed.
+/// The originals `a=1` and `b=2`, then `b=3` and `c=4` added, and `a` removed.
 pub fn change(jar: &mut CookieJar) -> Result<(), AllocError> {
     add_originals(jar)?;
     jar.add(Cookie::new("b", "3"))?;

@@ -13,12 +13,12 @@ pub const SIGNED: &str = "W9zBRr9gdU5qBCQmCJV1x1oAPwidJzmDnexYuWTsOEM=what do ya
 
 pub const SEALED: &str = "AAAAAAAAAAAAAAAAUw+K+8dFNrmpY7TxxMtziw==";
 
-// Texts of other values, their codes and tags by another program.
+/// Texts of other values, their codes and tags by another program.
 pub const SIGNED_WITH_PLUS: &str = "cf7GwRzo5WgzJsCz2abkW+4ROzKrwrj7HejiwS9geyw=a";
 
 pub const SEALED_LETTERS: &str = "AAAAAAAAAAAAAAAAr8UjVBCe9lovXMuz8FIJeBTfPA==";
 
-// A fill failed.
+/// A fill failed.
 #[derive(Debug, Drop)]
 pub struct Failed;
 
@@ -30,7 +30,7 @@ impl Display for Failed {
 
 impl Error for Failed {}
 
-// A generator that counts up from `next` by `step`, or fails at its first fill.
+/// A generator that counts up from `next` by `step`, or fails at its first fill.
 #[derive(Drop)]
 pub struct Counting {
     pub next: u8,
@@ -61,7 +61,7 @@ impl TryRng for Counting {
     }
 }
 
-// One that counts from zero.
+/// One that counts from zero.
 pub fn counter(step: u8, fails: bool) -> Counting {
     Counting {
         next: 0,
@@ -70,7 +70,7 @@ pub fn counter(step: u8, fails: bool) -> Counting {
     }
 }
 
-// RFC 4231, section 4.3: its key with zeros behind, which HMAC puts there anyway.
+/// RFC 4231, section 4.3: its key with zeros behind, which HMAC puts there anyway.
 pub fn jefe() -> Key {
     let mut bytes = [0; 64];
     bytes[..4].copy_from_slice(b"Jefe");

@@ -9,7 +9,7 @@ use url::Url;
 
 pub const SHOP: &str = "https://shop.com/";
 
-// What is saved of `b=2` with an hour to live, beside a cookie of the session.
+/// What is saved of `b=2` with an hour to live, beside a cookie of the session.
 pub const SHOP_TEXT: &str = "[
     (
         raw_cookie: \"b=2; Secure; Path=/; Max-Age=3600\",
@@ -20,7 +20,7 @@ pub const SHOP_TEXT: &str = "[
 ]
 ";
 
-// A client that took these lines from this URL at `now`.
+/// A client that took these lines from this URL at `now`.
 pub fn client_of(
     alloc: Global,
     url: &Url,
@@ -41,7 +41,7 @@ pub fn shop_client(alloc: Global, url: &Url) -> Result<Client, Error> {
     client_of(alloc, url, &lines, second(0))
 }
 
-// The cause of a refused load that gave the list back, of which `com` is a rule.
+/// The cause of a refused load that gave the list back, of which `com` is a rule.
 pub fn cause_of(loaded: Result<Client, (Error, List)>) -> Option<Error> {
     match loaded {
         Ok(_) => None,

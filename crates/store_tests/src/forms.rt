@@ -5,7 +5,7 @@ use cookie_store::serde::{self, json, ron};
 use cookie_store::{Cookie, CookieStore, Error, Sink, Source};
 use std::alloc::Global;
 
-// By lines or as one text: of closures, in JSON or in RON.
+/// By lines or as one text: of closures, in JSON or in RON.
 #[derive(Clone, Copy, Debug)]
 pub enum Form {
     Lines,
@@ -64,7 +64,7 @@ pub const RON: &str = "\
 ]
 ";
 
-// What is saved of the store at second 1.
+/// What is saved of the store at second 1.
 pub fn text(form: Form) -> &'static str {
     match form {
         Form::Lines | Form::List => LINE,
@@ -74,7 +74,7 @@ pub fn text(form: Form) -> &'static str {
     }
 }
 
-// Saves the rows that have an end at second 1.
+/// Saves the rows that have an end at second 1.
 pub fn save<W: Sink>(
     alloc: Global,
     store: &CookieStore,
@@ -99,7 +99,7 @@ pub fn save<W: Sink>(
     }
 }
 
-// Loads the rows that are alive at second 60.
+/// Loads the rows that are alive at second 60.
 pub fn load<R: Source>(alloc: Global, reader: &mut R, form: Form) -> Result<CookieStore, Error> {
     match form {
         Form::Lines => CookieStore::load(
