@@ -6,9 +6,9 @@ mod child_jars;
 mod jars;
 mod prefixes;
 
-use crate::keys::{DATA, SEALED, SIGNED, jefe, zero_key};
 use cookie::PrivateError;
 use cookie::secure::{opened_value, sealed_text, signed_text};
+use cookie_kit::keys::{DATA, SEALED, SIGNED, jefe, zero_key};
 use cookie_text::{Cookie, CookieBuilder, ParseError, SplitCookies};
 use std::alloc::{AllocError, Global};
 

@@ -2,9 +2,9 @@
 ghost use Rattle.std.specs.Prelude.{◌≡◌, Some, true, IsErrOf};
 ghost use Rattle.cookie_text.specs.Setting.{with_secure};
 
-use crate::jars::{lent, value};
-use crate::keys::zero_key;
 use cookie::{Cookie, CookieBuilder, CookieJar, Key, PrivateError};
+use cookie_kit::jars::{lent, value};
+use cookie_kit::keys::zero_key;
 use rand_chacha::ChaCha20Rng;
 use rand_core::SeedableRng;
 use test_kit::prints;

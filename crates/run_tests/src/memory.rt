@@ -6,15 +6,15 @@
 mod fills;
 mod saving;
 
-use crate::fixtures::{client, cookie, is_line, run_script, second, words, zero_key};
-use crate::generators::zeros;
-use crate::steps::{steps, told};
 use cookie::Cookie;
 use cookie_run::play::play;
 use cookie_run::program::program;
 use cookie_run::{Counting, Ended, FaultKind, LineEnd, Session, SessionError, Stopped, Way};
 use cookie_store::{CookieError, StoreAction};
 use publicsuffix::List;
+use run_kit::beginnings::{client, cookie, is_line, run_script, second, words, zero_key};
+use run_kit::generators::zeros;
+use run_kit::steps::{steps, told};
 use std::alloc::{AllocError, Global};
 use std::fs::{self, Files};
 use std::process::Abort;

@@ -3,11 +3,11 @@
 ghost use Rattle.std.specs.Prelude.{◌≡◌, ◌≤◌, ◌<◌, ◌+◌, ◌*◌, codes};
 ghost use Rattle.cookie_store.specs.Asking.{domains_with_rows};
 
-use crate::fixtures::{at, receive};
 use cookie_store::{Cookie, CookieStore, Looks};
 use std::alloc::{AllocError, Global};
 use std::sync::ledger::Ledger;
 use std::test::Fail;
+use store_kit::lines::{at, receive};
 use url::Url;
 
 // A request of four domain texts and five path texts puts so many questions at the most: four, and five for each of the

@@ -1,11 +1,8 @@
-//! Tests of a store of cookies: calls that take memory, the questions that a request takes, and the READMEs' examples;
-//! and the lines and forms that other tests share.
+//! Tests of a store of cookies: calls that take memory, the questions that a request takes, and the READMEs' examples.
 #![tactic(auto)]
 
 #[cfg(test)]
 mod asking_tests;
-pub mod fixtures;
-pub mod forms;
 #[cfg(test)]
 mod memory;
 #[cfg(test)]

@@ -6,12 +6,12 @@
 mod cookies;
 mod forms;
 
-use crate::fixtures::at;
 use cookie_store::{
     Cookie, CookieDomain, CookieError, CookieStore, Counting, Error, RawCookie, StoreAction,
     StoreResult, cookie_domain,
 };
 use std::alloc::{AllocError, Global};
+use store_kit::lines::at;
 use url::Url;
 
 // The URL, which no growth is to be refused for.

@@ -3,10 +3,10 @@
 //! A scenario answers whether all came out right, or the error. The first test of a pair accepts want of
 //! memory, too; the second shows that there is none with ample memory.
 
-use crate::fixtures::{at, cookie_from, cookies_from, line_of, lines_of};
 use cookie_store::serde::{self, json, ron};
 use cookie_store::{Cookie, CookieStore, Counting, Error};
 use std::alloc::Global;
+use store_kit::lines::{at, cookie_from, cookies_from, line_of, lines_of};
 use url::Url;
 
 const SOURCE: &str = "https://a.example/p/q";

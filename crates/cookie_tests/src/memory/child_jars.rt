@@ -1,11 +1,11 @@
 //! Child jars that sign or seal values.
-use crate::jars::{
+use cookie::{Cookie, CookieJar, Key, PrivateError};
+use cookie_kit::jars::{
     add_original, gives_sealed, gives_signed, is_read, lent, new_year, seal, seal_original, settled,
 };
-use crate::keys::{
+use cookie_kit::keys::{
     DATA, SEALED, SEALED_LETTERS, SIGNED, SIGNED_WITH_PLUS, counter, jefe, zero_key,
 };
-use cookie::{Cookie, CookieJar, Key, PrivateError};
 use std::alloc::{AllocError, Global};
 
 fn signs(jar: &mut CookieJar) -> Result<bool, AllocError> {

@@ -1,6 +1,6 @@
 //! Jars whose cookies are changed, and copies.
-use crate::jars::{add_original, change, has_changes, has_originals, lent, new_year, settled};
 use cookie::{Cookie, CookieJar};
+use cookie_kit::jars::{add_original, change, has_changes, has_originals, lent, new_year, settled};
 use std::alloc::{AllocError, Global};
 
 // A copy keeps what the jar gives up.

@@ -1,6 +1,6 @@
 //! Child jars that put a prefix before each name.
-use crate::jars::{add_original, is_read, lent, new_year, settled};
 use cookie::{Cookie, CookieJar, Host};
+use cookie_kit::jars::{add_original, is_read, lent, new_year, settled};
 use std::alloc::AllocError;
 
 fn prefixes_an_original(jar: &mut CookieJar) -> Result<bool, AllocError> {

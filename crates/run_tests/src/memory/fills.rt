@@ -1,10 +1,10 @@
 //! What a play read that met want of memory, beside how often it asked its generator.
-use crate::fixtures::zero_key;
-use crate::generators::Numbered;
-use crate::steps::steps;
 use cookie_run::FaultKind;
 use cookie_run::play::play;
 use publicsuffix::List;
+use run_kit::beginnings::zero_key;
+use run_kit::generators::Numbered;
+use run_kit::steps::steps;
 use std::alloc::Global;
 use std::process::Abort;
 

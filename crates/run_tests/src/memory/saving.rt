@@ -1,9 +1,9 @@
 //! A client that is saved, loaded and restarted.
-use crate::fixtures::second;
-use crate::saved::{SHOP, SHOP_TEXT, cause_of, shop_client};
 use cookie_run::{Client, Counting};
 use cookie_store::Error;
 use publicsuffix::List;
+use run_kit::beginnings::second;
+use run_kit::saved::{SHOP, SHOP_TEXT, cause_of, shop_client};
 use std::alloc::{AllocError, Global};
 use std::process::Abort;
 use url::Url;

@@ -1,9 +1,9 @@
 //! Each form at a moment.
 
-use crate::fixtures::receive;
-use crate::forms::{FORMS, Form, ROWS, load, save, text};
 use cookie_store::{CookieStore, Counting, Error};
 use std::alloc::Global;
+use store_kit::forms::{FORMS, Form, ROWS, load, save, text};
+use store_kit::lines::receive;
 
 // Whether the row that has an end is saved, or a front of its text, and is passed over once it is dead.
 fn is_passed_over(alloc: Global, store: &CookieStore, form: Form) -> Result<bool, Error> {

@@ -2,10 +2,10 @@
 
 use super::key_tests::{NO_SEALINGS, NO_SIGNINGS};
 use cookie::{Cookie, CookieJar, Key, PrivateError};
-use cookie_tests::jars::{
+use cookie_kit::jars::{
     add_original, gives_sealed, gives_signed, has_counts, is_read, lent, seal, seal_original, value,
 };
-use cookie_tests::keys::{Counting, counter, jefe, zero_key};
+use cookie_kit::keys::{Counting, counter, jefe, zero_key};
 use std::alloc::{AllocError, Global};
 
 fn verifies_no(jar: &CookieJar, key: &Key, text: &'static str) -> Result<bool, AllocError> {

@@ -2,7 +2,7 @@
 //!
 //! A scenario answers whether all came out right in a new jar, or want of memory.
 use cookie::{Cookie, CookieJar};
-use cookie_tests::jars::{
+use cookie_kit::jars::{
     add_original, add_originals, change, has_changes, has_counts, has_originals, lent, new_year,
     shown, value,
 };

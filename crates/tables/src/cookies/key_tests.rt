@@ -1,7 +1,7 @@
 //! Keys, and the texts of signed and of sealed values.
 use cookie::secure::{nonce, opened_value, sealed_by, sealed_text, signed_text, verified_value};
 use cookie::{Key, KeyError, PrivateError};
-use cookie_tests::keys::{
+use cookie_kit::keys::{
     Counting, DATA, SEALED, SEALED_LETTERS, SIGNED, SIGNED_WITH_PLUS, counter, jefe, zero_key,
 };
 use hex::FromHex;

@@ -1,7 +1,7 @@
 //! Prefixes, and the child jars that put one before each name.
 use super::jar_tests::tells;
 use cookie::{Cookie, CookieJar, Host, Prefix, Secure};
-use cookie_tests::jars::{has_counts, is_read, lent, new_year};
+use cookie_kit::jars::{has_counts, is_read, lent, new_year};
 use std::alloc::{AllocError, Global};
 use test_kit::prints;
 

@@ -3,7 +3,7 @@ use super::fixtures::{closes_with, sets};
 use cookie::{Cookie, Expiration, SameSite};
 use cookie_run::{Session, Way};
 use jiff::SignedDuration;
-use run_tests::fixtures::{second, zero_key};
+use run_kit::beginnings::{second, zero_key};
 use std::alloc::Global;
 
 // Whether a session closes with this line for a cookie.

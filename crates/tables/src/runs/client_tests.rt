@@ -4,7 +4,7 @@ use cookie_run::{Client, LineEnd};
 use cookie_store::{CookieError, StoreAction};
 use jiff::civil::DateTime;
 use publicsuffix::List;
-use run_tests::fixtures::client;
+use run_kit::beginnings::client;
 use std::alloc::Global;
 use std::test::Fail;
 use url::Url;

@@ -5,8 +5,8 @@ use jiff::SignedDuration;
 use publicsuffix::List;
 use rand_chacha::ChaCha20Rng;
 use rand_core::{Rng, SeedableRng};
-use run_tests::fixtures::{cookie, second, zero_key};
-use run_tests::generators::zeros;
+use run_kit::beginnings::{cookie, second, zero_key};
+use run_kit::generators::zeros;
 use std::alloc::Global;
 use url::Url;
 

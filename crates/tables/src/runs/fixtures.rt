@@ -2,8 +2,8 @@
 use cookie::{Cookie, Expiration};
 use cookie_run::{Client, LineEnd, Session, Way};
 use jiff::civil::DateTime;
-use run_tests::fixtures::{cookie, is_line, second, zero_key};
-use run_tests::generators::zeros;
+use run_kit::beginnings::{cookie, is_line, second, zero_key};
+use run_kit::generators::zeros;
 use std::alloc::{AllocError, Global};
 use std::process::Abort;
 use url::Url;

@@ -2,8 +2,8 @@
 use super::stream_tests::VISIT;
 use cookie_run::program::program;
 use cookie_run::{Counting, Ended, run};
-use run_tests::fixtures::{beginning, client, words, zero_key};
-use run_tests::generators::zeros;
+use run_kit::beginnings::{beginning, client, words, zero_key};
+use run_kit::generators::zeros;
 use std::alloc::Global;
 use std::fs;
 use std::io::{self, Write};

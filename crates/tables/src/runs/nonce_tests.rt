@@ -1,9 +1,9 @@
 //! How often a play asks its generator, and what it gives then.
 use cookie_run::play::play;
 use publicsuffix::List;
-use run_tests::fixtures::zero_key;
-use run_tests::generators::Numbered;
-use run_tests::steps::{steps, told};
+use run_kit::beginnings::zero_key;
+use run_kit::generators::Numbered;
+use run_kit::steps::{steps, told};
 use std::alloc::Global;
 
 // What a play reads.

@@ -5,8 +5,8 @@ use cookie_run::{Command, Delivery, Fault, FaultKind, Reading, SessionError, Ste
 use jiff::SignedDuration;
 use jiff::civil::DateTime;
 use publicsuffix::List;
-use run_tests::fixtures::{beginning, cookie, second, text, zero_key};
-use run_tests::generators::{Generator, failing, zeros};
+use run_kit::beginnings::{beginning, cookie, second, text, zero_key};
+use run_kit::generators::{Generator, failing, zeros};
 use std::alloc::{AllocError, Global};
 use std::test::Fail;
 use url::Url;

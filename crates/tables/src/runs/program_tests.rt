@@ -3,7 +3,7 @@
 use super::stream_tests::{VISIT, VISIT_PRINTS};
 use cookie_run::Counting;
 use cookie_run::program::program;
-use run_tests::fixtures::words;
+use run_kit::beginnings::words;
 use std::fs;
 use std::io::{Read, Write};
 use std::test::Fail;

@@ -2,8 +2,8 @@
 //! What scripts print, and how they end, stands in `cases/`.
 use super::fixtures::gives;
 use cookie_run::{Counting, Ended, run};
-use run_tests::fixtures::{beginning, client, run_script, second, zero_key};
-use run_tests::generators::{failing, zeros};
+use run_kit::beginnings::{beginning, client, run_script, second, zero_key};
+use run_kit::generators::{failing, zeros};
 use std::test::Fail;
 use url::Url;
 

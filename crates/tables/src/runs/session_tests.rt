@@ -1,7 +1,7 @@
 //! What a session makes of a header.
 use super::fixtures::reads;
 use cookie_run::{Session, Way};
-use run_tests::fixtures::zero_key;
+use run_kit::beginnings::zero_key;
 use std::alloc::Global;
 
 // Whether a session on the header reads this value under the name `b`.

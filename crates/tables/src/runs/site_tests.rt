@@ -1,5 +1,5 @@
 //! Plays of sites whose cookies end and are removed, beside other hosts.
-use run_tests::steps::reads;
+use run_kit::steps::reads;
 use std::alloc::Global;
 
 // The rules of a list of public suffixes, a play, and what it reads.

@@ -1,8 +1,8 @@
 //! Readers and writers that are slow, or fail in mid-stream.
 use super::fixtures::gives;
 use cookie_run::{Client, Counting, Ended, RunError, run};
-use run_tests::fixtures::{beginning, client, zero_key};
-use run_tests::generators::zeros;
+use run_kit::beginnings::{beginning, client, zero_key};
+use run_kit::generators::zeros;
 use std::alloc::Global;
 use std::io::{Read, Write};
 use std::test::Fail;

@@ -3,8 +3,8 @@ use super::fixtures::{closes_with, closes_with_lines, ending, opened, reads, set
 use cookie::Cookie;
 use cookie_run::{Session, SessionError, Way};
 use jiff::civil::DateTime;
-use run_tests::fixtures::{cookie, second};
-use run_tests::generators::failing;
+use run_kit::beginnings::{cookie, second};
+use run_kit::generators::failing;
 use std::alloc::AllocError;
 
 #[test]

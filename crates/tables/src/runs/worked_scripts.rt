@@ -2,8 +2,8 @@
 //! a client without one stand in `cases/`.
 use cookie_run::{Client, Ended};
 use publicsuffix::{List, ListError};
-use run_tests::fixtures::run_script;
-use run_tests::generators::zeros;
+use run_kit::beginnings::run_script;
+use run_kit::generators::zeros;
 use std::alloc::Global;
 use std::test::Fail;
 

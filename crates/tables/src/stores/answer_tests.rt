@@ -4,7 +4,7 @@ use super::fixtures::{is_answer, store_with};
 use cookie_store::{Cookie, CookieStore, RawCookie};
 use std::alloc::Global;
 use std::test::Fail;
-use store_tests::fixtures::{at, told};
+use store_kit::lines::{at, told};
 use url::Url;
 
 // Each line: a URL, the text of a cookie, and what becomes of it, at one moment in one store.

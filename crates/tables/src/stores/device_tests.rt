@@ -6,8 +6,8 @@ use cookie_store::{Cookie, CookieStore, Counting, Error, Sink, Source};
 use std::alloc::Global;
 use std::cell::Cell;
 use std::rc::Rc;
-use store_tests::fixtures::{cookie_from, cookies_from, line_of, lines_of, receive};
-use store_tests::forms::{FORMS, Form, ROWS, SITE, load, save, text};
+use store_kit::forms::{FORMS, Form, ROWS, SITE, load, save, text};
+use store_kit::lines::{cookie_from, cookies_from, line_of, lines_of, receive};
 use test_kit::devices::{ByteByByte, FailsAt, TakesOne};
 
 // ---- a store of two rows, of which one ends

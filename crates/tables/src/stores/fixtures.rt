@@ -4,7 +4,7 @@ use cookie_store::{Cookie, CookieStore};
 use publicsuffix::List;
 use std::alloc::Global;
 use std::test::Fail;
-use store_tests::fixtures::{answer, at, shown};
+use store_kit::lines::{answer, at, shown};
 use url::Url;
 
 /// An empty store with a list of public suffixes, one a line.

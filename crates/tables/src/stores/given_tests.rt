@@ -4,7 +4,7 @@ use super::fixtures::{gives, has_rows, store_with};
 use cookie_store::CookieStore;
 use std::alloc::Global;
 use std::test::Fail;
-use store_tests::fixtures::receive;
+use store_kit::lines::receive;
 
 const RECEIVED: &str = "\
 http://example.com/foo/bar|cookie1=1; Max-Age=30

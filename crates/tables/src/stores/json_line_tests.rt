@@ -7,7 +7,7 @@ use cookie_store::{CookieStore, Counting, Error};
 use jiff::civil::DateTime;
 use std::alloc::Global;
 use std::test::Fail;
-use store_tests::fixtures::{at, receive};
+use store_kit::lines::{at, receive};
 use test_kit::prints;
 
 // ---- a row in both forms

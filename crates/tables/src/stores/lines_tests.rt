@@ -5,7 +5,7 @@ use cookie_store::{Cookie, CookieStore, Counting, Error, StoreResult};
 use std::alloc::Global;
 use std::io::{Read, Write};
 use std::test::Fail;
-use store_tests::fixtures::{at, receive};
+use store_kit::lines::{at, receive};
 use test_kit::devices::{ByteByByte, CountsFlushes, FailsAt};
 use url::Url;
 

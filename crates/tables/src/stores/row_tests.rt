@@ -5,7 +5,7 @@ use cookie_store::{CookieExpiration, CookieStore, RawCookie};
 use publicsuffix::List;
 use std::alloc::{AllocError, Global};
 use std::test::Fail;
-use store_tests::fixtures::{at, receive};
+use store_kit::lines::{at, receive};
 use url::Url;
 
 // Each line: what is received or taken out, what becomes of it, and the rows after it.

@@ -8,7 +8,7 @@ use jiff::civil::DateTime;
 use serde_json::Value;
 use std::alloc::Global;
 use std::test::Fail;
-use store_tests::fixtures::{at, cookies_from, receive};
+use store_kit::lines::{at, cookies_from, receive};
 use test_kit::devices::{ByteByByte, FailsAt, TakesNone};
 use url::Url;
 

@@ -1,5 +1,5 @@
 //! A client of a shop with one row that is saved and one that isn't.
-use crate::fixtures::{client, second};
+use crate::beginnings::{client, second};
 use cookie_run::Client;
 use cookie_store::Error;
 use jiff::civil::DateTime;

@@ -12,7 +12,7 @@
 //! A command is `set:WAY:NAME:VALUE`, which `:SECONDS` may follow as a Max-Age, `remove:WAY:NAME` or
 //! `get:WAY:NAME`. What is read is a word and a space for each reading: a value, `-` for none, or a
 //! header.
-use crate::fixtures::{cookie, second, text, zero_key};
+use crate::beginnings::{cookie, second, text, zero_key};
 use crate::generators::zeros;
 use cookie_run::play::play;
 use cookie_run::{Command, Delivery, Reading, Step, Way};

@@ -1,6 +1,6 @@
 //! The forms in which a store is saved and loaded, and a store of two rows in each.
 
-use crate::fixtures::{at, cookie_from, cookies_from, line_of, lines_of};
+use crate::lines::{at, cookie_from, cookies_from, line_of, lines_of};
 use cookie_store::serde::{self, json, ron};
 use cookie_store::{Cookie, CookieStore, Error, Sink, Source};
 use std::alloc::Global;
