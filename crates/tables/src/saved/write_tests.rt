@@ -7,10 +7,8 @@ use std::test::Fail;
 #[test]
 fn writes_rows(rt: HostRuntime) -> Result<(), Fail> {
     let alloc = rt.alloc();
-    // README: crates/saved_text/README.md
     let rows = [shop_row(alloc)?];
     assert_eq!(rt; rows_to_ron(alloc, &rows)?.as_str(), RON);
-    // README: end
     assert_eq!(rt; rows_to_ron(alloc, &[])?.as_str(), "[]\n");
     Ok(())
 }
