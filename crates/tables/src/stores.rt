@@ -8,4 +8,5 @@ mod json_line_tests;
 mod lines_tests;
 mod row_tests;
 mod saved_tests;
+mod size_tests;
 mod store_cookie_tests;
