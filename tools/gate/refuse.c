@@ -1,34 +1,36 @@
-/* Refuses one growth of memory: the call of malloc or realloc whose number, from 1 on, is in REFUSED_GROWTH. */
-#define _GNU_SOURCE
-#include <dlfcn.h>
+/* Stands before the allocator of a test program: refuses one growth of memory, the call of malloc or realloc whose
+ * number, from 1 on, is in REFUSED_GROWTH, and links the program to the path KEPT where its folder is the current one. */
+#include <fcntl.h>
 #include <stddef.h>
 #include <stdlib.h>
+#include <unistd.h>
+
+/* Those of the run's checks of memory. */
+extern void *__interceptor_malloc(size_t);
+extern void *__interceptor_realloc(void *, size_t);
+
+static long refused, calls;
+
+__attribute__((constructor)) static void begin(void)
+{
+    const char *text = getenv("REFUSED_GROWTH");
+
+    refused = text ? atol(text) : 0;
+    /* It may be there already. */
+    (void)!linkat(AT_FDCWD, "program", AT_FDCWD, KEPT, 0);
+}
 
 static int is_refused(void)
 {
-    static long number = -1, calls = 0;
-
-    if (number < 0) {
-        const char *text = getenv("REFUSED_GROWTH");
-        number = text ? atol(text) : 0;
-    }
-    return number > 0 && ++calls == number;
+    return refused > 0 && ++calls == refused;
 }
 
 void *malloc(size_t size)
 {
-    static void *(*libc)(size_t);
-
-    if (!libc)
-        libc = (void *(*)(size_t))dlsym(RTLD_NEXT, "malloc");
-    return is_refused() ? NULL : libc(size);
+    return is_refused() ? NULL : __interceptor_malloc(size);
 }
 
 void *realloc(void *block, size_t size)
 {
-    static void *(*libc)(void *, size_t);
-
-    if (!libc)
-        libc = (void *(*)(void *, size_t))dlsym(RTLD_NEXT, "realloc");
-    return is_refused() ? NULL : libc(block, size);
+    return is_refused() ? NULL : __interceptor_realloc(block, size);
 }

@@ -3,11 +3,18 @@ ghost use Rattle.std.specs.Prelude.{◌≡◌, Some, true, IsErrOf};
 ghost use Rattle.cookie_text.specs.Setting.{with_secure};
 
 use cookie::{Cookie, CookieBuilder, CookieJar, Key, PrivateError};
-use cookie_kit::jars::{lent, value};
-use cookie_kit::keys::zero_key;
 use rand_chacha::ChaCha20Rng;
 use rand_core::SeedableRng;
-use test_kit::prints;
+use std::alloc::Global;
+use std::fmt::Display;
+
+// Whether this is what is printed.
+fn prints<D: Display>(alloc: Global, shown: &D, wanted: &str) -> bool {
+    match format!(in alloc; "{shown}") {
+        Ok(printed) => printed.as_str() == wanted,
+        Err(_) => false,
+    }
+}
 
 // The contract of `inner_mut` shows a caller what it wrote.
 fn write_secure(builder: &mut CookieBuilder<'_>)
@@ -22,6 +29,29 @@ fn builds_on_a_cookie(rt: HostRuntime) {
     builder.inner_mut().set_name("c");
     write_secure(&mut builder);
     assert!(rt; prints(rt.alloc(), &builder.build(), "c=1; Secure"));
+}
+
+// What a scenario answers of a value that it is lent: what owns one itself is dear to prove.
+fn lent<T: Drop, E: Drop, F: FnOnce(&mut T) -> Result<bool, E> + Drop>(
+    owned: T,
+    scenario: F,
+) -> Result<bool, E>
+    requires { F.IsAlwaysCallable scenario }
+{
+    let mut owned = owned;
+    scenario(&mut owned)
+}
+
+// The value under a name; `-` stands for none.
+fn value<'j>(jar: &'j CookieJar, name: &str) -> &'j str {
+    match jar.get(name) {
+        Some(cookie) => cookie.value(),
+        None => "-",
+    }
+}
+
+fn zero_key() -> Key {
+    Key::from(&[0; 64])
 }
 
 // By a generator that can't fail: that its fill is never what failed is proved.

@@ -82,8 +82,8 @@ fn finds_as_a_scan(
     Ok(true)
 }
 
-/// Whether the index has the parts that a plain scan finds, and finds the same rows for each request.
-pub(crate) fn answers_as_a_scan(
+// Whether the index has the parts that a plain scan finds, and finds the same rows for each request.
+fn answers_as_a_scan(
     alloc: Global,
     index: &Index,
     rows: &Vec<(&str, &str)>,

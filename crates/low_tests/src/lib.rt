@@ -1,5 +1,5 @@
-//! Tests of `devices`, `seal`, `publicsuffix` and `place_index`: what is proved of a use of theirs, calls that take
-//! memory, and the READMEs' examples.
+//! Tests of `devices`, `seal`, `publicsuffix` and `place_index`: what is proved of a use of theirs, and the READMEs'
+//! examples.
 #![tactic(auto)]
 
 #[cfg(test)]
@@ -8,7 +8,5 @@ mod cipher_tests;
 mod index_rows;
 #[cfg(test)]
 mod index_tests;
-#[cfg(test)]
-mod memory;
 #[cfg(test)]
 mod readme_tests;

@@ -1,7 +1,7 @@
-//! Tests of `cookie_run`: calls that take memory, and the README's example.
+//! Tests of a store of cookies and of `cookie_run`: the questions that a request takes, and the README's example.
 #![tactic(auto)]
 
 #[cfg(test)]
-mod cookie_run_readme;
+mod asking_tests;
 #[cfg(test)]
-mod memory;
+mod cookie_run_readme;

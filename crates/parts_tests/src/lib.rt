@@ -1,5 +1,0 @@
-//! Calls of `store_parts` that take memory.
-#![tactic(auto)]
-
-#[cfg(test)]
-mod memory;

@@ -1,5 +1,0 @@
-//! A store's domains, paths and expiries: examples from public documents.
-
-mod domain_tests;
-mod expiry_tests;
-mod parts_tests;
