@@ -1,4 +1,4 @@
-//! The example of the README of `cookie_run`.
+//! The example of the README of `cookie_run`, word for word.
 
 // README: crates/cookie_run/README.md
 use cookie::{Cookie, Key};
