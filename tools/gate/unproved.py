@@ -1,5 +1,6 @@
 """The tests of a crate that are run and not proved."""
 import os
+import shutil
 import subprocess
 import sys
 import tempfile
@@ -11,6 +12,8 @@ from gate.kit import load_rt
 
 HERE = os.path.dirname(os.path.abspath(__file__))
 CRATE = "unproved_tests"
+# The root of the crate that is compiled.
+ROOT = "unproved.rt"
 
 
 def program(top):
@@ -35,7 +38,7 @@ def run(top):
         # (beside proofs a test may wait long for a processor)
         given = {**os.environ, "TMPDIR": room, "RT_SECONDS": "900"}
         ran = subprocess.run(
-            [sys.executable, __file__, top, f"{room}/refuse.o"], env=given, text=True, errors="replace",
+            [sys.executable, __file__, top, room], env=given, text=True, errors="replace",
             stdin=subprocess.DEVNULL, stdout=subprocess.PIPE, stderr=subprocess.STDOUT,
         )
     return ran.returncode, ran.stdout
@@ -47,10 +50,14 @@ def command(top):
     return [f"{lib}/ld-linux-x86-64.so.2", "--inhibit-cache", "--library-path", lib, program(top)]
 
 
-def main(top, file):
+def main(top, room):
     rt = load_rt()
     crate = next(it for it in rt.rtlib.crates_below(top) if it.name == CRATE)
-    crate.c_code = lambda _: [file]
+    # The root that a prover reads has no tests.
+    shutil.copytree(f"{crate.folder}/src", f"{room}/crate/src")
+    os.replace(f"{room}/crate/src/{ROOT}", f"{room}/crate/src/lib.rt")
+    crate.folder = f"{room}/crate"
+    crate.c_code = lambda _: [f"{room}/refuse.o"]
     # The check that would hint at names that a proof refuses takes longer than the run.
     rt.rtlib.RATTLE = "true"
     os.chdir(crate.folder)

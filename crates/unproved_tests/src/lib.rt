@@ -1,22 +1,3 @@
-//! Tests that are run and not proved: what they say is shown by the run.
-//!
-//! Most are of values: what public calls answer to vectors and rows of public documents and to worked examples. Those
-//! of a module `memory` are scenarios over calls that take memory, of which each growth is refused in turn.
+//! What a prover reads of the tests that are run and not proved: nothing. `tools/run-tests` takes `unproved.rt` for the
+//! root of the crate instead.
 #![tactic(auto)]
-
-#[cfg(test)]
-mod cookies;
-#[cfg(test)]
-mod kit;
-#[cfg(test)]
-mod low;
-#[cfg(test)]
-mod parts;
-#[cfg(test)]
-mod readmes;
-#[cfg(test)]
-mod runs;
-#[cfg(test)]
-mod saved;
-#[cfg(test)]
-mod stores;
