@@ -1,4 +1,4 @@
-"""The tests of a crate that are run and not proved."""
+"""The tests that are run and not proved: the crate whose sources stand in tests/, outside what `rt ci` reads."""
 import os
 import shutil
 import subprocess
@@ -12,20 +12,51 @@ from gate.kit import load_rt
 
 HERE = os.path.dirname(os.path.abspath(__file__))
 CRATE = "unproved_tests"
-# The root of the crate that is compiled.
-ROOT = "unproved.rt"
+# What the names of its sources end with.
+SUFFIX = ".rt.txt"
+
+
+def sources(top):
+    """The paths of its sources, from tests/ on."""
+    found = [os.path.join(at, it) for at, _, names in os.walk(f"{top}/tests") for it in names if it.endswith(SUFFIX)]
+    return sorted(os.path.relpath(it, f"{top}/tests") for it in found)
 
 
 def program(top):
     """Where a run keeps the program of the tests."""
-    return f"{top}/crates/{CRATE}/out/unproved_tests"
+    return f"{top}/out/tests/{CRATE}"
+
+
+def put(top, room):
+    """Copies the crates to a folder, with the tests as one more crate, and returns that one's folder."""
+    shutil.copytree(f"{top}/crates", f"{room}/crates", ignore=shutil.ignore_patterns("out", "must-fail", "proofs"))
+    folder = f"{room}/crates/{CRATE}"
+    for path in sources(top):
+        to = f"{folder}/src/{path.removesuffix('.txt')}"
+        os.makedirs(os.path.dirname(to), exist_ok=True)
+        shutil.copyfile(f"{top}/tests/{path}", to)
+    with open(f"{room}/crates.txt", "w", encoding="utf-8") as to:
+        for path in ("crates.txt", "tests/crate.txt"):
+            with open(f"{top}/{path}", encoding="utf-8") as file:
+                to.write(file.read())
+    return folder
+
+
+def format_all(top):
+    """Formats its sources as `rt fmt` does."""
+    with tempfile.TemporaryDirectory(prefix="tests-") as room:
+        folder = put(top, room)
+        status = subprocess.run(["rt", "fmt"], cwd=folder).returncode
+        for path in sources(top):
+            shutil.copyfile(f"{folder}/src/{path.removesuffix('.txt')}", f"{top}/tests/{path}")
+    return status
 
 
 def run(top):
     """Compiles the tests with the crates below from their sources, runs each, and keeps the program.
 
     Returns the status and what was written. The run is that of `rt try --test`, with one more object file in the
-    program, which can refuse a growth of memory.
+    program, which can refuse a growth of memory. Sources that `rt fmt` would change fail before that.
     """
     to = program(top)
     os.makedirs(os.path.dirname(to), exist_ok=True)
@@ -33,12 +64,13 @@ def run(top):
         os.remove(to)
     # (a program is linked to its place, so it is made on the same file system)
     with tempfile.TemporaryDirectory(prefix="try-", dir=os.path.dirname(to)) as room:
+        put(top, room)
         words = [os.environ.get("CC", "cc"), "-O2", "-fPIC", "-c", f'-DKEPT="{to}"', f"{HERE}/refuse.c"]
         subprocess.run([*words, "-o", f"{room}/refuse.o"], check=True)
         # (beside proofs a test may wait long for a processor)
         given = {**os.environ, "TMPDIR": room, "RT_SECONDS": "900"}
         ran = subprocess.run(
-            [sys.executable, __file__, top, room], env=given, text=True, errors="replace",
+            [sys.executable, __file__, room], env=given, text=True, errors="replace",
             stdin=subprocess.DEVNULL, stdout=subprocess.PIPE, stderr=subprocess.STDOUT,
         )
     return ran.returncode, ran.stdout
@@ -50,13 +82,11 @@ def command(top):
     return [f"{lib}/ld-linux-x86-64.so.2", "--inhibit-cache", "--library-path", lib, program(top)]
 
 
-def main(top, room):
+def main(room):
     rt = load_rt()
-    crate = next(it for it in rt.rtlib.crates_below(top) if it.name == CRATE)
-    # The root that a prover reads has no tests.
-    shutil.copytree(f"{crate.folder}/src", f"{room}/crate/src")
-    os.replace(f"{room}/crate/src/{ROOT}", f"{room}/crate/src/lib.rt")
-    crate.folder = f"{room}/crate"
+    crate = next(it for it in rt.rtlib.crates_below(room) if it.name == CRATE)
+    if rt.rtlib.fmt(crate.folder, "--check", sys.stdout):
+        sys.exit("the tests are not formatted: tools/run-tests --format")
     crate.c_code = lambda _: [f"{room}/refuse.o"]
     # The check that would hint at names that a proof refuses takes longer than the run.
     rt.rtlib.RATTLE = "true"
