@@ -17,8 +17,10 @@ use Rattle.cookie_text.specs.Record.{Seen}
 use Rattle.cookie_run.specs.declared.step.Way.{Way}
 use Rattle.cookie_run.specs.declared.step.Way.TheVariants.{Plain, Host, Secure, Signed, Sealed}
 use Rattle.cookie_run.specs.Jar.{Keyed, IsOpened, IsKeptAs, IsRemovalRefusal, Sets, sent}
-use Rattle.cookie_run.specs.Stops.{GoesOnBy}
-use Rattle.cookie_run.specs.Play.{Plays, OneStep, CommandTells, Tells, TellsFront, ServesAll, ServesFront, GetTells}
+use Rattle.cookie_run.specs.Stops.{GoesOnBy, StopsInside}
+use Rattle.cookie_run.specs.declared.step.FaultKind.{FaultKind}
+use Rattle.cookie_run.specs.Play.{Plays, OneStep, CommandTells, Tells, GetTells}
+use Rattle.cookie_run.specs.Standing.{TellsAll, TellsFront}
 use Rattle.cookie_run.specs.Play.{any_nonce, ReadsAll, ReadsFront}
 use Rattle.cookie_run.specs.Readings.{all_told, MayRead}
 use Rattle.cookie_run.specs.declared.step.SessionError.{SessionError}
@@ -132,58 +134,41 @@ told_front old mid at cs i start now later so e = (
 pub told_first : (old : Keyed) (at : ℤ) (cs : List Command) (start : List Reading) → ToldBy old at cs 0 start start old
 told_first old at cs start = ([], sym (readings_nil start), (refl, refl))
 
--- a session that was opened serves so
-pub serves_front : (key header : List ℕ) (opened : Keyed) (at : ℤ) (cs : List Command) (old readings : List Reading)
-    → IsOpened key header opened → GoesOnBy old (TellsFront opened at cs) readings
-    → GoesOnBy old (ServesFront key header at cs) readings
-serves_front key header opened at cs old readings is g = (
-  g.0,
-  inr
-      (g.1.0, g.1.1, g.1.2, (g.1.3, (opened, is, g.1.4))),
-  g.2,
-)
-
-pub serves_whole : (key header : List ℕ) (opened new : Keyed) (at : ℤ) (cs : List Command) (old readings : List Reading)
-    → IsOpened key header opened → ((told : List Reading) × (readings ≡ old ++ told) × Tells opened at cs told new)
-    → GoesOnBy old (ServesFront key header at cs) readings
-serves_whole key header opened new at cs old readings is g = (
-  g.0,
-  inr
-      (cs, [], sym (commands_nil cs), (new, (opened, is, g.2))),
-  g.1,
-)
+-- by all of its commands, and so by the first of them
+pub tells_whole : (opened new : Keyed) (at : ℤ) (cs : List Command) (old readings : List Reading)
+    → ((told : List Reading) × (readings ≡ old ++ told) × Tells opened at cs told new)
+    → GoesOnBy old (TellsFront opened at cs) readings
+tells_whole opened new at cs old readings g = (g.0, (cs, [], sym (commands_nil cs), new, g.2), g.1)
   where
     commands_nil : (ds : List Command) → ds ++ [] ≡ ds
     commands_nil [] = refl
     commands_nil (d ∷ ds) = ap (λ x. d ∷ x) (commands_nil ds)
 
--- no session was opened
-pub serves_none : (key header : List ℕ) (at : ℤ) (cs : List Command) (old readings : List Reading) → readings ≡ old
-    → GoesOnBy old (ServesFront key header at cs) readings
-serves_none key header at cs old readings e = ([], inl refl, e ∙ sym (readings_nil old))
+pub tells_all : (opened new : Keyed) (at : ℤ) (cs : List Command) (old readings : List Reading)
+    → ((told : List Reading) × (readings ≡ old ++ told) × Tells opened at cs told new)
+    → GoesOnBy old (TellsAll opened at cs) readings
+tells_all opened new at cs old readings g = (g.0, (new, g.2), g.1)
 
-pub serves_all : (key header : List ℕ) (opened new : Keyed) (at : ℤ) (cs : List Command) (old readings : List Reading)
-    → IsOpened key header opened → ((told : List Reading) × (readings ≡ old ++ told) × Tells opened at cs told new)
-    → GoesOnBy old (ServesAll key header at cs) readings
-serves_all key header opened new at cs old readings is g = (g.0, (new, (opened, is, g.2)), g.1)
-
--- so the act reads: nothing, where it hasn't read, by the first of its commands, and by all of them
+-- so the act reads: nothing, where it hasn't read, and what a session tells that was opened on its header
 pub reads_none : (key : List ℕ) (rows : List Row) (url : Parts) (at : ℤ) (cs : List Command) (arrival : Arrival)
     (old readings : List Reading) → readings ≡ old → GoesOnBy old (ReadsFront key rows (Visits url at cs arrival))
     readings
 reads_none key rows url at cs arrival old readings e = ([], inl refl, e ∙ sym (readings_nil old))
 
-pub reads_front : (key header : List ℕ) (rows : List Row) (url : Parts) (at : ℤ) (cs : List Command)
-    (arrival : Arrival) (old readings : List Reading) → IsHeader rows url at header
-    → GoesOnBy old (ServesFront key header at cs) readings
-    → GoesOnBy old (ReadsFront key rows (Visits url at cs arrival)) readings
-reads_front key header rows url at cs arrival old readings is g = (g.0, inr (header, is, g.1), g.2)
-
-pub reads_all : (key header : List ℕ) (rows : List Row) (url : Parts) (at : ℤ) (cs : List Command)
-    (arrival : Arrival) (old readings : List Reading) → IsHeader rows url at header
-    → GoesOnBy old (ServesAll key header at cs) readings
-    → GoesOnBy old (ReadsAll key rows (Visits url at cs arrival)) readings
-reads_all key header rows url at cs arrival old readings is g = (g.0, (header, is, g.1), g.2)
+pub stops_opened : (key header : List ℕ) (rows : List Row) (url : Parts) (at : ℤ) (cs : List Command)
+    (arrival : Arrival) (opened : Keyed) (kind : FaultKind) (last : ℤ) (old readings : List Reading)
+    → IsHeader rows url at header → IsOpened key header opened
+    → StopsInside kind last arrival old (TellsFront opened at cs) (TellsAll opened at cs) readings
+    → StopsInside kind last arrival old (ReadsFront key rows (Visits url at cs arrival))
+    (ReadsAll key rows (Visits url at cs arrival)) readings
+stops_opened key header rows url at cs arrival opened kind last old readings is from (inl (e, g)) = inl (
+  e,
+  (g.0, inr (header, is, inr (g.1.0, g.1.1, g.1.2, (g.1.3, (opened, from, g.1.4)))), g.2),
+)
+stops_opened key header rows url at cs arrival opened kind last old readings is from (inr (e, g)) = inr (
+  e,
+  (g.0, (header, is, (g.1.0, (opened, from, g.1.1))), g.2),
+)
 
 -- ---- what the generator tells
 

@@ -76,12 +76,6 @@ ServesFront key header at commands told = (told ≡ [])
     ⊎ ((front : List Command) × (rest : List Command) × (commands ≡ front ++ rest)
     × ServesAll key header at front told)
 
--- by the first of its commands
-abbrev pub TellsFront : Keyed → ℤ → List Command → List Reading → Type 0
-TellsFront old at commands told =
-    (front : List Command) × (rest : List Command) × (commands ≡ front ++ rest) × (new : Keyed)
-    × Tells old at front told new
-
 -- ---- a step
 
 -- the answer with the lines of a delta comes at its moment, or doesn't

@@ -12,10 +12,11 @@ ghost use Rattle.cookie_run.specs.Acts.{acts_of, act_of, arrival_of, Visits, Arr
 ghost use Rattle.cookie_run.specs.Acts.{arrival_moments};
 ghost use Rattle.cookie_run.specs.Stops.{StopsFrom, StopsInside, GoesOnBy};
 ghost use Rattle.cookie_run.specs.Play.{IsRun, IsRunUntil, SetTells, RemoveTells, GetTells, CommandTells, Tells};
-ghost use Rattle.cookie_run.specs.Play.{TellsFront, OneStep, Delivers, ReadsFront, ReadsAll};
+ghost use Rattle.cookie_run.specs.Play.{OneStep, Delivers, ReadsFront, ReadsAll};
 ghost use Rattle.cookie_run.specs.Readings.{MayRead, NeedsNoNonce, ActNeedsNoNonce};
 ghost use Rattle.cookie_run.specs.Site.{set_refusal};
 ghost use Rattle.cookie_run.specs.Headline.{SitesReadTheirOwn, SitesReadTheirOwnUntil};
+ghost use Rattle.cookie_run.specs.Standing.{TellsAll, TellsFront};
 ghost use Rattle.cookie_run.specs.Strangers.{StrangersDontShow, StrangersDontShowUntil};
 
 use crate::client::Client;
@@ -136,8 +137,7 @@ fn act<R: TryRng>(
     }
 }
 
-// An exchange, once its moment is come to: a session on the header of the request, its commands, and
-// the delivery of its lines.
+// An exchange, once its moment is come to: a session on the header of the request, and what it does.
 fn exchange<R: TryRng>(
     alloc: Global,
     key: &Key,
@@ -167,12 +167,53 @@ fn exchange<R: TryRng>(
     let at = *last;
     let header = client.header(url, at)?;
     let mut session = Session::open(alloc, header.as_bytes(), copy_of(key))?;
-    obey_all(alloc, &mut session, at, commands, readings, rng)?;
+    converse(
+        alloc,
+        client,
+        last,
+        url,
+        commands,
+        delivery,
+        &mut session,
+        readings,
+        rng,
+    )
+}
+
+// The rest of an exchange whose session is open: its commands, and the delivery of its lines.
+fn converse<R: TryRng>(
+    alloc: Global,
+    client: &mut Client,
+    last: &mut DateTime,
+    url: &Url,
+    commands: &[Command],
+    delivery: Delivery,
+    session: &mut Session,
+    readings: &mut Vec<Reading>,
+    rng: &mut R,
+) -> Result<(), FaultKind>
+    ensures rows { OnOk result ((told : List Reading) × (readings.new.items ≡ readings.old.items ++ told)
+        × Tells session.old (civil_nanos last.old) commands.now told session.new
+        × Delivers client.old.suffixes client.old.rows url.now session.new.jar (arrival_of delivery)
+        client.new.rows) }
+    ensures list { client.new.suffixes ≡ client.old.suffixes }
+    ensures moments { OnOk result (AllFollow (civil_nanos last.old) (arrival_moments (arrival_of delivery))
+        × (civil_nanos last.new ≡ last_of (civil_nanos last.old) (arrival_moments (arrival_of delivery)))) }
+    ensures err { IfErr result (λ kind. StopsInside kind (civil_nanos last.old)
+        (arrival_of delivery) readings.old.items
+        (TellsFront session.old (civil_nanos last.old) commands.now)
+        (TellsAll session.old (civil_nanos last.old) commands.now)
+        readings.new.items) }
+    ensures failed { AllByRecursion (MayRead R.Error) readings.old.items
+        → AllByRecursion (MayRead R.Error) readings.new.items }
+    ensures unasked { AllByRecursion NeedsNoNonce commands.now → rng.new ≡ rng.old }
+{
+    obey_all(alloc, session, *last, commands, readings, rng)?;
     match delivery {
         Delivery::Lost => Ok(()),
         Delivery::At(moment) => {
             come_to(last, moment)?;
-            deliver(alloc, client, url, &session, moment)
+            deliver(alloc, client, url, session, moment)
         }
     }
 }

@@ -105,8 +105,8 @@ fn serve<H: Files + AllocGlobal, R: Source, W: Sink>(
     ensures unflushed { OnOk result (W.unflushed writer.new ≡ 0) }
 {
     let list = read_list(rt, asked.suffix_file)?;
-    let client = read_client(rt, list, asked.store_file, asked.at.date)?;
-    match play(rt.alloc(), asked, client, reader, writer) {
+    let mut client = read_client(rt, list, asked.store_file, asked.at.date)?;
+    match play(rt.alloc(), asked, &mut client, reader, writer) {
         Ok(Some(text)) => {
             files::replace(rt, asked.store_file, &text)?;
             Ok(0)
@@ -200,7 +200,7 @@ fn unloaded(cause: Error) -> Failure
 fn play<R: Source, W: Sink>(
     alloc: Global,
     asked: &Asked<'_>,
-    client: Client,
+    client: &mut Client,
     reader: &mut R,
     writer: &mut W,
 ) -> Result<Option<Vec<u8>>, Failure>
@@ -212,7 +212,7 @@ fn play<R: Source, W: Sink>(
           written = (W.written writer.old, W.written writer.new);
           unwritten = (W.failures writer.old, W.failures writer.new);
         })
-        (spec.Plays asked.now.seed (civil_nanos asked.now.at.date) client.suffixes client.rows
+        (spec.Plays asked.now.seed (civil_nanos asked.now.at.date) client.old.suffixes client.old.rows
         (option_map (λ bytes. bytes.items) text))) }
     ensures err { IfErr result (spec.PlayFails
         (record {
@@ -222,25 +222,16 @@ fn play<R: Source, W: Sink>(
           written = (W.written writer.old, W.written writer.new);
           unwritten = (W.failures writer.old, W.failures writer.new);
         })
-        asked.now.seed (civil_nanos asked.now.at.date) client.suffixes client.rows) }
+        asked.now.seed (civil_nanos asked.now.at.date) client.old.suffixes client.old.rows) }
     ensures failures { OnOk result ((R.failures reader.new ≡ R.failures reader.old)
         × (W.failures writer.new ≡ W.failures writer.old)) }
     ensures unflushed { OnOk result (W.unflushed writer.new ≡ 0) }
 {
-    let mut client = client;
     let mut last = asked.at.date;
     let key = Key::derive_from(&asked.seed);
     let mut rng = ChaCha20Rng::from_seed(asked.seed);
-    match run(
-        alloc,
-        reader,
-        writer,
-        &mut client,
-        &mut last,
-        &key,
-        &mut rng,
-    ) {
-        Ok(Ended::Whole) => Ok(Some(saved_text(alloc, &client, last)?)),
+    match run(alloc, reader, writer, client, &mut last, &key, &mut rng) {
+        Ok(Ended::Whole) => Ok(Some(saved_text(alloc, client, last)?)),
         Ok(Ended::Faulty(_)) => Ok(None),
         Err(RunError::Read) => Err(Failure::Input),
         Err(RunError::Write) => Err(Failure::Output),

@@ -1,5 +1,5 @@
 //! The run of a script.
-ghost use Rattle.std.specs.Prelude.{◌≡◌, ◌⊎◌, ◌^◌, ◌-◌, ℕ, List, IfOk, OnOk, OnErr, IfErr, IfSome, IsErrOf};
+ghost use Rattle.std.specs.Prelude.{◌≡◌, ◌⊎◌, ◌^◌, ◌-◌, ℕ, List, IfOk, OnOk, OnErr, IfErr, IfSome, IsErrOf, None};
 ghost use Rattle.std.specs.Io.KnownBytes.{Appends};
 ghost use Rattle.jiff.specs.Words.{civil_nanos};
 ghost use Rattle.devices.specs.Device.{Rose, one_more};
@@ -9,7 +9,7 @@ use crate::client::Client;
 use crate::script::cause::Cause;
 use crate::script::ended::{Ended, RunError};
 use crate::script::field::cut_line;
-use crate::script::visit::follow;
+use crate::script::visit::{Visit, follow};
 use cookie::Key;
 use devices::pour::{Stop, flush, read_all, write_all, write_number};
 use devices::{Sink, Source};
@@ -50,22 +50,27 @@ pub fn run<R: Source, W: Sink, G: TryRng>(
     ensures unflushed { OnOk result (W.unflushed writer.new ≡ 0) }
 {
     match read_all(alloc, reader) {
-        Ok(input) => play_text(alloc, &input, writer, client, last, key, rng),
+        Ok(input) => {
+            let mut visit = None;
+            play_text(alloc, &input, writer, client, last, &mut visit, key, rng)
+        }
         Err(Stop::Memory) => stop_at(writer, 1, Cause::Memory),
         Err(Stop::Read) => Err(RunError::Read),
     }
 }
 
-// Plays the lines of a text, and flushes.
+// Plays the lines of a text, and flushes. No session is open at first.
 fn play_text<W: Sink, G: TryRng>(
     alloc: Global,
     text: &[u8],
     writer: &mut W,
     client: &mut Client,
     last: &mut DateTime,
+    visit: &mut Option<Visit>,
     key: &Key,
     rng: &mut G,
 ) -> Result<Ended, RunError>
+    requires { visit.old ≡ None }
     ensures text { IfOk result (λ ended. (output : List ℕ)
         × Appends (W.written writer.old) (W.written writer.new) output
         × Runs G.Error client.old.suffixes key.now client.old.rows (civil_nanos last.old) text.now output
@@ -77,12 +82,11 @@ fn play_text<W: Sink, G: TryRng>(
     ensures flushed { OnOk result (W.flushes writer.new ≡ one_more (W.flushes writer.old)) }
     ensures unflushed { OnOk result (W.unflushed writer.new ≡ 0) }
 {
-    let mut visit = None;
     let mut done = 0;
     let mut rest = text;
     while !rest.is_empty() {
         let (line, more) = cut_line(rest);
-        match follow(alloc, key, line, client, last, &mut visit, rng) {
+        match follow(alloc, key, line, client, last, visit, rng) {
             Ok(printed) => write_all(writer, printed.as_str().as_bytes())?,
             Err(cause) => return stop_at(writer, done + 1, cause),
         }

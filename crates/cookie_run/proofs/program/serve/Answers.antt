@@ -4,8 +4,8 @@ use Rattle.cookie_run.specs.ProgramRead.{asked_for}
 use Rattle.cookie_run.proofs.ProgramFacts.{ends_whole, ends_faulty, gives_up}
 use Rattle.cookie_run.proofs.program.serve.Goals as goal
 
-pub returns-in_ok-replace-in-Ok-Some-clause-ok : goal.returns-in_ok-replace-in-Ok-Some-clause-ok
-returns-in_ok-replace-in-Ok-Some-clause-ok g c =
+pub returns-in-Ok-Some-clause-ok : goal.returns-in-Ok-Some-clause-ok
+returns-in-Ok-Some-clause-ok g c =
     let is : c.in-Ok-Some.field-0 ≡ Some c.in-Ok-Some.text = cc in
     let io : Devices = record {
       left = g.R.Source.left c.args.reader.now;
@@ -33,8 +33,8 @@ returns-in-Ok-None-clause-ok g c =
     (option_map (λ bytes. bytes.items) c.in-Ok-None.field-0) c.in_ok-client.ensures.ok.0 c.in_ok-list.ensures.ok
     c.in_ok-client.ensures.ok.1 (ap (option_map (λ bytes. bytes.items)) is) c.in-Ok-None.ensures.ok
 
-pub returns-in-Err-clause-err : goal.returns-in-Err-clause-err
-returns-in-Err-clause-err g c =
+pub returns-clause-err : goal.returns-clause-err
+returns-clause-err g c =
     let io : Devices = record {
       left = g.R.Source.left c.args.reader.now;
       reads = g.R.Source.reads c.play.new.reader;

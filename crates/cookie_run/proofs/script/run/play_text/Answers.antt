@@ -1,4 +1,4 @@
-use Rattle.std.proofs.Common.{◌≡◌, ◌+◌, ap, refl, subst, ◌∙◌, arith}
+use Rattle.std.proofs.Common.{◌≡◌, ◌+◌, ap, refl, subst, sym, ◌∙◌, arith}
 use Rattle.std.specs.Prelude.{string_bytes, OnOk}
 use Rattle.std.specs.Io.KnownBytes.{Appends}
 use Rattle.std.proofs.KnownBytes.{Appends-kept}
@@ -7,21 +7,26 @@ use Rattle.devices.specs.Device.{one_more}
 use Rattle.cookie_run.specs.ScriptText.{after_line, fault_text}
 use Rattle.cookie_run.specs.Standing.{Goes, Halts}
 use Rattle.cookie_run.specs.declared.script.ended.Ended.TheVariants.{Faulty}
-use Rattle.cookie_run.proofs.ScriptRun.{Ends, come_first, come_more, come_whole, come_fault, for_one}
+use Rattle.cookie_run.proofs.ScriptRun.{Come, Ends, come_first, come_more, come_whole, come_fault, for_one}
 use Rattle.std.proofs.lemmas.List.{nil_from_length}
 use Rattle.std.proofs.lemmas.Bool.Decides.{nat_tests}
 use Rattle.cookie_run.proofs.script.run.play_text.Goals as goal
 
 pub loop-rest-init : goal.loop-rest-init
-loop-rest-init g c = record {
-  come = come_first c.args.client.now.suffixes c.args.key.now c.args.client.now.rows (civil_nanos c.args.last.now)
-      c.args.text.now
-      (g.W.Sink.written c.args.writer.now);
-  failures = refl;
-  flushes = refl;
-  list = refl;
-  room = omega arith;
-}
+loop-rest-init g c =
+    let list = c.args.client.now.suffixes in
+    let rows = c.args.client.now.rows in
+    let first = civil_nanos c.args.last.now in
+    let text = c.args.text.now in
+    let written = g.W.Sink.written c.args.writer.now in
+    record {
+      come = subst (λ visit. Come list c.args.key.now rows first text text rows first visit 0 written written)
+          (sym c.requires) (come_first list c.args.key.now rows first text written);
+      failures = refl;
+      flushes = refl;
+      list = refl;
+      room = omega arith;
+    }
 
 pub returns-in-Err-clause-flushed : goal.returns-in-Err-clause-flushed
 returns-in-Err-clause-flushed g c = subst (λ n. OnOk c.stop_at.result
