@@ -6,6 +6,7 @@ import subprocess
 import tempfile
 
 from gate.edits import all_applied
+from gate.stubs import stubbed
 
 HOLE = """use Rattle.{crate}.proofs.{module}.Statement as stated
 
@@ -35,8 +36,8 @@ class Verdict:
     OPEN, NAME, PASSES = "an open goal", "only a name is gone", "not refused"
     # It failed, and perhaps only because another edit of the same check did.
     AGAIN = "again"
-    # The check can't tell: it is tried alone, as rt tries it.
-    WHOLE = "whole"
+    # The check broke off, or tells nothing of its functions.
+    BROKEN = "broken"
 
     def __init__(self, word, about=""):
         self.word, self.about = word, about
@@ -45,8 +46,8 @@ class Verdict:
 class Bundle:
     """One check of a copy of the crate with these edits in it.
 
-    Each function without an edit has a hole in the place of its proof, so the others are proved from what
-    the contracts of their callees say.
+    Each function without an edit has a hole in the place of its proof and no body, but for those that call themselves
+    or are a trait's own, so the others are proved from what the contracts of their callees say.
     """
 
     def __init__(self, rt, crate, functions, texts, edits):
@@ -56,9 +57,13 @@ class Bundle:
         self.told, self.opened, self.errors = {}, {}, []
         self.is_whole, self.unknown, self.output = False, None, ""
 
-    def run(self, kept):
-        """Makes the check. Afterwards `is_whole` says whether it came to its end."""
-        texts = all_applied(self.edits, self.texts)
+    def run(self, kept, is_edited=True):
+        """Makes the check, of the functions as they stand where it isn't edited. Afterwards `is_whole` says whether it
+        came to its end."""
+        # (an edit of more than bodies has to compile with all that stands on it)
+        is_global = is_edited and any(it.is_global for it in self.edits)
+        texts = self.texts if is_global else stubbed(self.texts, self.functions, self.asked)
+        texts = all_applied(self.edits, texts) if is_edited else texts
         if texts is None:
             self.output = "two edits change one text"
             return
@@ -73,7 +78,7 @@ class Bundle:
             )
         self.output = ran.stdout
         if self.has_misplaced_holes():
-            self.run(kept)
+            self.run(kept, is_edited)
             return
         self.read()
         stray = [file for file, _ in self.errors if not any(self.is_of(it, file) for it in self.edits)]
@@ -83,9 +88,9 @@ class Bundle:
         self.unknown = unknown[1] if unknown and ran.returncode == 2 else None
 
     def is_of(self, edit, file):
-        """Whether an error in the file is due to the edit: where it is tried alone, so is one in any proof."""
-        is_alone = len(self.edits) == 1 and file.startswith("proofs/")
-        return is_alone or any(it.owns_file(file) for it in edit.functions)
+        """Whether an error in the file is due to the edit: where it is tried alone, so is one in any lemma."""
+        is_lemma = file.startswith("proofs/") and not any(it.owns_file(file) for it in self.functions)
+        return is_lemma and len(self.edits) == 1 or any(it.owns_file(file) for it in edit.functions)
 
     def fill(self, room, texts):
         for part in self.rt.rtlib.PARTS:
@@ -146,7 +151,7 @@ class Bundle:
     def judge(self, edit):
         """What the check says of one of its edits."""
         if not self.is_whole:
-            return Verdict(Verdict.WHOLE)
+            return Verdict(Verdict.BROKEN, f"its check breaks off: {self.first_error()}")
         own = [name for name in self.told if any(it.owns(name) for it in edit.functions)]
         failed = [name for name in own if self.told[name].startswith(FAILS)]
         errors = [it for it in self.errors if self.is_of(edit, it[0])]
@@ -164,7 +169,15 @@ class Bundle:
             return Verdict(Verdict.AGAIN)
         if {it.name for it in edit.functions} <= {*own} and all(PASSES.match(self.told[name]) for name in own):
             return Verdict(Verdict.PASSES, ", ".join(own))
-        return Verdict(Verdict.WHOLE)
+        return Verdict(Verdict.BROKEN, f"its check tells nothing of {', '.join(it.name for it in edit.functions)}")
+
+    def passes(self, name):
+        """Whether it tells that the function is proved."""
+        return self.is_whole and bool(PASSES.match(self.told.get(name, "")))
+
+    def first_error(self):
+        lines = self.output.rstrip("\n").split("\n")
+        return next((it for it in lines if ": error" in it), lines[-1])[:160]
 
     def others_behind(self, edit, failed):
         """The units of other edits on which what is said of these functions may rest."""

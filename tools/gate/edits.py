@@ -14,25 +14,26 @@ class Edit:
         # The units of functions with which it is not tried at once.
         self.apart = set()
         file = old = None
-        with open(path, encoding="utf-8") as lines:
-            for line in lines.read().split("\n"):
-                key, _, text = line.partition(":")
-                if key == "file":
-                    file = text.strip()
-                elif key == "in":
-                    self.named.append(text.strip())
-                elif key == "old":
-                    old = text[1:]
-                elif key == "new" and old is not None:
-                    self.pairs.append((file, old, re.sub(r"\A ", "", text)))
-                    old = None
+        with open(path, encoding="utf-8") as it:
+            self.text = it.read()
+        for line in self.text.split("\n"):
+            key, _, text = line.partition(":")
+            if key == "file":
+                file = text.strip()
+            elif key == "in":
+                self.named.append(text.strip())
+            elif key == "old":
+                old = text[1:]
+            elif key == "new" and old is not None:
+                self.pairs.append((file, old, re.sub(r"\A ", "", text)))
+                old = None
 
     @property
     def units(self):
         return {it.unit for it in self.functions}
 
     def locate(self, functions, texts):
-        """Finds the functions that must be refused, and returns why it can only be tried whole, if that is so."""
+        """Finds the functions that must be refused, and returns why there are none, if that is so."""
         if self.named:
             self.functions = [it for it in functions if it.name in self.named]
             lost = {*self.named} - {it.name for it in self.functions}
@@ -49,14 +50,14 @@ class Edit:
             if at < 0 or not holders:
                 return "it changes a text outside any function, and has no line 'in: module::function'"
             self.functions += [it for it in holders if it not in self.functions]
-            self.is_global |= any(line < it.body for it in holders)
+            self.is_global |= not any(it.holds(line) for it in holders)
         return None
 
     def is_in_a_body(self, file, old, texts):
         """Whether the text stands once there, in the body of a function that must be refused."""
         text = texts.get(file, "")
         line = text.count("\n", 0, text.find(old))
-        return text.count(old) == 1 and any(it.file == file and it.body <= line <= it.last for it in self.functions)
+        return text.count(old) == 1 and any(it.file == file and it.holds(line) for it in self.functions)
 
     def places(self, texts):
         """Where its texts stand in the crate's own, as (file, first, last, new text)."""

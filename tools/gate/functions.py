@@ -12,7 +12,8 @@ ARGUMENT = re.compile(r"(?<![\w:'])(?:[A-Z]\w+|[ui](?:8|16|32|64|128|size)|bool|
 
 
 class Function:
-    """A function with a body: the lines where it and its body stand, and its name below the crate as a check prints it.
+    """A function with a body: the lines where it begins, where its body opens and where it ends, and its name below the
+    crate as a check prints it.
 
     `module` and `inner` are the two parts of that name: the modules that hold it, and its own name below
     them, which begins with its type's or its impl's where it has one.
@@ -20,7 +21,7 @@ class Function:
 
     def __init__(self, module, inner, file, lines):
         self.module, self.inner = module, inner
-        self.file, (self.first, self.body, self.last) = file, lines
+        self.file, (self.first, self.opens, self.last) = file, lines
         # The cycle of calls that it is in, and whether its own proof is to stay where it is not tried.
         self.cycle, self.keeps_proof = None, False
 
@@ -37,6 +38,10 @@ class Function:
     def folder(self):
         """The folder of its proof."""
         return "/".join(["proofs", *self.module, *self.inner])
+
+    def holds(self, line):
+        """Whether the line is one of its body, and of nothing before it."""
+        return self.opens < line <= self.last or self.first == line == self.last
 
     def is_recursive(self):
         """Makes it a cycle of calls of its own, whose proof stands in a folder of another name."""
@@ -101,10 +106,8 @@ def functions_in(file, lines, homes):
             blocks.append((depth, opens[1], head_at(lines, at)))
         elif begins and has_body(lines, at, depth):
             last = end_of(lines, at, depth)
-            opens = [" " * depth + it for it in ("{", "{}")]
-            body = next((it for it in range(at, last + 1) if lines[it] in opens), at)
             module, owner = place_of(module_of(file), blocks, homes)
-            found = Function(module, [*owner, begins[1]], file, (at, body, last))
+            found = Function(module, [*owner, begins[1]], file, (at, opening_of(lines, at, last, depth), last))
             found.cycle = cycle_at(lines, at)
             found.keeps_proof = bool(found.cycle) or any(kind == "trait" for _, kind, _ in blocks)
             yield found
@@ -133,6 +136,13 @@ def end_of(lines, at, depth):
         if is_next or line == " " * (depth - 4) + "}":
             return None
     return None
+
+
+def opening_of(lines, at, last, depth):
+    """The line of the bracket that opens the body: one by itself behind clauses, else the first at a line's end."""
+    alone = [" " * depth + it for it in ("{", "{}")]
+    after_clauses = next((it for it in range(at, last + 1) if lines[it] in alone), None)
+    return after_clauses or next((it for it in range(at, last) if lines[it].endswith("{")), last)
 
 
 def cycle_at(lines, at):

@@ -2,12 +2,17 @@
 import os
 import subprocess
 import sys
+import tempfile
+import time
 
 from gate.progress import Progress
 
 TOP = os.path.dirname(os.path.dirname(os.path.dirname(os.path.abspath(__file__))))
 NAME = "cookie_run_program"
 BUILT = f"{TOP}/crates/{NAME}/out/{NAME}"
+SUFFIXES = f"{TOP}/examples/suffixes.dat"
+SEED = "00" * 32
+BEGIN = "2024-01-01T00:00:00Z"
 
 
 def demand_rt(command):
@@ -51,14 +56,19 @@ def log_of(name):
     return f"{TOP}/out/{name}.log"
 
 
+def run_words(store):
+    """The words of `rt` that prove and build the program, and run it with words with which it ends with 0."""
+    return ["rt", "run", "--", SUFFIXES, SEED, store, BEGIN]
+
+
 def build(command):
     """Proves and builds the program, one crate after the other."""
     demand_rt(command)
-    progress, log, names = Progress(command), log_of("build"), crates()
-    with open(log, "wb") as to:
+    progress, log, names, began = Progress(command), log_of("build"), crates(), time.time()
+    with open(log, "wb") as to, tempfile.TemporaryDirectory() as room:
         for number, name in enumerate(names, 1):
             progress.show(f"proving and building {name}, crate {number} of {len(names)}")
-            words = ["rt", "run" if name == NAME else "lib"]
+            words = run_words(f"{room}/store.ron") if name == NAME else ["rt", "lib"]
             how = {"stdin": subprocess.DEVNULL, "stdout": to, "stderr": to}
             status = subprocess.run(words, cwd=f"{TOP}/crates/{name}", **how).returncode
             if status:
@@ -67,7 +77,8 @@ def build(command):
     if status or not os.path.isfile(BUILT):
         print(f"{command}: {name} was not built; {os.path.relpath(log)} tells why", file=sys.stderr)
         sys.exit(126)
-    os.utime(BUILT)
+    # (a source that was changed meanwhile is younger)
+    os.utime(BUILT, (began, began))
 
 
 def unproved_output(command, script, files, words):

@@ -1,4 +1,5 @@
 """What a long command says of itself: one line on standard error, where that is a terminal."""
+import shutil
 import sys
 import threading
 import time
@@ -30,7 +31,8 @@ class Progress:
     def write(self):
         with self.writing:
             if self.is_shown:
-                sys.stderr.write(f"\r\x1b[K{self.name}: {self.so_far()} {self.text}"[:160])
+                line = f"{self.name}: {self.so_far()} {self.text}"[: shutil.get_terminal_size().columns - 1]
+                sys.stderr.write(f"\r\x1b[K{line}")
                 sys.stderr.flush()
 
     def end(self):

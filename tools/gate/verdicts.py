@@ -22,7 +22,7 @@ class Verdicts:
             self.sum = hashlib.sha256(repr(sums).encode()).hexdigest()
 
     def path(self, edit):
-        name = hashlib.sha256(repr((self.sum, edit.label, content(edit.path))).encode()).hexdigest()
+        name = hashlib.sha256(repr((self.sum, edit.label, edit.text)).encode()).hexdigest()
         return f"{self.folder}/{name}.json"
 
     def told(self, edit):
