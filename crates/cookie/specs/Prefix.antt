@@ -1,5 +1,6 @@
 -- Prefixes of names (the draft that follows RFC 6265, 4.1.3).
 use Rattle.std.specs.Prelude.{◌≡◌, ◌≢◌, ℕ, List, ◌++◌, true, Some, None, codes}
+use Rattle.cookie_text.specs.Again.{IsBoundTo}
 use Rattle.cookie_text.specs.Record.{Seen}
 use Rattle.cookie_text.specs.Setting.{with_name, with_secure, with_path, with_domain}
 
@@ -27,10 +28,8 @@ secure_text = codes "__Secure-"
 abbrev pub host : Seen → Seen
 host s = with_domain (with_path (with_secure s (Some true)) (Some (codes "/"))) None
 
-pub record IsHost (s : Seen) : Type 0 where
-  pub secure : s.cookie.secure ≡ Some true
-  pub path : s.cookie.path ≡ Some (codes "/")
-  pub domain : s.cookie.domain ≡ None
+abbrev pub IsHost : Seen → Type 0
+IsHost s = IsBoundTo (codes "/") s.cookie
 
 -- `__Secure-`: `Secure`
 abbrev pub secure : Seen → Seen

@@ -1,6 +1,6 @@
 //! Prefixes that bind a cookie to its attributes.
 
-ghost use Rattle.std.specs.Prelude.{◌≡◌, ◌≢◌, ℕ, List, ◌++◌, IfOk, IsOk, MatchOption, string_bytes};
+ghost use Rattle.std.specs.Prelude.{◌≡◌, ◌≢◌, ◌↔◌, ℕ, List, ◌++◌, IfOk, IsOk, IsTrue, MatchOption, string_bytes};
 ghost use Rattle.cookie_text.specs.Record.{Seen};
 ghost use Rattle.cookie.specs.Prefix as spec;
 
@@ -24,6 +24,10 @@ pub trait Prefix: Drop {
     /// The cookie with its attributes as the prefix promises them.
     fn conform<'c>(cookie: Cookie<'c>) -> Cookie<'c>
         ensures { result ≡ conformed cookie.entry };
+
+    /// Whether the cookie's attributes are as the prefix promises them. No memory is taken.
+    fn conforms(cookie: &Cookie<'_>) -> bool
+        ensures { IsTrue result ↔ Conforms cookie.now };
 
     /// The prefix and the name.
     ///
@@ -86,7 +90,7 @@ pub trait Prefix: Drop {
         Ok(Self::conform(Self::prefix(alloc, cookie)?))
     }
 
-    ghost conforms: { (s : Seen) → Conforms (conformed s) };
+    ghost conforming: { (s : Seen) → Conforms (conformed s) };
 
     ghost keeps_pair: { (s : Seen) → spec.KeepsPair s (conformed s) };
 
@@ -120,7 +124,7 @@ impl Prefix for Host {
 
     ghost Conforms = { spec.IsHost };
 
-    ghost conforms = { λ s. record { secure = refl; path = refl; domain = refl } };
+    ghost conforming = { λ s. record { secure = refl; path = refl; domain = refl } };
 
     ghost keeps_pair = { λ s. (refl, refl) };
 
@@ -136,6 +140,10 @@ impl Prefix for Host {
         cookie.set_path("/");
         cookie.unset_domain();
         cookie
+    }
+
+    fn conforms(cookie: &Cookie<'_>) -> bool {
+        cookie.secure() == Some(true) && cookie.path() == Some("/") && cookie.domain().is_none()
     }
 }
 
@@ -157,7 +165,7 @@ impl Prefix for Secure {
 
     ghost Conforms = { spec.IsSecure };
 
-    ghost conforms = { λ s. refl };
+    ghost conforming = { λ s. refl };
 
     ghost keeps_pair = { λ s. (refl, refl) };
 
@@ -171,5 +179,9 @@ impl Prefix for Secure {
         let mut cookie = cookie;
         cookie.set_secure(Some(true));
         cookie
+    }
+
+    fn conforms(cookie: &Cookie<'_>) -> bool {
+        cookie.secure() == Some(true)
     }
 }

@@ -29,7 +29,7 @@ use Rattle.cookie_run.specs.Keeping.{Keeps, HasReadPair, HaveReadPairs}
 use Rattle.cookie_run.specs.Play.{OneStep, Plays}
 use Rattle.cookie_run.specs.Strangers.{Concerns, IsOnly, IsNoExchange, HeaderAlone}
 use Rattle.cookie_run.specs.declared.step.LineEnd.{LineEnd}
-use Rattle.cookie_run.specs.declared.step.LineEnd.TheVariants.{NotText}
+use Rattle.cookie_run.specs.declared.step.LineEnd.TheVariants.{NotText, HostPrefix}
 use Rattle.cookie_run.specs.declared.step.Reading.{Reading}
 use Rattle.cookie_run.specs.declared.step.Reading.TheVariants.{Header}
 use Rattle.cookie_run.proofs.ClientRows.{kept_pairs, received_pairs}
@@ -97,10 +97,12 @@ module _ (list : List Rule) (url : Parts) (now : ℤ) (rows rest : List Row) whe
 
   line_too : (line : List ℕ) (end : LineEnd) (new : List Row) → Accepts list rows url now line end new
       → IsUnrefuted ((e : LineEnd) × (left : List Row) × Accepts list rest url now line e left)
-  line_too line end new (inl wrong) refuted = refuted (NotText, rest, inl (wrong.0, refl, refl))
-  line_too line end new (inr right) refuted =
+  line_too line end new (inl against) refuted = refuted (HostPrefix, rest, inl (against.0, refl, refl))
+  line_too line end new (inr (free, inl wrong)) refuted =
+      refuted (NotText, rest, inr (free, inl (wrong.0, refl, refl)))
+  line_too line end new (inr (free, inr right)) refuted =
       read_too right.1.0 (right.1.2.0, new) right.1.2.1
-      (λ x. refuted (text_end x.0, x.1, inr (right.0, (right.1.0, right.1.1, (x.0, x.2, refl)))))
+      (λ x. refuted (text_end x.0, x.1, inr (free, inr (right.0, (right.1.0, right.1.1, (x.0, x.2, refl))))))
 
 lines_too : (list : List Rule) (url : Parts) (now : ℤ) (lines : List (List ℕ)) (rows rest : List Row)
     (ends : List LineEnd) (new : List Row) → AcceptsAll list rows url now lines ends new

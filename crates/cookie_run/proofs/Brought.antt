@@ -16,16 +16,16 @@ use Rattle.cookie_run.specs.Header.{IsHeader, header_of}
 use Rattle.cookie_run.specs.Hosts.{secure_host}
 use Rattle.cookie_run.specs.Laws.{RowsAreTheSites}
 use Rattle.cookie_run.specs.Moments.{IsMoment}
-use Rattle.cookie_run.specs.Site.{Site, nothing, live_at, live}
+use Rattle.cookie_run.specs.Site.{Site, live_at, live}
 use Rattle.cookie_run.proofs.HeaderBack.{pair_at}
 use Rattle.cookie_run.proofs.Kepts.{Kept, found_in, AreApart, all_filter, apart_filter}
 use Rattle.cookie_run.proofs.OwnRows.{is_own, IsRowOf, IsGoodKept, Agrees, walk}
 use Rattle.cookie_run.proofs.Received.{alive}
-use Rattle.cookie_run.proofs.GivenRows.{lives, record_of, rooted, given_rows, found_live, pairs_same}
+use Rattle.cookie_run.proofs.GivenRows.{lives, record_of, rooted, given_rows, all_rows, found_live, pairs_same}
 use Rattle.cookie_run.proofs.Walking.{value_of, matches_view}
 use Rattle.cookie_run.proofs.Commands.{EndsLate}
 use Rattle.cookie_run.proofs.Exchange.{Laws, SiteAgrees, agrees_later, IsReadBack}
-use Rattle.cookie_run.proofs.Sites.{each_leads, begins, reads_back}
+use Rattle.cookie_run.proofs.Sites.{every, site_leads, reads_back}
 
 -- ---- pairs
 
@@ -56,7 +56,7 @@ holds host d r h = record { domain = h.domain; path = h.path; name = h.name; val
 abbrev Held : List ℕ → ℤ → List Kept → List Row → Type 0
 Held host now ks rows = Pairwise (HoldsPair host) (pairs_of (filter (lives now) ks)) (live_under host now rows)
 
-held_own : (host : List ℕ) (now : ℤ) (d : Kept) (r : Row) (ds : List Kept) (rs : List Row) → is_own host r ≡ true
+held_own : (host : List ℕ) (now : ℤ) (d : Kept) (r : Row) (ds : List Kept) (rs : List Row) → is_own every host r ≡ true
     → IsRowOf host d r → Held host now ds rs → Held host now (d ∷ ds) (r ∷ rs)
 held_own host now d r ds rs own h rest =
     ⊎_elim
@@ -65,7 +65,7 @@ held_own host now d r ds rs own h rest =
     subst (λ b. Pairwise (HoldsPair host) (pairs_of (cond (not b) (d ∷ filter (lives now) ds) (filter (lives now) ds)))
     (live_under host now (r ∷ rs))) (sym dead)
     (subst (λ b. Pairwise (HoldsPair host) (pairs_of (filter (lives now) ds))
-    (cond (is_own host r && b) (r ∷ live_under host now rs) (live_under host now rs))) (sym row)
+    (cond (is_own every host r && b) (r ∷ live_under host now rs) (live_under host now rs))) (sym row)
     (subst (λ b. Pairwise (HoldsPair host) (pairs_of (filter (lives now) ds))
     (cond (b && false) (r ∷ live_under host now rs) (live_under host now rs))) (sym own) rest)))
     (λ (alive_here : is_dead now d.death ≡ false).
@@ -73,12 +73,12 @@ held_own host now d r ds rs own h rest =
     subst (λ b. Pairwise (HoldsPair host) (pairs_of (cond (not b) (d ∷ filter (lives now) ds) (filter (lives now) ds)))
     (live_under host now (r ∷ rs))) (sym alive_here)
     (subst (λ b. Pairwise (HoldsPair host) (pairs_of (d ∷ filter (lives now) ds))
-    (cond (is_own host r && b) (r ∷ live_under host now rs) (live_under host now rs))) (sym row)
+    (cond (is_own every host r && b) (r ∷ live_under host now rs) (live_under host now rs))) (sym row)
     (subst (λ b. Pairwise (HoldsPair host) (pairs_of (d ∷ filter (lives now) ds))
     (cond (b && true) (r ∷ live_under host now rs) (live_under host now rs))) (sym own) (holds host d r h, rest))))
     (cases_Bool (is_dead now d.death))
 
-held_other : (host : List ℕ) (now : ℤ) (r : Row) (ds : List Kept) (rs : List Row) → is_own host r ≡ false
+held_other : (host : List ℕ) (now : ℤ) (r : Row) (ds : List Kept) (rs : List Row) → is_own every host r ≡ false
     → Held host now ds rs → Held host now ds (r ∷ rs)
 held_other host now r ds rs other rest =
     subst (λ b. Pairwise (HoldsPair host) (pairs_of (filter (lives now) ds))
@@ -109,15 +109,16 @@ abbrev pub SplittingBack : Type 0
 SplittingBack = (pairs : List (List ℕ × List ℕ)) → All (λ p. IsNamed p.0 p.1) pairs → SplitsInto (joined pairs) pairs
 
 split_pairs : (splits : SplittingBack) (host : List ℕ) (url : Parts) (now : ℤ) (rows : List Row) (ks : List Kept)
-    (header : List ℕ) → secure_host url ≡ Some host → IsReadBack host → Agrees host rows ks
+    (header : List ℕ) → secure_host url ≡ Some host → IsReadBack host → Agrees every host rows ks
     → IsHeader rows url now header → SplitsInto header (pairs_of (filter (lives now) ks))
 split_pairs splits host url now rows ks header secure reads a is =
     let root_is = rooted url host secure is.valid in
     let live_ks : List Kept = filter (lives now) ks in
+    let given = given_rows every host url now rows is.given ks secure root_is reads a is.are_given in
+    let all : Pairwise (IsRowOf host) live_ks is.given =
+    subst (Pairwise (IsRowOf host) live_ks) (all_rows every host is.given (λ name. refl) given.1) given.0 in
     let printed : header ≡ joined (pairs_of live_ks) =
-    is.printed ∙ (ap header_of (pairs_same host live_ks is.given (given_rows host url now rows is.given ks secure
-    root_is
-    reads a is.are_given)) ∙ header_joined live_ks) in
+    is.printed ∙ (ap header_of (pairs_same host live_ks is.given all) ∙ header_joined live_ks) in
     subst (λ h. SplitsInto h (pairs_of live_ks)) (sym printed)
     (splits (pairs_of live_ks) (All-from_recursion (λ p. IsNamed p.0 p.1) (pairs_of live_ks)
     (all_named live_ks (all_filter IsGoodKept (lives now) ks a.good))))
@@ -125,7 +126,7 @@ split_pairs splits host url now rows ks header secure reads a is =
 -- ---- the site
 
 brings_site : (splits : SplittingBack) (key host : List ℕ) (rows : List Row) (now : ℤ) (site : Site) → IsReadBack host
-    → SiteAgrees key host rows now site → BringsSite key host rows now (live site now)
+    → SiteAgrees every key host rows now site → BringsSite key host rows now (live site now)
 brings_site splits key host rows now site reads a =
     let ks = a.cookies in
     let live_ks : List Kept = filter (lives now) ks in
@@ -135,9 +136,9 @@ brings_site splits key host rows now site reads a =
         once = pairs_apart live_ks (apart_filter (lives now) ks a.agrees.apart);
         each = λ q. subst (λ o. Matches key q o (live site now q))
             (sym (pairs_found live_ks q ∙ ap value_of (found_live now ks q a.agrees.apart)))
-            (matches_view key q (alive now (found_in ks q)) (live_at now (site q)) (a.each q));
+            (matches_view key q (alive now (found_in ks q)) (live_at now (site q)) (a.each q refl));
       };
-      held = walk host (Held host now) tt (λ d r ds rs own h good rest. held_own host now d r ds rs own h rest)
+      held = walk every host (Held host now) tt (λ d r ds rs own h good rest. held_own host now d r ds rs own h rest)
           (λ r ds rs other rest. held_other host now r ds rs other rest) rows ks a.agrees.good a.agrees.own;
       sent = λ url header secure is. split_pairs splits host url now rows ks header secure reads a.agrees is;
     }
@@ -146,10 +147,9 @@ pub sites_brought : (key : List ℕ) (laws : Laws key) (late : (n : ℤ) → IsM
     → RowsAreTheSites key
 sites_brought key laws late splits list acts told rows follows plays host site =
     let reads = reads_back host site.own_form site.no_empty_label in
-    let led = each_leads key laws late list host acts nothing _ [] told rows reads site.sessions site.apart follows
-    (begins key host) plays in (
+    let led = site_leads key laws late list host acts told rows site follows plays in (
       led.0,
       led.1,
       λ now after. brings_site splits key host rows now led.0 reads
-          (agrees_later key host rows _ now led.0 after led.2),
+          (agrees_later every key host rows _ now led.0 after led.2),
     )

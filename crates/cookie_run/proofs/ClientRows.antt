@@ -30,7 +30,7 @@ pub received_pairs : (list : List Rule) (url : Parts) (now : ℤ) (lines : List 
     → HaveReadPairs new
 received_pairs list url now lines rows ends new =
     lines_from HasReadPair (λ r h. h) (λ r h. h) (λ _. Unit {0})
-    (λ line s url now made _. pair_made pair_of line s url now made)
+    (λ line s url now made _ free. pair_made pair_of line s url now made)
     list url now lines rows ends new tt
 
 stopped_pairs : (list : List Rule) (url : Parts) (now : ℤ) (lines : List (List ℕ)) (rows : List Row) (n : ℕ)

@@ -39,8 +39,10 @@ read_confined law list url now rows new answer (Ok s) (inr made) =
 line_confined : (law : InsertionIsConfined) (list : List Rule) (url : Parts) (now : ℤ) (rows new : List Row)
     (line : List ℕ) (end : LineEnd) → Accepts list rows url now line end new
     → IsConfined list (host_of url) rows new
-line_confined law list url now rows new line end (inl wrong) = same_rows list (host_of url) rows new wrong.2
-line_confined law list url now rows new line end (inr right) =
+line_confined law list url now rows new line end (inl against) = same_rows list (host_of url) rows new against.2
+line_confined law list url now rows new line end (inr (free, inl wrong)) =
+    same_rows list (host_of url) rows new wrong.2
+line_confined law list url now rows new line end (inr (free, inr right)) =
     read_confined law list url now rows new right.1.2.0 right.1.0 right.1.2.1
 
 pub answer_confined : (law : InsertionIsConfined) (list : List Rule) (url : Parts) (now : ℤ) (lines : List (List ℕ))

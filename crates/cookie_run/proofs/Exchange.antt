@@ -1,5 +1,5 @@
 -- One act, and all acts: the rows under a host go on to stand for what is live of its site.
-use Rattle.std.proofs.Common.{◌≡◌, ℕ, ℤ, ◌≤ℤ◌, pos, Bool, true, false, cond, List, [], ◌∷◌, sym, refl, ap, ◌∙◌, subst}
+use Rattle.std.proofs.Common.{◌≡◌, ℕ, ℤ, ◌≤ℤ◌, pos, true, false, cond, List, [], ◌∷◌, sym, refl, ap, ◌∙◌, subst}
 use Rattle.std.proofs.Common.{⊎_elim, Option, Some, None, arith}
 use Rattle.std.specs.Prelude.{map, option_map, IfSome, ⊤}
 use Rattle.std.specs.List.{AllByRecursion}
@@ -31,20 +31,22 @@ use Rattle.cookie_run.proofs.Showing.{all_records}
 use Rattle.cookie_run.proofs.Texts.{same_text}
 use Rattle.cookie_store.specs.Rows.{Row}
 use Rattle.cookie_run.specs.Accept.{AcceptsAll}
-use Rattle.cookie_text.specs.Again.{PairsReadAgain}
+use Rattle.cookie_text.specs.Again.{PairsReadAgain, TextsGivePairs}
 use Rattle.cookie_run.specs.declared.step.LineEnd.{LineEnd}
 use Rattle.cookie_run.specs.Header.{IsHeader}
 use Rattle.cookie_run.specs.declared.step.Command.{Command}
-use Rattle.cookie_run.specs.Site.{CommandsOn, Site, View, live_at, live, left_by_all, ExchangeOn}
+use Rattle.cookie_run.specs.Site.{Site, View, live_at, live, left_by_all, after_arrival}
+use Rattle.cookie_run.specs.Keeping.{HaveReadPairs}
 use Rattle.cookie_run.specs.Play.{Serves, Delivers}
-use Rattle.cookie_run.proofs.Kepts.{Kept, found_in, found_named}
-use Rattle.cookie_run.proofs.OwnRows.{IsGoodKept, Agrees}
+use Rattle.cookie_run.proofs.ActMoments.{end_moment}
+use Rattle.cookie_run.proofs.Kepts.{Kept, found_in}
+use Rattle.cookie_run.proofs.OwnRows.{Counts, Agrees}
 use Rattle.cookie_run.proofs.Received.{alive, Writes}
 use Rattle.cookie_run.proofs.Lines.{IsClosed, IsTime, kept_of, own_line}
-use Rattle.cookie_run.proofs.GivenRows.{header_cookies}
+use Rattle.cookie_run.proofs.GivenRows.{header_last}
 use Rattle.cookie_run.proofs.Walking.{MatchesHeld, brings, IsFitChange, AllFit, sent_at, Walks, opened_walks}
 use Rattle.cookie_run.proofs.Walking.{matches_later}
-use Rattle.cookie_run.proofs.Commands.{Known, EndsLate, all_go}
+use Rattle.cookie_run.proofs.Commands.{Gets, Told, CommandsIn, EndsLate, all_go}
 
 -- what public laws promise
 pub record Laws (key : List ℕ) : Type 0 where
@@ -52,6 +54,7 @@ pub record Laws (key : List ℕ) : Type 0 where
   pub only : OnlyOne key
   pub utf8 : (c : Record) → IsClosed c → IsUtf8 (encoded c)
   pub again : PairsReadAgain
+  pub given : TextsGivePairs
 
 -- ---- THE LINES OF A SESSION
 
@@ -68,61 +71,44 @@ moved d c cs q x none =
     (λ (e : bytes_eq q c.name ≡ false). rw e refl)
     (cases_Bool (bytes_eq q c.name))
 
-pub record WritesAll (host : List ℕ) (now : ℤ) (cs : List Record) (ks : List Kept) (new : List Row) : Type 0 where
+pub record WritesAll (counts : Counts) (host : List ℕ) (now : ℤ) (cs : List Record) (ks : List Kept) (new : List Row) : Type 0 where
   pub cookies : List Kept
-  pub agrees : Agrees host new cookies
-  pub each : (q : List ℕ) → alive now (found_in cookies q) ≡ over_at now (found_record cs q) (alive now (found_in ks q))
+  pub agrees : Agrees counts host new cookies
+  pub each : (q : List ℕ) → counts q ≡ true → alive now (found_in cookies q) ≡ over_at now (found_record cs q) (alive now (found_in ks q))
 
-own_lines : (key : List ℕ) (laws : Laws key) (list : List Rule) (host : List ℕ) (url : Parts) (now : ℤ)
+own_lines : (counts : Counts) (key : List ℕ) (laws : Laws key) (list : List Rule) (host : List ℕ) (url : Parts) (now : ℤ)
     (cs : List Record) (rows : List Row) (ks : List Kept) (ends : List LineEnd) (new : List Row)
-    → secure_host url ≡ Some host → IsTime now → AllByRecursion IsClosed cs → RecordsApart cs → Agrees host rows ks
-    → AcceptsAll list rows url now (map encoded cs) ends new → WritesAll host now cs ks new
-own_lines key laws list host url now [] rows ks ends new secure time closed apart a t =
-    record { cookies = ks; agrees = subst (λ rs. Agrees host rs ks) (sym t.1) a; each = λ q. refl }
-own_lines key laws list host url now (c ∷ cs) rows ks [] new secure time closed apart a t = absurd t
-own_lines key laws list host url now (c ∷ cs) rows ks (e ∷ ends) new secure time closed apart a t =
-    let first : Writes host now (kept_of now c) ks t.0 = own_line laws.back laws.utf8 list host url now c rows ks e t.0
+    → secure_host url ≡ Some host → IsTime now → AllByRecursion IsClosed cs → RecordsApart cs → Agrees counts host rows ks
+    → AcceptsAll list rows url now (map encoded cs) ends new → WritesAll counts host now cs ks new
+own_lines counts key laws list host url now [] rows ks ends new secure time closed apart a t =
+    record { cookies = ks; agrees = subst (λ rs. Agrees counts host rs ks) (sym t.1) a; each = λ q c. refl }
+own_lines counts key laws list host url now (c ∷ cs) rows ks [] new secure time closed apart a t = absurd t
+own_lines counts key laws list host url now (c ∷ cs) rows ks (e ∷ ends) new secure time closed apart a t =
+    let first : Writes counts host now (kept_of now c) ks t.0 = own_line counts laws.back laws.utf8 list host url now c rows ks e t.0
     secure time closed.0 a t.1 in
-    let rest : WritesAll host now cs first.cookies new = own_lines key laws list host url now cs t.0 first.cookies ends
+    let rest : WritesAll counts host now cs first.cookies new = own_lines counts key laws list host url now cs t.0 first.cookies ends
     new secure time closed.1 apart.1 first.agrees t.2 in
     record {
       cookies = rest.cookies;
       agrees = rest.agrees;
-      each = λ q. rest.each q ∙ (ap (over_at now (found_record cs q)) (first.each q)
+      each = λ q counted. rest.each q counted ∙ (ap (over_at now (found_record cs q)) (first.each q counted)
           ∙ moved now c cs q (alive now (found_in ks q)) apart.0);
     }
 
 -- ---- what stands for a site
 
-pub record SiteAgrees (key host : List ℕ) (rows : List Row) (now : ℤ) (site : Site) : Type 0 where
+pub record SiteAgrees (counts : Counts) (key host : List ℕ) (rows : List Row) (now : ℤ) (site : Site) : Type 0 where
   pub cookies : List Kept
-  pub agrees : Agrees host rows cookies
-  pub each : (q : List ℕ) → MatchesHeld key q (alive now (found_in cookies q)) (live_at now (site q))
+  pub agrees : Agrees counts host rows cookies
+  pub each : (q : List ℕ) → counts q ≡ true → MatchesHeld key q (alive now (found_in cookies q)) (live_at now (site q))
 
-pub agrees_later : (key host : List ℕ) (rows : List Row) (now later : ℤ) (site : Site) → now ≤ℤ later
-    → SiteAgrees key host rows now site → SiteAgrees key host rows later site
-agrees_later key host rows now later site after a = record {
+pub agrees_later : (counts : Counts) (key host : List ℕ) (rows : List Row) (now later : ℤ) (site : Site) → now ≤ℤ later
+    → SiteAgrees counts key host rows now site → SiteAgrees counts key host rows later site
+agrees_later counts key host rows now later site after a = record {
   cookies = a.cookies;
   agrees = a.agrees;
-  each = λ q. matches_later key q now later (found_in a.cookies q) (site q) after (a.each q);
+  each = λ q c. matches_later key q now later (found_in a.cookies q) (site q) after (a.each q c);
 }
-
-some_good : (b : Bool) (k : Kept) (o : Option Kept) → IsGoodKept k → IfSome o IsGoodKept
-    → IfSome (cond b (Some k) o) IsGoodKept
-some_good true k o h g = h
-some_good false k o h g = g
-
-found_good : (ks : List Kept) (q : List ℕ) → AllByRecursion IsGoodKept ks → IfSome (found_in ks q) IsGoodKept
-found_good [] q h = tt
-found_good (k ∷ ks) q h = some_good (bytes_eq q k.name) k (found_in ks q) h.0 (found_good ks q h.1)
-
-both_known : (o : Option Kept) (q : List ℕ) → IfSome o (λ k. k.name ≡ q) → IfSome o IsGoodKept
-    → IfSome o (λ k. (k.name ≡ q) × IsGoodKept k)
-both_known None q h g = tt
-both_known (Some k) q h g = (h, g)
-
-known : (ks : List Kept) → AllByRecursion IsGoodKept ks → Known (found_in ks)
-known ks h q = both_known (found_in ks q) q (found_named ks q) (found_good ks q h)
 
 -- ---- ONE EXCHANGE
 
@@ -159,72 +145,74 @@ over_sent d None o after fit = refl
 over_sent d (Some (Added s)) o after fit = refl
 over_sent d (Some (Removed s)) o after fit = removal_dead d s.cookie after fit.1
 
-delivered : (key : List ℕ) (laws : Laws key) (list : List Rule) (host : List ℕ) (rows : List Row) (url : Parts)
+delivered : (counts : Counts) (key : List ℕ) (laws : Laws key) (list : List Rule) (host : List ℕ) (rows : List Row) (url : Parts)
     (now at : ℤ) (session : Keyed) (view : View) (left : Site) (ks : List Kept) (new : List Row)
     → secure_host url ≡ Some host → IsTime at
-    → Agrees host rows ks → Walks key now at (found_in ks) session view left → Delivers list rows url session.jar
-    (Arrives at) new → SiteAgrees key host new at left
-delivered key laws list host rows url now at session view left ks new secure time a w d =
-    let all = own_lines key laws list host url at (records d.0) rows ks d.2.0 new secure time
+    → Agrees counts host rows ks → Walks counts key now at (found_in ks) session view left → Delivers list rows url session.jar
+    (Arrives at) new → SiteAgrees counts key host new at left
+delivered counts key laws list host rows url now at session view left ks new secure time a w d =
+    let all = own_lines counts key laws list host url at (records d.0) rows ks d.2.0 new secure time
     (delta_closed session.jar d.0 w.fit w.readable d.1) (apart_records d.0 d.1.apart) a
     (subst (λ ls. AcceptsAll list rows url at ls d.2.0 new) (lines_are d.0) d.2.1) in
     record {
       cookies = all.cookies;
       agrees = all.agrees;
-      each = λ q.
+      each = λ q c.
           let is : alive at (found_in all.cookies q) ≡ sent_at at (finmap.get session.jar.changes q) (found_in ks q) =
-          all.each q ∙ (ap (λ o. over_at at o (alive at (found_in ks q))) (found_records d.0 q
+          all.each q c ∙ (ap (λ o. over_at at o (alive at (found_in ks q))) (found_records d.0 q
           ∙ ap record_in (d.1.each q))
           ∙ over_sent at (finmap.get session.jar.changes q) (found_in ks q) time.after
           (if_change (finmap.get session.jar.changes q) (w.fit q))) in
-          subst (λ o. MatchesHeld key q o (live_at at (left q))) (sym is) (w.leaves q);
+          subst (λ o. MatchesHeld key q o (live_at at (left q))) (sym is) (w.leaves q c);
     }
 
 -- a host that is its own IDNA form, not empty, and begins with no dot
 abbrev pub IsReadBack : List ℕ → Type 0
 IsReadBack host = read_domain host ≡ Some (suffix host)
 
--- the last moment of an act
-abbrev pub end_moment : ℤ → Arrival → ℤ
-end_moment now (Arrives at) = at
-end_moment now Never = now
-
 abbrev pub IsArrival : ℤ → Arrival → Type 0
 IsArrival now (Arrives at) = IsTime at × (now ≤ℤ at)
 IsArrival now Never = ⊤
 
-pub walked : (key : List ℕ) (laws : Laws key) (host : List ℕ) (rows : List Row) (url : Parts) (now d : ℤ) (site : Site)
+pub walked : (counts : Counts) (Read : Gets) → Told counts Read → (key : List ℕ) (laws : Laws key) (host : List ℕ) (rows : List Row) (url : Parts) (now d : ℤ) (site : Site)
     (cs : List Command) (told : List Reading) (session : Keyed) (header : List ℕ)
-    (a : SiteAgrees key host rows now site) → secure_host url ≡ Some host → IsReadBack host → now ≤ℤ d → EndsLate now
-    → IsHeader rows url now header → Serves key header now cs told session
-    → (noted : List Command) × (after : View) × CommandsOn (live site now) cs told noted after
-    × Walks key now d (found_in a.cookies) session after (left_by_all d site noted)
-walked key laws host rows url now d site cs told session header a secure reads after late is serves =
-    let brought = brings key now a.cookies header serves.0 a.agrees.apart (header_cookies host url now rows a.cookies
-    header secure reads a.agrees is) serves.1 in
-    all_go key now d (found_in a.cookies) serves.0 session (live site now) site cs told laws.only after late
-    (known a.cookies a.agrees.good)
-    (opened_walks key now d a.cookies header serves.0 site after brought serves.1 a.each) serves.2
+    (a : SiteAgrees counts key host rows now site) → secure_host url ≡ Some host → IsReadBack host → now ≤ℤ d
+    → EndsLate now → HaveReadPairs rows → IsHeader rows url now header → Serves key header now cs told session
+    → (noted : List Command) × (after : View) × CommandsIn Read (live site now) cs told noted after
+    × Walks counts key now d (found_in a.cookies) session after (left_by_all d site noted)
+walked counts Read tell key laws host rows url now d site cs told session header a secure reads after late pairs is serves =
+    let brought = brings counts key now a.cookies header serves.0 a.agrees.apart
+    (header_last counts host url now rows a.cookies header secure reads pairs a.agrees is) serves.1 in
+    all_go counts Read tell key now d (found_in a.cookies) serves.0 session (live site now) site cs told laws.only after
+    late (opened_walks counts key now d a.cookies header serves.0 site after brought serves.1 a.each) serves.2
 
-pub exchanged : (key : List ℕ) (laws : Laws key) (list : List Rule) (host : List ℕ) (rows new : List Row) (url : Parts)
+-- an exchange that is opened at the moment
+abbrev pub ExchangeIn : Gets → Site → ℤ → List Command → Arrival → List Reading → Site → Type 0
+ExchangeIn Read site now commands arrival told new =
+    (noted : List Command) × (after : View) × CommandsIn Read (live site now) commands told noted after
+    × (new ≡ after_arrival arrival site noted)
+
+pub exchanged : (counts : Counts) (Read : Gets) → Told counts Read → (key : List ℕ) (laws : Laws key) (list : List Rule) (host : List ℕ) (rows new : List Row) (url : Parts)
     (now : ℤ) (site : Site) (cs : List Command) (arrival : Arrival) (told : List Reading) (header : List ℕ)
     (session : Keyed) → secure_host url ≡ Some host → IsReadBack host → EndsLate now → IsArrival now arrival
-    → SiteAgrees key host rows now site → IsHeader rows url now header → Serves key header now cs told session
-    → Delivers list rows url session.jar arrival new
-    → (after : Site) × ExchangeOn site now cs arrival told after × SiteAgrees key host new (end_moment now arrival)
+    → SiteAgrees counts key host rows now site → HaveReadPairs rows → IsHeader rows url now header
+    → Serves key header now cs told session → Delivers list rows url session.jar arrival new
+    → (after : Site) × ExchangeIn Read site now cs arrival told after × SiteAgrees counts key host new (end_moment now arrival)
     after
-exchanged key laws list host rows new url now site cs Never told header session secure reads late time a is serves d =
-    let w = walked key laws host rows url now now site cs told session header a secure reads (same now) late is
-    serves in
-    (site, (w.0, w.1, w.2, refl), subst (λ rs. SiteAgrees key host rs now site) (sym d) a)
+exchanged counts Read tell key laws list host rows new url now site cs Never told header session secure reads late time a pairs is serves
+    d =
+    let w = walked counts Read tell key laws host rows url now now site cs told session header a secure reads (same now)
+    late pairs is serves in
+    (site, (w.0, w.1, w.2, refl), subst (λ rs. SiteAgrees counts key host rs now site) (sym d) a)
   where
     same : (n : ℤ) → n ≤ℤ n
     same n = omega (arith, signed_arith)
-exchanged key laws list host rows new url now site cs (Arrives at) told header session secure reads late time a is
-    serves d =
-    let w = walked key laws host rows url now at site cs told session header a secure reads time.1 late is serves in (
+exchanged counts Read tell key laws list host rows new url now site cs (Arrives at) told header session secure reads late time a
+    pairs is serves d =
+    let w = walked counts Read tell key laws host rows url now at site cs told session header a secure reads time.1 late
+    pairs is serves in (
       left_by_all at site w.0,
       (w.0, w.1, w.2, refl),
-      delivered key laws list host rows url now at session w.1
+      delivered counts key laws list host rows url now at session w.1
           (left_by_all at site w.0) a.cookies new secure time.0 a.agrees w.3 d,
     )

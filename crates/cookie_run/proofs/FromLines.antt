@@ -36,16 +36,17 @@ use Rattle.cookie_store.specs.declared.action.StoreAction.{StoreAction}
 use Rattle.cookie_store.specs.declared.action.StoreAction.TheVariants.{ExpiredExisting}
 use Rattle.cookie_run.specs.Accept.{Accepts, AcceptsAll}
 use Rattle.cookie_run.specs.Acts.{Act, Visits, Answers, Asks, Restarts, Arrival, Arrives, Never, moments_in, moments_of}
-use Rattle.cookie_run.specs.Keeping.{Keeps, HasReadPair, IsSameRow, ComesBack}
+use Rattle.cookie_run.specs.HostPrefix.{IsAgainstHost}
+use Rattle.cookie_run.specs.Keeping.{Keeps, HasReadPair, HaveReadPairs, IsSameRow, ComesBack}
 use Rattle.cookie_run.specs.Moments.{AllFollow, IsMoment, second_1971}
 use Rattle.cookie_run.specs.Play.{Delivers, OneStep, Plays}
 use Rattle.cookie_run.specs.declared.step.LineEnd.{LineEnd}
 use Rattle.cookie_run.specs.declared.step.Reading.{Reading}
+use Rattle.cookie_run.proofs.ActMoments.{ends_at, front_follows}
 use Rattle.cookie_run.proofs.Lines.{age_whole}
 use Rattle.cookie_run.proofs.OwnRows.{IsWholeSecond, all_rows_map, all_behind}
 use Rattle.cookie_run.proofs.Removals.{early_year}
 use Rattle.cookie_run.proofs.Restarting.{whole_same}
-use Rattle.cookie_run.proofs.Sites.{ends_at, front_follows}
 
 -- its name and value are as a text gives them, and its death is a whole second
 abbrev pub IsFromLine : Row → Type 0
@@ -53,6 +54,10 @@ IsFromLine row = HasReadPair row × IfSome row.death IsWholeSecond
 
 abbrev pub AreFromLines : List Row → Type 0
 AreFromLines rows = AllByRecursion IsFromLine rows
+
+pub line_pairs : (rows : List Row) → AreFromLines rows → HaveReadPairs rows
+line_pairs [] all = tt
+line_pairs (r ∷ rs) all = (all.0.0, line_pairs rs all.1)
 
 -- ---- a whole second
 
@@ -146,23 +151,24 @@ module _ (P : Row → Type 0) (ends : (r : Row) → P r → P (expired r)) (apar
   -- ---- a line is taken
 
   module _ (Time : ℤ → Type 0) (own : (line : List ℕ) (s : Seen) (url : Parts) (now : ℤ) (made : Row) → Time now
-      → IsUtf8 line → ReadsPlain line (Ok s) → IsMade (unsliced s.cookie) url now made → P made) where
+      → ¬ (IsAgainstHost url line) → IsUtf8 line → ReadsPlain line (Ok s) → IsMade (unsliced s.cookie) url now made → P made) where
     read_from : (list : List Rule) (url : Parts) (now : ℤ) (line : List ℕ) (rows : List Row)
         (end : Result StoreAction CookieError) (new : List Row) (o : Result Seen ParseError) → Time now
-        → IsUtf8 line → ReadsPlain line o → All rows
+        → ¬ (IsAgainstHost url line) → IsUtf8 line → ReadsPlain line o → All rows
         → InsertsRead list rows url now o (end, new) → All new
-    read_from list url now line rows end new (Err e) time utf8 reads all h = same_from rows new (second_of h) all
-    read_from list url now line rows end new (Ok s) time utf8 reads all (inl wrong) =
+    read_from list url now line rows end new (Err e) time free utf8 reads all h = same_from rows new (second_of h) all
+    read_from list url now line rows end new (Ok s) time free utf8 reads all (inl wrong) =
         same_from rows new (second_of wrong.3) all
-    read_from list url now line rows end new (Ok s) time utf8 reads all (inr made) =
-        inserts_from list url now made.0 rows end new (own line s url now made.0 time utf8 reads made.1) all made.2
+    read_from list url now line rows end new (Ok s) time free utf8 reads all (inr made) =
+        inserts_from list url now made.0 rows end new (own line s url now made.0 time free utf8 reads made.1) all made.2
 
     line_from : (list : List Rule) (url : Parts) (now : ℤ) (line : List ℕ) (rows : List Row) (end : LineEnd)
         (new : List Row) → Time now → All rows → Accepts list rows url now line end new
         → All new
-    line_from list url now line rows end new time all (inl wrong) = same_from rows new wrong.2 all
-    line_from list url now line rows end new time all (inr right) =
-        read_from list url now line rows right.1.2.0 new right.1.0 time right.0 right.1.1 all right.1.2.1
+    line_from list url now line rows end new time all (inl against) = same_from rows new against.2 all
+    line_from list url now line rows end new time all (inr (free, inl wrong)) = same_from rows new wrong.2 all
+    line_from list url now line rows end new time all (inr (free, inr right)) =
+        read_from list url now line rows right.1.2.0 new right.1.0 time free right.0 right.1.1 all right.1.2.1
 
     pub lines_from : (list : List Rule) (url : Parts) (now : ℤ) (lines : List (List ℕ)) (rows : List Row)
         (ends : List LineEnd) (new : List Row) → Time now → All rows
@@ -181,9 +187,9 @@ pair_made give line s url now made utf8 reads h =
     subst (λ (raw : Seen). IsReadPair raw.cookie.name raw.cookie.value) (sym h.raw) (give line s utf8 reads)
 
 row_made : (give : TextsGivePairs) (line : List ℕ) (s : Seen) (url : Parts) (now : ℤ) (made : Row) → IsWholeSecond now
-    → IsUtf8 line
+    → ¬ (IsAgainstHost url line) → IsUtf8 line
     → ReadsPlain line (Ok s) → IsMade (unsliced s.cookie) url now made → IsFromLine made
-row_made give line s url now made time utf8 reads h = (
+row_made give line s url now made time free utf8 reads h = (
   pair_made give line s url now made utf8 reads h,
   subst (λ o. IfSome o IsWholeSecond) (sym h.ends)
       (death_read s.cookie now reads.attributes.0 time reads.attributes.2),
@@ -259,7 +265,7 @@ delivered_from give list url jar now rows Never new f all d = same_rows rows new
 delivered_from give list url jar now rows (Arrives at) new f all d =
     from_lines give list url at _ rows d.2.0 new (whole_moment at f.0.is_moment) all d.2.1
 
-step_from : (give : TextsGivePairs) (law : PairsReadAgain) (list : List Rule) (key : List ℕ) (last : ℤ)
+pub step_from : (give : TextsGivePairs) (law : PairsReadAgain) (list : List Rule) (key : List ℕ) (last : ℤ)
     (rows new : List Row) (act : Act) (told : List Reading)
     → AllFollow last (moments_in act) → AreFromLines rows → OneStep list key rows act told new → AreFromLines new
 step_from give law list key last rows new (Visits url at commands arrival) told f all s =

@@ -1,11 +1,12 @@
 -- A request of the host is given its live rows, and its header brings what they hold.
 use Rattle.std.proofs.Common.{◌≡◌, ℕ, ℤ, ◌<◌, Bool, true, false, cond, List, [], ◌∷◌, ◌++◌, length, sym, refl, ap, ◌∙◌}
 use Rattle.std.proofs.Common.{subst, ⊎_elim, inl, inr, Option, Some, None, arith}
-use Rattle.std.specs.Prelude.{map, option_map, codes, not, is_some, ◌&&◌, ◌==◌, IsSomeAnd, slice_index}
-use Rattle.std.specs.List.{filter, AllByRecursion}
+use Rattle.std.specs.Prelude.{map, option_map, codes, not, is_some, ◌&&◌, ◌==◌, IfSome, IsSomeAnd, slice_index}
+use Rattle.std.specs.List.{filter, filter_map, cons_option, AllByRecursion}
 use Rattle.std.specs.Option.{option_or}
 use Rattle.std.specs.Str.{bytes_eq}
 use Rattle.std.proofs.lemmas.Bool.{cases_Bool, cond-true, cond-false, both_ways}
+use Rattle.percent_encoding.specs.Percent.{percent_decode}
 use Rattle.url.specs.Parts.{Parts, IsValid, has_host, has_authority, cannot_be_a_base}
 use Rattle.url.specs.Path.{join_segments}
 use Rattle.url.specs.Scheme.{is_special, scheme_type, default_port}
@@ -18,17 +19,19 @@ use Rattle.store_parts.specs.PathMatch.{PathMatchesAt}
 use Rattle.cookie_run.specs.Hosts.{secure_host}
 use Rattle.store_parts.specs.Schemes.{host_of}
 use Rattle.cookie_run.specs.Jar.{last_in}
-use Rattle.cookie_run.proofs.HeaderCookies.{cookies_of}
-use Rattle.cookie_run.proofs.HeaderBack.{pair_at, cookies_of_header}
-use Rattle.cookie_run.proofs.ReadBack.{IsGood, bare_of}
+use Rattle.cookie_run.specs.Keeping.{HasReadPair, HaveReadPairs}
+use Rattle.cookie_run.proofs.HeaderCookies.{cookie_of, cookies_of}
+use Rattle.cookie_run.proofs.HeaderBack.{pair_at, IsRead, texts_of, header_back, cookie_named, passed_over}
+use Rattle.cookie_run.proofs.ReadBack.{led, cookie_of_led}
 use Rattle.cookie_run.proofs.Showing.{or_none}
-use Rattle.cookie_run.proofs.Texts.{same_text, some_is_not_none}
+use Rattle.cookie_run.proofs.Texts.{same_text, other_text, some_is_not_none}
 use Rattle.cookie_store.specs.Rows.{Row}
-use Rattle.cookie_store.specs.Given.{IsGiven, AreGiven, pair_of}
+use Rattle.cookie_store.specs.Given.{IsGiven, AreGiven, ArePicked, pair_of}
 use Rattle.store_parts.specs.Expiry.{is_dead}
-use Rattle.cookie_run.specs.Header.{IsHeader, header_of}
+use Rattle.cookie_run.specs.Header.{IsHeader, pair_text}
 use Rattle.cookie_run.proofs.Kepts.{Kept, found_in, AreApart, pass, found_filter, all_filter}
-use Rattle.cookie_run.proofs.OwnRows.{is_own, own_text, IsRowOf, IsGoodKept, IsOther, Agrees, walk}
+use Rattle.cookie_run.proofs.OwnRows.{Counts, is_counted, is_own, rows_of, own_text, IsRowOf, IsGoodKept, IsOther}
+use Rattle.cookie_run.proofs.OwnRows.{Agrees, walk}
 use Rattle.cookie_run.proofs.Received.{alive}
 use Rattle.cookie_run.proofs.Lines.{https_of, is_http}
 
@@ -101,43 +104,94 @@ given_is host url now k r secure root_is reads h live =
 abbrev pub lives : ℤ → Kept → Bool
 lives now k = not (is_dead now k.death)
 
-abbrev GivenAs : List ℕ → Parts → ℤ → List Kept → List Row → Type 0
-GivenAs host url now ks rows = AllByRecursion (IsOther host) rows → (given : List Row) → AreGiven rows url now given
-    → Pairwise (IsRowOf host) (filter (lives now) ks) given
+-- its name doesn't count, where it isn't one of the host's
+abbrev pub IsUncounted : Counts → List ℕ → Row → Type 0
+IsUncounted counts host row = is_own counts host row ≡ false → is_counted counts row ≡ false
 
-given_own : (host : List ℕ) (url : Parts) (now : ℤ) (d : Kept) (r : Row) (ds : List Kept) (rs : List Row)
-    → secure_host url ≡ Some host → IsRooted url → read_domain host ≡ Some (suffix host) → IsRowOf host d r
-    → GivenAs host url now ds rs → GivenAs host url now (d ∷ ds) (r ∷ rs)
-given_own host url now d r ds rs secure root_is reads h rest others given (later, picked, inl is) =
+-- these rows of the host stand for what lives of this, and no other one's name counts
+abbrev GivesLive : Counts → List ℕ → ℤ → List Kept → List Row → Type 0
+GivesLive counts host now ks given =
+    Pairwise (IsRowOf host) (filter (lives now) ks) (rows_of counts host given)
+    × AllByRecursion (IsUncounted counts host) given
+
+abbrev GivenAs : Counts → List ℕ → Parts → ℤ → List Kept → List Row → Type 0
+GivenAs counts host url now ks rows = AllByRecursion (IsOther counts host) rows → (given : List Row)
+    → AreGiven rows url now given → GivesLive counts host now ks given
+
+given_own : (counts : Counts) (host : List ℕ) (url : Parts) (now : ℤ) (d : Kept) (r : Row) (ds : List Kept)
+    (rs : List Row) → secure_host url ≡ Some host → IsRooted url → read_domain host ≡ Some (suffix host)
+    → is_own counts host r ≡ true → IsRowOf host d r → GivenAs counts host url now ds rs
+    → GivenAs counts host url now (d ∷ ds) (r ∷ rs)
+given_own counts host url now d r ds rs secure root_is reads own h rest others given (later, picked, inl is) =
     let live : is_dead now d.death ≡ false = subst (λ o. is_dead now o ≡ false) h.death is.0.live in
-    subst (λ b. Pairwise (IsRowOf host) (cond (not b) (d ∷ filter (lives now) ds) (filter (lives now) ds)) given)
-    (sym live)
-    (subst (Pairwise (IsRowOf host) (d ∷ filter (lives now) ds)) (sym is.1) (h, rest others.1 later picked))
-given_own host url now d r ds rs secure root_is reads h rest others given (later, picked, inr isnt) =
+    let tail = rest others.1 later picked in
+    let row : rows_of counts host (r ∷ later) ≡ r ∷ rows_of counts host later = cond-true _ _ _ own in
+    subst (λ b. GivesLive counts host now (d ∷ ds) b) (sym is.1) (
+      subst (λ b. Pairwise (IsRowOf host) (cond (not b) (d ∷ filter (lives now) ds) (filter (lives now) ds))
+          (rows_of counts host (r ∷ later))) (sym live)
+          (subst (Pairwise (IsRowOf host) (d ∷ filter (lives now) ds)) (sym row) (h, tail.0)),
+      ((λ other. absurd (both_ways _ other own)), tail.1),
+    )
+given_own counts host url now d r ds rs secure root_is reads own h rest others given (later, picked, inr isnt) =
     ⊎_elim
     (λ (dead : is_dead now d.death ≡ true).
-    subst (λ b. Pairwise (IsRowOf host) (cond (not b) (d ∷ filter (lives now) ds) (filter (lives now) ds)) given)
-    (sym dead)
-    (subst (Pairwise (IsRowOf host) (filter (lives now) ds)) (sym isnt.1) (rest others.1 later picked)))
+    let tail = rest others.1 later picked in
+    subst (λ b. GivesLive counts host now (d ∷ ds) b) (sym isnt.1) (
+      subst (λ b. Pairwise (IsRowOf host) (cond (not b) (d ∷ filter (lives now) ds) (filter (lives now) ds))
+          (rows_of counts host later)) (sym dead) tail.0,
+      tail.1,
+    ))
     (λ (live : is_dead now d.death ≡ false). absurd (isnt.0 (given_is host url now d r secure root_is reads h live)))
     (cases_Bool (is_dead now d.death))
 
-given_other : (host : List ℕ) (url : Parts) (now : ℤ) (r : Row) (ds : List Kept) (rs : List Row)
-    → secure_host url ≡ Some host → is_own host r ≡ false → GivenAs host url now ds rs
-    → GivenAs host url now ds (r ∷ rs)
-given_other host url now r ds rs secure other rest others given (later, picked, inl is) =
-    absurd (others.0 other (subst (λ o. IsSomeAnd o (Covers r.domain)) (https_of host url secure).1 is.0.goes.domain))
-given_other host url now r ds rs secure other rest others given (later, picked, inr isnt) = subst
-    (Pairwise (IsRowOf host) (filter (lives now) ds)) (sym isnt.1) (rest others.1 later picked)
+given_other : (counts : Counts) (host : List ℕ) (url : Parts) (now : ℤ) (r : Row) (ds : List Kept) (rs : List Row)
+    → secure_host url ≡ Some host → is_own counts host r ≡ false → GivenAs counts host url now ds rs
+    → GivenAs counts host url now ds (r ∷ rs)
+given_other counts host url now r ds rs secure other rest others given (later, picked, inl is) =
+    let tail = rest others.1 later picked in
+    let row : rows_of counts host (r ∷ later) ≡ rows_of counts host later = cond-false _ _ _ other in
+    subst (λ b. GivesLive counts host now ds b) (sym is.1) (
+      subst (Pairwise (IsRowOf host) (filter (lives now) ds)) (sym row) tail.0,
+      ((λ away. uncounted), tail.1),
+    )
+  where
+    uncounted : is_counted counts r ≡ false
+    uncounted =
+        ⊎_elim
+        (λ (c : is_counted counts r ≡ true). absurd (others.0 other c
+        (subst (λ o. IsSomeAnd o (Covers r.domain)) (https_of host url secure).1 is.0.goes.domain)))
+        (λ (c : is_counted counts r ≡ false). c)
+        (cases_Bool (is_counted counts r))
+given_other counts host url now r ds rs secure other rest others given (later, picked, inr isnt) =
+    subst (λ b. GivesLive counts host now ds b) (sym isnt.1) (rest others.1 later picked)
 
-pub given_rows : (host : List ℕ) (url : Parts) (now : ℤ) (rows given : List Row) (ks : List Kept)
-    → secure_host url ≡ Some host → IsRooted url → read_domain host ≡ Some (suffix host) → Agrees host rows ks
-    → AreGiven rows url now given → Pairwise (IsRowOf host) (filter (lives now) ks) given
-given_rows host url now rows given ks secure root_is reads a picked =
-    walk host (GivenAs host url now) (λ others given is. subst (Pairwise (IsRowOf host) []) (sym is) tt)
-    (λ d r ds rs own h hd rest. given_own host url now d r ds rs secure root_is reads h rest)
-    (λ r ds rs other rest. given_other host url now r ds rs secure other rest)
+pub given_rows : (counts : Counts) (host : List ℕ) (url : Parts) (now : ℤ) (rows given : List Row) (ks : List Kept)
+    → secure_host url ≡ Some host → IsRooted url → read_domain host ≡ Some (suffix host)
+    → Agrees counts host rows ks → AreGiven rows url now given → GivesLive counts host now ks given
+given_rows counts host url now rows given ks secure root_is reads a picked =
+    walk counts host (GivenAs counts host url now)
+    (λ others given is. subst (λ b. GivesLive counts host now [] b) (sym is) (tt, tt))
+    (λ d r ds rs own h hd rest. given_own counts host url now d r ds rs secure root_is reads own h rest)
+    (λ r ds rs other rest. given_other counts host url now r ds rs secure other rest)
     rows ks a.good a.own a.others given picked
+
+-- where all names count, these are all
+pub all_rows : (counts : Counts) (host : List ℕ) (given : List Row) → ((name : List ℕ) → counts name ≡ true)
+    → AllByRecursion (IsUncounted counts host) given → rows_of counts host given ≡ given
+all_rows counts host [] all h = refl
+all_rows counts host (r ∷ rs) all h =
+    ⊎_elim
+    (λ (own : is_own counts host r ≡ true). cond-true _ _ _ own ∙ ap (λ x. r ∷ x) (all_rows counts host rs all h.1))
+    (λ (other : is_own counts host r ≡ false). absurd (both_ways _ (h.0 other) (all (percent_decode r.raw.cookie.name))))
+    (cases_Bool (is_own counts host r))
+
+pub picked_all : (P Is : Row → Type 0) (rows picked : List Row) → AllByRecursion P rows → ArePicked Is rows picked
+    → AllByRecursion P picked
+picked_all P Is [] picked all p = subst (AllByRecursion P) (sym p) tt
+picked_all P Is (r ∷ rs) picked all (later, p, inl is) =
+    subst (AllByRecursion P) (sym is.1) (all.0, picked_all P Is rs later all.1 p)
+picked_all P Is (r ∷ rs) picked all (later, p, inr is) =
+    subst (AllByRecursion P) (sym is.1) (picked_all P Is rs later all.1 p)
 
 -- ---- the header
 
@@ -151,25 +205,53 @@ pairs_same host [] (r ∷ rs) p = absurd p
 pairs_same host (k ∷ ks) [] p = absurd p
 pairs_same host (k ∷ ks) (r ∷ rs) p = λ i. (p.0.name i, p.0.value i) ∷ pairs_same host ks rs p.1 i
 
-goods : (ks : List Kept) → AllByRecursion IsGoodKept ks → AllByRecursion IsGood (map record_of ks)
-goods [] h = tt
-goods (k ∷ ks) h = (h.0, goods ks h.1)
+-- the last cookie of a name that counts is that of the last row of the host
+abbrev LastAs : Counts → List ℕ → List ℕ → List Kept → List Row → Type 0
+LastAs counts host q ks rows = HaveReadPairs rows → AllByRecursion (IsUncounted counts host) rows → (spaced : Bool)
+    → last_in (filter_map cookie_of (texts_of spaced (map pair_of rows))) q ≡ last_in (map record_of ks) q
 
-bares : (ks : List Kept) → map bare_of (map record_of ks) ≡ map record_of ks
-bares [] = refl
-bares (k ∷ ks) = ap (λ x. record_of k ∷ x) (bares ks)
+last_own : (counts : Counts) (host q : List ℕ) (d : Kept) (r : Row) (ds : List Kept) (rs : List Row)
+    → IsRowOf host d r → IsGoodKept d → LastAs counts host q ds rs → LastAs counts host q (d ∷ ds) (r ∷ rs)
+last_own counts host q d r ds rs h good rest pairs others spaced =
+    let tail : List Record = filter_map cookie_of (texts_of true (map pair_of rs)) in
+    let same : pair_of r ≡ pair_at (record_of d) = λ i. (h.name i, h.value i) in
+    let one : cookie_of (led spaced (pair_text (pair_of r))) ≡ Some (record_of d) =
+    ap (λ p. cookie_of (led spaced (pair_text p))) same ∙ cookie_of_led spaced (record_of d) good in
+    ap (λ o. last_in (cons_option o tail) q) one
+    ∙ ap (λ x. option_or x (cond (bytes_eq q d.name) (Some (record_of d)) None)) (rest pairs.1 others.1 true)
 
-pub header_cookies : (host : List ℕ) (url : Parts) (now : ℤ) (rows : List Row) (ks : List Kept) (header : List ℕ)
-    → secure_host url ≡ Some host → read_domain host ≡ Some (suffix host) → Agrees host rows ks
-    → IsHeader rows url now header
-    → cookies_of header ≡ map record_of (filter (lives now) ks)
-header_cookies host url now rows ks header secure reads a is =
-    let root_is = rooted url host secure is.valid in
-    let live : List Kept = filter (lives now) ks in
-    ap cookies_of (is.printed ∙ ap header_of (pairs_same host live is.given (given_rows host url now rows is.given ks
-    secure root_is reads a is.are_given)))
-    ∙ (cookies_of_header (map record_of live) (goods live (all_filter IsGoodKept (lives now) ks a.good))
-    ∙ bares live)
+last_other : (counts : Counts) (host q : List ℕ) (r : Row) (ds : List Kept) (rs : List Row) → counts q ≡ true
+    → is_own counts host r ≡ false → LastAs counts host q ds rs → LastAs counts host q ds (r ∷ rs)
+last_other counts host q r ds rs c other rest pairs others spaced =
+    passed_over q (cookie_of (led spaced (pair_text (pair_of r)))) _
+    (differs _ (cookie_named spaced (pair_of r) pairs.0)) ∙ rest pairs.1 others.1 true
+  where
+    away : (n : List ℕ) → n ≡ percent_decode r.raw.cookie.name → bytes_eq q n ≡ false
+    away n is = other_text q n (λ same. both_ways _ (others.0 other) (ap counts (sym is ∙ sym same) ∙ c))
+
+    differs : (o : Option Record) → IfSome o (λ x. x.name ≡ percent_decode r.raw.cookie.name)
+        → IfSome o (λ x. bytes_eq q x.name ≡ false)
+    differs None h = tt
+    differs (Some x) h = away x.name h
+
+pub header_last : (counts : Counts) (host : List ℕ) (url : Parts) (now : ℤ) (rows : List Row) (ks : List Kept)
+    (header : List ℕ) → secure_host url ≡ Some host → read_domain host ≡ Some (suffix host) → HaveReadPairs rows
+    → Agrees counts host rows ks → IsHeader rows url now header → (q : List ℕ) → counts q ≡ true
+    → last_in (cookies_of header) q ≡ last_in (map record_of (filter (lives now) ks)) q
+header_last counts host url now rows ks header secure reads pairs a is q c =
+    let given = given_rows counts host url now rows is.given ks secure (rooted url host secure is.valid) reads a
+    is.are_given in
+    let own_pairs : HaveReadPairs is.given = picked_all HasReadPair _ rows is.given pairs is.are_given in
+    ap (λ h. last_in (cookies_of h) q) is.printed
+    ∙ (ap (λ cs. last_in cs q) (header_back (map pair_of is.given) (readable is.given own_pairs))
+    ∙ walk counts host (LastAs counts host q) (λ _ _ _. refl)
+    (λ d r ds rs own h good rest. last_own counts host q d r ds rs h good rest)
+    (λ r ds rs other rest. last_other counts host q r ds rs c other rest)
+    is.given (filter (lives now) ks) (all_filter IsGoodKept (lives now) ks a.good) given.0 own_pairs given.1 false)
+  where
+    readable : (rows : List Row) → HaveReadPairs rows → AllByRecursion IsRead (map pair_of rows)
+    readable [] h = tt
+    readable (r ∷ rs) h = (h.0, readable rs h.1)
 
 -- where names are apart, the last cookie of a name is the first
 pub last_kept : (ks : List Kept) (q : List ℕ) → AreApart ks → last_in (map record_of ks) q ≡ option_map record_of

@@ -7,6 +7,7 @@ pub mod Sessions
 pub mod Records
 pub mod Showing
 pub mod Kepts
+pub mod LetIn
 pub mod OwnRows
 pub mod Received
 pub mod Lines
@@ -14,11 +15,14 @@ pub mod GivenRows
 pub mod Walking
 pub mod Commands
 pub mod Sending
+pub mod ActMoments
 pub mod Exchange
 pub mod Restarting
 pub mod Removals
 pub mod Promises
+pub mod FromLines
 pub mod Sites
+pub mod HostSites
 pub mod Brought
 pub mod Confined
 pub mod SentLines
@@ -39,7 +43,6 @@ pub mod Halting
 pub mod ScriptRun
 pub mod ProgramFacts
 pub mod Following
-pub mod FromLines
 pub mod ReadOnce
 pub mod Picks
 pub mod Tried
@@ -52,5 +55,8 @@ mod Facts
 mod SiteFacts
 mod Example
 mod RelatedFacts
+mod HostFacts
 mod ScriptFacts
 mod VisitFacts
+pub mod HostRows
+pub mod HeldCopies

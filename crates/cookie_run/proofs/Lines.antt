@@ -1,8 +1,10 @@
 -- What becomes of the rows under a host when a line comes: one of its own sessions, or one from elsewhere.
 use Rattle.std.proofs.Common.{◌≡◌, ◌≢◌, ◌⊎◌, ℕ, ℤ, ◌≤ℤ◌, pos, ◌*ℤ◌, ◌+ℤ◌, Bool, true, false, cond, List, [], ◌∷◌, sym}
 use Rattle.std.proofs.Common.{refl, ap, ◌∙◌, subst, ⊎_elim, inl, inr, Option, Some, None, Result, Ok, Err, arith}
-use Rattle.std.specs.Prelude.{option_map, option_and_then, unwrap_or, codes, IfSome, IsSomeAnd, int_lt}
+use Rattle.std.specs.Prelude.{option_map, option_and_then, unwrap_or, codes, IfSome, IsSomeAnd, int_lt, ◌&&◌, ◌||◌}
+use Rattle.std.specs.Prelude.{is_none}
 use Rattle.std.specs.Int.{int_min}
+use Rattle.std.specs.List.{AllByRecursion}
 use Rattle.std.specs.Str.{bytes_eq, IsUtf8}
 use Rattle.std.proofs.lemmas.Bool.{cases_Bool, cond-true, cond-false, both_ways}
 use Rattle.jiff.proofs.SpanFacts.{signed_arith}
@@ -10,15 +12,16 @@ use Rattle.jiff.specs.Types.{DateTime}
 use Rattle.jiff.specs.Words.{civil_nanos, civil_seconds}
 use Rattle.jiff.proofs.Family.{civil_nanos-civil_seconds}
 use Rattle.jiff_core.specs.Timestamp.{IsDurationNanos}
+use Rattle.percent_encoding.specs.Percent.{percent_decode}
 use Rattle.url.specs.Parts.{Parts}
 use Rattle.cookie_text.specs.declared.error.ParseError.{ParseError}
 use Rattle.cookie_text.specs.declared.expiration.Expiration.{Expiration}
 use Rattle.cookie_text.specs.declared.expiration.Expiration.TheVariants.{DateTime as At, Session}
-use Rattle.cookie_text.specs.Normal.{normal, IsReadable, not_below_zero, whole_end, whole_moment}
-use Rattle.cookie_text.specs.Printing.{encoded, encoded_pair, whole_seconds}
+use Rattle.cookie_text.specs.Normal.{normal, kept, IsReadable, not_below_zero, whole_end, whole_moment}
+use Rattle.cookie_text.specs.Printing.{encoded, encoded_pair, is_set, is_unrestricted, prints_secure, whole_seconds}
 use Rattle.cookie_text.specs.Reading.{ReadsPlain}
 use Rattle.cookie_text.specs.ReadingBack.{ReadsBack}
-use Rattle.cookie_text.specs.Record.{Record, Seen, unsliced, without_dot, moment_of}
+use Rattle.cookie_text.specs.Record.{Record, Seen, unsliced, without_dot, moment_of, domain_of as domain_attribute}
 use Rattle.publicsuffix.specs.Prevailing.{Listed}
 use Rattle.publicsuffix.specs.Rules.{Rule}
 use Rattle.store_parts.specs.DomainMatch.{Domain, host_only, suffix, not_present, text_of, Covers, CoversAt}
@@ -36,16 +39,20 @@ use Rattle.cookie_run.specs.Hosts.{secure_host}
 use Rattle.store_parts.specs.Schemes.{host_of}
 use Rattle.cookie_run.proofs.ReadBack.{IsGood}
 use Rattle.cookie_run.proofs.Showing.{ReadingBack}
-use Rattle.cookie_run.proofs.Texts.{same_text, other_text, some_is_not_none}
+use Rattle.cookie_run.proofs.Texts.{same_text, some_is_not_none}
 use Rattle.cookie_store.specs.Rows.{Row, domain_text}
 use Rattle.cookie_store.specs.Insertion.{End, Fits, Admits, Inserts, InsertsRead}
 use Rattle.cookie_store.specs.declared.action.StoreAction.{StoreAction}
 use Rattle.cookie_run.specs.Accept.{Accepts, AcceptsAll}
 use Rattle.cookie_run.specs.declared.step.LineEnd.{LineEnd}
 use Rattle.cookie_run.specs.Headline.{IsApartFrom}
+use Rattle.cookie.specs.Prefix.{IsHost}
+use Rattle.cookie_run.specs.HostPrefix.{BeginsHost, IsAgainstHost}
 use Rattle.cookie_run.proofs.Kepts.{Kept}
-use Rattle.cookie_run.proofs.OwnRows.{root, IsRowOf, IsGoodKept, IsWholeSecond, Agrees}
-use Rattle.cookie_run.proofs.Received.{Writes, settled_writes, settled_keeps}
+use Rattle.cookie_run.proofs.LetIn.{free_conforms}
+use Rattle.cookie_run.proofs.OwnRows.{Counts, is_counted, is_own, root, IsRowOf, IsGoodKept, IsWholeSecond}
+use Rattle.cookie_run.proofs.OwnRows.{Agrees, first_and}
+use Rattle.cookie_run.proofs.Received.{Writes, sent_writes, settled_keeps, second_and}
 
 -- ---- https
 
@@ -67,6 +74,7 @@ is_http host url e = (codes "s", (https_of host url e).0)
 -- ---- a cookie that a session closes with
 
 pub record IsSent (c : Record) : Type 0 where
+  pub secure : c.secure ≡ Some true
   pub path : c.path ≡ Some (codes "/")
   pub domain : c.domain ≡ None
   pub age : IfSome c.max_age IsDurationNanos
@@ -185,27 +193,27 @@ row_is host url now c s made secure time closed reads is m = record {
 
 -- ---- A LINE OF A SESSION
 
-pub settles_writes : (host : List ℕ) (url : Parts) (now : ℤ) (k : Kept) (row : Row) (rows : List Row) (ks : List Kept)
+pub settles_writes : (counts : Counts) (host : List ℕ) (url : Parts) (now : ℤ) (k : Kept) (row : Row) (rows : List Row) (ks : List Kept)
     (end : Result StoreAction CookieError) (new : List Row) → secure_host url ≡ Some host → IsTime now
-    → IsRowOf host k row → IsGoodKept k → Agrees host rows ks
-    → Fits rows url now row (end, new) → Writes host now k ks new
-settles_writes host url now k row rows ks end new secure time h hk a (inl mismatch) =
+    → IsRowOf host k row → IsGoodKept k → Agrees counts host rows ks
+    → Fits rows url now row (end, new) → Writes counts host now k ks new
+settles_writes counts host url now k row rows ks end new secure time h hk a (inl mismatch) =
     absurd (mismatch.0 (subst (λ o. IsSomeAnd o (Covers row.domain)) (sym (https_of host url secure).1)
     (subst (λ d. Covers d host) (sym h.domain) refl)))
-settles_writes host url now k row rows ks end new secure time h hk a (inr (covers, inl guarded)) = absurd
+settles_writes counts host url now k row rows ks end new secure time h hk a (inr (covers, inl guarded)) = absurd
     (guarded.0.1 (is_http host url secure))
-settles_writes host url now k row rows ks end new secure time h hk a (inr (covers, inr free)) =
-    subst (Writes host now k ks) (sym (ap (λ (p : End). p.1) free.1)) (settled_writes host now k row rows ks h hk a
+settles_writes counts host url now k row rows ks end new secure time h hk a (inr (covers, inr free)) =
+    subst (Writes counts host now k ks) (sym (ap (λ (p : End). p.1) free.1)) (sent_writes counts host now k row rows ks h hk a
     time.after)
 
-pub admits_writes : (list : List Rule) (host : List ℕ) (url : Parts) (now : ℤ) (k : Kept) (row : Row) (rows : List Row)
+pub admits_writes : (counts : Counts) (list : List Rule) (host : List ℕ) (url : Parts) (now : ℤ) (k : Kept) (row : Row) (rows : List Row)
     (ks : List Kept) (end : Result StoreAction CookieError) (new : List Row) → secure_host url ≡ Some host → IsTime now
-    → IsRowOf host k row → IsGoodKept k → Agrees host rows ks
-    → Admits list rows url now row (end, new) → Writes host now k ks new
-admits_writes list host url now k row rows ks end new secure time h hk a (inl unlisted) = settles_writes host url now k
+    → IsRowOf host k row → IsGoodKept k → Agrees counts host rows ks
+    → Admits list rows url now row (end, new) → Writes counts host now k ks new
+admits_writes counts list host url now k row rows ks end new secure time h hk a (inl unlisted) = settles_writes counts host url now k
     row rows ks end new secure time h hk a unlisted.1
-admits_writes list host url now k row rows ks end new secure time h hk a (inr (inl own)) =
-    settles_writes host url now k (record row { domain = host_only (domain_text row) }) rows ks end new secure time
+admits_writes counts list host url now k row rows ks end new secure time h hk a (inr (inl own)) =
+    settles_writes counts host url now k (record row { domain = host_only (domain_text row) }) rows ks end new secure time
     (record {
       domain = ap host_only (ap (λ (d : Domain). unwrap_or (text_of d) []) h.domain);
       path = h.path;
@@ -215,43 +223,62 @@ admits_writes list host url now k row rows ks end new secure time h hk a (inr (i
       death = h.death;
       whole = h.whole;
     }) hk a own.2
-admits_writes list host url now k row rows ks end new secure time h hk a (inr (inr listed)) =
+admits_writes counts list host url now k row rows ks end new secure time h hk a (inr (inr listed)) =
     absurd (listed.1 (subst (λ o. IsSomeAnd o (λ g. text_of row.domain ≡ Some g)) (sym (https_of host url secure).1)
     (ap text_of h.domain)))
 
-pub inserts_writes : (list : List Rule) (host : List ℕ) (url : Parts) (now : ℤ) (k : Kept) (row : Row) (rows : List Row)
+pub inserts_writes : (counts : Counts) (list : List Rule) (host : List ℕ) (url : Parts) (now : ℤ) (k : Kept) (row : Row) (rows : List Row)
     (ks : List Kept) (end : Result StoreAction CookieError) (new : List Row) → secure_host url ≡ Some host → IsTime now
-    → IsRowOf host k row → IsGoodKept k → Agrees host rows ks
-    → Inserts list rows url now row (end, new) → Writes host now k ks new
-inserts_writes list host url now k row rows ks end new secure time h hk a (inl barred) = absurd
+    → IsRowOf host k row → IsGoodKept k → Agrees counts host rows ks
+    → Inserts list rows url now row (end, new) → Writes counts host now k ks new
+inserts_writes counts list host url now k row rows ks end new secure time h hk a (inl barred) = absurd
     (barred.0.1 (is_http host url secure))
-inserts_writes list host url now k row rows ks end new secure time h hk a (inr allowed) = admits_writes list host url
+inserts_writes counts list host url now k row rows ks end new secure time h hk a (inr allowed) = admits_writes counts list host url
     now k row rows ks end new secure time h hk a allowed.1
 
-pub read_writes : (list : List Rule) (host : List ℕ) (url : Parts) (now : ℤ) (c : Record) (rows : List Row)
+pub read_writes : (counts : Counts) (list : List Rule) (host : List ℕ) (url : Parts) (now : ℤ) (c : Record) (rows : List Row)
     (ks : List Kept) (end : Result StoreAction CookieError) (new : List Row) (o : Result Seen ParseError)
-    → secure_host url ≡ Some host → IsTime now → IsClosed c → Agrees host rows ks
+    → secure_host url ≡ Some host → IsTime now → IsClosed c → Agrees counts host rows ks
     → ReadsPlain (encoded c) o → ReadsBack c o → InsertsRead list rows url now o (end, new)
-    → Writes host now (kept_of now c) ks new
-read_writes list host url now c rows ks end new (Err e) secure time closed a reads back inserts = absurd
+    → Writes counts host now (kept_of now c) ks new
+read_writes counts list host url now c rows ks end new (Err e) secure time closed a reads back inserts = absurd
     (both_ways false refl back.accepted)
-read_writes list host url now c rows ks end new (Ok s) secure time closed a reads back (inl refused) =
+read_writes counts list host url now c rows ks end new (Ok s) secure time closed a reads back (inl refused) =
     absurd (not_refused host url c refused.0 secure closed.is_sent.domain refused.1
     (subst (λ (r : Record). IsRefused r url refused.0) back.normal refused.2))
-read_writes list host url now c rows ks end new (Ok s) secure time closed a reads back (inr made) =
-    inserts_writes list host url now (kept_of now c) made.0 rows ks end new secure time
+read_writes counts list host url now c rows ks end new (Ok s) secure time closed a reads back (inr made) =
+    inserts_writes counts list host url now (kept_of now c) made.0 rows ks end new secure time
     (row_is host url now c s made.0 secure time.whole closed reads back.normal made.1) (good_kept now c closed.good)
     a made.2
 
+-- it conforms to the prefix `__Host-`
+pub not_against : (law : ReadingBack) (host : List ℕ) (url : Parts) (c : Record) → secure_host url ≡ Some host
+    → IsSent c → IsReadable c → ¬ (IsAgainstHost url (encoded c))
+not_against law host url c secure sent readable against =
+    let (seen, reads, breaks) = against.1 in
+    let same : seen.cookie ≡ read_as c = (law c readable sent.age (Ok seen) reads).normal in
+    let flag : prints_secure (encoded_pair c) ≡ true =
+    ap (λ o. is_set o || is_set c.partitioned || (is_unrestricted c.same_site && is_none o)) sent.secure in
+    breaks.1 (
+      record {
+        secure = ap (λ (r : Record). r.secure) same ∙ ap kept flag;
+        path = ap (λ (r : Record). r.path) same ∙ sent.path;
+        domain = ap domain_attribute same ∙ ap (λ o. option_map without_dot (option_map without_dot o)) sent.domain;
+      },
+      (https_of host url secure).0,
+    )
+
 -- it writes what it sends
-pub own_line : (law : ReadingBack) (utf8 : (c : Record) → IsClosed c → IsUtf8 (encoded c)) (list : List Rule)
+pub own_line : (counts : Counts) (law : ReadingBack) (utf8 : (c : Record) → IsClosed c → IsUtf8 (encoded c)) (list : List Rule)
     (host : List ℕ) (url : Parts) (now : ℤ) (c : Record) (rows : List Row) (ks : List Kept) (end : LineEnd)
-    (new : List Row) → secure_host url ≡ Some host → IsTime now → IsClosed c → Agrees host rows ks
-    → Accepts list rows url now (encoded c) end new → Writes host now (kept_of now c) ks new
-own_line law utf8 list host url now c rows ks end new secure time closed a (inl wrong) = absurd
+    (new : List Row) → secure_host url ≡ Some host → IsTime now → IsClosed c → Agrees counts host rows ks
+    → Accepts list rows url now (encoded c) end new → Writes counts host now (kept_of now c) ks new
+own_line counts law utf8 list host url now c rows ks end new secure time closed a (inl against) =
+    absurd (not_against law host url c secure closed.is_sent closed.readable against.0)
+own_line counts law utf8 list host url now c rows ks end new secure time closed a (inr (free, inl wrong)) = absurd
     (wrong.0 (utf8 c closed))
-own_line law utf8 list host url now c rows ks end new secure time closed a (inr right) =
-    read_writes list host url now c rows ks right.1.2.0 new right.1.0 secure time closed a right.1.1
+own_line counts law utf8 list host url now c rows ks end new secure time closed a (inr (free, inr right)) =
+    read_writes counts list host url now c rows ks right.1.2.0 new right.1.0 secure time closed a right.1.1
     (law c closed.readable closed.is_sent.age right.1.0 right.1.1) right.1.2.1
 
 -- ---- A LINE FROM ELSEWHERE
@@ -303,68 +330,178 @@ alien_comes list host url d other apart unlisted (inl below) =
       (λ covers. free (apart g.0 g.1 away text below.1 covers match)),
     )
 
-pub fits_keeps : (host : List ℕ) (url : Parts) (now : ℤ) (row : Row) (rows : List Row) (ks : List Kept)
-    (end : Result StoreAction CookieError) (new : List Row) → IsAlien host row.domain → Agrees host rows ks
-    → Fits rows url now row (end, new) → Agrees host new ks
-fits_keeps host url now row rows ks end new alien a (inl mismatch) = subst (λ rs. Agrees host rs ks)
-    (sym (ap (λ (p : End). p.1) mismatch.1)) a
-fits_keeps host url now row rows ks end new alien a (inr (covers, inl guarded)) = subst (λ rs. Agrees host rs ks)
-    (sym (ap (λ (p : End). p.1) guarded.1)) a
-fits_keeps host url now row rows ks end new alien a (inr (covers, inr free)) =
-    subst (λ rs. Agrees host rs ks) (sym (ap (λ (p : End). p.1) free.1))
-    (settled_keeps host now row rows ks (other_text (domain_text row) host alien.0) alien.1 a)
+-- a row whose name counts is such a one
+abbrev pub IsForeign : Counts → List ℕ → Row → Type 0
+IsForeign counts host row = is_counted counts row ≡ true → IsAlien host row.domain
 
-pub admits_keeps : (list : List Rule) (host : List ℕ) (url : Parts) (now : ℤ) (row : Row) (rows : List Row)
-    (ks : List Kept) (end : Result StoreAction CookieError) (new : List Row) → host_of url ≢ Some host
-    → IsApartFrom list host url → Comes url row.domain → Agrees host rows ks
-    → Admits list rows url now row (end, new) → Agrees host new ks
-admits_keeps list host url now row rows ks end new other apart from a (inl unlisted) = fits_keeps host url now row rows
-    ks end new (alien_comes list host url row.domain other apart unlisted.0 from) a unlisted.1
-admits_keeps list host url now row rows ks end new other apart from a (inr (inl own)) =
+foreign_own : (counts : Counts) (host : List ℕ) (row : Row) → IsForeign counts host row
+    → is_own counts host row ≡ false
+foreign_own counts host row foreign =
+    ⊎_elim
+    (λ (e : is_own counts host row ≡ true). absurd ((foreign (first_and _ _ e)).0
+    (same_text (domain_text row) host (second_and _ _ e))))
+    (λ (e : is_own counts host row ≡ false). e)
+    (cases_Bool (is_own counts host row))
+
+pub fits_keeps : (counts : Counts) (host : List ℕ) (url : Parts) (now : ℤ) (row : Row) (rows : List Row)
+    (ks : List Kept) (end : Result StoreAction CookieError) (new : List Row) → IsForeign counts host row
+    → Agrees counts host rows ks → Fits rows url now row (end, new) → Agrees counts host new ks
+fits_keeps counts host url now row rows ks end new foreign a (inl mismatch) = subst (λ rs. Agrees counts host rs ks)
+    (sym (ap (λ (p : End). p.1) mismatch.1)) a
+fits_keeps counts host url now row rows ks end new foreign a (inr (covers, inl guarded)) =
+    subst (λ rs. Agrees counts host rs ks) (sym (ap (λ (p : End). p.1) guarded.1)) a
+fits_keeps counts host url now row rows ks end new foreign a (inr (covers, inr free)) =
+    subst (λ rs. Agrees counts host rs ks) (sym (ap (λ (p : End). p.1) free.1))
+    (settled_keeps counts host now row rows ks (foreign_own counts host row foreign)
+    (λ other c. (foreign c).1) a)
+
+-- A host is away from a URL's lines: they are of another host, and the two are apart; or they aren't of this host at
+-- https, and each name that counts begins with `__Host-`.
+abbrev pub IsAway : Counts → List Rule → List ℕ → Parts → Type 0
+IsAway counts list host url =
+    ((host_of url ≢ Some host) × IsApartFrom list host url)
+    ⊎ ((secure_host url ≢ Some host) × ((name : List ℕ) → counts (percent_decode name) ≡ true → BeginsHost name))
+
+-- or the row's name doesn't count
+abbrev pub IsRowAway : Counts → List Rule → List ℕ → Parts → Row → Type 0
+IsRowAway counts list host url row = IsAway counts list host url ⊎ (is_counted counts row ≡ false)
+
+abbrev pub IsReadAway : Counts → List Rule → List ℕ → Parts → Result Seen ParseError → Type 0
+IsReadAway counts list host url read =
+    IsAway counts list host url ⊎ ((s : Seen) → read ≡ Ok s → counts (percent_decode s.cookie.name) ≡ false)
+
+-- or the line reads as none that does
+abbrev pub ReadsUncounted : Counts → List ℕ → Type 0
+ReadsUncounted counts line =
+    IsUtf8 line → (s : Seen) → ReadsPlain line (Ok s) → counts (percent_decode s.cookie.name) ≡ false
+
+-- where it begins so, it came over https, and the row is of the URL's host alone
+abbrev pub IsLetInAlone : Parts → Row → Type 0
+IsLetInAlone url row =
+    BeginsHost row.raw.cookie.name
+    → (url.scheme ≡ codes "https") × (option_map host_only (host_of url) ≡ Some row.domain)
+
+secure_is : (url : Parts) → url.scheme ≡ codes "https" → secure_host url ≡ host_of url
+secure_is url e = ap (λ scheme. cond (bytes_eq scheme (codes "https")) (host_of url) None) e
+
+-- where the name counts, it is another host's
+elsewhere : (counts : Counts) (list : List Rule) (host : List ℕ) (url : Parts) (row : Row)
+    → IsRowAway counts list host url row → IsLetInAlone url row → is_counted counts row ≡ true
+    → host_of url ≢ Some host
+elsewhere counts list host url row (inr lacks) alone c = absurd (both_ways _ lacks c)
+elsewhere counts list host url row (inl (inl apart)) alone c = apart.0
+elsewhere counts list host url row (inl (inr begins)) alone c =
+    λ here. begins.0 (secure_is url (alone (begins.1 row.raw.cookie.name c)).0 ∙ here)
+
+alone_host : (host : List ℕ) (url : Parts) (d : Domain) → host_of url ≢ Some host
+    → option_map host_only (host_of url) ≡ Some d → IsAlien host d
+alone_host host url d other alone =
+    let g = of_host (host_of url) alone in
+    subst (IsAlien host) (sym g.2) (alone_alien host g.0 (λ same. other (g.1 ∙ ap Some same)))
+  where
+    of_host : (o : Option (List ℕ)) → option_map host_only o ≡ Some d → (g : List ℕ) × (o ≡ Some g)
+        × (d ≡ host_only g)
+    of_host None e = absurd (some_is_not_none d (sym e))
+    of_host (Some g) e = (g, refl, sym (some_domain (host_only g) d e))
+
+foreign_comes : (counts : Counts) (list : List Rule) (host : List ℕ) (url : Parts) (row : Row)
+    → IsRowAway counts list host url row → ¬ (IsListedIn row.domain list) → Comes url row.domain
+    → IsLetInAlone url row → IsForeign counts host row
+foreign_comes counts list host url row (inr lacks) unlisted from alone c = absurd (both_ways _ lacks c)
+foreign_comes counts list host url row (inl (inl apart)) unlisted from alone c =
+    alien_comes list host url row.domain apart.0 apart.1 unlisted from
+foreign_comes counts list host url row (inl (inr begins)) unlisted from alone c =
+    alone_host host url row.domain (elsewhere counts list host url row (inl (inr begins)) alone c)
+    (alone (begins.1 row.raw.cookie.name c)).1
+
+pub admits_keeps : (counts : Counts) (list : List Rule) (host : List ℕ) (url : Parts) (now : ℤ) (row : Row)
+    (rows : List Row) (ks : List Kept) (end : Result StoreAction CookieError) (new : List Row)
+    → IsRowAway counts list host url row → Comes url row.domain → IsLetInAlone url row
+    → Agrees counts host rows ks → Admits list rows url now row (end, new) → Agrees counts host new ks
+admits_keeps counts list host url now row rows ks end new away from alone a (inl unlisted) =
+    fits_keeps counts host url now row rows ks end new
+    (foreign_comes counts list host url row away unlisted.0 from alone) a unlisted.1
+admits_keeps counts list host url now row rows ks end new away from alone a (inr (inl own)) =
     let g = some_and (λ h. text_of row.domain ≡ Some h) (host_of url) own.1 in
     let is : domain_text row ≡ g.0 = ap (λ o. unwrap_or o []) g.2 in
-    fits_keeps host url now (record row { domain = host_only (domain_text row) }) rows ks end new
-    (alone_alien host (domain_text row) (λ same. other (g.1 ∙ ap Some (sym is ∙ same)))) a own.2
-admits_keeps list host url now row rows ks end new other apart from a (inr (inr listed)) = subst
-    (λ rs. Agrees host rs ks) (sym (ap (λ (p : End). p.1) listed.2)) a
+    fits_keeps counts host url now (record row { domain = host_only (domain_text row) }) rows ks end new
+    (λ c. alone_alien host (domain_text row)
+    (λ same. elsewhere counts list host url row away alone c (g.1 ∙ ap Some (sym is ∙ same)))) a own.2
+admits_keeps counts list host url now row rows ks end new away from alone a (inr (inr listed)) =
+    subst (λ rs. Agrees counts host rs ks) (sym (ap (λ (p : End). p.1) listed.2)) a
 
-pub inserts_keeps : (list : List Rule) (host : List ℕ) (url : Parts) (now : ℤ) (row : Row) (rows : List Row)
-    (ks : List Kept) (end : Result StoreAction CookieError) (new : List Row) → host_of url ≢ Some host
-    → IsApartFrom list host url → Comes url row.domain → Agrees host rows ks
-    → Inserts list rows url now row (end, new) → Agrees host new ks
-inserts_keeps list host url now row rows ks end new other apart from a (inl barred) = subst (λ rs. Agrees host rs ks)
-    (sym (ap (λ (p : End). p.1) barred.1)) a
-inserts_keeps list host url now row rows ks end new other apart from a (inr allowed) = admits_keeps list host url now
-    row rows ks end new other apart from a allowed.1
+pub inserts_keeps : (counts : Counts) (list : List Rule) (host : List ℕ) (url : Parts) (now : ℤ) (row : Row)
+    (rows : List Row) (ks : List Kept) (end : Result StoreAction CookieError) (new : List Row)
+    → IsRowAway counts list host url row → Comes url row.domain → IsLetInAlone url row
+    → Agrees counts host rows ks → Inserts list rows url now row (end, new) → Agrees counts host new ks
+inserts_keeps counts list host url now row rows ks end new away from alone a (inl barred) =
+    subst (λ rs. Agrees counts host rs ks) (sym (ap (λ (p : End). p.1) barred.1)) a
+inserts_keeps counts list host url now row rows ks end new away from alone a (inr allowed) =
+    admits_keeps counts list host url now row rows ks end new away from alone a allowed.1
 
-pub read_keeps : (list : List Rule) (host : List ℕ) (url : Parts) (now : ℤ) (rows : List Row) (ks : List Kept)
-    (end : Result StoreAction CookieError) (new : List Row) (o : Result Seen ParseError) → host_of url ≢ Some host
-    → IsApartFrom list host url → Agrees host rows ks
-    → InsertsRead list rows url now o (end, new) → Agrees host new ks
-read_keeps list host url now rows ks end new (Err e) other apart a refused = subst (λ rs. Agrees host rs ks)
-    (sym (ap (λ (p : End). p.1) refused)) a
-read_keeps list host url now rows ks end new (Ok s) other apart a (inl refused) = subst (λ rs. Agrees host rs ks)
-    (sym (ap (λ (p : End). p.1) refused.3)) a
-read_keeps list host url now rows ks end new (Ok s) other apart a (inr made) =
-    inserts_keeps list host url now made.0 rows ks end new other apart (comes url made.0.domain _ made.1.domain) a
-    made.2
+-- a cookie that conforms to `__Host-` is of its URL's host alone
+made_alone : (url : Parts) (now : ℤ) (s : Seen) (made : Row) → IsMade (unsliced s.cookie) url now made
+    → (BeginsHost s.cookie.name → IsHost s × (url.scheme ≡ codes "https")) → IsLetInAlone url made
+made_alone url now s made m conforms begins =
+    let h = conforms (subst (λ (x : Seen). BeginsHost x.cookie.name) m.raw begins) in (
+      h.1,
+      subst (λ o. IsSomeAnd (attribute_domain o) (λ asked. IsDomainFor asked url made.domain)) h.0.domain m.domain,
+    )
+
+pub read_keeps : (counts : Counts) (list : List Rule) (host : List ℕ) (url : Parts) (now : ℤ) (rows : List Row)
+    (ks : List Kept) (end : Result StoreAction CookieError) (new : List Row) (o : Result Seen ParseError)
+    → IsReadAway counts list host url o
+    → ((s : Seen) → o ≡ Ok s → BeginsHost s.cookie.name → IsHost s × (url.scheme ≡ codes "https"))
+    → Agrees counts host rows ks → InsertsRead list rows url now o (end, new) → Agrees counts host new ks
+read_keeps counts list host url now rows ks end new (Err e) away conforms a refused =
+    subst (λ rs. Agrees counts host rs ks) (sym (ap (λ (p : End). p.1) refused)) a
+read_keeps counts list host url now rows ks end new (Ok s) away conforms a (inl refused) =
+    subst (λ rs. Agrees counts host rs ks) (sym (ap (λ (p : End). p.1) refused.3)) a
+read_keeps counts list host url now rows ks end new (Ok s) away conforms a (inr made) =
+    inserts_keeps counts list host url now made.0 rows ks end new (row_away away)
+    (comes url made.0.domain _ made.1.domain) (made_alone url now s made.0 made.1 (conforms s refl)) a made.2
+  where
+    row_away : IsReadAway counts list host url (Ok s) → IsRowAway counts list host url made.0
+    row_away (inl here) = inl here
+    row_away (inr lacks) =
+        inr (ap (λ (x : Seen). counts (percent_decode x.cookie.name)) made.1.raw ∙ lacks s refl)
 
 -- it changes nothing of the host's
-pub other_line : (list : List Rule) (host : List ℕ) (url : Parts) (now : ℤ) (line : List ℕ) (rows : List Row)
-    (ks : List Kept) (end : LineEnd) (new : List Row) → host_of url ≢ Some host → IsApartFrom list host url
-    → Agrees host rows ks
-    → Accepts list rows url now line end new → Agrees host new ks
-other_line list host url now line rows ks end new other apart a (inl wrong) = subst (λ rs. Agrees host rs ks)
-    (sym wrong.2) a
-other_line list host url now line rows ks end new other apart a (inr right) = read_keeps list host url now rows ks
-    right.1.2.0 new right.1.0 other apart a right.1.2.1
+pub other_line : (counts : Counts) (list : List Rule) (host : List ℕ) (url : Parts) (now : ℤ) (line : List ℕ)
+    (rows : List Row) (ks : List Kept) (end : LineEnd) (new : List Row)
+    → IsAway counts list host url ⊎ ReadsUncounted counts line → Agrees counts host rows ks
+    → Accepts list rows url now line end new → Agrees counts host new ks
+other_line counts list host url now line rows ks end new away a (inl against) =
+    subst (λ rs. Agrees counts host rs ks) (sym against.2) a
+other_line counts list host url now line rows ks end new away a (inr (free, inl wrong)) =
+    subst (λ rs. Agrees counts host rs ks) (sym wrong.2) a
+other_line counts list host url now line rows ks end new away a (inr (free, inr right)) =
+    read_keeps counts list host url now rows ks right.1.2.0 new right.1.0 (read_away away)
+    (λ s is. free_conforms url line s free right.0 (subst (ReadsPlain line) is right.1.1)) a right.1.2.1
+  where
+    read_away : IsAway counts list host url ⊎ ReadsUncounted counts line
+        → IsReadAway counts list host url right.1.0
+    read_away (inl here) = inl here
+    read_away (inr lacks) = inr (λ s is. lacks right.0 s (subst (ReadsPlain line) is right.1.1))
 
-pub other_lines : (list : List Rule) (host : List ℕ) (url : Parts) (now : ℤ) (lines : List (List ℕ)) (rows : List Row)
-    (ks : List Kept) (ends : List LineEnd) (new : List Row) → host_of url ≢ Some host → IsApartFrom list host url
-    → Agrees host rows ks
-    → AcceptsAll list rows url now lines ends new → Agrees host new ks
-other_lines list host url now [] rows ks ends new other apart a t = subst (λ rs. Agrees host rs ks) (sym t.1) a
-other_lines list host url now (line ∷ lines) rows ks [] new other apart a t = absurd t
-other_lines list host url now (line ∷ lines) rows ks (e ∷ ends) new other apart a t =
-    other_lines list host url now lines t.0 ks ends new other apart (other_line list host url now line rows ks e t.0
-    other apart a t.1) t.2
+-- a host is away from a URL's lines, or each of them reads as none that counts
+abbrev pub AreAway : Counts → List Rule → List ℕ → Parts → List (List ℕ) → Type 0
+AreAway counts list host url lines = IsAway counts list host url ⊎ AllByRecursion (ReadsUncounted counts) lines
+
+first_away : (counts : Counts) (list : List Rule) (host : List ℕ) (url : Parts) (line : List ℕ) (lines : List (List ℕ))
+    → AreAway counts list host url (line ∷ lines) → (IsAway counts list host url ⊎ ReadsUncounted counts line)
+    × AreAway counts list host url lines
+first_away counts list host url line lines (inl away) = (inl away, inl away)
+first_away counts list host url line lines (inr lack) = (inr lack.0, inr lack.1)
+
+pub other_lines : (counts : Counts) (list : List Rule) (host : List ℕ) (url : Parts) (now : ℤ) (lines : List (List ℕ))
+    (rows : List Row) (ks : List Kept) (ends : List LineEnd) (new : List Row)
+    → AreAway counts list host url lines → Agrees counts host rows ks → AcceptsAll list rows url now lines ends new
+    → Agrees counts host new ks
+other_lines counts list host url now [] rows ks ends new away a t = subst (λ rs. Agrees counts host rs ks)
+    (sym t.1) a
+other_lines counts list host url now (line ∷ lines) rows ks [] new away a t = absurd t
+other_lines counts list host url now (line ∷ lines) rows ks (e ∷ ends) new away a t =
+    let each = first_away counts list host url line lines away in
+    other_lines counts list host url now lines t.0 ks ends new each.1
+    (other_line counts list host url now line rows ks e t.0 each.0 a t.1) t.2

@@ -117,12 +117,12 @@ trim_led : (spaced : Bool) (bs : List ℕ) → AllByRecursion IsGraphic bs → t
 trim_led false bs h = trim_graphic bs h
 trim_led true bs h = trim_spaced bs h
 
-led_whole : (spaced : Bool) (bs : List ℕ) → AllByRecursion (λ b. is_semicolon b ≡ false) bs
+pub led_whole : (spaced : Bool) (bs : List ℕ) → AllByRecursion (λ b. is_semicolon b ≡ false) bs
     → AllByRecursion (λ b. is_semicolon b ≡ false) (led spaced bs)
 led_whole false bs h = h
 led_whole true bs h = (refl, h)
 
-led_uncut : (spaced : Bool) (bs : List ℕ) → AllByRecursion (λ b. is_equals b ≡ false) bs
+pub led_uncut : (spaced : Bool) (bs : List ℕ) → AllByRecursion (λ b. is_equals b ≡ false) bs
     → AllByRecursion (λ b. is_equals b ≡ false) (led spaced bs)
 led_uncut false bs h = h
 led_uncut true bs h = (refl, h)
@@ -131,11 +131,11 @@ led_ascii : (spaced : Bool) (bs : List ℕ) → AllByRecursion IsGraphic bs → 
 led_ascii false bs h = ascii bs h
 led_ascii true bs h = ascii_spaced bs h
 
-led_pair : (spaced : Bool) (n v : List ℕ) → led spaced (n ++ 61 ∷ v) ≡ led spaced n ++ 61 ∷ v
+pub led_pair : (spaced : Bool) (n v : List ℕ) → led spaced (n ++ 61 ∷ v) ≡ led spaced n ++ 61 ∷ v
 led_pair false n v = refl
 led_pair true n v = refl
 
-name_before : (n v : List ℕ) → AllByRecursion (λ b. is_equals b ≡ false) n → name_of (n ++ 61 ∷ v) ≡ trim n
+pub name_before : (n v : List ℕ) → AllByRecursion (λ b. is_equals b ≡ false) n → name_of (n ++ 61 ∷ v) ≡ trim n
 unfolding name_of
 name_before n v h = rw (first_equals n v h) (rw take-append_seam refl)
 

@@ -7,16 +7,18 @@ use Rattle.std.specs.Str.{bytes_eq}
 use Rattle.std.proofs.lemmas.Bool.{cases_Bool, cond-true, cond-false, both_ways}
 use Rattle.std.proofs.lemmas.Int.{ints}
 use Rattle.cookie_text.specs.ReadingBack.{Pairwise}
-use Rattle.store_parts.specs.DomainMatch.{Covers}
+use Rattle.percent_encoding.specs.Percent.{percent_decode}
+use Rattle.store_parts.specs.PathMatch.{Path}
 use Rattle.store_parts.specs.Expiry.{epoch, is_dead}
-use Rattle.cookie_run.proofs.Texts.{same_text, text_is, turned}
+use Rattle.cookie_run.proofs.Texts.{same_text, text_is, other_text, turned}
 use Rattle.cookie_run.proofs.Records.{same_escaped}
 use Rattle.cookie_store.specs.Rows.{Row, domain_text, has_domain_of, has_place_of, has_key_of, replaced, behind_last}
 use Rattle.cookie_store.specs.Rows.{inserted, is_live_of, ended}
 use Rattle.cookie_store.specs.Insertion.{settled}
 use Rattle.cookie_run.proofs.Kepts.{Kept, found_in, lacks, found_named, found_map, apart_map, all_map, found_push}
 use Rattle.cookie_run.proofs.Kepts.{apart_push, all_push}
-use Rattle.cookie_run.proofs.OwnRows.{is_own, rows_of, IsRowOf, IsGoodKept, IsOther, Agrees, own_is, own_text}
+use Rattle.cookie_run.proofs.OwnRows.{Counts, is_own, rows_of, IsRowOf, IsGoodKept, IsOther, Agrees}
+use Rattle.cookie_run.proofs.OwnRows.{own_is, own_text, name_counts}
 use Rattle.cookie_run.proofs.OwnRows.{pairwise_map, pairwise_push, all_rows_map, all_behind, rows_map, rows_map_other}
 use Rattle.cookie_run.proofs.OwnRows.{own_behind, other_behind, first_and, walk}
 
@@ -42,26 +44,34 @@ key_test host k d row r h g hk hd =
     bytes_eq (h.name i) (g.name i))
     ∙ rw (text_is host host refl) (same_escaped k.name d.name hk.name_bytes hd.name_bytes)
 
--- a row of another host has another key
-pub other_key : (host : List ℕ) (row r : Row) → is_own host row ≡ true → is_own host r ≡ false
+key_name : (row r : Row) → has_key_of row r ≡ true → r.raw.cookie.name ≡ row.raw.cookie.name
+key_name row r e = sym (same_text row.raw.cookie.name r.raw.cookie.name (second_and _ _ e))
+
+-- a row of its key is as it is
+pub own_key : (counts : Counts) (host : List ℕ) (row r : Row) → has_key_of row r ≡ true
+    → is_own counts host r ≡ is_own counts host row
+own_key counts host row r e =
+    λ i. counts (percent_decode (key_name row r e i)) && bytes_eq (key_domain row r e i) host
+
+-- a row that isn't one of these has another key
+pub other_key : (counts : Counts) (host : List ℕ) (row r : Row) → is_own counts host row ≡ true → is_own counts host r ≡ false
     → has_key_of row r ≡ false
-other_key host row r own other =
+other_key counts host row r own other =
     ⊎_elim
-    (λ e. absurd (both_ways _ other (ap (λ t. bytes_eq t host) (key_domain row r e) ∙ own)))
+    (λ e. absurd (both_ways _ other (own_key counts host row r e ∙ own)))
     (λ e. e)
     (cases_Bool (has_key_of row r))
 
 -- ---- is there one of its key, and a live one
 
-pub key_there : (host : List ℕ) (k : Kept) (row : Row) → IsRowOf host k row → IsGoodKept k
-    → (rows : List Row) (ks : List Kept) → AllByRecursion IsGoodKept ks → Pairwise (IsRowOf host) ks (rows_of host rows)
+pub key_there : (counts : Counts) (host : List ℕ) (k : Kept) (row : Row) → IsRowOf host k row → IsGoodKept k
+    → is_own counts host row ≡ true → (rows : List Row) (ks : List Kept) → AllByRecursion IsGoodKept ks → Pairwise (IsRowOf host) ks (rows_of counts host rows)
     → list_any (has_key_of row) rows ≡ is_some (found_in ks k.name)
-key_there host k row h hk =
-    walk host (λ ks rows. list_any (has_key_of row) rows ≡ is_some (found_in ks k.name)) refl
+key_there counts host k row h hk mine =
+    walk counts host (λ ks rows. list_any (has_key_of row) rows ≡ is_some (found_in ks k.name)) refl
     (λ d r ds rs own g hd rest. (λ i. key_test host k d row r h g hk hd i || rest i)
     ∙ some_cond (bytes_eq k.name d.name) d (found_in ds k.name))
-    (λ r ds rs other rest. ap (λ b. b || list_any (has_key_of row) rs) (other_key host row r (own_is host k row h)
-    other) ∙ rest)
+    (λ r ds rs other rest. ap (λ b. b || list_any (has_key_of row) rs) (other_key counts host row r mine other) ∙ rest)
   where
     some_cond : (b : Bool) (d : Kept) (o : Option Kept) → (b || is_some o) ≡ is_some (cond b (Some d) o)
     some_cond true d o = refl
@@ -89,11 +99,11 @@ none_alive now n d o e rest =
     (λ (s : bytes_eq n d.name ≡ false). rw s rest)
     (cases_Bool (bytes_eq n d.name))
 
-pub none_live : (host : List ℕ) (now : ℤ) (k : Kept) (row : Row) → IsRowOf host k row → IsGoodKept k
-    → (rows : List Row) (ks : List Kept) → AllByRecursion IsGoodKept ks → Pairwise (IsRowOf host) ks (rows_of host rows)
+pub none_live : (counts : Counts) (host : List ℕ) (now : ℤ) (k : Kept) (row : Row) → IsRowOf host k row → IsGoodKept k
+    → (rows : List Row) (ks : List Kept) → AllByRecursion IsGoodKept ks → Pairwise (IsRowOf host) ks (rows_of counts host rows)
     → list_any (is_live_of now row) rows ≡ false → alive now (found_in ks k.name) ≡ None
-none_live host now k row h hk =
-    walk host (λ ks rows. list_any (is_live_of now row) rows ≡ false → alive now (found_in ks k.name) ≡ None)
+none_live counts host now k row h hk =
+    walk counts host (λ ks rows. list_any (is_live_of now row) rows ≡ false → alive now (found_in ks k.name) ≡ None)
     (λ e. refl)
     (λ d r ds rs own g hd rest e.
     let s = either (is_live_of now row r) (list_any (is_live_of now row) rs) e in
@@ -102,40 +112,38 @@ none_live host now k row h hk =
 
 -- ---- the places
 
-pub domain_test : (host : List ℕ) (row r : Row) → domain_text row ≡ host → has_domain_of row r ≡ is_own host r
-domain_test host row r e = ap (λ t. bytes_eq t (domain_text r)) e ∙ turned (domain_text r) host
-    (bytes_eq (domain_text r) host) refl
+pub domain_test : (counts : Counts) (host : List ℕ) (row r : Row) → domain_text row ≡ host
+    → is_own counts host r ≡ true → has_domain_of row r ≡ true
+domain_test counts host row r e own = text_is (domain_text row) (domain_text r)
+    (e ∙ sym (same_text (domain_text r) host (second_and _ _ own)))
 
-pub all_domains : (host : List ℕ) (row : Row) (rows : List Row) → domain_text row ≡ host
-    → AllByRecursion (λ r. has_domain_of row r ≡ is_own host r) rows
-all_domains host row [] e = tt
-all_domains host row (r ∷ rs) e = (domain_test host row r e, all_domains host row rs e)
+pub all_domains : (counts : Counts) (host : List ℕ) (row : Row) (rows : List Row) → domain_text row ≡ host
+    → AllByRecursion (λ r. is_own counts host r ≡ true → has_domain_of row r ≡ true) rows
+all_domains counts host row [] e = tt
+all_domains counts host row (r ∷ rs) e = (domain_test counts host row r e, all_domains counts host row rs e)
 
-pub all_places : (host : List ℕ) (k : Kept) (row : Row) → IsRowOf host k row → (rows : List Row) (ks : List Kept)
-    → AllByRecursion IsGoodKept ks → Pairwise (IsRowOf host) ks (rows_of host rows)
-    → AllByRecursion (λ r. has_place_of row r ≡ is_own host r) rows
-all_places host k row h =
-    walk host (λ ks rows. AllByRecursion (λ r. has_place_of row r ≡ is_own host r) rows) tt
+pub all_places : (counts : Counts) (host : List ℕ) (k : Kept) (row : Row) → IsRowOf host k row → (rows : List Row)
+    (ks : List Kept) → AllByRecursion IsGoodKept ks → Pairwise (IsRowOf host) ks (rows_of counts host rows)
+    → AllByRecursion (λ r. is_own counts host r ≡ true → has_place_of row r ≡ true) rows
+all_places counts host k row h =
+    walk counts host (λ ks rows. AllByRecursion (λ r. is_own counts host r ≡ true → has_place_of row r ≡ true) rows) tt
     (λ d r ds rs own g hd rest. (
-      ((λ i. domain_test host row r (own_text host k row h) i && bytes_eq (h.path i).text (g.path i).text)
-          ∙ rw own refl),
+      (λ mine i. domain_test counts host row r (own_text host k row h) mine i && text_is row.path.text r.path.text
+          (ap (λ (p : Path). p.text) (h.path ∙ sym g.path)) i),
       rest,
     ))
-    (λ r ds rs other rest. (
-      ap (λ b. b && bytes_eq row.path.text r.path.text) (domain_test host row r (own_text host k row h) ∙ other)
-          ∙ sym other,
-      rest,
-    ))
+    (λ r ds rs other rest. ((λ mine. absurd (both_ways _ other mine)), rest))
 
-pub own_inserted : (host : List ℕ) (k : Kept) (row : Row) (rows : List Row) (ks : List Kept) → IsRowOf host k row
-    → AllByRecursion IsGoodKept ks → Pairwise (IsRowOf host) ks (rows_of host rows)
-    → rows_of host (inserted row rows) ≡ rows_of host rows ++ row ∷ []
-own_inserted host k row rows ks h good own =
+pub own_inserted : (counts : Counts) (host : List ℕ) (k : Kept) (row : Row) (rows : List Row) (ks : List Kept)
+    → IsRowOf host k row → is_own counts host row ≡ true → AllByRecursion IsGoodKept ks
+    → Pairwise (IsRowOf host) ks (rows_of counts host rows)
+    → rows_of counts host (inserted row rows) ≡ rows_of counts host rows ++ row ∷ []
+own_inserted counts host k row rows ks h mine good own =
     ⊎_elim
-    (λ (e : list_any (has_place_of row) rows ≡ true). rw e (own_behind host (has_place_of row) row rows
-    (own_is host k row h) (all_places host k row h rows ks good own)))
-    (λ (e : list_any (has_place_of row) rows ≡ false). rw e (own_behind host (has_domain_of row) row rows
-    (own_is host k row h) (all_domains host row rows (own_text host k row h))))
+    (λ (e : list_any (has_place_of row) rows ≡ true). rw e (own_behind counts host (has_place_of row) row rows mine
+    (all_places counts host k row h rows ks good own)))
+    (λ (e : list_any (has_place_of row) rows ≡ false). rw e (own_behind counts host (has_domain_of row) row rows mine
+    (all_domains counts host row rows (own_text host k row h))))
     (cases_Bool (list_any (has_place_of row) rows))
 
 pub all_inserted : (P : Row → Type 0) (row : Row) (rows : List Row) → P row → AllByRecursion P rows
@@ -150,14 +158,14 @@ all_inserted P row rows g all =
     (behind_last (has_domain_of row) row rows))) (sym e) (all_behind P (has_domain_of row) row rows g all))
     (cases_Bool (list_any (has_place_of row) rows))
 
--- ---- A ROW OF THE HOST
+-- ---- A ROW OF THE HOST whose name counts
 
--- the rows after it hold, up to what is dead then, the old ones with this one written
-pub record Writes (host : List ℕ) (now : ℤ) (k : Kept) (ks : List Kept) (new : List Row) : Type 0 where
+-- the rows after it hold, up to what is dead then, the old ones with this one written, where its name counts
+pub record Writes (counts : Counts) (host : List ℕ) (now : ℤ) (k : Kept) (ks : List Kept) (new : List Row) : Type 0 where
   pub cookies : List Kept
-  pub agrees : Agrees host new cookies
-  pub each : (q : List ℕ) → alive now (found_in cookies q) ≡ cond (bytes_eq q k.name) (alive now (Some k))
-      (alive now (found_in ks q))
+  pub agrees : Agrees counts host new cookies
+  pub each : (q : List ℕ) → counts q ≡ true → alive now (found_in cookies q) ≡ cond (bytes_eq q k.name)
+      (alive now (Some k)) (alive now (found_in ks q))
 
 -- in the place of the one of its name
 
@@ -194,12 +202,21 @@ replaced_domain row r =
     (λ (e : has_key_of row r ≡ false). ap (λ b. domain_text (cond b row r)) e)
     (cases_Bool (has_key_of row r))
 
-pub replaced_other : (host : List ℕ) (row : Row) → IsOther host row → (r : Row) → IsOther host r
-    → IsOther host (cond (has_key_of row r) row r)
-replaced_other host row g r h =
+-- a row that is replaced by one of its key, and one that ends, is as it was
+pub replaced_own : (counts : Counts) (host : List ℕ) (row r : Row)
+    → is_own counts host (cond (has_key_of row r) row r) ≡ is_own counts host r
+replaced_own counts host row r =
     ⊎_elim
-    (λ (e : has_key_of row r ≡ true). subst (λ b. IsOther host (cond b row r)) (sym e) g)
-    (λ (e : has_key_of row r ≡ false). subst (λ b. IsOther host (cond b row r)) (sym e) h)
+    (λ (e : has_key_of row r ≡ true). ap (λ b. is_own counts host (cond b row r)) e ∙ sym (own_key counts host row r e))
+    (λ (e : has_key_of row r ≡ false). ap (λ b. is_own counts host (cond b row r)) e)
+    (cases_Bool (has_key_of row r))
+
+pub replaced_other : (counts : Counts) (host : List ℕ) (row : Row) → IsOther counts host row → (r : Row) → IsOther counts host r
+    → IsOther counts host (cond (has_key_of row r) row r)
+replaced_other counts host row g r h =
+    ⊎_elim
+    (λ (e : has_key_of row r ≡ true). subst (λ b. IsOther counts host (cond b row r)) (sym e) g)
+    (λ (e : has_key_of row r ≡ false). subst (λ b. IsOther counts host (cond b row r)) (sym e) h)
     (cases_Bool (has_key_of row r))
 
 pub over_alive : (now : ℤ) (k : Kept) (q : List ℕ) (o : Option Kept) → IfSome o (λ d. d.name ≡ q)
@@ -221,27 +238,28 @@ over_alive now k q (Some d) named there =
     ap (λ b. alive now (Some (cond b k d))) s ∙ sym (cond-false _ _ _ e))
     (cases_Bool (bytes_eq q k.name))
 
-pub own_other : (host : List ℕ) (row : Row) → is_own host row ≡ true → IsOther host row
-own_other host row own other = absurd (both_ways _ other own)
+pub own_other : (counts : Counts) (host : List ℕ) (row : Row) → is_own counts host row ≡ true → IsOther counts host row
+own_other counts host row own other = absurd (both_ways _ other own)
 
-pub replaced_writes : (host : List ℕ) (now : ℤ) (k : Kept) (row : Row) (rows : List Row) (ks : List Kept)
-    → IsRowOf host k row → IsGoodKept k → Agrees host rows ks → list_any (has_key_of row) rows ≡ true
-    → Writes host now k ks (replaced row rows)
-replaced_writes host now k row rows ks h hk a there =
-    let some : is_some (found_in ks k.name) ≡ true = sym (key_there host k row h hk rows ks a.good a.own) ∙ there in
+pub replaced_writes : (counts : Counts) (host : List ℕ) (now : ℤ) (k : Kept) (row : Row) (rows : List Row) (ks : List Kept)
+    → IsRowOf host k row → IsGoodKept k → is_own counts host row ≡ true → Agrees counts host rows ks
+    → list_any (has_key_of row) rows ≡ true → Writes counts host now k ks (replaced row rows)
+replaced_writes counts host now k row rows ks h hk mine a there =
+    let some : is_some (found_in ks k.name) ≡ true = sym (key_there counts host k row h hk mine rows ks a.good a.own)
+    ∙ there in
     record {
       cookies = map (over k) ks;
       agrees = record {
         good = all_map IsGoodKept (over k) (over_good k hk) ks a.good;
         own = subst (Pairwise (IsRowOf host) (map (over k) ks))
-            (sym (rows_map host (λ r. cond (has_key_of row r) row r) (replaced_domain row) rows))
+            (sym (rows_map counts host (λ r. cond (has_key_of row r) row r) (replaced_own counts host row) rows))
             (pairwise_map host (λ r. cond (has_key_of row r) row r) (over k) (over_row host k row h hk) ks
-            (rows_of host rows) a.good a.own);
+            (rows_of counts host rows) a.good a.own);
         apart = apart_map (over k) (over_named k) ks a.apart;
-        others = all_rows_map (IsOther host) (λ r. cond (has_key_of row r) row r)
-            (replaced_other host row (own_other host row (own_is host k row h))) rows a.others;
+        others = all_rows_map (IsOther counts host) (λ r. cond (has_key_of row r) row r)
+            (replaced_other counts host row (own_other counts host row mine)) rows a.others;
       };
-      each = λ q. ap (alive now) (found_map (over k) (over_named k) ks q)
+      each = λ q c. ap (alive now) (found_map (over k) (over_named k) ks q)
           ∙ over_alive now k q (found_in ks q) (found_named ks q)
           (λ e. ap (λ n. is_some (found_in ks n)) (same_text q k.name e) ∙ some);
     }
@@ -256,22 +274,22 @@ pub alive_cond : (now : ℤ) (b : Bool) (x y : Option Kept) → alive now (cond 
 alive_cond now true x y = refl
 alive_cond now false x y = refl
 
-pub inserted_writes : (host : List ℕ) (now : ℤ) (k : Kept) (row : Row) (rows : List Row) (ks : List Kept)
-    → IsRowOf host k row → IsGoodKept k → Agrees host rows ks → list_any (has_key_of row) rows ≡ false
-    → Writes host now k ks (inserted row rows)
-inserted_writes host now k row rows ks h hk a there =
-    let none : lacks ks k.name = none_of (found_in ks k.name) (sym (key_there host k row h hk rows ks a.good a.own)
-    ∙ there) in
+pub inserted_writes : (counts : Counts) (host : List ℕ) (now : ℤ) (k : Kept) (row : Row) (rows : List Row) (ks : List Kept)
+    → IsRowOf host k row → IsGoodKept k → is_own counts host row ≡ true → Agrees counts host rows ks
+    → list_any (has_key_of row) rows ≡ false → Writes counts host now k ks (inserted row rows)
+inserted_writes counts host now k row rows ks h hk mine a there =
+    let none : lacks ks k.name = none_of (found_in ks k.name)
+    (sym (key_there counts host k row h hk mine rows ks a.good a.own) ∙ there) in
     record {
       cookies = ks ++ k ∷ [];
       agrees = record {
         good = all_push IsGoodKept k ks hk a.good;
-        own = subst (Pairwise (IsRowOf host) (ks ++ k ∷ [])) (sym (own_inserted host k row rows ks h a.good a.own))
-            (pairwise_push (IsRowOf host) k row ks (rows_of host rows) h a.own);
+        own = subst (Pairwise (IsRowOf host) (ks ++ k ∷ [])) (sym (own_inserted counts host k row rows ks h mine a.good a.own))
+            (pairwise_push (IsRowOf host) k row ks (rows_of counts host rows) h a.own);
         apart = apart_push k ks a.apart none;
-        others = all_inserted (IsOther host) row rows (own_other host row (own_is host k row h)) a.others;
+        others = all_inserted (IsOther counts host) row rows (own_other counts host row mine) a.others;
       };
-      each = λ q. ap (alive now) (found_push k ks q none) ∙ alive_cond now (bytes_eq q k.name) (Some k) (found_in ks q);
+      each = λ q c. ap (alive now) (found_push k ks q none) ∙ alive_cond now (bytes_eq q k.name) (Some k) (found_in ks q);
     }
 
 -- as the end of a live one
@@ -322,9 +340,14 @@ pub epoch_domain : (b : Bool) (r : Row) → domain_text (cond b (at_epoch r) r) 
 epoch_domain true r = refl
 epoch_domain false r = refl
 
-pub epoch_other : (host : List ℕ) (b : Bool) (r : Row) → IsOther host r → IsOther host (cond b (at_epoch r) r)
-epoch_other host true r h = h
-epoch_other host false r h = h
+pub epoch_own : (counts : Counts) (host : List ℕ) (b : Bool) (r : Row)
+    → is_own counts host (cond b (at_epoch r) r) ≡ is_own counts host r
+epoch_own counts host true r = refl
+epoch_own counts host false r = refl
+
+pub epoch_other : (counts : Counts) (host : List ℕ) (b : Bool) (r : Row) → IsOther counts host r → IsOther counts host (cond b (at_epoch r) r)
+epoch_other counts host true r h = h
+epoch_other counts host false r h = h
 
 pub epoch_dead : (now : ℤ) → pos 0 ≤ℤ now → is_dead now (Some epoch) ≡ true
 epoch_dead now h = grind (arith, ints)
@@ -358,117 +381,144 @@ ending_alive now k q (Some d) after dead named =
     ∙ sym (cond-false _ _ _ e))
     (cases_Bool (bytes_eq q k.name))
 
-pub ended_writes : (host : List ℕ) (now : ℤ) (k : Kept) (row : Row) (rows : List Row) (ks : List Kept)
-    → IsRowOf host k row → IsGoodKept k → Agrees host rows ks → pos 0 ≤ℤ now → is_dead now k.death ≡ true
-    → Writes host now k ks (ended now row rows)
-ended_writes host now k row rows ks h hk a after dead = record {
+pub ended_writes : (counts : Counts) (host : List ℕ) (now : ℤ) (k : Kept) (row : Row) (rows : List Row) (ks : List Kept)
+    → IsRowOf host k row → IsGoodKept k → Agrees counts host rows ks → pos 0 ≤ℤ now → is_dead now k.death ≡ true
+    → Writes counts host now k ks (ended now row rows)
+ended_writes counts host now k row rows ks h hk a after dead = record {
   cookies = map (ending now k) ks;
   agrees = record {
     good = all_map IsGoodKept (ending now k) (λ d g. ending_good now k d g) ks a.good;
     own = subst (Pairwise (IsRowOf host) (map (ending now k) ks))
-        (sym (rows_map host (λ r. cond (is_live_of now row r) (at_epoch r) r) (λ r. epoch_domain (is_live_of now row r)
-        r) rows))
+        (sym (rows_map counts host (λ r. cond (is_live_of now row r) (at_epoch r) r)
+        (λ r. epoch_own counts host (is_live_of now row r) r) rows))
         (pairwise_map host (λ r. cond (is_live_of now row r) (at_epoch r) r) (ending now k)
-        (ending_row host now k row h hk) ks (rows_of host rows) a.good a.own);
+        (ending_row host now k row h hk) ks (rows_of counts host rows) a.good a.own);
     apart = apart_map (ending now k) (ending_named now k) ks a.apart;
-    others = all_rows_map (IsOther host) (λ r. cond (is_live_of now row r) (at_epoch r) r)
-        (λ r g. epoch_other host (is_live_of now row r) r g) rows a.others;
+    others = all_rows_map (IsOther counts host) (λ r. cond (is_live_of now row r) (at_epoch r) r)
+        (λ r g. epoch_other counts host (is_live_of now row r) r g) rows a.others;
   };
-  each = λ q. ap (alive now) (found_map (ending now k) (ending_named now k) ks q) ∙ ending_alive now k q (found_in ks q)
+  each = λ q c. ap (alive now) (found_map (ending now k) (ending_named now k) ks q) ∙ ending_alive now k q (found_in ks q)
       after dead (found_named ks q);
 }
 
 -- as nothing
-pub refused_writes : (host : List ℕ) (now : ℤ) (k : Kept) (row : Row) (rows : List Row) (ks : List Kept)
-    → IsRowOf host k row → IsGoodKept k → Agrees host rows ks → is_dead now k.death ≡ true
-    → list_any (is_live_of now row) rows ≡ false → Writes host now k ks rows
-refused_writes host now k row rows ks h hk a dead none = record {
+pub refused_writes : (counts : Counts) (host : List ℕ) (now : ℤ) (k : Kept) (row : Row) (rows : List Row) (ks : List Kept)
+    → IsRowOf host k row → IsGoodKept k → Agrees counts host rows ks → is_dead now k.death ≡ true
+    → list_any (is_live_of now row) rows ≡ false → Writes counts host now k ks rows
+refused_writes counts host now k row rows ks h hk a dead none = record {
   cookies = ks;
   agrees = a;
-  each = λ q. ⊎_elim
+  each = λ q c. ⊎_elim
       (λ (e : bytes_eq q k.name ≡ true). ap (λ n. alive now (found_in ks n)) (same_text q k.name e)
-      ∙ (none_live host now k row h hk rows ks a.good a.own none
+      ∙ (none_live counts host now k row h hk rows ks a.good a.own none
       ∙ (sym (cond-true (is_dead now k.death) None (Some k) dead) ∙ sym (cond-true _ _ _ e))))
       (λ (e : bytes_eq q k.name ≡ false). sym (cond-false _ _ _ e))
       (cases_Bool (bytes_eq q k.name));
 }
 
-pub settled_writes : (host : List ℕ) (now : ℤ) (k : Kept) (row : Row) (rows : List Row) (ks : List Kept)
-    → IsRowOf host k row → IsGoodKept k → Agrees host rows ks → pos 0 ≤ℤ now
-    → Writes host now k ks (settled rows now row).1
-settled_writes host now k row rows ks h hk a after =
+pub settled_writes : (counts : Counts) (host : List ℕ) (now : ℤ) (k : Kept) (row : Row) (rows : List Row) (ks : List Kept)
+    → IsRowOf host k row → IsGoodKept k → is_own counts host row ≡ true → Agrees counts host rows ks → pos 0 ≤ℤ now
+    → Writes counts host now k ks (settled rows now row).1
+settled_writes counts host now k row rows ks h hk mine a after =
     ⊎_elim
     (λ (d : is_dead now row.death ≡ true).
     let dead : is_dead now k.death ≡ true = subst (λ x. is_dead now x ≡ true) h.death d in
     ⊎_elim
-    (λ (e : list_any (is_live_of now row) rows ≡ true). rw (d, e) (ended_writes host now k row rows ks h hk a after
+    (λ (e : list_any (is_live_of now row) rows ≡ true). rw (d, e) (ended_writes counts host now k row rows ks h hk a after
     dead))
-    (λ (e : list_any (is_live_of now row) rows ≡ false). rw (d, e) (refused_writes host now k row rows ks h hk a dead
+    (λ (e : list_any (is_live_of now row) rows ≡ false). rw (d, e) (refused_writes counts host now k row rows ks h hk a dead
     e))
     (cases_Bool (list_any (is_live_of now row) rows)))
     (λ (d : is_dead now row.death ≡ false).
     ⊎_elim
-    (λ (e : list_any (has_key_of row) rows ≡ true). rw (d, e) (replaced_writes host now k row rows ks h hk a e))
-    (λ (e : list_any (has_key_of row) rows ≡ false). rw (d, e) (inserted_writes host now k row rows ks h hk a e))
+    (λ (e : list_any (has_key_of row) rows ≡ true). rw (d, e) (replaced_writes counts host now k row rows ks h hk mine a e))
+    (λ (e : list_any (has_key_of row) rows ≡ false). rw (d, e) (inserted_writes counts host now k row rows ks h hk mine a e))
     (cases_Bool (list_any (has_key_of row) rows)))
     (cases_Bool (is_dead now row.death))
 
--- ---- A ROW OF ANOTHER HOST, which isn't given to this one
+-- ---- A ROW OF ANOTHER HOST, or of a name that doesn't count
 
-pub other_any : (host : List ℕ) (row r : Row) → is_own host row ≡ false → is_own host r ≡ true
-    → has_key_of row r ≡ false
-other_any host row r other own =
+pub other_any : (counts : Counts) (host : List ℕ) (row r : Row) → is_own counts host row ≡ false
+    → is_own counts host r ≡ true → has_key_of row r ≡ false
+other_any counts host row r other own =
     ⊎_elim
-    (λ e. absurd (both_ways _ other (ap (λ t. bytes_eq t host) (sym (key_domain row r e)) ∙ own)))
+    (λ e. absurd (both_ways _ other (sym (own_key counts host row r e) ∙ own)))
     (λ e. e)
     (cases_Bool (has_key_of row r))
 
-pub map_keeps : (host : List ℕ) (f : Row → Row) (rows : List Row) (ks : List Kept) → Agrees host rows ks
-    → ((r : Row) → is_own host (f r) ≡ is_own host r) → ((r : Row) → is_own host r ≡ true → f r ≡ r)
-    → ((r : Row) → IsOther host r → IsOther host (f r)) → Agrees host (map f rows) ks
-map_keeps host f rows ks a h g o = record {
+pub map_keeps : (counts : Counts) (host : List ℕ) (f : Row → Row) (rows : List Row) (ks : List Kept)
+    → Agrees counts host rows ks → ((r : Row) → is_own counts host (f r) ≡ is_own counts host r)
+    → ((r : Row) → is_own counts host r ≡ true → f r ≡ r)
+    → ((r : Row) → IsOther counts host r → IsOther counts host (f r)) → Agrees counts host (map f rows) ks
+map_keeps counts host f rows ks a h g o = record {
   good = a.good;
-  own = subst (Pairwise (IsRowOf host) ks) (sym (rows_map_other host f h g rows)) a.own;
+  own = subst (Pairwise (IsRowOf host) ks) (sym (rows_map_other counts host f h g rows)) a.own;
   apart = a.apart;
-  others = all_rows_map (IsOther host) f o rows a.others;
+  others = all_rows_map (IsOther counts host) f o rows a.others;
 }
 
-pub inserted_keeps : (host : List ℕ) (row : Row) (rows : List Row) (ks : List Kept) → is_own host row ≡ false
-    → IsOther host row → Agrees host rows ks → Agrees host (inserted row rows) ks
-inserted_keeps host row rows ks other alien a = record {
+pub inserted_keeps : (counts : Counts) (host : List ℕ) (row : Row) (rows : List Row) (ks : List Kept)
+    → is_own counts host row ≡ false → IsOther counts host row → Agrees counts host rows ks
+    → Agrees counts host (inserted row rows) ks
+inserted_keeps counts host row rows ks other alien a = record {
   good = a.good;
   own = subst (Pairwise (IsRowOf host) ks) (sym same) a.own;
   apart = a.apart;
-  others = all_inserted (IsOther host) row rows alien a.others;
+  others = all_inserted (IsOther counts host) row rows alien a.others;
 }
   where
-    same : rows_of host (inserted row rows) ≡ rows_of host rows
+    same : rows_of counts host (inserted row rows) ≡ rows_of counts host rows
     same =
         ⊎_elim
-        (λ (e : list_any (has_place_of row) rows ≡ true). rw e (other_behind host (has_place_of row) row rows other))
-        (λ (e : list_any (has_place_of row) rows ≡ false). rw e (other_behind host (has_domain_of row) row rows other))
+        (λ (e : list_any (has_place_of row) rows ≡ true). rw e
+        (other_behind counts host (has_place_of row) row rows other))
+        (λ (e : list_any (has_place_of row) rows ≡ false). rw e
+        (other_behind counts host (has_domain_of row) row rows other))
         (cases_Bool (list_any (has_place_of row) rows))
 
-pub settled_keeps : (host : List ℕ) (now : ℤ) (row : Row) (rows : List Row) (ks : List Kept) → is_own host row ≡ false
-    → ¬ (Covers row.domain host) → Agrees host rows ks → Agrees host (settled rows now row).1 ks
-settled_keeps host now row rows ks other alien a =
+pub settled_keeps : (counts : Counts) (host : List ℕ) (now : ℤ) (row : Row) (rows : List Row) (ks : List Kept)
+    → is_own counts host row ≡ false → IsOther counts host row → Agrees counts host rows ks
+    → Agrees counts host (settled rows now row).1 ks
+settled_keeps counts host now row rows ks other alien a =
     ⊎_elim
     (λ (d : is_dead now row.death ≡ true).
     ⊎_elim
     (λ (e : list_any (is_live_of now row) rows ≡ true). rw (d, e)
-    (map_keeps host (λ r. cond (is_live_of now row r) (at_epoch r) r) rows ks a
-    (λ r. ap (λ t. bytes_eq t host) (epoch_domain (is_live_of now row r) r))
-    (λ r own. ap (λ b. cond (b && not (is_dead now r.death)) (at_epoch r) r) (other_any host row r other own))
-    (λ r g. epoch_other host (is_live_of now row r) r g)))
+    (map_keeps counts host (λ r. cond (is_live_of now row r) (at_epoch r) r) rows ks a
+    (λ r. epoch_own counts host (is_live_of now row r) r)
+    (λ r own. ap (λ b. cond (b && not (is_dead now r.death)) (at_epoch r) r) (other_any counts host row r other own))
+    (λ r g. epoch_other counts host (is_live_of now row r) r g)))
     (λ (e : list_any (is_live_of now row) rows ≡ false). rw (d, e) a)
     (cases_Bool (list_any (is_live_of now row) rows)))
     (λ (d : is_dead now row.death ≡ false).
     ⊎_elim
     (λ (e : list_any (has_key_of row) rows ≡ true). rw (d, e)
-    (map_keeps host (λ r. cond (has_key_of row r) row r) rows ks a
-    (λ r. ap (λ t. bytes_eq t host) (replaced_domain row r))
-    (λ r own. ap (λ b. cond b row r) (other_any host row r other own))
-    (λ r g. replaced_other host row (λ no. alien) r g)))
-    (λ (e : list_any (has_key_of row) rows ≡ false). rw (d, e) (inserted_keeps host row rows ks other (λ no. alien) a))
+    (map_keeps counts host (λ r. cond (has_key_of row r) row r) rows ks a
+    (λ r. replaced_own counts host row r)
+    (λ r own. ap (λ b. cond b row r) (other_any counts host row r other own))
+    (λ r g. replaced_other counts host row alien r g)))
+    (λ (e : list_any (has_key_of row) rows ≡ false). rw (d, e)
+    (inserted_keeps counts host row rows ks other alien a))
     (cases_Bool (list_any (has_key_of row) rows)))
     (cases_Bool (is_dead now row.death))
+
+-- ---- a row of the host, whether its name counts or not
+
+uncounted : (counts : Counts) (k : Kept) (q : List ℕ) → counts k.name ≡ false → counts q ≡ true
+    → bytes_eq q k.name ≡ false
+uncounted counts k q none c = other_text q k.name (λ same. both_ways _ none (ap counts (sym same) ∙ c))
+
+pub sent_writes : (counts : Counts) (host : List ℕ) (now : ℤ) (k : Kept) (row : Row) (rows : List Row) (ks : List Kept)
+    → IsRowOf host k row → IsGoodKept k → Agrees counts host rows ks → pos 0 ≤ℤ now
+    → Writes counts host now k ks (settled rows now row).1
+sent_writes counts host now k row rows ks h hk a after =
+    ⊎_elim
+    (λ (e : counts k.name ≡ true). settled_writes counts host now k row rows ks h hk
+    (own_is counts host k row h hk ∙ e) a after)
+    (λ (e : counts k.name ≡ false). record {
+      cookies = ks;
+      agrees = settled_keeps counts host now row rows ks (own_is counts host k row h hk ∙ e)
+          (λ other c. absurd (both_ways _ (name_counts counts host k row h hk ∙ e) c)) a;
+      each = λ q c. sym (cond-false _ _ _ (uncounted counts k q e c));
+    })
+    (cases_Bool (counts k.name))

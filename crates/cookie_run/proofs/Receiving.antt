@@ -1,10 +1,10 @@
 -- What a client does with lines one after another.
 use Rattle.std.proofs.Common.{◌≡◌, ◌≢◌, ℕ, ℤ, ◌+◌, ◌<◌, List, [], ◌∷◌, ◌++◌, length, take, get_or, sym, refl, ap, ◌∙◌}
 use Rattle.std.proofs.Common.{subst, inl, inr, true, false, Result, Ok, Err, ⊎_elim, zero, suc, arith}
-use Rattle.std.specs.Prelude.{map}
+use Rattle.std.specs.Prelude.{map, IfOk, OnErr}
 use Rattle.std.specs.List.{list_any}
 use Rattle.std.specs.Str.{IsUtf8}
-use Rattle.std.proofs.lemmas.Bool.{cases_Bool, cond-true, cond-false}
+use Rattle.std.proofs.lemmas.Bool.{both_ways, cases_Bool, cond-true, cond-false}
 use Rattle.std.proofs.lemmas.List.{take_more, take-map, map-append, length-map}
 use Rattle.cookie_text.specs.Reading.{ReadsPlain}
 use Rattle.cookie_text.specs.Record.{Seen}
@@ -16,12 +16,15 @@ use Rattle.store_parts.specs.declared.error.CookieError.TheVariants.{NonHttpSche
 use Rattle.store_parts.specs.declared.error.CookieError.TheVariants.{PublicSuffix, OutOfMemory}
 use Rattle.url.specs.Parts.{Parts}
 use Rattle.cookie_store.specs.Insertion.{End, InsertsRead, InsertsRaw, Inserts, Admits, Fits, Settles, Receives}
-use Rattle.cookie_store.specs.Insertion.{ReceivesText, alone, settled}
+use Rattle.cookie_store.specs.Insertion.{alone, settled}
 use Rattle.cookie_store.specs.Rows.{Row, is_live_of}
 use Rattle.cookie_store.specs.declared.action.StoreAction.{StoreAction}
 use Rattle.cookie_store.specs.declared.action.StoreAction.TheVariants.{ExpiredExisting}
 use Rattle.cookie_run.specs.declared.step.LineEnd.{LineEnd}
-use Rattle.cookie_run.specs.Accept.{Accepts, AcceptsAll, AsksForMemory, StopsAt}
+use Rattle.cookie_run.specs.declared.step.LineEnd.TheVariants.{Refused}
+use Rattle.cookie_run.specs.HostPrefix.{BreaksHost, IsAgainstHost}
+use Rattle.cookie_run.specs.Accept.{Accepts, AcceptsAll, AcceptsCookie, AsksForMemory, StopsAt}
+use Rattle.cookie_run.proofs.ReadOnce.{ReadsOnce, read_once}
 
 -- ---- line by line
 
@@ -142,40 +145,74 @@ read_has list rows new url now (Ok seen) e = raw_has list rows new url now _ e
 
 -- ---- one line
 
--- an answer of the store that isn't want of memory
-pub accepted : (list : List Rule) (rows new : List Row) (url : Parts) (now : ℤ) (line text : List ℕ)
-    (answer : Result StoreAction CookieError) (end : LineEnd) → IsUtf8 line → text ≡ line
-    → answer ≢ Err OutOfMemory → ReceivesText list rows url now text (answer, new)
-    → end ≡ Rattle.cookie_run.specs.Accept.text_end answer → Accepts list rows url now line end new
-accepted list rows new url now line text answer end utf8 same had received is = inr (
-  utf8,
-  (
-    received.0,
-    subst (λ t. ReadsPlain t received.0) same received.1,
-    (answer, inserts received.0 received.2, is),
-  ),
-)
-  where
-    lacks : (read : Result Seen ParseError) → Rattle.cookie_store.specs.Insertion.Lacks rows url read (answer, new) → ⊥
-    lacks (Err error) l = l
-    lacks (Ok seen) l = had (ap (λ (p : End). p.0) l.1)
+-- what reads as a cookie that doesn't break the prefix isn't against it
+free_of : (one : ReadsOnce) (url : Parts) (line : List ℕ) (seen : Seen) → ReadsPlain line (Ok seen)
+    → ¬ (BreaksHost url seen) → ¬ (IsAgainstHost url line)
+free_of one url line seen reads whole against =
+    whole (subst (BreaksHost url) (read_once one line against.1.0 seen against.1.1 reads) against.1.2)
 
-    inserts : (read : Result Seen ParseError) → Receives list rows url now read (answer, new)
-        → InsertsRead list rows url now read (answer, new)
-    inserts read (inl i) = i
-    inserts read (inr l) = absurd (lacks read l)
+-- nor is what reads as no cookie
+pub no_cookie : (list : List Rule) (rows : List Row) (url : Parts) (now : ℤ) (line text : List ℕ)
+    (error : ParseError) → IsUtf8 line → text ≡ line → ReadsPlain text (Err error)
+    → Accepts list rows url now line (Refused Parse) rows
+no_cookie list rows url now line text error utf8 same reads =
+    let h = subst (λ t. ReadsPlain t (Err error)) same reads in
+    inr (
+      (λ against. both_ways false refl (h.accepted.1 (against.1.1.accepted.0 refl))),
+      inr (utf8, (Err error, h, (Err Parse, refl, refl))),
+    )
+
+-- what reads as a cookie
+pub line_accepted : (one : ReadsOnce) (list : List Rule) (rows new : List Row) (url : Parts) (now : ℤ)
+    (line : List ℕ) (seen : Seen) (end : LineEnd) → IsUtf8 line → ReadsPlain line (Ok seen)
+    → AcceptsCookie list rows url now seen end new → Accepts list rows url now line end new
+line_accepted one list rows new url now line seen end utf8 reads (inl broken) =
+    inl ((utf8, (seen, reads, broken.0)), broken.1, broken.2)
+line_accepted one list rows new url now line seen end utf8 reads (inr whole) =
+    inr (free_of one url line seen reads whole.0, inr (utf8, (Ok seen, reads, whole.1)))
+
+pub line_lacks : (one : ReadsOnce) (url : Parts) (line : List ℕ) (seen : Seen) → IsUtf8 line
+    → ReadsPlain line (Ok seen) → ¬ (BreaksHost url seen)
+    → ¬ (Rattle.cookie_store.specs.Making.IsBarred seen.cookie url) → AsksForMemory url line
+line_lacks one url line seen utf8 reads whole allowed =
+    (free_of one url line seen reads whole, utf8, (seen, reads, allowed))
+
+pub line_ok : {E : Type 0} (r : Result LineEnd E) (one : ReadsOnce) (list : List Rule) (rows new : List Row)
+    (url : Parts) (now : ℤ) (line text : List ℕ) (seen : Seen) → IsUtf8 line → text ≡ line
+    → ReadsPlain text (Ok seen) → IfOk r (λ end. AcceptsCookie list rows url now seen end new)
+    → IfOk r (λ end. Accepts list rows url now line end new)
+line_ok (Ok end) one list rows new url now line text seen utf8 same reads h =
+    line_accepted one list rows new url now line seen end utf8 (subst (λ t. ReadsPlain t (Ok seen)) same reads) h
+line_ok (Err e) one list rows new url now line text seen utf8 same reads h = tt
+
+pub line_err : {E : Type 0} (r : Result LineEnd E) (one : ReadsOnce) (rows new : List Row) (url : Parts)
+    (line text : List ℕ) (seen : Seen) → IsUtf8 line → text ≡ line → ReadsPlain text (Ok seen)
+    → OnErr r ((new ≡ rows) × (¬ (BreaksHost url seen))
+    × (¬ (Rattle.cookie_store.specs.Making.IsBarred seen.cookie url)))
+    → OnErr r ((new ≡ rows) × AsksForMemory url line)
+line_err (Ok end) one rows new url line text seen utf8 same reads h = tt
+line_err (Err e) one rows new url line text seen utf8 same reads h =
+    (h.0, line_lacks one url line seen utf8 (subst (λ t. ReadsPlain t (Ok seen)) same reads) h.1 h.2)
+
+-- ---- one cookie
+
+-- an answer of the store that isn't want of memory
+pub accepted : (list : List Rule) (rows new : List Row) (url : Parts) (now : ℤ) (seen : Seen)
+    (answer : Result StoreAction CookieError) (end : LineEnd) → ¬ (BreaksHost url seen) → answer ≢ Err OutOfMemory
+    → Receives list rows url now (Ok seen) (answer, new)
+    → end ≡ Rattle.cookie_run.specs.Accept.text_end answer → AcceptsCookie list rows url now seen end new
+accepted list rows new url now seen answer end whole had received is = inr (whole, (answer, inserts received, is))
+  where
+    inserts : Receives list rows url now (Ok seen) (answer, new) → InsertsRead list rows url now (Ok seen) (answer, new)
+    inserts (inl i) = i
+    inserts (inr l) = absurd (had (ap (λ (p : End). p.0) l.1))
 
 -- one that is
-pub lacked : (list : List Rule) (rows new : List Row) (url : Parts) (now : ℤ) (line text : List ℕ)
-    (answer : Result StoreAction CookieError) → IsUtf8 line → text ≡ line → answer ≡ Err OutOfMemory
-    → ReceivesText list rows url now text (answer, new) → AsksForMemory url line
-lacked list rows new url now line text answer utf8 same is received =
-    let r = subst (λ a. ReceivesText list rows url now text (a, new)) is received in
-    (utf8, asked r.0 (subst (λ t. ReadsPlain t r.0) same r.1) r.2)
-  where
-    asked : (read : Result Seen ParseError) → ReadsPlain line read → Receives list rows url now read (Lacking new)
-        → (seen : Seen) × ReadsPlain line (Ok seen)
-        × (¬ (Rattle.cookie_store.specs.Making.IsBarred seen.cookie url))
-    asked read reads (inl i) = absurd (read_has list rows new url now read i)
-    asked (Err error) reads (inr l) = absurd l
-    asked (Ok seen) reads (inr l) = (seen, reads, l.0)
+pub lacked : (list : List Rule) (rows new : List Row) (url : Parts) (now : ℤ) (seen : Seen)
+    (answer : Result StoreAction CookieError) → answer ≡ Err OutOfMemory
+    → Receives list rows url now (Ok seen) (answer, new)
+    → ¬ (Rattle.cookie_store.specs.Making.IsBarred seen.cookie url)
+lacked list rows new url now seen answer is (inl i) =
+    absurd (read_has list rows new url now (Ok seen)
+    (subst (λ a. InsertsRead list rows url now (Ok seen) (a, new)) is i))
+lacked list rows new url now seen answer is (inr l) = l.0

@@ -90,8 +90,9 @@ read_same answer list rows new url now (Err error) i stays = refused_same _ rows
 read_same answer list rows new url now (Ok seen) i stays = raw_same answer list rows new url now _ i stays
 
 pub lines_same : RefusedLinesChangeNothing
-lines_same list rows url now line end new (inl none) stays = none.2
-lines_same list rows url now line end new (inr text) stays =
+lines_same list rows url now line end new (inl against) stays = against.2
+lines_same list rows url now line end new (inr (free, inl none)) stays = none.2
+lines_same list rows url now line end new (inr (free, inr text)) stays =
     read_same text.1.2.0 list rows new url now text.1.0 text.1.2.1
     (λ done. stays (subst IsStored (sym text.1.2.2) done))
 

@@ -35,7 +35,7 @@ named text four six = record {
     six_more : (segments : List ℕ) → read_ipv6 (text ++ []) ≡ None
     six_more segments = ap read_ipv6 (append-nil text) ∙ six
 
-abbrev below : List ℕ
+abbrev pub below : List ℕ
 below = codes "sub.shop.com"
 
 below_named : IsHostName below
@@ -74,7 +74,7 @@ below_reach text (inr reached) =
 one_label : (rule : Rule) → Contains list rule → covered rule ≡ 1
 one_label rule here = ap covered (sym (only rule here.0 here.1 here.2))
 
-shop_unlisted : ¬ (Listed list shop)
+pub shop_unlisted : ¬ (Listed list shop)
 shop_unlisted h = omega (arith, one_label h.rule h.prevails.of_list, h.whole)
 
 -- `sub.shop.com` and `shop.com` are related, by `shop.com`, where that isn't listed
@@ -180,7 +180,7 @@ bracketed_unrelated rules (inr (text, some, mine, inr below, free)) =
 -- ---- the steps that concern `shop.com`, where `com` is listed
 
 -- `https://HOST/`
-abbrev at_host : List ℕ → Parts
+abbrev pub at_host : List ℕ → Parts
 at_host host = record {
   scheme = codes "https";
   username = [];

@@ -7,6 +7,7 @@ use Rattle.std.specs.List.{filter, AllByRecursion}
 use Rattle.std.specs.Str.{bytes_eq}
 use Rattle.std.proofs.lemmas.Bool.{cond-true, cond-false, both_ways}
 use Rattle.jiff.proofs.SpanFacts.{signed_arith}
+use Rattle.percent_encoding.specs.Percent.{percent_decode}
 use Rattle.cookie_text.specs.Printing.{escaped}
 use Rattle.cookie_text.specs.ReadingBack.{Pairwise}
 use Rattle.cookie_text.specs.Record.{Seen}
@@ -16,11 +17,11 @@ use Rattle.cookie_store.specs.Placing.{is_saved, saved}
 use Rattle.cookie_store.specs.Rows.{Row, is_live, live}
 use Rattle.cookie_store.specs.SavedRows.{IsReread, IsWholeDeath}
 use Rattle.cookie_text.specs.Again.{IsReadPair, PairsReadAgain}
-use Rattle.cookie_run.specs.Keeping.{Keeps}
+use Rattle.cookie_run.specs.Keeping.{Keeps, HasReadPair, HaveReadPairs}
 use Rattle.cookie_run.specs.Site.{Held, Site, live_at, is_lasting, lasting_at, restarted}
 use Rattle.cookie_run.proofs.Exchange.{SiteAgrees}
 use Rattle.cookie_run.proofs.Kepts.{Kept, found_in, pass, found_filter, apart_filter, all_filter}
-use Rattle.cookie_run.proofs.OwnRows.{is_own, rows_of, IsRowOf, IsGoodKept, IsOther, IsWholeSecond, Agrees, walk}
+use Rattle.cookie_run.proofs.OwnRows.{Counts, is_own, rows_of, IsRowOf, IsGoodKept, IsOther, IsWholeSecond, Agrees, walk}
 use Rattle.cookie_run.proofs.OwnRows.{own_is}
 use Rattle.cookie_run.proofs.OwnRows.{first_and}
 use Rattle.cookie_run.proofs.ReadBack.{escaped_pair}
@@ -58,92 +59,108 @@ reread_row again host k r loaded good h g =
       whole = h.whole;
     }
 
+-- a row's name stays
+same_name : (again : PairsReadAgain) (r loaded : Row) → HasReadPair r → IsReread r loaded
+    → loaded.raw.cookie.name ≡ r.raw.cookie.name
+same_name again r loaded own g = ap (λ (s : Seen). s.cookie.name) g.raw ∙ (again r.raw.cookie (Ok g.seen) own g.reads).pair.0
+
 -- ---- the rows
 
 abbrev pub lasts : ℤ → Kept → Bool
 lasts now k = is_lasting now k.death
 
 -- these rows stand for what lasts of this, and no other one is given to the host
-abbrev StandFor : List ℕ → ℤ → List Kept → List Row → Type 0
-StandFor host now ks rows =
-    Pairwise (IsRowOf host) (filter (lasts now) ks) (rows_of host rows) × AllByRecursion (IsOther host) rows
+abbrev StandFor : Counts → List ℕ → ℤ → List Kept → List Row → Type 0
+StandFor counts host now ks rows =
+    Pairwise (IsRowOf host) (filter (lasts now) ks) (rows_of counts host rows) × AllByRecursion (IsOther counts host) rows
 
 -- so do those that are kept of the rows
-abbrev KeptAs : List ℕ → ℤ → List Kept → List Row → Type 0
-KeptAs host now ks rows =
-    AllByRecursion (IsOther host) rows → (read : List Row) → Pairwise IsReread (saved now rows) read
-    → StandFor host now ks (live now read)
+abbrev KeptAs : Counts → List ℕ → ℤ → List Kept → List Row → Type 0
+KeptAs counts host now ks rows =
+    HaveReadPairs rows → AllByRecursion (IsOther counts host) rows → (read : List Row) → Pairwise IsReread (saved now rows) read
+    → StandFor counts host now ks (live now read)
 
-kept_none : (host : List ℕ) (now : ℤ) → KeptAs host now [] []
-kept_none host now others [] p = (tt, tt)
-kept_none host now others (x ∷ xs) p = absurd p
+kept_none : (counts : Counts) (host : List ℕ) (now : ℤ) → KeptAs counts host now [] []
+kept_none counts host now pairs others [] p = (tt, tt)
+kept_none counts host now pairs others (x ∷ xs) p = absurd p
 
-own_kept : (host : List ℕ) (now : ℤ) (d : Kept) (x : Row) (ds : List Kept) (xs : List Row) → IsRowOf host d x
-    → lasts now d ≡ true → StandFor host now ds (live now xs) → StandFor host now (d ∷ ds) (live now (x ∷ xs))
-own_kept host now d x ds xs own lasting tail =
+own_kept : (counts : Counts) (host : List ℕ) (now : ℤ) (d : Kept) (x : Row) (ds : List Kept) (xs : List Row) → IsRowOf host d x
+    → is_own counts host x ≡ true → lasts now d ≡ true → StandFor counts host now ds (live now xs) → StandFor counts host now (d ∷ ds) (live now (x ∷ xs))
+own_kept counts host now d x ds xs own mine lasting tail =
     let death : is_lasting now x.death ≡ true = ap (is_lasting now) own.death ∙ lasting in
     let lives : is_live now x ≡ true = first_and (is_live now x) (is_some x.death) death in
-    let row : rows_of host (live now (x ∷ xs)) ≡ x ∷ rows_of host (live now xs) =
-    ap (λ b. rows_of host (cond b (x ∷ live now xs) (live now xs))) lives ∙ cond-true _ _ _ (own_is host d x own) in
+    let row : rows_of counts host (live now (x ∷ xs)) ≡ x ∷ rows_of counts host (live now xs) =
+    ap (λ b. rows_of counts host (cond b (x ∷ live now xs) (live now xs))) lives ∙ cond-true _ _ _ mine in
     let front : filter (lasts now) (d ∷ ds) ≡ d ∷ filter (lasts now) ds = cond-true _ _ _ lasting in (
       subst (λ rows. Pairwise (IsRowOf host) (filter (lasts now) (d ∷ ds)) rows) (sym row)
-          (subst (λ ks. Pairwise (IsRowOf host) ks (x ∷ rows_of host (live now xs))) (sym front) (own, tail.0)),
-      subst (λ b. AllByRecursion (IsOther host) (cond b (x ∷ live now xs) (live now xs))) (sym lives)
-          ((λ other. absurd (both_ways _ other (own_is host d x own))), tail.1),
+          (subst (λ ks. Pairwise (IsRowOf host) ks (x ∷ rows_of counts host (live now xs))) (sym front) (own, tail.0)),
+      subst (λ b. AllByRecursion (IsOther counts host) (cond b (x ∷ live now xs) (live now xs))) (sym lives)
+          ((λ other. absurd (both_ways _ other mine)), tail.1),
     )
 
-own_step : (again : PairsReadAgain) (host : List ℕ) (now : ℤ) (d : Kept) (r : Row) (ds : List Kept) (rs : List Row)
-    → IsGoodKept d → IsRowOf host d r → KeptAs host now ds rs → KeptAs host now (d ∷ ds) (r ∷ rs)
-own_step again host now d r ds rs good h rest others read p = by (is_saved now r) refl read p
+own_step : (counts : Counts) (again : PairsReadAgain) (host : List ℕ) (now : ℤ) (d : Kept) (r : Row) (ds : List Kept) (rs : List Row)
+    → is_own counts host r ≡ true → IsGoodKept d → IsRowOf host d r → KeptAs counts host now ds rs
+    → KeptAs counts host now (d ∷ ds) (r ∷ rs)
+own_step counts again host now d r ds rs own good h rest pairs others read p = by (is_saved now r) refl read p
   where
     by : (b : Bool) → is_saved now r ≡ b → (read : List Row)
         → Pairwise IsReread (cond b (r ∷ saved now rs) (saved now rs)) read
-        → StandFor host now (d ∷ ds) (live now read)
+        → StandFor counts host now (d ∷ ds) (live now read)
     by true e [] p = absurd p
-    by true e (x ∷ xs) p = own_kept host now d x ds xs (reread_row again host d r x good h p.0)
-        (ap (is_lasting now) (sym h.death) ∙ e) (rest others.1 xs p.1)
+    by true e (x ∷ xs) p =
+        let row = reread_row again host d r x good h p.0 in
+        let mine : is_own counts host x ≡ true = own_is counts host d x row good ∙ (sym (own_is counts host d r h good)
+        ∙ own) in
+        own_kept counts host now d x ds xs row mine (ap (is_lasting now) (sym h.death) ∙ e)
+        (rest pairs.1 others.1 xs p.1)
     by false e read p =
-        let tail = rest others.1 read p in
+        let tail = rest pairs.1 others.1 read p in
         let gone : filter (lasts now) (d ∷ ds) ≡ filter (lasts now) ds =
         cond-false _ _ _ (ap (is_lasting now) (sym h.death) ∙ e) in
-        (subst (λ ks. Pairwise (IsRowOf host) ks (rows_of host (live now read))) (sym gone) tail.0, tail.1)
+        (subst (λ ks. Pairwise (IsRowOf host) ks (rows_of counts host (live now read))) (sym gone) tail.0, tail.1)
 
-other_kept : (host : List ℕ) (now : ℤ) (r x : Row) (ds : List Kept) (xs : List Row) → is_own host r ≡ false
-    → IsOther host r → x.domain ≡ r.domain → StandFor host now ds (live now xs)
-    → StandFor host now ds (live now (x ∷ xs))
-other_kept host now r x ds xs other foreign domain tail = by (is_live now x)
+other_kept : (counts : Counts) (host : List ℕ) (now : ℤ) (r x : Row) (ds : List Kept) (xs : List Row)
+    → is_own counts host r ≡ false → IsOther counts host r → x.domain ≡ r.domain
+    → x.raw.cookie.name ≡ r.raw.cookie.name → StandFor counts host now ds (live now xs)
+    → StandFor counts host now ds (live now (x ∷ xs))
+other_kept counts host now r x ds xs other foreign domain name tail = by (is_live now x)
   where
-    away : is_own host x ≡ false
-    away = ap (λ (d : Domain). bytes_eq (text_or_empty d) host) domain ∙ other
+    away : is_own counts host x ≡ false
+    away = (λ i. counts (percent_decode (name i)) && bytes_eq (text_or_empty (domain i)) host) ∙ other
 
-    alien : IsOther host x
-    alien = subst (λ (d : Domain). bytes_eq (text_or_empty d) host ≡ false → ¬ (Covers d host)) (sym domain) foreign
+    alien : IsOther counts host x
+    alien away_too counted =
+        subst (λ (d : Domain). ¬ (Covers d host)) (sym domain)
+        (foreign other (ap (λ n. counts (percent_decode n)) (sym name) ∙ counted))
 
-    by : (b : Bool) → StandFor host now ds (cond b (x ∷ live now xs) (live now xs))
+    by : (b : Bool) → StandFor counts host now ds (cond b (x ∷ live now xs) (live now xs))
     by true = (
       subst (λ rows. Pairwise (IsRowOf host) (filter (lasts now) ds) rows) (sym (cond-false _ _ _ away)) tail.0,
       (alien, tail.1),
     )
     by false = tail
 
-other_step : (host : List ℕ) (now : ℤ) (r : Row) (ds : List Kept) (rs : List Row) → is_own host r ≡ false
-    → KeptAs host now ds rs → KeptAs host now ds (r ∷ rs)
-other_step host now r ds rs other rest others read p = by (is_saved now r) read p
+other_step : (counts : Counts) (again : PairsReadAgain) (host : List ℕ) (now : ℤ) (r : Row) (ds : List Kept)
+    (rs : List Row) → is_own counts host r ≡ false → KeptAs counts host now ds rs
+    → KeptAs counts host now ds (r ∷ rs)
+other_step counts again host now r ds rs other rest pairs others read p = by (is_saved now r) read p
   where
     by : (b : Bool) (read : List Row) → Pairwise IsReread (cond b (r ∷ saved now rs) (saved now rs)) read
-        → StandFor host now ds (live now read)
+        → StandFor counts host now ds (live now read)
     by true [] p = absurd p
-    by true (x ∷ xs) p = other_kept host now r x ds xs other others.0 p.0.domain (rest others.1 xs p.1)
-    by false read p = rest others.1 read p
+    by true (x ∷ xs) p = other_kept counts host now r x ds xs other others.0 p.0.domain
+        (same_name again r x pairs.0 p.0) (rest pairs.1 others.1 xs p.1)
+    by false read p = rest pairs.1 others.1 read p
 
-pub kept_agrees : (again : PairsReadAgain) (host : List ℕ) (now : ℤ) (rows new : List Row) (ks : List Kept)
-    → Agrees host rows ks → Keeps rows now now new → Agrees host new (filter (lasts now) ks)
-kept_agrees again host now rows new ks a keeps =
-    let read = walk host (KeptAs host now) (kept_none host now)
-    (λ d r ds rs own h good rest. own_step again host now d r ds rs good h rest)
-    (λ r ds rs other rest. other_step host now r ds rs other rest)
-    rows ks a.good a.own a.others keeps.read keeps.reread in
-    let kept = subst (StandFor host now ks) (sym keeps.lives) read in
+pub kept_agrees : (counts : Counts) (again : PairsReadAgain) (host : List ℕ) (now : ℤ)
+    (rows new : List Row) (ks : List Kept) → HaveReadPairs rows → Agrees counts host rows ks → Keeps rows now now new
+    → Agrees counts host new (filter (lasts now) ks)
+kept_agrees counts again host now rows new ks pairs a keeps =
+    let read = walk counts host (KeptAs counts host now) (kept_none counts host now)
+    (λ d r ds rs own h good rest. own_step counts again host now d r ds rs own good h rest)
+    (λ r ds rs other rest. other_step counts again host now r ds rs other rest)
+    rows ks a.good a.own pairs a.others keeps.read keeps.reread in
+    let kept = subst (StandFor counts host now ks) (sym keeps.lives) read in
     record {
       good = all_filter IsGoodKept (lasts now) ks a.good;
       own = kept.0;
@@ -198,17 +215,18 @@ matches_lasting key q (Some k) (Some h) m =
     subst (λ (d : Option ℤ). MatchesHeld key q (cond (is_some k.death) (Some k) None) (cond (is_some d) (Some h) None))
     m.1 (matches_gone key q (is_some k.death) k h m)
 
-pub restarts : (again : PairsReadAgain) (key host : List ℕ) (now : ℤ) (rows new : List Row) (site : Site)
-    → SiteAgrees key host rows now site → Keeps rows now now new → SiteAgrees key host new now (restarted site now)
-restarts again key host now rows new site a keeps = record {
+pub restarts : (counts : Counts) (again : PairsReadAgain) (key host : List ℕ) (now : ℤ)
+    (rows new : List Row) (site : Site) → HaveReadPairs rows → SiteAgrees counts key host rows now site
+    → Keeps rows now now new → SiteAgrees counts key host new now (restarted site now)
+restarts counts again key host now rows new site pairs a keeps = record {
   cookies = filter (lasts now) a.cookies;
-  agrees = kept_agrees again host now rows new a.cookies a.agrees keeps;
-  each = λ q.
+  agrees = kept_agrees counts again host now rows new a.cookies pairs a.agrees keeps;
+  each = λ q c.
       let kept : alive now (found_in (filter (lasts now) a.cookies) q) ≡ lasting_kept
       (alive now (found_in a.cookies q)) =
       ap (alive now) (found_filter (lasts now) a.cookies q a.agrees.apart) ∙ alive_lasting now (found_in a.cookies q) in
       subst (λ o. MatchesHeld key q o (live_at now (lasting_at now (site q)))) (sym kept)
       (subst (λ o. MatchesHeld key q (lasting_kept (alive now (found_in a.cookies q))) o)
       (sym (live_lasting now (site q)))
-      (matches_lasting key q (alive now (found_in a.cookies q)) (live_at now (site q)) (a.each q)));
+      (matches_lasting key q (alive now (found_in a.cookies q)) (live_at now (site q)) (a.each q c)));
 }

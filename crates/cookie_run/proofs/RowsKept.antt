@@ -40,7 +40,7 @@ abbrev PartKept : List Row → List Row → Type 0
 PartKept rows kept = (part : List Row) × IsPart part rows × Pairwise IsRowKept part kept
 
 -- a part of the later rows is one of all
-later : (part rows : List Row) (r : Row) → IsPart part rows → IsPart part (r ∷ rows)
+pub later : (part rows : List Row) (r : Row) → IsPart part rows → IsPart part (r ∷ rows)
 later [] rows r h = tt
 later (p ∷ ps) rows r h = inr h
 

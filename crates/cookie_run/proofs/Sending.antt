@@ -1,5 +1,6 @@
 -- What a session keeps is fit to be sent.
 use Rattle.std.proofs.Common.{◌≡◌, ℕ, ℤ, pos, List, [], sym, ap, subst, arith, Option, None, Result, Ok, Err}
+use Rattle.std.proofs.Common.{Some, true}
 use Rattle.std.proofs.Common.{OnOk, OnErr}
 use Rattle.std.specs.Prelude.{IfSome}
 use Rattle.std.specs.Str.{IsUtf8}
@@ -31,6 +32,14 @@ kept_path May key Secure s kept k = ap (λ (x : Seen). x.cookie.path) k
 kept_path May key Signed s kept k = ap (λ (x : Seen). x.cookie.path) k
 kept_path May key Sealed s kept k = ap (λ (x : Seen). x.cookie.path) k.2.3
 
+kept_secure : (May : List ℕ → Type 0) (key : List ℕ) (way : Way) (s kept : Seen) → IsKeptAs May key way (sent s) kept
+    → kept.cookie.secure ≡ Some true
+kept_secure May key Plain s kept k = ap (λ (x : Seen). x.cookie.secure) k
+kept_secure May key Host s kept k = ap (λ (x : Seen). x.cookie.secure) k
+kept_secure May key Secure s kept k = ap (λ (x : Seen). x.cookie.secure) k
+kept_secure May key Signed s kept k = ap (λ (x : Seen). x.cookie.secure) k
+kept_secure May key Sealed s kept k = ap (λ (x : Seen). x.cookie.secure) k.2.3
+
 kept_domain : (May : List ℕ → Type 0) (key : List ℕ) (way : Way) (s kept : Seen) → IsKeptAs May key way (sent s) kept
     → kept.cookie.domain ≡ None
 kept_domain May key Plain s kept k = ap (λ (x : Seen). x.cookie.domain) k
@@ -55,6 +64,7 @@ kept_sent : (May : List ℕ → Type 0) (key : List ℕ) (way : Way) (s kept : S
 kept_sent May key way s kept signed sealed name value age accepted k = record {
   name = subst IsUtf8 (sym (kept_named May key way (sent s) kept k)) (named_text way s.cookie.name name);
   value = kept_text May key way (sent s) kept signed sealed value k;
+  secure = kept_secure May key way s kept k;
   path = kept_path May key way s kept k;
   domain = kept_domain May key way s kept k;
   age = subst (λ (o : Option ℤ). IfSome o IsDurationNanos) (sym (kept_age May key way s kept k)) age;
@@ -82,6 +92,7 @@ removal_sent : (way : Way) (name : List ℕ) (d r : Seen) (now : DateTime) → I
 removal_sent way name d r now text hd accepted makes = record {
   name = subst IsUtf8 (sym (ap (λ (s : Seen). s.cookie.name) makes.2.2)) (named_text way name text);
   value = subst IsUtf8 (sym (ap (λ (s : Seen). s.cookie.value) makes.2.2)) nil_utf8;
+  secure = ap (λ (s : Seen). s.cookie.secure) makes.2.2;
   path = ap (λ (s : Seen). s.cookie.path) makes.2.2;
   domain = ap (λ (s : Seen). s.cookie.domain) makes.2.2;
   age = subst (λ (o : Option ℤ). IfSome o IsDurationNanos) (sym (ap (λ (s : Seen). s.cookie.max_age) makes.2.2))

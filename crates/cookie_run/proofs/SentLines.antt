@@ -23,7 +23,7 @@ use Rattle.cookie_run.specs.Sent.{IsRowFor, IsTaken}
 use Rattle.cookie_run.specs.Laws.{SentLinesAreTaken}
 use Rattle.cookie_store.specs.declared.action.StoreAction.{StoreAction}
 use Rattle.cookie_store.specs.declared.action.StoreAction.TheVariants.{Inserted, UpdatedExisting, ExpiredExisting}
-use Rattle.cookie_run.proofs.Lines.{https_of, is_http, not_refused, path_is, domain_is, read_as, IsClosed}
+use Rattle.cookie_run.proofs.Lines.{https_of, is_http, not_against, not_refused, path_is, domain_is, read_as, IsClosed}
 use Rattle.cookie_run.proofs.Promises.{line_utf8}
 use Rattle.cookie_run.proofs.Received.{at_epoch, epoch_dead}
 
@@ -37,7 +37,7 @@ closed_of c h = record {
         h.name;
     value_bytes = utf8_bytes c.value h.value;
   };
-  is_sent = record { path = h.path; domain = h.domain; age = h.age };
+  is_sent = record { secure = h.secure; path = h.path; domain = h.domain; age = h.age };
   readable = h.readable;
 }
 
@@ -150,9 +150,11 @@ read_taken list host url now c rows end new (Ok s) secure after sent back (inr (
     back.normal is_made) allowed.1
 
 pub sent_taken : (law : ReadingBack) → SentLinesAreTaken
-sent_taken law list host url now c rows end new sent secure after (inl wrong) = absurd
+sent_taken law list host url now c rows end new sent secure after (inl against) =
+    let closed = closed_of c sent in absurd (not_against law host url c secure closed.is_sent sent.readable against.0)
+sent_taken law list host url now c rows end new sent secure after (inr (free, inl wrong)) = absurd
     (wrong.0 (line_utf8 c (closed_of c sent)))
-sent_taken law list host url now c rows end new sent secure after (inr right) =
+sent_taken law list host url now c rows end new sent secure after (inr (free, inr right)) =
     let t = read_taken list host url now c rows right.1.2.0 new right.1.0 secure after sent
     (law c sent.readable sent.age right.1.0 right.1.1) right.1.2.1 in
     (t.0, t.1, subst (λ e. IsTaken rows now t.0 e new) (sym right.1.2.2) t.2)

@@ -230,7 +230,7 @@ takes_each Is c now old new (Some x) removes each all =
     subst (EachChange Is) (sym removes.2) (changed_each Is old removes.0.cookie.name (Removed removes.0) all
     (each removes.0 removes.1))
 
-stored_named : (way : Way) (name : List ℕ) → 0 < length name → 0 < length (stored_name way name)
+pub stored_named : (way : Way) (name : List ℕ) → 0 < length name → 0 < length (stored_name way name)
 stored_named Plain name some = some
 stored_named Host name some = omega arith
 stored_named Secure name some = omega arith

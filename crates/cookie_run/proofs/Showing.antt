@@ -32,10 +32,13 @@ use Rattle.cookie_run.specs.Jar.{Keyed, IsKeptAs, ReadsIn, Sets, sent, value_in,
 use Rattle.cookie_run.specs.declared.step.Way.{Way}
 use Rattle.cookie_run.specs.declared.step.Way.TheVariants as ways
 use Rattle.cookie_run.specs.declared.step.Reading.{Reading}
+use Rattle.cookie_run.specs.declared.step.Reading.TheVariants.{Value, Refused}
+use Rattle.cookie_run.specs.declared.step.SessionError.TheVariants.{EmptyName}
 use Rattle.cookie_run.specs.Site.{View, Entry, Kind, Plain, Signed, Sealed, kind_of, stored_name, with_at, entry_of}
 use Rattle.cookie_run.specs.Site.{IsReadAt, GetOn}
 use Rattle.cookie_run.specs.Brought.{StandsAs, Matches}
 use Rattle.cookie_run.specs.Play.{GetTells, any_nonce}
+use Rattle.cookie_run.specs.Readings.{IsAnswer}
 use Rattle.cookie_run.proofs.Texts.{same_text, text_is}
 use Rattle.cookie_run.proofs.Sessions.{none_at, get_insert}
 use Rattle.cookie_run.proofs.Records.{found_in, AreApart}
@@ -53,11 +56,11 @@ pub record OnlyOne (key : List ℕ) : Type 0 where
   pub signed_text : (k value : List ℕ) → IsUtf8 value → IsUtf8 (signing k value)
   pub sealed_text : (k name value text : List ℕ) → IsSealing k name value text → IsUtf8 text
 
--- a session shows what a request reads
-pub record Shows (key : List ℕ) (session : Keyed) (seen : View) : Type 0 where
+-- a session shows what a request reads, under the names that count
+pub record Shows (counts : List ℕ → Bool) (key : List ℕ) (session : Keyed) (seen : View) : Type 0 where
   pub key_is : session.key ≡ key
   pub named : (q : List ℕ) → IfSome (view session.jar q) (λ s. s.cookie.name ≡ q)
-  pub each : (q : List ℕ) → Matches key q (value_in (record_in (view session.jar q))) (seen q)
+  pub each : (q : List ℕ) → counts q ≡ true → Matches key q (value_in (record_in (view session.jar q))) (seen q)
 
 -- ---- the session opens
 
@@ -135,12 +138,12 @@ named_cond : (q : List ℕ) (b : Bool) (kept : Seen) (o : Option Seen) → (b �
 named_cond q true kept o h g = h refl
 named_cond q false kept o h g = g
 
-kept_shows : (key : List ℕ) (old new : Keyed) (seen : View) (way : Way) (s kept : Seen) → Shows key old seen
+kept_shows : (counts : List ℕ → Bool) (key : List ℕ) (old new : Keyed) (seen : View) (way : Way) (s kept : Seen) → Shows counts key old seen
     → new.key ≡ old.key → new.jar ≡ with_change old.jar (Added kept)
     → kept.cookie.name ≡ stored_name way s.cookie.name → StandsAs key (stored_name way s.cookie.name)
     (kind_of way) s.cookie.value kept.cookie.value
-    → Shows key new (with_at seen (stored_name way s.cookie.name) (Some (entry_of way s.cookie)))
-kept_shows key old new seen way s kept h same_key changed name stands =
+    → Shows counts key new (with_at seen (stored_name way s.cookie.name) (Some (entry_of way s.cookie)))
+kept_shows counts key old new seen way s kept h same_key changed name stands =
     let n : List ℕ = stored_name way s.cookie.name in
     let is : (q : List ℕ) → view new.jar q ≡ cond (bytes_eq q n) (Some kept) (view old.jar q) =
     λ q. ap (λ j. view j q) changed ∙ (view_change old.jar kept q
@@ -149,19 +152,19 @@ kept_shows key old new seen way s kept h same_key changed name stands =
       key_is = same_key ∙ h.key_is;
       named = λ q. subst (λ (o : Option Seen). IfSome o (λ x. x.cookie.name ≡ q)) (sym (is q))
           (named_cond q (bytes_eq q n) kept (view old.jar q) (λ e. name ∙ sym (same_text q n e)) (h.named q));
-      each = λ q. subst (λ (o : Option Seen). Matches key q (value_in (record_in o))
+      each = λ q c. subst (λ (o : Option Seen). Matches key q (value_in (record_in o))
           (cond (bytes_eq q n) (Some (entry_of way s.cookie)) (seen q))) (sym (is q))
           (matches_cond key q (bytes_eq q n) kept (view old.jar q) (entry_of way s.cookie) (seen q)
           (λ e. subst (λ (m : List ℕ). StandsAs key m (kind_of way) s.cookie.value kept.cookie.value)
-          (sym (same_text q n e)) stands) (h.each q));
+          (sym (same_text q n e)) stands) (h.each q c));
     }
 
-pub set_shows : (key : List ℕ) (old new : Keyed) (seen : View) (way : Way) (s : Seen) → Shows key old seen
-    → Sets any_nonce old way s new → Shows key new (with_at seen (stored_name way s.cookie.name)
+pub set_shows : (counts : List ℕ → Bool) (key : List ℕ) (old new : Keyed) (seen : View) (way : Way) (s : Seen) → Shows counts key old seen
+    → Sets any_nonce old way s new → Shows counts key new (with_at seen (stored_name way s.cookie.name)
     (Some (entry_of way s.cookie)))
-set_shows key old new seen way s h sets =
+set_shows counts key old new seen way s h sets =
     let kept = subst (λ (k : List ℕ). IsKeptAs any_nonce k way (sent s) sets.keeps.0) h.key_is sets.keeps.1 in
-    kept_shows key old new seen way s sets.keeps.0 h sets.key_is sets.keeps.2
+    kept_shows counts key old new seen way s sets.keeps.0 h sets.key_is sets.keeps.2
     (kept_named any_nonce key way (sent s) sets.keeps.0 kept)
     (kept_stands any_nonce key way (sent s) sets.keeps.0 sets.value kept)
 
@@ -210,30 +213,36 @@ sealed_read key q (Some s) (Some e) v read law name h found is = λ kind.
     is ∙ only_read (IsSealed key s) s e.value read mine (λ w other. law.sealed s.cookie.name w e.value s.cookie.value
     other.1 mine.1) found
 
-way_read : (key : List ℕ) (session : Keyed) (seen : View) (way : Way) (name : List ℕ) (v : Option (List ℕ))
-    → OnlyOne key → Shows key session seen → ReadsIn session way name v
-    → IsReadAt (kind_of way) (seen (stored_name way name)) v
-way_read key session seen ways.Plain name v law h reads = plain_read key name (view session.jar name) (seen name) v
-    (h.each name) reads
-way_read key session seen ways.Host name v law h reads = let n : List ℕ = host_text
-    ++ name in plain_read key n (view session.jar n) (seen n) v (h.each n) reads
-way_read key session seen ways.Secure name v law h reads = let n : List ℕ = secure_text
-    ++ name in plain_read key n (view session.jar n) (seen n) v (h.each n) reads
-way_read key session seen ways.Signed name v law h reads =
-    signed_read key name (view session.jar name) (seen name) v reads.0 law (h.each name)
+way_read : (counts : List ℕ → Bool) (key : List ℕ) (session : Keyed) (seen : View) (way : Way) (name : List ℕ)
+    (v : Option (List ℕ)) → OnlyOne key → Shows counts key session seen → ReadsIn session way name v
+    → counts (stored_name way name) ≡ true → IsReadAt (kind_of way) (seen (stored_name way name)) v
+way_read counts key session seen ways.Plain name v law h reads c =
+    plain_read key name (view session.jar name) (seen name) v (h.each name c) reads
+way_read counts key session seen ways.Host name v law h reads c =
+    let n : List ℕ = host_text ++ name in plain_read key n (view session.jar n) (seen n) v (h.each n c) reads
+way_read counts key session seen ways.Secure name v law h reads c =
+    let n : List ℕ = secure_text ++ name in plain_read key n (view session.jar n) (seen n) v (h.each n c) reads
+way_read counts key session seen ways.Signed name v law h reads c =
+    signed_read key name (view session.jar name) (seen name) v reads.0 law (h.each name c)
     (subst (λ (k : List ℕ). ReadsFound (IsSigned k) (view session.jar name) reads.0) h.key_is reads.1) reads.2
-way_read key session seen ways.Sealed name v law h reads =
-    sealed_read key name (view session.jar name) (seen name) v reads.0 law (h.named name) (h.each name)
+way_read counts key session seen ways.Sealed name v law h reads c =
+    sealed_read key name (view session.jar name) (seen name) v reads.0 law (h.named name) (h.each name c)
     (subst (λ (k : List ℕ). ReadsFound (IsSealed k) (view session.jar name) reads.0) h.key_is reads.1) reads.2
 
-pub get_on : (key : List ℕ) (session : Keyed) (seen : View) (way : Way) (name : List ℕ) (told : List Reading)
-    → OnlyOne key → Shows key session seen → GetTells session way name told → GetOn seen way name told
-get_on key session seen way [] told law h tells = tells
-get_on key session seen way (b ∷ bs) told law h tells = (
-  tells.0,
-  tells.1,
-  way_read key session seen way
-      (b ∷ bs) tells.0 law h tells.2,
+-- a get reads what the view has, where the name that it reads counts, and has its answer
+abbrev pub GetIn : (List ℕ → Bool) → View → Way → List ℕ → List Reading → Type 0
+GetIn counts view way name told =
+    (counts (stored_name way name) ≡ true → GetOn view way name told)
+    × ((answer : Reading) × (told ≡ answer ∷ []) × IsAnswer way name answer)
+
+pub get_on : (counts : List ℕ → Bool) (key : List ℕ) (session : Keyed) (seen : View) (way : Way) (name : List ℕ)
+    (told : List Reading) → OnlyOne key → Shows counts key session seen → GetTells session way name told
+    → GetIn counts seen way name told
+get_on counts key session seen way [] told law h tells =
+    ((λ c. tells), (Refused EmptyName, tells, (refl, refl)))
+get_on counts key session seen way (b ∷ bs) told law h tells = (
+  (λ c. (tells.0, tells.1, way_read counts key session seen way (b ∷ bs) tells.0 law h tells.2 c)),
+  (Value way (b ∷ bs) tells.0, tells.1, (refl, refl)),
 )
 
 -- ---- a text is bytes

@@ -22,6 +22,7 @@ use Rattle.cookie_store.specs.Making.{IsBarred, IsMade, IsRefused, IsDomainFor, 
 use Rattle.cookie_store.specs.Rows.{Row, domain_text}
 use Rattle.cookie_store.specs.declared.action.StoreAction.{StoreAction}
 use Rattle.cookie_run.specs.Accept.{Accepts}
+use Rattle.cookie_run.specs.HostPrefix.{IsAgainstHost}
 use Rattle.cookie_run.specs.Once.{Makes}
 use Rattle.cookie_run.specs.declared.step.LineEnd.{LineEnd}
 use Rattle.cookie_run.proofs.Lines.{Comes, comes, some_and, some_domain}
@@ -38,6 +39,7 @@ IsAdmitted list url made row =
 
 -- all that a line meets before rows are looked at
 pub record IsTried (list : List Rule) (url : Parts) (now : ℤ) (line : List ℕ) (row : Row) : Type 0 where
+  pub free : ¬ (IsAgainstHost url line)
   pub utf8 : IsUtf8 line
   pub made : Row
   pub makes : Makes line url now made
@@ -122,14 +124,16 @@ module _ (one : ReadsOnce) (list : List Rule) (url : Parts) (now : ℤ) (line : 
   )
   fits_does answer row once tried (inr (covers, settles)) = inr (row, tried covers, (answer, settles))
 
-  admits_does : (answer : Result StoreAction CookieError) (made : Row) → IsUtf8 line → Makes line url now made
+  admits_does : (answer : Result StoreAction CookieError) (made : Row) → ¬ (IsAgainstHost url line) → IsUtf8 line
+      → Makes line url now made
       → ¬ (IsBarred made.raw.cookie url) → Admits list rows url now made (answer, new)
       → Does list rows url now line new
-  admits_does answer made utf8 is allowed (inl free) =
-      let admitted : IsAdmitted list url made made = inl (free.0, refl) in
+  admits_does answer made free utf8 is allowed (inl unlisted) =
+      let admitted : IsAdmitted list url made made = inl (unlisted.0, refl) in
       fits_does answer made
       (λ other t. admitted_once list url t.made made other made (made_same made is other t) t.admitted admitted)
       (λ covers. record {
+        free = free;
         utf8 = utf8;
         made = made;
         makes = is;
@@ -137,12 +141,13 @@ module _ (one : ReadsOnce) (list : List Rule) (url : Parts) (now : ℤ) (line : 
         admitted = admitted;
         covers = covers;
       })
-      free.1
-  admits_does answer made utf8 is allowed (inr (inl own)) =
+      unlisted.1
+  admits_does answer made free utf8 is allowed (inr (inl own)) =
       let admitted : IsAdmitted list url made (alone made) = inr (own.0, own.1, refl) in
       fits_does answer (alone made)
       (λ other t. admitted_once list url t.made made other (alone made) (made_same made is other t) t.admitted admitted)
       (λ covers. record {
+        free = free;
         utf8 = utf8;
         made = made;
         makes = is;
@@ -151,7 +156,7 @@ module _ (one : ReadsOnce) (list : List Rule) (url : Parts) (now : ℤ) (line : 
         covers = covers;
       })
       own.2
-  admits_does answer made utf8 is allowed (inr (inr listed)) = inl (
+  admits_does answer made free utf8 is allowed (inr (inr listed)) = inl (
     (λ other t. not_admitted other t.made (made_same made is other t) t.admitted),
     ap (λ (e : End). e.1) listed.2,
   )
@@ -160,13 +165,13 @@ module _ (one : ReadsOnce) (list : List Rule) (url : Parts) (now : ℤ) (line : 
       not_admitted other m same (inl h) = h.0 (subst (λ (r : Row). IsListedIn r.domain list) (sym same) listed.0)
       not_admitted other m same (inr h) = listed.1 (subst (λ (r : Row). IsHostOf r.domain url) same h.1)
 
-  read_does : (answer : Result StoreAction CookieError) (read : Result Seen ParseError) → IsUtf8 line
-      → ReadsPlain line read → InsertsRead list rows url now read (answer, new) → Does list rows url now line new
-  read_does answer (Err e) utf8 reads refused = inl (
+  read_does : (answer : Result StoreAction CookieError) (read : Result Seen ParseError) → ¬ (IsAgainstHost url line)
+      → IsUtf8 line → ReadsPlain line read → InsertsRead list rows url now read (answer, new) → Does list rows url now line new
+  read_does answer (Err e) free utf8 reads refused = inl (
     (λ other t. error_not line e t.makes.0 reads t.makes.1),
     ap (λ (e : End). e.1) refused,
   )
-  read_does answer (Ok s) utf8 reads (inl refused) = inl (
+  read_does answer (Ok s) free utf8 reads (inl refused) = inl (
     (λ other t. refused_not (unsliced s.cookie) url now t.made refused.0 refused.1 refused.2
         (as_read t.makes)),
     ap (λ (e : End). e.1) refused.3,
@@ -175,17 +180,18 @@ module _ (one : ReadsOnce) (list : List Rule) (url : Parts) (now : ℤ) (line : 
       as_read : {made : Row} → Makes line url now made → IsMade (unsliced s.cookie) url now made
       as_read {made} m = subst (λ (x : Seen). IsMade (unsliced x.cookie) url now made)
           (read_once one line m.0 s m.1 reads) m.2
-  read_does answer (Ok s) utf8 reads (inr (made, is, inl barred)) = inl (
+  read_does answer (Ok s) free utf8 reads (inr (made, is, inl barred)) = inl (
     (λ other t. t.allowed (subst (λ (r : Row). IsBarred r.raw.cookie url) (sym (made_same made (s, reads, is) other t))
         barred.0)),
     ap (λ (e : End). e.1) barred.1,
   )
-  read_does answer (Ok s) utf8 reads (inr (made, is, inr allowed)) =
-      admits_does answer made utf8 (s, reads, is) allowed.0 allowed.1
+  read_does answer (Ok s) free utf8 reads (inr (made, is, inr allowed)) =
+      admits_does answer made free utf8 (s, reads, is) allowed.0 allowed.1
 
   pub line_does : (end : LineEnd) → Accepts list rows url now line end new → Does list rows url now line new
-  line_does end (inl wrong) = inl ((λ other t. wrong.0 t.utf8), wrong.2)
-  line_does end (inr right) = read_does right.1.2.0 right.1.0 right.0 right.1.1 right.1.2.1
+  line_does end (inl against) = inl ((λ other t. t.free against.0), against.2)
+  line_does end (inr (free, inl wrong)) = inl ((λ other t. wrong.0 t.utf8), wrong.2)
+  line_does end (inr (free, inr right)) = read_does right.1.2.0 right.1.0 free right.0 right.1.1 right.1.2.1
 
 -- ---- where it stands
 

@@ -1,9 +1,11 @@
 -- A session of the host: it opens on what is live of the site, and what it closes with is what its accepted commands
 -- leave.
-use Rattle.std.proofs.Common.{◌≡◌, ℕ, ℤ, ◌≤ℤ◌, pos, Bool, true, false, cond, List, sym, refl, ap, ◌∙◌, subst, ⊎_elim}
+use Rattle.std.proofs.Common.{◌≡◌, ℕ, ℤ, ◌≤ℤ◌, pos, Bool, true, false, cond, List, [], ◌∷◌, ◌++◌, sym, refl, ap, ◌∙◌}
+use Rattle.std.proofs.Common.{subst, ⊎_elim}
 use Rattle.std.proofs.Common.{Option, Some, None, arith}
 use Rattle.std.specs.Prelude.{map, option_map, IfSome, ⊤}
-use Rattle.std.specs.List.{filter}
+use Rattle.std.specs.List.{filter, AllByRecursion}
+use Rattle.std.specs.Option.{option_or, option_to_list}
 use Rattle.std.specs.Str.{bytes_eq, IsUtf8}
 use Rattle.std.specs.FinMap as finmap
 use Rattle.std.proofs.lemmas.Bool.{cases_Bool, cond-true, cond-false}
@@ -32,7 +34,10 @@ use Rattle.cookie_run.proofs.Texts.{same_text, some_is_not_none}
 use Rattle.store_parts.specs.Expiry.{is_dead}
 use Rattle.cookie_run.specs.declared.step.Command.TheVariants.{Set}
 use Rattle.cookie_run.specs.Site.{Held, Site, View, with_at, live_at, entry_in, live, entry_of, held_from, left_by}
+use Rattle.cookie_run.specs.Reading.{Gives, Give}
+use Rattle.cookie_run.proofs.HeaderCookies.{cookies_of}
 use Rattle.cookie_run.proofs.Kepts.{Kept, found_in, AreApart, apart_filter}
+use Rattle.cookie_run.proofs.OwnRows.{Counts}
 use Rattle.cookie_run.proofs.Received.{alive}
 use Rattle.cookie_run.proofs.Lines.{IsSent, kept_of}
 use Rattle.cookie_run.proofs.GivenRows.{lives, record_of, last_kept, found_live}
@@ -103,36 +108,37 @@ matches_later key name m n o h after is =
 -- ---- the session opens
 
 -- what a session has of what was under each name when it was opened
-abbrev pub Brings : ℤ → (List ℕ → Option Kept) → Keyed → Type 0
-Brings now at session = (q : List ℕ) → record_in (finmap.get session.jar.originals q) ≡ option_map record_of
+abbrev pub Brings : Counts → ℤ → (List ℕ → Option Kept) → Keyed → Type 0
+Brings counts now at session = (q : List ℕ) → counts q ≡ true → record_in (finmap.get session.jar.originals q) ≡ option_map record_of
     (alive now (at q))
 
-pub brings : (key : List ℕ) (now : ℤ) (ks : List Kept) (header : List ℕ) (session : Keyed) → AreApart ks
-    → Rattle.cookie_run.proofs.HeaderCookies.cookies_of header ≡ map record_of (filter (lives now) ks)
-    → IsOpened key header session → Brings now (found_in ks) session
-brings key now ks header session apart is opened q =
-    opened.holds.originals q ∙ (ap (λ cs. last_in cs q) (cookies_are header opened.cookies opened.read ∙ is)
-    ∙ (last_kept (filter (lives now) ks) q (apart_filter (lives now) ks apart) ∙ ap (option_map record_of)
-    (found_live now ks q apart)))
+pub brings : (counts : Counts) (key : List ℕ) (now : ℤ) (ks : List Kept) (header : List ℕ) (session : Keyed)
+    → AreApart ks → ((q : List ℕ) → counts q ≡ true
+    → last_in (cookies_of header) q ≡ last_in (map record_of (filter (lives now) ks)) q)
+    → IsOpened key header session → Brings counts now (found_in ks) session
+brings counts key now ks header session apart is opened q c =
+    opened.holds.originals q ∙ (ap (λ cs. last_in cs q) (cookies_are header opened.cookies opened.read)
+    ∙ (is q c ∙ (last_kept (filter (lives now) ks) q (apart_filter (lives now) ks apart) ∙ ap (option_map record_of)
+    (found_live now ks q apart))))
 
 pub value_record : (o : Option Kept) → value_in (option_map record_of o) ≡ value_of o
 value_record None = refl
 value_record (Some k) = refl
 
-pub opens : (key : List ℕ) (now : ℤ) (ks : List Kept) (header : List ℕ) (session : Keyed) (site : Site)
-    → Brings now (found_in ks) session → IsOpened key header session
-    → ((q : List ℕ) → MatchesHeld key q (alive now (found_in ks q)) (live_at now (site q)))
-    → Shows key session (live site now)
-opens key now ks header session site brought opened each = record {
+pub opens : (counts : Counts) (key : List ℕ) (now : ℤ) (ks : List Kept) (header : List ℕ) (session : Keyed) (site : Site)
+    → Brings counts now (found_in ks) session → IsOpened key header session
+    → ((q : List ℕ) → counts q ≡ true → MatchesHeld key q (alive now (found_in ks q)) (live_at now (site q)))
+    → Shows counts key session (live site now)
+opens counts key now ks header session site brought opened each = record {
   key_is = opened.key_is;
   named = λ q. subst (λ (o : Option Seen). IfSome o (λ s. s.cookie.name ≡ q))
       (sym (view_original session.jar q opened.holds.changes))
       (seen_named (finmap.get session.jar.originals q) q (subst (λ (o : Option Record). IfSome o (λ c. c.name ≡ q))
       (sym (opened.holds.originals q)) (last_named opened.cookies q)));
-  each = λ q. subst (λ (o : Option (List ℕ)). Matches key q o (entry_in (live_at now (site q))))
+  each = λ q c. subst (λ (o : Option (List ℕ)). Matches key q o (entry_in (live_at now (site q))))
       (sym (ap (λ o. value_in (record_in o)) (view_original session.jar q opened.holds.changes)
-      ∙ (ap value_in (brought q) ∙ value_record (alive now (found_in ks q)))))
-      (matches_view key q (alive now (found_in ks q)) (live_at now (site q)) (each q));
+      ∙ (ap value_in (brought q c) ∙ value_record (alive now (found_in ks q)))))
+      (matches_view key q (alive now (found_in ks q)) (live_at now (site q)) (each q c));
 }
 
 -- ---- what it closes with
@@ -154,31 +160,75 @@ sent_at d (Some (Added s)) o = alive d (Some (kept_of d s.cookie))
 sent_at d (Some (Removed s)) o = None
 sent_at d None o = alive d o
 
+-- what it was opened with has names that are text
+abbrev pub AreTexts : Keyed → Type 0
+AreTexts session = (q : List ℕ) (s : Seen) → finmap.get session.jar.originals q ≡ Some s → IsUtf8 q
+
+abbrev IsTextNamed : Record → Type 0
+IsTextNamed c = IsUtf8 c.name
+
+text_given : (piece : List ℕ) (o : Option Record) → Gives piece o → IfSome o IsTextNamed
+text_given piece None g = tt
+text_given piece (Some c) g =
+    subst (λ (r : Record). IsUtf8 r.name) g.1.2
+    (subst IsUtf8 (sym g.1.1.decoded.name) (g.1.1.accepted refl).1.0)
+
+text_front : (o : Option Record) (rest : List Record) → IfSome o IsTextNamed → AllByRecursion IsTextNamed rest
+    → AllByRecursion IsTextNamed (option_to_list o ++ rest)
+text_front None rest h all = all
+text_front (Some c) rest h all = (h, all)
+
+texts_given : (pieces : List (List ℕ)) (cs : List Record) → Give pieces cs → AllByRecursion IsTextNamed cs
+texts_given [] cs g = subst (AllByRecursion IsTextNamed) (sym g) tt
+texts_given (piece ∷ later) cs g =
+    subst (AllByRecursion IsTextNamed) (sym g.4)
+    (text_front g.0 g.1 (text_given piece g.0 g.2) (texts_given later g.1 g.3))
+
+last_text : (cs : List Record) (q : List ℕ) → AllByRecursion IsTextNamed cs
+    → IfSome (last_in cs q) IsTextNamed
+last_text [] q h = tt
+last_text (c ∷ cs) q h = either (last_in cs q) (bytes_eq q c.name) (last_text cs q h.1)
+  where
+    either : (o : Option Record) (b : Bool) → IfSome o IsTextNamed
+        → IfSome (option_or o (cond b (Some c) None)) IsTextNamed
+    either (Some d) b g = g
+    either None true g = h.0
+    either None false g = tt
+
+opened_texts : (key header : List ℕ) (session : Keyed) → IsOpened key header session → AreTexts session
+opened_texts key header session opened q s is =
+    let last : last_in opened.cookies q ≡ Some s.cookie = sym (opened.holds.originals q) ∙ ap record_in is in
+    subst IsUtf8 (subst (λ (o : Option Record). IfSome o (λ c. c.name ≡ q)) last (last_named opened.cookies q))
+    (subst (λ (o : Option Record). IfSome o IsTextNamed) last
+    (last_text opened.cookies q (texts_given _ opened.cookies opened.read)))
+
 -- A session at its commands: it shows what the request reads, and would leave the site so, were its answer delivered
 -- at d.
-pub record Walks (key : List ℕ) (now d : ℤ) (at : List ℕ → Option Kept) (session : Keyed) (view : View)
-    (left : Site) : Type 0 where
-  pub shows : Shows key session view
-  pub brought : Brings now at session
+pub record Walks (counts : Counts) (key : List ℕ) (now d : ℤ) (at : List ℕ → Option Kept) (session : Keyed)
+    (view : View) (left : Site) : Type 0 where
+  pub shows : Shows counts key session view
+  pub texts : AreTexts session
+  pub brought : Brings counts now at session
   pub readable : IsReadableJar session.jar
   pub fit : AllFit session.jar.changes
-  pub leaves : (q : List ℕ) → MatchesHeld key q (sent_at d (finmap.get session.jar.changes q) (at q))
+  pub leaves : (q : List ℕ) → counts q ≡ true → MatchesHeld key q (sent_at d (finmap.get session.jar.changes q) (at q))
       (live_at d (left q))
 
-pub opened_walks : (key : List ℕ) (now d : ℤ) (ks : List Kept) (header : List ℕ) (session : Keyed) (site : Site)
-    → now ≤ℤ d → Brings now (found_in ks) session → IsOpened key header session
-    → ((q : List ℕ) → MatchesHeld key q (alive now (found_in ks q)) (live_at now (site q)))
-    → Walks key now d (found_in ks) session (live site now) site
-opened_walks key now d ks header session site after brought opened each =
+pub opened_walks : (counts : Counts) (key : List ℕ) (now d : ℤ) (ks : List Kept) (header : List ℕ) (session : Keyed) (site : Site)
+    → now ≤ℤ d → Brings counts now (found_in ks) session → IsOpened key header session
+    → ((q : List ℕ) → counts q ≡ true → MatchesHeld key q (alive now (found_in ks q)) (live_at now (site q)))
+    → Walks counts key now d (found_in ks) session (live site now) site
+opened_walks counts key now d ks header session site after brought opened each =
     let none : (q : List ℕ) → finmap.get session.jar.changes q ≡ None = λ q. ap (λ m. finmap.get m q)
     opened.holds.changes ∙ none_at q in
     record {
-      shows = opens key now ks header session site brought opened each;
+      shows = opens counts key now ks header session site brought opened each;
+      texts = opened_texts key header session opened;
       brought = brought;
       readable = opened_each IsReadable opened.cookies session.jar opened.holds;
       fit = λ q change is. absurd (some_is_not_none change (sym is ∙ none q));
-      leaves = λ q. subst (λ o. MatchesHeld key q (sent_at d o (found_in ks q)) (live_at d (site q))) (sym (none q))
-          (matches_later key q now d (found_in ks q) (site q) after (each q));
+      leaves = λ q c. subst (λ o. MatchesHeld key q (sent_at d o (found_in ks q)) (live_at d (site q))) (sym (none q))
+          (matches_later key q now d (found_in ks q) (site q) after (each q c));
     }
 
 -- ---- a set
@@ -204,18 +254,18 @@ kept_fit May key way s kept law name value age readable k =
     }
   where
     of : IsSent (sent s).cookie
-    of = record { path = refl; domain = refl; age = age }
+    of = record { secure = refl; path = refl; domain = refl; age = age }
 
     as_sent : (way : Way) → IsKeptAs May key way (sent s) kept → IsSent kept.cookie
     as_sent ways.Plain k = subst (λ (x : Seen). IsSent x.cookie) (sym k) of
     as_sent ways.Host k = subst (λ (x : Seen). IsSent x.cookie) (sym k)
-        (record { path = refl; domain = refl; age = age })
+        (record { secure = refl; path = refl; domain = refl; age = age })
     as_sent ways.Secure k = subst (λ (x : Seen). IsSent x.cookie) (sym k)
-        (record { path = refl; domain = refl; age = age })
+        (record { secure = refl; path = refl; domain = refl; age = age })
     as_sent ways.Signed k = subst (λ (x : Seen). IsSent x.cookie) (sym k)
-        (record { path = refl; domain = refl; age = age })
+        (record { secure = refl; path = refl; domain = refl; age = age })
     as_sent ways.Sealed k = subst (λ (x : Seen). IsSent x.cookie) (sym k.2.3)
-        (record { path = refl; domain = refl; age = age })
+        (record { secure = refl; path = refl; domain = refl; age = age })
 
 pub kept_death : (May : List ℕ → Type 0) (key : List ℕ) (d : ℤ) (way : Way) (s kept : Seen)
     → IsKeptAs May key way (sent s) kept → death (normal kept.cookie) d ≡ death (normal s.cookie) d
@@ -273,11 +323,11 @@ set_leaves key d way s kept q stands same e =
       same,
     ))
 
-pub set_walks : (key : List ℕ) (now d : ℤ) (at : List ℕ → Option Kept) (old new : Keyed) (view : View) (left : Site)
-    (way : Way) (s : Seen) → OnlyOne key → Walks key now d at old view left → Sets any_nonce old way s new
-    → Walks key now d at new (with_at view (stored_name way s.cookie.name) (Some (entry_of way s.cookie)))
+pub set_walks : (counts : Counts) (key : List ℕ) (now d : ℤ) (at : List ℕ → Option Kept) (old new : Keyed) (view : View) (left : Site)
+    (way : Way) (s : Seen) → OnlyOne key → Walks counts key now d at old view left → Sets any_nonce old way s new
+    → Walks counts key now d at new (with_at view (stored_name way s.cookie.name) (Some (entry_of way s.cookie)))
     (left_by d left (Set way s))
-set_walks key now d at old new view left way s law w sets =
+set_walks counts key now d at old new view left way s law w sets =
     let kept : Seen = sets.keeps.0 in
     let n : List ℕ = stored_name way s.cookie.name in
     let as_kept : IsKeptAs any_nonce key way (sent s) kept = subst (λ (k : List ℕ). IsKeptAs any_nonce k way (sent s)
@@ -287,13 +337,14 @@ set_walks key now d at old new view left way s law w sets =
     (then_none _ (is_too_long way s.cookie.name s.cookie.value) sets.accepted).0 as_kept in
     let stands = kept_stands any_nonce key way (sent s) kept sets.value as_kept in
     record {
-      shows = set_shows key old new view way s w.shows sets;
-      brought = λ q. ap (λ (j : Jar). record_in (finmap.get j.originals q)) sets.keeps.2 ∙ w.brought q;
+      shows = set_shows counts key old new view way s w.shows sets;
+      texts = λ q x is. w.texts q x (sym (ap (λ (j : Jar). finmap.get j.originals q) sets.keeps.2) ∙ is);
+      brought = λ q c. ap (λ (j : Jar). record_in (finmap.get j.originals q)) sets.keeps.2 ∙ w.brought q c;
       readable = subst IsReadableJar (sym sets.keeps.2) (changed_each IsReadable old.jar kept.cookie.name (Added kept)
           w.readable readable);
       fit = subst (λ (j : Jar). AllFit j.changes) (sym sets.keeps.2) (insert_fit old.jar.changes kept.cookie.name
           (Added kept) w.fit (kept_fit any_nonce key way s kept law sets.name sets.value sets.age readable as_kept));
-      leaves = λ q.
+      leaves = λ q c.
           let changed : finmap.get new.jar.changes q ≡ cond (bytes_eq q n) (Some (Added kept))
           (finmap.get old.jar.changes q) =
           ap (λ (j : Jar). finmap.get j.changes q) sets.keeps.2
@@ -307,5 +358,5 @@ set_walks key now d at old new view left way s law w sets =
           (sent_at d (finmap.get old.jar.changes q) (at q))) x)
           (sym (live_cond d (bytes_eq q n) (held_from d way s.cookie) (left q)))
           (held_cond key q (bytes_eq q n) _ _ _ _
-          (set_leaves key d way s kept q stands (kept_death any_nonce key d way s kept as_kept)) (w.leaves q))));
+          (set_leaves key d way s kept q stands (kept_death any_nonce key d way s kept as_kept)) (w.leaves q c))));
     }

@@ -1,6 +1,6 @@
 -- A session's cookies: what its header brought (RFC 6265, section 4.2.1), what was set and removed since, and the
 -- `Set-Cookie` lines of it (section 4.1.1). Names, signings and sealings by way are own: docs/DEFINITIONS.md.
-use Rattle.std.specs.Prelude.{◌≡◌, ℕ, List, [], ◌∷◌, codes, map, Option, Some, None, option_map, IfSome, Result}
+use Rattle.std.specs.Prelude.{◌≡◌, ℕ, List, [], ◌∷◌, codes, map, Option, Some, None, option_map, IfSome, Result, true}
 use Rattle.std.specs.Prelude.{if◌then◌else◌}
 use Rattle.std.specs.Option.{option_or}
 use Rattle.std.specs.List.{AllByRecursion}
@@ -122,10 +122,11 @@ pub record TakesOut (old : Keyed) (way : Way) (name : List ℕ) (now : DateTime)
 
 -- ---- closing
 
--- a cookie as a session closes with it: text under a name that isn't empty, with the path `/` and no domain
+-- a cookie as a session closes with it: text under a name that isn't empty, Secure, with the path `/` and no domain
 pub record IsSent (c : Record) : Type 0 where
   pub name : IsUtf8 c.name
   pub value : IsUtf8 c.value
+  pub secure : c.secure ≡ Some true
   pub path : c.path ≡ Some (codes "/")
   pub domain : c.domain ≡ None
   pub age : IfSome c.max_age IsDurationNanos

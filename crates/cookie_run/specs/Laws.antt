@@ -13,9 +13,11 @@ use Rattle.cookie_run.specs.declared.step.FaultKind.{FaultKind}
 use Rattle.cookie_run.specs.declared.step.Reading.{Reading}
 use Rattle.cookie_run.specs.Accept.{Accepts, Takes}
 use Rattle.cookie_run.specs.declared.step.LineEnd.{LineEnd}
-use Rattle.cookie_run.specs.declared.step.LineEnd.TheVariants.{Stored, Refused, NotText}
+use Rattle.cookie_run.specs.declared.step.LineEnd.TheVariants.{Stored, Refused, NotText, HostPrefix}
 use Rattle.cookie_run.specs.Acts.{Act, moments_of}
 use Rattle.cookie_run.specs.Headline.{IsSite, EachReadsOn, SitesReadTheirOwn, SitesReadTheirOwnUntil}
+use Rattle.cookie_run.specs.HostHeadline.{HostsReadTheirOwn, HostsReadTheirOwnUntil}
+use Rattle.cookie_run.specs.HostLines.{SettersReadTheirOwn, SettersReadTheirOwnUntil}
 use Rattle.cookie_run.specs.Play.{Plays, IsRun, IsRunUntil}
 use Rattle.cookie_run.specs.Brought.{BringsSite}
 use Rattle.cookie_run.specs.Site.{Site, nothing, live}
@@ -33,6 +35,28 @@ abbrev pub EachStoppedPlayIsRead : List ℕ → Type 0
 EachStoppedPlayIsRead key =
     (list : List Rule) (acts : List Act) (step : ℕ) (kind : FaultKind) (readings : List Reading)
     → IsRunUntil list key acts step kind readings → SitesReadTheirOwnUntil list acts step kind readings
+
+-- and by `__Host-` each host reads its own, whatever the others answer
+abbrev pub EachPlayIsReadByHost : List ℕ → Type 0
+EachPlayIsReadByHost key =
+    (list : List Rule) (acts : List Act) (readings : List Reading) → AllFollow the_beginning (moments_of acts)
+    → IsRun list key acts readings → HostsReadTheirOwn acts readings
+
+abbrev pub EachStoppedPlayIsReadByHost : List ℕ → Type 0
+EachStoppedPlayIsReadByHost key =
+    (list : List Rule) (acts : List Act) (step : ℕ) (kind : FaultKind) (readings : List Reading)
+    → IsRunUntil list key acts step kind readings → HostsReadTheirOwnUntil acts step kind readings
+
+-- so does each host that sets its `__Host-` cookies alone by sessions
+abbrev pub EachPlayIsReadBySetters : List ℕ → Type 0
+EachPlayIsReadBySetters key =
+    (list : List Rule) (acts : List Act) (readings : List Reading) → AllFollow the_beginning (moments_of acts)
+    → IsRun list key acts readings → SettersReadTheirOwn acts readings
+
+abbrev pub EachStoppedPlayIsReadBySetters : List ℕ → Type 0
+EachStoppedPlayIsReadBySetters key =
+    (list : List Rule) (acts : List Act) (step : ℕ) (kind : FaultKind) (readings : List Reading)
+    → IsRunUntil list key acts step kind readings → SettersReadTheirOwnUntil acts step kind readings
 
 -- and what a play that ended left, its sites' requests are brought
 abbrev pub RowsAreTheSites : List ℕ → Type 0
@@ -61,6 +85,7 @@ abbrev pub IsStored : LineEnd → Type 0
 IsStored (Stored action) = ⊤
 IsStored (Refused cause) = ⊥
 IsStored NotText = ⊥
+IsStored HostPrefix = ⊥
 
 abbrev pub RefusedLinesChangeNothing : Type 0
 RefusedLinesChangeNothing =

@@ -1,5 +1,6 @@
 pub mod Reading
 pub mod Hosts
+pub mod HostPrefix
 pub mod Accept
 pub mod Header
 pub mod Acts
@@ -11,6 +12,8 @@ pub mod Jar
 pub mod Readings
 pub mod Play
 pub mod Headline
+pub mod HostHeadline
+pub mod HostLines
 pub mod Brought
 pub mod Sent
 pub mod Laws
@@ -19,6 +22,7 @@ pub mod KeepingLaws
 pub mod KeptKeys
 pub mod Once
 pub mod Strangers
+pub mod HostRows
 pub mod ScriptMoment
 pub mod ScriptLine
 pub mod ScriptText

@@ -15,16 +15,17 @@ use Rattle.saved_text.specs.RonLayout.{ron_layout}
 use Rattle.saved_text.specs.RonReading.{ShowsOnly}
 use Rattle.store_parts.specs.declared.error.Error.{Error}
 use Rattle.store_parts.specs.declared.error.Error.TheVariants.{Io, OutOfMemory}
+use Rattle.cookie_store.specs.Given.{ArePicked}
 use Rattle.cookie_store.specs.Placing.{saved}
 use Rattle.cookie_store.specs.Rows.{Row, Store}
 use Rattle.cookie_store.specs.SavedTexts.{Saves, Loads, IsAnyBeforeYears, IsRonRefusal}
+use Rattle.cookie_run.specs.HostPrefix.{IsHeldRightly}
 use Rattle.cookie_run.specs.ScriptMoment.{moment_of}
 use Rattle.cookie_run.specs.ScriptText.{Runs}
 use Rattle.cookie_run.specs.declared.program.failure.Failure.{Failure}
 use Rattle.cookie_run.specs.declared.program.failure.Failure.TheVariants.{Arguments, Seed, Moment, SuffixFile}
 use Rattle.cookie_run.specs.declared.program.failure.Failure.TheVariants.{SuffixList, StoreFile, StoreText, Input}
 use Rattle.cookie_run.specs.declared.program.failure.Failure.TheVariants.{Output, Memory}
-use Rattle.cookie_run.specs.declared.script.ended.Ended.{Ended}
 use Rattle.cookie_run.specs.declared.script.ended.Ended.TheVariants.{Whole, Faulty}
 
 -- ---- the words
@@ -71,10 +72,12 @@ failure_text Memory = codes "memory"
 abbrev pub IsNoList : List ℕ → Type 0
 IsNoList text = (¬ IsUtf8 text) ⊎ ((number : ℕ) × HasFirstFault text number)
 
--- the rows of a saved text that aren't expired at this moment, or none where there is no store file
+-- the rows of a saved text that aren't expired at this moment, but for those that are against the prefix `__Host-`, or
+-- none where there is no store file
 abbrev pub AreLoaded : ℤ → Option (List ℕ) → List Row → Type 0
 AreLoaded at None rows = rows ≡ []
-AreLoaded at (Some text) rows = (loaded : Store) × Loads ShowsOnly false at text loaded × (rows ≡ loaded.rows)
+AreLoaded at (Some text) rows = (loaded : Store) × Loads ShowsOnly false at text loaded
+    × ArePicked IsHeldRightly loaded.rows rows
 
 -- the text is no saved text
 abbrev pub IsNoStore : List ℕ → Type 0

@@ -1,4 +1,5 @@
 //! What holds of every play on the rows of a store (RFC 6265, sections 5.2 to 5.4).
+ghost use Rattle.cookie_run.specs.HostRows as rows;
 ghost use Rattle.cookie_run.specs.KeepingLaws as kept;
 ghost use Rattle.cookie_run.specs.KeptKeys.{RestartsKeepKeys, SavesButForMemory};
 ghost use Rattle.cookie_run.specs.Laws as law;
@@ -8,7 +9,7 @@ ghost use Rattle.cookie_run.specs.Strangers as stranger;
 use cookie::Key;
 use cookie::laws::{one_value, texts_are_utf8};
 use cookie_text::laws::{
-    encoded_records_read_back, joined_pairs_split, one_outcome, pairs_read_again,
+    bound_read_again, encoded_records_read_back, joined_pairs_split, one_outcome, pairs_read_again,
 };
 
 /// At each of its https requests a site reads, in the way it was set, what its own delivered
@@ -17,6 +18,23 @@ use cookie_text::laws::{
 pub fn sites_read_their_own(key: &Key)
     ensures whole { law.EachPlayIsRead key.now }
     ensures until { law.EachStoppedPlayIsRead key.now }
+{
+    encoded_records_read_back();
+    pairs_read_again();
+    one_value();
+    texts_are_utf8();
+    let _ = key.encryption();
+}
+
+/// By `__Host-` each host reads that at its https requests, whatever other hosts answer, those that share
+/// a parent domain with it too, and whatever is answered in its name over another scheme. `until` says it
+/// as far as a play came that stopped. `setters` and `setters_until` ask less of the host: at https it may
+/// answer without a session, with lines that don't read as cookies whose decoded name begins so.
+pub fn hosts_read_their_own(key: &Key)
+    ensures whole { law.EachPlayIsReadByHost key.now }
+    ensures until { law.EachStoppedPlayIsReadByHost key.now }
+    ensures setters { law.EachPlayIsReadBySetters key.now }
+    ensures setters_until { law.EachStoppedPlayIsReadBySetters key.now }
 {
     encoded_records_read_back();
     pairs_read_again();
@@ -117,4 +135,18 @@ pub fn strangers_dont_show()
 {
     one_outcome();
     cookie_store::laws();
+}
+
+/// Every row that a client holds whose name, percent-decoded, begins with `__Host-` is of one host
+/// alone, of the path `/` from an attribute, and its cookie conforms to the prefix: an answer keeps that
+/// so, a restart does, and so every play. Loading drops none of the rows that were saved of a client.
+pub fn host_rows_are_held_rightly()
+    ensures answers { rows.AnswersHoldRightly }
+    ensures restarts { rows.RestartsHoldRightly }
+    ensures saved { rows.SavedRowsHoldRightly }
+    ensures plays { rows.PlaysHoldRightly }
+{
+    pairs_read_again();
+    bound_read_again();
+    saved_rows_are_kept();
 }

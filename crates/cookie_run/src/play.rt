@@ -16,11 +16,12 @@ ghost use Rattle.cookie_run.specs.Play.{OneStep, Delivers, ReadsFront, ReadsAll}
 ghost use Rattle.cookie_run.specs.Readings.{MayRead, NeedsNoNonce, ActNeedsNoNonce};
 ghost use Rattle.cookie_run.specs.Site.{set_refusal};
 ghost use Rattle.cookie_run.specs.Headline.{SitesReadTheirOwn, SitesReadTheirOwnUntil};
+ghost use Rattle.cookie_run.specs.HostHeadline.{HostsReadTheirOwn, HostsReadTheirOwnUntil};
 ghost use Rattle.cookie_run.specs.Standing.{TellsAll, TellsFront};
 ghost use Rattle.cookie_run.specs.Strangers.{StrangersDontShow, StrangersDontShowUntil};
 
 use crate::client::Client;
-use crate::laws::{sites_read_their_own, strangers_dont_show};
+use crate::laws::{hosts_read_their_own, sites_read_their_own, strangers_dont_show};
 use crate::moment::{beginning, come_to};
 use crate::session::{Session, copy_of};
 use crate::step::{Command, Delivery, Fault, FaultKind, Reading, SessionError, Step, Way};
@@ -60,6 +61,9 @@ pub fn play<R: TryRng>(
         IsRunUntil list key.now (acts_of steps.now) fault.step fault.kind fault.readings.items) }
     ensures sites_until { IfErr result (λ fault.
         SitesReadTheirOwnUntil list (acts_of steps.now) fault.step fault.kind fault.readings.items) }
+    ensures hosts { IfOk result (λ readings. HostsReadTheirOwn (acts_of steps.now) readings.items) }
+    ensures hosts_until { IfErr result (λ fault.
+        HostsReadTheirOwnUntil (acts_of steps.now) fault.step fault.kind fault.readings.items) }
     ensures strangers { IfOk result (λ readings.
         StrangersDontShow list key.now (acts_of steps.now) readings.items) }
     ensures strangers_until { IfErr result (λ fault.
@@ -69,6 +73,7 @@ pub fn play<R: TryRng>(
     ensures unasked { AllByRecursion ActNeedsNoNonce (acts_of steps.now) → rng.new ≡ rng.old }
 {
     sites_read_their_own(key);
+    hosts_read_their_own(key);
     strangers_dont_show();
     let mut client = Client::new(alloc, list);
     let mut last = beginning();

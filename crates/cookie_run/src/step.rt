@@ -134,6 +134,9 @@ pub enum LineEnd {
     Refused(CookieError),
     /// It isn't UTF-8, and nothing changed.
     NotText,
+    /// Its name, percent-decoded, begins with `__Host-`, and it isn't all of this: received over
+    /// https, `Secure`, of `Path=/`, and without Domain. Nothing changed.
+    HostPrefix,
 }
 
 /// Memory was refused at this line, counted from 1. The lines before it are applied and no later

@@ -19,3 +19,4 @@ pub mod ReadingFacts
 pub mod PairsBack
 pub mod OneOutcome
 pub mod PairsAgain
+pub mod BoundAgain

@@ -34,13 +34,13 @@ pub record ReadsAs (a : Attribute) : Type 0 where
   pub gives : Gives (32 ∷ attribute_text a) (settled a)
 
 -- a text without a semicolon, by its test
-clean_of : (text : List ℕ) → list_all (λ b. not (b == 59)) text ≡ true → IsClean text
+pub clean_of : (text : List ℕ) → list_all (λ b. not (b == 59)) text ≡ true → IsClean text
 clean_of [] h = All-nil (λ b. (b == semicolon) ≡ false)
 clean_of (b ∷ bs) h =
     let p = and_parts (not (b == 59)) (list_all (λ b. not (b == 59)) bs) h in
     All-cons (λ b. (b == semicolon) ≡ false) b bs (grind (arith, nat_tests, p.0)) (clean_of bs p.1)
 
-clean_join : (a b : List ℕ) → IsClean a → IsClean b → IsClean (a ++ b)
+pub clean_join : (a b : List ℕ) → IsClean a → IsClean b → IsClean (a ++ b)
 clean_join a b ha hb = All-append (λ b. (b == semicolon) ≡ false) a b ha hb
 
 pub reads-HttpOnly : ReadsAs HttpOnly

@@ -45,7 +45,7 @@ all_read [] h = tt
 all_read (None ∷ os) h = all_read os h
 all_read (Some a ∷ os) h = (h.0, all_read os h.1)
 
-all_clean : (os : List (Option Attribute)) → AllThere (λ a. IsClean (attribute_text a)) os → AreClean (pieces_of os)
+pub all_clean : (os : List (Option Attribute)) → AllThere (λ a. IsClean (attribute_text a)) os → AreClean (pieces_of os)
 all_clean [] h = tt
 all_clean (None ∷ os) h = all_clean os h
 all_clean (Some a ∷ os) h =

@@ -78,13 +78,13 @@ drop_last (b ∷ bs) last h =
     off true = refl
     off false = refl
 
-quiet_name : (n : ℕ) → IsInRange 1 7 n → list_all is_quiet (day_name n) ≡ true
+pub quiet_name : (n : ℕ) → IsInRange 1 7 n → list_all is_quiet (day_name n) ≡ true
 quiet_name n h = agree_below_at (λ k. list_all is_quiet (day_name k)) (λ _. true) 8 n refl (omega arith)
 
-quiet_month : (n : ℕ) → IsInRange 1 12 n → list_all is_quiet (month_name n) ≡ true
+pub quiet_month : (n : ℕ) → IsInRange 1 12 n → list_all is_quiet (month_name n) ≡ true
 quiet_month n h = agree_below_at (λ k. list_all is_quiet (month_name k)) (λ _. true) 13 n refl (omega arith)
 
-quiet_two : (n : ℕ) → n < 100 → list_all is_quiet (two_digits n) ≡ true
+pub quiet_two : (n : ℕ) → n < 100 → list_all is_quiet (two_digits n) ≡ true
 quiet_two n h = agree_below_at (λ k. list_all is_quiet (two_digits k)) (λ _. true) 100 n refl h
 
 quiet_digits : (ds : List ℕ) → list_all is_ascii_digit ds ≡ true → list_all is_quiet ds ≡ true

@@ -1,12 +1,13 @@
 -- What the printed text of a cookie that was read reads as (RFC 6265, section 5.2).
-use Rattle.std.specs.Prelude.{◌≡◌, ◌≢◌, ◌<◌, ℕ, List, length, Result, Ok, IfOk, IsOk}
+use Rattle.std.specs.Prelude.{◌≡◌, ◌≢◌, ◌<◌, ℕ, List, length, true, Some, None, Result, Ok, IfOk, IsOk}
 use Rattle.std.specs.List.{AllByRecursion}
 use Rattle.std.specs.Str.{IsUtf8, trim}
 use Rattle.cookie_text.specs.declared.error.ParseError.{ParseError}
+use Rattle.cookie_text.specs.Normal.{IsPiece}
 use Rattle.cookie_text.specs.Pieces.{equals, semicolon}
 use Rattle.cookie_text.specs.Printing.{printed}
 use Rattle.cookie_text.specs.Reading.{ReadsPlain}
-use Rattle.cookie_text.specs.Record.{Record, Seen}
+use Rattle.cookie_text.specs.Record.{Record, Seen, domain_of}
 
 -- no byte of the text is this one
 abbrev pub Lacks : ℕ → List ℕ → Type 0
@@ -37,3 +38,15 @@ abbrev pub PairsReadAgain : Type 0
 PairsReadAgain =
     (r : Record) (outcome : Result Seen ParseError) → IsReadPair r.name r.value → ReadsPlain (printed r) outcome
     → ReadsSamePair r outcome
+
+-- the cookie is Secure, and has this path and no Domain
+pub record IsBoundTo (text : List ℕ) (c : Record) : Type 0 where
+  pub secure : c.secure ≡ Some true
+  pub path : c.path ≡ Some text
+  pub domain : domain_of c ≡ None
+
+-- and such a cookie reads so again from its printed text, whatever other attributes it has
+abbrev pub BoundReadAgain : Type 0
+BoundReadAgain =
+    (path : List ℕ) (r : Record) (s : Seen) → IsPiece path → IsReadPair r.name r.value → IsBoundTo path r
+    → ReadsPlain (printed r) (Ok s) → IsBoundTo path s.cookie

@@ -1,6 +1,6 @@
 -- What a text reads as where name and value are percent-decoded (RFC 3986, section 2.1).
-use Rattle.std.specs.Prelude.{◌≡◌, ◌↔◌, ℕ, List, [], Some, None, Result, IfOk, IsOk, IsErrOf, IsOkUnless, MatchResult}
-use Rattle.std.specs.Prelude.{Err}
+use Rattle.std.specs.Prelude.{◌≡◌, ◌↔◌, ◌++◌, ℕ, List, [], Some, None, Result, IfOk, IsOk, IsErrOf, IsOkUnless}
+use Rattle.std.specs.Prelude.{MatchResult, Err}
 use Rattle.std.specs.Str.{IsUtf8}
 use Rattle.percent_encoding.specs.Percent.{percent_decode}
 use Rattle.cookie_text.specs.declared.error.ParseError.{ParseError}
@@ -12,6 +12,10 @@ use Rattle.cookie_text.specs.Reading.{HasSlices, HasRest, IsPair, first_piece, R
 -- decoding changes neither of the two
 abbrev pub IsUndecoded : List ℕ → List ℕ → Type 0
 IsUndecoded name value = (percent_decode name ≡ name) × (percent_decode value ≡ value)
+
+-- the name, decoded, begins with the text: `%5F%5FHost-a` with `__Host-`
+abbrev pub DecodedBegins : List ℕ → List ℕ → Type 0
+DecodedBegins name text = (rest : List ℕ) × (percent_decode name ≡ text ++ rest)
 
 -- both are UTF-8 when they are decoded
 abbrev pub AreUtf8 : List ℕ → List ℕ → Type 0

@@ -1,7 +1,9 @@
 //! The cookie itself: what it holds, and how it is made and read out.
-ghost use Rattle.std.specs.Prelude.{◌≡◌, ℕ, List, [], Some, None, IfOk, option_copied, option_map, string_bytes};
+ghost use Rattle.std.specs.Prelude.{◌≡◌, ◌↔◌, ℕ, List, [], Some, None, IfOk, IsTrue, option_copied, option_map};
+ghost use Rattle.std.specs.Prelude.{string_bytes};
 ghost use Rattle.jiff.specs.Words.{signed_nanos};
 ghost use Rattle.cookie_text.specs.AttributeView.{attribute_view};
+ghost use Rattle.cookie_text.specs.Decoding.{DecodedBegins};
 ghost use Rattle.cookie_text.specs.PartText.{part_text, raw_text};
 ghost use Rattle.cookie_text.specs.Record.{bare, unsliced, domain_of, without_dot, moment_of, IsUnquoted};
 ghost use Rattle.cookie_text.specs.Steps.{with_attribute, with_slice};
@@ -12,6 +14,7 @@ mod setters;
 
 use crate::attribute::Attribute;
 use crate::builder::CookieBuilder;
+use crate::decode::decoded_begins;
 use crate::draft::SameSite;
 use crate::expiration::Expiration;
 use crate::part::Part;
@@ -123,6 +126,14 @@ impl<'c> Cookie<'c> {
         ensures { result.now ≡ self.now.cookie.name }
     {
         self.name.as_str()
+    }
+
+    /// Whether the name, percent-decoded, begins with the text's bytes; the case of letters counts.
+    /// No memory is taken.
+    pub fn decoded_name_begins(&self, text: &str) -> bool
+        ensures { IsTrue result ↔ DecodedBegins self.now.cookie.name text.now }
+    {
+        decoded_begins(self.name(), text.as_bytes())
     }
 
     /// The value.

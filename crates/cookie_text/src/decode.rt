@@ -1,5 +1,6 @@
 //! Percent-decoding of name and value (RFC 3986, section 2.1).
-ghost use Rattle.std.specs.Prelude.{◌≡◌, Some, None, option_map, unwrap_or, string_bytes};
+ghost use Rattle.std.specs.Prelude.{◌≡◌, ◌↔◌, Some, None, IsTrue, option_map, unwrap_or, string_bytes};
+ghost use Rattle.cookie_text.specs.Decoding.{DecodedBegins};
 ghost use Rattle.cookie_text.specs.PartText.{part_text, raw_text};
 ghost use Rattle.cookie_text.specs.Steps.{Decodes, DecodesPair};
 
@@ -30,6 +31,19 @@ pub fn decoded_pair<'c>(
             Ok((Part::Own(decoded_name), Part::Own(decoded_value)))
         }
     }
+}
+
+/// Whether the text, percent-decoded, begins with these bytes.
+pub fn decoded_begins(text: &str, front: &[u8]) -> bool
+    ensures { IsTrue result ↔ DecodedBegins text.now front.now }
+{
+    let mut decoded = percent_decode(text.as_bytes());
+    for byte in front {
+        if decoded.next() != Some(*byte) {
+            return false;
+        }
+    }
+    true
 }
 
 // The text percent-decoded, where that changes it.

@@ -1,7 +1,7 @@
 //! Laws that join reading and printing. Each function changes nothing: its contract is the law.
 ghost use Rattle.std.specs.Prelude.{ℕ, ◌≡◌, ◌<◌, List, All, Result, Ok, length, true, IsTrue, IfSome};
 ghost use Rattle.jiff_core.specs.Timestamp.{IsDurationNanos};
-ghost use Rattle.cookie_text.specs.Again.{TextsGivePairs, PairsReadAgain};
+ghost use Rattle.cookie_text.specs.Again.{BoundReadAgain, TextsGivePairs, PairsReadAgain};
 ghost use Rattle.cookie_text.specs.declared.error.ParseError.{ParseError as Refusals};
 ghost use Rattle.cookie_text.specs.Decoding.{ReadsEncoded};
 ghost use Rattle.cookie_text.specs.Normal.{IsReadable};
@@ -43,6 +43,13 @@ pub fn one_outcome()
 pub fn pairs_read_again()
     ensures read { TextsGivePairs }
     ensures again { PairsReadAgain }
+{}
+
+/// A cookie that is Secure, with a path and without Domain, reads so again from its printed text,
+/// whatever other attributes it has: where name and value are as a text gives them, and the path holds
+/// no semicolon and no white space at an end.
+pub fn bound_read_again()
+    ensures { BoundReadAgain }
 {}
 
 /// A text shows one date at most, whatever form it has.

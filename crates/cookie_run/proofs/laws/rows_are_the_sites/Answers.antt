@@ -21,5 +21,6 @@ returns c =
       only = one;
       utf8 = line_utf8;
       again = c.pairs_read_again.ensures.again;
+      given = c.pairs_read_again.ensures.read;
     } in
     sites_brought c.args.key.now laws ends_late c.joined_pairs_split.ensures

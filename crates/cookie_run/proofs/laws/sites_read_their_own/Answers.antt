@@ -21,6 +21,7 @@ returns-clause-whole c =
       only = one;
       utf8 = line_utf8;
       again = c.pairs_read_again.ensures.again;
+      given = c.pairs_read_again.ensures.read;
     } in
     sites_read c.args.key.now laws ends_late
 
@@ -40,5 +41,6 @@ returns-clause-until c =
       only = one;
       utf8 = line_utf8;
       again = c.pairs_read_again.ensures.again;
+      given = c.pairs_read_again.ensures.read;
     } in
     sites_read_until c.args.key.now laws ends_late

@@ -33,6 +33,13 @@ returns-in-Err-clause-sites_until g c =
     c.loop-i.readings.items c.act.new.readings.items (civil_nanos c.loop-i.last) c.in-Err.kind
     c.loop-i-test.true c.index-steps-i.is c.loop-i.invariant.before c.in-Err.ensures.err)
 
+pub returns-in-Err-clause-hosts_until : goal.returns-in-Err-clause-hosts_until
+returns-in-Err-clause-hosts_until g c =
+    c.hosts_read_their_own.ensures.until c.args.list (acts_of c.args.steps.now) _ _ _
+    (run_until c.args.list c.args.key.now c.args.steps.now c.loop-i.i c.index-steps-i.result c.loop-i.client.rows
+    c.loop-i.readings.items c.act.new.readings.items (civil_nanos c.loop-i.last) c.in-Err.kind
+    c.loop-i-test.true c.index-steps-i.is c.loop-i.invariant.before c.in-Err.ensures.err)
+
 pub loop-i-preserved : goal.loop-i-preserved
 loop-i-preserved g c =
     let moments = follow_next c.args.steps.now c.loop-i.i c.index-steps-i.result (civil_nanos c.loop-i.last)
@@ -65,6 +72,14 @@ returns-clause-moments g c = follow_all c.args.list c.args.key.now c.args.steps.
 pub returns-clause-sites : goal.returns-clause-sites
 returns-clause-sites g c =
     c.sites_read_their_own.ensures.whole c.args.list (acts_of c.args.steps.now) _
+    (follow_all c.args.list c.args.key.now c.args.steps.now c.loop-i.i c.loop-i.client.rows
+    c.loop-i.readings.items _ c.loop-i-test.false c.loop-i.invariant.before)
+    (run_all c.args.list c.args.key.now c.args.steps.now c.loop-i.i c.loop-i.client.rows
+    c.loop-i.readings.items _ c.loop-i-test.false c.loop-i.invariant.before)
+
+pub returns-clause-hosts : goal.returns-clause-hosts
+returns-clause-hosts g c =
+    c.hosts_read_their_own.ensures.whole c.args.list (acts_of c.args.steps.now) _
     (follow_all c.args.list c.args.key.now c.args.steps.now c.loop-i.i c.loop-i.client.rows
     c.loop-i.readings.items _ c.loop-i-test.false c.loop-i.invariant.before)
     (run_all c.args.list c.args.key.now c.args.steps.now c.loop-i.i c.loop-i.client.rows
