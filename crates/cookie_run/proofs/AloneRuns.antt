@@ -23,6 +23,7 @@ use Rattle.cookie_store.specs.declared.action.StoreAction.{StoreAction}
 use Rattle.cookie_store.proofs.ReadableLemmas.{IsUnrefuted, pair_reads}
 use Rattle.cookie_run.specs.Accept.{Accepts, AcceptsAll, text_end}
 use Rattle.cookie_run.specs.Acts.{Act, Visits, Answers, Asks, Restarts}
+use Rattle.cookie_store.specs.Laws.{OneOrder}
 use Rattle.cookie_run.specs.Header.{IsHeader, header_of}
 use Rattle.cookie_run.specs.Headline.{Each}
 use Rattle.cookie_run.specs.Keeping.{Keeps, HasReadPair, HaveReadPairs}
@@ -49,12 +50,21 @@ some_picked {A} Is (x ∷ xs) refuted = some_picked Is xs (λ later. either (Is 
     by later (inl is) = refuted (x ∷ later.0, (later.0, later.1, inl (is, refl)))
     by later (inr isnt) = refuted (later.0, (later.0, later.1, inr (isnt, refl)))
 
-some_header : (rows : List Row) (url : Parts) (at : ℤ) → IsValid url
+some_header : OneOrder → (rows : List Row) (url : Parts) (at : ℤ) → IsValid url
     → IsUnrefuted ((header : List ℕ) × IsHeader rows url at header)
-some_header rows url at valid refuted =
-    some_picked (λ row. IsGiven row url at) rows (λ given. refuted (
-      header_of (map pair_of given.0),
-      record { valid = valid; given = given.0; are_given = given.1; printed = refl },
+some_header order rows url at valid refuted =
+    some_picked (λ row. IsGiven row url at) rows (λ given.
+    let first = order.there given.0 in
+    refuted (
+      header_of (map pair_of first.0),
+      record {
+        valid = valid;
+        given = given.0;
+        are_given = given.1;
+        ordered = first.0;
+        longest = first.1;
+        printed = refl;
+      },
     ))
 
 -- ---- a line that was taken, beside other rows
@@ -156,7 +166,7 @@ some_kept rows now own refuted =
 
 -- ---- acts
 
-module _ (list : List Rule) (host key : List ℕ) where
+module _ (order : OneOrder) (list : List Rule) (host key : List ℕ) where
   abbrev StepsOn : List Row → Act → Type 0
   StepsOn rest act =
       (said : List Reading) × (left : List Row) × OneStep list key rest act said left × HaveReadPairs left
@@ -173,7 +183,7 @@ module _ (list : List Rule) (host key : List ℕ) where
         received_pairs list url at lines rest x.0 x.1 own x.2,
       ))
   step_too (Asks url at) rows mid rest told none concerns s own refuted =
-      some_header rest url at s.0.1.valid (λ x. refuted (Header x.0 ∷ [], rest, ((x.0, x.1, refl), refl), own))
+      some_header order rest url at s.0.1.valid (λ x. refuted (Header x.0 ∷ [], rest, ((x.0, x.1, refl), refl), own))
   step_too (Restarts at) rows mid rest told none concerns s own refuted =
       some_kept rest at own (λ x. refuted ([], x.0, (refl, x.1), kept_pairs rest at own x.0 x.1))
 
@@ -202,7 +212,7 @@ module _ (list : List Rule) (host key : List ℕ) where
   header_too before told rows url at p valid none refuted =
       some_picked (Concerns list host) before
       (λ few. play_too before few.0 told [] rows [] none few.1 p tt
-      (λ run. some_header run.1 url at valid
+      (λ run. some_header order run.1 url at valid
       (λ header. refuted (record {
         few = few.0;
         only = few.1;

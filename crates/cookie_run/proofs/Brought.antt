@@ -11,6 +11,7 @@ use Rattle.cookie_text.specs.ReadingBack.{IsNamed, Pairwise, joined, pair_text a
 use Rattle.url.specs.Parts.{Parts}
 use Rattle.store_parts.specs.Expiry.{is_dead}
 use Rattle.cookie_store.specs.Rows.{Row, is_live}
+use Rattle.cookie_store.specs.Given.{pair_of}
 use Rattle.cookie_run.specs.Brought.{Matches, HoldsPair, live_under, SplitsInto, BringsSite}
 use Rattle.cookie_run.specs.Header.{IsHeader, header_of}
 use Rattle.cookie_run.specs.Hosts.{secure_host}
@@ -19,9 +20,11 @@ use Rattle.cookie_run.specs.Moments.{IsMoment}
 use Rattle.cookie_run.specs.Site.{Site, live_at, live}
 use Rattle.cookie_run.proofs.HeaderBack.{pair_at}
 use Rattle.cookie_run.proofs.Kepts.{Kept, found_in, AreApart, all_filter, apart_filter}
-use Rattle.cookie_run.proofs.OwnRows.{is_own, IsRowOf, IsGoodKept, Agrees, walk}
+use Rattle.cookie_run.proofs.Longest.{all_longest, longest_own, own_short}
+use Rattle.cookie_run.proofs.OwnRows.{is_own, rows_of, IsRowOf, IsGoodKept, Agrees, walk}
 use Rattle.cookie_run.proofs.Received.{alive}
 use Rattle.cookie_run.proofs.GivenRows.{lives, record_of, rooted, given_rows, all_rows, found_live, pairs_same}
+use Rattle.cookie_run.proofs.GivenRows.{IsUncounted}
 use Rattle.cookie_run.proofs.Walking.{value_of, matches_view}
 use Rattle.cookie_run.proofs.Commands.{EndsLate}
 use Rattle.cookie_run.proofs.Exchange.{Laws, SiteAgrees, agrees_later, IsReadBack}
@@ -115,10 +118,16 @@ split_pairs splits host url now rows ks header secure reads a is =
     let root_is = rooted url host secure is.valid in
     let live_ks : List Kept = filter (lives now) ks in
     let given = given_rows every host url now rows is.given ks secure root_is reads a is.are_given in
-    let all : Pairwise (IsRowOf host) live_ks is.given =
-    subst (Pairwise (IsRowOf host) live_ks) (all_rows every host is.given (λ name. refl) given.1) given.0 in
+    let own : rows_of every host is.given ≡ is.given = all_rows every host is.given (λ name. refl) given.1 in
+    let as_given : is.ordered ≡ is.given =
+    sym (all_rows every host is.ordered (λ name. refl)
+    (all_longest (IsUncounted every host) is.given is.ordered is.longest given.1))
+    ∙ (longest_own every host is.given is.ordered is.longest (own_short every host live_ks is.given
+    (all_filter IsGoodKept (lives now) ks a.good) given.0) ∙ own) in
+    let all : Pairwise (IsRowOf host) live_ks is.given = subst (Pairwise (IsRowOf host) live_ks) own given.0 in
     let printed : header ≡ joined (pairs_of live_ks) =
-    is.printed ∙ (ap header_of (pairs_same host live_ks is.given all) ∙ header_joined live_ks) in
+    is.printed ∙ (ap (λ rows. header_of (map pair_of rows)) as_given
+    ∙ (ap header_of (pairs_same host live_ks is.given all) ∙ header_joined live_ks)) in
     subst (λ h. SplitsInto h (pairs_of live_ks)) (sym printed)
     (splits (pairs_of live_ks) (All-from_recursion (λ p. IsNamed p.0 p.1) (pairs_of live_ks)
     (all_named live_ks (all_filter IsGoodKept (lives now) ks a.good))))

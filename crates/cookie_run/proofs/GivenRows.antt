@@ -29,6 +29,7 @@ use Rattle.cookie_store.specs.Rows.{Row}
 use Rattle.cookie_store.specs.Given.{IsGiven, AreGiven, ArePicked, pair_of}
 use Rattle.store_parts.specs.Expiry.{is_dead}
 use Rattle.cookie_run.specs.Header.{IsHeader, pair_text}
+use Rattle.cookie_run.proofs.Longest.{all_longest, longest_own, own_short}
 use Rattle.cookie_run.proofs.Kepts.{Kept, found_in, AreApart, pass, found_filter, all_filter}
 use Rattle.cookie_run.proofs.OwnRows.{Counts, is_counted, is_own, rows_of, own_text, IsRowOf, IsGoodKept, IsOther}
 use Rattle.cookie_run.proofs.OwnRows.{Agrees, walk}
@@ -241,13 +242,20 @@ pub header_last : (counts : Counts) (host : List ℕ) (url : Parts) (now : ℤ) 
 header_last counts host url now rows ks header secure reads pairs a is q c =
     let given = given_rows counts host url now rows is.given ks secure (rooted url host secure is.valid) reads a
     is.are_given in
-    let own_pairs : HaveReadPairs is.given = picked_all HasReadPair _ rows is.given pairs is.are_given in
+    let live = all_filter IsGoodKept (lives now) ks a.good in
+    let own : Pairwise (IsRowOf host) (filter (lives now) ks) (rows_of counts host is.ordered) =
+    subst (Pairwise (IsRowOf host) (filter (lives now) ks))
+    (sym (longest_own counts host is.given is.ordered is.longest
+    (own_short counts host (filter (lives now) ks) is.given live given.0))) given.0 in
+    let own_pairs : HaveReadPairs is.ordered = all_longest HasReadPair is.given is.ordered is.longest
+    (picked_all HasReadPair _ rows is.given pairs is.are_given) in
     ap (λ h. last_in (cookies_of h) q) is.printed
-    ∙ (ap (λ cs. last_in cs q) (header_back (map pair_of is.given) (readable is.given own_pairs))
+    ∙ (ap (λ cs. last_in cs q) (header_back (map pair_of is.ordered) (readable is.ordered own_pairs))
     ∙ walk counts host (LastAs counts host q) (λ _ _ _. refl)
     (λ d r ds rs own h good rest. last_own counts host q d r ds rs h good rest)
     (λ r ds rs other rest. last_other counts host q r ds rs c other rest)
-    is.given (filter (lives now) ks) (all_filter IsGoodKept (lives now) ks a.good) given.0 own_pairs given.1 false)
+    is.ordered (filter (lives now) ks) live own own_pairs
+    (all_longest (IsUncounted counts host) is.given is.ordered is.longest given.1) false)
   where
     readable : (rows : List Row) → HaveReadPairs rows → AllByRecursion IsRead (map pair_of rows)
     readable [] h = tt

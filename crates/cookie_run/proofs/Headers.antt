@@ -1,8 +1,11 @@
 -- A header grows by one pair.
 use Rattle.std.proofs.Common.{◌≡◌, ℕ, false, eqb, List, [], ◌∷◌, ◌++◌, length, sym, refl, ap, ◌∙◌, arith, append_assoc}
-use Rattle.std.proofs.Common.{length-append}
+use Rattle.std.proofs.Common.{length-append, map}
+use Rattle.std.specs.Borrow.{Bor}
 use Rattle.std.proofs.lemmas.Bool.{cond-false}
 use Rattle.std.proofs.lemmas.Bool.Decides.{nat_tests}
+use Rattle.cookie_store.specs.Given.{pair_of, shown}
+use Rattle.cookie_store.specs.declared.stored_cookie.Cookie.{Cookie}
 use Rattle.cookie_run.specs.Header.{header_of, pair_text, with_pair}
 
 abbrev Pair : Type 0
@@ -24,26 +27,16 @@ header_push (a ∷ b ∷ pairs) pair =
     ∙ (sym (append_assoc (pair_text a) (59 ∷ 32 ∷ header_of (b ∷ pairs)) (59 ∷ 32 ∷ pair_text pair))
     ∙ sym (cond-false _ _ _ (header_some a (b ∷ pairs))))
 
--- what was printed of the pairs that are no more to come
-pub record Printed (text : List ℕ) (rest all : List Pair) : Type 0 where
-  pub done : List Pair
-  pub cut : done ++ rest ≡ all
-  pub text_is : text ≡ header_of done
+pairs_push : (cookies : List (Bor Cookie)) (cookie : Bor Cookie)
+    → map pair_of (map shown (cookies ++ cookie ∷ []))
+    ≡ map pair_of (map shown cookies) ++ pair_of (shown cookie) ∷ []
+pairs_push [] cookie = refl
+pairs_push (c ∷ cookies) cookie = ap (λ ps. pair_of (shown c) ∷ ps) (pairs_push cookies cookie)
 
-pub printed_none : (text : List ℕ) (all : List Pair) → text ≡ [] → Printed text all all
-printed_none text all e = record { done = []; cut = refl; text_is = e }
-
-pub printed_more : (text new : List ℕ) (pair : Pair) (rest all : List Pair) → Printed text (pair ∷ rest) all
-    → new ≡ with_pair text pair → Printed new rest all
-printed_more text new pair rest all p is = record {
-  done = p.done ++ pair ∷ [];
-  cut = append_assoc p.done (pair ∷ []) rest ∙ p.cut;
-  text_is = is ∙ (ap (λ t. with_pair t pair) p.text_is ∙ sym (header_push p.done pair));
-}
-
-pub printed_all : (text : List ℕ) (all : List Pair) → Printed text [] all → text ≡ header_of all
-printed_all text all p = p.text_is ∙ ap header_of (sym (append_nil p.done) ∙ p.cut)
-  where
-    append_nil : (xs : List Pair) → xs ++ [] ≡ xs
-    append_nil [] = refl
-    append_nil (x ∷ xs) = ap (λ ys. x ∷ ys) (append_nil xs)
+pub header_more : (cookies : List (Bor Cookie)) (cookie : Bor Cookie) (text new : List ℕ)
+    → text ≡ header_of (map pair_of (map shown cookies)) → new ≡ with_pair text (pair_of (shown cookie))
+    → new ≡ header_of (map pair_of (map shown (cookies ++ cookie ∷ [])))
+header_more cookies cookie text new e is =
+    is ∙ (ap (λ t. with_pair t (pair_of (shown cookie))) e
+    ∙ (sym (header_push (map pair_of (map shown cookies)) (pair_of (shown cookie)))
+    ∙ ap header_of (sym (pairs_push cookies cookie))))

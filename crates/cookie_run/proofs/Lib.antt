@@ -11,6 +11,7 @@ pub mod LetIn
 pub mod OwnRows
 pub mod Received
 pub mod Lines
+pub mod Longest
 pub mod GivenRows
 pub mod Walking
 pub mod Commands

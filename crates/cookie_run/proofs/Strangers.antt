@@ -20,7 +20,8 @@ use Rattle.url.specs.Parts.{Parts}
 use Rattle.cookie.specs.Jar.{Jar}
 use Rattle.cookie_store.specs.Given.{ArePicked, IsGiven, pair_of}
 use Rattle.cookie_store.specs.Insertion.{End, settled, Settles}
-use Rattle.cookie_store.specs.Laws.{GivenOnce}
+use Rattle.cookie_store.specs.Laws.{GivenOnce, OneOrder}
+use Rattle.cookie_store.specs.Longest.{AreLongestFirst}
 use Rattle.cookie_store.specs.Placing.{is_saved, saved}
 use Rattle.cookie_store.specs.Rows.{Row, domain_text, has_key_of, is_live, is_live_of}
 use Rattle.cookie_store.specs.SavedRows.{IsReread}
@@ -36,6 +37,7 @@ use Rattle.cookie_run.specs.Strangers.{IsRelatedAt, Concerns, IsOnly, IsNoExchan
 use Rattle.cookie_run.specs.declared.step.LineEnd.{LineEnd}
 use Rattle.cookie_run.specs.declared.step.Reading.{Reading}
 use Rattle.cookie_run.proofs.AloneRuns.{header_too}
+use Rattle.cookie_run.proofs.Longest.{none_longest}
 use Rattle.cookie_run.proofs.Lines.{some_and}
 use Rattle.cookie_run.proofs.OwnRows.{all_rows_map, first_and}
 use Rattle.cookie_run.proofs.Picks.{PickedOf, any_picked, live_under, picked_settled, picked_settled_other, picked_kept}
@@ -420,16 +422,17 @@ module _ (one : ReadsOnce) (list : List Rule) (host : List ℕ) where
     all_near url at rs is all.1,
   )
 
-  same_header : (given_once : GivenOnce) (url : Parts) (at : ℤ) (rows rest : List Row) (header other : List ℕ)
+  same_header : (given_once : GivenOnce) (order : OneOrder) (url : Parts) (at : ℤ) (rows rest : List Row) (header other : List ℕ)
       → host_of url ≡ Some host → Runs rows rest → IsHeader rows url at header → IsHeader rest url at other
       → header ≡ other
-  same_header given_once url at rows rest header other is r h g =
+  same_header given_once order url at rows rest header other is r h g =
       let Given : Row → Type 0 = λ row. IsGiven row url at in
       let x = picked_inner In Given rows r.both.0 h.given (all_near url at rows is r.sound) r.both.1 h.are_given in
       let y = picked_inner In Given rest r.both.0 g.given (all_near url at rest is r.rest_sound) r.both.2
       g.are_given in
-      h.printed ∙ (ap (λ rows. header_of (map pair_of rows)) (given_once r.both.0 h.given g.given url at x y)
-      ∙ sym g.printed)
+      let same : h.given ≡ g.given = given_once r.both.0 h.given g.given url at x y in
+      h.printed ∙ (ap (λ rows. header_of (map pair_of rows)) (order.one h.given h.ordered g.ordered h.longest
+      (subst (λ rows. AreLongestFirst rows g.ordered) (sym same) g.longest)) ∙ sym g.printed)
 
 -- ---- after the acts
 
@@ -448,17 +451,17 @@ none_given Is [] given none g = g
 none_given Is (r ∷ rs) given none (l, h, inl is) = absurd (none r is.0)
 none_given Is (r ∷ rs) given none (l, h, inr is) = is.1 ∙ none_given Is rs l none h
 
-pub untouched : (one : ReadsOnce) (given_once : GivenOnce) (list : List Rule) (key : List ℕ) (before : List Act)
-    (told : List (List Reading)) (rows : List Row) (url : Parts) (at : ℤ) (header : List ℕ)
+pub untouched : (one : ReadsOnce) (given_once : GivenOnce) (order : OneOrder) (list : List Rule) (key : List ℕ)
+    (before : List Act) (told : List (List Reading)) (rows : List Row) (url : Parts) (at : ℤ) (header : List ℕ)
     → Plays list key [] before told rows → IsHeader rows url at header → IsUntouched list key before url at header
-untouched one given_once list key before told rows url at header p h = record {
+untouched one given_once order list key before told rows url at header p h = record {
   hostless = λ none. h.printed ∙ ap (λ rows. header_of (map pair_of rows))
-      (none_given (λ r. IsGiven r url at) rows h.given
-      (λ r g. subst (λ o. IsSomeAnd o (Covers r.domain)) none g.goes.domain) h.are_given);
+      (none_longest order h.given h.ordered (none_given (λ r. IsGiven r url at) rows h.given
+      (λ r g. subst (λ o. IsSomeAnd o (Covers r.domain)) none g.goes.domain) h.are_given) h.longest);
   same = λ host is none other.
       by_cases (IsHostName host) header other.header
-      (λ named. same_header one list host given_once url at rows other.rows header other.header is
+      (λ named. same_header one list host given_once order url at rows other.rows header other.header is
       (both_play one list host key before other.few told other.told [] [] rows other.rows named none other.only p
       other.ran (record { both = ([], refl, refl); sound = tt; rest_sound = tt })) h other.is_header);
-  there = λ host is none. header_too list host key before told rows url at p h.valid none;
+  there = λ host is none. header_too order list host key before told rows url at p h.valid none;
 }

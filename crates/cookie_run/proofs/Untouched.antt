@@ -2,7 +2,7 @@
 use Rattle.std.proofs.Common.{◌≡◌, ℕ, ℤ, List, [], ◌∷◌, ◌++◌, sym, refl, ◌∙◌, subst, inl, inr, append-nil}
 use Rattle.std.specs.List.{AllByRecursion}
 use Rattle.publicsuffix.specs.Rules.{Rule}
-use Rattle.cookie_store.specs.Laws.{GivenOnce}
+use Rattle.cookie_store.specs.Laws.{GivenOnce, OneOrder}
 use Rattle.cookie_store.specs.Rows.{Row}
 use Rattle.cookie_run.specs.Acts.{Act, Visits, Answers, Asks, Restarts, Arrival, Arrives, Never, arrival_in}
 use Rattle.cookie_run.specs.Jar.{Keyed}
@@ -69,7 +69,7 @@ plays_more list key start rows mid (b ∷ bs) act [] t p s = absurd p
 plays_more list key start rows mid (b ∷ bs) act (x ∷ xs) t p s =
     (p.0, p.1, plays_more list key p.0 rows mid bs act xs t p.2 s)
 
-module _ (one : ReadsOnce) (given_once : GivenOnce) (list : List Rule) (key : List ℕ) where
+module _ (one : ReadsOnce) (given_once : GivenOnce) (order : OneOrder) (list : List Rule) (key : List ℕ) where
   act_untouched : (before : List Act) (act : Act) (told : List (List Reading)) (t : List Reading)
       (rows mid : List Row) → Plays list key [] before told rows → OneStep list key rows act t mid
       → ReadsUntouched list key before act t
@@ -77,7 +77,7 @@ module _ (one : ReadsOnce) (given_once : GivenOnce) (list : List Rule) (key : Li
       commands_headless s.2.1.0 s.2.0 at commands t s.2.1.2
   act_untouched before (Answers url lines at) told t rows mid p s = s.0
   act_untouched before (Asks url at) told t rows mid p s =
-      (s.0.0, s.0.2, untouched one given_once list key before told rows url at s.0.0 p s.0.1)
+      (s.0.0, s.0.2, untouched one given_once order list key before told rows url at s.0.0 p s.0.1)
   act_untouched before (Restarts at) told t rows mid p s = s.0
 
   each_untouched : (before acts : List Act) (told later : List (List Reading)) (rows new : List Row)
@@ -138,15 +138,15 @@ stops_headless key rows act kind last old readings (inr past) = past_headless ke
 
 -- ---- THE LAW
 
-pub plays_untouched : ReadsOnce → GivenOnce → EachPlayIsUntouched
-plays_untouched one given_once list key acts readings run = record {
+pub plays_untouched : ReadsOnce → GivenOnce → OneOrder → EachPlayIsUntouched
+plays_untouched one given_once order list key acts readings run = record {
   told = run.told;
   read = run.read;
-  headers = each_untouched one given_once list key [] acts [] run.told [] run.rows refl run.ran;
+  headers = each_untouched one given_once order list key [] acts [] run.told [] run.rows refl run.ran;
 }
 
-pub stopped_untouched : ReadsOnce → GivenOnce → EachStoppedPlayIsUntouched
-stopped_untouched one given_once list key acts step kind readings run =
+pub stopped_untouched : ReadsOnce → GivenOnce → OneOrder → EachStoppedPlayIsUntouched
+stopped_untouched one given_once order list key acts step kind readings run =
     let front = stops_headless key run.rows run.act kind _ (all_told run.told) readings run.stops in
     record {
       before = run.before;
@@ -157,6 +157,6 @@ stopped_untouched one given_once list key acts step kind readings run =
       told = run.told;
       front = front.0;
       read = front.1;
-      headers = each_untouched one given_once list key [] run.before [] run.told [] run.rows refl run.ran;
+      headers = each_untouched one given_once order list key [] run.before [] run.told [] run.rows refl run.ran;
       headless = front.2;
     }

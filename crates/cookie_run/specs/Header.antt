@@ -4,6 +4,7 @@ use Rattle.cookie_text.specs.Printing.{stripped}
 use Rattle.cookie_text.specs.Record.{bare}
 use Rattle.url.specs.Parts.{Parts, IsValid}
 use Rattle.cookie_store.specs.Given.{AreGiven, pair_of}
+use Rattle.cookie_store.specs.Longest.{AreLongestFirst}
 use Rattle.cookie_store.specs.Rows.{Row}
 
 -- `name=value` of a pair, both as they stand, and of each pair, joined by `; `
@@ -19,10 +20,12 @@ header_of (pair ∷ next ∷ pairs) = pair_text pair ++ 59 ∷ 32 ∷ header_of 
 abbrev pub with_pair : List ℕ → List ℕ × List ℕ → List ℕ
 with_pair text pair = if length text == 0 then pair_text pair else text ++ 59 ∷ 32 ∷ pair_text pair
 
--- the header of a request to the URL at the moment: the pairs of the rows that it is given; the URL is one that was
--- parsed
+-- the header of a request to the URL at the moment: the pairs of the rows that it is given, longer paths first; the URL
+-- is one that was parsed
 pub record IsHeader (rows : List Row) (url : Parts) (now : ℤ) (header : List ℕ) : Type 0 where
   pub valid : IsValid url
   pub given : List Row
   pub are_given : AreGiven rows url now given
-  pub printed : header ≡ header_of (map pair_of given)
+  pub ordered : List Row
+  pub longest : AreLongestFirst given ordered
+  pub printed : header ≡ header_of (map pair_of ordered)

@@ -8,6 +8,7 @@ pub mod IndexedLemmas
 pub mod JsonLineLemmas
 pub mod LineLemmas
 pub mod LoadLemmas
+pub mod LongestLemmas
 pub mod PlaceLaws
 pub mod PlaceLemmas
 pub mod ReadLemmas

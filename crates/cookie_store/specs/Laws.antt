@@ -8,6 +8,7 @@ use Rattle.url.specs.Parts.{Parts}
 use Rattle.cookie_store.specs.Confined.{IsConfined}
 use Rattle.cookie_store.specs.Given.{AreGiven}
 use Rattle.cookie_store.specs.Insertion.{End, Inserts, alone}
+use Rattle.cookie_store.specs.Longest.{AreLongestFirst}
 use Rattle.cookie_store.specs.Rows.{Row, key_of, has_key_of, has_place_of, AreApart, found, found_live, put, removed}
 use Rattle.cookie_store.specs.declared.action.StoreAction.{StoreAction}
 
@@ -15,6 +16,11 @@ use Rattle.cookie_store.specs.declared.action.StoreAction.{StoreAction}
 abbrev pub GivenOnce : Type 0
 GivenOnce =
     (rows a b : List Row) (url : Parts) (now : ℤ) → AreGiven rows url now a → AreGiven rows url now b → a ≡ b
+
+-- rows with longer paths first: there is such an order, and one alone
+pub record OneOrder : Type 0 where
+  pub there : (rows : List Row) → (ordered : List Row) × AreLongestFirst rows ordered
+  pub one : (rows a b : List Row) → AreLongestFirst rows a → AreLongestFirst rows b → a ≡ b
 
 -- how an insertion ends is determined
 abbrev pub EndsOnce : Type 0

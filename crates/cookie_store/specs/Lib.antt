@@ -7,6 +7,7 @@ pub mod Indexed
 pub mod Insertion
 pub mod Laws
 pub mod LoadedLines
+pub mod Longest
 pub mod Making
 pub mod Placing
 pub mod Rows

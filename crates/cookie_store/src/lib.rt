@@ -15,6 +15,7 @@ mod action;
 mod given;
 mod json_lines;
 mod loading;
+mod longest;
 mod requests;
 mod rows;
 mod saved_row;

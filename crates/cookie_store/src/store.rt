@@ -13,12 +13,14 @@ ghost use Rattle.cookie_store.specs.Given.{AreGiven, ShowsGiven, pair_of, receiv
 ghost use Rattle.cookie_store.specs.Grouped.{AreGrouped, PartsStay};
 ghost use Rattle.cookie_store.specs.Insertion as insertion;
 ghost use Rattle.cookie_store.specs.Laws as law;
+ghost use Rattle.cookie_store.specs.Longest.{AreGivenLongest};
 ghost use Rattle.cookie_store.specs.Making.{IsBarred};
 ghost use Rattle.cookie_store.specs.Rows as spec;
 ghost use Rattle.cookie_store.specs.Steps.{InsertsOwned, Passes, MeetsWant, buried, host_alone};
 ghost use Rattle.cookie_store.specs.StoredCookie.{stored_of};
 
 use crate::action::{InsertResult, StoreAction};
+use crate::longest::put_longest_first;
 use crate::requests::{RequestCookies, RequestValues};
 use crate::rows::{IterAny, Rows, domain_text};
 use crate::stored_cookie::Cookie;
@@ -251,6 +253,45 @@ impl CookieStore {
         ensures looks { looks.new ≤ looks.old + looks_at_url self.now.rows request_url.now }
     {
         self.rows.given(self.alloc, request_url, now, looks)
+    }
+
+    /// The cookies of `matches`, those with more bytes in the text of their path first, and those of one
+    /// length in the order of the rows (RFC 6265, section 5.4, step 2).
+    ///
+    /// # Errors
+    ///
+    /// `AllocError`, for want of memory.
+    pub fn matches_longest(
+        &self,
+        request_url: &Url,
+        now: DateTime,
+    ) -> Result<Vec<&Cookie<'static>>, AllocError>
+        ensures { IfOk result (λ cookies. AreGivenLongest self.now.rows request_url.now
+            (civil_nanos now) (map shown cookies.items)) }
+    {
+        let mut cookies = self.matches(request_url, now)?;
+        put_longest_first(&mut cookies)?;
+        Ok(cookies)
+    }
+
+    /// The same, counting the questions that are put to the index of the rows, as `matches_counted` does.
+    ///
+    /// # Errors
+    ///
+    /// `AllocError`, for want of memory.
+    pub fn matches_longest_counted<L: Ledger>(
+        &self,
+        request_url: &Url,
+        now: DateTime,
+        looks: &mut Looks<L>,
+    ) -> Result<Vec<&Cookie<'static>>, AllocError>
+        ensures given { IfOk result (λ cookies. AreGivenLongest self.now.rows request_url.now
+            (civil_nanos now) (map shown cookies.items)) }
+        ensures looks { looks.new ≤ looks.old + looks_at_url self.now.rows request_url.now }
+    {
+        let mut cookies = self.matches_counted(request_url, now, looks)?;
+        put_longest_first(&mut cookies)?;
+        Ok(cookies)
     }
 
     /// Reads a cookie that was received from the URL at `now`, and puts it into the store.
@@ -529,12 +570,13 @@ fn bury(rows: &mut Rows, cookie: &Cookie<'static>, now: DateTime) -> InsertResul
 }
 
 /// What holds of the rows of each store. Which of them a request is given, and how an insertion
-/// ends, is determined. An insertion keeps the keys apart, puts what is then got, touches no other
+/// ends, is determined. Rows with longer paths first stand in one order, and there is one. An insertion keeps the keys apart, puts what is then got, touches no other
 /// row, and none that the URL's host may not; what is put after it was taken out is the last of its
 /// domain and path. A part of rows that stand in groups, put row by row where there was none, stands
 /// as it did.
 pub fn laws()
     ensures given { law.GivenOnce }
+    ensures order { law.OneOrder }
     ensures ends { law.EndsOnce }
     ensures apart { law.StayApart }
     ensures got { law.InsertedIsGot }

@@ -1,10 +1,6 @@
-use Rattle.std.proofs.Common.{subst}
-use Rattle.std.specs.Prelude.{string_bytes}
-use Rattle.cookie_run.proofs.Headers.{Printed, printed_more}
+use Rattle.cookie_run.proofs.Headers.{header_more}
 use Rattle.cookie_run.proofs.client.header_of.Goals as goal
 
-pub loop-name-preserved : goal.loop-name-preserved
-loop-name-preserved c =
-    printed_more (string_bytes c.loop-name.text) _ _ _ c.args.pairs
-    (subst (λ rest. Printed (string_bytes c.loop-name.text) rest c.args.pairs) c.in-Some.ensures.steps
-    c.loop-name.invariant) c.in_ok-push_pair.ensures
+pub loop-cookie-preserved : goal.loop-cookie-preserved
+loop-cookie-preserved c =
+    header_more c.loop-cookie.yielded c.in-Some.cookie _ _ c.loop-cookie.invariant c.in_ok-push_pair.ensures

@@ -3,11 +3,15 @@ use Rattle.cookie_store.specs.Rows.{key_of}
 use Rattle.cookie_store.proofs.Confinement.{inserts_confined}
 use Rattle.cookie_store.proofs.EndLemmas.{picked_once, inserts_once, inserts_apart, inserted_got}
 use Rattle.cookie_store.proofs.GroupedLemmas.{parts_stay}
+use Rattle.cookie_store.proofs.LongestLemmas.{an_order, one_order}
 use Rattle.cookie_store.proofs.PlaceLaws.{others_stay, put_is_found, comes_last}
 use Rattle.cookie_store.proofs.store.laws.Goals as goal
 
 pub returns-clause-given : goal.returns-clause-given
 returns-clause-given c = λ rows a b url now g h. picked_once (λ row. IsGiven row url now) rows a b g h
+
+pub returns-clause-order : goal.returns-clause-order
+returns-clause-order c = record { there = an_order; one = one_order }
 
 pub returns-clause-ends : goal.returns-clause-ends
 returns-clause-ends c = λ list rows url now row a b g h. inserts_once rows url now a b list row g h
