@@ -1,5 +1,6 @@
 /* Stands before the allocator of a test program: refuses one growth of memory, the call of malloc or realloc whose
- * number, from 1 on, is in REFUSED_GROWTH, and links the program to the path KEPT where its folder is the current one. */
+ * number, from 1 on, is in REFUSED_GROWTH, and tells of that by the line TOLD. It links the program to the path KEPT
+ * where its folder is the current one. */
 #include <fcntl.h>
 #include <stddef.h>
 #include <stdlib.h>
@@ -9,6 +10,7 @@
 extern void *__interceptor_malloc(size_t);
 extern void *__interceptor_realloc(void *, size_t);
 
+static const char told[] = "\n" TOLD "\n";
 static long refused, calls;
 
 __attribute__((constructor)) static void begin(void)
@@ -22,7 +24,10 @@ __attribute__((constructor)) static void begin(void)
 
 static int is_refused(void)
 {
-    return refused > 0 && ++calls == refused;
+    if (refused <= 0 || ++calls != refused)
+        return 0;
+    (void)!write(STDERR_FILENO, told, sizeof told - 1);
+    return 1;
 }
 
 void *malloc(size_t size)

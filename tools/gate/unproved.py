@@ -14,6 +14,8 @@ HERE = os.path.dirname(os.path.abspath(__file__))
 CRATE = "unproved_tests"
 # What the names of its sources end with.
 SUFFIX = ".rt.txt"
+# What its program writes where it refuses a growth.
+TOLD = "refuse.c: this growth is refused"
 
 
 def sources(top):
@@ -65,8 +67,8 @@ def run(top):
     # (a program is linked to its place, so it is made on the same file system)
     with tempfile.TemporaryDirectory(prefix="try-", dir=os.path.dirname(to)) as room:
         put(top, room)
-        words = [os.environ.get("CC", "cc"), "-O2", "-fPIC", "-c", f'-DKEPT="{to}"', f"{HERE}/refuse.c"]
-        subprocess.run([*words, "-o", f"{room}/refuse.o"], check=True)
+        words = [os.environ.get("CC", "cc"), "-O2", "-fPIC", "-c", f'-DKEPT="{to}"', f'-DTOLD="{TOLD}"']
+        subprocess.run([*words, f"{HERE}/refuse.c", "-o", f"{room}/refuse.o"], check=True)
         # (beside proofs a test may wait long for a processor)
         given = {**os.environ, "TMPDIR": room, "RT_SECONDS": "900"}
         ran = subprocess.run(

@@ -58,8 +58,10 @@ named_gone : (q : List ℕ) (b : Bool) (o : Option Seen) → IfSome o (λ s. s.c
 named_gone q true o h = tt
 named_gone q false o h = h
 
-gone_shows : (counts : Counts) (key n : List ℕ) (old new : Keyed) (seen : View) → Shows counts key old seen → new.key ≡ old.key
-    → ((q : List ℕ) → view new.jar q ≡ cond (bytes_eq q n) None (view old.jar q)) → Shows counts key new (with_at seen n None)
+gone_shows : (counts : Counts) (key n : List ℕ) (old new : Keyed) (seen : View) → Shows counts key old seen
+    → new.key ≡ old.key
+    → ((q : List ℕ) → view new.jar q ≡ cond (bytes_eq q n) None (view old.jar q))
+    → Shows counts key new (with_at seen n None)
 gone_shows counts key n old new seen h same is = record {
   key_is = same ∙ h.key_is;
   named = λ q. subst (λ (o : Option Seen). IfSome o (λ s. s.cookie.name ≡ q)) (sym (is q))
@@ -107,7 +109,8 @@ sent_gone : (d : ℤ) (b : Bool) (m : Option Change) (o : Option Kept) → (b �
 sent_gone d true m o h = h refl
 sent_gone d false m o h = refl
 
-unchanged_walks : (counts : Counts) (key : List ℕ) (now d : ℤ) (at : List ℕ → Option Kept) (old new : Keyed) (seen : View) (left : Site)
+unchanged_walks : (counts : Counts) (key : List ℕ) (now d : ℤ) (at : List ℕ → Option Kept) (old new : Keyed)
+    (seen : View) (left : Site)
     (n : List ℕ) → now ≤ℤ d → Walks counts key now d at old seen left → finmap.get old.jar.originals n ≡ None
     → new.key ≡ old.key → new.jar ≡ without_change old.jar n → IsReadableJar new.jar
     → Walks counts key now d at new (with_at seen n None) (with_at left n None)
@@ -124,7 +127,8 @@ unchanged_walks counts key now d at old new seen left n after w none same is rea
       (ap (λ (j : Jar). sent_at d (finmap.get j.changes q) (at q)) is
       ∙ (ap (λ o. sent_at d o (at q)) (get_remove old.jar.changes n q)
       ∙ sent_gone d (bytes_eq q n) (finmap.get old.jar.changes q) (at q)
-      (λ e. gone_dead now d (at q) after (sym (ap record_in (ap (finmap.get old.jar.originals) (same_text q n e) ∙ none))
+      (λ e. gone_dead now d (at q) after (sym (ap record_in
+      (ap (finmap.get old.jar.originals) (same_text q n e) ∙ none))
       ∙ w.brought q c))))
       (w.leaves q c);
 }
@@ -161,7 +165,8 @@ removal_fit way name r moment named text makes =
     zero_age : IsDurationNanos (pos 0)
     zero_age = grind (arith, ints)
 
-removed_walks : (counts : Counts) (key : List ℕ) (now d : ℤ) (at : List ℕ → Option Kept) (old new : Keyed) (seen : View) (left : Site)
+removed_walks : (counts : Counts) (key : List ℕ) (now d : ℤ) (at : List ℕ → Option Kept) (old new : Keyed) (seen : View)
+    (left : Site)
     (n : List ℕ) (r : Seen) → Walks counts key now d at old seen left → r.cookie.name ≡ n → IsFitChange (Removed r)
     → new.key ≡ old.key → new.jar ≡ with_change old.jar (Removed r) → IsReadableJar new.jar
     → Walks counts key now d at new (with_at seen n None) (with_at left n None)
@@ -171,7 +176,8 @@ removed_walks counts key now d at old new seen left n r w named fit same is read
     λ q. ap (λ (j : Jar). finmap.get j.changes q) is ∙ (get_insert old.jar.changes r.cookie.name (Removed r) q
     ∙ ap (λ m. cond (bytes_eq q m) (Some (Removed r)) (finmap.get old.jar.changes q)) named) in
     record {
-      shows = gone_shows counts key n old new seen w.shows same (λ q. (λ i. overlaid (got q i) (finmap.get (is i).originals q))
+      shows = gone_shows counts key n old new seen w.shows same
+      (λ q. (λ i. overlaid (got q i) (finmap.get (is i).originals q))
           ∙ overlaid_removed (bytes_eq q n) r (finmap.get old.jar.changes q) (finmap.get old.jar.originals q));
       texts = λ q x there. w.texts q x (sym (ap (λ (j : Jar). finmap.get j.originals q) is) ∙ there);
       brought = λ q c. ap (λ (j : Jar). record_in (finmap.get j.originals q)) is ∙ w.brought q c;
@@ -183,12 +189,14 @@ removed_walks counts key now d at old new seen left n r w named fit same is read
           (at q)) (w.leaves q c);
     }
 
-remove_cases : (counts : Counts) (key : List ℕ) (now d : ℤ) (at : List ℕ → Option Kept) (old new : Keyed) (seen : View) (left : Site)
+remove_cases : (counts : Counts) (key : List ℕ) (now d : ℤ) (at : List ℕ → Option Kept) (old new : Keyed) (seen : View)
+    (left : Site)
     (way : Way) (name : List ℕ) (moment : DateTime) (o : Option Seen) → now ≤ℤ d → stored_name way name ≢ []
     → Walks counts key now d at old seen left → finmap.get old.jar.originals (stored_name way name) ≡ o
     → MatchOption o (new.jar ≡ without_change old.jar (stored_name way name)) (λ _. (removal : Seen)
     × MakesRemoval (taken way name) moment removal × (new.jar ≡ with_change old.jar (Removed removal)))
-    → new.key ≡ old.key → IsReadableJar new.jar → Walks counts key now d at new (with_at seen (stored_name way name) None)
+    → new.key ≡ old.key → IsReadableJar new.jar → Walks counts key now d at new
+    (with_at seen (stored_name way name) None)
     (with_at left (stored_name way name) None)
 remove_cases counts key now d at old new seen left way name moment None after named w found removes same readable =
     unchanged_walks counts key now d at old new seen left (stored_name way name) after w found same removes readable
@@ -198,13 +206,17 @@ remove_cases counts key now d at old new seen left way name moment (Some s) afte
     (removal_fit way name removes.0 moment named (w.texts (stored_name way name) s found) removes.1) same removes.2
     readable
 
-take_walks : (counts : Counts) (key : List ℕ) (now d : ℤ) (at : List ℕ → Option Kept) (old new : Keyed) (seen : View) (left : Site)
+take_walks : (counts : Counts) (key : List ℕ) (now d : ℤ) (at : List ℕ → Option Kept) (old new : Keyed) (seen : View)
+    (left : Site)
     (way : Way) (name : List ℕ) (moment : DateTime) → now ≤ℤ d → Walks counts key now d at old seen left
     → TakesOut old way name moment new
-    → Walks counts key now d at new (with_at seen (stored_name way name) None) (with_at left (stored_name way name) None)
+    → Walks counts key now d at new (with_at seen (stored_name way name) None)
+    (with_at left (stored_name way name) None)
 take_walks counts key now d at old new seen left way name moment after w t =
-    remove_cases counts key now d at old new seen left way name moment (finmap.get old.jar.originals (stored_name way name))
-    after (not_nil _ (stored_named way name (sized name t.accepted.0.cookie.expires (sym t.accepted.2)))) w refl t.removes
+    remove_cases counts key now d at old new seen left way name moment
+    (finmap.get old.jar.originals (stored_name way name))
+    after (not_nil _ (stored_named way name (sized name t.accepted.0.cookie.expires (sym t.accepted.2)))) w refl
+    t.removes
     t.key_is
     (taken_readable way name t.accepted.0 moment old.jar new.jar t.removes t.accepted.1 (sym t.accepted.2) w.readable)
 
@@ -239,7 +251,8 @@ GoesOn counts Read key now d at seen left c told new =
     (noted : List Command) × (after : View) × CommandIn Read seen c told noted after
     × Walks counts key now d at new after (left_by_all d left noted)
 
-remove_goes : (counts : Counts) (Read : Gets) (key : List ℕ) (now d : ℤ) (at : List ℕ → Option Kept) (old new : Keyed) (seen : View) (left : Site)
+remove_goes : (counts : Counts) (Read : Gets) (key : List ℕ) (now d : ℤ) (at : List ℕ → Option Kept) (old new : Keyed)
+    (seen : View) (left : Site)
     (way : Way) (name : List ℕ) (told : List Reading) → now ≤ℤ d → EndsLate now
     → Walks counts key now d at old seen left
     → RemoveTells old now way name told new → GoesOn counts Read key now d at seen left (Remove way name) told new
@@ -266,7 +279,8 @@ remove_goes counts Read key now d at old new seen left way (b ∷ bs) told after
     absurd (some_is_not_none t.0 (t.2.2 ∙ ap (λ x. cond x (Some Year) None) (late moment (unsliced (bare (b ∷ bs) []))
     t.2.0 at_now t.2.1)))
 
-one_goes : (counts : Counts) (Read : Gets) → Told counts Read → (key : List ℕ) (now d : ℤ) (at : List ℕ → Option Kept) (old new : Keyed) (seen : View) (left : Site)
+one_goes : (counts : Counts) (Read : Gets) → Told counts Read
+    → (key : List ℕ) (now d : ℤ) (at : List ℕ → Option Kept) (old new : Keyed) (seen : View) (left : Site)
     (c : Command) (told : List Reading) → OnlyOne key → now ≤ℤ d → EndsLate now
     → Walks counts key now d at old seen left
     → CommandTells old now c told new → GoesOn counts Read key now d at seen left c told new
@@ -279,7 +293,8 @@ one_goes counts Read tell key now d at old new seen left (Set way s) told law af
 )
 one_goes counts Read tell key now d at old new seen left (Set way s) told law after late w (inr t) =
     ([], seen, inr (t.0, t.1, t.2, refl, refl), subst (λ k. Walks counts key now d at k seen left) (sym t.3) w)
-one_goes counts Read tell key now d at old new seen left (Remove way name) told law after late w t = remove_goes counts Read key now d at old
+one_goes counts Read tell key now d at old new seen left (Remove way name) told law after late w t = remove_goes counts
+    Read key now d at old
     new seen left way name told after late w t
 one_goes counts Read tell key now d at old new seen left (Get way name) told law after late w t = (
   [],
@@ -296,7 +311,8 @@ left_append : (d : ℤ) (site : Site) (cs ds : List Command) → left_by_all d s
 left_append d site [] ds = refl
 left_append d site (c ∷ cs) ds = left_append d (left_by d site c) cs ds
 
-pub all_go : (counts : Counts) (Read : Gets) → Told counts Read → (key : List ℕ) (now d : ℤ) (at : List ℕ → Option Kept) (old new : Keyed) (seen : View) (left : Site)
+pub all_go : (counts : Counts) (Read : Gets) → Told counts Read
+    → (key : List ℕ) (now d : ℤ) (at : List ℕ → Option Kept) (old new : Keyed) (seen : View) (left : Site)
     (cs : List Command) (told : List Reading) → OnlyOne key → now ≤ℤ d → EndsLate now
     → Walks counts key now d at old seen left
     → Tells old now cs told new → (noted : List Command) × (after : View) × CommandsIn Read seen cs told noted after
@@ -305,7 +321,8 @@ all_go counts Read tell key now d at old new seen left [] told law after late w 
     ([], seen, (t.0, refl, refl), subst (λ k. Walks counts key now d at k seen left) (sym t.1) w)
 all_go counts Read tell key now d at old new seen left (c ∷ cs) told law after late w t =
     let first = one_goes counts Read tell key now d at old t.2 seen left c t.0 law after late w t.3 in
-    let rest = all_go counts Read tell key now d at t.2 new first.1 (left_by_all d left first.0) cs t.1 law after late first.3
+    let rest = all_go counts Read tell key now d at t.2 new first.1 (left_by_all d left first.0) cs t.1 law after late
+    first.3
     t.4 in (
       first.0 ++ rest.0,
       rest.1,

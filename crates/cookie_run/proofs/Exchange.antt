@@ -71,22 +71,28 @@ moved d c cs q x none =
     (λ (e : bytes_eq q c.name ≡ false). rw e refl)
     (cases_Bool (bytes_eq q c.name))
 
-pub record WritesAll (counts : Counts) (host : List ℕ) (now : ℤ) (cs : List Record) (ks : List Kept) (new : List Row) : Type 0 where
+pub record WritesAll (counts : Counts) (host : List ℕ) (now : ℤ) (cs : List Record) (ks : List Kept)
+    (new : List Row) : Type 0 where
   pub cookies : List Kept
   pub agrees : Agrees counts host new cookies
-  pub each : (q : List ℕ) → counts q ≡ true → alive now (found_in cookies q) ≡ over_at now (found_record cs q) (alive now (found_in ks q))
+  pub each : (q : List ℕ) → counts q ≡ true → alive now (found_in cookies q) ≡ over_at now (found_record cs q)
+  (alive now (found_in ks q))
 
-own_lines : (counts : Counts) (key : List ℕ) (laws : Laws key) (list : List Rule) (host : List ℕ) (url : Parts) (now : ℤ)
+own_lines : (counts : Counts) (key : List ℕ) (laws : Laws key) (list : List Rule) (host : List ℕ) (url : Parts)
+    (now : ℤ)
     (cs : List Record) (rows : List Row) (ks : List Kept) (ends : List LineEnd) (new : List Row)
-    → secure_host url ≡ Some host → IsTime now → AllByRecursion IsClosed cs → RecordsApart cs → Agrees counts host rows ks
+    → secure_host url ≡ Some host → IsTime now → AllByRecursion IsClosed cs → RecordsApart cs
+    → Agrees counts host rows ks
     → AcceptsAll list rows url now (map encoded cs) ends new → WritesAll counts host now cs ks new
 own_lines counts key laws list host url now [] rows ks ends new secure time closed apart a t =
     record { cookies = ks; agrees = subst (λ rs. Agrees counts host rs ks) (sym t.1) a; each = λ q c. refl }
 own_lines counts key laws list host url now (c ∷ cs) rows ks [] new secure time closed apart a t = absurd t
 own_lines counts key laws list host url now (c ∷ cs) rows ks (e ∷ ends) new secure time closed apart a t =
-    let first : Writes counts host now (kept_of now c) ks t.0 = own_line counts laws.back laws.utf8 list host url now c rows ks e t.0
+    let first : Writes counts host now (kept_of now c) ks t.0 = own_line counts laws.back laws.utf8 list host url now c
+    rows ks e t.0
     secure time closed.0 a t.1 in
-    let rest : WritesAll counts host now cs first.cookies new = own_lines counts key laws list host url now cs t.0 first.cookies ends
+    let rest : WritesAll counts host now cs first.cookies new = own_lines counts key laws list host url now cs t.0
+    first.cookies ends
     new secure time closed.1 apart.1 first.agrees t.2 in
     record {
       cookies = rest.cookies;
@@ -145,10 +151,12 @@ over_sent d None o after fit = refl
 over_sent d (Some (Added s)) o after fit = refl
 over_sent d (Some (Removed s)) o after fit = removal_dead d s.cookie after fit.1
 
-delivered : (counts : Counts) (key : List ℕ) (laws : Laws key) (list : List Rule) (host : List ℕ) (rows : List Row) (url : Parts)
+delivered : (counts : Counts) (key : List ℕ) (laws : Laws key) (list : List Rule) (host : List ℕ) (rows : List Row)
+    (url : Parts)
     (now at : ℤ) (session : Keyed) (view : View) (left : Site) (ks : List Kept) (new : List Row)
     → secure_host url ≡ Some host → IsTime at
-    → Agrees counts host rows ks → Walks counts key now at (found_in ks) session view left → Delivers list rows url session.jar
+    → Agrees counts host rows ks → Walks counts key now at (found_in ks) session view left
+    → Delivers list rows url session.jar
     (Arrives at) new → SiteAgrees counts key host new at left
 delivered counts key laws list host rows url now at session view left ks new secure time a w d =
     let all = own_lines counts key laws list host url at (records d.0) rows ks d.2.0 new secure time
@@ -174,13 +182,15 @@ abbrev pub IsArrival : ℤ → Arrival → Type 0
 IsArrival now (Arrives at) = IsTime at × (now ≤ℤ at)
 IsArrival now Never = ⊤
 
-pub walked : (counts : Counts) (Read : Gets) → Told counts Read → (key : List ℕ) (laws : Laws key) (host : List ℕ) (rows : List Row) (url : Parts) (now d : ℤ) (site : Site)
+pub walked : (counts : Counts) (Read : Gets) → Told counts Read
+    → (key : List ℕ) (laws : Laws key) (host : List ℕ) (rows : List Row) (url : Parts) (now d : ℤ) (site : Site)
     (cs : List Command) (told : List Reading) (session : Keyed) (header : List ℕ)
     (a : SiteAgrees counts key host rows now site) → secure_host url ≡ Some host → IsReadBack host → now ≤ℤ d
     → EndsLate now → HaveReadPairs rows → IsHeader rows url now header → Serves key header now cs told session
     → (noted : List Command) × (after : View) × CommandsIn Read (live site now) cs told noted after
     × Walks counts key now d (found_in a.cookies) session after (left_by_all d site noted)
-walked counts Read tell key laws host rows url now d site cs told session header a secure reads after late pairs is serves =
+walked counts Read tell key laws host rows url now d site cs told session header a secure reads after late pairs is
+    serves =
     let brought = brings counts key now a.cookies header serves.0 a.agrees.apart
     (header_last counts host url now rows a.cookies header secure reads pairs a.agrees is) serves.1 in
     all_go counts Read tell key now d (found_in a.cookies) serves.0 session (live site now) site cs told laws.only after
@@ -192,14 +202,17 @@ ExchangeIn Read site now commands arrival told new =
     (noted : List Command) × (after : View) × CommandsIn Read (live site now) commands told noted after
     × (new ≡ after_arrival arrival site noted)
 
-pub exchanged : (counts : Counts) (Read : Gets) → Told counts Read → (key : List ℕ) (laws : Laws key) (list : List Rule) (host : List ℕ) (rows new : List Row) (url : Parts)
+pub exchanged : (counts : Counts) (Read : Gets) → Told counts Read
+    → (key : List ℕ) (laws : Laws key) (list : List Rule) (host : List ℕ) (rows new : List Row) (url : Parts)
     (now : ℤ) (site : Site) (cs : List Command) (arrival : Arrival) (told : List Reading) (header : List ℕ)
     (session : Keyed) → secure_host url ≡ Some host → IsReadBack host → EndsLate now → IsArrival now arrival
     → SiteAgrees counts key host rows now site → HaveReadPairs rows → IsHeader rows url now header
     → Serves key header now cs told session → Delivers list rows url session.jar arrival new
-    → (after : Site) × ExchangeIn Read site now cs arrival told after × SiteAgrees counts key host new (end_moment now arrival)
+    → (after : Site) × ExchangeIn Read site now cs arrival told after
+    × SiteAgrees counts key host new (end_moment now arrival)
     after
-exchanged counts Read tell key laws list host rows new url now site cs Never told header session secure reads late time a pairs is serves
+exchanged counts Read tell key laws list host rows new url now site cs Never told header session secure reads late time
+    a pairs is serves
     d =
     let w = walked counts Read tell key laws host rows url now now site cs told session header a secure reads (same now)
     late pairs is serves in
@@ -207,7 +220,8 @@ exchanged counts Read tell key laws list host rows new url now site cs Never tol
   where
     same : (n : ℤ) → n ≤ℤ n
     same n = omega (arith, signed_arith)
-exchanged counts Read tell key laws list host rows new url now site cs (Arrives at) told header session secure reads late time a
+exchanged counts Read tell key laws list host rows new url now site cs (Arrives at) told header session secure reads
+    late time a
     pairs is serves d =
     let w = walked counts Read tell key laws host rows url now at site cs told session header a secure reads time.1 late
     pairs is serves in (

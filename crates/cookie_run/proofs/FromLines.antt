@@ -151,7 +151,8 @@ module _ (P : Row → Type 0) (ends : (r : Row) → P r → P (expired r)) (apar
   -- ---- a line is taken
 
   module _ (Time : ℤ → Type 0) (own : (line : List ℕ) (s : Seen) (url : Parts) (now : ℤ) (made : Row) → Time now
-      → ¬ (IsAgainstHost url line) → IsUtf8 line → ReadsPlain line (Ok s) → IsMade (unsliced s.cookie) url now made → P made) where
+      → ¬ (IsAgainstHost url line) → IsUtf8 line → ReadsPlain line (Ok s) → IsMade (unsliced s.cookie) url now made
+      → P made) where
     read_from : (list : List Rule) (url : Parts) (now : ℤ) (line : List ℕ) (rows : List Row)
         (end : Result StoreAction CookieError) (new : List Row) (o : Result Seen ParseError) → Time now
         → ¬ (IsAgainstHost url line) → IsUtf8 line → ReadsPlain line o → All rows

@@ -183,7 +183,8 @@ all_rows counts host [] all h = refl
 all_rows counts host (r ∷ rs) all h =
     ⊎_elim
     (λ (own : is_own counts host r ≡ true). cond-true _ _ _ own ∙ ap (λ x. r ∷ x) (all_rows counts host rs all h.1))
-    (λ (other : is_own counts host r ≡ false). absurd (both_ways _ (h.0 other) (all (percent_decode r.raw.cookie.name))))
+    (λ (other : is_own counts host r ≡ false). absurd
+    (both_ways _ (h.0 other) (all (percent_decode r.raw.cookie.name))))
     (cases_Bool (is_own counts host r))
 
 pub picked_all : (P Is : Row → Type 0) (rows picked : List Row) → AllByRecursion P rows → ArePicked Is rows picked

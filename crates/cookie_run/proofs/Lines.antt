@@ -193,7 +193,8 @@ row_is host url now c s made secure time closed reads is m = record {
 
 -- ---- A LINE OF A SESSION
 
-pub settles_writes : (counts : Counts) (host : List ℕ) (url : Parts) (now : ℤ) (k : Kept) (row : Row) (rows : List Row) (ks : List Kept)
+pub settles_writes : (counts : Counts) (host : List ℕ) (url : Parts) (now : ℤ) (k : Kept) (row : Row) (rows : List Row)
+    (ks : List Kept)
     (end : Result StoreAction CookieError) (new : List Row) → secure_host url ≡ Some host → IsTime now
     → IsRowOf host k row → IsGoodKept k → Agrees counts host rows ks
     → Fits rows url now row (end, new) → Writes counts host now k ks new
@@ -203,17 +204,21 @@ settles_writes counts host url now k row rows ks end new secure time h hk a (inl
 settles_writes counts host url now k row rows ks end new secure time h hk a (inr (covers, inl guarded)) = absurd
     (guarded.0.1 (is_http host url secure))
 settles_writes counts host url now k row rows ks end new secure time h hk a (inr (covers, inr free)) =
-    subst (Writes counts host now k ks) (sym (ap (λ (p : End). p.1) free.1)) (sent_writes counts host now k row rows ks h hk a
+    subst (Writes counts host now k ks) (sym (ap (λ (p : End). p.1) free.1))
+    (sent_writes counts host now k row rows ks h hk a
     time.after)
 
-pub admits_writes : (counts : Counts) (list : List Rule) (host : List ℕ) (url : Parts) (now : ℤ) (k : Kept) (row : Row) (rows : List Row)
+pub admits_writes : (counts : Counts) (list : List Rule) (host : List ℕ) (url : Parts) (now : ℤ) (k : Kept) (row : Row)
+    (rows : List Row)
     (ks : List Kept) (end : Result StoreAction CookieError) (new : List Row) → secure_host url ≡ Some host → IsTime now
     → IsRowOf host k row → IsGoodKept k → Agrees counts host rows ks
     → Admits list rows url now row (end, new) → Writes counts host now k ks new
-admits_writes counts list host url now k row rows ks end new secure time h hk a (inl unlisted) = settles_writes counts host url now k
+admits_writes counts list host url now k row rows ks end new secure time h hk a (inl unlisted) = settles_writes counts
+    host url now k
     row rows ks end new secure time h hk a unlisted.1
 admits_writes counts list host url now k row rows ks end new secure time h hk a (inr (inl own)) =
-    settles_writes counts host url now k (record row { domain = host_only (domain_text row) }) rows ks end new secure time
+    settles_writes counts host url now k (record row { domain = host_only (domain_text row) }) rows ks end new secure
+    time
     (record {
       domain = ap host_only (ap (λ (d : Domain). unwrap_or (text_of d) []) h.domain);
       path = h.path;
@@ -227,16 +232,19 @@ admits_writes counts list host url now k row rows ks end new secure time h hk a 
     absurd (listed.1 (subst (λ o. IsSomeAnd o (λ g. text_of row.domain ≡ Some g)) (sym (https_of host url secure).1)
     (ap text_of h.domain)))
 
-pub inserts_writes : (counts : Counts) (list : List Rule) (host : List ℕ) (url : Parts) (now : ℤ) (k : Kept) (row : Row) (rows : List Row)
+pub inserts_writes : (counts : Counts) (list : List Rule) (host : List ℕ) (url : Parts) (now : ℤ) (k : Kept) (row : Row)
+    (rows : List Row)
     (ks : List Kept) (end : Result StoreAction CookieError) (new : List Row) → secure_host url ≡ Some host → IsTime now
     → IsRowOf host k row → IsGoodKept k → Agrees counts host rows ks
     → Inserts list rows url now row (end, new) → Writes counts host now k ks new
 inserts_writes counts list host url now k row rows ks end new secure time h hk a (inl barred) = absurd
     (barred.0.1 (is_http host url secure))
-inserts_writes counts list host url now k row rows ks end new secure time h hk a (inr allowed) = admits_writes counts list host url
+inserts_writes counts list host url now k row rows ks end new secure time h hk a (inr allowed) = admits_writes counts
+    list host url
     now k row rows ks end new secure time h hk a allowed.1
 
-pub read_writes : (counts : Counts) (list : List Rule) (host : List ℕ) (url : Parts) (now : ℤ) (c : Record) (rows : List Row)
+pub read_writes : (counts : Counts) (list : List Rule) (host : List ℕ) (url : Parts) (now : ℤ) (c : Record)
+    (rows : List Row)
     (ks : List Kept) (end : Result StoreAction CookieError) (new : List Row) (o : Result Seen ParseError)
     → secure_host url ≡ Some host → IsTime now → IsClosed c → Agrees counts host rows ks
     → ReadsPlain (encoded c) o → ReadsBack c o → InsertsRead list rows url now o (end, new)
@@ -269,7 +277,8 @@ not_against law host url c secure sent readable against =
     )
 
 -- it writes what it sends
-pub own_line : (counts : Counts) (law : ReadingBack) (utf8 : (c : Record) → IsClosed c → IsUtf8 (encoded c)) (list : List Rule)
+pub own_line : (counts : Counts) (law : ReadingBack) (utf8 : (c : Record) → IsClosed c → IsUtf8 (encoded c))
+    (list : List Rule)
     (host : List ℕ) (url : Parts) (now : ℤ) (c : Record) (rows : List Row) (ks : List Kept) (end : LineEnd)
     (new : List Row) → secure_host url ≡ Some host → IsTime now → IsClosed c → Agrees counts host rows ks
     → Accepts list rows url now (encoded c) end new → Writes counts host now (kept_of now c) ks new

@@ -130,8 +130,10 @@ rows_map counts host f h (r ∷ rs) =
     (cases_Bool (is_own counts host r))
 
 -- those that aren't the host's, each changed in its place
-pub rows_map_other : (counts : Counts) (host : List ℕ) (f : Row → Row) → ((r : Row) → is_own counts host (f r) ≡ is_own counts host r)
-    → ((r : Row) → is_own counts host r ≡ true → f r ≡ r) → (rows : List Row) → rows_of counts host (map f rows) ≡ rows_of counts host rows
+pub rows_map_other : (counts : Counts) (host : List ℕ) (f : Row → Row)
+    → ((r : Row) → is_own counts host (f r) ≡ is_own counts host r)
+    → ((r : Row) → is_own counts host r ≡ true → f r ≡ r) → (rows : List Row)
+    → rows_of counts host (map f rows) ≡ rows_of counts host rows
 rows_map_other counts host f h g [] = refl
 rows_map_other counts host f h g (r ∷ rs) =
     ⊎_elim
@@ -167,7 +169,8 @@ own_behind counts host test row [] own all = rw own refl
 own_behind counts host test row (r ∷ rs) own all =
     ⊎_elim
     (λ (t : (test r && not (list_any test rs)) ≡ true).
-    let none : rows_of counts host rs ≡ [] = no_own counts host test rs all.1 (last_one (test r) (list_any test rs) t) in
+    let none : rows_of counts host rs ≡ [] = no_own counts host test rs all.1 (last_one (test r) (list_any test rs) t)
+    in
     rw (t, own) (rw none (front (is_own counts host r))))
     (λ (t : (test r && not (list_any test rs)) ≡ false).
     rw t (rw (own_behind counts host test row rs own all.1) (pushed (is_own counts host r) (rows_of counts host rs))))
@@ -182,12 +185,14 @@ own_behind counts host test row (r ∷ rs) own all =
     front true = refl
     front false = refl
 
-    pushed : (b : Bool) (xs : List Row) → cond b (r ∷ (xs ++ row ∷ [])) (xs ++ row ∷ []) ≡ cond b (r ∷ xs) xs ++ row ∷ []
+    pushed : (b : Bool) (xs : List Row) → cond b (r ∷ (xs ++ row ∷ [])) (xs ++ row ∷ []) ≡ cond b (r ∷ xs) xs ++ row ∷
+        []
     pushed true xs = refl
     pushed false xs = refl
 
 -- a row of another goes nowhere among them
-pub other_behind : (counts : Counts) (host : List ℕ) (test : Row → Bool) (row : Row) (rows : List Row) → is_own counts host row ≡ false
+pub other_behind : (counts : Counts) (host : List ℕ) (test : Row → Bool) (row : Row) (rows : List Row)
+    → is_own counts host row ≡ false
     → rows_of counts host (behind_last test row rows) ≡ rows_of counts host rows
 other_behind counts host test row [] other = rw other refl
 other_behind counts host test row (r ∷ rs) other =
@@ -207,10 +212,12 @@ here counts host [] r rest good p = absurd p
 here counts host (d ∷ ds) r rest good p = (d, ds, refl, p.0, good.0, good.1, p.1)
 
 pub walk : (counts : Counts) (host : List ℕ) (Q : List Kept → List Row → Type 0) → Q [] []
-    → ((d : Kept) (r : Row) (ds : List Kept) (rs : List Row) → is_own counts host r ≡ true → IsRowOf host d r → IsGoodKept d
+    → ((d : Kept) (r : Row) (ds : List Kept) (rs : List Row) → is_own counts host r ≡ true → IsRowOf host d r
+    → IsGoodKept d
     → Q ds rs → Q (d ∷ ds) (r ∷ rs))
     → ((r : Row) (ds : List Kept) (rs : List Row) → is_own counts host r ≡ false → Q ds rs → Q ds (r ∷ rs))
-    → (rows : List Row) (ks : List Kept) → AllByRecursion IsGoodKept ks → Pairwise (IsRowOf host) ks (rows_of counts host rows)
+    → (rows : List Row) (ks : List Kept) → AllByRecursion IsGoodKept ks
+    → Pairwise (IsRowOf host) ks (rows_of counts host rows)
     → Q ks rows
 walk counts host Q base own other [] [] good p = base
 walk counts host Q base own other [] (k ∷ ks) good p = absurd p
@@ -219,7 +226,8 @@ walk counts host Q base own other (r ∷ rs) ks good p =
     (λ (e : is_own counts host r ≡ true).
     let h = here counts host ks r (rows_of counts host rs) good
     (subst (λ b. Pairwise (IsRowOf host) ks (cond b (r ∷ rows_of counts host rs) (rows_of counts host rs))) e p) in
-    subst (λ xs. Q xs (r ∷ rs)) (sym h.2) (own h.0 r h.1 rs e h.3 h.4 (walk counts host Q base own other rs h.1 h.5 h.6)))
+    subst (λ xs. Q xs (r ∷ rs)) (sym h.2) (own h.0 r h.1 rs e h.3 h.4
+    (walk counts host Q base own other rs h.1 h.5 h.6)))
     (λ (e : is_own counts host r ≡ false).
     other r ks rs e
     (walk counts host Q base own other rs ks good

@@ -1,5 +1,6 @@
 -- What the program answers, put together of what its steps say.
-use Rattle.std.proofs.Common.{◌≡◌, ◌≢◌, ◌⊎◌, ℕ, ℤ, List, [], ◌++◌, Option, Some, None, Result, Ok, Err, inl, inr, refl, sym}
+use Rattle.std.proofs.Common.{◌≡◌, ◌≢◌, ◌⊎◌, ℕ, ℤ, List, [], ◌++◌, Option, Some, None, Result, Ok, Err, inl, inr, refl}
+use Rattle.std.proofs.Common.{sym}
 use Rattle.std.proofs.Common.{subst, ap, ◌∙◌}
 use Rattle.std.specs.Prelude.{IfOk, IsErrOf, ◌↔◌, false}
 use Rattle.std.specs.Str.{IsUtf8}
@@ -7,7 +8,8 @@ use Rattle.publicsuffix.specs.declared.error.ListError.{ListError}
 use Rattle.publicsuffix.specs.declared.error.ListError.TheVariants as list
 use Rattle.publicsuffix.specs.Rules.{Rule, HasRules, HasFirstFault}
 use Rattle.cookie_store.specs.Rows.{Row, Store}
-use Rattle.cookie_store.specs.SavedTexts.{OfText, IsAnyBeforeYears, IsReadFault, IsRonRefusal, IsSaveFault, IsWriteFault}
+use Rattle.cookie_store.specs.SavedTexts.{OfText, IsAnyBeforeYears, IsReadFault, IsRonRefusal, IsSaveFault}
+use Rattle.cookie_store.specs.SavedTexts.{IsWriteFault}
 use Rattle.store_parts.specs.declared.error.Error.{Error}
 use Rattle.store_parts.specs.declared.error.Error.TheVariants.{Io, OutOfMemory, Year}
 use Rattle.cookie_run.specs.Program.{Asked, AreLoaded, Begins, Devices, OfDevices, Plays, PlayFails, Ends, Fails}

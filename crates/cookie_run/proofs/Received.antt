@@ -54,7 +54,8 @@ own_key counts host row r e =
     λ i. counts (percent_decode (key_name row r e i)) && bytes_eq (key_domain row r e i) host
 
 -- a row that isn't one of these has another key
-pub other_key : (counts : Counts) (host : List ℕ) (row r : Row) → is_own counts host row ≡ true → is_own counts host r ≡ false
+pub other_key : (counts : Counts) (host : List ℕ) (row r : Row) → is_own counts host row ≡ true
+    → is_own counts host r ≡ false
     → has_key_of row r ≡ false
 other_key counts host row r own other =
     ⊎_elim
@@ -65,7 +66,8 @@ other_key counts host row r own other =
 -- ---- is there one of its key, and a live one
 
 pub key_there : (counts : Counts) (host : List ℕ) (k : Kept) (row : Row) → IsRowOf host k row → IsGoodKept k
-    → is_own counts host row ≡ true → (rows : List Row) (ks : List Kept) → AllByRecursion IsGoodKept ks → Pairwise (IsRowOf host) ks (rows_of counts host rows)
+    → is_own counts host row ≡ true → (rows : List Row) (ks : List Kept) → AllByRecursion IsGoodKept ks
+    → Pairwise (IsRowOf host) ks (rows_of counts host rows)
     → list_any (has_key_of row) rows ≡ is_some (found_in ks k.name)
 key_there counts host k row h hk mine =
     walk counts host (λ ks rows. list_any (has_key_of row) rows ≡ is_some (found_in ks k.name)) refl
@@ -100,7 +102,8 @@ none_alive now n d o e rest =
     (cases_Bool (bytes_eq n d.name))
 
 pub none_live : (counts : Counts) (host : List ℕ) (now : ℤ) (k : Kept) (row : Row) → IsRowOf host k row → IsGoodKept k
-    → (rows : List Row) (ks : List Kept) → AllByRecursion IsGoodKept ks → Pairwise (IsRowOf host) ks (rows_of counts host rows)
+    → (rows : List Row) (ks : List Kept) → AllByRecursion IsGoodKept ks
+    → Pairwise (IsRowOf host) ks (rows_of counts host rows)
     → list_any (is_live_of now row) rows ≡ false → alive now (found_in ks k.name) ≡ None
 none_live counts host now k row h hk =
     walk counts host (λ ks rows. list_any (is_live_of now row) rows ≡ false → alive now (found_in ks k.name) ≡ None)
@@ -161,7 +164,8 @@ all_inserted P row rows g all =
 -- ---- A ROW OF THE HOST whose name counts
 
 -- the rows after it hold, up to what is dead then, the old ones with this one written, where its name counts
-pub record Writes (counts : Counts) (host : List ℕ) (now : ℤ) (k : Kept) (ks : List Kept) (new : List Row) : Type 0 where
+pub record Writes (counts : Counts) (host : List ℕ) (now : ℤ) (k : Kept) (ks : List Kept) (new : List Row) : Type 0
+    where
   pub cookies : List Kept
   pub agrees : Agrees counts host new cookies
   pub each : (q : List ℕ) → counts q ≡ true → alive now (found_in cookies q) ≡ cond (bytes_eq q k.name)
@@ -211,7 +215,8 @@ replaced_own counts host row r =
     (λ (e : has_key_of row r ≡ false). ap (λ b. is_own counts host (cond b row r)) e)
     (cases_Bool (has_key_of row r))
 
-pub replaced_other : (counts : Counts) (host : List ℕ) (row : Row) → IsOther counts host row → (r : Row) → IsOther counts host r
+pub replaced_other : (counts : Counts) (host : List ℕ) (row : Row) → IsOther counts host row → (r : Row)
+    → IsOther counts host r
     → IsOther counts host (cond (has_key_of row r) row r)
 replaced_other counts host row g r h =
     ⊎_elim
@@ -241,7 +246,8 @@ over_alive now k q (Some d) named there =
 pub own_other : (counts : Counts) (host : List ℕ) (row : Row) → is_own counts host row ≡ true → IsOther counts host row
 own_other counts host row own other = absurd (both_ways _ other own)
 
-pub replaced_writes : (counts : Counts) (host : List ℕ) (now : ℤ) (k : Kept) (row : Row) (rows : List Row) (ks : List Kept)
+pub replaced_writes : (counts : Counts) (host : List ℕ) (now : ℤ) (k : Kept) (row : Row) (rows : List Row)
+    (ks : List Kept)
     → IsRowOf host k row → IsGoodKept k → is_own counts host row ≡ true → Agrees counts host rows ks
     → list_any (has_key_of row) rows ≡ true → Writes counts host now k ks (replaced row rows)
 replaced_writes counts host now k row rows ks h hk mine a there =
@@ -274,7 +280,8 @@ pub alive_cond : (now : ℤ) (b : Bool) (x y : Option Kept) → alive now (cond 
 alive_cond now true x y = refl
 alive_cond now false x y = refl
 
-pub inserted_writes : (counts : Counts) (host : List ℕ) (now : ℤ) (k : Kept) (row : Row) (rows : List Row) (ks : List Kept)
+pub inserted_writes : (counts : Counts) (host : List ℕ) (now : ℤ) (k : Kept) (row : Row) (rows : List Row)
+    (ks : List Kept)
     → IsRowOf host k row → IsGoodKept k → is_own counts host row ≡ true → Agrees counts host rows ks
     → list_any (has_key_of row) rows ≡ false → Writes counts host now k ks (inserted row rows)
 inserted_writes counts host now k row rows ks h hk mine a there =
@@ -284,12 +291,14 @@ inserted_writes counts host now k row rows ks h hk mine a there =
       cookies = ks ++ k ∷ [];
       agrees = record {
         good = all_push IsGoodKept k ks hk a.good;
-        own = subst (Pairwise (IsRowOf host) (ks ++ k ∷ [])) (sym (own_inserted counts host k row rows ks h mine a.good a.own))
+        own = subst (Pairwise (IsRowOf host) (ks ++ k ∷ []))
+        (sym (own_inserted counts host k row rows ks h mine a.good a.own))
             (pairwise_push (IsRowOf host) k row ks (rows_of counts host rows) h a.own);
         apart = apart_push k ks a.apart none;
         others = all_inserted (IsOther counts host) row rows (own_other counts host row mine) a.others;
       };
-      each = λ q c. ap (alive now) (found_push k ks q none) ∙ alive_cond now (bytes_eq q k.name) (Some k) (found_in ks q);
+      each = λ q c. ap (alive now) (found_push k ks q none)
+      ∙ alive_cond now (bytes_eq q k.name) (Some k) (found_in ks q);
     }
 
 -- as the end of a live one
@@ -345,7 +354,8 @@ pub epoch_own : (counts : Counts) (host : List ℕ) (b : Bool) (r : Row)
 epoch_own counts host true r = refl
 epoch_own counts host false r = refl
 
-pub epoch_other : (counts : Counts) (host : List ℕ) (b : Bool) (r : Row) → IsOther counts host r → IsOther counts host (cond b (at_epoch r) r)
+pub epoch_other : (counts : Counts) (host : List ℕ) (b : Bool) (r : Row) → IsOther counts host r
+    → IsOther counts host (cond b (at_epoch r) r)
 epoch_other counts host true r h = h
 epoch_other counts host false r h = h
 
@@ -397,12 +407,14 @@ ended_writes counts host now k row rows ks h hk a after dead = record {
     others = all_rows_map (IsOther counts host) (λ r. cond (is_live_of now row r) (at_epoch r) r)
         (λ r g. epoch_other counts host (is_live_of now row r) r g) rows a.others;
   };
-  each = λ q c. ap (alive now) (found_map (ending now k) (ending_named now k) ks q) ∙ ending_alive now k q (found_in ks q)
+  each = λ q c. ap (alive now) (found_map (ending now k) (ending_named now k) ks q)
+  ∙ ending_alive now k q (found_in ks q)
       after dead (found_named ks q);
 }
 
 -- as nothing
-pub refused_writes : (counts : Counts) (host : List ℕ) (now : ℤ) (k : Kept) (row : Row) (rows : List Row) (ks : List Kept)
+pub refused_writes : (counts : Counts) (host : List ℕ) (now : ℤ) (k : Kept) (row : Row) (rows : List Row)
+    (ks : List Kept)
     → IsRowOf host k row → IsGoodKept k → Agrees counts host rows ks → is_dead now k.death ≡ true
     → list_any (is_live_of now row) rows ≡ false → Writes counts host now k ks rows
 refused_writes counts host now k row rows ks h hk a dead none = record {
@@ -416,7 +428,8 @@ refused_writes counts host now k row rows ks h hk a dead none = record {
       (cases_Bool (bytes_eq q k.name));
 }
 
-pub settled_writes : (counts : Counts) (host : List ℕ) (now : ℤ) (k : Kept) (row : Row) (rows : List Row) (ks : List Kept)
+pub settled_writes : (counts : Counts) (host : List ℕ) (now : ℤ) (k : Kept) (row : Row) (rows : List Row)
+    (ks : List Kept)
     → IsRowOf host k row → IsGoodKept k → is_own counts host row ≡ true → Agrees counts host rows ks → pos 0 ≤ℤ now
     → Writes counts host now k ks (settled rows now row).1
 settled_writes counts host now k row rows ks h hk mine a after =
@@ -424,15 +437,19 @@ settled_writes counts host now k row rows ks h hk mine a after =
     (λ (d : is_dead now row.death ≡ true).
     let dead : is_dead now k.death ≡ true = subst (λ x. is_dead now x ≡ true) h.death d in
     ⊎_elim
-    (λ (e : list_any (is_live_of now row) rows ≡ true). rw (d, e) (ended_writes counts host now k row rows ks h hk a after
+    (λ (e : list_any (is_live_of now row) rows ≡ true). rw (d, e)
+    (ended_writes counts host now k row rows ks h hk a after
     dead))
-    (λ (e : list_any (is_live_of now row) rows ≡ false). rw (d, e) (refused_writes counts host now k row rows ks h hk a dead
+    (λ (e : list_any (is_live_of now row) rows ≡ false). rw (d, e)
+    (refused_writes counts host now k row rows ks h hk a dead
     e))
     (cases_Bool (list_any (is_live_of now row) rows)))
     (λ (d : is_dead now row.death ≡ false).
     ⊎_elim
-    (λ (e : list_any (has_key_of row) rows ≡ true). rw (d, e) (replaced_writes counts host now k row rows ks h hk mine a e))
-    (λ (e : list_any (has_key_of row) rows ≡ false). rw (d, e) (inserted_writes counts host now k row rows ks h hk mine a e))
+    (λ (e : list_any (has_key_of row) rows ≡ true). rw (d, e)
+    (replaced_writes counts host now k row rows ks h hk mine a e))
+    (λ (e : list_any (has_key_of row) rows ≡ false). rw (d, e)
+    (inserted_writes counts host now k row rows ks h hk mine a e))
     (cases_Bool (list_any (has_key_of row) rows)))
     (cases_Bool (is_dead now row.death))
 

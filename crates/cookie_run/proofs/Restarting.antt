@@ -21,7 +21,8 @@ use Rattle.cookie_run.specs.Keeping.{Keeps, HasReadPair, HaveReadPairs}
 use Rattle.cookie_run.specs.Site.{Held, Site, live_at, is_lasting, lasting_at, restarted}
 use Rattle.cookie_run.proofs.Exchange.{SiteAgrees}
 use Rattle.cookie_run.proofs.Kepts.{Kept, found_in, pass, found_filter, apart_filter, all_filter}
-use Rattle.cookie_run.proofs.OwnRows.{Counts, is_own, rows_of, IsRowOf, IsGoodKept, IsOther, IsWholeSecond, Agrees, walk}
+use Rattle.cookie_run.proofs.OwnRows.{Counts, is_own, rows_of, IsRowOf, IsGoodKept, IsOther, IsWholeSecond, Agrees}
+use Rattle.cookie_run.proofs.OwnRows.{walk}
 use Rattle.cookie_run.proofs.OwnRows.{own_is}
 use Rattle.cookie_run.proofs.OwnRows.{first_and}
 use Rattle.cookie_run.proofs.ReadBack.{escaped_pair}
@@ -62,7 +63,8 @@ reread_row again host k r loaded good h g =
 -- a row's name stays
 same_name : (again : PairsReadAgain) (r loaded : Row) → HasReadPair r → IsReread r loaded
     → loaded.raw.cookie.name ≡ r.raw.cookie.name
-same_name again r loaded own g = ap (λ (s : Seen). s.cookie.name) g.raw ∙ (again r.raw.cookie (Ok g.seen) own g.reads).pair.0
+same_name again r loaded own g = ap (λ (s : Seen). s.cookie.name) g.raw
+    ∙ (again r.raw.cookie (Ok g.seen) own g.reads).pair.0
 
 -- ---- the rows
 
@@ -72,20 +74,24 @@ lasts now k = is_lasting now k.death
 -- these rows stand for what lasts of this, and no other one is given to the host
 abbrev StandFor : Counts → List ℕ → ℤ → List Kept → List Row → Type 0
 StandFor counts host now ks rows =
-    Pairwise (IsRowOf host) (filter (lasts now) ks) (rows_of counts host rows) × AllByRecursion (IsOther counts host) rows
+    Pairwise (IsRowOf host) (filter (lasts now) ks) (rows_of counts host rows)
+    × AllByRecursion (IsOther counts host) rows
 
 -- so do those that are kept of the rows
 abbrev KeptAs : Counts → List ℕ → ℤ → List Kept → List Row → Type 0
 KeptAs counts host now ks rows =
-    HaveReadPairs rows → AllByRecursion (IsOther counts host) rows → (read : List Row) → Pairwise IsReread (saved now rows) read
+    HaveReadPairs rows → AllByRecursion (IsOther counts host) rows → (read : List Row)
+    → Pairwise IsReread (saved now rows) read
     → StandFor counts host now ks (live now read)
 
 kept_none : (counts : Counts) (host : List ℕ) (now : ℤ) → KeptAs counts host now [] []
 kept_none counts host now pairs others [] p = (tt, tt)
 kept_none counts host now pairs others (x ∷ xs) p = absurd p
 
-own_kept : (counts : Counts) (host : List ℕ) (now : ℤ) (d : Kept) (x : Row) (ds : List Kept) (xs : List Row) → IsRowOf host d x
-    → is_own counts host x ≡ true → lasts now d ≡ true → StandFor counts host now ds (live now xs) → StandFor counts host now (d ∷ ds) (live now (x ∷ xs))
+own_kept : (counts : Counts) (host : List ℕ) (now : ℤ) (d : Kept) (x : Row) (ds : List Kept) (xs : List Row)
+    → IsRowOf host d x
+    → is_own counts host x ≡ true → lasts now d ≡ true → StandFor counts host now ds (live now xs)
+    → StandFor counts host now (d ∷ ds) (live now (x ∷ xs))
 own_kept counts host now d x ds xs own mine lasting tail =
     let death : is_lasting now x.death ≡ true = ap (is_lasting now) own.death ∙ lasting in
     let lives : is_live now x ≡ true = first_and (is_live now x) (is_some x.death) death in
@@ -98,7 +104,8 @@ own_kept counts host now d x ds xs own mine lasting tail =
           ((λ other. absurd (both_ways _ other mine)), tail.1),
     )
 
-own_step : (counts : Counts) (again : PairsReadAgain) (host : List ℕ) (now : ℤ) (d : Kept) (r : Row) (ds : List Kept) (rs : List Row)
+own_step : (counts : Counts) (again : PairsReadAgain) (host : List ℕ) (now : ℤ) (d : Kept) (r : Row) (ds : List Kept)
+    (rs : List Row)
     → is_own counts host r ≡ true → IsGoodKept d → IsRowOf host d r → KeptAs counts host now ds rs
     → KeptAs counts host now (d ∷ ds) (r ∷ rs)
 own_step counts again host now d r ds rs own good h rest pairs others read p = by (is_saved now r) refl read p

@@ -138,7 +138,8 @@ named_cond : (q : List ℕ) (b : Bool) (kept : Seen) (o : Option Seen) → (b �
 named_cond q true kept o h g = h refl
 named_cond q false kept o h g = g
 
-kept_shows : (counts : List ℕ → Bool) (key : List ℕ) (old new : Keyed) (seen : View) (way : Way) (s kept : Seen) → Shows counts key old seen
+kept_shows : (counts : List ℕ → Bool) (key : List ℕ) (old new : Keyed) (seen : View) (way : Way) (s kept : Seen)
+    → Shows counts key old seen
     → new.key ≡ old.key → new.jar ≡ with_change old.jar (Added kept)
     → kept.cookie.name ≡ stored_name way s.cookie.name → StandsAs key (stored_name way s.cookie.name)
     (kind_of way) s.cookie.value kept.cookie.value
@@ -159,7 +160,8 @@ kept_shows counts key old new seen way s kept h same_key changed name stands =
           (sym (same_text q n e)) stands) (h.each q c));
     }
 
-pub set_shows : (counts : List ℕ → Bool) (key : List ℕ) (old new : Keyed) (seen : View) (way : Way) (s : Seen) → Shows counts key old seen
+pub set_shows : (counts : List ℕ → Bool) (key : List ℕ) (old new : Keyed) (seen : View) (way : Way) (s : Seen)
+    → Shows counts key old seen
     → Sets any_nonce old way s new → Shows counts key new (with_at seen (stored_name way s.cookie.name)
     (Some (entry_of way s.cookie)))
 set_shows counts key old new seen way s h sets =

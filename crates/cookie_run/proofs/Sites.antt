@@ -95,7 +95,8 @@ AnswersAway counts list host (Answers url lines at) = AreAway counts list host u
 AnswersAway counts list host (Asks url at) = ⊤
 AnswersAway counts list host (Restarts at) = ⊤
 
-delivered_other : (counts : Counts) (list : List Rule) (host : List ℕ) (rows : List Row) (url : Parts) (now : ℤ) (cs : List Command)
+delivered_other : (counts : Counts) (list : List Rule) (host : List ℕ) (rows : List Row) (url : Parts) (now : ℤ)
+    (cs : List Command)
     (jar : Jar) (arrival : Arrival) (new : List Row) (ks : List Kept) → secure_host url ≢ Some host
     → AnswersAway counts list host (Visits url now cs arrival)
     → Agrees counts host rows ks → Delivers list rows url jar arrival new → Agrees counts host new ks
@@ -104,7 +105,8 @@ delivered_other counts list host rows url now cs jar Never new ks other away a d
 delivered_other counts list host rows url now cs jar (Arrives at) new ks other away a d = other_lines counts list
     host url at (lines_of d.0) rows ks d.2.0 new (inl (away other)) a d.2.1
 
-with_rows : (counts : Counts) (key host : List ℕ) (rows new : List Row) (now : ℤ) (site : Site) (a : SiteAgrees counts key host rows now site)
+with_rows : (counts : Counts) (key host : List ℕ) (rows new : List Row) (now : ℤ) (site : Site)
+    (a : SiteAgrees counts key host rows now site)
     → Agrees counts host new a.cookies → SiteAgrees counts key host new now site
 with_rows counts key host rows new now site a agrees = record { cookies = a.cookies; agrees = agrees; each = a.each }
 
@@ -135,7 +137,8 @@ act_leads counts Read tell key laws late list host (Visits url at commands arriv
     ⊎_elim
     (λ (e : is_text host (secure_host url) ≡ true).
     let here = host_is host (secure_host url) e in
-    let x = exchanged counts Read tell key laws list host rows new url at site commands arrival told p.0 p.2.0 here reads
+    let x = exchanged counts Read tell key laws list host rows new url at site commands arrival told p.0 p.2.0 here
+    reads
     (late at follows.0.is_moment) (arrives at arrival follows.1) now pairs p.1 p.2.1 p.2.2 in
     (x.0, ((λ h. x.1), (λ other. absurd (other here))), x.2))
     (λ (e : is_text host (secure_host url) ≡ false).
@@ -143,7 +146,8 @@ act_leads counts Read tell key laws late list host (Visits url at commands arriv
       site,
       ((λ here. absurd (other here)), (λ h. refl)),
       agrees_later counts key host new at (end_moment at arrival) site (late_arrival at arrival follows.1)
-          (with_rows counts key host rows new at site now (delivered_other counts list host rows url at commands p.2.0.jar
+          (with_rows counts key host rows new at site now
+          (delivered_other counts list host rows url at commands p.2.0.jar
           arrival new now.cookies other away now.agrees p.2.2)),
     ))
     (cases_Bool (is_text host (secure_host url)))
@@ -293,7 +297,8 @@ FrontIn Read site now commands told =
 -- an exchange of the host at https that the play stopped in read that, as far as it came
 abbrev pub StopsIn : Gets → List ℕ → Site → FaultKind → ℤ → Act → List Reading → List Reading → Type 0
 StopsIn Read host site kind last (Visits url at commands arrival) old readings =
-    secure_host url ≡ Some host → StopsFrom kind last (Visits url at commands arrival) old (FrontIn Read site at commands)
+    secure_host url ≡ Some host → StopsFrom kind last (Visits url at commands arrival) old
+    (FrontIn Read site at commands)
     (AllIn Read site at commands) readings
 StopsIn Read host site kind last (Answers url lines at) old readings = ⊤
 StopsIn Read host site kind last (Asks url at) old readings = ⊤
@@ -305,7 +310,8 @@ all_on : (counts : Counts) (Read : Gets) → Told counts Read → (key : List �
     → SiteAgrees counts key host rows now site → IsHeader rows url now header → ServesAll key header now cs told
     → AllIn Read site now cs told
 all_on counts Read tell key laws host rows url now site cs told header secure reads late pairs a is serves =
-    let w = walked counts Read tell key laws host rows url now now site cs told serves.0 header a secure reads (same now)
+    let w = walked counts Read tell key laws host rows url now now site cs told serves.0 header a secure reads
+    (same now)
     late pairs is serves.1 in
     (w.0, w.1, w.2)
   where
@@ -320,7 +326,8 @@ front_on : (counts : Counts) (Read : Gets) → Told counts Read → (key : List 
     → FrontIn Read site now cs told
 front_on counts Read tell key laws host rows url now site cs told secure reads late pairs a (inl none) =
     ([], cs, refl, ([], live site now, (none, refl, refl)))
-front_on counts Read tell key laws host rows url now site cs told secure reads late pairs a (inr (header, is, inl none)) =
+front_on counts Read tell key laws host rows url now site cs told secure reads late pairs a
+    (inr (header, is, inl none)) =
     ([], cs, refl, ([], live site now, (none, refl, refl)))
 front_on counts Read tell key laws host rows url now site cs told secure reads late pairs a
     (inr (header, is, inr front)) = (
@@ -360,11 +367,13 @@ act_stops counts Read tell key laws late host (Visits url at commands arrival) s
           (λ told all. all_on counts Read tell key laws host rows url at site commands told all.0 here reads
           (late at past.0.is_moment) pairs now all.1 all.2) past.1,
     )
-act_stops counts Read tell key laws late host (Answers url lines at) site rows kind last old readings reads pairs a s = tt
+act_stops counts Read tell key laws late host (Answers url lines at) site rows kind last old readings reads pairs a
+    s = tt
 act_stops counts Read tell key laws late host (Asks url at) site rows kind last old readings reads pairs a s = tt
 act_stops counts Read tell key laws late host (Restarts at) site rows kind last old readings reads pairs a s = tt
 
-pub front_inside : (key : List ℕ) (rows : List Row) (old readings : List Reading) (kind : FaultKind) (last : ℤ) (act : Act)
+pub front_inside : (key : List ℕ) (rows : List Row) (old readings : List Reading) (kind : FaultKind) (last : ℤ)
+    (act : Act)
     → StopsFrom kind last act old (ReadsFront key rows act) (ReadsAll key rows act) readings → (front : List Reading)
     × (readings ≡ old ++ front)
 front_inside key rows old readings kind last act stops =

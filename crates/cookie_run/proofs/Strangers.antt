@@ -422,7 +422,8 @@ module _ (one : ReadsOnce) (list : List Rule) (host : List ℕ) where
     all_near url at rs is all.1,
   )
 
-  same_header : (given_once : GivenOnce) (order : OneOrder) (url : Parts) (at : ℤ) (rows rest : List Row) (header other : List ℕ)
+  same_header : (given_once : GivenOnce) (order : OneOrder) (url : Parts) (at : ℤ) (rows rest : List Row)
+      (header other : List ℕ)
       → host_of url ≡ Some host → Runs rows rest → IsHeader rows url at header → IsHeader rest url at other
       → header ≡ other
   same_header given_once order url at rows rest header other is r h g =

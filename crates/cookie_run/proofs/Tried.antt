@@ -166,7 +166,8 @@ module _ (one : ReadsOnce) (list : List Rule) (url : Parts) (now : ℤ) (line : 
       not_admitted other m same (inr h) = listed.1 (subst (λ (r : Row). IsHostOf r.domain url) same h.1)
 
   read_does : (answer : Result StoreAction CookieError) (read : Result Seen ParseError) → ¬ (IsAgainstHost url line)
-      → IsUtf8 line → ReadsPlain line read → InsertsRead list rows url now read (answer, new) → Does list rows url now line new
+      → IsUtf8 line → ReadsPlain line read → InsertsRead list rows url now read (answer, new)
+      → Does list rows url now line new
   read_does answer (Err e) free utf8 reads refused = inl (
     (λ other t. error_not line e t.makes.0 reads t.makes.1),
     ap (λ (e : End). e.1) refused,

@@ -109,7 +109,8 @@ matches_later key name m n o h after is =
 
 -- what a session has of what was under each name when it was opened
 abbrev pub Brings : Counts → ℤ → (List ℕ → Option Kept) → Keyed → Type 0
-Brings counts now at session = (q : List ℕ) → counts q ≡ true → record_in (finmap.get session.jar.originals q) ≡ option_map record_of
+Brings counts now at session = (q : List ℕ) → counts q ≡ true
+    → record_in (finmap.get session.jar.originals q) ≡ option_map record_of
     (alive now (at q))
 
 pub brings : (counts : Counts) (key : List ℕ) (now : ℤ) (ks : List Kept) (header : List ℕ) (session : Keyed)
@@ -125,7 +126,8 @@ pub value_record : (o : Option Kept) → value_in (option_map record_of o) ≡ v
 value_record None = refl
 value_record (Some k) = refl
 
-pub opens : (counts : Counts) (key : List ℕ) (now : ℤ) (ks : List Kept) (header : List ℕ) (session : Keyed) (site : Site)
+pub opens : (counts : Counts) (key : List ℕ) (now : ℤ) (ks : List Kept) (header : List ℕ) (session : Keyed)
+    (site : Site)
     → Brings counts now (found_in ks) session → IsOpened key header session
     → ((q : List ℕ) → counts q ≡ true → MatchesHeld key q (alive now (found_in ks q)) (live_at now (site q)))
     → Shows counts key session (live site now)
@@ -214,7 +216,8 @@ pub record Walks (counts : Counts) (key : List ℕ) (now d : ℤ) (at : List ℕ
   pub leaves : (q : List ℕ) → counts q ≡ true → MatchesHeld key q (sent_at d (finmap.get session.jar.changes q) (at q))
       (live_at d (left q))
 
-pub opened_walks : (counts : Counts) (key : List ℕ) (now d : ℤ) (ks : List Kept) (header : List ℕ) (session : Keyed) (site : Site)
+pub opened_walks : (counts : Counts) (key : List ℕ) (now d : ℤ) (ks : List Kept) (header : List ℕ) (session : Keyed)
+    (site : Site)
     → now ≤ℤ d → Brings counts now (found_in ks) session → IsOpened key header session
     → ((q : List ℕ) → counts q ≡ true → MatchesHeld key q (alive now (found_in ks q)) (live_at now (site q)))
     → Walks counts key now d (found_in ks) session (live site now) site
@@ -323,7 +326,8 @@ set_leaves key d way s kept q stands same e =
       same,
     ))
 
-pub set_walks : (counts : Counts) (key : List ℕ) (now d : ℤ) (at : List ℕ → Option Kept) (old new : Keyed) (view : View) (left : Site)
+pub set_walks : (counts : Counts) (key : List ℕ) (now d : ℤ) (at : List ℕ → Option Kept) (old new : Keyed) (view : View)
+    (left : Site)
     (way : Way) (s : Seen) → OnlyOne key → Walks counts key now d at old view left → Sets any_nonce old way s new
     → Walks counts key now d at new (with_at view (stored_name way s.cookie.name) (Some (entry_of way s.cookie)))
     (left_by d left (Set way s))

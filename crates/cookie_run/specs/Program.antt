@@ -123,7 +123,8 @@ pub record Devices : Type 0 where
 
 -- so it is with what was read and what was written, where the input is known
 abbrev pub OfDevices : Devices → (List ℕ → List ℕ → Type 0) → Type 0
-OfDevices io Is = IfSome io.left (λ input. (output : List ℕ) × Appends io.written.0 io.written.1 output × Is input output)
+OfDevices io Is = IfSome io.left (λ input. (output : List ℕ) × Appends io.written.0 io.written.1 output
+    × Is input output)
 
 -- why the play on a client gives up
 abbrev pub PlayFails : Devices → List ℕ → ℤ → List Rule → List Row → Failure → Type 0

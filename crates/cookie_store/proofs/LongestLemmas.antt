@@ -1,5 +1,6 @@
 -- Longer paths first: there is one order, one alone, and a stable sort by the lengths gives it.
-use Rattle.std.proofs.Common.{◌≡◌, ◌⊎◌, ◌≤◌, ◌<◌, ℕ, suc, Bool, true, false, cond, List, [], ◌∷◌, length, map, drop, sym}
+use Rattle.std.proofs.Common.{◌≡◌, ◌⊎◌, ◌≤◌, ◌<◌, ℕ, suc, Bool, true, false, cond, List, [], ◌∷◌, length, map, drop}
+use Rattle.std.proofs.Common.{sym}
 use Rattle.std.proofs.Common.{refl, ap, ◌∙◌, subst, ⊎_elim, inl, inr, arith}
 use Rattle.std.proofs.Common.{get_or, IsSortedBy, IsPermutation}
 use Rattle.std.specs.Borrow.{Bor}
@@ -10,7 +11,8 @@ use Rattle.std.specs.Prelude.{nat_lt, filter, not, ◌&&◌}
 use Rattle.std.proofs.lemmas.Bool.{cases_Bool, cond-true, cond-false, both_ways, true≢false, ltb-false, ltb-true}
 use Rattle.std.proofs.lemmas.Bool.{eq-eqb, eqb-true, ne_eqb, lt-ltb, le-ltb}
 use Rattle.std.proofs.lemmas.List.MinMax.{IsStrictWeakOrder-flip, IsStrictWeakOrder-by_number}
-use Rattle.std.proofs.lemmas.List.Sorted.{IsPermutation-refl, IsPermutation-sym, IsPermutation-trans, IsPermutation-cons}
+use Rattle.std.proofs.lemmas.List.Sorted.{IsPermutation-refl, IsPermutation-sym, IsPermutation-trans}
+use Rattle.std.proofs.lemmas.List.Sorted.{IsPermutation-cons}
 use Rattle.std.proofs.lemmas.List.Sorted.{IsPermutation-middle, IsPermutation-map, sorted_far}
 use Rattle.std.proofs.Math.Dec.{ltb}
 use Rattle.cookie_store.specs.Given.{shown}
@@ -27,11 +29,12 @@ has_own n row e = eq-eqb (path_length row) n e
 inside : (P : Row → Type 0) (test : Row → Bool) (rows : List Row) (row : Row) (rest : List Row)
     → filter test rows ≡ row ∷ rest → AllByRecursion P rows → P row
 inside P test [] row rest e all = absurd (let wrong : 0 ≡ suc (length rest) = ap length e in omega (arith, wrong))
-inside P test (first ∷ rows) row rest e all = by (test first) e
+inside P test (first ∷ rows) row rest e all = by (test first) e (λ same. inside P test rows row rest same all.1)
   where
-    by : (b : Bool) → cond b (first ∷ filter test rows) (filter test rows) ≡ row ∷ rest → P row
-    by true same = subst P (ap (λ xs. get_or xs 0 first) same) all.0
-    by false same = inside P test rows row rest same all.1
+    by : (b : Bool) → cond b (first ∷ filter test rows) (filter test rows) ≡ row ∷ rest
+        → (filter test rows ≡ row ∷ rest → P row) → P row
+    by true same later = subst P (ap (λ xs. get_or xs 0 first) same) all.0
+    by false same later = later same
 
 kept_first : (n : ℕ) (row : Row) (rows : List Row) → path_length row ≡ n
     → filter (has_length n) (row ∷ rows) ≡ row ∷ filter (has_length n) rows
@@ -61,7 +64,8 @@ told_by_lengths (x ∷ xs) (y ∷ ys) a b h =
     let n = path_length x in
     let below : path_length x ≤ path_length y = at_most n x (filter (has_length n) xs) y ys b
     (sym (h n) ∙ kept_first n x xs refl) in
-    let above : path_length y ≤ path_length x = at_most (path_length y) y (filter (has_length (path_length y)) ys) x xs a
+    let above : path_length y ≤ path_length x = at_most (path_length y) y (filter (has_length (path_length y)) ys) x xs
+    a
     (h (path_length y) ∙ kept_first (path_length y) y ys refl) in
     let same : path_length y ≡ path_length x = omega (arith, below, above) in
     let both : x ∷ filter (has_length n) xs ≡ y ∷ filter (has_length n) ys =
@@ -77,7 +81,7 @@ one_order rows a b f g = told_by_lengths a b f.fall g.fall (λ n. f.stable n ∙
 
 -- ---- there is one: each row put before the first whose path isn't longer than its own
 
-placed : Row → List Row → List Row
+abbrev placed : Row → List Row → List Row
 placed row [] = row ∷ []
 placed row (other ∷ rows) =
     cond (ltb (path_length row) (path_length other)) (other ∷ placed row rows) (row ∷ other ∷ rows)
@@ -95,15 +99,16 @@ all_placed P row (other ∷ rows) h all =
 
 placed_permutes : (row : Row) (rows : List Row) → IsPermutation (row ∷ rows) (placed row rows)
 placed_permutes row [] = IsPermutation-refl (row ∷ [])
-placed_permutes row (other ∷ rows) = by (ltb (path_length row) (path_length other))
+placed_permutes row (other ∷ rows) =
+    by (ltb (path_length row) (path_length other)) (placed_permutes row rows)
   where
-    by : (b : Bool)
+    by : (b : Bool) → IsPermutation (row ∷ rows) (placed row rows)
         → IsPermutation (row ∷ other ∷ rows) (cond b (other ∷ placed row rows) (row ∷ other ∷ rows))
-    by true =
+    by true rest =
         IsPermutation-trans (row ∷ other ∷ rows) (other ∷ row ∷ rows) (other ∷ placed row rows)
         (IsPermutation-sym (other ∷ row ∷ rows) (row ∷ other ∷ rows) (IsPermutation-middle (other ∷ []) row rows))
-        (IsPermutation-cons other (row ∷ rows) (placed row rows) (placed_permutes row rows))
-    by false = IsPermutation-refl (row ∷ other ∷ rows)
+        (IsPermutation-cons other (row ∷ rows) (placed row rows) rest)
+    by false rest = IsPermutation-refl (row ∷ other ∷ rows)
 
 lower : (m n : ℕ) → m ≤ n → (rows : List Row) → AllByRecursion (λ row. path_length row ≤ m) rows
     → AllByRecursion (λ row. path_length row ≤ n) rows
@@ -141,12 +146,13 @@ placed_keeps n row (other ∷ rows) =
     ap (filter (has_length n)) (cond-true _ _ _ e)
     ∙ passed (has_length n row) (has_length n other) row other (filter (has_length n) rows)
     (filter (has_length n) (placed row rows)) (placed_keeps n row rows)
-    (λ is. ne_eqb (path_length other) n (λ both. absurd (let shorter = ltb-true (path_length row) (path_length other) e in
+    (λ is. ne_eqb (path_length other) n (λ both. absurd
+    (let shorter = ltb-true (path_length row) (path_length other) e in
     let here = eqb-true (path_length row) n is in omega (arith, shorter, here, both)))))
     (λ (e : ltb (path_length row) (path_length other) ≡ false). ap (filter (has_length n)) (cond-false _ _ _ e))
     (cases_Bool (ltb (path_length row) (path_length other)))
 
-longest : List Row → List Row
+abbrev longest : List Row → List Row
 longest [] = []
 longest (row ∷ rows) = placed row (longest rows)
 
@@ -237,7 +243,7 @@ shown_of_length n one (c ∷ items) e =
     by false rest = rest
 
 -- a list has a cookie of a length, or none
-HasOne : ℕ → List (Bor Cookie) → Type 0
+abbrev HasOne : ℕ → List (Bor Cookie) → Type 0
 HasOne n items =
     ((one : Bor Cookie) × (path_length (shown one) ≡ n)) ⊎ (filter (has_length n) (map shown items) ≡ [])
 

@@ -570,10 +570,10 @@ fn bury(rows: &mut Rows, cookie: &Cookie<'static>, now: DateTime) -> InsertResul
 }
 
 /// What holds of the rows of each store. Which of them a request is given, and how an insertion
-/// ends, is determined. Rows with longer paths first stand in one order, and there is one. An insertion keeps the keys apart, puts what is then got, touches no other
-/// row, and none that the URL's host may not; what is put after it was taken out is the last of its
-/// domain and path. A part of rows that stand in groups, put row by row where there was none, stands
-/// as it did.
+/// ends, is determined. There is one order of rows with longer paths first, and one alone. An
+/// insertion keeps the keys apart, puts what is then got, touches no other row, and none that the
+/// URL's host may not; what is put after it was taken out is the last of its domain and path. A part
+/// of rows that stand in groups, put row by row where there was none, stands as it did.
 pub fn laws()
     ensures given { law.GivenOnce }
     ensures order { law.OneOrder }

@@ -10,7 +10,8 @@ loop-cookie-preserved-in_ok-push c =
     let (done, items, far) = c.loop-cookie.invariant in
     let cookie = c.in_ok-clone.field-0 in (
       done ++ cookie ∷ [],
-      c.in_ok-push.ensures.items ∙ (ap (λ xs. xs ++ ok_of cookie ∷ []) items ∙ sym (map-append ok_of done (cookie ∷ []))),
+      c.in_ok-push.ensures.items ∙ (ap (λ xs. xs ++ ok_of cookie ∷ []) items
+      ∙ sym (map-append ok_of done (cookie ∷ []))),
       copies_more c.args.store.now.rows c.loop-cookie.cookie-iterator c.next.new.self done cookie
           (stored_of c.in-Some.cookie.now) c.in-Some.ensures.steps (c.is_held.ensures.0 c.if-is_held.true)
           c.in_ok-clone.ensures far,

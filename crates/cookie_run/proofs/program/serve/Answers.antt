@@ -14,7 +14,8 @@ returns-in-Ok-Some-clause-ok g c =
       written = (g.W.Sink.written c.args.writer.now, g.W.Sink.written c.play.new.writer);
       unwritten = (g.W.Failing.failures c.args.writer.now, g.W.Failing.failures c.play.new.writer);
     } in
-    ends_whole io (asked_for c.args.asked.now) c.in_ok-list.list c.in_ok-client.client.suffixes c.in_ok-client.client.rows
+    ends_whole io (asked_for c.args.asked.now) c.in_ok-list.list c.in_ok-client.client.suffixes
+    c.in_ok-client.client.rows
     (option_map (λ bytes. bytes.items) c.in-Ok-Some.field-0) c.in-Ok-Some.text.items c.in_ok-client.ensures.ok.0
     c.in_ok-list.ensures.ok c.in_ok-client.ensures.ok.1 (ap (option_map (λ bytes. bytes.items)) is)
     c.in-Ok-Some.ensures.ok
@@ -29,7 +30,8 @@ returns-in-Ok-None-clause-ok g c =
       written = (g.W.Sink.written c.args.writer.now, g.W.Sink.written c.play.new.writer);
       unwritten = (g.W.Failing.failures c.args.writer.now, g.W.Failing.failures c.play.new.writer);
     } in
-    ends_faulty io (asked_for c.args.asked.now) c.in_ok-list.list c.in_ok-client.client.suffixes c.in_ok-client.client.rows
+    ends_faulty io (asked_for c.args.asked.now) c.in_ok-list.list c.in_ok-client.client.suffixes
+    c.in_ok-client.client.rows
     (option_map (λ bytes. bytes.items) c.in-Ok-None.field-0) c.in_ok-client.ensures.ok.0 c.in_ok-list.ensures.ok
     c.in_ok-client.ensures.ok.1 (ap (option_map (λ bytes. bytes.items)) is) c.in-Ok-None.ensures.ok
 
@@ -42,5 +44,6 @@ returns-clause-err g c =
       written = (g.W.Sink.written c.args.writer.now, g.W.Sink.written c.play.new.writer);
       unwritten = (g.W.Failing.failures c.args.writer.now, g.W.Failing.failures c.play.new.writer);
     } in
-    gives_up io (asked_for c.args.asked.now) c.in_ok-list.list c.in_ok-client.client.suffixes c.in_ok-client.client.rows c.in-Err.failure
+    gives_up io (asked_for c.args.asked.now) c.in_ok-list.list c.in_ok-client.client.suffixes c.in_ok-client.client.rows
+    c.in-Err.failure
     c.in_ok-client.ensures.ok.0 c.in_ok-list.ensures.ok c.in_ok-client.ensures.ok.1 c.in-Err.ensures.err

@@ -8,7 +8,7 @@ pub returns : goal.returns
 returns c =
     on_ok_weaker c.sort_by.result
     (λ sorted.
-    sorted_longest c.args.cookies.old.items c.args.cookies.new.items c.sort_by.ensures.permutation
+    sorted_longest _ _ c.sort_by.ensures.permutation
     (sorted comes_first comes_in_order (always_returns_same _ _ _ (λ a r f k. search rules)))
     (c.sort_by.ensures.stable comes_first comes_in_order (always_returns_same _ _ _ (λ a r f k. search rules))))
     c.sort_by.ensures.sorted

@@ -26,7 +26,8 @@ invariant_of-self c =
     let keeps = kept_rows old now c.self.invariant.0 now kept c.in_ok-kept.ensures.grouped c.in_ok-kept.ensures.ok in
     subst (λ (s : Store). HaveReadPairs s.rows × AreHeldRightly s.rows) (sym c.replace_rows.ensures) (
       kept_pairs old now c.self.invariant.0 kept.rows keeps,
-      (c.host_rows_are_held_rightly.ensures.restarts old now now kept.rows c.self.invariant.0 c.self.invariant.1 keeps).0,
+      (c.host_rows_are_held_rightly.ensures.restarts old now now kept.rows c.self.invariant.0 c.self.invariant.1
+      keeps).0,
     )
 
 pub returns-clause-held : goal.returns-clause-held
