@@ -75,8 +75,9 @@ pub record WritesAll (counts : Counts) (host : List ℕ) (now : ℤ) (cs : List 
     (new : List Row) : Type 0 where
   pub cookies : List Kept
   pub agrees : Agrees counts host new cookies
-  pub each : (q : List ℕ) → counts q ≡ true → alive now (found_in cookies q) ≡ over_at now (found_record cs q)
-  (alive now (found_in ks q))
+  pub each :
+      (q : List ℕ) → counts q ≡ true
+      → alive now (found_in cookies q) ≡ over_at now (found_record cs q) (alive now (found_in ks q))
 
 own_lines : (counts : Counts) (key : List ℕ) (laws : Laws key) (list : List Rule) (host : List ℕ) (url : Parts)
     (now : ℤ)

@@ -33,10 +33,13 @@ pairs_push : (cookies : List (Bor Cookie)) (cookie : Bor Cookie)
 pairs_push [] cookie = refl
 pairs_push (c ∷ cookies) cookie = ap (λ ps. pair_of (shown c) ∷ ps) (pairs_push cookies cookie)
 
-pub header_more : (cookies : List (Bor Cookie)) (cookie : Bor Cookie) (text new : List ℕ)
-    → text ≡ header_of (map pair_of (map shown cookies)) → new ≡ with_pair text (pair_of (shown cookie))
+pub header_more : (cookies : List (Bor Cookie)) (cookie : Bor Cookie) (text new name value : List ℕ)
+    → text ≡ header_of (map pair_of (map shown cookies)) → name ≡ (pair_of (shown cookie)).0
+    → value ≡ (pair_of (shown cookie)).1 → new ≡ with_pair text (name, value)
     → new ≡ header_of (map pair_of (map shown (cookies ++ cookie ∷ [])))
-header_more cookies cookie text new e is =
-    is ∙ (ap (λ t. with_pair t (pair_of (shown cookie))) e
+header_more cookies cookie text new name value e named valued is =
+    is ∙ (ap (λ n. with_pair text (n, value)) named
+    ∙ (ap (λ v. with_pair text ((pair_of (shown cookie)).0, v)) valued
+    ∙ (ap (λ t. with_pair t (pair_of (shown cookie))) e
     ∙ (sym (header_push (map pair_of (map shown cookies)) (pair_of (shown cookie)))
-    ∙ ap header_of (sym (pairs_push cookies cookie))))
+    ∙ ap header_of (sym (pairs_push cookies cookie))))))
