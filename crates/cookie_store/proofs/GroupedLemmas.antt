@@ -97,14 +97,14 @@ module _ {A B : Type 0} (f : A → B) (test : B → Bool) (xs : List A) where
 
 module _ (rows : List Row) (index : Index) (indexed : IsIndexed rows index) (key : Key) where
   domains_together : StandTogether (has_domain key) rows
-  domains_together = by (value_at key.domain index) (indexed.agrees key.domain)
+  domains_together = by (value_at key.domain index) (indexed.agrees.parts key.domain)
     where
       by : (o : Option DomainPart) → DomainAgrees (places_of rows) key.domain o → StandTogether (has_domain key) rows
       by None none = nowhere_together place_of (is_of key.domain) rows none
       by (Some part) own = span_together place_of (is_of key.domain) rows part.start part.len own.0
 
   places_together : StandTogether (has_place key) rows
-  places_together = by (value_at key.domain index) (indexed.agrees key.domain)
+  places_together = by (value_at key.domain index) (indexed.agrees.parts key.domain)
     where
       at_path : (start : ℕ) (o : Option Part) → PathAgrees (places_of rows) key.domain start key.path o
           → StandTogether (has_place key) rows

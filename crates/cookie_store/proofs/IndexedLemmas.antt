@@ -6,24 +6,24 @@ use Rattle.std.proofs.Common.{get_or, inl, inr, arith, true≢false}
 use Rattle.std.specs.Prelude.{Box, Option, Some, None, IsSomeAnd, slice_get, option_map, if◌then◌else◌}
 use Rattle.std.specs.List.{find, list_any, insert, remove}
 use Rattle.std.specs.Str.{bytes_eq}
-use Rattle.std.proofs.lemmas.Bool.{cond-true, cond-false, or_left, or_right, and_from, cases_lt}
+use Rattle.std.proofs.lemmas.Bool.{cond-true, cond-false, or_left, or_right, and_from}
 use Rattle.std.proofs.lemmas.List.{map-append, map-set, take-map, drop-map, length-map, set-get_or}
 use Rattle.std.proofs.lemmas.Option.{none-some, same_Some, slice_get-map, slice_get_read, slice_get_within}
 use Rattle.std.proofs.lemmas.Option.{get_or_from_slice_get}
 use Rattle.std.specs.declared.vec.Vec.{Vec}
-use Rattle.place_index.specs.Index.{Index, Agrees, IsIndex, IsPart, IsNowhere, last}
-use Rattle.place_index.specs.Places.{Place, is_at, is_of}
+use Rattle.place_index.specs.Index.{Index, Agrees, IsIndex, StandsAt as PlaceStands, last}
+use Rattle.place_index.specs.Places.{Place, is_at, is_of, is_same}
 use Rattle.place_index.specs.Putting.{IsReady, PutsAt, end_of, end_at}
 use Rattle.place_index.specs.Taking.{HasRow, TakesAt}
-use Rattle.place_index.proofs.EndLemmas.{any_at, none_any}
+use Rattle.place_index.proofs.EndLemmas.{any_at}
 use Rattle.cookie_store.specs.Indexed.{place_of, places_of, IsIndexed, StandsAt}
-use Rattle.cookie_store.specs.Rows.{Row, Key, AreApart, key, key_of, has_key, has_key_of, has_place, has_place_of}
-use Rattle.cookie_store.specs.Rows.{has_domain_of, put_in_place, behind_last, inserted, put, found, removed}
+use Rattle.cookie_store.specs.Rows.{Row, Key, AreApart, domain_text, key_of, has_domain, has_key, has_key_of, has_place}
+use Rattle.cookie_store.specs.Rows.{has_place_of, has_domain_of, put_in_place, behind_last, inserted, put, found, removed}
 use Rattle.cookie_store.specs.StoredCookie.{stored_in}
 use Rattle.cookie_store.specs.declared.stored_cookie.Cookie.{Cookie}
 use Rattle.cookie_store.proofs.ApartLemmas.{key_is, none_behind, put_apart, filter_apart}
-use Rattle.cookie_store.proofs.PlaceLemmas.{put_in_place-none, filter-none, no_key}
-use Rattle.cookie_store.proofs.TextLemmas.{same_text, text_is, other_way}
+use Rattle.cookie_store.proofs.PlaceLemmas.{put_in_place-none, filter-none}
+use Rattle.cookie_store.proofs.TextLemmas.{text_is}
 
 -- ---- a list and its image
 
@@ -116,28 +116,52 @@ module _ (key : Key) (rows : List Row) (at : ℕ) (row : Row) (apart : AreApart 
 -- ---- its place
 
 abbrev place_at : Key → Place
-place_at key = record { domain = key.domain; path = key.path }
+place_at key = record { domain = key.domain; path = key.path; name = key.name }
 
 place_is : (key : Key) (row : Row) → has_key key row ≡ true → place_of row ≡ place_at key
 place_is key row has = ap place_at (sym (key_is key row has))
+
+-- no row is the key's where none has it
+none_same : (key : Key) (rows : List Row)
+    → list_any (is_same (place_at key)) (places_of rows) ≡ list_any (has_key key) rows
+none_same key rows = any_map place_of (is_same (place_at key)) rows
+
+-- a row by its key, where its place is known
+pub key_stands : (key : Key) (rows : List Row) (at : Option ℕ) → PlaceStands (place_at key) (places_of rows) at
+    → StandsAt key rows at
+key_stands key rows None none = sym (none_same key rows) ∙ none
+key_stands key rows (Some at) there = by (slice_get rows at) (sym (slice_get-map place_of rows at) ∙ there)
+  where
+    by : (o : Option Row) → option_map place_of o ≡ Some (place_at key)
+        → IsSomeAnd o (λ row. has_key key row ≡ true)
+    by None e = absurd (none-some (place_at key) e)
+    by (Some row) e =
+        let is = same_Some (place_of row) (place_at key) e in
+        and_from (has_place key row) (bytes_eq key.name row.raw.cookie.name)
+        (and_from (has_domain key row) (bytes_eq key.path row.path.text)
+        (text_is key.domain (domain_text row) (sym (ap (λ p. p.domain) is)))
+        (text_is key.path row.path.text (sym (ap (λ p. p.path) is))))
+        (text_is key.name row.raw.cookie.name (sym (ap (λ p. p.name) is)))
 
 module _ (key : Key) (rows : List Row) (at : ℕ) (row : Row) (index : Index) (indexed : IsIndexed rows index)
     (is : slice_get rows at ≡ Some row) (has : has_key key row ≡ true) where
   place_there : slice_get (places_of rows) at ≡ Some (place_at key)
   place_there = slice_get-map place_of rows at ∙ ap (option_map place_of) is ∙ ap Some (place_is key row has)
 
-  pub has_row : length rows ≤ last → HasRow (place_at key) at index
+  pub has_row : length rows ≤ last → HasRow key.domain key.path at index
   has_row fits = record {
     places = places_of rows;
     agrees = indexed.agrees;
+    name = key.name;
     there = place_there;
     room = subst (λ n. n ≤ last) (sym (length-map rows place_of)) fits;
   }
 
-  pub removed_indexed : (new : Index) → TakesAt (place_at key) at index new → IsIndexed (remove rows at) new
+  pub removed_indexed : (new : Index) → TakesAt key.domain key.path at index new
+      → IsIndexed (remove rows at) new
   removed_indexed new takes = record {
     agrees = subst (λ places. Agrees places new) (sym (map-remove place_of rows at))
-        (takes (places_of rows) indexed.agrees place_there);
+        (takes key.name (places_of rows) indexed.agrees place_there);
     apart = subst AreApart (sym (removed_there key rows at row indexed.apart is has))
         (filter_apart (λ r. not (has_key key r)) rows indexed.apart);
   }
@@ -203,11 +227,13 @@ end_at_low place places = by (list_any (is_at place.domain place.path) places)
     by true = end_low (is_at place.domain place.path) places
     by false = end_low (is_of place.domain) places
 
-pub is_ready : (rows : List Row) (index : Index) (count : ℕ) → IsIndexed rows index → count ≡ length rows
-    → count < last → IsReady count index
-is_ready rows index count indexed counted room = record {
+pub is_ready : (row : Row) (rows : List Row) (index : Index) (place : Place) (count : ℕ) → place ≡ place_of row
+    → IsIndexed rows index → count ≡ length rows → count < last → list_any (has_key_of row) rows ≡ false
+    → IsReady place count index
+is_ready row rows index place count own indexed counted room none = record {
   places = places_of rows;
   agrees = indexed.agrees;
+  absent = ap (λ p. list_any (is_same p) (places_of rows)) own ∙ none_same (key_of row) rows ∙ none;
   counted = length-map rows place_of ∙ sym counted;
   room = room;
 }
@@ -289,71 +315,3 @@ module _ {Z : Type 0} (key : Key) (items : List (Box Cookie Z)) (at : ℕ)
     pub key_there : has_key key (stored_in cookie) ≡ true
     key_there = let row = stands key (map stored_in items) at there in
         ap (has_key key) (same_Some (stored_in cookie) row.0 (sym read_there ∙ row.1)) ∙ row.2
-
--- ---- the search within a part
-
--- no row of the name from the one place up to the other
-abbrev pub HasNone : List ℕ → List Row → ℕ → ℕ → Type 0
-HasNone name rows start end =
-    (i : ℕ) (row : Row) → start ≤ i → i < end → slice_get rows i ≡ Some row → bytes_eq row.raw.cookie.name name ≡ false
-
-pub has_none_more : (name : List ℕ) (rows : List Row) (start at : ℕ) (row : Row) → slice_get rows at ≡ Some row
-    → bytes_eq row.raw.cookie.name name ≡ false → HasNone name rows start at → HasNone name rows start (at + 1)
-has_none_more name rows start at row is fails none i other low high there = by (cases_lt i at)
-  where
-    by : (i < at) ⊎ (at ≤ i) → bytes_eq other.raw.cookie.name name ≡ false
-    by (inl before) = none i other low before there
-    by (inr behind) =
-        let here : i ≡ at = omega arith in
-        let same = same_Some row other (sym is ∙ ap (slice_get rows) (sym here) ∙ there) in
-        ap (λ r. bytes_eq r.raw.cookie.name name) (sym same) ∙ fails
-
-module _ (domain path name : List ℕ) (rows : List Row) where
-  pub no_part : IsNowhere (is_at domain path) (places_of rows) → StandsAt (key domain path name) rows None
-  no_part nowhere =
-      no_key (key domain path name) rows
-      (sym (any_map place_of (is_at domain path) rows)
-      ∙ none_any (is_at domain path) (places_of rows) nowhere)
-
-  module _ (start end : ℕ) (part : IsPart (is_at domain path) (places_of rows) start (end - start)) where
-    pub within_rows : (at : ℕ) → at < end → at < length rows
-    within_rows at high =
-        let within = part.within in
-        omega (arith, length-map rows place_of, within, high)
-
-    placed : (i : ℕ) (row : Row) → slice_get rows i ≡ Some row → slice_get (places_of rows) i ≡ Some (place_of row)
-    placed i row is = slice_get-map place_of rows i ∙ ap (option_map place_of) is
-
-    pub in_part : (at : ℕ) (row : Row) → start ≤ at → at < end → slice_get rows at ≡ Some row
-        → bytes_eq row.raw.cookie.name name ≡ true → StandsAt (key domain path name) rows (Some at)
-    in_part at row low high is named =
-        subst (λ o. IsSomeAnd o (λ r. has_key (key domain path name) r ≡ true)) (sym is)
-        (and_from (has_place (key domain path name) row) (bytes_eq name row.raw.cookie.name)
-        (part.inside at (place_of row) low (omega arith) (placed at row is))
-        (text_is name row.raw.cookie.name (sym (same_text row.raw.cookie.name name named))))
-
-    pub not_in_part : HasNone name rows start end → StandsAt (key domain path name) rows None
-    not_in_part none = none_any (has_key (key domain path name)) rows (λ i row is. by i row is (cases_lt i start))
-      where
-        outside : (row : Row) → has_place (key domain path name) row ≡ false
-            → has_key (key domain path name) row ≡ false
-        outside row fails = ap (λ b. b && bytes_eq name row.raw.cookie.name) fails
-
-        within : (row : Row) (b : Bool) → bytes_eq name row.raw.cookie.name ≡ false
-            → (b && bytes_eq name row.raw.cookie.name) ≡ false
-        within row true fails = fails
-        within row false fails = refl
-
-        behind : (i : ℕ) (row : Row) → slice_get rows i ≡ Some row → start ≤ i → (i < end) ⊎ (end ≤ i)
-            → has_key (key domain path name) row ≡ false
-        behind i row is low (inl high) =
-            within row (has_place (key domain path name) row)
-            (other_way row.raw.cookie.name name (none i row low high is))
-        behind i row is low (inr high) =
-            let some = part.some in
-            outside row (part.after i (place_of row) (omega (arith, some, high)) (placed i row is))
-
-        by : (i : ℕ) (row : Row) → slice_get rows i ≡ Some row → (i < start) ⊎ (start ≤ i)
-            → has_key (key domain path name) row ≡ false
-        by i row is (inl low) = outside row (part.before i (place_of row) low (placed i row is))
-        by i row is (inr low) = behind i row is low (cases_lt i end)

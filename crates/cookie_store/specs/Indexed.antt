@@ -5,9 +5,9 @@ use Rattle.place_index.specs.Index.{Index, Agrees}
 use Rattle.place_index.specs.Places.{Place}
 use Rattle.cookie_store.specs.Rows.{Row, Key, AreApart, domain_text, has_key}
 
--- where a row stands: the text of its domain and the text of its path
+-- what a row stands by: the text of its domain, the text of its path, and its name
 abbrev pub place_of : Row → Place
-place_of row = record { domain = domain_text row; path = row.path.text }
+place_of row = record { domain = domain_text row; path = row.path.text; name = row.raw.cookie.name }
 
 abbrev pub places_of : List Row → List Place
 places_of rows = map place_of rows

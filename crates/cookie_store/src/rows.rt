@@ -1,6 +1,6 @@
 //! The rows of a store: a vector with an index.
 
-ghost use Rattle.std.specs.Prelude.{◌≡◌, ◌+◌, ◌≤◌, [], length, map, false, IfOk, OnOk, OnErr, MatchOption};
+ghost use Rattle.std.specs.Prelude.{◌≡◌, ◌+◌, ◌<◌, ◌≤◌, [], length, map, false, IfOk, OnOk, OnErr, MatchOption};
 ghost use Rattle.std.specs.Prelude.{option_copied, option_map};
 ghost use Rattle.std.specs.List.{list_any};
 ghost use Rattle.std.specs.Map.Iter.{TakesFirst};
@@ -20,9 +20,9 @@ use crate::stored_cookie::Cookie;
 use jiff::civil::DateTime;
 use place_index::{Index, Looks};
 use std::alloc::{AllocError, Global};
-use std::marker::Model;
+use std::marker::{Brand, Model};
 use std::slice;
-use std::sync::ledger::Ledger;
+use std::sync::ledger::{Blank, Ledger};
 use url::Url;
 
 /// The rows of a store, which contracts see as one list: a vector in which those of one domain stand together, and of
@@ -62,13 +62,25 @@ impl Rows {
         ensures at { StandsAt (spec.key domain.now path.now name.now) self.now result }
         ensures apart { spec.AreApart self.now }
     {
-        let (start, end) = self.index.part(domain, path)?;
-        for at in start..end {
-            if self.cookies[at].raw().name() == name {
-                return Some(at);
-            }
-        }
-        None
+        self.position_from::<Brand>(domain, path, name, Blank::new(1))
+    }
+
+    // The same with a count that is let go.
+    fn position_from<L: Ledger>(
+        &self,
+        domain: &str,
+        path: &str,
+        name: &str,
+        blank: Blank,
+    ) -> Option<usize>
+        requires ledger { blank.name ≡ L.name }
+        requires parts { blank.parts ≡ L.parts }
+        requires some { 0 < L.parts }
+        ensures at { StandsAt (spec.key domain.now path.now name.now) self.now result }
+        ensures apart { spec.AreApart self.now }
+    {
+        let mut looks = Looks::<L>::new(blank);
+        self.index.position(domain, path, name, &mut looks)
     }
 
     /// The cookie of the key.
@@ -155,9 +167,13 @@ impl Rows {
         self.cookies.reserve(1)?;
         let cookie = Box::new(alloc, cookie)?;
         let rows = self.cookies.len();
-        let at = self
-            .index
-            .put(alloc, rows, domain_text(&*cookie), cookie.path.as_str())?;
+        let at = self.index.put(
+            alloc,
+            rows,
+            domain_text(&*cookie),
+            cookie.path.as_str(),
+            cookie.raw().name(),
+        )?;
         self.cookies.insert(at, cookie)?;
         Ok(())
     }

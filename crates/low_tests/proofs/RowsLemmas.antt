@@ -6,7 +6,7 @@ use Rattle.std.proofs.lemmas.Option.{slice_get-map}
 use Rattle.place_index.specs.Index.{Index, Agrees, IsIndex, last}
 use Rattle.place_index.specs.Putting.{IsReady, PutsAt}
 use Rattle.place_index.specs.Taking.{HasRow, TakesAt}
-use Rattle.low_tests.specs.Rows.{Row, place_of, places_of, AreIndexed}
+use Rattle.low_tests.specs.Rows.{Row, place_of, places_of, AreIndexed, IsAbsent}
 
 counted : (rows : List Row) → length (places_of rows) ≡ length rows
 counted [] = refl
@@ -31,8 +31,14 @@ module _ (rows : List Row) (index : Index) (are : AreIndexed rows index) where
       record { places = places_of rows; agrees = are; room = subst (λ n. n ≤ last) (sym n) room }
 
   module _ (n : ℕ) (is : n ≡ length rows) where
-    pub is_ready : n < last → IsReady n index
-    is_ready room = record { places = places_of rows; agrees = are; counted = counted rows ∙ sym is; room = room }
+    pub is_ready : (row : Row) → IsAbsent row rows → n < last → IsReady (place_of row) n index
+    is_ready row absent room = record {
+      places = places_of rows;
+      agrees = are;
+      absent = absent;
+      counted = counted rows ∙ sym is;
+      room = room;
+    }
 
     pub put_in : (row : Row) (at : ℕ) (new : Index) → PutsAt (place_of row) n index new at
         → AreIndexed (insert rows at row) new
@@ -43,15 +49,17 @@ module _ (rows : List Row) (index : Index) (are : AreIndexed rows index) where
     place_there : slice_get (places_of rows) at ≡ Some (place_of row)
     place_there = slice_get-map place_of rows at ∙ ap (option_map place_of) there
 
-    pub has_row : length rows ≤ last → HasRow (place_of row) at index
+    pub has_row : length rows ≤ last → HasRow row.0.now row.1.now at index
     has_row room =
         let n = counted rows in
         record {
           places = places_of rows;
           agrees = are;
+          name = row.2.now;
           there = place_there;
           room = subst (λ n. n ≤ last) (sym n) room;
         }
 
-    pub taken : (new : Index) → TakesAt (place_of row) at index new → AreIndexed (remove rows at) new
-    taken new takes = subst (λ l. Agrees l new) (sym (remove_at rows at)) (takes (places_of rows) are place_there)
+    pub taken : (new : Index) → TakesAt row.0.now row.1.now at index new → AreIndexed (remove rows at) new
+    taken new takes =
+        subst (λ l. Agrees l new) (sym (remove_at rows at)) (takes row.2.now (places_of rows) are place_there)

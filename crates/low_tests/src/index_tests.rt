@@ -6,7 +6,7 @@ ghost use Rattle.place_index.specs.Index.{Agrees, IsIndex};
 ghost use Rattle.place_index.specs.Places.{Place};
 ghost use Rattle.low_tests.specs.Rows.{AreIndexed};
 
-use crate::index_rows::{are_found, fill, has_the_parts, put, take};
+use crate::index_rows::{are_found, fill, has_the_rows, put, take};
 use place_index::{Index, Looks};
 use std::alloc::{AllocError, Global};
 use std::marker::Brand;
@@ -48,7 +48,7 @@ fn finds_deep<L: Ledger>(
 fn finds_from<L: Ledger>(
     alloc: Global,
     index: &Index,
-    rows: &[(&str, &str)],
+    rows: &[(&str, &str, &str)],
     request: (&str, &str),
     blank: Blank,
 ) -> Result<bool, AllocError>
@@ -66,7 +66,7 @@ fn finds_from<L: Ledger>(
 fn finds_as_a_scan(
     alloc: Global,
     index: &Index,
-    rows: &[(&str, &str)],
+    rows: &[(&str, &str, &str)],
     hosts: &str,
     paths: &str,
 ) -> Result<bool, AllocError>
@@ -82,24 +82,26 @@ fn finds_as_a_scan(
     Ok(true)
 }
 
-// Whether the index has the parts that a plain scan finds, and finds the same rows for each request.
+// Whether the index has the rows where a plain scan finds them, and finds the same rows for each request.
 fn answers_as_a_scan(
     alloc: Global,
     index: &Index,
-    rows: &Vec<(&str, &str)>,
+    rows: &Vec<(&str, &str, &str)>,
 ) -> Result<bool, AllocError>
     requires { AreIndexed rows.now.items index.now }
 {
     Ok(
-        has_the_parts(index, rows, DOMAINS, PATHS)
+        has_the_rows(index, rows, DOMAINS, PATHS, NAMES)
             && finds_as_a_scan(alloc, index, rows, HOSTS, PATHS)?,
     )
 }
 
-// The texts of rows and of requests; the last path is empty.
+// The texts of rows and of requests; the last path is empty, and so is the last name.
 const DOMAINS: &str = "com c.com b.c.com a.b.c.com d.com xc.com z.com";
 
 const PATHS: &str = "/ /x /x/ /x/y /x/yz /x/y/ ";
+
+const NAMES: &str = "a b bb c ";
 
 const HOSTS: &str = "a.b.c.com c.com xc.com com d.com z.d.com";
 
@@ -125,12 +127,21 @@ fn path_at(drawn: u64) -> &'static str {
     }
 }
 
-// Takes a row out or puts one in.
+fn name_at(drawn: u64) -> &'static str {
+    match drawn % 4 {
+        0 => "a",
+        1 => "b",
+        2 => "bb",
+        _ => "",
+    }
+}
+
+// Takes a row out or puts one in, where it isn't there.
 fn step(
     rt: &impl Abort,
     alloc: Global,
     index: &mut Index,
-    rows: &mut Vec<(&'static str, &'static str)>,
+    rows: &mut Vec<(&'static str, &'static str, &'static str)>,
     drawn: u64,
 ) -> Result<(), AllocError>
     requires { AreIndexed rows.old.items index.old }
@@ -141,7 +152,11 @@ fn step(
         take(index, rows, at);
         Ok(())
     } else {
-        let row = (domain_at(drawn >> 30), path_at(drawn >> 40));
+        let row = (
+            domain_at(drawn >> 30),
+            path_at(drawn >> 40),
+            name_at(drawn >> 50),
+        );
         put(rt, alloc, index, rows, row)
     }
 }
@@ -151,7 +166,7 @@ fn walks(
     rt: &impl Abort,
     alloc: Global,
     index: &mut Index,
-    rows: &mut Vec<(&'static str, &'static str)>,
+    rows: &mut Vec<(&'static str, &'static str, &'static str)>,
 ) -> Result<bool, AllocError>
     requires { AreIndexed rows.old.items index.old }
 {
@@ -197,7 +212,7 @@ fn finds_parts(
 fn finds_both(
     alloc: Global,
     index: &Index,
-    rows: &Vec<(&str, &str)>,
+    rows: &Vec<(&str, &str, &str)>,
     parts: &[(usize, usize)],
 ) -> Result<bool, AllocError>
     requires { AreIndexed rows.now.items index.now }
@@ -212,10 +227,10 @@ fn finds_both(
 #[test]
 fn finds_the_parts_of_a_request(rt: HostRuntime) -> Result<(), AllocError> {
     let alloc = rt.alloc();
-    assert!(rt; finds_parts(&rt, alloc, "d.com /\nxc.com /x", &[])?);
-    let one = "d.com /\nc.com /\nc.com /a\nc.com /x\nc.com /\nc.com /x/yz\nc.com /x/y";
+    assert!(rt; finds_parts(&rt, alloc, "d.com / a\nxc.com /x a", &[])?);
+    let one = "d.com / a\nc.com / a\nc.com /a a\nc.com /x a\nc.com / b\nc.com /x/yz a\nc.com /x/y a";
     assert!(rt; finds_parts(&rt, alloc, one, &[(1, 3), (4, 5), (6, 7)])?);
-    let four = "com /x/y/\na.b.c.com /x/\nc.com /x\nb.c.com \ncom /x/y\nb.c.com /y\nd.com /x";
+    let four = "com /x/y/ a\na.b.c.com /x/ a\nc.com /x a\nb.c.com  a\ncom /x/y a\nb.c.com /y a\nd.com /x a";
     assert!(rt; finds_parts(&rt, alloc, four, &[(1, 2), (2, 3), (3, 4), (4, 5)])?);
     Ok(())
 }

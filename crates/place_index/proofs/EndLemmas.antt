@@ -7,7 +7,7 @@ use Rattle.std.specs.Str.{bytes_eq}
 use Rattle.std.proofs.lemmas.Bool.{or_left, or_right}
 use Rattle.std.proofs.lemmas.Option.{none-some, same_Some}
 use Rattle.place_index.specs.Entries.{value_at}
-use Rattle.place_index.specs.Index.{Index, Agrees, IsPart, IsNowhere, DomainAgrees, PathAgrees}
+use Rattle.place_index.specs.Index.{Index, PartsAgree, IsPart, IsNowhere, DomainAgrees, PathAgrees}
 use Rattle.place_index.specs.Index.{BeginsPath, GrowsPath}
 use Rattle.place_index.specs.Places.{Place, is_at, is_of}
 use Rattle.place_index.specs.Putting.{end_of, end_at}
@@ -72,7 +72,7 @@ module _ (row : Place) (rows : List Place) where
   end_step_at b e =
       (λ i. if e i then end_of (is_at row.domain row.path) rows else end_of (is_of row.domain) rows)
 
-  pub end_new : (old : Index) → Agrees rows old → value_at row.domain old ≡ None → end_at row rows ≡ length rows
+  pub end_new : (old : Index) → PartsAgree rows old → value_at row.domain old ≡ None → end_at row rows ≡ length rows
   end_new old agrees absent =
       end_step_at false
       (none_any (is_at row.domain row.path) rows (λ i x e. not_at i x (is_foreign i x e)))
@@ -84,7 +84,7 @@ module _ (row : Place) (rows : List Place) where
       not_at : (i : ℕ) (x : Place) → is_of row.domain x ≡ false → is_at row.domain row.path x ≡ false
       not_at i x e = ap (λ b. b && bytes_eq row.path x.path) e
 
-  pub end_path : (p : ℕ) (old new : Index) → Agrees rows old → BeginsPath row p old new → p ≡ end_at row rows
+  pub end_path : (p : ℕ) (old new : Index) → PartsAgree rows old → BeginsPath row p old new → p ≡ end_at row rows
   end_path p old new agrees b =
       b.at
       ∙ sym (end_step_at false
@@ -95,7 +95,7 @@ module _ (row : Place) (rows : List Place) where
       own : DomainAgrees rows row.domain (Some b.part)
       own = subst (DomainAgrees rows row.domain) b.there (agrees row.domain)
 
-  pub end_row : (p : ℕ) (old new : Index) → Agrees rows old → GrowsPath row p old new → p ≡ end_at row rows
+  pub end_row : (p : ℕ) (old new : Index) → PartsAgree rows old → GrowsPath row p old new → p ≡ end_at row rows
   end_row p old new agrees g =
       let n : p ≡ g.part.start + g.path.start + g.path.len = (let at = g.at in omega (arith, at)) in
       n ∙ sym (end_step_at true (any_of_part (is_at row.domain row.path) rows _ _ path)

@@ -4,7 +4,7 @@ use Rattle.std.proofs.Common.{◌∙◌, ◌⊎◌, ◌<◌, arith, zero, suc, i
 use Rattle.std.specs.Prelude.{Some, None, nat_lt, position, slice_get, option_map, string_bytes}
 use Rattle.std.specs.List.{position_or_len}
 use Rattle.indexmap.specs.IndexMap.{set_value_at}
-use Rattle.std.proofs.lemmas.Bool.{cases_lt, cond-true, cond-false}
+use Rattle.std.proofs.lemmas.Bool.{cases_lt, cond-true, cond-false, false_from_ne_true}
 use Rattle.std.proofs.lemmas.Grind.{common_steps}
 use Rattle.std.proofs.lemmas.Option.{none-some, same_Some}
 use Rattle.std.specs.Map.{lookup, set_value, remove_entry}
@@ -13,7 +13,7 @@ use Rattle.std.specs.String.{string_eq}
 use Rattle.std.specs.declared.string.String.{String}
 use Rattle.std.proofs.lemmas.Slice.Eq.{bytes_eq-Decides}
 use Rattle.indexmap.specs.IndexMap.{insert_entry}
-use Rattle.place_index.specs.Entries.{by_bytes, place_of, value_at, set_at, with_value, without, with_values}
+use Rattle.place_index.specs.Entries.{AreUpTo, by_bytes, place_of, value_at, set_at, with_value, without, with_values}
 
 pub same_text : (x y : List ℕ) → bytes_eq x y ≡ true → x ≡ y
 same_text x y e = (bytes_eq-Decides x y).0 e
@@ -22,7 +22,7 @@ pub text_is : (x y : List ℕ) → x ≡ y → bytes_eq x y ≡ true
 text_is x y e = (bytes_eq-Decides x y).1 e
 
 -- the place of the first that passes, one step on
-position-step : {K : Type 0} (test : K → Bool) (k : K) (ks : List K)
+pub position-step : {K : Type 0} (test : K → Bool) (k : K) (ks : List K)
     → position test (k ∷ ks) ≡ cond (test k) (Some 0) (option_map suc (position test ks))
 position-step test k ks = by (test k)
   where
@@ -177,3 +177,69 @@ module _ {V : Type 0} (f : V → V) where
           (cond b (Some e.1) (value_at text es))
       by true rest = refl
       by false rest = rest
+
+-- ---- texts up to a length
+
+longer_fails : (longest : ℕ) (key text : List ℕ) → length text ≤ longest → longest < length key
+    → bytes_eq key text ≡ false
+longer_fails longest key text up longer =
+    false_from_ne_true (bytes_eq key text)
+    (λ e. let same = ap length (same_text key text e) in omega (arith, same, up, longer))
+
+module _ {V : Type 0} (longest : ℕ) where
+  pub longer_nowhere : (key : List ℕ) (es : List (List ℕ × V)) → AreUpTo longest es → longest < length key
+      → place_of key es ≡ None
+  longer_nowhere key [] up longer = refl
+  longer_nowhere key (e ∷ es) up longer =
+      cond-false (bytes_eq key e.0) (Some 0) (option_map suc (place_of key es)) (longer_fails longest key e.0 up.0 longer)
+      ∙ ap (option_map suc) (longer_nowhere key es up.1 longer)
+
+  pub up_to-set_value_at : (es : List (List ℕ × V)) (i : ℕ) (w : V) → AreUpTo longest es
+      → AreUpTo longest (set_value_at es i w)
+  up_to-set_value_at [] i w up = tt
+  up_to-set_value_at (e ∷ es) zero w up = up
+  up_to-set_value_at (e ∷ es) (suc i) w up = (up.0, up_to-set_value_at es i w up.1)
+
+  pub up_to-set_at : (key : List ℕ) (es : List (List ℕ × V)) (w : V) → AreUpTo longest es
+      → AreUpTo longest (set_at key es w)
+  up_to-set_at key [] w up = tt
+  up_to-set_at key (e ∷ es) w up = by (bytes_eq key e.0) (up_to-set_at key es w up.1)
+    where
+      by : (b : Bool) → AreUpTo longest (set_at key es w)
+          → AreUpTo longest (cond b ((e.0, w) ∷ es) (e ∷ set_at key es w))
+      by true rest = up
+      by false rest = (up.0, rest)
+
+  pub up_to-without : (key : List ℕ) (es : List (List ℕ × V)) → AreUpTo longest es
+      → AreUpTo longest (without key es)
+  up_to-without key [] up = tt
+  up_to-without key (e ∷ es) up = by (bytes_eq key e.0) (up_to-without key es up.1)
+    where
+      by : (b : Bool) → AreUpTo longest (without key es) → AreUpTo longest (cond b es (e ∷ without key es))
+      by true rest = up.1
+      by false rest = (up.0, rest)
+
+  pub up_to-with_value : (most : ℕ) (es : List (List ℕ × V)) (key : List ℕ) (v : V) → AreUpTo longest es
+      → longest ≤ most → length key ≤ most → AreUpTo most (with_value es key v)
+  up_to-with_value most [] key v up low own = (own, tt)
+  up_to-with_value most (e ∷ es) key v up low own =
+      by (bytes_eq key e.0) (up_to-with_value most es key v up.1 low own)
+    where
+      first : length e.0 ≤ most
+      first = let le = up.0 in omega (arith, le, low)
+
+      all : (fs : List (List ℕ × V)) → AreUpTo longest fs → AreUpTo most fs
+      all [] _ = tt
+      all (f ∷ fs) h = let le = h.0 in (omega (arith, le, low), all fs h.1)
+
+      by : (b : Bool) → AreUpTo most (with_value es key v)
+          → AreUpTo most (cond b ((e.0, v) ∷ es) (e ∷ with_value es key v))
+      by true rest = (first, all es up.1)
+      by false rest = (first, rest)
+
+module _ {V Y : Type 0} (f : V → V) (longest : ℕ) where
+  pub up_to-first_with : (n : ℕ) (es : List (String Y × V)) → AreUpTo longest (by_bytes es)
+      → AreUpTo longest (by_bytes (first_with f n es))
+  up_to-first_with zero es up = up
+  up_to-first_with (suc n) [] up = tt
+  up_to-first_with (suc n) (e ∷ es) up = (up.0, up_to-first_with n es up.1)

@@ -12,7 +12,7 @@ use Rattle.place_index.specs.Entries.{value_at}
 use Rattle.place_index.specs.Candidates.{domains_of, paths_of, count_of}
 use Rattle.place_index.specs.Found.{AscendFrom, Finds, found_domain, found_domains, is_in, looks_at}
 use Rattle.place_index.specs.Found.{looks_for, span_of, spans, spans_of}
-use Rattle.place_index.specs.Index.{Agrees, DomainAgrees, Index, IsNowhere, IsPart, PathAgrees, Span}
+use Rattle.place_index.specs.Index.{Agrees, PartsAgree, DomainAgrees, Index, IsNowhere, IsPart, PathAgrees, Span}
 use Rattle.place_index.specs.Index.{DomainPart}
 use Rattle.place_index.specs.declared.part.Part.{Part}
 use Rattle.place_index.proofs.CandidateLemmas.{paths_of-count}
@@ -35,7 +35,7 @@ part_any test rows start len part =
     list_any_at test rows start row.0 low (ap test (get_or_from_slice_get rows start row.0 row.0 row.1)
     ∙ part.inside start row.0 (omega arith) (omega (arith, some)) row.1)
 
-found_domains-rows : (rows : List Place) (index : Index) → Agrees rows index → (domains : List (List ℕ))
+found_domains-rows : (rows : List Place) (index : Index) → PartsAgree rows index → (domains : List (List ℕ))
     → found_domains index domains ≡ length (filter (λ domain. list_any (is_of domain) rows) domains)
 found_domains-rows rows index agrees [] = refl
 found_domains-rows rows index agrees (domain ∷ domains) =
@@ -59,7 +59,7 @@ found_domains-rows rows index agrees (domain ∷ domains) =
         omega (arith, rest, more)
 
 -- the questions, in the words of the rows
-pub looks_for-rows : (rows : List Place) (index : Index) → Agrees rows index → (host path : List ℕ)
+pub looks_for-rows : (rows : List Place) (index : Index) → PartsAgree rows index → (host path : List ℕ)
     → looks_for index (domains_of host) (1 + 2 * count_of slash path) ≡ looks_at host path rows
 looks_for-rows rows index agrees host path =
     ap (looks_for index (domains_of host)) (sym (paths_of-count path))
@@ -67,7 +67,7 @@ looks_for-rows rows index agrees host path =
     ∙ ap (λ n. 1 + count_of dot host + n * (1 + 2 * count_of slash path))
     (found_domains-rows rows index agrees (domains_of host))
 
-pub few_looks : (rows : List Place) (index asked : Index) → asked ≡ index → Agrees rows index
+pub few_looks : (rows : List Place) (index asked : Index) → asked ≡ index → PartsAgree rows index
     → (host path : List ℕ) (old new : ℕ)
     → new ≤ old + looks_for asked (domains_of host) (1 + 2 * count_of slash path)
     → new ≤ old + looks_at host path rows
@@ -94,7 +94,7 @@ domain_within rows i domain paths (Some part) own e =
     let f = some_of (is_in i) (λ path. span_of part (value_at path part.paths)) paths e in
     path_within rows i domain f.0 part (value_at f.0 part.paths) (own.1 f.0) f.2
 
-found_within : (rows : List Place) (index : Index) → Agrees rows index → (domains paths : List (List ℕ)) (i : ℕ)
+found_within : (rows : List Place) (index : Index) → PartsAgree rows index → (domains paths : List (List ℕ)) (i : ℕ)
     → list_any (is_in i) (spans index domains paths) ≡ true → i < length rows
 found_within rows index agrees domains paths i e =
     let f = some_of (is_in i) (λ domain. spans_of paths (value_at domain index)) domains e in
@@ -128,7 +128,7 @@ pub finds : (host path : List ℕ) (rows : List Place) (index : Index) (found : 
 finds host path rows index found agrees ascend same = record {
   ascend = ascend;
   within = ends_within 0 (length rows) found ascend
-      (λ i e. found_within rows index agrees (domains_of host) (paths_of path) i (sym (same i) ∙ e));
+      (λ i e. found_within rows index agrees.parts (domains_of host) (paths_of path) i (sym (same i) ∙ e));
   exactly = λ i row at.
       let h = finds_exactly rows index agrees host path i row at in
       (λ e. h.0 (sym (same i) ∙ e), λ both. same i ∙ h.1 both);

@@ -15,7 +15,7 @@ use Rattle.place_index.specs.Found.{FindsExactly, is_in, span_of, spans_of, span
 use Rattle.place_index.specs.Found.{found_domain, found_domains}
 use Rattle.place_index.specs.Index.{DomainPart}
 use Rattle.place_index.specs.declared.part.Part.{Part}
-use Rattle.place_index.specs.Index.{Index, IsPart, PathAgrees, DomainAgrees, Agrees, Span}
+use Rattle.place_index.specs.Index.{Index, IsPart, PathAgrees, DomainAgrees, PartsAgree, Span}
 use Rattle.place_index.proofs.CandidateLemmas.{among_case, among_head, among_tail, or_split, domains_of-count}
 use Rattle.place_index.proofs.CandidateLemmas.{paths_of-count}
 use Rattle.place_index.proofs.EntryLemmas.{same_text}
@@ -65,7 +65,7 @@ module _ (rows : List Place) (i : ℕ) (row : Place) (at : slice_get rows i ≡ 
       any_of (is_in i) (λ path. span_of domain (value_at path domain.paths)) row.path paths asked
       (path_span domain (value_at row.path domain.paths) (is.1 row.path))
 
-  pub is_found : (index : Index) → Agrees rows index → (domains paths : List (List ℕ))
+  pub is_found : (index : Index) → PartsAgree rows index → (domains paths : List (List ℕ))
       → is_among row.domain domains ≡ true
       → is_among row.path paths ≡ true → list_any (is_in i) (spans index domains paths) ≡ true
   is_found index agrees domains paths asked path_asked =
@@ -117,7 +117,7 @@ module _ (rows : List Place) (i : ℕ) (row : Place) (at : slice_get rows i ≡ 
       (span_path domain part f.0 (value_at f.0 part.paths) (is.1 f.0) f.2) in
       (p.0, subst (λ t. is_among t paths ≡ true) (same_text f.0 row.path p.1) f.1)
 
-  pub found_is : (index : Index) → Agrees rows index → (domains paths : List (List ℕ))
+  pub found_is : (index : Index) → PartsAgree rows index → (domains paths : List (List ℕ))
       → list_any (is_in i) (spans index domains paths) ≡ true
       → (is_among row.domain domains ≡ true) × (is_among row.path paths ≡ true)
   found_is index agrees domains paths e =
@@ -127,8 +127,8 @@ module _ (rows : List Place) (i : ℕ) (row : Place) (at : slice_get rows i ≡ 
 
 pub finds_exactly : FindsExactly
 finds_exactly rows index agrees host path i row at = (
-  λ e. found_is rows i row at index agrees (domains_of host) (paths_of path) e,
-  λ both. is_found rows i row at index agrees (domains_of host) (paths_of path) both.0 both.1,
+  λ e. found_is rows i row at index agrees.parts (domains_of host) (paths_of path) e,
+  λ both. is_found rows i row at index agrees.parts (domains_of host) (paths_of path) both.0 both.1,
 )
 
 -- ---- how many questions

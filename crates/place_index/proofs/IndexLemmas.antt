@@ -11,7 +11,7 @@ use Rattle.place_index.specs.Places.{Place, is_of, is_at}
 use Rattle.place_index.proofs.EntryLemmas.{same_text, text_is}
 use Rattle.place_index.specs.Index.{DomainPart}
 use Rattle.place_index.specs.declared.part.Part.{Part}
-use Rattle.place_index.specs.Index.{Index, IsPart, IsNowhere, PathAgrees, PathsAgree, DomainAgrees, Agrees, last}
+use Rattle.place_index.specs.Index.{Index, IsPart, IsNowhere, PathAgrees, PathsAgree, DomainAgrees, PartsAgree, last}
 use Rattle.place_index.specs.Index.{PathsInside}
 use Rattle.place_index.specs.Index.{moved, moved_domain, moved_path, BeginsDomain, BeginsPath, GrowsPath}
 use Rattle.place_index.proofs.PartLemmas.{part_after, part_before, part_grows, nowhere_stays, part_begins, apart}
@@ -181,11 +181,11 @@ pub foreign_path : (x : Place) (text : List ℕ) → text ≢ x.path → is_at x
 foreign_path x text differ = path_no_path x.domain x.path text x differ (own_path x)
 
 -- the part of a first row
-abbrev first : Part
-first = record { start = 0; len = 1 }
+abbrev first : Place → Part
+first x = record { start = 0; len = 1; names = x.name ∷ [] }
 
 -- a path of x's domain, which has no path but x's
-only_path : (x : Place) (text : List ℕ) → text ≢ x.path → value_at text ((x.path, first) ∷ []) ≡ None
+only_path : (x : Place) (text : List ℕ) → text ≢ x.path → value_at text ((x.path, first x) ∷ []) ≡ None
 only_path x text differ = cond-false (bytes_eq text x.path) _ _
     (false_from_ne_true (bytes_eq text x.path) (λ e. differ (same_text text x.path e)))
 
@@ -201,10 +201,10 @@ pub path_at : (rows : List Place) (domain : List ℕ) (start : ℕ) (text : List
     → PathAgrees rows domain start text b → PathAgrees rows domain start text a
 path_at rows domain start text a b e is = subst (PathAgrees rows domain start text) (sym e) is
 
-module _ (rows : List Place) (x : Place) (p : ℕ) (old new : Index) (agrees : Agrees rows old)
+module _ (rows : List Place) (x : Place) (p : ℕ) (old new : Index) (agrees : PartsAgree rows old)
     (small : length rows ≤ last) where
   -- a new domain, at the end
-  pub begins_domain : p ≡ length rows → BeginsDomain x p old new → Agrees (insert rows p x) new
+  pub begins_domain : p ≡ length rows → BeginsDomain x p old new → PartsAgree (insert rows p x) new
   begins_domain at b domain = text_cases domain x.domain same differ
     where
       le : p ≤ length rows
@@ -216,9 +216,9 @@ module _ (rows : List Place) (x : Place) (p : ℕ) (old new : Index) (agrees : A
       no_path : (text : List ℕ) → IsNowhere (is_at x.domain text) rows
       no_path text i r e = domain_no_path x.domain text r (nowhere i r e)
 
-      paths : (text : List ℕ) → PathAgrees (insert rows p x) x.domain p text (value_at text ((x.path, first) ∷ []))
+      paths : (text : List ℕ) → PathAgrees (insert rows p x) x.domain p text (value_at text ((x.path, first x) ∷ []))
       paths text = text_cases text x.path
-          (λ e. path_at (insert rows p x) x.domain p text _ (Some first)
+          (λ e. path_at (insert rows p x) x.domain p text _ (Some (first x))
           (cond-true (bytes_eq text x.path) _ _ (text_is text x.path e))
           (subst (λ t. IsPart (is_at x.domain t) (insert rows p x) (p + 0) 1) (sym e)
           (subst (λ n. IsPart (is_at x.domain x.path) (insert rows p x) n 1) (omega arith)
@@ -252,7 +252,7 @@ module _ (rows : List Place) (x : Place) (p : ℕ) (old new : Index) (agrees : A
       → ((t : Place → Bool) → ((r : Place) → is_of x.domain r ≡ true → t r ≡ false)
       → (b n : ℕ) → IsPart t rows b n → (p ≤ b) ⊎ (b + n ≤ p))
       → PathsAgree (insert rows p x) x.domain (record { start = part.start; len = suc part.len; paths = paths })
-      → Agrees (insert rows p x) new
+      → PartsAgree (insert rows p x) new
   in_domain part there low high paths grown others sides agree domain = text_cases domain x.domain same differ
     where
       own : DomainAgrees rows x.domain (Some part)
@@ -273,7 +273,7 @@ module _ (rows : List Place) (x : Place) (p : ℕ) (old new : Index) (agrees : A
           (sides (is_of domain) (λ r e. unequal domain x.domain r.domain d e)))
 
   -- a new path, at the domain's end
-  pub begins_path : BeginsPath x p old new → Agrees (insert rows p x) new
+  pub begins_path : BeginsPath x p old new → PartsAgree (insert rows p x) new
   begins_path b = in_domain b.part b.there (omega (arith, at)) (omega (arith, at)) paths b.grown b.others sides agree
     where
       at : p ≡ b.part.start + b.part.len
@@ -286,7 +286,7 @@ module _ (rows : List Place) (x : Place) (p : ℕ) (old new : Index) (agrees : A
       le = let w = own.0.within in omega (arith, w, at)
 
       paths : List (List ℕ × Part)
-      paths = with_value b.part.paths x.path (record { start = b.part.len; len = 1 })
+      paths = with_value b.part.paths x.path (record { start = b.part.len; len = 1; names = x.name ∷ [] })
 
       sides : (t : Place → Bool) → ((r : Place) → is_of x.domain r ≡ true → t r ≡ false)
           → (c n : ℕ) → IsPart t rows c n → (p ≤ c) ⊎ (c + n ≤ p)
@@ -318,18 +318,18 @@ module _ (rows : List Place) (x : Place) (p : ℕ) (old new : Index) (agrees : A
       agree text = text_cases text x.path
           (λ e. subst (λ t. PathAgrees (insert rows p x) x.domain b.part.start t (value_at t paths)) (sym e)
           (path_at (insert rows p x) x.domain b.part.start x.path _ _
-          (value_at-with_value x.path b.part.paths (record { start = b.part.len; len = 1 }))
+          (value_at-with_value x.path b.part.paths (record { start = b.part.len; len = 1; names = x.name ∷ [] }))
           (subst (λ n. IsPart (is_at x.domain x.path) (insert rows p x) n 1) at
           (part_begins (is_at x.domain x.path) rows p x le none (own_path x)))))
           (λ d. path_at (insert rows p x) x.domain b.part.start text _ _
-          (value_at-with_other x.path text b.part.paths (record { start = b.part.len; len = 1 })
+          (value_at-with_other x.path text b.part.paths (record { start = b.part.len; len = 1; names = x.name ∷ [] })
           (false_from_ne_true (bytes_eq text x.path) (λ e. d (same_text text x.path e)))
           ∙ sym (kept text (value_at text b.part.paths) (own.1 text)))
           (own_path_moves rows p x le small x.domain text b.part.start b.part.len at (foreign_path x text d)
           (value_at text b.part.paths) (own.1 text) (inside text)))
 
   -- a path that is there, at its end
-  pub grows_path : GrowsPath x p old new → Agrees (insert rows p x) new
+  pub grows_path : GrowsPath x p old new → PartsAgree (insert rows p x) new
   grows_path b = in_domain b.part b.there low high b.paths b.grown b.others sides agree
     where
       at : p ≡ b.part.start + (b.path.start + b.path.len)

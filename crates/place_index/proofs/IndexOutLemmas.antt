@@ -10,7 +10,7 @@ use Rattle.place_index.specs.Entries.{value_at}
 use Rattle.place_index.specs.Places.{Place, is_of, is_at}
 use Rattle.place_index.specs.Index.{DomainPart}
 use Rattle.place_index.specs.declared.part.Part.{Part}
-use Rattle.place_index.specs.Index.{Index, IsPart, IsNowhere, PathAgrees, PathsAgree, DomainAgrees, Agrees}
+use Rattle.place_index.specs.Index.{Index, IsPart, IsNowhere, PathAgrees, PathsAgree, DomainAgrees, PartsAgree}
 use Rattle.place_index.specs.Taking.{moved_back, domain_back, path_back, OthersMoveBack, OtherPathsMoveBack}
 use Rattle.place_index.specs.Taking.{EndsDomain, EndsPath, ShrinksPath}
 use Rattle.place_index.proofs.PartLemmas.{nested, part_after_out, part_before_out, part_shrinks, part_ends}
@@ -146,7 +146,7 @@ module _ (rows : List Place) (p : ℕ) (x : Place) (there : slice_get rows p ≡
 
 -- ---- the three removals
 
-module _ (rows : List Place) (x : Place) (p : ℕ) (old new : Index) (agrees : Agrees rows old)
+module _ (rows : List Place) (x : Place) (p : ℕ) (old new : Index) (agrees : PartsAgree rows old)
     (there : slice_get rows p ≡ Some x) where
   -- the other domains
   others_agree : OthersMoveBack p x.domain old new → (domain : List ℕ) → domain ≢ x.domain
@@ -161,13 +161,13 @@ module _ (rows : List Place) (x : Place) (p : ℕ) (old new : Index) (agrees : A
 
   -- the index agrees where x's domain does
   agrees_by_own : OthersMoveBack p x.domain old new → DomainAgrees (remove rows p) x.domain (value_at x.domain new)
-      → Agrees (remove rows p) new
+      → PartsAgree (remove rows p) new
   agrees_by_own others own domain = text_cases domain x.domain
       (λ e. subst (λ t. DomainAgrees (remove rows p) t (value_at t new)) (sym e) own)
       (others_agree others domain)
 
   -- the domain's only row
-  pub ends_domain : EndsDomain x p old new → Agrees (remove rows p) new
+  pub ends_domain : EndsDomain x p old new → PartsAgree (remove rows p) new
   ends_domain b =
       agrees_by_own b.others (agrees_at (remove rows p) x.domain _ None b.ended
       (own_ends rows p x there (is_of x.domain) b.part.start b.part.len (own_domain_agrees b.part b.there).0
@@ -178,7 +178,7 @@ module _ (rows : List Place) (x : Place) (p : ℕ) (old new : Index) (agrees : A
       → value_at x.domain new ≡ Some (record { start = part.start; len = part.len - 1; paths = paths })
       → OtherPathsMoveBack (p - part.start) x.path part.paths paths → OthersMoveBack p x.domain old new
       → PathAgrees (remove rows p) x.domain part.start x.path (value_at x.path paths)
-      → Agrees (remove rows p) new
+      → PartsAgree (remove rows p) new
   in_domain part is more paths shrunk other_paths others own_path_agrees =
       agrees_by_own others (agrees_at (remove rows p) x.domain _ _ shrunk
       (own_shrinks rows p x there (is_of x.domain) part.start part.len own.0 (own_domain x) more, paths_agree))
@@ -206,7 +206,7 @@ module _ (rows : List Place) (x : Place) (p : ℕ) (old new : Index) (agrees : A
       subst (PathAgrees rows x.domain part.start x.path) path_is ((own_domain_agrees part is).1 x.path)
 
   -- the path's only row
-  pub ends_path : EndsPath x p old new → Agrees (remove rows p) new
+  pub ends_path : EndsPath x p old new → PartsAgree (remove rows p) new
   ends_path b =
       in_domain b.part b.there b.more b.paths b.shrunk b.other_paths b.others
       (path_at (remove rows p) x.domain b.part.start x.path _ None b.path_ended
@@ -214,7 +214,7 @@ module _ (rows : List Place) (x : Place) (p : ℕ) (old new : Index) (agrees : A
       (own_path_agrees b.part b.path b.there b.path_there) (own_path x) b.only))
 
   -- a row of a path that has others
-  pub shrinks_path : ShrinksPath x p old new → Agrees (remove rows p) new
+  pub shrinks_path : ShrinksPath x p old new → PartsAgree (remove rows p) new
   shrinks_path b =
       in_domain b.part b.there domain_more b.paths b.shrunk b.other_paths b.others
       (path_at (remove rows p) x.domain b.part.start x.path _ _ b.path_shrunk

@@ -4,6 +4,7 @@ pub mod EntryLemmas
 pub mod FindLemmas
 pub mod FoundLemmas
 pub mod IndexLemmas
+pub mod NameLemmas
 pub mod OrderLemmas
 pub mod PartLemmas
 pub mod PlacesLemmas

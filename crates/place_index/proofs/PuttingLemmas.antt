@@ -1,5 +1,5 @@
 -- A domain's part after a row of a path that is there.
-use Rattle.std.proofs.Common.{◌≡◌, ◌≢◌, ◌+◌, ◌<◌, ◌≤◌, ℕ, List, refl, sym, ap, subst, ◌∙◌, arith, suc}
+use Rattle.std.proofs.Common.{◌≡◌, ◌≢◌, ◌+◌, ◌++◌, ◌<◌, ◌≤◌, ℕ, List, [], ◌∷◌, refl, sym, ap, subst, ◌∙◌, arith, suc}
 use Rattle.std.specs.Prelude.{Option, Some, None, IfSome, option_map}
 use Rattle.place_index.specs.Entries.{value_at, set_at, with_values}
 use Rattle.place_index.specs.Index.{PathsInside, OtherPathsMove, moved_path}
@@ -10,18 +10,19 @@ use Rattle.place_index.proofs.EntryLemmas.{value_at-with_values}
 use Rattle.place_index.proofs.IndexLemmas.{not_moved}
 use Rattle.place_index.proofs.TakingLemmas.{value_at-set_at, value_at-set_other}
 
-module _ (path : List ℕ) (old : DomainRows) (part : Part) (at : ℕ) (there : value_at path old.paths ≡ Some part)
+module _ (path name : List ℕ) (old : DomainRows) (part : Part) (at : ℕ) (there : value_at path old.paths ≡ Some part)
     (at_end : at ≡ part.start + part.len) (inside : PathsInside old) (lent : List (List ℕ × Part))
-    (is : lent ≡ set_at path old.paths (record { start = part.start; len = part.len + 1 })) where
+    (is : lent ≡ set_at path old.paths
+    (record { start = part.start; len = part.len + 1; names = part.names ++ name ∷ [] })) where
   abbrev longer : Part
-  longer = record { start = part.start; len = suc part.len }
+  longer = record { start = part.start; len = suc part.len; names = part.names ++ name ∷ [] }
 
   own : value_at path lent ≡ Some longer
   own =
       let n : part.len + 1 ≡ suc part.len = omega arith in
       ap (value_at path) is
       ∙ value_at-set_at path old.paths part _ there
-      ∙ (λ i. Some (record { start = part.start; len = n i }))
+      ∙ (λ i. Some (record { start = part.start; len = n i; names = part.names ++ name ∷ [] }))
 
   other : (text : List ℕ) → text ≢ path → value_at text lent ≡ value_at text old.paths
   other text d = ap (value_at text) is ∙ value_at-set_other path text old.paths part _ there d
@@ -34,7 +35,7 @@ module _ (path : List ℕ) (old : DomainRows) (part : Part) (at : ℕ) (there : 
 
   puts : (paths : List (List ℕ × Part)) → value_at path paths ≡ Some longer
       → OtherPathsMove at path old.paths paths
-      → PutsBehind path old (record { len = old.len + 1; paths = paths }) at
+      → PutsBehind path name old (record { len = old.len + 1; paths = paths }) at
   puts paths grown others = record {
     part = part;
     there = there;
@@ -45,10 +46,10 @@ module _ (path : List ℕ) (old : DomainRows) (part : Part) (at : ℕ) (there : 
   }
 
   pub puts_before_others : (paths : List (List ℕ × Part)) → paths ≡ with_values (moved_path at) lent
-      → PutsBehind path old (record { len = old.len + 1; paths = paths }) at
+      → PutsBehind path name old (record { len = old.len + 1; paths = paths }) at
   puts_before_others paths moved = puts paths
       (value path ∙ ap (option_map (moved_path at)) own
-      ∙ ap (λ n. Some (record { start = n; len = suc part.len })) (not_moved at part.start begins_before))
+      ∙ ap (λ n. Some (record { start = n; len = suc part.len; names = part.names ++ name ∷ [] })) (not_moved at part.start begins_before))
       (λ text d. value text ∙ ap (option_map (moved_path at)) (other text d))
     where
       value : (text : List ℕ) → value_at text paths ≡ option_map (moved_path at) (value_at text lent)
@@ -56,7 +57,7 @@ module _ (path : List ℕ) (old : DomainRows) (part : Part) (at : ℕ) (there : 
 
   -- no path begins there or later
   pub puts_at_end : old.len ≤ at
-      → PutsBehind path old (record { len = old.len + 1; paths = lent }) at
+      → PutsBehind path name old (record { len = old.len + 1; paths = lent }) at
   puts_at_end end = puts lent own (λ text d. other text d ∙ sym (stays (value_at text old.paths) (inside text)))
     where
       stays : (o : Option Part) → IfSome o (λ p. (0 < p.len) × (p.start + p.len ≤ old.len))

@@ -1,20 +1,22 @@
 -- An index after a row of a domain that is there.
 use Rattle.std.proofs.Common.{◌≡◌, ◌≢◌, ◌+◌, ◌<◌, ◌≤◌, ℕ, List, [], ◌∷◌, length, refl, sym, ap, subst, ◌∙◌, inl}
-use Rattle.std.proofs.Common.{inr, arith}
+use Rattle.std.proofs.Common.{inr, arith, false}
 use Rattle.std.specs.Prelude.{Result, Ok, Err, OnErr, Option, Some, None, IfSome, option_map}
+use Rattle.std.specs.List.{list_any}
 use Rattle.std.specs.Str.{bytes_eq}
 use Rattle.std.proofs.lemmas.Bool.{false_from_ne_true}
 use Rattle.place_index.specs.Entries.{value_at, set_at, with_value, with_values}
 use Rattle.place_index.specs.Index.{Index, Agrees, DomainPart, DomainAgrees, OthersMove, moved_domain, moved_path}
-use Rattle.place_index.specs.Index.{BeginsPath, GrowsPath, last}
+use Rattle.place_index.specs.Index.{BeginsPath, GrowsPath, last, names_in, names_of}
 use Rattle.place_index.specs.Places.{Place}
 use Rattle.place_index.specs.Putting.{HasRoom, Puts, PutsAt, IsReady}
 use Rattle.place_index.specs.Starts.{part_at}
 use Rattle.place_index.specs.declared.part.DomainRows.{DomainRows}
+use Rattle.place_index.specs.declared.part.Part.{Part}
 use Rattle.place_index.proofs.EntryLemmas.{same_text, value_at-with_values}
 use Rattle.place_index.proofs.EndLemmas.{end_new, end_path, end_row}
 use Rattle.place_index.proofs.IndexLemmas.{not_moved, value_at-with_value, value_at-with_other, paths_inside}
-use Rattle.place_index.proofs.IndexLemmas.{begins_domain, begins_path, grows_path}
+use Rattle.place_index.proofs.NameLemmas.{any_named, domain_begun, path_begun, path_grown}
 use Rattle.place_index.proofs.TakingLemmas.{value_at-set_at, value_at-set_other}
 
 -- whatever rows the index was that of, so many of them, each other domain's part is where it was or one further
@@ -26,7 +28,7 @@ module _ (row : Place) (p rows : ℕ) (old new : Index) (start : ℕ) (part w : 
     (there : value_at row.domain old ≡ Some (part_at start part))
     (grown : value_at row.domain new ≡ Some (part_at start w))
     (others : OthersMoveOf row p rows old new) where
-  pub puts_row : (inner : ℕ) → p ≡ start + inner → rows < last → Puts row.path part w inner
+  pub puts_row : (inner : ℕ) → p ≡ start + inner → rows < last → Puts row.path row.name part w inner
       → PutsAt row rows old new p
   puts_row inner at room (inl b) places agrees counted =
       let e = b.at_end in
@@ -39,8 +41,8 @@ module _ (row : Place) (p rows : ℕ) (old new : Index) (start : ℕ) (part w : 
         grown = grown ∙ ap (λ d. Some (part_at start d)) b.is;
         others = others places agrees counted;
       } in (
-        begins_path places row p old new agrees (omega (arith, counted, room)) begins,
-        end_path row places p old new agrees begins,
+        path_begun places row p old new agrees (omega (arith, counted, room)) begins,
+        end_path row places p old new agrees.parts begins,
       )
   puts_row inner at room (inr b) places agrees counted =
       let e = b.at_end in
@@ -57,32 +59,43 @@ module _ (row : Place) (p rows : ℕ) (old new : Index) (start : ℕ) (part w : 
         other_paths = λ text d. b.others text d ∙ ap (λ n. option_map (moved_path n) (value_at text part.paths)) e;
         others = others places agrees counted;
       } in (
-        grows_path places row p old new agrees (omega (arith, counted, room)) grows,
-        end_row row places p old new agrees grows,
+        path_grown places row p old new agrees (omega (arith, counted, room)) grows,
+        end_row row places p old new agrees.parts grows,
       )
 
-pub has_room : (rows : ℕ) (index : Index) (domain : List ℕ) (start : ℕ) (part : DomainRows) → IsReady rows index
-    → value_at domain index ≡ Some (part_at start part) → HasRoom part × (0 < part.len)
-has_room rows index domain start part ready there =
-    let own = subst (DomainAgrees ready.places domain) there (ready.agrees domain) in
+pub has_room : (row : Place) (rows : ℕ) (index : Index) (start : ℕ) (part : DomainRows) → IsReady row rows index
+    → value_at row.domain index ≡ Some (part_at start part) → HasRoom row.path row.name part × (0 < part.len)
+has_room row rows index start part ready there =
+    let own = subst (DomainAgrees ready.places row.domain) there (ready.agrees.parts row.domain) in
     let room = ready.room in
     let within = own.0.within in
     let counted = ready.counted in (
       record {
         room = omega (arith, room, within, counted);
-        inside = paths_inside ready.places domain (part_at start part) own;
+        inside = paths_inside ready.places row.domain (part_at start part) own;
+        absent = absent (value_at row.path part.paths) refl;
       },
       own.0.some,
     )
+  where
+    named : list_any (bytes_eq row.name) (names_in row.path (value_at row.domain index)) ≡ false
+    named = ap (list_any (bytes_eq row.name)) (ready.agrees.names row.domain row.path) ∙ any_named row ready.places
+        ∙ ready.absent
+
+    absent : (path : Option Part) → value_at row.path part.paths ≡ path
+        → IfSome path (λ q. list_any (bytes_eq row.name) q.names ≡ false)
+    absent None is = tt
+    absent (Some path) is =
+        ap (list_any (bytes_eq row.name)) (sym (ap (names_in row.path) there ∙ ap names_of is)) ∙ named
 
 -- a row more of the domain goes no further than the last row
-pub row_fits : (rows : ℕ) (index : Index) (domain path : List ℕ) (start : ℕ) (part w : DomainRows) (inner : ℕ)
-    → IsReady rows index → value_at domain index ≡ Some (part_at start part) → Puts path part w inner
-    → start + inner ≤ last
-row_fits rows index domain path start part w inner ready there puts = by puts
+pub row_fits : (row : Place) (rows : ℕ) (index : Index) (start : ℕ) (part w : DomainRows) (inner : ℕ)
+    → IsReady row rows index → value_at row.domain index ≡ Some (part_at start part)
+    → Puts row.path row.name part w inner → start + inner ≤ last
+row_fits row rows index start part w inner ready there puts = by puts
   where
-    own : DomainAgrees ready.places domain (Some (part_at start part))
-    own = subst (DomainAgrees ready.places domain) there (ready.agrees domain)
+    own : DomainAgrees ready.places row.domain (Some (part_at start part))
+    own = subst (DomainAgrees ready.places row.domain) there (ready.agrees.parts row.domain)
 
     low : inner ≤ part.len → start + inner ≤ last
     low within =
@@ -91,12 +104,12 @@ row_fits rows index domain path start part w inner ready there puts = by puts
         let room = ready.room in
         omega (arith, within, all, counted, room)
 
-    by : Puts path part w inner → start + inner ≤ last
+    by : Puts row.path row.name part w inner → start + inner ≤ last
     by (inl b) = let e = b.at_end in low (omega (arith, e))
     by (inr b) =
         let e = b.at_end in
         let inside = subst (λ o. IfSome o (λ q. (0 < q.len) × (q.start + q.len ≤ part.len))) b.there
-        (paths_inside ready.places domain (part_at start part) own path) in
+        (paths_inside ready.places row.domain (part_at start part) own row.path) in
         let within = inside.1 in
         low (omega (arith, e, within))
 
@@ -111,9 +124,9 @@ module _ (row : Place) (p rows : ℕ) (old lent : Index) (start : ℕ) (part w :
       ap (value_at text) is
       ∙ value_at-set_other row.domain text old (part_at start part) (part_at start w) there d
 
-  module _ (inner : ℕ) (at : p ≡ start + inner) (room : rows < last) (has : HasRoom part) (some : 0 < part.len)
-      (puts : Puts row.path part w inner) where
-    low : Puts row.path part w inner → start < p
+  module _ (inner : ℕ) (at : p ≡ start + inner) (room : rows < last) (has : HasRoom row.path row.name part)
+      (some : 0 < part.len) (puts : Puts row.path row.name part w inner) where
+    low : Puts row.path row.name part w inner → start < p
     low (inl b) = let e = b.at_end in omega (arith, e, some, at)
     low (inr b) =
         let e = b.at_end in
@@ -148,23 +161,23 @@ module _ (row : Place) (p rows : ℕ) (old lent : Index) (start : ℕ) (part w :
         others : OthersMoveOf row p rows old lent
         others places agrees counted text d =
             other text d
-            ∙ sym (stays places (omega (arith, counted, end)) text (value_at text old) (agrees text))
+            ∙ sym (stays places (omega (arith, counted, end)) text (value_at text old) (agrees.parts text))
 
 pub puts_first : (row : Place) (rows : ℕ) (old new : Index) → rows < last → value_at row.domain old ≡ None
     → new ≡ with_value old row.domain (record {
       start = rows;
       len = 1;
-      paths = (row.path, record { start = 0; len = 1 }) ∷ [];
+      paths = (row.path, record { start = 0; len = 1; names = row.name ∷ [] }) ∷ [];
     })
     → PutsAt row rows old new rows
 puts_first row rows old new room absent is places agrees counted = (
-  begins_domain places row rows old new agrees (omega (arith, counted, room)) (sym counted) (record {
+  domain_begun places row rows old new agrees (omega (arith, counted, room)) (sym counted) (record {
     absent = absent;
     begun = ap (value_at row.domain) is ∙ value_at-with_value row.domain old _;
     others = λ text d. ap (value_at text) is ∙ value_at-with_other row.domain text old _
         (false_from_ne_true (bytes_eq text row.domain) (λ e. d (same_text text row.domain e)));
   }),
-  sym (end_new row places old agrees absent ∙ counted),
+  sym (end_new row places old agrees.parts absent ∙ counted),
 )
 
 pub on_err : {T E : Type 0} {P : Type 0} (r : Result T E) → P → OnErr r P

@@ -8,19 +8,20 @@ use Rattle.place_index.specs.Entries.{value_at, set_at, without, with_values}
 use Rattle.place_index.specs.Index.{Index, DomainPart, DomainAgrees, PathAgrees, PathsInside, Agrees}
 use Rattle.place_index.specs.Places.{Place, is_of, is_at}
 use Rattle.place_index.specs.Starts.{part_at}
-use Rattle.place_index.specs.Taking.{HasRow, TakesAt, OthersMoveBack, domain_back, path_back, shorter, Takes}
+use Rattle.place_index.specs.Taking.{BeginsBy, HasRow, TakesPlace, OthersMoveBack, domain_back, path_back, shorter, Takes}
 use Rattle.place_index.specs.declared.part.DomainRows.{DomainRows}
 use Rattle.place_index.specs.declared.part.Part.{Part}
 use Rattle.place_index.proofs.EntryLemmas.{value_at-with_values}
 use Rattle.place_index.proofs.IndexLemmas.{own_domain, own_path, paths_inside}
-use Rattle.place_index.proofs.IndexOutLemmas.{in_part, not_back, ends_domain, ends_path, shrinks_path}
+use Rattle.place_index.proofs.IndexOutLemmas.{in_part, not_back}
+use Rattle.place_index.proofs.NameLemmas.{domain_ended, path_ended, path_shrunk}
 use Rattle.place_index.proofs.TakingLemmas.{value_at-set_at, value_at-set_other, value_at-without_other, shorter-more}
 use Rattle.place_index.proofs.TakingLemmas.{shorter-only}
 
 module _ (row : Place) (p : ℕ) (index : Index) (places : List Place) (agrees : Agrees places index)
     (here : slice_get places p ≡ Some row) where
   domain_agrees : (o : Option DomainPart) → value_at row.domain index ≡ o → DomainAgrees places row.domain o
-  domain_agrees o is = subst (DomainAgrees places row.domain) is (agrees row.domain)
+  domain_agrees o is = subst (DomainAgrees places row.domain) is (agrees.parts row.domain)
 
   pub low_in_domain : (part : DomainPart) → value_at row.domain index ≡ Some part → part.start ≤ p
   low_in_domain part is =
@@ -38,17 +39,35 @@ module _ (row : Place) (p : ℕ) (index : Index) (places : List Place) (agrees :
       (in_part places p row here (is_at row.domain row.path) (part.start + path.start) path.len
       (path_agrees part is (Some path) path_is) (own_path row)).0
 
--- the part of the row's domain begins at the row or before
-pub starts_before : (row : Place) (p : ℕ) (index : Index) (part : DomainPart) → HasRow row p index
-    → value_at row.domain index ≡ Some part → part.start ≤ p
-starts_before row p index part has is = low_in_domain row p index has.places has.agrees has.there part is
+-- the row there
+abbrev row_of : (domain path : List ℕ) (p : ℕ) (index : Index) → HasRow domain path p index → Place
+row_of domain path p index has = record { domain = domain; path = path; name = has.name }
 
--- its paths' parts lie in it
-pub inside_of : (row : Place) (p : ℕ) (index : Index) (start : ℕ) (part : DomainRows) → HasRow row p index
-    → value_at row.domain index ≡ Some (part_at start part) → PathsInside part
-inside_of row p index start part has is =
-    paths_inside has.places row.domain (part_at start part)
-    (domain_agrees row p index has.places has.agrees has.there (Some (part_at start part)) is)
+module _ (domain path : List ℕ) (p : ℕ) (index : Index) (has : HasRow domain path p index) where
+  -- the part of the row's domain begins at the row or before
+  pub starts_before : (part : DomainPart) → value_at domain index ≡ Some part → part.start ≤ p
+  starts_before part is =
+      low_in_domain (row_of domain path p index has) p index has.places has.agrees has.there part is
+
+  -- its paths' parts lie in it
+  pub inside_of : (start : ℕ) (part : DomainRows) → value_at domain index ≡ Some (part_at start part)
+      → PathsInside part
+  inside_of start part is =
+      paths_inside has.places domain (part_at start part)
+      (domain_agrees (row_of domain path p index has) p index has.places has.agrees has.there
+      (Some (part_at start part)) is)
+
+  -- the part of the row's path begins at the row or before
+  pub begun_by : (start inner : ℕ) (part : DomainRows) → value_at domain index ≡ Some (part_at start part)
+      → inner ≡ p - start → BeginsBy inner (value_at path part.paths)
+  begun_by start inner part is from = by (value_at path part.paths) refl
+    where
+      by : (o : Option Part) → value_at path part.paths ≡ o → BeginsBy inner o
+      by None none = tt
+      by (Some own) path_is =
+          let low = low_in_path (row_of domain path p index has) p index has.places has.agrees has.there
+          (part_at start part) is own path_is in
+          omega (arith, low, from)
 
 module _ (row : Place) (p : ℕ) (old mid new : Index) (is : new ≡ with_values (domain_back p) mid) where
   value : (text : List ℕ) → value_at text new ≡ option_map (domain_back p) (value_at text mid)
@@ -75,7 +94,7 @@ module _ (row : Place) (p : ℕ) (old mid new : Index) (is : new ≡ with_values
         (value_at-set_at row.domain old (part_at start part) (part_at start w) there)
         ∙ (λ i. Some (record { start = stays i; len = t.len i; paths = w.paths }))
 
-    pub takes_more : TakesAt row p old new
+    pub takes_more : TakesPlace row p old new
     takes_more places agrees here = by (value_at row.path part.paths) refl
       where
         whole : DomainPart
@@ -85,8 +104,8 @@ module _ (row : Place) (p : ℕ) (old mid new : Index) (is : new ≡ with_values
         low = low_in_domain row p old places agrees here whole there
 
         own : (path : Part) → value_at row.path part.paths ≡ Some path
-            → value_at row.path w.paths ≡ option_map (path_back (p - start)) (shorter (Some path))
-        own path path_is = t.own ∙ ap (λ o. option_map (path_back (p - start)) (shorter o)) path_is
+            → value_at row.path w.paths ≡ option_map (path_back (p - start)) (shorter (p - start) (Some path))
+        own path path_is = t.own ∙ ap (λ o. option_map (path_back (p - start)) (shorter (p - start) o)) path_is
 
         by_len : (path : Part) → value_at row.path part.paths ≡ Some path → (1 < path.len) ⊎ (path.len ≤ 1)
             → Agrees (remove places p) new
@@ -94,7 +113,7 @@ module _ (row : Place) (p : ℕ) (old mid new : Index) (is : new ≡ with_values
             let q = p - start in
             let inner = low_in_path row p old places agrees here whole there path path_is in
             let stays = not_back q path.start (omega (arith, inner)) in
-            shrinks_path places row p old new agrees here (record {
+            path_shrunk places row p old new agrees here (record {
               part = whole;
               there = there;
               path = path;
@@ -102,14 +121,14 @@ module _ (row : Place) (p : ℕ) (old mid new : Index) (is : new ≡ with_values
               more = many;
               paths = w.paths;
               shrunk = shrunk low;
-              path_shrunk = own path path_is ∙ ap (option_map (path_back q)) (shorter-more path many)
-                  ∙ (λ i. Some (record { start = stays i; len = path.len - 1 }));
+              path_shrunk = own path path_is ∙ ap (option_map (path_back q)) (shorter-more q path many)
+                  ∙ (λ i. Some (record { start = stays i; len = path.len - 1; names = remove path.names (q - path.start) }));
               other_paths = t.others;
               others = others;
             })
         by_len path path_is (inr few) =
             let some = (path_agrees row p old places agrees here whole there (Some path) path_is).some in
-            ends_path places row p old new agrees here (record {
+            path_ended places row p old new agrees here (record {
               part = whole;
               there = there;
               more = more;
@@ -118,7 +137,7 @@ module _ (row : Place) (p : ℕ) (old mid new : Index) (is : new ≡ with_values
               only = omega (arith, some, few);
               paths = w.paths;
               shrunk = shrunk low;
-              path_ended = own path path_is ∙ ap (option_map (path_back (p - start))) (shorter-only path few);
+              path_ended = own path path_is ∙ ap (option_map (path_back (p - start))) (shorter-only (p - start) path few);
               other_paths = t.others;
               others = others;
             })
@@ -131,10 +150,10 @@ module _ (row : Place) (p : ℕ) (old mid new : Index) (is : new ≡ with_values
 
   -- the row's domain has no more
   pub takes_only : (part : DomainPart) → value_at row.domain old ≡ Some part → part.len ≤ 1
-      → mid ≡ without row.domain old → value_at row.domain mid ≡ None → TakesAt row p old new
+      → mid ≡ without row.domain old → value_at row.domain mid ≡ None → TakesPlace row p old new
   takes_only part there few out gone places agrees here =
       let some = (domain_agrees row p old places agrees here (Some part) there).0.some in
-      ends_domain places row p old new agrees here (record {
+      domain_ended places row p old new agrees here (record {
         part = part;
         there = there;
         only = omega (arith, some, few);
@@ -144,7 +163,7 @@ module _ (row : Place) (p : ℕ) (old mid new : Index) (is : new ≡ with_values
       })
 
 -- the row's domain has a part
-pub takes_none : (row : Place) (p : ℕ) (old new : Index) → value_at row.domain old ≡ None → TakesAt row p old new
+pub takes_none : (row : Place) (p : ℕ) (old new : Index) → value_at row.domain old ≡ None → TakesPlace row p old new
 takes_none row p old new none places agrees here =
     let nowhere = domain_agrees row p old places agrees here None none in
     absurd (true≢false (sym (own_domain row) ∙ nowhere p row here))

@@ -2,6 +2,7 @@
 use Rattle.std.proofs.Common.{◌≡◌, ◌≢◌, ◌⊎◌, ◌<◌, ◌≤◌, ◌+◌, ◌-◌, ℕ, Bool, true, false, cond}
 use Rattle.std.proofs.Common.{List, [], ◌∷◌, refl, sym, ap, ◌∙◌, inl, inr, arith}
 use Rattle.std.specs.Prelude.{Option, Some, None, IfSome, nat_lt, option_map}
+use Rattle.std.specs.List.{remove}
 use Rattle.std.specs.Str.{bytes_eq}
 use Rattle.std.proofs.lemmas.Bool.{cases_lt, cond-true, cond-false, false_from_ne_true}
 use Rattle.std.proofs.lemmas.Grind.{common_steps}
@@ -43,23 +44,27 @@ module _ {V : Type 0} (key : List ℕ) where
 
 -- ---- a path's part
 
-pub shorter-more : (part : Part) → 1 < part.len → shorter (Some part) ≡ Some (record part { len = part.len - 1 })
-shorter-more part more = cond-true (nat_lt 1 part.len) _ None (grind (arith, common_steps))
+-- a part without its row at `at`
+abbrev less : ℕ → Part → Part
+less at part = record { start = part.start; len = part.len - 1; names = remove part.names (at - part.start) }
 
-pub shorter-only : (part : Part) → part.len ≤ 1 → shorter (Some part) ≡ None
-shorter-only part only = cond-false (nat_lt 1 part.len) _ None (grind (arith, common_steps))
+pub shorter-more : (at : ℕ) (part : Part) → 1 < part.len → shorter at (Some part) ≡ Some (less at part)
+shorter-more at part more = cond-true (nat_lt 1 part.len) _ None (grind (arith, common_steps))
 
-module _ (path : List ℕ) (old : List (List ℕ × Part)) where
+pub shorter-only : (at : ℕ) (part : Part) → part.len ≤ 1 → shorter at (Some part) ≡ None
+shorter-only at part only = cond-false (nat_lt 1 part.len) _ None (grind (arith, common_steps))
+
+module _ (path : List ℕ) (at : ℕ) (old : List (List ℕ × Part)) where
   pub shortens_more : (new : List (List ℕ × Part)) (part : Part) → value_at path old ≡ Some part → 1 < part.len
-      → new ≡ set_at path old (record part { len = part.len - 1 }) → Shortens path old new
+      → new ≡ set_at path old (less at part) → Shortens path at old new
   shortens_more new part there more is = record {
-    own = ap (value_at path) is ∙ value_at-set_at path old part _ there ∙ sym (shorter-more part more)
-        ∙ ap shorter (sym there);
+    own = ap (value_at path) is ∙ value_at-set_at path old part _ there ∙ sym (shorter-more at part more)
+        ∙ ap (shorter at) (sym there);
     others = λ text d. ap (value_at text) is ∙ value_at-set_other path text old part _ there d;
   }
 
-  pub shortens_gone : (mid new : List (List ℕ × Part)) → mid ≡ old → shorter (value_at path old) ≡ None
-      → new ≡ without path mid → value_at path new ≡ None → Shortens path old new
+  pub shortens_gone : (mid new : List (List ℕ × Part)) → mid ≡ old → shorter at (value_at path old) ≡ None
+      → new ≡ without path mid → value_at path new ≡ None → Shortens path at old new
   shortens_gone mid new same only is gone = record {
     own = gone ∙ sym only;
     others = λ text d. ap (value_at text) is ∙ value_at-without_other path text mid d ∙ ap (value_at text) same;
@@ -68,9 +73,9 @@ module _ (path : List ℕ) (old : List (List ℕ × Part)) where
 -- ---- a domain's part
 
 module _ (path : List ℕ) (at : ℕ) (old : DomainRows) (mid : List (List ℕ × Part))
-    (shortens : Shortens path old.paths mid) where
+    (shortens : Shortens path at old.paths mid) where
   takes : (paths : List (List ℕ × Part))
-      → value_at path paths ≡ option_map (path_back at) (shorter (value_at path old.paths))
+      → value_at path paths ≡ option_map (path_back at) (shorter at (value_at path old.paths))
       → OtherPathsMoveBack at path old.paths paths
       → Takes path at old (record { len = old.len - 1; paths = paths })
   takes paths own others = record { len = refl; own = own; others = others }
@@ -103,16 +108,16 @@ module _ (path : List ℕ) (at : ℕ) (old : DomainRows) (mid : List (List ℕ �
           back part (omega (arith, some, within))
 
       shorter_stays : (o : Option Part) → IfSome o (λ part. (0 < part.len) × (part.start + part.len ≤ old.len))
-          → option_map (path_back at) (shorter o) ≡ shorter o
+          → option_map (path_back at) (shorter at o) ≡ shorter at o
       shorter_stays None _ = refl
       shorter_stays (Some part) part_inside = by (cases_lt 1 part.len)
         where
-          by : (1 < part.len) ⊎ (part.len ≤ 1) → option_map (path_back at) (shorter (Some part)) ≡ shorter (Some part)
+          by : (1 < part.len) ⊎ (part.len ≤ 1) → option_map (path_back at) (shorter at (Some part)) ≡ shorter at (Some part)
           by (inl more) =
               let some = part_inside.0 in
               let within = part_inside.1 in
-              let is = shorter-more part more in
+              let is = shorter-more at part more in
               ap (option_map (path_back at)) is
-              ∙ back (record part { len = part.len - 1 }) (omega (arith, some, within)) ∙ sym is
+              ∙ back (less at part) (omega (arith, some, within)) ∙ sym is
           by (inr few) =
-              let is = shorter-only part few in ap (option_map (path_back at)) is ∙ sym is
+              let is = shorter-only at part few in ap (option_map (path_back at)) is ∙ sym is

@@ -1,9 +1,9 @@
 -- What a request finds by the index: the parts that can have a row of it, and how many questions that takes.
 use Rattle.std.specs.Prelude.{◌≡◌, ◌↔◌, ◌^◌, IfSome, ◌<◌, ◌≤◌, ◌+◌, ◌*◌, ◌&&◌, ℕ, List, [], ◌∷◌, length, Bool, true, Option}
-use Rattle.std.specs.Prelude.{Some, None, slice_get, nat_le, nat_lt, filter}
+use Rattle.std.specs.Prelude.{Some, None, slice_get, nat_le, nat_lt, filter, if◌then◌else◌}
 use Rattle.std.specs.List.{flat_map, list_any, AllByRecursion}
 use Rattle.place_index.specs.Paths.{dot, slash}
-use Rattle.place_index.specs.Places.{Place, is_of}
+use Rattle.place_index.specs.Places.{Place, is_at, is_of}
 use Rattle.place_index.specs.Entries.{value_at}
 use Rattle.place_index.specs.Candidates.{is_among, domains_of, paths_of, count_of}
 use Rattle.place_index.specs.declared.part.Part.{Part}
@@ -75,6 +75,14 @@ domains_with_rows host places = length (filter (λ domain. list_any (is_of domai
 abbrev pub looks_at : List ℕ → List ℕ → List Place → ℕ
 looks_at host path places =
     1 + count_of dot host + domains_with_rows host places * (1 + 2 * count_of slash path)
+
+-- how many questions a row's place takes: one for its domain, where that has rows one for the path, and where that has
+-- some one for the name
+abbrev pub looks_up : Place → List Place → ℕ
+looks_up place places =
+    if list_any (is_of place.domain) places
+    then (if list_any (is_at place.domain place.path) places then 3 else 2)
+    else 1
 
 -- ---- laws
 

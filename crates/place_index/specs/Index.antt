@@ -1,11 +1,13 @@
 -- The index of a vector of rows: from domain text to its part of the vector, and in it from path text to a
--- part of that.
+-- part of that, with the names of its rows.
 use Rattle.std.specs.Prelude.{◌≡◌, ◌≢◌, ◌<◌, ◌≤◌, ◌+◌, ℕ, suc, List, [], ◌∷◌, length, Bool, true, false, Option, Some}
-use Rattle.std.specs.Prelude.{None, IfSome, slice_get, option_map, nat_le, nat_lt, ◌&&◌, ◌^◌, ◌-◌, if◌then◌else◌}
+use Rattle.std.specs.Prelude.{None, IfSome, slice_get, option_map, nat_le, nat_lt, ◌&&◌, ◌++◌, ◌-◌, ◌^◌, map, filter}
+use Rattle.std.specs.Prelude.{if◌then◌else◌}
+use Rattle.std.specs.List.{list_any}
 use Rattle.place_index.specs.Entries.{value_at, with_value}
 use Rattle.place_index.specs.declared.part.DomainRows.{DomainRows}
 use Rattle.place_index.specs.declared.part.Part.{Part}
-use Rattle.place_index.specs.Places.{Place, is_of, is_at}
+use Rattle.place_index.specs.Places.{Place, is_of, is_at, is_same}
 
 -- a domain's part: where it begins, how many rows it has, and its paths' parts, which count from where it begins
 pub record DomainPart : Type 0 where
@@ -50,9 +52,30 @@ PathsInside domain =
     (text : List ℕ)
     → IfSome (value_at text domain.paths) (λ part. (0 < part.len) × (part.start + part.len ≤ domain.len))
 
--- the index is that of the rows
-abbrev pub Agrees : List Place → Index → Type 0
-Agrees rows index = (domain : List ℕ) → DomainAgrees rows domain (value_at domain index)
+abbrev pub PartsAgree : List Place → Index → Type 0
+PartsAgree rows index = (domain : List ℕ) → DomainAgrees rows domain (value_at domain index)
+
+-- the names of the rows of the domain and the path, in their order
+abbrev pub names_at : List ℕ → List ℕ → List Place → List (List ℕ)
+names_at domain path rows = map (λ row. row.name) (filter (is_at domain path) rows)
+
+-- the names that the index has of a path, and of a path of a domain; none where it has no part of it
+abbrev pub names_of : Option Part → List (List ℕ)
+names_of None = []
+names_of (Some part) = part.names
+
+abbrev pub names_in : List ℕ → Option DomainPart → List (List ℕ)
+names_in path None = []
+names_in path (Some part) = names_of (value_at path part.paths)
+
+abbrev pub NamesAgree : List Place → Index → Type 0
+NamesAgree rows index =
+    (domain path : List ℕ) → names_in path (value_at domain index) ≡ names_at domain path rows
+
+-- the index is that of the rows: the parts are theirs, and so are the names in each
+pub record Agrees (rows : List Place) (index : Index) : Type 0 where
+  pub parts : PartsAgree rows index
+  pub names : NamesAgree rows index
 
 -- the largest number of 64 bits
 abbrev pub last : ℕ
@@ -68,10 +91,10 @@ pub record IsIndex (index : Index) : Type 0 where
 abbrev pub Span : Type 0
 Span = ℕ × ℕ
 
--- the elements that pass are those of the part, and at `None` there are none
-abbrev pub PartIs : {A : Type 0} → (A → Bool) → List A → Option Span → Type 0
-PartIs test xs None = IsNowhere test xs
-PartIs test xs (Some span) = IsPart test xs span.0 (span.1 - span.0)
+-- the row is the one there, and at `None` there is none
+abbrev pub StandsAt : Place → List Place → Option ℕ → Type 0
+StandsAt place rows None = list_any (is_same place) rows ≡ false
+StandsAt place rows (Some at) = slice_get rows at ≡ Some place
 
 -- ---- one row more
 
@@ -101,7 +124,7 @@ pub record BeginsDomain (row : Place) (p : ℕ) (old new : Index) : Type 0 where
   pub begun : value_at row.domain new ≡ Some (record {
     start = p;
     len = 1;
-    paths = (row.path, record { start = 0; len = 1 }) ∷ [];
+    paths = (row.path, record { start = 0; len = 1; names = row.name ∷ [] }) ∷ [];
   })
   pub others : (text : List ℕ) → text ≢ row.domain → value_at text new ≡ value_at text old
 
@@ -114,7 +137,7 @@ pub record BeginsPath (row : Place) (p : ℕ) (old new : Index) : Type 0 where
   pub grown : value_at row.domain new ≡ Some (record {
     start = part.start;
     len = suc part.len;
-    paths = with_value part.paths row.path (record { start = part.len; len = 1 });
+    paths = with_value part.paths row.path (record { start = part.len; len = 1; names = row.name ∷ [] });
   })
   pub others : OthersMove p row.domain old new
 
@@ -131,6 +154,10 @@ pub record GrowsPath (row : Place) (p : ℕ) (old new : Index) : Type 0 where
     len = suc part.len;
     paths = paths;
   })
-  pub path_grown : value_at row.path paths ≡ Some (record { start = path.start; len = suc path.len })
+  pub path_grown : value_at row.path paths ≡ Some (record {
+    start = path.start;
+    len = suc path.len;
+    names = path.names ++ row.name ∷ [];
+  })
   pub other_paths : OtherPathsMove (path.start + path.len) row.path part.paths paths
   pub others : OthersMove p row.domain old new

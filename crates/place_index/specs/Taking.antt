@@ -1,5 +1,6 @@
 -- A row fewer.
-use Rattle.std.specs.Prelude.{◌≡◌, ◌≢◌, ◌<◌, ◌≤◌, ◌-◌, ℕ, List, length, Option, Some, None, slice_get, option_map}
+use Rattle.std.specs.Prelude.{◌≡◌, ◌≢◌, ◌<◌, ◌≤◌, ◌-◌, ℕ, List, length, Option, Some, None, IfSome, slice_get}
+use Rattle.std.specs.Prelude.{option_map}
 use Rattle.std.specs.Prelude.{nat_lt, if◌then◌else◌}
 use Rattle.std.specs.List.{remove}
 use Rattle.place_index.specs.Entries.{value_at}
@@ -8,17 +9,23 @@ use Rattle.place_index.specs.Places.{Place}
 use Rattle.place_index.specs.declared.part.DomainRows.{DomainRows}
 use Rattle.place_index.specs.declared.part.Part.{Part}
 
--- the index is that of some rows, of which the one at `at` is the place's
-pub record HasRow (place : Place) (at : ℕ) (index : Index) : Type 0 where
+-- the index is that of some rows, of which the one at `at` is of the domain and the path
+pub record HasRow (domain path : List ℕ) (at : ℕ) (index : Index) : Type 0 where
   pub places : List Place
   pub agrees : Agrees places index
-  pub there : slice_get places at ≡ Some place
+  pub name : List ℕ
+  pub there : slice_get places at ≡ Some (record { domain = domain; path = path; name = name })
   pub room : length places ≤ last
 
 -- whatever rows with the place's at `at` the index was that of, it is that of the others
-abbrev pub TakesAt : Place → ℕ → Index → Index → Type 0
-TakesAt place at old new =
+abbrev pub TakesPlace : Place → ℕ → Index → Index → Type 0
+TakesPlace place at old new =
     (places : List Place) → Agrees places old → slice_get places at ≡ Some place → Agrees (remove places at) new
+
+-- the same of a row of the domain and the path, of whatever name
+abbrev pub TakesAt : List ℕ → List ℕ → ℕ → Index → Index → Type 0
+TakesAt domain path at old new =
+    (name : List ℕ) → TakesPlace (record { domain = domain; path = path; name = name }) at old new
 
 -- where an element stands after the one at p was taken out
 abbrev pub moved_back : ℕ → ℕ → ℕ
@@ -81,7 +88,11 @@ pub record ShrinksPath (row : Place) (p : ℕ) (old new : Index) : Type 0 where
     len = part.len - 1;
     paths = paths;
   })
-  pub path_shrunk : value_at row.path paths ≡ Some (record { start = path.start; len = path.len - 1 })
+  pub path_shrunk : value_at row.path paths ≡ Some (record {
+    start = path.start;
+    len = path.len - 1;
+    names = remove path.names (p - part.start - path.start);
+  })
   pub other_paths : OtherPathsMoveBack (p - part.start) row.path part.paths paths
   pub others : OthersMoveBack p row.domain old new
 
@@ -96,18 +107,29 @@ pub record AgreesWithout : Type 0 where
 
 -- ---- one row fewer in a domain's part
 
--- the part without one of its rows; none where that was the only one
-abbrev pub shorter : Option Part → Option Part
-shorter None = None
-shorter (Some part) = if nat_lt 1 part.len then Some (record part { len = part.len - 1 }) else None
+-- the part without its row at `at`, counted from where the domain begins; none where that was the only one
+abbrev pub shorter : ℕ → Option Part → Option Part
+shorter at None = None
+shorter at (Some part) =
+    if nat_lt 1 part.len
+    then Some (record {
+      start = part.start;
+      len = part.len - 1;
+      names = remove part.names (at - part.start);
+    })
+    else None
+
+-- the path's part, where it has one, begins at `at` or before
+abbrev pub BeginsBy : ℕ → Option Part → Type 0
+BeginsBy at part = IfSome part (λ p. p.start ≤ at)
 
 -- the path's part is shorter, and the others are as they were
-pub record Shortens (path : List ℕ) (old new : List (List ℕ × Part)) : Type 0 where
-  pub own : value_at path new ≡ shorter (value_at path old)
+pub record Shortens (path : List ℕ) (at : ℕ) (old new : List (List ℕ × Part)) : Type 0 where
+  pub own : value_at path new ≡ shorter at (value_at path old)
   pub others : (text : List ℕ) → text ≢ path → value_at text new ≡ value_at text old
 
 -- the domain has a row fewer, at `at` from where it begins, and it is the path's
 pub record Takes (path : List ℕ) (at : ℕ) (old new : DomainRows) : Type 0 where
   pub len : new.len ≡ old.len - 1
-  pub own : value_at path new.paths ≡ option_map (path_back at) (shorter (value_at path old.paths))
+  pub own : value_at path new.paths ≡ option_map (path_back at) (shorter at (value_at path old.paths))
   pub others : OtherPathsMoveBack at path old.paths new.paths

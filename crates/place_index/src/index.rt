@@ -1,10 +1,11 @@
-//! From domain text to its part of a vector of rows, and in it from path text to a part of that.
+//! From domain text to its part of a vector of rows, in it from path text to a part of that, and there from name to row.
 
-ghost use Rattle.std.specs.Prelude.{◌≡◌, ◌+◌, ◌≤◌, [], List, IfOk, OnErr, length, option_copied, option_map};
+ghost use Rattle.std.specs.Prelude.{◌≡◌, ◌+◌, ◌≤◌, [], List, IfOk, OnErr, length, option_copied, option_map, position};
+ghost use Rattle.std.specs.Str.{bytes_eq};
 ghost use Rattle.place_index.specs.Entries.{value_at};
-ghost use Rattle.place_index.specs.Found.{Finds, looks_at};
-ghost use Rattle.place_index.specs.Index.{Agrees, IsIndex, PartIs};
-ghost use Rattle.place_index.specs.Places.{Place, is_at};
+ghost use Rattle.place_index.specs.Found.{Finds, looks_at, looks_up};
+ghost use Rattle.place_index.specs.Index.{Agrees, IsIndex, StandsAt};
+ghost use Rattle.place_index.specs.Places.{Place};
 ghost use Rattle.place_index.specs.Putting.{IsReady, PutsAt};
 ghost use Rattle.place_index.specs.Starts.{part_at, with_starts};
 ghost use Rattle.place_index.specs.Taking.{HasRow, TakesAt};
@@ -20,8 +21,8 @@ use std::alloc::{AllocError, Global};
 use std::marker::Model;
 use std::sync::ledger::Ledger;
 
-/// Where the rows of a vector stand: for each domain's text its part of the vector, and for each path's text in it a
-/// part of that.
+/// Where the rows of a vector stand: for each domain's text its part of the vector, for each path's text in it a part of
+/// that, and for each name in that a row. No two rows have the same three.
 #[derive(Debug, Drop)]
 pub struct Index {
     domains: Domains,
@@ -43,17 +44,28 @@ impl Index {
         }
     }
 
-    /// Where the part of a domain and a path begins and ends.
-    pub fn part(&self, domain: &str, path: &str) -> Option<(usize, usize)>
+    /// Where the row of a domain, a path and a name stands, by three questions at most.
+    pub fn position<L: Ledger>(
+        &self,
+        domain: &str,
+        path: &str,
+        name: &str,
+        looks: &mut Looks<L>,
+    ) -> Option<usize>
         requires { IsIndex self.now }
-        ensures { (places : List Place) → Agrees places self.now
-            → PartIs (is_at domain.now path.now) places result }
+        ensures at { (places : List Place) → Agrees places self.now
+            → StandsAt (record { domain = domain.now; path = path.now; name = name.now }) places result }
+        ensures looks { (places : List Place) → Agrees places self.now → looks.new
+            ≡ looks.old + looks_up (record { domain = domain.now; path = path.now; name = name.now }) places }
     {
-        self.domains.part(domain, path)
+        let (start, rows) = self.domains.ask(domain, looks)?;
+        let part = rows.ask(path, looks)?;
+        let place = part.ask(name, looks)?;
+        Some(start + part.start + place)
     }
 
-    /// Has one row more of the domain and the path: behind the last of both, else behind the domain's last, else last.
-    /// Answers where.
+    /// Has one row more of the domain, the path and the name, which has none: behind the last of domain and path, else
+    /// behind the domain's last, else last. Answers where.
     ///
     /// # Errors
     ///
@@ -64,19 +76,20 @@ impl Index {
         rows: usize,
         domain: &str,
         path: &str,
+        name: &str,
     ) -> Result<usize, AllocError>
-        requires { IsReady rows self.old }
+        requires { IsReady (record { domain = domain.now; path = path.now; name = name.now }) rows self.old }
         ensures ok { IfOk result (λ at.
-            PutsAt (record { domain = domain.now; path = path.now }) rows self.old self.new at) }
+            PutsAt (record { domain = domain.now; path = path.now; name = name.now }) rows self.old self.new at) }
         ensures err { OnErr result (self.new ≡ self.old) }
     {
-        put_row(alloc, &mut self.domains, rows, domain, path)
+        put_row(alloc, &mut self.domains, rows, domain, path, name)
     }
 
     /// Has the row at `at`, which is of the domain and the path, no more.
     pub fn remove(&mut self, at: usize, domain: &str, path: &str)
-        requires { HasRow (record { domain = domain.now; path = path.now }) at self.old }
-        ensures { TakesAt (record { domain = domain.now; path = path.now }) at self.old self.new }
+        requires { HasRow domain.now path.now at self.old }
+        ensures { TakesAt domain.now path.now at self.old self.new }
     {
         take_row(&mut self.domains, at, domain, path)
     }
@@ -134,18 +147,6 @@ impl Domains {
         }
     }
 
-    /// Where the part of a domain and a path begins and ends.
-    fn part(&self, domain: &str, path: &str) -> Option<(usize, usize)>
-        requires { IsIndex self.now }
-        ensures { (places : List Place) → Agrees places self.now
-            → PartIs (is_at domain.now path.now) places result }
-    {
-        let (start, rows) = self.get(domain)?;
-        let part = rows.paths.get(path)?;
-        let start = start + part.start;
-        Some((start, start + part.len))
-    }
-
     // Where the domain begins, and its rows.
     fn get(&self, text: &str) -> Option<(usize, &DomainRows)>
         ensures { option_map (λ found. part_at found.0 found.1.now) result ≡ value_at text.now self.now }
@@ -176,5 +177,16 @@ impl DomainRows {
     {
         looks.raise();
         self.paths.get(text)
+    }
+}
+
+impl Part {
+    /// Asks for a name: which of the part's rows has it.
+    pub(crate) fn ask<L: Ledger>(&self, name: &str, looks: &mut Looks<L>) -> Option<usize>
+        ensures place { result ≡ position (bytes_eq name.now) self.now.names }
+        ensures look { looks.new ≡ looks.old + 1 }
+    {
+        looks.raise();
+        self.names.place(name)
     }
 }

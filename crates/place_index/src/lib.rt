@@ -1,4 +1,4 @@
-//! Where the rows of a vector stand, by the domain and the path of each.
+//! Where the rows of a vector stand, by the domain, the path and the name of each.
 #![tactic(auto)]
 
 mod find;
@@ -6,6 +6,7 @@ mod index;
 pub mod laws;
 mod looks;
 mod moving;
+mod names;
 mod order;
 mod part;
 mod putting;

@@ -5,7 +5,7 @@ ghost use Rattle.std.specs.Prelude.{◌≡◌, ◌<◌, ◌+◌, ℕ};
 use std::marker::Model;
 use std::sync::ledger::{Blank, Book, Ledger, Share};
 
-/// How many questions were put to an index: one for each domain text, and one for each path text.
+/// How many questions were put to an index: one for each domain text, one for each path text, and one for each name.
 ///
 /// It takes no bytes, and counting costs nothing at run time.
 #[derive(Drop)]

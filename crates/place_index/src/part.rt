@@ -4,13 +4,15 @@ ghost use Rattle.std.specs.Prelude.{◌≡◌};
 ghost use Rattle.place_index.specs.Index.{moved, moved_path};
 ghost use Rattle.place_index.specs.Taking.{moved_back, path_back};
 
+use crate::names::Names;
 use crate::text_map::TextMap;
 
-/// Where a part begins, and how many rows it has.
+/// Where a part begins, how many rows it has, and their names.
 #[derive(Debug, Drop)]
 pub(crate) struct Part {
     pub(crate) start: usize,
     pub(crate) len: usize,
+    pub(crate) names: Names,
 }
 
 /// How many rows a domain has, and its paths' parts, which count from where the domain begins.

@@ -2,19 +2,25 @@
 
 ghost use Rattle.std.specs.Prelude.{◌<◌};
 ghost use Rattle.place_index.specs.Index.{PathsInside};
-ghost use Rattle.place_index.specs.Taking.{HasRow, Shortens, Takes, TakesAt};
+ghost use Rattle.place_index.specs.Entries.{value_at};
+ghost use Rattle.place_index.specs.Taking.{BeginsBy, HasRow, Shortens, Takes, TakesAt};
 
 use crate::index::Domains;
 use crate::moving::{move_paths_back, move_starts_back};
 use crate::part::{DomainRows, Part};
 use crate::text_map::TextMap;
 
-// Has one row fewer of the path, and no part where that was the only one.
-fn shorten(paths: &mut TextMap<Part>, path: &str)
-    ensures { Shortens path.now paths.old paths.new }
+// Has one row fewer of the path, the one at `at`, counted from where the domain begins, and no part where that was the
+// only one.
+fn shorten(paths: &mut TextMap<Part>, at: usize, path: &str)
+    requires { BeginsBy at (value_at path.now paths.old) }
+    ensures { Shortens path.now at paths.old paths.new }
 {
     match paths.get_mut(path) {
-        Some(part) if part.len > 1 => part.len -= 1,
+        Some(part) if part.len > 1 => {
+            part.len -= 1;
+            part.names.take(at - part.start);
+        }
         Some(_) => paths.remove(path),
         None => {}
     }
@@ -24,10 +30,11 @@ fn shorten(paths: &mut TextMap<Part>, path: &str)
 fn take(domain: &mut DomainRows, at: usize, path: &str)
     requires some { 0 < domain.old.len }
     requires inside { PathsInside domain.old }
+    requires begun { BeginsBy at (value_at path.now domain.old.paths) }
     ensures { Takes path.now at domain.old domain.new }
 {
     domain.len -= 1;
-    shorten(&mut domain.paths, path);
+    shorten(&mut domain.paths, at, path);
     if at < domain.len {
         move_paths_back(&mut domain.paths, at);
     }
@@ -35,8 +42,8 @@ fn take(domain: &mut DomainRows, at: usize, path: &str)
 
 /// Has the row at `at`, which is of the domain and the path, no more.
 pub(crate) fn take_row(domains: &mut Domains, at: usize, domain: &str, path: &str)
-    requires { HasRow (record { domain = domain.now; path = path.now }) at domains.old }
-    ensures { TakesAt (record { domain = domain.now; path = path.now }) at domains.old domains.new }
+    requires { HasRow domain.now path.now at domains.old }
+    ensures { TakesAt domain.now path.now at domains.old domains.new }
 {
     if let Some(place) = domains.rows.place(domain) {
         let inner = at - domains.starts[place];

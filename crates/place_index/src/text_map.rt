@@ -1,33 +1,36 @@
 //! Values by text, in the order in which their texts came.
 
-ghost use Rattle.std.specs.Prelude.{◌≡◌, ◌↔◌, ◌<◌, [], IsTrue, IfOk, OnOk, OnErr, Some, None, length, map, slice_get};
+ghost use Rattle.std.specs.Prelude.{◌≡◌, ◌<◌, [], IsTrue, IfOk, OnOk, OnErr, Some, None, length, map, slice_get};
 ghost use Rattle.std.specs.Prelude.{string_bytes, option_copied, option_map};
 ghost use Rattle.std.specs.Option.{option_copied_mut};
 ghost use Rattle.std.specs.Borrow.{sem};
-ghost use Rattle.place_index.specs.Entries.{place_of, value_at, with_value, without, by_bytes};
+ghost use Rattle.place_index.specs.Entries.{place_of, value_at, with_value, without};
 ghost use Rattle.place_index.specs.Lending.{LendsValue, LendsAt};
 
 use indexmap::IndexMap;
-use indexmap::map::Iter;
 use std::alloc::{AllocError, Global};
 use std::marker::Model;
 
-/// Values by text, in the order in which their texts came.
+/// Values by text, in the order in which their texts came, and how long a text can be that has one: so one that is
+/// longer is told without its hash.
 #[derive(Debug, Drop)]
 pub(crate) struct TextMap<V> {
     pub(crate) entries: IndexMap<String, V>,
+    longest: usize,
 }
 
 impl<V> Model for TextMap<V> {
     ghost use Rattle.std.specs.Prelude.{List, ℕ};
     ghost use Rattle.std.specs.Coded.{coded_list, coded×, coded_ℕ};
-    ghost use Rattle.place_index.specs.Entries.{by_bytes};
+    ghost use Rattle.place_index.specs.Entries.{AreUpTo, by_bytes};
 
     ghost Value = { List (List ℕ × V) };
 
     ghost coded = { coded_list (coded× (coded_list coded_ℕ) V.code) };
 
     ghost view = { λ m. by_bytes m.entries.entries };
+
+    ghost invariant = { λ m. AreUpTo m.longest (by_bytes m.entries.entries) };
 }
 
 impl<V> TextMap<V> {
@@ -37,13 +40,24 @@ impl<V> TextMap<V> {
     {
         TextMap {
             entries: IndexMap::new(alloc),
+            longest: 0,
         }
+    }
+
+    // Whether the text is longer than each that has a value.
+    fn is_longer(&self, key: &str) -> bool
+        ensures { IsTrue result → place_of key.now self.now ≡ None }
+    {
+        key.len() > self.longest
     }
 
     /// The value of a text.
     pub(crate) fn get(&self, key: &str) -> Option<&V>
         ensures { option_copied result ≡ value_at key.now self.now }
     {
+        if self.is_longer(key) {
+            return None;
+        }
         self.entries.get(key)
     }
 
@@ -67,6 +81,9 @@ impl<V> TextMap<V> {
         ensures place { option_map (λ found. found.0) result ≡ place_of key.now self.now }
         ensures value { option_map (λ found. found.1.now) result ≡ value_at key.now self.now }
     {
+        if self.is_longer(key) {
+            return None;
+        }
         let (place, _, value) = self.entries.get_full(key)?;
         Some((place, value))
     }
@@ -79,20 +96,6 @@ impl<V> TextMap<V> {
     {
         &mut self.entries[place]
     }
-
-    /// Whether there is no value.
-    pub(crate) fn is_empty(&self) -> bool
-        ensures { IsTrue result ↔ (self.now ≡ []) }
-    {
-        self.entries.is_empty()
-    }
-
-    /// The values in their order.
-    pub(crate) fn iter(&self) -> Iter<'_, String, V>
-        ensures { by_bytes result ≡ self.now }
-    {
-        self.entries.iter()
-    }
 }
 
 impl<V: Drop> TextMap<V> {
@@ -103,8 +106,12 @@ impl<V: Drop> TextMap<V> {
         ensures before { IfOk result (λ before. before ≡ value_at (string_bytes key) self.old) }
         ensures err { OnErr result (self.new ≡ self.old) }
     {
+        let longest = self.longest.max(key.len());
         match self.entries.insert(key, value) {
-            Ok(before) => Ok(before),
+            Ok(before) => {
+                self.longest = longest;
+                Ok(before)
+            }
             Err(_) => Err(AllocError),
         }
     }

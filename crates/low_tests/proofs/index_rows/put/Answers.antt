@@ -1,22 +1,14 @@
-use Rattle.std.proofs.Common.{◌≡◌, ◌∙◌, length, sym, ap, subst, arith}
-use Rattle.std.specs.List.{insert}
-use Rattle.low_tests.specs.Rows.{AreIndexed}
-use Rattle.low_tests.proofs.RowsLemmas.{is_ready, put_in}
+use Rattle.std.proofs.Common.{arith}
+use Rattle.low_tests.specs.Rows.{places_of}
+use Rattle.low_tests.proofs.RowsLemmas.{is_index}
 use Rattle.low_tests.proofs.index_rows.put.Goals as goal
 
-pub put-requires : goal.put-requires
-put-requires g c =
-    let small = c.reserve.new.self.small in
-    let within = c.reserve.new.self.ok.1 in
-    let n : c.len.result ≡ c.reserve.new.self.len = c.len.ensures in
-    is_ready c.args.rows.now.items c.args.index.now c.requires c.len.result
-    (c.len.ensures ∙ c.reserve.new.self.ok.0 ∙ ap length c.in_ok-reserve.ensures.items)
-    (omega (arith, small, within, n))
+pub position-requires : goal.position-requires
+position-requires g c =
+    let small = c.args.rows.now.small in
+    let n = c.args.rows.now.ok.0 in
+    let within = c.args.rows.now.ok.1 in
+    is_index c.args.rows.now.items c.args.index.now c.requires (omega (arith, small, n, within))
 
-pub returns : goal.returns
-returns g c =
-    subst (λ l. AreIndexed l c.put.new.self)
-    (sym (c.in_ok-insert.ensures.items ∙ ap (λ l. insert l c.in_ok-at.at c.args.row) c.in_ok-reserve.ensures.items))
-    (put_in c.args.rows.now.items c.args.index.now c.requires c.len.result
-    (c.len.ensures ∙ c.reserve.new.self.ok.0 ∙ ap length c.in_ok-reserve.ensures.items) c.args.row c.in_ok-at.at
-    c.put.new.self c.in_ok-at.ensures.ok)
+pub put_new-requires-clause-absent : goal.put_new-requires-clause-absent
+put_new-requires-clause-absent g c = c.in-None.ensures (places_of c.args.rows.now.items) c.requires

@@ -2,8 +2,8 @@ use Rattle.std.proofs.Common.{arith}
 use Rattle.low_tests.proofs.RowsLemmas.{is_index}
 use Rattle.low_tests.proofs.index_tests.answers_as_a_scan.Goals as goal
 
-pub has_the_parts-requires : goal.has_the_parts-requires
-has_the_parts-requires c =
+pub has_the_rows-requires : goal.has_the_rows-requires
+has_the_rows-requires c =
     let small = c.args.rows.now.small in
     let n = c.args.rows.now.ok.0 in
     let within = c.args.rows.now.ok.1 in

@@ -29,7 +29,7 @@ returns-clause-ok c =
     let same = c.domains.invariant in
     let none = no_place text starts rows same (ap (value_at text) c.domains.view_is ∙ c.requires) in
     let pushed = c.in_ok-push.ensures.items ∙ ap (λ xs. xs ++ c.args.start ∷ []) c.reserve.ensures.items in
-    let first : Part = record { start = 0; len = 1 } in
+    let first : Part = record { start = 0; len = 1; names = c.args.name.now ∷ [] } in
     let own : DomainRows = record { len = 1; paths = (c.args.path.now, first) ∷ [] } in
     let put = c.in_ok-insert.ensures.ok
     ∙ (λ i. with_value rows (c.in_ok-text.ensures.ok i) (record { len = 1; paths = c.in_ok-paths.ensures i })) in

@@ -4,6 +4,7 @@ use Rattle.indexmap.specs.Layout.{length-set_value_at}
 use Rattle.indexmap.specs.IndexMap.{set_value_at}
 use Rattle.place_index.specs.Entries.{value_at}
 use Rattle.place_index.specs.Index.{moved}
+use Rattle.place_index.specs.Places.{Place}
 use Rattle.place_index.specs.Starts.{with_starts}
 use Rattle.place_index.proofs.RowLemmas.{has_room, puts_before_others, puts_at_end, puts_first, on_err, row_fits}
 use Rattle.place_index.proofs.StartLemmas.{all_moved, no_value, none_found, part_set, part_there, place_within}
@@ -15,7 +16,8 @@ value_mut-requires c = place_within c.args.domain.now c.domains.inside.rows c.in
 
 pub put-requires : goal.put-requires
 put-requires c =
-    (has_room c.args.rows c.args.domains.now c.args.domain.now _ c.value_mut.result.now c.requires
+    (has_room (record { domain = c.args.domain.now; path = c.args.path.now; name = c.args.name.now }) c.args.rows
+    c.args.domains.now _ c.value_mut.result.now c.requires
     (part_there c.args.domain.now c.domains.inside.starts.items c.domains.inside.rows c.args.domains.now
     c.domains.view_is c.domains.invariant c.in-Some.place (sym c.in-Some.ensures) c.value_mut.result.now
     c.value_mut.ensures.value _ 0 refl)).0
@@ -47,8 +49,8 @@ index-requires c =
 pub overflow_add-at : goal.overflow_add-at
 overflow_add-at c =
     let start = c.index.result.now in
-    let fits = row_fits c.args.rows c.args.domains.now c.args.domain.now c.args.path.now start c.value_mut.result.now
-    c.put.new.domain c.in_ok-inner-in-Some.inner c.requires
+    let fits = row_fits (record { domain = c.args.domain.now; path = c.args.path.now; name = c.args.name.now })
+    c.args.rows c.args.domains.now start c.value_mut.result.now c.put.new.domain c.in_ok-inner-in-Some.inner c.requires
     (part_there c.args.domain.now c.domains.inside.starts.items c.domains.inside.rows c.args.domains.now
     c.domains.view_is c.domains.invariant c.in-Some.place (sym c.in-Some.ensures) c.value_mut.result.now
     c.value_mut.ensures.value start start c.index.ensures) c.in_ok-inner-in-Some.ensures.ok in
@@ -85,8 +87,9 @@ returns-then-at-rows-clause-ok c =
     (sym c.in-Some.ensures) own c.value_mut.ensures.value start start c.index.ensures in
     let lent = part_set text starts rows old c.domains.view_is c.domains.invariant c.in-Some.place
     (sym c.in-Some.ensures) own c.value_mut.ensures.value start start c.index.ensures w in
-    let has = has_room c.args.rows old text start own c.requires there in
-    puts_before_others (record { domain = text; path = c.args.path.now }) p c.args.rows old _ start own w there lent
+    let row : Place = record { domain = text; path = c.args.path.now; name = c.args.name.now } in
+    let has = has_room row c.args.rows old start own c.requires there in
+    puts_before_others row p c.args.rows old _ start own w there lent
     c.in_ok-inner-in-Some.inner refl c.requires.room has.0 has.1 c.in_ok-inner-in-Some.ensures.ok _
     (ap (λ ss. with_starts ss (set_value_at rows c.in-Some.place w))
     (all_moved (moved p) v c.deref_mut.result.now c.move_starts.new.starts c.deref_mut.ensures.value
@@ -106,15 +109,16 @@ returns-else-at-rows-clause-ok c =
     (sym c.in-Some.ensures) own c.value_mut.ensures.value start start c.index.ensures in
     let lent = part_set text starts rows old c.domains.view_is c.domains.invariant c.in-Some.place
     (sym c.in-Some.ensures) own c.value_mut.ensures.value start start c.index.ensures w in
-    let has = has_room c.args.rows old text start own c.requires there in
-    puts_at_end (record { domain = text; path = c.args.path.now }) (start + c.in_ok-inner-in-Some.inner) c.args.rows
+    let row : Place = record { domain = text; path = c.args.path.now; name = c.args.name.now } in
+    let has = has_room row c.args.rows old start own c.requires there in
+    puts_at_end row (start + c.in_ok-inner-in-Some.inner) c.args.rows
     old _ start own w there lent c.in_ok-inner-in-Some.inner refl c.requires.room has.0 has.1
     c.in_ok-inner-in-Some.ensures.ok c.if-at-rows.false
 
 pub returns-in_ok-begin-in-None-clause-ok : goal.returns-in_ok-begin-in-None-clause-ok
 returns-in_ok-begin-in-None-clause-ok c =
     let text = c.args.domain.now in
-    puts_first (record { domain = text; path = c.args.path.now }) c.args.rows c.args.domains.now c.begin.new.domains
+    puts_first (record { domain = text; path = c.args.path.now; name = c.args.name.now }) c.args.rows c.args.domains.now c.begin.new.domains
     c.requires.room
     (ap (value_at text) (sym c.domains.view_is)
     ∙ none_found text c.domains.inside.starts.items c.domains.inside.rows

@@ -1,4 +1,4 @@
-use Rattle.std.proofs.Common.{◌∙◌, ap, arith, length, sym}
+use Rattle.std.proofs.Common.{◌∙◌, ◌-◌, ap, arith, length, refl, sym}
 use Rattle.std.specs.List.{remove}
 use Rattle.std.specs.Vec.{with_items}
 use Rattle.indexmap.specs.Layout.{length-set_value_at}
@@ -6,7 +6,7 @@ use Rattle.place_index.specs.Entries.{value_at, without}
 use Rattle.place_index.specs.Places.{Place}
 use Rattle.place_index.specs.Starts.{part_at, with_starts}
 use Rattle.place_index.specs.Taking.{moved_back}
-use Rattle.place_index.proofs.RowOutLemmas.{starts_before, inside_of, takes_more, takes_only, takes_none}
+use Rattle.place_index.proofs.RowOutLemmas.{begun_by, starts_before, inside_of, takes_more, takes_only, takes_none}
 use Rattle.place_index.proofs.StartLemmas.{all_moved, entry_at, no_value, none_found, part_removed, part_set}
 use Rattle.place_index.proofs.StartLemmas.{part_there, place_within, remove-length, set_value_at-same, starts_moved}
 use Rattle.place_index.proofs.StartLemmas.{without-length}
@@ -28,8 +28,7 @@ overflow_sub-inner c =
     let start = c.index.result.now in
     let within = place_within c.args.domain.now rows place at in
     let own = entry_at rows place within in
-    starts_before (record { domain = c.args.domain.now; path = c.args.path.now }) c.args.at c.args.domains.now
-    (part_at start own.0) c.requires
+    starts_before c.args.domain.now c.args.path.now c.args.at c.args.domains.now c.requires (part_at start own.0)
     (part_there c.args.domain.now c.domains.inside.starts.items rows c.args.domains.now c.domains.view_is
     c.domains.invariant place at own.0 own.1 start start c.index.ensures)
 
@@ -40,11 +39,20 @@ value_mut-rows-requires c =
 pub take-requires-clause-inside : goal.take-requires-clause-inside
 take-requires-clause-inside c =
     let start = c.index.result.now in
-    inside_of (record { domain = c.args.domain.now; path = c.args.path.now }) c.args.at c.args.domains.now start
-    c.value_mut-rows.result.now c.requires
+    inside_of c.args.domain.now c.args.path.now c.args.at c.args.domains.now c.requires start
+    c.value_mut-rows.result.now
     (part_there c.args.domain.now c.domains.inside.starts.items c.domains.inside.rows c.args.domains.now
     c.domains.view_is c.domains.invariant c.in-Some.place (sym c.in-Some.ensures) c.value_mut-rows.result.now
     c.value_mut-rows.ensures.value start start c.index.ensures)
+
+pub take-requires-clause-begun : goal.take-requires-clause-begun
+take-requires-clause-begun c =
+    let start = c.index.result.now in
+    begun_by c.args.domain.now c.args.path.now c.args.at c.args.domains.now c.requires start (c.args.at - start)
+    c.value_mut-rows.result.now
+    (part_there c.args.domain.now c.domains.inside.starts.items c.domains.inside.rows c.args.domains.now
+    c.domains.view_is c.domains.invariant c.in-Some.place (sym c.in-Some.ensures) c.value_mut-rows.result.now
+    c.value_mut-rows.ensures.value start start c.index.ensures) refl
 
 pub remove-requires-else-rows-gt1 : goal.remove-requires-else-rows-gt1
 remove-requires-else-rows-gt1 c =
@@ -84,9 +92,9 @@ invariant_of-domains c =
     ]
 
 pub returns : goal.returns
-returns c =
+returns c name =
     let text = c.args.domain.now in
-    let row : Place = record { domain = text; path = c.args.path.now } in
+    let row : Place = record { domain = text; path = c.args.path.now; name = name } in
     let old = c.args.domains.now in
     let starts = c.domains.inside.starts.items in
     let rows = c.domains.inside.rows in

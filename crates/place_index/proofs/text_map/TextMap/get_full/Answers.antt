@@ -1,8 +1,16 @@
-use Rattle.std.proofs.Common.{◌∙◌, ap}
+use Rattle.std.proofs.Common.{◌∙◌, ap, sym}
 use Rattle.std.specs.Prelude.{option_map}
 use Rattle.place_index.specs.Entries.{place_of, value_at}
 use Rattle.place_index.proofs.EntryLemmas.{place_of-by_bytes, value_at-by_bytes}
+use Rattle.place_index.proofs.StartLemmas.{no_value}
 use Rattle.place_index.proofs.text_map.TextMap.get_full.Goals as goal
+
+pub returns-then-is_longer-clause-place : goal.returns-then-is_longer-clause-place
+returns-then-is_longer-clause-place g c = sym (c.is_longer.ensures c.if-is_longer.true)
+
+pub returns-then-is_longer-clause-value : goal.returns-then-is_longer-clause-value
+returns-then-is_longer-clause-value g c =
+    sym (no_value c.args.key.now c.args.self.now (c.is_longer.ensures c.if-is_longer.true))
 
 pub returns-in_err-place-clause-place : goal.returns-in_err-place-clause-place
 returns-in_err-place-clause-place g c =
