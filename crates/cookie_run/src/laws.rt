@@ -58,8 +58,9 @@ pub fn rows_are_the_sites(key: &Key)
 }
 
 /// The lines of an answer touch rows under the URL's host alone, and under texts that it
-/// domain-matches and that are no public suffix; rows under public suffixes stay of their hosts
-/// alone. Without a host they touch none.
+/// domain-matches and that are no public suffix. Each row that they add or change under a public
+/// suffix is of its host alone, whatever rows there were; one that they end stays whose it was. So
+/// rows under public suffixes stay of their hosts alone. Without a host they touch none.
 pub fn answers_are_confined()
     ensures { law.AnswersAreConfined }
 {
@@ -96,7 +97,8 @@ pub fn restarts_keep_rows()
 {}
 
 /// What is saved of a client's rows at one moment, and is loaded of that text at another, are the rows
-/// that are kept; and want of memory alone refuses the text, whatever the raw cookies.
+/// that are kept; and want of memory alone refuses the text, whatever the raw cookies. What it asks of
+/// the rows `Client::store` tells, and of that store `iter_any`; what of the text `Client::save`.
 pub fn saved_rows_are_kept()
     ensures kept { kept.SavedRowsAreKept }
     ensures read { kept.SavedTextsAreRead }

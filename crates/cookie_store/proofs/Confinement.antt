@@ -1,7 +1,7 @@
 -- Which rows an insertion can touch.
 use Rattle.std.proofs.Common.{◌≡◌, inl, inr, ℕ, ℤ, Bool, true, false, cond, not, ◌&&◌, List, [], ◌∷◌, filter, map, refl}
 use Rattle.std.proofs.Common.{sym, ap, subst, ◌∙◌}
-use Rattle.std.specs.Prelude.{Option, Some, None, Ok, IsSomeAnd}
+use Rattle.std.specs.Prelude.{◌⊎◌, Option, Some, None, Ok, IsSomeAnd}
 use Rattle.std.specs.List.{list_any, AllByRecursion}
 use Rattle.std.specs.Str.{bytes_eq}
 use Rattle.std.proofs.lemmas.Bool.{cond-true, cond-false, and_parts, both_ways}
@@ -13,7 +13,7 @@ use Rattle.store_parts.specs.Expiry.{is_dead}
 use Rattle.store_parts.specs.Schemes.{host_of}
 use Rattle.store_parts.specs.declared.error.CookieError.TheVariants.{Expired}
 use Rattle.url.specs.Parts.{Parts}
-use Rattle.cookie_store.specs.Confined.{MaySet, rows_under, IsAlone, IsConfined}
+use Rattle.cookie_store.specs.Confined.{MaySet, rows_under, IsAlone, IsConfined, IsOneOf}
 use Rattle.cookie_store.specs.Insertion.{End, action_of, settled, Fits, Inserts, alone, refused}
 use Rattle.cookie_store.specs.Rows.{Row, Key, key_of, domain_text, has_key_of, has_place_of, has_domain, is_live}
 use Rattle.cookie_store.specs.Rows.{is_live_of, expired, ended, behind_last, put_in_place, put}
@@ -94,28 +94,71 @@ module _ {A : Type 0} (P : A → Type 0) where
   pick true x y p q = p
   pick false x y p q = q
 
-module _ (list : List Rule) (now : ℤ) (row : Row) (own : IsAlone list row) (rows : List Row)
-    (all : AllByRecursion (IsAlone list) rows) where
-  put_alone : AllByRecursion (IsAlone list) (put row rows)
-  put_alone = by (list_any (has_key_of row) rows) (list_any (has_place_of row) rows)
-    where
-      by : (k p : Bool) → AllByRecursion (IsAlone list) (cond k (put_in_place (has_key_of row) row rows)
-          (cond p (behind_last (has_place_of row) row rows) (behind_last (has_domain (key_of row)) row rows)))
-      by true p = all_map (IsAlone list) _ (λ r q. pick (IsAlone list) (has_key_of row r) row r own q) rows all
-      by false true = all_behind (IsAlone list) (has_place_of row) row own rows all
-      by false false = all_behind (IsAlone list) (has_domain (key_of row)) row own rows all
+module _ (P : Row → Type 0) (ends : (r : Row) → P r → P (expired r)) where
+  module _ (now : ℤ) (row : Row) (own : P row) (rows : List Row) (all : AllByRecursion P rows) where
+    put_all_so : AllByRecursion P (put row rows)
+    put_all_so = by (list_any (has_key_of row) rows) (list_any (has_place_of row) rows)
+      where
+        by : (k p : Bool) → AllByRecursion P (cond k (put_in_place (has_key_of row) row rows)
+            (cond p (behind_last (has_place_of row) row rows) (behind_last (has_domain (key_of row)) row rows)))
+        by true p = all_map P _ (λ r q. pick P (has_key_of row r) row r own q) rows all
+        by false true = all_behind P (has_place_of row) row own rows all
+        by false false = all_behind P (has_domain (key_of row)) row own rows all
 
-  settled_alone : AllByRecursion (IsAlone list) (settled rows now row).1
-  settled_alone = by (is_dead now row.death) (list_any (is_live_of now row) rows)
-    where
-      by : (d l : Bool)
-          → AllByRecursion (IsAlone list) (cond d
-          (cond l (Ok ExpiredExisting, ended now row rows) (refused Expired rows))
-          (Ok (action_of row rows), put row rows)).1
-      by true true = all_map (IsAlone list) _ (λ r q. pick (IsAlone list) (is_live_of now row r)
-          (expired r) r q q) rows all
-      by true false = all
-      by false l = put_alone
+    settled_all_so : AllByRecursion P (settled rows now row).1
+    settled_all_so = by (is_dead now row.death) (list_any (is_live_of now row) rows)
+      where
+        by : (d l : Bool) → AllByRecursion P (cond d
+            (cond l (Ok ExpiredExisting, ended now row rows) (refused Expired rows))
+            (Ok (action_of row rows), put row rows)).1
+        by true true = all_map P _ (λ r q. pick P (is_live_of now row r) (expired r) r (ends r q) q) rows all
+        by true false = all
+        by false l = put_all_so
+
+  -- what holds of rows holds of each that is one of them
+  one_of_all : (rows : List Row) → AllByRecursion P rows → (r : Row) → IsOneOf rows r → P r
+  one_of_all [] all r one = absurd one
+  one_of_all (x ∷ xs) all r (inl is) = subst P (sym is) all.0
+  one_of_all (x ∷ xs) all r (inr (inl is)) = subst P (sym is) (ends x all.0)
+  one_of_all (x ∷ xs) all r (inr (inr one)) = one_of_all xs all.1 r one
+
+all_weaker : {A : Type 0} (P Q : A → Type 0) → ((x : A) → P x → Q x) → (xs : List A) → AllByRecursion P xs
+    → AllByRecursion Q xs
+all_weaker P Q weaker [] all = tt
+all_weaker P Q weaker (x ∷ xs) all = (weaker x all.0, all_weaker P Q weaker xs all.1)
+
+-- each of some rows is one of them
+each_one : (rows : List Row) → AllByRecursion (IsOneOf rows) rows
+each_one [] = tt
+each_one (r ∷ rows) = (
+  inl refl,
+  all_weaker (IsOneOf rows) (IsOneOf (r ∷ rows)) (λ x one. inr (inr one)) rows (each_one rows),
+)
+
+-- an ended row that is one of them is so still
+ended_one : (rows : List Row) (r : Row) → IsOneOf rows r → IsOneOf rows (expired r)
+ended_one [] r one = one
+ended_one (x ∷ xs) r (inl is) = inr (inl (ap expired is))
+ended_one (x ∷ xs) r (inr (inl is)) = inr (inl (ap expired is))
+ended_one (x ∷ xs) r (inr (inr one)) = inr (inr (ended_one xs r one))
+
+-- an old row, or one of its host alone
+abbrev IsOldOrAlone : List Rule → List Row → Row → Type 0
+IsOldOrAlone list old r = IsOneOf old r ⊎ IsAlone list r
+
+ended_or_alone : (list : List Rule) (old : List Row) (r : Row) → IsOldOrAlone list old r
+    → IsOldOrAlone list old (expired r)
+ended_or_alone list old r (inl one) = inl (ended_one old r one)
+ended_or_alone list old r (inr is) = inr is
+
+-- rows that are old ones, or of their hosts alone, are of their hosts alone where the old ones are
+stay_alone : (list : List Rule) (old new : List Row) → AllByRecursion (IsOldOrAlone list old) new
+    → AllByRecursion (IsAlone list) old → AllByRecursion (IsAlone list) new
+stay_alone list old new each all = all_weaker (IsOldOrAlone list old) (IsAlone list) by new each
+  where
+    by : (r : Row) → IsOldOrAlone list old r → IsAlone list r
+    by r (inl one) = one_of_all (IsAlone list) (λ x is. is) old all r one
+    by r (inr is) = is
 
 -- ---- the domains that may be
 
@@ -145,11 +188,13 @@ unlisted_text list empty (Some host) covers unlisted listed = absurd covers
 -- ---- an insertion
 
 module _ (list : List Rule) (rows : List Row) (url : Parts) (now : ℤ) (end : End) where
+  confined : ((text : List ℕ) → ¬ (MaySet list (host_of url) text) → rows_under text end.1 ≡ rows_under text rows)
+      → AllByRecursion (IsOldOrAlone list rows) end.1 → IsConfined list (host_of url) rows end.1
+  confined others each = record { others = others; each = each; alone = stay_alone list rows end.1 each }
+
   same_rows : end.1 ≡ rows → IsConfined list (host_of url) rows end.1
-  same_rows is = record {
-    others = λ text no. ap (rows_under text) is;
-    alone = λ all. subst (AllByRecursion (IsAlone list)) (sym is) all;
-  }
+  same_rows is = confined (λ text no. ap (rows_under text) is) (subst (AllByRecursion (IsOldOrAlone list rows)) (sym is)
+      (all_weaker (IsOneOf rows) (IsOldOrAlone list rows) (λ x one. inl one) rows (each_one rows)))
 
   fits_confined : (row : Row) → (CoversAt row.domain url → MaySet list (host_of url) (domain_text row))
       → (CoversAt row.domain url → IsAlone list row) → Fits rows url now row end
@@ -158,14 +203,14 @@ module _ (list : List Rule) (rows : List Row) (url : Parts) (now : ℤ) (end : E
   fits_confined row may own (inr (covers, inl x)) = same_rows (ap (λ (e : End). e.1) x.1)
   fits_confined row may own (inr (covers, inr x)) =
       let is = ap (λ (e : End). e.1) x.1 in
-      record {
-        others = λ text barred. ap (rows_under text) is
-            ∙ settled_under text now row
-            (other_text (domain_text row) text
-            (λ same. barred (subst (MaySet list (host_of url)) same (may covers)))) rows;
-        alone = λ all. subst (AllByRecursion (IsAlone list)) (sym is)
-            (settled_alone list now row (own covers) rows all);
-      }
+      confined
+      (λ text barred. ap (rows_under text) is
+      ∙ settled_under text now row
+      (other_text (domain_text row) text
+      (λ same. barred (subst (MaySet list (host_of url)) same (may covers)))) rows)
+      (subst (AllByRecursion (IsOldOrAlone list rows)) (sym is)
+      (settled_all_so (IsOldOrAlone list rows) (ended_or_alone list rows) now row (inr (own covers)) rows
+      (all_weaker (IsOneOf rows) (IsOldOrAlone list rows) (λ x one. inl one) rows (each_one rows))))
 
   pub inserts_confined : (row : Row) → Inserts list rows url now row end → IsConfined list (host_of url) rows end.1
   inserts_confined row (inl x) = same_rows (ap (λ (e : End). e.1) x.1)

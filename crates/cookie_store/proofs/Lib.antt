@@ -6,6 +6,7 @@ pub mod GivenLemmas
 pub mod GroupedLemmas
 pub mod IndexedLemmas
 pub mod JsonLineLemmas
+pub mod JsonSaveLemmas
 pub mod LineLemmas
 pub mod LoadLemmas
 pub mod LongestLemmas
@@ -13,6 +14,7 @@ pub mod PlaceLaws
 pub mod PlaceLemmas
 pub mod ReadLemmas
 pub mod ReadableLemmas
+pub mod RefusalLemmas
 pub mod RereadLemmas
 pub mod RowFacts
 pub mod SaveLemmas

@@ -153,7 +153,8 @@ module _ (read_printed : PrintedDatesAreRead) (dropped : FractionsAreDropped) (o
   all_read rows ts p h = none_refuted IsReadable ts (each_reads rows ts p h)
 
   pub ron_read : WrittenIsOfGrammar → RonIsRead
-  ron_read written rows text e bytes prints utf8 (ts, shown, is) (cause, why, e_is) = by cause why e_is
+  ron_read written rows text e bytes prints utf8 (ts, shown, is) (inl (e_is, none)) = absurd (none utf8)
+  ron_read written rows text e bytes prints utf8 (ts, shown, is) (inr (same, (cause, why, e_is))) = by cause why e_is
     where
       shows : ShowsRon text ts
       shows = subst (λ x. ShowsRon x ts) (sym is) (written ts (rows_bytes rows ts bytes shown))

@@ -1,5 +1,6 @@
 pub mod Asking
 pub mod Confined
+pub mod Formats
 pub mod Given
 pub mod Giving
 pub mod Grouped

@@ -103,17 +103,20 @@ of_saved_text fault.OutOfMemory = OutOfMemory
 abbrev pub IsRefusal : (SavedTextError → Type 0) → Error → Type 0
 IsRefusal Is e = (cause : SavedTextError) × Is cause × (e ≡ of_saved_text cause)
 
--- Why the bytes aren't read as JSON: they aren't UTF-8, or the text is refused.
+-- Why bytes aren't read as a text: they aren't UTF-8, as `NotText`, or they are, and a fault of the text refuses it.
+abbrev pub IsTextRefusal : (List ℕ → SavedTextError → Type 0) → List ℕ → Error → Type 0
+IsTextRefusal IsFault text e = ((e ≡ NotText) × (¬ IsUtf8 text)) ⊎ (IsUtf8 text × IsRefusal (IsFault text) e)
+
+-- as JSON, and as RON
 abbrev pub IsJsonRefusal : List ℕ → Error → Type 0
-IsJsonRefusal text e = ((e ≡ NotText) × (¬ IsUtf8 text)) ⊎ (IsUtf8 text × IsRefusal (IsJsonFault AreNoRows text) e)
+IsJsonRefusal text e = IsTextRefusal (IsJsonFault AreNoRows) text e
+
+abbrev pub IsRonRefusal : List ℕ → Error → Type 0
+IsRonRefusal text e = IsTextRefusal IsRonFault text e
 
 -- Why a value is refused.
 abbrev pub IsValueRefusal : Type 0 → Error → Type 0
 IsValueRefusal fits e = IsRefusal (IsShapeFault fits) e
-
--- and why not as RON
-abbrev pub IsRonRefusal : List ℕ → Error → Type 0
-IsRonRefusal text e = IsRefusal (IsRonFault text) e
 
 -- ---- lines of JSON
 
@@ -126,7 +129,7 @@ IsLineOf line row = IsUtf8 line × IsJsonRow line row
 
 -- why it is none: it isn't UTF-8, or it is refused
 abbrev pub IsLineRefusal : List ℕ → Error → Type 0
-IsLineRefusal line e = ((e ≡ NotText) × (¬ IsUtf8 line)) ⊎ (IsUtf8 line × IsRefusal (IsJsonFault IsNoRow line) e)
+IsLineRefusal line e = IsTextRefusal (IsJsonFault IsNoRow) line e
 
 -- all was read, and the store loaded the rows of its lines
 pub record LoadsLines (with_expired : Bool) (now : ℤ) (old new : Input) (store : Store) : Type 0 where

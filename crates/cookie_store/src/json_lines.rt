@@ -1,25 +1,19 @@
 //! A store by lines of JSON.
-ghost use Rattle.std.specs.Prelude.{◌≡◌, ◌⊎◌, option_map, pos, true, false, string_bytes};
+ghost use Rattle.std.specs.Prelude.{◌≡◌, ◌⊎◌, pos, true, false, string_bytes};
 ghost use Rattle.std.specs.Prelude.{IfOk, IfErr, OnOk, IsErrOf};
 ghost use Rattle.std.specs.Io.KnownBytes.{Appends};
 ghost use Rattle.jiff.specs.Words.{civil_nanos};
-ghost use Rattle.saved_text.specs.Json.{row_text};
 ghost use Rattle.saved_text.specs.JsonReading.{IsJsonFault, IsNoRow};
-ghost use Rattle.saved_text.specs.Row.{Shown};
 ghost use Rattle.store_parts.specs.declared.error.Error.TheVariants.{Io};
 ghost use Rattle.cookie_store.specs.LoadedLines.{input};
 ghost use Rattle.cookie_store.specs.Placing.{saved};
-ghost use Rattle.cookie_store.specs.SavedRows.{IsShownAs};
 ghost use Rattle.cookie_store.specs.SavedTexts as form;
-ghost use Rattle.cookie_store.specs.Steps.{wanted};
+ghost use Rattle.cookie_store.specs.Formats.{IsJsonOfRow};
 ghost use Rattle.cookie_store.specs.StoredCookie.{stored_of};
 
 use crate::action::StoreResult;
-use crate::rows::IterAny;
 use crate::saved_row::{loaded_of, saved_of};
 use crate::saved_rows::refusal;
-use crate::saving::is_wanted;
-use crate::serde::write_line;
 use crate::store::CookieStore;
 use crate::stored_cookie::Cookie;
 use devices::{Sink, Source};
@@ -48,7 +42,12 @@ impl CookieStore {
             × Appends (W.written writer.old) (W.written writer.new) lines)) }
         ensures flushes { W.flushes writer.new ≡ W.flushes writer.old }
     {
-        write_json(self.alloc(), self.iter_any(), writer, Some(now))
+        let alloc = self.alloc();
+        let print = |cookie: &Cookie<'_>|
+            ensures ok { IfOk result (λ line. IsJsonOfRow (stored_of cookie.now) (string_bytes line)) }
+            ensures err { IfErr result (form.IsRowFault (stored_of cookie.now).death) }
+        { json_of(alloc, cookie) };
+        self.save(writer, print, now)
     }
 
     /// As `save_json`, of all cookies. Deprecated, as that is.
@@ -69,7 +68,12 @@ impl CookieStore {
             × Appends (W.written writer.old) (W.written writer.new) lines)) }
         ensures flushes { W.flushes writer.new ≡ W.flushes writer.old }
     {
-        write_json(self.alloc(), self.iter_any(), writer, None)
+        let alloc = self.alloc();
+        let print = |cookie: &Cookie<'_>|
+            ensures ok { IfOk result (λ line. IsJsonOfRow (stored_of cookie.now) (string_bytes line)) }
+            ensures err { IfErr result (form.IsRowFault (stored_of cookie.now).death) }
+        { json_of(alloc, cookie) };
+        self.save_incl_expired_and_nonpersistent(writer, print)
     }
 
     /// Reads a line of JSON for each cookie, and answers a store of those that are not expired at
@@ -133,37 +137,9 @@ fn cookie_of_json(alloc: Global, line: &str) -> StoreResult<Cookie<'static>>
     }
 }
 
-// A line of each of the cookies that is saved.
-fn write_json<W: Sink>(
-    alloc: Global,
-    cookies: IterAny<'_>,
-    writer: &mut W,
-    now: Option<DateTime>,
-) -> StoreResult<()>
-    ensures ok { OnOk result ((lines : _)
-        × form.Saves form.json_lines (wanted (option_map civil_nanos now) cookies.entry) lines
-        × Appends (W.written writer.old) (W.written writer.new) lines) }
-    ensures failures { IsErrOf result Io ⊎ (W.failures writer.new ≡ W.failures writer.old) }
-    ensures err { IfErr result (λ e. (form.IsWriteFault (W.failures writer.old) (W.failures writer.new) e
-        × form.FailsInLine (wanted (option_map civil_nanos now) cookies.entry)
-        (W.written writer.old) (W.written writer.new))
-        ⊎ ((lines : _) × form.SavesUntil (wanted (option_map civil_nanos now) cookies.entry) e lines
-        × Appends (W.written writer.old) (W.written writer.new) lines)) }
-    ensures flushes { W.flushes writer.new ≡ W.flushes writer.old }
-{
-    for cookie in cookies {
-        if is_wanted(cookie, &now) {
-            let line = json_of(alloc, cookie)?;
-            write_line(writer, line.as_str())?;
-        }
-    }
-    Ok(())
-}
-
 // The cookie in compact JSON.
 fn json_of(alloc: Global, cookie: &Cookie<'_>) -> StoreResult<String>
-    ensures ok { IfOk result (λ line. (t : Shown) × IsShownAs (stored_of cookie.now) t
-        × (string_bytes line ≡ row_text t)) }
+    ensures ok { IfOk result (λ line. IsJsonOfRow (stored_of cookie.now) (string_bytes line)) }
     ensures err { IfErr result (form.IsRowFault (stored_of cookie.now).death) }
 {
     let row = saved_of(alloc, cookie)?;

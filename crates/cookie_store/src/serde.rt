@@ -12,6 +12,7 @@ ghost use Rattle.cookie_store.specs.SavedTexts as form;
 ghost use Rattle.cookie_store.specs.Steps.{wanted};
 
 pub mod json;
+mod list;
 pub mod ron;
 
 use crate::saved_rows::{copies, taken};

@@ -1,6 +1,5 @@
 //! A store as a list of JSON.
-ghost use Rattle.std.specs.Prelude.{◌≡◌, ◌⊎◌, option_map, pos, string_bytes, true, false};
-ghost use Rattle.std.specs.Prelude.{IfOk, IfErr, OnOk, IsErrOf};
+ghost use Rattle.std.specs.Prelude.{◌≡◌, ◌⊎◌, pos, true, false, IfOk, IfErr, OnOk, IsErrOf};
 ghost use Rattle.std.specs.Io.KnownBytes.{Appends};
 ghost use Rattle.std.specs.Str.{IsUtf8};
 ghost use Rattle.jiff.specs.Words.{civil_nanos};
@@ -8,16 +7,13 @@ ghost use Rattle.saved_text.specs.Json.{list_text};
 ghost use Rattle.store_parts.specs.declared.error.Error.TheVariants.{Io, OutOfMemory};
 ghost use Rattle.cookie_store.specs.Placing.{saved};
 ghost use Rattle.cookie_store.specs.SavedTexts as form;
-ghost use Rattle.cookie_store.specs.Steps.{wanted};
 
-use crate::saved_rows::{refusal, saved_list, store_of_rows};
-use crate::serde::{read_text, write_text};
+use crate::serde::list::{Format, read, write};
 use crate::store::CookieStore;
 use devices::{Sink, Source};
 use jiff::civil::DateTime;
-use saved_text::{rows_from_json, rows_to_json};
 use std::alloc::Global;
-use store_parts::{Error, Result};
+use store_parts::Result;
 
 /// Writes the list of the cookies that have an end and are not expired at `now`, in the order of the
 /// rows. Nothing is flushed.
@@ -39,8 +35,7 @@ pub fn save<W: Sink>(store: &CookieStore, writer: &mut W, now: DateTime) -> Resu
         ⊎ ((writer.new ≡ writer.old) × form.IsSaveFault (saved (civil_nanos now) store.now.rows) e)) }
     ensures flushes { W.flushes writer.new ≡ W.flushes writer.old }
 {
-    let list = list_of(store, Some(now))?;
-    write_text(writer, list.as_str())
+    write(store, writer, Format::Json, Some(now))
 }
 
 /// As `save`, of all cookies.
@@ -61,19 +56,7 @@ pub fn save_incl_expired_and_nonpersistent<W: Sink>(
         ⊎ ((writer.new ≡ writer.old) × form.IsSaveFault store.now.rows e)) }
     ensures flushes { W.flushes writer.new ≡ W.flushes writer.old }
 {
-    let list = list_of(store, None)?;
-    write_text(writer, list.as_str())
-}
-
-// The list of those of the cookies that are saved.
-fn list_of(store: &CookieStore, now: Option<DateTime>) -> Result<String>
-    ensures ok { IfOk result (λ list.
-        form.Saves list_text (wanted (option_map civil_nanos now) store.now.rows) (string_bytes list)) }
-    ensures err { IfErr result (form.IsSaveFault (wanted (option_map civil_nanos now) store.now.rows)) }
-{
-    let rows = saved_list(store.alloc(), store.iter_any(), now)?;
-    let list = rows_to_json(store.alloc(), &rows)?;
-    Ok(list)
+    write(store, writer, Format::Json, None)
 }
 
 /// Loads the store of a list, without the cookies that are expired at `now`. Of two with one key the
@@ -92,8 +75,7 @@ pub fn load<R: Source>(alloc: Global, reader: &mut R, now: DateTime) -> Result<C
         form.IsReadFault (R.failures reader.old) (R.failures reader.new) (R.reads reader.new) e
         ⊎ (e ≡ OutOfMemory) ⊎ form.OfText (R.left reader.old) (λ text. form.IsJsonRefusal text e)) }
 {
-    let text = read_text(alloc, reader)?;
-    store_of(alloc, &text, false, now)
+    read(alloc, reader, Format::Json, false, now)
 }
 
 /// As `load`, with the expired ones.
@@ -109,20 +91,5 @@ pub fn load_all<R: Source>(alloc: Global, reader: &mut R) -> Result<CookieStore>
         form.IsReadFault (R.failures reader.old) (R.failures reader.new) (R.reads reader.new) e
         ⊎ (e ≡ OutOfMemory) ⊎ form.OfText (R.left reader.old) (λ text. form.IsJsonRefusal text e)) }
 {
-    let text = read_text(alloc, reader)?;
-    store_of(alloc, &text, true, DateTime::MIN)
-}
-
-// The store of a list.
-fn store_of(alloc: Global, bytes: &[u8], with_expired: bool, now: DateTime) -> Result<CookieStore>
-    ensures ok { IfOk result (form.Loads form.IsJsonOf with_expired (civil_nanos now) bytes.now) }
-    ensures err { IfErr result (form.IsJsonRefusal bytes.now) }
-{
-    let Ok(text) = str::from_utf8(bytes) else {
-        return Err(Error::NotText);
-    };
-    match rows_from_json(alloc, text) {
-        Ok(rows) => Ok(store_of_rows(alloc, rows, with_expired, now)?),
-        Err(fault) => Err(refusal(fault)),
-    }
+    read(alloc, reader, Format::Json, true, DateTime::MIN)
 }

@@ -1,6 +1,5 @@
 //! A store as a list of RON.
-ghost use Rattle.std.specs.Prelude.{◌≡◌, ◌⊎◌, option_map, pos, string_bytes, true, false};
-ghost use Rattle.std.specs.Prelude.{IfOk, IfErr, OnOk, IsErrOf};
+ghost use Rattle.std.specs.Prelude.{◌≡◌, ◌⊎◌, pos, true, false, IfOk, IfErr, OnOk, IsErrOf};
 ghost use Rattle.std.specs.Io.KnownBytes.{Appends};
 ghost use Rattle.std.specs.List.{AllByRecursion};
 ghost use Rattle.std.specs.Str.{IsUtf8};
@@ -12,14 +11,12 @@ ghost use Rattle.cookie_store.specs.Placing.{saved};
 ghost use Rattle.cookie_store.specs.Grouped.{AreGrouped};
 ghost use Rattle.cookie_store.specs.SavedLaws.{HoldsReread, IsOfBytes, PrintsCookie};
 ghost use Rattle.cookie_store.specs.SavedTexts as form;
-ghost use Rattle.cookie_store.specs.Steps.{wanted};
 
-use crate::saved_rows::{refusal, saved_list, store_of_rows};
-use crate::serde::{laws, read_text, write_text};
+use crate::serde::laws;
+use crate::serde::list::{Format, list_of, read, store_of, write};
 use crate::store::CookieStore;
 use devices::{Sink, Source};
 use jiff::civil::DateTime;
-use saved_text::{rows_from_ron, rows_to_ron};
 use std::alloc::Global;
 use store_parts::Result;
 
@@ -44,8 +41,7 @@ pub fn save<W: Sink>(store: &CookieStore, writer: &mut W, now: DateTime) -> Resu
         ⊎ ((writer.new ≡ writer.old) × form.IsSaveFault (saved (civil_nanos now) store.now.rows) e)) }
     ensures flushes { W.flushes writer.new ≡ W.flushes writer.old }
 {
-    let list = list_of(store, Some(now))?;
-    write_text(writer, list.as_str())
+    write(store, writer, Format::Ron, Some(now))
 }
 
 /// As `save`, of all cookies.
@@ -67,20 +63,7 @@ pub fn save_incl_expired_and_nonpersistent<W: Sink>(
         ⊎ ((writer.new ≡ writer.old) × form.IsSaveFault store.now.rows e)) }
     ensures flushes { W.flushes writer.new ≡ W.flushes writer.old }
 {
-    let list = list_of(store, None)?;
-    write_text(writer, list.as_str())
-}
-
-// The list of those of the cookies that are saved.
-fn list_of(store: &CookieStore, now: Option<DateTime>) -> Result<String>
-    ensures ok { IfOk result (λ list.
-        form.Saves ron_layout (wanted (option_map civil_nanos now) store.now.rows) (string_bytes list)) }
-    ensures bytes { OnOk result (AllByRecursion IsOfBytes (wanted (option_map civil_nanos now) store.now.rows)) }
-    ensures err { IfErr result (form.IsSaveFault (wanted (option_map civil_nanos now) store.now.rows)) }
-{
-    let rows = saved_list(store.alloc(), store.iter_any(), now)?;
-    let list = rows_to_ron(store.alloc(), &rows)?;
-    Ok(list)
+    write(store, writer, Format::Ron, None)
 }
 
 /// Loads the store of a list, without the cookies that are expired at `now`. Of two with one key the
@@ -94,13 +77,13 @@ fn list_of(store: &CookieStore, now: Option<DateTime>) -> Result<String>
 pub fn load<R: Source>(alloc: Global, reader: &mut R, now: DateTime) -> Result<CookieStore>
     ensures ok { IfOk result (λ store. form.OfText (R.left reader.old)
         (λ text. form.Loads ShowsOnly false (civil_nanos now) text store)) }
+    ensures text { IfOk result (λ _. form.OfText (R.left reader.old) IsUtf8) }
     ensures failures { IsErrOf result Io ⊎ (R.failures reader.new ≡ R.failures reader.old) }
     ensures err { IfErr result (λ e.
         form.IsReadFault (R.failures reader.old) (R.failures reader.new) (R.reads reader.new) e
         ⊎ (e ≡ OutOfMemory) ⊎ form.OfText (R.left reader.old) (λ text. form.IsRonRefusal text e)) }
 {
-    let text = read_text(alloc, reader)?;
-    store_of(alloc, &text, false, now)
+    read(alloc, reader, Format::Ron, false, now)
 }
 
 /// As `load`, with the expired ones.
@@ -111,13 +94,13 @@ pub fn load<R: Source>(alloc: Global, reader: &mut R, now: DateTime) -> Result<C
 pub fn load_all<R: Source>(alloc: Global, reader: &mut R) -> Result<CookieStore>
     ensures ok { IfOk result (λ store. form.OfText (R.left reader.old)
         (λ text. form.Loads ShowsOnly true (pos 0) text store)) }
+    ensures text { IfOk result (λ _. form.OfText (R.left reader.old) IsUtf8) }
     ensures failures { IsErrOf result Io ⊎ (R.failures reader.new ≡ R.failures reader.old) }
     ensures err { IfErr result (λ e.
         form.IsReadFault (R.failures reader.old) (R.failures reader.new) (R.reads reader.new) e
         ⊎ (e ≡ OutOfMemory) ⊎ form.OfText (R.left reader.old) (λ text. form.IsRonRefusal text e)) }
 {
-    let text = read_text(alloc, reader)?;
-    store_of(alloc, &text, true, DateTime::MIN)
+    read(alloc, reader, Format::Ron, true, DateTime::MIN)
 }
 
 /// The store that is loaded at `now` of the list that is saved at `now`: the cookies that have an end
@@ -141,17 +124,6 @@ pub fn reload(store: &CookieStore, now: DateTime) -> Result<CookieStore>
     laws();
     // The rows of a store stand in groups, and so do those of them that are saved.
     let _rows = store.iter_any();
-    let text = list_of(store, Some(now))?;
-    store_of(store.alloc(), text.as_bytes(), false, now)
-}
-
-// The store of a list.
-fn store_of(alloc: Global, text: &[u8], with_expired: bool, now: DateTime) -> Result<CookieStore>
-    ensures ok { IfOk result (form.Loads ShowsOnly with_expired (civil_nanos now) text.now) }
-    ensures err { IfErr result (form.IsRonRefusal text.now) }
-{
-    match rows_from_ron(alloc, text) {
-        Ok(rows) => Ok(store_of_rows(alloc, rows, with_expired, now)?),
-        Err(fault) => Err(refusal(fault)),
-    }
+    let text = list_of(store, Format::Ron, Some(now))?;
+    store_of(store.alloc(), text.as_bytes(), Format::Ron, false, now)
 }

@@ -1,7 +1,7 @@
 use Rattle.std.proofs.Common.{string_bytes, subst}
 use Rattle.devices.specs.Device.{AppendsFront}
 use Rattle.cookie_store.proofs.SaveLemmas.{at_each_error, fails_or}
-use Rattle.cookie_store.proofs.serde.ron.save.Goals as goal
+use Rattle.cookie_store.proofs.serde.list.write.Goals as goal
 
 pub returns-clause-front : goal.returns-clause-front
 returns-clause-front g c =

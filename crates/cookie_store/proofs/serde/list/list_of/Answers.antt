@@ -5,7 +5,7 @@ use Rattle.jiff.specs.Words.{civil_nanos}
 use Rattle.cookie_store.specs.SavedLaws.{IsOfBytes}
 use Rattle.cookie_store.specs.Steps.{wanted}
 use Rattle.cookie_store.proofs.ByteLemmas.{rows_bytes}
-use Rattle.cookie_store.proofs.serde.ron.list_of.Goals as goal
+use Rattle.cookie_store.proofs.serde.list.list_of.Goals as goal
 
 pub returns-clause-bytes : goal.returns-clause-bytes
 returns-clause-bytes c =
