@@ -12,12 +12,14 @@ mod arguments;
 mod draft;
 mod failure;
 mod files;
+mod place;
 
 use crate::client::Client;
 use crate::program::arguments::Asked;
 use crate::program::draft::Draft;
 use crate::program::failure::Failure;
 use crate::program::files::Unread;
+use crate::program::place::Place;
 use crate::script::ended::{Ended, RunError};
 use crate::script::run::run;
 use cookie::Key;
@@ -37,14 +39,16 @@ use std::fs::Files;
 /// The client begins with the suffix list of SUFFIXFILE and, where STOREFILE is there, with the rows
 /// that it holds and that aren't expired at MOMENT; the script's last moment begins there. Key and
 /// generator come from SEED. The saved text at the script's last moment is made first and then takes
-/// the file's place as a whole; a run that isn't whole leaves the file as it was.
+/// the file's place as a whole, with its owner, group and rights, or as a file of its owner's alone
+/// where it wasn't there; a run that isn't whole leaves the file as it was. Where STOREFILE is a link,
+/// the file is what it points to.
 ///
 /// The status is 0 where every line was done and 1 after the fault of a line. At 2 the first of these
 /// stands against it: not four words (`arguments`), SEED or MOMENT of another form (`seed`, `moment`),
 /// SUFFIXFILE not read (`suffix file`) or no suffix list (`suffix list`), STOREFILE not read or not
-/// written (`store file`), no saved text in it or for it (`store text`), the reader or the writer
-/// failed (`input`, `output`). `memory` stands in their place where memory was refused outside the
-/// script.
+/// written (`store file`), no saved text in it, as in an empty file, or for it (`store text`), the
+/// reader or the writer failed (`input`, `output`). `memory` stands in their place where memory was
+/// refused outside the script.
 pub fn program<H: Files + AllocGlobal, R: Source, W: Sink>(
     rt: &H,
     words: &[String],
@@ -104,11 +108,12 @@ fn serve<H: Files + AllocGlobal, R: Source, W: Sink>(
         × (W.failures writer.new ≡ W.failures writer.old)) }
     ensures unflushed { OnOk result (W.unflushed writer.new ≡ 0) }
 {
+    let place = Place::of(rt, asked.store_file);
     let list = read_list(rt, asked.suffix_file)?;
-    let mut client = read_client(rt, list, asked.store_file, asked.at.date)?;
+    let mut client = read_client(rt, list, &place, asked.at.date)?;
     match play(rt.alloc(), asked, &mut client, reader, writer) {
         Ok(Some(text)) => {
-            files::replace(rt, asked.store_file, &text)?;
+            place.replace(rt, &text)?;
             Ok(0)
         }
         Ok(None) => Ok(1),
@@ -155,7 +160,7 @@ fn unlisted(cause: ListError) -> Failure
 fn read_client<H: Files + AllocGlobal>(
     rt: &H,
     list: List,
-    path: &str,
+    place: &Place,
     at: DateTime,
 ) -> Result<Client, Failure>
     ensures ok { IfOk result (λ client. (client.suffixes ≡ list)
@@ -163,7 +168,7 @@ fn read_client<H: Files + AllocGlobal>(
     ensures err { IfErr result (λ failure. (failure ≡ Failure.StoreFile) ⊎ (failure ≡ Failure.Memory)
         ⊎ ((failure ≡ Failure.StoreText) × ((text : _) × spec.IsNoStore text))) }
 {
-    match files::read(rt, path) {
+    match place.read(rt) {
         Ok(text) => client_of(rt.alloc(), list, &text, at),
         Err(Unread::Missing) => Ok(Client::new(rt.alloc(), list)),
         Err(Unread::Memory) => Err(Failure::Memory),

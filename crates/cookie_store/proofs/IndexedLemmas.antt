@@ -18,7 +18,8 @@ use Rattle.place_index.specs.Taking.{HasRow, TakesAt}
 use Rattle.place_index.proofs.EndLemmas.{any_at}
 use Rattle.cookie_store.specs.Indexed.{place_of, places_of, IsIndexed, StandsAt}
 use Rattle.cookie_store.specs.Rows.{Row, Key, AreApart, domain_text, key_of, has_domain, has_key, has_key_of, has_place}
-use Rattle.cookie_store.specs.Rows.{has_place_of, has_domain_of, put_in_place, behind_last, inserted, put, found, removed}
+use Rattle.cookie_store.specs.Rows.{has_place_of, has_domain_of, put_in_place, behind_last, inserted, put, found}
+use Rattle.cookie_store.specs.Rows.{removed}
 use Rattle.cookie_store.specs.StoredCookie.{stored_in}
 use Rattle.cookie_store.specs.declared.stored_cookie.Cookie.{Cookie}
 use Rattle.cookie_store.proofs.ApartLemmas.{key_is, none_behind, put_apart, filter_apart}

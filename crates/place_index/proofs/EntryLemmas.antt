@@ -191,7 +191,8 @@ module _ {V : Type 0} (longest : ℕ) where
       → place_of key es ≡ None
   longer_nowhere key [] up longer = refl
   longer_nowhere key (e ∷ es) up longer =
-      cond-false (bytes_eq key e.0) (Some 0) (option_map suc (place_of key es)) (longer_fails longest key e.0 up.0 longer)
+      cond-false (bytes_eq key e.0) (Some 0) (option_map suc (place_of key es))
+      (longer_fails longest key e.0 up.0 longer)
       ∙ ap (option_map suc) (longer_nowhere key es up.1 longer)
 
   pub up_to-set_value_at : (es : List (List ℕ × V)) (i : ℕ) (w : V) → AreUpTo longest es

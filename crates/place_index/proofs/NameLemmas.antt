@@ -12,14 +12,17 @@ use Rattle.std.proofs.lemmas.List.{map-append}
 use Rattle.std.proofs.lemmas.Option.{none-some, same_Some, slice_get_within}
 use Rattle.indexmap.specs.IndexSet.{insert_key}
 use Rattle.place_index.specs.Entries.{value_at, with_value}
-use Rattle.place_index.specs.Index.{Agrees, BeginsDomain, BeginsPath, DomainAgrees, DomainPart, GrowsPath, Index, IsNowhere}
-use Rattle.place_index.specs.Index.{IsPart, NamesAgree, PartsAgree, OthersMove, PathAgrees, last, moved_domain, moved_path, names_at}
+use Rattle.place_index.specs.Index.{Agrees, BeginsDomain, BeginsPath, DomainAgrees, DomainPart, GrowsPath, Index}
+use Rattle.place_index.specs.Index.{IsNowhere}
+use Rattle.place_index.specs.Index.{IsPart, NamesAgree, PartsAgree, OthersMove, PathAgrees, last, moved_domain}
+use Rattle.place_index.specs.Index.{moved_path, names_at}
 use Rattle.place_index.specs.Index.{names_in, names_of}
 use Rattle.place_index.specs.Places.{Place, is_at, is_of, is_same}
 use Rattle.place_index.specs.Taking.{EndsDomain, EndsPath, OthersMoveBack, ShrinksPath, domain_back, path_back}
 use Rattle.place_index.specs.declared.part.Part.{Part}
 use Rattle.place_index.proofs.EntryLemmas.{position-step, same_text}
-use Rattle.place_index.proofs.IndexLemmas.{begins_domain, begins_path, domain_no_path, foreign, foreign_path, grows_path}
+use Rattle.place_index.proofs.IndexLemmas.{begins_domain, begins_path, domain_no_path, foreign, foreign_path}
+use Rattle.place_index.proofs.IndexLemmas.{grows_path}
 use Rattle.place_index.proofs.IndexLemmas.{own_domain, own_path, text_cases, value_at-with_other, value_at-with_value}
 use Rattle.place_index.proofs.IndexOutLemmas.{ends_domain, ends_path, in_part, shrinks_path}
 use Rattle.place_index.proofs.StartLemmas.{one_less, still_none}
@@ -115,8 +118,8 @@ module _ {A : Type 0} (test : A → Bool) where
       → slice_get (filter test xs) k ≡ Some y → slice_get xs k ≡ Some y
   at_first [] len k y inside after at = at
   at_first (x ∷ xs) zero k y inside after at =
-      absurd (none-some y (ap (λ zs. slice_get zs k) (sym (filter-nowhere (x ∷ xs) (λ i z e. after i z (omega arith) e)))
-      ∙ at))
+      let none = filter-nowhere (x ∷ xs) (λ i z e. after i z (omega arith) e) in
+      absurd (none-some y (ap (λ zs. slice_get zs k) (sym none) ∙ at))
   at_first (x ∷ xs) (suc len) zero y inside after at =
       ap (λ zs. slice_get zs 0) (sym (cond-true (test x) _ _ (inside 0 x (omega arith) refl))) ∙ at
   at_first (x ∷ xs) (suc len) (suc k) y inside after at =
@@ -255,7 +258,8 @@ module _ (rows : List Place) (x : Place) (p : ℕ) (old new : Index) (names : Na
       → names_in path (value_at domain new) ≡ names_in path (value_at domain old)
       → names_in path (value_at domain new) ≡ names_at domain path (insert rows p x)
   names_beside domain path fails same =
-      same ∙ names domain path ∙ sym (ap (map (λ row. row.name)) (filter-insert_other (is_at domain path) rows p x le fails))
+      same ∙ names domain path
+      ∙ sym (ap (map (λ row. row.name)) (filter-insert_other (is_at domain path) rows p x le fails))
 
   names_more : ((i : ℕ) (y : Place) → p ≤ i → slice_get rows i ≡ Some y → is_at x.domain x.path y ≡ false)
       → names_in x.path (value_at x.domain new) ≡ names_in x.path (value_at x.domain old) ++ x.name ∷ []
@@ -352,7 +356,9 @@ module _ (rows : List Place) (x : Place) (p : ℕ) (old new : Index) (agrees : A
       at = b.at
 
       mine : IsPart (is_at x.domain x.path) rows (b.part.start + b.path.start) b.path.len
-      mine = subst (PathAgrees rows x.domain b.part.start x.path) b.path_there ((own_part (Some b.part) b.there).1 x.path)
+      mine =
+          subst (PathAgrees rows x.domain b.part.start x.path) b.path_there
+          ((own_part (Some b.part) b.there).1 x.path)
 
       within : p ≤ length rows
       within = let w = mine.within in omega (arith, w, at)

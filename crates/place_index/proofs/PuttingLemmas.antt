@@ -49,7 +49,8 @@ module _ (path name : List ℕ) (old : DomainRows) (part : Part) (at : ℕ) (the
       → PutsBehind path name old (record { len = old.len + 1; paths = paths }) at
   puts_before_others paths moved = puts paths
       (value path ∙ ap (option_map (moved_path at)) own
-      ∙ ap (λ n. Some (record { start = n; len = suc part.len; names = part.names ++ name ∷ [] })) (not_moved at part.start begins_before))
+      ∙ ap (λ n. Some (record { start = n; len = suc part.len; names = part.names ++ name ∷ [] }))
+      (not_moved at part.start begins_before))
       (λ text d. value text ∙ ap (option_map (moved_path at)) (other text d))
     where
       value : (text : List ℕ) → value_at text paths ≡ option_map (moved_path at) (value_at text lent)

@@ -8,7 +8,8 @@ use Rattle.place_index.specs.Entries.{value_at, set_at, without, with_values}
 use Rattle.place_index.specs.Index.{Index, DomainPart, DomainAgrees, PathAgrees, PathsInside, Agrees}
 use Rattle.place_index.specs.Places.{Place, is_of, is_at}
 use Rattle.place_index.specs.Starts.{part_at}
-use Rattle.place_index.specs.Taking.{BeginsBy, HasRow, TakesPlace, OthersMoveBack, domain_back, path_back, shorter, Takes}
+use Rattle.place_index.specs.Taking.{BeginsBy, HasRow, TakesPlace, OthersMoveBack, domain_back, path_back, shorter}
+use Rattle.place_index.specs.Taking.{Takes}
 use Rattle.place_index.specs.declared.part.DomainRows.{DomainRows}
 use Rattle.place_index.specs.declared.part.Part.{Part}
 use Rattle.place_index.proofs.EntryLemmas.{value_at-with_values}
@@ -122,7 +123,11 @@ module _ (row : Place) (p : ℕ) (old mid new : Index) (is : new ≡ with_values
               paths = w.paths;
               shrunk = shrunk low;
               path_shrunk = own path path_is ∙ ap (option_map (path_back q)) (shorter-more q path many)
-                  ∙ (λ i. Some (record { start = stays i; len = path.len - 1; names = remove path.names (q - path.start) }));
+                  ∙ (λ i. Some (record {
+                    start = stays i;
+                    len = path.len - 1;
+                    names = remove path.names (q - path.start);
+                  }));
               other_paths = t.others;
               others = others;
             })
@@ -137,7 +142,8 @@ module _ (row : Place) (p : ℕ) (old mid new : Index) (is : new ≡ with_values
               only = omega (arith, some, few);
               paths = w.paths;
               shrunk = shrunk low;
-              path_ended = own path path_is ∙ ap (option_map (path_back (p - start))) (shorter-only (p - start) path few);
+              path_ended = own path path_is
+                  ∙ ap (option_map (path_back (p - start))) (shorter-only (p - start) path few);
               other_paths = t.others;
               others = others;
             })

@@ -112,7 +112,8 @@ module _ (path : List ℕ) (at : ℕ) (old : DomainRows) (mid : List (List ℕ �
       shorter_stays None _ = refl
       shorter_stays (Some part) part_inside = by (cases_lt 1 part.len)
         where
-          by : (1 < part.len) ⊎ (part.len ≤ 1) → option_map (path_back at) (shorter at (Some part)) ≡ shorter at (Some part)
+          by : (1 < part.len) ⊎ (part.len ≤ 1)
+              → option_map (path_back at) (shorter at (Some part)) ≡ shorter at (Some part)
           by (inl more) =
               let some = part_inside.0 in
               let within = part_inside.1 in

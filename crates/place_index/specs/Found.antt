@@ -1,5 +1,6 @@
 -- What a request finds by the index: the parts that can have a row of it, and how many questions that takes.
-use Rattle.std.specs.Prelude.{◌≡◌, ◌↔◌, ◌^◌, IfSome, ◌<◌, ◌≤◌, ◌+◌, ◌*◌, ◌&&◌, ℕ, List, [], ◌∷◌, length, Bool, true, Option}
+use Rattle.std.specs.Prelude.{◌≡◌, ◌↔◌, ◌^◌, IfSome, ◌<◌, ◌≤◌, ◌+◌, ◌*◌, ◌&&◌, ℕ, List, [], ◌∷◌, length, Bool, true}
+use Rattle.std.specs.Prelude.{Option}
 use Rattle.std.specs.Prelude.{Some, None, slice_get, nat_le, nat_lt, filter, if◌then◌else◌}
 use Rattle.std.specs.List.{flat_map, list_any, AllByRecursion}
 use Rattle.place_index.specs.Paths.{dot, slash}

@@ -1,4 +1,5 @@
-//! From domain text to its part of a vector of rows, in it from path text to a part of that, and there from name to row.
+//! From domain text to its part of a vector of rows, in it from path text to a part of that, and there from name to
+//! row.
 
 ghost use Rattle.std.specs.Prelude.{◌≡◌, ◌+◌, ◌≤◌, [], List, IfOk, OnErr, length, option_copied, option_map, position};
 ghost use Rattle.std.specs.Str.{bytes_eq};
@@ -21,8 +22,8 @@ use std::alloc::{AllocError, Global};
 use std::marker::Model;
 use std::sync::ledger::Ledger;
 
-/// Where the rows of a vector stand: for each domain's text its part of the vector, for each path's text in it a part of
-/// that, and for each name in that a row. No two rows have the same three.
+/// Where the rows of a vector stand: for each domain's text its part of the vector, for each path's text in it a part
+/// of that, and for each name in that a row. No two rows have the same three.
 #[derive(Debug, Drop)]
 pub struct Index {
     domains: Domains,

@@ -12,7 +12,8 @@ loop-i-preserved c = elim c.match-get_index_mut.branch [
   | in-Some w ↦ (
     ap (λ m. m.entries.entries) w.paths-inside-is
         ∙ first_with-step
-        (moved_path c.args.at) c.paths.inside.entries.entries c.loop-i.paths-inside.entries.entries c.loop-i.i
+        (moved_path c.args.at) c.paths.inside.entries.entries c.loop-i.paths-inside.entries.entries
+        c.loop-i.i
         w.in-Some.part.now w.move_from.new.self c.loop-i.invariant.0 (sym w.in-Some.ensures.value)
         w.move_from.ensures,
     ap (λ m. m.longest) w.paths-inside-is ∙ c.loop-i.invariant.1,
@@ -20,7 +21,8 @@ loop-i-preserved c = elim c.match-get_index_mut.branch [
   | in_default w ↦ (
     ap (λ m. m.entries.entries) w.paths-inside-is
         ∙ first_with-end
-        (moved_path c.args.at) c.paths.inside.entries.entries c.loop-i.paths-inside.entries.entries c.loop-i.i
+        (moved_path c.args.at) c.paths.inside.entries.entries c.loop-i.paths-inside.entries.entries
+        c.loop-i.i
         c.loop-i.invariant.0 (sym c.get_index_mut.ensures.value ∙ ap option_copied_mut w.in_default.is),
     ap (λ m. m.longest) w.paths-inside-is ∙ c.loop-i.invariant.1,
   )
@@ -30,7 +32,8 @@ pub invariant_of-paths : goal.invariant_of-paths
 invariant_of-paths c =
     let old = c.paths.inside.entries.entries in
     subst (λ es. AreUpTo c.loop-i.paths-inside.longest (by_bytes es)) (sym c.loop-i.invariant.0)
-    (subst (λ n. AreUpTo n (by_bytes (first_with (moved_path c.args.at) c.loop-i.i old))) (sym c.loop-i.invariant.1)
+    (subst (λ n. AreUpTo n (by_bytes (first_with (moved_path c.args.at) c.loop-i.i old)))
+    (sym c.loop-i.invariant.1)
     (up_to-first_with (moved_path c.args.at) c.paths.inside.longest c.loop-i.i old c.paths.invariant))
 
 pub returns : goal.returns
@@ -38,6 +41,7 @@ returns c =
     let old = c.paths.inside.entries.entries in
     let done = c.loop-i-test.false in
     let is = c.len-i-end.ensures.len in
-    ap by_bytes (c.loop-i.invariant.0 ∙ first_with-all (moved_path c.args.at) old c.loop-i.i (omega (arith, done, is)))
+    ap by_bytes (c.loop-i.invariant.0
+    ∙ first_with-all (moved_path c.args.at) old c.loop-i.i (omega (arith, done, is)))
     ∙ with_values-by_bytes (moved_path c.args.at) old
     ∙ ap (with_values (moved_path c.args.at)) c.paths.view_is

@@ -118,7 +118,8 @@ returns-else-at-rows-clause-ok c =
 pub returns-in_ok-begin-in-None-clause-ok : goal.returns-in_ok-begin-in-None-clause-ok
 returns-in_ok-begin-in-None-clause-ok c =
     let text = c.args.domain.now in
-    puts_first (record { domain = text; path = c.args.path.now; name = c.args.name.now }) c.args.rows c.args.domains.now c.begin.new.domains
+    puts_first (record { domain = text; path = c.args.path.now; name = c.args.name.now }) c.args.rows
+    c.args.domains.now c.begin.new.domains
     c.requires.room
     (ap (value_at text) (sym c.domains.view_is)
     ∙ none_found text c.domains.inside.starts.items c.domains.inside.rows

@@ -11,7 +11,8 @@ returns-in-Some c =
     let part = c.in-Some.part.now in
     shortens_more c.args.path.now c.args.at c.args.paths.now _ part (sym c.in-Some.ensures.value) c.if-get_mut-gt1.true
     (c.get_mut.follows.holds (record { start = part.start; len = part.len - 1; names = c.take.new.self })
-    ∙ ap (λ names. set_at c.args.path.now c.args.paths.now (record { start = part.start; len = part.len - 1; names = names }))
+    ∙ ap (λ names. set_at c.args.path.now c.args.paths.now
+    (record { start = part.start; len = part.len - 1; names = names }))
     c.take.ensures)
 
 pub returns-in-Some-2 : goal.returns-in-Some-2
@@ -20,4 +21,5 @@ returns-in-Some-2 c =
     let there = sym c.in-Some.ensures.value in
     shortens_gone c.args.path.now c.args.at c.args.paths.now _ c.remove.new.self
     (c.get_mut.follows.holds part ∙ set_value_same (bytes_eq c.args.path.now) c.args.paths.now part there)
-    (ap (shorter c.args.at) there ∙ shorter-only c.args.at part c.if-get_mut-gt1.false) c.remove.ensures.rest c.remove.ensures.gone
+    (ap (shorter c.args.at) there ∙ shorter-only c.args.at part c.if-get_mut-gt1.false) c.remove.ensures.rest
+    c.remove.ensures.gone

@@ -20,7 +20,8 @@ returns-clause-failures g c = steady _
     printed.2.called.met.0)
     (λ f row e k printed. subst (λ r. IsRowFault r.death e) (ap stored_of printed.2.shows ∙ printed.1)
     printed.2.called.met.1.0)
-    _ _ _ _ c.save_incl_expired_and_nonpersistent.result c.save_incl_expired_and_nonpersistent.ensures.ok c.save_incl_expired_and_nonpersistent.ensures.err
+    _ _ _ _ c.save_incl_expired_and_nonpersistent.result c.save_incl_expired_and_nonpersistent.ensures.ok
+    c.save_incl_expired_and_nonpersistent.ensures.err
 
 pub returns-clause-err : goal.returns-clause-err
 returns-clause-err g c = stops _

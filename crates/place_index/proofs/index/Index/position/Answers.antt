@@ -68,7 +68,8 @@ returns-in_err-part-clause-looks g c places agrees =
     let first = c.in_ok-start.ensures.look in
     let second = c.ask-2.ensures.look in
     let two = looks_two row c.args.self.now places agrees (part_at c.in_ok-start.start c.in_ok-start.rows.now)
-    (ap (value_at c.args.domain.now) (sym c.self.view_is) ∙ sym c.in_ok-start.ensures.part) (sym c.in_err-part.ensures.part) in
+    (ap (value_at c.args.domain.now) (sym c.self.view_is) ∙ sym c.in_ok-start.ensures.part)
+    (sym c.in_err-part.ensures.part) in
     omega (arith, first, second, two)
 
 pub returns-in_err-place-clause-looks : goal.returns-in_err-place-clause-looks

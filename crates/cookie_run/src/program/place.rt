@@ -1,0 +1,195 @@
+//! The file that a client is kept in, read and replaced as a whole. What it holds, no contract sees.
+ghost use Rattle.std.specs.Prelude.{◌≡◌, ◌⊎◌, IfErr};
+
+use crate::program::failure::Failure;
+use crate::program::files::{self, Unread};
+use std::alloc::AllocError;
+use std::fs::{self, File, Files, Metadata, OpenFile, OpenOptions, Permissions};
+use std::io::{self, ErrorKind, Write};
+use std::os::unix::fs::{MetadataExt, OpenOptionsExt, PermissionsExt, lchown};
+use std::path::{Path, PathBuf};
+
+// The rights of a file that is made: its owner's alone, for it holds session cookies.
+const OWNERS: u32 = 0o600;
+
+/// Where a client is kept: a plain file, or none yet; where the store file is a link, what it points to.
+#[derive(Drop)]
+pub struct Place {
+    path: Result<PathBuf, Unread>,
+}
+
+impl Place {
+    /// The place of a store file, which is read and replaced there from now on.
+    ///
+    /// It is one that is never read, and so tells `Failed`, where a link points to nothing, where what
+    /// stands there is no plain file, and where a new file beside it can't be, for the length of its name
+    /// or because the store file itself has such a name. `Memory` it tells where memory was refused.
+    pub fn of<H: Files + AllocGlobal>(rt: &H, path: &str) -> Place {
+        let path = match resolved(rt, path) {
+            Ok(path) => Ok(path),
+            Err(error) => match error.kind() {
+                ErrorKind::OutOfMemory => Err(Unread::Memory),
+                _ => Err(Unread::Failed),
+            },
+        };
+        Place { path }
+    }
+
+    /// All that the file holds.
+    pub fn read<H: Files + AllocGlobal>(&self, rt: &H) -> Result<Vec<u8>, Unread> {
+        match &self.path {
+            Ok(path) => files::read(rt, path.as_path().as_str()),
+            Err(cause) => Err(*cause),
+        }
+    }
+
+    /// Puts the text in the place of what the file holds, with its owner, group and rights, or those of
+    /// its owner alone where it wasn't there: it is written to a new file beside that, which then takes
+    /// its name. Where that is refused, the file stays as it was, and none is left beside it.
+    ///
+    /// Where nothing but the folder's sync is refused behind that, the text stands, and `StoreFile` is
+    /// told all the same, since it may be lost with the power.
+    pub fn replace<H: Files + AllocGlobal>(&self, rt: &H, text: &[u8]) -> Result<(), Failure>
+        ensures { IfErr result (λ failure. (failure ≡ Failure.StoreFile) ⊎ (failure ≡ Failure.Memory)) }
+    {
+        let Ok(path) = &self.path else {
+            return Err(Failure::StoreFile);
+        };
+        match put(rt, path.as_path(), text) {
+            Ok(()) => Ok(()),
+            Err(error) => match error.kind() {
+                ErrorKind::OutOfMemory => Err(Failure::Memory),
+                _ => Err(Failure::StoreFile),
+            },
+        }
+    }
+}
+
+// The name that a store file is read and replaced under.
+fn resolved<H: Files + AllocGlobal>(rt: &H, path: &str) -> io::Result<PathBuf> {
+    let is_link = match standing(rt, Path::new(path))? {
+        Some(found) => found.is_symlink(),
+        None => false,
+    };
+    let place = if is_link {
+        fs::canonicalize(rt, path)?
+    } else {
+        PathBuf::from_str(rt.alloc(), path)?
+    };
+    plain_file(rt, place.as_path())?;
+    if is_of_new_file(place.as_path()) {
+        return Err(io::Error::from(ErrorKind::InvalidInput));
+    }
+    // (a longest name that the system takes now isn't refused behind the script)
+    let longest = beside(rt, place.as_path(), u32::MAX)?;
+    standing(rt, longest.as_path())?;
+    Ok(place)
+}
+
+// What stands under a name, where anything does. A link isn't followed.
+fn standing<H: Files>(rt: &H, path: Path<'_>) -> io::Result<Option<Metadata>> {
+    match fs::symlink_metadata(rt, path) {
+        Ok(found) => Ok(Some(found)),
+        Err(error) if error.kind() == ErrorKind::NotFound => Ok(None),
+        Err(error) => Err(error),
+    }
+}
+
+// The plain file that stands under a name, where anything does.
+fn plain_file<H: Files>(rt: &H, path: Path<'_>) -> io::Result<Option<Metadata>> {
+    match standing(rt, path)? {
+        Some(found) => {
+            if found.is_file() {
+                Ok(Some(found))
+            } else {
+                Err(io::Error::from(ErrorKind::InvalidInput))
+            }
+        }
+        None => Ok(None),
+    }
+}
+
+// The name of a new file beside one, of this number.
+fn beside<H: AllocGlobal>(rt: &H, path: Path<'_>, number: u32) -> Result<PathBuf, AllocError> {
+    let name = format!(in rt.alloc(); "cookie-run.{number}.new")?;
+    path.with_file_name(rt.alloc(), name.as_str())
+}
+
+// Whether a file has the name of such a new file.
+fn is_of_new_file(path: Path<'_>) -> bool {
+    let Some(name) = path.file_name() else {
+        return false;
+    };
+    let Some(behind) = name.strip_prefix("cookie-run.") else {
+        return false;
+    };
+    match behind.strip_suffix(".new") {
+        Some(number) => number.parse::<u32>().is_ok(),
+        None => false,
+    }
+}
+
+// Makes a new file beside one, of the first name under which nothing stands.
+fn create_beside<H: Files + AllocGlobal>(rt: &H, path: Path<'_>) -> io::Result<(H::File, PathBuf)> {
+    let mut how = OpenOptions::new();
+    how.write(true).create_new(true).mode(OWNERS);
+    for number in 0..u32::MAX {
+        let name = beside(rt, path, number)?;
+        match how.open(rt, name.as_path()) {
+            Ok(file) => return Ok((file, name)),
+            Err(error) if error.kind() == ErrorKind::AlreadyExists => {}
+            Err(error) => return Err(error),
+        }
+    }
+    Err(io::Error::from(ErrorKind::AlreadyExists))
+}
+
+// Writes a new file beside one, up to the disk, and gives it that one's name. Where this is refused, it
+// is taken away again.
+fn put<H: Files + AllocGlobal>(rt: &H, path: Path<'_>, text: &[u8]) -> io::Result<()> {
+    let old = plain_file(rt, path)?;
+    let folder = File::open(rt, path.with_file_name(rt.alloc(), ".")?)?;
+    let (mut file, name) = create_beside(rt, path)?;
+    let mut done = fill(rt, &mut file, name.as_path(), &old, text);
+    if done.is_ok() {
+        done = fs::rename(rt, name.as_path(), path);
+    }
+    if done.is_err() {
+        let _ = fs::remove_file(rt, name.as_path());
+        return done;
+    }
+    sync_folder(&folder)
+}
+
+// Writes a new file with the rights of an old one, up to the disk.
+fn fill<H: Files>(
+    rt: &H,
+    file: &mut H::File,
+    name: Path<'_>,
+    old: &Option<Metadata>,
+    text: &[u8],
+) -> io::Result<()> {
+    file.write_all(text)?;
+    match old {
+        Some(old) => give_rights(rt, file, name, old)?,
+        None => file.set_permissions(Permissions::from_mode(OWNERS))?,
+    }
+    file.sync_all()
+}
+
+// Gives a new file the owner, the group and the rights of an old one.
+fn give_rights<H: Files>(rt: &H, file: &H::File, name: Path<'_>, old: &Metadata) -> io::Result<()> {
+    let new = file.metadata()?;
+    if new.uid() != old.uid() || new.gid() != old.gid() {
+        lchown(rt, name, Some(old.uid()), Some(old.gid()))?;
+    }
+    file.set_permissions(old.permissions())
+}
+
+// Syncs a folder, where its file system has such a call.
+fn sync_folder<F: OpenFile>(folder: &F) -> io::Result<()> {
+    match folder.sync_all() {
+        Err(error) if error.kind() == ErrorKind::InvalidInput => Ok(()),
+        done => done,
+    }
+}
