@@ -177,7 +177,7 @@ removed_walks counts key now d at old new seen left n r w named fit same is read
     ∙ ap (λ m. cond (bytes_eq q m) (Some (Removed r)) (finmap.get old.jar.changes q)) named) in
     record {
       shows = gone_shows counts key n old new seen w.shows same
-      (λ q. (λ i. overlaid (got q i) (finmap.get (is i).originals q))
+          (λ q. (λ i. overlaid (got q i) (finmap.get (is i).originals q))
           ∙ overlaid_removed (bytes_eq q n) r (finmap.get old.jar.changes q) (finmap.get old.jar.originals q));
       texts = λ q x there. w.texts q x (sym (ap (λ (j : Jar). finmap.get j.originals q) is) ∙ there);
       brought = λ q c. ap (λ (j : Jar). record_in (finmap.get j.originals q)) is ∙ w.brought q c;

@@ -41,9 +41,11 @@ abbrev pub begins_host : Counts
 begins_host name = bytes_eq (take 7 name) host_text
 
 front_is : (name : List ℕ) → begins_host name ≡ true → HasHostPrefix name
-front_is name e =
-    (drop 7 name, sym (take-append-drop 7 name) ∙ ap (λ front. front ++ drop 7 name)
-    (same_text (take 7 name) host_text e))
+front_is name e = (
+  drop 7 name,
+  sym (take-append-drop 7 name) ∙ ap (λ front. front ++ drop 7 name)
+      (same_text (take 7 name) host_text e),
+)
 
 begun : (name : List ℕ) → begins_host (percent_decode name) ≡ true → BeginsHost name
 begun name e = front_is (percent_decode name) e

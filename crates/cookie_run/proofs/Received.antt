@@ -165,11 +165,11 @@ all_inserted P row rows g all =
 
 -- the rows after it hold, up to what is dead then, the old ones with this one written, where its name counts
 pub record Writes (counts : Counts) (host : List ℕ) (now : ℤ) (k : Kept) (ks : List Kept) (new : List Row) : Type 0
-    where
-  pub cookies : List Kept
-  pub agrees : Agrees counts host new cookies
-  pub each : (q : List ℕ) → counts q ≡ true → alive now (found_in cookies q) ≡ cond (bytes_eq q k.name)
-      (alive now (Some k)) (alive now (found_in ks q))
+  where
+    pub cookies : List Kept
+    pub agrees : Agrees counts host new cookies
+    pub each : (q : List ℕ) → counts q ≡ true → alive now (found_in cookies q) ≡ cond (bytes_eq q k.name)
+        (alive now (Some k)) (alive now (found_in ks q))
 
 -- in the place of the one of its name
 
@@ -292,13 +292,13 @@ inserted_writes counts host now k row rows ks h hk mine a there =
       agrees = record {
         good = all_push IsGoodKept k ks hk a.good;
         own = subst (Pairwise (IsRowOf host) (ks ++ k ∷ []))
-        (sym (own_inserted counts host k row rows ks h mine a.good a.own))
+            (sym (own_inserted counts host k row rows ks h mine a.good a.own))
             (pairwise_push (IsRowOf host) k row ks (rows_of counts host rows) h a.own);
         apart = apart_push k ks a.apart none;
         others = all_inserted (IsOther counts host) row rows (own_other counts host row mine) a.others;
       };
       each = λ q c. ap (alive now) (found_push k ks q none)
-      ∙ alive_cond now (bytes_eq q k.name) (Some k) (found_in ks q);
+          ∙ alive_cond now (bytes_eq q k.name) (Some k) (found_in ks q);
     }
 
 -- as the end of a live one
@@ -408,7 +408,7 @@ ended_writes counts host now k row rows ks h hk a after dead = record {
         (λ r g. epoch_other counts host (is_live_of now row r) r g) rows a.others;
   };
   each = λ q c. ap (alive now) (found_map (ending now k) (ending_named now k) ks q)
-  ∙ ending_alive now k q (found_in ks q)
+      ∙ ending_alive now k q (found_in ks q)
       after dead (found_named ks q);
 }
 

@@ -1,7 +1,8 @@
 -- By `__Host-` a site reads what its own delivered commands leave, whatever other hosts answer, those of a shared
 -- parent domain too, and whatever is answered in its own name at another scheme than https (own: docs/DEFINITIONS.md).
 -- It is `Headline` for the stored names that begin with `__Host-`, as each name of the way `Host` does, without the
--- premise that other hosts are apart.
+-- premise that other hosts are apart. What commands read, and what they and a restart leave, `Site` says. `play`
+-- promises it of its own readings, by its clauses `hosts` and `hosts_until`.
 use Rattle.std.specs.Prelude.{◌≡◌, ◌≢◌, ◌+◌, ⊤, ℕ, ℤ, List, [], ◌∷◌, ◌++◌, length, All, Some}
 use Rattle.idna.specs.Labels.{labels_of}
 use Rattle.cookie.specs.Prefix.{host_text}

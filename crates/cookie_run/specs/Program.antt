@@ -72,8 +72,8 @@ failure_text Memory = codes "memory"
 abbrev pub IsNoList : List ℕ → Type 0
 IsNoList text = (¬ IsUtf8 text) ⊎ ((number : ℕ) × HasFirstFault text number)
 
--- the rows of a saved text that aren't expired at this moment, but for those that are against the prefix `__Host-`, or
--- none where there is no store file
+-- the rows of a saved text that aren't expired at this moment, but for those that aren't held rightly, or none where
+-- there is no store file
 abbrev pub AreLoaded : ℤ → Option (List ℕ) → List Row → Type 0
 AreLoaded at None rows = rows ≡ []
 AreLoaded at (Some text) rows = (loaded : Store) × Loads ShowsOnly false at text loaded

@@ -26,10 +26,11 @@ pub fn sites_read_their_own(key: &Key)
     let _ = key.encryption();
 }
 
-/// By `__Host-` each host reads that at its https requests, whatever other hosts answer, those that share
-/// a parent domain with it too, and whatever is answered in its name over another scheme. `until` says it
-/// as far as a play came that stopped. `setters` and `setters_until` ask less of the host: at https it may
-/// answer without a session, with lines that don't read as cookies whose decoded name begins so.
+/// By `__Host-` each host that answers at https by sessions alone reads at its https requests what its own
+/// delivered commands leave, whatever other hosts answer, those that share a parent domain with it too, and
+/// whatever is answered in its name over another scheme. `until` says it as far as a play came that stopped.
+/// `setters` and `setters_until` ask less of the host: at https it may answer without a session, with lines
+/// that don't read as cookies whose decoded name begins so.
 pub fn hosts_read_their_own(key: &Key)
     ensures whole { law.EachPlayIsReadByHost key.now }
     ensures until { law.EachStoppedPlayIsReadByHost key.now }

@@ -177,7 +177,6 @@ fn read_client<H: Files + AllocGlobal>(
 }
 
 // The client of a saved text.
-#[tactic(auto, using(crate::proofs::ProgramFacts::not_loaded))]
 fn client_of(alloc: Global, list: List, text: &[u8], at: DateTime) -> Result<Client, Failure>
     ensures ok { IfOk result (λ client. (client.suffixes ≡ list)
         × spec.AreLoaded (civil_nanos at) (Some text.now) client.rows) }

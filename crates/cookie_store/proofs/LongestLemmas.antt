@@ -121,9 +121,10 @@ placed_falls row (other ∷ rows) fall =
     ⊎_elim
     (λ (e : ltb (path_length row) (path_length other) ≡ true).
     let shorter = ltb-true (path_length row) (path_length other) e in
-    subst LengthsFall (sym (cond-true _ _ _ e))
-    (all_placed (λ later. path_length later ≤ path_length other) row rows (omega (arith, shorter)) fall.0,
-    placed_falls row rows fall.1))
+    subst LengthsFall (sym (cond-true _ _ _ e)) (
+      all_placed (λ later. path_length later ≤ path_length other) row rows (omega (arith, shorter)) fall.0,
+      placed_falls row rows fall.1,
+    ))
     (λ (e : ltb (path_length row) (path_length other) ≡ false).
     let longer = ltb-false (path_length row) (path_length other) e in
     subst LengthsFall (sym (cond-false _ _ _ e))
@@ -189,18 +190,20 @@ none_longer : (one : Bor Cookie) (items : List (Bor Cookie))
     → ((i : ℕ) (d : Bor Cookie) → i < length items → comes_first (get_or items i d) one ≡ false)
     → AllByRecursion (λ later. path_length later ≤ path_length (shown one)) (map shown items)
 none_longer one [] h = tt
-none_longer one (c ∷ items) h =
-    (ltb-false (path_length (shown one)) (path_length (shown c)) (h 0 c (omega arith)),
-    none_longer one items (λ i d below. h (suc i) d (omega (arith, below))))
+none_longer one (c ∷ items) h = (
+  ltb-false (path_length (shown one)) (path_length (shown c)) (h 0 c (omega arith)),
+  none_longer one items (λ i d below. h (suc i) d (omega (arith, below))),
+)
 
 sorted_falls : (items : List (Bor Cookie))
     → ((i j : ℕ) (d : Bor Cookie) → i ≤ j → j < length items
-      → comes_first (get_or items j d) (get_or items i d) ≡ false)
+    → comes_first (get_or items j d) (get_or items i d) ≡ false)
     → LengthsFall (map shown items)
 sorted_falls [] up = tt
-sorted_falls (c ∷ items) up =
-    (none_longer c items (λ i d below. up 0 (suc i) d (omega arith) (omega (arith, below))),
-    sorted_falls items (λ i j d le below. up (suc i) (suc j) d (omega (arith, le)) (omega (arith, below))))
+sorted_falls (c ∷ items) up = (
+  none_longer c items (λ i d below. up 0 (suc i) d (omega arith) (omega (arith, below))),
+  sorted_falls items (λ i j d le below. up (suc i) (suc j) d (omega (arith, le)) (omega (arith, below))),
+)
 
 -- of one length are those that tie with one of that length
 ties_are : (n : ℕ) (one other : Bor Cookie) → path_length (shown one) ≡ n
@@ -209,8 +212,11 @@ ties_are n one other e =
     ⊎_elim
     (λ (is : has_length n (shown other) ≡ true).
     let same = eqb-true (path_length (shown other)) n is in
-    rw (le-ltb (path_length (shown other)) (path_length (shown one)) (omega (arith, same, e)),
-    le-ltb (path_length (shown one)) (path_length (shown other)) (omega (arith, same, e)), is) refl)
+    rw (
+      le-ltb (path_length (shown other)) (path_length (shown one)) (omega (arith, same, e)),
+      le-ltb (path_length (shown one)) (path_length (shown other)) (omega (arith, same, e)),
+      is,
+    ) refl)
     (λ (is : has_length n (shown other) ≡ false). apart is)
     (cases_Bool (has_length n (shown other)))
   where
@@ -267,6 +273,7 @@ sorted_stable old new stable n = by (has_one n old) (has_one n new)
         → filter (has_length n) (map shown new) ≡ filter (has_length n) (map shown old)
     through one e =
         shown_of_length n one new e ∙ (ap (map shown) (stable one) ∙ sym (shown_of_length n one old e))
+
     by : HasOne n old → HasOne n new
         → filter (has_length n) (map shown new) ≡ filter (has_length n) (map shown old)
     by (inl one) other = through one.0 one.1

@@ -62,25 +62,19 @@ impl Rows {
         ensures at { StandsAt (spec.key domain.now path.now name.now) self.now result }
         ensures apart { spec.AreApart self.now }
     {
-        self.position_from::<Brand>(domain, path, name, Blank::new(1))
+        self.position_from::<Brand>((domain, path, name), Blank::new(1))
     }
 
     // The same with a count that is let go.
-    fn position_from<L: Ledger>(
-        &self,
-        domain: &str,
-        path: &str,
-        name: &str,
-        blank: Blank,
-    ) -> Option<usize>
-        requires ledger { blank.name ≡ L.name }
+    fn position_from<L: Ledger>(&self, key: (&str, &str, &str), blank: Blank) -> Option<usize>
+        requires name { blank.name ≡ L.name }
         requires parts { blank.parts ≡ L.parts }
         requires some { 0 < L.parts }
-        ensures at { StandsAt (spec.key domain.now path.now name.now) self.now result }
+        ensures at { StandsAt (spec.key key.entry.0.now key.entry.1.now key.entry.2.now) self.now result }
         ensures apart { spec.AreApart self.now }
     {
         let mut looks = Looks::<L>::new(blank);
-        self.index.position(domain, path, name, &mut looks)
+        self.index.position(key.0, key.1, key.2, &mut looks)
     }
 
     /// The cookie of the key.

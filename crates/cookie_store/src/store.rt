@@ -255,8 +255,8 @@ impl CookieStore {
         self.rows.given(self.alloc, request_url, now, looks)
     }
 
-    /// The cookies of `matches`, those with more bytes in the text of their path first, and those of one
-    /// length in the order of the rows (RFC 6265, section 5.4, step 2).
+    /// The cookies of `matches`, those with more bytes in the text of their path first (RFC 6265, section 5.4,
+    /// step 2), and those of one length in the order of the rows, which keep no creation time.
     ///
     /// # Errors
     ///

@@ -17,7 +17,7 @@ fn position_from<L: Ledger>(index: &Index, row: (&str, &str, &str), blank: Blank
     requires parts { blank.parts ≡ L.parts }
     requires some { 0 < L.parts }
     requires index { IsIndex index.now }
-    ensures { (places : List Place) → Agrees places index.now → StandsAt (place_of row) places result }
+    ensures { (places : List Place) → Agrees places index.now → StandsAt (place_of row.entry) places result }
 {
     let mut looks = Looks::<L>::new(blank);
     index.position(row.0, row.1, row.2, &mut looks)
@@ -26,7 +26,7 @@ fn position_from<L: Ledger>(index: &Index, row: (&str, &str, &str), blank: Blank
 // Where the index has the row of a domain, a path and a name.
 fn position(index: &Index, row: (&str, &str, &str)) -> Option<usize>
     requires { IsIndex index.now }
-    ensures { (places : List Place) → Agrees places index.now → StandsAt (place_of row) places result }
+    ensures { (places : List Place) → Agrees places index.now → StandsAt (place_of row.entry) places result }
 {
     position_from::<Brand>(index, row, Blank::new(1))
 }

@@ -228,9 +228,11 @@ fn finds_both(
 fn finds_the_parts_of_a_request(rt: HostRuntime) -> Result<(), AllocError> {
     let alloc = rt.alloc();
     assert!(rt; finds_parts(&rt, alloc, "d.com / a\nxc.com /x a", &[])?);
-    let one = "d.com / a\nc.com / a\nc.com /a a\nc.com /x a\nc.com / b\nc.com /x/yz a\nc.com /x/y a";
+    let one =
+        "d.com / a\nc.com / a\nc.com /a a\nc.com /x a\nc.com / b\nc.com /x/yz a\nc.com /x/y a";
     assert!(rt; finds_parts(&rt, alloc, one, &[(1, 3), (4, 5), (6, 7)])?);
-    let four = "com /x/y/ a\na.b.c.com /x/ a\nc.com /x a\nb.c.com  a\ncom /x/y a\nb.c.com /y a\nd.com /x a";
+    let four =
+        "com /x/y/ a\na.b.c.com /x/ a\nc.com /x a\nb.c.com  a\ncom /x/y a\nb.c.com /y a\nd.com /x a";
     assert!(rt; finds_parts(&rt, alloc, four, &[(1, 2), (2, 3), (3, 4), (4, 5)])?);
     Ok(())
 }

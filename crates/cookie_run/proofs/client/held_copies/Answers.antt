@@ -11,7 +11,7 @@ loop-cookie-preserved-in_ok-push c =
     let cookie = c.in_ok-clone.field-0 in (
       done ++ cookie ∷ [],
       c.in_ok-push.ensures.items ∙ (ap (λ xs. xs ++ ok_of cookie ∷ []) items
-      ∙ sym (map-append ok_of done (cookie ∷ []))),
+          ∙ sym (map-append ok_of done (cookie ∷ []))),
       copies_more c.args.store.now.rows c.loop-cookie.cookie-iterator c.next.new.self done cookie
           (stored_of c.in-Some.cookie.now) c.in-Some.ensures.steps (c.is_held.ensures.0 c.if-is_held.true)
           c.in_ok-clone.ensures far,

@@ -1,7 +1,11 @@
-use Rattle.std.proofs.Common.{◌∙◌, ap, subst, false}
+use Rattle.std.proofs.Common.{◌≡◌, ◌∙◌, ap, subst, false}
+use Rattle.std.specs.Prelude.{◌⊎◌}
 use Rattle.jiff.specs.Words.{civil_nanos}
 use Rattle.saved_text.specs.RonReading.{ShowsOnly}
 use Rattle.cookie_store.specs.SavedTexts.{Loads}
+use Rattle.cookie_run.specs.Program.{IsNoStore}
+use Rattle.cookie_run.specs.declared.program.failure.Failure.TheVariants.{StoreFile, StoreText, Memory}
+use Rattle.cookie_run.proofs.ProgramFacts.{not_loaded}
 use Rattle.cookie_run.proofs.program.client_of.Goals as goal
 
 pub returns-in-Ok-clause-ok : goal.returns-in-Ok-clause-ok
@@ -15,3 +19,10 @@ returns-in-Ok-clause-ok c =
         loaded.2.2,
       ),
     )
+
+pub returns-clause-err : goal.returns-clause-err
+returns-clause-err c =
+    let failure = c.unloaded.result in
+    subst (λ text. (failure ≡ StoreFile) ⊎ (failure ≡ Memory) ⊎ ((failure ≡ StoreText) × IsNoStore text))
+    (ap (λ text. text.now) c.new.ensures.inner)
+    (not_loaded _ c.in-Err.cause failure _ _ _ c.unloaded.ensures c.in-Err.ensures.err)

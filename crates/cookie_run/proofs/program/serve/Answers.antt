@@ -6,7 +6,7 @@ use Rattle.cookie_run.proofs.program.serve.Goals as goal
 
 pub returns-in-Ok-Some-clause-ok : goal.returns-in-Ok-Some-clause-ok
 returns-in-Ok-Some-clause-ok g c =
-    let is : c.in-Ok-Some.field-0 ≡ Some c.in-Ok-Some.text = cc in
+    let is : c.in-Ok-Some.field-0 ≡ Some c.in-Ok-Some.text = c.in-Ok-Some.field-0-is in
     let io : Devices = record {
       left = g.R.Source.left c.args.reader.now;
       reads = g.R.Source.reads c.play.new.reader;
@@ -22,7 +22,7 @@ returns-in-Ok-Some-clause-ok g c =
 
 pub returns-in-Ok-None-clause-ok : goal.returns-in-Ok-None-clause-ok
 returns-in-Ok-None-clause-ok g c =
-    let is : c.in-Ok-None.field-0 ≡ None = cc in
+    let is : c.in-Ok-None.field-0 ≡ None = c.in-Ok-None.field-0-is in
     let io : Devices = record {
       left = g.R.Source.left c.args.reader.now;
       reads = g.R.Source.reads c.play.new.reader;

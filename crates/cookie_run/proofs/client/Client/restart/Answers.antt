@@ -27,7 +27,7 @@ invariant_of-self c =
     subst (λ (s : Store). HaveReadPairs s.rows × AreHeldRightly s.rows) (sym c.replace_rows.ensures) (
       kept_pairs old now c.self.invariant.0 kept.rows keeps,
       (c.host_rows_are_held_rightly.ensures.restarts old now now kept.rows c.self.invariant.0 c.self.invariant.1
-      keeps).0,
+          keeps).0,
     )
 
 pub returns-clause-held : goal.returns-clause-held

@@ -12,7 +12,7 @@ position-requires g c =
 
 pub returns-clause-at : goal.returns-clause-at
 returns-clause-at g c =
-    let k = key c.args.domain.now c.args.path.now c.args.name.now in
+    let k = key c.args.key.0.now c.args.key.1.now c.args.key.2.now in
     let rows = map stored_in c.self.inside.cookies.items in
     subst (λ r. StandsAt k r c.position.result) c.self.view_is
     (key_stands k rows c.position.result (c.position.ensures.at (places_of rows) c.self.invariant.agrees))
