@@ -14,7 +14,12 @@ pub {name}_spec : {{M : Type 1}} → stated.statement M
 {name}_spec = ?
 """
 TOLD = re.compile(r"^fn (\S+): (.*)$")
-OPEN = re.compile(r"^note: src/\S+: it is not proved that ")
+OPEN = re.compile(r"^note: src/\S+: it is not proved that (?:.*\(`([^`]+)`\))?")
+# How a refused answer begins: with the name of its goal, or of a lemma that stands beside the answers.
+ANSWER = re.compile(r"`([^`]+)`: ")
+ANSWERED = re.compile(r"^pub (\S+) :\s+goal\.", re.M)
+# A goal that a call has to meet, of a function or of a member of a cycle.
+OF_A_CALLEE = re.compile(r"(?!returns)\S*-requires(?:-|$)")
 ERROR = re.compile(r"^(?:\./)?((?:src|specs|proofs)/\S+?):\d+:\d+: error: (.*)$")
 BROKEN = re.compile(r"^(?:\./)?(src/\S+?):(\d+):\d+: error", re.M)
 ITEM = re.compile(r"^(?:struct|enum|union|trait|impl) \S+: ")
@@ -34,13 +39,33 @@ class Verdict:
     """What a check says of an edit: `word` is one of those below, `about` tells of what."""
 
     OPEN, NAME, PASSES = "an open goal", "only a name is gone", "not refused"
+    # It failed where a call requires something, and at no goal of its own.
+    CALLEE = "only what a callee requires is open"
+    # Its own goals that failed have no answer, and perhaps stand in a branch that the edit made: `goals` are these.
+    BRANCH = "only a search failed"
     # It failed, and perhaps only because another edit of the same check did.
     AGAIN = "again"
     # The check broke off, or tells nothing of its functions.
     BROKEN = "broken"
 
-    def __init__(self, word, about=""):
-        self.word, self.about = word, about
+    def __init__(self, word, about="", goals=()):
+        self.word, self.about, self.goals = word, about, {*goals}
+
+
+def place_of(goal):
+    """The goal of which this one is a clause."""
+    return goal.partition("-clause-")[0]
+
+
+def goals_in(folder, name, edit):
+    """The places of the goals that the files of this name answer, of the functions of an edit."""
+    found = set()
+    for at, _, names in os.walk(folder):
+        path = f"proofs{at[len(folder) :]}/{name}"
+        if name in names and any(it.owns_file(path) for it in edit.functions):
+            with open(f"{at}/{name}", encoding="utf-8") as file:
+                found |= {place_of(it) for it in ANSWERED.findall(file.read())}
+    return found
 
 
 class Bundle:
@@ -72,10 +97,7 @@ class Bundle:
             words = [*self.crate.words(["--jobs", "1"], keeps=False), "--allow-holes", "--incremental", kept]
             for name in self.asked:
                 words += ["--only", f"{self.crate.name}::{name}"]
-            ran = subprocess.run(
-                [*self.rt.rtlib.guarded(), self.rt.rtlib.RATTLE, "check", *words], cwd=room, errors="replace",
-                stdin=subprocess.DEVNULL, stdout=subprocess.PIPE, stderr=subprocess.STDOUT,
-            )
+            ran = self.check(room, words)
         self.output = ran.stdout
         if self.has_misplaced_holes():
             self.run(kept, is_edited)
@@ -86,6 +108,12 @@ class Bundle:
         self.is_whole = ran.returncode in (0, 1) and last.startswith("only=") and not stray
         unknown = UNKNOWN.search(ran.stdout)
         self.unknown = unknown[1] if unknown and ran.returncode == 2 else None
+
+    def check(self, room, words):
+        return subprocess.run(
+            [*self.rt.rtlib.guarded(), self.rt.rtlib.RATTLE, "check", *words], cwd=room, errors="replace",
+            stdin=subprocess.DEVNULL, stdout=subprocess.PIPE, stderr=subprocess.STDOUT,
+        )
 
     def is_of(self, edit, file):
         """Whether an error in the file is due to the edit: where it is tried alone, so is one in any lemma."""
@@ -125,8 +153,9 @@ class Bundle:
         opened, lines = [], self.output.split("\n")
         for line, next_line in zip(lines, [*lines[1:], ""]):
             told, error = TOLD.match(line), ERROR.match(line)
-            if OPEN.match(line):
-                opened.append(line)
+            goal = OPEN.match(line)
+            if goal:
+                opened.append(goal[1] or "")
             elif error:
                 # A long message goes on in the line below.
                 more = next_line if next_line.startswith("  ") else ""
@@ -156,11 +185,9 @@ class Bundle:
         failed = [name for name in own if self.told[name].startswith(FAILS)]
         errors = [it for it in self.errors if self.is_of(edit, it[0])]
         gone = [it for it in errors if GONE.search(it[1])]
-        # A goal can be open only because its answer, or the loop's invariant, went with a name.
-        is_blind = any(file.endswith("/Invariants.antt") or GOAL_GONE.search(text) for file, text in gone)
-        is_open = any(self.opened[name] for name in failed) and not is_blind
-        if failed and (is_open or len(gone) < len(errors)):
-            return Verdict(Verdict.OPEN, ", ".join(failed))
+        verdict = self.judge_goals(edit, failed, [it for it in errors if it not in gone], gone) if failed else None
+        if verdict:
+            return verdict
         if failed and gone:
             return Verdict(Verdict.NAME, f"{', '.join(failed)}: {gone[0][1][:160]}")
         others = self.others_behind(edit, failed)
@@ -170,6 +197,40 @@ class Bundle:
         if {it.name for it in edit.functions} <= {*own} and all(PASSES.match(self.told[name]) for name in own):
             return Verdict(Verdict.PASSES, ", ".join(own))
         return Verdict(Verdict.BROKEN, f"its check tells nothing of {', '.join(it.name for it in edit.functions)}")
+
+    def judge_goals(self, edit, failed, errors, gone):
+        """What the goals of these functions say that are open or whose answer is refused, or None where none is."""
+        # A goal can be open only because its answer, or the loop's invariant, went with a name.
+        is_blind = any(file.endswith("/Invariants.antt") or GOAL_GONE.search(text) for file, text in gone)
+        opened = [] if is_blind else [it for name in failed for it in self.opened[name]]
+        answers = [ANSWER.match(text) for _, text in errors]
+        refused = [it[1] if it else "" for it in answers]
+        own = {place_of(it) for it in opened if not OF_A_CALLEE.match(it)}
+        is_standing = own and not (edit.makes_a_branch() and own.isdisjoint(self.answered(edit)))
+        if is_standing or not all(map(OF_A_CALLEE.match, refused)):
+            return Verdict(Verdict.OPEN, ", ".join(failed))
+        if own:
+            return Verdict(Verdict.BRANCH, ", ".join(failed), own)
+        if opened or refused:
+            return Verdict(Verdict.CALLEE, f"{', '.join(failed)}: {', '.join([*opened, *refused])}")
+        return None
+
+    def answered(self, edit):
+        """The places of the goals that the proofs of its functions answer."""
+        return goals_in(f"{self.crate.folder}/proofs", "Answers.antt", edit)
+
+    def standing(self, kept):
+        """The places of the goals of the functions of each edit as they stand, by its label."""
+        texts = stubbed(self.texts, self.functions, self.asked)
+        with tempfile.TemporaryDirectory(prefix="wrong-bodies-") as room:
+            self.fill(room, texts)
+            words = [*self.crate.words(["--jobs", "1"], keeps=False), "--incremental", kept]
+            words += ["--generated", f"{room}/goals"]
+            for name in self.asked:
+                words += ["--start", f"{self.crate.name}::{name}"]
+            self.check(room, words)
+            folder = f"{room}/goals/Rattle-{self.crate.name}-proofs"
+            return {it.label: goals_in(folder, "AnswersOffered.antt", it) for it in self.edits}
 
     def passes(self, name):
         """Whether it tells that the function is proved."""

@@ -2,6 +2,9 @@
 import os
 import re
 
+# The words at which a body goes two ways.
+BRANCH = re.compile(r"\b(?:if|else|match|while|for|loop|return|break|continue)\b|=>|\?|&&|\|\|")
+
 
 class Edit:
     """A wrong body: pairs of texts, and the functions that they change or that the edit names."""
@@ -31,6 +34,10 @@ class Edit:
     @property
     def units(self):
         return {it.unit for it in self.functions}
+
+    def makes_a_branch(self):
+        """Whether its new texts have more of such words than what was there."""
+        return sum(len(BRANCH.findall(new)) - len(BRANCH.findall(old)) for _, old, new in self.pairs) > 0
 
     def locate(self, functions, texts):
         """Finds the functions that must be refused, and returns why there are none, if that is so."""

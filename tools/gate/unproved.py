@@ -1,5 +1,6 @@
 """The tests that are run and not proved: the crate whose sources stand in tests/, outside what `rt ci` reads."""
 import os
+import re
 import shutil
 import subprocess
 import sys
@@ -16,6 +17,7 @@ CRATE = "unproved_tests"
 SUFFIX = ".rt.txt"
 # What its program writes where it refuses a growth.
 TOLD = "refuse.c: this growth is refused"
+RESULT = re.compile(r"^test result: \w+\. (\d+) passed; (\d+) failed; 0 ignored; 0 filtered out$", re.M)
 
 
 def sources(top):
@@ -54,20 +56,25 @@ def format_all(top):
     return status
 
 
-def run(top):
+def run(top, planted=None):
     """Compiles the tests with the crates below from their sources, runs each, and keeps the program.
 
     Returns the status and what was written. The run is that of `rt try --test`, with one more object file in the
-    program, which can refuse a growth of memory. Sources that `rt fmt` would change fail before that.
+    program, which can refuse a growth of memory. Sources that `rt fmt` would change fail before that. A planted body
+    (an Edit of the crates) is put into the sources, and such a program isn't kept.
     """
     to = program(top)
-    os.makedirs(os.path.dirname(to), exist_ok=True)
-    if os.path.exists(to):
-        os.remove(to)
+    if not planted:
+        os.makedirs(os.path.dirname(to), exist_ok=True)
+        if os.path.exists(to):
+            os.remove(to)
     # (a program is linked to its place, so it is made on the same file system)
-    with tempfile.TemporaryDirectory(prefix="try-", dir=os.path.dirname(to)) as room:
+    with tempfile.TemporaryDirectory(prefix="try-", dir=None if planted else os.path.dirname(to)) as room:
         put(top, room)
-        words = [os.environ.get("CC", "cc"), "-O2", "-fPIC", "-c", f'-DKEPT="{to}"', f'-DTOLD="{TOLD}"']
+        if planted:
+            plant(planted, room)
+        kept = f"{room}/kept" if planted else to
+        words = [os.environ.get("CC", "cc"), "-O2", "-fPIC", "-c", f'-DKEPT="{kept}"', f'-DTOLD="{TOLD}"']
         subprocess.run([*words, f"{HERE}/refuse.c", "-o", f"{room}/refuse.o"], check=True)
         # (beside proofs a test may wait long for a processor)
         given = {**os.environ, "TMPDIR": room, "RT_SECONDS": "900"}
@@ -76,6 +83,23 @@ def run(top):
             stdin=subprocess.DEVNULL, stdout=subprocess.PIPE, stderr=subprocess.STDOUT,
         )
     return ran.returncode, ran.stdout
+
+
+def plant(edit, room):
+    """Puts an edit into the sources there."""
+    texts = {}
+    for file, *_ in edit.pairs:
+        with open(f"{room}/{file}", encoding="utf-8") as it:
+            texts[file] = it.read()
+    for file, text in edit.applied(texts).items():
+        with open(f"{room}/{file}", "w", encoding="utf-8") as to:
+            to.write(text)
+
+
+def counts(output):
+    """How many tests passed in a run and how many failed, or None where it broke off."""
+    result = RESULT.search(output)
+    return result and (int(result[1]), int(result[2]))
 
 
 def command(top):
