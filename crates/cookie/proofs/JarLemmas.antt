@@ -12,7 +12,7 @@ use Rattle.std.specs.Ordering.{nat_cmp}
 use Rattle.std.specs.Cmp.Lexicographic.{slice_cmp}
 use Rattle.std.proofs.lemmas.Bool.{cases_Bool, cond-true, cond-false}
 use Rattle.cookie_text.specs.Record.{Seen}
-use Rattle.cookie.specs.ByName.{ByName, Lists, AreApart, value_in, by_bytes}
+use Rattle.cookie.specs.ByName.{ByName, Lists, HaveOwnNames, value_in, by_bytes}
 use Rattle.cookie.specs.Jar.{Jar, Change, Added, Removed, AreUnderTheirNames, cookie_of, standing, overlaid, view}
 use Rattle.cookie.specs.Jar.{delta, under_names, changed, added, unchanged, with_added}
 use Rattle.cookie.proofs.NameMaps.{same_name, name_is, get_insert, get_remove, same_by_name}
@@ -89,7 +89,7 @@ module _ {X : Type 0} where
       (λ (no : bytes_eq q e.0 ≡ false). rw no refl)
       (cases_Bool (bytes_eq q e.0))
 
-  get_with_all : (m : ByName X) (es : List (List ℕ × X)) (q : List ℕ) → AreApart es
+  get_with_all : (m : ByName X) (es : List (List ℕ × X)) (q : List ℕ) → HaveOwnNames es
       → finmap.get (with_all m es) q ≡ option_or (value_in es q) (finmap.get m q)
   get_with_all m [] q apart = refl
   get_with_all m (e ∷ es) q apart =
@@ -110,8 +110,8 @@ module _ {X : Type 0} where
       (λ (no : bytes_eq q e.0 ≡ false). rw no (value_append es fs q))
       (cases_Bool (bytes_eq q e.0))
 
-  apart_append : (es fs : List (List ℕ × X)) → AreApart es → AreApart fs
-      → ((q : List ℕ) (x : X) → value_in es q ≡ Some x → value_in fs q ≡ None) → AreApart (es ++ fs)
+  apart_append : (es fs : List (List ℕ × X)) → HaveOwnNames es → HaveOwnNames fs
+      → ((q : List ℕ) (x : X) → value_in es q ≡ Some x → value_in fs q ≡ None) → HaveOwnNames (es ++ fs)
   apart_append [] fs he hf h = hf
   apart_append (e ∷ es) fs he hf h = (
     value_append es fs e.0 ∙ ap (λ o. option_or o (value_in fs e.0)) he.0 ∙ h e.0 e.1 (value_here e es),
@@ -123,7 +123,7 @@ module _ {X : Type 0} where
   AreNamed cookie [] = Unit {0}
   AreNamed cookie (e ∷ es) = ((cookie e.1).cookie.name ≡ e.0) × AreNamed cookie es
 
-  each_named : (cookie : X → Seen) (es : List (List ℕ × X)) → AreApart es
+  each_named : (cookie : X → Seen) (es : List (List ℕ × X)) → HaveOwnNames es
       → ((q : List ℕ) (x : X) → value_in es q ≡ Some x → (cookie x).cookie.name ≡ q) → AreNamed cookie es
   each_named cookie [] apart h = tt
   each_named cookie (e ∷ es) apart h = (
@@ -148,7 +148,7 @@ value_told (e ∷ es) q =
     (λ (no : bytes_eq q e.0 ≡ false). rw no (value_told es q))
     (cases_Bool (bytes_eq q e.0))
 
-apart_told : (es : List (List ℕ × Change)) → AreApart es → AreApart (told es)
+apart_told : (es : List (List ℕ × Change)) → HaveOwnNames es → HaveOwnNames (told es)
 apart_told [] h = tt
 apart_told (e ∷ es) h = (value_told es e.0 ∙ ap (option_map cookie_of) h.0, apart_told es h.1)
 
@@ -164,7 +164,7 @@ lists_delta es jar m is l h =
     let same : under_names (changed es) ≡ told (by_bytes es) =
     under_changed es (named_entries cookie_of (by_bytes es) m l h) in
     record {
-      apart = subst AreApart (sym same) (apart_told (by_bytes es) l.apart);
+      apart = subst HaveOwnNames (sym same) (apart_told (by_bytes es) l.apart);
       each = λ q. ap (λ fs. value_in fs q) same ∙ value_told (by_bytes es) q
           ∙ ap (option_map cookie_of) (l.each q ∙ ap (λ n. finmap.get n q) is);
     }
@@ -189,7 +189,7 @@ unfolding with_standing
 value_with_standing n None fs q = cond_same (bytes_eq q n) (value_in fs q)
 value_with_standing n (Some c) fs q = refl
 
-value_shown : (es : List (List ℕ × Change)) (q : List ℕ) → AreApart es
+value_shown : (es : List (List ℕ × Change)) (q : List ℕ) → HaveOwnNames es
     → value_in (shown es) q ≡ option_and_then standing (value_in es q)
 unfolding shown
 value_shown [] q h = refl
@@ -206,13 +206,13 @@ value_shown (e ∷ es) q h =
     ∙ ap (option_and_then standing) (sym (cond-false (bytes_eq q e.0) (Some e.1) (value_in es q) no)))
     (cases_Bool (bytes_eq q e.0))
 
-apart_with_standing : (n : List ℕ) (o : Option Seen) (fs : List (List ℕ × Seen)) → value_in fs n ≡ None → AreApart fs
-    → AreApart (with_standing n o fs)
+apart_with_standing : (n : List ℕ) (o : Option Seen) (fs : List (List ℕ × Seen)) → value_in fs n ≡ None → HaveOwnNames fs
+    → HaveOwnNames (with_standing n o fs)
 unfolding with_standing
 apart_with_standing n None fs none h = h
 apart_with_standing n (Some c) fs none h = (none, h)
 
-apart_shown : (es : List (List ℕ × Change)) → AreApart es → AreApart (shown es)
+apart_shown : (es : List (List ℕ × Change)) → HaveOwnNames es → HaveOwnNames (shown es)
 unfolding shown
 apart_shown [] h = tt
 apart_shown (e ∷ es) h =
@@ -256,12 +256,12 @@ value_kept changes (e ∷ es) q =
     (cases_Bool (is_some (finmap.get changes e.0))))
     (cases_Bool (bytes_eq q e.0))
 
-apart_cond : (b : Bool) (e : List ℕ × Seen) (fs : List (List ℕ × Seen)) → value_in fs e.0 ≡ None → AreApart fs
-    → AreApart (cond b (e ∷ fs) fs)
+apart_cond : (b : Bool) (e : List ℕ × Seen) (fs : List (List ℕ × Seen)) → value_in fs e.0 ≡ None → HaveOwnNames fs
+    → HaveOwnNames (cond b (e ∷ fs) fs)
 apart_cond true e fs none h = (none, h)
 apart_cond false e fs none h = h
 
-apart_kept : (changes : ByName Change) (es : List (List ℕ × Seen)) → AreApart es → AreApart (kept changes es)
+apart_kept : (changes : ByName Change) (es : List (List ℕ × Seen)) → HaveOwnNames es → HaveOwnNames (kept changes es)
 unfolding kept
 apart_kept changes [] h = tt
 apart_kept changes (e ∷ es) h =
@@ -316,7 +316,7 @@ lists_view es os jar le lo he ho =
     (finmap.get jar.originals q) =
     λ q. value_kept jar.changes (by_bytes os) q ∙ ap (cond (is_some (finmap.get jar.changes q)) None) (lo.each q) in
     record {
-      apart = subst AreApart (sym same) (apart_append first second (apart_shown (by_bytes es) le.apart)
+      apart = subst HaveOwnNames (sym same) (apart_append first second (apart_shown (by_bytes es) le.apart)
           (apart_kept jar.changes (by_bytes os) lo.apart)
           (λ q c is. at_second q ∙ hides (finmap.get jar.changes q) c (finmap.get jar.originals q)
           (sym (at_first q) ∙ is)));

@@ -18,7 +18,7 @@ use Rattle.std.proofs.lemmas.Bool.{cond-false, both_ways}
 use Rattle.std.proofs.lemmas.Slice.Eq.{bytes_eq-Decides}
 use Rattle.std.proofs.lemmas.Map.Keys.{IsDistinct-head, IsDistinct-tail}
 use Rattle.std.proofs.lemmas.Map.Text.{hash_map_updates_text}
-use Rattle.cookie.specs.ByName.{ByName, Lists, AreApart, value_in, by_bytes}
+use Rattle.cookie.specs.ByName.{ByName, Lists, HaveOwnNames, value_in, by_bytes}
 
 -- ---- names that are one or two
 
@@ -99,7 +99,7 @@ module _ {X Y : Type 0} where
   none_of k [] h = refl
   none_of k (e ∷ es) h = cond-false _ _ _ h.0 ∙ none_of k es h.1
 
-  apart_of : (es : List (String Y × X)) → IsDistinct string_eq (keys_of es) → AreApart (by_bytes es)
+  apart_of : (es : List (String Y × X)) → IsDistinct string_eq (keys_of es) → HaveOwnNames (by_bytes es)
   apart_of [] h = tt
   apart_of (e ∷ es) h = (
     none_of e.0 es (IsDistinct-head string_eq e.0 (keys_of es) h),

@@ -17,9 +17,9 @@ module _ {X : Type 0} where
   value_in (e ∷ es) name = if bytes_eq name e.0 then Some e.1 else value_in es name
 
   -- no two entries of one name
-  abbrev pub AreApart : List (List ℕ × X) → Type 0
-  AreApart [] = Unit {0}
-  AreApart (e ∷ es) = (value_in es e.0 ≡ None) × AreApart es
+  abbrev pub HaveOwnNames : List (List ℕ × X) → Type 0
+  HaveOwnNames [] = Unit {0}
+  HaveOwnNames (e ∷ es) = (value_in es e.0 ≡ None) × HaveOwnNames es
 
   -- the entries with their names as bytes
   abbrev pub by_bytes : {Y : Type 0} → List (String Y × X) → List (List ℕ × X)
@@ -27,5 +27,5 @@ module _ {X : Type 0} where
 
 -- the entries are those of the map, each name once, in any order: (`b`, 2), (`a`, 1) lists what has 1 at `a`, 2 at `b`
 pub record Lists {X : Type 0} (entries : List (List ℕ × X)) (at : List ℕ → Option X) : Type 0 where
-  pub apart : AreApart entries
+  pub apart : HaveOwnNames entries
   pub each : (name : List ℕ) → value_in entries name ≡ at name

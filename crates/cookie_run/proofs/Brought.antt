@@ -6,7 +6,7 @@ use Rattle.std.specs.List.{filter, AllByRecursion}
 use Rattle.std.specs.Str.{bytes_eq}
 use Rattle.std.proofs.lemmas.Bool.{cases_Bool}
 use Rattle.std.proofs.lemmas.List.Elements.{All-from_recursion}
-use Rattle.cookie.specs.ByName.{AreApart as EntriesApart, value_in as entry_in}
+use Rattle.cookie.specs.ByName.{HaveOwnNames as EntriesApart, value_in as entry_in}
 use Rattle.cookie_text.specs.ReadingBack.{IsNamed, Pairwise, joined, pair_text as joined_pair}
 use Rattle.url.specs.Parts.{Parts}
 use Rattle.store_parts.specs.Expiry.{is_dead}
@@ -17,7 +17,7 @@ use Rattle.cookie_run.specs.Header.{IsHeader, header_of}
 use Rattle.cookie_run.specs.Hosts.{secure_host}
 use Rattle.cookie_run.specs.Laws.{RowsAreTheSites}
 use Rattle.cookie_run.specs.Moments.{IsMoment}
-use Rattle.cookie_run.specs.Site.{Site, live_at, live}
+use Rattle.cookie_run.specs.Site.{Site, live_at, live_view}
 use Rattle.cookie_run.proofs.HeaderBack.{pair_at}
 use Rattle.cookie_run.proofs.Kepts.{Kept, found_in, AreApart, all_filter, apart_filter}
 use Rattle.cookie_run.proofs.Longest.{all_longest, longest_own, own_short}
@@ -135,7 +135,7 @@ split_pairs splits host url now rows ks header secure reads a is =
 -- ---- the site
 
 brings_site : (splits : SplittingBack) (key host : List ℕ) (rows : List Row) (now : ℤ) (site : Site) → IsReadBack host
-    → SiteAgrees every key host rows now site → BringsSite key host rows now (live site now)
+    → SiteAgrees every key host rows now site → BringsSite key host rows now (live_view site now)
 brings_site splits key host rows now site reads a =
     let ks = a.cookies in
     let live_ks : List Kept = filter (lives now) ks in
@@ -143,7 +143,7 @@ brings_site splits key host rows now site reads a =
       pairs = pairs_of live_ks;
       are = record {
         once = pairs_apart live_ks (apart_filter (lives now) ks a.agrees.apart);
-        each = λ q. subst (λ o. Matches key q o (live site now q))
+        each = λ q. subst (λ o. Matches key q o (live_view site now q))
             (sym (pairs_found live_ks q ∙ ap value_of (found_live now ks q a.agrees.apart)))
             (matches_view key q (alive now (found_in ks q)) (live_at now (site q)) (a.each q refl));
       };

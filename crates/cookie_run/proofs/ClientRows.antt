@@ -12,7 +12,7 @@ use Rattle.store_parts.specs.DomainMatch.{text_or_empty}
 use Rattle.url.specs.Parts.{Parts}
 use Rattle.cookie_store.specs.Grouped.{AreGrouped}
 use Rattle.cookie_store.specs.Placing.{is_saved, put_all, saved}
-use Rattle.cookie_store.specs.Rows.{Row, Key, Store, AreApart, key_of, has_key, is_live, live, put}
+use Rattle.cookie_store.specs.Rows.{Row, Key, Store, HaveOwnKeys, key_of, has_key, is_live, live, put}
 use Rattle.cookie_store.specs.SavedLaws.{HoldsReread, PrintsCookie}
 use Rattle.cookie_store.specs.SavedRows.{IsLoadedFrom, IsReread}
 use Rattle.cookie_store.specs.SavedTexts.{HasLoaded}
@@ -115,8 +115,8 @@ any_reread k l same (r ∷ rs) [] own h = absurd h
 any_reread k l same (r ∷ rs) (o ∷ os) own h =
     λ i. keyed (same i) (same_key r o own.0 h.0 i) || any_reread k l same rs os own.1 h.1 i
 
-reread_apart : (rows reread : List Row) → HaveReadPairs rows → Pairwise IsReread rows reread → AreApart rows
-    → AreApart reread
+reread_apart : (rows reread : List Row) → HaveReadPairs rows → Pairwise IsReread rows reread → HaveOwnKeys rows
+    → HaveOwnKeys reread
 reread_apart [] [] own h apart = tt
 reread_apart [] (o ∷ os) own h apart = absurd h
 reread_apart (r ∷ rs) [] own h apart = absurd h

@@ -35,7 +35,7 @@ use Rattle.cookie_text.specs.Again.{PairsReadAgain, TextsGivePairs}
 use Rattle.cookie_run.specs.declared.step.LineEnd.{LineEnd}
 use Rattle.cookie_run.specs.Header.{IsHeader}
 use Rattle.cookie_run.specs.declared.step.Command.{Command}
-use Rattle.cookie_run.specs.Site.{Site, View, live_at, live, left_by_all, after_arrival}
+use Rattle.cookie_run.specs.Site.{Site, View, live_at, live_view, left_by_all, after_arrival}
 use Rattle.cookie_run.specs.Keeping.{HaveReadPairs}
 use Rattle.cookie_run.specs.Play.{Serves, Delivers}
 use Rattle.cookie_run.proofs.ActMoments.{end_moment}
@@ -188,19 +188,19 @@ pub walked : (counts : Counts) (Read : Gets) → Told counts Read
     (cs : List Command) (told : List Reading) (session : Keyed) (header : List ℕ)
     (a : SiteAgrees counts key host rows now site) → secure_host url ≡ Some host → IsReadBack host → now ≤ℤ d
     → EndsLate now → HaveReadPairs rows → IsHeader rows url now header → Serves key header now cs told session
-    → (noted : List Command) × (after : View) × CommandsIn Read (live site now) cs told noted after
+    → (noted : List Command) × (after : View) × CommandsIn Read (live_view site now) cs told noted after
     × Walks counts key now d (found_in a.cookies) session after (left_by_all d site noted)
 walked counts Read tell key laws host rows url now d site cs told session header a secure reads after late pairs is
     serves =
     let brought = brings counts key now a.cookies header serves.0 a.agrees.apart
     (header_last counts host url now rows a.cookies header secure reads pairs a.agrees is) serves.1 in
-    all_go counts Read tell key now d (found_in a.cookies) serves.0 session (live site now) site cs told laws.only after
+    all_go counts Read tell key now d (found_in a.cookies) serves.0 session (live_view site now) site cs told laws.only after
     late (opened_walks counts key now d a.cookies header serves.0 site after brought serves.1 a.each) serves.2
 
 -- an exchange that is opened at the moment
 abbrev pub ExchangeIn : Gets → Site → ℤ → List Command → Arrival → List Reading → Site → Type 0
 ExchangeIn Read site now commands arrival told new =
-    (noted : List Command) × (after : View) × CommandsIn Read (live site now) commands told noted after
+    (noted : List Command) × (after : View) × CommandsIn Read (live_view site now) commands told noted after
     × (new ≡ after_arrival arrival site noted)
 
 pub exchanged : (counts : Counts) (Read : Gets) → Told counts Read

@@ -4,7 +4,7 @@ use Rattle.std.proofs.Common.{length-append, map}
 use Rattle.std.specs.Borrow.{Bor}
 use Rattle.std.proofs.lemmas.Bool.{cond-false}
 use Rattle.std.proofs.lemmas.Bool.Decides.{nat_tests}
-use Rattle.cookie_store.specs.Given.{pair_of, shown}
+use Rattle.cookie_store.specs.Given.{pair_of, lent_row}
 use Rattle.cookie_store.specs.declared.stored_cookie.Cookie.{Cookie}
 use Rattle.cookie_run.specs.Header.{header_of, pair_text, with_pair}
 
@@ -28,18 +28,18 @@ header_push (a ∷ b ∷ pairs) pair =
     ∙ sym (cond-false _ _ _ (header_some a (b ∷ pairs))))
 
 pairs_push : (cookies : List (Bor Cookie)) (cookie : Bor Cookie)
-    → map pair_of (map shown (cookies ++ cookie ∷ []))
-    ≡ map pair_of (map shown cookies) ++ pair_of (shown cookie) ∷ []
+    → map pair_of (map lent_row (cookies ++ cookie ∷ []))
+    ≡ map pair_of (map lent_row cookies) ++ pair_of (lent_row cookie) ∷ []
 pairs_push [] cookie = refl
-pairs_push (c ∷ cookies) cookie = ap (λ ps. pair_of (shown c) ∷ ps) (pairs_push cookies cookie)
+pairs_push (c ∷ cookies) cookie = ap (λ ps. pair_of (lent_row c) ∷ ps) (pairs_push cookies cookie)
 
 pub header_more : (cookies : List (Bor Cookie)) (cookie : Bor Cookie) (text new name value : List ℕ)
-    → text ≡ header_of (map pair_of (map shown cookies)) → name ≡ (pair_of (shown cookie)).0
-    → value ≡ (pair_of (shown cookie)).1 → new ≡ with_pair text (name, value)
-    → new ≡ header_of (map pair_of (map shown (cookies ++ cookie ∷ [])))
+    → text ≡ header_of (map pair_of (map lent_row cookies)) → name ≡ (pair_of (lent_row cookie)).0
+    → value ≡ (pair_of (lent_row cookie)).1 → new ≡ with_pair text (name, value)
+    → new ≡ header_of (map pair_of (map lent_row (cookies ++ cookie ∷ [])))
 header_more cookies cookie text new name value e named valued is =
     is ∙ (ap (λ n. with_pair text (n, value)) named
-    ∙ (ap (λ v. with_pair text ((pair_of (shown cookie)).0, v)) valued
-    ∙ (ap (λ t. with_pair t (pair_of (shown cookie))) e
-    ∙ (sym (header_push (map pair_of (map shown cookies)) (pair_of (shown cookie)))
+    ∙ (ap (λ v. with_pair text ((pair_of (lent_row cookie)).0, v)) valued
+    ∙ (ap (λ t. with_pair t (pair_of (lent_row cookie))) e
+    ∙ (sym (header_push (map pair_of (map lent_row cookies)) (pair_of (lent_row cookie)))
     ∙ ap header_of (sym (pairs_push cookies cookie))))))

@@ -7,7 +7,7 @@ use Rattle.percent_encoding.specs.Percent.{percent_decode}
 use Rattle.percent_encoding.proofs.PercentLemmas.{IsByte}
 use Rattle.cookie_text.specs.Printing.{escaped}
 use Rattle.cookie_text.specs.Record.{Record}
-use Rattle.cookie.specs.ByName.{AreApart as EntriesApart, value_in as entry_in}
+use Rattle.cookie.specs.ByName.{HaveOwnNames as EntriesApart, value_in as entry_in}
 use Rattle.cookie_run.proofs.Texts.{same_text, text_is, other_text, texts_differ}
 use Rattle.cookie_run.proofs.Escaped.{decoded_escaped}
 

@@ -15,7 +15,7 @@ use Rattle.jiff_core.proofs.SignedLemmas.{signed_arith}
 use Rattle.store_parts.specs.Expiry.{is_dead}
 use Rattle.store_parts.specs.declared.error.Error.{Error}
 use Rattle.store_parts.specs.declared.error.Error.TheVariants.{OutOfMemory}
-use Rattle.cookie_store.specs.Grouped.{IsPart}
+use Rattle.cookie_store.specs.Grouped.{IsSublist}
 use Rattle.cookie_store.specs.Placing.{is_saved, saved}
 use Rattle.cookie_store.specs.Rows.{Row, is_live, live}
 use Rattle.cookie_store.specs.SavedRows.{IsReread, IsBeforeYears}
@@ -37,10 +37,10 @@ reread_keeps law r x own h =
     }
 
 abbrev PartKept : List Row → List Row → Type 0
-PartKept rows kept = (part : List Row) × IsPart part rows × Pairwise IsRowKept part kept
+PartKept rows kept = (part : List Row) × IsSublist part rows × Pairwise IsRowKept part kept
 
 -- a part of the later rows is one of all
-pub later : (part rows : List Row) (r : Row) → IsPart part rows → IsPart part (r ∷ rows)
+pub later : (part rows : List Row) (r : Row) → IsSublist part rows → IsSublist part (r ∷ rows)
 later [] rows r h = tt
 later (p ∷ ps) rows r h = inr h
 

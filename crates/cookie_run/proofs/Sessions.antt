@@ -24,7 +24,7 @@ use Rattle.cookie_text.specs.Record.{Record, Seen, bare, unsliced}
 use Rattle.cookie_text.specs.Setting.{IsKept, MakesRemoval, latest_end}
 use Rattle.cookie.specs.declared.delta.DeltaCookie.{DeltaCookie as Change}
 use Rattle.cookie.specs.declared.delta.DeltaCookie.TheVariants.{Removed}
-use Rattle.cookie.specs.ByName.{ByName, Lists, AreApart as EntriesApart, value_in as entry_in}
+use Rattle.cookie.specs.ByName.{ByName, Lists, HaveOwnNames as EntriesApart, value_in as entry_in}
 use Rattle.cookie.specs.Jar.{Jar, cookie_of as cookie_in, delta, under_names, with_original, with_change}
 use Rattle.cookie.specs.Jar.{without_change, Removes, empty}
 use Rattle.cookie_run.specs.declared.step.SessionError.{SessionError}

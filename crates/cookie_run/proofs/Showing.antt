@@ -22,7 +22,7 @@ use Rattle.cookie_text.specs.ReadingBack.{ReadsBack}
 use Rattle.cookie_text.specs.Record.{Record, Seen}
 use Rattle.cookie.specs.declared.delta.DeltaCookie.{DeltaCookie as Change}
 use Rattle.cookie.specs.declared.delta.DeltaCookie.TheVariants.{Added}
-use Rattle.cookie.specs.ByName.{AreApart as EntriesApart, value_in as entry_in}
+use Rattle.cookie.specs.ByName.{HaveOwnNames as EntriesApart, value_in as entry_in}
 use Rattle.cookie.specs.Jar.{Jar, overlaid, under_names, view, with_change}
 use Rattle.cookie.specs.Prefix.{host_text, secure_text}
 use Rattle.cookie.specs.Reading.{Reads, ReadsFound, IsSigned, IsSealed}

@@ -6,7 +6,7 @@ use Rattle.std.proofs.lemmas.Bool.Decides.{nat_tests}
 use Rattle.percent_encoding.specs.AsciiSet.{should_percent_encode}
 use Rattle.percent_encoding.specs.Percent.{percent_encode, percent_encode_byte, encode_byte}
 use Rattle.cookie_run.specs.declared.script.print.TheConstants.{SHOWN}
-use Rattle.cookie_run.specs.ScriptText.{shown, is_shown_escaped}
+use Rattle.cookie_run.specs.ScriptText.{shown_escaped, is_shown_escaped}
 
 set_below : (b : ℕ) → b < 128 → is_shown_escaped b ≡ should_percent_encode SHOWN b
 unfolding should_percent_encode
@@ -23,7 +23,7 @@ flat_map_agree : (f g : ℕ → List ℕ) → ((b : ℕ) → f b ≡ g b) → (b
 flat_map_agree f g h [] = refl
 flat_map_agree f g h (b ∷ bs) = ap (λ x. x ++ flat_map f bs) (h b) ∙ ap (λ x. g b ++ x) (flat_map_agree f g h bs)
 
-pub shown-percent_encode : (text : List ℕ) → shown text ≡ percent_encode SHOWN text
+pub shown-percent_encode : (text : List ℕ) → shown_escaped text ≡ percent_encode SHOWN text
 unfolding percent_encode
 shown-percent_encode text = flat_map_agree _ (encode_byte SHOWN)
     (λ b. ap (λ t. cond t (percent_encode_byte b) (b ∷ [])) (same_set b)) text

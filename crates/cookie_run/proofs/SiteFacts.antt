@@ -10,7 +10,7 @@ use Rattle.cookie_run.specs.Site.{Plain, Signed}
 use Rattle.cookie_run.specs.declared.step.Way.TheVariants as ways
 use Rattle.cookie_store.specs.Insertion.{settled}
 use Rattle.cookie_store.specs.Rows.{Row}
-use Rattle.cookie_run.specs.Site.{Held, nothing, live, left_by_all, restarted}
+use Rattle.cookie_run.specs.Site.{Held, nothing, live_view, left_by_all, restarted}
 use Rattle.cookie_store.specs.declared.action.StoreAction.TheVariants.{Inserted, ExpiredExisting, UpdatedExisting}
 use Rattle.cookie_run.specs.declared.step.Command.{Command}
 use Rattle.cookie_run.specs.declared.step.Command.TheVariants.{Set, Remove}
@@ -38,7 +38,7 @@ set s = Set ways.Plain s
 
 -- what a request at a moment finds under a name after one exchange on an empty site, delivered at another
 abbrev found : ℤ → List Command → ℤ → List ℕ → Option (List ℕ)
-found delivered cs later name = value_in (live (left_by_all delivered nothing cs) later name)
+found delivered cs later name = value_in (live_view (left_by_all delivered nothing cs) later name)
   where
     value_in : Option Rattle.cookie_run.specs.Site.Entry → Option (List ℕ)
     value_in None = None

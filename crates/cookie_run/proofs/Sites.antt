@@ -34,7 +34,7 @@ use Rattle.cookie_store.specs.Rows.{Row}
 use Rattle.cookie_run.specs.Acts.{Act, Visits, Answers, Asks, Restarts, moments_in, moments_of, opening_of, arrival_in}
 use Rattle.cookie_run.specs.declared.step.Command.{Command}
 use Rattle.cookie_run.specs.declared.step.Command.TheVariants.{Set, Remove, Get}
-use Rattle.cookie_run.specs.Site.{Site, View, GetOn, nothing, live, restarted}
+use Rattle.cookie_run.specs.Site.{Site, View, GetOn, nothing, live_view, restarted}
 use Rattle.cookie_run.specs.Headline.{AnswersBySessions, AnswersApart, Each, IsSite, EachReadsOn}
 use Rattle.cookie_run.specs.Keeping.{HaveReadPairs}
 use Rattle.cookie_run.specs.Play.{Delivers, OneStep, Plays, RemoveTells, Tells, ServesAll, ServesFront, ReadsAll}
@@ -288,7 +288,7 @@ plays_answer late list key last rows new (a ∷ acts) (t ∷ ts) f p =
 -- what is read on a site at the moment by all of the commands, and by the first of them
 abbrev pub AllIn : Gets → Site → ℤ → List Command → List Reading → Type 0
 AllIn Read site now commands told =
-    (noted : List Command) × (after : View) × CommandsIn Read (live site now) commands told noted after
+    (noted : List Command) × (after : View) × CommandsIn Read (live_view site now) commands told noted after
 
 abbrev pub FrontIn : Gets → Site → ℤ → List Command → List Reading → Type 0
 FrontIn Read site now commands told =
@@ -325,10 +325,10 @@ front_on : (counts : Counts) (Read : Gets) → Told counts Read → (key : List 
     → ((told ≡ []) ⊎ ((header : List ℕ) × IsHeader rows url now header × ServesFront key header now cs told))
     → FrontIn Read site now cs told
 front_on counts Read tell key laws host rows url now site cs told secure reads late pairs a (inl none) =
-    ([], cs, refl, ([], live site now, (none, refl, refl)))
+    ([], cs, refl, ([], live_view site now, (none, refl, refl)))
 front_on counts Read tell key laws host rows url now site cs told secure reads late pairs a
     (inr (header, is, inl none)) =
-    ([], cs, refl, ([], live site now, (none, refl, refl)))
+    ([], cs, refl, ([], live_view site now, (none, refl, refl)))
 front_on counts Read tell key laws host rows url now site cs told secure reads late pairs a
     (inr (header, is, inr front)) = (
       front.0,

@@ -12,7 +12,7 @@ use Rattle.cookie_run.specs.Headline.{IsSite, IsApartFrom, AnswersApart, Answers
 use Rattle.cookie_run.specs.Headline.{SitesReadTheirOwn}
 use Rattle.cookie_run.specs.Readings.{all_told, AnswersEach}
 use Rattle.cookie_run.specs.Site as kinds
-use Rattle.cookie_run.specs.Site.{Site, View, nothing, live, after_arrival, restarted, Refuses, SetOn, IsReadAt}
+use Rattle.cookie_run.specs.Site.{Site, View, nothing, live_view, after_arrival, restarted, Refuses, SetOn, IsReadAt}
 use Rattle.cookie_run.specs.declared.step.Command.{Command}
 use Rattle.cookie_run.specs.declared.step.Command.TheVariants.{Set, Get}
 use Rattle.cookie_run.specs.declared.step.Reading.{Reading}
@@ -64,7 +64,7 @@ the_acts age arrival later = sets_it age arrival ∷ reads_it later ∷ []
 
 -- what the later request finds
 abbrev found : Option ℤ → Arrival → ℤ → View
-found age arrival later = live (after_arrival arrival nothing (the_set age ∷ [])) later
+found age arrival later = live_view (after_arrival arrival nothing (the_set age ∷ [])) later
 
 no_refusal : (age : Option ℤ) (error : SessionError) → ¬ (Refuses Plain (the_cookie age) error)
 no_refusal age EmptyName e = some_is_not_none EmptyName (sym e)
@@ -85,7 +85,7 @@ first_told : (age : Option ℤ) (arrival : Arrival) (told : List Reading) (new :
 first_told age arrival told new h =
     let x = h.0 refl in
     let c = x.2 in
-    let s = set_told age (live nothing (at 0)) c.4 c.0 c.2 c.5 in (
+    let s = set_told age (live_view nothing (at 0)) c.4 c.0 c.2 c.5 in (
       c.7 ∙ (ap (λ first. first ++ c.1) s.0 ∙ c.6.0),
       x.3 ∙ ap (after_arrival arrival nothing) (c.8 ∙ (ap (λ first. first ++ c.3) s.1
           ∙ ap (λ later. the_set age ∷ later) c.6.1)),
@@ -93,7 +93,7 @@ first_told age arrival told new h =
 
 -- the second one reads what its site has then
 second_told : (site : Site) (later : ℤ) (value : Option (List ℕ))
-    → ((v : Option (List ℕ)) → IsReadAt kinds.Plain (live site later the_name) v → v ≡ value) → (told : List Reading)
+    → ((v : Option (List ℕ)) → IsReadAt kinds.Plain (live_view site later the_name) v → v ≡ value) → (told : List Reading)
     (new : Site) → ReadsOn shop site (reads_it later) told new → told ≡ Value Plain the_name value ∷ []
 second_told site later value reads told new h =
     let c = (h.0 refl).2 in
@@ -111,9 +111,9 @@ both_told age arrival later value reads (first ∷ []) end own h = absurd h.2
 both_told age arrival later value reads (first ∷ second ∷ third ∷ more) end own h = absurd own.1.1
 both_told age arrival later value reads (first ∷ second ∷ []) end own h =
     let began = first_told age arrival first h.0 h.1 in
-    let same : (v : Option (List ℕ)) → IsReadAt kinds.Plain (live h.0 later the_name) v
+    let same : (v : Option (List ℕ)) → IsReadAt kinds.Plain (live_view h.0 later the_name) v
     → v ≡ value = λ v r. reads v
-    (subst (λ (site : Site). IsReadAt kinds.Plain (live site later the_name) v) began.1 r) in
+    (subst (λ (site : Site). IsReadAt kinds.Plain (live_view site later the_name) v) began.1 r) in
     let read = second_told h.0 later value same second h.2.0 h.2.1 in
     ap (λ told. told ++ (second ++ [])) began.0 ∙ ap (λ told. told ++ []) read
 
@@ -175,7 +175,7 @@ restart_acts age later = sets_it age (Arrives (at 5)) ∷ Restarts later ∷ rea
 
 -- what the later request finds then
 abbrev kept : Option ℤ → ℤ → View
-kept age later = live (restarted (after_arrival (Arrives (at 5)) nothing (the_set age ∷ [])) later) later
+kept age later = live_view (restarted (after_arrival (Arrives (at 5)) nothing (the_set age ∷ [])) later) later
 
 three_told : (age : Option ℤ) (later : ℤ) (value : Option (List ℕ))
     → ((v : Option (List ℕ)) → IsReadAt kinds.Plain (kept age later the_name) v → v ≡ value)
@@ -189,9 +189,9 @@ three_told age later value reads (first ∷ between ∷ second ∷ []) end own h
     let began = first_told age (Arrives (at 5)) first h.0 h.1 in
     let left : h.2.0 ≡ restarted (after_arrival (Arrives (at 5)) nothing (the_set age ∷ [])) later =
     h.2.1 ∙ ap (λ (site : Site). restarted site later) began.1 in
-    let same : (v : Option (List ℕ)) → IsReadAt kinds.Plain (live h.2.0 later the_name) v
+    let same : (v : Option (List ℕ)) → IsReadAt kinds.Plain (live_view h.2.0 later the_name) v
     → v ≡ value = λ v r. reads v
-    (subst (λ (site : Site). IsReadAt kinds.Plain (live site later the_name) v) left r) in
+    (subst (λ (site : Site). IsReadAt kinds.Plain (live_view site later the_name) v) left r) in
     let read = second_told h.2.0 later value same second h.2.2.0 h.2.2.1 in
     ap (λ told. told ++ (between ++ (second ++ []))) began.0 ∙ (ap (λ told. told ++ (second ++ [])) own.1.0
     ∙ ap (λ told. told ++ []) read)

@@ -33,7 +33,7 @@ use Rattle.cookie_run.proofs.Showing.{named_text, not_nil, utf8_bytes, last_name
 use Rattle.cookie_run.proofs.Texts.{same_text, some_is_not_none}
 use Rattle.store_parts.specs.Expiry.{is_dead}
 use Rattle.cookie_run.specs.declared.step.Command.TheVariants.{Set}
-use Rattle.cookie_run.specs.Site.{Held, Site, View, with_at, live_at, entry_in, live, entry_of, held_from, left_by}
+use Rattle.cookie_run.specs.Site.{Held, Site, View, with_at, live_at, entry_in, live_view, entry_of, held_from, left_by}
 use Rattle.cookie_run.specs.Reading.{Gives, Give}
 use Rattle.cookie_run.proofs.HeaderCookies.{cookies_of}
 use Rattle.cookie_run.proofs.Kepts.{Kept, found_in, AreApart, apart_filter}
@@ -130,7 +130,7 @@ pub opens : (counts : Counts) (key : List ℕ) (now : ℤ) (ks : List Kept) (hea
     (site : Site)
     → Brings counts now (found_in ks) session → IsOpened key header session
     → ((q : List ℕ) → counts q ≡ true → MatchesHeld key q (alive now (found_in ks q)) (live_at now (site q)))
-    → Shows counts key session (live site now)
+    → Shows counts key session (live_view site now)
 opens counts key now ks header session site brought opened each = record {
   key_is = opened.key_is;
   named = λ q. subst (λ (o : Option Seen). IfSome o (λ s. s.cookie.name ≡ q))
@@ -220,7 +220,7 @@ pub opened_walks : (counts : Counts) (key : List ℕ) (now d : ℤ) (ks : List K
     (site : Site)
     → now ≤ℤ d → Brings counts now (found_in ks) session → IsOpened key header session
     → ((q : List ℕ) → counts q ≡ true → MatchesHeld key q (alive now (found_in ks q)) (live_at now (site q)))
-    → Walks counts key now d (found_in ks) session (live site now) site
+    → Walks counts key now d (found_in ks) session (live_view site now) site
 opened_walks counts key now d ks header session site after brought opened each =
     let none : (q : List ℕ) → finmap.get session.jar.changes q ≡ None = λ q. ap (λ m. finmap.get m q)
     opened.holds.changes ∙ none_at q in

@@ -2,7 +2,7 @@
 use Rattle.std.specs.Prelude.{◌≡◌, ◌&&◌, ⊤, ℕ, ℤ, List, codes, true, Option, Some, None, Result}
 use Rattle.std.specs.List.{filter}
 use Rattle.std.specs.Str.{bytes_eq, IsUtf8}
-use Rattle.cookie.specs.ByName.{AreApart, value_in}
+use Rattle.cookie.specs.ByName.{HaveOwnNames, value_in}
 use Rattle.cookie.specs.Sealing.{IsSealing}
 use Rattle.cookie.specs.Signing.{signing}
 use Rattle.cookie_text.specs.Decoding.{ReadsEncoded}
@@ -33,7 +33,7 @@ Matches key name (Some text) (Some e) = StandsAs key name e.kind e.value text
 
 -- names with such texts, each name once, are what a request reads of a site
 pub record AreOf (key : List ℕ) (view : View) (pairs : List (List ℕ × List ℕ)) : Type 0 where
-  pub once : AreApart pairs
+  pub once : HaveOwnNames pairs
   pub each : (name : List ℕ) → Matches key name (value_in pairs name) (view name)
 
 -- the row holds the pair, escaped, for the host alone and the path `/`

@@ -18,7 +18,7 @@ use Rattle.cookie_run.specs.declared.step.Reading.{Reading}
 use Rattle.cookie_run.specs.Acts.{Act, Visits, Answers, Asks, Restarts, Arrives, Never, moments_of}
 use Rattle.cookie_run.specs.declared.step.Command.{Command}
 use Rattle.cookie_run.specs.Readings.{AnswersEach}
-use Rattle.cookie_run.specs.Site.{Site, View, nothing, live, CommandsOn, ExchangeOn, restarted}
+use Rattle.cookie_run.specs.Site.{Site, View, nothing, live_view, CommandsOn, ExchangeOn, restarted}
 use Rattle.cookie_run.specs.Stops.{StopsFrom}
 
 -- ---- the premises
@@ -93,7 +93,7 @@ EachReadsOn host site (act ∷ acts) (told ∷ later) end =
 -- what is read on a site at the moment by all of the commands, and by the first of them
 abbrev pub AllOn : Site → ℤ → List Command → List Reading → Type 0
 AllOn site now commands told =
-    (noted : List Command) × (after : View) × CommandsOn (live site now) commands told noted after
+    (noted : List Command) × (after : View) × CommandsOn (live_view site now) commands told noted after
 
 abbrev pub FrontOn : Site → ℤ → List Command → List Reading → Type 0
 FrontOn site now commands told =

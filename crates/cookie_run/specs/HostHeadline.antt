@@ -12,7 +12,7 @@ use Rattle.cookie_run.specs.Headline.{Each}
 use Rattle.cookie_run.specs.Hosts.{secure_host}
 use Rattle.cookie_run.specs.Moments.{last_of, the_beginning}
 use Rattle.cookie_run.specs.Readings.{IsAnswer, AnswersEach, all_told}
-use Rattle.cookie_run.specs.Site.{Site, View, nothing, live, stored_name, SetOn, RemoveOn, GetOn, after_arrival}
+use Rattle.cookie_run.specs.Site.{Site, View, nothing, live_view, stored_name, SetOn, RemoveOn, GetOn, after_arrival}
 use Rattle.cookie_run.specs.Site.{restarted}
 use Rattle.cookie_run.specs.Stops.{StopsFrom}
 use Rattle.cookie_run.specs.declared.step.Command.{Command}
@@ -67,7 +67,7 @@ CommandsByHost view (c ∷ cs) told noted new =
 -- an exchange that is opened at the moment
 abbrev pub ExchangeByHost : Site → ℤ → List Command → Arrival → List Reading → Site → Type 0
 ExchangeByHost site now commands arrival told new =
-    (noted : List Command) × (after : View) × CommandsByHost (live site now) commands told noted after
+    (noted : List Command) × (after : View) × CommandsByHost (live_view site now) commands told noted after
     × (new ≡ after_arrival arrival site noted)
 
 -- an exchange of the host at https reads what its commands read on its site; a restart leaves of that site what has a
@@ -90,7 +90,7 @@ EachReadsByHost host site (act ∷ acts) (told ∷ later) end =
 -- what is read on a site at the moment by all of the commands, and by the first of them
 abbrev pub AllByHost : Site → ℤ → List Command → List Reading → Type 0
 AllByHost site now commands told =
-    (noted : List Command) × (after : View) × CommandsByHost (live site now) commands told noted after
+    (noted : List Command) × (after : View) × CommandsByHost (live_view site now) commands told noted after
 
 abbrev pub FrontByHost : Site → ℤ → List Command → List Reading → Type 0
 FrontByHost site now commands told =

@@ -5,7 +5,7 @@ use Rattle.jiff.specs.Types.{DateTime}
 use Rattle.jiff.specs.Words.{civil_nanos}
 use Rattle.store_parts.specs.declared.error.Error.{Error}
 use Rattle.store_parts.specs.declared.error.Error.TheVariants.{OutOfMemory}
-use Rattle.cookie_store.specs.Grouped.{IsPart}
+use Rattle.cookie_store.specs.Grouped.{IsSublist}
 use Rattle.cookie_store.specs.Placing.{saved}
 use Rattle.cookie_store.specs.Rows.{Row}
 use Rattle.cookie_store.specs.SavedRows.{IsWholeDeath}
@@ -23,7 +23,7 @@ pub record IsRowKept (row other : Row) : Type 0 where
 -- some of the rows that are saved at a moment, in their order, each kept so, and none besides
 abbrev pub KeepsKeys : List Row → ℤ → List Row → Type 0
 KeepsKeys rows saving kept =
-    (part : List Row) × IsPart part (saved saving rows) × Pairwise IsRowKept part kept
+    (part : List Row) × IsSublist part (saved saving rows) × Pairwise IsRowKept part kept
 
 -- where names and values are as texts give them, nothing else is left of rows that are saved and loaded again
 abbrev pub RestartsKeepKeys : Type 0

@@ -20,7 +20,7 @@ use Rattle.cookie_run.specs.HostHeadline.{HostsReadTheirOwn, HostsReadTheirOwnUn
 use Rattle.cookie_run.specs.HostLines.{SettersReadTheirOwn, SettersReadTheirOwnUntil}
 use Rattle.cookie_run.specs.Play.{Plays, IsRun, IsRunUntil}
 use Rattle.cookie_run.specs.Brought.{BringsSite}
-use Rattle.cookie_run.specs.Site.{Site, nothing, live}
+use Rattle.cookie_run.specs.Site.{Site, nothing, live_view}
 use Rattle.cookie_run.specs.Jar.{IsSent}
 use Rattle.cookie_run.specs.Sent.{IsRowFor, IsTaken}
 
@@ -64,7 +64,7 @@ RowsAreTheSites key =
     (list : List Rule) (acts : List Act) (told : List (List Reading)) (rows : List Row)
     → AllFollow the_beginning (moments_of acts) → Plays list key [] acts told rows
     → (host : List ℕ) → IsSite list host acts → (end : Site) × EachReadsOn host nothing acts told end
-    × ((now : ℤ) → last_of the_beginning (moments_of acts) ≤ℤ now → BringsSite key host rows now (live end now))
+    × ((now : ℤ) → last_of the_beginning (moments_of acts) ≤ℤ now → BringsSite key host rows now (live_view end now))
 
 -- an answer touches the rows that its host may, and no other
 abbrev pub AnswersAreConfined : Type 0

@@ -22,6 +22,6 @@ line_of (Header url at) = spec.Heads url (civil_nanos at.date)
 line_of (Restart at) = spec.Restarts (civil_nanos at.date)
 
 -- the line that its text gives, or that text's fault, or want of memory
-abbrev pub Reads : Result Line Cause → Result spec.Line Cause → Type 0
-Reads (Ok line) read = read ≡ Ok (line_of line)
-Reads (Err cause) read = (read ≡ Err cause) ⊎ (cause ≡ Memory)
+abbrev pub ReadsLine : Result Line Cause → Result spec.Line Cause → Type 0
+ReadsLine (Ok line) read = read ≡ Ok (line_of line)
+ReadsLine (Err cause) read = (read ≡ Err cause) ⊎ (cause ≡ Memory)

@@ -149,12 +149,12 @@ abbrev pub is_shown_escaped : ℕ → Bool
 is_shown_escaped b = nat_lt b 33 || nat_lt 126 b || b == 37
 
 -- the text with each such byte as `%` and two upper-case digits
-abbrev pub shown : List ℕ → List ℕ
-shown text = flat_map (λ b. if is_shown_escaped b then percent_encode_byte b else b ∷ []) text
+abbrev pub shown_escaped : List ℕ → List ℕ
+shown_escaped text = flat_map (λ b. if is_shown_escaped b then percent_encode_byte b else b ∷ []) text
 
 abbrev pub shown_value : Option (List ℕ) → List ℕ
 shown_value None = codes "-"
-shown_value (Some value) = codes "=" ++ shown value
+shown_value (Some value) = codes "=" ++ shown_escaped value
 
 abbrev pub way_text : Way → List ℕ
 way_text Plain = codes "plain"
@@ -171,9 +171,9 @@ IsAnswered (Header header) = ⊤
 
 -- the line of a reading, its fields parted by tabs
 abbrev pub reading_text : Reading → List ℕ
-reading_text (Value way name value) = way_text way ++ 9 ∷ shown name ++ 9 ∷ shown_value value ++ 10 ∷ []
+reading_text (Value way name value) = way_text way ++ 9 ∷ shown_escaped name ++ 9 ∷ shown_value value ++ 10 ∷ []
 reading_text (Refused error) = []
-reading_text (Header header) = codes "header" ++ 9 ∷ shown header ++ 10 ∷ []
+reading_text (Header header) = codes "header" ++ 9 ∷ shown_escaped header ++ 10 ∷ []
 
 abbrev pub readings_text : List Reading → List ℕ
 readings_text readings = flat_map reading_text readings

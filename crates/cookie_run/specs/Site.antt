@@ -106,8 +106,8 @@ entry_in None = None
 entry_in (Some held) = Some held.entry
 
 -- what a request at the moment finds
-abbrev pub live : Site → ℤ → View
-live site now = λ name. entry_in (live_at now (site name))
+abbrev pub live_view : Site → ℤ → View
+live_view site now = λ name. entry_in (live_at now (site name))
 
 abbrev pub entry_of : Way → Record → Entry
 entry_of way c = record { kind = kind_of way; value = c.value }
@@ -175,7 +175,7 @@ after_arrival Never site noted = site
 -- an exchange that is opened at the moment
 abbrev pub ExchangeOn : Site → ℤ → List Command → Arrival → List Reading → Site → Type 0
 ExchangeOn site now commands arrival told new =
-    (noted : List Command) × (after : View) × CommandsOn (live site now) commands told noted after
+    (noted : List Command) × (after : View) × CommandsOn (live_view site now) commands told noted after
     × (new ≡ after_arrival arrival site noted)
 
 -- ---- a restart

@@ -6,7 +6,7 @@ use Rattle.std.specs.List.{find, list_any}
 use Rattle.std.specs.Str.{bytes_eq}
 use Rattle.std.proofs.lemmas.Bool.{cond-true, cond-false, or_parts, or_from, and_left, and_parts}
 use Rattle.std.proofs.lemmas.Option.{none-some, same_Some}
-use Rattle.cookie_store.specs.Rows.{Row, Key, AreApart, key_of, has_key, has_key_of, has_place, has_domain, behind_last}
+use Rattle.cookie_store.specs.Rows.{Row, Key, HaveOwnKeys, key_of, has_key, has_key_of, has_place, has_domain, behind_last}
 use Rattle.cookie_store.specs.Rows.{put_in_place, found, found_live, is_live, is_live_at, is_live_of, expired, ended}
 use Rattle.cookie_store.specs.Rows.{put, has_place_of}
 use Rattle.cookie_store.proofs.PlaceLaws.{has_own_key}
@@ -32,7 +32,7 @@ none_behind key r rows is none = ap (λ k. list_any (has_key k) rows) (key_is ke
 abbrev pub if_passes : (Row → Bool) → Row → Option Row
 if_passes q r = if q r then Some r else None
 
-pub find_among : (key : Key) (q : Row → Bool) (rows : List Row) → AreApart rows
+pub find_among : (key : Key) (q : Row → Bool) (rows : List Row) → HaveOwnKeys rows
     → find (λ r. has_key key r && q r) rows ≡ option_and_then (if_passes q) (found key rows)
 find_among key q [] apart = refl
 find_among key q (r ∷ rows) apart = by (has_key key r) refl (find_among key q rows apart.1)
@@ -48,7 +48,7 @@ find_among key q (r ∷ rows) apart = by (has_key key r) refl (find_among key q 
     by false is rest = rest
 
 -- what there is of a row that was looked up, where it isn't dead
-pub live_is : (now : ℤ) (key : Key) (rows : List Row) → AreApart rows → (o : Option Row) → o ≡ found key rows
+pub live_is : (now : ℤ) (key : Key) (rows : List Row) → HaveOwnKeys rows → (o : Option Row) → o ≡ found key rows
     → option_and_then (if_passes (is_live now)) o ≡ found_live now key rows
 live_is now key rows apart o is =
     ap (option_and_then (if_passes (is_live now))) is ∙ sym (find_among key (is_live now) rows apart)
@@ -81,7 +81,7 @@ map-none test f (y ∷ ys) none =
     λ i. cond-false (test y) (f y) y p.0 i ∷ map-none test f ys p.1 i
 
 -- the live row of a key is expired in its place
-pub ended_is : (now : ℤ) (key : Key) (old : Row) (rows : List Row) → AreApart rows
+pub ended_is : (now : ℤ) (key : Key) (old : Row) (rows : List Row) → HaveOwnKeys rows
     → found key rows ≡ Some old → is_live now old ≡ true
     → put_in_place (has_key key) (expired old) rows
     ≡ map (λ r. if is_live_at now key r then expired r else r) rows
@@ -117,7 +117,7 @@ lives now row is = by (is_live now row) is
     by false e = absurd (true≢false (sym e))
 
 -- what expiring the row of a key leaves, where that is live
-pub expired_is_ended : (now : ℤ) (row : Row) (rows new : List Row) → AreApart rows
+pub expired_is_ended : (now : ℤ) (row : Row) (rows new : List Row) → HaveOwnKeys rows
     → list_any (is_live_of now row) rows ≡ true
     → MatchOption (found (key_of row) rows) (new ≡ rows) (λ old. new ≡ put (expired old) rows)
     → new ≡ ended now row rows
@@ -150,7 +150,7 @@ or_nothing true = refl
 or_nothing false = refl
 
 -- a row of the key that isn't dead and passes a test
-pub any_among : (now : ℤ) (key : Key) (q : Row → Bool) (rows : List Row) → AreApart rows
+pub any_among : (now : ℤ) (key : Key) (q : Row → Bool) (rows : List Row) → HaveOwnKeys rows
     → list_any (λ r. is_live_at now key r && q r) rows ≡ passes q (found_live now key rows)
 any_among now key q [] apart = refl
 any_among now key q (r ∷ rows) apart = by (has_key key r) refl (any_among now key q rows apart.1)
@@ -191,20 +191,20 @@ any_map k l same f keeps (r ∷ rows) =
     λ i. keyed (same i) (keeps r i) || any_map k l same f keeps rows i
 
 apart_map : (f : Row → Row) → ((r : Row) → key_of (f r) ≡ key_of r) → (rows : List Row)
-    → AreApart rows → AreApart (map f rows)
+    → HaveOwnKeys rows → HaveOwnKeys (map f rows)
 apart_map f keeps [] apart = tt
 apart_map f keeps (r ∷ rows) apart =
     (any_map (key_of (f r)) (key_of r) (keeps r) f keeps rows ∙ apart.0, apart_map f keeps rows apart.1)
 
-pub ended_apart : (now : ℤ) (row : Row) (rows : List Row) → AreApart rows → AreApart (ended now row rows)
+pub ended_apart : (now : ℤ) (row : Row) (rows : List Row) → HaveOwnKeys rows → HaveOwnKeys (ended now row rows)
 ended_apart now row rows apart = apart_map _ (λ r. by r (is_live_at now (key_of row) r)) rows apart
   where
     by : (r : Row) (b : Bool) → key_of (cond b (expired r) r) ≡ key_of r
     by r true = refl
     by r false = refl
 
-replaced_apart : (row : Row) (rows : List Row) → AreApart rows
-    → AreApart (put_in_place (has_key_of row) row rows)
+replaced_apart : (row : Row) (rows : List Row) → HaveOwnKeys rows
+    → HaveOwnKeys (put_in_place (has_key_of row) row rows)
 replaced_apart row rows apart = apart_map _ (λ r. by r (has_key_of row r) refl) rows apart
   where
     by : (r : Row) (b : Bool) → has_key_of row r ≡ b → key_of (cond b row r) ≡ key_of r
@@ -233,25 +233,25 @@ none_with p test x fails (y ∷ ys) none =
     by false first later rest = or_from (p y) _ first rest
 
 behind_apart : (test : Row → Bool) (row : Row) (rows : List Row) → list_any (has_key_of row) rows ≡ false
-    → AreApart rows → AreApart (behind_last test row rows)
+    → HaveOwnKeys rows → HaveOwnKeys (behind_last test row rows)
 behind_apart test row [] none apart = (refl, tt)
 behind_apart test row (r ∷ rows) none apart =
     let q = or_parts (has_key_of row r) (list_any (has_key_of row) rows) none in
     by (test r && not (list_any test rows)) q (behind_apart test row rows q.1 apart.1)
   where
     by : (b : Bool) → (has_key_of row r ≡ false) × (list_any (has_key_of row) rows ≡ false)
-        → AreApart (behind_last test row rows)
-        → AreApart (cond b (r ∷ row ∷ rows) (r ∷ behind_last test row rows))
+        → HaveOwnKeys (behind_last test row rows)
+        → HaveOwnKeys (cond b (r ∷ row ∷ rows) (r ∷ behind_last test row rows))
     by true q rest =
         (or_from (has_key_of r row) _ (other_way row r q.0) apart.0, (q.1, apart.1))
     by false q rest =
         (none_with (has_key_of r) test row (other_way row r q.0) rows apart.0, rest)
 
-pub put_apart : (row : Row) (rows : List Row) → AreApart rows → AreApart (put row rows)
+pub put_apart : (row : Row) (rows : List Row) → HaveOwnKeys rows → HaveOwnKeys (put row rows)
 put_apart row rows apart = by (list_any (has_key_of row) rows) refl (list_any (has_place_of row) rows)
   where
     by : (k : Bool) → list_any (has_key_of row) rows ≡ k → (p : Bool)
-        → AreApart (cond k (put_in_place (has_key_of row) row rows)
+        → HaveOwnKeys (cond k (put_in_place (has_key_of row) row rows)
         (cond p (behind_last (has_place_of row) row rows) (behind_last (has_domain (key_of row)) row rows)))
     by true any p = replaced_apart row rows apart
     by false none true = behind_apart (has_place_of row) row rows none apart
@@ -269,10 +269,10 @@ none_kept p t (y ∷ ys) none = by (t y) (none_kept p t ys q.1)
     by true rest = or_from (p y) _ q.0 rest
     by false rest = rest
 
-pub filter_apart : (t : Row → Bool) (rows : List Row) → AreApart rows → AreApart (filter t rows)
+pub filter_apart : (t : Row → Bool) (rows : List Row) → HaveOwnKeys rows → HaveOwnKeys (filter t rows)
 filter_apart t [] apart = tt
 filter_apart t (r ∷ rows) apart = by (t r) (filter_apart t rows apart.1)
   where
-    by : (b : Bool) → AreApart (filter t rows) → AreApart (cond b (r ∷ filter t rows) (filter t rows))
+    by : (b : Bool) → HaveOwnKeys (filter t rows) → HaveOwnKeys (cond b (r ∷ filter t rows) (filter t rows))
     by true rest = (none_kept (has_key_of r) t rows apart.0, rest)
     by false rest = rest

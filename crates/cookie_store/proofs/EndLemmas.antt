@@ -15,8 +15,8 @@ use Rattle.store_parts.specs.declared.error.CookieError.TheVariants.{OutOfMemory
 use Rattle.url.specs.Parts.{Parts}
 use Rattle.cookie_store.specs.Given.{ArePicked}
 use Rattle.cookie_store.specs.Insertion.{End, action_of, settled, Settles, Fits, Admits, Inserts, InsertsRead, Receives}
-use Rattle.cookie_store.specs.Insertion.{ReceivesAll, OrLacks, Lacks, alone, refused}
-use Rattle.cookie_store.specs.Rows.{Row, AreApart, key_of, found_live, is_live, is_live_of, ended, put}
+use Rattle.cookie_store.specs.Insertion.{ReceivesAll, OrLacks, LacksMemory, alone, refused}
+use Rattle.cookie_store.specs.Rows.{Row, HaveOwnKeys, key_of, found_live, is_live, is_live_of, ended, put}
 use Rattle.cookie_store.specs.Steps.{Passes}
 use Rattle.cookie_store.specs.declared.action.StoreAction.{StoreAction}
 use Rattle.cookie_store.specs.declared.action.StoreAction.TheVariants.{Inserted, ExpiredExisting, UpdatedExisting}
@@ -84,7 +84,7 @@ module _ (list : List Rule) (url : Parts) (now : ℤ) where
 
   -- what was received with want of memory lacks it
   pub met_want : (rows new : List Row) (seen : Seen) → Receives list rows url now (Ok seen) (Err OutOfMemory, new)
-      → Lacks rows url (Ok seen) (Err OutOfMemory, new)
+      → LacksMemory rows url (Ok seen) (Err OutOfMemory, new)
   met_want rows new seen (inl inserts) =
       absurd (true≢false (read_lacks rows (Ok seen) (Err OutOfMemory, new) inserts))
   met_want rows new seen (inr want) = want
@@ -166,27 +166,27 @@ module _ (rows : List Row) (url : Parts) (now : ℤ) (a b : End) where
 
 -- ---- keys stay apart
 
-settled_apart : (now : ℤ) (row : Row) (rows : List Row) → AreApart rows → AreApart (settled rows now row).1
+settled_apart : (now : ℤ) (row : Row) (rows : List Row) → HaveOwnKeys rows → HaveOwnKeys (settled rows now row).1
 settled_apart now row rows apart = by (is_dead now row.death) (list_any (is_live_of now row) rows)
   where
     by : (d l : Bool)
-        → AreApart (cond d (cond l (Ok ExpiredExisting, ended now row rows) (refused Expired rows))
+        → HaveOwnKeys (cond d (cond l (Ok ExpiredExisting, ended now row rows) (refused Expired rows))
         (Ok (action_of row rows), put row rows)).1
     by true true = ended_apart now row rows apart
     by true false = apart
     by false l = put_apart row rows apart
 
-module _ (rows : List Row) (url : Parts) (now : ℤ) (end : End) (apart : AreApart rows) where
-  same : (other : List Row) → end.1 ≡ other → AreApart other → AreApart end.1
-  same other is h = subst AreApart (sym is) h
+module _ (rows : List Row) (url : Parts) (now : ℤ) (end : End) (apart : HaveOwnKeys rows) where
+  same : (other : List Row) → end.1 ≡ other → HaveOwnKeys other → HaveOwnKeys end.1
+  same other is h = subst HaveOwnKeys (sym is) h
 
-  fits_apart : (row : Row) → Fits rows url now row end → AreApart end.1
+  fits_apart : (row : Row) → Fits rows url now row end → HaveOwnKeys end.1
   fits_apart row (inl x) = same rows (ap (λ (e : End). e.1) x.1) apart
   fits_apart row (inr (covers, inl x)) = same rows (ap (λ (e : End). e.1) x.1) apart
   fits_apart row (inr (covers, inr x)) =
       same (settled rows now row).1 (ap (λ (e : End). e.1) x.1) (settled_apart now row rows apart)
 
-  pub inserts_apart : (list : List Rule) (row : Row) → Inserts list rows url now row end → AreApart end.1
+  pub inserts_apart : (list : List Rule) (row : Row) → Inserts list rows url now row end → HaveOwnKeys end.1
   inserts_apart list row (inl x) = same rows (ap (λ (e : End). e.1) x.1) apart
   inserts_apart list row (inr (free, inl x)) = fits_apart row x.1
   inserts_apart list row (inr (free, inr (inl x))) = fits_apart (alone row) x.2

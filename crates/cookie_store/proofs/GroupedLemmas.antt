@@ -12,15 +12,15 @@ use Rattle.std.proofs.lemmas.List.Folds.{list_any-append}
 use Rattle.std.proofs.lemmas.Option.{none-some, slice_get-map}
 use Rattle.cookie_text.specs.ReadingBack.{Pairwise}
 use Rattle.place_index.specs.Entries.{value_at}
-use Rattle.place_index.specs.Index.{Index, DomainPart, IsNowhere, DomainAgrees, PathAgrees, IsPart as IsPartAt}
+use Rattle.place_index.specs.Index.{Index, DomainPart, IsNowhere, DomainAgrees, PathAgrees, IsSublist as IsPartAt}
 use Rattle.place_index.specs.Places.{is_of, is_at}
 use Rattle.place_index.specs.declared.part.Part.{Part}
 use Rattle.place_index.proofs.EndLemmas.{none_any}
 use Rattle.store_parts.specs.DomainMatch.{text_or_empty}
-use Rattle.cookie_store.specs.Grouped.{StandTogether, AreGrouped, IsPart, PartsStay}
+use Rattle.cookie_store.specs.Grouped.{StandTogether, AreGrouped, IsSublist, PartsStay}
 use Rattle.cookie_store.specs.Indexed.{IsIndexed, place_of, places_of}
 use Rattle.cookie_store.specs.Placing.{chosen, loaded, put_all}
-use Rattle.cookie_store.specs.Rows.{Row, Key, AreApart, key_of, has_key, has_key_of, has_place, has_place_of}
+use Rattle.cookie_store.specs.Rows.{Row, Key, HaveOwnKeys, key_of, has_key, has_key_of, has_place, has_place_of}
 use Rattle.cookie_store.specs.Rows.{has_domain, has_domain_of, behind_last, is_live, put}
 use Rattle.cookie_store.specs.SavedRows.{IsReread}
 use Rattle.cookie_store.proofs.ApartLemmas.{key_is}
@@ -205,7 +205,7 @@ other_key row r differs = by (has_key_of row r) refl
         ∙ differs))
     by false is = is
 
-none_of_key : (done rest : List Row) (row : Row) → AreApart (done ++ row ∷ rest)
+none_of_key : (done rest : List Row) (row : Row) → HaveOwnKeys (done ++ row ∷ rest)
     → list_any (has_key_of row) done ≡ false
 none_of_key [] rest row apart = refl
 none_of_key (d ∷ done) rest row apart =
@@ -247,7 +247,7 @@ grouped_stay rows g = stay_behind rows [] g
 -- ---- parts
 
 module _ {A : Type 0} where
-  part_of_more : (xs ys : List A) (y : A) → IsPart xs ys → IsPart xs (y ∷ ys)
+  part_of_more : (xs ys : List A) (y : A) → IsSublist xs ys → IsSublist xs (y ∷ ys)
   part_of_more [] ys y h = tt
   part_of_more (x ∷ xs) ys y h = inr h
 
@@ -256,10 +256,10 @@ module _ {A : Type 0} where
     pub first : List A
     pub second : List A
     pub split : part ≡ first ++ second
-    pub of_first : IsPart first xs
-    pub of_second : IsPart second ys
+    pub of_first : IsSublist first xs
+    pub of_second : IsSublist second ys
 
-  cut_part : (part xs ys : List A) → IsPart part (xs ++ ys) → CutPart part xs ys
+  cut_part : (part xs ys : List A) → IsSublist part (xs ++ ys) → CutPart part xs ys
   cut_part part [] ys h = record { first = []; second = part; split = refl; of_first = tt; of_second = h }
   cut_part [] (x ∷ xs) ys h = record { first = []; second = []; split = refl; of_first = tt; of_second = tt }
   cut_part (p ∷ part) (x ∷ xs) ys (inl (is, h)) =
@@ -281,7 +281,7 @@ module _ {A : Type 0} where
         of_second = c.of_second;
       }
 
-  none_in_part : (test : A → Bool) (part xs : List A) → IsPart part xs → list_any test xs ≡ false
+  none_in_part : (test : A → Bool) (part xs : List A) → IsSublist part xs → list_any test xs ≡ false
       → list_any test part ≡ false
   none_in_part test [] xs h none = refl
   none_in_part test (p ∷ part) [] h none = absurd h
@@ -291,16 +291,16 @@ module _ {A : Type 0} where
   none_in_part test (p ∷ part) (x ∷ xs) (inr h) none =
       none_in_part test (p ∷ part) xs h (or_parts (test x) (list_any test xs) none).1
 
-  all_in_part : (P : A → Type 0) (part xs : List A) → IsPart part xs → AllByRecursion P xs → AllByRecursion P part
+  all_in_part : (P : A → Type 0) (part xs : List A) → IsSublist part xs → AllByRecursion P xs → AllByRecursion P part
   all_in_part P [] xs h all = tt
   all_in_part P (p ∷ part) [] h all = absurd h
   all_in_part P (p ∷ part) (x ∷ xs) (inl (is, h)) all = (subst P (sym is) all.0, all_in_part P part xs h all.1)
   all_in_part P (p ∷ part) (x ∷ xs) (inr h) all = all_in_part P (p ∷ part) xs h all.1
 
-  part_together : (test : A → Bool) (part xs : List A) → IsPart part xs → StandTogether test xs
+  part_together : (test : A → Bool) (part xs : List A) → IsSublist part xs → StandTogether test xs
       → StandTogether test part
   part_together test part xs h s =
-      let c = cut_part part s.before (s.own ++ s.after) (subst (IsPart part) s.split h) in
+      let c = cut_part part s.before (s.own ++ s.after) (subst (IsSublist part) s.split h) in
       let d = cut_part c.second s.own s.after c.of_second in
       record {
         before = c.first;
@@ -312,15 +312,15 @@ module _ {A : Type 0} where
         none_after = none_in_part test d.second s.after d.of_second s.none_after;
       }
 
-  filter_part : (test : A → Bool) (xs : List A) → IsPart (filter test xs) xs
+  filter_part : (test : A → Bool) (xs : List A) → IsSublist (filter test xs) xs
   filter_part test [] = tt
   filter_part test (x ∷ xs) = by (test x) (filter_part test xs)
     where
-      by : (b : Bool) → IsPart (filter test xs) xs → IsPart (cond b (x ∷ filter test xs) (filter test xs)) (x ∷ xs)
+      by : (b : Bool) → IsSublist (filter test xs) xs → IsSublist (cond b (x ∷ filter test xs) (filter test xs)) (x ∷ xs)
       by true rest = inl (refl, rest)
       by false rest = part_of_more (filter test xs) xs x rest
 
-part_apart : (part rows : List Row) → IsPart part rows → AreApart rows → AreApart part
+part_apart : (part rows : List Row) → IsSublist part rows → HaveOwnKeys rows → HaveOwnKeys part
 part_apart [] rows h apart = tt
 part_apart (p ∷ part) [] h apart = absurd h
 part_apart (p ∷ part) (r ∷ rows) (inl (is, h)) apart = (
@@ -329,7 +329,7 @@ part_apart (p ∷ part) (r ∷ rows) (inl (is, h)) apart = (
 )
 part_apart (p ∷ part) (r ∷ rows) (inr h) apart = part_apart (p ∷ part) rows h apart.1
 
-pub part_grouped : (rows part : List Row) → AreGrouped rows → IsPart part rows → AreGrouped part
+pub part_grouped : (rows part : List Row) → AreGrouped rows → IsSublist part rows → AreGrouped part
 part_grouped rows part g h = record {
   domains = λ key. part_together (has_domain key) part rows h (g.domains key);
   places = λ key. part_together (has_place key) part rows h (g.places key);
@@ -406,7 +406,7 @@ same_place key r o h =
 same_domain : (key : Key) (r o : Row) → IsReread r o → has_domain key o ≡ has_domain key r
 same_domain key r o h = ap (λ d. bytes_eq key.domain (text_or_empty d)) h.domain
 
-pub reread_grouped : (rows reread : List Row) → Pairwise IsReread rows reread → AreGrouped rows → AreApart reread
+pub reread_grouped : (rows reread : List Row) → Pairwise IsReread rows reread → AreGrouped rows → HaveOwnKeys reread
     → AreGrouped reread
 reread_grouped rows reread h g apart = record {
   domains = λ key. together_with IsReread (has_domain key) (same_domain key) rows reread h (g.domains key);
@@ -416,7 +416,7 @@ reread_grouped rows reread h g apart = record {
 
 -- rows that are grouped when they were reread stand as they do where they are loaded
 pub loaded_stay : (with_expired : Bool) (now : ℤ) (rows reread : List Row) → Pairwise IsReread rows reread
-    → AreGrouped rows → AreApart reread → loaded with_expired now reread ≡ chosen with_expired now reread
+    → AreGrouped rows → HaveOwnKeys reread → loaded with_expired now reread ≡ chosen with_expired now reread
 loaded_stay true now rows reread h g apart = grouped_stay reread (reread_grouped rows reread h g apart)
 loaded_stay false now rows reread h g apart =
     grouped_stay (chosen false now reread) (filter_grouped (is_live now) reread (reread_grouped rows reread h g apart))

@@ -17,7 +17,7 @@ use Rattle.place_index.specs.Putting.{IsReady, PutsAt, end_of, end_at}
 use Rattle.place_index.specs.Taking.{HasRow, TakesAt}
 use Rattle.place_index.proofs.EndLemmas.{any_at}
 use Rattle.cookie_store.specs.Indexed.{place_of, places_of, IsIndexed, StandsAt}
-use Rattle.cookie_store.specs.Rows.{Row, Key, AreApart, domain_text, key_of, has_domain, has_key, has_key_of, has_place}
+use Rattle.cookie_store.specs.Rows.{Row, Key, HaveOwnKeys, domain_text, key_of, has_domain, has_key, has_key_of, has_place}
 use Rattle.cookie_store.specs.Rows.{has_place_of, has_domain_of, put_in_place, behind_last, inserted, put, found}
 use Rattle.cookie_store.specs.Rows.{removed}
 use Rattle.cookie_store.specs.StoredCookie.{stored_in}
@@ -92,7 +92,7 @@ module _ {A : Type 0} (test : A → Bool) (x : A) where
 
 -- ---- the row of a key
 
-only_there : (key : Key) (rows : List Row) (at : ℕ) (row : Row) → AreApart rows → slice_get rows at ≡ Some row
+only_there : (key : Key) (rows : List Row) (at : ℕ) (row : Row) → HaveOwnKeys rows → slice_get rows at ≡ Some row
     → has_key key row ≡ true → IsOnly (has_key key) row rows at
 only_there key [] at row apart is has = absurd (none-some row is)
 only_there key (r ∷ rows) zero row apart is has =
@@ -106,7 +106,7 @@ only_there key (r ∷ rows) (suc at) row apart is has =
         absurd (true≢false (sym (any_at (has_key key) rows at row is has) ∙ none_behind key r rows own apart.0))
     by false fails = fails
 
-module _ (key : Key) (rows : List Row) (at : ℕ) (row : Row) (apart : AreApart rows)
+module _ (key : Key) (rows : List Row) (at : ℕ) (row : Row) (apart : HaveOwnKeys rows)
     (is : slice_get rows at ≡ Some row) (has : has_key key row ≡ true) where
   pub found_there : found key rows ≡ Some row
   found_there = find_only (has_key key) row rows at (only_there key rows at row apart is has)
@@ -163,13 +163,13 @@ module _ (key : Key) (rows : List Row) (at : ℕ) (row : Row) (index : Index) (i
   removed_indexed new takes = record {
     agrees = subst (λ places. Agrees places new) (sym (map-remove place_of rows at))
         (takes key.name (places_of rows) indexed.agrees place_there);
-    apart = subst AreApart (sym (removed_there key rows at row indexed.apart is has))
+    apart = subst HaveOwnKeys (sym (removed_there key rows at row indexed.apart is has))
         (filter_apart (λ r. not (has_key key r)) rows indexed.apart);
   }
 
 module _ (new : Row) (rows : List Row) (at : ℕ) (row : Row) (is : slice_get rows at ≡ Some row)
     (has : has_key_of new row ≡ true) where
-  pub set_there : AreApart rows → set rows at new ≡ put new rows
+  pub set_there : HaveOwnKeys rows → set rows at new ≡ put new rows
   set_there apart =
       let only = only_there (key_of new) rows at row apart is has in
       sym (set_only (has_key_of new) row new rows at only)
@@ -185,7 +185,7 @@ module _ (new : Row) (rows : List Row) (at : ℕ) (row : Row) (is : slice_get ro
   pub set_indexed : (index : Index) → IsIndexed rows index → IsIndexed (set rows at new) index
   set_indexed index indexed = record {
     agrees = subst (λ places. Agrees places index) (sym places_stay) indexed.agrees;
-    apart = subst AreApart (sym (set_there indexed.apart)) (put_apart new rows indexed.apart);
+    apart = subst HaveOwnKeys (sym (set_there indexed.apart)) (put_apart new rows indexed.apart);
   }
 
 -- ---- a row more
@@ -258,7 +258,7 @@ module _ (row : Row) (rows : List Row) (at : ℕ) (index new : Index) (indexed :
   pub insert_indexed : list_any (has_key_of row) rows ≡ false → IsIndexed (insert rows at row) new
   insert_indexed none = record {
     agrees = subst (λ places. Agrees places new) (sym (map-insert place_of rows at row)) put_at.0;
-    apart = subst AreApart (cond-false (list_any (has_key_of row) rows) _ _ none ∙ sym insert_there)
+    apart = subst HaveOwnKeys (cond-false (list_any (has_key_of row) rows) _ _ none ∙ sym insert_there)
         (put_apart row rows indexed.apart);
   }
 

@@ -6,7 +6,7 @@ use Rattle.std.specs.Str.Lines.{lines}
 use Rattle.cookie_text.specs.ReadingBack.{Pairwise}
 use Rattle.saved_text.specs.JsonReading.{IsJsonFault, IsNoRow}
 use Rattle.store_parts.specs.declared.error.Error.{Error}
-use Rattle.cookie_store.specs.LoadedLines.{Reader, Input, TakesLines, StopsAtLine, StopsLoading, LoadsLines, MakesRow}
+use Rattle.cookie_store.specs.LoadedLines.{Reader, Input, TakesLines, StopsAtLine, StopsLoadingLines, LoadsLines, MakesRow}
 use Rattle.cookie_store.specs.Rows.{Row, Store}
 use Rattle.cookie_store.specs.SavedTexts as form
 
@@ -43,7 +43,7 @@ module _ {F : Type 0} (closures : Reader F)
   stops_at f (line ∷ ls) e (inr (inr (row, mid, utf8, made, more))) =
       inr (inr (row, (utf8, makes f line row mid made), stops_at mid ls e more))
 
-  pub stops : (f : F) (old new : Input) (e : Error) → StopsLoading closures f old new e
+  pub stops : (f : F) (old new : Input) (e : Error) → StopsLoadingLines closures f old new e
       → form.StopsLoading old new e
   stops f old new e (inl (steady, text, is, h)) = inl (steady, text, is, stops_at f (lines text) e h)
   stops f old new e (inr (is, h)) = inr (

@@ -15,7 +15,7 @@ use Rattle.std.proofs.lemmas.List.Sorted.{IsPermutation-refl, IsPermutation-sym,
 use Rattle.std.proofs.lemmas.List.Sorted.{IsPermutation-cons}
 use Rattle.std.proofs.lemmas.List.Sorted.{IsPermutation-middle, IsPermutation-map, sorted_far}
 use Rattle.std.proofs.Math.Dec.{ltb}
-use Rattle.cookie_store.specs.Given.{shown}
+use Rattle.cookie_store.specs.Given.{lent_row}
 use Rattle.cookie_store.specs.Longest.{path_length, has_length, LengthsFall, AreLongestFirst}
 use Rattle.cookie_store.specs.Rows.{Row}
 use Rattle.cookie_store.specs.declared.stored_cookie.Cookie.{Cookie}
@@ -179,26 +179,26 @@ an_order rows = (longest rows, record { permutation = permutes rows; fall = fall
 -- ---- a stable sort by the lengths gives it
 
 abbrev pub comes_first : Bor Cookie → Bor Cookie → Bool
-comes_first one other = ltb (path_length (shown other)) (path_length (shown one))
+comes_first one other = ltb (path_length (lent_row other)) (path_length (lent_row one))
 
 pub comes_in_order : IsStrictWeakOrder comes_first
 comes_in_order =
-    IsStrictWeakOrder-flip (λ (x : Bor Cookie) (y : Bor Cookie). ltb (path_length (shown x)) (path_length (shown y)))
-    (IsStrictWeakOrder-by_number (λ (c : Bor Cookie). path_length (shown c)))
+    IsStrictWeakOrder-flip (λ (x : Bor Cookie) (y : Bor Cookie). ltb (path_length (lent_row x)) (path_length (lent_row y)))
+    (IsStrictWeakOrder-by_number (λ (c : Bor Cookie). path_length (lent_row c)))
 
 none_longer : (one : Bor Cookie) (items : List (Bor Cookie))
     → ((i : ℕ) (d : Bor Cookie) → i < length items → comes_first (get_or items i d) one ≡ false)
-    → AllByRecursion (λ later. path_length later ≤ path_length (shown one)) (map shown items)
+    → AllByRecursion (λ later. path_length later ≤ path_length (lent_row one)) (map lent_row items)
 none_longer one [] h = tt
 none_longer one (c ∷ items) h = (
-  ltb-false (path_length (shown one)) (path_length (shown c)) (h 0 c (omega arith)),
+  ltb-false (path_length (lent_row one)) (path_length (lent_row c)) (h 0 c (omega arith)),
   none_longer one items (λ i d below. h (suc i) d (omega (arith, below))),
 )
 
 sorted_falls : (items : List (Bor Cookie))
     → ((i j : ℕ) (d : Bor Cookie) → i ≤ j → j < length items
     → comes_first (get_or items j d) (get_or items i d) ≡ false)
-    → LengthsFall (map shown items)
+    → LengthsFall (map lent_row items)
 sorted_falls [] up = tt
 sorted_falls (c ∷ items) up = (
   none_longer c items (λ i d below. up 0 (suc i) d (omega arith) (omega (arith, below))),
@@ -206,21 +206,21 @@ sorted_falls (c ∷ items) up = (
 )
 
 -- of one length are those that tie with one of that length
-ties_are : (n : ℕ) (one other : Bor Cookie) → path_length (shown one) ≡ n
-    → ties comes_first one other ≡ has_length n (shown other)
+ties_are : (n : ℕ) (one other : Bor Cookie) → path_length (lent_row one) ≡ n
+    → ties comes_first one other ≡ has_length n (lent_row other)
 ties_are n one other e =
     ⊎_elim
-    (λ (is : has_length n (shown other) ≡ true).
-    let same = eqb-true (path_length (shown other)) n is in
+    (λ (is : has_length n (lent_row other) ≡ true).
+    let same = eqb-true (path_length (lent_row other)) n is in
     rw (
-      le-ltb (path_length (shown other)) (path_length (shown one)) (omega (arith, same, e)),
-      le-ltb (path_length (shown one)) (path_length (shown other)) (omega (arith, same, e)),
+      le-ltb (path_length (lent_row other)) (path_length (lent_row one)) (omega (arith, same, e)),
+      le-ltb (path_length (lent_row one)) (path_length (lent_row other)) (omega (arith, same, e)),
       is,
     ) refl)
-    (λ (is : has_length n (shown other) ≡ false). apart is)
-    (cases_Bool (has_length n (shown other)))
+    (λ (is : has_length n (lent_row other) ≡ false). apart is)
+    (cases_Bool (has_length n (lent_row other)))
   where
-    apart : has_length n (shown other) ≡ false → ties comes_first one other ≡ has_length n (shown other)
+    apart : has_length n (lent_row other) ≡ false → ties comes_first one other ≡ has_length n (lent_row other)
     apart is =
         ⊎_elim
         (λ (less : comes_first one other ≡ true). rw (less, is) refl)
@@ -228,62 +228,62 @@ ties_are n one other e =
         ⊎_elim
         (λ (more : comes_first other one ≡ true). rw (no, more, is) refl)
         (λ (neither : comes_first other one ≡ false).
-        let a = ltb-false (path_length (shown other)) (path_length (shown one)) no in
-        let b = ltb-false (path_length (shown one)) (path_length (shown other)) neither in
-        absurd (both_ways _ is (has_own n (shown other) (omega (arith, a, b, e)))))
+        let a = ltb-false (path_length (lent_row other)) (path_length (lent_row one)) no in
+        let b = ltb-false (path_length (lent_row one)) (path_length (lent_row other)) neither in
+        absurd (both_ways _ is (has_own n (lent_row other) (omega (arith, a, b, e)))))
         (cases_Bool (comes_first other one)))
         (cases_Bool (comes_first one other))
 
-shown_of_length : (n : ℕ) (one : Bor Cookie) (items : List (Bor Cookie)) → path_length (shown one) ≡ n
-    → filter (has_length n) (map shown items) ≡ map shown (filter (ties comes_first one) items)
+shown_of_length : (n : ℕ) (one : Bor Cookie) (items : List (Bor Cookie)) → path_length (lent_row one) ≡ n
+    → filter (has_length n) (map lent_row items) ≡ map lent_row (filter (ties comes_first one) items)
 shown_of_length n one [] e = refl
 shown_of_length n one (c ∷ items) e =
-    ap (λ b. cond b (shown c ∷ filter (has_length n) (map shown items)) (filter (has_length n) (map shown items)))
+    ap (λ b. cond b (lent_row c ∷ filter (has_length n) (map lent_row items)) (filter (has_length n) (map lent_row items)))
     (sym (ties_are n one c e)) ∙ by (ties comes_first one c) (shown_of_length n one items e)
   where
     by : (b : Bool)
-        → filter (has_length n) (map shown items) ≡ map shown (filter (ties comes_first one) items)
-        → cond b (shown c ∷ filter (has_length n) (map shown items)) (filter (has_length n) (map shown items))
-        ≡ map shown (cond b (c ∷ filter (ties comes_first one) items) (filter (ties comes_first one) items))
-    by true rest = ap (λ l. shown c ∷ l) rest
+        → filter (has_length n) (map lent_row items) ≡ map lent_row (filter (ties comes_first one) items)
+        → cond b (lent_row c ∷ filter (has_length n) (map lent_row items)) (filter (has_length n) (map lent_row items))
+        ≡ map lent_row (cond b (c ∷ filter (ties comes_first one) items) (filter (ties comes_first one) items))
+    by true rest = ap (λ l. lent_row c ∷ l) rest
     by false rest = rest
 
 -- a list has a cookie of a length, or none
 abbrev HasOne : ℕ → List (Bor Cookie) → Type 0
 HasOne n items =
-    ((one : Bor Cookie) × (path_length (shown one) ≡ n)) ⊎ (filter (has_length n) (map shown items) ≡ [])
+    ((one : Bor Cookie) × (path_length (lent_row one) ≡ n)) ⊎ (filter (has_length n) (map lent_row items) ≡ [])
 
 has_one : (n : ℕ) (items : List (Bor Cookie)) → HasOne n items
 has_one n [] = inr refl
 has_one n (c ∷ items) =
     ⊎_elim
-    (λ (is : has_length n (shown c) ≡ true). inl (c, eqb-true (path_length (shown c)) n is))
-    (λ (is : has_length n (shown c) ≡ false). later is (has_one n items))
-    (cases_Bool (has_length n (shown c)))
+    (λ (is : has_length n (lent_row c) ≡ true). inl (c, eqb-true (path_length (lent_row c)) n is))
+    (λ (is : has_length n (lent_row c) ≡ false). later is (has_one n items))
+    (cases_Bool (has_length n (lent_row c)))
   where
-    later : has_length n (shown c) ≡ false → HasOne n items → HasOne n (c ∷ items)
+    later : has_length n (lent_row c) ≡ false → HasOne n items → HasOne n (c ∷ items)
     later is (inl one) = inl one
     later is (inr none) = inr (cond-false _ _ _ is ∙ none)
 
 sorted_stable : (old new : List (Bor Cookie)) → IsStableBy comes_first old new → (n : ℕ)
-    → filter (has_length n) (map shown new) ≡ filter (has_length n) (map shown old)
+    → filter (has_length n) (map lent_row new) ≡ filter (has_length n) (map lent_row old)
 sorted_stable old new stable n = by (has_one n old) (has_one n new)
   where
-    through : (one : Bor Cookie) → path_length (shown one) ≡ n
-        → filter (has_length n) (map shown new) ≡ filter (has_length n) (map shown old)
+    through : (one : Bor Cookie) → path_length (lent_row one) ≡ n
+        → filter (has_length n) (map lent_row new) ≡ filter (has_length n) (map lent_row old)
     through one e =
-        shown_of_length n one new e ∙ (ap (map shown) (stable one) ∙ sym (shown_of_length n one old e))
+        shown_of_length n one new e ∙ (ap (map lent_row) (stable one) ∙ sym (shown_of_length n one old e))
 
     by : HasOne n old → HasOne n new
-        → filter (has_length n) (map shown new) ≡ filter (has_length n) (map shown old)
+        → filter (has_length n) (map lent_row new) ≡ filter (has_length n) (map lent_row old)
     by (inl one) other = through one.0 one.1
     by (inr none) (inl one) = through one.0 one.1
     by (inr none) (inr gone) = gone ∙ sym none
 
 pub sorted_longest : (old new : List (Bor Cookie)) → IsPermutation old new → IsSortedBy comes_first new
-    → IsStableBy comes_first old new → AreLongestFirst (map shown old) (map shown new)
+    → IsStableBy comes_first old new → AreLongestFirst (map lent_row old) (map lent_row new)
 sorted_longest old new moved sorted stable = record {
-  permutation = IsPermutation-map shown old new moved;
+  permutation = IsPermutation-map lent_row old new moved;
   fall = sorted_falls new (sorted_far comes_first comes_in_order new sorted);
   stable = sorted_stable old new stable;
 }

@@ -8,7 +8,7 @@ use Rattle.std.specs.Str.Lines.{lines}
 use Rattle.std.proofs.KnownBytes.{Consumes-trans}
 use Rattle.devices.specs.Device.{Rose, one_more}
 use Rattle.store_parts.specs.declared.error.Error.{Error}
-use Rattle.cookie_store.specs.LoadedLines.{Cuts, Input, LoadsLines, Reader, StopsAtLine, StopsLoading, StopsReading}
+use Rattle.cookie_store.specs.LoadedLines.{Cuts, Input, LoadsLines, Reader, StopsAtLine, StopsLoadingLines, StopsReading}
 use Rattle.cookie_store.specs.LoadedLines.{TakesLines}
 use Rattle.cookie_store.specs.Rows.{Row, Store}
 use Rattle.cookie_store.specs.Steps.{TakesRest, TakesWhole}
@@ -94,7 +94,7 @@ module _ {F : Type 0} (closures : Reader F) where
         → TakesWhole closures with_expired now first old text mid new begun → Consumes a.left held text
         → Consumes held b.left bytes → b.failures ≡ a.failures
         → ((rest : List ℕ) → StopsAtLine closures mid (lines ((begun ++ bytes) ++ rest)) error)
-        → StopsLoading closures first a b error
+        → StopsLoadingLines closures first a b error
     stops_more first mid old new text begun bytes error a b held (whole, made, cut, taken, placed) read more steady
         stops =
         let h = had a.left b.left (text ++ bytes) (Consumes-trans a.left held b.left text bytes read more) in
@@ -117,7 +117,7 @@ module _ {F : Type 0} (closures : Reader F) where
     pub stops_last : (first mid : F) (old new : List Row) (text begun : List ℕ) (error : Error) (a b : Input)
         → TakesWhole closures with_expired now first old text mid new begun → Consumes a.left b.left text
         → IsAtEnd b.left → b.failures ≡ a.failures → (line : List ℕ) → line ≡ begun
-        → StopsAtLine closures mid (lines line) error → StopsLoading closures first a b error
+        → StopsAtLine closures mid (lines line) error → StopsLoadingLines closures first a b error
     stops_last first mid old new text begun error a b (whole, made, cut, taken, placed) read ended steady line same
         stops =
         inl (

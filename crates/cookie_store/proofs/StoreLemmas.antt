@@ -14,7 +14,7 @@ use Rattle.store_parts.specs.declared.error.CookieError.TheVariants.{NonHttpSche
 use Rattle.store_parts.specs.declared.error.CookieError.TheVariants.{DomainMismatch, Expired, Parse, UnspecifiedDomain}
 use Rattle.store_parts.specs.declared.error.CookieError.TheVariants.{OutOfMemory}
 use Rattle.url.specs.Parts.{Parts}
-use Rattle.cookie_store.specs.Given.{shown}
+use Rattle.cookie_store.specs.Given.{lent_row}
 use Rattle.cookie_store.specs.Insertion.{End, Inserts, Receives, OrLacks, alone, refused}
 use Rattle.cookie_store.specs.Making.{IsMade, IsRefused}
 use Rattle.cookie_store.specs.Rows.{Row}
@@ -53,9 +53,9 @@ set_is None = refl
 set_is (Some b) = refl
 
 pub shown_all : {A : Type 0} (show : Row → A) (cs : List (Bor Cookie))
-    → map (λ c. show (shown c)) cs ≡ map show (map shown cs)
+    → map (λ c. show (lent_row c)) cs ≡ map show (map lent_row cs)
 shown_all show [] = refl
-shown_all show (c ∷ cs) = ap (λ l. show (shown c) ∷ l) (shown_all show cs)
+shown_all show (c ∷ cs) = ap (λ l. show (lent_row c) ∷ l) (shown_all show cs)
 
 module _ (list : List Rule) (rows : List Row) (url : Parts) (now : ℤ) (end : End) where
   pub ends_owned : (row : Row) → OrLacks (Inserts list rows url now (owned row)) rows end

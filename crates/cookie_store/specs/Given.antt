@@ -33,8 +33,8 @@ AreGiven rows url now given = ArePicked (λ row. IsGiven row url now) rows given
 -- ---- what is shown of them
 
 -- a cookie that a store lends
-abbrev pub shown : Bor Cookie → Row
-shown c = stored_of c.now
+abbrev pub lent_row : Bor Cookie → Row
+lent_row c = stored_of c.now
 
 -- name and value
 abbrev pub pair_of : Row → List ℕ × List ℕ

@@ -2,7 +2,7 @@
 use Rattle.std.specs.Prelude.{◌≡◌, ◌⊎◌, List, [], ◌∷◌, ◌++◌, Bool, true, false}
 use Rattle.std.specs.List.{list_any, AllByRecursion}
 use Rattle.cookie_store.specs.Placing.{put_all}
-use Rattle.cookie_store.specs.Rows.{Row, Key, AreApart, has_domain, has_place}
+use Rattle.cookie_store.specs.Rows.{Row, Key, HaveOwnKeys, has_domain, has_place}
 
 -- the elements that pass the test stand together: no other one is between two of them
 pub record StandTogether {A : Type 0} (test : A → Bool) (xs : List A) : Type 0 where
@@ -18,17 +18,17 @@ pub record StandTogether {A : Type 0} (test : A → Bool) (xs : List A) : Type 0
 pub record AreGrouped (rows : List Row) : Type 0 where
   pub domains : (key : Key) → StandTogether (has_domain key) rows
   pub places : (key : Key) → StandTogether (has_place key) rows
-  pub apart : AreApart rows
+  pub apart : HaveOwnKeys rows
 
 -- ---- parts
 
 -- the first list is the second one less some of its elements
-abbrev pub IsPart : {A : Type 0} → List A → List A → Type 0
-IsPart [] ys = Unit {0}
-IsPart (x ∷ xs) [] = ⊥
-IsPart (x ∷ xs) (y ∷ ys) = ((x ≡ y) × IsPart xs ys) ⊎ IsPart (x ∷ xs) ys
+abbrev pub IsSublist : {A : Type 0} → List A → List A → Type 0
+IsSublist [] ys = Unit {0}
+IsSublist (x ∷ xs) [] = ⊥
+IsSublist (x ∷ xs) (y ∷ ys) = ((x ≡ y) × IsSublist xs ys) ⊎ IsSublist (x ∷ xs) ys
 
 -- a part of rows that are grouped is grouped, and put row by row where there was none it stands as it did
 pub record PartsStay : Type 0 where
-  pub grouped : (rows part : List Row) → AreGrouped rows → IsPart part rows → AreGrouped part
-  pub stay : (rows part : List Row) → AreGrouped rows → IsPart part rows → put_all part [] ≡ part
+  pub grouped : (rows part : List Row) → AreGrouped rows → IsSublist part rows → AreGrouped part
+  pub stay : (rows part : List Row) → AreGrouped rows → IsSublist part rows → put_all part [] ≡ part

@@ -3,7 +3,7 @@ use Rattle.std.specs.Prelude.{◌≡◌, ℕ, List, map, true, false, Option, So
 use Rattle.std.specs.List.{list_any}
 use Rattle.place_index.specs.Index.{Index, Agrees}
 use Rattle.place_index.specs.Places.{Place}
-use Rattle.cookie_store.specs.Rows.{Row, Key, AreApart, domain_text, has_key}
+use Rattle.cookie_store.specs.Rows.{Row, Key, HaveOwnKeys, domain_text, has_key}
 
 -- what a row stands by: the text of its domain, the text of its path, and its name
 abbrev pub place_of : Row → Place
@@ -15,7 +15,7 @@ places_of rows = map place_of rows
 -- the index is that of the rows, and no two of these have one key
 pub record IsIndexed (rows : List Row) (index : Index) : Type 0 where
   pub agrees : Agrees (places_of rows) index
-  pub apart : AreApart rows
+  pub apart : HaveOwnKeys rows
 
 -- the row of the key is the one there, and at `None` there is none
 abbrev pub StandsAt : Key → List Row → Option ℕ → Type 0

@@ -101,13 +101,13 @@ OrLacks Ends rows end =
     × (end ≡ refused OutOfMemory rows))
 
 -- there is no memory for making a store's cookie of one that was read and isn't barred
-abbrev pub Lacks : List Row → Parts → Result Seen ParseError → End → Type 0
-Lacks rows url (Err error) end = ⊥
-Lacks rows url (Ok seen) end = (¬ (IsBarred seen.cookie url)) × (end ≡ refused OutOfMemory rows)
+abbrev pub LacksMemory : List Row → Parts → Result Seen ParseError → End → Type 0
+LacksMemory rows url (Err error) end = ⊥
+LacksMemory rows url (Ok seen) end = (¬ (IsBarred seen.cookie url)) × (end ≡ refused OutOfMemory rows)
 
 -- what becomes of what was read
 abbrev pub Receives : List Rule → List Row → Parts → ℤ → Result Seen ParseError → End → Type 0
-Receives list rows url now read end = InsertsRead list rows url now read end ⊎ Lacks rows url read end
+Receives list rows url now read end = InsertsRead list rows url now read end ⊎ LacksMemory rows url read end
 
 -- what becomes of a text
 abbrev pub ReceivesText : List Rule → List Row → Parts → ℤ → List ℕ → End → Type 0

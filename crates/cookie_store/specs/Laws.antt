@@ -9,7 +9,7 @@ use Rattle.cookie_store.specs.Confined.{IsConfined}
 use Rattle.cookie_store.specs.Given.{AreGiven}
 use Rattle.cookie_store.specs.Insertion.{End, Inserts, alone}
 use Rattle.cookie_store.specs.Longest.{AreLongestFirst}
-use Rattle.cookie_store.specs.Rows.{Row, key_of, has_key_of, has_place_of, AreApart, found, found_live, put, removed}
+use Rattle.cookie_store.specs.Rows.{Row, key_of, has_key_of, has_place_of, HaveOwnKeys, found, found_live, put, removed}
 use Rattle.cookie_store.specs.declared.action.StoreAction.{StoreAction}
 
 -- which rows a request is given is determined
@@ -32,7 +32,7 @@ EndsOnce =
 abbrev pub StayApart : Type 0
 StayApart =
     (list : List Rule) (rows : List Row) (url : Parts) (now : ℤ) (row : Row) (end : End)
-    → Inserts list rows url now row end → AreApart rows → AreApart end.1
+    → Inserts list rows url now row end → HaveOwnKeys rows → HaveOwnKeys end.1
 
 -- what was inserted and isn't dead is got: the row, or it as one of its host alone
 abbrev pub InsertedIsGot : Type 0

@@ -97,8 +97,8 @@ pub record LoadsLines {F : Type 0} (closures : Reader F) (closure : F) (with_exp
   pub placed : store ≡ loaded_store with_expired now rows
 
 -- loading stopped, at a line of the text, while no read failed, or at a read
-abbrev pub StopsLoading : {F : Type 0} → Reader F → F → Input → Input → Error → Type 0
-StopsLoading closures closure old new error =
+abbrev pub StopsLoadingLines : {F : Type 0} → Reader F → F → Input → Input → Error → Type 0
+StopsLoadingLines closures closure old new error =
     ((new.failures ≡ old.failures) × (text : List ℕ) × IfSome old.left (λ left. text ≡ left)
     × StopsAtLine closures closure (lines text) error)
     ⊎ ((error ≡ Io) × StopsReading closures closure old new)

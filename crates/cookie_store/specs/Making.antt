@@ -78,7 +78,7 @@ abbrev pub Makes : Seen → Parts → ℤ → Result StoredCookie CookieError �
 Makes received url now answer = MatchResult answer (IsMade received url now) (IsRefused received.cookie url)
 
 -- the same of a text, which is `Parse` where it reads as no cookie
-abbrev pub Reads : List ℕ → Parts → ℤ → Result StoredCookie CookieError → Type 0
-Reads text url now answer =
+abbrev pub ReadsStored : List ℕ → Parts → ℤ → Result StoredCookie CookieError → Type 0
+ReadsStored text url now answer =
     (read : Result Seen ParseError) × ReadsPlain text read
     × MatchResult read (λ received. Makes received url now answer) (λ _. answer ≡ Err Parse)

@@ -57,9 +57,9 @@ abbrev pub has_key_of : Row → Row → Bool
 has_key_of row = has_key (key_of row)
 
 -- no two rows have one key
-abbrev pub AreApart : List Row → Type 0
-AreApart [] = Unit {0}
-AreApart (row ∷ rows) = (list_any (has_key_of row) rows ≡ false) × AreApart rows
+abbrev pub HaveOwnKeys : List Row → Type 0
+HaveOwnKeys [] = Unit {0}
+HaveOwnKeys (row ∷ rows) = (list_any (has_key_of row) rows ≡ false) × HaveOwnKeys rows
 
 -- ---- places
 

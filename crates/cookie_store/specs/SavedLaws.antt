@@ -13,7 +13,7 @@ use Rattle.store_parts.specs.declared.error.Error.{Error}
 use Rattle.store_parts.specs.declared.error.Error.TheVariants.{OutOfMemory}
 use Rattle.cookie_store.specs.Grouped.{AreGrouped}
 use Rattle.cookie_store.specs.Placing.{chosen, loaded_store}
-use Rattle.cookie_store.specs.Rows.{Row, Store, AreApart, domain_text}
+use Rattle.cookie_store.specs.Rows.{Row, Store, HaveOwnKeys, domain_text}
 use Rattle.cookie_store.specs.SavedRows.{IsReread}
 use Rattle.cookie_store.specs.SavedTexts.{Saves, Loads, IsJsonOf, IsRonRefusal, IsJsonRefusal}
 
@@ -33,7 +33,7 @@ pub record HoldsReread (with_expired : Bool) (now : ℤ) (rows : List Row) (stor
   pub reread : List Row
   pub pairs : Pairwise IsReread rows reread
   pub placed : store ≡ loaded_store with_expired now reread
-  pub stay : AreGrouped rows → AreApart reread → store ≡ record { rows = chosen with_expired now reread; suffixes = [] }
+  pub stay : AreGrouped rows → HaveOwnKeys reread → store ≡ record { rows = chosen with_expired now reread; suffixes = [] }
 
 -- what was saved in RON and is loaded of that is the rows as they are reread
 abbrev pub RonComesBack : Type 0

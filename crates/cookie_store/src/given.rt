@@ -2,7 +2,7 @@
 
 ghost use Rattle.std.specs.Prelude.{IfOk, OnOk, map};
 ghost use Rattle.jiff.specs.Words.{civil_nanos};
-ghost use Rattle.cookie_store.specs.Given.{AreGiven, shown};
+ghost use Rattle.cookie_store.specs.Given.{AreGiven, lent_row};
 ghost use Rattle.cookie_store.specs.Steps.{AreInside, GivesMore, rows_in};
 ghost use Rattle.cookie_store.specs.StoredCookie.{stored_in};
 
@@ -21,7 +21,7 @@ fn give<'c>(
     given: &mut Vec<&'c Cookie<'static>>,
 ) -> Result<(), AllocError>
     ensures { OnOk result (GivesMore (map stored_in cookies.now) request_url.now (civil_nanos now)
-        (map shown given.old.items) (map shown given.new.items)) }
+        (map lent_row given.old.items) (map lent_row given.new.items)) }
 {
     for cookie in cookies {
         let cookie = &**cookie;
@@ -43,7 +43,7 @@ pub(crate) fn give_parts<'c>(
 ) -> Result<Vec<&'c Cookie<'static>>, AllocError>
     requires { AreInside (map stored_in cookies.now) parts.now }
     ensures { IfOk result (λ given. AreGiven (rows_in parts.now (map stored_in cookies.now))
-        request_url.now (civil_nanos now) (map shown given.items)) }
+        request_url.now (civil_nanos now) (map lent_row given.items)) }
 {
     let mut given = Vec::new(alloc);
     for part in parts {

@@ -6,7 +6,7 @@ ghost use Rattle.std.specs.Str.Lines.{lines, strip_carriage_return};
 ghost use Rattle.jiff.specs.Words.{civil_nanos};
 ghost use Rattle.store_parts.specs.declared.error.Error.TheVariants.{OutOfMemory};
 ghost use Rattle.cookie_store.specs.LoadedLines.{IsFault, GivesStore, LoadsLines, StopsAtLine, StopsGiving};
-ghost use Rattle.cookie_store.specs.LoadedLines.{StopsLoading, input, line_reader};
+ghost use Rattle.cookie_store.specs.LoadedLines.{StopsLoadingLines, input, line_reader};
 ghost use Rattle.cookie_store.specs.Placing.{chosen, put_all, loaded_store};
 ghost use Rattle.cookie_store.specs.Steps.{Fills, TakesOne, TakesRest, TakesWhole};
 ghost use Rattle.cookie_store.specs.StoredCookie.{stored_of};
@@ -103,7 +103,7 @@ impl CookieStore {
         ensures ok { IfOk result (λ store. LoadsLines (line_reader C.shows F.FnMut) closure false (civil_nanos now)
             (input (R.left reader.old) (R.failures reader.old) (R.reads reader.old))
             (input (R.left reader.new) (R.failures reader.new) (R.reads reader.new)) store) }
-        ensures err { IfErr result (λ error. StopsLoading (line_reader C.shows F.FnMut) closure
+        ensures err { IfErr result (λ error. StopsLoadingLines (line_reader C.shows F.FnMut) closure
             (input (R.left reader.old) (R.failures reader.old) (R.reads reader.old))
             (input (R.left reader.new) (R.failures reader.new) (R.reads reader.new)) error) }
     {
@@ -124,7 +124,7 @@ impl CookieStore {
         ensures ok { IfOk result (λ store. (now : ℤ) → LoadsLines (line_reader C.shows F.FnMut) closure true now
             (input (R.left reader.old) (R.failures reader.old) (R.reads reader.old))
             (input (R.left reader.new) (R.failures reader.new) (R.reads reader.new)) store) }
-        ensures err { IfErr result (λ error. StopsLoading (line_reader C.shows F.FnMut) closure
+        ensures err { IfErr result (λ error. StopsLoadingLines (line_reader C.shows F.FnMut) closure
             (input (R.left reader.old) (R.failures reader.old) (R.reads reader.old))
             (input (R.left reader.new) (R.failures reader.new) (R.reads reader.new)) error) }
     {
@@ -257,7 +257,7 @@ fn load_lines<R: Source, C: StoreCookie, F: FnMut(&str) -> Result<C, Error>>(
     ensures ok { IfOk result (λ store. LoadsLines (line_reader C.shows F.FnMut) closure with_expired (civil_nanos now)
         (input (R.left reader.old) (R.failures reader.old) (R.reads reader.old))
         (input (R.left reader.new) (R.failures reader.new) (R.reads reader.new)) store) }
-    ensures err { IfErr result (λ error. StopsLoading (line_reader C.shows F.FnMut) closure
+    ensures err { IfErr result (λ error. StopsLoadingLines (line_reader C.shows F.FnMut) closure
         (input (R.left reader.old) (R.failures reader.old) (R.reads reader.old))
         (input (R.left reader.new) (R.failures reader.new) (R.reads reader.new)) error) }
 {

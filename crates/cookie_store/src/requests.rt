@@ -4,7 +4,7 @@ ghost use Rattle.std.specs.Prelude.{◌≡◌, ◌↔◌, length, map, IsTrue, I
 ghost use Rattle.std.specs.Iterator.{at_most};
 ghost use Rattle.std.specs.Map.Iter.{TakesFirst};
 ghost use Rattle.jiff.specs.Words.{civil_nanos};
-ghost use Rattle.cookie_store.specs.Given.{IsGiven, lent_cookie, lent_pair, pair_of, received_of, shown};
+ghost use Rattle.cookie_store.specs.Given.{IsGiven, lent_cookie, lent_pair, pair_of, received_of, lent_row};
 ghost use Rattle.cookie_store.specs.StoredCookie.{stored_of};
 
 use crate::rows::domain_text;
@@ -26,16 +26,16 @@ pub struct RequestValues<'a> {
 impl<'a> Model for RequestValues<'a> {
     ghost use Rattle.std.specs.Prelude.{List, ℕ, map};
     ghost use Rattle.std.specs.Vec.Iter.{into_iter_items};
-    ghost use Rattle.cookie_store.specs.Given.{pair_of, shown};
+    ghost use Rattle.cookie_store.specs.Given.{pair_of, lent_row};
 
     ghost Value = { List (List ℕ × List ℕ) };
 
-    ghost view = { λ v. map (λ c. pair_of (shown c)) (into_iter_items v.cookies) };
+    ghost view = { λ v. map (λ c. pair_of (lent_row c)) (into_iter_items v.cookies) };
 }
 
 impl<'a> RequestValues<'a> {
     pub(crate) fn new(cookies: Vec<&'a Cookie<'static>>) -> RequestValues<'a>
-        ensures { result ≡ map pair_of (map shown cookies.entry.items) }
+        ensures { result ≡ map pair_of (map lent_row cookies.entry.items) }
     {
         RequestValues {
             cookies: cookies.into_iter(),
@@ -66,16 +66,16 @@ impl<'a> Model for RequestCookies<'a> {
     ghost use Rattle.std.specs.Prelude.{List, map};
     ghost use Rattle.std.specs.Vec.Iter.{into_iter_items};
     ghost use Rattle.cookie_text.specs.Record.{Seen};
-    ghost use Rattle.cookie_store.specs.Given.{received_of, shown};
+    ghost use Rattle.cookie_store.specs.Given.{received_of, lent_row};
 
     ghost Value = { List Seen };
 
-    ghost view = { λ v. map (λ c. received_of (shown c)) (into_iter_items v.cookies) };
+    ghost view = { λ v. map (λ c. received_of (lent_row c)) (into_iter_items v.cookies) };
 }
 
 impl<'a> RequestCookies<'a> {
     pub(crate) fn new(cookies: Vec<&'a Cookie<'static>>) -> RequestCookies<'a>
-        ensures { result ≡ map received_of (map shown cookies.entry.items) }
+        ensures { result ≡ map received_of (map lent_row cookies.entry.items) }
     {
         RequestCookies {
             cookies: cookies.into_iter(),

@@ -7,7 +7,7 @@ ghost use Rattle.std.specs.Map.Iter.{TakesFirst};
 ghost use Rattle.std.specs.Iterator.{at_most};
 ghost use Rattle.jiff.specs.Words.{civil_nanos};
 ghost use Rattle.cookie_store.specs.Asking.{looks_at_url};
-ghost use Rattle.cookie_store.specs.Given.{AreGiven, shown};
+ghost use Rattle.cookie_store.specs.Given.{AreGiven, lent_row};
 ghost use Rattle.cookie_store.specs.Grouped.{AreGrouped};
 ghost use Rattle.cookie_store.specs.Indexed.{StandsAt};
 ghost use Rattle.cookie_store.specs.Insertion.{action_of};
@@ -60,7 +60,7 @@ impl Rows {
     // Where the row of the key stands.
     fn position(&self, domain: &str, path: &str, name: &str) -> Option<usize>
         ensures at { StandsAt (spec.key domain.now path.now name.now) self.now result }
-        ensures apart { spec.AreApart self.now }
+        ensures apart { spec.HaveOwnKeys self.now }
     {
         self.position_from::<Brand>((domain, path, name), Blank::new(1))
     }
@@ -71,7 +71,7 @@ impl Rows {
         requires parts { blank.parts ≡ L.parts }
         requires some { 0 < L.parts }
         ensures at { StandsAt (spec.key key.entry.0.now key.entry.1.now key.entry.2.now) self.now result }
-        ensures apart { spec.AreApart self.now }
+        ensures apart { spec.HaveOwnKeys self.now }
     {
         let mut looks = Looks::<L>::new(blank);
         self.index.position(key.0, key.1, key.2, &mut looks)
@@ -81,7 +81,7 @@ impl Rows {
     pub(crate) fn get(&self, domain: &str, path: &str, name: &str) -> Option<&Cookie<'static>>
         ensures row { option_map stored_of (option_copied result)
             ≡ spec.found (spec.key domain.now path.now name.now) self.now }
-        ensures apart { spec.AreApart self.now }
+        ensures apart { spec.HaveOwnKeys self.now }
     {
         let at = self.position(domain, path, name)?;
         Some(&*self.cookies[at])
@@ -97,7 +97,7 @@ impl Rows {
     ) -> Option<&Cookie<'static>>
         ensures row { option_map stored_of (option_copied result)
             ≡ spec.found_live (civil_nanos now) (spec.key domain.now path.now name.now) self.now }
-        ensures apart { spec.AreApart self.now }
+        ensures apart { spec.HaveOwnKeys self.now }
     {
         let cookie = self.get(domain, path, name)?;
         if cookie.is_expired(now) {
@@ -115,7 +115,7 @@ impl Rows {
     ) -> Option<&Cookie<'static>>
         ensures row { option_map stored_of (option_copied result)
             ≡ spec.found_live (civil_nanos now) (spec.key_of (stored_of cookie.now)) self.now }
-        ensures apart { spec.AreApart self.now }
+        ensures apart { spec.HaveOwnKeys self.now }
     {
         self.get_live(
             domain_text(cookie),
@@ -224,7 +224,7 @@ impl Rows {
         looks: &mut Looks<L>,
     ) -> Result<Vec<&Cookie<'static>>, AllocError>
         ensures given { IfOk result (λ cookies. AreGiven self.now request_url.now (civil_nanos now)
-            (map shown cookies.items)) }
+            (map lent_row cookies.items)) }
         ensures looks { looks.new ≤ looks.old + looks_at_url self.now request_url.now }
     {
         let Some(host) = request_url.host_str() else {
@@ -268,7 +268,7 @@ impl<'a> Model for IterAny<'a> {
 impl<'a> Iterator for IterAny<'a> {
     type Item = &'a Cookie<'static>;
 
-    ghost next_gives = { TakesFirst shown };
+    ghost next_gives = { TakesFirst lent_row };
 
     ghost remaining = { λ s. at_most (length s) };
 

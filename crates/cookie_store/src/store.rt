@@ -9,7 +9,7 @@ ghost use Rattle.cookie_text.specs.Printing.{is_set};
 ghost use Rattle.jiff.specs.Words.{civil_nanos};
 ghost use Rattle.store_parts.specs.DomainMatch.{domain_of, host_only, text_of, IsListedIn};
 ghost use Rattle.cookie_store.specs.Asking.{looks_at_url};
-ghost use Rattle.cookie_store.specs.Given.{AreGiven, ShowsGiven, pair_of, received_of, shown};
+ghost use Rattle.cookie_store.specs.Given.{AreGiven, ShowsGiven, pair_of, received_of, lent_row};
 ghost use Rattle.cookie_store.specs.Grouped.{AreGrouped, PartsStay};
 ghost use Rattle.cookie_store.specs.Insertion as insertion;
 ghost use Rattle.cookie_store.specs.Laws as law;
@@ -213,7 +213,7 @@ impl CookieStore {
         now: DateTime,
     ) -> Result<Vec<&Cookie<'static>>, AllocError>
         ensures { IfOk result (λ cookies. AreGiven self.now.rows request_url.now (civil_nanos now)
-            (map shown cookies.items)) }
+            (map lent_row cookies.items)) }
     {
         self.matches_from::<Brand>(request_url, now, Blank::new(1))
     }
@@ -229,7 +229,7 @@ impl CookieStore {
         requires parts { blank.parts ≡ L.parts }
         requires some { 0 < L.parts }
         ensures { IfOk result (λ cookies. AreGiven self.now.rows request_url.now (civil_nanos now)
-            (map shown cookies.items)) }
+            (map lent_row cookies.items)) }
     {
         let mut looks = Looks::<L>::new(blank);
         self.matches_counted(request_url, now, &mut looks)
@@ -249,7 +249,7 @@ impl CookieStore {
         looks: &mut Looks<L>,
     ) -> Result<Vec<&Cookie<'static>>, AllocError>
         ensures given { IfOk result (λ cookies. AreGiven self.now.rows request_url.now
-            (civil_nanos now) (map shown cookies.items)) }
+            (civil_nanos now) (map lent_row cookies.items)) }
         ensures looks { looks.new ≤ looks.old + looks_at_url self.now.rows request_url.now }
     {
         self.rows.given(self.alloc, request_url, now, looks)
@@ -267,7 +267,7 @@ impl CookieStore {
         now: DateTime,
     ) -> Result<Vec<&Cookie<'static>>, AllocError>
         ensures { IfOk result (λ cookies. AreGivenLongest self.now.rows request_url.now
-            (civil_nanos now) (map shown cookies.items)) }
+            (civil_nanos now) (map lent_row cookies.items)) }
     {
         let mut cookies = self.matches(request_url, now)?;
         put_longest_first(&mut cookies)?;
@@ -286,7 +286,7 @@ impl CookieStore {
         looks: &mut Looks<L>,
     ) -> Result<Vec<&Cookie<'static>>, AllocError>
         ensures given { IfOk result (λ cookies. AreGivenLongest self.now.rows request_url.now
-            (civil_nanos now) (map shown cookies.items)) }
+            (civil_nanos now) (map lent_row cookies.items)) }
         ensures looks { looks.new ≤ looks.old + looks_at_url self.now.rows request_url.now }
     {
         let mut cookies = self.matches_counted(request_url, now, looks)?;

@@ -115,7 +115,7 @@ impl<'a> Cookie<'a> {
         request_url: &Url,
         now: DateTime,
     ) -> CookieResult<'a>
-        ensures { making.Reads cookie_str.now request_url.now (civil_nanos now)
+        ensures { making.ReadsStored cookie_str.now request_url.now (civil_nanos now)
             (made_of result) }
     {
         match RawCookie::parse(cookie_str) {

@@ -4,7 +4,7 @@ ghost use Rattle.std.specs.Prelude.{◌≡◌, length};
 ghost use Rattle.std.specs.Iterator.{at_most};
 ghost use Rattle.std.specs.Map.Iter.{TakesFirst};
 ghost use Rattle.jiff.specs.Words.{civil_nanos};
-ghost use Rattle.cookie_store.specs.Given.{shown};
+ghost use Rattle.cookie_store.specs.Given.{lent_row};
 ghost use Rattle.cookie_store.specs.Rows.{live};
 
 use crate::rows::IterAny;
@@ -40,7 +40,7 @@ impl<'a> IterUnexpired<'a> {
 impl<'a> Iterator for IterUnexpired<'a> {
     type Item = &'a Cookie<'static>;
 
-    ghost next_gives = { TakesFirst shown };
+    ghost next_gives = { TakesFirst lent_row };
 
     ghost remaining = { λ s. at_most (length s) };
 
@@ -51,7 +51,7 @@ impl<'a> Iterator for IterUnexpired<'a> {
 
 // The first of the cookies that are not expired.
 fn next_live<'a>(cookies: &mut IterAny<'a>, now: DateTime) -> Option<&'a Cookie<'static>>
-    ensures { TakesFirst shown (live (civil_nanos now) cookies.old) result
+    ensures { TakesFirst lent_row (live (civil_nanos now) cookies.old) result
         (live (civil_nanos now) cookies.new) }
 {
     while let Some(cookie) = cookies.next() {

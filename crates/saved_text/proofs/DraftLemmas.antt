@@ -40,7 +40,7 @@ use Rattle.std.proofs.lemmas.List.Sorted.{
 use Rattle.saved_text.specs.Grammar.{Grammar, Word}
 use Rattle.saved_text.specs.Grammar.Grammar.{nothing, space, sign, seq}
 use Rattle.saved_text.specs.Reads.{Leads, Takes}
-use Rattle.saved_text.specs.Faults.{StopsAs, Spaced, Begins, closing}
+use Rattle.saved_text.specs.Faults.{StopsAs, Spaced, BeginsWith, closing}
 use Rattle.saved_text.specs.Ron.{comma, fields, row, raw_field, path_field, domain_field, expires_field, ◌▹◌}
 use Rattle.saved_text.specs.RowWords.{field_words}
 use Rattle.saved_text.specs.Saved.{domain_shown, IsCookieText}
@@ -126,19 +126,19 @@ marks_first g k m text words holds more (Some q) l f n =
 
 -- ---- one field more
 
-raw_left : (old : Draft) (text : List ℕ) → (old.lacks_raw_cookie ≡ true) × Begins 114 text
+raw_left : (old : Draft) (text : List ℕ) → (old.lacks_raw_cookie ≡ true) × BeginsWith 114 text
     → Goes (left old) text [] (seq raw_field (after false old.lacks_path old.lacks_domain old.lacks_expires)) text
 raw_left old text h = subst (λ b. Goes (remaining b old.lacks_path old.lacks_domain old.lacks_expires) text []
     (seq raw_field (after false old.lacks_path old.lacks_domain old.lacks_expires)) text) (sym h.0)
     (raw_picked old.lacks_path old.lacks_domain old.lacks_expires text h.1)
 
-pub raw_stops : (old : Draft) (text : List ℕ) (e : Stop) → (old.lacks_raw_cookie ≡ true) × Begins 114 text
+pub raw_stops : (old : Draft) (text : List ℕ) (e : Stop) → (old.lacks_raw_cookie ≡ true) × BeginsWith 114 text
     → StopsAs raw_field text e → StopsAs (left old) text e
 raw_stops old text e h l = StopsAs-within (left old) raw_field
     (after false old.lacks_path old.lacks_domain old.lacks_expires) text text [] e (raw_left old text h) l
 
 pub adds_raw : (old : Draft) (text rest : List ℕ) (value : String Global) (unread : Option (Bor (List ℕ)))
-    → (old.lacks_raw_cookie ≡ true) × Begins 114 text → Takes raw_field text (raw_words (string_bytes value)) rest
+    → (old.lacks_raw_cookie ≡ true) × BeginsWith 114 text → Takes raw_field text (raw_words (string_bytes value)) rest
     × Marks raw_field text (raw_words (string_bytes value)) (IsCookieText (string_bytes value)) unread
     → Adds old text (record {
       raw_cookie = value;
@@ -185,20 +185,20 @@ adds_raw old text rest value unread h t = record {
       (raw_left old text h) (λ k s. record { cookie = λ e. k; death = s.death }) t.1;
 }
 
-path_left : (old : Draft) (text : List ℕ) → (old.lacks_path ≡ true) × Begins 112 text
+path_left : (old : Draft) (text : List ℕ) → (old.lacks_path ≡ true) × BeginsWith 112 text
     → Goes (left old) text [] (seq path_field (after old.lacks_raw_cookie false old.lacks_domain old.lacks_expires))
     text
 path_left old text h = subst (λ b. Goes (remaining old.lacks_raw_cookie b old.lacks_domain old.lacks_expires) text []
     (seq path_field (after old.lacks_raw_cookie false old.lacks_domain old.lacks_expires)) text) (sym h.0)
     (path_picked old.lacks_raw_cookie old.lacks_domain old.lacks_expires text h.1)
 
-pub path_stops : (old : Draft) (text : List ℕ) (e : Stop) → (old.lacks_path ≡ true) × Begins 112 text
+pub path_stops : (old : Draft) (text : List ℕ) (e : Stop) → (old.lacks_path ≡ true) × BeginsWith 112 text
     → StopsAs path_field text e → StopsAs (left old) text e
 path_stops old text e h l = StopsAs-within (left old) path_field
     (after old.lacks_raw_cookie false old.lacks_domain old.lacks_expires) text text [] e (path_left old text h) l
 
 pub adds_path : (old : Draft) (text rest : List ℕ) (value : String Global) (flag : Bool)
-    → (old.lacks_path ≡ true) × Begins 112 text → Takes path_field text (path_words (string_bytes value) flag) rest
+    → (old.lacks_path ≡ true) × BeginsWith 112 text → Takes path_field text (path_words (string_bytes value) flag) rest
     → Adds old text (record {
       raw_cookie = old.raw_cookie;
       path = value;
@@ -236,20 +236,20 @@ adds_path old text rest value flag h t = record {
   marks = (path_read (string_bytes value) flag, λ s. record { cookie = s.cookie; death = s.death });
 }
 
-domain_left : (old : Draft) (text : List ℕ) → (old.lacks_domain ≡ true) × Begins 100 text
+domain_left : (old : Draft) (text : List ℕ) → (old.lacks_domain ≡ true) × BeginsWith 100 text
     → Goes (left old) text [] (seq domain_field (after old.lacks_raw_cookie old.lacks_path false old.lacks_expires))
     text
 domain_left old text h = subst (λ b. Goes (remaining old.lacks_raw_cookie old.lacks_path b old.lacks_expires) text []
     (seq domain_field (after old.lacks_raw_cookie old.lacks_path false old.lacks_expires)) text) (sym h.0)
     (domain_picked old.lacks_raw_cookie old.lacks_path old.lacks_expires text h.1)
 
-pub domain_stops : (old : Draft) (text : List ℕ) (e : Stop) → (old.lacks_domain ≡ true) × Begins 100 text
+pub domain_stops : (old : Draft) (text : List ℕ) (e : Stop) → (old.lacks_domain ≡ true) × BeginsWith 100 text
     → StopsAs domain_field text e → StopsAs (left old) text e
 domain_stops old text e h l = StopsAs-within (left old) domain_field
     (after old.lacks_raw_cookie old.lacks_path false old.lacks_expires) text text [] e (domain_left old text h) l
 
 pub adds_domain : (old : Draft) (text rest : List ℕ) (value : SavedDomain)
-    → (old.lacks_domain ≡ true) × Begins 100 text → Takes domain_field text (words_of_domain (domain_shown value)) rest
+    → (old.lacks_domain ≡ true) × BeginsWith 100 text → Takes domain_field text (words_of_domain (domain_shown value)) rest
     → Adds old text (record {
       raw_cookie = old.raw_cookie;
       path = old.path;
@@ -292,7 +292,7 @@ adds_domain old text rest value h t = record {
   marks = (domain_read (domain_shown value), λ s. record { cookie = s.cookie; death = s.death });
 }
 
-expires_left : (old : Draft) (text : List ℕ) → (old.lacks_expires ≡ true) × Begins 101 text
+expires_left : (old : Draft) (text : List ℕ) → (old.lacks_expires ≡ true) × BeginsWith 101 text
     → Goes (left old) text [] (seq expires_field (after old.lacks_raw_cookie old.lacks_path old.lacks_domain false))
     text
 expires_left old text h = subst
@@ -300,13 +300,13 @@ expires_left old text h = subst
     (seq expires_field (after old.lacks_raw_cookie old.lacks_path old.lacks_domain false)) text) (sym h.0)
     (expires_picked old.lacks_raw_cookie old.lacks_path old.lacks_domain text h.1)
 
-pub expires_stops : (old : Draft) (text : List ℕ) (e : Stop) → (old.lacks_expires ≡ true) × Begins 101 text
+pub expires_stops : (old : Draft) (text : List ℕ) (e : Stop) → (old.lacks_expires ≡ true) × BeginsWith 101 text
     → StopsAs expires_field text e → StopsAs (left old) text e
 expires_stops old text e h l = StopsAs-within (left old) expires_field
     (after old.lacks_raw_cookie old.lacks_path old.lacks_domain false) text text [] e (expires_left old text h) l
 
 pub adds_expires : (old : Draft) (text rest : List ℕ) (value : Option (String Global))
-    (unread : Option (Bor (List ℕ))) → (old.lacks_expires ≡ true) × Begins 101 text
+    (unread : Option (Bor (List ℕ))) → (old.lacks_expires ≡ true) × BeginsWith 101 text
     → Takes expires_field text (words_of_date (option_map string_bytes value)) rest
     × Marks expires_field text (words_of_date (option_map string_bytes value))
     (HasDeath (option_map string_bytes value)) unread

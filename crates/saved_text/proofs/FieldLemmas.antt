@@ -25,7 +25,7 @@ use Rattle.saved_text.specs.Grammar.{Grammar, Word, letters}
 use Rattle.saved_text.specs.Grammar.Grammar.{space, sign, seq, either}
 use Rattle.saved_text.specs.Grammar.Word.{the_name, letter, the_end}
 use Rattle.saved_text.specs.Reads.{Leads, Takes}
-use Rattle.saved_text.specs.Faults.{StopsAs, Lacks, Spaced, Begins, closing}
+use Rattle.saved_text.specs.Faults.{StopsAs, BeginsOtherwise, Spaced, BeginsWith, closing}
 use Rattle.saved_text.specs.Words.{string_words, tagged, heading}
 use Rattle.saved_text.specs.RowWords.{bool_words, expires_words}
 use Rattle.saved_text.specs.RonReading.{ReadsAs, AreRead}
@@ -110,7 +110,7 @@ Goes-silent g k m a b c s l n = subst (λ w. Goes g a w m c) (append-nil s) (Goe
 pub Takes-silent : (g k : Grammar) (a b c : List ℕ) (s : List Word) → Goes g a s k b → Takes k b [] c → Takes g a s c
 Takes-silent g k a b c s l n = subst (λ w. Takes g a w c) (append-nil s) (Takes-behind g k a b c s [] l n)
 
-pub pick_left : (a b : Grammar) (c : ℕ) (text : List ℕ) → Begins c text → nullable b ≡ false → starts b c ≡ false
+pub pick_left : (a b : Grammar) (c : ℕ) (text : List ℕ) → BeginsWith c text → nullable b ≡ false → starts b c ≡ false
     → Goes (either a b) text [] a text
 pick_left a b c text t n m = subst (λ q. Goes (either a b) q [] a q) (sym t.1) (Goes-left a b c t.0 n m)
 
@@ -160,10 +160,10 @@ StopsAs-field n g text e l = StopsAs-behind (field n g) (seq (heading n) (seq sp
 
 -- ---- true and false
 
-pub bool_true : (text : List ℕ) → Begins 116 text → Goes bool text [] (name (codes "true")) text
+pub bool_true : (text : List ℕ) → BeginsWith 116 text → Goes bool text [] (name (codes "true")) text
 bool_true text b = pick_left (name (codes "true")) (name (codes "false")) 116 text b refl refl
 
-pub bool_false : (text : List ℕ) → Lacks 116 text → Goes bool text [] (name (codes "false")) text
+pub bool_false : (text : List ℕ) → BeginsOtherwise 116 text → Goes bool text [] (name (codes "false")) text
 bool_false text l = Goes-else (name (codes "true")) (name (codes "false")) text refl
     (lacks_name 116 (codes "rue") text l)
 
@@ -388,10 +388,10 @@ at_utc = tagged (codes "AtUtc")
 abbrev session_end : Grammar
 session_end = name (codes "SessionEnd")
 
-pub expires_date : (text : List ℕ) → Begins 65 text → Goes expires text [] (tagged (codes "AtUtc")) text
+pub expires_date : (text : List ℕ) → BeginsWith 65 text → Goes expires text [] (tagged (codes "AtUtc")) text
 expires_date text b = pick_left at_utc session_end 65 text b refl refl
 
-pub expires_session : (text : List ℕ) → Lacks 65 text → Goes expires text [] (name (codes "SessionEnd")) text
+pub expires_session : (text : List ℕ) → BeginsOtherwise 65 text → Goes expires text [] (name (codes "SessionEnd")) text
 expires_session text l = Goes-else at_utc session_end text refl (lacks_tag 65 (codes "tUtc") text l)
 
 pub tag_opens : (n text a b d q : List ℕ) → Takes (sign n) text [] a → Spaced a b → Takes (sign (40 ∷ [])) b [] d
@@ -408,7 +408,7 @@ abbrev quoted_rest : Grammar
 quoted_rest = seq string (seq space closing)
 
 -- up to the date's string, behind which its bracket is left
-pub date_opens : (text q : List ℕ) → Begins 65 text
+pub date_opens : (text q : List ℕ) → BeginsWith 65 text
     → ((h : Grammar) → Leads (seq (tagged (codes "AtUtc")) h) text (the_name (codes "AtUtc") ∷ [])
     (seq (seq string (seq space closing)) h) q) → Goes expires text (the_name (codes "AtUtc") ∷ [])
     (seq string (seq space closing)) q

@@ -11,7 +11,7 @@ use Rattle.json.proofs.Printed.Tokens.{tokens-print}
 use Rattle.json.proofs.Printed.Trees.{value-json_tokens, ArePrintable-json_tokens}
 use Rattle.serde_json.specs.Read.{read, of_json}
 use Rattle.saved_text.specs.Row.{Shown, Domain, host_only, suffix, not_present, empty}
-use Rattle.saved_text.specs.Json.{ReadsBack, row_value, row_text, domain_text, expires_text, bool_text}
+use Rattle.saved_text.specs.Json.{ReadsBack, row_value, row_text, domain_json, expires_text, bool_text}
 
 abbrev pub domain_json : Domain → json.Json
 domain_json (host_only t) = json.object (json.member (codes "HostOnly") (json.string t) json.no_members)
@@ -41,7 +41,7 @@ abbrev expires_then : Option (List ℕ) → List ℕ → List ℕ
 expires_then (Some t) rest = codes "{\"AtUtc\":" ++ (quoted t ++ (codes "}" ++ rest))
 expires_then None rest = codes "\"SessionEnd\"" ++ rest
 
-domain_behind : (d : Domain) (rest : List ℕ) → domain_text d ++ rest ≡ domain_then d rest
+domain_behind : (d : Domain) (rest : List ℕ) → domain_json d ++ rest ≡ domain_then d rest
 domain_behind (host_only t) rest = ap (λ q. codes "{\"HostOnly\":" ++ q) (append_assoc (quoted t) (codes "}") rest)
 domain_behind (suffix t) rest = ap (λ q. codes "{\"Suffix\":" ++ q) (append_assoc (quoted t) (codes "}") rest)
 domain_behind not_present rest = refl
@@ -61,7 +61,7 @@ row_regrouped : (r : Shown) → row_text r ≡ row_then r
 row_regrouped r = ap (λ q. codes "{\"raw_cookie\":" ++ (quoted
     r.raw ++ (codes ",\"path\":[" ++ (quoted
     r.path ++ (codes "," ++ (bool_text r.from_attribute ++ (codes "],\"domain\":" ++ q)))))))
-    (ap (λ q. domain_text r.domain ++ (codes ",\"expires\":" ++ q)) (expires_behind r.expires (codes "}"))
+    (ap (λ q. domain_json r.domain ++ (codes ",\"expires\":" ++ q)) (expires_behind r.expires (codes "}"))
     ∙ domain_behind r.domain (codes ",\"expires\":" ++ expires_then r.expires (codes "}")))
 
 text_true_date : (raw path u : List ℕ) (d : Domain)

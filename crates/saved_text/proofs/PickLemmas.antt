@@ -5,14 +5,14 @@ use Rattle.std.proofs.lemmas.Bool.{ne_eqb, false≢true}
 use Rattle.saved_text.specs.Grammar.{Grammar}
 use Rattle.saved_text.specs.Grammar.Grammar.{nothing, space, seq}
 use Rattle.saved_text.specs.Ron.{comma, raw_field, path_field, domain_field, expires_field, ◌▹◌}
-use Rattle.saved_text.specs.Faults.{Begins, Lacks}
+use Rattle.saved_text.specs.Faults.{BeginsWith, BeginsOtherwise}
 use Rattle.saved_text.specs.Reads.{Stops}
 use Rattle.saved_text.specs.Drafts.{remaining, after, is_lacking}
 use Rattle.saved_text.proofs.StepLemmas.{starts, nullable, solid, Misses, Same-sym, Same-nothing, Stops-at}
 use Rattle.saved_text.proofs.RonLemmas.{Goes, Goes-same}
 use Rattle.saved_text.proofs.ListLemmas.{seq_left, choice, IsPick, Goes-choice}
 
-picked : (p g : Grammar) (ks : List Grammar) (c : ℕ) (text : List ℕ) → Begins c text → IsPick p g ks c
+picked : (p g : Grammar) (ks : List Grammar) (c : ℕ) (text : List ℕ) → BeginsWith c text → IsPick p g ks c
     → Goes (choice g ks) text [] p text
 picked p g ks c text b e = subst (λ t. Goes (choice g ks) t [] p t) (sym b.1) (Goes-choice p g ks c b.0 e)
 
@@ -21,7 +21,7 @@ last : (g : Grammar) (text : List ℕ) → Goes g text [] (seq g nothing) text
 last g text = Goes-same g (seq g nothing) text
     (λ h. seq_left g (seq g nothing) h (Same-sym (seq g nothing) g (Same-nothing g)))
 
-pub raw_picked : (p d e : Bool) (text : List ℕ) → Begins 114 text
+pub raw_picked : (p d e : Bool) (text : List ℕ) → BeginsWith 114 text
     → Goes (remaining true p d e) text [] (seq raw_field (after false p d e)) text
 raw_picked true true true text b = picked (raw_field ▹ comma ▹ (remaining false true true true))
     (raw_field ▹ comma ▹ (remaining false true true true))
@@ -51,7 +51,7 @@ raw_picked false false true text b = picked (raw_field ▹ comma ▹ (remaining 
     ((expires_field ▹ comma ▹ (remaining true false false false)) ∷ []) 114 text b (inl (refl, (refl, refl)))
 raw_picked false false false text b = last raw_field text
 
-pub path_picked : (r d e : Bool) (text : List ℕ) → Begins 112 text
+pub path_picked : (r d e : Bool) (text : List ℕ) → BeginsWith 112 text
     → Goes (remaining r true d e) text [] (seq path_field (after r false d e)) text
 path_picked true true true text b = picked (path_field ▹ comma ▹ (remaining true false true true))
     (raw_field ▹ comma ▹ (remaining false true true true))
@@ -84,7 +84,7 @@ path_picked false false true text b = picked (path_field ▹ comma ▹ (remainin
     ((expires_field ▹ comma ▹ (remaining false true false false)) ∷ []) 112 text b (inl (refl, (refl, refl)))
 path_picked false false false text b = last path_field text
 
-pub domain_picked : (r p e : Bool) (text : List ℕ) → Begins 100 text
+pub domain_picked : (r p e : Bool) (text : List ℕ) → BeginsWith 100 text
     → Goes (remaining r p true e) text [] (seq domain_field (after r p false e)) text
 domain_picked true true true text b = picked (domain_field ▹ comma ▹ (remaining true true false true))
     (raw_field ▹ comma ▹ (remaining false true true true))
@@ -118,7 +118,7 @@ domain_picked false false true text b = picked (domain_field ▹ comma ▹ (rema
     ((expires_field ▹ comma ▹ (remaining false false true false)) ∷ []) 100 text b (inl (refl, (refl, refl)))
 domain_picked false false false text b = last domain_field text
 
-pub expires_picked : (r p d : Bool) (text : List ℕ) → Begins 101 text
+pub expires_picked : (r p d : Bool) (text : List ℕ) → BeginsWith 101 text
     → Goes (remaining r p d true) text [] (seq expires_field (after r p d false)) text
 expires_picked true true true text b = picked (expires_field ▹ comma ▹ (remaining true true true false))
     (raw_field ▹ comma ▹ (remaining false true true true))
@@ -228,15 +228,15 @@ after_lacking false false true false l = refl
 after_lacking false false false true l = refl
 after_lacking false false false false l = absurd (false≢true l)
 
-none_misses : (r p d e : Bool) (text : List ℕ) → IsTrue (is_lacking r p d e) → (r ≡ true → Lacks 114 text)
-    → (p ≡ true → Lacks 112 text) → (d ≡ true → Lacks 100 text) → (e ≡ true → Lacks 101 text)
+none_misses : (r p d e : Bool) (text : List ℕ) → IsTrue (is_lacking r p d e) → (r ≡ true → BeginsOtherwise 114 text)
+    → (p ≡ true → BeginsOtherwise 112 text) → (d ≡ true → BeginsOtherwise 100 text) → (e ≡ true → BeginsOtherwise 101 text)
     → Misses (remaining r p d e) text
 none_misses r p d e [] l a b g h = remaining_null r p d e l
 none_misses r p d e (c ∷ t) l a b g h = none_start r p d e c (λ q. ne_eqb c 114 (a q)) (λ q. ne_eqb c 112 (b q))
     (λ q. ne_eqb c 100 (g q)) (λ q. ne_eqb c 101 (h q))
 
-pub none_picked : (r p d e : Bool) (text : List ℕ) → IsTrue (is_lacking r p d e) → (r ≡ true → Lacks 114 text)
-    → (p ≡ true → Lacks 112 text) → (d ≡ true → Lacks 100 text) → (e ≡ true → Lacks 101 text)
+pub none_picked : (r p d e : Bool) (text : List ℕ) → IsTrue (is_lacking r p d e) → (r ≡ true → BeginsOtherwise 114 text)
+    → (p ≡ true → BeginsOtherwise 112 text) → (d ≡ true → BeginsOtherwise 100 text) → (e ≡ true → BeginsOtherwise 101 text)
     → Stops (remaining r p d e) text text
 none_picked r p d e text l a b g h = Stops-at (remaining r p d e) text (remaining_null r p d e l)
     (none_misses r p d e text l a b g h)

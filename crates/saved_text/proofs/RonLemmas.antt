@@ -49,7 +49,7 @@ use Rattle.saved_text.specs.Grammar.Grammar.{nothing, say, sign, one, number, se
 use Rattle.saved_text.specs.Grammar.Word.{the_end, letter}
 use Rattle.saved_text.specs.Letters.{is_digit, is_plain, is_letter, named, digit_value, number_after, AreDigits, limit}
 use Rattle.saved_text.specs.Reads.{Leads, Stuck, Takes, Stops}
-use Rattle.saved_text.specs.Faults.{StopsAs, Undigited, Unplain, Unlettered, IsEnd, Number, Lacks, BeginsAscii}
+use Rattle.saved_text.specs.Faults.{StopsAs, Undigited, Unplain, Unlettered, IsEnd, Number, BeginsOtherwise, BeginsAscii}
 use Rattle.saved_text.specs.declared.ron_text.Stop.{Stop}
 use Rattle.saved_text.specs.declared.ron_text.Stop.TheVariants as stop
 use Rattle.saved_text.specs.Ron.{string, character, escape}
@@ -338,14 +338,14 @@ Takes-brace left v rest s e =
     (λ h. Leads-numbered left v h (125 ∷ rest) s e)
     (Takes-byte 125 rest))
 
-misses_byte : (b : ℕ) (text : List ℕ) → Lacks b text → Misses (sign (b ∷ [])) text
+misses_byte : (b : ℕ) (text : List ℕ) → BeginsOtherwise b text → Misses (sign (b ∷ [])) text
 misses_byte b [] l = refl
 misses_byte b (c ∷ r) l = ne_eqb c b l
 
-pub Stops-byte : (b : ℕ) (text : List ℕ) → Lacks b text → Stops (sign (b ∷ [])) text text
+pub Stops-byte : (b : ℕ) (text : List ℕ) → BeginsOtherwise b text → Stops (sign (b ∷ [])) text text
 Stops-byte b text l = Stops-at (sign (b ∷ [])) text refl (misses_byte b text l)
 
-pub Stops-brace : (left v : ℕ) (text : List ℕ) → IsScalar v → IsEnd left text → Lacks 125 text
+pub Stops-brace : (left v : ℕ) (text : List ℕ) → IsScalar v → IsEnd left text → BeginsOtherwise 125 text
     → Stops (Number left v) text text
 Stops-brace left v text s e l =
     Stops-second (number 0 left v) (sign (125 ∷ [])) text text text (letters (encode_utf8 v))
@@ -514,7 +514,7 @@ Goes-braced text middle rest e f =
     (subst (λ a. Goes (seq (sign (123 ∷ [])) braced_number) a [] braced_number rest) (sym f)
     (Goes-first (sign (123 ∷ [])) braced_number (123 ∷ rest) rest [] (Takes-byte 123 rest)))
 
-pub Stops-u : (text rest : List ℕ) → text ≡ 117 ∷ rest → Lacks 123 rest → Stops escape text rest
+pub Stops-u : (text rest : List ℕ) → text ≡ 117 ∷ rest → BeginsOtherwise 123 rest → Stops escape text rest
 Stops-u text rest e l = Stops-behind escape (seq (sign (123 ∷ [])) braced_number) text rest rest []
     (Goes-u text rest e) (Stops-first (sign (123 ∷ [])) braced_number rest rest (Stops-byte 123 rest l))
 
@@ -526,11 +526,11 @@ starts_other : (c : ℕ) → c ≢ 120 → c ≢ 117 → starts (either hex_esca
 starts_other c a b = none_or (starts hex_escape c) (starts braced_escape c)
     (none_or (c == 120) false (ne_eqb c 120 a) refl) (none_or (c == 117) false (ne_eqb c 117 b) refl)
 
-pub Takes-letter : (text rest : List ℕ) (value c : ℕ) → IsLetter text rest value → c ≡ value → Lacks 120 text
-    → Lacks 117 text → Takes escape text (letters (encode_utf8 c)) rest
+pub Takes-letter : (text rest : List ℕ) (value c : ℕ) → IsLetter text rest value → c ≡ value → BeginsOtherwise 120 text
+    → BeginsOtherwise 117 text → Takes escape text (letters (encode_utf8 c)) rest
 Takes-letter text rest value c l e no_x no_u =
-    let not_x : l.0 ≢ 120 = subst (Lacks 120) l.1 no_x in
-    let not_u : l.0 ≢ 117 = subst (Lacks 117) l.1 no_u in
+    let not_x : l.0 ≢ 120 = subst (BeginsOtherwise 120) l.1 no_x in
+    let not_u : l.0 ≢ 117 = subst (BeginsOtherwise 117) l.1 no_u in
     let said : letters (named l.0 ∷ []) ≡ letters (encode_utf8 c) =
     ap letters (sym (ap encode_utf8 e ∙ encode_ascii value l.4 ∙ ap (λ k. k ∷ []) l.3)) in
     let here : Takes escape (l.0 ∷ rest) (letters (named l.0 ∷ [])) rest =
@@ -540,11 +540,11 @@ Takes-letter text rest value c l e no_x no_u =
     subst (λ a. Takes escape a (letters (encode_utf8 c)) rest) (sym l.1)
     (subst (λ w. Takes escape (l.0 ∷ rest) w rest) said here)
 
-misses_escape : (text : List ℕ) → Lacks 120 text → Lacks 117 text → Unlettered text → Misses escape text
+misses_escape : (text : List ℕ) → BeginsOtherwise 120 text → BeginsOtherwise 117 text → Unlettered text → Misses escape text
 misses_escape [] a b u = refl
 misses_escape (c ∷ r) a b u = none_or (is_letter c) (starts (either hex_escape braced_escape) c) u (starts_other c a b)
 
-pub Stops-escape : (text : List ℕ) → Lacks 120 text → Lacks 117 text → Unlettered text → Stops escape text text
+pub Stops-escape : (text : List ℕ) → BeginsOtherwise 120 text → BeginsOtherwise 117 text → Unlettered text → Stops escape text text
 Stops-escape text a b u = Stops-at escape text refl (misses_escape text a b u)
 
 -- ---- strings
@@ -624,12 +624,12 @@ Takes-end text plain behind rest e a f =
 plain_from : (c : ℕ) → (c == 34) ≡ false → (c == 92) ≡ false → is_plain c ≡ true
 plain_from c a b = (λ i. not (a i) && not (b i))
 
-nothing_left : (behind : List ℕ) → Unplain behind → Lacks 34 behind → Lacks 92 behind → behind ≡ []
+nothing_left : (behind : List ℕ) → Unplain behind → BeginsOtherwise 34 behind → BeginsOtherwise 92 behind → behind ≡ []
 nothing_left [] u a b = refl
 nothing_left (c ∷ r) u a b = absurd (false≢true (sym u ∙ plain_from c (ne_eqb c 34 a) (ne_eqb c 92 b)))
 
 pub Stops-inside : (text plain behind : List ℕ) → text ≡ plain ++ behind
-    → AllByRecursion (λ b. IsTrue (is_plain b)) plain → Unplain behind → Lacks 34 behind → Lacks 92 behind
+    → AllByRecursion (λ b. IsTrue (is_plain b)) plain → Unplain behind → BeginsOtherwise 34 behind → BeginsOtherwise 92 behind
     → Stops inside text behind
 Stops-inside text plain behind e a u q s =
     subst (λ t. Stops inside t behind) (sym e)
@@ -676,8 +676,8 @@ Takes-string text rest plain behind next value all g e a f m =
     (Takes-end rest plain behind next e a f))
 
 pub Stops-string : (text rest plain behind : List ℕ) (value : List ℕ) → Goes string text (letters value) inside rest
-    → rest ≡ plain ++ behind → AllByRecursion (λ b. IsTrue (is_plain b)) plain → Unplain behind → Lacks 34 behind
-    → Lacks 92 behind → Stops string text behind
+    → rest ≡ plain ++ behind → AllByRecursion (λ b. IsTrue (is_plain b)) plain → Unplain behind → BeginsOtherwise 34 behind
+    → BeginsOtherwise 92 behind → Stops string text behind
 Stops-string text rest plain behind value g e a u q s =
     Stops-behind string inside text rest behind (letters value) g (Stops-inside rest plain behind e a u q s)
 

@@ -35,7 +35,7 @@ use Rattle.saved_text.specs.Grammar.Grammar.{nothing, say, space, sign, seq, eit
 use Rattle.saved_text.specs.Grammar.Word.{the_name}
 use Rattle.saved_text.specs.Letters.{AreSpaces}
 use Rattle.saved_text.specs.Reads.{Leads, Takes, Stops}
-use Rattle.saved_text.specs.Faults.{StopsAs, Lacks, Unspaced, Spaced, Begins, closing}
+use Rattle.saved_text.specs.Faults.{StopsAs, BeginsOtherwise, Unspaced, Spaced, BeginsWith, closing}
 use Rattle.saved_text.specs.Words.{string_words, tagged}
 use Rattle.saved_text.specs.declared.ron_text.Stop.{Stop}
 use Rattle.saved_text.specs.Ron.{string, bracketed, domain, name}
@@ -119,7 +119,7 @@ unfolding Goes
 Goes-letter b s text rest e h = subst (λ t. Leads (seq (sign (b ∷ s)) h) t [] (seq (sign s) h) rest) (sym e)
     (Leads-sign b s h rest)
 
-misses_word : (b : ℕ) (s text : List ℕ) → Lacks b text → Misses (sign (b ∷ s)) text
+misses_word : (b : ℕ) (s text : List ℕ) → BeginsOtherwise b text → Misses (sign (b ∷ s)) text
 misses_word b s [] l = refl
 misses_word b s (c ∷ r) l = ne_eqb c b l
 
@@ -171,7 +171,7 @@ Goes-comma r h =
     (Leads-same (seq A K) (seq (seq A (sign (41 ∷ []))) h) (44 ∷ r)
     (Same-sym (seq (seq A (sign (41 ∷ []))) h) (seq A K) (Same-assoc A (sign (41 ∷ [])) h)))))
 
-Goes-no_comma : (text : List ℕ) → Lacks 44 text → Goes closing text [] (sign (41 ∷ [])) text
+Goes-no_comma : (text : List ℕ) → BeginsOtherwise 44 text → Goes closing text [] (sign (41 ∷ [])) text
 unfolding Goes
 Goes-no_comma text l h =
     let A : Grammar = seq (sign (44 ∷ [])) space in
@@ -199,15 +199,15 @@ pub Takes-closing_comma : (text r m rest : List ℕ) → text ≡ 44 ∷ r → S
 Takes-closing_comma text r m rest e s f = Takes-behind closing (sign (41 ∷ [])) text m rest [] []
     (Goes-comma_spaces text r m e s) (subst (λ t. Takes (sign (41 ∷ [])) t [] rest) (sym f) (Takes-byte 41 rest))
 
-pub Stops-closing_comma : (text r m : List ℕ) → text ≡ 44 ∷ r → Spaced r m → Lacks 41 m → Stops closing text m
+pub Stops-closing_comma : (text r m : List ℕ) → text ≡ 44 ∷ r → Spaced r m → BeginsOtherwise 41 m → Stops closing text m
 Stops-closing_comma text r m e s l = Stops-behind closing (sign (41 ∷ [])) text m m []
     (Goes-comma_spaces text r m e s) (Stops-byte 41 m l)
 
-pub Takes-closing : (text rest : List ℕ) → Lacks 44 text → text ≡ 41 ∷ rest → Takes closing text [] rest
+pub Takes-closing : (text rest : List ℕ) → BeginsOtherwise 44 text → text ≡ 41 ∷ rest → Takes closing text [] rest
 Takes-closing text rest l e = Takes-behind closing (sign (41 ∷ [])) text text rest [] [] (Goes-no_comma text l)
     (subst (λ t. Takes (sign (41 ∷ [])) t [] rest) (sym e) (Takes-byte 41 rest))
 
-pub Stops-closing : (text : List ℕ) → Lacks 44 text → Lacks 41 text → Stops closing text text
+pub Stops-closing : (text : List ℕ) → BeginsOtherwise 44 text → BeginsOtherwise 41 text → Stops closing text text
 Stops-closing text l m = Stops-behind closing (sign (41 ∷ [])) text text text [] (Goes-no_comma text l)
     (Stops-byte 41 text m)
 
@@ -302,41 +302,41 @@ not_present = name (codes "NotPresent")
 abbrev empty : Grammar
 empty = name (codes "Empty")
 
-pub domain_host : (text : List ℕ) → Begins 72 text → Goes domain text [] host_only text
+pub domain_host : (text : List ℕ) → BeginsWith 72 text → Goes domain text [] host_only text
 domain_host text b = subst (λ t. Goes domain t [] host_only t) (sym b.1)
     (Goes-left host_only (either suffix (either not_present empty)) 72 b.0 refl refl)
 
-pub lacks_tag : (b : ℕ) (s : List ℕ) (text : List ℕ) → Lacks b text → Misses (tagged (b ∷ s)) text
+pub lacks_tag : (b : ℕ) (s : List ℕ) (text : List ℕ) → BeginsOtherwise b text → Misses (tagged (b ∷ s)) text
 lacks_tag b s [] l = refl
 lacks_tag b s (c ∷ r) l = none_or ((c == b) || false) false (none_or (c == b) false (ne_eqb c b l) refl) refl
 
-pub lacks_name : (b : ℕ) (s : List ℕ) (text : List ℕ) → Lacks b text → Misses (name (b ∷ s)) text
+pub lacks_name : (b : ℕ) (s : List ℕ) (text : List ℕ) → BeginsOtherwise b text → Misses (name (b ∷ s)) text
 lacks_name b s [] l = refl
 lacks_name b s (c ∷ r) l = none_or (c == b) false (ne_eqb c b l) refl
 
-domain_other : (text : List ℕ) → Lacks 72 text → Goes domain text [] (either suffix (either not_present empty)) text
+domain_other : (text : List ℕ) → BeginsOtherwise 72 text → Goes domain text [] (either suffix (either not_present empty)) text
 domain_other text l = Goes-else host_only (either suffix (either not_present empty)) text refl
     (lacks_tag 72 (codes "ostOnly") text l)
 
-pub domain_suffix : (text : List ℕ) → Lacks 72 text → Begins 83 text → Goes domain text [] suffix text
+pub domain_suffix : (text : List ℕ) → BeginsOtherwise 72 text → BeginsWith 83 text → Goes domain text [] suffix text
 domain_suffix text l b = Goes-trans domain (either suffix (either not_present empty)) suffix text text text [] []
     (domain_other text l)
     (subst (λ t. Goes (either suffix (either not_present empty)) t [] suffix t) (sym b.1)
     (Goes-left suffix (either not_present empty) 83 b.0 refl refl))
 
-domain_word : (text : List ℕ) → Lacks 72 text → Lacks 83 text → Goes domain text [] (either not_present empty) text
+domain_word : (text : List ℕ) → BeginsOtherwise 72 text → BeginsOtherwise 83 text → Goes domain text [] (either not_present empty) text
 domain_word text l m = Goes-trans domain (either suffix (either not_present empty)) (either not_present empty) text
     text text [] [] (domain_other text l)
     (Goes-else suffix (either not_present empty) text refl (lacks_tag 83 (codes "uffix") text m))
 
-pub domain_not_present : (text : List ℕ) → Lacks 72 text → Lacks 83 text → Begins 78 text
+pub domain_not_present : (text : List ℕ) → BeginsOtherwise 72 text → BeginsOtherwise 83 text → BeginsWith 78 text
     → Goes domain text [] not_present text
 domain_not_present text l m b = Goes-trans domain (either not_present empty) not_present text text text [] []
     (domain_word text l m)
     (subst (λ t. Goes (either not_present empty) t [] not_present t) (sym b.1)
     (Goes-left not_present empty 78 b.0 refl refl))
 
-pub domain_empty : (text : List ℕ) → Lacks 72 text → Lacks 83 text → Lacks 78 text → Goes domain text [] empty text
+pub domain_empty : (text : List ℕ) → BeginsOtherwise 72 text → BeginsOtherwise 83 text → BeginsOtherwise 78 text → Goes domain text [] empty text
 domain_empty text l m n = Goes-trans domain (either not_present empty) empty text text text [] []
     (domain_word text l m) (Goes-else not_present empty text refl (lacks_name 78 (codes "otPresent") text n))
 

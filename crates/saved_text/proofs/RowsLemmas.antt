@@ -27,7 +27,7 @@ use Rattle.std.specs.Option.{MatchOption}
 use Rattle.saved_text.specs.Grammar.{Grammar, Word}
 use Rattle.saved_text.specs.Grammar.Grammar.{nothing, space, sign, seq, either, many}
 use Rattle.saved_text.specs.Reads.{Takes}
-use Rattle.saved_text.specs.Faults.{StopsAs, Lacks, Spaced}
+use Rattle.saved_text.specs.Faults.{StopsAs, BeginsOtherwise, Spaced}
 use Rattle.saved_text.specs.Ron.{comma, optional, row, list, ◌▹◌, ◌·◌}
 use Rattle.saved_text.specs.Row.{Shown}
 use Rattle.saved_text.specs.RowWords.{SaysRow, SaysRows}
@@ -87,11 +87,11 @@ Goes-alike : (g k : Grammar) (text : List ℕ) → Same g k → Goes g text [] k
 Goes-alike g k text e = Goes-same g k text (λ h. seq_left g k h e)
 
 -- the bracket isn't next
-misses_end : (text : List ℕ) → Lacks 93 text → Misses end text
+misses_end : (text : List ℕ) → BeginsOtherwise 93 text → Misses end text
 misses_end [] l = refl
 misses_end (c ∷ r) l = ne_eqb c 93 l
 
-misses_bare_end : (text : List ℕ) → Lacks 93 text → Misses (seq nothing end) text
+misses_bare_end : (text : List ℕ) → BeginsOtherwise 93 text → Misses (seq nothing end) text
 misses_bare_end [] l = refl
 misses_bare_end (c ∷ r) l = ne_eqb c 93 l
 
@@ -131,7 +131,7 @@ opened_end b c e = subst (λ t. Goes opened t [] end t) (sym e)
     (Goes-inside (either some_rows nothing) nothing end (93 ∷ c) (93 ∷ c) []
     (Goes-else some_rows nothing (93 ∷ c) refl refl)) (Goes-nothing end (93 ∷ c)))
 
-opened_row : (b : List ℕ) → Lacks 93 b → Goes opened b [] (seq item others) b
+opened_row : (b : List ℕ) → BeginsOtherwise 93 b → Goes opened b [] (seq item others) b
 opened_row b l =
     Goes-trans opened (either (seq some_rows end) (seq nothing end)) (seq item others) b b b [] []
     (Goes-alike opened (either (seq some_rows end) (seq nothing end)) b (Same-either some_rows nothing end))
@@ -151,13 +151,13 @@ others_end next c e = subst (λ t. Goes others t [] end t) (sym e)
     (Goes-trans (either comma_on (seq nothing end)) (seq nothing end) end (93 ∷ c) (93 ∷ c) (93 ∷ c) [] []
     (Goes-else comma_on (seq nothing end) (93 ∷ c) refl refl) (Goes-nothing end (93 ∷ c))))
 
-others_comma : (next : List ℕ) → Lacks 93 next → Goes others next [] comma_on next
+others_comma : (next : List ℕ) → BeginsOtherwise 93 next → Goes others next [] comma_on next
 others_comma next l =
     Goes-trans others (either comma_on (seq nothing end)) comma_on next next next [] []
     (Goes-alike others (either comma_on (seq nothing end)) next others_is)
     (Goes-only comma_on (seq nothing end) next refl (misses_bare_end next l))
 
-comma_item : (next c m : List ℕ) → Lacks 93 next → Takes (sign (44 ∷ [])) next [] c → Spaced c m
+comma_item : (next c m : List ℕ) → BeginsOtherwise 93 next → Takes (sign (44 ∷ [])) next [] c → Spaced c m
     → Goes others next [] next_or_end m
 comma_item next c m l t s = Goes-trans others comma_on next_or_end next next m [] [] (others_comma next l)
     (Goes-part comma next_or_end next c m [] refl refl t s)
@@ -165,7 +165,7 @@ comma_item next c m l t s = Goes-trans others comma_on next_or_end next next m [
 choice_end : (m c : List ℕ) → m ≡ 93 ∷ c → Goes next_or_end m [] end m
 choice_end m c e = subst (λ t. Goes next_or_end t [] end t) (sym e) (Goes-else (seq item others) end (93 ∷ c) refl refl)
 
-choice_item : (m : List ℕ) → Lacks 93 m → Goes next_or_end m [] (seq item others) m
+choice_item : (m : List ℕ) → BeginsOtherwise 93 m → Goes next_or_end m [] (seq item others) m
 choice_item m l = Goes-only (seq item others) end m refl (misses_end m l)
 
 -- ---- what the rows say
@@ -256,7 +256,7 @@ list_empty text a b c rows n l s e = closed text b c rows None
     (opened_end b c e))) e
 
 pub list_begins : (text a b : List ℕ) (rows : List SavedRow) → rows ≡ [] → Takes (sign (91 ∷ [])) text [] a
-    → Spaced a b → Lacks 93 b → IsListed text rows None (seq item others) b
+    → Spaced a b → BeginsOtherwise 93 b → IsListed text rows None (seq item others) b
 list_begins text a b rows n l s e = listed_none text b (seq item others) rows n
     (Goes-trans list opened (seq item others) text b b [] [] (list_opens text a b l s) (opened_row b e))
 
@@ -266,14 +266,14 @@ list_ends text next c rows u i e = closed text next c rows u
     (listed_on text next next rows u others end i (others_end next c e)) e
 
 pub list_ends_behind_comma : (text next c m d : List ℕ) (rows : List SavedRow) (u : Option (Bor (List ℕ)))
-    → IsListed text rows u others next → Lacks 93 next → Takes (sign (44 ∷ [])) next [] c → Spaced c m → m ≡ 93 ∷ d
+    → IsListed text rows u others next → BeginsOtherwise 93 next → Takes (sign (44 ∷ [])) next [] c → Spaced c m → m ≡ 93 ∷ d
     → IsListRead list text rows u d
 list_ends_behind_comma text next c m d rows u i l t s e =
     closed text m d rows u (listed_on text m m rows u next_or_end end
     (listed_on text next m rows u others next_or_end i (comma_item next c m l t s)) (choice_end m d e)) e
 
 pub list_goes_on : (text next c m : List ℕ) (rows : List SavedRow) (u : Option (Bor (List ℕ)))
-    → IsListed text rows u others next → Lacks 93 next → Takes (sign (44 ∷ [])) next [] c → Spaced c m → Lacks 93 m
+    → IsListed text rows u others next → BeginsOtherwise 93 next → Takes (sign (44 ∷ [])) next [] c → Spaced c m → BeginsOtherwise 93 m
     → IsListed text rows u (seq item others) m
 list_goes_on text next c m rows u i l t s e =
     listed_on text m m rows u next_or_end (seq item others)
@@ -286,7 +286,7 @@ row_stops text rest rows u e i l =
     (StopsAs-first item others rest e (StopsAs-first row space rest e l))
 
 pub comma_stops : (text next : List ℕ) (rows : List SavedRow) (u : Option (Bor (List ℕ))) (e : Stop)
-    → IsListed text rows u others next → Lacks 93 next → StopsAs (sign (44 ∷ [])) next e → StopsAs list text e
+    → IsListed text rows u others next → BeginsOtherwise 93 next → StopsAs (sign (44 ∷ [])) next e → StopsAs list text e
 comma_stops text next rows u e i l s =
     StopsAs-behind list others text next i.said e (listed_goes text next rows u others i)
     (StopsAs-within others comma (seq space next_or_end) next next [] e (others_comma next l) s)

@@ -32,9 +32,9 @@ abbrev pub Number : ℕ → ℕ → Grammar
 Number left v = seq (number 0 left v) (sign (125 ∷ []))
 
 -- the text doesn't begin with that byte
-abbrev pub Lacks : ℕ → List ℕ → Type 0
-Lacks b [] = Unit {0}
-Lacks b (c ∷ r) = c ≢ b
+abbrev pub BeginsOtherwise : ℕ → List ℕ → Type 0
+BeginsOtherwise b [] = Unit {0}
+BeginsOtherwise b (c ∷ r) = c ≢ b
 
 -- where a string's quote or backslash stands, or nothing
 abbrev pub Unplain : List ℕ → Type 0
@@ -56,8 +56,8 @@ abbrev pub Spaced : List ℕ → List ℕ → Type 0
 Spaced text rest = (p : List ℕ) × AreSpaces p × (text ≡ p ++ rest) × Unspaced rest
 
 -- the byte stands first
-abbrev pub Begins : ℕ → List ℕ → Type 0
-Begins b text = (r : List ℕ) × (text ≡ b ∷ r)
+abbrev pub BeginsWith : ℕ → List ℕ → Type 0
+BeginsWith b text = (r : List ℕ) × (text ≡ b ∷ r)
 
 abbrev pub AreAscii : List ℕ → Type 0
 AreAscii bytes = AllByRecursion (λ b. b < 128) bytes

@@ -48,8 +48,8 @@ pub data Grammar : Type 0 where
   many : Grammar → Grammar
 
 -- x begins text
-abbrev pub Begins : List ℕ → List ℕ → Type 0
-Begins x text = (rest : List ℕ) × (text ≡ x ++ rest)
+abbrev pub IsFrontOf : List ℕ → List ℕ → Type 0
+IsFrontOf x text = (rest : List ℕ) × (text ≡ x ++ rest)
 
 -- The text is of the grammar, and says these words.
 abbrev pub IsOf : Grammar → List ℕ → List Word → Type 0
@@ -71,7 +71,7 @@ abbrev pub IsFront : Grammar → List ℕ → Type 0
 IsFront nothing text = text ≡ []
 IsFront (say w) text = text ≡ []
 IsFront space text = AreSpaces text
-IsFront (sign s) text = Begins text s
+IsFront (sign s) text = IsFrontOf text s
 IsFront (one p f) text = (text ≡ []) ⊎ ((b : ℕ) × IsTrue (p b) × (text ≡ b ∷ []))
 IsFront (number low high v) text = (text ≡ []) ⊎
     (AreDigits text × ((length text < high) ⊎ ((length text ≡ high) × IsScalar (number_after v text))))

@@ -51,11 +51,11 @@ abbrev pub bool_text : Bool → List ℕ
 bool_text true = codes "true"
 bool_text false = codes "false"
 
-abbrev pub domain_text : Domain → List ℕ
-domain_text (host_only t) = codes "{\"HostOnly\":" ++ (quoted t ++ (codes "}"))
-domain_text (suffix t) = codes "{\"Suffix\":" ++ (quoted t ++ (codes "}"))
-domain_text not_present = codes "\"NotPresent\""
-domain_text empty = codes "\"Empty\""
+abbrev pub domain_json : Domain → List ℕ
+domain_json (host_only t) = codes "{\"HostOnly\":" ++ (quoted t ++ (codes "}"))
+domain_json (suffix t) = codes "{\"Suffix\":" ++ (quoted t ++ (codes "}"))
+domain_json not_present = codes "\"NotPresent\""
+domain_json empty = codes "\"Empty\""
 
 abbrev pub expires_text : Option (List ℕ) → List ℕ
 expires_text (Some date) = codes "{\"AtUtc\":" ++ (quoted date ++ (codes "}"))
@@ -71,7 +71,7 @@ row_text r = codes "{\"raw_cookie\":" ++
     (quoted r.raw ++ (codes ",\"path\":[" ++
     (quoted r.path ++ (codes "," ++
     (bool_text r.from_attribute ++ (codes "],\"domain\":" ++
-    (domain_text r.domain ++ (codes ",\"expires\":" ++ (expires_text r.expires ++ (codes "}"))))))))))
+    (domain_json r.domain ++ (codes ",\"expires\":" ++ (expires_text r.expires ++ (codes "}"))))))))))
 
 -- What is written of a row is read as that row.
 abbrev pub ReadsBack : Type 0

@@ -1,6 +1,6 @@
 //! Rows in JSON, as they are written.
 ghost use Rattle.std.specs.Prelude.{◌≡◌, ◌++◌, map, IfOk, OnOk, string_bytes};
-ghost use Rattle.saved_text.specs.Json.{row_text, domain_text, expires_text, tagged_text, list_text, row_lines};
+ghost use Rattle.saved_text.specs.Json.{row_text, domain_json, expires_text, tagged_text, list_text, row_lines};
 ghost use Rattle.saved_text.specs.Json.{more_lines, path_lines, domain_lines, expires_lines};
 ghost use Rattle.saved_text.specs.Saved.{shown, domain_shown, expires_shown};
 
@@ -42,7 +42,7 @@ fn push_row(alloc: Global, out: &mut String, row: &SavedRow) -> Result<(), Alloc
 
 fn push_domain(out: &mut String, domain: &SavedDomain) -> Result<(), AllocError>
     ensures { OnOk result (string_bytes out.new
-        ≡ string_bytes out.old ++ domain_text (domain_shown domain.now)) }
+        ≡ string_bytes out.old ++ domain_json (domain_shown domain.now)) }
 {
     match domain {
         SavedDomain::HostOnly(text) => push_tagged(out, "{\"HostOnly\":", text.as_str(), "}")?,

@@ -1,7 +1,7 @@
 //! A row of RON, field by field.
 ghost use Rattle.std.specs.Prelude.{◌≡◌, ◌<◌, true, MatchResult, MatchOption, MatchBool, Some};
 ghost use Rattle.saved_text.specs.Drafts.{Adds, IsLacking, IsRowRead, is_lacking, left};
-ghost use Rattle.saved_text.specs.Faults.{StopsAs, Begins, Lacks};
+ghost use Rattle.saved_text.specs.Faults.{StopsAs, BeginsWith, BeginsOtherwise};
 ghost use Rattle.saved_text.specs.Ron.{fields, row};
 
 use crate::ron_fields::{domain_field, expires_field, path_field, raw_field};
@@ -36,7 +36,7 @@ pub struct Draft {
 // Whether a field that is missing begins with the byte, and stands first.
 fn is_next(is_missing: bool, text: &str, byte: u8) -> bool
     requires { byte < 128 }
-    ensures { MatchBool result ((is_missing ≡ true) × Begins byte text.now) (is_missing ≡ true → Lacks byte text.now) }
+    ensures { MatchBool result ((is_missing ≡ true) × BeginsWith byte text.now) (is_missing ≡ true → BeginsOtherwise byte text.now) }
 {
     is_missing && begins(text, byte)
 }

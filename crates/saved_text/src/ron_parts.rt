@@ -5,7 +5,7 @@ ghost use Rattle.saved_text.specs.Ron.{string, bracketed, name, domain};
 ghost use Rattle.saved_text.specs.Grammar.Word.{the_name};
 ghost use Rattle.saved_text.specs.Grammar.Grammar.{sign};
 ghost use Rattle.saved_text.specs.Reads.{Takes, Stops};
-ghost use Rattle.saved_text.specs.Faults.{StopsAs, Lacks, Begins, Spaced, Unspaced, AreAscii, closing};
+ghost use Rattle.saved_text.specs.Faults.{StopsAs, BeginsOtherwise, BeginsWith, Spaced, Unspaced, AreAscii, closing};
 ghost use Rattle.saved_text.specs.Letters.{is_space};
 ghost use Rattle.saved_text.specs.Saved.{domain_shown};
 ghost use Rattle.saved_text.specs.Words.{string_words, domain_words, tagged};
@@ -39,7 +39,7 @@ fn cut_space(text: &str) -> Option<&str>
 // Whether the byte stands first.
 pub(crate) fn begins(text: &str, byte: u8) -> bool
     requires { byte < 128 }
-    ensures { MatchBool result (Begins byte text.now) (Lacks byte text.now) }
+    ensures { MatchBool result (BeginsWith byte text.now) (BeginsOtherwise byte text.now) }
 {
     cut(text, byte).is_some()
 }

@@ -10,7 +10,7 @@ ghost use Rattle.saved_text.specs.Grammar.{letters};
 ghost use Rattle.saved_text.specs.Grammar.Word.{the_end};
 ghost use Rattle.saved_text.specs.Grammar.Grammar.{sign, number, seq};
 ghost use Rattle.saved_text.specs.Reads.{Takes, Stops};
-ghost use Rattle.saved_text.specs.Faults.{StopsAs, Undigited, Unplain, Unlettered, BeginsAscii, Lacks, IsEnd, Number};
+ghost use Rattle.saved_text.specs.Faults.{StopsAs, Undigited, Unplain, Unlettered, BeginsAscii, BeginsOtherwise, IsEnd, Number};
 
 use std::alloc::{AllocError, AllocFailed, Global};
 
@@ -54,7 +54,7 @@ pub(crate) fn tail(text: &str) -> &str
 // What is behind the byte, where it stands first.
 pub(crate) fn cut(text: &str, byte: u8) -> Option<&str>
     requires { byte < 128 }
-    ensures none { IfNone result (Lacks byte text.now) }
+    ensures none { IfNone result (BeginsOtherwise byte text.now) }
     ensures some { IfSome result (λ r. text.now ≡ byte ∷ r.now) }
 {
     match text.as_bytes() {

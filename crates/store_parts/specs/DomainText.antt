@@ -34,6 +34,6 @@ attribute_domain None = Some not_present
 attribute_domain (Some text) = option_map suffix_or_empty (idna_form text)
 
 -- the answer is the domain, or `Idna` where there is none; want of memory aside
-abbrev pub Reads : Option Domain → Result CookieDomain Error → Type 0
-Reads domain answer =
+abbrev pub ReadsDomain : Option Domain → Result CookieDomain Error → Type 0
+ReadsDomain domain answer =
     MatchResult answer (λ d. domain ≡ Some (domain_of d)) (IsIdnaRefusal domain)

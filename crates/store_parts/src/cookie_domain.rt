@@ -131,7 +131,7 @@ impl CookieDomain {
     ///
     /// `Idna` where the text has no IDNA form, else only `OutOfMemory`.
     pub fn from_text(alloc: Global, text: &str) -> Result<CookieDomain, Error>
-        ensures { text_spec.Reads (text_spec.read_domain text.now) result }
+        ensures { text_spec.ReadsDomain (text_spec.read_domain text.now) result }
     {
         let form = idna_form(alloc, text)?;
         Ok(suffix_or_empty(alloc, without_leading_dot(form.as_str()))?)
@@ -146,7 +146,7 @@ impl CookieDomain {
     /// `Idna` where the attribute has no IDNA form, else only `OutOfMemory`, which is never answered
     /// where there is no attribute.
     pub fn from_raw(alloc: Global, raw_cookie: &RawCookie<'_>) -> Result<CookieDomain, Error>
-        ensures domain { text_spec.Reads
+        ensures domain { text_spec.ReadsDomain
             (text_spec.attribute_domain (domain_attribute raw_cookie.now.cookie)) result }
         ensures takes_none { domain_attribute raw_cookie.now.cookie ≡ None → IsOk result }
     {

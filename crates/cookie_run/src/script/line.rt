@@ -5,7 +5,7 @@ ghost use Rattle.cookie_text.specs.Record.{unsliced};
 ghost use Rattle.cookie_run.specs.ScriptLine as spec;
 ghost use Rattle.cookie_run.specs.ScriptMoment as dates;
 ghost use Rattle.cookie_run.specs.ScriptText as text_spec;
-ghost use Rattle.cookie_run.specs.ScriptRead.{Reads, line_of};
+ghost use Rattle.cookie_run.specs.ScriptRead.{ReadsLine, line_of};
 
 use crate::script::cause::Cause;
 use crate::script::field::{fields_of, text_of, texts_of};
@@ -77,7 +77,7 @@ impl Line {
 /// What a line asks for, or the first fault of its text in the order of [`Cause`].
 #[tactic(auto, unfolding(crate::specs::ScriptLine::read_line))]
 pub fn read_line(alloc: Global, line: &[u8]) -> Result<Line, Cause>
-    ensures { Reads result (spec.read_line line.now) }
+    ensures { ReadsLine result (spec.read_line line.now) }
 {
     let fields = fields_of(alloc, line)?;
     let Some((word, fields)) = fields.split_first() else {
@@ -87,7 +87,7 @@ pub fn read_line(alloc: Global, line: &[u8]) -> Result<Line, Cause>
 }
 
 fn read_word(alloc: Global, word: &[u8], fields: &[Vec<u8>]) -> Result<Line, Cause>
-    ensures { Reads result (spec.read_word word.now (map (λ field. field.items) fields.now)) }
+    ensures { ReadsLine result (spec.read_word word.now (map (λ field. field.items) fields.now)) }
 {
     if word == b"open".as_slice() {
         read_open(alloc, &texts_of(alloc, fields)?)
@@ -113,7 +113,7 @@ fn read_word(alloc: Global, word: &[u8], fields: &[Vec<u8>]) -> Result<Line, Cau
 }
 
 fn read_open(alloc: Global, fields: &[&str]) -> Result<Line, Cause>
-    ensures { Reads result (spec.read_open (map (λ field. field.now) fields.now)) }
+    ensures { ReadsLine result (spec.read_open (map (λ field. field.now) fields.now)) }
 {
     let [url, at] = fields else {
         return Err(Cause::Fields);
@@ -124,7 +124,7 @@ fn read_open(alloc: Global, fields: &[&str]) -> Result<Line, Cause>
 }
 
 fn read_header(alloc: Global, fields: &[&str]) -> Result<Line, Cause>
-    ensures { Reads result (spec.read_header (map (λ field. field.now) fields.now)) }
+    ensures { ReadsLine result (spec.read_header (map (λ field. field.now) fields.now)) }
 {
     let [url, at] = fields else {
         return Err(Cause::Fields);
@@ -135,7 +135,7 @@ fn read_header(alloc: Global, fields: &[&str]) -> Result<Line, Cause>
 }
 
 fn read_set(alloc: Global, fields: &[&str]) -> Result<Line, Cause>
-    ensures { Reads result (spec.read_set (map (λ field. field.now) fields.now)) }
+    ensures { ReadsLine result (spec.read_set (map (λ field. field.now) fields.now)) }
 {
     let [way, name, value, max_age, expires] = fields else {
         return Err(Cause::Fields);
@@ -212,7 +212,7 @@ fn dated(
 }
 
 fn read_remove(alloc: Global, fields: &[&str]) -> Result<Line, Cause>
-    ensures { Reads result (spec.read_remove (map (λ field. field.now) fields.now)) }
+    ensures { ReadsLine result (spec.read_remove (map (λ field. field.now) fields.now)) }
 {
     let [way, name] = fields else {
         return Err(Cause::Fields);
@@ -227,7 +227,7 @@ fn read_remove(alloc: Global, fields: &[&str]) -> Result<Line, Cause>
 }
 
 fn read_get(alloc: Global, fields: &[&str]) -> Result<Line, Cause>
-    ensures { Reads result (spec.read_get (map (λ field. field.now) fields.now)) }
+    ensures { ReadsLine result (spec.read_get (map (λ field. field.now) fields.now)) }
 {
     let [way, name] = fields else {
         return Err(Cause::Fields);
@@ -256,7 +256,7 @@ fn way_of(word: &str) -> Option<Way>
 }
 
 fn read_deliver(fields: &[&str]) -> Result<Line, Cause>
-    ensures { Reads result (spec.read_deliver (map (λ field. field.now) fields.now)) }
+    ensures { ReadsLine result (spec.read_deliver (map (λ field. field.now) fields.now)) }
 {
     let [at] = fields else {
         return Err(Cause::Fields);
@@ -265,7 +265,7 @@ fn read_deliver(fields: &[&str]) -> Result<Line, Cause>
 }
 
 fn read_restart(fields: &[&str]) -> Result<Line, Cause>
-    ensures { Reads result (spec.read_restart (map (λ field. field.now) fields.now)) }
+    ensures { ReadsLine result (spec.read_restart (map (λ field. field.now) fields.now)) }
 {
     let [at] = fields else {
         return Err(Cause::Fields);
@@ -274,7 +274,7 @@ fn read_restart(fields: &[&str]) -> Result<Line, Cause>
 }
 
 fn read_lose(fields: &[&str]) -> Result<Line, Cause>
-    ensures { Reads result (spec.read_lose (map (λ field. field.now) fields.now)) }
+    ensures { ReadsLine result (spec.read_lose (map (λ field. field.now) fields.now)) }
 {
     if fields.is_empty() {
         Ok(Line::Lose)
@@ -284,7 +284,7 @@ fn read_lose(fields: &[&str]) -> Result<Line, Cause>
 }
 
 fn read_receive(alloc: Global, fields: &[Vec<u8>]) -> Result<Line, Cause>
-    ensures { Reads result (spec.read_receive (map (λ field. field.items) fields.now)) }
+    ensures { ReadsLine result (spec.read_receive (map (λ field. field.items) fields.now)) }
 {
     match fields {
         [] => Err(Cause::Fields),

@@ -1,7 +1,7 @@
 //! What a script's run prints.
 ghost use Rattle.std.specs.Prelude.{◌≡◌, ◌++◌, IfOk, OnOk, string_bytes, option_map};
 ghost use Rattle.cookie_run.specs.declared.step.Reading.TheVariants.{Value, Header};
-ghost use Rattle.cookie_run.specs.ScriptText.{shown, shown_value, reading_text, way_text};
+ghost use Rattle.cookie_run.specs.ScriptText.{shown_escaped, shown_value, reading_text, way_text};
 
 use crate::step::Way;
 use percent_encoding::{AsciiSet, CONTROLS, ascii_set, percent_encode};
@@ -67,7 +67,7 @@ fn push_value(line: &mut String, value: &Option<String>) -> Result<(), AllocErro
 }
 
 fn push_shown(line: &mut String, text: &str) -> Result<(), AllocError>
-    ensures { OnOk result (string_bytes line.new ≡ string_bytes line.old ++ shown text.now) }
+    ensures { OnOk result (string_bytes line.new ≡ string_bytes line.old ++ shown_escaped text.now) }
 {
     percent_encode(text.as_bytes(), SHOWN).append_to(line)
 }

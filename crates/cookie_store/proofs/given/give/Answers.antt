@@ -1,7 +1,7 @@
 use Rattle.std.proofs.Common.{map, ◌≡◌, ◌∙◌, [], ◌∷◌, ◌++◌, ap, sym, subst, refl, append_assoc, append-nil, true≢false}
 use Rattle.std.proofs.lemmas.List.{at_drop_all, map-append}
 use Rattle.jiff.specs.Words.{civil_nanos}
-use Rattle.cookie_store.specs.Given.{AreGiven, IsGiven, shown}
+use Rattle.cookie_store.specs.Given.{AreGiven, IsGiven, lent_row}
 use Rattle.cookie_store.specs.Steps.{GivesMore}
 use Rattle.cookie_store.specs.StoredCookie.{stored_in, stored_of}
 use Rattle.cookie_store.proofs.GivenLemmas.{first_given, first_passed}
@@ -15,15 +15,15 @@ loop-cookie-preserved c =
     let now = civil_nanos c.args.now in
     let i = c.loop-cookie.cookie-index in
     let cookie = c.cookie-item.result in
-    let old = map shown c.loop-cookie.given.items in
+    let old = map lent_row c.loop-cookie.given.items in
     let same : stored_in cookie ≡ stored_of c.deref-cookie.result.now = ap stored_of (sym c.deref-cookie.ensures) in
-    let whole = GivesMore (map stored_in cookies) url now (map shown c.args.given.now.items) in
+    let whole = GivesMore (map stored_in cookies) url now (map lent_row c.args.given.now.items) in
     elim c.if-branch.branch [
       | then-branch+in_ok-push w ↦ λ rest picks.
-          let more : map shown c.if-branch.given.items ≡ old ++ (stored_in cookie ∷ []) =
-          ap (λ given. map shown given.items) w.given-is
-          ∙ ap (map shown) w.in_ok-push.ensures.items
-          ∙ map-append shown c.loop-cookie.given.items _
+          let more : map lent_row c.if-branch.given.items ≡ old ++ (stored_in cookie ∷ []) =
+          ap (λ given. map lent_row given.items) w.given-is
+          ∙ ap (map lent_row) w.in_ok-push.ensures.items
+          ∙ map-append lent_row c.loop-cookie.given.items _
           ∙ ap (λ row. old ++ row ∷ []) (sym same) in
           subst whole
           (sym (append_assoc old (stored_in cookie ∷ []) rest) ∙ ap (λ l. l ++ rest) (sym more))
@@ -31,7 +31,7 @@ loop-cookie-preserved c =
           (first_given url now cookies i cookie rest c.loop-cookie-test.true c.cookie-item.is
           (subst (λ row. IsGiven row url now) (sym same) (c.in_ok-is_given.ensures.0 w.if-branch.true)) picks))
       | else-branch w ↦ λ rest picks.
-          subst whole (ap (λ given. map shown given.items ++ rest) (sym w.given-is))
+          subst whole (ap (λ given. map lent_row given.items ++ rest) (sym w.given-is))
           (c.loop-cookie.invariant rest
           (first_passed url now cookies i cookie rest c.loop-cookie-test.true c.cookie-item.is
           (λ is. true≢false (sym (c.in_ok-is_given.ensures.1 (subst (λ row. IsGiven row url now) same is))
@@ -43,8 +43,8 @@ returns c =
     let cookies = c.args.cookies.now in
     let url = c.args.request_url.now in
     let now = civil_nanos c.args.now in
-    subst (GivesMore (map stored_in cookies) url now (map shown c.args.given.now.items))
-    (append-nil (map shown c.loop-cookie.given.items))
+    subst (GivesMore (map stored_in cookies) url now (map lent_row c.args.given.now.items))
+    (append-nil (map lent_row c.loop-cookie.given.items))
     (c.loop-cookie.invariant []
     (subst (λ rows. AreGiven rows url now [])
     (sym (at_drop_all (map stored_in) cookies c.loop-cookie.cookie-index c.loop-cookie-test.false)) refl))

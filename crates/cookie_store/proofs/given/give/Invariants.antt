@@ -1,6 +1,6 @@
 use Rattle.std.proofs.Common.{List, ◌++◌, map, drop}
 use Rattle.jiff.specs.Words.{civil_nanos}
-use Rattle.cookie_store.specs.Given.{AreGiven, shown}
+use Rattle.cookie_store.specs.Given.{AreGiven, lent_row}
 use Rattle.cookie_store.specs.Rows.{Row}
 use Rattle.cookie_store.specs.Steps.{GivesMore}
 use Rattle.cookie_store.specs.StoredCookie.{stored_in}
@@ -11,5 +11,5 @@ abbrev pub invariant-loop-cookie : goal.invariant-loop-cookie
 invariant-loop-cookie l =
     (rest : List Row)
     → AreGiven (map stored_in (drop l.cookie-index l.cookies)) l.request_url (civil_nanos l.now) rest
-    → GivesMore (map stored_in l.cookies) l.request_url (civil_nanos l.now) (map shown l.fn.given.items)
-    (map shown l.given.items ++ rest)
+    → GivesMore (map stored_in l.cookies) l.request_url (civil_nanos l.now) (map lent_row l.fn.given.items)
+    (map lent_row l.given.items ++ rest)

@@ -2,7 +2,7 @@ use Rattle.std.proofs.Common.{map, ◌∙◌, get_or, [], ◌++◌, ap, sym, sub
 use Rattle.std.specs.Prelude.{slice_range}
 use Rattle.std.proofs.lemmas.List.{at_drop_all}
 use Rattle.jiff.specs.Words.{civil_nanos}
-use Rattle.cookie_store.specs.Given.{AreGiven, shown}
+use Rattle.cookie_store.specs.Given.{AreGiven, lent_row}
 use Rattle.cookie_store.specs.Steps.{GivesMore, rows_in}
 use Rattle.cookie_store.specs.StoredCookie.{stored_in}
 use Rattle.cookie_store.proofs.GivenLemmas.{part_given, rows_of_part}
@@ -16,9 +16,9 @@ loop-part-preserved c = λ rest picks.
     let now = civil_nanos c.args.now in
     let i = c.loop-part.part-index in
     let part = get_or parts i (0, 0) in
-    let old = map shown c.loop-part.given.items in
+    let old = map lent_row c.loop-part.given.items in
     let gives : GivesMore (map stored_in (slice_range c.args.cookies.now part.0 part.1)) url now old
-    (map shown c.give.new.given.items) =
+    (map lent_row c.give.new.given.items) =
     c.in_ok-give.ensures in
     let own = gives.0 in
     subst (AreGiven (rows_in parts rows) url now)
@@ -32,7 +32,7 @@ returns c =
     let rows = map stored_in c.args.cookies.now in
     let url = c.args.request_url.now in
     let now = civil_nanos c.args.now in
-    subst (AreGiven (rows_in c.args.parts.now rows) url now) (append-nil (map shown c.loop-part.given.items))
+    subst (AreGiven (rows_in c.args.parts.now rows) url now) (append-nil (map lent_row c.loop-part.given.items))
     (c.loop-part.invariant []
     (subst (λ those. AreGiven those url now [])
     (sym (at_drop_all (λ parts. rows_in parts rows) c.args.parts.now c.loop-part.part-index c.loop-part-test.false))

@@ -1,6 +1,6 @@
 use Rattle.std.proofs.Common.{List, ◌++◌, map, drop}
 use Rattle.jiff.specs.Words.{civil_nanos}
-use Rattle.cookie_store.specs.Given.{AreGiven, shown}
+use Rattle.cookie_store.specs.Given.{AreGiven, lent_row}
 use Rattle.cookie_store.specs.Rows.{Row}
 use Rattle.cookie_store.specs.Steps.{rows_in}
 use Rattle.cookie_store.specs.StoredCookie.{stored_in}
@@ -12,4 +12,4 @@ invariant-loop-part l =
     (rest : List Row)
     → AreGiven (rows_in (drop l.part-index l.parts) (map stored_in l.cookies)) l.request_url (civil_nanos l.now) rest
     → AreGiven (rows_in l.parts (map stored_in l.cookies)) l.request_url (civil_nanos l.now)
-    (map shown l.given.items ++ rest)
+    (map lent_row l.given.items ++ rest)

@@ -15,7 +15,7 @@ returns-in_err-saved_of-clause-err c =
     let at = option_map civil_nanos c.args.now in
     let all = wanted at c.args.cookies in
     let done = map shown c.loop-cookie.rows.items in
-    let row = given.shown c.in-Some.cookie in
+    let row = given.lent_row c.in-Some.cookie in
     let rest = c.next.new.self in
     let far : SavesSoFar all done (row ∷ wanted at rest) =
     subst (SavesSoFar all done) (ap (wanted at) c.in-Some.ensures.steps
@@ -27,7 +27,7 @@ loop-cookie-preserved-in_ok-push c =
     let at = option_map civil_nanos c.args.now in
     let all = wanted at c.args.cookies in
     let done = map shown c.loop-cookie.rows.items in
-    let row = given.shown c.in-Some.cookie in
+    let row = given.lent_row c.in-Some.cookie in
     let rest = c.next.new.self in
     let far : SavesSoFar all done (row ∷ wanted at rest) =
     subst (SavesSoFar all done) (ap (wanted at) c.in-Some.ensures.steps

@@ -1,7 +1,7 @@
 use Rattle.std.proofs.Common.{◌++◌, ◌∷◌, [], ap, ◌∙◌, string_bytes}
 use Rattle.std.specs.Prelude.{codes}
 use Rattle.json.specs.Print.{quoted}
-use Rattle.saved_text.specs.Json.{bool_text, domain_text, expires_text}
+use Rattle.saved_text.specs.Json.{bool_text, domain_json, expires_text}
 use Rattle.saved_text.specs.Saved.{domain_shown, expires_shown}
 use Rattle.saved_text.proofs.PieceLemmas.{steps, bool_same}
 use Rattle.saved_text.proofs.json_rows.push_row.Goals as goal
@@ -11,7 +11,7 @@ returns c =
     let r = c.args.row.now in
     steps (string_bytes c.args.out.now) (codes "{\"raw_cookie\":")
     ((quoted (string_bytes r.raw_cookie)) ∷ (codes ",\"path\":[") ∷ (quoted (string_bytes r.path)) ∷ (codes
-    ",") ∷ (bool_text r.is_from_path_attr) ∷ (codes "],\"domain\":") ∷ (domain_text
+    ",") ∷ (bool_text r.is_from_path_attr) ∷ (codes "],\"domain\":") ∷ (domain_json
     (domain_shown r.domain)) ∷ (codes ",\"expires\":") ∷ (expires_text (expires_shown r.expires)) ∷ (codes
     "}") ∷ []) (string_bytes c.push_str-6.new.self) (
       string_bytes c.push_str.new.self,

@@ -1,7 +1,7 @@
 use Rattle.std.proofs.Common.{◌∙◌, map, ap}
-use Rattle.cookie_store.specs.Given.{pair_of, shown}
+use Rattle.cookie_store.specs.Given.{pair_of, lent_row}
 use Rattle.cookie_store.proofs.StoreLemmas.{shown_all}
 use Rattle.cookie_store.proofs.requests.RequestValues.new.Goals as goal
 
 pub returns : goal.returns
-returns c = ap (map (λ d. pair_of (shown d))) c.into_iter.ensures.rest ∙ shown_all pair_of c.args.cookies.items
+returns c = ap (map (λ d. pair_of (lent_row d))) c.into_iter.ensures.rest ∙ shown_all pair_of c.args.cookies.items

@@ -1,5 +1,5 @@
 use Rattle.std.proofs.Common.{◌≡◌, ◌∙◌, ◌++◌, ◌∷◌, [], ap, sym, subst, append_assoc, append-nil}
-use Rattle.cookie_store.specs.Given.{shown}
+use Rattle.cookie_store.specs.Given.{lent_row}
 use Rattle.cookie_store.specs.Grouped.{AreGrouped}
 use Rattle.cookie_store.specs.Rows.{put}
 use Rattle.cookie_store.proofs.GroupedLemmas.{put_last}
@@ -14,7 +14,7 @@ loop-cookie-init c =
 pub loop-cookie-preserved : goal.loop-cookie-preserved
 loop-cookie-preserved c =
     let rows = c.loop-cookie.rows in
-    let r = shown c.in-Some.cookie in
+    let r = lent_row c.in-Some.cookie in
     let rest = c.next.new.self in
     let whole : rows ++ r ∷ rest ≡ c.args.self.now =
     ap (λ l. rows ++ l) (sym c.in-Some.ensures.steps) ∙ c.loop-cookie.invariant in

@@ -2,7 +2,7 @@ use Rattle.std.proofs.Common.{◌+◌, ◌≤◌, ap, map, subst, sym}
 use Rattle.std.proofs.lemmas.Result.{IfOk-weaker}
 use Rattle.jiff.specs.Words.{civil_nanos}
 use Rattle.place_index.specs.Found.{Finds}
-use Rattle.cookie_store.specs.Given.{AreGiven, shown}
+use Rattle.cookie_store.specs.Given.{AreGiven, lent_row}
 use Rattle.cookie_store.specs.Indexed.{places_of}
 use Rattle.cookie_store.specs.Steps.{AreInside, rows_in}
 use Rattle.cookie_store.specs.StoredCookie.{stored_in}
@@ -14,7 +14,7 @@ pub returns-in_default-clause-given : goal.returns-in_default-clause-given
 returns-in_default-clause-given g c =
     let url = c.args.request_url.now in
     let now = civil_nanos c.args.now in
-    subst (AreGiven c.args.self.now url now) (sym (ap (map shown) c.new.ensures.items))
+    subst (AreGiven c.args.self.now url now) (sym (ap (map lent_row) c.new.ensures.items))
     (none_given c.args.self.now url now (sym c.in_default.ensures))
 
 pub find-requires : goal.find-requires
@@ -49,13 +49,13 @@ returns-clause-given g c =
     let finds = c.in_ok-parts.ensures.found (places_of (map stored_in cookies)) c.self.invariant.agrees in
     IfOk-weaker c.give_parts.result _ _
     (λ given picks.
-    subst (λ rows. AreGiven rows url now (map shown given.items)) c.self.view_is
+    subst (λ rows. AreGiven rows url now (map lent_row given.items)) c.self.view_is
     (given_of_parts (map stored_in cookies) url now host (sym c.in-Some.ensures) parts
     (subst (λ path. Finds host path (places_of (map stored_in cookies)) parts) c.path.ensures.value finds)
-    (map shown given.items)
-    (subst (λ those. AreGiven (rows_in those (map stored_in cookies)) url now (map shown given.items))
+    (map lent_row given.items)
+    (subst (λ those. AreGiven (rows_in those (map stored_in cookies)) url now (map lent_row given.items))
     c.as_slice-2.ensures.value
-    (subst (λ those. AreGiven (rows_in c.as_slice-2.result.now (map stored_in those)) url now (map shown given.items))
+    (subst (λ those. AreGiven (rows_in c.as_slice-2.result.now (map stored_in those)) url now (map lent_row given.items))
     c.as_slice.ensures.value picks))))
     c.give_parts.ensures
 

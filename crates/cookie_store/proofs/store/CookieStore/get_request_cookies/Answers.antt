@@ -1,6 +1,6 @@
 use Rattle.std.proofs.Common.{map}
-use Rattle.cookie_store.specs.Given.{shown}
+use Rattle.cookie_store.specs.Given.{lent_row}
 use Rattle.cookie_store.proofs.store.CookieStore.get_request_cookies.Goals as goal
 
 pub returns : goal.returns
-returns c = (map shown c.in_ok-matches.field-0.items, c.in_ok-matches.ensures, c.new.ensures)
+returns c = (map lent_row c.in_ok-matches.field-0.items, c.in_ok-matches.ensures, c.new.ensures)
