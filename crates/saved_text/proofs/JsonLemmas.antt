@@ -13,21 +13,21 @@ use Rattle.serde_json.specs.Read.{read, of_json}
 use Rattle.saved_text.specs.Row.{Shown, Domain, host_only, suffix, not_present, empty}
 use Rattle.saved_text.specs.Json.{ReadsBack, row_value, row_text, domain_json, expires_text, bool_text}
 
-abbrev pub domain_json : Domain → json.Json
-domain_json (host_only t) = json.object (json.member (codes "HostOnly") (json.string t) json.no_members)
-domain_json (suffix t) = json.object (json.member (codes "Suffix") (json.string t) json.no_members)
-domain_json not_present = json.string (codes "NotPresent")
-domain_json empty = json.string (codes "Empty")
+abbrev pub domain_tree : Domain → json.Json
+domain_tree (host_only t) = json.object (json.member (codes "HostOnly") (json.string t) json.no_members)
+domain_tree (suffix t) = json.object (json.member (codes "Suffix") (json.string t) json.no_members)
+domain_tree not_present = json.string (codes "NotPresent")
+domain_tree empty = json.string (codes "Empty")
 
-abbrev pub expires_json : Option (List ℕ) → json.Json
-expires_json (Some t) = json.object (json.member (codes "AtUtc") (json.string t) json.no_members)
-expires_json None = json.string (codes "SessionEnd")
+abbrev pub expires_tree : Option (List ℕ) → json.Json
+expires_tree (Some t) = json.object (json.member (codes "AtUtc") (json.string t) json.no_members)
+expires_tree None = json.string (codes "SessionEnd")
 
 -- in the order in which a row is written
 abbrev pub row_json : Shown → json.Json
 row_json r = json.object (json.member (codes "raw_cookie") (json.string r.raw) (json.member (codes "path")
     (json.array (json.item (json.string r.path) (json.item (json.boolean r.from_attribute) json.no_items)))
-    (json.member (codes "domain") (domain_json r.domain) (json.member (codes "expires") (expires_json r.expires)
+    (json.member (codes "domain") (domain_tree r.domain) (json.member (codes "expires") (expires_tree r.expires)
     json.no_members))))
 
 -- the texts of parts, with what comes behind
