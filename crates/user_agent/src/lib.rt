@@ -1,0 +1,9 @@
+//! What user agents do beyond a store: dates as servers send them (RFC 6265, section 5.1.1).
+//!
+//! ```text
+//! dates::read("Thu, 1-Jan-70 0:00:00 UTC"); // the first moment of 1970
+//! ```
+#![tactic(auto)]
+
+pub mod dates;
+mod token;
