@@ -34,6 +34,7 @@ pub use devices::{Counting, Failing, Sink, Source};
 pub use place_index::Looks;
 pub use requests::{RequestCookies, RequestValues};
 pub use rows::IterAny;
+pub use saved_text::TextPosition;
 pub use store::{CookieStore, laws};
 pub use store_cookie::StoreCookie;
 pub use store_parts::{

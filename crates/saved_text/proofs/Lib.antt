@@ -21,3 +21,4 @@ mod FeedLemmas
 mod JsonListLemmas
 mod LayoutLemmas
 mod JsonReadLemmas
+mod PositionLemmas

@@ -18,3 +18,4 @@ pub mod Json
 pub mod Parts
 pub mod JsonWritten
 pub mod JsonReading
+pub mod Position

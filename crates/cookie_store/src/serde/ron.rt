@@ -72,8 +72,8 @@ pub fn save_incl_expired_and_nonpersistent<W: Sink>(
 /// # Errors
 ///
 /// `Io` where the reader failed, or the count of its failures or of its reads stands at its last
-/// value; `NotText` where the bytes are not UTF-8; `Ron` with the place where the text is refused;
-/// `OutOfMemory`.
+/// value; `NotText` where the bytes are not UTF-8; `Ron` with the place where the text is refused,
+/// of which `TextPosition` tells line and column; `OutOfMemory`.
 pub fn load<R: Source>(alloc: Global, reader: &mut R, now: DateTime) -> Result<CookieStore>
     ensures ok { IfOk result (λ store. form.OfText (R.left reader.old)
         (λ text. form.Loads ShowsOnly false (civil_nanos now) text store)) }
