@@ -6,7 +6,9 @@
 #include "../time.h"
 
 size_t bench_parse(const uint8_t *line, size_t len);
+size_t bench_parse_encoded(const uint8_t *line, size_t len);
 size_t bench_parse_and_print(const uint8_t *line, size_t len);
+size_t bench_parse_and_encode(const uint8_t *line, size_t len);
 
 static const char *const lines[] = {
     "foo=bar",
@@ -31,8 +33,16 @@ static void parse_once(void) {
     some(bench_parse((const uint8_t *)line, length));
 }
 
+static void parse_encoded_once(void) {
+    some(bench_parse_encoded((const uint8_t *)line, length));
+}
+
 static void parse_and_print_once(void) {
     some(bench_parse_and_print((const uint8_t *)line, length));
+}
+
+static void parse_and_encode_once(void) {
+    some(bench_parse_and_encode((const uint8_t *)line, length));
 }
 
 int main(void) {
@@ -42,7 +52,11 @@ int main(void) {
         char name[40];
         snprintf(name, sizeof name, "parse %zu bytes", length);
         report(name, length, least_time(parse_once));
+        snprintf(name, sizeof name, "parse encoded %zu bytes", length);
+        report(name, length, least_time(parse_encoded_once));
         snprintf(name, sizeof name, "parse and print %zu bytes", length);
         report(name, length, least_time(parse_and_print_once));
+        snprintf(name, sizeof name, "parse and encode %zu bytes", length);
+        report(name, length, least_time(parse_and_encode_once));
     }
 }

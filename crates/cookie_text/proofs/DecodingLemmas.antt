@@ -1,9 +1,11 @@
 -- Reading with percent-decoding goes on after the first piece.
 use Rattle.std.proofs.Common.{◌≡◌, ◌≢◌, ℕ, ◌<◌, ◌==◌, length, Result, Ok, List, [], ◌∷◌, refl, sym, ap, subst, ◌∙◌}
-use Rattle.std.proofs.lemmas.List.Elements.{All-head, All-tail}
+use Rattle.std.proofs.Common.{true, false, true≢false, eq-eqb}
+use Rattle.std.proofs.lemmas.Bool.{or_parts}
+use Rattle.std.proofs.lemmas.List.Elements.{All-head, All-tail, All-nil, All-cons}
 use Rattle.percent_encoding.specs.Percent.{percent_decode}
 use Rattle.percent_encoding.proofs.PercentLemmas.{percent_decode-nil, percent_decode_not_percent}
-use Rattle.std.specs.List.{after_first, position_or_len}
+use Rattle.std.specs.List.{after_first, list_any, position_or_len}
 use Rattle.std.proofs.lemmas.Result.{IfOk-weaker}
 use Rattle.cookie_text.specs.declared.error.ParseError.{ParseError}
 use Rattle.cookie_text.specs.Pieces.{pieces, semicolon, HasNoPercent}
@@ -19,6 +21,13 @@ percent_decode_none [] h = percent_decode-nil
 percent_decode_none (b ∷ bs) h =
     percent_decode_not_percent b bs (All-head (λ c. c ≢ 37) b bs h)
     ∙ ap (λ t. b ∷ t) (percent_decode_none bs (All-tail (λ c. c ≢ 37) b bs h))
+
+-- a text in which no `%` is found has none
+pub none_found : (text : List ℕ) → list_any (λ b. b == 37) text ≡ false → HasNoPercent text
+none_found [] h = All-nil (λ b. b ≢ 37)
+none_found (b ∷ bs) h =
+    let parts = or_parts (b == 37) (list_any (λ c. c == 37) bs) h in
+    All-cons (λ c. c ≢ 37) b bs (λ e. true≢false (sym (eq-eqb b 37 e) ∙ parts.0)) (none_found bs parts.1)
 
 -- attributes change nothing of what was decoded
 IsDecoded-further : (before after : List ℕ) (ps : List (List ℕ)) (s t : Seen) → IsDecoded before after s

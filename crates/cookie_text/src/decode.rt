@@ -50,7 +50,12 @@ pub fn decoded_begins(text: &str, front: &[u8]) -> bool
 fn decoded(alloc: Global, text: &str) -> Result<Option<String>, ParseError>
     ensures { Decodes text.now result }
 {
-    let decoded = match percent_decode(text.as_bytes()).decode_utf8(alloc) {
+    // Most texts have no `%`, and stand for themselves.
+    let bytes = text.as_bytes();
+    if !bytes.contains(&b'%') {
+        return Ok(None);
+    }
+    let decoded = match percent_decode(bytes).decode_utf8(alloc) {
         Ok(decoded) => decoded,
         Err(DecodeError::Utf8(_)) => return Err(ParseError::Utf8Error),
         Err(DecodeError::OutOfMemory) => return Err(ParseError::OutOfMemory),
