@@ -1,6 +1,7 @@
 pub mod DateNumbers
 pub mod DateLemmas
 pub mod DecodingLemmas
+pub mod TrimLemmas
 pub mod ExpiryLemmas
 pub mod PieceLemmas
 pub mod AttributeLemmas

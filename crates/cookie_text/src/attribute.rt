@@ -11,6 +11,7 @@ ghost use Rattle.cookie_text.specs.AttributeView.{attribute_view};
 
 use crate::date::moment_of;
 use crate::draft::SameSite;
+use crate::trim::trimmed;
 use jiff::civil::DateTime;
 
 /// The name of an attribute.
@@ -46,8 +47,8 @@ pub fn split_piece(piece: &str) -> (&str, Option<&str>)
     ensures value { option_copied result.1 ≡ value_of piece.now }
 {
     match piece.split_once('=') {
-        Some((name, value)) => (name.trim(), Some(value.trim())),
-        None => (piece.trim(), None),
+        Some((name, value)) => (trimmed(name), Some(trimmed(value))),
+        None => (trimmed(piece), None),
     }
 }
 

@@ -19,6 +19,7 @@ pub mod laws;
 mod parse;
 mod part;
 mod split;
+mod trim;
 
 pub use builder::{Builder, CookieBuilder};
 pub use cookie::Cookie;

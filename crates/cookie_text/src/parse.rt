@@ -10,6 +10,7 @@ use crate::cookie::Cookie;
 use crate::decode::decoded_pair;
 use crate::error::ParseError;
 use crate::part::Part;
+use crate::trim::trimmed;
 use std::alloc::Global;
 
 impl<'c> Cookie<'c> {
@@ -142,9 +143,9 @@ fn split_pair(piece: &str) -> Result<(&str, &str), ParseError>
     let Some((name, value)) = piece.split_once('=') else {
         return Err(ParseError::MissingPair);
     };
-    let name = name.trim();
+    let name = trimmed(name);
     if name.is_empty() {
         return Err(ParseError::EmptyName);
     }
-    Ok((name, value.trim()))
+    Ok((name, trimmed(value)))
 }

@@ -6,6 +6,7 @@ ghost use Rattle.cookie_text.specs.Splitting.{texts_left};
 
 use crate::cookie::Cookie;
 use crate::error::ParseError;
+use crate::trim::trimmed;
 use std::alloc::{AllocError, Global};
 use std::collections::VecDeque;
 use std::marker::Model;
@@ -171,7 +172,7 @@ fn next_piece(text: Option<&str>) -> Option<(&str, Option<&str>)>
     let mut left = text;
     while let Some(text) = left {
         let (piece, rest) = cut(text);
-        let piece = piece.trim();
+        let piece = trimmed(piece);
         if !piece.is_empty() {
             return Some((piece, rest));
         }
