@@ -57,7 +57,7 @@ paths_inside rows domain part own text = inside (value_at text part.paths) (own.
 
 -- ---- where a part goes
 
-moved_up : (p at : ℕ) → p ≤ at → at < last → moved p at ≡ suc at
+pub moved_up : (p at : ℕ) → p ≤ at → at < last → moved p at ≡ suc at
 moved_up p at le l = cond-true (nat_le p at && nat_lt at last) (suc at) at
     (and_from (nat_le p at) (nat_lt at last) (grind (arith, common_steps)) (grind (arith, common_steps)))
 

@@ -1,3 +1,4 @@
+pub mod AscendLemmas
 pub mod CandidateLemmas
 pub mod EndLemmas
 pub mod EntryLemmas

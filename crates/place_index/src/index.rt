@@ -8,7 +8,7 @@ ghost use Rattle.place_index.specs.Found.{Finds, looks_at, looks_up};
 ghost use Rattle.place_index.specs.Index.{Agrees, IsIndex, StandsAt};
 ghost use Rattle.place_index.specs.Places.{Place};
 ghost use Rattle.place_index.specs.Putting.{IsReady, PutsAt};
-ghost use Rattle.place_index.specs.Starts.{part_at, with_starts};
+ghost use Rattle.place_index.specs.Starts.{AreInOrder, part_at, with_starts};
 ghost use Rattle.place_index.specs.Taking.{HasRow, TakesAt};
 
 use crate::find::ask_domains;
@@ -121,8 +121,8 @@ impl Index {
     }
 }
 
-/// The parts of the domains. Where they begin stands apart from their rows, for an insertion or a removal goes over
-/// the starts of all.
+/// The parts of the domains, in the order of the vector. Where they begin stands apart from their rows, for an
+/// insertion or a removal goes over the later starts.
 #[derive(Debug, Drop)]
 pub(crate) struct Domains {
     pub(crate) starts: Vec<usize>,
@@ -134,7 +134,7 @@ impl Model for Domains {
 
     ghost view = { λ d. with_starts d.starts.items d.rows };
 
-    ghost invariant = { λ d. length d.starts.items ≡ length d.rows };
+    ghost invariant = { λ d. AreInOrder d.starts.items d.rows };
 }
 
 impl Domains {

@@ -1,11 +1,12 @@
 //! Parts that move by a row.
 
-ghost use Rattle.std.specs.Prelude.{◌≡◌, map};
+ghost use Rattle.std.specs.Prelude.{◌≡◌, ◌<◌, All, map};
+ghost use Rattle.std.specs.List.Sorted.{IsNonDecreasing};
 ghost use Rattle.place_index.specs.Entries.{with_values};
-ghost use Rattle.place_index.specs.Index.{moved, moved_path};
+ghost use Rattle.place_index.specs.Index.{last, moved, moved_path};
 ghost use Rattle.place_index.specs.Taking.{moved_back, path_back};
 
-use crate::part::{Part, one_earlier, one_later};
+use crate::part::Part;
 use crate::text_map::TextMap;
 
 /// Has each path that begins at `at` or later begin one later.
@@ -19,12 +20,15 @@ pub(crate) fn move_paths(paths: &mut TextMap<Part>, at: usize)
     }
 }
 
-/// Has each start at `at` or later be one later.
+/// Has each start at `at` or later be one later. The starts ascend, so those are the last ones, and no other is touched.
 pub(crate) fn move_starts(starts: &mut [usize], at: usize)
+    requires ascend { IsNonDecreasing starts.old }
+    requires low { All (λ start. start < last) starts.old }
     ensures { starts.new ≡ map (moved at) starts.old }
 {
-    for i in 0..starts.len() {
-        starts[i] = one_later(starts[i], at);
+    let behind = starts.partition_point(|start| *start < at);
+    for i in behind..starts.len() {
+        starts[i] += 1;
     }
 }
 
@@ -39,11 +43,13 @@ pub(crate) fn move_paths_back(paths: &mut TextMap<Part>, at: usize)
     }
 }
 
-/// Has each start behind `at` be one earlier.
+/// Has each start behind `at` be one earlier. The starts ascend, so those are the last ones, and no other is touched.
 pub(crate) fn move_starts_back(starts: &mut [usize], at: usize)
+    requires { IsNonDecreasing starts.old }
     ensures { starts.new ≡ map (moved_back at) starts.old }
 {
-    for index in 0..starts.len() {
-        starts[index] = one_earlier(starts[index], at);
+    let behind = starts.partition_point(|start| *start <= at);
+    for index in behind..starts.len() {
+        starts[index] -= 1;
     }
 }

@@ -106,7 +106,8 @@ fn begin(
     path: &str,
     name: &str,
 ) -> Result<(), AllocError>
-    requires { value_at domain.now domains.old ≡ None }
+    requires absent { value_at domain.now domains.old ≡ None }
+    requires last { IsReady (record { domain = domain.now; path = path.now; name = name.now }) start domains.old }
     ensures ok { OnOk result (domains.new ≡ with_value domains.old domain.now (record {
       start = start;
       len = 1;

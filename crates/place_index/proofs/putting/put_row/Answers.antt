@@ -1,11 +1,13 @@
-use Rattle.std.proofs.Common.{◌+◌, ◌∙◌, ap, arith, refl, sym}
-use Rattle.std.specs.Vec.{with_items}
-use Rattle.indexmap.specs.Layout.{length-set_value_at}
+use Rattle.std.proofs.Common.{◌+◌, ◌∙◌, ◌<◌, ap, arith, refl, subst, sym}
+use Rattle.std.specs.Prelude.{All}
+use Rattle.std.specs.List.Sorted.{IsNonDecreasing}
+use Rattle.std.proofs.lemmas.List.Elements.{All-weaker}
 use Rattle.indexmap.specs.IndexMap.{set_value_at}
 use Rattle.place_index.specs.Entries.{value_at}
-use Rattle.place_index.specs.Index.{moved}
+use Rattle.place_index.specs.Index.{last, moved}
 use Rattle.place_index.specs.Places.{Place}
-use Rattle.place_index.specs.Starts.{with_starts}
+use Rattle.place_index.specs.Starts.{AreInOrder, with_starts}
+use Rattle.place_index.proofs.AscendLemmas.{all_low, in_order-map, in_order-set, moved-rises}
 use Rattle.place_index.proofs.RowLemmas.{has_room, puts_before_others, puts_at_end, puts_first, on_err, row_fits}
 use Rattle.place_index.proofs.StartLemmas.{all_moved, no_value, none_found, part_set, part_there, place_within}
 use Rattle.place_index.proofs.StartLemmas.{set_value_at-same, starts_moved}
@@ -19,12 +21,13 @@ put-requires c =
     (has_room (record { domain = c.args.domain.now; path = c.args.path.now; name = c.args.name.now }) c.args.rows
     c.args.domains.now _ c.value_mut.result.now c.requires
     (part_there c.args.domain.now c.domains.inside.starts.items c.domains.inside.rows c.args.domains.now
-    c.domains.view_is c.domains.invariant c.in-Some.place (sym c.in-Some.ensures) c.value_mut.result.now
+    c.domains.view_is c.domains.invariant.each c.in-Some.place (sym c.in-Some.ensures) c.value_mut.result.now
     c.value_mut.ensures.value _ 0 refl)).0
 
 pub invariant_of-domains : goal.invariant_of-domains
 invariant_of-domains c =
-    c.domains.invariant ∙ sym (length-set_value_at c.domains.inside.rows c.in-Some.place c.put.new.domain)
+    in_order-set c.domains.inside.starts.items c.domains.inside.rows c.domains.invariant c.in-Some.place
+    c.put.new.domain
 
 pub returns-in_err-inner-in-Some-clause-err : goal.returns-in_err-inner-in-Some-clause-err
 returns-in_err-inner-in-Some-clause-err c =
@@ -42,7 +45,7 @@ returns-in_err-inner-in-Some-clause-err c =
 pub index-requires : goal.index-requires
 index-requires c =
     let within = place_within c.args.domain.now c.domains.inside.rows c.in-Some.place (sym c.in-Some.ensures) in
-    let same = c.domains.invariant in
+    let same = c.domains.invariant.each in
     let counted = c.domains.inside.starts.ok.0 in
     omega (arith, within, same, counted)
 
@@ -52,22 +55,42 @@ overflow_add-at c =
     let fits = row_fits (record { domain = c.args.domain.now; path = c.args.path.now; name = c.args.name.now })
     c.args.rows c.args.domains.now start c.value_mut.result.now c.put.new.domain c.in_ok-inner-in-Some.inner c.requires
     (part_there c.args.domain.now c.domains.inside.starts.items c.domains.inside.rows c.args.domains.now
-    c.domains.view_is c.domains.invariant c.in-Some.place (sym c.in-Some.ensures) c.value_mut.result.now
+    c.domains.view_is c.domains.invariant.each c.in-Some.place (sym c.in-Some.ensures) c.value_mut.result.now
     c.value_mut.ensures.value start start c.index.ensures) c.in_ok-inner-in-Some.ensures.ok in
     omega (arith, fits)
 
 pub invariant_of-domains-then-at-rows : goal.invariant_of-domains-then-at-rows
 invariant_of-domains-then-at-rows c =
-    let starts = c.domains.inside.starts in
-    sym (with_items starts c.move_starts.new.starts).ok.0 ∙ starts.ok.0 ∙ c.domains.invariant
-    ∙ sym (length-set_value_at c.domains.inside.rows c.in-Some.place c.put.new.domain)
+    let v = c.domains.inside.starts in
+    let rows = set_value_at c.domains.inside.rows c.in-Some.place c.put.new.domain in
+    let p = c.index.result.now + c.in_ok-inner-in-Some.inner in
+    subst (λ ss. AreInOrder ss rows)
+    (sym (all_moved (moved p) v c.deref_mut.result.now c.move_starts.new.starts c.deref_mut.ensures.value
+    c.move_starts.ensures))
+    (in_order-map v.items rows
+    (in_order-set v.items c.domains.inside.rows c.domains.invariant c.in-Some.place c.put.new.domain) (moved p)
+    (moved-rises p))
+
+pub move_starts-requires-clause-ascend : goal.move_starts-requires-clause-ascend
+move_starts-requires-clause-ascend c =
+    subst IsNonDecreasing (sym c.deref_mut.ensures.value) c.domains.invariant.ascend
+
+pub move_starts-requires-clause-low : goal.move_starts-requires-clause-low
+move_starts-requires-clause-low c =
+    let room = c.requires.room in
+    subst (All (λ start. start < last)) (sym c.deref_mut.ensures.value)
+    (All-weaker (λ start. start < c.args.rows) (λ start. start < last) (λ start l. omega (arith, l, room))
+    c.domains.inside.starts.items
+    (all_low c.domains.inside.starts.items c.domains.inside.rows c.domains.invariant c.args.domain.now
+    c.args.domains.now c.domains.view_is _ c.args.rows c.requires))
 
 pub invariant_of-domains-else-at-rows : goal.invariant_of-domains-else-at-rows
 invariant_of-domains-else-at-rows c =
-    c.domains.invariant ∙ sym (length-set_value_at c.domains.inside.rows c.in-Some.place c.put.new.domain)
+    in_order-set c.domains.inside.starts.items c.domains.inside.rows c.domains.invariant c.in-Some.place
+    c.put.new.domain
 
-pub begin-requires : goal.begin-requires
-begin-requires c =
+pub begin-requires-clause-absent : goal.begin-requires-clause-absent
+begin-requires-clause-absent c =
     ap (value_at c.args.domain.now) (sym c.domains.view_is)
     ∙ none_found c.args.domain.now c.domains.inside.starts.items c.domains.inside.rows
     (no_value c.args.domain.now c.domains.inside.rows (sym c.in-None.ensures))
@@ -83,9 +106,9 @@ returns-then-at-rows-clause-ok c =
     let w = c.put.new.domain in
     let start = c.index.result.now in
     let p = start + c.in_ok-inner-in-Some.inner in
-    let there = part_there text starts rows old c.domains.view_is c.domains.invariant c.in-Some.place
+    let there = part_there text starts rows old c.domains.view_is c.domains.invariant.each c.in-Some.place
     (sym c.in-Some.ensures) own c.value_mut.ensures.value start start c.index.ensures in
-    let lent = part_set text starts rows old c.domains.view_is c.domains.invariant c.in-Some.place
+    let lent = part_set text starts rows old c.domains.view_is c.domains.invariant.each c.in-Some.place
     (sym c.in-Some.ensures) own c.value_mut.ensures.value start start c.index.ensures w in
     let row : Place = record { domain = text; path = c.args.path.now; name = c.args.name.now } in
     let has = has_room row c.args.rows old start own c.requires there in
@@ -105,9 +128,9 @@ returns-else-at-rows-clause-ok c =
     let own = c.value_mut.result.now in
     let w = c.put.new.domain in
     let start = c.index.result.now in
-    let there = part_there text starts rows old c.domains.view_is c.domains.invariant c.in-Some.place
+    let there = part_there text starts rows old c.domains.view_is c.domains.invariant.each c.in-Some.place
     (sym c.in-Some.ensures) own c.value_mut.ensures.value start start c.index.ensures in
-    let lent = part_set text starts rows old c.domains.view_is c.domains.invariant c.in-Some.place
+    let lent = part_set text starts rows old c.domains.view_is c.domains.invariant.each c.in-Some.place
     (sym c.in-Some.ensures) own c.value_mut.ensures.value start start c.index.ensures w in
     let row : Place = record { domain = text; path = c.args.path.now; name = c.args.name.now } in
     let has = has_room row c.args.rows old start own c.requires there in

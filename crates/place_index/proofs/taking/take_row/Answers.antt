@@ -1,22 +1,22 @@
-use Rattle.std.proofs.Common.{◌∙◌, ◌-◌, ap, arith, length, refl, sym}
+use Rattle.std.proofs.Common.{◌∙◌, ◌-◌, ap, arith, refl, subst, sym}
 use Rattle.std.specs.List.{remove}
-use Rattle.std.specs.Vec.{with_items}
-use Rattle.indexmap.specs.Layout.{length-set_value_at}
+use Rattle.std.specs.List.Sorted.{IsNonDecreasing}
 use Rattle.place_index.specs.Entries.{value_at, without}
 use Rattle.place_index.specs.Places.{Place}
-use Rattle.place_index.specs.Starts.{part_at, with_starts}
+use Rattle.place_index.specs.Starts.{AreInOrder, part_at, with_starts}
 use Rattle.place_index.specs.Taking.{moved_back}
+use Rattle.place_index.proofs.AscendLemmas.{in_order-map, in_order-same, in_order-set, in_order-without}
+use Rattle.place_index.proofs.AscendLemmas.{moved_back-rises}
 use Rattle.place_index.proofs.RowOutLemmas.{begun_by, starts_before, inside_of, takes_more, takes_only, takes_none}
 use Rattle.place_index.proofs.StartLemmas.{all_moved, entry_at, no_value, none_found, part_removed, part_set}
-use Rattle.place_index.proofs.StartLemmas.{part_there, place_within, remove-length, set_value_at-same, starts_moved}
-use Rattle.place_index.proofs.StartLemmas.{without-length}
+use Rattle.place_index.proofs.StartLemmas.{part_there, place_within, set_value_at-same, starts_moved}
 use Rattle.place_index.proofs.taking.take_row.Goals.{in-Some+then-rows-gt1, in-Some+else-rows-gt1, in_default}
 use Rattle.place_index.proofs.taking.take_row.Goals as goal
 
 pub index-requires : goal.index-requires
 index-requires c =
     let within = place_within c.args.domain.now c.domains.inside.rows c.in-Some.place (sym c.in-Some.ensures) in
-    let same = c.domains.invariant in
+    let same = c.domains.invariant.each in
     let counted = c.domains.inside.starts.ok.0 in
     omega (arith, within, same, counted)
 
@@ -30,7 +30,7 @@ overflow_sub-inner c =
     let own = entry_at rows place within in
     starts_before c.args.domain.now c.args.path.now c.args.at c.args.domains.now c.requires (part_at start own.0)
     (part_there c.args.domain.now c.domains.inside.starts.items rows c.args.domains.now c.domains.view_is
-    c.domains.invariant place at own.0 own.1 start start c.index.ensures)
+    c.domains.invariant.each place at own.0 own.1 start start c.index.ensures)
 
 pub value_mut-rows-requires : goal.value_mut-rows-requires
 value_mut-rows-requires c =
@@ -42,7 +42,7 @@ take-requires-clause-inside c =
     inside_of c.args.domain.now c.args.path.now c.args.at c.args.domains.now c.requires start
     c.value_mut-rows.result.now
     (part_there c.args.domain.now c.domains.inside.starts.items c.domains.inside.rows c.args.domains.now
-    c.domains.view_is c.domains.invariant c.in-Some.place (sym c.in-Some.ensures) c.value_mut-rows.result.now
+    c.domains.view_is c.domains.invariant.each c.in-Some.place (sym c.in-Some.ensures) c.value_mut-rows.result.now
     c.value_mut-rows.ensures.value start start c.index.ensures)
 
 pub take-requires-clause-begun : goal.take-requires-clause-begun
@@ -51,45 +51,61 @@ take-requires-clause-begun c =
     begun_by c.args.domain.now c.args.path.now c.args.at c.args.domains.now c.requires start (c.args.at - start)
     c.value_mut-rows.result.now
     (part_there c.args.domain.now c.domains.inside.starts.items c.domains.inside.rows c.args.domains.now
-    c.domains.view_is c.domains.invariant c.in-Some.place (sym c.in-Some.ensures) c.value_mut-rows.result.now
+    c.domains.view_is c.domains.invariant.each c.in-Some.place (sym c.in-Some.ensures) c.value_mut-rows.result.now
     c.value_mut-rows.ensures.value start start c.index.ensures) refl
 
 pub remove-requires-else-rows-gt1 : goal.remove-requires-else-rows-gt1
 remove-requires-else-rows-gt1 c =
     let within = place_within c.args.domain.now c.domains.inside.rows c.in-Some.place (sym c.in-Some.ensures) in
-    let same = c.domains.invariant in
+    let same = c.domains.invariant.each in
     let counted = c.domains.inside.starts.ok.0 in
     omega (arith, within, same, counted)
+
+pub move_starts_back-requires : goal.move_starts_back-requires
+move_starts_back-requires c =
+    let text = c.args.domain.now in
+    let starts = c.domains.inside.starts.items in
+    let rows = c.domains.inside.rows in
+    let order = c.domains.invariant in
+    subst IsNonDecreasing (sym c.deref_mut.ensures.value) (elim c.match-place.branch [
+      | in-Some+then-rows-gt1 w ↦
+          subst IsNonDecreasing (sym (ap (λ d. d.starts.items) w.domains-inside-is)) order.ascend
+      | in-Some+else-rows-gt1 w ↦
+          subst IsNonDecreasing
+          (sym (ap (λ d. d.starts.items) w.domains-inside-is ∙ w.remove-else-rows-gt1.ensures.items))
+          (in_order-without starts rows order text w.in-Some.place (sym w.in-Some.ensures)).ascend
+      | in_default w ↦
+          subst IsNonDecreasing (sym (ap (λ d. d.starts.items) w.domains-inside-is)) order.ascend
+    ])
 
 pub invariant_of-domains : goal.invariant_of-domains
 invariant_of-domains c =
     let text = c.args.domain.now in
+    let starts = c.domains.inside.starts.items in
     let rows = c.domains.inside.rows in
-    let same = c.domains.invariant in
+    let order = c.domains.invariant in
     let mid = c.match-place.domains-inside in
-    sym (with_items mid.starts c.move_starts_back.new.starts).ok.0 ∙ mid.starts.ok.0
-    ∙ elim c.match-place.branch [
+    subst (λ ss. AreInOrder ss mid.rows)
+    (sym (all_moved (moved_back c.args.at) mid.starts c.deref_mut.result.now c.move_starts_back.new.starts
+    c.deref_mut.ensures.value c.move_starts_back.ensures))
+    (in_order-map mid.starts.items mid.rows
+    (elim c.match-place.branch [
       | in-Some+then-rows-gt1 w ↦
-          ap (λ d. length d.starts.items) w.domains-inside-is ∙ same
-          ∙ sym (ap (λ d. length d.rows) w.domains-inside-is
-          ∙ length-set_value_at rows w.in-Some.place w.take.new.domain)
+          in_order-same _ _ _ _ (ap (λ d. d.starts.items) w.domains-inside-is)
+          (ap (λ d. d.rows) w.domains-inside-is) (in_order-set starts rows order w.in-Some.place w.take.new.domain)
       | in-Some+else-rows-gt1 w ↦
           let place = w.in-Some.place in
-          let at = sym w.in-Some.ensures in
-          let within = place_within text rows place at in
-          let starts = remove-length c.domains.inside.starts.items place (omega (arith, within, same)) in
-          let left = without-length text rows place at in
           let own = w.value_mut-rows.result.now in
-          let out = ap length (w.remove.ensures.rest
-          ∙ ap (without text) (set_value_at-same rows place own w.value_mut-rows.ensures.value)) in
-          let one = ap (λ d. length d.starts.items) w.domains-inside-is
-          ∙ ap length w.remove-else-rows-gt1.ensures.items in
-          let other = ap (λ d. length d.rows) w.domains-inside-is in
-          omega (arith, starts, left, out, one, other, same)
+          in_order-same _ _ _ _
+          (ap (λ d. d.starts.items) w.domains-inside-is ∙ w.remove-else-rows-gt1.ensures.items)
+          (ap (λ d. d.rows) w.domains-inside-is ∙ w.remove.ensures.rest
+          ∙ ap (without text) (set_value_at-same rows place own w.value_mut-rows.ensures.value))
+          (in_order-without starts rows order text place (sym w.in-Some.ensures))
       | in_default w ↦
-          ap (λ d. length d.starts.items) w.domains-inside-is ∙ same
-          ∙ sym (ap (λ d. length d.rows) w.domains-inside-is)
-    ]
+          in_order-same _ _ _ _ (ap (λ d. d.starts.items) w.domains-inside-is)
+          (ap (λ d. d.rows) w.domains-inside-is) order
+    ])
+    (moved_back c.args.at) (moved_back-rises c.args.at))
 
 pub returns : goal.returns
 returns c name =
@@ -99,7 +115,7 @@ returns c name =
     let starts = c.domains.inside.starts.items in
     let rows = c.domains.inside.rows in
     let is = c.domains.view_is in
-    let same = c.domains.invariant in
+    let same = c.domains.invariant.each in
     let inside = c.match-place.domains-inside in
     let mid = with_starts inside.starts.items inside.rows in
     let moved = ap (λ ss. with_starts ss inside.rows)

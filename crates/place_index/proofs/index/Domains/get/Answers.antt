@@ -15,7 +15,7 @@ pub index-requires : goal.index-requires
 index-requires c =
     let place = c.in_ok-place.place in
     let within = place_within c.args.text.now c.self.inside.rows place (sym c.in_ok-place.ensures.place) in
-    let same = c.self.invariant in
+    let same = c.self.invariant.each in
     let counted = c.self.inside.starts.ok.0 in
     omega (arith, within, same, counted)
 
@@ -23,6 +23,6 @@ pub returns : goal.returns
 returns c =
     ap (λ start. Some (part_at start c.in_ok-place.rows.now)) c.index.ensures
     ∙ sym (part_found c.args.text.now c.self.inside.starts.items c.self.inside.rows c.in_ok-place.place
-    c.index.result.now c.in_ok-place.rows.now c.self.invariant (sym c.in_ok-place.ensures.place)
+    c.index.result.now c.in_ok-place.rows.now c.self.invariant.each (sym c.in_ok-place.ensures.place)
     (sym c.in_ok-place.ensures.value))
     ∙ ap (value_at c.args.text.now) c.self.view_is
