@@ -2,7 +2,7 @@
 use Rattle.std.proofs.Common.{◌≡◌, ◌+◌, ◌-◌, ◌&&◌, ◌++◌, ◌<◌, ◌≤◌, ℕ, zero, suc, Bool, true, false, cond, List, [], ◌∷◌, length}
 use Rattle.std.proofs.Common.{map, get_or, length-append, refl, sym, ap, subst, ◌∙◌, ◌⊎◌, inl, inr, arith, true≢false, leb, ltb}
 use Rattle.std.proofs.Common.{leb-false, leb-true, ltb-false, ltb-true}
-use Rattle.std.specs.Prelude.{All, Option, Some, None, nat_le, nat_lt, option_map}
+use Rattle.std.specs.Prelude.{All, Some, None, nat_le, nat_lt, option_map}
 use Rattle.std.specs.List.{remove}
 use Rattle.std.specs.List.Sorted.{IsNonDecreasing, IsPartitionPoint}
 use Rattle.std.specs.Str.{bytes_eq}

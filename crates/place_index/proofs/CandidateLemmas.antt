@@ -1,16 +1,16 @@
 -- Which texts a host and a request-path can meet.
-use Rattle.std.proofs.Common.{◌≡◌, ◌↔◌, ◌⊎◌, ◌++◌, ◌+◌, ◌-◌, ◌*◌, ◌||◌, ℕ, Bool, true, false, cond, eqb, List, []}
+use Rattle.std.proofs.Common.{◌≡◌, ◌≤◌, ◌↔◌, ◌⊎◌, ◌++◌, ◌+◌, ◌-◌, ◌*◌, ◌||◌, ℕ, Bool, true, false, cond, eqb, List, []}
 use Rattle.std.proofs.Common.{◌∷◌, length, map, refl, sym, ap, subst, ◌∙◌, inl, inr, arith, true≢false, suc}
 use Rattle.std.specs.Prelude.{Some, slice_get}
 use Rattle.std.specs.List.{list_any}
 use Rattle.std.specs.Str.{bytes_eq}
-use Rattle.std.proofs.lemmas.Bool.{or_left, or_right, or_parts, cond-false}
-use Rattle.std.proofs.lemmas.List.{length-map, map-append}
+use Rattle.std.proofs.lemmas.Bool.{or_left, or_right, or_parts, cond-false, cond-true}
+use Rattle.std.proofs.lemmas.List.{append-nil, length-map}
 use Rattle.std.proofs.lemmas.Grind.{common_steps}
 use Rattle.std.proofs.lemmas.Option.{none-some, same_Some}
-use Rattle.place_index.specs.Paths.{dot, slash, EndsAfterDot, PathMatches, IsPathPrefix, MeetAtSlash, BeginsWithSlash}
+use Rattle.place_index.specs.Paths.{dot, slash, EndsAfterDot, PathMatches, MeetAtSlash}
 use Rattle.place_index.proofs.EntryLemmas.{same_text, text_is}
-use Rattle.place_index.specs.Candidates.{is_among, after_dots, domains_of, at_slashes, paths_of, count_of}
+use Rattle.place_index.specs.Candidates.{is_among, after_dots, beginnings, domains_of, paths_of, count_of}
 
 pub same_nat : (a b : ℕ) → eqb a b ≡ true → a ≡ b
 same_nat a b e = grind (arith, common_steps)
@@ -107,37 +107,6 @@ are_domains host text = (λ e. there (among_case text host (after_dots host) e),
 
 -- ---- paths
 
--- a beginning that a slash follows, or that ends with one
-at_slashes-before : (text rest : List ℕ) → is_among text (at_slashes (text ++ slash ∷ rest)) ≡ true
-at_slashes-before [] rest = among_head [] [] ((slash ∷ []) ∷ map (λ t. slash ∷ t) (at_slashes rest)) refl
-at_slashes-before (b ∷ text) rest = by (eqb b slash)
-    (among_map b text (at_slashes (text ++ slash ∷ rest)) (at_slashes-before text rest))
-  where
-    more : List (List ℕ)
-    more = map (λ t. b ∷ t) (at_slashes (text ++ slash ∷ rest))
-
-    by : (c : Bool) → is_among (b ∷ text) more ≡ true → is_among (b ∷ text) (cond c ([] ∷ (b ∷ []) ∷ more) more) ≡ true
-    by true h = among_tail (b ∷ text) [] ((b ∷ []) ∷ more) (among_tail (b ∷ text) (b ∷ []) more h)
-    by false h = h
-
-at_slashes-with : (front rest : List ℕ)
-    → is_among (front ++ slash ∷ []) (at_slashes ((front ++ slash ∷ []) ++ rest)) ≡ true
-at_slashes-with [] rest =
-    let more = map (λ t. slash ∷ t) (at_slashes rest) in
-    among_tail (slash ∷ []) [] ((slash ∷ []) ∷ more) (among_head (slash ∷ []) (slash ∷ []) more refl)
-at_slashes-with (b ∷ front) rest = by (eqb b slash)
-    (among_map b (front ++ slash ∷ []) (at_slashes ((front ++ slash ∷ []) ++ rest)) (at_slashes-with front rest))
-  where
-    text : List ℕ
-    text = front ++ slash ∷ []
-
-    more : List (List ℕ)
-    more = map (λ t. b ∷ t) (at_slashes (text ++ rest))
-
-    by : (c : Bool) → is_among (b ∷ text) more ≡ true → is_among (b ∷ text) (cond c ([] ∷ (b ∷ []) ∷ more) more) ≡ true
-    by true h = among_tail (b ∷ text) [] ((b ∷ []) ∷ more) (among_tail (b ∷ text) (b ∷ []) more h)
-    by false h = h
-
 -- the last byte of a text of more than one is that of its rest
 last_step : (b c : ℕ) (ts : List ℕ)
     → slice_get (b ∷ c ∷ ts) (length (b ∷ c ∷ ts) - 1) ≡ slice_get (c ∷ ts) (length (c ∷ ts) - 1)
@@ -146,26 +115,38 @@ last_step b c ts =
     let f : length (c ∷ ts) - 1 ≡ length ts = omega arith in
     ap (slice_get (b ∷ c ∷ ts)) e ∙ sym (ap (slice_get (c ∷ ts)) f)
 
--- a text whose last byte is a slash
-ends_so : (text : List ℕ) → slice_get text (length text - 1) ≡ Some slash
-    → (front : List ℕ) × (text ≡ front ++ slash ∷ [])
-ends_so [] e = absurd (none-some slash e)
-ends_so (b ∷ []) e = ([], ap (λ c. c ∷ []) (same_Some b slash e))
-ends_so (b ∷ c ∷ text) e =
-    let r = ends_so (c ∷ text) (sym (last_step b c text) ∙ e) in (b ∷ r.0, ap (λ l. b ∷ l) r.1)
+-- a beginning that meets the rest, which is not empty, at a slash, or that is empty where one stands before
+abbrev Asked : Bool → List ℕ → List ℕ → Type 0
+Asked behind text rest = MeetAtSlash text rest ⊎ ((text ≡ []) × (behind ≡ true))
 
-begins_so : (rest : List ℕ) → BeginsWithSlash rest → (more : List ℕ) × (rest ≡ slash ∷ more)
-begins_so [] e = absurd (none-some slash e)
-begins_so (b ∷ rest) e = (rest, ap (λ c. c ∷ rest) (same_Some b slash e))
+asked_among : (behind : Bool) (text : List ℕ) (b : ℕ) (bs : List ℕ) → Asked behind text (b ∷ bs)
+    → is_among text (beginnings behind (text ++ b ∷ bs)) ≡ true
+asked_among behind [] b bs asked =
+    ap (is_among []) (cond-true (behind || eqb b slash) ([] ∷ more) more (here asked)) ∙ among_head [] [] more refl
+  where
+    more : List (List ℕ)
+    more = map (λ t. b ∷ t) (beginnings (eqb b slash) bs)
 
-prefix_among : (path text rest : List ℕ) → path ≡ text ++ rest → MeetAtSlash text rest
-    → is_among text (at_slashes path) ≡ true
-prefix_among path text rest e (inl ends) =
-    let f = ends_so text ends in
-    (λ i. is_among (f.1 i) (at_slashes ((e ∙ ap (λ t. t ++ rest) f.1) i))) ∙ at_slashes-with f.0 rest
-prefix_among path text rest e (inr begins) =
-    let f = begins_so rest begins in
-    ap (λ p. is_among text (at_slashes p)) (e ∙ ap (λ r. text ++ r) f.1) ∙ at_slashes-before text f.0
+    here : Asked behind [] (b ∷ bs) → (behind || eqb b slash) ≡ true
+    here (inl (inl ends)) = absurd (none-some slash ends)
+    here (inl (inr begins)) = or_right behind (eqb b slash) (nat_is b slash (same_Some b slash begins))
+    here (inr both) = or_left behind (eqb b slash) both.1
+asked_among behind (c ∷ text) b bs asked =
+    by (behind || eqb c slash) (among_map c text (beginnings (eqb c slash) (text ++ b ∷ bs))
+    (asked_among (eqb c slash) text b bs (further text asked)))
+  where
+    more : List (List ℕ)
+    more = map (λ t. c ∷ t) (beginnings (eqb c slash) (text ++ b ∷ bs))
+
+    further : (t : List ℕ) → Asked behind (c ∷ t) (b ∷ bs) → Asked (eqb c slash) t (b ∷ bs)
+    further [] (inl (inl ends)) = inr (refl, nat_is c slash (same_Some c slash ends))
+    further (d ∷ t) (inl (inl ends)) = inl (inl (sym (last_step c d t) ∙ ends))
+    further t (inl (inr begins)) = inl (inr begins)
+    further t (inr both) = let none = ap length both.0 in absurd (omega (arith, none))
+
+    by : (x : Bool) → is_among (c ∷ text) more ≡ true → is_among (c ∷ text) (cond x ([] ∷ more) more) ≡ true
+    by true h = among_tail (c ∷ text) [] more h
+    by false h = h
 
 -- one byte more in front
 deeper_meet : (b : ℕ) (text rest : List ℕ) → MeetAtSlash text rest → MeetAtSlash (b ∷ text) rest
@@ -173,53 +154,67 @@ deeper_meet b [] rest (inl ends) = absurd (none-some slash ends)
 deeper_meet b (c ∷ text) rest (inl ends) = inl (last_step b c text ∙ ends)
 deeper_meet b text rest (inr begins) = inr begins
 
-deeper : (b : ℕ) (path text : List ℕ) → IsPathPrefix text path → IsPathPrefix (b ∷ text) (b ∷ path)
-deeper b path text p = record {
-  rest = p.rest;
-  split = ap
-      (λ l. b ∷ l) p.split;
-  at_slash = deeper_meet b text p.rest p.at_slash;
-}
-
-among_prefix : (path text : List ℕ) → is_among text (at_slashes path) ≡ true → IsPathPrefix text path
-among_prefix [] text e = absurd (true≢false (sym e))
-among_prefix (b ∷ path) text e = by (eqb b slash) refl e (λ t h. among_prefix path t h)
+among_asked : (behind : Bool) (path text : List ℕ) → is_among text (beginnings behind path) ≡ true
+    → (rest : List ℕ) × (path ≡ text ++ rest) × Asked behind text rest
+among_asked behind [] text e = absurd (true≢false (sym e))
+among_asked behind (b ∷ path) text e = by (behind || eqb b slash) refl e (λ t h. among_asked (eqb b slash) path t h)
   where
+    less : List (List ℕ)
+    less = beginnings (eqb b slash) path
+
     more : List (List ℕ)
-    more = map (λ t. b ∷ t) (at_slashes path)
+    more = map (λ t. b ∷ t) less
+
+    Splits : List ℕ → Type 0
+    Splits t = (rest : List ℕ) × (b ∷ path ≡ t ++ rest) × Asked behind t rest
 
     Rest : Type 0
-    Rest = (t : List ℕ) → is_among t (at_slashes path) ≡ true → IsPathPrefix t path
+    Rest = (t : List ℕ) → is_among t less ≡ true → (rest : List ℕ) × (path ≡ t ++ rest) × Asked (eqb b slash) t rest
 
-    moved : Rest → (t : List ℕ) × (text ≡ b ∷ t) × (is_among t (at_slashes path) ≡ true) → IsPathPrefix text (b ∷ path)
-    moved further (t, is, among) = subst (λ x. IsPathPrefix x (b ∷ path)) (sym is) (deeper b path t (further t among))
+    longer : (t rest : List ℕ) → Asked (eqb b slash) t rest → Asked behind (b ∷ t) rest
+    longer t rest (inl meet) = inl (deeper_meet b t rest meet)
+    longer t rest (inr both) =
+        inl (inl (subst (λ x. slice_get (b ∷ x) (length (b ∷ x) - 1) ≡ Some slash) (sym both.0)
+        (ap Some (same_nat b slash both.1))))
 
-    third : Rest → (b ≡ slash) → ((b ∷ [] ≡ text) ⊎ (is_among text more ≡ true)) → IsPathPrefix text (b ∷ path)
-    third further at (inl is) = subst (λ x. IsPathPrefix x (b ∷ path)) is
-        (record { rest = path; split = refl; at_slash = inl (ap Some at) })
-    third further at (inr h) = moved further (among_unmap b text (at_slashes path) h)
+    moved : Rest → (t : List ℕ) × (text ≡ b ∷ t) × (is_among t less ≡ true) → Splits text
+    moved further (t, is, among) =
+        let r = further t among in
+        subst Splits (sym is) (r.0, ap (λ l. b ∷ l) r.1, longer t r.0 r.2)
 
-    second : Rest → (b ≡ slash) → (([] ≡ text) ⊎ (is_among text ((b ∷ []) ∷ more) ≡ true))
-        → IsPathPrefix text (b ∷ path)
-    second further at (inl is) = subst (λ x. IsPathPrefix x (b ∷ path)) is
-        (record { rest = b ∷ path; split = refl; at_slash = inr (ap Some at) })
-    second further at (inr h) = third further at (among_case text (b ∷ []) more h)
+    here : (behind ≡ true) ⊎ (eqb b slash ≡ true) → Splits []
+    here (inl before) = (b ∷ path, refl, inr (refl, before))
+    here (inr is) = (b ∷ path, refl, inl (inr (ap Some (same_nat b slash is))))
 
-    by : (c : Bool) → eqb b slash ≡ c → is_among text (cond c ([] ∷ (b ∷ []) ∷ more) more) ≡ true → Rest
-        → IsPathPrefix text (b ∷ path)
-    by true is h further = second further (same_nat b slash is) (among_case text [] ((b ∷ []) ∷ more) h)
-    by false is h further = moved further (among_unmap b text (at_slashes path) h)
+    first : (behind || eqb b slash) ≡ true → Rest → ([] ≡ text) ⊎ (is_among text more ≡ true) → Splits text
+    first is further (inl same) = subst Splits same (here (or_split behind (eqb b slash) is))
+    first is further (inr h) = moved further (among_unmap b text less h)
+
+    by : (x : Bool) → (behind || eqb b slash) ≡ x → is_among text (cond x ([] ∷ more) more) ≡ true → Rest
+        → Splits text
+    by true is h further = first is further (among_case text [] more h)
+    by false is h further = moved further (among_unmap b text less h)
 
 pub are_paths : (path text : List ℕ) → (is_among text (paths_of path) ≡ true) ↔ PathMatches text path
-are_paths path text = (λ e. there (among_case text path (at_slashes path) e), back)
+are_paths path text = (λ e. there (among_case text path (beginnings false path) e), back)
   where
-    there : (path ≡ text) ⊎ (is_among text (at_slashes path) ≡ true) → PathMatches text path
+    splits : (rest : List ℕ) → path ≡ text ++ rest → Asked false text rest → PathMatches text path
+    splits rest split (inl meet) = inr (record { rest = rest; split = split; at_slash = meet })
+    splits rest split (inr both) = absurd (true≢false (sym both.1))
+
+    there : (path ≡ text) ⊎ (is_among text (beginnings false path) ≡ true) → PathMatches text path
     there (inl same) = inl same
-    there (inr more) = inr (among_prefix path text more)
+    there (inr more) = let r = among_asked false path text more in splits r.0 r.1 r.2
+
+    prefix : (rest : List ℕ) → path ≡ text ++ rest → MeetAtSlash text rest → is_among text (paths_of path) ≡ true
+    prefix [] split meet = among_head text path (beginnings false path) (split ∙ append-nil text)
+    prefix (b ∷ bs) split meet =
+        among_tail text path (beginnings false path)
+        (ap (λ p. is_among text (beginnings false p)) split ∙ asked_among false text b bs (inl meet))
 
     back : PathMatches text path → is_among text (paths_of path) ≡ true
-    back (inl same) = among_head text path (at_slashes path) same
-    back (inr p) = among_tail text path (at_slashes path) (prefix_among path text p.rest p.split p.at_slash)
+    back (inl same) = among_head text path (beginnings false path) same
+    back (inr p) = prefix p.rest p.split p.at_slash
 
 -- ---- how many
 
@@ -232,48 +227,29 @@ after_dots-count (b ∷ bs) = by (eqb b dot) (after_dots-count bs)
     by true e = omega (arith, e)
     by false e = e
 
-pub at_slashes-count : (path : List ℕ) → length (at_slashes path) ≡ 2 * count_of slash path
-at_slashes-count [] = refl
-at_slashes-count (b ∷ bs) = by (eqb b slash) (map (λ t. b ∷ t) (at_slashes bs))
-    (length-map (at_slashes bs) (λ t. b ∷ t) ∙ at_slashes-count bs)
+beginnings-count : (behind : Bool) (path : List ℕ)
+    → length (beginnings behind path) ≤ 2 * count_of slash path + cond behind 1 0
+beginnings-count behind [] = omega arith
+beginnings-count behind (b ∷ bs) =
+    let same = length-map (beginnings (eqb b slash) bs) (λ t. b ∷ t) in
+    let rest = beginnings-count (eqb b slash) bs in
+    by behind (eqb b slash) (map (λ t. b ∷ t) (beginnings (eqb b slash) bs)) (omega (arith, same, rest))
   where
-    by : (c : Bool) (more : List (List ℕ)) → length more ≡ 2 * count_of slash bs
-        → length (cond c ([] ∷ (b ∷ []) ∷ more) more) ≡ 2 * cond c (1 + count_of slash bs) (count_of slash bs)
-    by true more e = omega (arith, e)
-    by false more e = e
+    by : (x c : Bool) (more : List (List ℕ)) → length more ≤ 2 * count_of slash bs + cond c 1 0
+        → length (cond (x || c) ([] ∷ more) more)
+        ≤ 2 * cond c (1 + count_of slash bs) (count_of slash bs) + cond x 1 0
+    by true true more le = omega (arith, le)
+    by true false more le = omega (arith, le)
+    by false true more le = omega (arith, le)
+    by false false more le = omega (arith, le)
 
 pub domains_of-count : (host : List ℕ) → length (domains_of host) ≡ 1 + count_of dot host
 domains_of-count host = let e = after_dots-count host in omega (arith, e)
 
-pub paths_of-count : (path : List ℕ) → length (paths_of path) ≡ 1 + 2 * count_of slash path
-paths_of-count path = let e = at_slashes-count path in omega (arith, e)
+pub paths_of-count : (path : List ℕ) → length (paths_of path) ≤ 1 + 2 * count_of slash path
+paths_of-count path = let e = beginnings-count false path in omega (arith, e)
 
 -- ---- a step of a loop
-
--- what the last byte adds
-abbrev pub at_end : List ℕ → ℕ → List (List ℕ)
-at_end xs b = cond (eqb b slash) (xs ∷ (xs ++ b ∷ []) ∷ []) []
-
-pub at_slashes-snoc : (xs : List ℕ) (b : ℕ) → at_slashes (xs ++ b ∷ []) ≡ at_slashes xs ++ at_end xs b
-at_slashes-snoc [] b = refl
-at_slashes-snoc (x ∷ xs) b =
-    ap (λ ts. front (eqb x slash) (map (λ t. x ∷ t) ts)) (at_slashes-snoc xs b)
-    ∙ ap (front (eqb x slash)) (map-append (λ t. x ∷ t) (at_slashes xs) (at_end xs b)
-    ∙ ap (λ ts. map (λ t. x ∷ t) (at_slashes xs) ++ ts) (last (eqb b slash)))
-    ∙ apart (eqb x slash) (map (λ t. x ∷ t) (at_slashes xs))
-    (cond (eqb b slash) ((x ∷ xs) ∷ (x ∷ xs ++ b ∷ []) ∷ []) [])
-  where
-    front : Bool → List (List ℕ) → List (List ℕ)
-    front c ts = cond c ([] ∷ (x ∷ []) ∷ ts) ts
-
-    last : (c : Bool)
-        → map (λ t. x ∷ t) (cond c (xs ∷ (xs ++ b ∷ []) ∷ []) []) ≡ cond c ((x ∷ xs) ∷ (x ∷ xs ++ b ∷ []) ∷ []) []
-    last true = refl
-    last false = refl
-
-    apart : (c : Bool) (ts us : List (List ℕ)) → front c (ts ++ us) ≡ front c ts ++ us
-    apart true ts us = refl
-    apart false ts us = refl
 
 -- past a text with no dot, and the dot
 pub after_dots-next : (before rest : List ℕ) → list_any (λ b. eqb b dot) before ≡ false

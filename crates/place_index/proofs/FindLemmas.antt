@@ -15,7 +15,6 @@ use Rattle.place_index.specs.Found.{looks_for, span_of, spans, spans_of}
 use Rattle.place_index.specs.Index.{Agrees, PartsAgree, DomainAgrees, Index, IsNowhere, IsPart, PathAgrees, Span}
 use Rattle.place_index.specs.Index.{DomainPart}
 use Rattle.place_index.specs.declared.part.Part.{Part}
-use Rattle.place_index.proofs.CandidateLemmas.{paths_of-count}
 use Rattle.place_index.proofs.FoundLemmas.{finds_exactly, in_span, looks_are_few, some_of}
 use Rattle.place_index.proofs.OrderLemmas.{inside}
 use Rattle.place_index.proofs.PartLemmas.{is_there}
@@ -59,22 +58,16 @@ found_domains-rows rows index agrees (domain ∷ domains) =
         omega (arith, rest, more)
 
 -- the questions, in the words of the rows
-pub looks_for-rows : (rows : List Place) (index : Index) → PartsAgree rows index → (host path : List ℕ)
-    → looks_for index (domains_of host) (1 + 2 * count_of slash path) ≡ looks_at host path rows
-looks_for-rows rows index agrees host path =
-    ap (looks_for index (domains_of host)) (sym (paths_of-count path))
-    ∙ looks_are_few index host path
-    ∙ ap (λ n. 1 + count_of dot host + n * (1 + 2 * count_of slash path))
-    (found_domains-rows rows index agrees (domains_of host))
-
 pub few_looks : (rows : List Place) (index asked : Index) → asked ≡ index → PartsAgree rows index
     → (host path : List ℕ) (old new : ℕ)
-    → new ≤ old + looks_for asked (domains_of host) (1 + 2 * count_of slash path)
+    → new ≤ old + looks_for asked (domains_of host) (length (paths_of path))
     → new ≤ old + looks_at host path rows
 few_looks rows index asked is agrees host path old new le =
-    let same = ap (λ i. looks_for i (domains_of host) (1 + 2 * count_of slash path)) is
-    ∙ looks_for-rows rows index agrees host path in
-    omega (arith, le, same)
+    let same = ap (λ i. looks_for i (domains_of host) (length (paths_of path))) is in
+    let few = looks_are_few index host path in
+    let found = ap (λ n. 1 + count_of dot host + n * (1 + 2 * count_of slash path))
+    (found_domains-rows rows index agrees (domains_of host)) in
+    omega (arith, le, same, few, found)
 
 -- ---- what is found is of the rows
 

@@ -4,14 +4,15 @@ use Rattle.std.proofs.Common.{sym, ap, subst, ◌∙◌, inl, inr, arith, true�
 use Rattle.std.specs.Prelude.{Option, Some, None, slice_get, nat_le, nat_lt}
 use Rattle.std.specs.Str.{bytes_eq}
 use Rattle.std.specs.List.{flat_map, list_any}
+use Rattle.std.proofs.Math.Nat.{mul-le-mul_left}
 use Rattle.std.proofs.lemmas.Bool.{cases_lt, and_from, and_parts, and_left, and_right, or_left, or_right}
 use Rattle.std.proofs.lemmas.Grind.{common_steps}
 use Rattle.std.proofs.lemmas.List.Folds.{list_any-append}
-use Rattle.place_index.specs.Paths.{dot, slash}
+use Rattle.place_index.specs.Paths.{dot}
 use Rattle.place_index.specs.Places.{Place, is_at, is_of}
 use Rattle.place_index.specs.Entries.{value_at}
 use Rattle.place_index.specs.Candidates.{is_among, domains_of, paths_of, count_of}
-use Rattle.place_index.specs.Found.{FindsExactly, is_in, span_of, spans_of, spans, looks_for, path_looks}
+use Rattle.place_index.specs.Found.{FindsExactly, LooksAreFew, is_in, span_of, spans_of, spans, looks_for, path_looks}
 use Rattle.place_index.specs.Found.{found_domain, found_domains}
 use Rattle.place_index.specs.Index.{DomainPart}
 use Rattle.place_index.specs.declared.part.Part.{Part}
@@ -147,8 +148,14 @@ looks_split index (domain ∷ domains) paths = by (value_at domain index) (looks
         = grind (arith, common_steps) in
         omega (arith, e, m)
 
-pub looks_are_few : (index : Index) (host path : List ℕ) → looks_for index (domains_of host) (length (paths_of path))
-    ≡ 1 + count_of dot host + found_domains index (domains_of host) * (1 + 2 * count_of slash path)
+looks_of : (index : Index) (host : List ℕ) (paths : ℕ) → looks_for index (domains_of host) paths
+    ≡ 1 + count_of dot host + found_domains index (domains_of host) * paths
+looks_of index host paths =
+    looks_split index (domains_of host) paths
+    ∙ (λ i. domains_of-count host i + found_domains index (domains_of host) * paths)
+
+pub looks_are_few : LooksAreFew
 looks_are_few index host path =
-    looks_split index (domains_of host) (length (paths_of path))
-    ∙ (λ i. domains_of-count host i + found_domains index (domains_of host) * paths_of-count path i)
+    let same = looks_of index host (length (paths_of path)) in
+    let less = mul-le-mul_left (found_domains index (domains_of host)) (paths_of-count path) in
+    omega (arith, same, less)

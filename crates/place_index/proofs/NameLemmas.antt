@@ -1,17 +1,16 @@
 -- The names of an index after one row more and after one fewer.
-use Rattle.std.proofs.Common.{◌≡◌, ◌≢◌, ◌⊎◌, ◌+◌, ◌-◌, ◌<◌, ◌≤◌, ◌++◌, ◌||◌, ◌&&◌, ◌∙◌, ℕ, zero, suc, Bool, true, false}
-use Rattle.std.proofs.Common.{cond, List, [], ◌∷◌, length, map, refl, sym, ap, subst, inl, inr, arith}
-use Rattle.std.proofs.Common.{true≢false}
+use Rattle.std.proofs.Common.{◌≡◌, ◌≢◌, ◌+◌, ◌-◌, ◌<◌, ◌≤◌, ◌++◌, ◌||◌, ◌&&◌, ◌∙◌, ℕ, zero, suc, Bool, true, false}
+use Rattle.std.proofs.Common.{cond, List, [], ◌∷◌, length, map, refl, sym, ap, subst, arith}
 use Rattle.std.specs.Prelude.{Option, Some, None, filter, slice_get, option_map, position, string_bytes}
 use Rattle.std.specs.List.{insert, list_any, remove}
 use Rattle.std.specs.Str.{bytes_eq}
 use Rattle.std.specs.String.{string_eq}
 use Rattle.std.specs.declared.string.String.{String}
-use Rattle.std.proofs.lemmas.Bool.{and_parts, cond-true, cond-false}
+use Rattle.std.proofs.lemmas.Bool.{cond-true, cond-false}
 use Rattle.std.proofs.lemmas.List.{map-append}
 use Rattle.std.proofs.lemmas.Option.{none-some, same_Some, slice_get_within}
 use Rattle.indexmap.specs.IndexSet.{insert_key}
-use Rattle.place_index.specs.Entries.{value_at, with_value}
+use Rattle.place_index.specs.Entries.{value_at}
 use Rattle.place_index.specs.Index.{Agrees, BeginsDomain, BeginsPath, DomainAgrees, DomainPart, GrowsPath, Index}
 use Rattle.place_index.specs.Index.{IsNowhere}
 use Rattle.place_index.specs.Index.{IsPart, NamesAgree, PartsAgree, OthersMove, PathAgrees, last, moved_domain}
@@ -23,7 +22,7 @@ use Rattle.place_index.specs.declared.part.Part.{Part}
 use Rattle.place_index.proofs.EntryLemmas.{position-step, same_text}
 use Rattle.place_index.proofs.IndexLemmas.{begins_domain, begins_path, domain_no_path, foreign, foreign_path}
 use Rattle.place_index.proofs.IndexLemmas.{grows_path}
-use Rattle.place_index.proofs.IndexLemmas.{own_domain, own_path, text_cases, value_at-with_other, value_at-with_value}
+use Rattle.place_index.proofs.IndexLemmas.{own_path, text_cases, value_at-with_other, value_at-with_value}
 use Rattle.place_index.proofs.IndexOutLemmas.{ends_domain, ends_path, in_part, shrinks_path}
 use Rattle.place_index.proofs.StartLemmas.{one_less, still_none}
 use Rattle.place_index.proofs.TakingLemmas.{texts_fail}

@@ -1,5 +1,5 @@
 -- Where the row of a place stands, by what an index has for its texts.
-use Rattle.std.proofs.Common.{Bool, ◌≡◌, ◌∙◌, ◌+◌, ◌<◌, ◌≤◌, ◌^◌, ℕ, List, false, true, length, map, refl, ap, subst}
+use Rattle.std.proofs.Common.{Bool, ◌≡◌, ◌∙◌, ◌+◌, ◌<◌, ◌≤◌, ◌^◌, ℕ, List, false, true, refl, ap, subst}
 use Rattle.std.proofs.Common.{sym, arith}
 use Rattle.std.specs.Prelude.{IfSome, Option, Some, None, filter, option_map, position, slice_get}
 use Rattle.std.specs.List.{list_any}
@@ -8,9 +8,9 @@ use Rattle.std.proofs.lemmas.Bool.{and_parts, cond-false, cond-true}
 use Rattle.std.proofs.lemmas.Option.{none-some, same_Some, slice_get-map, slice_get_within}
 use Rattle.place_index.specs.Entries.{value_at}
 use Rattle.place_index.specs.Found.{AllFit, Fits, looks_up}
-use Rattle.place_index.specs.Index.{Agrees, DomainAgrees, DomainPart, Index, IsIndex, IsPart, PathAgrees, StandsAt}
+use Rattle.place_index.specs.Index.{Agrees, DomainAgrees, DomainPart, Index, IsIndex, IsPart, PathAgrees}
 use Rattle.place_index.specs.Index.{last}
-use Rattle.place_index.specs.Index.{names_at, names_in, names_of}
+use Rattle.place_index.specs.Index.{names_in, names_of}
 use Rattle.place_index.specs.Places.{Place, is_at, is_of, is_same}
 use Rattle.place_index.specs.declared.part.Part.{Part}
 use Rattle.place_index.proofs.EndLemmas.{any_of_part, none_any}

@@ -1,17 +1,15 @@
--- A step of the loops over a host's dots and a path's slashes.
-use Rattle.std.proofs.Common.{◌≡◌, ◌≢◌, ◌++◌, ◌+◌, ◌-◌, ◌<◌, ℕ, cond, eqb, List, [], ◌∷◌, length, get_or, take, drop}
-use Rattle.std.proofs.Common.{refl, sym, ap, ◌∙◌, arith, zero, suc, append_assoc, append-nil}
+-- A step of the loop over a path's beginnings.
+use Rattle.std.proofs.Common.{◌≡◌, ◌++◌, ◌+◌, ◌-◌, ◌<◌, ◌≤◌, ◌||◌, ℕ, Bool, true, false, cond, eqb, List, [], ◌∷◌}
+use Rattle.std.proofs.Common.{length, map, get_or, take, drop, refl, sym, ap, ◌∙◌, arith, zero, suc, append_assoc, append-nil}
 use Rattle.std.specs.Prelude.{Some}
-use Rattle.std.specs.List.{flat_map, slice_range}
-use Rattle.std.proofs.lemmas.Bool.{cond-true, cond-false, false_from_ne_true}
-use Rattle.std.proofs.lemmas.List.Concat.{flat_map-append}
-use Rattle.place_index.specs.Index.{DomainPart}
+use Rattle.std.specs.List.{slice_range}
+use Rattle.std.proofs.lemmas.Bool.{cond-true, cond-false}
+use Rattle.std.proofs.lemmas.List.{at_drop_all, length-map}
+use Rattle.place_index.specs.Candidates.{beginnings, paths_of}
 use Rattle.place_index.specs.Entries.{value_at}
 use Rattle.place_index.specs.Found.{span_of, spans_of}
-use Rattle.place_index.specs.Index.{Span}
+use Rattle.place_index.specs.Index.{DomainPart, Span}
 use Rattle.place_index.specs.Paths.{slash}
-use Rattle.place_index.specs.Candidates.{at_slashes, count_of}
-use Rattle.place_index.proofs.CandidateLemmas.{at_slashes-snoc, at_end, same_nat, nat_is}
 
 pub drop_step : (xs : List ℕ) (i : ℕ) → i < length xs → drop i xs ≡ get_or xs i 0 ∷ drop (suc i) xs
 drop_step [] i l = absurd (omega arith)
@@ -27,63 +25,93 @@ take_step (x ∷ xs) (suc i) l = ap (λ ys. x ∷ ys) (take_step xs i (omega ari
 pub beginning : (xs : List ℕ) (n m : ℕ) → m ≡ n → slice_range xs 0 m ≡ take n xs
 beginning xs n m e = let f : m - 0 ≡ n = omega (arith, e) in ap (λ k. take k xs) f
 
--- how often the byte is left to come
-pub count_step : (byte : ℕ) (xs : List ℕ) (i : ℕ) → i < length xs
-    → count_of byte (drop i xs)
-    ≡ cond (eqb (get_or xs i 0) byte) (1 + count_of byte (drop (suc i) xs)) (count_of byte (drop (suc i) xs))
-count_step byte xs i l = ap (count_of byte) (drop_step xs i l)
+-- one byte more in front of each
+front_step : (front : List ℕ) (b : ℕ) (ts : List (List ℕ))
+    → map (λ t. front ++ t) (map (λ t. b ∷ t) ts) ≡ map (λ t. (front ++ b ∷ []) ++ t) ts
+front_step front b [] = refl
+front_step front b (t ∷ ts) = (λ i. sym (append_assoc front (b ∷ []) t) i ∷ front_step front b ts i)
 
--- the beginnings at the slashes so far
-pub slashes_step : (xs : List ℕ) (i : ℕ) → i < length xs
-    → at_slashes (take (suc i) xs) ≡ at_slashes (take i xs) ++ at_end (take i xs) (get_or xs i 0)
-slashes_step xs i l = ap at_slashes (take_step xs i l) ∙ at_slashes-snoc (take i xs) (get_or xs i 0)
+-- the beginnings of the path that are left to come, where a slash stands before the i-th byte or none does
+abbrev pub left : List ℕ → ℕ → Bool → List (List ℕ)
+left path i behind = map (λ t. take i path ++ t) (beginnings behind (drop i path))
 
-module _ (domain : DomainPart) (path : List ℕ) (i : ℕ) (l : i < length path) where
-  abbrev texts : List ℕ → List Span
-  texts text = span_of domain (value_at text domain.paths)
+pub left_first : (path : List ℕ) → left path 0 false ≡ beginnings false path
+left_first path = map-same (beginnings false path)
+  where
+    map-same : (ts : List (List ℕ)) → map (λ t. [] ++ t) ts ≡ ts
+    map-same [] = refl
+    map-same (t ∷ ts) = ap (λ us. t ∷ us) (map-same ts)
 
-  -- a slash: two beginnings more
-  pub spans_step : (start before middle after : List Span) (one two : List ℕ)
-      → one ≡ take i path → two ≡ take (suc i) path → get_or path i 0 ≡ slash
-      → before ≡ start ++ spans_of (path ∷ at_slashes (take i path)) (Some domain)
-      → middle ≡ before ++ span_of domain (value_at one domain.paths)
-      → after ≡ middle ++ span_of domain (value_at two domain.paths)
-      → after ≡ start ++ spans_of (path ∷ at_slashes (take (suc i) path)) (Some domain)
-  spans_step start before middle after one two first second is b m a =
-      a ∙ ap (λ t. middle ++ texts t) second
-      ∙ ap (λ xs. xs ++ texts (take (suc i) path))
-      (m ∙ ap (λ t. before ++ texts t) first ∙ ap (λ xs. xs ++ texts (take i path)) b)
-      ∙ append_assoc (start ++ all) (texts (take i path)) (texts (take (suc i) path))
-      ∙ append_assoc start all (texts (take i path) ++ texts (take (suc i) path))
-      ∙ ap (λ xs. start ++ xs) (sym more)
+pub left_none : (path : List ℕ) (i : ℕ) (behind : Bool) → length path ≤ i → left path i behind ≡ []
+left_none path i behind past = ap (λ ts. map (λ t. take i path ++ t) ts) (at_drop_all (beginnings behind) path i past)
+
+module _ (path : List ℕ) (i : ℕ) (behind next : Bool) (is_next : next ≡ eqb (get_or path i 0) slash)
+    (l : i < length path) where
+  abbrev later : List (List ℕ)
+  later = beginnings next (drop (i + 1) path)
+
+  one : suc i ≡ i + 1
+  one = omega arith
+
+  opened : beginnings behind (drop i path)
+      ≡ cond (behind || next) ([] ∷ map (λ t. get_or path i 0 ∷ t) later) (map (λ t. get_or path i 0 ∷ t) later)
+  opened =
+      ap (beginnings behind) (drop_step path i l)
+      ∙ (λ j. cond (behind || is j)
+      ([] ∷ map (λ t. get_or path i 0 ∷ t) (beginnings (is j) (drop (one j) path)))
+      (map (λ t. get_or path i 0 ∷ t) (beginnings (is j) (drop (one j) path))))
     where
-      all : List Span
-      all = flat_map texts (path ∷ at_slashes (take i path))
+      is : eqb (get_or path i 0) slash ≡ next
+      is = sym is_next
 
-      pair : at_end (take i path) (get_or path i 0) ≡ take i path ∷ take (suc i) path ∷ []
-      pair = cond-true (eqb (get_or path i 0) slash) _ _ (nat_is (get_or path i 0) slash is)
-          ∙ ap (λ t. take i path ∷ t ∷ []) (sym (take_step path i l))
+  further : map (λ t. take i path ++ t) (map (λ t. get_or path i 0 ∷ t) later) ≡ left path (i + 1) next
+  further =
+      front_step (take i path) (get_or path i 0) later
+      ∙ ap (λ front. map (λ t. front ++ t) later) (sym (take_step path i l) ∙ ap (λ k. take k path) one)
 
-      more : flat_map texts (path ∷ at_slashes (take (suc i) path))
-          ≡ all ++ (texts (take i path) ++ texts (take (suc i) path))
-      more = ap (λ ts. flat_map texts (path ∷ ts))
-          (slashes_step path i l ∙ ap (λ ts. at_slashes (take i path) ++ ts) pair)
-          ∙ flat_map-append texts (path ∷ at_slashes (take i path)) (take i path ∷ take (suc i) path ∷ [])
-          ∙ ap (λ xs. all ++ (texts (take i path) ++ xs)) (append-nil (texts (take (suc i) path)))
+  -- one of them is asked for
+  left_asked : (behind || next) ≡ true → left path i behind ≡ take i path ∷ left path (i + 1) next
+  left_asked is =
+      ap (map (λ t. take i path ++ t)) (opened ∙ cond-true (behind || next) _ _ is)
+      ∙ (λ j. append-nil (take i path) j ∷ further j)
 
-  -- no slash: none
-  pub spans_stay : get_or path i 0 ≢ slash → at_slashes (take (suc i) path) ≡ at_slashes (take i path)
-  spans_stay other = slashes_step path i l
-      ∙ ap (λ ts. at_slashes (take i path) ++ ts) (cond-false (eqb (get_or path i 0) slash) _ _
-      (false_from_ne_true (eqb (get_or path i 0) slash) (λ e. other (same_nat (get_or path i 0) slash e))))
-      ∙ append-nil (at_slashes (take i path))
+  pub fewer_asked : (behind || next) ≡ true → length (beginnings behind (drop i path)) ≡ suc (length later)
+  fewer_asked is =
+      ap length (opened ∙ cond-true (behind || next) _ _ is)
+      ∙ ap suc (length-map later (λ t. get_or path i 0 ∷ t))
 
-  pub slash_passed : get_or path i 0 ≡ slash → count_of slash (drop i path) ≡ 1 + count_of slash (drop (suc i) path)
-  slash_passed is =
-      count_step slash path i l ∙ cond-true (eqb (get_or path i 0) slash) _ _ (nat_is (get_or path i 0) slash is)
+  -- none is
+  left_passed : (behind || next) ≡ false → left path i behind ≡ left path (i + 1) next
+  left_passed is = ap (map (λ t. take i path ++ t)) (opened ∙ cond-false (behind || next) _ _ is) ∙ further
 
-  pub none_passed : get_or path i 0 ≢ slash → count_of slash (drop i path) ≡ count_of slash (drop (suc i) path)
-  none_passed other =
-      count_step slash path i l
-      ∙ cond-false (eqb (get_or path i 0) slash) _ _
-      (false_from_ne_true (eqb (get_or path i 0) slash) (λ e. other (same_nat (get_or path i 0) slash e)))
+  pub fewer_passed : (behind || next) ≡ false → length (beginnings behind (drop i path)) ≡ length later
+  fewer_passed is =
+      ap length (opened ∙ cond-false (behind || next) _ _ is) ∙ length-map later (λ t. get_or path i 0 ∷ t)
+
+  module _ (domain : DomainPart) (before after all : List Span) where
+    -- the spans that are there and those to come stay all of them
+    pub spans_asked : (behind || next) ≡ true → (asked : List ℕ) → asked ≡ take i path
+        → after ≡ before ++ span_of domain (value_at asked domain.paths)
+        → before ++ spans_of (left path i behind) (Some domain) ≡ all
+        → after ++ spans_of (left path (i + 1) next) (Some domain) ≡ all
+    spans_asked is asked same a h =
+        ap (λ xs. xs ++ spans_of (left path (i + 1) next) (Some domain))
+        (a ∙ ap (λ t. before ++ span_of domain (value_at t domain.paths)) same)
+        ∙ append_assoc before (span_of domain (value_at (take i path) domain.paths))
+        (spans_of (left path (i + 1) next) (Some domain))
+        ∙ ap (λ ts. before ++ spans_of ts (Some domain)) (sym (left_asked is))
+        ∙ h
+
+    pub spans_passed : (behind || next) ≡ false → after ≡ before
+        → before ++ spans_of (left path i behind) (Some domain) ≡ all
+        → after ++ spans_of (left path (i + 1) next) (Some domain) ≡ all
+    spans_passed is a h =
+        let back = sym (left_passed is) in (λ j. a j ++ spans_of (back j) (Some domain)) ∙ h
+
+-- the path itself is asked for first
+pub spans_begun : (domain : DomainPart) (path : List ℕ) (old now : List Span)
+    → now ≡ old ++ span_of domain (value_at path domain.paths)
+    → now ++ spans_of (left path 0 false) (Some domain) ≡ old ++ spans_of (paths_of path) (Some domain)
+spans_begun domain path old now is =
+    (λ j. is j ++ spans_of (left_first path j) (Some domain))
+    ∙ append_assoc old (span_of domain (value_at path domain.paths)) (spans_of (beginnings false path) (Some domain))

@@ -1,5 +1,6 @@
 -- The texts that `matches` asks the index for.
-use Rattle.std.specs.Prelude.{◌≡◌, ◌↔◌, ◌⊎◌, ◌==◌, ◌+◌, ◌*◌, ℕ, List, [], ◌∷◌, map, length, Bool, true, if◌then◌else◌}
+use Rattle.std.specs.Prelude.{◌≡◌, ◌↔◌, ◌⊎◌, ◌==◌, ◌||◌, ◌+◌, ◌*◌, ◌≤◌, ℕ, List, [], ◌∷◌, map, length, Bool, true}
+use Rattle.std.specs.Prelude.{false, if◌then◌else◌}
 use Rattle.std.specs.List.{list_any}
 use Rattle.std.specs.Str.{bytes_eq}
 use Rattle.place_index.specs.Paths.{dot, slash, EndsAfterDot, PathMatches}
@@ -17,16 +18,17 @@ after_dots (b ∷ bs) = if b == dot then bs ∷ after_dots bs else after_dots bs
 abbrev pub domains_of : List ℕ → List (List ℕ)
 domains_of host = host ∷ after_dots host
 
--- the beginnings at each slash, without it and with it
-abbrev pub at_slashes : List ℕ → List (List ℕ)
-at_slashes [] = []
-at_slashes (b ∷ bs) =
-    if b == slash then [] ∷ (b ∷ []) ∷ map (λ t. b ∷ t) (at_slashes bs)
-    else map (λ t. b ∷ t) (at_slashes bs)
+-- the beginnings of a text, less than all of it, that end with a slash or that a slash follows, each once; also the empty
+-- one where a slash stands before the text
+abbrev pub beginnings : Bool → List ℕ → List (List ℕ)
+beginnings behind [] = []
+beginnings behind (b ∷ bs) =
+    if behind || b == slash then [] ∷ map (λ t. b ∷ t) (beginnings (b == slash) bs)
+    else map (λ t. b ∷ t) (beginnings (b == slash) bs)
 
--- the request-path, and the two beginnings at each of its slashes
+-- the request-path, and such beginnings of it
 abbrev pub paths_of : List ℕ → List (List ℕ)
-paths_of path = path ∷ at_slashes path
+paths_of path = path ∷ beginnings false path
 
 -- how often the byte stands in the text
 abbrev pub count_of : ℕ → List ℕ → ℕ
@@ -45,7 +47,7 @@ abbrev pub ArePaths : Type 0
 ArePaths =
     (path text : List ℕ) → (is_among text (paths_of path) ≡ true) ↔ PathMatches text path
 
--- one more than the dots, and one more than twice the slashes
+-- one more than the dots, and at most one more than twice the slashes
 pub record AreCounted : Type 0 where
   pub domains : (host : List ℕ) → length (domains_of host) ≡ 1 + count_of dot host
-  pub paths : (path : List ℕ) → length (paths_of path) ≡ 1 + 2 * count_of slash path
+  pub paths : (path : List ℕ) → length (paths_of path) ≤ 1 + 2 * count_of slash path

@@ -95,9 +95,9 @@ FindsExactly =
     → (list_any (is_in i) (spans index (domains_of host) (paths_of path)) ≡ true)
     ↔ ((is_among row.domain (domains_of host) ≡ true) × (is_among row.path (paths_of path) ≡ true))
 
--- that takes one question and the host's dots, and for each domain found one and twice the path's slashes
+-- that takes one question and the host's dots, and for each domain found at most one and twice the path's slashes
 abbrev pub LooksAreFew : Type 0
 LooksAreFew =
     (index : Index) (host path : List ℕ) →
     looks_for index (domains_of host) (length (paths_of path))
-    ≡ 1 + count_of dot host + found_domains index (domains_of host) * (1 + 2 * count_of slash path)
+    ≤ 1 + count_of dot host + found_domains index (domains_of host) * (1 + 2 * count_of slash path)

@@ -1,9 +1,8 @@
 //! What an index is asked for a host and a path of a request.
 
-ghost use Rattle.std.specs.Prelude.{◌≡◌, ◌+◌, ◌*◌, ◌++◌, ◌≤◌, OnOk, Some};
+ghost use Rattle.std.specs.Prelude.{◌≡◌, ◌+◌, ◌++◌, ◌≤◌, OnOk, Some, length};
 ghost use Rattle.place_index.specs.Entries.{value_at};
-ghost use Rattle.place_index.specs.Candidates.{domains_of, paths_of, count_of};
-ghost use Rattle.place_index.specs.Paths.{slash};
+ghost use Rattle.place_index.specs.Candidates.{domains_of, paths_of};
 ghost use Rattle.place_index.specs.Starts.{part_at};
 ghost use Rattle.place_index.specs.Found.{span_of, spans_of, spans, path_looks, looks_for, Fits, AllFit};
 
@@ -33,7 +32,7 @@ fn ask_path<L: Ledger>(
     Ok(())
 }
 
-// Asks for the path and its two beginnings at each slash.
+// Asks for the path, and for each beginning of it that ends with a slash or that a slash follows, each once.
 fn ask_paths<L: Ledger>(
     start: usize,
     domain: &DomainRows,
@@ -44,14 +43,16 @@ fn ask_paths<L: Ledger>(
     requires { Fits (part_at start domain.now) }
     ensures spans { OnOk result (found.new.items
         ≡ found.old.items ++ spans_of (paths_of path.now) (Some (part_at start domain.now))) }
-    ensures looks { looks.new ≤ looks.old + (1 + 2 * count_of slash path.now) }
+    ensures looks { looks.new ≤ looks.old + length (paths_of path.now) }
 {
     ask_path(start, domain, path, found, looks)?;
+    let mut behind = false;
     for i in 0..path.len() {
-        if path.as_bytes()[i] == b'/' {
+        let slash = path.as_bytes()[i] == b'/';
+        if behind || slash {
             ask_path(start, domain, &path[..i], found, looks)?;
-            ask_path(start, domain, &path[..i + 1], found, looks)?;
         }
+        behind = slash;
     }
     Ok(())
 }
@@ -68,7 +69,7 @@ fn ask_domain<L: Ledger>(
     ensures spans { OnOk result (found.new.items
         ≡ found.old.items ++ spans_of (paths_of path.now) (value_at domain.now domains.now)) }
     ensures looks { looks.new
-        ≤ looks.old + (1 + path_looks (1 + 2 * count_of slash path.now) (value_at domain.now domains.now)) }
+        ≤ looks.old + (1 + path_looks (length (paths_of path.now)) (value_at domain.now domains.now)) }
 {
     match domains.ask(domain, looks) {
         Some((start, rows)) => ask_paths(start, rows, path, found, looks),
@@ -88,7 +89,7 @@ pub(crate) fn ask_domains<L: Ledger>(
     ensures spans { OnOk result (found.new.items
         ≡ found.old.items ++ spans domains.now (domains_of host.now) (paths_of path.now)) }
     ensures looks { looks.new
-        ≤ looks.old + looks_for domains.now (domains_of host.now) (1 + 2 * count_of slash path.now) }
+        ≤ looks.old + looks_for domains.now (domains_of host.now) (length (paths_of path.now)) }
 {
     ask_domain(domains, host, path, found, looks)?;
     for i in 0..host.len() {

@@ -1,8 +1,8 @@
-use Rattle.std.proofs.Common.{◌<◌, ◌∙◌, ap, arith, length, ltb, rules}
+use Rattle.std.proofs.Common.{◌∙◌, arith, ltb, rules}
 use Rattle.std.proofs.lemmas.List.Sorted.{IsPartitionPoint-from_clause, IsPartitionedBy-ltb}
 use Rattle.place_index.specs.Index.{moved}
 use Rattle.place_index.proofs.AscendLemmas.{PartAt, move_begun, moves_one}
-use Rattle.place_index.proofs.StartLemmas.{first_mapped-all, first_mapped-length, first_mapped-step}
+use Rattle.place_index.proofs.StartLemmas.{first_mapped-all, first_mapped-step}
 use Rattle.place_index.proofs.moving.move_starts.Goals as goal
 
 pub loop-i-init : goal.loop-i-init

@@ -1,4 +1,4 @@
-use Rattle.std.proofs.Common.{◌<◌, ◌∙◌, ap, arith, leb, length, rules}
+use Rattle.std.proofs.Common.{◌∙◌, arith, leb, rules}
 use Rattle.std.proofs.lemmas.List.Sorted.{IsPartitionPoint-from_clause, IsPartitionedBy-leb}
 use Rattle.place_index.specs.Taking.{moved_back}
 use Rattle.place_index.proofs.AscendLemmas.{PartAt, back_begun, goes_back}

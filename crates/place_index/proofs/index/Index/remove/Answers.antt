@@ -1,4 +1,4 @@
-use Rattle.std.proofs.Common.{subst, sym}
+use Rattle.std.proofs.Common.{subst}
 use Rattle.place_index.specs.Taking.{TakesAt}
 use Rattle.place_index.proofs.index.Index.remove.Goals as goal
 
