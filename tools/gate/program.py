@@ -117,11 +117,11 @@ def build(command):
     os.utime(BUILT, (began, began))
 
 
-def compile_sources(command):
+def compile_sources(command, is_shown=True):
     """Compiles the program from its sources, with checks of each index, sum and access of memory and with no proof,
     and keeps it. Returns its path."""
     demand_rt(command)
-    path, log, progress = compiled(), log_of("compile"), Progress(command)
+    path, log, progress = compiled(), log_of("compile"), Progress(command, is_shown)
     progress.show("compiling, with no proof")
     shutil.rmtree(COMPILED, ignore_errors=True)
     os.makedirs(os.path.dirname(path))

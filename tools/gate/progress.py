@@ -8,9 +8,9 @@ import time
 class Progress:
     """The line, written anew each second with the time so far."""
 
-    def __init__(self, name):
+    def __init__(self, name, is_shown=True):
         self.name, self.text, self.began = name, "", time.monotonic()
-        self.is_shown = sys.stderr.isatty()
+        self.is_shown = is_shown and sys.stderr.isatty()
         self.writing = threading.Lock()
         if self.is_shown:
             threading.Thread(target=self.tick, daemon=True).start()

@@ -5,6 +5,8 @@ import shutil
 import subprocess
 import sys
 import tempfile
+import time
+from concurrent.futures import ThreadPoolExecutor
 
 sys.dont_write_bytecode = True
 sys.path.insert(0, os.path.dirname(os.path.dirname(os.path.abspath(__file__))))
@@ -17,7 +19,10 @@ CRATE = "unproved_tests"
 SUFFIX = ".rt.txt"
 # What its program writes where it refuses a growth.
 TOLD = "refuse.c: this growth is refused"
-RESULT = re.compile(r"^test result: \w+\. (\d+) passed; (\d+) failed; 0 ignored; 0 filtered out$", re.M)
+LISTED = re.compile(r"^(\S+): test$", re.M)
+RESULT = re.compile(r"^test result: (\d+) passed; (\d+) failed$", re.M)
+# Beside proofs a test may wait long for a processor.
+SECONDS = 900
 
 
 def sources(top):
@@ -59,9 +64,9 @@ def format_all(top):
 def run(top, planted=None):
     """Compiles the tests with the crates below from their sources, runs each, and keeps the program.
 
-    Returns the status and what was written. The run is that of `rt try --test`, with one more object file in the
-    program, which can refuse a growth of memory. Sources that `rt fmt` would change fail before that. A planted body
-    (an Edit of the crates) is put into the sources, and such a program isn't kept.
+    Returns the status and what was written. The program is that of `rt try --test`, with one more object file in it,
+    which can refuse a growth of memory. Sources that `rt fmt` would change fail before that. A planted body (an Edit of
+    the crates) is put into the sources, and such a program isn't kept.
     """
     to = program(top)
     if not planted:
@@ -76,13 +81,47 @@ def run(top, planted=None):
         kept = f"{room}/kept" if planted else to
         words = [os.environ.get("CC", "cc"), "-O2", "-fPIC", "-c", f'-DKEPT="{kept}"', f'-DTOLD="{TOLD}"']
         subprocess.run([*words, f"{HERE}/refuse.c", "-o", f"{room}/refuse.o"], check=True)
-        # (beside proofs a test may wait long for a processor)
-        given = {**os.environ, "TMPDIR": room, "RT_SECONDS": "900"}
-        ran = subprocess.run(
-            [sys.executable, __file__, room], env=given, text=True, errors="replace",
-            stdin=subprocess.DEVNULL, stdout=subprocess.PIPE, stderr=subprocess.STDOUT,
-        )
-    return ran.returncode, ran.stdout
+        status, output = compiled(room, kept)
+        return (status, output) if status else run_each(kept, room)
+
+
+def compiled(room, kept):
+    """Has the program compiled, up to the place where it is kept. Returns the status, and what was written."""
+    with open(f"{room}/log", "w+", encoding="utf-8", errors="replace") as log:
+        how = {"stdin": subprocess.DEVNULL, "stdout": log, "stderr": subprocess.STDOUT}
+        ran = subprocess.Popen([sys.executable, __file__, room], env={**os.environ, "TMPDIR": room}, **how)
+        while not os.path.exists(kept) and ran.poll() is None:
+            time.sleep(0.1)
+        # (it would run one test after the other, on one processor)
+        ran.terminate()
+        ran.wait()
+        log.seek(0)
+        return (0, "") if os.path.exists(kept) else (ran.returncode or 1, log.read())
+
+
+def run_each(path, room):
+    """Runs each test of the program in a folder of its own, as many at once as there are processors."""
+    command = command_of(path)
+    listed = subprocess.run([*command, "--list"], stdout=subprocess.PIPE, text=True, check=True).stdout
+    names = LISTED.findall(listed)
+    with ThreadPoolExecutor(len(os.sched_getaffinity(0))) as pool:
+        told = [*pool.map(lambda name: run_one(command, name, room), names)]
+    failed = sum(it is not None for it in told)
+    lines = [f"test {name} ... {'ok' if why is None else 'FAILED'}" for name, why in zip(names, told)]
+    whys = [f"---- {name} ----\n{why}" for name, why in zip(names, told) if why is not None]
+    result = f"test result: {len(names) - failed} passed; {failed} failed"
+    return 1 if failed else 0, "\n".join([*lines, *whys, result])
+
+
+def run_one(command, name, room):
+    """What a test wrote that failed, or None where it passed."""
+    with tempfile.TemporaryDirectory(dir=room) as folder:
+        how = {"stdin": subprocess.DEVNULL, "stdout": subprocess.PIPE, "stderr": subprocess.STDOUT}
+        try:
+            ran = subprocess.run([*command, name], cwd=folder, timeout=SECONDS, **how)
+        except subprocess.TimeoutExpired:
+            return f"it had not ended after {SECONDS} seconds"
+    return ran.stdout.decode(errors="replace") if ran.returncode else None
 
 
 def plant(edit, room):
@@ -104,8 +143,12 @@ def counts(output):
 
 def command(top):
     """The words that run one of its tests, or list them."""
+    return command_of(program(top))
+
+
+def command_of(path):
     lib = f"{load_rt().rtlib.KIT}/toolchain/lib"
-    return [f"{lib}/ld-linux-x86-64.so.2", "--inhibit-cache", "--library-path", lib, program(top)]
+    return [f"{lib}/ld-linux-x86-64.so.2", "--inhibit-cache", "--library-path", lib, path]
 
 
 def main(room):
