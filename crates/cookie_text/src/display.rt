@@ -1,5 +1,5 @@
 //! What a cookie prints (RFC 6265, section 4.1.1).
-ghost use Rattle.std.specs.Prelude.{◌≡◌, Some, true, false, option_map};
+ghost use Rattle.std.specs.Prelude.{◌≡◌, Some, true, false, option_map, IfOk, IfSome, string_bytes};
 ghost use Rattle.cookie_text.specs.AttributeView.{attribute_view};
 ghost use Rattle.cookie_text.specs.Printing.{attribute_text, escaped, piece_text, site_name, printed};
 ghost use Rattle.cookie_text.specs.Printing.{printed_attributes, shown_text};
@@ -9,7 +9,9 @@ use crate::cookie::Cookie;
 use crate::date_display::PrintedDate;
 use crate::draft::SameSite;
 use crate::escape::PROFILE;
+use crate::print_len::{attributes_len, escaped_len, pair_len};
 use percent_encoding::utf8_percent_encode;
+use std::alloc::{AllocError, Global};
 use std::fmt;
 use std::marker::Model;
 
@@ -54,9 +56,42 @@ impl<'a, 'c> Display<'a, 'c> {
             strip: true,
         }
     }
+
+    /// What the view prints, in memory of about its length.
+    ///
+    /// # Errors
+    ///
+    /// Want of memory.
+    pub fn to_string(&self, alloc: Global) -> Result<String, AllocError>
+        ensures { IfOk result (λ text. string_bytes text ≡ shown_text self.now) }
+    {
+        let mut len = pair_len(self.cookie);
+        if self.encode {
+            len = escaped_len(len);
+        }
+        if !self.strip {
+            len = len.saturating_add(attributes_len(self.cookie));
+        }
+        text_of(alloc, self, len)
+    }
 }
 
 impl<'c> Cookie<'c> {
+    /// What the cookie prints, in memory of about its length.
+    ///
+    /// # Errors
+    ///
+    /// Want of memory.
+    pub fn to_string(&self, alloc: Global) -> Result<String, AllocError>
+        ensures { IfOk result (λ text. string_bytes text ≡ printed self.now.cookie) }
+    {
+        text_of(
+            alloc,
+            self,
+            pair_len(self).saturating_add(attributes_len(self)),
+        )
+    }
+
     /// A view that prints the cookie with its name and value percent-escaped.
     ///
     /// Escaped are the control characters, every byte past ASCII, the space, and
@@ -81,6 +116,19 @@ impl<'c> Cookie<'c> {
             strip: true,
         }
     }
+}
+
+// What is printed, in memory of this length at first.
+fn text_of<D: fmt::Display + Drop>(
+    alloc: Global,
+    printed: D,
+    len: usize,
+) -> Result<String, AllocError>
+    ensures { IfOk result (λ text. IfSome (D.output printed) (λ bytes. string_bytes text ≡ bytes)) }
+{
+    let mut text = String::with_capacity(alloc, len)?;
+    text.write(printed)?;
+    Ok(text)
 }
 
 impl fmt::Display for Display<'_, '_> {

@@ -18,6 +18,7 @@ mod expiration;
 pub mod laws;
 mod parse;
 mod part;
+mod print_len;
 mod split;
 mod trim;
 
