@@ -1,5 +1,6 @@
--- What the private readers of `date` and `date_reader` compute. `proofs/` shows that they read the
--- four forms of a date, and nothing else.
+-- What the private readers of `date` and `date_reader` give, step by step. No contract of a public call cites a word of
+-- this file: the definition is the four forms of `Date`, and `proofs/DateLemmas` shows that the readers read these and
+-- nothing else.
 use Rattle.std.specs.Prelude.{ℕ, ◌<◌, ◌≤◌, not, ◌&&◌, List, length, take, drop, slice_index, Option, Some, None}
 use Rattle.std.specs.Prelude.{option_map, option_and_then, bytes_eq, codes, ◌==◌, nat_le, if◌then◌else◌}
 use Rattle.std.specs.Option.{option_or}
