@@ -23,6 +23,8 @@ LISTED = re.compile(r"^(\S+): test$", re.M)
 RESULT = re.compile(r"^test result: (\d+) passed; (\d+) failed$", re.M)
 # Beside proofs a test may wait long for a processor.
 SECONDS = 900
+# What a test writes of the reads, writes, flushes and fills that it made fail.
+FAILED = re.compile(r"\bmade to fail: (\d+) (\d+) (\d+) (\d+)$", re.M)
 
 
 def sources(top):
@@ -106,22 +108,23 @@ def run_each(path, room):
     names = LISTED.findall(listed)
     with ThreadPoolExecutor(len(os.sched_getaffinity(0))) as pool:
         told = [*pool.map(lambda name: run_one(command, name, room), names)]
-    failed = sum(it is not None for it in told)
-    lines = [f"test {name} ... {'ok' if why is None else 'FAILED'}" for name, why in zip(names, told)]
-    whys = [f"---- {name} ----\n{why}" for name, why in zip(names, told) if why is not None]
+    failed = sum(not passed for passed, _ in told)
+    lines = [f"test {name} ... {'ok' if passed else 'FAILED'}" for name, (passed, _) in zip(names, told)]
+    whys = [f"---- {name} ----\n{wrote}" for name, (passed, wrote) in zip(names, told) if not passed]
+    counts = [found[0] for passed, wrote in told if passed for found in FAILED.finditer(wrote)]
     result = f"test result: {len(names) - failed} passed; {failed} failed"
-    return 1 if failed else 0, "\n".join([*lines, *whys, result])
+    return 1 if failed else 0, "\n".join([*lines, *counts, *whys, result])
 
 
 def run_one(command, name, room):
-    """What a test wrote that failed, or None where it passed."""
+    """Whether the test passed, and what it wrote."""
     with tempfile.TemporaryDirectory(dir=room) as folder:
         how = {"stdin": subprocess.DEVNULL, "stdout": subprocess.PIPE, "stderr": subprocess.STDOUT}
         try:
             ran = subprocess.run([*command, name], cwd=folder, timeout=SECONDS, **how)
         except subprocess.TimeoutExpired:
-            return f"it had not ended after {SECONDS} seconds"
-    return ran.stdout.decode(errors="replace") if ran.returncode else None
+            return False, f"it had not ended after {SECONDS} seconds"
+    return not ran.returncode, ran.stdout.decode(errors="replace")
 
 
 def plant(edit, room):
@@ -139,6 +142,12 @@ def counts(output):
     """How many tests passed in a run and how many failed, or None where it broke off."""
     result = RESULT.search(output)
     return result and (int(result[1]), int(result[2]))
+
+
+def failures(output):
+    """How many reads, writes, flushes and fills its tests made fail in a run."""
+    told = [[int(it) for it in found] for found in FAILED.findall(output)]
+    return [sum(it[i] for it in told) for i in range(4)]
 
 
 def command(top):
