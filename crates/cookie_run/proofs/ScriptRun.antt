@@ -1,12 +1,12 @@
 -- The run of a whole text.
 use Rattle.std.proofs.Common.{◌≡◌, ◌⊎◌, ℕ, ℤ, ◌+◌, ◌<◌, List, [], ◌∷◌, ◌++◌, length, Option, None, Result, Ok, Err, inl}
 use Rattle.std.proofs.Common.{inr, sym, refl, ap, ◌∙◌, subst, append_assoc, append-nil, length-append, arith}
-use Rattle.std.specs.Prelude.{IfOk, IfErr, OnOk, IsErrOf, IfSome, Some}
+use Rattle.std.specs.Prelude.{IfOk, IfErr, OnOk, IsErrOf, IfSome, Some, IsErrAnd}
 use Rattle.std.specs.Str.Lines.{lines}
 use Rattle.std.specs.Io.KnownBytes.{Appends}
 use Rattle.std.proofs.KnownBytes.{Appends-trans, Appends-nil}
 use Rattle.cookie_run.specs.ScriptText.{Reached, begun, LeadsTo, after_line, ScriptText, EndsForMemory, Runs, HasFault}
-use Rattle.cookie_run.specs.ScriptText.{PrintsUntil, fault_text, Prints}
+use Rattle.cookie_run.specs.ScriptText.{PrintsUntil, fault_text, Prints, IsDoneUpTo, LeavesRows, LeavesFront}
 use Rattle.cookie_run.specs.Standing.{Stands}
 use Rattle.cookie_store.specs.Rows.{Row}
 use Rattle.publicsuffix.specs.Rules.{Rule}
@@ -199,3 +199,96 @@ only_write (Err x) P only e = absurd (read_write (sym only ∙ same x e))
 
     read_write : Write ≡ Read → ⊥
     read_write e = cc
+
+-- ---- what is left, however the run ends
+
+rows_left : (list : List Rule) (key : List ℕ) (start : List Row) (r : Reached) (after : List (List ℕ)) (output : List ℕ)
+    (new : List Row) → Prints list key start r output new → LeavesRows list key start r after new
+rows_left list key start r [] output new p = (output, p)
+rows_left list key start r (line ∷ later) output new p = (output, inl p)
+
+pub leaves_now : (list : List Rule) (key : List ℕ) (start : List Row) (first : ℤ) (text : List ℕ) (r : Reached)
+    (before after : List (List ℕ)) (rows : List Row) (last : ℤ) (visit : Option Visit) (output : List ℕ)
+    (result : Result Ended RunError) → LeadsTo (begun first) before r → lines text ≡ before ++ after
+    → Stands list key start r rows last visit output → IsDoneUpTo result before after
+    → LeavesFront list key start first text rows last result
+leaves_now list key start first text r before after rows last visit output result leads cut stands up_to = record {
+  r = r;
+  before = before;
+  after = after;
+  cut = cut;
+  leads = leads;
+  leaves = rows_left list key start r after output rows (prints_all list key start rows r last visit output stands);
+  moment = stands.moment;
+  done_up_to = up_to;
+}
+
+pub up_to_fault : (result : Result Ended RunError) (n : ℕ) (before after : List (List ℕ))
+    → IfOk result (λ ended. ended ≡ Faulty n) → n ≡ length before + 1 → IsDoneUpTo result before after
+up_to_fault (Ok ended) n before after is e = subst (λ x. let r : Result Ended RunError = Ok x in
+    IsDoneUpTo r before after) (sym is) e
+up_to_fault (Err error) n before after is e = tt
+
+pub up_to_any : (result : Result Ended RunError) (Q : RunError → Type 0) (before after : List (List ℕ))
+    → IsErrAnd result Q → IsDoneUpTo result before after
+up_to_any (Ok ended) Q before after is = absurd is
+up_to_any (Err error) Q before after is = tt
+
+-- the line was done, and what it printed wasn't written
+pub leaves_more : (list : List Rule) (key : List ℕ) (start : List Row) (first : ℤ) (text rest line more : List ℕ)
+    (rows new_rows : List Row) (last new_last : ℤ) (visit new_visit : Option Visit) (done : ℕ)
+    (old mid : Option (List ℕ)) (printed : List ℕ) (result : Result Ended RunError) (Q : RunError → Type 0) → IsErrAnd result Q
+    → (come : Come list key start first text rest rows last visit done old mid) → lines rest ≡ line ∷ lines more
+    → ((next : Reached) × (after_line come.r line ≡ Ok next) × Stands list key start next new_rows new_last new_visit
+    (come.output ++ printed)) → LeavesFront list key start first text new_rows new_last result
+leaves_more list key start first text rest line more rows new_rows last new_last visit new_visit done old mid printed
+    result Q failed come cut goes = leaves_now list key start first text goes.0 (come.before ++ line ∷ []) (lines more)
+    new_rows new_last new_visit (come.output ++ printed) result
+    (leads_more (begun first) come.before come.r goes.0 line come.leads goes.1)
+    (come.whole ∙ (ap (λ ls. come.before ++ ls) cut ∙ sym (append_assoc come.before (line ∷ []) (lines more))))
+    goes.2 (up_to_any result Q (come.before ++ line ∷ []) (lines more) failed)
+
+-- the line wasn't done
+pub leaves_fault : (Error : Type 0) (list : List Rule) (key : List ℕ) (start : List Row) (first : ℤ)
+    (text rest line more : List ℕ) (rows new_rows : List Row) (last new_last : ℤ) (visit : Option Visit) (done : ℕ)
+    (old mid : Option (List ℕ)) (cause : Cause) (result : Result Ended RunError)
+    → IfOk result (λ ended. ended ≡ Faulty (done + 1))
+    → (come : Come list key start first text rest rows last visit done old mid) → lines rest ≡ line ∷ lines more
+    → (HasFault Error come.r (after_line come.r line) cause × (new_rows ≡ rows)) ⊎ ((cause ≡ Memory)
+    × PrintsUntil list key start come.r (after_line come.r line) come.output new_rows) → new_last ≡ last
+    → LeavesFront list key start first text new_rows new_last result
+leaves_fault Error list key start first text rest line more rows new_rows last new_last visit done old mid cause result
+    is come cut said kept = record {
+      r = come.r;
+      before = come.before;
+      after = line ∷ lines more;
+      cut = come.whole ∙ ap (λ ls. come.before ++ ls) cut;
+      leads = come.leads;
+      leaves = (come.output, until said);
+      moment = kept ∙ come.stands.moment;
+      done_up_to = up_to_fault result (done + 1) come.before (line ∷ lines more) is (ap (λ n. n + 1) come.count);
+    }
+  where
+    until : (HasFault Error come.r (after_line come.r line) cause × (new_rows ≡ rows)) ⊎ ((cause ≡ Memory)
+        × PrintsUntil list key start come.r (after_line come.r line) come.output new_rows)
+        → PrintsUntil list key start come.r (after_line come.r line) come.output new_rows
+    until (inl fault) = subst (PrintsUntil list key start come.r (after_line come.r line) come.output) (sym fault.1)
+        (inl (prints_all list key start rows come.r last visit come.output come.stands))
+    until (inr half) = half.1
+
+-- no line was done
+none_done : (list : List Rule) (key : List ℕ) (start : List Row) (first : ℤ) (input : List ℕ)
+    (result : Result Ended RunError) → ((after : List (List ℕ)) → IsDoneUpTo result [] after)
+    → LeavesFront list key start first input start first result
+none_done list key start first input result up_to = leaves_now list key start first input (begun first) [] (lines input)
+    start first None [] result refl refl
+    (record { told = []; front = []; plays = refl; is_open = refl; answered = tt; prints = refl; moment = refl })
+    (up_to (lines input))
+
+pub leaves_first : (list : List Rule) (key : List ℕ) (start : List Row) (first : ℤ) (left : Option (List ℕ))
+    (result : Result Ended RunError) → ((after : List (List ℕ)) → IsDoneUpTo result [] after)
+    → (input : List ℕ) × IfSome left (λ whole. input ≡ whole) × LeavesFront list key start first input start first
+    result
+leaves_first list key start first None result up_to = ([], tt, none_done list key start first [] result up_to)
+leaves_first list key start first (Some whole) result up_to =
+    (whole, refl, none_done list key start first whole result up_to)

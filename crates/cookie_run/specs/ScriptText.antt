@@ -32,6 +32,7 @@ use Rattle.cookie_run.specs.declared.step.Reading.{Reading}
 use Rattle.cookie_run.specs.declared.step.Reading.TheVariants.{Value, Refused, Header}
 use Rattle.cookie_run.specs.declared.script.ended.Ended.{Ended}
 use Rattle.cookie_run.specs.declared.script.ended.Ended.TheVariants.{Whole, Faulty}
+use Rattle.cookie_run.specs.declared.script.ended.RunError.{RunError}
 use Rattle.cookie_run.specs.declared.script.cause.Cause.{Cause}
 use Rattle.cookie_run.specs.declared.script.cause.Cause.TheVariants.{Word, Text, Fields, Url, Moment, Back, NoSession}
 use Rattle.cookie_run.specs.declared.script.cause.Cause.TheVariants.{Open, EmptyName, Year, TooLong, Rng, Memory}
@@ -306,3 +307,30 @@ abbrev pub Runs : Type 0 → List Rule → List ℕ → List Row → ℤ → Lis
 Runs Error list key rows last input output new end ended =
     ScriptText Error list key rows last input output new end ended
     ⊎ EndsForMemory list key rows last input output new end ended
+
+-- ---- what is left, however a run ends
+
+-- these lines were done, and those weren't: all of them, or those before line n, or any
+abbrev pub IsDoneUpTo : Result Ended RunError → List (List ℕ) → List (List ℕ) → Type 0
+IsDoneUpTo (Ok Whole) before after = after ≡ []
+IsDoneUpTo (Ok (Faulty n)) before after = n ≡ length before + 1
+IsDoneUpTo (Err error) before after = ⊤
+
+-- the lines that are done leave those rows; or memory was refused in the next one, and its answer was taken up to a line
+abbrev pub LeavesRows : List Rule → List ℕ → List Row → Reached → List (List ℕ) → List Row → Type 0
+LeavesRows list key rows r [] new = (output : List ℕ) × Prints list key rows r output new
+LeavesRows list key rows r (line ∷ later) new =
+    (output : List ℕ) × PrintsUntil list key rows r (after_line r line) output new
+
+-- The first of the lines of what was read, each done once, leave those rows and that last moment, whether or not what
+-- they print was written.
+pub record LeavesFront (list : List Rule) (key : List ℕ) (rows : List Row) (last : ℤ) (input : List ℕ)
+    (new : List Row) (end : ℤ) (result : Result Ended RunError) : Type 0 where
+  pub r : Reached
+  pub before : List (List ℕ)
+  pub after : List (List ℕ)
+  pub cut : lines input ≡ before ++ after
+  pub leads : LeadsTo (begun last) before r
+  pub leaves : LeavesRows list key rows r after new
+  pub moment : end ≡ r.last
+  pub done_up_to : IsDoneUpTo result before after

@@ -3,7 +3,7 @@ ghost use Rattle.std.specs.Prelude.{◌≡◌, ◌⊎◌, ◌^◌, ◌-◌, ℕ,
 ghost use Rattle.std.specs.Io.KnownBytes.{Appends};
 ghost use Rattle.jiff.specs.Words.{civil_nanos};
 ghost use Rattle.devices.specs.Device.{Rose, one_more};
-ghost use Rattle.cookie_run.specs.ScriptText.{Runs, fault_text};
+ghost use Rattle.cookie_run.specs.ScriptText.{Runs, LeavesFront, fault_text};
 
 use crate::client::Client;
 use crate::script::cause::Cause;
@@ -21,7 +21,8 @@ use std::alloc::Global;
 ///
 /// `last` is the last moment so far, in UTC; afterwards it is that of the last line done that has
 /// one. The first line with a fault ends the run with `line N: Name` as the last thing printed, and
-/// what was done before it stands. The writer is flushed once, before the run ends.
+/// what was done before it stands. The writer is flushed once, before the run ends. Whatever fails, the
+/// client's cookies and `last` are those that the first lines of what was read leave.
 ///
 /// # Errors
 ///
@@ -48,6 +49,10 @@ pub fn run<R: Source, W: Sink, G: TryRng>(
         × (W.failures writer.new ≡ W.failures writer.old)) }
     ensures flushed { OnOk result (W.flushes writer.new ≡ one_more (W.flushes writer.old)) }
     ensures unflushed { OnOk result (W.unflushed writer.new ≡ 0) }
+    ensures leaves { (input : List ℕ) × IfSome (R.left reader.old) (λ whole. input ≡ whole)
+        × LeavesFront client.old.suffixes key.now client.old.rows (civil_nanos last.old) input client.new.rows
+        (civil_nanos last.new) result }
+    ensures unread { IsErrOf result RunError.Read → (client.new ≡ client.old) × (last.new ≡ last.old) }
 {
     match read_all(alloc, reader) {
         Ok(input) => {
@@ -81,6 +86,8 @@ fn play_text<W: Sink, G: TryRng>(
     ensures only { IfErr result (λ e. e ≡ RunError.Write) }
     ensures flushed { OnOk result (W.flushes writer.new ≡ one_more (W.flushes writer.old)) }
     ensures unflushed { OnOk result (W.unflushed writer.new ≡ 0) }
+    ensures leaves { LeavesFront client.old.suffixes key.now client.old.rows (civil_nanos last.old) text.now
+        client.new.rows (civil_nanos last.new) result }
 {
     let mut done = 0;
     let mut rest = text;

@@ -1,5 +1,6 @@
 use Rattle.std.proofs.Common.{◌≡◌, ◌+◌, ap, refl, subst, sym, ◌∙◌, arith}
 use Rattle.std.specs.Prelude.{string_bytes, OnOk}
+use Rattle.std.specs.Str.Lines.{lines}
 use Rattle.std.specs.Io.KnownBytes.{Appends}
 use Rattle.std.proofs.KnownBytes.{Appends-kept}
 use Rattle.jiff.specs.Words.{civil_nanos}
@@ -8,6 +9,7 @@ use Rattle.cookie_run.specs.ScriptText.{after_line, fault_text}
 use Rattle.cookie_run.specs.Standing.{Goes, Halts}
 use Rattle.cookie_run.specs.declared.script.ended.Ended.TheVariants.{Faulty}
 use Rattle.cookie_run.proofs.ScriptRun.{Come, Ends, come_first, come_more, come_whole, come_fault, for_one}
+use Rattle.cookie_run.proofs.ScriptRun.{leaves_now, leaves_more, leaves_fault, up_to_any}
 use Rattle.std.proofs.lemmas.List.{nil_from_length}
 use Rattle.std.proofs.lemmas.Bool.Decides.{nat_tests}
 use Rattle.cookie_run.proofs.script.run.play_text.Goals as goal
@@ -96,3 +98,49 @@ returns-clause-text g c =
 
 pub returns-clause-flushed : goal.returns-clause-flushed
 returns-clause-flushed g c = c.flush.ensures.flushes ∙ ap one_more c.loop-rest.invariant.flushes
+
+pub returns-in-Err-clause-leaves : goal.returns-in-Err-clause-leaves
+returns-in-Err-clause-leaves g c =
+    let list = c.args.client.now.suffixes in
+    let come = c.loop-rest.invariant.come in
+    let halts = subst (λ l. Halts g.row.G-Error.Denot l c.args.key.now (λ r. after_line r c.cut_line.result.0.now)
+    c.loop-rest.client.rows (civil_nanos c.loop-rest.last) c.loop-rest.visit c.in-Err.cause c.follow.new.client.rows)
+    c.loop-rest.invariant.list c.in-Err.ensures.err in
+    let said = halts c.args.client.now.rows come.r come.output come.stands in
+    leaves_fault g.row.G-Error.Denot list c.args.key.now c.args.client.now.rows (civil_nanos c.args.last.now)
+    c.args.text.now c.loop-rest.rest.now c.cut_line.result.0.now c.cut_line.result.1.now c.loop-rest.client.rows
+    c.follow.new.client.rows (civil_nanos c.loop-rest.last) (civil_nanos c.follow.new.last) c.loop-rest.visit
+    c.loop-rest.done (g.W.Sink.written c.args.writer.now) (g.W.Sink.written c.loop-rest.writer) c.in-Err.cause
+    c.stop_at.result c.stop_at.ensures.ended come c.cut_line.ensures.line said (ap civil_nanos c.in-Err.ensures.last)
+
+pub returns-clause-leaves : goal.returns-clause-leaves
+returns-clause-leaves g c =
+    let come = c.loop-rest.invariant.come in
+    let none = nil_from_length c.loop-rest.rest.now
+    (grind (arith, nat_tests, c.is_empty.ensures, c.loop-rest-test.false)) in
+    leaves_now c.args.client.now.suffixes c.args.key.now c.args.client.now.rows (civil_nanos c.args.last.now)
+    c.args.text.now come.r come.before (lines c.loop-rest.rest.now) c.loop-rest.client.rows
+    (civil_nanos c.loop-rest.last) c.loop-rest.visit come.output _ come.leads come.whole come.stands (ap lines none)
+
+pub returns-in_err-flush-clause-leaves : goal.returns-in_err-flush-clause-leaves
+returns-in_err-flush-clause-leaves g c =
+    let come = c.loop-rest.invariant.come in
+    leaves_now c.args.client.now.suffixes c.args.key.now c.args.client.now.rows (civil_nanos c.args.last.now)
+    c.args.text.now come.r come.before (lines c.loop-rest.rest.now) c.loop-rest.client.rows
+    (civil_nanos c.loop-rest.last) c.loop-rest.visit come.output c.from_residual-in_err-flush.result come.leads
+    come.whole come.stands (up_to_any _ _ _ _ c.from_residual-in_err-flush.ensures.1)
+
+pub returns-in_err-write_all-in-Ok-clause-leaves : goal.returns-in_err-write_all-in-Ok-clause-leaves
+returns-in_err-write_all-in-Ok-clause-leaves g c =
+    let come = c.loop-rest.invariant.come in
+    let leads_on = subst (λ l. Goes l c.args.key.now (λ r. after_line r c.cut_line.result.0.now)
+    c.loop-rest.client.rows (civil_nanos c.loop-rest.last) c.loop-rest.visit c.follow.new.client.rows
+    (civil_nanos c.follow.new.last) c.follow.new.visit (string_bytes c.in-Ok.printed)) c.loop-rest.invariant.list
+    c.in-Ok.ensures.ok in
+    leaves_more c.args.client.now.suffixes c.args.key.now c.args.client.now.rows (civil_nanos c.args.last.now)
+    c.args.text.now c.loop-rest.rest.now c.cut_line.result.0.now c.cut_line.result.1.now c.loop-rest.client.rows
+    c.follow.new.client.rows (civil_nanos c.loop-rest.last) (civil_nanos c.follow.new.last) c.loop-rest.visit
+    c.follow.new.visit c.loop-rest.done (g.W.Sink.written c.args.writer.now) (g.W.Sink.written c.loop-rest.writer)
+    (string_bytes c.in-Ok.printed) c.from_residual.result _
+    c.from_residual.ensures.1 come c.cut_line.ensures.line
+    (leads_on c.args.client.now.rows come.r come.output come.stands)

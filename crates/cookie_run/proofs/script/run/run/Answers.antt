@@ -1,11 +1,12 @@
-use Rattle.std.proofs.Common.{◌≡◌, ◌<◌, length, subst}
+use Rattle.std.proofs.Common.{◌≡◌, ◌<◌, length, subst, refl, [], Err}
 use Rattle.std.specs.Prelude.{IfOk}
 use Rattle.std.specs.Io.KnownBytes.{Appends}
 use Rattle.jiff.specs.Words.{civil_nanos}
-use Rattle.cookie_run.specs.ScriptText.{fault_text}
+use Rattle.cookie_run.specs.ScriptText.{fault_text, LeavesFront}
 use Rattle.cookie_run.specs.declared.script.cause.Cause.TheVariants.{Memory}
 use Rattle.cookie_run.specs.declared.script.ended.Ended.TheVariants.{Faulty}
-use Rattle.cookie_run.proofs.ScriptRun.{Ends, known_text, for_all, memory_first}
+use Rattle.cookie_run.specs.declared.script.ended.RunError.TheVariants.{Read}
+use Rattle.cookie_run.proofs.ScriptRun.{Ends, known_text, for_all, memory_first, leaves_first, up_to_fault}
 use Rattle.cookie_run.proofs.script.run.run.Goals as goal
 
 pub returns-in-Ok-clause-text : goal.returns-in-Ok-clause-text
@@ -35,3 +36,24 @@ returns-in-Err-Memory-clause-text g c =
     (λ input. 0 < length input) (Appends old new (fault_text 1 Memory)) (Faulty 1)
     (c.in-Err-Memory.ensures.memory cc) c.stop_at.ensures.text c.stop_at.ensures.ended
     (λ input some written. memory_first g.row.G-Error.Denot list c.args.key.now start first input old new some written)
+
+pub returns-in-Ok-clause-leaves : goal.returns-in-Ok-clause-leaves
+returns-in-Ok-clause-leaves g c =
+    let same : c.deref.result.now ≡ c.in-Ok.input.items = cc in (
+      c.in-Ok.input.items,
+      c.in-Ok.ensures.bytes,
+      subst (λ items. LeavesFront c.args.client.now.suffixes c.args.key.now c.args.client.now.rows
+          (civil_nanos c.args.last.now) items c.play_text.new.client.rows (civil_nanos c.play_text.new.last)
+          c.play_text.result) same c.play_text.ensures.leaves,
+    )
+
+pub returns-in-Err-Memory-clause-leaves : goal.returns-in-Err-Memory-clause-leaves
+returns-in-Err-Memory-clause-leaves g c =
+    leaves_first c.args.client.now.suffixes c.args.key.now c.args.client.now.rows (civil_nanos c.args.last.now)
+    (g.R.Source.left c.args.reader.now) c.stop_at.result
+    (λ after. up_to_fault c.stop_at.result 1 [] after c.stop_at.ensures.ended refl)
+
+pub returns-in-Err-Read-clause-leaves : goal.returns-in-Err-Read-clause-leaves
+returns-in-Err-Read-clause-leaves g c =
+    leaves_first c.args.client.now.suffixes c.args.key.now c.args.client.now.rows (civil_nanos c.args.last.now)
+    (g.R.Source.left c.args.reader.now) (Err Read) (λ after. tt)
