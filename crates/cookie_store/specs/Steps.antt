@@ -1,5 +1,5 @@
 -- What private functions answer. No public contract names a word of this file.
-use Rattle.std.specs.Prelude.{◌≡◌, ◌≢◌, ◌⊎◌, ◌≤◌, ℕ, ℤ, List, Option, Some, None, Ok, Err, Result, IsSomeAnd}
+use Rattle.std.specs.Prelude.{◌≡◌, ◌≢◌, ◌⊎◌, ◌↔◌, ◌≤◌, ℕ, ℤ, List, Option, Some, None, Ok, Err, Result, IfSome, IsSomeAnd}
 use Rattle.std.specs.Prelude.{MatchResult, if◌then◌else◌, Bool, true, [], ◌∷◌, ◌++◌, All, length, slice_range}
 use Rattle.std.specs.List.{flat_map, list_any}
 use Rattle.std.specs.Str.{IsUtf8}
@@ -8,7 +8,8 @@ use Rattle.cookie_text.specs.Record.{Record, Seen}
 use Rattle.cookie_text.specs.Setting.{with_expires}
 use Rattle.cookie_text.specs.declared.expiration.Expiration.{Expiration}
 use Rattle.publicsuffix.specs.Rules.{Rule}
-use Rattle.store_parts.specs.DomainMatch.{Domain, host_only, suffix, not_present, empty, domain_of}
+use Rattle.store_parts.specs.DomainMatch.{CoversAt, Domain, host_only, suffix, not_present, empty, domain_of}
+use Rattle.store_parts.specs.DomainText.{read_domain}
 use Rattle.store_parts.specs.declared.cookie_domain.CookieDomain.{CookieDomain}
 use Rattle.store_parts.specs.declared.error.CookieError.{CookieError}
 use Rattle.store_parts.specs.declared.error.CookieError.TheVariants.{Expired, OutOfMemory}
@@ -21,6 +22,7 @@ use Rattle.cookie_store.specs.Placing.{chosen, is_saved, put_all, saved}
 use Rattle.cookie_store.specs.Rows.{Row, is_live_of, ended}
 use Rattle.cookie_store.specs.StoredCookie.{owned}
 use Rattle.cookie_store.specs.Stripped.{IsEndOf}
+use Rattle.cookie_store.specs.declared.coverage.Judged.{Judged}
 use Rattle.cookie_store.specs.declared.action.StoreAction.{StoreAction}
 use Rattle.cookie_store.specs.declared.action.StoreAction.TheVariants.{ExpiredExisting}
 
@@ -74,6 +76,11 @@ Puts with None old new = new ≡ old
 Puts with (Some text) old new = new ≡ with old (Some text)
 
 -- ---- what a request is given
+
+-- what was judged last, where something was: whether the domain that a text gives covers the URL's host
+abbrev pub IsJudged : Option Judged → Parts → Type 0
+IsJudged last url =
+    IfSome last (λ j. (j.covers ≡ true) ↔ IsSomeAnd (read_domain j.domain.now) (λ domain. CoversAt domain url))
 
 -- the parts lie within the rows
 abbrev pub AreInside : List Row → List (ℕ × ℕ) → Type 0

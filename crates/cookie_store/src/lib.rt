@@ -12,6 +12,7 @@
 #![tactic(auto)]
 
 mod action;
+mod coverage;
 mod given;
 mod json_lines;
 mod loading;

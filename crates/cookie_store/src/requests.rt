@@ -5,8 +5,10 @@ ghost use Rattle.std.specs.Iterator.{at_most};
 ghost use Rattle.std.specs.Map.Iter.{TakesFirst};
 ghost use Rattle.jiff.specs.Words.{civil_nanos};
 ghost use Rattle.cookie_store.specs.Given.{IsGiven, lent_cookie, lent_pair, pair_of, received_of, lent_row};
+ghost use Rattle.cookie_store.specs.Steps.{IsJudged};
 ghost use Rattle.cookie_store.specs.StoredCookie.{stored_of};
 
+use crate::coverage::{Judged, covers};
 use crate::rows::domain_text;
 use crate::stored_cookie::Cookie;
 use cookie::Cookie as RawCookie;
@@ -14,7 +16,6 @@ use jiff::civil::DateTime;
 use std::alloc::{AllocError, Global};
 use std::marker::Model;
 use std::vec;
-use store_parts::cookie_domain;
 use url::Url;
 
 /// The names and the values of the cookies that go with a request.
@@ -97,17 +98,20 @@ impl<'a> Iterator for RequestCookies<'a> {
 }
 
 // Whether the cookie goes with a request to the URL at `now`.
-pub(crate) fn is_given(
+pub(crate) fn is_given<'c>(
     alloc: Global,
-    cookie: &Cookie<'static>,
+    cookie: &'c Cookie<'static>,
     request_url: &Url,
     now: DateTime,
+    last: &mut Option<Judged<'c>>,
 ) -> Result<bool, AllocError>
-    ensures { IfOk result (λ given. IsTrue given
+    requires { IsJudged last.old request_url.now }
+    ensures given { IfOk result (λ given. IsTrue given
         ↔ IsGiven (stored_of cookie.now) request_url.now (civil_nanos now)) }
+    ensures judged { IsJudged last.new request_url.now }
 {
     if cookie.is_expired(now) || cookie.path.as_str().is_empty() || !cookie.matches(request_url) {
         return Ok(false);
     }
-    cookie_domain::is_match(alloc, domain_text(cookie), request_url)
+    covers(alloc, domain_text(cookie), request_url, last)
 }
