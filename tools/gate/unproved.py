@@ -105,7 +105,8 @@ def run_each(path, room):
     """Runs each test of the program in a folder of its own, as many at once as there are processors."""
     command = command_of(path)
     listed = subprocess.run([*command, "--list"], stdout=subprocess.PIPE, text=True, check=True).stdout
-    names = LISTED.findall(listed)
+    # (those of many rows take longest, and would be run last)
+    names = sorted(LISTED.findall(listed), key=lambda name: "many" not in name)
     with ThreadPoolExecutor(len(os.sched_getaffinity(0))) as pool:
         told = [*pool.map(lambda name: run_one(command, name, room), names)]
     failed = sum(not passed for passed, _ in told)
