@@ -44,14 +44,6 @@ impl From<AllocError> for CookieError {
     }
 }
 
-impl<T: Drop> From<AllocFailed<T>> for CookieError {
-    ghost from_gives = { λ _ e. e ≡ cookie_error.OutOfMemory };
-
-    fn from(_: AllocFailed<T>) -> CookieError {
-        CookieError::OutOfMemory
-    }
-}
-
 /// A text that is no cookie as `Parse`, and want of memory by its own name.
 impl From<ParseError> for CookieError {
     ghost from_gives = { λ cause e. e ≡ refusals.of_parse cause };
