@@ -52,7 +52,8 @@ last_line-behind text front back found =
     record {
       before = take i text ++ 10 ∷ [];
       split =
-          sym (take-append-drop i text) ∙ ap (λ l. take i text ++ l) step ∙ sym (append_assoc (take i text) (10 ∷ []) back);
+          sym (take-append-drop i text) ∙ ap (λ l. take i text ++ l) step
+          ∙ sym (append_assoc (take i text) (10 ∷ []) back);
       ended = inr (take i text, refl);
       unended = unended back (subst (NoCharPasses (λ d. d == 10)) (sym back_is) is.0);
     }
