@@ -138,7 +138,7 @@ has_numbers raw path b empty (Some u) = search rules
 has_numbers raw path b empty None = search rules
 
 -- the depth of a row
-depth_is : (raw path : List ℕ) (b : Bool) (d : Domain) (e : Option (List ℕ))
+pub depth_is : (raw path : List ℕ) (b : Bool) (d : Domain) (e : Option (List ℕ))
     → depth (row_json (record { raw = raw; path = path; from_attribute = b; domain = d; expires = e })) ≤ 127
 depth_is raw path b (host_only t) (Some u) = omega arith
 depth_is raw path b (host_only t) None = omega arith

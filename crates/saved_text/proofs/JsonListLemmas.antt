@@ -150,7 +150,7 @@ good_list (r ∷ rs) = good_one [] begin_array _ tt tt tt (good_row r (more_piec
 
 -- ---- their tokens
 
-abbrev rows_json : List Shown → json.Items
+abbrev pub rows_json : List Shown → json.Items
 rows_json [] = json.no_items
 rows_json (r ∷ rs) = json.item (row_json r) (rows_json rs)
 
@@ -194,7 +194,7 @@ rows_are (r ∷ rs) =
     (value_is r.raw r.path r.from_attribute r.domain r.expires)
     ∙ ap (option_map (item (row_value r))) (rows_are rs)
 
-list_is : (rs : List Shown) → of_json (json.array (rows_json rs)) ≡ Some (rows_value rs)
+pub list_is : (rs : List Shown) → of_json (json.array (rows_json rs)) ≡ Some (rows_value rs)
 list_is rs = ap (option_map array) (rows_are rs)
 
 max_fits : (a b c : ℕ) → a ≤ c → b ≤ c → max a b ≤ c
@@ -215,7 +215,7 @@ row_depth raw path b not_present None = omega arith
 row_depth raw path b empty (Some u) = omega arith
 row_depth raw path b empty None = omega arith
 
-rows_depth : (rs : List Shown) → items_depth (rows_json rs) ≤ 2
+pub rows_depth : (rs : List Shown) → items_depth (rows_json rs) ≤ 2
 rows_depth [] = omega arith
 rows_depth (r ∷ rs) = max_fits (depth (row_json r)) (items_depth (rows_json rs)) 2
     (row_depth r.raw r.path r.from_attribute r.domain r.expires) (rows_depth rs)

@@ -22,3 +22,4 @@ mod JsonListLemmas
 mod LayoutLemmas
 mod JsonReadLemmas
 mod PositionLemmas
+mod TokenLemmas

@@ -19,3 +19,4 @@ pub mod Parts
 pub mod JsonWritten
 pub mod JsonReading
 pub mod Position
+pub mod JsonTokens

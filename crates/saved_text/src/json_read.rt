@@ -10,6 +10,7 @@ ghost use Rattle.saved_text.specs.Saved.{domain_shown, IsCookieText, IsDeath, Is
 
 use crate::date::date_of;
 use crate::error::SavedTextError;
+use crate::json_tokens::{row_in_order, rows_in_order};
 use crate::json_value::{DomainPart, RowParts, row_of};
 use crate::row::{SavedDomain, SavedExpiration, SavedRow};
 use cookie_text::Cookie;
@@ -26,6 +27,9 @@ pub fn row_from_json(alloc: Global, text: &str) -> Result<SavedRow, SavedTextErr
     ensures ok { IfOk result (λ r. (d : Data) × (read text.now ≡ Some d) × ShowsRow d r) }
     ensures err { IfErr result (IsJsonFault IsNoRow text.now) }
 {
+    if let Some(row) = row_in_order(alloc, text)? {
+        return Ok(row);
+    }
     let value = value_of(alloc, text)?;
     from_value(alloc, &value)
 }
@@ -40,6 +44,9 @@ pub fn rows_from_json(alloc: Global, text: &str) -> Result<Vec<SavedRow>, SavedT
     ensures ok { IfOk result (λ rows. (d : Data) × (read text.now ≡ Some d) × ShowsRows d rows.items) }
     ensures err { IfErr result (IsJsonFault AreNoRows text.now) }
 {
+    if let Some(rows) = rows_in_order(alloc, text)? {
+        return Ok(rows);
+    }
     let value = value_of(alloc, text)?;
     rows_from_value(alloc, &value)
 }
@@ -97,7 +104,7 @@ fn value_of(alloc: Global, text: &str) -> Result<Value, SavedTextError>
 }
 
 // The row of these parts.
-fn row_from(alloc: Global, parts: RowParts) -> Result<SavedRow, SavedTextError>
+pub(crate) fn row_from(alloc: Global, parts: RowParts) -> Result<SavedRow, SavedTextError>
     ensures ok { IfOk result (IsShown (row_view parts.entry)) }
     ensures err { IfErr result (IsShapeFault (¬ (IsReadable (row_view parts.entry)))) }
 {

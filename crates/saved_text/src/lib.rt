@@ -7,6 +7,7 @@ mod error;
 mod json_read;
 mod json_rows;
 mod json_to_value;
+mod json_tokens;
 mod json_value;
 mod json_write;
 pub mod laws;

@@ -6,7 +6,7 @@ use Rattle.saved_text.proofs.json_read.row_from_json.Goals as goal
 
 pub returns-in_err-value-clause-err : goal.returns-in_err-value-clause-err
 returns-in_err-value-clause-err c =
-    let p = err_from_is_err_and c.from_residual.result c.from_residual.ensures.1 in
+    let p = err_from_is_err_and c.from_residual-in_err-value.result c.from_residual-in_err-value.ensures.1 in
     rw (p.1, p.2) (fault_of_text IsNoRow c.args.text.now _ c.in_err-value.ensures.err)
 
 pub returns-clause-ok : goal.returns-clause-ok
