@@ -30,6 +30,7 @@ pub mod SentLines
 pub mod Receiving
 pub mod Refusals
 pub mod Runs
+pub mod DrawnRuns
 pub mod Headers
 pub mod ScriptLines
 pub mod ScriptNumbers

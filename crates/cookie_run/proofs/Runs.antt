@@ -1,14 +1,12 @@
 -- A play goes on by one step.
-use Rattle.std.proofs.lemmas.List.{take_more, take_all, take-append-drop}
+use Rattle.std.proofs.lemmas.List.{take_more}
 use Rattle.std.specs.Prelude.{IsErr, IsErrAnd, IfErr}
 use Rattle.cookie_run.specs.declared.step.Step.{Step}
 use Rattle.cookie_run.specs.Acts.{act_of, acts_of}
 use Rattle.std.proofs.Common.{◌≡◌, ℕ, ℤ, ◌+◌, ◌<◌, ◌≤◌, length, take, drop, get_or, inl, inr, Result, Ok, Err, OnOk}
 use Rattle.std.proofs.Common.{OnErr}
 use Rattle.std.proofs.Common.{List, [], ◌∷◌, ◌++◌, sym, refl, ap, ◌∙◌, subst, append_assoc, zero, suc, arith}
-use Rattle.url.specs.Parts.{Parts}
-use Rattle.cookie_run.specs.Acts.{Act, Visits, Arrival}
-use Rattle.cookie_run.specs.Header.{IsHeader}
+use Rattle.cookie_run.specs.Acts.{Act}
 use Rattle.publicsuffix.specs.Rules.{Rule}
 use Rattle.cookie_store.specs.Rows.{Row}
 use Rattle.cookie_run.specs.declared.step.Reading.{Reading}
@@ -16,12 +14,9 @@ use Rattle.cookie_run.specs.declared.step.Command.{Command}
 use Rattle.cookie_text.specs.Record.{Seen}
 use Rattle.cookie_run.specs.declared.step.Way.{Way}
 use Rattle.cookie_run.specs.declared.step.Way.TheVariants.{Plain, Host, Secure, Signed, Sealed}
-use Rattle.cookie_run.specs.Jar.{Keyed, IsOpened, IsKeptAs, IsRemovalRefusal, Sets, sent}
-use Rattle.cookie_run.specs.Stops.{GoesOnBy, StopsInside}
-use Rattle.cookie_run.specs.declared.step.FaultKind.{FaultKind}
+use Rattle.cookie_run.specs.Jar.{Keyed, IsKeptAs, IsRemovalRefusal, Sets, sent}
 use Rattle.cookie_run.specs.Play.{Plays, OneStep, CommandTells, Tells, GetTells}
-use Rattle.cookie_run.specs.Standing.{TellsAll, TellsFront}
-use Rattle.cookie_run.specs.Play.{any_nonce, ReadsAll, ReadsFront}
+use Rattle.cookie_run.specs.Play.{any_nonce}
 use Rattle.cookie_run.specs.Readings.{all_told, MayRead}
 use Rattle.cookie_run.specs.declared.step.SessionError.{SessionError}
 use Rattle.cookie_run.specs.declared.step.SessionError.TheVariants.{EmptyName, Year, Rng}
@@ -57,23 +52,6 @@ pub acts_more : (steps : List Step) (i : ℕ) (s : Step) → i < length steps �
 acts_more steps i s h is = ap acts_of (take_more steps i s h)
     ∙ (acts_append (take i steps) (get_or steps i s ∷ []) ∙ ap (λ x. acts_of (take i steps) ++ act_of x ∷ []) (sym is))
 
-pub run_more : (list : List Rule) (key : List ℕ) (rows mid new : List Row) (steps : List Step) (i : ℕ) (s : Step)
-    (start now later : List Reading) → i < length steps → s ≡ get_or steps i s →
-    ((told : List (List Reading)) × (now ≡ start ++ all_told told)
-    × Plays list key rows (acts_of (take i steps)) told mid)
-    → (here : List Rule) → here ≡ list
-    → ((t : List Reading) × (later ≡ now ++ t) × OneStep here key mid (act_of s) t new) →
-    (told : List (List Reading)) × (later ≡ start ++ all_told told)
-    × Plays list key rows (acts_of (take (i + 1) steps)) told new
-run_more list key rows mid new steps i s start now later h is run here same step = (
-  run.0 ++ step.0 ∷ [],
-  step.1 ∙ (ap (λ x. x ++ step.0) run.1 ∙ (append_assoc start (all_told run.0) step.0
-      ∙ ap (λ x. start ++ x) (sym (told_more run.0 step.0)))),
-  subst (λ acts. Plays list key rows acts (run.0 ++ step.0 ∷ []) new) (sym (acts_more steps i s h is))
-      (plays_more list key rows mid new (acts_of (take i steps)) run.0 (act_of s) step.0 run.2
-      (subst (λ l. OneStep l key mid (act_of s) step.0 new) same step.2)),
-)
-
 pub on_ok : {A E : Type 0} (r : Result A E) (P Q : Type 0) → (P → Q) → OnOk r P → OnOk r Q
 on_ok (Ok x) P Q f h = f h
 on_ok (Err e) P Q f h = tt
@@ -102,73 +80,6 @@ tells_more s mid new at [] c told t p one =
 tells_more s mid new at (d ∷ cs) c told t p one =
     let rest = tells_more p.2 mid new at cs c p.1 t p.4 one in
     (p.0, p.1 ++ t, p.2, p.3, rest, ap (λ x. x ++ t) p.5 ∙ append_assoc p.0 p.1 t)
-
--- what was read by the first of the commands
-abbrev pub ToldBy : Keyed → ℤ → List Command → ℕ → List Reading → List Reading → Keyed → Type 0
-ToldBy old at cs i start now new = (told : List Reading) × (now ≡ start ++ told) × Tells old at (take i cs) told new
-
-pub told_next : (old mid new : Keyed) (at : ℤ) (cs : List Command) (i : ℕ) (c : Command)
-    (start now later t : List Reading) → i < length cs → c ≡ get_or cs i c → ToldBy old at cs i start now mid
-    → CommandTells mid at c t new → later ≡ now ++ t
-    → ToldBy old at cs (i + 1) start later new
-told_next old mid new at cs i c start now later t h is so one e = (
-  so.0 ++ t,
-  e ∙ (ap (λ x. x ++ t) so.1 ∙ append_assoc start so.0 t),
-  subst (λ ds. Tells old at ds (so.0 ++ t) new) (sym (take_more cs i c h ∙ ap (λ d. take i cs ++ d ∷ []) (sym is)))
-      (tells_more old mid new at (take i cs) c so.0 t so.2 one),
-)
-
-pub told_all : (old new : Keyed) (at : ℤ) (cs : List Command) (i : ℕ) (start now : List Reading) → length cs ≤ i
-    → ToldBy old at cs i start now new → (told : List Reading) × (now ≡ start ++ told) × Tells old at cs told new
-told_all old new at cs i start now h so = (so.0, so.1, subst (λ ds. Tells old at ds so.0 new) (take_all i cs h) so.2)
-
-pub told_front : (old mid : Keyed) (at : ℤ) (cs : List Command) (i : ℕ) (start now later : List Reading)
-    → ToldBy old at cs i start now mid → later ≡ now → GoesOnBy start (TellsFront old at cs) later
-told_front old mid at cs i start now later so e = (
-  so.0,
-  (take i cs, drop i cs, sym (take-append-drop i cs), mid, so.2),
-  e
-      ∙ so.1,
-)
-
-pub told_first : (old : Keyed) (at : ℤ) (cs : List Command) (start : List Reading) → ToldBy old at cs 0 start start old
-told_first old at cs start = ([], sym (readings_nil start), (refl, refl))
-
--- by all of its commands, and so by the first of them
-pub tells_whole : (opened new : Keyed) (at : ℤ) (cs : List Command) (old readings : List Reading)
-    → ((told : List Reading) × (readings ≡ old ++ told) × Tells opened at cs told new)
-    → GoesOnBy old (TellsFront opened at cs) readings
-tells_whole opened new at cs old readings g = (g.0, (cs, [], sym (commands_nil cs), new, g.2), g.1)
-  where
-    commands_nil : (ds : List Command) → ds ++ [] ≡ ds
-    commands_nil [] = refl
-    commands_nil (d ∷ ds) = ap (λ x. d ∷ x) (commands_nil ds)
-
-pub tells_all : (opened new : Keyed) (at : ℤ) (cs : List Command) (old readings : List Reading)
-    → ((told : List Reading) × (readings ≡ old ++ told) × Tells opened at cs told new)
-    → GoesOnBy old (TellsAll opened at cs) readings
-tells_all opened new at cs old readings g = (g.0, (new, g.2), g.1)
-
--- so the act reads: nothing, where it hasn't read, and what a session tells that was opened on its header
-pub reads_none : (key : List ℕ) (rows : List Row) (url : Parts) (at : ℤ) (cs : List Command) (arrival : Arrival)
-    (old readings : List Reading) → readings ≡ old → GoesOnBy old (ReadsFront key rows (Visits url at cs arrival))
-    readings
-reads_none key rows url at cs arrival old readings e = ([], inl refl, e ∙ sym (readings_nil old))
-
-pub stops_opened : (key header : List ℕ) (rows : List Row) (url : Parts) (at : ℤ) (cs : List Command)
-    (arrival : Arrival) (opened : Keyed) (kind : FaultKind) (last : ℤ) (old readings : List Reading)
-    → IsHeader rows url at header → IsOpened key header opened
-    → StopsInside kind last arrival old (TellsFront opened at cs) (TellsAll opened at cs) readings
-    → StopsInside kind last arrival old (ReadsFront key rows (Visits url at cs arrival))
-    (ReadsAll key rows (Visits url at cs arrival)) readings
-stops_opened key header rows url at cs arrival opened kind last old readings is from (inl (e, g)) = inl (
-  e,
-  (g.0, inr (header, is, inr (g.1.0, g.1.1, g.1.2, (g.1.3, (opened, from, g.1.4)))), g.2),
-)
-stops_opened key header rows url at cs arrival opened kind last old readings is from (inr (e, g)) = inr (
-  e,
-  (g.0, (header, is, (g.1.0, (opened, from, g.1.1))), g.2),
-)
 
 -- ---- what the generator tells
 

@@ -11,6 +11,7 @@ pub mod Site
 pub mod Jar
 pub mod Readings
 pub mod Play
+pub mod Drawn
 pub mod Headline
 pub mod HostHeadline
 pub mod HostLines

@@ -6,29 +6,17 @@ use Rattle.jiff.specs.Words.{civil_nanos}
 use Rattle.publicsuffix.specs.Rules.{Rule}
 use Rattle.cookie_store.specs.Rows.{Row}
 use Rattle.cookie_run.specs.Header.{IsHeader}
-use Rattle.cookie_run.specs.Jar.{Keyed}
-use Rattle.cookie_run.specs.Play.{Plays, Serves, Tells}
+use Rattle.cookie_run.specs.Play.{Plays, Serves}
 use Rattle.cookie_run.specs.Readings.{all_told}
 use Rattle.cookie_run.specs.ScriptLine.{Line}
 use Rattle.cookie_run.specs.ScriptText.{Now, Closed, Within, Reached, IsAnswered, readings_text, HasFault, PrintsUntil}
 use Rattle.cookie_run.specs.ScriptText.{obeyed}
-use Rattle.cookie_run.specs.declared.step.Command.{Command}
 use Rattle.cookie_run.specs.declared.step.Reading.{Reading}
 use Rattle.cookie_run.specs.declared.script.cause.Cause.{Cause}
 use Rattle.cookie_run.specs.declared.script.cause.Cause.TheVariants.{Memory}
 use Rattle.cookie_run.specs.declared.script.visit.Visit.{Visit}
 
 -- ---- the open session
-
--- what it reads by all of its commands, whatever they leave
-abbrev pub TellsAll : Keyed → ℤ → List Command → List Reading → Type 0
-TellsAll old at commands told = (new : Keyed) × Tells old at commands told new
-
--- by the first of them
-abbrev pub TellsFront : Keyed → ℤ → List Command → List Reading → Type 0
-TellsFront old at commands told =
-    (front : List Command) × (rest : List Command) × (commands ≡ front ++ rest) × (new : Keyed)
-    × Tells old at front told new
 
 -- it is the one that its commands left, since the moment of its request, and this is what they read
 abbrev pub IsOpen : List ℕ → List Row → Now → Option Visit → List Reading → Type 0

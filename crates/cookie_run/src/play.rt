@@ -1,5 +1,5 @@
 //! A play: one client, and the sites that it visits.
-ghost use Rattle.std.specs.Prelude.{◌≡◌, ◌≢◌, ◌⊎◌, ◌++◌, List, None, map, string_bytes, IfOk, IfErr, OnOk, OnErr};
+ghost use Rattle.std.specs.Prelude.{◌≡◌, ◌≢◌, ◌⊎◌, ◌++◌, ◌∷◌, [], List, None, map, IfOk, IfErr, OnOk, OnErr};
 ghost use Rattle.std.specs.Prelude.{MatchResult};
 ghost use Rattle.std.specs.List.{AllByRecursion};
 ghost use Rattle.std.specs.Option.{option_to_list};
@@ -10,14 +10,15 @@ ghost use Rattle.cookie_run.specs.Keeping.{Keeps};
 ghost use Rattle.cookie_run.specs.Accept.{Takes};
 ghost use Rattle.cookie_run.specs.Acts.{acts_of, act_of, arrival_of, Visits, Arrives, moments_in, moments_of};
 ghost use Rattle.cookie_run.specs.Acts.{arrival_moments};
-ghost use Rattle.cookie_run.specs.Stops.{StopsFrom, StopsInside, GoesOnBy};
-ghost use Rattle.cookie_run.specs.Play.{IsRun, IsRunUntil, SetTells, RemoveTells, GetTells, CommandTells, Tells};
-ghost use Rattle.cookie_run.specs.Play.{OneStep, Delivers, ReadsFront, ReadsAll};
+ghost use Rattle.cookie_run.specs.Stops.{StopsInside, GoesOnBy};
+ghost use Rattle.cookie_run.specs.Play.{IsRun, IsRunUntil, RemoveTells, GetTells, Delivers};
+ghost use Rattle.cookie_run.specs.Drawn.{DrawsSo, IsRunBy, IsRunUntilBy, StepBy, StopsBy, ReadsFrontBy, ReadsAllBy};
+ghost use Rattle.cookie_run.specs.Drawn.{CommandsDraw, CommandDraws, SetDraws, FrontDraws, AllDraw, IsDrawnInVain};
+ghost use Rattle.cookie_run.specs.declared.step.Command.TheVariants.{Set};
 ghost use Rattle.cookie_run.specs.Readings.{MayRead, NeedsNoNonce, ActNeedsNoNonce};
 ghost use Rattle.cookie_run.specs.Site.{set_refusal};
 ghost use Rattle.cookie_run.specs.Headline.{SitesReadTheirOwn, SitesReadTheirOwnUntil};
 ghost use Rattle.cookie_run.specs.HostHeadline.{HostsReadTheirOwn, HostsReadTheirOwnUntil};
-ghost use Rattle.cookie_run.specs.Standing.{TellsAll, TellsFront};
 ghost use Rattle.cookie_run.specs.Strangers.{StrangersDontShow, StrangersDontShowUntil};
 
 use crate::client::Client;
@@ -25,7 +26,7 @@ use crate::laws::{hosts_read_their_own, sites_read_their_own, strangers_dont_sho
 use crate::moment::{beginning, come_to};
 use crate::session::{Session, copy_of};
 use crate::step::{Command, Delivery, Fault, FaultKind, Reading, SessionError, Step, Way};
-use crate::text::Text;
+use crate::text::{Text, bytes_of, views_of};
 use cookie::{Cookie, Key};
 use cookie_store::Error;
 use jiff::civil::DateTime;
@@ -71,6 +72,11 @@ pub fn play<R: TryRng>(
     ensures failed { MatchResult result (λ readings. AllByRecursion (MayRead R.Error) readings.items)
         (λ fault. AllByRecursion (MayRead R.Error) fault.readings.items) }
     ensures unasked { AllByRecursion ActNeedsNoNonce (acts_of steps.now) → rng.new ≡ rng.old }
+    ensures draws { IfOk result (λ readings. DrawsSo R.may_fill R.Error rng.old
+        (λ drawn. IsRunBy drawn list key.now (acts_of steps.now) readings.items) rng.new) }
+    ensures draws_until { IfErr result (λ fault. DrawsSo R.may_fill R.Error rng.old
+        (λ drawn. IsRunUntilBy drawn list key.now (acts_of steps.now) fault.step fault.kind fault.readings.items)
+        rng.new) }
 {
     sites_read_their_own(key);
     hosts_read_their_own(key);
@@ -100,14 +106,14 @@ fn act<R: TryRng>(
     readings: &mut Vec<Reading>,
     rng: &mut R,
 ) -> Result<(), FaultKind>
-    ensures step { OnOk result ((told : List Reading) × (readings.new.items ≡ readings.old.items ++ told)
-        × OneStep client.old.suffixes key.now client.old.rows (act_of step.now) told client.new.rows) }
+    ensures step { OnOk result (DrawsSo R.may_fill R.Error rng.old (λ drawn. (told : List Reading)
+        × (readings.new.items ≡ readings.old.items ++ told) × StepBy drawn client.old.suffixes key.now client.old.rows
+        (act_of step.now) told client.new.rows) rng.new) }
     ensures list { client.new.suffixes ≡ client.old.suffixes }
     ensures moments { OnOk result (AllFollow (civil_nanos last.old) (moments_in (act_of step.now))
         × (civil_nanos last.new ≡ last_of (civil_nanos last.old) (moments_in (act_of step.now)))) }
-    ensures err { IfErr result (λ kind. StopsFrom kind (civil_nanos last.old) (act_of step.now)
-        readings.old.items (ReadsFront key.now client.old.rows (act_of step.now))
-        (ReadsAll key.now client.old.rows (act_of step.now)) readings.new.items) }
+    ensures err { IfErr result (λ kind. DrawsSo R.may_fill R.Error rng.old (λ drawn. StopsBy drawn key.now
+        client.old.rows kind (civil_nanos last.old) (act_of step.now) readings.old.items readings.new.items) rng.new) }
     ensures failed { AllByRecursion (MayRead R.Error) readings.old.items
         → AllByRecursion (MayRead R.Error) readings.new.items }
     ensures unasked { ActNeedsNoNonce (act_of step.now) → rng.new ≡ rng.old }
@@ -154,17 +160,17 @@ fn exchange<R: TryRng>(
     readings: &mut Vec<Reading>,
     rng: &mut R,
 ) -> Result<(), FaultKind>
-    ensures rows { OnOk result ((told : List Reading) × (readings.new.items ≡ readings.old.items ++ told)
-        × OneStep client.old.suffixes key.now client.old.rows
-        (Visits url.now (civil_nanos last.old) commands.now (arrival_of delivery)) told client.new.rows) }
+    ensures rows { OnOk result (DrawsSo R.may_fill R.Error rng.old (λ drawn. (told : List Reading)
+        × (readings.new.items ≡ readings.old.items ++ told) × StepBy drawn client.old.suffixes key.now client.old.rows
+        (Visits url.now (civil_nanos last.old) commands.now (arrival_of delivery)) told client.new.rows) rng.new) }
     ensures list { client.new.suffixes ≡ client.old.suffixes }
     ensures moments { OnOk result (AllFollow (civil_nanos last.old) (arrival_moments (arrival_of delivery))
         × (civil_nanos last.new ≡ last_of (civil_nanos last.old) (arrival_moments (arrival_of delivery)))) }
-    ensures err { IfErr result (λ kind. StopsInside kind (civil_nanos last.old)
-        (arrival_of delivery) readings.old.items
-        (ReadsFront key.now client.old.rows (Visits url.now (civil_nanos last.old) commands.now (arrival_of delivery)))
-        (ReadsAll key.now client.old.rows (Visits url.now (civil_nanos last.old) commands.now (arrival_of delivery)))
-        readings.new.items) }
+    ensures err { IfErr result (λ kind. DrawsSo R.may_fill R.Error rng.old (λ drawn. StopsInside kind
+        (civil_nanos last.old) (arrival_of delivery) readings.old.items (ReadsFrontBy drawn key.now client.old.rows
+        (Visits url.now (civil_nanos last.old) commands.now (arrival_of delivery)))
+        (ReadsAllBy drawn key.now client.old.rows
+        (Visits url.now (civil_nanos last.old) commands.now (arrival_of delivery))) readings.new.items) rng.new) }
     ensures failed { AllByRecursion (MayRead R.Error) readings.old.items
         → AllByRecursion (MayRead R.Error) readings.new.items }
     ensures unasked { AllByRecursion NeedsNoNonce commands.now → rng.new ≡ rng.old }
@@ -197,18 +203,18 @@ fn converse<R: TryRng>(
     readings: &mut Vec<Reading>,
     rng: &mut R,
 ) -> Result<(), FaultKind>
-    ensures rows { OnOk result ((told : List Reading) × (readings.new.items ≡ readings.old.items ++ told)
-        × Tells session.old (civil_nanos last.old) commands.now told session.new
+    ensures rows { OnOk result (DrawsSo R.may_fill R.Error rng.old (λ drawn. (told : List Reading)
+        × (readings.new.items ≡ readings.old.items ++ told)
+        × CommandsDraw drawn session.old (civil_nanos last.old) commands.now told session.new
         × Delivers client.old.suffixes client.old.rows url.now session.new.jar (arrival_of delivery)
-        client.new.rows) }
+        client.new.rows) rng.new) }
     ensures list { client.new.suffixes ≡ client.old.suffixes }
     ensures moments { OnOk result (AllFollow (civil_nanos last.old) (arrival_moments (arrival_of delivery))
         × (civil_nanos last.new ≡ last_of (civil_nanos last.old) (arrival_moments (arrival_of delivery)))) }
-    ensures err { IfErr result (λ kind. StopsInside kind (civil_nanos last.old)
-        (arrival_of delivery) readings.old.items
-        (TellsFront session.old (civil_nanos last.old) commands.now)
-        (TellsAll session.old (civil_nanos last.old) commands.now)
-        readings.new.items) }
+    ensures err { IfErr result (λ kind. DrawsSo R.may_fill R.Error rng.old (λ drawn. StopsInside kind
+        (civil_nanos last.old) (arrival_of delivery) readings.old.items
+        (FrontDraws drawn session.old (civil_nanos last.old) commands.now)
+        (AllDraw drawn session.old (civil_nanos last.old) commands.now) readings.new.items) rng.new) }
     ensures failed { AllByRecursion (MayRead R.Error) readings.old.items
         → AllByRecursion (MayRead R.Error) readings.new.items }
     ensures unasked { AllByRecursion NeedsNoNonce commands.now → rng.new ≡ rng.old }
@@ -277,28 +283,6 @@ fn restart(client: &mut Client, moment: DateTime) -> Result<(), FaultKind>
     }
 }
 
-// The lines, borrowed.
-pub(crate) fn views_of(alloc: Global, lines: &[Vec<u8>]) -> Result<Vec<&[u8]>, AllocError>
-    ensures { IfOk result (λ v. map (λ x. x.now) v.items ≡ map (λ line. line.items) lines.now) }
-{
-    let mut views = Vec::new(alloc);
-    for line in lines {
-        views.push(line.as_slice())?;
-    }
-    Ok(views)
-}
-
-// The bytes of the lines, borrowed.
-pub(crate) fn bytes_of(alloc: Global, lines: &[String]) -> Result<Vec<&[u8]>, AllocError>
-    ensures { IfOk result (λ v. map (λ x. x.now) v.items ≡ map string_bytes lines.now) }
-{
-    let mut views = Vec::new(alloc);
-    for line in lines {
-        views.push(line.as_bytes())?;
-    }
-    Ok(views)
-}
-
 // The commands of a session that was opened at this moment, in their order.
 fn obey_all<R: TryRng>(
     alloc: Global,
@@ -308,10 +292,11 @@ fn obey_all<R: TryRng>(
     readings: &mut Vec<Reading>,
     rng: &mut R,
 ) -> Result<(), AllocError>
-    ensures ok { OnOk result ((told : List Reading) × (readings.new.items ≡ readings.old.items ++ told)
-        × Tells session.old (civil_nanos at) commands.now told session.new) }
-    ensures err { OnErr result
-        (GoesOnBy readings.old.items (TellsFront session.old (civil_nanos at) commands.now) readings.new.items) }
+    ensures ok { OnOk result (DrawsSo R.may_fill R.Error rng.old (λ drawn. (told : List Reading)
+        × (readings.new.items ≡ readings.old.items ++ told)
+        × CommandsDraw drawn session.old (civil_nanos at) commands.now told session.new) rng.new) }
+    ensures err { OnErr result (DrawsSo R.may_fill R.Error rng.old (λ drawn. GoesOnBy readings.old.items
+        (FrontDraws drawn session.old (civil_nanos at) commands.now) readings.new.items) rng.new) }
     ensures failed { AllByRecursion (MayRead R.Error) readings.old.items
         → AllByRecursion (MayRead R.Error) readings.new.items }
     ensures unasked { AllByRecursion NeedsNoNonce commands.now → rng.new ≡ rng.old }
@@ -332,8 +317,10 @@ fn obey<R: TryRng>(
     command: &Command,
     rng: &mut R,
 ) -> Result<Option<Reading>, AllocError>
-    ensures ok { IfOk result (λ reading. CommandTells session.old (civil_nanos at) command.now
-        (option_to_list reading) session.new) }
+    ensures ok { IfOk result (λ reading. DrawsSo R.may_fill R.Error rng.old (λ drawn. CommandDraws drawn session.old
+        (civil_nanos at) command.now (option_to_list reading) session.new) rng.new) }
+    ensures err { OnErr result
+        (DrawsSo R.may_fill R.Error rng.old (IsDrawnInVain (command.now ∷ [])) rng.new) }
     ensures failed { IfOk result (λ reading. AllByRecursion (MayRead R.Error) (option_to_list reading)) }
     ensures unasked { NeedsNoNonce command.now → rng.new ≡ rng.old }
 {
@@ -352,12 +339,16 @@ fn set<R: TryRng>(
     cookie: &Cookie<'static>,
     rng: &mut R,
 ) -> Result<Option<Reading>, AllocError>
-    ensures ok { IfOk result (λ reading. SetTells session.old way cookie.now (option_to_list reading) session.new) }
+    ensures ok { IfOk result (λ reading. DrawsSo R.may_fill R.Error rng.old (λ drawn.
+        SetDraws drawn session.old way cookie.now (option_to_list reading) session.new) rng.new) }
+    ensures err { OnErr result
+        (DrawsSo R.may_fill R.Error rng.old (IsDrawnInVain (Set way cookie.now ∷ [])) rng.new) }
     ensures failed { IfOk result (λ reading. AllByRecursion (MayRead R.Error) (option_to_list reading)) }
     ensures unasked { (way ≢ Way.Sealed) ⊎ (set_refusal way cookie.now.cookie ≢ None) → rng.new ≡ rng.old }
 {
     let cookie = cookie.clone(alloc)?;
-    match session.set(way, cookie, rng) {
+    let end = session.set(way, cookie, rng);
+    match end {
         Ok(()) => Ok(None),
         Err(SessionError::OutOfMemory) => Err(AllocError),
         Err(error) => Ok(Some(Reading::Refused(error))),

@@ -1,5 +1,5 @@
 //! A text that contracts see as its bytes.
-ghost use Rattle.std.specs.Prelude.{◌≡◌, IfOk, IsUtf8, string_bytes};
+ghost use Rattle.std.specs.Prelude.{◌≡◌, map, IfOk, IsUtf8, string_bytes};
 
 use std::alloc::{AllocError, Global};
 use std::marker::Model;
@@ -80,4 +80,26 @@ impl Eq for Text {
     ghost use Rattle.std.specs.Cmp.Lexicographic.{nat_list_eq_equiv};
 
     ghost laws = { nat_list_eq_equiv };
+}
+
+// The lines, borrowed.
+pub(crate) fn views_of(alloc: Global, lines: &[Vec<u8>]) -> Result<Vec<&[u8]>, AllocError>
+    ensures { IfOk result (λ v. map (λ x. x.now) v.items ≡ map (λ line. line.items) lines.now) }
+{
+    let mut views = Vec::new(alloc);
+    for line in lines {
+        views.push(line.as_slice())?;
+    }
+    Ok(views)
+}
+
+// The bytes of the lines, borrowed.
+pub(crate) fn bytes_of(alloc: Global, lines: &[String]) -> Result<Vec<&[u8]>, AllocError>
+    ensures { IfOk result (λ v. map (λ x. x.now) v.items ≡ map string_bytes lines.now) }
+{
+    let mut views = Vec::new(alloc);
+    for line in lines {
+        views.push(line.as_bytes())?;
+    }
+    Ok(views)
 }

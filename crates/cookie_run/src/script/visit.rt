@@ -15,14 +15,13 @@ ghost use Rattle.cookie_run.specs.ScriptRead.{line_of};
 ghost use Rattle.cookie_run.specs.declared.step.Command.TheVariants.{Set, Remove, Get};
 
 use crate::client::Client;
-use crate::play::{bytes_of, views_of};
 use crate::script::cause::Cause;
 use crate::script::line::{Line, read_line};
 use crate::script::moment::Moment;
 use crate::script::print::{header_line, value_line};
 use crate::session::{Session, copy_of};
 use crate::step::{SessionError, Way};
-use crate::text::Text;
+use crate::text::{Text, bytes_of, views_of};
 use cookie::{Cookie, Key};
 use cookie_store::Error;
 use jiff::civil::DateTime;

@@ -1,5 +1,6 @@
-use Rattle.cookie_run.proofs.Runs.{all_push, command_at, on_err_any, readings_nil, told_all, told_first, told_front}
-use Rattle.cookie_run.proofs.Runs.{told_next}
+use Rattle.cookie_run.specs.Drawn.{DrawsSo, CommandDraws, IsDrawnInVain}
+use Rattle.cookie_run.proofs.DrawnRuns.{draws_so, drawn_all, drawn_first, drawn_front, drawn_next, read_in_vain}
+use Rattle.cookie_run.proofs.Runs.{all_push, command_at, on_err_any, readings_nil}
 use Rattle.std.proofs.Common.{◌≡◌, ◌∙◌, [], ◌∷◌, ◌++◌, ap, sym, subst, refl}
 use Rattle.std.specs.List.{AllByRecursion}
 use Rattle.jiff.specs.Words.{civil_nanos}
@@ -10,19 +11,33 @@ use Rattle.cookie_run.proofs.play.obey_all.Goals.{in-Some+in_ok-push, in_default
 
 pub loop-command-init : goal.loop-command-init
 loop-command-init g c = record {
-  told = told_first c.args.session.now (civil_nanos c.args.at) c.args.commands.now c.args.readings.now.items;
+  told = drawn_first g.R.TryRng.may_fill g.row.R-Error.Denot c.args.rng.now c.args.session.now (civil_nanos c.args.at)
+      c.args.commands.now c.args.readings.now.items;
   failed = λ h. h;
   unasked = λ h. refl;
 }
 
 pub returns-in_err-reading-clause-err : goal.returns-in_err-reading-clause-err
 returns-in_err-reading-clause-err g c =
-    on_err_any c.from_residual.result _ (told_front _ _ _ _ _ _ _ _ c.loop-command.invariant.told refl)
+    on_err_any c.from_residual.result _ (drawn_front g.R.TryRng.may_fill g.row.R-Error.Denot c.args.rng.now
+    c.loop-command.rng c.obey.new.rng c.args.session.now c.loop-command.session (civil_nanos c.args.at)
+    c.args.commands.now c.loop-command.command-index c.command-item.result c.args.readings.now.items
+    c.loop-command.readings.items c.loop-command.readings.items c.loop-command-test.true c.command-item.is
+    c.loop-command.invariant.told c.in_err-reading.ensures.err refl)
 
 pub returns-in_err-push-clause-err : goal.returns-in_err-push-clause-err
 returns-in_err-push-clause-err g c =
-    on_err_any c.from_residual-in_err-push.result _ (told_front _ _ _ _ _ _ _ _ c.loop-command.invariant.told
-    c.in_err-push.ensures.items)
+    let ok = subst (λ o. DrawsSo g.R.TryRng.may_fill g.row.R-Error.Denot c.loop-command.rng (λ ds. CommandDraws ds
+    c.loop-command.session (civil_nanos c.args.at) c.command-item.result (option_to_list o) c.obey.new.session)
+    c.obey.new.rng) c.in-Some.is c.in_ok-reading.ensures.ok in
+    let vain = draws_so g.R.TryRng.may_fill g.row.R-Error.Denot c.loop-command.rng c.obey.new.rng _
+    (IsDrawnInVain (c.command-item.result ∷ [])) (λ ds. read_in_vain ds c.loop-command.session (civil_nanos c.args.at)
+    c.command-item.result c.in-Some.reading c.obey.new.session) ok in
+    on_err_any c.from_residual-in_err-push.result _ (drawn_front g.R.TryRng.may_fill g.row.R-Error.Denot
+    c.args.rng.now c.loop-command.rng c.obey.new.rng c.args.session.now c.loop-command.session
+    (civil_nanos c.args.at) c.args.commands.now c.loop-command.command-index c.command-item.result
+    c.args.readings.now.items c.loop-command.readings.items _ c.loop-command-test.true c.command-item.is
+    c.loop-command.invariant.told vain c.in_err-push.ensures.items)
 
 pub loop-command-preserved : goal.loop-command-preserved
 loop-command-preserved g c =
@@ -39,7 +54,8 @@ loop-command-preserved g c =
           let may : AllByRecursion (MayRead Error) (w.in-Some.reading ∷ []) = subst
           (λ o. AllByRecursion (MayRead Error) (option_to_list o)) w.in-Some.is c.in_ok-reading.ensures.failed in
           record {
-            told = told_next _ _ _ _ c.args.commands.now c.loop-command.command-index c.command-item.result
+            told = drawn_next g.R.TryRng.may_fill g.row.R-Error.Denot c.args.rng.now c.loop-command.rng c.obey.new.rng _ _ _ _
+                c.args.commands.now c.loop-command.command-index c.command-item.result
                 c.args.readings.now.items items c.match-branch-2.readings.items (option_to_list c.in_ok-reading.field-0)
                 c.loop-command-test.true c.command-item.is c.loop-command.invariant.told c.in_ok-reading.ensures.ok
                 (ap (λ v. v.items) w.readings-is ∙ (w.in_ok-push.ensures.items
@@ -49,7 +65,8 @@ loop-command-preserved g c =
             unasked = unasked;
           }
       | in_default w ↦ record {
-        told = told_next _ _ _ _ c.args.commands.now c.loop-command.command-index c.command-item.result
+        told = drawn_next g.R.TryRng.may_fill g.row.R-Error.Denot c.args.rng.now c.loop-command.rng c.obey.new.rng _ _ _ _
+            c.args.commands.now c.loop-command.command-index c.command-item.result
             c.args.readings.now.items items c.match-branch-2.readings.items (option_to_list c.in_ok-reading.field-0)
             c.loop-command-test.true c.command-item.is c.loop-command.invariant.told c.in_ok-reading.ensures.ok
             (ap (λ v. v.items) w.readings-is ∙ (sym (readings_nil items)
@@ -61,5 +78,6 @@ loop-command-preserved g c =
     ]
 
 pub returns-clause-ok : goal.returns-clause-ok
-returns-clause-ok g c = told_all _ _ _ c.args.commands.now c.loop-command.command-index c.args.readings.now.items
-    c.loop-command.readings.items c.loop-command-test.false c.loop-command.invariant.told
+returns-clause-ok g c = drawn_all g.R.TryRng.may_fill g.row.R-Error.Denot c.args.rng.now c.loop-command.rng _ _ _
+    c.args.commands.now c.loop-command.command-index c.args.readings.now.items c.loop-command.readings.items
+    c.loop-command-test.false c.loop-command.invariant.told
