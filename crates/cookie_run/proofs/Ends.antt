@@ -158,8 +158,8 @@ pub before_more : {G : Type 0} (May : G → List ℕ → G → Type 0) (Error : 
     (list : List Rule) (key : List ℕ) (steps : List Step) (i : ℕ) (s : Step) (mid new : List Row)
     (now later : List Reading) (moment next : ℤ) → i < length steps → s ≡ get_or steps i s
     → BeforeBy May Error first here list key steps i mid now moment → (l : List Rule) → l ≡ list
-    → DrawsSo May Error here (λ ds. (t : List Reading) × (later ≡ now ++ t) × StepBy ds l key mid (act_of s) t new) there
-    → AllFollow moment (moments_in (act_of s)) × (next ≡ last_of moment (moments_in (act_of s)))
+    → DrawsSo May Error here (λ ds. (t : List Reading) × (later ≡ now ++ t) × StepBy ds l key mid (act_of s) t new)
+    there → AllFollow moment (moments_in (act_of s)) × (next ≡ last_of moment (moments_in (act_of s)))
     → BeforeBy May Error first there list key steps (i + 1) new later next
 before_more May Error first here there list key steps i s mid new now later moment next h is b l same d follow =
     let moments = follow_next steps i s moment next h is b.moments b.last follow in

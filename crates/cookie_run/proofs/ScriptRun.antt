@@ -237,7 +237,8 @@ up_to_any (Err error) Q before after is = tt
 -- the line was done, and what it printed wasn't written
 pub leaves_more : (list : List Rule) (key : List ℕ) (start : List Row) (first : ℤ) (text rest line more : List ℕ)
     (rows new_rows : List Row) (last new_last : ℤ) (visit new_visit : Option Visit) (done : ℕ)
-    (old mid : Option (List ℕ)) (printed : List ℕ) (result : Result Ended RunError) (Q : RunError → Type 0) → IsErrAnd result Q
+    (old mid : Option (List ℕ)) (printed : List ℕ) (result : Result Ended RunError) (Q : RunError → Type 0)
+    → IsErrAnd result Q
     → (come : Come list key start first text rest rows last visit done old mid) → lines rest ≡ line ∷ lines more
     → ((next : Reached) × (after_line come.r line ≡ Ok next) × Stands list key start next new_rows new_last new_visit
     (come.output ++ printed)) → LeavesFront list key start first text new_rows new_last result

@@ -90,8 +90,8 @@ AllDraw drawn old at commands told = (new : Keyed) × CommandsDraw drawn old at 
 -- by the first of them, up to one that wasn't done
 abbrev pub FrontDraws : List Draw → Keyed → ℤ → List Command → List Reading → Type 0
 FrontDraws drawn old at commands told =
-    (front : List Command) × (rest : List Command) × (commands ≡ front ++ rest) × (done : List Draw) × (vain : List Draw)
-    × (drawn ≡ done ++ vain) × IsDrawnInVain rest vain × AllDraw done old at front told
+    (front : List Command) × (rest : List Command) × (commands ≡ front ++ rest) × (done : List Draw)
+    × (vain : List Draw) × (drawn ≡ done ++ vain) × IsDrawnInVain rest vain × AllDraw done old at front told
 
 -- ---- a step
 

@@ -95,7 +95,8 @@ returns-in_ok-lines-in-Foreign-clause-err g c =
 
 pub returns-in_ok-come_to-in-Restart-clause-step : goal.returns-in_ok-come_to-in-Restart-clause-step
 returns-in_ok-come_to-in-Restart-clause-step g c = rw c.in-Restart.is
-    (on_ok c.restart.result _ _ (λ kept. ([], refl, ([], sym (readings_nil _), ((refl, kept), refl)))) c.restart.ensures.rows)
+    (on_ok c.restart.result _ _ (λ kept. ([], refl, ([], sym (readings_nil _), ((refl, kept), refl))))
+    c.restart.ensures.rows)
 
 pub returns-in_ok-come_to-in-Restart-clause-err : goal.returns-in_ok-come_to-in-Restart-clause-err
 returns-in_ok-come_to-in-Restart-clause-err g c =

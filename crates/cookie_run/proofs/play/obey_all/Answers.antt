@@ -54,7 +54,8 @@ loop-command-preserved g c =
           let may : AllByRecursion (MayRead Error) (w.in-Some.reading ∷ []) = subst
           (λ o. AllByRecursion (MayRead Error) (option_to_list o)) w.in-Some.is c.in_ok-reading.ensures.failed in
           record {
-            told = drawn_next g.R.TryRng.may_fill g.row.R-Error.Denot c.args.rng.now c.loop-command.rng c.obey.new.rng _ _ _ _
+            told = drawn_next g.R.TryRng.may_fill g.row.R-Error.Denot c.args.rng.now c.loop-command.rng
+                c.obey.new.rng _ _ _ _
                 c.args.commands.now c.loop-command.command-index c.command-item.result
                 c.args.readings.now.items items c.match-branch-2.readings.items (option_to_list c.in_ok-reading.field-0)
                 c.loop-command-test.true c.command-item.is c.loop-command.invariant.told c.in_ok-reading.ensures.ok
@@ -65,7 +66,8 @@ loop-command-preserved g c =
             unasked = unasked;
           }
       | in_default w ↦ record {
-        told = drawn_next g.R.TryRng.may_fill g.row.R-Error.Denot c.args.rng.now c.loop-command.rng c.obey.new.rng _ _ _ _
+        told = drawn_next g.R.TryRng.may_fill g.row.R-Error.Denot c.args.rng.now c.loop-command.rng
+            c.obey.new.rng _ _ _ _
             c.args.commands.now c.loop-command.command-index c.command-item.result
             c.args.readings.now.items items c.match-branch-2.readings.items (option_to_list c.in_ok-reading.field-0)
             c.loop-command-test.true c.command-item.is c.loop-command.invariant.told c.in_ok-reading.ensures.ok
