@@ -12,7 +12,7 @@ pub mod laws;
 mod moment;
 pub mod play;
 pub mod program;
-mod reading;
+pub mod reading;
 pub mod script;
 pub mod session;
 pub mod step;

@@ -3,8 +3,8 @@ use Rattle.std.specs.Option.{option_to_list}
 use Rattle.cookie_run.specs.Jar.{record_in}
 use Rattle.cookie_run.proofs.ReadCode.{give_none, give_more}
 use Rattle.cookie_run.proofs.Sessions.{holds_none, holds_next, holds_past}
-use Rattle.cookie_run.proofs.session.read_all.Goals as goal
-use Rattle.cookie_run.proofs.session.read_all.Goals.{in-Some+in_ok-add_original, in_default}
+use Rattle.cookie_run.proofs.reading.read_all.Goals as goal
+use Rattle.cookie_run.proofs.reading.read_all.Goals.{in-Some+in_ok-add_original, in_default}
 
 pub loop-piece-init : goal.loop-piece-init
 loop-piece-init c = ([], give_none, holds_none c.new-jar.result c.new-jar.ensures)

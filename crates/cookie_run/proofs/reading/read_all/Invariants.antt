@@ -3,7 +3,7 @@ use Rattle.std.specs.Prelude.{map}
 use Rattle.cookie_text.specs.Record.{Record}
 use Rattle.cookie_run.specs.Jar.{Holds}
 use Rattle.cookie_run.specs.Reading.{Give}
-use Rattle.cookie_run.proofs.session.read_all.Given as goal
+use Rattle.cookie_run.proofs.reading.read_all.Given as goal
 
 abbrev pub invariant-loop-piece : goal.invariant-loop-piece
 invariant-loop-piece l = (cookies : List Record) × Give (map (λ x. x.now) (take l.piece-index l.pieces)) cookies
