@@ -1,0 +1,5 @@
+mod Carried
+mod Lined
+mod Putting
+mod Reading
+mod Values

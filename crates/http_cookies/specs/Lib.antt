@@ -1,0 +1,4 @@
+pub mod Errors
+pub mod Fields
+pub mod Messages
+pub mod Storing
