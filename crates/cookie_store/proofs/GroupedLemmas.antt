@@ -12,7 +12,7 @@ use Rattle.std.proofs.lemmas.List.Folds.{list_any-append}
 use Rattle.std.proofs.lemmas.Option.{none-some, slice_get-map}
 use Rattle.cookie_text.specs.ReadingBack.{Pairwise}
 use Rattle.place_index.specs.Entries.{value_at}
-use Rattle.place_index.specs.Index.{Index, DomainPart, IsNowhere, DomainAgrees, PathAgrees, IsSublist as IsPartAt}
+use Rattle.place_index.specs.Index.{Index, DomainPart, IsNowhere, DomainAgrees, PathAgrees, IsPart as IsPartAt}
 use Rattle.place_index.specs.Places.{is_of, is_at}
 use Rattle.place_index.specs.declared.part.Part.{Part}
 use Rattle.place_index.proofs.EndLemmas.{none_any}

@@ -25,7 +25,7 @@ returns-in_err-text-clause-err g c =
       (
         c.of_store.result.now,
         c.of_store.ensures,
-        record { lent_row = c.of_store.result; shows = refl; called = c.in_err-text.ensures },
+        record { shown = c.of_store.result; shows = refl; called = c.in_err-text.ensures },
       ),
       Keeps-refl _,
       refl,
@@ -51,7 +51,7 @@ returns-in_err-write_line-clause-err g c =
       (
         c.of_store.result.now,
         c.of_store.ensures,
-        record { lent_row = c.of_store.result; shows = refl; called = c.in_ok-text.ensures },
+        record { shown = c.of_store.result; shows = refl; called = c.in_ok-text.ensures },
       ),
       subst (λ text. AppendsFront old new (text ++ 10 ∷ [])) c.as_str.ensures.value
           c.in_err-write_line.ensures.front,
@@ -77,7 +77,7 @@ loop-cookie-preserved-then-is_wanted g c =
       (
         c.of_store.result.now,
         c.of_store.ensures,
-        record { lent_row = c.of_store.result; shows = refl; called = c.in_ok-text.ensures },
+        record { shown = c.of_store.result; shows = refl; called = c.in_ok-text.ensures },
       ),
       subst (λ text. Appends (g.W.Sink.written old) (g.W.Sink.written new) (text ++ 10 ∷ []))
           c.as_str.ensures.value c.in_ok-write_line.ensures.bytes,
