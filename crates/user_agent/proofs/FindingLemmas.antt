@@ -1,5 +1,6 @@
--- One token after another is offered to the kinds that weren't found before: what is found so is the first of each kind.
-use Rattle.std.proofs.Common.{◌≡◌, ◌⊎◌, inl, inr, ℕ, List, [], ◌∷◌, ◌++◌, Option, Some, None, MatchOption, refl, sym, ap, subst}
+-- One token after another is offered to the kinds that weren't found before: so the first of each kind is found.
+use Rattle.std.proofs.Common.{◌≡◌, ◌⊎◌, inl, inr, ℕ, List, [], ◌∷◌, ◌++◌, Option, Some, None, MatchOption, refl}
+use Rattle.std.proofs.Common.{sym, ap, subst}
 use Rattle.std.proofs.Common.{◌∙◌, true≢false}
 use Rattle.std.specs.List.{AllByRecursion}
 use Rattle.std.specs.Option.{IsSome}
@@ -113,7 +114,8 @@ module _ {A : Type 0} (Kind : List ℕ → A → Type 0) (one : IsOneKind Kind) 
         subst (λ p. Fills Kind p tokens says split.0) (sym o.1) split.2,
       )
     where
-      by : (place : Option A) → IsSome place ⊎ ((x : A) → ¬ (Kind token x)) → Fills Kind place (token ∷ tokens) says others
+      by : (place : Option A) → IsSome place ⊎ ((x : A) → ¬ (Kind token x))
+          → Fills Kind place (token ∷ tokens) says others
           → (rest : List (List ℕ)) × (others ≡ token ∷ rest) × Fills Kind place tokens says rest
       by (Some x) full filled = (tokens, filled.1, (filled.0, refl))
       by None (inl some) filled = absurd (true≢false (sym some))
@@ -219,12 +221,14 @@ module _ (time : ℕ × ℕ × ℕ) (day month year : ℕ) where
     monthless = in_front takes.monthless s.monthless;
     yearless = in_front takes.yearless s.yearless;
     of_time =
-        offers IsTime one_time old.time new.time (Some token) takes.timeless takes.time tokens s.timeless time s.of_time;
+        offers IsTime one_time old.time new.time (Some token) takes.timeless takes.time tokens s.timeless time
+        s.of_time;
     of_day =
-        offers IsDay one_number old.day new.day takes.timeless takes.dayless takes.day s.timeless s.dayless day s.of_day;
+        offers IsDay one_number old.day new.day takes.timeless takes.dayless takes.day s.timeless s.dayless day
+        s.of_day;
     of_month =
-        offers IsMonth one_month old.month new.month takes.dayless takes.monthless takes.month s.dayless s.monthless month
-        s.of_month;
+        offers IsMonth one_month old.month new.month takes.dayless takes.monthless takes.month s.dayless s.monthless
+        month s.of_month;
     of_year =
         offers IsYear one_number old.year new.year takes.monthless takes.yearless takes.year s.monthless s.yearless year
         s.of_year;

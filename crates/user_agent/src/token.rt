@@ -78,7 +78,8 @@ fn read_field(text: &[u8]) -> Option<(u8, &[u8])>
 
 // What follows a colon.
 fn behind_colon(text: &[u8]) -> Option<&[u8]>
-    ensures { MatchOption result ((rest : _) → ¬ (text.now ≡ spec.colon ∷ rest)) (λ rest. text.now ≡ spec.colon ∷ rest.now) }
+    ensures { MatchOption result ((rest : _) → ¬ (text.now ≡ spec.colon ∷ rest))
+        (λ rest. text.now ≡ spec.colon ∷ rest.now) }
 {
     match text {
         [b':', rest @ ..] => Some(rest),

@@ -1,4 +1,5 @@
-use Rattle.std.proofs.Common.{◌≡◌, not, nat_lt, cond, length, rules, arith, tests, Some, None, take, sym, ap, subst, ◌∙◌, IsTrue}
+use Rattle.std.proofs.Common.{◌≡◌, not, nat_lt, cond, length, rules, arith, tests, Some, None, take, sym, ap}
+use Rattle.std.proofs.Common.{subst, ◌∙◌, IsTrue}
 use Rattle.std.specs.Char.{is_ascii_digit}
 use Rattle.std.specs.List.{list_all, position_or_len}
 use Rattle.std.proofs.lemmas.Bool.Decides.{nat_tests}
