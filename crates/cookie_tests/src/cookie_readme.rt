@@ -7,15 +7,15 @@ use std::alloc::{AllocError, Global};
 use std::process::Abort;
 use std::test::Fail;
 
-// What the answer is to set and to remove.
+// What the response is to set and to remove.
 fn sign_in(jar: &mut CookieJar, key: &Key, now: DateTime) -> Result<(), AllocError> {
     jar.signed_mut(key).add(Cookie::new("user", "7"))?;
     jar.prefixed_mut(Host).add(Cookie::new("sid", "a3f"))?;
     jar.remove(Cookie::new("theme", ""), now)
 }
 
-// The answer to a request that has a cookie.
-fn answer(jar: &mut CookieJar, key: &Key) -> Result<(), AllocError> {
+// The response to a request that has a cookie.
+fn respond(jar: &mut CookieJar, key: &Key) -> Result<(), AllocError> {
     jar.add_original(Cookie::new("theme", "dark"))?;
     sign_in(jar, key, DateTime::constant(2024, 1, 1, 0, 0, 0, 0))
 }
@@ -28,7 +28,7 @@ fn is_user(jar: &CookieJar, key: &Key, wanted: &str) -> Result<bool, AllocError>
     }
 }
 
-// What the answer tells of this name.
+// What the response tells of this name.
 fn line(alloc: Global, jar: &CookieJar, name: &str) -> Result<String, AllocError> {
     for cookie in jar.delta() {
         if cookie.name() == name {
@@ -50,7 +50,7 @@ fn check(rt: &impl Abort, alloc: Global, jar: &CookieJar, key: &Key) -> Result<(
 fn tells_the_client_what_changed(rt: HostRuntime) -> Result<(), Fail> {
     let key = Key::from(&[7; 64]);
     let mut jar = CookieJar::new(rt.alloc());
-    answer(&mut jar, &key)?;
+    respond(&mut jar, &key)?;
     check(&rt, rt.alloc(), &jar, &key)
 }
 // README: end
