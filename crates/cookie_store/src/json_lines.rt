@@ -18,7 +18,7 @@ use crate::store::CookieStore;
 use crate::stored_cookie::Cookie;
 use devices::{Sink, Source};
 use jiff::civil::DateTime;
-use saved_text::{row_from_json, row_to_json};
+use saved_text::{Scratch, row_from_json_in, row_to_json};
 use std::alloc::Global;
 
 impl CookieStore {
@@ -98,10 +98,11 @@ impl CookieStore {
             (input (R.left reader.old) (R.failures reader.old) (R.reads reader.old))
             (input (R.left reader.new) (R.failures reader.new) (R.reads reader.new))) }
     {
+        let mut scratch = Scratch::new(alloc);
         let read = |line: &str|
             ensures ok { IfOk result (λ cookie. form.IsJsonRow line.now (stored_of cookie)) }
             ensures err { IfErr result (form.IsRefusal (IsJsonFault IsNoRow line.now)) }
-        { cookie_of_json(alloc, line) };
+        { cookie_of_json(alloc, line, &mut scratch) };
         CookieStore::load(alloc, reader, read, now)
     }
 
@@ -118,20 +119,21 @@ impl CookieStore {
             (input (R.left reader.old) (R.failures reader.old) (R.reads reader.old))
             (input (R.left reader.new) (R.failures reader.new) (R.reads reader.new))) }
     {
+        let mut scratch = Scratch::new(alloc);
         let read = |line: &str|
             ensures ok { IfOk result (λ cookie. form.IsJsonRow line.now (stored_of cookie)) }
             ensures err { IfErr result (form.IsRefusal (IsJsonFault IsNoRow line.now)) }
-        { cookie_of_json(alloc, line) };
+        { cookie_of_json(alloc, line, &mut scratch) };
         CookieStore::load_all(alloc, reader, read)
     }
 }
 
 // The cookie of a line of JSON.
-fn cookie_of_json(alloc: Global, line: &str) -> StoreResult<Cookie<'static>>
+fn cookie_of_json(alloc: Global, line: &str, scratch: &mut Scratch) -> StoreResult<Cookie<'static>>
     ensures ok { IfOk result (λ cookie. form.IsJsonRow line.now (stored_of cookie)) }
     ensures err { IfErr result (form.IsRefusal (IsJsonFault IsNoRow line.now)) }
 {
-    match row_from_json(alloc, line) {
+    match row_from_json_in(alloc, line, scratch) {
         Ok(row) => Ok(loaded_of(alloc, row)?),
         Err(fault) => Err(refusal(fault)),
     }

@@ -21,3 +21,4 @@ pub mod PairsBack
 pub mod OneOutcome
 pub mod PairsAgain
 pub mod BoundAgain
+pub mod PushLemmas

@@ -1,8 +1,8 @@
 //! What a cookie prints (RFC 6265, section 4.1.1).
-ghost use Rattle.std.specs.Prelude.{◌≡◌, Some, true, false, option_map, IfOk, IfSome, string_bytes};
+ghost use Rattle.std.specs.Prelude.{◌≡◌, ◌++◌, Some, true, false, option_map, IfOk, OnOk, string_bytes};
 ghost use Rattle.cookie_text.specs.AttributeView.{attribute_view};
 ghost use Rattle.cookie_text.specs.Printing.{attribute_text, escaped, piece_text, site_name, printed};
-ghost use Rattle.cookie_text.specs.Printing.{printed_attributes, shown_text};
+ghost use Rattle.cookie_text.specs.Printing.{encoded_pair, printed_attributes, shown_text, stripped};
 
 use crate::attribute::Attribute;
 use crate::cookie::Cookie;
@@ -72,7 +72,16 @@ impl<'a, 'c> Display<'a, 'c> {
         if !self.strip {
             len = len.saturating_add(attributes_len(self.cookie));
         }
-        text_of(alloc, self, len)
+        let mut text = String::with_capacity(alloc, len)?;
+        if self.encode {
+            push_escaped_pair(&mut text, self.cookie)?;
+        } else {
+            push_pair(&mut text, self.cookie)?;
+        }
+        if !self.strip {
+            push_attributes(&mut text, self.cookie)?;
+        }
+        Ok(text)
     }
 }
 
@@ -85,11 +94,11 @@ impl<'c> Cookie<'c> {
     pub fn to_string(&self, alloc: Global) -> Result<String, AllocError>
         ensures { IfOk result (λ text. string_bytes text ≡ printed self.now.cookie) }
     {
-        text_of(
-            alloc,
-            self,
-            pair_len(self).saturating_add(attributes_len(self)),
-        )
+        let len = pair_len(self).saturating_add(attributes_len(self));
+        let mut text = String::with_capacity(alloc, len)?;
+        push_pair(&mut text, self)?;
+        push_attributes(&mut text, self)?;
+        Ok(text)
     }
 
     /// A view that prints the cookie with its name and value percent-escaped.
@@ -118,17 +127,53 @@ impl<'c> Cookie<'c> {
     }
 }
 
-// What is printed, in memory of this length at first.
-fn text_of<D: fmt::Display + Drop>(
-    alloc: Global,
-    printed: D,
-    len: usize,
-) -> Result<String, AllocError>
-    ensures { IfOk result (λ text. IfSome (D.output printed) (λ bytes. string_bytes text ≡ bytes)) }
+// Adds `name=value`.
+fn push_pair(text: &mut String, cookie: &Cookie<'_>) -> Result<(), AllocError>
+    ensures { OnOk result (string_bytes text.new ≡ string_bytes text.old ++ stripped cookie.now.cookie) }
 {
-    let mut text = String::with_capacity(alloc, len)?;
-    text.write(printed)?;
-    Ok(text)
+    text.push_str(cookie.name())?;
+    text.push_str("=")?;
+    text.push_str(cookie.value())?;
+    Ok(())
+}
+
+// Adds `name=value`, both escaped.
+fn push_escaped_pair(text: &mut String, cookie: &Cookie<'_>) -> Result<(), AllocError>
+    ensures { OnOk result (string_bytes text.new
+        ≡ string_bytes text.old ++ stripped (encoded_pair cookie.now.cookie)) }
+{
+    utf8_percent_encode(cookie.name(), PROFILE).append_to(text)?;
+    text.push_str("=")?;
+    utf8_percent_encode(cookie.value(), PROFILE).append_to(text)?;
+    Ok(())
+}
+
+// Adds the attributes, each behind a semicolon.
+fn push_attributes(text: &mut String, cookie: &Cookie<'_>) -> Result<(), AllocError>
+    ensures { OnOk result (string_bytes text.new
+        ≡ string_bytes text.old ++ printed_attributes cookie.now.cookie) }
+{
+    push_piece(text, &cookie.http_only_printed())?;
+    push_piece(text, &cookie.same_site_printed())?;
+    push_piece(text, &cookie.partitioned_printed())?;
+    push_piece(text, &cookie.secure_printed())?;
+    push_piece(text, &cookie.path_printed())?;
+    push_piece(text, &cookie.domain_printed())?;
+    push_piece(text, &cookie.max_age_printed())?;
+    push_piece(text, &cookie.expires_printed())?;
+    Ok(())
+}
+
+// Adds an attribute behind a semicolon, or nothing.
+fn push_piece(text: &mut String, attribute: &Option<Attribute<'_>>) -> Result<(), AllocError>
+    ensures { OnOk result (string_bytes text.new
+        ≡ string_bytes text.old ++ piece_text (option_map attribute_view attribute.now)) }
+{
+    if let Some(attribute) = attribute {
+        text.push_str("; ")?;
+        text.write(attribute)?;
+    }
+    Ok(())
 }
 
 impl fmt::Display for Display<'_, '_> {

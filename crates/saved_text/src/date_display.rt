@@ -1,39 +1,60 @@
 //! How a saved date is printed.
-ghost use Rattle.std.specs.Prelude.{unsigned_abs, ◌≡◌, ◌≤ℤ◌, pos, Some, IfOk, string_bytes};
-ghost use Rattle.saved_text.specs.Rfc3339.{two_digits, four_digits, day_text, clock_text, date_text};
+ghost use Rattle.std.specs.Prelude.{unsigned_abs, ◌≡◌, ◌<◌, Some, IfOk, string_bytes};
+ghost use Rattle.std.specs.List.{AllByRecursion};
+ghost use Rattle.std.specs.Str.{IsUtf8};
+ghost use Rattle.saved_text.specs.Rfc3339.{two_digits, date_text};
 
 use jiff::civil::DateTime;
+use std::alloc::{AllocError, Global};
 use std::fmt;
 
 /// A moment of the years 0 to 9999 as `2024-01-01T01:00:00Z`, without its fraction.
 #[derive(Drop)]
 pub struct SavedDate(pub DateTime);
 
+impl SavedDate {
+    /// What the moment prints, in memory of its length.
+    ///
+    /// # Errors
+    ///
+    /// Want of memory.
+    pub fn to_string(&self, alloc: Global) -> Result<String, AllocError>
+        ensures ok { IfOk result (λ text. string_bytes text ≡ date_text self.now.0) }
+    {
+        match str::from_utf8(&printed(self.0)) {
+            Ok(text) => String::from_str(alloc, text),
+            Err(_) => unreachable!(),
+        }
+    }
+}
+
 impl fmt::Display for SavedDate {
     ghost output = { λ d. Some (date_text d.0) };
 
     fn fmt<W: fmt::Write>(&self, f: &mut fmt::Formatter<W>) -> fmt::Result {
-        let moment = self.0;
-        let day = Day(moment);
-        let clock = Clock(moment);
-        write!(f, "{day}T{clock}Z")
+        match str::from_utf8(&printed(self.0)) {
+            Ok(text) => f.write_str(text),
+            Err(_) => unreachable!(),
+        }
     }
 }
 
-// The day, as `2024-01-01`.
-#[derive(Drop)]
-struct Day(DateTime);
-
-impl fmt::Display for Day {
-    ghost output = { λ d. Some (day_text d.0.date) };
-
-    fn fmt<W: fmt::Write>(&self, f: &mut fmt::Formatter<W>) -> fmt::Result {
-        let moment = self.0;
-        let year = FourDigits(year_of(moment));
-        let month = TwoDigits(moment.month() as u8);
-        let day = TwoDigits(moment.day() as u8);
-        write!(f, "{year}-{month}-{day}")
-    }
+// What a moment prints, as bytes: they are of one length, so nothing grows.
+fn printed(moment: DateTime) -> [u8; 20]
+    ensures text { result ≡ date_text moment }
+    ensures utf8 { IsUtf8 result }
+{
+    let year = year_of(moment);
+    let [a, b] = digits((year / 100 % 100) as u8);
+    let [c, d] = digits((year % 100) as u8);
+    let [e, f] = digits(moment.month() as u8);
+    let [g, h] = digits(moment.day() as u8);
+    let [i, j] = digits(moment.hour() as u8);
+    let [k, l] = digits(moment.minute() as u8);
+    let [m, n] = digits(moment.second() as u8);
+    [
+        a, b, c, d, b'-', e, f, b'-', g, h, b'T', i, j, b':', k, l, b':', m, n, b'Z',
+    ]
 }
 
 // The year without its sign.
@@ -43,46 +64,10 @@ fn year_of(moment: DateTime) -> u16
     moment.year().unsigned_abs()
 }
 
-// Four digits of a number below 10,000.
-#[derive(Drop)]
-struct FourDigits(u16);
-
-impl fmt::Display for FourDigits {
-    ghost output = { λ n. Some (four_digits n.0) };
-
-    fn fmt<W: fmt::Write>(&self, f: &mut fmt::Formatter<W>) -> fmt::Result {
-        let century = TwoDigits((self.0 / 100 % 100) as u8);
-        let year = TwoDigits((self.0 % 100) as u8);
-        write!(f, "{century}{year}")
-    }
-}
-
-// The time of day, as `08:49:37`.
-#[derive(Drop)]
-struct Clock(DateTime);
-
-impl fmt::Display for Clock {
-    ghost output = { λ d. Some (clock_text d.0.time) };
-
-    fn fmt<W: fmt::Write>(&self, f: &mut fmt::Formatter<W>) -> fmt::Result {
-        let moment = self.0;
-        let hour = TwoDigits(moment.hour() as u8);
-        let minute = TwoDigits(moment.minute() as u8);
-        let second = TwoDigits(moment.second() as u8);
-        write!(f, "{hour}:{minute}:{second}")
-    }
-}
-
 // Two digits of a number below 100.
-#[derive(Drop)]
-struct TwoDigits(u8);
-
-impl fmt::Display for TwoDigits {
-    ghost output = { λ n. Some (two_digits n.0) };
-
-    fn fmt<W: fmt::Write>(&self, f: &mut fmt::Formatter<W>) -> fmt::Result {
-        let high = (b'0' + self.0 / 10) as char;
-        let low = (b'0' + self.0 % 10) as char;
-        write!(f, "{high}{low}")
-    }
+fn digits(number: u8) -> [u8; 2]
+    ensures text { result ≡ two_digits number }
+    ensures ascii { AllByRecursion (λ b. b < 128) result }
+{
+    [b'0' + number / 10, b'0' + number % 10]
 }

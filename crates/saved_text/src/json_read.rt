@@ -14,6 +14,7 @@ use crate::json_tokens::{row_in_order, rows_in_order};
 use crate::json_value::{DomainPart, RowParts, row_of};
 use crate::row::{SavedDomain, SavedExpiration, SavedRow};
 use cookie_text::Cookie;
+use json::Scratch;
 use serde_json::Value;
 use std::alloc::{AllocError, Global};
 
@@ -27,7 +28,24 @@ pub fn row_from_json(alloc: Global, text: &str) -> Result<SavedRow, SavedTextErr
     ensures ok { IfOk result (λ r. (d : Data) × (read text.now ≡ Some d) × ShowsRow d r) }
     ensures err { IfErr result (IsJsonFault IsNoRow text.now) }
 {
-    if let Some(row) = row_in_order(alloc, text)? {
+    let mut scratch = Scratch::new(alloc);
+    row_from_json_in(alloc, text, &mut scratch)
+}
+
+/// As [`row_from_json`], in a scratch of the caller's: one that is kept from text to text is cleared once.
+///
+/// # Errors
+///
+/// As [`row_from_json`].
+pub fn row_from_json_in(
+    alloc: Global,
+    text: &str,
+    scratch: &mut Scratch,
+) -> Result<SavedRow, SavedTextError>
+    ensures ok { IfOk result (λ r. (d : Data) × (read text.now ≡ Some d) × ShowsRow d r) }
+    ensures err { IfErr result (IsJsonFault IsNoRow text.now) }
+{
+    if let Some(row) = row_in_order(alloc, text, scratch)? {
         return Ok(row);
     }
     let value = value_of(alloc, text)?;

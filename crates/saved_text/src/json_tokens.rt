@@ -26,13 +26,16 @@ use std::alloc::Global;
 /// # Errors
 ///
 /// `OutOfMemory`.
-pub(crate) fn row_in_order(alloc: Global, text: &str) -> Result<Option<SavedRow>, SavedTextError>
+pub(crate) fn row_in_order(
+    alloc: Global,
+    text: &str,
+    scratch: &mut Scratch,
+) -> Result<Option<SavedRow>, SavedTextError>
     ensures ok { IfOk result (λ row. IfSome row (λ row. (t : Shown)
         × (read text.now ≡ Some (row_value t)) × IsShown t row)) }
     ensures err { IfErr result (λ e. e ≡ fault.OutOfMemory) }
 {
-    let mut scratch = Scratch::new(alloc);
-    let mut reader = Reader::new(text, &mut scratch)?;
+    let mut reader = Reader::new(text, scratch)?;
     let Some(parts) = parts_of(&mut reader) else {
         return Ok(None);
     };

@@ -2,7 +2,7 @@ use Rattle.std.proofs.lemmas.Result.{err_from_is_err_and}
 use Rattle.serde_json.specs.View.{view}
 use Rattle.saved_text.specs.JsonReading.{ShowsRow, IsNoRow}
 use Rattle.saved_text.proofs.JsonReadLemmas.{fault_of_text, read_ok, read_err}
-use Rattle.saved_text.proofs.json_read.row_from_json.Goals as goal
+use Rattle.saved_text.proofs.json_read.row_from_json_in.Goals as goal
 
 pub returns-in_err-value-clause-err : goal.returns-in_err-value-clause-err
 returns-in_err-value-clause-err c =
