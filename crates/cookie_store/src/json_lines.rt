@@ -99,7 +99,7 @@ impl CookieStore {
             (input (R.left reader.new) (R.failures reader.new) (R.reads reader.new))) }
     {
         let mut scratch = Scratch::new(alloc);
-        let read = |line: &str|
+        let read = move |line: &str|
             ensures ok { IfOk result (λ cookie. form.IsJsonRow line.now (stored_of cookie)) }
             ensures err { IfErr result (form.IsRefusal (IsJsonFault IsNoRow line.now)) }
         { cookie_of_json(alloc, line, &mut scratch) };
@@ -120,7 +120,7 @@ impl CookieStore {
             (input (R.left reader.new) (R.failures reader.new) (R.reads reader.new))) }
     {
         let mut scratch = Scratch::new(alloc);
-        let read = |line: &str|
+        let read = move |line: &str|
             ensures ok { IfOk result (λ cookie. form.IsJsonRow line.now (stored_of cookie)) }
             ensures err { IfErr result (form.IsRefusal (IsJsonFault IsNoRow line.now)) }
         { cookie_of_json(alloc, line, &mut scratch) };
