@@ -9,6 +9,8 @@ size_t bench_parse(const uint8_t *line, size_t len);
 size_t bench_parse_encoded(const uint8_t *line, size_t len);
 size_t bench_parse_and_print(const uint8_t *line, size_t len);
 size_t bench_parse_and_encode(const uint8_t *line, size_t len);
+size_t bench_print(const uint8_t *line, size_t len, size_t times);
+size_t bench_encode(const uint8_t *line, size_t len, size_t times);
 
 static const char *const lines[] = {
     "foo=bar",
@@ -45,6 +47,17 @@ static void parse_and_encode_once(void) {
     some(bench_parse_and_encode((const uint8_t *)line, length));
 }
 
+// A text is read once in a call, and printed so many times.
+enum { TIMES = 100 };
+
+static void print_once(void) {
+    some(bench_print((const uint8_t *)line, length, TIMES));
+}
+
+static void encode_once(void) {
+    some(bench_encode((const uint8_t *)line, length, TIMES));
+}
+
 int main(void) {
     for (size_t i = 0; i < sizeof lines / sizeof *lines; i++) {
         line = lines[i];
@@ -58,5 +71,9 @@ int main(void) {
         report(name, length, least_time(parse_and_print_once));
         snprintf(name, sizeof name, "parse and encode %zu bytes", length);
         report(name, length, least_time(parse_and_encode_once));
+        snprintf(name, sizeof name, "print %zu bytes", length);
+        report(name, length, least_time(print_once) / TIMES);
+        snprintf(name, sizeof name, "encode %zu bytes", length);
+        report(name, length, least_time(encode_once) / TIMES);
     }
 }

@@ -2,7 +2,7 @@
 
 use aes_gcm::aead::{AeadInPlace, KeyInit};
 use aes_gcm::Aes256Gcm;
-use cookie::Cookie;
+use cookie::{Cookie, CookieJar, Key};
 use cookie_store::{CookieStore, RawCookie, StoreAction};
 use hmac::{Hmac, Mac};
 use publicsuffix::{List, Psl};
@@ -19,9 +19,16 @@ const PATHS: [&str; 5] = ["/", "/", "/a", "/a", "/b"];
 fn main() {
     time_cookies();
     time_ciphers();
+    for size in [16, 200, 1024] {
+        time_exchange(size);
+    }
     time_suffixes();
-    time_store(100_000);
-    time_loading(10_000);
+    for rows in [1_000, 10_000, 100_000] {
+        time_store(rows);
+    }
+    for rows in [1_000, 10_000] {
+        time_loading(rows);
+    }
 }
 
 /// The least nanoseconds of a call over two seconds of samples of a tenth of a millisecond, or of one call.
@@ -49,8 +56,41 @@ fn time_cookies() {
         let cookie = Cookie::parse(black_box(LINE)).expect("a cookie");
         black_box(cookie.name().len() + cookie.value().len());
     }));
+    for line in ["foo=bar", LINE] {
+        let cookie = Cookie::parse(line).expect("a cookie");
+        report(&format!("print {} bytes", line.len()), least_time(|| {
+            black_box(black_box(&cookie).to_string());
+        }));
+        report(&format!("encode {} bytes", line.len()), least_time(|| {
+            black_box(black_box(&cookie).encoded().to_string());
+        }));
+    }
     report("parse and print 60 bytes", least_time(|| {
         black_box(Cookie::parse(black_box(LINE)).expect("a cookie").to_string());
+    }));
+}
+
+/// A jar that both cookies of an exchange were put into.
+fn set_both(jar: &mut CookieJar, key: &Key, value: &str) {
+    let made = |name: &'static str| Cookie::build((name, value.to_string())).path("/").secure(true);
+    jar.signed_mut(key).add(made("id"));
+    jar.private_mut(key).add(made("secret"));
+}
+
+/// As bench/exchange: a header's cookies are read, a signed one and a private one opened and set anew, and their lines
+/// made.
+fn time_exchange(size: usize) {
+    let (key, value, mut first) = (Key::from(&[7; 64]), "v".repeat(size), CookieJar::new());
+    set_both(&mut first, &key, &value);
+    let header = first.delta().map(|it| it.stripped().encoded().to_string()).collect::<Vec<_>>().join("; ");
+    report(&format!("exchange, values of {size} bytes"), least_time(|| {
+        let mut jar = CookieJar::new();
+        for cookie in Cookie::split_parse_encoded(black_box(header.clone())) {
+            jar.add_original(cookie.expect("a cookie"));
+        }
+        assert!(jar.signed(&key).get("id").is_some() && jar.private(&key).get("secret").is_some());
+        set_both(&mut jar, &key, &value);
+        black_box(jar.delta().map(|it| it.encoded().to_string()).collect::<Vec<_>>());
     }));
 }
 
@@ -184,15 +224,23 @@ fn time_store(rows: usize) {
 }
 
 /// The least time of ten loads; letting the store go isn't in it, as it isn't in bench/store.
-fn time_loading(rows: usize) {
-    let list = saved(rows);
-    let load = || {
+fn least_load(load: impl Fn() -> CookieStore) -> f64 {
+    let one = || {
         let from = Instant::now();
-        let store = loaded(black_box(&list));
+        let store = load();
         let nanos = from.elapsed().as_nanos() as f64;
         assert!(store.iter_any().next().is_some());
         nanos
     };
-    let least = (0..10).map(|_| load()).fold(f64::MAX, f64::min);
-    report(&format!("load {rows} cookies from RON"), least);
+    (0..10).map(|_| one()).fold(f64::MAX, f64::min)
+}
+
+fn time_loading(rows: usize) {
+    let list = saved(rows);
+    report(&format!("load {rows} cookies from RON"), least_load(|| loaded(black_box(&list))));
+    let mut json = Vec::new();
+    cookie_store::serde::json::save(&loaded(&list), &mut json).expect("a list");
+    report(&format!("load {rows} cookies from JSON"), least_load(|| {
+        cookie_store::serde::json::load(black_box(&json[..])).expect("a store")
+    }));
 }
