@@ -5,7 +5,8 @@ use Rattle.cookie_text.proofs.display.push_attributes.Goals as goal
 
 pub returns : goal.returns
 returns c =
-    pushed (string_bytes c.args.text.now) (attributes_of c.args.cookie.now.cookie) (string_bytes c.push_piece-8.new.text) (
+    let attributes = attributes_of c.args.cookie.now.cookie in
+    pushed (string_bytes c.args.text.now) attributes (string_bytes c.push_piece-8.new.text) (
       string_bytes c.push_piece.new.text,
       c.in_ok-push_piece.ensures
           ∙ ap (λ x. string_bytes c.args.text.now ++ piece_text x) c.http_only_printed.ensures,
