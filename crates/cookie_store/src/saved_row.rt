@@ -89,7 +89,7 @@ pub(crate) fn loaded_of(alloc: Global, row: SavedRow) -> Result<Cookie<'static>,
         domain,
         expires,
     } = row;
-    Ok(Cookie::of_parts(
+    Ok(Cookie::from_parts(
         raw_of(alloc, raw_cookie.as_str())?,
         CookiePath::from_parts(path, is_from_path_attr),
         loaded_domain(domain),

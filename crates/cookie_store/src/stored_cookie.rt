@@ -38,8 +38,8 @@ pub struct Cookie<'a> {
 }
 
 impl<'a> Cookie<'a> {
-    // The cookie of these parts.
-    pub(crate) fn of_parts(
+    /// The cookie of these parts, as they stand: a cookie that was received elsewhere.
+    pub fn from_parts(
         raw_cookie: RawCookie<'a>,
         path: CookiePath,
         domain: CookieDomain,

@@ -16,11 +16,11 @@ returns c = λ t h.
       utf8 = subst IsUtf8 (c.as_str.ensures.value ∙ h.raw) utf8;
       seen = seen;
       reads = subst (λ text. ReadsPlain text (Ok seen)) (c.as_str.ensures.value ∙ h.raw) reads;
-      raw = ap (λ s. s.raw) c.of_parts.ensures ∙ raw;
-      path = ap (λ s. s.path.text) c.of_parts.ensures ∙ ap (λ p. p.text) c.from_parts.ensures ∙ h.path;
-      from_attribute = ap (λ s. s.path.from_attribute) c.of_parts.ensures
+      raw = ap (λ s. s.raw) c.from_parts-2.ensures ∙ raw;
+      path = ap (λ s. s.path.text) c.from_parts-2.ensures ∙ ap (λ p. p.text) c.from_parts.ensures ∙ h.path;
+      from_attribute = ap (λ s. s.path.from_attribute) c.from_parts-2.ensures
           ∙ ap (λ p. p.from_attribute) c.from_parts.ensures ∙ h.from_attribute;
-      domain = ap (λ s. domain_shown s.domain) c.of_parts.ensures ∙ c.loaded_domain.ensures ∙ h.domain;
-      death = subst (λ s. IsDeathOf t.expires s.death) (sym c.of_parts.ensures)
+      domain = ap (λ s. domain_shown s.domain) c.from_parts-2.ensures ∙ c.loaded_domain.ensures ∙ h.domain;
+      death = subst (λ s. IsDeathOf t.expires s.death) (sym c.from_parts-2.ensures)
           (c.loaded_expires.ensures t.expires h.expires);
     }

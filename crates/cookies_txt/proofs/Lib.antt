@@ -1,0 +1,6 @@
+pub mod FieldLemmas
+pub mod LineLemmas
+pub mod PartLemmas
+pub mod ReadLemmas
+pub mod RowLemmas
+pub mod WriteLemmas

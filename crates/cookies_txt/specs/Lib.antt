@@ -1,0 +1,5 @@
+pub mod Laws
+pub mod Layout
+pub mod Reading
+pub mod Steps
+pub mod Writing

@@ -1,0 +1,68 @@
+//! Rows to `cookies.txt`.
+ghost use Rattle.std.specs.Prelude.{◌≡◌, ◌+◌, ◌++◌, ◌∷◌, [], false, length, map, IfOk, IfErr, OnOk, string_bytes};
+ghost use Rattle.cookies_txt.specs.Layout.{cookies_txt, line_text};
+ghost use Rattle.cookies_txt.specs.Reading.{Says};
+ghost use Rattle.cookies_txt.specs.Steps.{said_of};
+ghost use Rattle.cookies_txt.specs.Writing as spec;
+ghost use Rattle.cookies_txt.specs.Writing.{held, line_of, rows_in};
+
+use crate::error::WriteError;
+use crate::line::Line;
+use crate::row::row_fault;
+use cookie_store::Cookie;
+use std::alloc::{AllocError, Global};
+
+const HEADING: &str = "# Netscape HTTP Cookie File\n\n";
+
+/// A text of `cookies.txt`, and of how many rows it holds nothing.
+#[derive(Debug, Drop)]
+pub struct Written {
+    /// The text.
+    pub text: String,
+    /// How many rows were passed over.
+    pub passed_over: usize,
+}
+
+/// Writes the rows, one a line, in their order. A row that a line can't hold is refused, or is passed over where
+/// `passing_over` is set.
+///
+/// A suffix is written with a dot in front and `TRUE`, a host as it is and `FALSE`; an expiry in whole seconds since
+/// 1970, its fraction left out, at least 1, since `0` stands for none.
+///
+/// # Errors
+///
+/// `Row` with the number of the first row that a line can't hold, counted from 1, and why, unless such rows are passed
+/// over; `OutOfMemory`.
+pub fn write(
+    alloc: Global,
+    cookies: &[&Cookie<'static>],
+    passing_over: bool,
+) -> Result<Written, WriteError>
+    ensures text { IfOk result (λ written. string_bytes written.text
+        ≡ cookies_txt (map line_of (held (rows_in cookies.now)))) }
+    ensures passed_over { IfOk result (λ written. written.passed_over + length (held (rows_in cookies.now))
+        ≡ length cookies.now) }
+    ensures all { passing_over ≡ false → IfOk result (λ _. spec.AreHeld (rows_in cookies.now)) }
+    ensures err { IfErr result (spec.IsWriteRefusal passing_over (rows_in cookies.now)) }
+    ensures reads { IfOk result (λ written. Says (string_bytes written.text)
+        (map line_of (held (rows_in cookies.now)))) }
+{
+    let mut text = String::from_str(alloc, HEADING)?;
+    let mut passed_over = 0;
+    for (index, cookie) in cookies.iter().enumerate() {
+        match row_fault(cookie) {
+            None => push_line(&mut text, Line::of(cookie))?,
+            Some(_) if passing_over => passed_over += 1,
+            Some(fault) => return Err(WriteError::Row(index + 1, fault)),
+        }
+    }
+    Ok(Written { text, passed_over })
+}
+
+// Adds the line and its end.
+fn push_line(text: &mut String, line: Line<'_>) -> Result<(), AllocError>
+    ensures { OnOk result (string_bytes text.new
+        ≡ string_bytes text.old ++ (line_text (said_of line.entry) ++ 10 ∷ [])) }
+{
+    writeln!(text, "{line}")
+}
