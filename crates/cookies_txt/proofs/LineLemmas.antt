@@ -309,7 +309,8 @@ first_line : (line after : List ℕ) → Lacks is_feed line → ends_in_return l
     → lines (line ++ 10 ∷ after) ≡ line ∷ lines after
 first_line line after unended whole =
     ap lines_of_parts (slice_split_at is_feed line 10 after (All-from_recursion _ line unended) refl)
-    ∙ (behind (slice_split is_feed after) (first_part is_feed after) ∙ ap (λ l. l ∷ lines after) (not_stripped line whole))
+    ∙ (behind (slice_split is_feed after) (first_part is_feed after)
+    ∙ ap (λ l. l ∷ lines after) (not_stripped line whole))
   where
     behind : (ps : List (List ℕ)) → HasFirst ps
         → lines_of_parts (line ∷ ps) ≡ strip_carriage_return line ∷ lines_of_parts ps
@@ -325,13 +326,15 @@ line_ends l h =
     let expires = joined_return (decimal l.expires) l.name (l.value ∷ []) name in
     let secure = joined_return (flag_text l.secure) (decimal l.expires) (l.name ∷ l.value ∷ []) expires in
     let path = joined_return l.path (flag_text l.secure) (decimal l.expires ∷ l.name ∷ l.value ∷ []) secure in
-    let below = joined_return (flag_text l.below) l.path (flag_text l.secure ∷ decimal l.expires ∷ l.name ∷ l.value ∷ [])
+    let below = joined_return (flag_text l.below) l.path
+    (flag_text l.secure ∷ decimal l.expires ∷ l.name ∷ l.value ∷ [])
     path in (
       subst (Lacks is_feed) (sym (marked_text l))
           (lacks_append is_feed (when l.http_only http_only_mark) (bare_text l) (mark_lacks l.http_only) bare),
       ap ends_in_return (marked_text l ∙ sym (append_assoc (when l.http_only http_only_mark) (dotted l)
           (tab ∷ join_with_byte tab (others l))))
-          ∙ (return_after (when l.http_only http_only_mark ++ dotted l) (tab ∷ join_with_byte tab (others l)) (omega arith)
+          ∙ (return_after (when l.http_only http_only_mark ++ dotted l) (tab ∷ join_with_byte tab (others l))
+          (omega arith)
           ∙ below),
     )
   where

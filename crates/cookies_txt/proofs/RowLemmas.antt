@@ -70,8 +70,8 @@ texts_whole : (domain path name value : List ℕ) → text_fault domain path nam
 texts_whole domain path name value h =
     let slash = if_none (not (begins_with_slash path)) _ _ h in
     let some = if_none (length name == 0) _ _ slash.1 in
-    let clean = if_none (((has_separator domain || has_separator path) || has_separator name) || has_separator value) _ _
-    some.1 in
+    let separated = ((has_separator domain || has_separator path) || has_separator name) || has_separator value in
+    let clean = if_none separated _ _ some.1 in
     let last = if_none (ends_in_return value) _ _ clean.1 in
     let three = or_false ((has_separator domain || has_separator path) || has_separator name) (has_separator value)
     clean.0 in

@@ -29,7 +29,8 @@ held_push rows row o e =
     ∙ ap (λ f. held rows ++ cond (is_none f) (row ∷ []) []) e
 
 text_push : (rows : List Row) (row : Row)
-    → cookies_txt (map line_of (rows ++ row ∷ [])) ≡ cookies_txt (map line_of rows) ++ (line_text (line_of row) ++ 10 ∷ [])
+    → cookies_txt (map line_of (rows ++ row ∷ []))
+    ≡ cookies_txt (map line_of rows) ++ (line_text (line_of row) ++ 10 ∷ [])
 text_push rows row =
     ap cookies_txt (map-append line_of rows (row ∷ []))
     ∙ (ap (λ t. heading ++ t) (flat_map-append (λ line. line_text line ++ 10 ∷ []) (map line_of rows) (line_of row ∷ [])

@@ -1,6 +1,7 @@
 -- What the lines of a `cookies.txt` say (the format as curl documents it: docs/DEFINITIONS.md), and what its rows are.
 use Rattle.std.specs.Prelude.{◌≡◌, ◌==◌, ◌||◌, ◌&&◌, ◌+◌, ◌++◌, ◌⊎◌, ℕ, Bool, not, min, List, [], ◌∷◌}
-use Rattle.std.specs.Prelude.{length, drop, slice_index, Option, Some, None, Result, Ok, Err, IsOk, codes, if◌then◌else◌}
+use Rattle.std.specs.Prelude.{length, drop, slice_index, Option, Some, None, Result, Ok, Err, IsOk, codes}
+use Rattle.std.specs.Prelude.{if◌then◌else◌}
 use Rattle.std.specs.Char.{is_ascii_digit}
 use Rattle.std.specs.List.{AllByRecursion, flat_map, list_all, slice_split, starts_with}
 use Rattle.std.specs.Str.{bytes_eq, IsUtf8}
@@ -12,7 +13,8 @@ use Rattle.cookie_store.specs.Rows.{Row}
 use Rattle.cookies_txt.specs.Layout.{CookieLine, http_only_mark, tab}
 use Rattle.cookies_txt.specs.Writing.{IsRowOf, begins_with_slash, latest_second, number_sign}
 use Rattle.cookies_txt.specs.declared.error.LineFault.{LineFault}
-use Rattle.cookies_txt.specs.declared.error.LineFault.TheVariants.{Fields, EmptyDomain, Flag, NoSlash, Number, EmptyName}
+use Rattle.cookies_txt.specs.declared.error.LineFault.TheVariants.{Fields, EmptyDomain, Flag, NoSlash}
+use Rattle.cookies_txt.specs.declared.error.LineFault.TheVariants.{Number, EmptyName}
 use Rattle.cookies_txt.specs.declared.error.ReadError.{ReadError}
 use Rattle.cookies_txt.specs.declared.error.ReadError.TheVariants.{NotText, Line, OutOfMemory}
 

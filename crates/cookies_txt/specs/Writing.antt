@@ -15,7 +15,8 @@ use Rattle.cookie_store.specs.Stripped.{IsEndOf}
 use Rattle.cookie_store.specs.declared.stored_cookie.Cookie.{Cookie}
 use Rattle.cookies_txt.specs.Layout.{CookieLine}
 use Rattle.cookies_txt.specs.declared.error.RowFault.{RowFault}
-use Rattle.cookies_txt.specs.declared.error.RowFault.TheVariants.{NoDomain, HostSign, NoSlash, EmptyName, Separator, CarriageReturn}
+use Rattle.cookies_txt.specs.declared.error.RowFault.TheVariants.{NoDomain, HostSign, NoSlash, EmptyName}
+use Rattle.cookies_txt.specs.declared.error.RowFault.TheVariants.{Separator, CarriageReturn}
 use Rattle.cookies_txt.specs.declared.error.WriteError.{WriteError}
 use Rattle.cookies_txt.specs.declared.error.WriteError.TheVariants.{Row as RefusedRow, OutOfMemory}
 

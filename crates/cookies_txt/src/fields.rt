@@ -1,6 +1,6 @@
 //! The fields of a line.
-ghost use Rattle.std.specs.Prelude.{◌≡◌, ◌≤◌, ◌∷◌, [], true, false, Some, None, Ok, Err, MatchOption, MatchResult, IfOk};
-ghost use Rattle.std.specs.Prelude.{option_map, IfSome};
+ghost use Rattle.std.specs.Prelude.{◌≡◌, ◌≤◌, ◌∷◌, [], true, false, Some, None, Ok, Err, MatchOption, IfOk};
+ghost use Rattle.std.specs.Prelude.{option_map, IfSome, MatchResult};
 ghost use Rattle.cookie_text.specs.Record.{without_dot};
 ghost use Rattle.cookies_txt.specs.Reading as spec;
 ghost use Rattle.cookies_txt.specs.Steps.{last_two, said_of, texts_of};
