@@ -13,10 +13,11 @@ use Rattle.std.proofs.lemmas.Fmt.{decimal_nonempty, digits_decimal, digits_value
 use Rattle.std.proofs.lemmas.List.Elements.{All-from_recursion}
 use Rattle.std.proofs.lemmas.List.Splits.{slice_split_at, slice_split_none}
 use Rattle.cookie_text.specs.Record.{without_dot}
-use Rattle.cookies_txt.specs.Layout.{CookieLine, cookies_txt, flag_text, heading, http_only_mark, line_text, tab, when}
+use Rattle.cookies_txt.specs.Layout.{CookieLine, cookies_txt, flag_text, heading_text}
+use Rattle.cookies_txt.specs.Layout.{http_only_mark, line_text, tab, when}
 use Rattle.cookies_txt.specs.Reading.{FieldTexts, fault_of, field_texts, is_flag, is_marked, is_number, is_passed_over}
 use Rattle.cookies_txt.specs.Reading.{is_true, parts, read_line, said, said_by_fields, second_of, unmarked}
-use Rattle.cookies_txt.specs.Reading.{IsFine, Says}
+use Rattle.cookies_txt.specs.Reading.{IsFine, SaysLines}
 use Rattle.cookies_txt.specs.Writing.{begins_with_slash, ends_in_return, has_separator, latest_second}
 use Rattle.cookies_txt.proofs.FieldLemmas.{HasFirst, first_part, is_tab, own}
 
@@ -353,7 +354,7 @@ written_lines (l ∷ more) h =
     ap lines (append_assoc (line_text l) (10 ∷ []) (written more))
     ∙ (first_line (line_text l) (written more) ends.0 ends.1 ∙ ap (λ ls. line_text l ∷ ls) (written_lines more h.1))
 
-headed_lines : (text : List ℕ) → lines (heading ++ text) ≡ codes "# Netscape HTTP Cookie File" ∷ [] ∷ lines text
+headed_lines : (text : List ℕ) → lines (heading_text ++ text) ≡ codes "# Netscape HTTP Cookie File" ∷ [] ∷ lines text
 headed_lines text =
     first_line (codes "# Netscape HTTP Cookie File") (10 ∷ text) comment refl
     ∙ ap (λ ls. codes "# Netscape HTTP Cookie File" ∷ ls) (first_line [] text tt refl)
@@ -377,7 +378,7 @@ said_lines (l ∷ more) h =
     ∙ ap (λ ls. l ∷ ls) (said_lines more h.1)
 
 -- a text of lines that hold says these
-pub written_says : (all : List CookieLine) → AllByRecursion IsWhole all → Says (cookies_txt all) all
+pub written_says : (all : List CookieLine) → AllByRecursion IsWhole all → SaysLines (cookies_txt all) all
 written_says all h =
     let all_lines : lines (cookies_txt all) ≡ codes "# Netscape HTTP Cookie File" ∷ [] ∷ map line_text all =
     headed_lines (written all) ∙ ap (λ ls. codes "# Netscape HTTP Cookie File" ∷ [] ∷ ls) (written_lines all h) in

@@ -9,7 +9,7 @@ use Rattle.std.proofs.lemmas.List.Concat.{flat_map-append}
 use Rattle.cookie_text.specs.ReadingBack.{Pairwise}
 use Rattle.cookie_store.specs.Rows.{Row}
 use Rattle.cookies_txt.specs.Layout.{CookieLine}
-use Rattle.cookies_txt.specs.Reading.{IsFine, IsFirstFault, Reads, read_line, said}
+use Rattle.cookies_txt.specs.Reading.{IsFine, IsFirstFault, GivesRows, read_line, said}
 use Rattle.cookies_txt.specs.Writing.{IsRowOf}
 use Rattle.cookies_txt.specs.declared.error.LineFault.{LineFault}
 
@@ -60,7 +60,7 @@ reads_none done rows line far e = record {
 
 -- all lines
 pub reads_all : (text : List ℕ) (done : List (List ℕ)) (rows : List Row) → ReadsSoFar done rows → done ≡ lines text
-    → Reads text rows
+    → GivesRows text rows
 reads_all text done rows far all = (
   said_in done,
   record { fine = subst (AllByRecursion IsFine) all far.fine; says = ap said_in all },

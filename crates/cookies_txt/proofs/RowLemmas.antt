@@ -10,10 +10,10 @@ use Rattle.store_parts.specs.DomainMatch.{Domain, host_only, suffix, not_present
 use Rattle.store_parts.specs.Expiry.{whole_second}
 use Rattle.cookie_store.specs.Rows.{Row}
 use Rattle.cookies_txt.specs.Layout.{cookies_txt}
-use Rattle.cookies_txt.specs.Reading.{Reads, Says}
+use Rattle.cookies_txt.specs.Reading.{GivesRows, SaysLines}
 use Rattle.cookies_txt.specs.Writing.{IsRowOf, IsThroughCookiesTxt, begins_with_slash, clamped, domain_fault}
 use Rattle.cookies_txt.specs.Writing.{ends_in_return, expiry_second, has_separator, held, is_suffix, latest_second}
-use Rattle.cookies_txt.specs.Writing.{line_of, row_fault, text_fault}
+use Rattle.cookies_txt.specs.Writing.{line_of_row, row_fault, text_fault}
 use Rattle.cookies_txt.specs.declared.error.RowFault.{RowFault}
 use Rattle.cookies_txt.specs.declared.error.RowFault.TheVariants.{HostSign}
 use Rattle.cookies_txt.proofs.LineLemmas.{IsWhole, written_says}
@@ -95,7 +95,7 @@ expiry_small : (death : Option ℤ) → expiry_second death ≤ latest_second
 expiry_small None = omega arith
 expiry_small (Some death) = clamped_small (whole_second death)
 
-row_whole : (row : Row) → row_fault row ≡ None → IsWhole (line_of row)
+row_whole : (row : Row) → row_fault row ≡ None → IsWhole (line_of_row row)
 unfolding row_fault
 row_whole row h =
     let both = or_none (domain_fault row.domain) _ h in
@@ -116,20 +116,20 @@ row_whole row h =
 
 -- ---- rows
 
-held_whole : (rows : List Row) → AllByRecursion IsWhole (map line_of (held rows))
+held_whole : (rows : List Row) → AllByRecursion IsWhole (map line_of_row (held rows))
 held_whole [] = tt
 held_whole (row ∷ rows) = by (row_fault row) refl (held_whole rows)
   where
-    by : (o : Option RowFault) → row_fault row ≡ o → AllByRecursion IsWhole (map line_of (held rows))
-        → AllByRecursion IsWhole (map line_of (cond (is_none o) (row ∷ held rows) (held rows)))
+    by : (o : Option RowFault) → row_fault row ≡ o → AllByRecursion IsWhole (map line_of_row (held rows))
+        → AllByRecursion IsWhole (map line_of_row (cond (is_none o) (row ∷ held rows) (held rows)))
     by None e rest = (row_whole row e, rest)
     by (Some fault) e rest = rest
 
 -- the text of rows says those that lines hold
-pub rows_said : (rows : List Row) → Says (cookies_txt (map line_of (held rows))) (map line_of (held rows))
-rows_said rows = written_says (map line_of (held rows)) (held_whole rows)
+pub rows_said : (rows : List Row) → SaysLines (cookies_txt (map line_of_row (held rows))) (map line_of_row (held rows))
+rows_said rows = written_says (map line_of_row (held rows)) (held_whole rows)
 
-pub lines_paired : (rows back : List Row) → Pairwise IsRowOf (map line_of rows) back
+pub lines_paired : (rows back : List Row) → Pairwise IsRowOf (map line_of_row rows) back
     → Pairwise IsThroughCookiesTxt rows back
 lines_paired [] [] h = tt
 lines_paired [] (b ∷ bs) h = h
@@ -137,8 +137,8 @@ lines_paired (row ∷ rows) [] h = h
 lines_paired (row ∷ rows) (b ∷ bs) h = (h.0, lines_paired rows bs h.1)
 
 -- they come back
-pub rows_back : (rows back : List Row) → Reads (cookies_txt (map line_of (held rows))) back
+pub rows_back : (rows back : List Row) → GivesRows (cookies_txt (map line_of_row (held rows))) back
     → Pairwise IsThroughCookiesTxt (held rows) back
 rows_back rows back (all, says, pairs) =
-    let same : all ≡ map line_of (held rows) = says.says ∙ sym (rows_said rows).says in
+    let same : all ≡ map line_of_row (held rows) = says.says ∙ sym (rows_said rows).says in
     lines_paired (held rows) back (subst (λ ls. Pairwise IsRowOf ls back) same pairs)

@@ -10,12 +10,12 @@ use Rattle.std.proofs.lemmas.List.Elements.{filter-append}
 use Rattle.cookie_store.specs.Rows.{Row}
 use Rattle.cookie_store.specs.StoredCookie.{stored_of}
 use Rattle.cookie_store.specs.declared.stored_cookie.Cookie.{Cookie}
-use Rattle.cookies_txt.specs.Layout.{cookies_txt, heading, line_text}
-use Rattle.cookies_txt.specs.Writing.{AreHeld, IsFirstRefused, held, line_of, row_fault, rows_in}
+use Rattle.cookies_txt.specs.Layout.{cookies_txt, heading_text, line_text}
+use Rattle.cookies_txt.specs.Writing.{AreHeld, IsFirstRefused, held, line_of_row, row_fault, rows_in}
 use Rattle.cookies_txt.specs.declared.error.RowFault.{RowFault}
 
 abbrev pub text_of : List Row → List ℕ
-text_of rows = cookies_txt (map line_of (held rows))
+text_of rows = cookies_txt (map line_of_row (held rows))
 
 -- the rows so far are written, and so many of them are passed over
 pub record WritesSoFar (rows : List Row) (out : List ℕ) (passed : ℕ) : Type 0 where
@@ -29,24 +29,25 @@ held_push rows row o e =
     ∙ ap (λ f. held rows ++ cond (is_none f) (row ∷ []) []) e
 
 text_push : (rows : List Row) (row : Row)
-    → cookies_txt (map line_of (rows ++ row ∷ []))
-    ≡ cookies_txt (map line_of rows) ++ (line_text (line_of row) ++ 10 ∷ [])
+    → cookies_txt (map line_of_row (rows ++ row ∷ []))
+    ≡ cookies_txt (map line_of_row rows) ++ (line_text (line_of_row row) ++ 10 ∷ [])
 text_push rows row =
-    ap cookies_txt (map-append line_of rows (row ∷ []))
-    ∙ (ap (λ t. heading ++ t) (flat_map-append (λ line. line_text line ++ 10 ∷ []) (map line_of rows) (line_of row ∷ [])
-    ∙ ap (λ t. flat_map (λ line. line_text line ++ 10 ∷ []) (map line_of rows) ++ t)
-    (append-nil (line_text (line_of row) ++ 10 ∷ [])))
-    ∙ sym (append_assoc heading (flat_map (λ line. line_text line ++ 10 ∷ []) (map line_of rows))
-    (line_text (line_of row) ++ 10 ∷ [])))
+    ap cookies_txt (map-append line_of_row rows (row ∷ []))
+    ∙ (ap (λ t. heading_text ++ t)
+    (flat_map-append (λ line. line_text line ++ 10 ∷ []) (map line_of_row rows) (line_of_row row ∷ [])
+    ∙ ap (λ t. flat_map (λ line. line_text line ++ 10 ∷ []) (map line_of_row rows) ++ t)
+    (append-nil (line_text (line_of_row row) ++ 10 ∷ [])))
+    ∙ sym (append_assoc heading_text (flat_map (λ line. line_text line ++ 10 ∷ []) (map line_of_row rows))
+    (line_text (line_of_row row) ++ 10 ∷ [])))
 
 pub writes_row : (rows : List Row) (row : Row) (text new : List ℕ) (passed_over : ℕ)
     → WritesSoFar rows text passed_over → None ≡ row_fault row
-    → new ≡ text ++ (line_text (line_of row) ++ 10 ∷ []) → WritesSoFar (rows ++ row ∷ []) new passed_over
+    → new ≡ text ++ (line_text (line_of_row row) ++ 10 ∷ []) → WritesSoFar (rows ++ row ∷ []) new passed_over
 writes_row rows row text new passed_over far fine put =
     let kept : held (rows ++ row ∷ []) ≡ held rows ++ row ∷ [] = held_push rows row None (sym fine) in
     record {
-      text = put ∙ (ap (λ t. t ++ (line_text (line_of row) ++ 10 ∷ [])) far.text
-          ∙ (sym (text_push (held rows) row) ∙ sym (ap (λ rs. cookies_txt (map line_of rs)) kept)));
+      text = put ∙ (ap (λ t. t ++ (line_text (line_of_row row) ++ 10 ∷ [])) far.text
+          ∙ (sym (text_push (held rows) row) ∙ sym (ap (λ rs. cookies_txt (map line_of_row rs)) kept)));
       passed_over = omega (
         arith,
         far.passed_over,
@@ -62,7 +63,7 @@ writes_none rows row fault text passed_over far refused =
     let kept : held (rows ++ row ∷ []) ≡ held rows =
     held_push rows row (Some fault) (sym refused) ∙ append-nil (held rows) in
     record {
-      text = far.text ∙ sym (ap (λ rs. cookies_txt (map line_of rs)) kept);
+      text = far.text ∙ sym (ap (λ rs. cookies_txt (map line_of_row rs)) kept);
       passed_over = omega (arith, far.passed_over, ap length kept, length-append rows (row ∷ []));
     }
 

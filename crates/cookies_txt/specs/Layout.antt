@@ -37,18 +37,18 @@ abbrev pub domain_field : CookieLine → List ℕ
 domain_field line = when line.http_only http_only_mark ++ (when line.below (dot ∷ []) ++ line.domain)
 
 -- the seven fields
-abbrev pub fields : CookieLine → List (List ℕ)
-fields line =
+abbrev pub fields_of_line : CookieLine → List (List ℕ)
+fields_of_line line =
     domain_field line ∷ flag_text line.below ∷ line.path ∷ flag_text line.secure ∷ decimal line.expires ∷ line.name
     ∷ line.value ∷ []
 
 -- the fields, parted by tabs
 unfoldable pub line_text : CookieLine → List ℕ
-line_text line = join_with_byte tab (fields line)
+line_text line = join_with_byte tab (fields_of_line line)
 
 -- a comment and an empty line, then a line for each cookie
-abbrev pub heading : List ℕ
-heading = codes "# Netscape HTTP Cookie File" ++ 10 ∷ 10 ∷ []
+abbrev pub heading_text : List ℕ
+heading_text = codes "# Netscape HTTP Cookie File" ++ 10 ∷ 10 ∷ []
 
 abbrev pub cookies_txt : List CookieLine → List ℕ
-cookies_txt all = heading ++ flat_map (λ line. line_text line ++ 10 ∷ []) all
+cookies_txt all = heading_text ++ flat_map (λ line. line_text line ++ 10 ∷ []) all

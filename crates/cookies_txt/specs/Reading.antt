@@ -135,7 +135,7 @@ IsFine line = IsOk (read_line line)
 
 -- No line of the text has a fault, and this is what they say, in their order. A line ends at a line feed, and a
 -- carriage return before that is no part of it; the last may lack its end.
-pub record Says (text : List ℕ) (all : List CookieLine) : Type 0 where
+pub record SaysLines (text : List ℕ) (all : List CookieLine) : Type 0 where
   pub fine : AllByRecursion IsFine (lines text)
   pub says : all ≡ flat_map (λ line. said (read_line line)) (lines text)
 
@@ -150,8 +150,8 @@ pub record IsFirstFault (text : List ℕ) (number : ℕ) (fault : LineFault) : T
   pub counted : number ≡ length before + 1
 
 -- the rows of a text, one for each line that names a cookie
-abbrev pub Reads : List ℕ → List Row → Type 0
-Reads text rows = (all : List CookieLine) × Says text all × Pairwise IsRowOf all rows
+abbrev pub GivesRows : List ℕ → List Row → Type 0
+GivesRows text rows = (all : List CookieLine) × SaysLines text all × Pairwise IsRowOf all rows
 
 -- why a text isn't read
 abbrev pub IsReadRefusal : List ℕ → ReadError → Type 0

@@ -49,7 +49,7 @@ has_separator text = list_any (λ b. b == 9 || b == 10) text
 abbrev pub ends_in_return : List ℕ → Bool
 ends_in_return text = slice_index text (length text - 1) == 13
 
--- the first of these that is so of the texts of a path, a name and a value
+-- the first of these that is so of the texts of a domain, a path, a name and a value
 abbrev pub text_fault : List ℕ → List ℕ → List ℕ → List ℕ → Option RowFault
 text_fault domain path name value =
     if not (begins_with_slash path) then Some NoSlash
@@ -115,8 +115,8 @@ is_suffix not_present = false
 is_suffix empty = false
 
 -- what a line says of the row: the parts that the format has
-abbrev pub line_of : Row → CookieLine
-line_of row = record {
+abbrev pub line_of_row : Row → CookieLine
+line_of_row row = record {
   http_only = is_set row.raw.cookie.http_only;
   domain = text_or_empty row.domain;
   below = is_suffix row.domain;
@@ -151,4 +151,4 @@ pub record IsRowOf (line : CookieLine) (row : Row) : Type 0 where
 
 -- the row comes back so: with the parts that the format has, and no other
 abbrev pub IsThroughCookiesTxt : Row → Row → Type 0
-IsThroughCookiesTxt row back = IsRowOf (line_of row) back
+IsThroughCookiesTxt row back = IsRowOf (line_of_row row) back

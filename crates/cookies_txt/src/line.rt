@@ -40,7 +40,7 @@ pub(crate) struct Line<'a> {
 impl<'a> Line<'a> {
     /// What a line says of the row.
     pub(crate) fn of(cookie: &'a Cookie<'static>) -> Line<'a>
-        ensures { said_of result ≡ spec.line_of (stored_of cookie.now) }
+        ensures { said_of result ≡ spec.line_of_row (stored_of cookie.now) }
     {
         let raw = cookie.raw();
         Line {

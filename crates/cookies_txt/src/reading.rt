@@ -21,7 +21,7 @@ use std::alloc::Global;
 /// `NotText` where the bytes aren't UTF-8, `Line` with the number of the first faulty line, counted from 1, and its
 /// first fault; `OutOfMemory`.
 pub fn read(alloc: Global, text: &[u8]) -> Result<Vec<Cookie<'static>>, ReadError>
-    ensures ok { IfOk result (λ cookies. spec.Reads text.now (map stored_of cookies.items)) }
+    ensures ok { IfOk result (λ cookies. spec.GivesRows text.now (map stored_of cookies.items)) }
     ensures utf8 { IfOk result (λ _. IsUtf8 text.now) }
     ensures err { IfErr result (spec.IsBytesRefusal text.now) }
 {
@@ -32,7 +32,7 @@ pub fn read(alloc: Global, text: &[u8]) -> Result<Vec<Cookie<'static>>, ReadErro
 }
 
 fn read_text(alloc: Global, text: &str) -> Result<Vec<Cookie<'static>>, ReadError>
-    ensures ok { IfOk result (λ cookies. spec.Reads text.now (map stored_of cookies.items)) }
+    ensures ok { IfOk result (λ cookies. spec.GivesRows text.now (map stored_of cookies.items)) }
     ensures err { IfErr result (spec.IsReadRefusal text.now) }
 {
     let mut cookies = Vec::new(alloc);

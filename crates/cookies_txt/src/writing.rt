@@ -1,10 +1,10 @@
 //! Rows to `cookies.txt`.
 ghost use Rattle.std.specs.Prelude.{◌≡◌, ◌+◌, ◌++◌, ◌∷◌, [], false, length, map, IfOk, IfErr, OnOk, string_bytes};
 ghost use Rattle.cookies_txt.specs.Layout.{cookies_txt, line_text};
-ghost use Rattle.cookies_txt.specs.Reading.{Says};
+ghost use Rattle.cookies_txt.specs.Reading.{SaysLines};
 ghost use Rattle.cookies_txt.specs.Steps.{said_of};
 ghost use Rattle.cookies_txt.specs.Writing as spec;
-ghost use Rattle.cookies_txt.specs.Writing.{held, line_of, rows_in};
+ghost use Rattle.cookies_txt.specs.Writing.{held, line_of_row, rows_in};
 
 use crate::error::WriteError;
 use crate::line::Line;
@@ -39,13 +39,13 @@ pub fn write(
     passing_over: bool,
 ) -> Result<Written, WriteError>
     ensures text { IfOk result (λ written. string_bytes written.text
-        ≡ cookies_txt (map line_of (held (rows_in cookies.now)))) }
+        ≡ cookies_txt (map line_of_row (held (rows_in cookies.now)))) }
     ensures passed_over { IfOk result (λ written. written.passed_over + length (held (rows_in cookies.now))
         ≡ length cookies.now) }
     ensures all { passing_over ≡ false → IfOk result (λ _. spec.AreHeld (rows_in cookies.now)) }
     ensures err { IfErr result (spec.IsWriteRefusal passing_over (rows_in cookies.now)) }
-    ensures reads { IfOk result (λ written. Says (string_bytes written.text)
-        (map line_of (held (rows_in cookies.now)))) }
+    ensures reads { IfOk result (λ written. SaysLines (string_bytes written.text)
+        (map line_of_row (held (rows_in cookies.now)))) }
 {
     let mut text = String::from_str(alloc, HEADING)?;
     let mut passed_over = 0;

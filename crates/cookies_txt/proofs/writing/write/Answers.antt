@@ -2,8 +2,8 @@ use Rattle.std.proofs.Common.{◌≡◌, ◌+◌, length, take, map, string_byte
 use Rattle.std.proofs.lemmas.Grind.{common_steps}
 use Rattle.std.proofs.lemmas.List.{length-map, length-take-le}
 use Rattle.cookie_store.specs.StoredCookie.{stored_of}
-use Rattle.cookies_txt.specs.Reading.{Says}
-use Rattle.cookies_txt.specs.Writing.{held, line_of, rows_in}
+use Rattle.cookies_txt.specs.Reading.{SaysLines}
+use Rattle.cookies_txt.specs.Writing.{held, line_of_row, rows_in}
 use Rattle.cookies_txt.proofs.RowLemmas.{rows_said}
 use Rattle.cookies_txt.proofs.WriteLemmas.{refused_at, text_of}
 use Rattle.cookies_txt.proofs.writing.write.Goals as goal
@@ -29,4 +29,4 @@ returns-clause-reads c =
     let all : take c.loop-index.index cookies ≡ cookies = grind (arith, common_steps) in
     let text : string_bytes c.loop-index.text ≡ text_of (rows_in cookies) =
     c.loop-index.invariant.writes.text ∙ ap (λ cs. text_of (rows_in cs)) all in
-    subst (λ t. Says t (map line_of (held (rows_in cookies)))) (sym text) (rows_said (rows_in cookies))
+    subst (λ t. SaysLines t (map line_of_row (held (rows_in cookies)))) (sym text) (rows_said (rows_in cookies))
