@@ -1,5 +1,5 @@
 //! Rows of `cookies.txt`.
-ghost use Rattle.std.specs.Prelude.{◌≡◌, map, IfOk, IfErr};
+ghost use Rattle.std.specs.Prelude.{map, IfOk, IfErr};
 ghost use Rattle.std.specs.Str.{IsUtf8};
 ghost use Rattle.cookie_store.specs.StoredCookie.{stored_of};
 ghost use Rattle.cookies_txt.specs.Reading as spec;
