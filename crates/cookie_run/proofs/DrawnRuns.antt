@@ -24,7 +24,7 @@ use Rattle.cookie_run.specs.declared.step.SessionError.{SessionError}
 use Rattle.cookie_run.specs.declared.step.SessionError.TheVariants.{EmptyName, Year, TooLong, Rng, OutOfMemory}
 use Rattle.cookie_run.specs.declared.step.Way.{Way}
 use Rattle.cookie_run.specs.declared.step.Way.TheVariants.{Plain, Host, Secure, Signed, Sealed}
-use Rattle.cookie_run.proofs.Runs.{readings_nil, sets_any, tells_more}
+use Rattle.cookie_run.proofs.Runs.{readings_nil, sets_any}
 
 -- ---- draws
 

@@ -9,7 +9,9 @@ use Rattle.url.specs.Parts.{Parts}
 use Rattle.cookie_run.specs.declared.step.LineEnd.{LineEnd}
 use Rattle.cookie_run.specs.Accept.{AcceptsAll, Takes}
 use Rattle.cookie_run.specs.ScriptLine as spec
-use Rattle.cookie_run.specs.ScriptText.{Reached, obeyed, goes_back, done, after_line, HasFault, PrintsUntil}
+use Rattle.cookie_run.specs.Drawn.{Draw}
+use Rattle.cookie_run.specs.ScriptDrawn.{LineFails}
+use Rattle.cookie_run.specs.ScriptText.{Reached, obeyed, goes_back, done, after_line}
 use Rattle.cookie_run.specs.Standing.{Stands, Goes, Halts}
 use Rattle.cookie_run.specs.ScriptRead.{line_of}
 use Rattle.cookie_store.specs.Rows.{Row}
@@ -20,7 +22,8 @@ use Rattle.cookie_run.specs.declared.script.line.Line.{Line}
 use Rattle.cookie_run.specs.declared.script.visit.Visit.{Visit}
 use Rattle.cookie_run.specs.declared.step.SessionError.{SessionError}
 use Rattle.cookie_run.specs.declared.step.Stopped.{Stopped}
-use Rattle.cookie_run.proofs.Halting.{prints_all}
+use Rattle.cookie_run.proofs.DrawnRuns.{draws_nil}
+use Rattle.cookie_run.proofs.Halting.{no_memory, own_fault}
 
 empty_line : (line : List ℕ) → line ≡ [] → bytes_eq line [] ≡ true
 empty_line line e = ap (λ l. bytes_eq l []) e
@@ -39,14 +42,17 @@ skips false x y e = refl
 
 -- an empty line is passed over
 pub passes_over : (list : List Rule) (key : List ℕ) (line : List ℕ) (rows : List Row) (last : ℤ)
-    (visit : Option Visit) (text : List ℕ) → line ≡ [] → text ≡ [] → Goes list key (λ r. after_line r line) rows last
+    (visit : Option Visit) (text : List ℕ) → line ≡ [] → text ≡ [] → Goes [] list key (λ r. after_line r line) rows last
     visit rows last visit text
-passes_over list key line rows last visit text e empty start r output s = (
+passes_over list key line rows last visit text e empty start r output drawn s = (
   r,
   picks (bytes_eq line []) (Ok r) (done r (spec.read_line line)) (empty_line line e),
   record {
     told = s.told;
     front = s.front;
+    done = s.done;
+    here = s.here;
+    draws = draws_nil drawn ∙ s.draws;
     plays = s.plays;
     is_open = s.is_open;
     answered = s.answered;
@@ -61,51 +67,50 @@ read_led r line read some e = skips (bytes_eq line []) (Ok r) (done r (spec.read
     ∙ ap (done r) e
 
 -- its text has a fault
-pub misreads : (Error : Type 0) (list : List Rule) (key : List ℕ) (line : List ℕ) (rows : List Row) (last : ℤ)
-    (visit : Option Visit) (cause : Cause) → 0 < length line → (spec.read_line line ≡ Err cause) ⊎ (cause ≡ Memory)
-    → Halts Error list key (λ r. after_line r line) rows last visit cause rows
-misreads Error list key line rows last visit cause some (inl e) start r output s = inl
-    (inl (read_led r line (Err cause) some e), refl)
-misreads Error list key line rows last visit cause some (inr e) start r output s = inr
-    (e, inl (prints_all list key start rows r last visit output s))
+pub misreads : (list : List Rule) (key : List ℕ) (line : List ℕ) (rows : List Row) (last : ℤ) (visit : Option Visit)
+    (cause : Cause) → 0 < length line → (spec.read_line line ≡ Err cause) ⊎ (cause ≡ Memory)
+    → Halts [] list key (λ r. after_line r line) rows last visit cause rows
+misreads list key line rows last visit cause some (inl e) start r output drawn s =
+    own_fault drawn list key start rows r last visit output (after_line r line) cause s
+    (read_led r line (Err cause) some e)
+misreads list key line rows last visit cause some (inr e) start r output drawn s =
+    no_memory drawn list key start rows r last visit output (after_line r line) cause s e
 
 -- its moment is before the last
-pub comes_back : (Error : Type 0) (list : List Rule) (key : List ℕ) (line : List ℕ) (rows : List Row) (last : ℤ)
-    (visit : Option Visit) (read : Line) → 0 < length line → spec.read_line line ≡ Ok (line_of read)
-    → goes_back last (line_of read) ≡ true → Halts Error list key (λ r. after_line r line) rows last visit Back rows
-comes_back Error list key line rows last visit read some e back start r output s =
-    inl (
-      inl (read_led r line (Ok (line_of read)) some e ∙ picks (goes_back r.last (line_of read)) (Err Back)
-          (obeyed r.acts r.last r.now (line_of read)) (subst (λ m. goes_back m (line_of read) ≡ true) s.moment back)),
-      refl,
-    )
+pub comes_back : (list : List Rule) (key : List ℕ) (line : List ℕ) (rows : List Row) (last : ℤ) (visit : Option Visit)
+    (read : Line) → 0 < length line → spec.read_line line ≡ Ok (line_of read)
+    → goes_back last (line_of read) ≡ true → Halts [] list key (λ r. after_line r line) rows last visit Back rows
+comes_back list key line rows last visit read some e back start r output drawn s =
+    own_fault drawn list key start rows r last visit output (after_line r line) Back s
+    (read_led r line (Ok (line_of read)) some e ∙ picks (goes_back r.last (line_of read)) (Err Back)
+    (obeyed r.acts r.last r.now (line_of read)) (subst (λ m. goes_back m (line_of read) ≡ true) s.moment back))
 
-led : (list : List Rule) (key : List ℕ) (start rows : List Row) (r : Reached) (last : ℤ) (visit : Option Visit)
-    (output line : List ℕ) (read : Line) → Stands list key start r rows last visit output → 0 < length line
-    → spec.read_line line ≡ Ok (line_of read) → goes_back last (line_of read) ≡ false
+led : (drawn : List Draw) (list : List Rule) (key : List ℕ) (start rows : List Row) (r : Reached) (last : ℤ)
+    (visit : Option Visit) (output line : List ℕ) (read : Line) → Stands drawn list key start r rows last visit output
+    → 0 < length line → spec.read_line line ≡ Ok (line_of read) → goes_back last (line_of read) ≡ false
     → after_line r line ≡ obeyed r.acts r.last r.now (line_of read)
-led list key start rows r last visit output line read s some e forth =
+led drawn list key start rows r last visit output line read s some e forth =
     read_led r line (Ok (line_of read)) some e ∙ skips (goes_back r.last (line_of read)) (Err Back)
     (obeyed r.acts r.last r.now (line_of read)) (subst (λ m. goes_back m (line_of read) ≡ false) s.moment forth)
 
-pub goes_on : (list : List Rule) (key : List ℕ) (line : List ℕ) (rows new_rows : List Row) (last new_last : ℤ)
-    (visit new_visit : Option Visit) (read : Line) (text : List ℕ) → 0 < length line
+pub goes_on : (more : List Draw) (list : List Rule) (key : List ℕ) (line : List ℕ) (rows new_rows : List Row)
+    (last new_last : ℤ) (visit new_visit : Option Visit) (read : Line) (text : List ℕ) → 0 < length line
     → spec.read_line line ≡ Ok (line_of read) → goes_back last (line_of read) ≡ false
-    → Goes list key (λ r. obeyed r.acts r.last r.now (line_of read)) rows last visit new_rows new_last new_visit text
-    → Goes list key (λ r. after_line r line) rows last visit new_rows new_last new_visit text
-goes_on list key line rows new_rows last new_last visit new_visit read text some e forth goes start r output s =
-    let g = goes start r output s in
-    (g.0, led list key start rows r last visit output line read s some e forth ∙ g.1, g.2)
+    → Goes more list key (λ r. obeyed r.acts r.last r.now (line_of read)) rows last visit new_rows new_last new_visit
+    text → Goes more list key (λ r. after_line r line) rows last visit new_rows new_last new_visit text
+goes_on more list key line rows new_rows last new_last visit new_visit read text some e forth goes start r output drawn
+    s =
+    let g = goes start r output drawn s in
+    (g.0, led drawn list key start rows r last visit output line read s some e forth ∙ g.1, g.2)
 
-pub halts_there : (Error : Type 0) (list : List Rule) (key : List ℕ) (line : List ℕ) (rows new_rows : List Row)
+pub halts_there : (here : List Draw) (list : List Rule) (key : List ℕ) (line : List ℕ) (rows new_rows : List Row)
     (last : ℤ) (visit : Option Visit) (read : Line) (cause : Cause) → 0 < length line
     → spec.read_line line ≡ Ok (line_of read) → goes_back last (line_of read) ≡ false
-    → Halts Error list key (λ r. obeyed r.acts r.last r.now (line_of read)) rows last visit cause new_rows
-    → Halts Error list key (λ r. after_line r line) rows last visit cause new_rows
-halts_there Error list key line rows new_rows last visit read cause some e forth halts start r output s =
-    subst (λ l. (HasFault Error r l cause × (new_rows ≡ rows))
-    ⊎ ((cause ≡ Memory) × PrintsUntil list key start r l output new_rows))
-    (sym (led list key start rows r last visit output line read s some e forth)) (halts start r output s)
+    → Halts here list key (λ r. obeyed r.acts r.last r.now (line_of read)) rows last visit cause new_rows
+    → Halts here list key (λ r. after_line r line) rows last visit cause new_rows
+halts_there here list key line rows new_rows last visit read cause some e forth halts start r output drawn s =
+    subst (λ l. LineFails drawn here list key start r l cause output new_rows)
+    (sym (led drawn list key start rows r last visit output line read s some e forth)) (halts start r output drawn s)
 
 -- ---- results
 

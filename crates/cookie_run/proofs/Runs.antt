@@ -3,20 +3,17 @@ use Rattle.std.proofs.lemmas.List.{take_more}
 use Rattle.std.specs.Prelude.{IsErr, IsErrAnd, IfErr}
 use Rattle.cookie_run.specs.declared.step.Step.{Step}
 use Rattle.cookie_run.specs.Acts.{act_of, acts_of}
-use Rattle.std.proofs.Common.{◌≡◌, ℕ, ℤ, ◌+◌, ◌<◌, ◌≤◌, length, take, drop, get_or, inl, inr, Result, Ok, Err, OnOk}
+use Rattle.std.proofs.Common.{◌≡◌, ℕ, ◌+◌, ◌<◌, length, take, get_or, Result, Ok, Err, OnOk}
 use Rattle.std.proofs.Common.{OnErr}
 use Rattle.std.proofs.Common.{List, [], ◌∷◌, ◌++◌, sym, refl, ap, ◌∙◌, subst, append_assoc, zero, suc, arith}
 use Rattle.cookie_run.specs.Acts.{Act}
-use Rattle.publicsuffix.specs.Rules.{Rule}
-use Rattle.cookie_store.specs.Rows.{Row}
 use Rattle.cookie_run.specs.declared.step.Reading.{Reading}
 use Rattle.cookie_run.specs.declared.step.Command.{Command}
 use Rattle.cookie_text.specs.Record.{Seen}
 use Rattle.cookie_run.specs.declared.step.Way.{Way}
 use Rattle.cookie_run.specs.declared.step.Way.TheVariants.{Plain, Host, Secure, Signed, Sealed}
 use Rattle.cookie_run.specs.Jar.{Keyed, IsKeptAs, IsRemovalRefusal, Sets, sent}
-use Rattle.cookie_run.specs.Play.{Plays, OneStep, CommandTells, Tells, GetTells}
-use Rattle.cookie_run.specs.Play.{any_nonce}
+use Rattle.cookie_run.specs.Play.{any_nonce, GetTells}
 use Rattle.cookie_run.specs.Readings.{all_told, MayRead}
 use Rattle.cookie_run.specs.declared.step.SessionError.{SessionError}
 use Rattle.cookie_run.specs.declared.step.SessionError.TheVariants.{EmptyName, Year, Rng}
@@ -24,16 +21,6 @@ use Rattle.std.specs.List.{AllByRecursion}
 use Rattle.std.proofs.Common.{Bool, true, false, cond, Some, None}
 use Rattle.jiff.specs.Types.{DateTime}
 use Rattle.cookie_text.specs.Normal.{is_short_year}
-
-pub plays_more : (list : List Rule) (key : List ℕ) (rows mid new : List Row) (acts : List Act)
-    (told : List (List Reading)) (act : Act) (t : List Reading) → Plays list key rows acts told mid
-    → OneStep list key mid act t new
-    → Plays list key rows (acts ++ act ∷ []) (told ++ t ∷ []) new
-plays_more list key rows mid new [] [] act t p s = (new, subst (λ rs. OneStep list key rs act t new) p s, refl)
-plays_more list key rows mid new [] (u ∷ us) act t p s = absurd p
-plays_more list key rows mid new (a ∷ acts) [] act t p s = absurd p
-plays_more list key rows mid new (a ∷ acts) (u ∷ us) act t p s =
-    (p.0, p.1, plays_more list key p.0 mid new acts us act t p.2 s)
 
 pub told_more : (told : List (List Reading)) (t : List Reading) → all_told (told ++ t ∷ []) ≡ all_told told ++ t
 told_more [] t = append_nil t
@@ -69,17 +56,6 @@ err_gives (Err e) Q P h f = f e h.1
 pub readings_nil : (xs : List Reading) → xs ++ [] ≡ xs
 readings_nil [] = refl
 readings_nil (x ∷ xs) = ap (λ ys. x ∷ ys) (readings_nil xs)
-
--- ---- one more command
-
-pub tells_more : (s mid new : Keyed) (at : ℤ) (cs : List Command) (c : Command) (told t : List Reading)
-    → Tells s at cs told mid → CommandTells mid at c t new → Tells s at (cs ++ c ∷ []) (told ++ t) new
-tells_more s mid new at [] c told t p one =
-    let first = subst (λ k. CommandTells k at c t new) p.1 one in
-    (t, [], new, first, (refl, refl), ap (λ x. x ++ t) p.0 ∙ sym (readings_nil t))
-tells_more s mid new at (d ∷ cs) c told t p one =
-    let rest = tells_more p.2 mid new at cs c p.1 t p.4 one in
-    (p.0, p.1 ++ t, p.2, p.3, rest, ap (λ x. x ++ t) p.5 ∙ append_assoc p.0 p.1 t)
 
 -- ---- what the generator tells
 

@@ -1,12 +1,17 @@
 -- The run of a whole text.
 use Rattle.std.proofs.Common.{◌≡◌, ◌⊎◌, ℕ, ℤ, ◌+◌, ◌<◌, List, [], ◌∷◌, ◌++◌, length, Option, None, Result, Ok, Err, inl}
 use Rattle.std.proofs.Common.{inr, sym, refl, ap, ◌∙◌, subst, append_assoc, append-nil, length-append, arith}
-use Rattle.std.specs.Prelude.{IfOk, IfErr, OnOk, IsErrOf, IfSome, Some, IsErrAnd}
+use Rattle.std.specs.Prelude.{IfOk, IfErr, OnOk, IsErrOf, IfSome, Some, IsErrAnd, ⊤}
 use Rattle.std.specs.Str.Lines.{lines}
 use Rattle.std.specs.Io.KnownBytes.{Appends}
 use Rattle.std.proofs.KnownBytes.{Appends-trans, Appends-nil}
-use Rattle.cookie_run.specs.ScriptText.{Reached, begun, LeadsTo, after_line, ScriptText, EndsForMemory, Runs, HasFault}
-use Rattle.cookie_run.specs.ScriptText.{PrintsUntil, fault_text, Prints, IsDoneUpTo, LeavesRows, LeavesFront}
+use Rattle.cookie_run.specs.Acts.{Act, Visits, Answers, Asks, Restarts, Arrives, Never}
+use Rattle.cookie_run.specs.Drawn.{Draw, Fills}
+use Rattle.cookie_run.specs.ScriptDrawn.{EndsBy, LineFails, FaultDraws, NextFails, HalfStepBy, IsScriptBy, PrintsBy}
+use Rattle.cookie_run.specs.ScriptDrawn.{PrintsUntilBy}
+use Rattle.cookie_run.specs.ScriptText.{Reached, begun, LeadsTo, after_line, ScriptText, EndsForMemory, HasFault}
+use Rattle.cookie_run.specs.ScriptText.{PrintsUntil, fault_text, Prints, IsDoneUpTo, LeavesRows, LeavesFront, HalfStep}
+use Rattle.cookie_run.specs.ScriptText.{all_acts}
 use Rattle.cookie_run.specs.Standing.{Stands}
 use Rattle.cookie_store.specs.Rows.{Row}
 use Rattle.publicsuffix.specs.Rules.{Rule}
@@ -18,29 +23,112 @@ use Rattle.cookie_run.specs.declared.script.ended.RunError.{RunError}
 use Rattle.cookie_run.specs.declared.script.ended.RunError.TheVariants.{Read, Write}
 use Rattle.cookie_run.proofs.ScriptLines.{lines_some}
 use Rattle.cookie_run.specs.declared.script.visit.Visit.{Visit}
+use Rattle.cookie_run.specs.declared.step.Reading.{Reading}
+use Rattle.cookie_run.proofs.DrawnRuns.{commands_any, draws_nil, plays_any}
 use Rattle.cookie_run.proofs.Halting.{prints_all}
+use Rattle.cookie_run.proofs.Runs.{on_ok}
 
--- how far the run has come: the lines done, where they led, and what was printed for them
-pub record Come (list : List Rule) (key : List ℕ) (start : List Row) (first : ℤ) (text rest : List ℕ)
-    (rows : List Row) (last : ℤ) (visit : Option Visit) (done : ℕ) (old new : Option (List ℕ)) : Type 0 where
+-- ---- whatever the nonces
+
+prints_any : (ds : List Draw) (list : List Rule) (key : List ℕ) (start : List Row) (r : Reached) (output : List ℕ)
+    (new : List Row) → PrintsBy ds list key start r output new → Prints list key start r output new
+prints_any ds list key start r output new p =
+    (p.0, plays_any ds list key start (all_acts r) p.0 new p.1, p.2, p.3)
+
+half_any : (ds : List Draw) (list : List Rule) (key : List ℕ) (rows : List Row) (act : Act) (told : List Reading)
+    (new : List Row) → HalfStepBy ds list key rows act told new → HalfStep list key rows act told new
+half_any ds list key rows (Visits url at cs (Arrives moment)) told new h = (
+  h.0,
+  h.1,
+  (h.2.2.0, (h.2.0, h.2.1, commands_any ds h.2.0 at cs told h.2.2.0 h.2.2.1), h.2.2.2),
+)
+half_any ds list key rows (Visits url at cs Never) told new h = absurd h
+half_any ds list key rows (Answers url answer at) told new h = (h.0, h.1)
+half_any ds list key rows (Asks url at) told new h = absurd h
+half_any ds list key rows (Restarts at) told new h = absurd h
+
+until_any : (ds : List Draw) (list : List Rule) (key : List ℕ) (start : List Row) (r : Reached)
+    (led : Result Reached Cause) (output : List ℕ) (new : List Row)
+    → PrintsUntilBy ds list key start r led output new → PrintsUntil list key start r led output new
+until_any ds list key start r led output new (inl p) = inl (prints_any ds list key start r output new p)
+until_any ds list key start r led output new (inr (next, act, is, more, h)) = inr (
+  next,
+  act,
+  is,
+  more,
+  (
+    h.0,
+    h.1,
+    h.2,
+    plays_any h.3 list key start r.acts h.0 h.1 h.6,
+    half_any h.4 list key h.1 act h.2 new h.7,
+    h.8,
+    h.9,
+  ),
+)
+
+fault_any : {G : Type 0} (May : G → List ℕ → G → Type 0) (Error : Type 0) (old new : G) (ds : List Draw) (r : Reached)
+    (led : Result Reached Cause) (cause : Cause) → Fills May Error old ds new → FaultDraws ds r led cause
+    → HasFault Error r led cause
+fault_any May Error old new ds r led cause fills (inl own) = inl own.0
+fault_any May Error old new ds r led cause fills (inr failed) =
+    inr (failed.0, (subst (λ xs. Fills May Error old xs new) failed.1 fills).0, failed.2)
+
+-- a line isn't done
+abbrev pub LineFailsAny : Type 0 → List Rule → List ℕ → List Row → Reached → Result Reached Cause → Cause → List ℕ
+    → List Row → Type 0
+LineFailsAny Error list key start r led cause output new =
+    (HasFault Error r led cause × Prints list key start r output new)
+    ⊎ ((cause ≡ Memory) × PrintsUntil list key start r led output new)
+
+pub fails_any : {G : Type 0} (May : G → List ℕ → G → Type 0) (Error : Type 0) (from to : G) (ds here : List Draw)
+    (list : List Rule) (key : List ℕ) (start : List Row) (r : Reached) (led : Result Reached Cause) (cause : Cause)
+    (output : List ℕ) (new : List Row) → Fills May Error from here to
+    → LineFails ds here list key start r led cause output new → LineFailsAny Error list key start r led cause output new
+fails_any May Error from to ds here list key start r led cause output new fills (inl fault) = inl
+    (fault_any May Error from to here r led cause fills fault.0, prints_any ds list key start r output new fault.1)
+fails_any May Error from to ds here list key start r led cause output new fills (inr memory) =
+    inr (memory.0, until_any ds list key start r led output new memory.2)
+
+-- ---- the lines
+
+-- how far the run has come by these draws: the lines done, where they led, and what was printed for them
+pub record Come (drawn : List Draw) (list : List Rule) (key : List ℕ) (start : List Row) (first : ℤ)
+    (text rest : List ℕ) (rows : List Row) (last : ℤ) (visit : Option Visit) (done : ℕ) (old new : Option (List ℕ))
+    : Type 0 where
   pub r : Reached
   pub before : List (List ℕ)
   pub output : List ℕ
   pub leads : LeadsTo (begun first) before r
   pub whole : lines text ≡ before ++ lines rest
-  pub stands : Stands list key start r rows last visit output
+  pub stands : Stands drawn list key start r rows last visit output
   pub written : Appends old new output
   pub count : done ≡ length before
 
+stands_first : (list : List Rule) (key : List ℕ) (start : List Row) (first : ℤ)
+    → Stands [] list key start (begun first) start first None []
+stands_first list key start first = record {
+  told = [];
+  front = [];
+  done = [];
+  here = [];
+  draws = refl;
+  plays = (refl, refl);
+  is_open = (refl, refl);
+  answered = tt;
+  prints = refl;
+  moment = refl;
+}
+
 pub come_first : (list : List Rule) (key : List ℕ) (start : List Row) (first : ℤ) (text : List ℕ) (w : Option (List ℕ))
-    → Come list key start first text text start first None 0 w w
+    → Come [] list key start first text text start first None 0 w w
 come_first list key start first text w = record {
   r = begun first;
   before = [];
   output = [];
   leads = refl;
   whole = refl;
-  stands = record { told = []; front = []; plays = refl; is_open = refl; answered = tt; prints = refl; moment = refl };
+  stands = stands_first list key start first;
   written = Appends-nil w;
   count = refl;
 }
@@ -50,14 +138,15 @@ leads_more : (start : Reached) (before : List (List ℕ)) (r next : Reached) (li
 leads_more start [] r next line h e = (next, subst (λ s. after_line s line ≡ Ok next) h e, refl)
 leads_more start (l ∷ before) r next line h e = (h.0, h.1, leads_more h.0 before r next line h.2 e)
 
-pub come_more : (list : List Rule) (key : List ℕ) (start : List Row) (first : ℤ) (text rest line more : List ℕ)
-    (rows new_rows : List Row) (last new_last : ℤ) (visit new_visit : Option Visit) (done : ℕ)
-    (old mid new : Option (List ℕ)) (printed : List ℕ) → (come : Come list key start first text rest rows last visit
-    done old mid) → lines rest ≡ line ∷ lines more → ((next : Reached) × (after_line come.r line ≡ Ok next) × Stands
-    list key start next new_rows new_last new_visit (come.output ++ printed)) → Appends mid new printed
-    → Come list key start first text more new_rows new_last new_visit (done + 1) old new
-come_more list key start first text rest line more rows new_rows last new_last visit new_visit done old mid new
-    printed come cut goes written = record {
+pub come_more : (drawn more_drawn : List Draw) (list : List Rule) (key : List ℕ) (start : List Row) (first : ℤ)
+    (text rest line more : List ℕ) (rows new_rows : List Row) (last new_last : ℤ) (visit new_visit : Option Visit)
+    (done : ℕ) (old mid new : Option (List ℕ)) (printed : List ℕ)
+    → (come : Come drawn list key start first text rest rows last visit done old mid) → lines rest ≡ line ∷ lines more
+    → ((next : Reached) × (after_line come.r line ≡ Ok next) × Stands (drawn ++ more_drawn) list key start next new_rows
+    new_last new_visit (come.output ++ printed)) → Appends mid new printed
+    → Come (drawn ++ more_drawn) list key start first text more new_rows new_last new_visit (done + 1) old new
+come_more drawn more_drawn list key start first text rest line more rows new_rows last new_last visit new_visit done
+    old mid new printed come cut goes written = record {
       r = goes.0;
       before = come.before ++ line ∷ [];
       output = come.output ++ printed;
@@ -75,18 +164,19 @@ Ends Error list key start first text old new rows last ended = (output : List �
     × (ScriptText Error list key start first text output rows last ended
     ⊎ EndsForMemory list key start first text output rows last ended)
 
-pub come_whole : (Error : Type 0) (list : List Rule) (key : List ℕ) (start : List Row) (first : ℤ)
+pub come_whole : (drawn : List Draw) (Error : Type 0) (list : List Rule) (key : List ℕ) (start : List Row) (first : ℤ)
     (text rest : List ℕ) (rows : List Row) (last : ℤ) (visit : Option Visit) (done : ℕ) (old new : Option (List ℕ))
-    → Come list key start first text rest rows last visit done old new → rest ≡ []
+    → Come drawn list key start first text rest rows last visit done old new → rest ≡ []
     → Ends Error list key start first text old new rows last Whole
-come_whole Error list key start first text rest rows last visit done old new come e =
+come_whole drawn Error list key start first text rest rows last visit done old new come e =
     let all : lines text ≡ come.before = come.whole ∙ (ap (λ x. come.before ++ lines x) e ∙ append-nil come.before) in (
       come.output,
       come.written,
       inl (record {
         r = come.r;
         leads = subst (λ ls. LeadsTo (begun first) ls come.r) (sym all) come.leads;
-        prints = prints_all list key start rows come.r last visit come.output come.stands;
+        prints = prints_any drawn list key start come.r come.output rows
+            (prints_all drawn list key start rows come.r last visit come.output come.stands);
         moment = come.stands.moment;
       }),
     )
@@ -94,14 +184,14 @@ come_whole Error list key start first text rest rows last visit done old new com
 no_length : (line : List ℕ) → 0 < length line → line ≡ [] → ⊥
 no_length line some empty = let none = ap length empty in omega arith
 
-pub come_fault : (Error : Type 0) (list : List Rule) (key : List ℕ) (start : List Row) (first : ℤ)
+pub come_fault : (drawn : List Draw) (Error : Type 0) (list : List Rule) (key : List ℕ) (start : List Row) (first : ℤ)
     (text rest line more : List ℕ) (rows new_rows : List Row) (last new_last : ℤ) (visit : Option Visit) (done : ℕ)
-    (old mid new : Option (List ℕ)) (cause : Cause) → (come : Come list key start first text rest rows last visit done
-    old mid) → lines rest ≡ line ∷ lines more → (HasFault Error come.r (after_line come.r line) cause ×
-    (new_rows ≡ rows)) ⊎ ((cause ≡ Memory) × PrintsUntil list key start come.r (after_line come.r line) come.output
-    new_rows) → 0 < length line → new_last ≡ last → Appends mid new (fault_text (done + 1) cause)
+    (old mid new : Option (List ℕ)) (cause : Cause)
+    → (come : Come drawn list key start first text rest rows last visit done old mid) → lines rest ≡ line ∷ lines more
+    → LineFailsAny Error list key start come.r (after_line come.r line) cause come.output new_rows → 0 < length line
+    → new_last ≡ last → Appends mid new (fault_text (done + 1) cause)
     → Ends Error list key start first text old new new_rows new_last (Faulty (done + 1))
-come_fault Error list key start first text rest line more rows new_rows last new_last visit done old mid new cause
+come_fault drawn Error list key start first text rest line more rows new_rows last new_last visit done old mid new cause
     come cut (inl fault) some kept written = (
       come.output ++ fault_text (done + 1) cause,
       Appends-trans old mid new come.output _ come.written written,
@@ -118,13 +208,12 @@ come_fault Error list key start first text rest line more rows new_rows last new
         };
         leads = come.leads;
         fault = fault.0;
-        prints = subst (Prints list key start come.r come.output) (sym fault.1)
-            (prints_all list key start rows come.r last visit come.output come.stands);
+        prints = fault.1;
         text = refl;
         moment = kept ∙ come.stands.moment;
       }),
     )
-come_fault Error list key start first text rest line more rows new_rows last new_last visit done old mid new cause
+come_fault drawn Error list key start first text rest line more rows new_rows last new_last visit done old mid new cause
     come cut (inr half) some kept written = (
       come.output ++ fault_text (done + 1) cause,
       Appends-trans old mid new come.output _ come.written written,
@@ -207,21 +296,24 @@ rows_left : (list : List Rule) (key : List ℕ) (start : List Row) (r : Reached)
 rows_left list key start r [] output new p = (output, p)
 rows_left list key start r (line ∷ later) output new p = (output, inl p)
 
-pub leaves_now : (list : List Rule) (key : List ℕ) (start : List Row) (first : ℤ) (text : List ℕ) (r : Reached)
-    (before after : List (List ℕ)) (rows : List Row) (last : ℤ) (visit : Option Visit) (output : List ℕ)
+pub leaves_now : (drawn : List Draw) (list : List Rule) (key : List ℕ) (start : List Row) (first : ℤ) (text : List ℕ)
+    (r : Reached) (before after : List (List ℕ)) (rows : List Row) (last : ℤ) (visit : Option Visit) (output : List ℕ)
     (result : Result Ended RunError) → LeadsTo (begun first) before r → lines text ≡ before ++ after
-    → Stands list key start r rows last visit output → IsDoneUpTo result before after
+    → Stands drawn list key start r rows last visit output → IsDoneUpTo result before after
     → LeavesFront list key start first text rows last result
-leaves_now list key start first text r before after rows last visit output result leads cut stands up_to = record {
-  r = r;
-  before = before;
-  after = after;
-  cut = cut;
-  leads = leads;
-  leaves = rows_left list key start r after output rows (prints_all list key start rows r last visit output stands);
-  moment = stands.moment;
-  done_up_to = up_to;
-}
+leaves_now drawn list key start first text r before after rows last visit output result leads cut stands up_to =
+    record {
+      r = r;
+      before = before;
+      after = after;
+      cut = cut;
+      leads = leads;
+      leaves = rows_left list key start r after output rows
+          (prints_any drawn list key start r output rows
+          (prints_all drawn list key start rows r last visit output stands));
+      moment = stands.moment;
+      done_up_to = up_to;
+    }
 
 pub up_to_fault : (result : Result Ended RunError) (n : ℕ) (before after : List (List ℕ))
     → IfOk result (λ ended. ended ≡ Faulty n) → n ≡ length before + 1 → IsDoneUpTo result before after
@@ -235,31 +327,30 @@ up_to_any (Ok ended) Q before after is = absurd is
 up_to_any (Err error) Q before after is = tt
 
 -- the line was done, and what it printed wasn't written
-pub leaves_more : (list : List Rule) (key : List ℕ) (start : List Row) (first : ℤ) (text rest line more : List ℕ)
-    (rows new_rows : List Row) (last new_last : ℤ) (visit new_visit : Option Visit) (done : ℕ)
-    (old mid : Option (List ℕ)) (printed : List ℕ) (result : Result Ended RunError) (Q : RunError → Type 0)
-    → IsErrAnd result Q
-    → (come : Come list key start first text rest rows last visit done old mid) → lines rest ≡ line ∷ lines more
-    → ((next : Reached) × (after_line come.r line ≡ Ok next) × Stands list key start next new_rows new_last new_visit
-    (come.output ++ printed)) → LeavesFront list key start first text new_rows new_last result
-leaves_more list key start first text rest line more rows new_rows last new_last visit new_visit done old mid printed
-    result Q failed come cut goes = leaves_now list key start first text goes.0 (come.before ++ line ∷ []) (lines more)
-    new_rows new_last new_visit (come.output ++ printed) result
+pub leaves_more : (drawn more_drawn : List Draw) (list : List Rule) (key : List ℕ) (start : List Row) (first : ℤ)
+    (text rest line more : List ℕ) (rows new_rows : List Row) (last new_last : ℤ) (visit new_visit : Option Visit)
+    (done : ℕ) (old mid : Option (List ℕ)) (printed : List ℕ) (result : Result Ended RunError)
+    (Q : RunError → Type 0) → IsErrAnd result Q
+    → (come : Come drawn list key start first text rest rows last visit done old mid) → lines rest ≡ line ∷ lines more
+    → ((next : Reached) × (after_line come.r line ≡ Ok next) × Stands (drawn ++ more_drawn) list key start next new_rows
+    new_last new_visit (come.output ++ printed)) → LeavesFront list key start first text new_rows new_last result
+leaves_more drawn more_drawn list key start first text rest line more rows new_rows last new_last visit new_visit done
+    old mid printed result Q failed come cut goes = leaves_now (drawn ++ more_drawn) list key start first text goes.0
+    (come.before ++ line ∷ []) (lines more) new_rows new_last new_visit (come.output ++ printed) result
     (leads_more (begun first) come.before come.r goes.0 line come.leads goes.1)
     (come.whole ∙ (ap (λ ls. come.before ++ ls) cut ∙ sym (append_assoc come.before (line ∷ []) (lines more))))
     goes.2 (up_to_any result Q (come.before ++ line ∷ []) (lines more) failed)
 
 -- the line wasn't done
-pub leaves_fault : (Error : Type 0) (list : List Rule) (key : List ℕ) (start : List Row) (first : ℤ)
+pub leaves_fault : (drawn : List Draw) (Error : Type 0) (list : List Rule) (key : List ℕ) (start : List Row) (first : ℤ)
     (text rest line more : List ℕ) (rows new_rows : List Row) (last new_last : ℤ) (visit : Option Visit) (done : ℕ)
     (old mid : Option (List ℕ)) (cause : Cause) (result : Result Ended RunError)
     → IfOk result (λ ended. ended ≡ Faulty (done + 1))
-    → (come : Come list key start first text rest rows last visit done old mid) → lines rest ≡ line ∷ lines more
-    → (HasFault Error come.r (after_line come.r line) cause × (new_rows ≡ rows)) ⊎ ((cause ≡ Memory)
-    × PrintsUntil list key start come.r (after_line come.r line) come.output new_rows) → new_last ≡ last
+    → (come : Come drawn list key start first text rest rows last visit done old mid) → lines rest ≡ line ∷ lines more
+    → LineFailsAny Error list key start come.r (after_line come.r line) cause come.output new_rows → new_last ≡ last
     → LeavesFront list key start first text new_rows new_last result
-leaves_fault Error list key start first text rest line more rows new_rows last new_last visit done old mid cause result
-    is come cut said kept = record {
+leaves_fault drawn Error list key start first text rest line more rows new_rows last new_last visit done old mid cause
+    result is come cut said kept = record {
       r = come.r;
       before = come.before;
       after = line ∷ lines more;
@@ -270,21 +361,17 @@ leaves_fault Error list key start first text rest line more rows new_rows last n
       done_up_to = up_to_fault result (done + 1) come.before (line ∷ lines more) is (ap (λ n. n + 1) come.count);
     }
   where
-    until : (HasFault Error come.r (after_line come.r line) cause × (new_rows ≡ rows)) ⊎ ((cause ≡ Memory)
-        × PrintsUntil list key start come.r (after_line come.r line) come.output new_rows)
+    until : LineFailsAny Error list key start come.r (after_line come.r line) cause come.output new_rows
         → PrintsUntil list key start come.r (after_line come.r line) come.output new_rows
-    until (inl fault) = subst (PrintsUntil list key start come.r (after_line come.r line) come.output) (sym fault.1)
-        (inl (prints_all list key start rows come.r last visit come.output come.stands))
+    until (inl fault) = inl fault.1
     until (inr half) = half.1
 
 -- no line was done
 none_done : (list : List Rule) (key : List ℕ) (start : List Row) (first : ℤ) (input : List ℕ)
     (result : Result Ended RunError) → ((after : List (List ℕ)) → IsDoneUpTo result [] after)
     → LeavesFront list key start first input start first result
-none_done list key start first input result up_to = leaves_now list key start first input (begun first) [] (lines input)
-    start first None [] result refl refl
-    (record { told = []; front = []; plays = refl; is_open = refl; answered = tt; prints = refl; moment = refl })
-    (up_to (lines input))
+none_done list key start first input result up_to = leaves_now [] list key start first input (begun first) []
+    (lines input) start first None [] result refl refl (stands_first list key start first) (up_to (lines input))
 
 pub leaves_first : (list : List Rule) (key : List ℕ) (start : List Row) (first : ℤ) (left : Option (List ℕ))
     (result : Result Ended RunError) → ((after : List (List ℕ)) → IsDoneUpTo result [] after)
@@ -293,3 +380,149 @@ pub leaves_first : (list : List Rule) (key : List ℕ) (start : List Row) (first
 leaves_first list key start first None result up_to = ([], tt, none_done list key start first [] result up_to)
 leaves_first list key start first (Some whole) result up_to =
     (whole, refl, none_done list key start first whole result up_to)
+
+-- ---- by the draws
+
+pub script_whole : (drawn : List Draw) (list : List Rule) (key : List ℕ) (start : List Row) (first : ℤ)
+    (text rest : List ℕ) (rows : List Row) (last : ℤ) (visit : Option Visit) (done : ℕ) (old mid new : Option (List ℕ))
+    → (come : Come drawn list key start first text rest rows last visit done old mid) → rest ≡ []
+    → Appends old new come.output → IsScriptBy drawn list key start first text old new rows last (Ok Whole)
+script_whole drawn list key start first text rest rows last visit done old mid new come e written = record {
+  r = come.r;
+  before = come.before;
+  after = [];
+  cut = come.whole ∙ ap (λ x. come.before ++ lines x) e;
+  leads = come.leads;
+  moment = come.stands.moment;
+  done = drawn;
+  here = [];
+  draws = sym (draws_nil drawn);
+  ends = (
+    refl,
+    refl,
+    (come.output, prints_all drawn list key start rows come.r last visit come.output come.stands, written),
+  );
+}
+
+-- a device failed before a line
+pub script_cut : (drawn : List Draw) (list : List Rule) (key : List ℕ) (start : List Row) (first : ℤ) (text : List ℕ)
+    (r : Reached) (before after : List (List ℕ)) (rows : List Row) (last : ℤ) (visit : Option Visit) (output : List ℕ)
+    (old new : Option (List ℕ)) (result : Result Ended RunError) (Q : RunError → Type 0) → IsErrAnd result Q
+    → LeadsTo (begun first) before r → lines text ≡ before ++ after
+    → Stands drawn list key start r rows last visit output
+    → IsScriptBy drawn list key start first text old new rows last result
+script_cut drawn list key start first text r before after rows last visit output old new result Q failed leads cut
+    stands =
+    record {
+      r = r;
+      before = before;
+      after = after;
+      cut = cut;
+      leads = leads;
+      moment = stands.moment;
+      done = drawn;
+      here = [];
+      draws = sym (draws_nil drawn);
+      ends = by_error result failed;
+    }
+  where
+    by_error : (result : Result Ended RunError) → IsErrAnd result Q
+        → EndsBy drawn [] list key start r before after old new rows result
+    by_error (Ok ended) is = absurd is
+    by_error (Err error) is = (output, inl (refl, prints_all drawn list key start rows r last visit output stands))
+
+pub script_more : (drawn more_drawn : List Draw) (list : List Rule) (key : List ℕ) (start : List Row) (first : ℤ)
+    (text rest line more : List ℕ) (rows new_rows : List Row) (last new_last : ℤ) (visit new_visit : Option Visit)
+    (done : ℕ) (old mid new : Option (List ℕ)) (printed : List ℕ) (result : Result Ended RunError)
+    (Q : RunError → Type 0) → IsErrAnd result Q
+    → (come : Come drawn list key start first text rest rows last visit done old mid) → lines rest ≡ line ∷ lines more
+    → ((next : Reached) × (after_line come.r line ≡ Ok next) × Stands (drawn ++ more_drawn) list key start next new_rows
+    new_last new_visit (come.output ++ printed))
+    → IsScriptBy (drawn ++ more_drawn) list key start first text old new new_rows new_last result
+script_more drawn more_drawn list key start first text rest line more rows new_rows last new_last visit new_visit done
+    old mid new printed result Q failed come cut goes = script_cut (drawn ++ more_drawn) list key start first text
+    goes.0 (come.before ++ line ∷ []) (lines more) new_rows new_last new_visit (come.output ++ printed) old new result
+    Q failed (leads_more (begun first) come.before come.r goes.0 line come.leads goes.1)
+    (come.whole ∙ (ap (λ ls. come.before ++ ls) cut ∙ sym (append_assoc come.before (line ∷ []) (lines more)))) goes.2
+
+-- line n wasn't done
+by_fault : (ds here : List Draw) (list : List Rule) (key : List ℕ) (start : List Row) (r : Reached)
+    (before after : List (List ℕ)) (old new : Option (List ℕ)) (rows : List Row) (n : ℕ) (cause : Cause)
+    (output : List ℕ) (result : Result Ended RunError) → n ≡ length before + 1
+    → NextFails ds here list key start r after cause output rows
+    → OnOk result (Appends old new (output ++ fault_text n cause)) → IfOk result (λ ended. ended ≡ Faulty n)
+    → EndsBy ds here list key start r before after old new rows result
+by_fault ds here list key start r before after old new rows n cause output (Ok ended) number fails written is =
+    subst (λ x. let e : Result Ended RunError = Ok x in EndsBy ds here list key start r before after old new rows e)
+    (sym is) (number, (cause, output, fails, written))
+by_fault ds here list key start r before after old new rows n cause output (Err error) number fails written is =
+    (output, inr (cause, fails))
+
+pub script_fault : (drawn here : List Draw) (list : List Rule) (key : List ℕ) (start : List Row) (first : ℤ)
+    (text rest line more : List ℕ) (rows new_rows : List Row) (last new_last : ℤ) (visit : Option Visit) (done : ℕ)
+    (old mid new : Option (List ℕ)) (cause : Cause) (result : Result Ended RunError)
+    → (come : Come drawn list key start first text rest rows last visit done old mid) → lines rest ≡ line ∷ lines more
+    → LineFails drawn here list key start come.r (after_line come.r line) cause come.output new_rows → new_last ≡ last
+    → OnOk result (Appends mid new (fault_text (done + 1) cause)) → IfOk result (λ ended. ended ≡ Faulty (done + 1))
+    → IsScriptBy (drawn ++ here) list key start first text old new new_rows new_last result
+script_fault drawn here list key start first text rest line more rows new_rows last new_last visit done old mid new
+    cause result come cut fails kept written is = record {
+      r = come.r;
+      before = come.before;
+      after = line ∷ lines more;
+      cut = come.whole ∙ ap (λ ls. come.before ++ ls) cut;
+      leads = come.leads;
+      moment = kept ∙ come.stands.moment;
+      done = drawn;
+      here = here;
+      draws = refl;
+      ends = by_fault drawn here list key start come.r come.before (line ∷ lines more) old new new_rows (done + 1) cause
+          come.output result (ap (λ n. n + 1) come.count) fails
+          (on_ok result _ _ (Appends-trans old mid new come.output _ come.written) written) is;
+    }
+
+-- nothing was read
+pub script_unread : (list : List Rule) (key : List ℕ) (start : List Row) (first : ℤ) (left : Option (List ℕ))
+    (old new : Option (List ℕ)) (error : RunError)
+    → (input : List ℕ) × IfSome left (λ whole. input ≡ whole)
+    × IsScriptBy [] list key start first input old new start first (Err error)
+script_unread list key start first left old new error = known left
+  where
+    none : (input : List ℕ) → IsScriptBy [] list key start first input old new start first (Err error)
+    none input = script_cut [] list key start first input (begun first) [] (lines input) start first None [] old new
+        (Err error) (λ e. ⊤) tt refl refl (stands_first list key start first)
+
+    known : (left : Option (List ℕ)) → (input : List ℕ) × IfSome left (λ whole. input ≡ whole)
+        × IsScriptBy [] list key start first input old new start first (Err error)
+    known None = ([], tt, none [])
+    known (Some whole) = (whole, refl, none whole)
+
+-- memory was refused while the text was read
+script_refused : (list : List Rule) (key : List ℕ) (start : List Row) (first : ℤ) (input : List ℕ)
+    (old new : Option (List ℕ)) (result : Result Ended RunError) → 0 < length input
+    → OnOk result (Appends old new (fault_text 1 Memory)) → IfOk result (λ ended. ended ≡ Faulty 1)
+    → IsScriptBy [] list key start first input old new start first result
+script_refused list key start first input old new result some written is =
+    let l = lines_some input some in record {
+      r = begun first;
+      before = [];
+      after = l.0 ∷ l.1;
+      cut = l.2;
+      leads = refl;
+      moment = refl;
+      done = [];
+      here = [];
+      draws = refl;
+      ends = by_fault [] [] list key start (begun first) [] (l.0 ∷ l.1) old new start 1 Memory [] result refl
+          (inr (refl, inl refl, inl ([], (refl, refl), tt, refl))) written is;
+    }
+
+pub script_memory : (list : List Rule) (key : List ℕ) (start : List Row) (first : ℤ) (left : Option (List ℕ))
+    (old new : Option (List ℕ)) (result : Result Ended RunError) → IfSome left (λ input. 0 < length input)
+    → OnOk result (Appends old new (fault_text 1 Memory)) → IfOk result (λ ended. ended ≡ Faulty 1)
+    → (input : List ℕ) × IfSome left (λ whole. input ≡ whole)
+    × IsScriptBy [] list key start first input old new start first result
+script_memory list key start first None old new result some written is =
+    (0 ∷ [], tt, script_refused list key start first (0 ∷ []) old new result (omega arith) written is)
+script_memory list key start first (Some whole) old new result some written is =
+    (whole, refl, script_refused list key start first whole old new result some written is)

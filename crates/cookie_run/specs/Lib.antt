@@ -27,6 +27,7 @@ pub mod HostRows
 pub mod ScriptMoment
 pub mod ScriptLine
 pub mod ScriptText
+pub mod ScriptDrawn
 pub mod ScriptRead
 pub mod Standing
 pub mod Program

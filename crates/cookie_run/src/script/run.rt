@@ -3,6 +3,8 @@ ghost use Rattle.std.specs.Prelude.{◌≡◌, ◌⊎◌, ◌^◌, ◌-◌, ℕ,
 ghost use Rattle.std.specs.Io.KnownBytes.{Appends};
 ghost use Rattle.jiff.specs.Words.{civil_nanos};
 ghost use Rattle.devices.specs.Device.{Rose, one_more};
+ghost use Rattle.cookie_run.specs.Drawn.{DrawsSo};
+ghost use Rattle.cookie_run.specs.ScriptDrawn.{IsScriptBy};
 ghost use Rattle.cookie_run.specs.ScriptText.{Runs, LeavesFront, fault_text};
 
 use crate::client::Client;
@@ -53,6 +55,10 @@ pub fn run<R: Source, W: Sink, G: TryRng>(
         × LeavesFront client.old.suffixes key.now client.old.rows (civil_nanos last.old) input client.new.rows
         (civil_nanos last.new) result }
     ensures unread { IsErrOf result RunError.Read → (client.new ≡ client.old) × (last.new ≡ last.old) }
+    ensures draws { (input : List ℕ) × IfSome (R.left reader.old) (λ whole. input ≡ whole)
+        × DrawsSo G.may_fill G.Error rng.old (λ drawn. IsScriptBy drawn client.old.suffixes key.now client.old.rows
+        (civil_nanos last.old) input (W.written writer.old) (W.written writer.new) client.new.rows
+        (civil_nanos last.new) result) rng.new }
 {
     match read_all(alloc, reader) {
         Ok(input) => {
@@ -88,6 +94,9 @@ fn play_text<W: Sink, G: TryRng>(
     ensures unflushed { OnOk result (W.unflushed writer.new ≡ 0) }
     ensures leaves { LeavesFront client.old.suffixes key.now client.old.rows (civil_nanos last.old) text.now
         client.new.rows (civil_nanos last.new) result }
+    ensures draws { DrawsSo G.may_fill G.Error rng.old (λ drawn. IsScriptBy drawn client.old.suffixes key.now
+        client.old.rows (civil_nanos last.old) text.now (W.written writer.old) (W.written writer.new) client.new.rows
+        (civil_nanos last.new) result) rng.new }
 {
     let mut done = 0;
     let mut rest = text;

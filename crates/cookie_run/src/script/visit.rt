@@ -3,10 +3,11 @@
 //! Each function answers what its line prints. A line with a fault is not done: the last moment
 //! stays, and so do the rows, but for the lines of an answer before the one at which memory was
 //! refused.
-ghost use Rattle.std.specs.Prelude.{◌≡◌, length, ◌<◌, ℕ, ℤ, List, IfOk, IfErr, OnErr, string_bytes, map};
+ghost use Rattle.std.specs.Prelude.{◌≡◌, length, ◌<◌, ℕ, ℤ, List, [], IfOk, IfErr, OnErr, string_bytes, map};
 ghost use Rattle.jiff.specs.Words.{civil_nanos};
 ghost use Rattle.publicsuffix.specs.Rules.{Rule};
 ghost use Rattle.cookie_store.specs.Rows.{Row};
+ghost use Rattle.cookie_run.specs.Drawn.{DrawsSo};
 ghost use Rattle.cookie_run.specs.Jar.{ClosesWith};
 ghost use Rattle.cookie_run.specs.ScriptLine as spec;
 ghost use Rattle.cookie_run.specs.ScriptText.{after_line, cause_of};
@@ -47,11 +48,12 @@ pub fn follow<G: TryRng>(
     visit: &mut Option<Visit>,
     rng: &mut G,
 ) -> Result<String, Cause>
-    ensures ok { IfOk result (λ text. Goes client.old.suffixes key.now (λ r. after_line r line.now)
-        client.old.rows (civil_nanos last.old) visit.old
-        client.new.rows (civil_nanos last.new) visit.new (string_bytes text)) }
-    ensures err { IfErr result (λ cause. Halts G.Error client.old.suffixes key.now (λ r. after_line r line.now)
-        client.old.rows (civil_nanos last.old) visit.old cause client.new.rows) }
+    ensures ok { IfOk result (λ text. DrawsSo G.may_fill G.Error rng.old (λ drawn. Goes drawn client.old.suffixes
+        key.now (λ r. after_line r line.now) client.old.rows (civil_nanos last.old) visit.old
+        client.new.rows (civil_nanos last.new) visit.new (string_bytes text)) rng.new) }
+    ensures err { IfErr result (λ cause. DrawsSo G.may_fill G.Error rng.old (λ drawn. Halts drawn client.old.suffixes
+        key.now (λ r. after_line r line.now) client.old.rows (civil_nanos last.old) visit.old cause client.new.rows)
+        rng.new) }
     ensures list { client.new.suffixes ≡ client.old.suffixes }
     ensures last { OnErr result (last.new ≡ last.old) }
     ensures asks { OnErr result (0 < length line.now) }
@@ -79,11 +81,11 @@ fn obey<G: TryRng>(
     visit: &mut Option<Visit>,
     rng: &mut G,
 ) -> Result<String, Cause>
-    ensures ok { IfOk result (λ text. Obeys client.old.suffixes key.now (line_of line)
-        client.old.rows (civil_nanos last.old) visit.old
-        client.new.rows (civil_nanos last.new) visit.new (string_bytes text)) }
-    ensures err { IfErr result (λ cause. Balks G.Error client.old.suffixes key.now (line_of line)
-        client.old.rows (civil_nanos last.old) visit.old cause client.new.rows) }
+    ensures ok { IfOk result (λ text. DrawsSo G.may_fill G.Error rng.old (λ drawn. Obeys drawn client.old.suffixes
+        key.now (line_of line) client.old.rows (civil_nanos last.old) visit.old
+        client.new.rows (civil_nanos last.new) visit.new (string_bytes text)) rng.new) }
+    ensures err { IfErr result (λ cause. DrawsSo G.may_fill G.Error rng.old (λ drawn. Balks drawn client.old.suffixes
+        key.now (line_of line) client.old.rows (civil_nanos last.old) visit.old cause client.new.rows) rng.new) }
     ensures list { client.new.suffixes ≡ client.old.suffixes }
     ensures last { OnErr result (last.new ≡ last.old) }
 {
@@ -113,11 +115,11 @@ fn begin(
     visit: &mut Option<Visit>,
 ) -> Result<String, Cause>
     ensures ok { IfOk result
-        (λ text. Obeys client.now.suffixes key.now (spec.Opens url (civil_nanos at.date))
+        (λ text. Obeys [] client.now.suffixes key.now (spec.Opens url (civil_nanos at.date))
         client.now.rows (civil_nanos last.old) visit.old
         client.now.rows (civil_nanos last.new) visit.new (string_bytes text)) }
     ensures err { IfErr result
-        (λ cause. Balks ⊥ client.now.suffixes key.now (spec.Opens url (civil_nanos at.date))
+        (λ cause. Balks [] client.now.suffixes key.now (spec.Opens url (civil_nanos at.date))
         client.now.rows (civil_nanos last.old) visit.old cause client.now.rows) }
     ensures last { OnErr result (last.new ≡ last.old) }
 {
@@ -140,13 +142,13 @@ fn set<G: TryRng>(
     rng: &mut G,
 ) -> Result<String, Cause>
     ensures ok { IfOk result
-        (λ text. (list : List Rule) (key : List ℕ) (rows : List Row) (last : ℤ)
-        → Obeys list key (spec.Commands (Set way cookie.entry))
-        rows last visit.old rows last visit.new (string_bytes text)) }
+        (λ text. DrawsSo G.may_fill G.Error rng.old (λ drawn. (list : List Rule) (key : List ℕ) (rows : List Row)
+        (last : ℤ) → Obeys drawn list key (spec.Commands (Set way cookie.entry))
+        rows last visit.old rows last visit.new (string_bytes text)) rng.new) }
     ensures err { IfErr result
-        (λ cause. (list : List Rule) (key : List ℕ) (rows : List Row) (last : ℤ)
-        → Balks G.Error list key (spec.Commands (Set way cookie.entry))
-        rows last visit.old cause rows) }
+        (λ cause. DrawsSo G.may_fill G.Error rng.old (λ drawn. (list : List Rule) (key : List ℕ) (rows : List Row)
+        (last : ℤ) → Balks drawn list key (spec.Commands (Set way cookie.entry))
+        rows last visit.old cause rows) rng.new) }
 {
     let Some(
         Visit {
@@ -170,11 +172,11 @@ fn set<G: TryRng>(
 fn remove(alloc: Global, way: Way, name: &Text, visit: &mut Option<Visit>) -> Result<String, Cause>
     ensures ok { IfOk result
         (λ text. (list : List Rule) (key : List ℕ) (rows : List Row) (last : ℤ)
-        → Obeys list key (spec.Commands (Remove way name.now))
+        → Obeys [] list key (spec.Commands (Remove way name.now))
         rows last visit.old rows last visit.new (string_bytes text)) }
     ensures err { IfErr result
         (λ cause. (list : List Rule) (key : List ℕ) (rows : List Row) (last : ℤ)
-        → Balks ⊥ list key (spec.Commands (Remove way name.now))
+        → Balks [] list key (spec.Commands (Remove way name.now))
         rows last visit.old cause rows) }
 {
     let Some(
@@ -199,11 +201,11 @@ fn remove(alloc: Global, way: Way, name: &Text, visit: &mut Option<Visit>) -> Re
 fn get(alloc: Global, way: Way, name: &Text, visit: &Option<Visit>) -> Result<String, Cause>
     ensures ok { IfOk result
         (λ text. (list : List Rule) (key : List ℕ) (rows : List Row) (last : ℤ)
-        → Obeys list key (spec.Commands (Get way name.now))
+        → Obeys [] list key (spec.Commands (Get way name.now))
         rows last visit.now rows last visit.now (string_bytes text)) }
     ensures err { IfErr result
         (λ cause. (list : List Rule) (key : List ℕ) (rows : List Row) (last : ℤ)
-        → Balks ⊥ list key (spec.Commands (Get way name.now))
+        → Balks [] list key (spec.Commands (Get way name.now))
         rows last visit.now cause rows) }
 {
     let Some(open) = visit else {
@@ -237,11 +239,11 @@ fn deliver(
     visit: &mut Option<Visit>,
 ) -> Result<String, Cause>
     ensures ok { IfOk result
-        (λ text. (key : List ℕ) → Obeys client.old.suffixes key (spec.Delivers (civil_nanos at))
+        (λ text. (key : List ℕ) → Obeys [] client.old.suffixes key (spec.Delivers (civil_nanos at))
         client.old.rows (civil_nanos last.old) visit.old
         client.new.rows (civil_nanos last.new) visit.new (string_bytes text)) }
     ensures err { IfErr result
-        (λ cause. (key : List ℕ) → Balks ⊥ client.old.suffixes key (spec.Delivers (civil_nanos at))
+        (λ cause. (key : List ℕ) → Balks [] client.old.suffixes key (spec.Delivers (civil_nanos at))
         client.old.rows (civil_nanos last.old) visit.old cause client.new.rows) }
     ensures list { client.new.suffixes ≡ client.old.suffixes }
     ensures last { OnErr result (last.new ≡ last.old) }
@@ -262,10 +264,10 @@ fn deliver(
 // `lose`: they don't.
 fn lose(alloc: Global, visit: &mut Option<Visit>) -> Result<String, Cause>
     ensures ok { IfOk result
-        (λ text. (list : List Rule) (key : List ℕ) (rows : List Row) (last : ℤ) → Obeys list key spec.Loses
+        (λ text. (list : List Rule) (key : List ℕ) (rows : List Row) (last : ℤ) → Obeys [] list key spec.Loses
         rows last visit.old rows last visit.new (string_bytes text)) }
     ensures err { IfErr result
-        (λ cause. (list : List Rule) (key : List ℕ) (rows : List Row) (last : ℤ) → Balks ⊥ list key spec.Loses
+        (λ cause. (list : List Rule) (key : List ℕ) (rows : List Row) (last : ℤ) → Balks [] list key spec.Loses
         rows last visit.old cause rows) }
 {
     if visit.is_none() {
@@ -287,12 +289,12 @@ fn receive(
 ) -> Result<String, Cause>
     ensures ok { IfOk result
         (λ text. (key : List ℕ)
-        → Obeys client.old.suffixes key (spec.Receives url.now (map (λ line. line.items) lines.now) (civil_nanos at))
+        → Obeys [] client.old.suffixes key (spec.Receives url.now (map (λ line. line.items) lines.now) (civil_nanos at))
         client.old.rows (civil_nanos last.old) visit.now
         client.new.rows (civil_nanos last.new) visit.now (string_bytes text)) }
     ensures err { IfErr result
         (λ cause. (key : List ℕ)
-        → Balks ⊥ client.old.suffixes key (spec.Receives url.now (map (λ line. line.items) lines.now) (civil_nanos at))
+        → Balks [] client.old.suffixes key (spec.Receives url.now (map (λ line. line.items) lines.now) (civil_nanos at))
         client.old.rows (civil_nanos last.old) visit.now cause client.new.rows) }
     ensures list { client.new.suffixes ≡ client.old.suffixes }
     ensures last { OnErr result (last.new ≡ last.old) }
@@ -318,11 +320,11 @@ fn header(
     visit: &Option<Visit>,
 ) -> Result<String, Cause>
     ensures ok { IfOk result
-        (λ text. (key : List ℕ) → Obeys client.now.suffixes key (spec.Heads url.now (civil_nanos at))
+        (λ text. (key : List ℕ) → Obeys [] client.now.suffixes key (spec.Heads url.now (civil_nanos at))
         client.now.rows (civil_nanos last.old) visit.now
         client.now.rows (civil_nanos last.new) visit.now (string_bytes text)) }
     ensures err { IfErr result
-        (λ cause. (key : List ℕ) → Balks ⊥ client.now.suffixes key (spec.Heads url.now (civil_nanos at))
+        (λ cause. (key : List ℕ) → Balks [] client.now.suffixes key (spec.Heads url.now (civil_nanos at))
         client.now.rows (civil_nanos last.old) visit.now cause client.now.rows) }
     ensures last { OnErr result (last.new ≡ last.old) }
 {
@@ -345,11 +347,11 @@ fn restart(
     visit: &Option<Visit>,
 ) -> Result<String, Cause>
     ensures ok { IfOk result
-        (λ text. (key : List ℕ) → Obeys client.old.suffixes key (spec.Restarts (civil_nanos at.date))
+        (λ text. (key : List ℕ) → Obeys [] client.old.suffixes key (spec.Restarts (civil_nanos at.date))
         client.old.rows (civil_nanos last.old) visit.now
         client.new.rows (civil_nanos last.new) visit.now (string_bytes text)) }
     ensures err { IfErr result
-        (λ cause. (key : List ℕ) → Balks ⊥ client.old.suffixes key (spec.Restarts (civil_nanos at.date))
+        (λ cause. (key : List ℕ) → Balks [] client.old.suffixes key (spec.Restarts (civil_nanos at.date))
         client.old.rows (civil_nanos last.old) visit.now cause client.new.rows) }
     ensures list { client.new.suffixes ≡ client.old.suffixes }
     ensures last { OnErr result (last.new ≡ last.old) }

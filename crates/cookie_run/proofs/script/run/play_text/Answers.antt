@@ -1,4 +1,4 @@
-use Rattle.std.proofs.Common.{◌≡◌, ◌+◌, ap, refl, subst, sym, ◌∙◌, arith}
+use Rattle.std.proofs.Common.{◌≡◌, ◌+◌, ◌++◌, [], ap, refl, subst, sym, ◌∙◌, arith}
 use Rattle.std.specs.Prelude.{string_bytes, OnOk}
 use Rattle.std.specs.Str.Lines.{lines}
 use Rattle.std.specs.Io.KnownBytes.{Appends}
@@ -8,8 +8,10 @@ use Rattle.devices.specs.Device.{one_more}
 use Rattle.cookie_run.specs.ScriptText.{after_line, fault_text}
 use Rattle.cookie_run.specs.Standing.{Goes, Halts}
 use Rattle.cookie_run.specs.declared.script.ended.Ended.TheVariants.{Faulty}
-use Rattle.cookie_run.proofs.ScriptRun.{Come, Ends, come_first, come_more, come_whole, come_fault, for_one}
+use Rattle.cookie_run.proofs.DrawnRuns.{fills_more}
+use Rattle.cookie_run.proofs.ScriptRun.{Come, Ends, come_first, come_more, come_whole, come_fault, for_one, fails_any}
 use Rattle.cookie_run.proofs.ScriptRun.{leaves_now, leaves_more, leaves_fault, up_to_any}
+use Rattle.cookie_run.proofs.ScriptRun.{script_whole, script_cut, script_more, script_fault}
 use Rattle.std.proofs.lemmas.List.{nil_from_length}
 use Rattle.std.proofs.lemmas.Bool.Decides.{nat_tests}
 use Rattle.cookie_run.proofs.script.run.play_text.Goals as goal
@@ -22,8 +24,12 @@ loop-rest-init g c =
     let text = c.args.text.now in
     let written = g.W.Sink.written c.args.writer.now in
     record {
-      come = subst (λ visit. Come list c.args.key.now rows first text text rows first visit 0 written written)
-          (sym c.requires) (come_first list c.args.key.now rows first text written);
+      come = (
+        [],
+        refl,
+        subst (λ visit. Come [] list c.args.key.now rows first text text rows first visit 0 written written)
+            (sym c.requires) (come_first list c.args.key.now rows first text written),
+      );
       failures = refl;
       flushes = refl;
       list = refl;
@@ -37,48 +43,64 @@ returns-in-Err-clause-flushed g c = subst (λ n. OnOk c.stop_at.result
 pub returns-in-Err-clause-text : goal.returns-in-Err-clause-text
 returns-in-Err-clause-text g c =
     let list = c.args.client.now.suffixes in
+    let key = c.args.key.now in
     let start = c.args.client.now.rows in
     let first = civil_nanos c.args.last.now in
     let text = c.args.text.now in
     let old = g.W.Sink.written c.args.writer.now in
     let mid = g.W.Sink.written c.loop-rest.writer in
+    let drawn = c.loop-rest.invariant.come.0 in
+    let come = c.loop-rest.invariant.come.2 in
+    let line = c.cut_line.result.0.now in
+    let more = c.cut_line.result.1.now in
     let new = g.W.Sink.written c.stop_at.new.writer in
     let done = c.loop-rest.done in
     let last = civil_nanos c.follow.new.last in
-    let come = c.loop-rest.invariant.come in
-    let halts = subst (λ l. Halts g.row.G-Error.Denot l c.args.key.now (λ r. after_line r c.cut_line.result.0.now)
-    c.loop-rest.client.rows (civil_nanos c.loop-rest.last) c.loop-rest.visit c.in-Err.cause c.follow.new.client.rows)
-    c.loop-rest.invariant.list c.in-Err.ensures.err in
-    let said = halts start come.r come.output come.stands in
-    for_one c.stop_at.result (Ends g.row.G-Error.Denot list c.args.key.now start first text old new
-    c.follow.new.client.rows last) (Appends mid new (fault_text (done + 1) c.in-Err.cause))
-    (Faulty (done + 1)) c.stop_at.ensures.text c.stop_at.ensures.ended (λ written. come_fault g.row.G-Error.Denot list
-    c.args.key.now start first text c.loop-rest.rest.now c.cut_line.result.0.now c.cut_line.result.1.now
-    c.loop-rest.client.rows c.follow.new.client.rows (civil_nanos c.loop-rest.last) last c.loop-rest.visit done old
-    mid new c.in-Err.cause come c.cut_line.ensures.line said c.in-Err.ensures.asks
+    let halts = subst (λ l. Halts c.in-Err.ensures.err.0 l key (λ r. after_line r line) c.loop-rest.client.rows
+    (civil_nanos c.loop-rest.last) c.loop-rest.visit c.in-Err.cause c.follow.new.client.rows)
+    c.loop-rest.invariant.list c.in-Err.ensures.err.2 in
+    let said = halts start come.r come.output drawn come.stands in
+    let fails = fails_any g.G.TryRng.may_fill g.row.G-Error.Denot c.loop-rest.rng c.follow.new.rng drawn
+    c.in-Err.ensures.err.0 list key start come.r (after_line come.r line) c.in-Err.cause come.output
+    c.follow.new.client.rows c.in-Err.ensures.err.1 said in
+    for_one c.stop_at.result (Ends g.row.G-Error.Denot list key start first text old new c.follow.new.client.rows last)
+    (Appends mid new (fault_text (done + 1) c.in-Err.cause)) (Faulty (done + 1)) c.stop_at.ensures.text
+    c.stop_at.ensures.ended (λ written. come_fault drawn g.row.G-Error.Denot list key start first text
+    c.loop-rest.rest.now line more c.loop-rest.client.rows c.follow.new.client.rows (civil_nanos c.loop-rest.last) last
+    c.loop-rest.visit done old mid new c.in-Err.cause come c.cut_line.ensures.line fails c.in-Err.ensures.asks
     (ap civil_nanos c.in-Err.ensures.last) written)
 
 pub loop-rest-preserved : goal.loop-rest-preserved
 loop-rest-preserved g c =
     let list = c.args.client.now.suffixes in
+    let key = c.args.key.now in
     let start = c.args.client.now.rows in
     let first = civil_nanos c.args.last.now in
     let text = c.args.text.now in
     let old = g.W.Sink.written c.args.writer.now in
     let mid = g.W.Sink.written c.loop-rest.writer in
+    let drawn = c.loop-rest.invariant.come.0 in
+    let come = c.loop-rest.invariant.come.2 in
+    let line = c.cut_line.result.0.now in
+    let more = c.cut_line.result.1.now in
     let new = g.W.Sink.written c.write_all.new.writer in
-    let come = c.loop-rest.invariant.come in
     let printed = string_bytes c.in-Ok.printed in
-    let leads_on = subst (λ l. Goes l c.args.key.now (λ r. after_line r c.cut_line.result.0.now)
-    c.loop-rest.client.rows (civil_nanos c.loop-rest.last) c.loop-rest.visit c.follow.new.client.rows
-    (civil_nanos c.follow.new.last) c.follow.new.visit printed) c.loop-rest.invariant.list c.in-Ok.ensures.ok in
-    let goes = leads_on start come.r come.output come.stands in
+    let leads_on = subst (λ l. Goes c.in-Ok.ensures.ok.0 l key (λ r. after_line r line) c.loop-rest.client.rows
+    (civil_nanos c.loop-rest.last) c.loop-rest.visit c.follow.new.client.rows (civil_nanos c.follow.new.last)
+    c.follow.new.visit printed) c.loop-rest.invariant.list c.in-Ok.ensures.ok.2 in
+    let goes = leads_on start come.r come.output drawn come.stands in
     let same : c.as_bytes.result.now ≡ printed = cc in
     record {
-      come = come_more list c.args.key.now start first text c.loop-rest.rest.now c.cut_line.result.0.now
-          c.cut_line.result.1.now c.loop-rest.client.rows c.follow.new.client.rows (civil_nanos c.loop-rest.last)
-          (civil_nanos c.follow.new.last) c.loop-rest.visit c.follow.new.visit c.loop-rest.done old mid new printed come
-          c.cut_line.ensures.line goes (subst (Appends mid new) same c.in_ok-write_all-in-Ok.ensures.bytes);
+      come = (
+        drawn ++ c.in-Ok.ensures.ok.0,
+        fills_more g.G.TryRng.may_fill g.row.G-Error.Denot c.args.rng.now c.loop-rest.rng c.follow.new.rng drawn
+            c.in-Ok.ensures.ok.0 c.loop-rest.invariant.come.1 c.in-Ok.ensures.ok.1,
+        come_more drawn c.in-Ok.ensures.ok.0 list key start first text c.loop-rest.rest.now line more
+            c.loop-rest.client.rows c.follow.new.client.rows (civil_nanos c.loop-rest.last)
+            (civil_nanos c.follow.new.last) c.loop-rest.visit c.follow.new.visit c.loop-rest.done old mid new printed
+            come c.cut_line.ensures.line goes
+            (subst (Appends mid new) same c.in_ok-write_all-in-Ok.ensures.bytes),
+      );
       failures = c.in_ok-write_all-in-Ok.ensures.failures ∙ c.loop-rest.invariant.failures;
       flushes = c.write_all.ensures.flushes ∙ c.loop-rest.invariant.flushes;
       list = c.in-Ok.ensures.list ∙ c.loop-rest.invariant.list;
@@ -87,13 +109,20 @@ loop-rest-preserved g c =
 
 pub returns-clause-text : goal.returns-clause-text
 returns-clause-text g c =
+    let list = c.args.client.now.suffixes in
+    let key = c.args.key.now in
+    let start = c.args.client.now.rows in
+    let first = civil_nanos c.args.last.now in
+    let text = c.args.text.now in
     let old = g.W.Sink.written c.args.writer.now in
     let mid = g.W.Sink.written c.loop-rest.writer in
+    let drawn = c.loop-rest.invariant.come.0 in
+    let come = c.loop-rest.invariant.come.2 in
+    let none = nil_from_length c.loop-rest.rest.now
+    (grind (arith, nat_tests, c.is_empty.ensures, c.loop-rest-test.false)) in
     let new = g.W.Sink.written c.flush.new.writer in
-    let ends = come_whole g.row.G-Error.Denot c.args.client.now.suffixes c.args.key.now c.args.client.now.rows
-    (civil_nanos c.args.last.now) c.args.text.now c.loop-rest.rest.now c.loop-rest.client.rows
-    (civil_nanos c.loop-rest.last) c.loop-rest.visit c.loop-rest.done old mid c.loop-rest.invariant.come
-    (nil_from_length c.loop-rest.rest.now (grind (arith, nat_tests, c.is_empty.ensures, c.loop-rest-test.false))) in
+    let ends = come_whole drawn g.row.G-Error.Denot list key start first text c.loop-rest.rest.now
+    c.loop-rest.client.rows (civil_nanos c.loop-rest.last) c.loop-rest.visit c.loop-rest.done old mid come none in
     (ends.0, Appends-kept old mid new ends.0 ends.1 c.in_ok-flush.ensures.bytes, ends.2)
 
 pub returns-clause-flushed : goal.returns-clause-flushed
@@ -102,45 +131,175 @@ returns-clause-flushed g c = c.flush.ensures.flushes ∙ ap one_more c.loop-rest
 pub returns-in-Err-clause-leaves : goal.returns-in-Err-clause-leaves
 returns-in-Err-clause-leaves g c =
     let list = c.args.client.now.suffixes in
-    let come = c.loop-rest.invariant.come in
-    let halts = subst (λ l. Halts g.row.G-Error.Denot l c.args.key.now (λ r. after_line r c.cut_line.result.0.now)
-    c.loop-rest.client.rows (civil_nanos c.loop-rest.last) c.loop-rest.visit c.in-Err.cause c.follow.new.client.rows)
-    c.loop-rest.invariant.list c.in-Err.ensures.err in
-    let said = halts c.args.client.now.rows come.r come.output come.stands in
-    leaves_fault g.row.G-Error.Denot list c.args.key.now c.args.client.now.rows (civil_nanos c.args.last.now)
-    c.args.text.now c.loop-rest.rest.now c.cut_line.result.0.now c.cut_line.result.1.now c.loop-rest.client.rows
-    c.follow.new.client.rows (civil_nanos c.loop-rest.last) (civil_nanos c.follow.new.last) c.loop-rest.visit
-    c.loop-rest.done (g.W.Sink.written c.args.writer.now) (g.W.Sink.written c.loop-rest.writer) c.in-Err.cause
-    c.stop_at.result c.stop_at.ensures.ended come c.cut_line.ensures.line said (ap civil_nanos c.in-Err.ensures.last)
+    let key = c.args.key.now in
+    let start = c.args.client.now.rows in
+    let first = civil_nanos c.args.last.now in
+    let text = c.args.text.now in
+    let old = g.W.Sink.written c.args.writer.now in
+    let mid = g.W.Sink.written c.loop-rest.writer in
+    let drawn = c.loop-rest.invariant.come.0 in
+    let come = c.loop-rest.invariant.come.2 in
+    let line = c.cut_line.result.0.now in
+    let more = c.cut_line.result.1.now in
+    let halts = subst (λ l. Halts c.in-Err.ensures.err.0 l key (λ r. after_line r line) c.loop-rest.client.rows
+    (civil_nanos c.loop-rest.last) c.loop-rest.visit c.in-Err.cause c.follow.new.client.rows)
+    c.loop-rest.invariant.list c.in-Err.ensures.err.2 in
+    let said = halts start come.r come.output drawn come.stands in
+    let fails = fails_any g.G.TryRng.may_fill g.row.G-Error.Denot c.loop-rest.rng c.follow.new.rng drawn
+    c.in-Err.ensures.err.0 list key start come.r (after_line come.r line) c.in-Err.cause come.output
+    c.follow.new.client.rows c.in-Err.ensures.err.1 said in
+    leaves_fault drawn g.row.G-Error.Denot list key start first text c.loop-rest.rest.now line more
+    c.loop-rest.client.rows c.follow.new.client.rows (civil_nanos c.loop-rest.last) (civil_nanos c.follow.new.last)
+    c.loop-rest.visit c.loop-rest.done old mid c.in-Err.cause c.stop_at.result c.stop_at.ensures.ended come
+    c.cut_line.ensures.line fails (ap civil_nanos c.in-Err.ensures.last)
 
 pub returns-clause-leaves : goal.returns-clause-leaves
 returns-clause-leaves g c =
-    let come = c.loop-rest.invariant.come in
+    let list = c.args.client.now.suffixes in
+    let key = c.args.key.now in
+    let start = c.args.client.now.rows in
+    let first = civil_nanos c.args.last.now in
+    let text = c.args.text.now in
+    let old = g.W.Sink.written c.args.writer.now in
+    let mid = g.W.Sink.written c.loop-rest.writer in
+    let drawn = c.loop-rest.invariant.come.0 in
+    let come = c.loop-rest.invariant.come.2 in
     let none = nil_from_length c.loop-rest.rest.now
     (grind (arith, nat_tests, c.is_empty.ensures, c.loop-rest-test.false)) in
-    leaves_now c.args.client.now.suffixes c.args.key.now c.args.client.now.rows (civil_nanos c.args.last.now)
-    c.args.text.now come.r come.before (lines c.loop-rest.rest.now) c.loop-rest.client.rows
+    leaves_now drawn list key start first text come.r come.before (lines c.loop-rest.rest.now) c.loop-rest.client.rows
     (civil_nanos c.loop-rest.last) c.loop-rest.visit come.output _ come.leads come.whole come.stands (ap lines none)
 
 pub returns-in_err-flush-clause-leaves : goal.returns-in_err-flush-clause-leaves
 returns-in_err-flush-clause-leaves g c =
-    let come = c.loop-rest.invariant.come in
-    leaves_now c.args.client.now.suffixes c.args.key.now c.args.client.now.rows (civil_nanos c.args.last.now)
-    c.args.text.now come.r come.before (lines c.loop-rest.rest.now) c.loop-rest.client.rows
+    let list = c.args.client.now.suffixes in
+    let key = c.args.key.now in
+    let start = c.args.client.now.rows in
+    let first = civil_nanos c.args.last.now in
+    let text = c.args.text.now in
+    let old = g.W.Sink.written c.args.writer.now in
+    let mid = g.W.Sink.written c.loop-rest.writer in
+    let drawn = c.loop-rest.invariant.come.0 in
+    let come = c.loop-rest.invariant.come.2 in
+    leaves_now drawn list key start first text come.r come.before (lines c.loop-rest.rest.now) c.loop-rest.client.rows
     (civil_nanos c.loop-rest.last) c.loop-rest.visit come.output c.from_residual-in_err-flush.result come.leads
     come.whole come.stands (up_to_any _ _ _ _ c.from_residual-in_err-flush.ensures.1)
 
 pub returns-in_err-write_all-in-Ok-clause-leaves : goal.returns-in_err-write_all-in-Ok-clause-leaves
 returns-in_err-write_all-in-Ok-clause-leaves g c =
-    let come = c.loop-rest.invariant.come in
-    let leads_on = subst (λ l. Goes l c.args.key.now (λ r. after_line r c.cut_line.result.0.now)
-    c.loop-rest.client.rows (civil_nanos c.loop-rest.last) c.loop-rest.visit c.follow.new.client.rows
-    (civil_nanos c.follow.new.last) c.follow.new.visit (string_bytes c.in-Ok.printed)) c.loop-rest.invariant.list
-    c.in-Ok.ensures.ok in
-    leaves_more c.args.client.now.suffixes c.args.key.now c.args.client.now.rows (civil_nanos c.args.last.now)
-    c.args.text.now c.loop-rest.rest.now c.cut_line.result.0.now c.cut_line.result.1.now c.loop-rest.client.rows
-    c.follow.new.client.rows (civil_nanos c.loop-rest.last) (civil_nanos c.follow.new.last) c.loop-rest.visit
-    c.follow.new.visit c.loop-rest.done (g.W.Sink.written c.args.writer.now) (g.W.Sink.written c.loop-rest.writer)
-    (string_bytes c.in-Ok.printed) c.from_residual.result _
-    c.from_residual.ensures.1 come c.cut_line.ensures.line
-    (leads_on c.args.client.now.rows come.r come.output come.stands)
+    let list = c.args.client.now.suffixes in
+    let key = c.args.key.now in
+    let start = c.args.client.now.rows in
+    let first = civil_nanos c.args.last.now in
+    let text = c.args.text.now in
+    let old = g.W.Sink.written c.args.writer.now in
+    let mid = g.W.Sink.written c.loop-rest.writer in
+    let drawn = c.loop-rest.invariant.come.0 in
+    let come = c.loop-rest.invariant.come.2 in
+    let line = c.cut_line.result.0.now in
+    let more = c.cut_line.result.1.now in
+    let printed = string_bytes c.in-Ok.printed in
+    let leads_on = subst (λ l. Goes c.in-Ok.ensures.ok.0 l key (λ r. after_line r line) c.loop-rest.client.rows
+    (civil_nanos c.loop-rest.last) c.loop-rest.visit c.follow.new.client.rows (civil_nanos c.follow.new.last)
+    c.follow.new.visit printed) c.loop-rest.invariant.list c.in-Ok.ensures.ok.2 in
+    let goes = leads_on start come.r come.output drawn come.stands in
+    leaves_more drawn c.in-Ok.ensures.ok.0 list key start first text c.loop-rest.rest.now line more
+    c.loop-rest.client.rows c.follow.new.client.rows (civil_nanos c.loop-rest.last) (civil_nanos c.follow.new.last)
+    c.loop-rest.visit c.follow.new.visit c.loop-rest.done old mid printed c.from_residual.result _
+    c.from_residual.ensures.1 come c.cut_line.ensures.line goes
+
+pub returns-clause-draws : goal.returns-clause-draws
+returns-clause-draws g c =
+    let list = c.args.client.now.suffixes in
+    let key = c.args.key.now in
+    let start = c.args.client.now.rows in
+    let first = civil_nanos c.args.last.now in
+    let text = c.args.text.now in
+    let old = g.W.Sink.written c.args.writer.now in
+    let mid = g.W.Sink.written c.loop-rest.writer in
+    let drawn = c.loop-rest.invariant.come.0 in
+    let come = c.loop-rest.invariant.come.2 in
+    let none = nil_from_length c.loop-rest.rest.now
+    (grind (arith, nat_tests, c.is_empty.ensures, c.loop-rest-test.false)) in
+    let new = g.W.Sink.written c.flush.new.writer in (
+      drawn,
+      c.loop-rest.invariant.come.1,
+      script_whole drawn list key start first text c.loop-rest.rest.now c.loop-rest.client.rows
+          (civil_nanos c.loop-rest.last) c.loop-rest.visit c.loop-rest.done old mid new come none
+          (Appends-kept old mid new come.output come.written c.in_ok-flush.ensures.bytes),
+    )
+
+pub returns-in_err-flush-clause-draws : goal.returns-in_err-flush-clause-draws
+returns-in_err-flush-clause-draws g c =
+    let list = c.args.client.now.suffixes in
+    let key = c.args.key.now in
+    let start = c.args.client.now.rows in
+    let first = civil_nanos c.args.last.now in
+    let text = c.args.text.now in
+    let old = g.W.Sink.written c.args.writer.now in
+    let mid = g.W.Sink.written c.loop-rest.writer in
+    let drawn = c.loop-rest.invariant.come.0 in
+    let come = c.loop-rest.invariant.come.2 in
+    let new = g.W.Sink.written c.flush.new.writer in (
+      drawn,
+      c.loop-rest.invariant.come.1,
+      script_cut drawn list key start first text come.r come.before (lines c.loop-rest.rest.now)
+          c.loop-rest.client.rows (civil_nanos c.loop-rest.last) c.loop-rest.visit come.output old new
+          c.from_residual-in_err-flush.result _ c.from_residual-in_err-flush.ensures.1 come.leads come.whole
+          come.stands,
+    )
+
+pub returns-in_err-write_all-in-Ok-clause-draws : goal.returns-in_err-write_all-in-Ok-clause-draws
+returns-in_err-write_all-in-Ok-clause-draws g c =
+    let list = c.args.client.now.suffixes in
+    let key = c.args.key.now in
+    let start = c.args.client.now.rows in
+    let first = civil_nanos c.args.last.now in
+    let text = c.args.text.now in
+    let old = g.W.Sink.written c.args.writer.now in
+    let mid = g.W.Sink.written c.loop-rest.writer in
+    let drawn = c.loop-rest.invariant.come.0 in
+    let come = c.loop-rest.invariant.come.2 in
+    let line = c.cut_line.result.0.now in
+    let more = c.cut_line.result.1.now in
+    let new = g.W.Sink.written c.write_all.new.writer in
+    let printed = string_bytes c.in-Ok.printed in
+    let leads_on = subst (λ l. Goes c.in-Ok.ensures.ok.0 l key (λ r. after_line r line) c.loop-rest.client.rows
+    (civil_nanos c.loop-rest.last) c.loop-rest.visit c.follow.new.client.rows (civil_nanos c.follow.new.last)
+    c.follow.new.visit printed) c.loop-rest.invariant.list c.in-Ok.ensures.ok.2 in
+    let goes = leads_on start come.r come.output drawn come.stands in (
+      drawn ++ c.in-Ok.ensures.ok.0,
+      fills_more g.G.TryRng.may_fill g.row.G-Error.Denot c.args.rng.now c.loop-rest.rng c.follow.new.rng drawn
+          c.in-Ok.ensures.ok.0 c.loop-rest.invariant.come.1 c.in-Ok.ensures.ok.1,
+      script_more drawn c.in-Ok.ensures.ok.0 list key start first text c.loop-rest.rest.now line more
+          c.loop-rest.client.rows c.follow.new.client.rows (civil_nanos c.loop-rest.last)
+          (civil_nanos c.follow.new.last) c.loop-rest.visit c.follow.new.visit c.loop-rest.done old mid new printed
+          c.from_residual.result _ c.from_residual.ensures.1 come c.cut_line.ensures.line goes,
+    )
+
+pub returns-in-Err-clause-draws : goal.returns-in-Err-clause-draws
+returns-in-Err-clause-draws g c =
+    let list = c.args.client.now.suffixes in
+    let key = c.args.key.now in
+    let start = c.args.client.now.rows in
+    let first = civil_nanos c.args.last.now in
+    let text = c.args.text.now in
+    let old = g.W.Sink.written c.args.writer.now in
+    let mid = g.W.Sink.written c.loop-rest.writer in
+    let drawn = c.loop-rest.invariant.come.0 in
+    let come = c.loop-rest.invariant.come.2 in
+    let line = c.cut_line.result.0.now in
+    let more = c.cut_line.result.1.now in
+    let new = g.W.Sink.written c.stop_at.new.writer in
+    let halts = subst (λ l. Halts c.in-Err.ensures.err.0 l key (λ r. after_line r line) c.loop-rest.client.rows
+    (civil_nanos c.loop-rest.last) c.loop-rest.visit c.in-Err.cause c.follow.new.client.rows)
+    c.loop-rest.invariant.list c.in-Err.ensures.err.2 in
+    let said = halts start come.r come.output drawn come.stands in (
+      drawn ++ c.in-Err.ensures.err.0,
+      fills_more g.G.TryRng.may_fill g.row.G-Error.Denot c.args.rng.now c.loop-rest.rng c.follow.new.rng drawn
+          c.in-Err.ensures.err.0 c.loop-rest.invariant.come.1 c.in-Err.ensures.err.1,
+      script_fault drawn c.in-Err.ensures.err.0 list key start first text c.loop-rest.rest.now line more
+          c.loop-rest.client.rows c.follow.new.client.rows (civil_nanos c.loop-rest.last)
+          (civil_nanos c.follow.new.last) c.loop-rest.visit c.loop-rest.done old mid new c.in-Err.cause
+          c.stop_at.result come c.cut_line.ensures.line said (ap civil_nanos c.in-Err.ensures.last)
+          c.stop_at.ensures.text c.stop_at.ensures.ended,
+    )

@@ -2,11 +2,14 @@ use Rattle.std.proofs.Common.{◌≡◌, ◌<◌, length, subst, refl, [], Err}
 use Rattle.std.specs.Prelude.{IfOk}
 use Rattle.std.specs.Io.KnownBytes.{Appends}
 use Rattle.jiff.specs.Words.{civil_nanos}
+use Rattle.cookie_run.specs.Drawn.{DrawsSo}
+use Rattle.cookie_run.specs.ScriptDrawn.{IsScriptBy}
 use Rattle.cookie_run.specs.ScriptText.{fault_text, LeavesFront}
 use Rattle.cookie_run.specs.declared.script.cause.Cause.TheVariants.{Memory}
 use Rattle.cookie_run.specs.declared.script.ended.Ended.TheVariants.{Faulty}
 use Rattle.cookie_run.specs.declared.script.ended.RunError.TheVariants.{Read}
 use Rattle.cookie_run.proofs.ScriptRun.{Ends, known_text, for_all, memory_first, leaves_first, up_to_fault}
+use Rattle.cookie_run.proofs.ScriptRun.{script_memory, script_unread}
 use Rattle.cookie_run.proofs.script.run.run.Goals as goal
 
 pub returns-in-Ok-clause-text : goal.returns-in-Ok-clause-text
@@ -57,3 +60,29 @@ pub returns-in-Err-Read-clause-leaves : goal.returns-in-Err-Read-clause-leaves
 returns-in-Err-Read-clause-leaves g c =
     leaves_first c.args.client.now.suffixes c.args.key.now c.args.client.now.rows (civil_nanos c.args.last.now)
     (g.R.Source.left c.args.reader.now) (Err Read) (λ after. tt)
+
+pub returns-in-Ok-clause-draws : goal.returns-in-Ok-clause-draws
+returns-in-Ok-clause-draws g c =
+    let same : c.deref.result.now ≡ c.in-Ok.input.items = cc in (
+      c.in-Ok.input.items,
+      c.in-Ok.ensures.bytes,
+      subst (λ items. DrawsSo g.G.TryRng.may_fill g.row.G-Error.Denot c.args.rng.now (λ drawn. IsScriptBy drawn
+          c.args.client.now.suffixes c.args.key.now c.args.client.now.rows (civil_nanos c.args.last.now) items
+          (g.W.Sink.written c.args.writer.now) (g.W.Sink.written c.play_text.new.writer) c.play_text.new.client.rows
+          (civil_nanos c.play_text.new.last) c.play_text.result) c.play_text.new.rng) same c.play_text.ensures.draws,
+    )
+
+pub returns-in-Err-Memory-clause-draws : goal.returns-in-Err-Memory-clause-draws
+returns-in-Err-Memory-clause-draws g c =
+    let d = script_memory c.args.client.now.suffixes c.args.key.now c.args.client.now.rows
+    (civil_nanos c.args.last.now) (g.R.Source.left c.args.reader.now) (g.W.Sink.written c.args.writer.now)
+    (g.W.Sink.written c.stop_at.new.writer) c.stop_at.result (c.in-Err-Memory.ensures.memory cc) c.stop_at.ensures.text
+    c.stop_at.ensures.ended in
+    (d.0, d.1, ([], refl, d.2))
+
+pub returns-in-Err-Read-clause-draws : goal.returns-in-Err-Read-clause-draws
+returns-in-Err-Read-clause-draws g c =
+    let d = script_unread c.args.client.now.suffixes c.args.key.now c.args.client.now.rows
+    (civil_nanos c.args.last.now) (g.R.Source.left c.args.reader.now) (g.W.Sink.written c.args.writer.now)
+    (g.W.Sink.written c.args.writer.now) Read in
+    (d.0, d.1, ([], refl, d.2))

@@ -3,15 +3,23 @@ use Rattle.std.specs.Prelude.{string_bytes}
 use Rattle.jiff.specs.Words.{civil_nanos}
 use Rattle.cookie_run.specs.Jar.{IsOpened}
 use Rattle.cookie_run.proofs.Standings.{begins}
+use Rattle.cookie_run.specs.ScriptLine as spec
+use Rattle.cookie_run.proofs.Halting.{open_already, open_open}
 use Rattle.cookie_run.proofs.script.visit.begin.Goals as goal
 
 pub returns-clause-ok : goal.returns-clause-ok
-returns-clause-ok c = λ start r output s.
+returns-clause-ok c = λ start r output drawn s.
     let header : List ℕ = string_bytes c.in_ok-header.header in
     let opened : IsOpened c.args.key.now header c.in_ok-session.session = subst
     (λ k. IsOpened k header c.in_ok-session.session) c.copy_of.ensures
     (subst (λ h. IsOpened c.copy_of.result h c.in_ok-session.session)
     (c.as_bytes.ensures.value ∙ c.as_str.ensures.value) c.in_ok-session.ensures) in
-    begins c.args.client.now.suffixes c.args.key.now start c.args.client.now.rows r (civil_nanos c.args.last.now)
+    begins drawn c.args.client.now.suffixes c.args.key.now start c.args.client.now.rows r (civil_nanos c.args.last.now)
     c.args.visit.now output (string_bytes c.new.result) c.args.url c.args.at _ header c.in_ok-session.session s (cc)
     c.in_ok-header.ensures opened c.new.ensures.bytes refl
+
+pub returns-then-is_some-clause-err : goal.returns-then-is_some-clause-err
+returns-then-is_some-clause-err c = λ start r output drawn s.
+    open_already drawn c.args.client.now.suffixes c.args.key.now start c.args.client.now.rows r
+    (civil_nanos c.args.last.now) c.args.visit.now output (spec.Opens c.args.url (civil_nanos c.args.at.date)) s (cc)
+    (open_open r c.args.url (civil_nanos c.args.at.date))

@@ -15,16 +15,16 @@ use Rattle.cookie_run.proofs.script.visit.get.Goals as goal
 pub returns-in_ok-value_line-in-Ok-clause-ok : goal.returns-in_ok-value_line-in-Ok-clause-ok
 returns-in_ok-value_line-in-Ok-clause-ok c =
     let value = option_map string_bytes c.in-Ok.value in
-    λ list key rows last start r output s. gets list key start rows r last c.args.visit.now c.in-Some.open output
-    (string_bytes c.in_ok-value_line-in-Ok.field-0) c.args.way c.args.name.now value s
+    λ list key rows last start r output drawn s. gets drawn list key start rows r last c.args.visit.now c.in-Some.open
+    output (string_bytes c.in_ok-value_line-in-Ok.field-0) c.args.way c.args.name.now value s
     c.in-Some.is (subst (λ n. n ≢ []) c.as_str.ensures.value c.in-Ok.ensures.value.0)
     (subst (λ n. ReadsIn c.in-Some.open.session c.args.way n value) c.as_str.ensures.value c.in-Ok.ensures.value.1)
     (c.in_ok-value_line-in-Ok.ensures ∙ ap (λ n. reading_text (Value c.args.way n value)) c.as_str-in-Ok.ensures.value)
 
 pub returns-in_err-value_line-in-Ok-clause-err : goal.returns-in_err-value_line-in-Ok-clause-err
 returns-in_err-value_line-in-Ok-clause-err c =
-    err_gives c.from_residual.result _ _ c.from_residual.ensures (λ cause e list key rows last start r output s.
-    no_memory ⊥ list key start rows r last c.args.visit.now output
+    err_gives c.from_residual.result _ _ c.from_residual.ensures (λ cause e list key rows last start r output drawn s.
+    no_memory drawn list key start rows r last c.args.visit.now output
     (obeyed r.acts r.last r.now (spec.Commands (Get c.args.way c.args.name.now))) cause s e)
 
 pub returns-in-Err-clause-err : goal.returns-in-Err-clause-err

@@ -11,8 +11,8 @@ pub returns-in-Ok-clause-ok : goal.returns-in-Ok-clause-ok
 returns-in-Ok-clause-ok c =
     let old_visit = c.in-Some.field-0 in
     let new_visit : Visit = record { url = old_visit.url; at = old_visit.at; session = c.remove-end.new.self } in
-    λ list key rows last start r output s.
-    removes list key start rows r last c.args.visit.now old_visit new_visit output (string_bytes c.new.result)
+    λ list key rows last start r output drawn s.
+    removes drawn list key start rows r last c.args.visit.now old_visit new_visit output (string_bytes c.new.result)
     c.args.way c.args.name.now s (cc) refl refl
     (subst (λ name. TakesOut old_visit.session c.args.way name old_visit.at.date c.remove-end.new.self)
     c.as_str.ensures.value c.in-Ok.ensures.ok) c.new.ensures.bytes
