@@ -43,6 +43,7 @@ pub mod OpenCode
 pub mod Standings
 pub mod Halting
 pub mod ScriptRun
+pub mod ScriptAgrees
 pub mod ProgramFacts
 pub mod Following
 pub mod ReadOnce

@@ -28,6 +28,7 @@ pub mod ScriptMoment
 pub mod ScriptLine
 pub mod ScriptText
 pub mod ScriptDrawn
+pub mod ScriptLaws
 pub mod ScriptRead
 pub mod Standing
 pub mod Program

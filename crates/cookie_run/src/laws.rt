@@ -4,6 +4,7 @@ ghost use Rattle.cookie_run.specs.KeepingLaws as kept;
 ghost use Rattle.cookie_run.specs.KeptKeys.{RestartsKeepKeys, SavesButForMemory};
 ghost use Rattle.cookie_run.specs.Laws as law;
 ghost use Rattle.cookie_run.specs.Once as once;
+ghost use Rattle.cookie_run.specs.ScriptLaws as script;
 ghost use Rattle.cookie_run.specs.Strangers as stranger;
 
 use cookie::Key;
@@ -127,6 +128,15 @@ pub fn rows_are_one()
 {
     one_outcome();
 }
+
+/// A script says of moments and removals what a play says of them: a line whose moment is before the last
+/// is what a play calls `Back`, and else its moment follows; a session of 1971 or later refuses a removal
+/// as its line is refused, and that refusal is what a play reads.
+pub fn scripts_refuse_as_plays()
+    ensures back { script.LinesGoBack }
+    ensures refused { script.RemovalsAreRefused }
+    ensures read { script.RemovalsRead }
+{}
 
 /// What a host is sent is the same without the answers of hosts that it isn't related to, whatever
 /// bytes they hold: each header that a play reads, where no exchange before it is with a related host,
