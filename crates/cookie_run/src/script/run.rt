@@ -54,7 +54,8 @@ pub fn run<R: Source, W: Sink, G: TryRng>(
     ensures leaves { (input : List ℕ) × IfSome (R.left reader.old) (λ whole. input ≡ whole)
         × LeavesFront client.old.suffixes key.now client.old.rows (civil_nanos last.old) input client.new.rows
         (civil_nanos last.new) result }
-    ensures unread { IsErrOf result RunError.Read → (client.new ≡ client.old) × (last.new ≡ last.old) }
+    ensures unread { IsErrOf result RunError.Read
+        → (client.new ≡ client.old) × (last.new ≡ last.old) × (rng.new ≡ rng.old) }
     ensures draws { (input : List ℕ) × IfSome (R.left reader.old) (λ whole. input ≡ whole)
         × DrawsSo G.may_fill G.Error rng.old (λ drawn. IsScriptBy drawn client.old.suffixes key.now client.old.rows
         (civil_nanos last.old) input (W.written writer.old) (W.written writer.new) client.new.rows
