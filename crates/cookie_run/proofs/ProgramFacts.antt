@@ -1,96 +1,62 @@
 -- What the program answers, put together of what its steps say.
-use Rattle.std.proofs.Common.{◌≡◌, ◌≢◌, ◌⊎◌, ℕ, ℤ, List, [], ◌++◌, Option, Some, None, Result, Ok, Err, inl, inr, refl}
-use Rattle.std.proofs.Common.{sym}
-use Rattle.std.proofs.Common.{subst, ap, ◌∙◌}
-use Rattle.std.specs.Prelude.{IfOk, IsErrOf, ◌↔◌, false}
-use Rattle.std.specs.Str.{IsUtf8}
+use Rattle.std.proofs.Common.{◌≡◌, ◌⊎◌, ℕ, Bool, List, [], ◌++◌, Option, Some, None, Result, Ok, Err, inl, inr, refl}
+use Rattle.std.proofs.Common.{sym, subst, ap, ◌∙◌, true, false, true≢false}
+use Rattle.std.specs.Prelude.{IsErrOf, ◌↔◌}
+use Rattle.std.specs.Str.{IsUtf8, is_utf8}
+use Rattle.std.proofs.lemmas.Str.{IsUtf8-from_is_utf8, is_utf8-from_IsUtf8}
 use Rattle.publicsuffix.specs.declared.error.ListError.{ListError}
 use Rattle.publicsuffix.specs.declared.error.ListError.TheVariants as list
-use Rattle.publicsuffix.specs.Rules.{Rule, HasRules, HasFirstFault}
-use Rattle.cookie_store.specs.Rows.{Row, Store}
+use Rattle.publicsuffix.specs.Rules.{HasFirstFault}
+use Rattle.cookie_store.specs.Rows.{Row}
 use Rattle.cookie_store.specs.SavedTexts.{OfText, IsAnyBeforeYears, IsReadFault, IsRonRefusal, IsSaveFault}
 use Rattle.cookie_store.specs.SavedTexts.{IsWriteFault}
 use Rattle.store_parts.specs.declared.error.Error.{Error}
-use Rattle.store_parts.specs.declared.error.Error.TheVariants.{Io, OutOfMemory, Year}
-use Rattle.cookie_run.specs.Program.{Asked, AreLoaded, Begins, Devices, OfDevices, Plays, PlayFails, Ends, Fails}
-use Rattle.cookie_run.specs.Program.{IsToldAs, IsListToldAs, IsNoStore, IsNoList}
+use Rattle.store_parts.specs.declared.error.Error.TheVariants.{OutOfMemory, Year}
+use Rattle.cookie_run.specs.Program.{Asked, AskedGives, Devices, IsListToldAs, IsNoSavedText, IsOfFiles, IsToldAs}
+use Rattle.cookie_run.specs.Program.{MakesNoClient, MakesNoList, ProgramFails, ProgramTells, RunGives, asked_of}
 use Rattle.cookie_run.specs.declared.program.failure.Failure.{Failure}
-use Rattle.cookie_run.specs.declared.program.failure.Failure.TheVariants.{SuffixList, StoreFile, StoreText, Memory}
+use Rattle.cookie_run.specs.declared.program.failure.Failure.TheVariants.{StoreFile, StoreText, Memory}
 
-begins_of : (at : ℤ) (list given : List Rule) (rows : List Row) → given ≡ list → ((text : List ℕ) × HasRules text list)
-    → ((stored : Option (List ℕ)) × AreLoaded at stored rows) → Begins at given rows
-begins_of at list given rows same rules loaded = ((rules.0, subst (HasRules rules.0) (sym same) rules.1), loaded)
+-- ---- the list and the client
 
--- a script that ended whole
-pub ends_whole : (io : Devices) (asked : Asked) (list given : List Rule) (rows : List Row) (text : Option (List ℕ))
-    (saved : List ℕ) → given ≡ list → ((text : List ℕ) × HasRules text list)
-    → ((stored : Option (List ℕ)) × AreLoaded asked.at stored rows) → text ≡ Some saved
-    → OfDevices io (Plays asked.seed asked.at given rows text) → Ends io asked 0
-ends_whole io asked list given rows text saved same rules loaded is played = inl (
-  refl,
-  (
-    saved,
-    (
-      given,
-      rows,
-      begins_of asked.at list given rows same rules loaded,
-      subst (λ t. OfDevices io (Plays asked.seed asked.at given rows t)) is played,
-    ),
-  ),
-)
+-- what is a text where that it is none is refuted
+utf8_or : (text : List ℕ) (b : Bool) → is_utf8 text ≡ b → (¬ IsUtf8 text → ⊥) → IsUtf8 text
+utf8_or text true is never = IsUtf8-from_is_utf8 text is
+utf8_or text false is never =
+    absurd (never (λ u. true≢false (sym (is_utf8-from_IsUtf8 text u) ∙ is)))
 
--- a script with a faulty line
-pub ends_faulty : (io : Devices) (asked : Asked) (list given : List Rule) (rows : List Row) (text : Option (List ℕ))
-    → given ≡ list → ((text : List ℕ) × HasRules text list)
-    → ((stored : Option (List ℕ)) × AreLoaded asked.at stored rows) → text ≡ None
-    → OfDevices io (Plays asked.seed asked.at given rows text) → Ends io asked 1
-ends_faulty io asked list given rows text same rules loaded is played = inr (
-  refl,
-  (
-    given,
-    rows,
-    begins_of asked.at list given rows same rules loaded,
-    subst (λ t. OfDevices io (Plays asked.seed asked.at given rows t)) is played,
-  ),
-)
+ok_err : {T E : Type 0} (x : T) (e : E) → Ok x ≡ Err e → ⊥
+ok_err x e same = cc
 
--- a play that fails
-pub gives_up : (io : Devices) (asked : Asked) (list given : List Rule) (rows : List Row) (failure : Failure)
-    → given ≡ list → ((text : List ℕ) × HasRules text list)
-    → ((stored : Option (List ℕ)) × AreLoaded asked.at stored rows)
-    → PlayFails io asked.seed asked.at given rows failure → Fails io asked failure
-gives_up io asked list given rows failure same rules loaded fails =
-    inr (inr (inr (inr (inr (given, rows, begins_of asked.at list given rows same rules loaded, fails)))))
-
--- the rows of a saved text are those of some saved text, or of none
-pub with_stored : (r : Result Store Failure) (list : List Rule) (at : ℤ) (text : List ℕ)
-    → IfOk r (λ client. (client.suffixes ≡ list) × AreLoaded at (Some text) client.rows)
-    → IfOk r (λ client. (client.suffixes ≡ list) × ((stored : Option (List ℕ)) × AreLoaded at stored client.rows))
-with_stored (Ok client) list at text h = (h.0, (Some text, h.1))
-with_stored (Err e) list at text h = tt
-
--- why a client isn't loaded from a text
-pub not_loaded : (text : List ℕ) (cause : Error) (failure : Failure) (before after reads : ℕ) → IsToldAs cause failure
-    → (IsReadFault before after reads cause ⊎ (cause ≡ OutOfMemory)
-    ⊎ OfText (Some text) (λ t. IsRonRefusal t cause))
-    → (failure ≡ StoreFile) ⊎ (failure ≡ Memory) ⊎ ((failure ≡ StoreText) × IsNoStore text)
-not_loaded text cause failure before after reads (inl told) why = inl told.1
-not_loaded text cause failure before after reads (inr (inl told)) why = inr (inl told.1)
-not_loaded text cause failure before after reads (inr (inr told)) (inl read) = absurd (told.0 read.0)
-not_loaded text cause failure before after reads (inr (inr told)) (inr (inl memory)) = absurd (told.1 memory)
-not_loaded text cause failure before after reads (inr (inr told)) (inr (inr of)) =
-    inr (inr (told.2, (cause, told.1, subst (λ t. IsRonRefusal t cause) of.1 of.2)))
+-- a list that was parsed is that of a text
+pub listed : {L : Type 0} (text : List ℕ) (given : L)
+    → (let r : Result L ListError = Ok given in IsErrOf r list.NotText ↔ (¬ IsUtf8 text)) → IsUtf8 text
+listed text given not_text =
+    utf8_or text (is_utf8 text) refl (λ none. ok_err given list.NotText (not_text.1 none))
 
 -- why a text is no list
 pub not_listed : {L : Type 0} (r : Result L ListError) (text : List ℕ) (cause : ListError) (failure : Failure)
     → r ≡ Err cause → IsListToldAs cause failure → (IsErrOf r list.NotText ↔ (¬ IsUtf8 text))
     → ((number : ℕ) → r ≡ Err (list.Rule number) → HasFirstFault text number)
-    → (failure ≡ Memory) ⊎ ((failure ≡ SuffixList) × IsNoList text)
-not_listed r text cause failure is (inl told) not_text fault = inl told.1
-not_listed r text list.NotText failure is (inr told) not_text fault = inr (told.1, inl (not_text.0 is))
+    → MakesNoList text failure
+not_listed r text cause failure is (inl told) not_text fault = inr told.1
+not_listed r text list.NotText failure is (inr told) not_text fault = inl (told.1, inl (not_text.0 is))
 not_listed r text (list.Rule number) failure is (inr told) not_text fault =
-    inr (told.1, inr (number, fault number is))
+    inl (told.1, inr (number, fault number is))
 not_listed r text list.OutOfMemory failure is (inr told) not_text fault = absurd (told.0 refl)
+
+-- why a client isn't loaded from a text
+pub not_loaded : (text : List ℕ) (cause : Error) (failure : Failure) (before after reads : ℕ) → IsToldAs cause failure
+    → (IsReadFault before after reads cause ⊎ (cause ≡ OutOfMemory)
+    ⊎ OfText (Some text) (λ t. IsRonRefusal t cause))
+    → (failure ≡ Memory) ⊎ ((failure ≡ StoreText) × IsNoSavedText text)
+not_loaded text cause failure before after reads (inl told) why = inl told.1
+not_loaded text cause failure before after reads (inr told) (inl read) = absurd (told.0 read.0)
+not_loaded text cause failure before after reads (inr told) (inr (inl memory)) = absurd (told.1 memory)
+not_loaded text cause failure before after reads (inr told) (inr (inr of)) =
+    inr (told.2, (cause, told.1, subst (λ t. IsRonRefusal t cause) of.1 of.2))
+
+-- ---- the script, and what is saved
 
 -- what is put behind nothing
 pub behind_nothing : (old list text : List ℕ) → old ≡ [] → text ≡ old ++ list → text ≡ list
@@ -107,3 +73,52 @@ unfolding IsYear
 year_only rows before after e is (inl wrote) = absurd (subst IsYear (sym is ∙ wrote.0) tt)
 year_only rows before after e is (inr (same, inl year)) = year.1
 year_only rows before after e is (inr (same, inr memory)) = absurd (subst IsYear (sym is ∙ memory) tt)
+
+-- ---- what the program tells
+
+-- texts of which no client is made
+pub no_client : (Untouched : Type 0) (io : Devices) (asked : Result Asked Failure) (words : Asked) (suffixes : List ℕ)
+    (stored : Option (List ℕ)) (failure : Failure) → asked ≡ Ok words → MakesNoClient suffixes stored failure
+    → Untouched → AskedGives Untouched io asked suffixes stored (Err failure)
+no_client Untouched io asked words suffixes stored failure is makes same =
+    subst (λ a. AskedGives Untouched io a suffixes stored (Err failure)) (sym is)
+    (inl (failure, refl, makes, same))
+
+-- what stands first against a run whose store file isn't read
+pub store_unread : (Untouched : Type 0) (io : Devices) (words : List (List ℕ)) (asked : Asked) (suffixes : List ℕ)
+    (failure first : Failure) → asked_of words ≡ Ok asked → Untouched → IsOfFiles failure
+    → (first ≡ failure) ⊎ MakesNoList suffixes first → ProgramFails Untouched io words first
+store_unread Untouched io words asked suffixes failure first is same of (inl as_failure) =
+    inr (inl (asked, is, subst IsOfFiles (sym as_failure) of, same))
+store_unread Untouched io words asked suffixes failure first is same of (inr makes) =
+    inl (suffixes, None, no_client Untouched io (asked_of words) asked suffixes None first is (inl makes) same)
+
+-- the text isn't written
+pub store_unwritten : (Untouched : Type 0) (io : Devices) (words : List (List ℕ)) (suffixes : List ℕ)
+    (stored : Option (List ℕ)) (given : Option (List ℕ)) (text : List ℕ) (failure : Failure) → given ≡ Some text
+    → RunGives Untouched io words suffixes stored (Ok given) → (failure ≡ StoreFile) ⊎ (failure ≡ Memory)
+    → ProgramFails Untouched io words failure
+store_unwritten Untouched io words suffixes stored given text failure is gives why =
+    inr (inr (
+      why,
+      (text, (suffixes, stored, subst (λ t. RunGives Untouched io words suffixes stored (Ok t)) is gives)),
+    ))
+
+-- status 0, and status 1
+pub tells_whole : (Untouched : Type 0) (io : Devices) (words : List (List ℕ)) (suffixes : List ℕ)
+    (stored : Option (List ℕ)) (given : Option (List ℕ)) (text : List ℕ) → given ≡ Some text
+    → RunGives Untouched io words suffixes stored (Ok given) → ProgramTells Untouched io words 0 None
+tells_whole Untouched io words suffixes stored given text is gives = inl (
+  Some text,
+  (refl, refl),
+  (suffixes, stored, subst (λ t. RunGives Untouched io words suffixes stored (Ok t)) is gives),
+)
+
+pub tells_faulty : (Untouched : Type 0) (io : Devices) (words : List (List ℕ)) (suffixes : List ℕ)
+    (stored : Option (List ℕ)) (given : Option (List ℕ)) → given ≡ None
+    → RunGives Untouched io words suffixes stored (Ok given) → ProgramTells Untouched io words 1 None
+tells_faulty Untouched io words suffixes stored given is gives = inl (
+  None,
+  (refl, refl),
+  (suffixes, stored, subst (λ t. RunGives Untouched io words suffixes stored (Ok t)) is gives),
+)

@@ -1,6 +1,6 @@
 -- What the program answers (own: docs/DEFINITIONS.md).
 use Rattle.std.specs.Prelude.{ℕ, ℤ, List, [], ◌∷◌, Option, Some, None, Result, Ok, Err, codes, ◌≡◌, ◌≢◌, ◌⊎◌, ◌^◌, ◌-◌}
-use Rattle.std.specs.Prelude.{IfSome, false}
+use Rattle.std.specs.Prelude.{IfSome, IsSomeAnd, false, ⊤}
 use Rattle.std.specs.Result.{result_ok}
 use Rattle.std.specs.Str.{IsUtf8}
 use Rattle.std.specs.Io.KnownBytes.{Appends}
@@ -26,6 +26,7 @@ use Rattle.cookie_run.specs.declared.program.failure.Failure.{Failure}
 use Rattle.cookie_run.specs.declared.program.failure.Failure.TheVariants.{Arguments, Seed, Moment, SuffixFile}
 use Rattle.cookie_run.specs.declared.program.failure.Failure.TheVariants.{SuffixList, StoreFile, StoreText, Input}
 use Rattle.cookie_run.specs.declared.program.failure.Failure.TheVariants.{Output, Memory}
+use Rattle.cookie_run.specs.declared.script.ended.Ended.{Ended}
 use Rattle.cookie_run.specs.declared.script.ended.Ended.TheVariants.{Whole, Faulty}
 
 -- ---- the words
@@ -68,52 +69,49 @@ failure_text Memory = codes "memory"
 
 -- ---- the client that a run begins with
 
+-- the text is a suffix list, of these rules
+abbrev pub IsSuffixList : List ℕ → List Rule → Type 0
+IsSuffixList text list = IsUtf8 text × HasRules text list
+
 -- the text is no suffix list
-abbrev pub IsNoList : List ℕ → Type 0
-IsNoList text = (¬ IsUtf8 text) ⊎ ((number : ℕ) × HasFirstFault text number)
+abbrev pub IsNoSuffixList : List ℕ → Type 0
+IsNoSuffixList text = (¬ IsUtf8 text) ⊎ ((number : ℕ) × HasFirstFault text number)
 
 -- the rows of a saved text that aren't expired at this moment, but for those that aren't held rightly, or none where
 -- there is no store file
 abbrev pub AreLoaded : ℤ → Option (List ℕ) → List Row → Type 0
 AreLoaded at None rows = rows ≡ []
-AreLoaded at (Some text) rows = (loaded : Store) × Loads ShowsOnly false at text loaded
-    × ArePicked IsHeldRightly loaded.rows rows
+AreLoaded at (Some text) rows = IsUtf8 text × ((loaded : Store) × Loads ShowsOnly false at text loaded
+    × ArePicked IsHeldRightly loaded.rows rows)
 
 -- the text is no saved text
-abbrev pub IsNoStore : List ℕ → Type 0
-IsNoStore text = (cause : Error) × (cause ≢ OutOfMemory) × IsRonRefusal text cause
+abbrev pub IsNoSavedText : List ℕ → Type 0
+IsNoSavedText text = (cause : Error) × (cause ≢ OutOfMemory) × IsRonRefusal text cause
 
 -- what a refusal to parse a list is told as: want of memory, and every other cause
 abbrev pub IsListToldAs : ListError → Failure → Type 0
 IsListToldAs cause failure =
     ((cause ≡ list.OutOfMemory) × (failure ≡ Memory)) ⊎ ((cause ≢ list.OutOfMemory) × (failure ≡ SuffixList))
 
--- what a refusal to load is told as: a failed read, want of memory, and every other cause
+-- what a refusal to load a text that stands in memory is told as: every cause that isn't the text's is want of memory
 abbrev pub IsToldAs : Error → Failure → Type 0
-IsToldAs cause failure = ((cause ≡ Io) × (failure ≡ StoreFile)) ⊎ (((cause ≡ OutOfMemory) × (failure ≡ Memory))
-    ⊎ ((cause ≢ Io) × (cause ≢ OutOfMemory) × (failure ≡ StoreText)))
+IsToldAs cause failure = (((cause ≡ Io) ⊎ (cause ≡ OutOfMemory)) × (failure ≡ Memory))
+    ⊎ ((cause ≢ Io) × (cause ≢ OutOfMemory) × (failure ≡ StoreText))
 
--- the list of some suffix text, and the rows of some saved text, or of none: what the files hold is not known
-abbrev pub Begins : ℤ → List Rule → List Row → Type 0
-Begins at list rows = ((text : List ℕ) × HasRules text list) × ((stored : Option (List ℕ)) × AreLoaded at stored rows)
+-- No list is made of this text: it is none, or memory was refused.
+abbrev pub MakesNoList : List ℕ → Failure → Type 0
+MakesNoList suffixes failure = ((failure ≡ SuffixList) × IsNoSuffixList suffixes) ⊎ (failure ≡ Memory)
+
+-- No client is made of these texts: none of the list; or the first is a list and the other, where there is one, no
+-- saved text; or memory was refused.
+abbrev pub MakesNoClient : List ℕ → Option (List ℕ) → Failure → Type 0
+MakesNoClient suffixes stored failure = MakesNoList suffixes failure
+    ⊎ ((failure ≡ StoreText) × ((list : List Rule) × IsSuffixList suffixes list) × IsSomeAnd stored IsNoSavedText)
 
 -- ---- the script, and what is saved
 
--- from this client on, with the key that comes from this seed, a script prints this; where it ended whole, this is the
--- saved text of the rows that it left, at its last moment, and else nothing is saved
-abbrev pub Plays : List ℕ → ℤ → List Rule → List Row → Option (List ℕ) → List ℕ → List ℕ → Type 0
-Plays seed at list rows (Some text) input output = (new : List Row) × (end : ℤ)
-    × Runs Infallible list (derived seed) rows at input output new end Whole × Saves ron_layout (saved end new) text
-Plays seed at list rows None input output = (new : List Row) × (end : ℤ) × (n : ℕ)
-    × Runs Infallible list (derived seed) rows at input output new end (Faulty n)
-
--- the script ended whole, and a row that is to be saved has a death of a year below 0
-abbrev pub HasNoText : List ℕ → ℤ → List Rule → List Row → List ℕ → List ℕ → Type 0
-HasNoText seed at list rows input output = (new : List Row) × (end : ℤ)
-    × Runs Infallible list (derived seed) rows at input output new end Whole × IsAnyBeforeYears (saved end new)
-
--- what is known of a reader and a writer, before and behind a call: what was left to read, how many reads were made and
--- how many calls of the reader failed, what was written, and how many calls of the writer failed
+-- What is known of a reader and a writer, before and behind a call: what was left to read, how many reads were made and
+-- how many calls of the reader failed, what was written, and how many calls of the writer failed.
 pub record Devices : Type 0 where
   pub left : Option (List ℕ)
   pub reads : ℕ
@@ -121,40 +119,82 @@ pub record Devices : Type 0 where
   pub written : Option (List ℕ) × Option (List ℕ)
   pub unwritten : ℕ × ℕ
 
--- so it is with what was read and what was written, where the input is known
-abbrev pub OfDevices : Devices → (List ℕ → List ℕ → Type 0) → Type 0
-OfDevices io Is = IfSome io.left (λ input. (output : List ℕ) × Appends io.written.0 io.written.1 output
-    × Is input output)
+-- From these rows on, with this list and the key that comes from the seed, the script that was read ends so, and what
+-- it prints was written; and so it is with the rows that it left and its last moment. Where what was left to read isn't
+-- known, nothing is said.
+abbrev pub ScriptEnds : Devices → Asked → List Rule → List Row → Ended → (List Row → ℤ → Type 0) → Type 0
+ScriptEnds io asked list rows ended Is = IfSome io.left (λ input. (output : List ℕ)
+    × Appends io.written.0 io.written.1 output × ((new : List Row) × (end : ℤ)
+    × Runs Infallible list (derived asked.seed) rows asked.at input output new end ended × Is new end))
 
--- why the play on a client gives up
-abbrev pub PlayFails : Devices → List ℕ → ℤ → List Rule → List Row → Failure → Type 0
-PlayFails io seed at list rows failure =
+-- Why the script gives no text: a device fails; or it ended whole, and the rows that it left have no saved text at its
+-- last moment, for a death of a year below 0 or for want of memory.
+abbrev pub ScriptFails : Devices → Asked → List Rule → List Row → Failure → Type 0
+ScriptFails io asked list rows failure =
     ((failure ≡ Input) × (Rose io.unread.0 io.unread.1 ⊎ (io.reads ≡ 2 ^ 64 - 1)))
     ⊎ (((failure ≡ Output) × Rose io.unwritten.0 io.unwritten.1)
-    ⊎ ((failure ≡ Memory) ⊎ ((failure ≡ StoreText) × OfDevices io (HasNoText seed at list rows))))
+    ⊎ (((failure ≡ StoreText) × ScriptEnds io asked list rows Whole (λ new end. IsAnyBeforeYears (saved end new)))
+    ⊎ ((failure ≡ Memory) × ScriptEnds io asked list rows Whole (λ new end. ⊤))))
 
--- ---- the answer
+-- What the script gives: where it ended whole the saved text, at its last moment, of the rows that it left; nothing to
+-- save where a line is faulty; or a failure.
+abbrev pub ScriptGives : Devices → Asked → List Rule → List Row → Result (Option (List ℕ)) Failure → Type 0
+ScriptGives io asked list rows (Ok (Some text)) =
+    ScriptEnds io asked list rows Whole (λ new end. Saves ron_layout (saved end new) text)
+ScriptGives io asked list rows (Ok None) =
+    (line : ℕ) × ScriptEnds io asked list rows (Faulty line) (λ new end. ⊤)
+ScriptGives io asked list rows (Err failure) = ScriptFails io asked list rows failure
 
--- why a run that was asked for gives up: a file isn't read or written, is none of its kind, or the play fails
-abbrev pub Fails : Devices → Asked → Failure → Type 0
-Fails io asked failure =
-    (failure ≡ SuffixFile) ⊎ ((failure ≡ Memory) ⊎ (((failure ≡ SuffixList) × ((text : List ℕ) × IsNoList text))
-    ⊎ ((failure ≡ StoreFile) ⊎ (((failure ≡ StoreText) × ((text : List ℕ) × IsNoStore text))
-    ⊎ ((list : List Rule) × (rows : List Row) × Begins asked.at list rows
-    × PlayFails io asked.seed asked.at list rows failure)))))
+-- ---- what a run gives
 
--- a run that was asked for prints what its script does; this is what was saved
-abbrev pub Serves : Devices → Asked → Option (List ℕ) → Type 0
-Serves io asked text = (list : List Rule) × (rows : List Row) × Begins asked.at list rows
-    × OfDevices io (Plays asked.seed asked.at list rows text)
+-- Words that are refused, and texts of which no client is made, leave the devices untouched; else the script is played
+-- on the client that the texts make at the moment of the words.
+abbrev pub AskedGives : Type 0 → Devices → Result Asked Failure → List ℕ → Option (List ℕ)
+    → Result (Option (List ℕ)) Failure → Type 0
+AskedGives Untouched io (Err failure) suffixes stored result = (result ≡ Err failure) × Untouched
+AskedGives Untouched io (Ok asked) suffixes stored result =
+    ((failure : Failure) × (result ≡ Err failure) × MakesNoClient suffixes stored failure × Untouched)
+    ⊎ ((list : List Rule) × (rows : List Row) × IsSuffixList suffixes list × AreLoaded asked.at stored rows
+    × ScriptGives io asked list rows result)
 
--- the exit status of a run that was asked for and done
-abbrev pub Ends : Devices → Asked → ℕ → Type 0
-Ends io asked status =
-    ((status ≡ 0) × ((text : List ℕ) × Serves io asked (Some text))) ⊎ ((status ≡ 1) × Serves io asked None)
+-- What a run gives for its words, the text of the suffix file, and that of the store file or none: the text that is to
+-- be saved where its script ended whole, none where a line is faulty, or a failure.
+abbrev pub RunGives : Type 0 → Devices → List (List ℕ) → List ℕ → Option (List ℕ)
+    → Result (Option (List ℕ)) Failure → Type 0
+RunGives Untouched io words suffixes stored result = AskedGives Untouched io (asked_of words) suffixes stored result
 
--- the exit status and what goes to standard error, of words that ask for this or are refused
-abbrev pub Answers : Devices → Result Asked Failure → ℕ → Option (List ℕ) → Type 0
-Answers io (Err failure) status said = (status ≡ 2) × (said ≡ Some (failure_text failure))
-Answers io (Ok asked) status said = ((said ≡ None) × Ends io asked status)
-    ⊎ ((status ≡ 2) × ((failure : Failure) × (said ≡ Some (failure_text failure)) × Fails io asked failure))
+-- ---- what the program tells
+
+-- the exit status, and what goes to standard error
+abbrev pub IsToldBy : Result (Option (List ℕ)) Failure → ℕ → Option (List ℕ) → Type 0
+IsToldBy (Ok (Some text)) status said = (status ≡ 0) × (said ≡ None)
+IsToldBy (Ok None) status said = (status ≡ 1) × (said ≡ None)
+IsToldBy (Err failure) status said = (status ≡ 2) × (said ≡ Some (failure_text failure))
+
+-- what a run gives for some bytes of both files: what they hold, no contract sees
+abbrev pub FilesGive : Type 0 → Devices → List (List ℕ) → Result (Option (List ℕ)) Failure → Type 0
+FilesGive Untouched io words result = (suffixes : List ℕ) × (stored : Option (List ℕ))
+    × RunGives Untouched io words suffixes stored result
+
+-- a file isn't read or not written, or memory was refused for it
+abbrev pub IsOfFiles : Failure → Type 0
+IsOfFiles failure = (failure ≡ SuffixFile) ⊎ ((failure ≡ StoreFile) ⊎ (failure ≡ Memory))
+
+-- A file isn't read, and the devices stay untouched; or the store file isn't written, behind a script that ended whole.
+abbrev pub FilesFail : Type 0 → Devices → List (List ℕ) → Failure → Type 0
+FilesFail Untouched io words failure =
+    ((asked : Asked) × (asked_of words ≡ Ok asked) × IsOfFiles failure × Untouched)
+    ⊎ (((failure ≡ StoreFile) ⊎ (failure ≡ Memory))
+    × ((text : List ℕ) × FilesGive Untouched io words (Ok (Some text))))
+
+-- why the program ends with status 2
+abbrev pub ProgramFails : Type 0 → Devices → List (List ℕ) → Failure → Type 0
+ProgramFails Untouched io words failure =
+    FilesGive Untouched io words (Err failure) ⊎ FilesFail Untouched io words failure
+
+-- The exit status, and what goes to standard error: those of what a run gives for some bytes of both files, or that a
+-- file isn't read or not written.
+abbrev pub ProgramTells : Type 0 → Devices → List (List ℕ) → ℕ → Option (List ℕ) → Type 0
+ProgramTells Untouched io words status said =
+    ((kept : Option (List ℕ)) × IsToldBy (Ok kept) status said × FilesGive Untouched io words (Ok kept))
+    ⊎ ((failure : Failure) × IsToldBy (Err failure) status said × ProgramFails Untouched io words failure)

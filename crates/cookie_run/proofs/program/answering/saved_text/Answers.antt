@@ -1,6 +1,6 @@
 use Rattle.std.proofs.Common.{◌∙◌, inr, refl}
 use Rattle.cookie_run.proofs.ProgramFacts.{behind_nothing, year_only}
-use Rattle.cookie_run.proofs.program.saved_text.Goals as goal
+use Rattle.cookie_run.proofs.program.answering.saved_text.Goals as goal
 
 pub returns-in-Ok-clause-ok : goal.returns-in-Ok-clause-ok
 returns-in-Ok-clause-ok c =

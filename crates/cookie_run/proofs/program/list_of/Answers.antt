@@ -1,8 +1,0 @@
-use Rattle.std.proofs.Common.{refl}
-use Rattle.cookie_run.proofs.ProgramFacts.{not_listed}
-use Rattle.cookie_run.proofs.program.list_of.Goals as goal
-
-pub returns-in-Err-clause-err : goal.returns-in-Err-clause-err
-returns-in-Err-clause-err c =
-    not_listed _ c.args.text.now c.in-Err.cause c.unlisted.result refl c.unlisted.ensures c.in-Err.ensures.not_text
-    c.in-Err.ensures.fault
