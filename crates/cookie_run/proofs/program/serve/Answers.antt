@@ -59,8 +59,8 @@ returns-in-Ok-None-clause-ok g c =
     } in
     tells_faulty ((c.answer.new.reader ≡ c.args.reader.now) × (c.answer.new.writer ≡ c.args.writer.now)) io
     (map (λ word. string_bytes word) c.args.words.now) c.deref-2.result.now (option_copied c.as_deref.result)
-    (option_map (λ text. text.items) c.in-Ok-None.field-0) (ap (option_map (λ text. text.items)) c.in-Ok-None.field-0-is)
-    c.in-Ok-None.ensures.gives
+    (option_map (λ text. text.items) c.in-Ok-None.field-0)
+    (ap (option_map (λ text. text.items)) c.in-Ok-None.field-0-is) c.in-Ok-None.ensures.gives
 
 pub returns-clause-err : goal.returns-clause-err
 returns-clause-err g c =
