@@ -1,2 +1,5 @@
+mod DatedLemmas
 mod FindingLemmas
+mod KnownLemmas
+mod PieceLemmas
 mod TokenLemmas

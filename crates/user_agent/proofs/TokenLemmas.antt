@@ -17,7 +17,7 @@ use Rattle.httpdate.specs.Text.{month_name}
 use Rattle.user_agent.specs.Dates.{BeginsWithNumber, IsTime, IsMonth, behind_digits}
 
 -- the words for digits are std's
-own : IsNumeralModel (λ ds. list_all is_ascii_digit ds ≡ true) (digits_value 10)
+pub own : IsNumeralModel (λ ds. list_all is_ascii_digit ds ≡ true) (digits_value 10)
 own = numerals_by_value _ (search rules)
 
 digit_value-digit : (c : ℕ) → IsInRange 48 57 c → digit_value c ≡ c - 48

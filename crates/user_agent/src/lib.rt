@@ -5,5 +5,9 @@
 //! ```
 #![tactic(auto)]
 
+mod date_text;
 pub mod dates;
+pub mod known_date;
 mod token;
+
+pub use known_date::with_known_date;

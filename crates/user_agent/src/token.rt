@@ -116,8 +116,8 @@ fn number_of(digits: &[u8]) -> u16
     number
 }
 
-// The three letters of a month, of which January is 1.
-fn month_name(month: u8) -> &'static str
+/// The three letters of a month, of which January is 1.
+pub fn month_name(month: u8) -> &'static str
     requires low { 1 ≤ month }
     requires high { month ≤ 12 }
     ensures { result.now ≡ names.month_name month }
