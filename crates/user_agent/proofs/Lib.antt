@@ -1,5 +1,9 @@
+mod AgentLemmas
 mod DatedLemmas
 mod FindingLemmas
+mod IntegrityLemmas
+mod JudgingLemmas
 mod KnownLemmas
+mod MatchLemmas
 mod PieceLemmas
 mod TokenLemmas

@@ -5,9 +5,14 @@
 //! ```
 #![tactic(auto)]
 
+pub mod agent;
 mod date_text;
 pub mod dates;
+mod judging;
 pub mod known_date;
+pub mod rules;
 mod token;
 
+pub use agent::UserAgent;
 pub use known_date::with_known_date;
+pub use rules::{Outcome, Refusal, Rules};

@@ -1,0 +1,133 @@
+-- What a user agent does with lines one after another.
+use Rattle.std.proofs.Common.{◌≡◌, ◌⊎◌, ℕ, ℤ, ◌+◌, ◌<◌, List, [], ◌∷◌, ◌++◌, length, take, get_or, sym, refl, ap, ◌∙◌}
+use Rattle.std.proofs.Common.{subst, inl, inr, true, false, Result, Ok, Err, zero, suc, arith}
+use Rattle.std.specs.Prelude.{map, IfOk, IsTrue}
+use Rattle.std.specs.Str.{IsUtf8}
+use Rattle.std.proofs.lemmas.List.{take_more, take-map, map-append, length-map}
+use Rattle.publicsuffix.specs.Rules.{Rule}
+use Rattle.url.specs.Parts.{Parts}
+use Rattle.cookie_store.specs.Rows.{Row}
+use Rattle.cookie_run.specs.Accept.{Accepts, AcceptsAll, IsStopped as ClientStopped}
+use Rattle.cookie_run.specs.declared.step.LineEnd.{LineEnd}
+use Rattle.user_agent.specs.Agent.{IsHandedOn, NoRulesAreTheClient, StopsAtLine, TakesHanded, TakesLine}
+use Rattle.user_agent.specs.Agent.{TakesLines}
+use Rattle.user_agent.specs.Refusals.{IsStoppedByControl, is_on, no_rules}
+use Rattle.user_agent.specs.declared.rules.Outcome.{Outcome}
+use Rattle.user_agent.specs.declared.rules.Outcome.TheVariants.{Taken}
+use Rattle.user_agent.specs.declared.rules.Refusal.{Refusal}
+use Rattle.user_agent.specs.declared.rules.Refusal.TheVariants.{Control, TooLong, SecurePrefix, HostPrefix}
+use Rattle.user_agent.specs.declared.rules.Refusal.TheVariants.{SecureFromHttp, SecureOverlay}
+use Rattle.user_agent.specs.declared.rules.Rules.{Rules}
+
+-- ---- line by line
+
+lines_push : (rules : Rules) (list : List Rule) (rows mid new : List Row) (url : Parts) (now : ℤ) (lines : List (List ℕ))
+    (outcomes : List Outcome) (line : List ℕ) (outcome : Outcome)
+    → TakesLines rules list rows url now lines outcomes mid → TakesLine rules list mid url now line outcome new
+    → TakesLines rules list rows url now (lines ++ line ∷ []) (outcomes ++ outcome ∷ []) new
+lines_push rules list rows mid new url now [] [] line outcome h a =
+    (new, subst (λ rs. TakesLine rules list rs url now line outcome new) h.1 a, (refl, refl))
+lines_push rules list rows mid new url now [] (o ∷ os) line outcome h a = absurd (not_nil o os h.0)
+  where
+    not_nil : (x : Outcome) (xs : List Outcome) → ¬ (x ∷ xs ≡ [])
+    not_nil x xs p = cc
+lines_push rules list rows mid new url now (l ∷ ls) [] line outcome h a = absurd h
+lines_push rules list rows mid new url now (l ∷ ls) (o ∷ os) line outcome h a =
+    (h.0, h.1, lines_push rules list h.0 mid new url now ls os line outcome h.2 a)
+
+map_take : {A B : Type 0} (f : A → B) (xs : List A) (i : ℕ) (d : A) → i < length xs
+    → take (i + 1) (map f xs) ≡ take i (map f xs) ++ f (get_or xs i d) ∷ []
+map_take f xs i d h =
+    take-map f (i + 1) xs ∙ (ap (map f) (take_more xs i d h) ∙ (map-append f (take i xs) (get_or xs i d ∷ [])
+    ∙ ap (λ ys. ys ++ f (get_or xs i d) ∷ []) (sym (take-map f i xs))))
+
+pub next_line : {A : Type 0} (f : A → List ℕ) (rules : Rules) (list : List Rule) (start mid new : List Row)
+    (old outcomes : List Outcome) (outcome : Outcome) (url : Parts) (now : ℤ) (xs : List A) (i : ℕ) (d : A)
+    → i < length xs → TakesLines rules list start url now (take i (map f xs)) old mid → (here : List Rule) → here ≡ list
+    → TakesLine rules here mid url now (f (get_or xs i d)) outcome new → outcomes ≡ old ++ outcome ∷ []
+    → TakesLines rules list start url now (take (i + 1) (map f xs)) outcomes new
+next_line f rules list start mid new old outcomes outcome url now xs i d h all here same one is =
+    subst (λ os. TakesLines rules list start url now (take (i + 1) (map f xs)) os new) (sym is)
+    (subst (λ ls. TakesLines rules list start url now ls (old ++ outcome ∷ []) new) (sym (map_take f xs i d h))
+    (lines_push rules list start mid new url now (take i (map f xs)) old (f (get_or xs i d)) outcome all
+    (subst (λ l. TakesLine rules l mid url now (f (get_or xs i d)) outcome new) same one)))
+
+pub stopped_line : {A : Type 0} (f : A → List ℕ) (rules : Rules) (list : List Rule) (start mid new : List Row)
+    (old : List Outcome) (url : Parts) (now : ℤ) (xs : List A) (i : ℕ) → i < length xs
+    → TakesLines rules list start url now (take i (map f xs)) old mid → new ≡ mid
+    → StopsAtLine rules list start url now (map f xs) (i + 1) new
+stopped_line f rules list start mid new old url now xs i h all same = record {
+  before = i;
+  outcomes = old;
+  number = refl;
+  within = subst (λ n. i < n) (sym (length-map xs f)) h;
+  taken = subst (TakesLines rules list start url now (take i (map f xs)) old) (sym same) all;
+}
+
+-- ---- one line at the client
+
+pub one_end : (list : List Rule) (rows new : List Row) (url : Parts) (now : ℤ) (line : List ℕ) (ends : List LineEnd)
+    → AcceptsAll list rows url now (line ∷ []) ends new → length ends ≡ 1
+one_end list rows new url now line [] h = absurd h
+one_end list rows new url now line (end ∷ []) h = refl
+one_end list rows new url now line (end ∷ e ∷ es) h = absurd (not_nil e es h.2.0)
+  where
+    not_nil : (x : LineEnd) (xs : List LineEnd) → ¬ (x ∷ xs ≡ [])
+    not_nil x xs p = cc
+
+pub first_end : (list : List Rule) (rows new : List Row) (url : Parts) (now : ℤ) (line : List ℕ) (ends : List LineEnd)
+    (d : LineEnd) → AcceptsAll list rows url now (line ∷ []) ends new
+    → Accepts list rows url now line (get_or ends 0 d) new
+first_end list rows new url now line [] d h = absurd h
+first_end list rows new url now line (end ∷ ends) d h =
+    subst (λ rs. Accepts list rows url now line end rs) (sym h.2.1) h.1
+
+pub not_taken : (list : List Rule) (rows new : List Row) (url : Parts) (now : ℤ) (line : List ℕ) (n : ℕ)
+    → ClientStopped list rows url now (line ∷ []) n new → new ≡ rows
+not_taken list rows new url now line n (inl (none, same)) = same
+not_taken list rows new url now line n (inr s) = go s.before s.within s.taken.0 s.taken.1
+  where
+    go : (i : ℕ) → i < 1 → (ends : List LineEnd) → AcceptsAll list rows url now (take i (line ∷ [])) ends new
+        → new ≡ rows
+    go zero within ends h = h.1
+    go (suc i) within ends h = absurd (omega (arith, within))
+
+-- a line that is handed on as it stands
+pub handed_as_is : {E : Type 0} (r : Result Outcome E) (rules : Rules) (list : List Rule) (rows new : List Row)
+    (url : Parts) (now : ℤ) (line : List ℕ) → ¬ (IsStoppedByControl rules line)
+    → ¬ ((rules.dates ≡ true) × IsUtf8 line)
+    → IfOk r (λ outcome. TakesHanded rules list rows url now line outcome new)
+    → IfOk r (λ outcome. TakesLine rules list rows url now line outcome new)
+handed_as_is (Ok outcome) rules list rows new url now line free stays h = inr (free, (line, inr (stays, refl), h))
+handed_as_is (Err e) rules list rows new url now line free stays h = tt
+
+-- ---- without rules
+
+no_line : (list : List Rule) (rows new : List Row) (url : Parts) (now : ℤ) (line : List ℕ) (outcome : Outcome)
+    → TakesLine no_rules list rows url now line outcome new
+    → (end : LineEnd) × (outcome ≡ Taken end) × Accepts list rows url now line end new
+no_line list rows new url now line outcome (inl (stopped, is, same)) = absurd (cc (stopped.0))
+no_line list rows new url now line outcome (inr (free, (handed, is_handed, inl (rule, refused, is, same)))) =
+    absurd (off rule refused.on)
+  where
+    off : (r : Refusal) → ¬ (IsTrue (is_on no_rules r))
+    off Control on = cc on
+    off TooLong on = cc on
+    off SecurePrefix on = cc on
+    off HostPrefix on = cc on
+    off SecureFromHttp on = cc on
+    off SecureOverlay on = cc on
+no_line list rows new url now line outcome (inr (free, (handed, is_handed, inr (let_in, (end, accepts, is))))) =
+    (end, is, subst (λ l. Accepts list rows url now l end new) (same is_handed) accepts)
+  where
+    same : IsHandedOn no_rules line handed → handed ≡ line
+    same (inl (dates, text, known)) = absurd (cc dates)
+    same (inr (h, e)) = e
+
+pub without_rules : NoRulesAreTheClient
+without_rules list rows url now [] outcomes new h = ([], h.0, (refl, h.1))
+without_rules list rows url now (line ∷ lines) [] new h = absurd h
+without_rules list rows url now (line ∷ lines) (outcome ∷ outcomes) new (mid, one, rest) =
+    let (end, is, accepts) = no_line list rows mid url now line outcome one in
+    let (ends, are, all) = without_rules list mid url now lines outcomes new rest in
+    (end ∷ ends, (λ i. is i ∷ are i), (mid, accepts, all))

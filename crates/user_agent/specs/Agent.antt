@@ -1,0 +1,74 @@
+-- What a user agent does with the lines of an answer: those that no rule refuses go to its client, one after another.
+use Rattle.std.specs.Prelude.{◌≡◌, ◌⊎◌, ◌+◌, ◌<◌, ℕ, ℤ, List, [], ◌∷◌, length, map, take, true}
+use Rattle.std.specs.Str.{IsUtf8}
+use Rattle.publicsuffix.specs.Rules.{Rule}
+use Rattle.url.specs.Parts.{Parts}
+use Rattle.cookie_store.specs.Rows.{Row, Store}
+use Rattle.cookie_run.specs.Accept.{Accepts, AcceptsAll}
+use Rattle.cookie_run.specs.declared.step.LineEnd.{LineEnd}
+use Rattle.user_agent.specs.KnownDates.{IsKnownLine}
+use Rattle.user_agent.specs.Refusals.{IsLetIn, IsRefusedBy, IsStoppedByControl, no_rules}
+use Rattle.user_agent.specs.declared.rules.Outcome.{Outcome}
+use Rattle.user_agent.specs.declared.rules.Outcome.TheVariants.{Taken, Refused}
+use Rattle.user_agent.specs.declared.rules.Refusal.{Refusal}
+use Rattle.user_agent.specs.declared.rules.Refusal.TheVariants.{Control}
+use Rattle.user_agent.specs.declared.rules.Rules.{Rules}
+
+-- a user agent: its client's store, and its rules
+pub record Agent : Type 0 where
+  pub store : Store
+  pub rules : Rules
+
+-- the line as the client gets it: a text with its dates known, where these are on; any other as it stands
+abbrev pub IsHandedOn : Rules → List ℕ → List ℕ → Type 0
+IsHandedOn rules line handed =
+    ((rules.dates ≡ true) × IsUtf8 line × IsKnownLine line handed)
+    ⊎ ((¬ ((rules.dates ≡ true) × IsUtf8 line)) × (handed ≡ line))
+
+-- what becomes of a line that is handed on, and the rows after it: the first rule that refuses it changes nothing; where
+-- none does, the client gets it
+abbrev pub TakesHanded : Rules → List Rule → List Row → Parts → ℤ → List ℕ → Outcome → List Row → Type 0
+TakesHanded rules list rows url now handed outcome new =
+    ((rule : Refusal) × IsRefusedBy rules rows url now handed rule × (outcome ≡ Refused rule) × (new ≡ rows))
+    ⊎ (IsLetIn rules rows url now handed
+    × ((end : LineEnd) × Accepts list rows url now handed end new × (outcome ≡ Taken end)))
+
+-- what becomes of a line as it came: a control character stops it first of all
+abbrev pub TakesLine : Rules → List Rule → List Row → Parts → ℤ → List ℕ → Outcome → List Row → Type 0
+TakesLine rules list rows url now line outcome new =
+    (IsStoppedByControl rules line × (outcome ≡ Refused Control) × (new ≡ rows))
+    ⊎ ((¬ (IsStoppedByControl rules line)) × ((handed : List ℕ) × IsHandedOn rules line handed
+    × TakesHanded rules list rows url now handed outcome new))
+
+-- what becomes of each of the lines, and the rows after them
+abbrev pub TakesLines : Rules → List Rule → List Row → Parts → ℤ → List (List ℕ) → List Outcome → List Row → Type 0
+TakesLines rules list rows url now [] outcomes new = (outcomes ≡ []) × (new ≡ rows)
+TakesLines rules list rows url now (line ∷ lines) [] new = ⊥
+TakesLines rules list rows url now (line ∷ lines) (outcome ∷ outcomes) new =
+    (mid : List Row) × TakesLine rules list rows url now line outcome mid
+    × TakesLines rules list mid url now lines outcomes new
+
+-- ---- want of memory
+
+-- memory was refused at line n, counted from 1, once those before it were taken
+pub record StopsAtLine (rules : Rules) (list : List Rule) (rows : List Row) (url : Parts) (now : ℤ)
+    (lines : List (List ℕ)) (n : ℕ) (new : List Row) : Type 0 where
+  pub before : ℕ
+  pub outcomes : List Outcome
+  pub number : n ≡ before + 1
+  pub within : before < length lines
+  pub taken : TakesLines rules list rows url now (take before lines) outcomes new
+
+-- so, or before any line was looked at, which is 0
+abbrev pub IsStopped : Rules → List Rule → List Row → Parts → ℤ → List (List ℕ) → ℕ → List Row → Type 0
+IsStopped rules list rows url now lines n new =
+    ((n ≡ 0) × (new ≡ rows)) ⊎ StopsAtLine rules list rows url now lines n new
+
+-- ---- without rules
+
+-- with no rule on, lines are taken exactly as by the client
+abbrev pub NoRulesAreTheClient : Type 0
+NoRulesAreTheClient =
+    (list : List Rule) (rows : List Row) (url : Parts) (now : ℤ) (lines : List (List ℕ)) (outcomes : List Outcome)
+    (new : List Row) → TakesLines no_rules list rows url now lines outcomes new
+    → (ends : List LineEnd) × (outcomes ≡ map Taken ends) × AcceptsAll list rows url now lines ends new

@@ -1,0 +1,94 @@
+//! The rules of user agents beyond the store, and which of them are on (the draft that follows RFC 6265, sections 5.6 and
+//! 5.7).
+ghost use Rattle.std.specs.Prelude.{◌≡◌, ◌↔◌, IsTrue};
+ghost use Rattle.user_agent.specs.Refusals as spec;
+
+use cookie_run::LineEnd;
+
+/// Why a user agent refuses a line, in the order in which the rules are tried.
+#[derive(Clone, Copy, Debug, PartialEq, Eq)]
+pub enum Refusal {
+    /// It holds a control character other than a tab (section 5.6, step 1).
+    Control,
+    /// Its name and its value have over 4,096 bytes together (section 5.6, step 5).
+    TooLong,
+    /// Its name, percent-decoded, begins with `__Secure-` in letters of any case, and it isn't `Secure` or didn't come
+    /// over https (sections 4.1.3.1 and 5.7).
+    SecurePrefix,
+    /// Its name, percent-decoded, begins with `__Host-` in letters of any case, and it isn't `Secure`, of `Path=/` and
+    /// without Domain, or didn't come over https (sections 4.1.3.2 and 5.7).
+    HostPrefix,
+    /// It is `Secure`, and came from a URL that isn't secure (section 5.7).
+    SecureFromHttp,
+    /// It isn't `Secure`, came from a URL that isn't secure, and a `Secure` cookie that isn't expired has its name, a
+    /// domain that domain-matches its own or is domain-matched by it, and a path that its path matches (section 5.7).
+    SecureOverlay,
+}
+
+/// Which rules are on.
+#[derive(Clone, Copy, Debug, PartialEq, Eq)]
+pub struct Rules {
+    /// Dates are read as user agents read them (RFC 6265, section 5.1.1).
+    pub dates: bool,
+    pub control: bool,
+    pub too_long: bool,
+    pub secure_prefix: bool,
+    pub host_prefix: bool,
+    pub secure_from_http: bool,
+    pub secure_overlay: bool,
+}
+
+impl Rules {
+    /// All rules.
+    pub fn browser() -> Rules
+        ensures { result ≡ spec.all_rules }
+    {
+        Rules {
+            dates: true,
+            control: true,
+            too_long: true,
+            secure_prefix: true,
+            host_prefix: true,
+            secure_from_http: true,
+            secure_overlay: true,
+        }
+    }
+
+    /// No rule: a user agent with it is its client.
+    pub fn none() -> Rules
+        ensures { result ≡ spec.no_rules }
+    {
+        Rules {
+            dates: false,
+            control: false,
+            too_long: false,
+            secure_prefix: false,
+            host_prefix: false,
+            secure_from_http: false,
+            secure_overlay: false,
+        }
+    }
+
+    /// Whether the rule is on.
+    pub fn has(&self, rule: Refusal) -> bool
+        ensures { result ≡ spec.is_on self.now rule }
+    {
+        match rule {
+            Refusal::Control => self.control,
+            Refusal::TooLong => self.too_long,
+            Refusal::SecurePrefix => self.secure_prefix,
+            Refusal::HostPrefix => self.host_prefix,
+            Refusal::SecureFromHttp => self.secure_from_http,
+            Refusal::SecureOverlay => self.secure_overlay,
+        }
+    }
+}
+
+/// What became of a line.
+#[derive(Clone, Copy, Debug, PartialEq, Eq)]
+pub enum Outcome {
+    /// No rule refused it, and the client took it so.
+    Taken(LineEnd),
+    /// This rule refused it, and nothing changed.
+    Refused(Refusal),
+}
