@@ -140,7 +140,14 @@ module _ (d : Date) (m : DateTime) (is : IsMomentOf d m) (exists : Exists d) (lo
     wide : y < 2 ^ 64
     wide = omega (arith, high)
 
-    is_stamp : IsStamp (record { year = d.year; month = m.date.month; day = m.date.day; hour = m.time.hour; minute = m.time.minute; second = m.time.second })
+    is_stamp : IsStamp (record {
+      year = d.year;
+      month = m.date.month;
+      day = m.date.day;
+      hour = m.time.hour;
+      minute = m.time.minute;
+      second = m.time.second;
+    })
     is_stamp = record {
       civil = (
         exists.civil.0,
@@ -152,12 +159,26 @@ module _ (d : Date) (m : DateTime) (is : IsMomentOf d m) (exists : Exists d) (lo
       second = m.time.second_in;
     }
 
-    shown : date_text m ≡ spaced w (record { year = d.year; month = m.date.month; day = m.date.day; hour = m.time.hour; minute = m.time.minute; second = m.time.second }) (decimal y)
+    shown : date_text m ≡ spaced w (record {
+      year = d.year;
+      month = m.date.month;
+      day = m.date.day;
+      hour = m.time.hour;
+      minute = m.time.minute;
+      second = m.time.second;
+    }) (decimal y)
     unfolding date_text
     shown =
         ap (λ z. with_weekday w (dated (codes " ") m.date.day m.date.month (signed_decimal z) (time_text m))) is.year
 
-    printed_date : IsDateText (date_text m) (record { year = d.year; month = m.date.month; day = m.date.day; hour = m.time.hour; minute = m.time.minute; second = m.time.second })
+    printed_date : IsDateText (date_text m) (record {
+      year = d.year;
+      month = m.date.month;
+      day = m.date.day;
+      hour = m.time.hour;
+      minute = m.time.minute;
+      second = m.time.second;
+    })
     printed_date =
         let digits = digits_decimal own y wide in
         let value : full_year (digits_value 10 (decimal y)) ≡ y = rw (digits_value-decimal own y wide)
@@ -180,7 +201,14 @@ module _ (d : Date) (m : DateTime) (is : IsMomentOf d m) (exists : Exists d) (lo
           form = inl shown;
         }
 
-    printed_moment : IsMoment (record { year = d.year; month = m.date.month; day = m.date.day; hour = m.time.hour; minute = m.time.minute; second = m.time.second }) m
+    printed_moment : IsMoment (record {
+      year = d.year;
+      month = m.date.month;
+      day = m.date.day;
+      hour = m.time.hour;
+      minute = m.time.minute;
+      second = m.time.second;
+    }) m
     printed_moment = record {
       year = is.year;
       month = refl;
@@ -247,7 +275,18 @@ module _ (d : Date) (m : DateTime) (is : IsMomentOf d m) (exists : Exists d) (lo
       says = (
         date_text m,
         value_cut (codes " Expires") (date_text m) (date_text m) refl trim-printed,
-        (record { year = d.year; month = m.date.month; day = m.date.day; hour = m.time.hour; minute = m.time.minute; second = m.time.second }, printed_date, printed_moment),
+        (
+          record {
+            year = d.year;
+            month = m.date.month;
+            day = m.date.day;
+            hour = m.time.hour;
+            minute = m.time.minute;
+            second = m.time.second;
+          },
+          printed_date,
+          printed_moment,
+        ),
       );
     }
 

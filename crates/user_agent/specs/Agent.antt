@@ -25,8 +25,8 @@ IsHandedOn rules line handed =
     ((rules.dates ≡ true) × IsUtf8 line × IsKnownLine line handed)
     ⊎ ((¬ ((rules.dates ≡ true) × IsUtf8 line)) × (handed ≡ line))
 
--- what becomes of a line that is handed on, and the rows after it: the first rule that refuses it changes nothing; where
--- none does, the client gets it
+-- what becomes of a line that is handed on, and the rows after it: the first rule that refuses it changes nothing;
+-- where none does, the client gets it
 abbrev pub TakesHanded : Rules → List Rule → List Row → Parts → ℤ → List ℕ → Outcome → List Row → Type 0
 TakesHanded rules list rows url now handed outcome new =
     ((rule : Refusal) × IsRefusedBy rules rows url now handed rule × (outcome ≡ Refused rule) × (new ≡ rows))

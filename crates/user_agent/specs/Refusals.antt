@@ -1,7 +1,7 @@
--- The rules of user agents beyond the store (the draft that follows RFC 6265, sections 5.6 and 5.7), in their order, and
--- which lines each refuses.
-use Rattle.std.specs.Prelude.{◌≡◌, ◌⊎◌, ◌+◌, ◌<◌, ◌==◌, ◌&&◌, ◌||◌, ◌++◌, ◌∷◌, [], ℕ, ℤ, Bool, true, false, not, nat_lt, List, codes}
-use Rattle.std.specs.Prelude.{length, map, Option, Some, None, option_and_then, IsSomeAnd, IsTrue, MatchOption, Ok}
+-- The rules of user agents beyond the store (the draft that follows RFC 6265, sections 5.6 and 5.7), in their order,
+-- and which lines each refuses.
+use Rattle.std.specs.Prelude.{◌≡◌, ◌⊎◌, ◌+◌, ◌<◌, ◌==◌, ◌&&◌, ◌||◌, ◌++◌, ◌∷◌, [], ℕ, ℤ, Bool, true, false, not, nat_lt}
+use Rattle.std.specs.Prelude.{List, codes, length, map, Option, Some, None, option_and_then, IsSomeAnd, IsTrue, Ok}
 use Rattle.std.specs.Char.{to_ascii_lowercase}
 use Rattle.std.specs.List.{list_any}
 use Rattle.std.specs.Str.{IsUtf8}
@@ -67,8 +67,8 @@ new_domain cookie url = option_and_then (domain_at url) (asked_domain cookie)
 abbrev pub AreNested : List ℕ → List ℕ → Type 0
 AreNested a b = DomainMatches a b ⊎ DomainMatches b a
 
--- a live row that is Secure, of the cookie's name when both are decoded, whose domain the cookie's domain-matches or the
--- other way round, and whose path the cookie's path-matches
+-- a live row that is Secure, of the cookie's name when both are decoded, whose domain the cookie's domain-matches or
+-- the other way round, and whose path the cookie's path-matches
 pub record IsOverlaid (name domain path : List ℕ) (now : ℤ) (row : Row) : Type 0 where
   pub secure : row.raw.cookie.secure ≡ Some true
   pub live : is_dead now row.death ≡ false

@@ -82,16 +82,17 @@ impl UserAgent {
         self.client.header(url, now)
     }
 
-    /// Takes the `Set-Cookie` lines of an answer from this URL at `now`, one after another, and says what became of each.
+    /// Takes the `Set-Cookie` lines of an answer from this URL at `now`, one after another, and says what became of
+    /// each.
     ///
-    /// A line is refused by the first rule that is on and refuses it, which looks at the rows as the lines before it left
-    /// them, and changes nothing then. Any other goes to the client, as `Client::receive` says, with its dates known where
-    /// that rule is on.
+    /// A line is refused by the first rule that is on and refuses it, which looks at the rows as the lines before it
+    /// left them, and changes nothing then. Any other goes to the client, as `Client::receive` says, with its dates
+    /// known where that rule is on.
     ///
     /// # Errors
     ///
-    /// `Stopped` with the line, counted from 1, at which memory was refused: those before it were taken and no later one was
-    /// looked at. At 0 none was looked at.
+    /// `Stopped` with the line, counted from 1, at which memory was refused: those before it were taken and no later
+    /// one was looked at. At 0 none was looked at.
     pub fn receive(
         &mut self,
         url: &Url,
@@ -114,8 +115,8 @@ impl UserAgent {
         taken
     }
 
-    /// Writes the client's rows that have an end and aren't expired at `now`, in their order, as one list of RON. Nothing is
-    /// flushed.
+    /// Writes the client's rows that have an end and aren't expired at `now`, in their order, as one list of RON.
+    /// Nothing is flushed.
     ///
     /// # Errors
     ///
@@ -136,7 +137,8 @@ impl UserAgent {
         self.client.save(writer, now)
     }
 
-    /// A user agent of these rules with the client that `Client::load` gives. No row that is loaded is judged by the rules.
+    /// A user agent of these rules with the client that `Client::load` gives. No row that is loaded is judged by the
+    /// rules.
     ///
     /// # Errors
     ///
@@ -288,8 +290,8 @@ pub fn no_rules_are_the_client()
     ensures { spec.NoRulesAreTheClient }
 {}
 
-/// Where the rules `secure_from_http` and `secure_overlay` are on, whatever lines come from a URL that isn't secure: the
-/// Secure rows that aren't expired stay as they are, in their order, and none is added.
+/// Where the rules `secure_from_http` and `secure_overlay` are on, whatever lines come from a URL that isn't secure:
+/// the Secure rows that aren't expired stay as they are, in their order, and none is added.
 pub fn protected_rows_stay()
     ensures { ProtectedRowsStay }
 {}

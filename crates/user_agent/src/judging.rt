@@ -23,8 +23,8 @@ use percent_encoding::percent_decode;
 use std::alloc::{AllocError, Global};
 use url::Url;
 
-/// The first rule that is on and refuses what the line reads as, received from the URL at `now` by a user agent with this
-/// store. Control characters are another's to find.
+/// The first rule that is on and refuses what the line reads as, received from the URL at `now` by a user agent with
+/// this store. Control characters are another's to find.
 ///
 /// # Errors
 ///
