@@ -1,0 +1,16 @@
+-- The outcomes of lines.
+use Rattle.std.proofs.Common.{◌≡◌, ℕ, ℤ, List, [], ◌∷◌, length, ap, arith}
+use Rattle.publicsuffix.specs.Rules.{Rule}
+use Rattle.url.specs.Parts.{Parts}
+use Rattle.cookie_store.specs.Rows.{Row}
+use Rattle.cookie_run.specs.Accept.{AcceptsAll}
+use Rattle.cookie_run.specs.declared.step.LineEnd.{LineEnd}
+
+-- there is one for each line
+pub as_many_ends : (list : List Rule) (rows : List Row) (url : Parts) (now : ℤ) (lines : List (List ℕ))
+    (ends : List LineEnd) (new : List Row) → AcceptsAll list rows url now lines ends new
+    → length ends ≡ length lines
+as_many_ends list rows url now [] ends new taken = ap length taken.0
+as_many_ends list rows url now (line ∷ lines) [] new taken = absurd taken
+as_many_ends list rows url now (line ∷ lines) (end ∷ ends) new taken =
+    let rest = as_many_ends list taken.0 url now lines ends new taken.2 in omega arith

@@ -1,0 +1,59 @@
+-- What refusals are told as.
+use Rattle.std.proofs.Common.{◌≡◌, ◌≢◌, ◌⊎◌, ℕ, ℤ, List, Result, Err, Some, inl, inr, refl, sym, subst, ◌∙◌}
+use Rattle.std.specs.Prelude.{IsErrOf, ◌↔◌}
+use Rattle.std.specs.Str.{IsUtf8}
+use Rattle.publicsuffix.specs.declared.error.ListError.{ListError}
+use Rattle.publicsuffix.specs.declared.error.ListError.TheVariants as list
+use Rattle.publicsuffix.specs.Rules.{HasFirstFault}
+use Rattle.store_parts.specs.declared.error.Error.{Error}
+use Rattle.store_parts.specs.declared.error.Error.TheVariants.{OutOfMemory, Year}
+use Rattle.cookie_store.specs.Rows.{Row}
+use Rattle.cookie_store.specs.SavedTexts.{OfText, IsAnyBeforeYears, IsReadFault, IsRonRefusal, IsSaveFault}
+use Rattle.cookie_store.specs.SavedTexts.{IsWriteFault}
+use Rattle.cookie_run.specs.Program.{IsNoList, IsNoStore}
+use Rattle.fonnalich_c.specs.Given.{IsListToldAs}
+use Rattle.fonnalich_c.specs.Tasks.{IsLoadToldAs, IsNoLoad}
+use Rattle.fonnalich_c.specs.declared.refusal.Refusal.{Refusal}
+use Rattle.fonnalich_c.specs.declared.refusal.Refusal.TheVariants as refusal
+
+-- why a text is no list
+pub not_listed : {L : Type 0} (r : Result L ListError) (text : List ℕ) (cause : ListError) (told : Refusal)
+    → r ≡ Err cause → IsListToldAs cause told → (IsErrOf r list.NotText ↔ (¬ IsUtf8 text))
+    → ((number : ℕ) → r ≡ Err (list.Rule number) → HasFirstFault text number)
+    → (told ≡ refusal.Memory) ⊎ ((told ≡ refusal.List) × IsNoList text)
+not_listed r text cause told is (inl memory) not_text fault = inl memory.1
+not_listed r text list.NotText told is (inr other) not_text fault = inr (other.1, inl (not_text.0 is))
+not_listed r text (list.Rule number) told is (inr other) not_text fault =
+    inr (other.1, inr (number, fault number is))
+not_listed r text list.OutOfMemory told is (inr other) not_text fault = absurd (other.0 refl)
+
+-- why a client isn't loaded from a text
+pub not_loaded : (text : List ℕ) (cause : Error) (told : Refusal) (before after reads : ℕ) → IsLoadToldAs cause told
+    → (IsReadFault before after reads cause ⊎ (cause ≡ OutOfMemory) ⊎ OfText (Some text) (λ t. IsRonRefusal t cause))
+    → (told ≡ refusal.Read) ⊎ (told ≡ refusal.Memory) ⊎ ((told ≡ refusal.Saved) × IsNoStore text)
+not_loaded text cause told before after reads (inl read) why = inl read.1
+not_loaded text cause told before after reads (inr (inl memory)) why = inr (inl memory.1)
+not_loaded text cause told before after reads (inr (inr other)) (inl read) = absurd (other.0 read.0)
+not_loaded text cause told before after reads (inr (inr other)) (inr (inl memory)) = absurd (other.1 memory)
+not_loaded text cause told before after reads (inr (inr other)) (inr (inr of)) =
+    inr (inr (other.2, (cause, other.1, subst (λ t. IsRonRefusal t cause) of.1 of.2)))
+
+-- the same beside the other refusals
+pub no_load : (second : ℤ) (saved text : List ℕ) (told : Refusal)
+    → (told ≡ refusal.Read) ⊎ (told ≡ refusal.Memory) ⊎ ((told ≡ refusal.Saved) × IsNoStore saved)
+    → IsNoLoad second saved text told
+no_load second saved text told (inl read) = inr (inr (inr read))
+no_load second saved text told (inr (inl memory)) = inl (inl memory)
+no_load second saved text told (inr (inr no_store)) = inr (inr (inl no_store))
+
+-- a client that isn't saved for `Year`
+IsYear : Error → Type 0
+IsYear Year = Unit {0}
+IsYear e = ⊥
+
+pub year_only : {Same : Type 0} (rows : List Row) (before after : ℕ) (e : Error) → e ≡ Year
+    → (IsWriteFault before after e ⊎ (Same × IsSaveFault rows e)) → IsAnyBeforeYears rows
+unfolding IsYear
+year_only rows before after e is (inl wrote) = absurd (subst IsYear (sym is ∙ wrote.0) tt)
+year_only rows before after e is (inr (same, inl year)) = year.1
+year_only rows before after e is (inr (same, inr memory)) = absurd (subst IsYear (sym is ∙ memory) tt)

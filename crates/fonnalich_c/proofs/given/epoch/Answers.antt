@@ -1,0 +1,5 @@
+use Rattle.store_parts.proofs.ExpiryLemmas.{civil_nanos-epoch}
+use Rattle.fonnalich_c.proofs.given.epoch.Goals as goal
+
+pub returns : goal.returns
+returns c = civil_nanos-epoch c.datetime.result c.datetime.ensures.date c.datetime.ensures.time

@@ -1,0 +1,30 @@
+-- What a call by a handle does: the client, the answer that had no room, and what is written (own: docs/DEFINITIONS.md).
+use Rattle.std.specs.Prelude.{ℕ, ℤ, pos, ◌≡◌, ◌≢◌, ◌⊎◌, ◌≤◌, ◌<◌, ◌++◌, List, [], length, drop, Option, None}
+use Rattle.cookie_store.specs.Rows.{Store}
+use Rattle.fonnalich_c.specs.Numbers.{answer_word, word_of, refusal_number}
+use Rattle.fonnalich_c.specs.Tasks.{Given, Makes, Fails}
+use Rattle.fonnalich_c.specs.declared.refusal.Refusal.{Refusal}
+
+-- what a handle holds: a client once there is one, and the answer that had no room
+pub record Held : Type 0 where
+  pub client : Option Store
+  pub kept : List ℕ
+
+abbrev pub IsFresh : Held → Type 0
+IsFresh held = (held.client ≡ None) × (held.kept ≡ [])
+
+-- The number is the answer's length. Where there is room for all of it, it stands at the beginning of what is written and
+-- nothing is kept; else nothing is written and it is kept.
+abbrev pub IsHandedOut : List ℕ → List ℕ → List ℕ → List ℕ → ℤ → Type 0
+IsHandedOut answer out kept written number = (number ≡ pos (length answer))
+    × (((length answer ≤ length out) × (written ≡ answer ++ drop (length answer) out) × (kept ≡ []))
+    ⊎ ((length out < length answer) × (written ≡ out) × (kept ≡ answer)))
+
+-- A word hands out what was kept, or what it made; a refusal writes and drops nothing.
+abbrev pub Acts : ℕ → Given → Held → List ℕ → Held → List ℕ → ℤ → Type 0
+Acts word given old out new written number =
+    ((word ≡ answer_word) × (new.client ≡ old.client) × IsHandedOut old.kept out new.kept written number)
+    ⊎ ((word ≢ answer_word) × ((answer : List ℕ) × Makes (word_of word) given old.client answer new.client
+    × IsHandedOut answer out new.kept written number))
+    ⊎ ((word ≢ answer_word) × ((refused : Refusal) × Fails (word_of word) given old.client refused new.client
+    × (new.kept ≡ old.kept) × (written ≡ out) × (number ≡ refusal_number refused)))

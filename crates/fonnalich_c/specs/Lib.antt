@@ -1,0 +1,4 @@
+pub mod Numbers
+pub mod Given
+pub mod Tasks
+pub mod Handle

@@ -1,0 +1,69 @@
+-- The numbers by which words, outcomes and refusals cross to C (own: docs/DEFINITIONS.md).
+use Rattle.std.specs.Prelude.{ℕ, ℤ, pos, ◌+◌, ◌^◌, ◌-ℤ◌, ◌==◌, if◌then◌else◌, Option, Some, None, min}
+use Rattle.store_parts.specs.declared.error.CookieError.{CookieError}
+use Rattle.store_parts.specs.declared.error.CookieError.TheVariants as cause
+use Rattle.cookie_store.specs.declared.action.StoreAction.{StoreAction}
+use Rattle.cookie_store.specs.declared.action.StoreAction.TheVariants as action
+use Rattle.cookie_run.specs.declared.step.LineEnd.{LineEnd}
+use Rattle.cookie_run.specs.declared.step.LineEnd.TheVariants as end
+use Rattle.fonnalich_c.specs.declared.refusal.Refusal.{Refusal}
+use Rattle.fonnalich_c.specs.declared.refusal.Refusal.TheVariants as refusal
+use Rattle.fonnalich_c.specs.declared.word.Word.{Word}
+use Rattle.fonnalich_c.specs.declared.word.Word.TheVariants.{List, Load, Ask}
+use Rattle.fonnalich_c.specs.declared.word.Task.TheVariants.{Receive, Header, Save, Restart}
+
+-- the word that hands out the answer that had no room
+abbrev pub answer_word : ℕ
+answer_word = 0
+
+-- what the other words do
+abbrev pub word_of : ℕ → Option Word
+word_of number =
+    if number == 1 then Some List
+    else if number == 2 then Some Load
+    else if number == 3 then Some (Ask Receive)
+    else if number == 4 then Some (Ask Header)
+    else if number == 5 then Some (Ask Save)
+    else if number == 6 then Some (Ask Restart)
+    else None
+
+-- ---- what became of a line
+
+abbrev pub action_number : StoreAction → ℕ
+action_number action.Inserted = 0
+action_number action.ExpiredExisting = 1
+action_number action.UpdatedExisting = 2
+
+abbrev pub cause_number : CookieError → ℕ
+cause_number cause.NonHttpScheme = 10
+cause_number cause.NonRelativeScheme = 11
+cause_number cause.DomainMismatch = 12
+cause_number cause.Expired = 13
+cause_number cause.Parse = 14
+cause_number cause.PublicSuffix = 15
+cause_number cause.UnspecifiedDomain = 16
+cause_number cause.OutOfMemory = 17
+
+abbrev pub end_number : LineEnd → ℕ
+end_number (end.Stored action) = action_number action
+end_number end.NotText = 3
+end_number end.HostPrefix = 4
+end_number (end.Refused cause) = cause_number cause
+
+-- ---- why a call answers no text
+
+-- memory was refused at this line; lines past 2^40 are told as that one
+abbrev pub stopped_number : ℕ → ℤ
+stopped_number line = pos 0 -ℤ pos (100 + min line (2 ^ 40))
+
+abbrev pub refusal_number : Refusal → ℤ
+refusal_number refusal.Memory = pos 0 -ℤ pos 1
+refusal_number refusal.Word = pos 0 -ℤ pos 2
+refusal_number refusal.NoClient = pos 0 -ℤ pos 3
+refusal_number refusal.List = pos 0 -ℤ pos 4
+refusal_number refusal.Moment = pos 0 -ℤ pos 5
+refusal_number refusal.Url = pos 0 -ℤ pos 6
+refusal_number refusal.Saved = pos 0 -ℤ pos 7
+refusal_number refusal.Year = pos 0 -ℤ pos 8
+refusal_number refusal.Read = pos 0 -ℤ pos 9
+refusal_number (refusal.Stopped line) = stopped_number line

@@ -1,0 +1,135 @@
+-- What the words of a call make of a client (own: docs/DEFINITIONS.md).
+use Rattle.std.specs.Prelude.{ℕ, ℤ, ◌≡◌, ◌≢◌, ◌⊎◌, List, [], Option, Some, None, map}
+use Rattle.std.specs.Str.{IsUtf8}
+use Rattle.publicsuffix.specs.Rules.{HasRules}
+use Rattle.saved_text.specs.RonLayout.{ron_layout}
+use Rattle.store_parts.specs.declared.error.Error.{Error}
+use Rattle.store_parts.specs.declared.error.Error.TheVariants.{Io, OutOfMemory}
+use Rattle.url.specs.Parts.{Parts}
+use Rattle.cookie_store.specs.Placing.{saved}
+use Rattle.cookie_store.specs.Rows.{Row, Store}
+use Rattle.cookie_store.specs.SavedTexts.{Saves, IsAnyBeforeYears}
+use Rattle.cookie_run.specs.Accept.{AcceptsAll, IsStopped}
+use Rattle.cookie_run.specs.Header.{IsHeader}
+use Rattle.cookie_run.specs.Keeping.{Keeps}
+use Rattle.cookie_run.specs.KeptKeys.{KeepsKeys}
+use Rattle.cookie_run.specs.Program.{AreLoaded, IsNoList, IsNoStore}
+use Rattle.cookie_run.specs.declared.step.LineEnd.{LineEnd}
+use Rattle.fonnalich_c.specs.Given.{IsUrl, IsNoUrl, IsNoMoment, nanos_of, lines_of}
+use Rattle.fonnalich_c.specs.Numbers.{end_number}
+use Rattle.fonnalich_c.specs.declared.refusal.Refusal.{Refusal}
+use Rattle.fonnalich_c.specs.declared.refusal.Refusal.TheVariants as refusal
+use Rattle.fonnalich_c.specs.declared.word.Task.{Task}
+use Rattle.fonnalich_c.specs.declared.word.Task.TheVariants as task
+use Rattle.fonnalich_c.specs.declared.word.Word.{Word}
+use Rattle.fonnalich_c.specs.declared.word.Word.TheVariants as word
+
+-- what a call is given: a second since 1970, a URL or a saved text, and lines or a suffix list
+pub record Given : Type 0 where
+  pub second : ℤ
+  pub subject : List ℕ
+  pub text : List ℕ
+
+-- ---- the tasks of a client
+
+-- the lines of the text come to it from the URL, and the answer has the number of what became of each
+abbrev pub Receives : ℤ → List ℕ → List ℕ → Store → List ℕ → Store → Type 0
+Receives second subject text old answer new = (new.suffixes ≡ old.suffixes)
+    × ((url : Parts) × IsUrl subject url × ((ends : List LineEnd)
+    × AcceptsAll old.suffixes old.rows url (nanos_of second) (lines_of text) ends new.rows
+    × (answer ≡ map end_number ends)))
+
+-- memory was refused at a line
+abbrev pub StopsAtLine : ℤ → List ℕ → List ℕ → Store → ℕ → Store → Type 0
+StopsAtLine second subject text old line new = (new.suffixes ≡ old.suffixes)
+    × ((url : Parts) × IsUrl subject url
+    × IsStopped old.suffixes old.rows url (nanos_of second) (lines_of text) line new.rows)
+
+-- why no request is made of a second and a URL
+abbrev pub IsRequestFault : ℤ → List ℕ → Refusal → Type 0
+IsRequestFault second subject refused = (refused ≡ refusal.Memory)
+    ⊎ ((refused ≡ refusal.Moment) × IsNoMoment second) ⊎ ((refused ≡ refusal.Url) × IsNoUrl subject)
+
+abbrev pub RefusesLines : ℤ → List ℕ → List ℕ → Store → Refusal → Store → Type 0
+RefusesLines second subject text old refused new =
+    ((new ≡ old) × IsRequestFault second subject refused)
+    ⊎ ((line : ℕ) × (refused ≡ refusal.Stopped line) × StopsAtLine second subject text old line new)
+
+-- the answer is the header of a request to the URL
+abbrev pub Heads : ℤ → List ℕ → List Row → List ℕ → Type 0
+Heads second subject rows answer = (url : Parts) × IsUrl subject url × IsHeader rows url (nanos_of second) answer
+
+-- the answer is its saved text
+abbrev pub IsSavedText : ℤ → List Row → List ℕ → Type 0
+IsSavedText second rows answer = IsUtf8 answer × Saves ron_layout (saved (nanos_of second) rows) answer
+
+-- it keeps what a saved text keeps
+abbrev pub Restarts : ℤ → Store → Store → Type 0
+Restarts second old new = (new.suffixes ≡ old.suffixes)
+    × Keeps old.rows (nanos_of second) (nanos_of second) new.rows × KeepsKeys old.rows (nanos_of second) new.rows
+
+-- why rows have no saved text
+abbrev pub IsSavingFault : ℤ → List Row → Refusal → Type 0
+IsSavingFault second rows refused = (refused ≡ refusal.Memory)
+    ⊎ ((refused ≡ refusal.Moment) × IsNoMoment second)
+    ⊎ ((refused ≡ refusal.Year) × IsAnyBeforeYears (saved (nanos_of second) rows))
+
+abbrev pub Does : Task → Given → Store → List ℕ → Store → Type 0
+Does task.Receive given old answer new = Receives given.second given.subject given.text old answer new
+Does task.Header given old answer new = (new ≡ old) × Heads given.second given.subject old.rows answer
+Does task.Save given old answer new = (new ≡ old) × IsSavedText given.second old.rows answer
+Does task.Restart given old answer new = (answer ≡ []) × Restarts given.second old new
+
+abbrev pub Refuses : Task → Given → Store → Refusal → Store → Type 0
+Refuses task.Receive given old refused new = RefusesLines given.second given.subject given.text old refused new
+Refuses task.Header given old refused new = (new ≡ old) × IsRequestFault given.second given.subject refused
+Refuses task.Save given old refused new = (new ≡ old) × IsSavingFault given.second old.rows refused
+Refuses task.Restart given old refused new = (new ≡ old) × IsSavingFault given.second old.rows refused
+
+-- ---- a client's beginning
+
+-- without a row, with the suffix list of the text
+abbrev pub Begins : List ℕ → Store → Type 0
+Begins text new = (new.rows ≡ []) × HasRules text new.suffixes
+
+abbrev pub IsNoBeginning : List ℕ → Refusal → Type 0
+IsNoBeginning text refused = (refused ≡ refusal.Memory) ⊎ ((refused ≡ refusal.List) × IsNoList text)
+
+-- with the rows of a saved text
+abbrev pub IsLoaded : ℤ → List ℕ → List ℕ → Store → Type 0
+IsLoaded second subject text new =
+    HasRules text new.suffixes × AreLoaded (nanos_of second) (Some subject) new.rows
+
+abbrev pub IsNoLoad : ℤ → List ℕ → List ℕ → Refusal → Type 0
+IsNoLoad second subject text refused = IsNoBeginning text refused
+    ⊎ ((refused ≡ refusal.Moment) × IsNoMoment second)
+    ⊎ ((refused ≡ refusal.Saved) × IsNoStore subject) ⊎ (refused ≡ refusal.Read)
+
+-- what a refusal to load is told as: a failed read, want of memory, and every other cause
+abbrev pub IsLoadToldAs : Error → Refusal → Type 0
+IsLoadToldAs cause refused = ((cause ≡ Io) × (refused ≡ refusal.Read))
+    ⊎ ((cause ≡ OutOfMemory) × (refused ≡ refusal.Memory))
+    ⊎ ((cause ≢ Io) × (cause ≢ OutOfMemory) × (refused ≡ refusal.Saved))
+
+-- ---- all words
+
+-- what a word makes of the client, where there is one, and the answer
+abbrev pub Makes : Option Word → Given → Option Store → List ℕ → Option Store → Type 0
+Makes None given old answer new = ⊥
+Makes (Some word.List) given old answer new =
+    (answer ≡ []) × ((client : Store) × (new ≡ Some client) × Begins given.text client)
+Makes (Some word.Load) given old answer new =
+    (answer ≡ []) × ((client : Store) × (new ≡ Some client) × IsLoaded given.second given.subject given.text client)
+Makes (Some (word.Ask task)) given None answer new = ⊥
+Makes (Some (word.Ask task)) given (Some old) answer new =
+    (client : Store) × (new ≡ Some client) × Does task given old answer client
+
+-- why it has no answer, and what the client is then
+abbrev pub Fails : Option Word → Given → Option Store → Refusal → Option Store → Type 0
+Fails None given old refused new = (new ≡ old) × (refused ≡ refusal.Word)
+Fails (Some word.List) given old refused new = (new ≡ old) × IsNoBeginning given.text refused
+Fails (Some word.Load) given old refused new =
+    (new ≡ old) × IsNoLoad given.second given.subject given.text refused
+Fails (Some (word.Ask task)) given None refused new = (new ≡ None) × (refused ≡ refusal.NoClient)
+Fails (Some (word.Ask task)) given (Some old) refused new =
+    (client : Store) × (new ≡ Some client) × Refuses task given old refused client

@@ -1,0 +1,97 @@
+//! What a call is given: a moment, a URL, a list, lines.
+ghost use Rattle.std.specs.Prelude.{◌≡◌, ◌⊎◌, map, IfOk, IfErr, Some, None};
+ghost use Rattle.std.specs.List.{slice_split};
+ghost use Rattle.jiff.specs.Words.{civil_nanos};
+ghost use Rattle.publicsuffix.specs.Rules.{HasRules};
+ghost use Rattle.cookie_run.specs.Program.{IsNoList};
+ghost use Rattle.cookie_run.specs.ScriptLine.{url_of};
+ghost use Rattle.fonnalich_c.specs.Given as spec;
+
+use crate::refusal::Refusal;
+use jiff::SignedDuration;
+use jiff::civil::{DateTime, datetime};
+use publicsuffix::{List, ListError};
+use std::alloc::{AllocError, Global};
+use url::{ParseError, Url};
+
+/// The moment of this many seconds since 1970-01-01T00:00:00, read as UTC.
+pub fn moment(second: i64) -> Result<DateTime, Refusal>
+    ensures ok { IfOk result (λ at. civil_nanos at ≡ spec.nanos_of second) }
+    ensures err { IfErr result (λ refusal. (refusal ≡ Refusal.Moment) × spec.IsNoMoment second) }
+{
+    match epoch().checked_add(SignedDuration::from_secs(second)) {
+        Ok(at) => Ok(at),
+        Err(_) => Err(Refusal::Moment),
+    }
+}
+
+fn epoch() -> DateTime
+    ensures { civil_nanos result ≡ spec.epoch }
+{
+    datetime(1970, 1, 1, 0, 0, 0, 0)
+}
+
+/// The URL of a text.
+pub fn url(alloc: Global, text: &[u8]) -> Result<Url, Refusal>
+    ensures ok { IfOk result (spec.IsUrl text.now) }
+    ensures err { IfErr result (λ refusal.
+        (refusal ≡ Refusal.Memory) ⊎ ((refusal ≡ Refusal.Url) × spec.IsNoUrl text.now)) }
+{
+    match str::from_utf8(text) {
+        Ok(text) => url_of(alloc, text),
+        Err(_) => Err(Refusal::Url),
+    }
+}
+
+// The URL of a text. A text that is too long for the parser is want of memory.
+#[tactic(auto, unfolding(cookie_run::specs::ScriptLine::url_of))]
+fn url_of(alloc: Global, text: &str) -> Result<Url, Refusal>
+    ensures ok { IfOk result (λ url. url_of text.now ≡ Some url) }
+    ensures err { IfErr result (λ refusal.
+        ((refusal ≡ Refusal.Url) × (url_of text.now ≡ None)) ⊎ (refusal ≡ Refusal.Memory)) }
+{
+    match Url::parse(alloc, text) {
+        Ok(url) => Ok(url),
+        Err(ParseError::OutOfMemory | ParseError::Overflow) => Err(Refusal::Memory),
+        Err(_) => Err(Refusal::Url),
+    }
+}
+
+/// The public suffix list of a text.
+pub fn list(alloc: Global, text: &[u8]) -> Result<List, Refusal>
+    ensures ok { IfOk result (HasRules text.now) }
+    ensures err { IfErr result (λ refusal.
+        (refusal ≡ Refusal.Memory) ⊎ ((refusal ≡ Refusal.List) × IsNoList text.now)) }
+{
+    match List::parse(alloc, text) {
+        Ok(list) => Ok(list),
+        Err(cause) => Err(unlisted(cause)),
+    }
+}
+
+// What a refusal to parse a list is told as.
+fn unlisted(cause: ListError) -> Refusal
+    ensures { spec.IsListToldAs cause result }
+{
+    match cause {
+        ListError::OutOfMemory => Refusal::Memory,
+        _ => Refusal::List,
+    }
+}
+
+/// The lines of a text: those between its line feeds, and none where it is empty.
+pub fn lines(alloc: Global, text: &[u8]) -> Result<Vec<&[u8]>, AllocError>
+    ensures { IfOk result (λ lines. map (λ line. line.now) lines.items ≡ spec.lines_of text.now) }
+{
+    if text.is_empty() {
+        return Ok(Vec::new(alloc));
+    }
+    parts(alloc, text)
+}
+
+// What stands between the line feeds.
+fn parts(alloc: Global, text: &[u8]) -> Result<Vec<&[u8]>, AllocError>
+    ensures { IfOk result (λ parts. map (λ part. part.now) parts.items ≡ slice_split spec.is_line_feed text.now) }
+{
+    text.split(|b| *b == b'\n').collect(alloc)
+}

@@ -1,0 +1,77 @@
+//! What a handle holds, and what a call does with it.
+ghost use Rattle.std.specs.Prelude.{◌≡◌, length};
+ghost use Rattle.fonnalich_c.specs.Handle as spec;
+
+use crate::task::answer;
+use crate::word::{ANSWER, Word};
+use cookie_run::Client;
+use std::alloc::Global;
+
+/// What a handle holds.
+#[derive(Drop)]
+pub struct Held {
+    /// The client, once there is one.
+    pub client: Option<Client>,
+    /// The answer that had no room.
+    pub kept: Vec<u8>,
+}
+
+/// What a new handle holds.
+pub(crate) fn fresh(alloc: Global) -> Held
+    ensures { spec.IsFresh (record { client = result.client; kept = result.kept.items }) }
+{
+    Held {
+        client: None,
+        kept: Vec::new(alloc),
+    }
+}
+
+/// Lets go what a handle held.
+pub(crate) fn let_go(held: Held) {
+    drop(held);
+}
+
+/// Does what a word says, and hands out its answer.
+pub(crate) fn work(
+    alloc: Global,
+    held: &mut Held,
+    word: u32,
+    second: i64,
+    subject: &[u8],
+    text: &[u8],
+    out: &mut [u8],
+) -> isize
+    ensures { spec.Acts word (record { second = second; subject = subject.now; text = text.now })
+        (record { client = held.old.client; kept = held.old.kept.items }) out.old
+        (record { client = held.new.client; kept = held.new.kept.items }) out.new result }
+{
+    if word == ANSWER {
+        return hand_out(&mut held.kept, out);
+    }
+    match answer(
+        alloc,
+        &mut held.client,
+        Word::of(word),
+        second,
+        subject,
+        text,
+    ) {
+        Ok(answer) => {
+            held.kept = answer;
+            hand_out(&mut held.kept, out)
+        }
+        Err(refusal) => refusal.number(),
+    }
+}
+
+// Writes what is kept to the beginning of `out`, where there is room for all of it, and keeps it no longer.
+fn hand_out(kept: &mut Vec<u8>, out: &mut [u8]) -> isize
+    ensures { spec.IsHandedOut kept.old.items out.old kept.new.items out.new result }
+{
+    let length = kept.len();
+    if length <= out.len() {
+        out[..length].copy_from_slice(kept);
+        kept.clear();
+    }
+    length as isize
+}

@@ -1,0 +1,60 @@
+//! A text that is made in memory.
+ghost use Rattle.std.specs.Prelude.{◌≡◌, [], Some};
+
+use cookie_store::{Failing, Sink};
+use std::alloc::Global;
+use std::io::{self, ErrorKind};
+
+/// A writer to memory, which gives back what was written.
+#[derive(Drop)]
+pub(crate) struct Memory {
+    pub text: Vec<u8>,
+    failed: u64,
+    flushed: u64,
+    unflushed: u64,
+}
+
+impl Memory {
+    /// One to which nothing was written.
+    pub fn new(alloc: Global) -> Memory
+        ensures { result.text.items ≡ [] }
+    {
+        Memory {
+            text: Vec::new(alloc),
+            failed: 0,
+            flushed: 0,
+            unflushed: 0,
+        }
+    }
+}
+
+impl Failing for Memory {
+    ghost failures = { λ d. d.failed };
+}
+
+impl Sink for Memory {
+    ghost written = { λ d. Some d.text.items };
+
+    ghost flushes = { λ d. d.flushed };
+
+    ghost unflushed = { λ d. d.unflushed };
+
+    fn write(&mut self, buf: &[u8]) -> io::Result<usize> {
+        match self.text.extend_from_slice(buf) {
+            Ok(()) => {
+                self.unflushed = self.unflushed.saturating_add(buf.len() as u64);
+                Ok(buf.len())
+            }
+            Err(_) => {
+                self.failed = self.failed.saturating_add(1);
+                Err(io::Error::from(ErrorKind::OutOfMemory))
+            }
+        }
+    }
+
+    fn flush(&mut self) -> io::Result<()> {
+        self.flushed = self.flushed.saturating_add(1);
+        self.unflushed = 0;
+        Ok(())
+    }
+}

@@ -1,0 +1,99 @@
+//! The numbers by which outcomes and refusals cross to C.
+ghost use Rattle.std.specs.Prelude.{◌≡◌, ◌*◌, pos};
+ghost use Rattle.fonnalich_c.specs.Numbers as spec;
+
+use cookie_run::LineEnd;
+use cookie_store::{CookieError, StoreAction};
+
+/// A line of so many or more is told as this one.
+const LAST_LINE: usize = 1 << 40;
+
+/// Why a call answers no text.
+#[derive(Clone, Copy, Debug, PartialEq, Eq)]
+pub enum Refusal {
+    /// Memory was refused. What the handle holds is as it was.
+    Memory,
+    /// The word is none of the table.
+    Word,
+    /// The handle has no client yet: the first word is `List` or `Load`.
+    NoClient,
+    /// The text is no public suffix list.
+    List,
+    /// The second is before the year -9999 or after 9999.
+    Moment,
+    /// The text is no URL.
+    Url,
+    /// The text is no saved client.
+    Saved,
+    /// A cookie that is to be saved ends in a year below 0.
+    Year,
+    /// The saved text wasn't read to its end. Its bytes lie in memory, so no call answers this.
+    Read,
+    /// Memory was refused at this line, counted from 1: those before it are applied, and no later one was looked at. At 0
+    /// none was.
+    Stopped(usize),
+}
+
+impl Refusal {
+    /// Its number in the table.
+    pub fn number(self) -> isize
+        ensures { result ≡ spec.refusal_number self }
+    {
+        match self {
+            Refusal::Memory => -1,
+            Refusal::Word => -2,
+            Refusal::NoClient => -3,
+            Refusal::List => -4,
+            Refusal::Moment => -5,
+            Refusal::Url => -6,
+            Refusal::Saved => -7,
+            Refusal::Year => -8,
+            Refusal::Read => -9,
+            Refusal::Stopped(line) => stopped_number(line),
+        }
+    }
+}
+
+// The number of a stop at this line.
+fn stopped_number(line: usize) -> isize
+    ensures { result ≡ spec.stopped_number line }
+{
+    -100 - (line.min(LAST_LINE) as isize)
+}
+
+/// The number of what became of a line.
+pub fn end_number(end: LineEnd) -> u8
+    ensures { result ≡ spec.end_number end }
+{
+    match end {
+        LineEnd::Stored(action) => action_number(action),
+        LineEnd::NotText => 3,
+        LineEnd::HostPrefix => 4,
+        LineEnd::Refused(cause) => cause_number(cause),
+    }
+}
+
+fn action_number(action: StoreAction) -> u8
+    ensures { result ≡ spec.action_number action }
+{
+    match action {
+        StoreAction::Inserted => 0,
+        StoreAction::ExpiredExisting => 1,
+        StoreAction::UpdatedExisting => 2,
+    }
+}
+
+fn cause_number(cause: CookieError) -> u8
+    ensures { result ≡ spec.cause_number cause }
+{
+    match cause {
+        CookieError::NonHttpScheme => 10,
+        CookieError::NonRelativeScheme => 11,
+        CookieError::DomainMismatch => 12,
+        CookieError::Expired => 13,
+        CookieError::Parse => 14,
+        CookieError::PublicSuffix => 15,
+        CookieError::UnspecifiedDomain => 16,
+        CookieError::OutOfMemory => 17,
+    }
+}

@@ -1,0 +1,182 @@
+//! What the words make of a client.
+ghost use Rattle.std.specs.Prelude.{◌≡◌, ◌⊎◌, ◌≤◌, [], length, map, vec_capacity, IfOk, IfErr, OnOk, OnErr, Some};
+ghost use Rattle.cookie_store.specs.SavedTexts.{IsAnyBeforeYears};
+ghost use Rattle.fonnalich_c.specs.Numbers.{end_number};
+ghost use Rattle.fonnalich_c.specs.Tasks as spec;
+
+use crate::given::{lines, list, moment, url};
+use crate::memory::Memory;
+use crate::refusal::{Refusal, end_number};
+use crate::word::{Task, Word};
+use cookie_run::{Client, LineEnd};
+use cookie_store::{Counting, Error};
+use std::alloc::Global;
+
+/// The answer of a word, by the client where there is one.
+pub(crate) fn answer(
+    alloc: Global,
+    client: &mut Option<Client>,
+    word: Option<Word>,
+    second: i64,
+    subject: &[u8],
+    text: &[u8],
+) -> Result<Vec<u8>, Refusal>
+    ensures ok { IfOk result (λ answer. spec.Makes word
+        (record { second = second; subject = subject.now; text = text.now }) client.old answer.items client.new) }
+    ensures err { IfErr result (λ refused. spec.Fails word
+        (record { second = second; subject = subject.now; text = text.now }) client.old refused client.new) }
+{
+    match word {
+        Some(Word::List) => {
+            let first = first(alloc, text)?;
+            *client = Some(first);
+            Ok(Vec::new(alloc))
+        }
+        Some(Word::Load) => {
+            let loaded = loaded(alloc, second, subject, text)?;
+            *client = Some(loaded);
+            Ok(Vec::new(alloc))
+        }
+        Some(Word::Ask(task)) => match client {
+            Some(client) => ask(alloc, client, task, second, subject, text),
+            None => Err(Refusal::NoClient),
+        },
+        None => Err(Refusal::Word),
+    }
+}
+
+// A client without a row, with the suffix list of a text.
+fn first(alloc: Global, text: &[u8]) -> Result<Client, Refusal>
+    ensures ok { IfOk result (spec.Begins text.now) }
+    ensures err { IfErr result (spec.IsNoBeginning text.now) }
+{
+    let list = list(alloc, text)?;
+    Ok(Client::new(alloc, list))
+}
+
+// A client of a saved text, with the suffix list of another.
+fn loaded(alloc: Global, second: i64, saved: &[u8], text: &[u8]) -> Result<Client, Refusal>
+    ensures ok { IfOk result (spec.IsLoaded second saved.now text.now) }
+    ensures err { IfErr result (spec.IsNoLoad second saved.now text.now) }
+{
+    let now = moment(second)?;
+    let list = list(alloc, text)?;
+    match Client::load(alloc, list, &mut Counting::new(saved), now) {
+        Ok(client) => Ok(client),
+        Err((cause, _)) => Err(unloaded(cause)),
+    }
+}
+
+// What a refusal to load a client is told as.
+fn unloaded(cause: Error) -> Refusal
+    ensures { spec.IsLoadToldAs cause result }
+{
+    match cause {
+        Error::Io => Refusal::Read,
+        Error::OutOfMemory => Refusal::Memory,
+        _ => Refusal::Saved,
+    }
+}
+
+// The answer of a client's task.
+fn ask(
+    alloc: Global,
+    client: &mut Client,
+    task: Task,
+    second: i64,
+    subject: &[u8],
+    text: &[u8],
+) -> Result<Vec<u8>, Refusal>
+    ensures ok { IfOk result (λ answer. spec.Does task
+        (record { second = second; subject = subject.now; text = text.now }) client.old answer.items client.new) }
+    ensures err { IfErr result (λ refused. spec.Refuses task
+        (record { second = second; subject = subject.now; text = text.now }) client.old refused client.new) }
+{
+    match task {
+        Task::Receive => receive(alloc, client, second, subject, text),
+        Task::Header => header(alloc, client, second, subject),
+        Task::Save => save(alloc, client, second),
+        Task::Restart => restart(alloc, client, second),
+    }
+}
+
+// Takes the lines of an answer. There is room for what is said of them before one is taken.
+fn receive(
+    alloc: Global,
+    client: &mut Client,
+    second: i64,
+    subject: &[u8],
+    text: &[u8],
+) -> Result<Vec<u8>, Refusal>
+    ensures ok { IfOk result (λ answer.
+        spec.Receives second subject.now text.now client.old answer.items client.new) }
+    ensures err { IfErr result (λ refused.
+        spec.RefusesLines second subject.now text.now client.old refused client.new) }
+{
+    let now = moment(second)?;
+    let url = url(alloc, subject)?;
+    let Ok(lines) = lines(alloc, text) else {
+        return Err(Refusal::Memory);
+    };
+    let Ok(room) = Vec::with_capacity(alloc, lines.len()) else {
+        return Err(Refusal::Memory);
+    };
+    match client.receive(&url, &lines, now) {
+        Ok(ends) => Ok(numbered(room, &ends)),
+        Err(stopped) => Err(Refusal::Stopped(stopped.0)),
+    }
+}
+
+// The numbers of what became of the lines.
+fn numbered(room: Vec<u8>, ends: &[LineEnd]) -> Vec<u8>
+    requires empty { room.items ≡ [] }
+    requires fits { length ends.now ≤ vec_capacity room }
+    ensures { result.items ≡ map end_number ends.now }
+{
+    let mut answer = room;
+    for end in ends {
+        answer.push_reserved(end_number(*end));
+    }
+    answer
+}
+
+// The header of a request.
+fn header(alloc: Global, client: &Client, second: i64, subject: &[u8]) -> Result<Vec<u8>, Refusal>
+    ensures ok { IfOk result (λ answer. spec.Heads second subject.now client.now.rows answer.items) }
+    ensures err { IfErr result (spec.IsRequestFault second subject.now) }
+{
+    let now = moment(second)?;
+    let url = url(alloc, subject)?;
+    match client.header(&url, now) {
+        Ok(text) => Ok(text.into_bytes()),
+        Err(_) => Err(Refusal::Memory),
+    }
+}
+
+// The saved text. Memory alone refuses a write.
+fn save(alloc: Global, client: &Client, second: i64) -> Result<Vec<u8>, Refusal>
+    ensures ok { IfOk result (λ answer. spec.IsSavedText second client.now.rows answer.items) }
+    ensures err { IfErr result (spec.IsSavingFault second client.now.rows) }
+{
+    let now = moment(second)?;
+    let mut memory = Memory::new(alloc);
+    match client.save(&mut memory, now) {
+        Ok(()) => Ok(memory.text),
+        Err(Error::Year) => Err(Refusal::Year),
+        Err(_) => Err(Refusal::Memory),
+    }
+}
+
+// Keeps what a saved text keeps.
+fn restart(alloc: Global, client: &mut Client, second: i64) -> Result<Vec<u8>, Refusal>
+    ensures ok { IfOk result (λ answer. (answer.items ≡ []) × spec.Restarts second client.old client.new) }
+    ensures err { IfErr result (spec.IsSavingFault second client.old.rows) }
+    ensures same { OnErr result (client.new ≡ client.old) }
+{
+    let now = moment(second)?;
+    match client.restart(now) {
+        Ok(()) => Ok(Vec::new(alloc)),
+        Err(Error::Year) => Err(Refusal::Year),
+        Err(_) => Err(Refusal::Memory),
+    }
+}

@@ -1,0 +1,47 @@
+//! The words of a call by a handle.
+ghost use Rattle.std.specs.Prelude.{◌≡◌};
+ghost use Rattle.fonnalich_c.specs.Numbers as spec;
+
+/// Hands out the answer that had no room.
+pub const ANSWER: u32 = 0;
+
+/// What a word asks a client for.
+#[derive(Clone, Copy, Debug, PartialEq, Eq)]
+pub enum Task {
+    /// To take the lines of an answer.
+    Receive,
+    /// The header of a request.
+    Header,
+    /// Its saved text.
+    Save,
+    /// To be saved and loaded again.
+    Restart,
+}
+
+/// What a word does.
+#[derive(Clone, Copy, Debug, PartialEq, Eq)]
+pub enum Word {
+    /// A client without a row.
+    List,
+    /// A client of a saved text.
+    Load,
+    /// A task of the client.
+    Ask(Task),
+}
+
+impl Word {
+    /// What the word of a number does, but for [`ANSWER`].
+    pub fn of(number: u32) -> Option<Word>
+        ensures { result ≡ spec.word_of number }
+    {
+        match number {
+            1 => Some(Word::List),
+            2 => Some(Word::Load),
+            3 => Some(Word::Ask(Task::Receive)),
+            4 => Some(Word::Ask(Task::Header)),
+            5 => Some(Word::Ask(Task::Save)),
+            6 => Some(Word::Ask(Task::Restart)),
+            _ => None,
+        }
+    }
+}
