@@ -1,0 +1,288 @@
+//! Cookies of an HTTP client (RFC 6265), kept by the proved library fonnalich.
+//!
+//! ```
+//! use fonnalich::Client;
+//!
+//! let mut client = Client::new("com\norg\n")?;
+//! client.receive("https://shop.com/", &["user=ann; Path=/; Secure"], 1_700_000_000)?;
+//! assert_eq!(client.header("https://shop.com/cart", 1_700_000_001)?, b"user=ann");
+//! # Ok::<(), fonnalich::Error>(())
+//! ```
+
+use std::fmt;
+use std::marker::PhantomData;
+
+mod library {
+    #[repr(C, align(16))]
+    pub struct Handle(pub [u64; 64]);
+
+    unsafe extern "C" {
+        pub fn fonnalich_size() -> usize;
+        pub fn fonnalich_begin(at: *mut Handle);
+        pub fn fonnalich_end(at: *mut Handle);
+        #[allow(clippy::too_many_arguments)]
+        pub fn fonnalich_act(
+            at: *mut Handle,
+            word: u32,
+            second: i64,
+            subject: *const u8,
+            subject_length: usize,
+            text: *const u8,
+            text_length: usize,
+            out: *mut u8,
+            out_length: usize,
+        ) -> isize;
+    }
+}
+
+use library::Handle;
+
+/// Why a call is refused. The client is as it was, but for `Stopped`.
+#[derive(Clone, Copy, Debug, PartialEq, Eq)]
+pub enum Error {
+    /// Memory was refused.
+    OutOfMemory,
+    /// The text is no public suffix list.
+    List,
+    /// The second is before the year -9999 or after 9999.
+    Moment,
+    /// The text is no URL.
+    Url,
+    /// The text is no saved client.
+    Saved,
+    /// A cookie that is to be saved ends in a year below 0.
+    Year,
+    /// A line has a line feed.
+    LineFeed,
+    /// Memory was refused at this line, counted from 1: those before it were taken. At 0 none was.
+    Stopped(usize),
+    /// A number that no call of this crate answers.
+    Other(isize),
+}
+
+impl Error {
+    fn of(number: isize) -> Error {
+        match number {
+            -1 => Error::OutOfMemory,
+            -4 => Error::List,
+            -5 => Error::Moment,
+            -6 => Error::Url,
+            -7 => Error::Saved,
+            -8 => Error::Year,
+            ..=-100 => Error::Stopped((-100 - number) as usize),
+            _ => Error::Other(number),
+        }
+    }
+}
+
+impl fmt::Display for Error {
+    fn fmt(&self, to: &mut fmt::Formatter<'_>) -> fmt::Result {
+        write!(to, "{self:?}")
+    }
+}
+
+impl std::error::Error for Error {}
+
+/// What became of a line.
+#[derive(Clone, Copy, Debug, PartialEq, Eq)]
+pub enum LineEnd {
+    /// It is a new cookie.
+    Inserted,
+    /// It is expired, and so is now the cookie that stood in its place.
+    ExpiredExisting,
+    /// It took the place of a cookie.
+    UpdatedExisting,
+    /// It isn't UTF-8.
+    NotText,
+    /// It is against the prefix `__Host-`.
+    HostPrefix,
+    /// It is HttpOnly, and the scheme isn't HTTP's.
+    NonHttpScheme,
+    /// It has no domain, and the URL no host.
+    NonRelativeScheme,
+    /// The URL's host doesn't domain-match.
+    DomainMismatch,
+    /// It is expired, and none stood in its place.
+    Expired,
+    /// It is no cookie.
+    Parse,
+    /// Its domain is a public suffix.
+    PublicSuffix,
+}
+
+impl LineEnd {
+    fn of(number: u8) -> LineEnd {
+        match number {
+            0 => LineEnd::Inserted,
+            1 => LineEnd::ExpiredExisting,
+            2 => LineEnd::UpdatedExisting,
+            3 => LineEnd::NotText,
+            4 => LineEnd::HostPrefix,
+            10 => LineEnd::NonHttpScheme,
+            11 => LineEnd::NonRelativeScheme,
+            12 => LineEnd::DomainMismatch,
+            13 => LineEnd::Expired,
+            15 => LineEnd::PublicSuffix,
+            _ => LineEnd::Parse,
+        }
+    }
+}
+
+#[derive(Clone, Copy)]
+enum Word {
+    Answer,
+    List,
+    Load,
+    Receive,
+    Header,
+    Save,
+    Restart,
+}
+
+/// A client that keeps what it is sent, and gives each request what it holds for it. It stays on its thread.
+///
+/// Moments are whole seconds since 1970.
+pub struct Client {
+    handle: Box<Handle>,
+    room: Vec<u8>,
+    stays: PhantomData<*mut u8>,
+}
+
+impl Client {
+    /// A client without a cookie, by the text of a public suffix list.
+    pub fn new(list: impl AsRef<[u8]>) -> Result<Client, Error> {
+        let mut client = Client::begun();
+        client.act(Word::List, 0, b"", list.as_ref())?;
+        Ok(client)
+    }
+
+    /// A client of a saved text's cookies that aren't expired at this moment.
+    pub fn load(list: impl AsRef<[u8]>, saved: &[u8], now: i64) -> Result<Client, Error> {
+        let mut client = Client::begun();
+        client.act(Word::Load, now, saved, list.as_ref())?;
+        Ok(client)
+    }
+
+    /// Takes the Set-Cookie lines of an answer from this URL, and says what became of each.
+    pub fn receive<L: AsRef<[u8]>>(&mut self, url: &str, lines: &[L], now: i64) -> Result<Vec<LineEnd>, Error> {
+        if lines.iter().any(|line| line.as_ref().contains(&b'\n')) {
+            return Err(Error::LineFeed);
+        }
+        let text = lines.iter().map(AsRef::as_ref).collect::<Vec<_>>().join(&b'\n');
+        let ends = self.act(Word::Receive, now, url.as_bytes(), &text)?.iter().map(|end| LineEnd::of(*end)).collect();
+        // One empty line makes an empty text, which has no line; it is no cookie.
+        Ok(if lines.len() == 1 && text.is_empty() { vec![LineEnd::Parse] } else { ends })
+    }
+
+    /// The Cookie header of a request to this URL; empty where it gets none.
+    pub fn header(&mut self, url: &str, now: i64) -> Result<Vec<u8>, Error> {
+        self.act(Word::Header, now, url.as_bytes(), b"").map(<[u8]>::to_vec)
+    }
+
+    /// The saved text of the cookies that have an end and aren't expired.
+    pub fn save(&mut self, now: i64) -> Result<Vec<u8>, Error> {
+        self.act(Word::Save, now, b"", b"").map(<[u8]>::to_vec)
+    }
+
+    /// Ends the session cookies, as saving and loading does.
+    pub fn restart(&mut self, now: i64) -> Result<(), Error> {
+        self.act(Word::Restart, now, b"", b"").map(|_| ())
+    }
+
+    fn begun() -> Client {
+        let mut handle = Box::new(Handle([0; 64]));
+        // The call asks nothing. Its answer is at most the size of a handle.
+        assert!(unsafe { library::fonnalich_size() } <= size_of::<Handle>());
+        // The place has room for a handle, and stays where it is until the client is dropped.
+        unsafe { library::fonnalich_begin(&mut *handle) };
+        Client { handle, room: vec![0; 4096], stays: PhantomData }
+    }
+
+    fn act(&mut self, word: Word, now: i64, subject: &[u8], text: &[u8]) -> Result<&[u8], Error> {
+        let mut length = self.call(word, now, subject, text);
+        if length > self.room.len() as isize {
+            self.room.resize(length as usize, 0);
+            length = self.call(Word::Answer, 0, b"", b"");
+        }
+        match usize::try_from(length) {
+            Ok(length) => Ok(&self.room[..length]),
+            Err(_) => Err(Error::of(length)),
+        }
+    }
+
+    fn call(&mut self, word: Word, now: i64, subject: &[u8], text: &[u8]) -> isize {
+        let (out, room) = (self.room.as_mut_ptr(), self.room.len());
+        // The handle was begun and isn't ended. The call reads the two texts, and writes at most `room` bytes.
+        unsafe {
+            library::fonnalich_act(
+                &mut *self.handle,
+                word as u32,
+                now,
+                subject.as_ptr(),
+                subject.len(),
+                text.as_ptr(),
+                text.len(),
+                out,
+                room,
+            )
+        }
+    }
+}
+
+impl Drop for Client {
+    fn drop(&mut self) {
+        // The handle was begun, and no call follows.
+        unsafe { library::fonnalich_end(&mut *self.handle) };
+    }
+}
+
+#[cfg(test)]
+mod tests {
+    use super::*;
+
+    const LIST: &str = "com\norg\n";
+    const URL: &str = "https://example.com/";
+    const NOW: i64 = 1_700_000_000;
+
+    // The lines and the header of RFC 6265, section 3.1.
+    #[test]
+    fn gives_what_it_received() {
+        let mut client = Client::new(LIST).unwrap();
+        let lines = ["SID=31d4d96e407aad42; Path=/; Secure; HttpOnly", "lang=en-US; Path=/; Domain=example.com"];
+        assert_eq!(client.receive(URL, &lines, NOW), Ok(vec![LineEnd::Inserted; 2]));
+        assert_eq!(client.header(URL, NOW).unwrap(), b"SID=31d4d96e407aad42; lang=en-US");
+    }
+
+    #[test]
+    fn has_room_for_a_long_header() {
+        let mut client = Client::new(LIST).unwrap();
+        for i in 0..100 {
+            client.receive(URL, &[format!("n{i}={}", "x".repeat(100))], NOW).unwrap();
+        }
+        assert_eq!(client.header(URL, NOW).unwrap().len(), 10 * 103 + 90 * 104 + 99 * 2);
+        assert_eq!(client.header(URL, NOW).unwrap().len(), 10 * 103 + 90 * 104 + 99 * 2);
+    }
+
+    #[test]
+    fn is_saved_and_loaded() {
+        let mut client = Client::new(LIST).unwrap();
+        client.receive(URL, &["a=1; Max-Age=60", "b=2"], NOW).unwrap();
+        let saved = client.save(NOW).unwrap();
+        let mut loaded = Client::load(LIST, &saved, NOW).unwrap();
+        assert_eq!(loaded.header(URL, NOW).unwrap(), b"a=1");
+        client.restart(NOW).unwrap();
+        assert_eq!(client.header(URL, NOW).unwrap(), b"a=1");
+        assert_eq!(Client::load(LIST, b"[(", NOW).err(), Some(Error::Saved));
+    }
+
+    #[test]
+    fn tells_refusals() {
+        assert_eq!(Client::new("a..b\n").err(), Some(Error::List));
+        let mut client = Client::new(LIST).unwrap();
+        assert_eq!(client.header("no url", NOW), Err(Error::Url));
+        assert_eq!(client.header(URL, i64::MAX), Err(Error::Moment));
+        assert_eq!(client.receive(URL, &["a=1\nb=2"], NOW), Err(Error::LineFeed));
+        assert_eq!(client.receive(URL, &[""], NOW), Ok(vec![LineEnd::Parse]));
+        assert_eq!(client.receive(URL, &["a=1; Domain=com"], NOW), Ok(vec![LineEnd::PublicSuffix]));
+    }
+}
