@@ -10,7 +10,7 @@ use Rattle.store_parts.specs.declared.error.Error.TheVariants.{OutOfMemory, Year
 use Rattle.cookie_store.specs.Rows.{Row}
 use Rattle.cookie_store.specs.SavedTexts.{OfText, IsAnyBeforeYears, IsReadFault, IsRonRefusal, IsSaveFault}
 use Rattle.cookie_store.specs.SavedTexts.{IsWriteFault}
-use Rattle.cookie_run.specs.Program.{IsNoList, IsNoStore}
+use Rattle.cookie_run.specs.Program.{IsNoSuffixList, IsNoSavedText}
 use Rattle.fonnalich_c.specs.Given.{IsListToldAs}
 use Rattle.fonnalich_c.specs.Tasks.{IsLoadToldAs, IsNoLoad}
 use Rattle.fonnalich_c.specs.declared.refusal.Refusal.{Refusal}
@@ -20,7 +20,7 @@ use Rattle.fonnalich_c.specs.declared.refusal.Refusal.TheVariants as refusal
 pub not_listed : {L : Type 0} (r : Result L ListError) (text : List ℕ) (cause : ListError) (told : Refusal)
     → r ≡ Err cause → IsListToldAs cause told → (IsErrOf r list.NotText ↔ (¬ IsUtf8 text))
     → ((number : ℕ) → r ≡ Err (list.Rule number) → HasFirstFault text number)
-    → (told ≡ refusal.Memory) ⊎ ((told ≡ refusal.List) × IsNoList text)
+    → (told ≡ refusal.Memory) ⊎ ((told ≡ refusal.List) × IsNoSuffixList text)
 not_listed r text cause told is (inl memory) not_text fault = inl memory.1
 not_listed r text list.NotText told is (inr other) not_text fault = inr (other.1, inl (not_text.0 is))
 not_listed r text (list.Rule number) told is (inr other) not_text fault =
@@ -30,7 +30,7 @@ not_listed r text list.OutOfMemory told is (inr other) not_text fault = absurd (
 -- why a client isn't loaded from a text
 pub not_loaded : (text : List ℕ) (cause : Error) (told : Refusal) (before after reads : ℕ) → IsLoadToldAs cause told
     → (IsReadFault before after reads cause ⊎ (cause ≡ OutOfMemory) ⊎ OfText (Some text) (λ t. IsRonRefusal t cause))
-    → (told ≡ refusal.Read) ⊎ (told ≡ refusal.Memory) ⊎ ((told ≡ refusal.Saved) × IsNoStore text)
+    → (told ≡ refusal.Read) ⊎ (told ≡ refusal.Memory) ⊎ ((told ≡ refusal.Saved) × IsNoSavedText text)
 not_loaded text cause told before after reads (inl read) why = inl read.1
 not_loaded text cause told before after reads (inr (inl memory)) why = inr (inl memory.1)
 not_loaded text cause told before after reads (inr (inr other)) (inl read) = absurd (other.0 read.0)
@@ -40,7 +40,7 @@ not_loaded text cause told before after reads (inr (inr other)) (inr (inr of)) =
 
 -- the same beside the other refusals
 pub no_load : (second : ℤ) (saved text : List ℕ) (told : Refusal)
-    → (told ≡ refusal.Read) ⊎ (told ≡ refusal.Memory) ⊎ ((told ≡ refusal.Saved) × IsNoStore saved)
+    → (told ≡ refusal.Read) ⊎ (told ≡ refusal.Memory) ⊎ ((told ≡ refusal.Saved) × IsNoSavedText saved)
     → IsNoLoad second saved text told
 no_load second saved text told (inl read) = inr (inr (inr read))
 no_load second saved text told (inr (inl memory)) = inl (inl memory)

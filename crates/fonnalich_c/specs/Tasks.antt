@@ -1,19 +1,22 @@
 -- What the words of a call make of a client (own: docs/DEFINITIONS.md).
-use Rattle.std.specs.Prelude.{ℕ, ℤ, ◌≡◌, ◌≢◌, ◌⊎◌, List, [], Option, Some, None, map}
+use Rattle.std.specs.Prelude.{ℕ, ℤ, ◌≡◌, ◌≢◌, ◌⊎◌, List, [], Option, Some, None, map, false}
 use Rattle.std.specs.Str.{IsUtf8}
 use Rattle.publicsuffix.specs.Rules.{HasRules}
 use Rattle.saved_text.specs.RonLayout.{ron_layout}
+use Rattle.saved_text.specs.RonReading.{ShowsOnly}
 use Rattle.store_parts.specs.declared.error.Error.{Error}
 use Rattle.store_parts.specs.declared.error.Error.TheVariants.{Io, OutOfMemory}
 use Rattle.url.specs.Parts.{Parts}
+use Rattle.cookie_store.specs.Given.{ArePicked}
 use Rattle.cookie_store.specs.Placing.{saved}
 use Rattle.cookie_store.specs.Rows.{Row, Store}
-use Rattle.cookie_store.specs.SavedTexts.{Saves, IsAnyBeforeYears}
+use Rattle.cookie_store.specs.SavedTexts.{Loads, Saves, IsAnyBeforeYears}
 use Rattle.cookie_run.specs.Accept.{AcceptsAll, IsStopped}
 use Rattle.cookie_run.specs.Header.{IsHeader}
 use Rattle.cookie_run.specs.Keeping.{Keeps}
 use Rattle.cookie_run.specs.KeptKeys.{KeepsKeys}
-use Rattle.cookie_run.specs.Program.{AreLoaded, IsNoList, IsNoStore}
+use Rattle.cookie_run.specs.HostPrefix.{IsHeldRightly}
+use Rattle.cookie_run.specs.Program.{IsNoSuffixList, IsNoSavedText}
 use Rattle.cookie_run.specs.declared.step.LineEnd.{LineEnd}
 use Rattle.fonnalich_c.specs.Given.{IsUrl, IsNoUrl, IsNoMoment, nanos_of, lines_of}
 use Rattle.fonnalich_c.specs.Numbers.{end_number}
@@ -93,17 +96,18 @@ abbrev pub Begins : List ℕ → Store → Type 0
 Begins text new = (new.rows ≡ []) × HasRules text new.suffixes
 
 abbrev pub IsNoBeginning : List ℕ → Refusal → Type 0
-IsNoBeginning text refused = (refused ≡ refusal.Memory) ⊎ ((refused ≡ refusal.List) × IsNoList text)
+IsNoBeginning text refused = (refused ≡ refusal.Memory) ⊎ ((refused ≡ refusal.List) × IsNoSuffixList text)
 
--- with the rows of a saved text
+-- with the rows of a saved text that aren't expired at the second, but for those that aren't held rightly
 abbrev pub IsLoaded : ℤ → List ℕ → List ℕ → Store → Type 0
-IsLoaded second subject text new =
-    HasRules text new.suffixes × AreLoaded (nanos_of second) (Some subject) new.rows
+IsLoaded second subject text new = HasRules text new.suffixes
+    × ((loaded : Store) × Loads ShowsOnly false (nanos_of second) subject loaded
+    × ArePicked IsHeldRightly loaded.rows new.rows)
 
 abbrev pub IsNoLoad : ℤ → List ℕ → List ℕ → Refusal → Type 0
 IsNoLoad second subject text refused = IsNoBeginning text refused
     ⊎ ((refused ≡ refusal.Moment) × IsNoMoment second)
-    ⊎ ((refused ≡ refusal.Saved) × IsNoStore subject) ⊎ (refused ≡ refusal.Read)
+    ⊎ ((refused ≡ refusal.Saved) × IsNoSavedText subject) ⊎ (refused ≡ refusal.Read)
 
 -- what a refusal to load is told as: a failed read, want of memory, and every other cause
 abbrev pub IsLoadToldAs : Error → Refusal → Type 0

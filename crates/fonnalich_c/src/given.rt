@@ -3,7 +3,7 @@ ghost use Rattle.std.specs.Prelude.{◌≡◌, ◌⊎◌, map, IfOk, IfErr, Some
 ghost use Rattle.std.specs.List.{slice_split};
 ghost use Rattle.jiff.specs.Words.{civil_nanos};
 ghost use Rattle.publicsuffix.specs.Rules.{HasRules};
-ghost use Rattle.cookie_run.specs.Program.{IsNoList};
+ghost use Rattle.cookie_run.specs.Program.{IsNoSuffixList};
 ghost use Rattle.cookie_run.specs.ScriptLine.{url_of};
 ghost use Rattle.fonnalich_c.specs.Given as spec;
 
@@ -61,7 +61,7 @@ fn url_of(alloc: Global, text: &str) -> Result<Url, Refusal>
 pub fn list(alloc: Global, text: &[u8]) -> Result<List, Refusal>
     ensures ok { IfOk result (HasRules text.now) }
     ensures err { IfErr result (λ refusal.
-        (refusal ≡ Refusal.Memory) ⊎ ((refusal ≡ Refusal.List) × IsNoList text.now)) }
+        (refusal ≡ Refusal.Memory) ⊎ ((refusal ≡ Refusal.List) × IsNoSuffixList text.now)) }
 {
     match List::parse(alloc, text) {
         Ok(list) => Ok(list),
