@@ -1,12 +1,15 @@
 -- What the program answers (own: docs/DEFINITIONS.md).
 use Rattle.std.specs.Prelude.{ℕ, ℤ, List, [], ◌∷◌, Option, Some, None, Result, Ok, Err, codes, ◌≡◌, ◌≢◌, ◌⊎◌, ◌^◌, ◌-◌}
-use Rattle.std.specs.Prelude.{IfSome, IsSomeAnd, false, ⊤}
+use Rattle.std.specs.Prelude.{IfSome, IsSomeAnd, false, length, ⊤}
 use Rattle.std.specs.Result.{result_ok}
 use Rattle.std.specs.Str.{IsUtf8}
 use Rattle.std.specs.Io.KnownBytes.{Appends}
 use Rattle.std.specs.declared.convert.Infallible.{Infallible}
 use Rattle.devices.specs.Device.{Rose}
 use Rattle.hex.specs.Hex.{decode_sized}
+use Rattle.rand_core.specs.Steps.{steps_u32, stream_of}
+use Rattle.rand_core.specs.Stream.{Stream, fill_bytes}
+use Rattle.rand_chacha.specs.ChaCha.{ChaCha, next_word, of_seed}
 use Rattle.cookie.specs.Key.{derived}
 use Rattle.publicsuffix.specs.declared.error.ListError.{ListError}
 use Rattle.publicsuffix.specs.declared.error.ListError.TheVariants as list
@@ -19,7 +22,9 @@ use Rattle.cookie_store.specs.Given.{ArePicked}
 use Rattle.cookie_store.specs.Placing.{saved}
 use Rattle.cookie_store.specs.Rows.{Row, Store}
 use Rattle.cookie_store.specs.SavedTexts.{Saves, Loads, IsAnyBeforeYears, IsRonRefusal}
+use Rattle.cookie_run.specs.Drawn.{Draw, DrawsSo}
 use Rattle.cookie_run.specs.HostPrefix.{IsHeldRightly}
+use Rattle.cookie_run.specs.ScriptDrawn.{IsScriptBy}
 use Rattle.cookie_run.specs.ScriptMoment.{moment_of}
 use Rattle.cookie_run.specs.ScriptText.{Runs}
 use Rattle.cookie_run.specs.declared.program.failure.Failure.{Failure}
@@ -110,6 +115,14 @@ MakesNoClient suffixes stored failure = MakesNoList suffixes failure
 
 -- ---- the script, and what is saved
 
+-- the bytes that a ChaCha20 generator gives from where it stands
+abbrev stream : ChaCha → Stream
+stream = stream_of (steps_u32 (next_word 10))
+
+-- these are its next bytes, and behind them it stands so
+abbrev pub IsFill : ChaCha → List ℕ → ChaCha → Type 0
+IsFill old bytes new = (bytes, stream new) ≡ fill_bytes (length bytes) (stream old)
+
 -- What is known of a reader and a writer, before and behind a call: what was left to read, how many reads were made and
 -- how many calls of the reader failed, what was written, and how many calls of the writer failed.
 pub record Devices : Type 0 where
@@ -119,13 +132,19 @@ pub record Devices : Type 0 where
   pub written : Option (List ℕ) × Option (List ℕ)
   pub unwritten : ℕ × ℕ
 
--- From these rows on, with this list and the key that comes from the seed, the script that was read ends so, and what
--- it prints was written; and so it is with the rows that it left and its last moment. Where what was left to read isn't
--- known, nothing is said.
+-- The draws of the generator that comes from the seed are so: twelve bytes of its stream for each, one behind another.
+abbrev pub SeedDraws : List ℕ → (List Draw → Type 0) → Type 0
+SeedDraws seed Are = (left : ChaCha) × DrawsSo IsFill Infallible (of_seed seed) Are left
+
+-- From these rows on, with this list, and the key and the generator that come from the seed, the script that was read
+-- ends so, and what it prints was written; and so it is with the rows that it left and its last moment. Where what was
+-- left to read isn't known, nothing is said.
 abbrev pub ScriptEnds : Devices → Asked → List Rule → List Row → Ended → (List Row → ℤ → Type 0) → Type 0
 ScriptEnds io asked list rows ended Is = IfSome io.left (λ input. (output : List ℕ)
     × Appends io.written.0 io.written.1 output × ((new : List Row) × (end : ℤ)
-    × Runs Infallible list (derived asked.seed) rows asked.at input output new end ended × Is new end))
+    × Runs Infallible list (derived asked.seed) rows asked.at input output new end ended
+    × SeedDraws asked.seed (λ drawn. IsScriptBy drawn list (derived asked.seed) rows asked.at input io.written.0
+    io.written.1 new end (Ok ended)) × Is new end))
 
 -- Why the script gives no text: a device fails; or it ended whole, and the rows that it left have no saved text at its
 -- last moment, for a death of a year below 0 or for want of memory.
