@@ -1,5 +1,5 @@
 -- What refusals are told as.
-use Rattle.std.proofs.Common.{◌≡◌, ◌≢◌, ◌⊎◌, ℕ, ℤ, List, Result, Err, Some, inl, inr, refl, sym, subst, ◌∙◌}
+use Rattle.std.proofs.Common.{◌≡◌, ◌⊎◌, ℕ, ℤ, List, Result, Err, Some, inl, inr, refl, sym, subst, ◌∙◌}
 use Rattle.std.specs.Prelude.{IsErrOf, ◌↔◌}
 use Rattle.std.specs.Str.{IsUtf8}
 use Rattle.publicsuffix.specs.declared.error.ListError.{ListError}

@@ -7,7 +7,9 @@ pub use mir.Val.{Val, vunit, vptr}
 pub use contract.Monad.{fact, fact_i}
 pub use contract.BorrowLft.{◌⊑◌}
 pub use contract.Running.{tables}
-pub use types.Kit.{‵, raw, ◌⊛◌, some, later, prop, at_ret, Sq, ◌$◌, ◌∵◌, !, qed, done, move, keep, drop, use0, use1, use2, use3, split, split3, join, fsplit, fjoin, feq_i, feq_l, pick, await, rewrite, regoal, suffices, frame, group}
+pub use types.Kit.{‵, raw, ◌⊛◌, some, later, prop, at_ret, Sq, ◌$◌, ◌∵◌, !, qed, done, move, keep, drop, use0, use1}
+pub use types.Kit.{use2, use3, split, split3, join, fsplit, fjoin, feq_i, feq_l, pick, await, rewrite, regoal}
+pub use types.Kit.{suffices, frame, group}
 pub use types.Run.{enter, of_opd, no_more, and_then, first, blocks, exec, returns}
 pub use types.ByLocal.{alloc_all, pass_all, free_all, look_at, get, sets, lands_as, lands_last, env}
 pub use denote.Exit.{yes, no}

@@ -1,4 +1,4 @@
-use Rattle.std.proofs.Common.{◌≡◌, ap, arith, length, map, sym, vec_capacity, vec_len}
+use Rattle.std.proofs.Common.{◌≡◌, ap, arith, length, map, vec_capacity, vec_len}
 use Rattle.std.proofs.lemmas.List.{length-map}
 use Rattle.fonnalich_c.proofs.Receiving.{as_many_ends}
 use Rattle.fonnalich_c.proofs.task.receive.Goals as goal
