@@ -1,4 +1,4 @@
--- What a call by a handle does: the client, the answer that had no room, and what is written (own: docs/DEFINITIONS.md).
+-- What a call by a handle does: the client, the answer that is kept, and what is written (own: docs/DEFINITIONS.md).
 use Rattle.std.specs.Prelude.{ℕ, ℤ, pos, ◌≡◌, ◌≢◌, ◌⊎◌, ◌≤◌, ◌<◌, ◌++◌, List, [], length, drop, Option, None}
 use Rattle.cookie_store.specs.Rows.{Store}
 use Rattle.fonnalich_c.specs.Numbers.{answer_word, word_of, refusal_number}
@@ -13,8 +13,8 @@ pub record Held : Type 0 where
 abbrev pub IsFresh : Held → Type 0
 IsFresh held = (held.client ≡ None) × (held.kept ≡ [])
 
--- The number is the answer's length. Where there is room for all of it, it stands at the beginning of what is written and
--- nothing is kept; else nothing is written and it is kept.
+-- The number is the answer's length. Where there is room for all of it, it stands at the beginning of what is written
+-- and nothing is kept; else nothing is written and it is kept.
 abbrev pub IsHandedOut : List ℕ → List ℕ → List ℕ → List ℕ → ℤ → Type 0
 IsHandedOut answer out kept written number = (number ≡ pos (length answer))
     × (((length answer ≤ length out) × (written ≡ answer ++ drop (length answer) out) × (kept ≡ []))

@@ -29,8 +29,8 @@ pub enum Refusal {
     Year,
     /// The saved text wasn't read to its end. Its bytes lie in memory, so no call answers this.
     Read,
-    /// Memory was refused at this line, counted from 1: those before it are applied, and no later one was looked at. At 0
-    /// none was.
+    /// Memory was refused at this line, counted from 1: those before it are applied, and no later one
+    /// was looked at. At 0 none was.
     Stopped(usize),
 }
 

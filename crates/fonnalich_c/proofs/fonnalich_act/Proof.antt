@@ -258,7 +258,8 @@ fonnalich_act_spec {M} 𝓤 𝓛 𝓜 𝓡 wired =
     -- [lasts; the result; α is over; the other tokens; what the lender keeps]
     fsplit ! $ drop ! $ fsplit ! $ fsplit ! $ move ! (2 ∷ []) $ fsplit ! $ drop ! $ fsplit ! $ drop ! $ fsplit ! $
     drop ! $ fsplit ! $ drop ! $ fsplit ! $
-    -- [what is said of `out`; nothing; the loan's last value; its borrow; the result; α is over; the other tokens; what the lender keeps]
+    -- [what is said of `out`; nothing; the loan's last value; its borrow; the result; α is over; the other tokens;
+    -- what the lender keeps]
     move ! (5 ∷ 7 ∷ 2 ∷ []) $ use3 𝓛 (later (‵ ((mem R).own_at ws.1.0 b o))) (ref_back 𝓛 R (α ∷ []) γ ws.1.0 b o) $
     await ! tt $ move ! (3 ∷ []) $ drop ! $
     returns ! (look_at ! 0 refl) $ free_all ! refl $
