@@ -1,12 +1,26 @@
 -- What the program answers, put together of what its steps say.
 use Rattle.std.proofs.Common.{◌≡◌, ◌⊎◌, ℕ, Bool, List, [], ◌++◌, Option, Some, None, Result, Ok, Err, inl, inr, refl}
 use Rattle.std.proofs.Common.{sym, subst, ap, ◌∙◌, true, false, true≢false}
-use Rattle.std.specs.Prelude.{IsErrOf, ◌↔◌}
+use Rattle.std.proofs.Common.{ℤ}
+use Rattle.std.specs.Prelude.{IsErrOf, IfSome, IsErrAnd, option_map, ◌↔◌}
+use Rattle.std.specs.Result.{result_map_both}
+use Rattle.std.specs.Io.KnownBytes.{Appends}
+use Rattle.std.specs.declared.convert.Infallible.{Infallible}
+use Rattle.rand_chacha.specs.ChaCha.{ChaCha, of_seed}
+use Rattle.cookie.specs.Key.{derived}
+use Rattle.publicsuffix.specs.Rules.{Rule}
+use Rattle.cookie_run.specs.Drawn.{DrawsSo}
+use Rattle.cookie_run.specs.Program.{IsFill, ScriptEnds, ScriptFails, ScriptGives}
+use Rattle.cookie_run.specs.ScriptDrawn.{IsScriptBy}
+use Rattle.cookie_run.specs.ScriptText.{Runs}
+use Rattle.cookie_run.specs.declared.script.ended.Ended.{Ended}
+use Rattle.cookie_run.specs.declared.script.ended.Ended.TheVariants.{Whole}
 use Rattle.std.specs.Str.{IsUtf8, is_utf8}
 use Rattle.std.proofs.lemmas.Str.{IsUtf8-from_is_utf8, is_utf8-from_IsUtf8}
 use Rattle.publicsuffix.specs.declared.error.ListError.{ListError}
 use Rattle.publicsuffix.specs.declared.error.ListError.TheVariants as list
 use Rattle.publicsuffix.specs.Rules.{HasFirstFault}
+use Rattle.cookie_store.specs.Placing.{saved}
 use Rattle.cookie_store.specs.Rows.{Row}
 use Rattle.cookie_store.specs.SavedTexts.{OfText, IsAnyBeforeYears, IsReadFault, IsRonRefusal, IsSaveFault}
 use Rattle.cookie_store.specs.SavedTexts.{IsWriteFault}
@@ -73,6 +87,61 @@ unfolding IsYear
 year_only rows before after e is (inl wrote) = absurd (subst IsYear (sym is ∙ wrote.0) tt)
 year_only rows before after e is (inr (same, inl year)) = year.1
 year_only rows before after e is (inr (same, inr memory)) = absurd (subst IsYear (sym is ∙ memory) tt)
+
+-- ---- the script that was played
+
+-- what is said of what was left to read, and what is said of what was read, together where that is known
+joined : {A B C : List ℕ → Type 0} (known : Option (List ℕ)) → ((input : List ℕ) → A input → B input → C input)
+    → IfSome known A → (input : List ℕ) × IfSome known (λ whole. input ≡ whole) × B input → IfSome known C
+joined None f a b = tt
+joined {A} {B} {C} (Some whole) f a (input, is, b) = f whole a (subst B is b)
+
+-- a script that ended so, by a key and draws of a generator that come from the seed
+pub script_ends : (io : Devices) (asked : Asked) (rules : List Rule) (rows : List Row) (ended was : Ended)
+    (Is : List Row → ℤ → Type 0) (key : List ℕ) (start : ChaCha) (new : List Row) (end : ℤ) (left : ChaCha)
+    → was ≡ ended → key ≡ derived asked.seed → start ≡ of_seed asked.seed
+    → IfSome io.left (λ input. (output : List ℕ) × Appends io.written.0 io.written.1 output
+    × Runs Infallible rules key rows asked.at input output new end was)
+    → (input : List ℕ) × IfSome io.left (λ whole. input ≡ whole) × DrawsSo IsFill Infallible start (λ drawn. IsScriptBy
+    drawn rules key rows asked.at input io.written.0 io.written.1 new end (Ok was)) left
+    → Is new end → ScriptEnds io asked rules rows ended Is
+script_ends io asked rules rows ended was Is key start new end left is_ended is_key is_start text draws is =
+    subst (λ e. ScriptEnds io asked rules rows e Is) is_ended (joined io.left (λ input h d. (
+      h.0,
+      h.1,
+      (
+        new,
+        end,
+        subst (λ k. Runs Infallible rules k rows asked.at input h.0 new end was) is_key h.2,
+        (
+          left,
+          subst (λ k. DrawsSo IsFill Infallible (of_seed asked.seed) (λ drawn. IsScriptBy drawn rules k rows asked.at
+              input io.written.0 io.written.1 new end (Ok was)) left) is_key
+              (subst (λ s. DrawsSo IsFill Infallible s (λ drawn. IsScriptBy drawn rules key rows asked.at input
+              io.written.0 io.written.1 new end (Ok was)) left) is_start d),
+        ),
+        is,
+      ),
+    )) text draws)
+
+-- a script that ended whole, and whose rows have no saved text
+pub unsaved : (io : Devices) (asked : Asked) (rules : List Rule) (rows : List Row) (failure : Failure)
+    (new : List Row) (end : ℤ)
+    → ((Is : List Row → ℤ → Type 0) → Is new end → ScriptEnds io asked rules rows Whole Is)
+    → (failure ≡ Memory) ⊎ ((failure ≡ StoreText) × IsAnyBeforeYears (saved end new))
+    → ScriptFails io asked rules rows failure
+unsaved io asked rules rows failure new end ends (inl memory) =
+    inr (inr (inr (memory, ends (λ new end. Unit {0}) tt)))
+unsaved io asked rules rows failure new end ends (inr years) =
+    inr (inr (inl (years.0, ends (λ new end. IsAnyBeforeYears (saved end new)) years.1)))
+
+-- a failure is what the script gives
+pub gives_failure : {V : Type 0} {P : Failure → Type 0} (io : Devices) (asked : Asked) (rules : List Rule)
+    (rows : List Row) (text_of : V → List ℕ) (result : Result (Option V) Failure) → IsErrAnd result P
+    → ((failure : Failure) → P failure → ScriptFails io asked rules rows failure)
+    → ScriptGives io asked rules rows (result_map_both (option_map text_of) (λ failure. failure) result)
+gives_failure io asked rules rows text_of (Ok given) is fails = absurd is
+gives_failure io asked rules rows text_of (Err failure) is fails = fails failure is
 
 -- ---- what the program tells
 
