@@ -103,7 +103,7 @@ static inline ptrdiff_t fonnalich_header(fonnalich *at, int64_t second, const ch
     return fonnalich_act(at, FONNALICH_DO_HEADER, second, url, url_length, "", 0, out, out_length);
 }
 
-/* Writes the saved text of the cookies that have an end and aren't expired at this second. */
+/* Writes the saved text of the cookies that have an expiry and aren't expired at this second. */
 static inline ptrdiff_t fonnalich_save(fonnalich *at, int64_t second, char *out, size_t out_length) {
     return fonnalich_act(at, FONNALICH_DO_SAVE, second, "", 0, "", 0, out, out_length);
 }

@@ -127,7 +127,7 @@ class Client:
         return self._call(_HEADER, self._second(now), _bytes(url), b"").decode("utf-8", "surrogateescape")
 
     def save(self, now: Optional[int] = None) -> bytes:
-        """The saved text of the cookies that have an end and aren't expired."""
+        """The saved text of the cookies that have an expiry and aren't expired."""
         return self._call(_SAVE, self._second(now), b"", b"")
 
     def restart(self, now: Optional[int] = None) -> None:

@@ -179,7 +179,7 @@ impl Client {
         self.act(Word::Header, now, url.as_bytes(), b"").map(<[u8]>::to_vec)
     }
 
-    /// The saved text of the cookies that have an end and aren't expired.
+    /// The saved text of the cookies that have an expiry and aren't expired.
     pub fn save(&mut self, now: i64) -> Result<Vec<u8>, Error> {
         self.act(Word::Save, now, b"", b"").map(<[u8]>::to_vec)
     }
