@@ -69,7 +69,7 @@ all_from Is Q each (y ∷ ys) none = (each y (λ h. none (inl h)), all_from Is Q
 
 -- ---- a row that overlays none
 
-set_is : (flag : Option Bool) → is_set flag ≡ true → flag ≡ Some true
+pub set_is : (flag : Option Bool) → is_set flag ≡ true → flag ≡ Some true
 set_is None e = absurd (both_ways false refl e)
 set_is (Some b) e = ap Some e
 
@@ -78,7 +78,7 @@ set_not None h = refl
 set_not (Some true) h = absurd (h refl)
 set_not (Some false) h = refl
 
-not_dead : (b : Bool) → not b ≡ true → b ≡ false
+pub not_dead : (b : Bool) → not b ≡ true → b ≡ false
 not_dead true e = absurd (both_ways false refl e)
 not_dead false e = refl
 
@@ -239,6 +239,17 @@ module _ (rules : Rules) (from_http : IsTrue rules.secure_from_http) (overlay : 
           ),
         )
 
+    -- what is made of the cookie lies over none of the rows
+    pub made_free : (made : Row) → IsMade (unsliced seen.cookie) url now made
+        → ¬ (HasOne (IsOverlaid made.raw.cookie.name (domain_text made) made.path.text now) rows)
+    made_free made is h =
+        none_under (domain_text made) (made_domain url _ made.domain is.domain)
+        (subst (λ name. HasOne (IsOverlaid name (domain_text made)
+        (Rattle.cookie_store.specs.Making.path_at seen.cookie url).text now) rows)
+        (ap (λ s. s.cookie.name) is.raw)
+        (subst (λ path. HasOne (IsOverlaid made.raw.cookie.name (domain_text made) path now) rows)
+        (ap (λ p. p.text) is.path) h))
+
     made_keeps : (made : Row) (end : End) → IsMade (unsliced seen.cookie) url now made
         → Inserts list rows url now made end → filter (is_protected now) end.1 ≡ filter (is_protected now) rows
     made_keeps made end is (inl (barred, e)) = ap (λ (x : End). filter (is_protected now) x.1) e
@@ -248,13 +259,7 @@ module _ (rules : Rules) (from_http : IsTrue rules.secure_from_http) (overlay : 
         unsecured e = plain (sym (ap (λ s. s.cookie.secure) is.raw) ∙ e)
 
         none : ¬ (HasOne (IsOverlaid made.raw.cookie.name (domain_text made) made.path.text now) rows)
-        none h =
-            none_under (domain_text made) (made_domain url _ made.domain is.domain)
-            (subst (λ name. HasOne (IsOverlaid name (domain_text made)
-            (Rattle.cookie_store.specs.Making.path_at seen.cookie url).text now) rows)
-            (ap (λ s. s.cookie.name) is.raw)
-            (subst (λ path. HasOne (IsOverlaid made.raw.cookie.name (domain_text made) path now) rows)
-            (ap (λ p. p.text) is.path) h))
+        none = made_free made is
 
         by : Admits list rows url now made end → filter (is_protected now) end.1 ≡ filter (is_protected now) rows
         by (inl (unlisted, fits)) = fits_keeps now made unsecured rows none url end fits
@@ -278,7 +283,7 @@ module _ (rules : Rules) (from_http : IsTrue rules.secure_from_http) (overlay : 
       by (Err error) h e = ap (λ (x : End). filter (is_protected now) x.1) e
       by (Ok seen) h i = read_keeps rows line let_in utf8 seen h (answer, new) i
 
-  line_keeps : (rows new : List Row) (line : List ℕ) (outcome : Outcome)
+  pub line_keeps : (rows new : List Row) (line : List ℕ) (outcome : Outcome)
       → TakesLine rules list rows url now line outcome new
       → filter (is_protected now) new ≡ filter (is_protected now) rows
   line_keeps rows new line outcome (inl (stopped, is, same)) = ap (filter (is_protected now)) same
