@@ -25,7 +25,7 @@ Fills {A} Kind (Some x) tokens says others = (says ≡ x) × (others ≡ tokens)
 
 module _ {A : Type 0} (Kind : List ℕ → A → Type 0) (one : IsOneKind Kind) where
   -- the first token isn't of the kind
-  first_passed : (token : List ℕ) (tokens others : List (List ℕ)) (says : A) → ((x : A) → ¬ (Kind token x))
+  pub first_passed : (token : List ℕ) (tokens others : List (List ℕ)) (says : A) → ((x : A) → ¬ (Kind token x))
       → IsFirst Kind (token ∷ tokens) says others
       → (left : List (List ℕ)) × (others ≡ token ∷ left) × IsFirst Kind tokens says left
   first_passed token tokens others says none f = by f.before f.cut f.none_before f.left
@@ -52,7 +52,7 @@ module _ {A : Type 0} (Kind : List ℕ → A → Type 0) (one : IsOneKind Kind) 
             },
           )
 
-  first_more : (token : List ℕ) (tokens left : List (List ℕ)) (says : A) → ((x : A) → ¬ (Kind token x))
+  pub first_more : (token : List ℕ) (tokens left : List (List ℕ)) (says : A) → ((x : A) → ¬ (Kind token x))
       → IsFirst Kind tokens says left → IsFirst Kind (token ∷ tokens) says (token ∷ left)
   first_more token tokens left says none f = record {
     before = token ∷ f.before;
@@ -65,7 +65,7 @@ module _ {A : Type 0} (Kind : List ℕ → A → Type 0) (one : IsOneKind Kind) 
   }
 
   -- the first token is of the kind
-  first_here : (token : List ℕ) (tokens others : List (List ℕ)) (x says : A) → Kind token x
+  pub first_here : (token : List ℕ) (tokens others : List (List ℕ)) (x says : A) → Kind token x
       → IsFirst Kind (token ∷ tokens) says others → (says ≡ x) × (others ≡ tokens)
   first_here token tokens others x says is f = by f.before f.cut f.none_before f.left
     where
@@ -80,7 +80,7 @@ module _ {A : Type 0} (Kind : List ℕ → A → Type 0) (one : IsOneKind Kind) 
           let head : token ≡ b = cc in
           absurd (all.0 x (subst (λ t. Kind t x) head is))
 
-  here_first : (token : List ℕ) (tokens : List (List ℕ)) (x : A) → Kind token x → IsFirst Kind (token ∷ tokens) x tokens
+  pub here_first : (token : List ℕ) (tokens : List (List ℕ)) (x : A) → Kind token x → IsFirst Kind (token ∷ tokens) x tokens
   here_first token tokens x is = record {
     before = [];
     token = token;

@@ -5,5 +5,8 @@ mod IntegrityLemmas
 mod JudgingLemmas
 mod KnownLemmas
 mod MatchLemmas
+mod NestedLemmas
 mod PieceLemmas
+mod StandingLemmas
+mod StrictLemmas
 mod TokenLemmas

@@ -77,11 +77,11 @@ one_time token (h, m, s) (i, n, t) a b =
     tail_same e = cc
 
 -- the number of a month by the letters of its name
-abbrev number_of : List ℕ → ℕ
+abbrev pub number_of : List ℕ → ℕ
 number_of letters = position_or_len (λ name. bytes_eq name letters)
     (map (λ m. map to_ascii_lowercase (month_name (m + 1))) (0 ∷ 1 ∷ 2 ∷ 3 ∷ 4 ∷ 5 ∷ 6 ∷ 7 ∷ 8 ∷ 9 ∷ 10 ∷ 11 ∷ [])) + 1
 
-of_name : (m : ℕ) → IsInRange 1 12 m → number_of (map to_ascii_lowercase (month_name m)) ≡ m
+pub of_name : (m : ℕ) → IsInRange 1 12 m → number_of (map to_ascii_lowercase (month_name m)) ≡ m
 of_name zero h = absurd (omega arith)
 of_name (suc zero) h = refl
 of_name (suc (suc zero)) h = refl

@@ -4,3 +4,4 @@ pub mod Fields
 pub mod Integrity
 pub mod KnownDates
 pub mod Refusals
+pub mod StrictDates

@@ -4,6 +4,7 @@ ghost use Rattle.cookie_text.specs.Date.{full_year};
 ghost use Rattle.user_agent.specs.Dates.{Date, Exists, IsMomentOf};
 ghost use Rattle.user_agent.specs.Dates as spec;
 ghost use Rattle.user_agent.specs.Fields as fields;
+ghost use Rattle.user_agent.specs.StrictDates.{StrictDatesShowTheSame};
 
 use crate::token::{is_delimiter, read_day, read_month, read_time, read_year};
 use jiff::civil::DateTime;
@@ -131,3 +132,9 @@ fn moment_of(year: u16, month: u8, day: u8, time: (u8, u8, u8)) -> Option<DateTi
         Err(_) => None,
     }
 }
+
+/// Each text in one of the strict forms of `cookie_text` shows the date that those forms read, and no other, where it
+/// writes the year with two digits or more and the year is 1601 or later. Any other shows none.
+pub fn strict_dates_show_the_same()
+    ensures { StrictDatesShowTheSame }
+{}

@@ -8,6 +8,7 @@
 pub mod agent;
 mod date_text;
 pub mod dates;
+pub mod integrity;
 mod judging;
 pub mod known_date;
 pub mod rules;
