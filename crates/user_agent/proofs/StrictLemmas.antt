@@ -556,15 +556,19 @@ module _ (text : List ℕ) (time : ℕ × ℕ × ℕ) (day month written : ℕ) 
 pub strict_dates_show_the_same : StrictDatesShowTheSame
 strict_dates_show_the_same text s strict m is =
     let f = strict_found text s strict in record {
-      same = λ low late. (date_of s.year s.month s.day (s.hour, s.minute, s.second), shows f low late, record {
-        year = is.year;
-        month = is.month;
-        day = is.day;
-        hour = is.hour;
-        minute = is.minute;
-        second = is.second;
-        whole = is.whole;
-      });
+      same = λ low late. (
+        date_of s.year s.month s.day (s.hour, s.minute, s.second),
+        shows f low late,
+        record {
+          year = is.year;
+          month = is.month;
+          day = is.day;
+          hour = is.hour;
+          minute = is.minute;
+          second = is.second;
+          whole = is.whole;
+        },
+      );
       alone = λ d shown. alone f d shown;
       none = λ short d shown. refuted f short d shown;
     }
