@@ -1,6 +1,6 @@
 -- Two texts that the host of one request domain-matches domain-match one another: behind a dot of a host that was
 -- parsed stands no text of an address.
-use Rattle.std.proofs.Common.{◌≡◌, ◌≢◌, ◌⊎◌, ℕ, suc, ◌+◌, ◌<◌, ◌^◌, ◌==◌, ◌||◌, Bool, true, false, cond, All, List, []}
+use Rattle.std.proofs.Common.{◌≡◌, ◌⊎◌, ℕ, suc, ◌<◌, ◌==◌, ◌||◌, Bool, true, false, cond, All, List, []}
 use Rattle.std.proofs.Common.{◌∷◌, ◌++◌, length, decimal, Option, Some, None, sym, refl, ap, ◌∙◌, subst, inl, inr}
 use Rattle.std.proofs.Common.{append_assoc, arith}
 use Rattle.std.specs.Prelude.{codes, option_map, IsSomeAnd, MatchOption}
@@ -9,7 +9,7 @@ use Rattle.std.specs.Int.{IsInRange}
 use Rattle.std.specs.List.{list_all, list_any}
 use Rattle.std.specs.Net.Addr.{ipv4_octets, ipv6_segments, segments_of}
 use Rattle.std.specs.Net.Grammar.{IsDotted, IsColonHex, IsGroupsAfter}
-use Rattle.std.specs.Net.Text.{hex_groups_text, ipv4_text}
+use Rattle.std.specs.Net.Text.{hex_groups_text}
 use Rattle.std.proofs.NetLemmas.Alphabet.{IsHexOrColon, All-hex_groups_text}
 use Rattle.std.proofs.NetLemmas.Texts.{IsDotted-ipv4_text}
 use Rattle.std.proofs.lemmas.Bool.{both_ways}

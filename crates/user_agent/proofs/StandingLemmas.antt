@@ -1,9 +1,9 @@
 -- A protected row stands in a header as before, whatever comes from a URL that isn't secure: what a line changes has a
 -- key that lies over no protected row, and a rival that a request is given beside such a row would lie over it.
-use Rattle.std.proofs.Common.{◌≡◌, ◌⊎◌, ℕ, ℤ, ◌<◌, ◌≤◌, suc, zero, List, [], ◌∷◌, ◌++◌, ◌&&◌, Bool, true, false, not}
+use Rattle.std.proofs.Common.{◌≡◌, ◌⊎◌, ℕ, ℤ, ◌<◌, ◌≤◌, List, [], ◌∷◌, ◌++◌, ◌&&◌, Bool, true, false, not}
 use Rattle.std.proofs.Common.{cond, length, append-nil, Option, Some, None, Result, Ok, Err, sym, refl, ap, ◌∙◌, subst}
 use Rattle.std.proofs.Common.{inl, inr, ⊎_elim, arith, IsTrue}
-use Rattle.std.specs.Prelude.{filter, map, nat_le, slice_get}
+use Rattle.std.specs.Prelude.{filter, map, nat_le}
 use Rattle.std.specs.List.{AllByRecursion, find, list_any}
 use Rattle.std.specs.Str.{IsUtf8, bytes_eq}
 use Rattle.std.proofs.lemmas.Bool.{and_parts, both_ways, cases_Bool, cond-true, cond-false, leb-true, le-leb}
@@ -22,12 +22,10 @@ use Rattle.store_parts.specs.PathMatch.{BeginsWithSlash, MeetAtSlash, PathMatche
 use Rattle.store_parts.specs.Schemes.{IsSecure}
 use Rattle.cookie_store.specs.Given.{AreGiven, ArePicked, IsGiven}
 use Rattle.cookie_store.specs.Insertion.{Admits, End, Fits, Inserts, InsertsRead, alone, settled}
-use Rattle.cookie_store.specs.Longest.{AreGivenLongest, AreLongestFirst, LengthsFall, has_length, path_length}
-use Rattle.cookie_store.specs.Making.{IsMade}
+use Rattle.cookie_store.specs.Longest.{AreLongestFirst, LengthsFall, has_length, path_length}
 use Rattle.cookie_store.specs.Rows.{Row, behind_last, domain_text, ended, expired, has_domain_of, has_key_of}
-use Rattle.cookie_store.specs.Rows.{has_place_of, inserted, is_live, is_live_of, put, replaced}
+use Rattle.cookie_store.specs.Rows.{has_place_of, is_live, is_live_of, put, replaced}
 use Rattle.cookie_store.proofs.LongestLemmas.{told_by_lengths}
-use Rattle.cookie_text.specs.Record.{unsliced}
 use Rattle.cookie_run.specs.Accept.{Accepts}
 use Rattle.cookie_run.specs.declared.step.LineEnd.{LineEnd}
 use Rattle.user_agent.specs.Agent.{TakesLine, TakesLines}

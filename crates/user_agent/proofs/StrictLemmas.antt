@@ -1,11 +1,11 @@
 -- The tokens of a date in a strict form, and what is found of them.
-use Rattle.std.proofs.Common.{◌≡◌, ◌⊎◌, ℕ, ◌+◌, ◌-◌, ◌*◌, ◌/◌, ◌%◌, ◌<◌, ◌≤◌, zero, suc, Bool, true, false, not, cond}
-use Rattle.std.proofs.Common.{◌||◌, ◌&&◌, ◌==◌, All, List, [], ◌∷◌, ◌++◌, length, take, drop, map, sym, refl, ap, ◌∙◌}
+use Rattle.std.proofs.Common.{◌≡◌, ◌⊎◌, ℕ, ◌+◌, ◌/◌, ◌%◌, ◌<◌, ◌≤◌, zero, suc, true, false, not}
+use Rattle.std.proofs.Common.{List, [], ◌∷◌, ◌++◌, length, take, drop, map, sym, refl, ap, ◌∙◌}
 use Rattle.std.proofs.Common.{subst, inl, inr, append_assoc, arith, pos}
-use Rattle.std.specs.Prelude.{codes, IsTrue}
+use Rattle.std.specs.Prelude.{codes}
 use Rattle.std.specs.Char.{is_ascii_digit, to_ascii_lowercase}
 use Rattle.std.specs.Int.{IsInRange}
-use Rattle.std.specs.List.{AllByRecursion, list_all, list_any, position_or_len, slice_split}
+use Rattle.std.specs.List.{AllByRecursion, list_all, list_any, position_or_len}
 use Rattle.std.specs.Str.Parse.{digits_value}
 use Rattle.std.proofs.Math.Seq.{drop-length, take-length}
 use Rattle.std.proofs.lemmas.Bool.{and_parts, cases_lt}
@@ -13,9 +13,8 @@ use Rattle.std.proofs.lemmas.Bool.Decides.{nat_tests}
 use Rattle.std.proofs.lemmas.List.Splits.{slice_split_at, slice_split_none}
 use Rattle.url.proofs.HostLemmas.{none_from_list_any}
 use Rattle.httpdate.specs.Text.{day_name, day_name_rest, month_name, two_digits}
-use Rattle.jiff_core.specs.Calendar.{days_in_month}
 use Rattle.jiff_core.proofs.CalendarLemmas.{days_in_month_bounds}
-use Rattle.cookie_text.specs.Date.{IsDateText, IsMoment, IsForm, IsPaddedDay, IsStamp, clock, clock_text}
+use Rattle.cookie_text.specs.Date.{IsDateText, IsForm, IsPaddedDay, IsStamp, clock, clock_text}
 use Rattle.cookie_text.specs.Date.{day_month_year, full_year}
 use Rattle.user_agent.specs.Dates.{BeginsWithNumber, Date, IsDay, IsFirst, IsMonth, IsTime, IsYear, Shows, behind_digits}
 use Rattle.user_agent.specs.Dates.{IsMomentOf, date_tokens, digits_of, is_delimiter}
