@@ -71,7 +71,8 @@ ends_numbered front d hd =
 dotted_numbered : (before text octets : List ℕ) → IsDotted text octets → ends_in_a_number (before ++ 46 ∷ text) ≡ true
 dotted_numbered before text octets h =
     let front = before ++ 46 ∷ (decimal h.a ++ 46 ∷ (decimal h.b ++ 46 ∷ decimal h.c)) in
-    let cut : before ++ 46 ∷ text ≡ front ++ 46 ∷ decimal h.d = ap (λ t. before ++ 46 ∷ t) h.spelled ∙ simp append_assoc in
+    let cut : before ++ 46 ∷ text ≡ front ++ 46 ∷ decimal h.d =
+    ap (λ t. before ++ 46 ∷ t) h.spelled ∙ simp append_assoc in
     ap ends_in_a_number cut ∙ ends_numbered front h.d h.fit.3
 
 -- the text of an IPv6 address holds a colon
@@ -209,4 +210,5 @@ pub covers_nested : (url : Parts) (a b : Domain) → IsValid url → IsSecure ur
 covers_nested url a b valid secure ca cb =
     let (host, at, here) = some_and (Covers a) (host_of url) ca in
     let there : Covers b host = subst (λ o. IsSomeAnd o (Covers b)) at cb in
-    both_nested url host (text_or_empty a) (text_or_empty b) valid secure at (matched host a here) (matched host b there)
+    both_nested url host (text_or_empty a) (text_or_empty b) valid secure at (matched host a here)
+    (matched host b there)

@@ -393,7 +393,8 @@ module _ (test : Row → Bool) where
   filter_all P [] all = tt
   filter_all P (y ∷ ys) all = by (test y) (filter_all P ys all.1)
     where
-      by : (b : Bool) → AllByRecursion P (filter test ys) → AllByRecursion P (cond b (y ∷ filter test ys) (filter test ys))
+      by : (b : Bool) → AllByRecursion P (filter test ys)
+          → AllByRecursion P (cond b (y ∷ filter test ys) (filter test ys))
       by true rest = (all.0, rest)
       by false rest = rest
 
@@ -430,7 +431,8 @@ module _ (test : Row → Bool) where
       ∙ (filter_swap (has_length n) b
       ∙ (ap (filter test) (sym (g.stable n)) ∙ sym (filter_swap (has_length n) y)))))))
 
-filter_same : (f g : Row → Bool) (rows : List Row) → AllByRecursion (λ y. f y ≡ g y) rows → filter f rows ≡ filter g rows
+filter_same : (f g : Row → Bool) (rows : List Row) → AllByRecursion (λ y. f y ≡ g y) rows
+    → filter f rows ≡ filter g rows
 filter_same f g [] all = refl
 filter_same f g (y ∷ ys) all =
     ap (λ b. cond b (y ∷ filter f ys) (filter f ys)) all.0

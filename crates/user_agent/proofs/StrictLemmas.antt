@@ -16,7 +16,8 @@ use Rattle.httpdate.specs.Text.{day_name, day_name_rest, month_name, two_digits}
 use Rattle.jiff_core.proofs.CalendarLemmas.{days_in_month_bounds}
 use Rattle.cookie_text.specs.Date.{IsDateText, IsForm, IsPaddedDay, IsStamp, clock, clock_text}
 use Rattle.cookie_text.specs.Date.{day_month_year, full_year}
-use Rattle.user_agent.specs.Dates.{BeginsWithNumber, Date, IsDay, IsFirst, IsMonth, IsTime, IsYear, Shows, behind_digits}
+use Rattle.user_agent.specs.Dates.{BeginsWithNumber, Date, IsDay, IsFirst, IsMonth, IsTime, IsYear, Shows}
+use Rattle.user_agent.specs.Dates.{behind_digits}
 use Rattle.user_agent.specs.Dates.{IsMomentOf, date_tokens, digits_of, is_delimiter}
 use Rattle.user_agent.specs.Fields.{date_of}
 use Rattle.user_agent.specs.StrictDates.{StrictDatesShowTheSame}
@@ -305,7 +306,8 @@ module _ (w d m t y : List ℕ) (time : ℕ × ℕ × ℕ) (day month written : 
     of_year = λ low. first_more IsYear one_number w _ _ written (no_year w word.bare)
         (first_more IsYear one_number [] _ _ written (no_year [] refl)
         (here_first IsYear one_number y (codes "GMT" ∷ []) written (year_number low)));
-    no_year_there = λ low. (no_year w word.bare, (no_year [] refl, (no_short_year low, (no_year (codes "GMT") refl, tt))));
+    no_year_there = λ low.
+        (no_year w word.bare, (no_year [] refl, (no_short_year low, (no_year (codes "GMT") refl, tt))));
   }
 
   -- `Sun`, `Nov`, `06`, `08:49:37`, `1994`
@@ -473,8 +475,10 @@ module _ (w : List ℕ) (s : _) (year : List ℕ) (word : IsWord w) (stamp : IsS
 
   found_last : (day : List ℕ) → IsPaddedDay day s.day
       → Found (w ++ codes " " ++ month_name s.month ++ codes " " ++ day ++ codes " " ++ clock s ++ codes " " ++ year)
-  found_last day padded = subst Found (sym (nine w (codes " ") (month_name s.month) (codes " ") day (codes " ") (clock s)
-      (codes " ") year)) (by padded)
+  found_last day padded =
+      subst Found
+      (sym (nine w (codes " ") (month_name s.month) (codes " ") day (codes " ") (clock s) (codes " ") year))
+      (by padded)
     where
       Grouped : List ℕ → Type 0
       Grouped d = Found (w ++ 32 ∷ (month_name s.month ++ 32 ∷ (d ++ 32 ∷ (clock s ++ 32 ∷ year))))
@@ -508,13 +512,16 @@ strict_found text s strict = by strict.form
     word = day_is strict.weekday strict.named
 
     Found : List ℕ → Type 0
-    Found x = Leaves (date_tokens x) (s.hour, s.minute, s.second) s.day s.month (digits_value 10 strict.year) strict.year
+    Found x =
+        Leaves (date_tokens x) (s.hour, s.minute, s.second) s.day s.month (digits_value 10 strict.year) strict.year
 
     by : IsForm text strict.weekday s strict.day strict.year → Found text
-    by (inl e) = subst Found (sym e) (found_dated (day_name strict.weekday) s strict.year word strict.exists years few 32
-        is_space)
+    by (inl e) =
+        subst Found (sym e)
+        (found_dated (day_name strict.weekday) s strict.year word strict.exists years few 32 is_space)
     by (inr (inl e)) =
-        subst Found (sym e) (found_dated (day_name strict.weekday) s strict.year word strict.exists years few 45 is_dash)
+        subst Found (sym e)
+        (found_dated (day_name strict.weekday) s strict.year word strict.exists years few 45 is_dash)
     by (inr (inr (inl e))) =
         subst Found (sym e.0)
         (found_dated (day_name strict.weekday ++ day_name_rest strict.weekday) s strict.year
@@ -573,7 +580,8 @@ strict_dates_show_the_same text s strict m is =
     }
   where
     Found : Type 0
-    Found = Leaves (date_tokens text) (s.hour, s.minute, s.second) s.day s.month (digits_value 10 strict.year) strict.year
+    Found =
+        Leaves (date_tokens text) (s.hour, s.minute, s.second) s.day s.month (digits_value 10 strict.year) strict.year
 
     shows : Found → 2 ≤ length strict.year → 1601 ≤ s.year
         → Shows text (date_of s.year s.month s.day (s.hour, s.minute, s.second))
@@ -601,16 +609,16 @@ strict_dates_show_the_same text s strict m is =
     year_is f d shown = by (cases_lt (length strict.year) 2)
       where
         by : (length strict.year < 2) ⊎ (2 ≤ length strict.year) → d.year ≡ s.year
-        by (inl short) = absurd (no_short text (s.hour, s.minute, s.second) s.day s.month (digits_value 10 strict.year) strict.year f d shown short)
+        by (inl short) = absurd (no_short text _ _ _ _ _ f d shown short)
         by (inr low) =
-            sym shown.full ∙ (ap full_year (same_year text (s.hour, s.minute, s.second) s.day s.month (digits_value 10 strict.year) strict.year f d shown low)
+            sym shown.full ∙ (ap full_year (same_year text _ _ _ _ _ f d shown low)
             ∙ strict.dated.value)
 
     alone : Found → (d : Date) → Shows text d → IsMomentOf d m
     alone f d shown =
-        let time = (same_time text (s.hour, s.minute, s.second) s.day s.month (digits_value 10 strict.year) strict.year f d shown).0 in
-        let day = (same_day text (s.hour, s.minute, s.second) s.day s.month (digits_value 10 strict.year) strict.year f d shown).0 in
-        let month = (same_month text (s.hour, s.minute, s.second) s.day s.month (digits_value 10 strict.year) strict.year f d shown).0 in
+        let time = (same_time text _ _ _ _ _ f d shown).0 in
+        let day = (same_day text _ _ _ _ _ f d shown).0 in
+        let month = (same_month text _ _ _ _ _ f d shown).0 in
         record {
           year = is.year ∙ ap pos (sym (year_is f d shown));
           month = is.month ∙ sym month;
@@ -622,6 +630,6 @@ strict_dates_show_the_same text s strict m is =
         }
 
     refuted : Found → (length strict.year < 2) ⊎ (s.year < 1601) → (d : Date) → ¬ (Shows text d)
-    refuted f (inl short) d shown = no_short text (s.hour, s.minute, s.second) s.day s.month (digits_value 10 strict.year) strict.year f d shown short
+    refuted f (inl short) d shown = no_short text _ _ _ _ _ f d shown short
     refuted f (inr early) d shown =
         let year = year_is f d shown in let late = shown.late in omega (arith, year, late, early)
