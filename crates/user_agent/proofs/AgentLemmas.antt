@@ -1,6 +1,6 @@
 -- What a user agent does with lines one after another.
-use Rattle.std.proofs.Common.{◌≡◌, ◌⊎◌, ℕ, ℤ, ◌+◌, ◌<◌, List, [], ◌∷◌, ◌++◌, length, take, get_or, sym, refl, ap, ◌∙◌}
-use Rattle.std.proofs.Common.{subst, inl, inr, true, false, Result, Ok, Err, zero, suc, arith}
+use Rattle.std.proofs.Common.{◌≡◌, ℕ, ℤ, ◌+◌, ◌<◌, List, [], ◌∷◌, ◌++◌, length, take, get_or, sym, refl, ap, ◌∙◌}
+use Rattle.std.proofs.Common.{subst, inl, inr, Result, Ok, Err, zero, suc, arith}
 use Rattle.std.specs.Prelude.{map, IfOk, IsTrue}
 use Rattle.std.specs.Str.{IsUtf8}
 use Rattle.std.proofs.lemmas.List.{take_more, take-map, map-append, length-map}
@@ -9,8 +9,8 @@ use Rattle.url.specs.Parts.{Parts}
 use Rattle.cookie_store.specs.Rows.{Row}
 use Rattle.cookie_run.specs.Accept.{Accepts, AcceptsAll, IsStopped as ClientStopped}
 use Rattle.cookie_run.specs.declared.step.LineEnd.{LineEnd}
-use Rattle.user_agent.specs.Agent.{IsHandedOn, NoRulesAreTheClient, StopsAtLine, TakesHanded, TakesLine}
-use Rattle.user_agent.specs.Agent.{TakesLines}
+use Rattle.user_agent.specs.Agent.{IsHandedOn, IsHandedText, NoRulesAreTheClient, StopsAtLine, TakesHanded}
+use Rattle.user_agent.specs.Agent.{TakesLine, TakesLines}
 use Rattle.user_agent.specs.Refusals.{IsStoppedByControl, is_on, no_rules}
 use Rattle.user_agent.specs.declared.rules.Outcome.{Outcome}
 use Rattle.user_agent.specs.declared.rules.Outcome.TheVariants.{Taken}
@@ -92,14 +92,23 @@ not_taken list rows new url now line n (inr s) = go s.before s.within s.taken.0 
     go zero within ends h = h.1
     go (suc i) within ends h = absurd (omega (arith, within))
 
--- a line that is handed on as it stands
+-- a line that is no text is handed on as it stands
 pub handed_as_is : {E : Type 0} (r : Result Outcome E) (rules : Rules) (list : List Rule) (rows new : List Row)
     (url : Parts) (now : ℤ) (line : List ℕ) → ¬ (IsStoppedByControl rules line)
-    → ¬ ((rules.dates ≡ true) × IsUtf8 line)
+    → ¬ (IsUtf8 line)
     → IfOk r (λ outcome. TakesHanded rules list rows url now line outcome new)
     → IfOk r (λ outcome. TakesLine rules list rows url now line outcome new)
-handed_as_is (Ok outcome) rules list rows new url now line free stays h = inr (free, (line, inr (stays, refl), h))
-handed_as_is (Err e) rules list rows new url now line free stays h = tt
+handed_as_is (Ok outcome) rules list rows new url now line free none h = inr (free, (line, inr (none, refl), h))
+handed_as_is (Err e) rules list rows new url now line free none h = tt
+
+-- a text is handed on step by step
+pub handed_so : {E : Type 0} (r : Result Outcome E) (rules : Rules) (list : List Rule) (rows new : List Row)
+    (url : Parts) (now : ℤ) (line handed : List ℕ) → ¬ (IsStoppedByControl rules line) → IsUtf8 line
+    → IsHandedText rules now line handed → IfOk r (λ outcome. TakesHanded rules list rows url now handed outcome new)
+    → IfOk r (λ outcome. TakesLine rules list rows url now line outcome new)
+handed_so (Ok outcome) rules list rows new url now line handed free text steps h =
+    inr (free, (handed, inl (text, steps), h))
+handed_so (Err e) rules list rows new url now line handed free text steps h = tt
 
 -- ---- without rules
 
@@ -120,9 +129,9 @@ no_line list rows new url now line outcome (inr (free, (handed, is_handed, inl (
 no_line list rows new url now line outcome (inr (free, (handed, is_handed, inr (let_in, (end, accepts, is))))) =
     (end, is, subst (λ l. Accepts list rows url now l end new) (same is_handed) accepts)
   where
-    same : IsHandedOn no_rules line handed → handed ≡ line
-    same (inl (dates, text, known)) = absurd (cc dates)
-    same (inr (h, e)) = e
+    same : IsHandedOn no_rules now line handed → handed ≡ line
+    same (inl (text, h)) = h.cut ∙ h.dated ∙ h.shortened
+    same (inr (none, e)) = e
 
 pub without_rules : NoRulesAreTheClient
 without_rules list rows url now [] outcomes new h = ([], h.0, (refl, h.1))

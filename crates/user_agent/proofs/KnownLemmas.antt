@@ -1,6 +1,6 @@
 -- What a line with its dates known reads as.
-use Rattle.std.proofs.Common.{◌≡◌, ◌≢◌, ◌⊎◌, ◌≤ℤ◌, ◌≤◌, ◌<◌, ℕ, List, [], ◌∷◌, ◌++◌, length, ◌==◌, Bool, false, Option}
-use Rattle.std.proofs.Common.{Some, None, Result, Ok, Err, refl, sym, ap, subst, ◌∙◌, inl, inr, arith, rules, ⊎_elim}
+use Rattle.std.proofs.Common.{◌≡◌, ◌≢◌, ◌≤ℤ◌, ◌≤◌, ◌<◌, ℕ, List, [], ◌∷◌, ◌++◌, length, ◌==◌, Bool, false, Option}
+use Rattle.std.proofs.Common.{Some, None, Result, Ok, Err, refl, sym, ap, subst, ◌∙◌, inl, inr, arith, ⊎_elim}
 use Rattle.std.proofs.Common.{codes, pos, append_assoc, get_or, IsSome, lit<}
 use Rattle.std.specs.Prelude.{MatchOption}
 use Rattle.std.specs.Str.{trim, trim_start, trim_end, chars}
@@ -30,7 +30,7 @@ use Rattle.cookie_text.specs.Pieces.{semicolon, pieces, name_of}
 use Rattle.cookie_text.specs.Reading.{HasAttributes, HasLast, IsLast, GivesFlag, GivesSite, GivesAge, GivesPath}
 use Rattle.cookie_text.specs.Reading.{GivesDomain, GivesEnd, HasRest, IsPair, ReadsPlain, ReadsWith, first_piece}
 use Rattle.cookie_text.specs.ReadingBack.{Pairwise}
-use Rattle.cookie_text.specs.Record.{Record, Seen}
+use Rattle.cookie_text.specs.Record.{Seen}
 use Rattle.user_agent.specs.Dates.{Date, IsMomentOf, Shows}
 use Rattle.user_agent.specs.KnownDates.{HasLooseDate, IsKnown, IsKnownLine, GivesKnownEnd, ReadsKnown, dated_piece}
 use Rattle.user_agent.specs.KnownDates.{joined_behind, HasEnd, IsExpires, KnownLinesRead, PutsKnown}
@@ -329,31 +329,32 @@ one_end piece (Some e) h =
     let (d, g, at) = subst (λ p. GivesEnd p e) (in_one piece h.before h.piece h.after h.split) h.given in
     (λ some. (d, g), λ any. refl)
 
-pub strict_of : (piece text : List ℕ) (r : Result Seen ParseError) → IsClean piece → text ≡ codes "a=;" ++ piece
-    → ReadsPlain text r
-    → (HasEnd r → (d : DateTime) × Gives piece (Expires d)) × (((d : DateTime) × Gives piece (Expires d)) → HasEnd r)
-strict_of piece text r clean is reads = by r reads
-  where
-    pair_clean : IsClean (codes "a=")
-    pair_clean =
-        All-cons (λ b. (b == semicolon) ≡ false) 97 (61 ∷ []) refl
-        (All-cons (λ b. (b == semicolon) ≡ false) 61 [] refl (All-nil (λ b. (b == semicolon) ≡ false)))
+module _ (piece text : List ℕ) (clean : IsClean piece) (is : text ≡ codes "a=;" ++ piece) where
+  pair_clean : IsClean (codes "a=")
+  pair_clean =
+      All-cons (λ b. (b == semicolon) ≡ false) 97 (61 ∷ []) refl
+      (All-cons (λ b. (b == semicolon) ≡ false) 61 [] refl (All-nil (λ b. (b == semicolon) ≡ false)))
 
-    cut : pieces text ≡ codes "a=" ∷ piece ∷ []
-    cut =
-        ap pieces (is ∙ ap (λ t. codes "a=;" ++ t) (sym (append-nil piece)))
-        ∙ pieces-joined (codes "a=") (piece ∷ []) pair_clean (clean, tt)
+  cut : pieces text ≡ codes "a=" ∷ piece ∷ []
+  cut =
+      ap pieces (is ∙ ap (λ t. codes "a=;" ++ t) (sym (append-nil piece)))
+      ∙ pieces-joined (codes "a=") (piece ∷ []) pair_clean (clean, tt)
 
-    first : first_piece text ≡ codes "a="
-    first = first_is text (codes "a=") (piece ∷ []) cut
+  -- it reads, and has the attributes of the piece alone
+  pub lone_reads : (e : ParseError) → ¬ (ReadsPlain text (Err e))
+  lone_reads e h =
+      both_ways false refl (h.accepted.1 (subst IsPair (sym (first_is text (codes "a=") (piece ∷ []) cut)) the_pair))
 
-    by : (q : Result Seen ParseError) → ReadsPlain text q
-        → (HasEnd q → (d : DateTime) × Gives piece (Expires d)) × (((d : DateTime) × Gives piece (Expires d)) → HasEnd q)
-    by (Ok s) h =
-        let (rest, parts, attributes) = h.attributes in
-        let same : rest ≡ piece ∷ [] = tails _ _ _ _ (sym parts ∙ cut) in
-        one_end piece s.cookie.expires (subst (λ ps. HasLast GivesEnd ps s.cookie.expires) same attributes.expires)
-    by (Err e) h = absurd (both_ways false refl (h.accepted.1 (subst IsPair (sym first) the_pair)))
+  pub lone_piece : (s : Seen) → ReadsPlain text (Ok s) → HasAttributes (piece ∷ []) s.cookie
+  lone_piece s h =
+      let (rest, parts, attributes) = h.attributes in
+      let same : rest ≡ piece ∷ [] = tails _ _ _ _ (sym parts ∙ cut) in
+      subst (λ ps. HasAttributes ps s.cookie) same attributes
+
+  pub strict_of : (r : Result Seen ParseError) → ReadsPlain text r
+      → (HasEnd r → (d : DateTime) × Gives piece (Expires d)) × (((d : DateTime) × Gives piece (Expires d)) → HasEnd r)
+  strict_of (Ok s) h = one_end piece s.cookie.expires (lone_piece s h).expires
+  strict_of (Err e) h = absurd (lone_reads e h)
 
 -- ---- a piece that is an Expires
 

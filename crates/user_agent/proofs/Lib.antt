@@ -1,12 +1,15 @@
 mod AgentLemmas
+mod CutLemmas
 mod DatedLemmas
 mod FindingLemmas
 mod IntegrityLemmas
 mod JudgingLemmas
 mod KnownLemmas
+mod LongLemmas
 mod MatchLemmas
 mod NestedLemmas
 mod PieceLemmas
+mod RelateLemmas
 mod StandingLemmas
 mod StrictLemmas
 mod TokenLemmas

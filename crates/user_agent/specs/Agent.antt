@@ -1,12 +1,14 @@
 -- What a user agent does with the lines of an answer: those that no rule refuses go to its client, one after another.
-use Rattle.std.specs.Prelude.{◌≡◌, ◌⊎◌, ◌+◌, ◌<◌, ℕ, ℤ, List, [], ◌∷◌, length, map, take, true}
+use Rattle.std.specs.Prelude.{◌≡◌, ◌⊎◌, ◌+◌, ◌<◌, ℕ, ℤ, Bool, true, false, List, [], ◌∷◌, length, map, take}
 use Rattle.std.specs.Str.{IsUtf8}
 use Rattle.publicsuffix.specs.Rules.{Rule}
 use Rattle.url.specs.Parts.{Parts}
 use Rattle.cookie_store.specs.Rows.{Row, Store}
 use Rattle.cookie_run.specs.Accept.{Accepts, AcceptsAll}
 use Rattle.cookie_run.specs.declared.step.LineEnd.{LineEnd}
+use Rattle.user_agent.specs.CutLives.{IsCutLine}
 use Rattle.user_agent.specs.KnownDates.{IsKnownLine}
+use Rattle.user_agent.specs.LongAttributes.{IsShortLine}
 use Rattle.user_agent.specs.Refusals.{IsLetIn, IsRefusedBy, IsStoppedByControl, no_rules}
 use Rattle.user_agent.specs.declared.rules.Outcome.{Outcome}
 use Rattle.user_agent.specs.declared.rules.Outcome.TheVariants.{Taken, Refused}
@@ -19,11 +21,24 @@ pub record Agent : Type 0 where
   pub store : Store
   pub rules : Rules
 
--- the line as the client gets it: a text with its dates known, where these are on; any other as it stands
-abbrev pub IsHandedOn : Rules → List ℕ → List ℕ → Type 0
-IsHandedOn rules line handed =
-    ((rules.dates ≡ true) × IsUtf8 line × IsKnownLine line handed)
-    ⊎ ((¬ ((rules.dates ≡ true) × IsUtf8 line)) × (handed ≡ line))
+-- a step on a line, where its rule is on; else the line stays
+abbrev pub IsDoneIf : Bool → (List ℕ → List ℕ → Type 0) → List ℕ → List ℕ → Type 0
+IsDoneIf true Step line new = Step line new
+IsDoneIf false Step line new = new ≡ line
+
+-- the text as the client gets it, step by step where their rules are on, in the draft's order: without its long
+-- attributes, with its dates known, with its life cut
+pub record IsHandedText (rules : Rules) (now : ℤ) (line handed : List ℕ) : Type 0 where
+  pub short : List ℕ
+  pub known : List ℕ
+  pub shortened : IsDoneIf rules.long_attributes IsShortLine line short
+  pub dated : IsDoneIf rules.dates IsKnownLine short known
+  pub cut : IsDoneIf rules.long_lives (IsCutLine now) known handed
+
+-- the line as the client gets it: a text so, any other as it stands
+abbrev pub IsHandedOn : Rules → ℤ → List ℕ → List ℕ → Type 0
+IsHandedOn rules now line handed =
+    (IsUtf8 line × IsHandedText rules now line handed) ⊎ ((¬ (IsUtf8 line)) × (handed ≡ line))
 
 -- what becomes of a line that is handed on, and the rows after it: the first rule that refuses it changes nothing;
 -- where none does, the client gets it
@@ -37,7 +52,7 @@ TakesHanded rules list rows url now handed outcome new =
 abbrev pub TakesLine : Rules → List Rule → List Row → Parts → ℤ → List ℕ → Outcome → List Row → Type 0
 TakesLine rules list rows url now line outcome new =
     (IsStoppedByControl rules line × (outcome ≡ Refused Control) × (new ≡ rows))
-    ⊎ ((¬ (IsStoppedByControl rules line)) × ((handed : List ℕ) × IsHandedOn rules line handed
+    ⊎ ((¬ (IsStoppedByControl rules line)) × ((handed : List ℕ) × IsHandedOn rules now line handed
     × TakesHanded rules list rows url now handed outcome new))
 
 -- what becomes of each of the lines, and the rows after them

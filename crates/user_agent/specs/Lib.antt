@@ -1,7 +1,9 @@
 pub mod Agent
+pub mod CutLives
 pub mod Dates
 pub mod Fields
 pub mod Integrity
 pub mod KnownDates
+pub mod LongAttributes
 pub mod Refusals
 pub mod StrictDates

@@ -1,7 +1,7 @@
 -- The rules of user agents beyond the store (the draft that follows RFC 6265, sections 5.6 and 5.7), in their order,
 -- and which lines each refuses.
 use Rattle.std.specs.Prelude.{◌≡◌, ◌⊎◌, ◌+◌, ◌<◌, ◌==◌, ◌&&◌, ◌||◌, ◌++◌, ◌∷◌, [], ℕ, ℤ, Bool, true, false, not, nat_lt}
-use Rattle.std.specs.Prelude.{List, codes, length, map, Option, Some, None, option_and_then, IsSomeAnd, IsTrue, Ok}
+use Rattle.std.specs.Prelude.{List, codes, length, map, Option, Some, option_and_then, IsSomeAnd, IsTrue, Ok}
 use Rattle.std.specs.Char.{to_ascii_lowercase}
 use Rattle.std.specs.List.{list_any}
 use Rattle.std.specs.Str.{IsUtf8}
@@ -115,7 +115,9 @@ is_on rules SecureOverlay = rules.secure_overlay
 
 abbrev pub all_rules : Rules
 all_rules = record {
+  long_attributes = true;
   dates = true;
+  long_lives = true;
   control = true;
   too_long = true;
   secure_prefix = true;
@@ -126,7 +128,9 @@ all_rules = record {
 
 abbrev pub no_rules : Rules
 no_rules = record {
+  long_attributes = false;
   dates = false;
+  long_lives = false;
   control = false;
   too_long = false;
   secure_prefix = false;

@@ -18,10 +18,15 @@ ghost use Rattle.cookie_run.specs.HostPrefix.{AreHeldRightly, IsHeldRightly};
 ghost use Rattle.cookie_run.specs.Keeping.{HaveReadPairs, Keeps};
 ghost use Rattle.cookie_run.specs.KeptKeys.{KeepsKeys};
 ghost use Rattle.user_agent.specs.Agent as spec;
+ghost use Rattle.user_agent.specs.CutLives.{IsCutLine};
 ghost use Rattle.user_agent.specs.Integrity.{ProtectedRowsStay};
+ghost use Rattle.user_agent.specs.KnownDates.{IsKnownLine};
+ghost use Rattle.user_agent.specs.LongAttributes.{IsShortLine};
 
+use crate::cut_life::with_cut_life;
 use crate::judging::{has_control, refusal};
 use crate::known_date::with_known_date;
+use crate::long_attributes::without_long_attributes;
 use crate::rules::{Outcome, Refusal, Rules};
 use cookie_run::{Client, LineEnd, Stopped};
 use cookie_store::{Error, Sink, Source};
@@ -86,8 +91,8 @@ impl UserAgent {
     /// each.
     ///
     /// A line is refused by the first rule that is on and refuses it, which looks at the rows as the lines before it
-    /// left them, and changes nothing then. Any other goes to the client, as `Client::receive` says, with its dates
-    /// known where that rule is on.
+    /// left them, and changes nothing then. Any other goes to the client, as `Client::receive` says: where these rules
+    /// are on, without its long attributes, its dates known and its life cut.
     ///
     /// # Errors
     ///
@@ -235,19 +240,67 @@ fn take_line(
     if rules.control && has_control(line) {
         return Ok(Outcome::Refused(Refusal::Control));
     }
-    if !rules.dates {
-        return take_handed(client, rules, url, line, now);
-    }
     match str::from_utf8(line) {
         Ok(text) => {
-            let known = with_known_date(client.alloc(), text)?;
-            take_handed(client, rules, url, known.as_bytes(), now)
+            let handed = handed_text(client.alloc(), rules, text, now)?;
+            take_handed(client, rules, url, handed.as_bytes(), now)
         }
         Err(_) => take_handed(client, rules, url, line, now),
     }
 }
 
-// Takes a line, its dates known where these are on, that no control character stops.
+// The text as the client gets it.
+fn handed_text(
+    alloc: Global,
+    rules: &Rules,
+    line: &str,
+    now: DateTime,
+) -> Result<String, AllocError>
+    ensures { IfOk result (λ handed.
+        spec.IsHandedText rules.now (civil_nanos now) line.now (string_bytes handed)) }
+{
+    let short = shortened(alloc, rules, line)?;
+    let known = dated(alloc, rules, short)?;
+    cut(alloc, rules, known, now)
+}
+
+// The line without its long attributes, where that rule is on.
+fn shortened(alloc: Global, rules: &Rules, line: &str) -> Result<String, AllocError>
+    ensures { IfOk result (λ short.
+        spec.IsDoneIf rules.now.long_attributes IsShortLine line.now (string_bytes short)) }
+{
+    if rules.long_attributes {
+        without_long_attributes(alloc, line)
+    } else {
+        Ok(String::from_str(alloc, line)?)
+    }
+}
+
+// The line with its dates known, where that rule is on.
+fn dated(alloc: Global, rules: &Rules, line: String) -> Result<String, AllocError>
+    ensures { IfOk result (λ known.
+        spec.IsDoneIf rules.now.dates IsKnownLine (string_bytes line) (string_bytes known)) }
+{
+    if rules.dates {
+        with_known_date(alloc, line.as_str())
+    } else {
+        Ok(line)
+    }
+}
+
+// The line with its life cut, where that rule is on.
+fn cut(alloc: Global, rules: &Rules, line: String, now: DateTime) -> Result<String, AllocError>
+    ensures { IfOk result (λ cut.
+        spec.IsDoneIf rules.now.long_lives (IsCutLine (civil_nanos now)) (string_bytes line) (string_bytes cut)) }
+{
+    if rules.long_lives {
+        with_cut_life(alloc, line.as_str(), now)
+    } else {
+        Ok(line)
+    }
+}
+
+// Takes a line as the client gets it, that no control character stops.
 fn take_handed(
     client: &mut Client,
     rules: &Rules,

@@ -64,8 +64,8 @@ fn push_known(alloc: Global, known: &mut String, piece: &str) -> Result<(), Allo
     Ok(())
 }
 
-// The piece ` Expires=` with this moment in the first of the strict forms.
-fn dated_piece(alloc: Global, moment: DateTime) -> Result<String, AllocError>
+/// The piece ` Expires=` with this moment in the first of the strict forms.
+pub(crate) fn dated_piece(alloc: Global, moment: DateTime) -> Result<String, AllocError>
     ensures { IfOk result (λ piece. string_bytes piece ≡ spec.dated_piece moment) }
 {
     let date = DateText(moment);

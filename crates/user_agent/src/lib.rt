@@ -6,14 +6,18 @@
 #![tactic(auto)]
 
 pub mod agent;
+pub mod cut_life;
 mod date_text;
 pub mod dates;
 pub mod integrity;
 mod judging;
 pub mod known_date;
+pub mod long_attributes;
 pub mod rules;
 mod token;
 
 pub use agent::UserAgent;
+pub use cut_life::with_cut_life;
 pub use known_date::with_known_date;
+pub use long_attributes::without_long_attributes;
 pub use rules::{Outcome, Refusal, Rules};

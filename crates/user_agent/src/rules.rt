@@ -28,8 +28,12 @@ pub enum Refusal {
 /// Which rules are on.
 #[derive(Clone, Copy, Debug, PartialEq, Eq)]
 pub struct Rules {
+    /// Attributes whose value has over 1,024 bytes are passed over (section 5.6, step 6 for an attribute).
+    pub long_attributes: bool,
     /// Dates are read as user agents read them (RFC 6265, section 5.1.1).
     pub dates: bool,
+    /// Lives of over 400 days are cut at that (sections 5.5, 5.6.1 and 5.6.2).
+    pub long_lives: bool,
     pub control: bool,
     pub too_long: bool,
     pub secure_prefix: bool,
@@ -44,7 +48,9 @@ impl Rules {
         ensures { result ≡ spec.all_rules }
     {
         Rules {
+            long_attributes: true,
             dates: true,
+            long_lives: true,
             control: true,
             too_long: true,
             secure_prefix: true,
@@ -59,7 +65,9 @@ impl Rules {
         ensures { result ≡ spec.no_rules }
     {
         Rules {
+            long_attributes: false,
             dates: false,
+            long_lives: false,
             control: false,
             too_long: false,
             secure_prefix: false,

@@ -10,7 +10,7 @@ pub returns-in-Err-clause-ok : goal.returns-in-Err-clause-ok
 returns-in-Err-clause-ok c =
     handed_as_is c.take_handed-in-Err.result c.args.rules.now c.args.client.now.suffixes c.args.client.now.rows
     c.take_handed-in-Err.new.client.rows c.args.url.now (civil_nanos c.args.now) c.args.line.now free
-    (λ h. c.in-Err.ensures.cases.0 h.1) c.take_handed-in-Err.ensures.ok
+    c.in-Err.ensures.cases.0 c.take_handed-in-Err.ensures.ok
   where
     free : ¬ (IsStoppedByControl c.args.rules.now c.args.line.now)
     free stopped = elim c.else-rules.branch [

@@ -1,0 +1,24 @@
+use Rattle.std.proofs.Common.{◌∙◌, ◌++◌, ap, lit<, string_bytes, subst, sym}
+use Rattle.std.proofs.lemmas.Str.Pattern.{split_once_first}
+use Rattle.user_agent.specs.LongAttributes.{IsShortLine, PutsShort}
+use Rattle.user_agent.proofs.LongLemmas.{short_line_of, short_line_alone}
+use Rattle.user_agent.proofs.long_attributes.without_long_attributes.Goals as goal
+
+pub returns-in_ok-push_short_pieces-in-Some : goal.returns-in_ok-push_short_pieces-in-Some
+returns-in_ok-push_short_pieces-in-Some c =
+    let cut = rw c.in-Some.is at (split_once_first 59 c.args.line.now c.split_once.result c.split_once.ensures.cases
+    (lit< tt)) in
+    let begun = c.in_ok-push_str-in-Some.ensures.bytes
+    ∙ ap (λ t. t ++ c.in-Some.first.now) c.in_ok-short.ensures.bytes in
+    short_line_of c.args.line.now c.in-Some.first.now c.in-Some.rest.now (string_bytes c.push_short_pieces.new.short)
+    cut.0 cut.1 cut.2
+    (subst (λ t. PutsShort c.in-Some.rest.now t (string_bytes c.push_short_pieces.new.short)) begun
+    c.in_ok-push_short_pieces-in-Some.ensures)
+
+pub returns-in_ok-push_str-in-None : goal.returns-in_ok-push_str-in-None
+returns-in_ok-push_str-in-None c =
+    let cut = rw c.in-None.is at (split_once_first 59 c.args.line.now c.split_once.result c.split_once.ensures.cases
+    (lit< tt)) in
+    let whole = c.in_ok-push_str-in-None.ensures.bytes
+    ∙ ap (λ t. t ++ c.args.line.now) c.in_ok-short.ensures.bytes in
+    subst (IsShortLine c.args.line.now) (sym whole) (short_line_alone c.args.line.now cut)
