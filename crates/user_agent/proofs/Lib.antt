@@ -10,6 +10,7 @@ mod MatchLemmas
 mod NestedLemmas
 mod PieceLemmas
 mod RelateLemmas
+mod SessionLemmas
 mod StandingLemmas
 mod StrictLemmas
 mod TokenLemmas

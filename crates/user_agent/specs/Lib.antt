@@ -6,4 +6,5 @@ pub mod Integrity
 pub mod KnownDates
 pub mod LongAttributes
 pub mod Refusals
+pub mod SessionLines
 pub mod StrictDates

@@ -12,6 +12,7 @@ pub mod dates;
 pub mod integrity;
 mod judging;
 pub mod known_date;
+pub mod laws;
 pub mod long_attributes;
 pub mod rules;
 mod token;

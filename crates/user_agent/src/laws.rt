@@ -1,0 +1,12 @@
+//! Laws of sessions behind a user agent. Each function changes nothing: its contract is the law.
+ghost use Rattle.user_agent.specs.SessionLines as spec;
+
+/// The line of a session's cookie from an https URL is refused by no rule, whatever rows there are, and the client gets
+/// it as it stands: where its name and value, escaped as the line has them, have at most 4,096 bytes together, and
+/// it lives 400 days at most from then on, each as far as its rule is on.
+///
+/// So an answer of a session, each cookie of its delta within these bounds, is taken exactly as by the client.
+pub fn sessions_pass()
+    ensures lines { spec.SentLinesPass }
+    ensures answers { spec.SessionsAreTaken }
+{}
