@@ -1,0 +1,5 @@
+pub mod Heads
+pub mod Lines
+pub mod Read
+pub mod Steps
+pub mod Visits

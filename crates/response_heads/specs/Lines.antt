@@ -1,0 +1,103 @@
+-- The lines of a head: a status line (RFC 9112, section 4) and field lines (section 5).
+use Rattle.std.specs.Prelude.{◌≡◌, ◌==◌, ◌||◌, ◌&&◌, ◌++◌, ◌-◌, ℕ, Bool, true, false, not, List, [], ◌∷◌, length, drop}
+use Rattle.std.specs.Prelude.{slice_index, Option, Some, None, codes, if◌then◌else◌}
+use Rattle.std.specs.Char.{is_ascii_alphanumeric, is_ascii_digit}
+use Rattle.std.specs.List.{after_first, before_first, list_all, list_any, slice_split, starts_with}
+use Rattle.std.specs.Str.Parse.{digits_value}
+use Rattle.response_heads.specs.declared.error.LineFault.{LineFault}
+use Rattle.response_heads.specs.declared.error.LineFault.TheVariants.{Folded, NoColon, Name, Control}
+
+-- ---- status lines
+
+-- `HTTP/`
+abbrev pub mark : List ℕ
+mark = codes "HTTP/"
+
+-- Where no head has begun, such a line begins one, and any other is passed over.
+abbrev pub begins_head : List ℕ → Bool
+begins_head line = starts_with ◌==◌ line mark
+
+-- a digit, or two with a full stop between them
+abbrev pub is_number_of_version : List ℕ → Bool
+is_number_of_version (d ∷ []) = is_ascii_digit d
+is_number_of_version (d ∷ stop ∷ e ∷ []) = is_ascii_digit d && (stop == 46 && is_ascii_digit e)
+is_number_of_version other = false
+
+-- `HTTP/1.1`, and as curl prints it `HTTP/2`
+abbrev pub is_version : List ℕ → Bool
+is_version word = starts_with ◌==◌ word mark && is_number_of_version (drop 5 word)
+
+-- the number of three digits
+abbrev pub code_in : List ℕ → Option ℕ
+code_in (a ∷ b ∷ c ∷ []) =
+    if is_ascii_digit a && (is_ascii_digit b && is_ascii_digit c) then Some (digits_value 10 (a ∷ b ∷ c ∷ [])) else None
+code_in other = None
+
+-- what single spaces part
+unfoldable pub words : List ℕ → List (List ℕ)
+words line = slice_split (λ b. b == 32) line
+
+-- The first word is a version, the second the status; a reason may follow.
+abbrev pub status_in : List (List ℕ) → Option ℕ
+status_in (version ∷ code ∷ reason) = if is_version version then code_in code else None
+status_in other = None
+
+-- the status of a status line, nothing for any other line
+unfoldable pub status_of : List ℕ → Option ℕ
+status_of line = status_in (words line)
+
+-- ---- field lines
+
+-- a field: its name as it stands, and its value, which may be any bytes
+pub record FieldText : Type 0 where
+  pub name : List ℕ
+  pub value : List ℕ
+
+-- `b':'`
+abbrev pub is_colon : ℕ → Bool
+is_colon b = b == 58
+
+-- a space or a tab (OWS: RFC 9110, section 5.6.3)
+abbrev pub is_white : ℕ → Bool
+is_white b = b == 32 || b == 9
+
+-- a carriage return or a zero byte, which no value may hold (RFC 9110, section 5.5)
+abbrev pub is_control : ℕ → Bool
+is_control b = b == 13 || b == 0
+
+-- a byte of a token (RFC 9110, section 5.6.2)
+abbrev pub is_token_byte : ℕ → Bool
+is_token_byte b = is_ascii_alphanumeric b || list_any (λ c. c == b) (codes "!#$%&'*+-.^_`|~")
+
+abbrev pub is_token : List ℕ → Bool
+is_token text = not (length text == 0) && list_all is_token_byte text
+
+-- The first fault of a field line, in this order: it begins with white space, and so goes on with the field before
+-- (RFC 9112, section 5.2); no colon; what stands before the first colon is no token, as where white space ends it
+-- (section 5.1); a carriage return or a zero byte.
+unfoldable pub fault_of : List ℕ → Option LineFault
+fault_of line =
+    if is_white (slice_index line 0) then Some Folded
+    else if not (list_any is_colon line) then Some NoColon
+    else if not (is_token (before_first is_colon line)) then Some Name
+    else if list_any is_control line then Some Control
+    else None
+
+abbrev pub AllWhite : List ℕ → Type 0
+AllWhite text = list_all is_white text ≡ true
+
+-- the value is the text without the spaces and tabs at both its ends
+pub record IsTrimmed (text value : List ℕ) : Type 0 where
+  pub before : List ℕ
+  pub after : List ℕ
+  pub split : text ≡ before ++ (value ++ after)
+  pub white_before : AllWhite before
+  pub white_after : AllWhite after
+  pub begins : is_white (slice_index value 0) ≡ false
+  pub ends : is_white (slice_index value (length value - 1)) ≡ false
+
+-- The line has no fault and gives this field: the name stands before the first colon, the value behind it.
+pub record IsField (line : List ℕ) (field : FieldText) : Type 0 where
+  pub fine : fault_of line ≡ None
+  pub name : field.name ≡ before_first is_colon line
+  pub value : IsTrimmed (after_first is_colon line) field.value

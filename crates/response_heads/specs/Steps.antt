@@ -1,0 +1,70 @@
+-- What private functions answer. No public contract names a word of this file.
+use Rattle.std.specs.Prelude.{◌≡◌, ◌≢◌, ◌⊎◌, ◌+◌, ◌++◌, ◌-◌, ℕ, false, List, [], ◌∷◌, Some, length, slice_index}
+use Rattle.std.specs.Str.Lines.{lines}
+use Rattle.response_heads.specs.Heads.{AreFields}
+use Rattle.response_heads.specs.Lines.{AllWhite, FieldText, fault_of, is_white}
+use Rattle.url.specs.Parts.{Parts}
+use Rattle.response_heads.specs.Visits.{LeadsNowhere, LeadsTo, VisitText}
+use Rattle.response_heads.specs.declared.error.LineFault.{LineFault}
+use Rattle.response_heads.specs.declared.error.LineFault.TheVariants.{Unended}
+use Rattle.response_heads.specs.declared.error.ReadError.{ReadError}
+use Rattle.response_heads.specs.declared.error.ReadError.TheVariants.{Line, Location, OutOfMemory}
+
+-- the text without the white space in front
+pub record IsTrimmedStart (text rest : List ℕ) : Type 0 where
+  pub before : List ℕ
+  pub split : text ≡ before ++ rest
+  pub white : AllWhite before
+  pub begins : is_white (slice_index rest 0) ≡ false
+
+-- the text without the white space at its end
+pub record IsTrimmedEnd (text rest : List ℕ) : Type 0 where
+  pub after : List ℕ
+  pub split : text ≡ rest ++ after
+  pub white : AllWhite after
+  pub ends : is_white (slice_index rest (length rest - 1)) ≡ false
+
+-- the fields up to the empty line, of which this is left and so many lines were taken
+pub record ReadsFields (old new : List ℕ) (taken now : ℕ) (fields : List FieldText) : Type 0 where
+  pub read : List (List ℕ)
+  pub are : AreFields read fields
+  pub split : lines old ≡ read ++ [] ∷ lines new
+  pub counted : now ≡ (taken + length read) + 1
+
+-- the first line with a fault behind the field lines that were read
+pub record StopsAt (old : List ℕ) (taken number : ℕ) (fault : LineFault) : Type 0 where
+  pub read : List (List ℕ)
+  pub fields : List FieldText
+  pub are : AreFields read fields
+  pub line : List ℕ
+  pub after : List (List ℕ)
+  pub split : lines old ≡ read ++ line ∷ after
+  pub some : line ≢ []
+  pub is : fault_of line ≡ Some fault
+  pub counted : number ≡ (taken + length read) + 1
+
+-- all lines are field lines
+pub record EndsWithin (old : List ℕ) (taken number : ℕ) : Type 0 where
+  pub fields : List FieldText
+  pub are : AreFields (lines old) fields
+  pub counted : number ≡ taken + length (lines old)
+
+-- why the fields of a head aren't read
+abbrev pub IsFieldsRefusal : List ℕ → ℕ → ReadError → Type 0
+IsFieldsRefusal old taken e =
+    (e ≡ OutOfMemory)
+    ⊎ ((number : ℕ) × (fault : LineFault) × StopsAt old taken number fault × (e ≡ Line number fault))
+    ⊎ ((number : ℕ) × EndsWithin old taken number × (e ≡ Line number Unended))
+
+-- the URL that answers behind these visits, which begin at the given one
+abbrev pub IsNext : Parts → List VisitText → Parts → Type 0
+IsNext url [] next = next ≡ url
+IsNext url (visit ∷ []) next = LeadsTo visit next
+IsNext url (visit ∷ other ∷ visits) next = IsNext url (other ∷ visits) next
+
+-- why there is none
+abbrev pub IsNoNext : List VisitText → ReadError → Type 0
+IsNoNext visits e =
+    (e ≡ OutOfMemory)
+    ⊎ ((front : List VisitText) × (last : VisitText) × (visits ≡ front ++ last ∷ []) × LeadsNowhere last
+    × (e ≡ Location (length visits)))

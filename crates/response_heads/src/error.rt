@@ -1,0 +1,62 @@
+//! Why heads aren't read.
+ghost use Rattle.std.specs.Prelude.{◌≡◌};
+
+use std::alloc::{AllocError, AllocFailed};
+use thiserror::Error;
+
+/// What is wrong with a line of a head.
+#[derive(Clone, Copy, Debug, PartialEq, Eq, Error)]
+pub enum LineFault {
+    /// It begins with `HTTP/` where no head has begun, and is no status line (RFC 9112, section 4).
+    #[error("Status")]
+    Status,
+    /// It begins with white space: the obsolete way to go on with the field before it (section 5.2).
+    #[error("Folded")]
+    Folded,
+    /// It has no colon.
+    #[error("NoColon")]
+    NoColon,
+    /// What stands before its first colon is no token, as where white space ends it (section 5.1).
+    #[error("Name")]
+    Name,
+    /// It holds a carriage return that isn't at its end, or a zero byte (RFC 9110, section 5.5).
+    #[error("Control")]
+    Control,
+    /// It is the last line, and no empty line ended the head.
+    #[error("Unended")]
+    Unended,
+}
+
+/// Why heads, or visits, aren't read.
+#[derive(Clone, Copy, Debug, PartialEq, Eq, Error)]
+pub enum ReadError {
+    /// The line of this number, counted from 1, is faulty.
+    #[error("line {0}: {1}")]
+    Line(usize, LineFault),
+    /// The head of this number, counted from 1, leads to no URL although a head follows. Told of visits alone.
+    #[error("head {0}: Location")]
+    Location(usize),
+    /// Memory was refused, or a URL would have more than 4 GB.
+    #[error("OutOfMemory")]
+    OutOfMemory,
+}
+
+impl From<AllocError> for ReadError {
+    ghost use Rattle.response_heads.specs.declared.error.ReadError.TheVariants.{OutOfMemory};
+
+    ghost from_gives = { λ _ e. e ≡ OutOfMemory };
+
+    fn from(_: AllocError) -> ReadError {
+        ReadError::OutOfMemory
+    }
+}
+
+impl<T: Drop> From<AllocFailed<T>> for ReadError {
+    ghost use Rattle.response_heads.specs.declared.error.ReadError.TheVariants.{OutOfMemory};
+
+    ghost from_gives = { λ _ e. e ≡ OutOfMemory };
+
+    fn from(_: AllocFailed<T>) -> ReadError {
+        ReadError::OutOfMemory
+    }
+}
