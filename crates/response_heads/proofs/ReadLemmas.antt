@@ -1,6 +1,6 @@
 -- The fields of a name, and where a head leads.
-use Rattle.std.proofs.Common.{◌≡◌, ◌+◌, ◌<◌, ◌≤◌, ℕ, true, cond, List, [], ◌∷◌, ◌++◌, length, take, drop, get_or, map, Option}
-use Rattle.std.proofs.Common.{Some, None, refl, sym, ap, subst, ◌∙◌, arith, append_assoc}
+use Rattle.std.proofs.Common.{◌≡◌, ◌+◌, ◌<◌, ◌≤◌, ℕ, true, List, [], ◌∷◌, ◌++◌, length, take, drop, get_or, map, Option}
+use Rattle.std.proofs.Common.{Some, None, sym, ap, ◌∙◌, append_assoc}
 use Rattle.std.specs.Prelude.{codes, filter, slice_get, if◌then◌else◌}
 use Rattle.std.proofs.lemmas.List.{map-append, take_more, take-append-drop, take_all}
 use Rattle.std.proofs.lemmas.List.Elements.{filter-append}

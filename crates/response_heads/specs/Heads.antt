@@ -1,6 +1,6 @@
 -- The heads of a text, several one after another: each a status line, field lines and an empty line (RFC 9112, section
 -- 2.1). What stands before them, between them and behind them is passed over.
-use Rattle.std.specs.Prelude.{◌≡◌, ◌≢◌, ◌⊎◌, ◌+◌, ◌++◌, ℕ, false, true, List, [], ◌∷◌, Option, Some, None, length}
+use Rattle.std.specs.Prelude.{◌≡◌, ◌≢◌, ◌⊎◌, ◌+◌, ◌++◌, ℕ, false, true, List, [], ◌∷◌, Some, None, length}
 use Rattle.std.specs.List.{AllByRecursion, flat_map}
 use Rattle.std.specs.Str.Lines.{lines}
 use Rattle.response_heads.specs.Lines.{FieldText, IsField, begins_head, fault_of, status_of}

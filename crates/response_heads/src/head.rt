@@ -2,7 +2,8 @@
 ghost use Rattle.std.specs.Prelude.{◌≡◌, ◌≤◌, map, length, option_map, IfOk, IfErr};
 ghost use Rattle.std.specs.Char.{to_ascii_lowercase};
 ghost use Rattle.response_heads.specs.Heads as spec;
-ghost use Rattle.response_heads.specs.Read.{field_text, head_text, is_named, is_redirection, location, set_cookie_lines};
+ghost use Rattle.response_heads.specs.Read.{field_text, head_text, is_named, is_redirection, location};
+ghost use Rattle.response_heads.specs.Read.{set_cookie_lines};
 ghost use Rattle.response_heads.specs.Steps as steps;
 
 use crate::error::{LineFault, ReadError};

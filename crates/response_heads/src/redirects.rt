@@ -24,8 +24,8 @@ pub struct Visit<'a> {
 ///
 /// # Errors
 ///
-/// `Line` and `OutOfMemory` as [`heads`] tells them; `Location` with the number of the first head, counted from 1, whose
-/// `Location` isn't UTF-8 or is neither a URL nor a reference, although a head follows.
+/// `Line` and `OutOfMemory` as [`heads`] tells them; `Location` with the number of the first head, counted from 1,
+/// whose `Location` isn't UTF-8 or is neither a URL nor a reference, although a head follows.
 pub fn visits<'a>(alloc: Global, url: &Url, text: &'a [u8]) -> Result<Vec<Visit<'a>>, ReadError>
     ensures ok { IfOk result (λ visits. spec.GivesVisits url.now text.now (map spec.visit_text visits.items)) }
     ensures err { IfErr result (spec.IsVisitRefusal url.now text.now) }

@@ -1,7 +1,8 @@
-use Rattle.std.proofs.Common.{◌≡◌, ◌∙◌, false, true, sym, ap, subst}
+use Rattle.std.proofs.Common.{◌≡◌, ◌∙◌, false, sym, ap, subst}
 use Rattle.std.specs.Prelude.{slice_index}
 use Rattle.response_heads.specs.Lines.{IsTrimmed, is_token, is_white}
-use Rattle.response_heads.proofs.FieldLemmas.{fault-control, fault-name, fault-no_colon, fault-none, has_colon, no_colon}
+use Rattle.response_heads.proofs.FieldLemmas.{fault-control, fault-name, fault-no_colon, fault-none, has_colon}
+use Rattle.response_heads.proofs.FieldLemmas.{no_colon}
 use Rattle.response_heads.proofs.field.read_field.Goals as goal
 
 pub returns-in_default : goal.returns-in_default

@@ -1,11 +1,10 @@
-use Rattle.std.proofs.Common.{◌≡◌, ◌∷◌, ◌∙◌, ◌++◌, [], map, sym, ap, subst, rules, append-nil}
+use Rattle.std.proofs.Common.{map, subst}
 use Rattle.std.specs.Vec.Iter.{into_iter_items}
 use Rattle.std.proofs.lemmas.Result.{err_from_is_err_and}
 use Rattle.response_heads.specs.Heads.{GivesHeads}
-use Rattle.response_heads.specs.Read.{head_text}
 use Rattle.response_heads.specs.Steps.{IsNext, IsNoNext}
-use Rattle.response_heads.specs.Visits.{AreVisits, heads_of, visit_text}
-use Rattle.response_heads.proofs.VisitLemmas.{heads_in, lost_at, one_less, visits_more}
+use Rattle.response_heads.specs.Visits.{visit_text}
+use Rattle.response_heads.proofs.VisitLemmas.{lost_at, one_less, visits_more}
 use Rattle.response_heads.proofs.redirects.visits.Goals as goal
 
 pub loop-head-preserved : goal.loop-head-preserved

@@ -1,5 +1,4 @@
-use Rattle.std.proofs.Common.{◌≡◌, ◌∷◌, ◌∙◌, [], MatchOption, sym, subst}
-use Rattle.response_heads.specs.Lines.{words}
+use Rattle.std.proofs.Common.{◌∙◌, sym}
 use Rattle.response_heads.proofs.StatusLemmas.{words_cut, words_one}
 use Rattle.response_heads.proofs.status.cut.Goals as goal
 

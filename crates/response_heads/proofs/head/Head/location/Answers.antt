@@ -1,6 +1,6 @@
-use Rattle.std.proofs.Common.{◌≡◌, ◌∙◌, [], Some, None, sym, ap, subst, arith, length, take}
+use Rattle.std.proofs.Common.{◌≡◌, ◌∙◌, [], None, sym, ap}
 use Rattle.std.specs.Prelude.{codes, slice_get}
-use Rattle.response_heads.specs.Read.{field_text, head_text, is_named, is_redirection, location, values_named}
+use Rattle.response_heads.specs.Read.{head_text, values_named}
 use Rattle.response_heads.proofs.ReadLemmas.{all_taken, first_named, location_is, named, values}
 use Rattle.response_heads.proofs.head.Head.location.Goals as goal
 
