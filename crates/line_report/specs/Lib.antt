@@ -1,0 +1,3 @@
+pub mod Judging
+pub mod Pieces
+pub mod Steps

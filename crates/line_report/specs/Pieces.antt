@@ -1,0 +1,30 @@
+-- The pieces of a line (RFC 6265, section 5.2).
+use Rattle.std.specs.Prelude.{◌≡◌, ◌∷◌, ℕ, List, []}
+use Rattle.cookie_text.specs.Pieces.{pieces}
+use Rattle.cookie_text.specs.Reading.{first_piece}
+use Rattle.line_report.specs.Judging.{IsJudged}
+use Rattle.line_report.specs.declared.judging.Judgement.{Judgement}
+use Rattle.line_report.specs.declared.judging.Piece.{Piece}
+
+-- a piece and what it says
+pub record PieceText : Type 0 where
+  pub text : List ℕ
+  pub judgement : Judgement
+
+abbrev pub piece_text : Piece → PieceText
+piece_text piece = record { text = piece.text.now; judgement = piece.judgement }
+
+-- all of them, each with what it says
+abbrev pub AreJudgedAs : List (List ℕ) → List PieceText → Type 0
+AreJudgedAs [] [] = Unit {0}
+AreJudgedAs [] (p ∷ ps) = ⊥
+AreJudgedAs (text ∷ texts) [] = ⊥
+AreJudgedAs (text ∷ texts) (p ∷ ps) = (p.text ≡ text) × IsJudged text p.judgement × AreJudgedAs texts ps
+
+-- those of a text, which semicolons part
+abbrev pub PiecesAreJudged : List ℕ → List PieceText → Type 0
+PiecesAreJudged text ps = AreJudgedAs (pieces text) ps
+
+-- those of a line behind its first one, the pair
+abbrev pub AreJudged : List ℕ → List PieceText → Type 0
+AreJudged line ps = (rest : List (List ℕ)) × (pieces line ≡ first_piece line ∷ rest) × AreJudgedAs rest ps

@@ -1,0 +1,108 @@
+//! What becomes of each piece of a line.
+ghost use Rattle.std.specs.Prelude.{◌≡◌, ◌==◌, ◌↔◌, map, IfOk, IsTrue, false};
+ghost use Rattle.std.specs.List.{All};
+ghost use Rattle.cookie_text.specs.Pieces.{semicolon};
+ghost use Rattle.line_report.specs.Judging as spec;
+ghost use Rattle.line_report.specs.Pieces.{AreJudged, PiecesAreJudged, piece_text};
+ghost use Rattle.line_report.specs.Steps as steps;
+
+use crate::name::{AttributeName, name_of};
+use cookie_text::{Cookie, ParseError};
+use std::alloc::{AllocError, Global};
+
+/// What a piece says.
+#[derive(Clone, Copy, Debug, PartialEq, Eq)]
+pub enum Judgement {
+    /// It gives this attribute; the last such piece of a line counts (RFC 6265, section 5.3).
+    Valid(AttributeName),
+    /// It is called so, but its value gives none, and it is ignored.
+    Invalid(AttributeName),
+    /// It is called like no attribute, and is ignored.
+    Unknown,
+}
+
+/// A piece of a line.
+#[derive(Clone, Copy, Debug)]
+pub struct Piece<'a> {
+    /// As it stands, without its semicolons.
+    pub text: &'a str,
+    /// What it says.
+    pub judgement: Judgement,
+}
+
+/// The pieces of a line behind its first semicolon, in their order, and what each says (RFC 6265, section 5.2). What
+/// stands before that is the pair of name and value.
+///
+/// # Errors
+///
+/// `AllocError`, for want of memory.
+pub fn pieces<'a>(alloc: Global, line: &'a str) -> Result<Vec<Piece<'a>>, AllocError>
+    ensures { IfOk result (λ pieces. AreJudged line.now (map piece_text pieces.items)) }
+{
+    match line.split_once(';') {
+        Some((_, rest)) => judged_pieces(alloc, rest),
+        None => Ok(Vec::new(alloc)),
+    }
+}
+
+// The pieces between the semicolons of a text.
+fn judged_pieces<'a>(alloc: Global, text: &'a str) -> Result<Vec<Piece<'a>>, AllocError>
+    ensures { IfOk result (λ pieces. PiecesAreJudged text.now (map piece_text pieces.items)) }
+{
+    let mut pieces = Vec::new(alloc);
+    for text in text.split(';') {
+        let judgement = judged(alloc, text)?;
+        pieces.push(Piece { text, judgement })?;
+    }
+    Ok(pieces)
+}
+
+// What a piece says, which holds no semicolon.
+fn judged(alloc: Global, piece: &str) -> Result<Judgement, AllocError>
+    requires { All (λ b. (b == semicolon) ≡ false) piece.now }
+    ensures { IfOk result (spec.IsJudged piece.now) }
+{
+    match name_of(piece) {
+        Some(name) => if gives(alloc, piece, name)? {
+            Ok(Judgement::Valid(name))
+        } else {
+            Ok(Judgement::Invalid(name))
+        },
+        None => Ok(Judgement::Unknown),
+    }
+}
+
+// Whether the piece, which holds no semicolon, gives this attribute: a cookie of this piece alone has it.
+fn gives(alloc: Global, piece: &str, name: AttributeName) -> Result<bool, AllocError>
+    requires { All (λ b. (b == semicolon) ≡ false) piece.now }
+    ensures { IfOk result (λ gives. IsTrue gives ↔ spec.IsValid piece.now name) }
+{
+    let mut text = String::from_str(alloc, "a=;")?;
+    text.push_str(piece)?;
+    Ok(is_given(Cookie::parse(text.as_str()), name))
+}
+
+// Whether a cookie was read that has the attribute.
+fn is_given(read: Result<Cookie<'_>, ParseError>, name: AttributeName) -> bool
+    ensures { IsTrue result ↔ steps.IsGiven read.entry name }
+{
+    match read {
+        Ok(cookie) => has(&cookie, name),
+        Err(_) => false,
+    }
+}
+
+fn has(cookie: &Cookie<'_>, name: AttributeName) -> bool
+    ensures { result ≡ steps.has cookie.now.cookie name }
+{
+    match name {
+        AttributeName::Expires => cookie.expires().is_some(),
+        AttributeName::MaxAge => cookie.max_age().is_some(),
+        AttributeName::Domain => cookie.domain().is_some(),
+        AttributeName::Path => cookie.path().is_some(),
+        AttributeName::Secure => cookie.secure().is_some(),
+        AttributeName::HttpOnly => cookie.http_only().is_some(),
+        AttributeName::SameSite => cookie.same_site().is_some(),
+        AttributeName::Partitioned => cookie.partitioned().is_some(),
+    }
+}
