@@ -1,10 +1,11 @@
 -- A piece behind a pair, read alone.
-use Rattle.std.proofs.Common.{◌≡◌, ◌==◌, ℕ, false, true, List, [], ◌∷◌, ◌++◌, Option, Some, None, Result, Ok, Err, refl, sym, ap}
+use Rattle.std.proofs.Common.{◌≡◌, ◌==◌, ℕ, false, true, List, [], ◌∷◌, ◌++◌, Option, Some, None, Result, Ok, Err}
+use Rattle.std.proofs.Common.{refl, sym, ap}
 use Rattle.std.proofs.Common.{subst, ◌∙◌, ◌<◌, codes, lit<, length, map, Bool, Vec, Global, arith}
 use Rattle.std.specs.Prelude.{is_some, IfOk, IsTrue, pos, ◌*ℤ◌}
 use Rattle.std.specs.List.{All, after_first, position_or_len}
 use Rattle.std.specs.Borrow.{Bor}
-use Rattle.std.specs.Str.{trim, trim_start, trim_end, chars}
+use Rattle.std.specs.Str.{trim_start, trim_end, chars}
 use lib.Utf8.{encode}
 use Rattle.std.proofs.lemmas.Bool.{both_ways}
 use Rattle.std.proofs.lemmas.List.{map-append, take_all}
@@ -126,8 +127,8 @@ pub judged_more : (texts : List (List ℕ)) (text : Bor (List ℕ)) (judgement :
     → AreJudgedAs (texts ++ text.now ∷ []) (map piece_text new)
 judged_more texts text judgement ps new far is more =
     subst (AreJudgedAs (texts ++ text.now ∷ []))
-        (sym (ap (map piece_text) more ∙ map-append piece_text ps ((record { text = text; judgement = judgement }) ∷ [])))
-        (judged_push texts (map piece_text ps) text.now (record { text = text.now; judgement = judgement }) far refl is)
+    (sym (ap (map piece_text) more ∙ map-append piece_text ps ((record { text = text; judgement = judgement }) ∷ [])))
+    (judged_push texts (map piece_text ps) text.now (record { text = text.now; judgement = judgement }) far refl is)
 
 -- ---- the pieces behind the pair
 

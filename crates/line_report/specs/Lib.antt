@@ -1,3 +1,5 @@
 pub mod Judging
+pub mod Pair
 pub mod Pieces
+pub mod Printing
 pub mod Steps

@@ -1,9 +1,12 @@
 -- The pieces of a line (RFC 6265, section 5.2).
-use Rattle.std.specs.Prelude.{◌≡◌, ◌∷◌, ℕ, List, []}
+use Rattle.std.specs.Prelude.{◌≡◌, ◌≢◌, ◌++◌, ◌∷◌, ℕ, List, [], length}
+use Rattle.std.specs.List.{AllByRecursion}
 use Rattle.cookie_text.specs.Pieces.{pieces}
 use Rattle.cookie_text.specs.Reading.{first_piece}
 use Rattle.line_report.specs.Judging.{IsJudged}
 use Rattle.line_report.specs.declared.judging.Judgement.{Judgement}
+use Rattle.line_report.specs.declared.judging.Judgement.TheVariants.{Valid}
+use Rattle.line_report.specs.declared.name.AttributeName.{AttributeName}
 use Rattle.line_report.specs.declared.judging.Piece.{Piece}
 
 -- a piece and what it says
@@ -28,3 +31,19 @@ PiecesAreJudged text ps = AreJudgedAs (pieces text) ps
 -- those of a line behind its first one, the pair
 abbrev pub AreJudged : List ℕ → List PieceText → Type 0
 AreJudged line ps = (rest : List (List ℕ)) × (pieces line ≡ first_piece line ∷ rest) × AreJudgedAs rest ps
+
+-- ---- which piece counts
+
+-- no piece is a valid one of this name
+abbrev pub NoneIsValid : AttributeName → List PieceText → Type 0
+NoneIsValid name ps = AllByRecursion (λ p. p.judgement ≢ Valid name) ps
+
+-- the place of the last piece that is
+pub record IsLastValid (name : AttributeName) (ps : List PieceText) (place : ℕ) : Type 0 where
+  pub before : List PieceText
+  pub piece : PieceText
+  pub after : List PieceText
+  pub split : ps ≡ before ++ piece ∷ after
+  pub at : place ≡ length before
+  pub is : piece.judgement ≡ Valid name
+  pub later : NoneIsValid name after

@@ -1,14 +1,16 @@
 //! What becomes of each piece of a line.
-ghost use Rattle.std.specs.Prelude.{◌≡◌, ◌==◌, ◌↔◌, map, IfOk, IsTrue, false};
+ghost use Rattle.std.specs.Prelude.{◌≡◌, ◌==◌, ◌↔◌, map, IfOk, IsTrue, false, MatchOption, Some};
 ghost use Rattle.std.specs.List.{All};
 ghost use Rattle.cookie_text.specs.Pieces.{semicolon};
 ghost use Rattle.line_report.specs.Judging as spec;
-ghost use Rattle.line_report.specs.Pieces.{AreJudged, PiecesAreJudged, piece_text};
+ghost use Rattle.line_report.specs.Pieces.{AreJudged, IsLastValid, NoneIsValid, PiecesAreJudged, piece_text};
+ghost use Rattle.line_report.specs.Printing.{piece_line, place_of, words_of};
 ghost use Rattle.line_report.specs.Steps as steps;
 
 use crate::name::{AttributeName, name_of};
 use cookie_text::{Cookie, ParseError};
 use std::alloc::{AllocError, Global};
+use std::fmt;
 
 /// What a piece says.
 #[derive(Clone, Copy, Debug, PartialEq, Eq)]
@@ -30,6 +32,38 @@ pub struct Piece<'a> {
     pub judgement: Judgement,
 }
 
+/// The piece without the white space round it, a colon, what it says, and where RFC 6265 has it:
+/// `Max-Age=x: invalid, ignored (RFC 6265, section 5.2.2)`.
+impl fmt::Display for Piece<'_> {
+    ghost output = { λ piece. Some (piece_line (piece_text piece)) };
+
+    fn fmt<W: fmt::Write>(&self, f: &mut fmt::Formatter<W>) -> fmt::Result {
+        let text = self.text.trim();
+        let words = words(self.judgement);
+        let place = place(self.judgement);
+        write!(f, "{text}: {words}{place}")
+    }
+}
+
+fn words(judgement: Judgement) -> &'static str
+    ensures { result.now ≡ words_of judgement }
+{
+    match judgement {
+        Judgement::Valid(_) => "valid",
+        Judgement::Invalid(_) => "invalid, ignored",
+        Judgement::Unknown => "unknown, ignored",
+    }
+}
+
+fn place(judgement: Judgement) -> &'static str
+    ensures { result.now ≡ place_of judgement }
+{
+    match judgement {
+        Judgement::Valid(name) | Judgement::Invalid(name) => name.place(),
+        Judgement::Unknown => "",
+    }
+}
+
 /// The pieces of a line behind its first semicolon, in their order, and what each says (RFC 6265, section 5.2). What
 /// stands before that is the pair of name and value.
 ///
@@ -43,6 +77,27 @@ pub fn pieces<'a>(alloc: Global, line: &'a str) -> Result<Vec<Piece<'a>>, AllocE
         Some((_, rest)) => judged_pieces(alloc, rest),
         None => Ok(Vec::new(alloc)),
     }
+}
+
+/// The place of the piece that counts for this attribute: the last valid one (RFC 6265, section 5.3), none where there
+/// is none.
+pub fn counting(pieces: &[Piece<'_>], name: AttributeName) -> Option<usize>
+    ensures { MatchOption result (NoneIsValid name (map piece_text pieces.now))
+        (IsLastValid name (map piece_text pieces.now)) }
+{
+    let mut found = None;
+    for (i, piece) in pieces.iter().enumerate() {
+        if is_valid(piece, name) {
+            found = Some(i);
+        }
+    }
+    found
+}
+
+fn is_valid(piece: &Piece<'_>, name: AttributeName) -> bool
+    ensures { IsTrue result ↔ (piece.now.judgement ≡ Judgement.Valid name) }
+{
+    piece.judgement == Judgement::Valid(name)
 }
 
 // The pieces between the semicolons of a text.

@@ -9,6 +9,8 @@
 
 mod judging;
 mod name;
+mod pairing;
 
-pub use judging::{Judgement, Piece, pieces};
+pub use judging::{Judgement, Piece, counting, pieces};
 pub use name::AttributeName;
+pub use pairing::{PairFault, pair};

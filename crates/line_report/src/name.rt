@@ -3,6 +3,7 @@ ghost use Rattle.std.specs.Prelude.{◌≡◌, ◌≢◌, MatchOption, option_ma
 ghost use Rattle.std.specs.Str.{str_to_ascii_lowercase};
 ghost use Rattle.cookie_text.specs.Pieces.{name_of};
 ghost use Rattle.line_report.specs.Judging as spec;
+ghost use Rattle.line_report.specs.Printing.{place_of_name};
 ghost use Rattle.line_report.specs.declared.name.AttributeName.{AttributeName as Names};
 
 /// The name of an attribute that a store reads.
@@ -39,6 +40,21 @@ impl AttributeName {
             AttributeName::Secure => Some("5.2.5"),
             AttributeName::HttpOnly => Some("5.2.6"),
             AttributeName::SameSite | AttributeName::Partitioned => None,
+        }
+    }
+
+    // Where RFC 6265 has it, as a report says it.
+    pub(crate) fn place(self) -> &'static str
+        ensures { result.now ≡ place_of_name self }
+    {
+        match self {
+            AttributeName::Expires => " (RFC 6265, section 5.2.1)",
+            AttributeName::MaxAge => " (RFC 6265, section 5.2.2)",
+            AttributeName::Domain => " (RFC 6265, section 5.2.3)",
+            AttributeName::Path => " (RFC 6265, section 5.2.4)",
+            AttributeName::Secure => " (RFC 6265, section 5.2.5)",
+            AttributeName::HttpOnly => " (RFC 6265, section 5.2.6)",
+            AttributeName::SameSite | AttributeName::Partitioned => "",
         }
     }
 }

@@ -9,10 +9,10 @@ use Rattle.line_report.proofs.judging.judged_pieces.Goals as goal
 pub loop-text-preserved : goal.loop-text-preserved
 loop-text-preserved c =
     subst (λ texts. AreJudgedAs texts (map piece_text c.push.new.self.items))
-        (sym (map_push (λ p. p.now) c.loop-text.yielded c.in-Some.text))
-        (judged_more (map (λ p. p.now) c.loop-text.yielded) c.in-Some.text c.in_ok-judgement.judgement
-        c.loop-text.pieces.items c.push.new.self.items c.loop-text.invariant c.in_ok-judgement.ensures
-        c.in_ok-push.ensures.items)
+    (sym (map_push (λ p. p.now) c.loop-text.yielded c.in-Some.text))
+    (judged_more (map (λ p. p.now) c.loop-text.yielded) c.in-Some.text c.in_ok-judgement.judgement
+    c.loop-text.pieces.items c.push.new.self.items c.loop-text.invariant c.in_ok-judgement.ensures
+    c.in_ok-push.ensures.items)
 
 pub returns : goal.returns
 returns c =
