@@ -23,5 +23,5 @@ pub use derive::expand;
 pub use error::SealError;
 pub use gcm::{is_sealable, open, open_counted, seal, seal_counted};
 pub use ghash::Multiples;
-pub use mac::hmac;
+pub use mac::{MacKey, hmac};
 pub use powers::Turns;

@@ -1,11 +1,16 @@
 //! The key of the signed and the private jars.
 
 ghost use Rattle.std.specs.Prelude.{◌≡◌, ◌≤◌, ◌<◌, ◌↔◌, ℕ, List, length, take, codes, Some, IfOk, IfErr, IsOk};
-ghost use Rattle.std.specs.Prelude.{MatchOption};
+ghost use Rattle.std.specs.Prelude.{MatchOption, bytes_eq};
+ghost use Rattle.std.specs.Cmp.{partial_equiv_from_equiv};
+ghost use Rattle.std.specs.Cmp.Lexicographic.{nat_list_eq_equiv};
 ghost use Rattle.rand_core.specs.Stream.{fill_bytes};
+ghost use Rattle.seal.specs.Hmac.{hmac};
+ghost use Rattle.seal.specs.Kept.{KeepsPads};
 ghost use Rattle.cookie.specs.Key as spec;
 
 use rand_core::{Rng, TryRng};
+use seal::MacKey;
 use std::fmt::{self, Debug, Formatter, Write};
 use std::marker::Model;
 use thiserror::Error;
@@ -30,9 +35,11 @@ pub enum KeyError {
 }
 
 /// A key of 64 bytes: the first 32 sign, the others encrypt.
-#[derive(Clone, PartialEq, Eq, Drop)]
+#[derive(Clone, Drop)]
 pub struct Key {
     bytes: [u8; KEY_LEN],
+    // The half that signs, with its pads hashed once for all codes.
+    mac: MacKey,
 }
 
 impl Model for Key {
@@ -40,21 +47,41 @@ impl Model for Key {
 
     ghost view = { λ k. k.bytes };
 
-    ghost inverse = { λ bytes. record { bytes = bytes } };
+    ghost invariant = { λ k. KeepsPads k.mac (spec.signing_half k.bytes) };
+}
+
+impl PartialEq for Key {
+    ghost eq = { bytes_eq };
+
+    ghost laws = { partial_equiv_from_equiv nat_list_eq_equiv };
+
+    fn eq(&self, other: &Key) -> bool {
+        self.bytes == other.bytes
+    }
+}
+
+impl Eq for Key {
+    ghost laws = { nat_list_eq_equiv };
 }
 
 impl Key {
+    // The key of all these bytes.
+    fn of(bytes: [u8; KEY_LEN]) -> Key
+        ensures { result ≡ bytes }
+    {
+        let mac = MacKey::new(&bytes[..SIGNING_LEN]);
+        Key { bytes, mac }
+    }
+
     /// The key of the first 64 bytes, of which there have to be 64 at least: a caller that doesn't
     /// know takes [`Key::try_from`].
     pub fn from(bytes: &[u8]) -> Key
         requires { 64 ≤ length bytes.now }
         ensures { result ≡ take 64 bytes.now }
     {
-        let mut key = Key {
-            bytes: [0; KEY_LEN],
-        };
-        key.bytes.copy_from_slice(&bytes[..KEY_LEN]);
-        key
+        let mut first = [0; KEY_LEN];
+        first.copy_from_slice(&bytes[..KEY_LEN]);
+        Key::of(first)
     }
 
     /// The key of the first 64 bytes.
@@ -82,7 +109,7 @@ impl Key {
     {
         let mut bytes = [0; KEY_LEN];
         seal::expand(master_key, INFO, &mut bytes).unwrap();
-        Key { bytes }
+        Key::of(bytes)
     }
 
     /// The key that is derived from `master_key`, as [`Key::derive_from`] gives it.
@@ -109,7 +136,7 @@ impl Key {
     {
         let mut bytes = [0; KEY_LEN];
         match rng.try_fill_bytes(&mut bytes) {
-            Ok(()) => Some(Key { bytes }),
+            Ok(()) => Some(Key::of(bytes)),
             Err(_) => None,
         }
     }
@@ -120,14 +147,24 @@ impl Key {
     {
         let mut bytes = [0; KEY_LEN];
         rng.fill_bytes(&mut bytes);
-        Key { bytes }
+        Key::of(bytes)
     }
 
     // The same key, for a child jar to keep.
     pub(crate) fn copied(&self) -> Key
         ensures { result ≡ self.now }
     {
-        Key { bytes: self.bytes }
+        Key {
+            bytes: self.bytes,
+            mac: self.mac.clone().unwrap(),
+        }
+    }
+
+    // The code of a value under the half that signs.
+    pub(crate) fn code(&self, value: &[u8]) -> [u8; 32]
+        ensures { result ≡ hmac (spec.signing_half self.now) value.now }
+    {
+        self.mac.code(value)
     }
 
     /// The 32 bytes that sign.

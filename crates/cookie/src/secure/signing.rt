@@ -10,7 +10,6 @@ ghost use Rattle.cookie.specs.Signing as spec;
 
 use super::key::Key;
 use base64::engine::general_purpose::STANDARD;
-use seal::hmac;
 use std::alloc::{AllocError, Global};
 
 // The base64 of 32 bytes.
@@ -21,7 +20,7 @@ fn code_of(key: &Key, value: &str) -> [u8; 44]
     ensures { result ≡ base64_of (hmac_of (signing_half key.now) value.now) }
 {
     let mut code = [0; CODE_LEN];
-    let _ = STANDARD.encode_slice(&hmac(key.signing(), value.as_bytes()), &mut code);
+    let _ = STANDARD.encode_slice(&key.code(value.as_bytes()), &mut code);
     code
 }
 
@@ -34,7 +33,7 @@ fn code_of(key: &Key, value: &str) -> [u8; 44]
 pub fn signed_text(alloc: Global, key: &Key, value: &str) -> Result<String, AllocError>
     ensures { IfOk result (λ text. string_bytes text ≡ spec.signing key.now value.now) }
 {
-    let code = hmac(key.signing(), value.as_bytes());
+    let code = key.code(value.as_bytes());
     let mut text = String::with_capacity(alloc, CODE_LEN + value.len())?;
     STANDARD.encode_string(&code, &mut text)?;
     text.push_str(value)?;
