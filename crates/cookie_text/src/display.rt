@@ -153,6 +153,9 @@ fn push_attributes(text: &mut String, cookie: &Cookie<'_>) -> Result<(), AllocEr
     ensures { OnOk result (string_bytes text.new
         ≡ string_bytes text.old ++ printed_attributes cookie.now.cookie) }
 {
+    if cookie.is_bare() {
+        return Ok(());
+    }
     push_piece(text, &cookie.http_only_printed())?;
     push_piece(text, &cookie.same_site_printed())?;
     push_piece(text, &cookie.partitioned_printed())?;

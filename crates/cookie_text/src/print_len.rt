@@ -20,6 +20,9 @@ pub fn escaped_len(len: usize) -> usize {
 
 /// How many bytes the attributes take, each behind a semicolon.
 pub fn attributes_len(cookie: &Cookie<'_>) -> usize {
+    if cookie.is_bare() {
+        return 0;
+    }
     let attributes = [
         cookie.http_only_printed(),
         cookie.same_site_printed(),

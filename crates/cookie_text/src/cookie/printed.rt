@@ -1,16 +1,30 @@
 //! Which attributes of a cookie are printed.
-ghost use Rattle.std.specs.Prelude.{◌≡◌, option_map};
+ghost use Rattle.std.specs.Prelude.{◌≡◌, [], option_map, IsTrue};
 ghost use Rattle.cookie_text.specs.Record.{domain_of};
 ghost use Rattle.cookie_text.specs.AttributeView.{attribute_view};
 ghost use Rattle.cookie_text.specs.Attribute.{HttpOnly, Partitioned, Secure, OfSite, MaxAge, Path as PathIs};
 ghost use Rattle.cookie_text.specs.Attribute.{Domain as DomainIs};
-ghost use Rattle.cookie_text.specs.Printing.{prints_secure, whole_seconds, end_of, flag, is_set};
+ghost use Rattle.cookie_text.specs.Printing.{prints_secure, printed_attributes, whole_seconds, end_of, flag, is_set};
 
 use crate::attribute::Attribute;
 use crate::cookie::Cookie;
 use crate::draft::SameSite;
 
 impl<'c> Cookie<'c> {
+    // Whether no attribute is there, so that none is printed. Most cookies that a site sets are so.
+    pub(crate) fn is_bare(&self) -> bool
+        ensures { IsTrue result → printed_attributes self.now.cookie ≡ [] }
+    {
+        self.http_only.is_none()
+            && self.secure.is_none()
+            && self.partitioned.is_none()
+            && self.same_site.is_none()
+            && self.max_age.is_none()
+            && self.path.is_none()
+            && self.domain.is_none()
+            && self.expires.is_none()
+    }
+
     // Whether `Secure` is printed.
     pub(crate) fn prints_secure(&self) -> bool
         ensures { result ≡ prints_secure self.now.cookie }
