@@ -11,7 +11,7 @@ pub record ShowsTheSame (text : List ℕ) (digits year : ℕ) (m : DateTime) : T
   pub alone : (d : Date) → Shows text d → IsMomentOf d m
   pub none : (digits < 2) ⊎ (year < 1601) → (d : Date) → ¬ (Shows text d)
 
--- so it is of every such text
+-- so it is of every such text, whatever numbers s the form shows (a `Stamp` of `cookie_text`)
 abbrev pub StrictDatesShowTheSame : Type 0
 StrictDatesShowTheSame =
     (text : List ℕ) (s : _) (strict : IsDateText text s) (m : DateTime) → IsMoment s m
