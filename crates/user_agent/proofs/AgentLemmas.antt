@@ -9,11 +9,11 @@ use Rattle.url.specs.Parts.{Parts}
 use Rattle.cookie_store.specs.Rows.{Row}
 use Rattle.cookie_run.specs.Accept.{Accepts, AcceptsAll, IsStopped as ClientStopped}
 use Rattle.cookie_run.specs.declared.step.LineEnd.{LineEnd}
-use Rattle.user_agent.specs.Agent.{IsHandedOn, IsHandedText, NoRulesAreTheClient, StopsAtLine, TakesHanded}
+use Rattle.user_agent.specs.Agent.{AreGiven, ClientsTakeTheirs, IsHandedOn, IsHandedText, NoRulesAreTheClient, StopsAtLine, TakesHanded}
 use Rattle.user_agent.specs.Agent.{TakesLine, TakesLines}
 use Rattle.user_agent.specs.Refusals.{IsStoppedByControl, is_on, no_rules}
 use Rattle.user_agent.specs.declared.rules.Outcome.{Outcome}
-use Rattle.user_agent.specs.declared.rules.Outcome.TheVariants.{Taken}
+use Rattle.user_agent.specs.declared.rules.Outcome.TheVariants.{Taken, Refused}
 use Rattle.user_agent.specs.declared.rules.Refusal.{Refusal}
 use Rattle.user_agent.specs.declared.rules.Refusal.TheVariants.{Control, TooLong, SecurePrefix, HostPrefix}
 use Rattle.user_agent.specs.declared.rules.Refusal.TheVariants.{SecureFromHttp, SecureOverlay}
@@ -109,6 +109,41 @@ pub handed_so : {E : Type 0} (r : Result Outcome E) (rules : Rules) (list : List
 handed_so (Ok outcome) rules list rows new url now line handed free text steps h =
     inr (free, (handed, inl (text, steps), h))
 handed_so (Err e) rules list rows new url now line handed free text steps h = tt
+
+-- ---- what the client gets
+
+-- what the client gets of the lines, and the rows after it took that
+abbrev Theirs : Rules → List Rule → Parts → ℤ → List Row → List Row → List (List ℕ) → List Outcome → Type 0
+Theirs rules list url now rows new lines outcomes =
+    (given : List (List ℕ)) × (ends : List LineEnd) × AreGiven rules now lines outcomes given ends
+    × AcceptsAll list rows url now given ends new
+
+pub clients_take_theirs : ClientsTakeTheirs
+clients_take_theirs rules list rows url now [] outcomes new h = ([], [], (h.0, refl, refl), (refl, h.1))
+clients_take_theirs rules list rows url now (line ∷ lines) [] new h = absurd h
+clients_take_theirs rules list rows url now (line ∷ lines) (outcome ∷ outcomes) new (mid, one, rest) =
+    by one (clients_take_theirs rules list mid url now lines outcomes new rest)
+  where
+    refused : (rule : Refusal) → outcome ≡ Refused rule → mid ≡ rows → Theirs rules list url now mid new lines outcomes
+        → Theirs rules list url now rows new (line ∷ lines) (outcome ∷ outcomes)
+    refused rule is same (given, ends, are, all) = (
+      given,
+      ends,
+      subst (λ o. AreGiven rules now (line ∷ lines) (o ∷ outcomes) given ends) (sym is) are,
+      subst (λ rs. AcceptsAll list rs url now given ends new) same all,
+    )
+
+    by : TakesLine rules list rows url now line outcome mid → Theirs rules list url now mid new lines outcomes
+        → Theirs rules list url now rows new (line ∷ lines) (outcome ∷ outcomes)
+    by (inl (stopped, is, same)) later = refused Control is same later
+    by (inr (free, (handed, is_handed, inl (rule, against, is, same)))) later = refused rule is same later
+    by (inr (free, (handed, is_handed, inr (let_in, (end, accepts, is))))) (given, ends, are, all) = (
+      handed ∷ given,
+      end ∷ ends,
+      subst (λ o. AreGiven rules now (line ∷ lines) (o ∷ outcomes) (handed ∷ given) (end ∷ ends)) (sym is)
+          (handed, given, ends, is_handed, refl, refl, are),
+      (mid, accepts, all),
+    )
 
 -- ---- without rules
 

@@ -63,6 +63,26 @@ TakesLines rules list rows url now (line ∷ lines) (outcome ∷ outcomes) new =
     (mid : List Row) × TakesLine rules list rows url now line outcome mid
     × TakesLines rules list mid url now lines outcomes new
 
+-- ---- what its client gets
+
+-- the lines that the client gets of an answer, and how it goes with each: of the lines that no rule refused, in their
+-- order, what each is handed on as
+abbrev pub AreGiven : Rules → ℤ → List (List ℕ) → List Outcome → List (List ℕ) → List LineEnd → Type 0
+AreGiven rules now [] outcomes given ends = (outcomes ≡ []) × (given ≡ []) × (ends ≡ [])
+AreGiven rules now (line ∷ lines) [] given ends = ⊥
+AreGiven rules now (line ∷ lines) (Refused rule ∷ outcomes) given ends = AreGiven rules now lines outcomes given ends
+AreGiven rules now (line ∷ lines) (Taken end ∷ outcomes) given ends =
+    (handed : List ℕ) × (others : List (List ℕ)) × (later : List LineEnd) × IsHandedOn rules now line handed
+    × (given ≡ handed ∷ others) × (ends ≡ end ∷ later) × AreGiven rules now lines outcomes others later
+
+-- whatever lines come, the rows are those after the client took the lines that it gets of them
+abbrev pub ClientsTakeTheirs : Type 0
+ClientsTakeTheirs =
+    (rules : Rules) (list : List Rule) (rows : List Row) (url : Parts) (now : ℤ) (lines : List (List ℕ))
+    (outcomes : List Outcome) (new : List Row) → TakesLines rules list rows url now lines outcomes new
+    → (given : List (List ℕ)) × (ends : List LineEnd) × AreGiven rules now lines outcomes given ends
+    × AcceptsAll list rows url now given ends new
+
 -- ---- want of memory
 
 -- memory was refused at line n, counted from 1, once those before it were taken

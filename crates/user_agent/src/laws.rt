@@ -1,5 +1,12 @@
-//! Laws of sessions behind a user agent. Each function changes nothing: its contract is the law.
+//! Laws of answers that a user agent takes. Each function changes nothing: its contract is the law.
+ghost use Rattle.user_agent.specs.Agent.{ClientsTakeTheirs};
 ghost use Rattle.user_agent.specs.SessionLines as spec;
+
+/// Whatever lines come, the rows are those after the client took the lines that it gets: of those that no rule refused,
+/// in their order, what each is handed on as. So what is proved of a client holds behind any rules.
+pub fn clients_take_theirs()
+    ensures { ClientsTakeTheirs }
+{}
 
 /// The line of a session's cookie from an https URL is refused by no rule, whatever rows there are, and the client gets
 /// it as it stands: where its name and value, escaped as the line has them, have at most 4,096 bytes together, and

@@ -1,5 +1,5 @@
-//! The rules of user agents beyond the store, and which of them are on (the draft that follows RFC 6265, sections 5.6
-//! and 5.7).
+//! The rules of user agents beyond the store, and which of them are on (the draft that follows RFC 6265, sections 5.5
+//! to 5.7).
 ghost use Rattle.std.specs.Prelude.{◌≡◌, ◌↔◌, IsTrue};
 ghost use Rattle.user_agent.specs.Refusals as spec;
 
