@@ -167,10 +167,10 @@ counted_at done front line read taken m counted more =
 
 pub heads_more : (text rest : List ℕ) (taken : ℕ) (heads : List HeadText) (line more : List ℕ) (m : ℕ) (status : ℕ)
     (after : List ℕ) (k : ℕ) (fields : List FieldText) → HeadsSoFar text rest taken heads
-    → lines rest ≡ line ∷ lines more → m ≡ taken + 1 → status_of line ≡ Some status
+    → lines rest ≡ line ∷ lines more → m ≡ taken + 1 → begins_head line ≡ true → status_of line ≡ Some status
     → ReadsFields more after m k fields
     → HeadsSoFar text after k (heads ++ (record { status = status; fields = fields }) ∷ [])
-heads_more text rest taken heads line more m status after k fields far next counted is reads =
+heads_more text rest taken heads line more m status after k fields far next counted begins is reads =
     let done = flat_map whole far.parts in
     let h : HeadLines = record { front = far.front; status = line; fields = reads.read } in
     let all : flat_map whole (far.parts ++ h ∷ []) ≡ done ++ whole h =
@@ -181,7 +181,7 @@ heads_more text rest taken heads line more m status after k fields far next coun
       parts = far.parts ++ h ∷ [];
       front = [];
       are = heads_push far.parts heads h (record { status = status; fields = fields }) far.are
-          (record { front = far.passed; status = is; fields = reads.are });
+          (record { front = far.passed; begins = begins; status = is; fields = reads.are });
       passed = tt;
       split = begun_at (lines text) done far.front rest line more (reads.read ++ [] ∷ lines after) far.split next
           reads.split ∙ regroup done far.front line reads.read (lines after) ∙ ap (λ ls. ls ++ lines after) (sym same);
@@ -200,8 +200,9 @@ heads_more text rest taken heads line more m status after k fields far next coun
 
 pub heads_stop : (text rest : List ℕ) (taken : ℕ) (heads : List HeadText) (line more : List ℕ) (m : ℕ) (status : ℕ)
     (number : ℕ) (fault : LineFault) → HeadsSoFar text rest taken heads → lines rest ≡ line ∷ lines more
-    → m ≡ taken + 1 → status_of line ≡ Some status → StopsAt more m number fault → IsFirstFault text number fault
-heads_stop text rest taken heads line more m status number fault far next counted is stops =
+    → m ≡ taken + 1 → begins_head line ≡ true → status_of line ≡ Some status → StopsAt more m number fault
+    → IsFirstFault text number fault
+heads_stop text rest taken heads line more m status number fault far next counted begins is stops =
     let done = flat_map whole far.parts in
     let h : HeadLines = record { front = far.front; status = line; fields = stops.read } in
     record {
@@ -218,7 +219,7 @@ heads_stop text rest taken heads line more m status number fault far next counte
       is = inr (
         h,
         record { status = status; fields = stops.fields },
-        record { front = far.passed; status = is; fields = stops.are },
+        record { front = far.passed; begins = begins; status = is; fields = stops.are },
         refl,
         stops.some,
         stops.is,
@@ -228,8 +229,9 @@ heads_stop text rest taken heads line more m status number fault far next counte
 
 pub heads_unended : (text rest : List ℕ) (taken : ℕ) (heads : List HeadText) (line more : List ℕ) (m : ℕ)
     (status : ℕ) (number : ℕ) → HeadsSoFar text rest taken heads → lines rest ≡ line ∷ lines more
-    → m ≡ taken + 1 → status_of line ≡ Some status → EndsWithin more m number → IsUnended text number
-heads_unended text rest taken heads line more m status number far next counted is ends =
+    → m ≡ taken + 1 → begins_head line ≡ true → status_of line ≡ Some status → EndsWithin more m number
+    → IsUnended text number
+heads_unended text rest taken heads line more m status number far next counted begins is ends =
     let done = flat_map whole far.parts in
     let h : HeadLines = record { front = far.front; status = line; fields = lines more } in
     let all : lines text ≡ done ++ begun h =
@@ -240,7 +242,7 @@ heads_unended text rest taken heads line more m status number far next counted i
       are = far.are;
       h = h;
       head = record { status = status; fields = ends.fields };
-      is = record { front = far.passed; status = is; fields = ends.are };
+      is = record { front = far.passed; begins = begins; status = is; fields = ends.are };
       split = all;
       counted = ends.counted ∙ counted_at done far.front line (lines more) taken m far.counted counted
           ∙ ap length (sym all);
@@ -260,12 +262,14 @@ heads_all text rest taken heads far none = record {
 -- why the fields of a head aren't read is why the text isn't
 pub refused_by_fields : (text rest : List ℕ) (taken : ℕ) (heads : List HeadText) (line more : List ℕ) (m : ℕ)
     (status : ℕ) (e : ReadError) → HeadsSoFar text rest taken heads → lines rest ≡ line ∷ lines more
-    → m ≡ taken + 1 → status_of line ≡ Some status → IsFieldsRefusal more m e → IsRefusal text e
-refused_by_fields text rest taken heads line more m status e far next counted is (inl want) = inl want
-refused_by_fields text rest taken heads line more m status e far next counted is
+    → m ≡ taken + 1 → begins_head line ≡ true → status_of line ≡ Some status → IsFieldsRefusal more m e
+    → IsRefusal text e
+refused_by_fields text rest taken heads line more m status e far next counted begins is (inl want) = inl want
+refused_by_fields text rest taken heads line more m status e far next counted begins is
     (inr (inl (number, fault, stops, told))) =
-    let first = heads_stop text rest taken heads line more m status number fault far next counted is stops in
+    let first = heads_stop text rest taken heads line more m status number fault far next counted begins is stops in
     inr (inl (number, fault, first, told))
-refused_by_fields text rest taken heads line more m status e far next counted is (inr (inr (number, ends, told))) =
-    let unended = heads_unended text rest taken heads line more m status number far next counted is ends in
+refused_by_fields text rest taken heads line more m status e far next counted begins is
+    (inr (inr (number, ends, told))) =
+    let unended = heads_unended text rest taken heads line more m status number far next counted begins is ends in
     inr (inr (number, unended, told))

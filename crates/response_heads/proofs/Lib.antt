@@ -4,4 +4,5 @@ pub mod ReadLemmas
 pub mod StatusLemmas
 pub mod TextLemmas
 pub mod TrimLemmas
+pub mod UniqueLemmas
 pub mod VisitLemmas

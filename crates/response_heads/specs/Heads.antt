@@ -41,6 +41,7 @@ AreFields (line ∷ lines) (field ∷ fields) = IsField line field × AreFields 
 -- lines that say this head
 pub record IsHead (h : HeadLines) (head : HeadText) : Type 0 where
   pub front : AllByRecursion IsPassedOver h.front
+  pub begins : begins_head h.status ≡ true
   pub status : status_of h.status ≡ Some head.status
   pub fields : AreFields h.fields head.fields
 

@@ -1,4 +1,5 @@
 pub mod Heads
+pub mod Laws
 pub mod Lines
 pub mod Read
 pub mod Steps

@@ -10,6 +10,7 @@
 mod error;
 mod field;
 mod head;
+pub mod laws;
 mod lines;
 mod redirects;
 mod status;

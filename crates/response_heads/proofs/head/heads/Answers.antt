@@ -28,7 +28,8 @@ returns-in_err-fields-clause-err c =
     sym c.status_of.ensures ∙ c.in-Some-status_of.is in
     rw (p.1, p.2) (refused_by_fields c.args.text.now c.loop-line.lines.rest.now c.loop-line.lines.taken
     (map head_text c.loop-line.heads.items) c.in-Some.line.now c.next.new.self.rest.now c.next.new.self.taken
-    c.in-Some-status_of.status c.in_err-fields.field-0.0 c.loop-line.invariant next.0 next.1 is
+    c.in-Some-status_of.status c.in_err-fields.field-0.0 c.loop-line.invariant next.0 next.1
+    (sym c.begins_head.ensures ∙ c.if-begins_head.true) is
     c.in_err-fields.ensures.err)
 
 pub loop-line-preserved-in-Continue-branch-2 : goal.loop-line-preserved-in-Continue-branch-2
@@ -44,7 +45,8 @@ loop-line-preserved-in-Continue-branch-2 c =
     subst (HeadsSoFar c.args.text.now c.read_fields.new.lines.rest.now c.read_fields.new.lines.taken) (sym new)
     (heads_more c.args.text.now c.loop-line.lines.rest.now c.loop-line.lines.taken old c.in-Some.line.now
     c.next.new.self.rest.now c.next.new.self.taken c.in-Some-status_of.status c.read_fields.new.lines.rest.now
-    c.read_fields.new.lines.taken fields c.loop-line.invariant next.0 next.1 is c.in_ok-fields.ensures.ok)
+    c.read_fields.new.lines.taken fields c.loop-line.invariant next.0 next.1
+    (sym c.begins_head.ensures ∙ c.if-begins_head.true) is c.in_ok-fields.ensures.ok)
 
 pub loop-line-preserved : goal.loop-line-preserved
 loop-line-preserved c =
