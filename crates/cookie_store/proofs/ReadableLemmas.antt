@@ -4,7 +4,7 @@ use Rattle.std.proofs.Common.{◌≡◌, ℕ, ◌<◌, ◌≤◌, ◌==◌, ltb,
 use Rattle.std.proofs.Common.{◌∙◌, arith}
 use Rattle.std.proofs.Common.{⊎_elim, Ok, Err}
 use Rattle.std.specs.Prelude.{Option, Some, None}
-use Rattle.std.specs.List.{AllByRecursion, position_or_len}
+use Rattle.std.specs.List.{position_or_len}
 use Rattle.std.proofs.lemmas.Bool.{cases_Bool, ltb-true}
 use Rattle.std.proofs.lemmas.Bool.Decides.{nat_tests}
 use Rattle.std.proofs.lemmas.List.{take_all}
@@ -14,9 +14,8 @@ use Rattle.std.proofs.lemmas.List.Sums.{fails_before_first}
 use Rattle.cookie_text.specs.Attribute.{HttpOnly, Secure, Partitioned}
 use Rattle.cookie_text.specs.Pieces.{semicolon, pieces, name_of, text_after}
 use Rattle.cookie_text.specs.Reading.{HasLast, HasAttributes, GivesFlag, GivesSite, GivesAge, GivesPath, GivesDomain}
-use Rattle.cookie_text.specs.Reading.{GivesEnd, IsPair, first_piece}
-use Rattle.cookie_text.specs.Record.{Record, domain_of}
-use Rattle.saved_text.specs.Saved.{IsCookieText}
+use Rattle.cookie_text.specs.Reading.{GivesEnd, IsPair, ReadsPlain, first_piece}
+use Rattle.cookie_text.specs.Record.{Record, Seen, domain_of}
 
 -- nothing refutes it
 abbrev pub IsUnrefuted : Type 0 → Type 0
@@ -113,7 +112,7 @@ attributes_given name value pieces refuted =
 ok_is_no_err : {T E : Type 0} (x : T) (e : E) → Ok x ≡ Err e → ⊥
 ok_is_no_err x e h = cc
 
-pub pair_reads : (text : List ℕ) → IsPair (first_piece text) → IsUnrefuted (IsCookieText text)
+pub pair_reads : (text : List ℕ) → IsPair (first_piece text) → IsUnrefuted ((s : Seen) × ReadsPlain text (Ok s))
 pair_reads text pair refuted =
     let cut = cut_first text in
     attributes_given (name_of (first_piece text)) (text_after (first_piece text)) cut.0 (λ given.
@@ -139,9 +138,3 @@ pair_reads text pair refuted =
   where
     nothing_below : 0 < 0 → ⊥
     nothing_below h = omega arith
-
--- so do all of a list, where none is refuted
-pub none_refuted : {A : Type 0} (P : A → Type 0) (xs : List A) → AllByRecursion (λ x. IsUnrefuted (P x)) xs
-    → IsUnrefuted (AllByRecursion P xs)
-none_refuted P [] all refuted = refuted tt
-none_refuted P (x ∷ xs) all refuted = all.0 (λ p. none_refuted P xs all.1 (λ rest. refuted (p, rest)))

@@ -4,7 +4,6 @@ use Rattle.std.specs.Prelude.{Ok}
 use Rattle.std.proofs.lemmas.Option.{none-some, same_Some}
 use Rattle.std.specs.List.{AllByRecursion}
 use Rattle.jiff.specs.Words.{civil_nanos}
-use Rattle.cookie_text.specs.Printing.{printed}
 use Rattle.cookie_text.specs.Reading.{ReadsPlain}
 use Rattle.cookie_text.specs.ReadingBack.{Pairwise}
 use Rattle.serde_json.specs.Read.{read}
@@ -32,7 +31,6 @@ use Rattle.cookie_store.specs.SavedRows.{IsShownAs, IsLoadedFrom, IsReread, IsEx
 use Rattle.cookie_store.specs.SavedRows.{domain_shown}
 use Rattle.cookie_store.specs.SavedTexts.{of_saved_text}
 use Rattle.cookie_store.proofs.GroupedLemmas.{loaded_stay}
-use Rattle.cookie_store.proofs.ReadableLemmas.{IsUnrefuted, pair_reads, none_refuted}
 use Rattle.cookie_store.proofs.ShownLemmas.{same_shown, date_bytes, whole, whole_nanos}
 
 -- ---- one row
@@ -137,20 +135,15 @@ module _ (read_printed : PrintedDatesAreRead) (dropped : FractionsAreDropped) (o
   expiry_reads None (Some date) h = absurd h
   expiry_reads None None h = (SessionEnd, tt)
 
-  each_reads : (rows : List Row) (ts : List Shown) → AllByRecursion PrintsCookie rows → Pairwise IsShownAs rows ts
-      → AllByRecursion (λ t. IsUnrefuted (IsReadable t)) ts
-  each_reads [] [] p h = tt
-  each_reads [] (t ∷ ts) p h = absurd h
-  each_reads (r ∷ rs) [] p h = absurd h
-  each_reads (r ∷ rs) (t ∷ ts) p h = (
-    λ refuted. pair_reads (printed r.raw.cookie) p.0
-        (λ reads. refuted (subst IsCookieText (sym h.0.raw) reads, expiry_reads r.death t.expires h.0.expires)),
-    each_reads rs ts p.1 h.1,
-  )
-
   all_read : (rows : List Row) (ts : List Shown) → AllByRecursion PrintsCookie rows → Pairwise IsShownAs rows ts
-      → IsUnrefuted (AllByRecursion IsReadable ts)
-  all_read rows ts p h = none_refuted IsReadable ts (each_reads rows ts p h)
+      → AllByRecursion IsReadable ts
+  all_read [] [] p h = tt
+  all_read [] (t ∷ ts) p h = absurd h
+  all_read (r ∷ rs) [] p h = absurd h
+  all_read (r ∷ rs) (t ∷ ts) p h = (
+    (subst IsCookieText (sym h.0.raw) p.0, expiry_reads r.death t.expires h.0.expires),
+    all_read rs ts p.1 h.1,
+  )
 
   pub ron_read : WrittenIsOfGrammar → RonIsRead
   ron_read written rows text e bytes prints utf8 (ts, shown, is) (inl (e_is, none)) = absurd (none utf8)
@@ -160,7 +153,7 @@ module _ (read_printed : PrintedDatesAreRead) (dropped : FractionsAreDropped) (o
       shows = subst (λ x. ShowsRon x ts) (sym is) (written ts (rows_bytes rows ts bytes shown))
 
       by : (cause : SavedTextError) → IsRonFault text cause → e ≡ of_saved_text cause → e ≡ OutOfMemory
-      by (fault.Ron n) why e_is = absurd (all_read rows ts prints shown (why.0 ts shows))
+      by (fault.Ron n) why e_is = absurd (why.0 ts shows (all_read rows ts prints shown))
       by fault.OutOfMemory why e_is = e_is
       by fault.NotText why e_is = absurd (why utf8)
       by fault.Json why e_is = absurd why
@@ -176,7 +169,7 @@ module _ (read_printed : PrintedDatesAreRead) (dropped : FractionsAreDropped) (o
       by : (cause : SavedTextError) → IsJsonFault AreNoRows text cause → e ≡ of_saved_text cause → e ≡ OutOfMemory
       by fault.Json why e_is = absurd (none-some (rows_value ts) (sym why ∙ value))
       by fault.Shape (d, reads, none) e_is =
-          absurd (all_read rows ts prints shown (none ts (same_Some d (rows_value ts) (sym reads ∙ value))))
+          absurd (none ts (same_Some d (rows_value ts) (sym reads ∙ value)) (all_read rows ts prints shown))
       by fault.OutOfMemory why e_is = e_is
       by fault.NotText why e_is = absurd why
       by (fault.Ron n) why e_is = absurd why

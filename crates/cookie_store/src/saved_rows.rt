@@ -6,12 +6,13 @@ ghost use Rattle.jiff.specs.Words.{civil_nanos};
 ghost use Rattle.saved_text.specs.JsonReading.{AreShown};
 ghost use Rattle.saved_text.specs.Row.{Shown};
 ghost use Rattle.saved_text.specs.Saved.{shown, IsCookieText};
-ghost use Rattle.cookie_store.specs.SavedRows.{IsShownAs, IsLoadedFrom};
+ghost use Rattle.cookie_store.specs.SavedRows.{IsShownAs};
 ghost use Rattle.cookie_store.specs.SavedTexts.{IsSaveFault, HasLoaded, of_saved_text};
 ghost use Rattle.cookie_store.specs.Steps.{wanted};
 ghost use Rattle.cookie_store.specs.StoredCookie.{stored_of};
 
-use crate::rows::IterAny;
+use crate::loading::put_loaded;
+use crate::rows::{IterAny, Rows};
 use crate::saved_row::{loaded_of, saved_of};
 use crate::saving::is_wanted;
 use crate::store::CookieStore;
@@ -77,22 +78,6 @@ pub(crate) fn taken<C: StoreCookie + Drop>(
     Ok(taken)
 }
 
-/// The cookies of the rows, whose texts read.
-pub(crate) fn loaded_list(
-    alloc: Global,
-    rows: Vec<SavedRow>,
-) -> Result<Vec<Cookie<'static>>, AllocError>
-    requires { AllByRecursion (λ r. IsCookieText (shown r).raw) rows.items }
-    ensures { IfOk result (λ cookies. (all : List Shown) → AreShown all rows.items
-        → Pairwise IsLoadedFrom all (map stored_of cookies.items)) }
-{
-    let mut cookies = Vec::new(alloc);
-    for row in rows {
-        cookies.push(loaded_of(alloc, row)?)?;
-    }
-    Ok(cookies)
-}
-
 /// A store that loaded the rows, whose texts read: those that are expired at `now` too, or not.
 pub(crate) fn store_of_rows(
     alloc: Global,
@@ -104,8 +89,12 @@ pub(crate) fn store_of_rows(
     ensures { IfOk result (λ store. (all : List Shown) → AreShown all rows.items
         → HasLoaded with_expired (civil_nanos now) all store) }
 {
-    let cookies = loaded_list(alloc, rows)?;
-    CookieStore::of_loaded(alloc, cookies, with_expired, now)
+    let mut placed = Rows::new(alloc);
+    for row in rows {
+        let cookie = loaded_of(alloc, row)?;
+        put_loaded(alloc, &mut placed, cookie, with_expired, now)?;
+    }
+    Ok(CookieStore::of_rows(alloc, placed))
 }
 
 /// A refusal of a saved text, by its name.

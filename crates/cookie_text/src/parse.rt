@@ -1,7 +1,7 @@
 //! Reading a cookie from its text (RFC 6265, section 5.2).
-ghost use Rattle.std.specs.Prelude.{◌≡◌, [], Some, None, string_bytes};
+ghost use Rattle.std.specs.Prelude.{◌≡◌, ◌↔◌, [], Some, None, IsTrue, string_bytes};
 ghost use Rattle.cookie_text.specs.Pieces.{pieces, name_of, text_after};
-ghost use Rattle.cookie_text.specs.Reading.{HasAttributes, HasSlices, ReadsPlain};
+ghost use Rattle.cookie_text.specs.Reading.{HasAttributes, HasSlices, IsPair, ReadsPlain, first_piece};
 ghost use Rattle.cookie_text.specs.Steps.{ReadsPair, ReadsFirst, ReadsFirstEncoded, ReadsFurther};
 ghost use Rattle.cookie_text.specs.Decoding.{ReadsEncoded, ReadsOwned, ReadsEncodedOwned, IsOwnedOutcome};
 
@@ -31,6 +31,14 @@ impl<'c> Cookie<'c> {
             }
             None => Cookie::read_pair(text),
         }
+    }
+
+    /// Whether [`Cookie::parse`] reads a cookie of `text`. No attribute stands against that, so what stands behind the
+    /// first `;` isn't looked at.
+    pub fn parses(text: &str) -> bool
+        ensures { IsTrue result ↔ IsPair (first_piece text.now) }
+    {
+        split_pair(first_of(text)).is_ok()
     }
 
     /// Reads a cookie whose name and value are percent-decoded (RFC 3986, section 2.1).
@@ -132,6 +140,16 @@ fn own<'c>(
             Err(_) => Err(ParseError::OutOfMemory),
         },
         Err(error) => Err(error),
+    }
+}
+
+// The first piece.
+fn first_of(text: &str) -> &str
+    ensures { result.now ≡ first_piece text.now }
+{
+    match text.split_once(';') {
+        Some((first, _)) => first,
+        None => text,
     }
 }
 

@@ -1,12 +1,9 @@
 -- Rows from values of JSON.
-use Rattle.std.specs.Prelude.{ℕ, List, [], ◌∷◌, ◌++◌, Bool, true, false, Option, Some, None, Ok, Err, Result, IsTrue}
-use Rattle.std.specs.Prelude.{IfOk, IfErr, is_ok, ◌↔◌, codes, unwrap_or, option_and_then}
+use Rattle.std.specs.Prelude.{ℕ, List, [], ◌∷◌, ◌++◌, Bool, true, false, Option, Some, None, Ok, Err, Result}
+use Rattle.std.specs.Prelude.{IfOk, IfErr, codes, unwrap_or, option_and_then}
 use Rattle.std.proofs.Common.{◌≡◌, length, arith, refl, sym, ap, ◌∙◌, subst}
 use Rattle.std.proofs.lemmas.Bool.{true≢false}
 use Rattle.std.specs.List.{AllByRecursion}
-use Rattle.cookie_text.specs.Reading.{ReadsPlain}
-use Rattle.cookie_text.specs.Record.{Seen}
-use Rattle.cookie_text.specs.declared.error.ParseError.{ParseError}
 use Rattle.serde_json.specs.Data.{Data, array, Items, no_items, item}
 use Rattle.serde_json.specs.Find.{as_array, as_str, get}
 use Rattle.serde_json.specs.Read.{read}
@@ -20,16 +17,6 @@ use Rattle.saved_text.specs.Saved.{IsCookieText, IsShown}
 use Rattle.saved_text.specs.declared.error.SavedTextError.{SavedTextError}
 use Rattle.saved_text.specs.declared.error.SavedTextError.TheVariants as fault
 use Rattle.saved_text.specs.declared.row.SavedRow.{SavedRow}
-
--- ---- raw cookies
-
-pub unparsed : (text : List ℕ) (e : ParseError) → ReadsPlain text (Err e) → ¬ (IsCookieText text)
-unparsed text e h p = true≢false (sym (h.accepted.1 (p.1.accepted.0 refl)))
-
-pub cookie_test : (text : List ℕ) (r : Result Seen ParseError) (b : Bool) → ReadsPlain text r → b ≡ is_ok r
-    → IsTrue b ↔ IsCookieText text
-cookie_test text (Ok s) b h e = (λ t. (s, h), λ p. e)
-cookie_test text (Err x) b h e = (λ t. absurd (true≢false (sym t ∙ e)), λ p. absurd (unparsed text x h p))
 
 -- ---- one row
 

@@ -1,7 +1,6 @@
 -- Rows, what is shown of them in a text, and what is read from what a text shows.
-use Rattle.std.specs.Prelude.{◌≡◌, ℕ, List, Option, Some, None, Ok, string_bytes}
-use Rattle.cookie_text.specs.Record.{Seen}
-use Rattle.cookie_text.specs.Reading.{ReadsPlain}
+use Rattle.std.specs.Prelude.{◌≡◌, ℕ, List, Option, Some, None, string_bytes}
+use Rattle.cookie_text.specs.Reading.{IsPair, first_piece}
 use Rattle.jiff.specs.Words.{civil_nanos}
 use Rattle.saved_text.specs.Row.{Shown, Domain, host_only, suffix, not_present, empty}
 use Rattle.saved_text.specs.Rfc3339.{date_text}
@@ -33,9 +32,10 @@ shown r = record {
   expires = expires_shown r.expires;
 }
 
--- the text reads as a cookie (RFC 6265, section 5.2)
+-- the text reads as a cookie, as `ReadsPlain` accepts it: what stands before its first semicolon is a pair (RFC 6265,
+-- section 5.2)
 abbrev pub IsCookieText : List ℕ → Type 0
-IsCookieText text = (s : Seen) × ReadsPlain text (Ok s)
+IsCookieText text = IsPair (first_piece text)
 
 -- the date is of this moment
 abbrev pub IsDeath : Option (List ℕ) → SavedExpiration → Type 0

@@ -146,7 +146,7 @@ pub(crate) fn row_from(alloc: Global, parts: RowParts) -> Result<SavedRow, Saved
 pub(crate) fn is_cookie(text: &str) -> bool
     ensures { IsTrue result ↔ IsCookieText text.now }
 {
-    Cookie::parse(text).is_ok()
+    Cookie::parses(text)
 }
 
 // The death at a date, or at the end of the session.
