@@ -1,4 +1,5 @@
-/* Fonnalich for C: an HTTP client's cookies (RFC 6265) behind a handle, by a proved static library.
+/* Fonnalich for C: the cookies of a client and of a site (RFC 6265), by a proved static library. A client stands behind
+   a handle; what a site asks for is a call by itself, fonnalich_exchange, and takes no handle.
 
    A text is a pointer and a length in bytes; no pointer may be null, even for no bytes ("" serves). A moment is a whole
    second since 1970-01-01T00:00:00 UTC. A call answers the length of its answer, which then stands at the beginning of
@@ -30,6 +31,13 @@ enum {
     FONNALICH_SAVED = -7,     /* the text is no saved client */
     FONNALICH_YEAR = -8,      /* a cookie that is to be saved ends in a year below 0 */
     FONNALICH_READ = -9,      /* the saved text wasn't read to its end; no call answers this */
+    FONNALICH_KEY = -10,      /* the key has under 64 bytes */
+    FONNALICH_COMMAND = -11,  /* a line is no command */
+    FONNALICH_EMPTY_NAME = -12, /* the name of a cookie is empty */
+    FONNALICH_EXPIRY = -13,   /* the expiry of a cookie is of a year below 100 */
+    FONNALICH_TOO_LONG = -14, /* the value or the name of a cookie is too long to be sealed */
+    FONNALICH_NONCES = -15,   /* a cookie is to be sealed, and fewer than twelve bytes of nonces are left */
+    FONNALICH_HOST = -16,     /* the host has no byte, or an empty label */
     FONNALICH_STOPPED = -100  /* this or less, from fonnalich_receive alone: see there */
 };
 
@@ -59,9 +67,55 @@ enum {
     FONNALICH_DO_RESTART = 6
 };
 
+/* ---- the fronts of a command's line: what is done, and the way in which the cookie is kept */
+#define FONNALICH_SET "S"    /* and behind the way a Set-Cookie line, whose name and value are percent-decoded */
+#define FONNALICH_REMOVE "R" /* and behind the way a name, which is percent-decoded */
+#define FONNALICH_GET "G"    /* the same */
+#define FONNALICH_PLAIN "0"
+#define FONNALICH_HOST_WAY "1"   /* under the prefix __Host- */
+#define FONNALICH_SECURE_WAY "2" /* under the prefix __Secure- */
+#define FONNALICH_SIGNED "3"
+#define FONNALICH_SEALED "4"
+
+/* How many bytes a key has, and a nonce. */
+enum { FONNALICH_KEY_LENGTH = 64, FONNALICH_NONCE_LENGTH = 12 };
+
 #ifdef __cplusplus
 extern "C" {
 #endif
+
+/* One exchange of a site: a session with this key on a request's Cookie header obeys the commands, lines joined by
+   '\n', as FONNALICH_SET FONNALICH_SEALED "cart=3; Max-Age=60; HttpOnly". A set cookie gets Secure and Path=/ and loses
+   its Domain; a later set of its name takes its place. The second is the moment of removals.
+
+   The answer has an item for each value that was read, in their order, and behind these one for each Set-Cookie line,
+   in no promised order: fonnalich_next takes them out. A command that is refused refuses the call.
+
+   Each set by FONNALICH_SEALED takes the next twelve bytes of `nonces`, which have to be random and never used before
+   with this key. The call keeps nothing. Where the answer has no room, make the call again with more, and with the same
+   nonces: the answer is as long, since it is the same. */
+ptrdiff_t fonnalich_exchange(const char *key, size_t key_length, const char *header, size_t header_length,
+                             int64_t second, const char *commands, size_t commands_length, const char *nonces,
+                             size_t nonces_length, char *out, size_t out_length);
+
+/* Writes the public suffix of a host by the bytes of a public suffix list, which is read anew at each call. The host is
+   in IDNA ASCII form and lower case. FONNALICH_HOST where it is no name. */
+ptrdiff_t fonnalich_suffix(const char *list, size_t list_length, const char *host, size_t host_length, char *out,
+                           size_t out_length);
+
+/* Takes the first item out of an answer that lies from *at to `end`: its text, and its length, or -1 where the value
+   that was read isn't there. Answers 0 where no item is left. */
+static inline int fonnalich_next(const char **at, const char *end, const char **text, ptrdiff_t *length) {
+    uint64_t bytes = 0;
+    if (end - *at < 8)
+        return 0;
+    for (int i = 8; i-- > 0;)
+        bytes = bytes << 8 | (unsigned char)(*at)[i];
+    *text = *at + 8;
+    *length = bytes == UINT64_MAX ? -1 : (ptrdiff_t)bytes;
+    *at = *text + (*length < 0 ? 0 : *length);
+    return 1;
+}
 
 /* How many bytes a handle takes: at most sizeof(fonnalich). */
 size_t fonnalich_size(void);

@@ -118,6 +118,109 @@ static void comes_back(void) {
     fonnalich_free(&at);
 }
 
+/* ---- a site's exchange */
+
+static char key[FONNALICH_KEY_LENGTH], nonces[2 * FONNALICH_NONCE_LENGTH];
+
+/* The signing and the sealing of these values, by Python's hmac and its package cryptography, with the key of the bytes
+   0 to 63 and the nonce of 0 to 11. */
+#define SIGNED_PAIR "user=DR8SuBlsUrDbRKVCnIMjAjDAS1re9vpW+c9wxfBEMkI%3Dann"
+#define SEALED_PAIR "cart=AAECAwQFBgcICQoLb5T4daAgt1ZgMJl8aENxbCo%3D"
+#define SIGNED_LINE SIGNED_PAIR "; Secure; Path=/"
+#define SEALED_LINE SEALED_PAIR "; Secure; Path=/"
+
+static ptrdiff_t serve(const char *header, const char *commands, size_t nonces_length, char *out, size_t room) {
+    return fonnalich_exchange(key, sizeof key, T(header), NOW, T(commands), nonces, nonces_length, out, room);
+}
+
+/* The items of an answer, each behind '|', and '-' for none. */
+static const char *items(const char *out, ptrdiff_t length) {
+    static char all[1024];
+    const char *text;
+    ptrdiff_t bytes;
+    size_t used = 0;
+    for (const char *at = out; length > 0 && fonnalich_next(&at, out + length, &text, &bytes);)
+        used += snprintf(all + used, sizeof all - used, "|%.*s", bytes < 0 ? 1 : (int)bytes, bytes < 0 ? "-" : text);
+    all[used] = 0;
+    return all;
+}
+
+static int serves(const char *header, const char *commands, const char *wanted) {
+    char out[1024];
+    ptrdiff_t length = serve(header, commands, sizeof nonces, out, sizeof out);
+    calls++;
+    return length >= 0 && length <= (ptrdiff_t)sizeof out && strcmp(items(out, length), wanted) == 0;
+}
+
+static void is_a_site(void) {
+    ask(serves("", "S0a=1\nS0a=2; HttpOnly; Max-Age=60", "|a=2; HttpOnly; Secure; Path=/; Max-Age=60"), "the last set");
+    ask(serves("", "S1a=1", "|__Host-a=1; Secure; Path=/"), "a set by Host");
+    ask(serves("", "S2a=1", "|__Secure-a=1; Secure; Path=/"), "a set by Secure");
+    ask(serves("", "S0a%3Bb=%0A%20\nG0a%3Bb", "|\n |a%3Bb=%0A%20; Secure; Path=/"), "an escaped name and value");
+    ask(serves("a=1; b=2", "G0a\nG0b\nG0c\nG1a", "|1|2|-|-"), "values of the header");
+    const char *removal = "|1|-|__Host-a=; Secure; Path=/; Max-Age=0; Expires=Mon, 14 Nov 2022 22:13:20 GMT";
+    ask(serves("__Host-a=1", "G1a\nR1a\nG1a", removal), "a removal of a year ago");
+    ask(serves("", "S0a=1\nR0a", ""), "a removal of what was set here");
+    ask(serves("", "", ""), "no command");
+}
+
+static void signs_and_seals(void) {
+    char out[1024];
+    ask(serves("", "S3user=ann", "|" SIGNED_LINE), "a signing");
+    ask(serves("", "S4cart=3", "|" SEALED_LINE), "a sealing");
+    ask(serves(SIGNED_PAIR "; " SEALED_PAIR, "G3user\nG4cart\nG3cart\nG4user", "|ann|3|-|-"), "both are read");
+    ask(serves("user=ann", "G3user", "|-"), "what nobody signed");
+    ptrdiff_t length = serve("", "S4a=1\nS4b=1", 24, out, sizeof out);
+    char *first = memchr(out, '=', sizeof out), *second = memchr(first + 1, 'b', sizeof out - (first + 1 - out));
+    ask(length > 0 && second && memcmp(first + 1, second + 2, 16) != 0, "each sealing has a nonce of its own");
+}
+
+static void is_told_its_room(void) {
+    char out[1024], again[1024];
+    memset(out, '#', sizeof out);
+    ptrdiff_t wanted = serve("a=1", "G0a\nS4b=2", 12, out, 5);
+    ask(wanted > 5 && out[0] == '#' && out[4] == '#', "nothing is written without room");
+    ask(gives(serve("a=1", "G0a\nS4b=2", 12, out, wanted), wanted) && out[wanted] == '#', "all of it with room");
+    ask(gives(serve("a=1", "G0a\nS4b=2", 12, again, sizeof again), wanted) && !memcmp(out, again, wanted), "and again");
+}
+
+static void refuses_a_site(void) {
+    char out[64] = "#";
+    static const char *none[] = {"S",   "x",    "S5a=1",    "s0a=1",   "X0a",   "S0",
+                                 "S0a", "S0=1", "S0\xff=1", "S0%ff=1", "G0%ff", "\n"};
+    for (size_t i = 0; i < sizeof none / sizeof *none; i++)
+        ask(gives(serve("", none[i], 0, out, sizeof out), FONNALICH_COMMAND), none[i]);
+    ask(gives(serve("", "S0a=1\nG0", 0, out, sizeof out), FONNALICH_EMPTY_NAME), "no name is read");
+    ask(gives(serve("", "R0", 0, out, sizeof out), FONNALICH_EMPTY_NAME), "no name is removed");
+    ask(gives(serve("", "S4a=1", 11, out, sizeof out), FONNALICH_NONCES), "a short nonce");
+    ask(gives(serve("", "S4a=1\nS4b=1", 23, out, sizeof out), FONNALICH_NONCES), "a short second one");
+    ask(gives(fonnalich_exchange(key, 63, "", 0, NOW, "", 0, "", 0, out, sizeof out), FONNALICH_KEY), "a short key");
+    ptrdiff_t number = fonnalich_exchange(key, 64, "", 0, INT64_MIN, "", 0, "", 0, out, sizeof out);
+    ask(gives(number, FONNALICH_MOMENT), "no moment");
+    number = fonnalich_exchange(key, 64, "", 0, -60000000000, "R0a", 3, "", 0, out, sizeof out);
+    ask(gives(number, FONNALICH_EXPIRY), "a removal in the year 68");
+    ask(out[0] == '#', "nothing is written");
+}
+
+static void finds_suffixes(void) {
+    char out[64];
+    ask(is(out, fonnalich_suffix(T(LIST), T("www.example.com"), out, sizeof out), "com"), "a rule");
+    ask(is(out, fonnalich_suffix(T(LIST), T("www.example.ck"), out, sizeof out), "example.ck"), "a wildcard");
+    ask(is(out, fonnalich_suffix(T(LIST), T("www.example.net."), out, sizeof out), "net"), "no rule");
+    ask(gives(fonnalich_suffix(T(LIST), T("www.example.com"), out, 2), 3), "no room");
+    ask(gives(fonnalich_suffix(T(LIST), T("a..com"), out, sizeof out), FONNALICH_HOST), "an empty label");
+    ask(gives(fonnalich_suffix(T("a..b"), T("a.com"), out, sizeof out), FONNALICH_LIST), "no list");
+}
+
+static void serves_often(long rounds) {
+    char commands[64], wanted[64];
+    for (long i = 0; i < rounds; i++) {
+        snprintf(commands, sizeof commands, "S0n=%ld\nS4m=%ld\nG4m\nR4m", i, i);
+        snprintf(wanted, sizeof wanted, "|%ld|n=%ld; Secure; Path=/", i, i);
+        ask(serves(SIGNED_PAIR, commands, wanted), "an exchange");
+    }
+}
+
 /* ---- many calls */
 
 static void goes_on(long rounds) {
@@ -143,7 +246,7 @@ static int again(ptrdiff_t number) {
 }
 
 static void bears_a_refusal(long growth) {
-    char out[256], saved[2048];
+    char out[1024], saved[2048];
     ptrdiff_t number;
     fonnalich at;
     growths = 0;
@@ -178,6 +281,13 @@ static void bears_a_refusal(long growth) {
         number = fonnalich_header(&at, NOW, T(URL), out, sizeof out);
     ask(is(out, number, "id=1"), "the header of what was saved");
     fonnalich_free(&at);
+    const char *commands = "G3user\nS4a%20b=%2B; Max-Age=60\nG4a%20b\nR3user", *header = "x=1; " SIGNED_PAIR;
+    if (again(number = serve(header, commands, 12, out, sizeof out)))
+        number = serve(header, commands, 12, out, sizeof out);
+    ask(number > 0 && strncmp(items(out, number), "|ann|+|", 7) == 0, "an exchange");
+    if (again(number = fonnalich_suffix(T(LIST), T("a.com"), out, sizeof out)))
+        number = fonnalich_suffix(T(LIST), T("a.com"), out, sizeof out);
+    ask(is(out, number, "com"), "a suffix");
 }
 
 int main(int count, char **words) {
@@ -186,7 +296,17 @@ int main(int count, char **words) {
     tells_refusals();
     keeps_an_answer();
     comes_back();
+    for (int i = 0; i < FONNALICH_KEY_LENGTH; i++)
+        key[i] = i;
+    for (int i = 0; i < 2 * FONNALICH_NONCE_LENGTH; i++)
+        nonces[i] = i;
+    is_a_site();
+    signs_and_seals();
+    is_told_its_room();
+    refuses_a_site();
+    finds_suffixes();
     goes_on(rounds);
+    serves_often(rounds);
     long refused = 0;
     do {
         bears_a_refusal(++refused);

@@ -1,18 +1,20 @@
-"""Cookies of an HTTP client (RFC 6265), kept by the proved library fonnalich.
+"""Cookies of an HTTP client and of a site (RFC 6265), by the proved library fonnalich.
 
-`Client` is the client itself; `Jar` is one for `urllib`, and `Adapter` one for `requests`. Set FONNALICH_LIB to the
-path of the shared library where it isn't in out/.
+`Session` is what a site reads and sets within one request. `Client` is a client; `Jar` is one for `urllib`, and
+`Adapter` one for `requests`. Set FONNALICH_LIB to the path of the shared library where it isn't in out/.
 """
 import ctypes
+import email.utils
 import enum
 import http.cookiejar
 import os
 import threading
 import time
+import urllib.parse
 import urllib.request
 from typing import Iterable, List, Optional, Union
 
-__all__ = ["Adapter", "Client", "End", "Jar", "Refused", "Stopped"]
+__all__ = ["Adapter", "Client", "End", "Jar", "Refused", "Session", "Stopped", "Way", "suffix"]
 
 _HERE = os.path.dirname(os.path.abspath(__file__))
 _PATH = os.environ.get("FONNALICH_LIB") or os.path.join(_HERE, "..", "..", "out", "libfonnalich.so")
@@ -26,10 +28,15 @@ _LIB.fonnalich_end.restype = None
 _LIB.fonnalich_act.argtypes = [ctypes.c_void_p, ctypes.c_uint32, ctypes.c_int64, *_TEXT, *_TEXT, ctypes.c_void_p,
                                ctypes.c_size_t]
 _LIB.fonnalich_act.restype = ctypes.c_ssize_t
+_LIB.fonnalich_exchange.argtypes = [*_TEXT, *_TEXT, ctypes.c_int64, *_TEXT, *_TEXT, ctypes.c_void_p, ctypes.c_size_t]
+_LIB.fonnalich_exchange.restype = ctypes.c_ssize_t
+_LIB.fonnalich_suffix.argtypes = [*_TEXT, *_TEXT, ctypes.c_void_p, ctypes.c_size_t]
+_LIB.fonnalich_suffix.restype = ctypes.c_ssize_t
 
 _ANSWER, _LIST, _LOAD, _RECEIVE, _HEADER, _SAVE, _RESTART = range(7)
 _STOPPED = -100
 _ROOM = 4096
+_KEY_LENGTH, _NONCE_LENGTH = 64, 12
 
 
 class End(enum.IntEnum):
@@ -51,7 +58,8 @@ class End(enum.IntEnum):
 class Refused(ValueError):
     """A call was refused; `number` is that of the header file."""
 
-    NAMES = {-2: "Word", -3: "NoClient", -4: "List", -5: "Moment", -6: "Url", -7: "Saved", -8: "Year", -9: "Read"}
+    NAMES = {-2: "Word", -3: "NoClient", -4: "List", -5: "Moment", -6: "Url", -7: "Saved", -8: "Year", -9: "Read",
+             -10: "Key", -11: "Command", -12: "EmptyName", -13: "Expiry", -14: "TooLong", -15: "Nonces", -16: "Host"}
 
     def __init__(self, number: int):
         super().__init__(self.NAMES.get(number, str(number)))
@@ -68,6 +76,109 @@ class Stopped(MemoryError):
 
 def _bytes(text: Union[str, bytes]) -> bytes:
     return text if isinstance(text, bytes) else text.encode("utf-8", "surrogateescape")
+
+
+def _second(now: Optional[int]) -> int:
+    return int(time.time()) if now is None else now
+
+
+def _raise(number: int) -> None:
+    """Raises what a number below 0 says."""
+    if number <= _STOPPED:
+        raise Stopped(_STOPPED - number)
+    if number == -1:
+        raise MemoryError
+    if number < 0:
+        raise Refused(number)
+
+
+def _answered(call, *words: Union[bytes, int]) -> bytes:
+    """The answer of a call without a handle; where it has no room, the same call is made again with more."""
+    given = [it for word in words for it in ([word, len(word)] if isinstance(word, bytes) else [word])]
+    length = _ROOM
+    while True:
+        room = ctypes.create_string_buffer(length)
+        length = call(*given, room, len(room))
+        _raise(length)
+        if length <= len(room):
+            return room[:length]
+
+
+def suffix(suffixes: Union[str, bytes], host: str) -> str:
+    """The public suffix of a host, which is in IDNA ASCII form and lower case, by the text of a list."""
+    return _answered(_LIB.fonnalich_suffix, _bytes(suffixes), _bytes(host)).decode()
+
+
+class Way(enum.Enum):
+    """How a site keeps a cookie."""
+
+    PLAIN = b"0"
+    HOST = b"1"
+    SECURE = b"2"
+    SIGNED = b"3"
+    SEALED = b"4"
+
+
+def _escaped(text: str) -> bytes:
+    return urllib.parse.quote_from_bytes(_bytes(text), safe="").encode()
+
+
+class Session:
+    """The cookies of one request of a site: those of its header, and what was set and removed since.
+
+    `key` has 64 secret bytes, and is the same for all requests. `now` is the second of the request, since 1970; none is
+    now. A set cookie gets `Secure` and `Path=/`. Nothing is kept behind a session, and none has to be closed.
+    """
+
+    def __init__(self, header: Union[str, bytes], key: bytes, now: Optional[int] = None):
+        if len(key) != _KEY_LENGTH:
+            raise ValueError(f"a key of {len(key)} bytes")
+        self._header, self._key, self._now = _bytes(header), key, _second(now)
+        self._commands: List[bytes] = []
+        self._nonces = b""
+
+    def get(self, way: Way, name: str) -> Optional[str]:
+        """The value of a name, as it was set in this way: set last here, else in the header."""
+        return self._items([*self._commands, b"G" + way.value + _escaped(name)], self._nonces)[0]
+
+    def set(self, way: Way, name: str, value: str, max_age: Optional[int] = None, expires: Optional[int] = None,
+            http_only: bool = False, same_site: Optional[str] = None, partitioned: bool = False) -> None:
+        """Sets a cookie in a way. `max_age` is in seconds, `expires` a second since 1970, `same_site` one of `Strict`,
+        `Lax` and `None`. By `Way.SEALED` it takes a nonce of `os.urandom`."""
+        if same_site not in (None, "Strict", "Lax", "None"):
+            raise ValueError(f"same_site is {same_site!r}")
+        line = b"S" + way.value + _escaped(name) + b"=" + _escaped(value)
+        line += b"; HttpOnly" if http_only else b""
+        line += f"; SameSite={same_site}".encode() if same_site else b""
+        line += b"; Partitioned" if partitioned else b""
+        line += b"; Max-Age=%d" % max_age if max_age is not None else b""
+        line += b"; Expires=" + email.utils.formatdate(expires, usegmt=True).encode() if expires is not None else b""
+        self._add(line, os.urandom(_NONCE_LENGTH) if way is Way.SEALED else b"")
+
+    def remove(self, way: Way, name: str) -> None:
+        """Removes the cookie of a name that was set in a way."""
+        self._add(b"R" + way.value + _escaped(name), b"")
+
+    def close(self) -> List[str]:
+        """The `Set-Cookie` line of each cookie that was set or removed, in no promised order."""
+        return self._items(self._commands, self._nonces)
+
+    def _add(self, command: bytes, nonce: bytes) -> None:
+        # What a command is refused for is in itself, and so is asked of it alone.
+        self._exchange(b"", [command], nonce)
+        self._commands.append(command)
+        self._nonces += nonce
+
+    def _items(self, commands: List[bytes], nonces: bytes) -> list:
+        answer, at, items = self._exchange(self._header, commands, nonces), 0, []
+        while at < len(answer):
+            length = int.from_bytes(answer[at:at + 8], "little", signed=True)
+            items.append(None if length < 0 else answer[at + 8:at + 8 + length].decode())
+            at += 8 + max(length, 0)
+        return items
+
+    def _exchange(self, header: bytes, commands: List[bytes], nonces: bytes) -> bytes:
+        return _answered(_LIB.fonnalich_exchange, self._key, header, self._now, b"\n".join(commands), nonces)
 
 
 class Client:
@@ -87,11 +198,7 @@ class Client:
         if saved is None:
             self._call(_LIST, 0, b"", _bytes(suffixes))
         else:
-            self._call(_LOAD, self._second(now), saved, _bytes(suffixes))
-
-    @staticmethod
-    def _second(now: Optional[int]) -> int:
-        return int(time.time()) if now is None else now
+            self._call(_LOAD, _second(now), saved, _bytes(suffixes))
 
     def _call(self, word: int, second: int, subject: bytes, text: bytes) -> bytes:
         with self._lock:
@@ -102,12 +209,7 @@ class Client:
             if length > len(self._room):
                 self._room = ctypes.create_string_buffer(length)
                 length = _LIB.fonnalich_act(self._place, _ANSWER, 0, b"", 0, b"", 0, self._room, length)
-            if length <= _STOPPED:
-                raise Stopped(_STOPPED - length)
-            if length == -1:
-                raise MemoryError
-            if length < 0:
-                raise Refused(length)
+            _raise(length)
             return self._room[:length]
 
     def receive(self, url: str, lines: Iterable[Union[str, bytes]], now: Optional[int] = None) -> List[End]:
@@ -120,19 +222,19 @@ class Client:
         # One empty line is no text, and no cookie.
         if each == [b""]:
             return [End.PARSE]
-        return [End(number) for number in self._call(_RECEIVE, self._second(now), _bytes(url), b"\n".join(each))]
+        return [End(number) for number in self._call(_RECEIVE, _second(now), _bytes(url), b"\n".join(each))]
 
     def header(self, url: str, now: Optional[int] = None) -> str:
         """The Cookie header of a request to this URL; empty where it gets none."""
-        return self._call(_HEADER, self._second(now), _bytes(url), b"").decode("utf-8", "surrogateescape")
+        return self._call(_HEADER, _second(now), _bytes(url), b"").decode("utf-8", "surrogateescape")
 
     def save(self, now: Optional[int] = None) -> bytes:
         """The saved text of the cookies that have an expiry and aren't expired."""
-        return self._call(_SAVE, self._second(now), b"", b"")
+        return self._call(_SAVE, _second(now), b"", b"")
 
     def restart(self, now: Optional[int] = None) -> None:
         """Ends the session cookies, as saving and loading does."""
-        self._call(_RESTART, self._second(now), b"", b"")
+        self._call(_RESTART, _second(now), b"", b"")
 
     def close(self) -> None:
         """Gives all memory back. No other call may follow."""

@@ -1,11 +1,18 @@
-"""A site with a login: /login?user=NAME sets a cookie and redirects to /, which greets; /leave removes the cookie.
+"""A site with a login: /login?user=NAME signs a cookie and redirects to /, which greets; /leave removes the cookie.
 
 usage: python3 login_site.py [PORT]
+
+The cookie of a session is Secure, which a client sends over https alone, and to `localhost`. So ask for that host.
 """
-import http.cookies
 import http.server
+import os
 import sys
 import urllib.parse
+
+from fonnalich import Session, Way
+
+# A site of more than one process, or one that starts again, keeps it in a file.
+KEY = os.urandom(64)
 
 
 class Site(http.server.BaseHTTPRequestHandler):
@@ -14,18 +21,20 @@ class Site(http.server.BaseHTTPRequestHandler):
     def do_GET(self) -> None:
         url = urllib.parse.urlsplit(self.path)
         asked = urllib.parse.parse_qs(url.query)
+        session = Session(self.headers.get("Cookie", ""), KEY)
         if url.path == "/login" and "user" in asked:
-            self.redirect("user=" + urllib.parse.quote(asked["user"][0]) + "; Path=/; HttpOnly; Max-Age=3600")
+            session.set(Way.SIGNED, "user", asked["user"][0], max_age=3600, http_only=True, same_site="Lax")
+            self.redirect(session)
         elif url.path == "/leave":
-            self.redirect("user=; Path=/; Max-Age=0")
+            session.remove(Way.SIGNED, "user")
+            self.redirect(session)
         else:
-            sent = http.cookies.SimpleCookie(self.headers.get("Cookie", ""))
-            self.answer(urllib.parse.unquote(sent["user"].value) if "user" in sent else "nobody")
+            self.answer(session.get(Way.SIGNED, "user") or "nobody")
 
-    def redirect(self, line: str) -> None:
+    def redirect(self, session: Session) -> None:
         self.send_response(303)
-        self.send_header("Set-Cookie", line)
-        self.send_header("Set-Cookie", "seen=1; Path=/login")
+        for line in session.close():
+            self.send_header("Set-Cookie", line)
         self.send_header("Location", "/")
         self.send_header("Content-Length", "0")
         self.end_headers()

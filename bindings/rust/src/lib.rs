@@ -1,4 +1,6 @@
-//! Cookies of an HTTP client (RFC 6265), kept by the proved library fonnalich.
+//! Cookies of an HTTP client and of a site (RFC 6265), by the proved library fonnalich.
+//!
+//! A client keeps what it is sent:
 //!
 //! ```
 //! use fonnalich::Client;
@@ -8,6 +10,24 @@
 //! assert_eq!(client.header("https://shop.com/cart", 1_700_000_001)?, b"user=ann");
 //! # Ok::<(), fonnalich::Error>(())
 //! ```
+//!
+//! A site signs a cookie, and reads it at a later request:
+//!
+//! ```
+//! use fonnalich::{Cookie, Key, Session, Way};
+//!
+//! let key = Key::from(&[7; 64]);
+//! let mut session = Session::open("theme=dark", &key, 1_700_000_000);
+//! session.set(Way::Signed, Cookie::new("user", "7").max_age(3600).http_only(true))?;
+//! let lines = session.close()?;
+//! let session = Session::open(lines[0].split(';').next().unwrap(), &key, 1_700_000_001);
+//! assert_eq!(session.get(Way::Signed, "user")?.as_deref(), Some("7"));
+//! # Ok::<(), fonnalich::Error>(())
+//! ```
+
+mod site;
+
+pub use site::{suffix, Cookie, Key, SameSite, Session, Way};
 
 use std::fmt;
 use std::marker::PhantomData;
@@ -29,6 +49,28 @@ mod library {
             subject_length: usize,
             text: *const u8,
             text_length: usize,
+            out: *mut u8,
+            out_length: usize,
+        ) -> isize;
+        #[allow(clippy::too_many_arguments)]
+        pub fn fonnalich_exchange(
+            key: *const u8,
+            key_length: usize,
+            header: *const u8,
+            header_length: usize,
+            second: i64,
+            commands: *const u8,
+            commands_length: usize,
+            nonces: *const u8,
+            nonces_length: usize,
+            out: *mut u8,
+            out_length: usize,
+        ) -> isize;
+        pub fn fonnalich_suffix(
+            list: *const u8,
+            list_length: usize,
+            host: *const u8,
+            host_length: usize,
             out: *mut u8,
             out_length: usize,
         ) -> isize;
@@ -54,6 +96,18 @@ pub enum Error {
     Year,
     /// A line has a line feed.
     LineFeed,
+    /// The name and the value are those of no cookie.
+    Command,
+    /// The name of a cookie is empty.
+    EmptyName,
+    /// The expiry of a cookie is of a year below 100.
+    Expiry,
+    /// The value or the name of a cookie is too long to be sealed.
+    TooLong,
+    /// The host has no byte, or an empty label.
+    Host,
+    /// The system gave no random bytes for a nonce.
+    Random,
     /// Memory was refused at this line, counted from 1: those before it were taken. At 0 none was.
     Stopped(usize),
     /// A number that no call of this crate answers.
@@ -69,6 +123,11 @@ impl Error {
             -6 => Error::Url,
             -7 => Error::Saved,
             -8 => Error::Year,
+            -11 => Error::Command,
+            -12 => Error::EmptyName,
+            -13 => Error::Expiry,
+            -14 => Error::TooLong,
+            -16 => Error::Host,
             ..=-100 => Error::Stopped((-100 - number) as usize),
             _ => Error::Other(number),
         }

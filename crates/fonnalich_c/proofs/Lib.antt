@@ -1,3 +1,4 @@
+pub mod Exchanges
 pub mod Receiving
 pub mod Refusals
 pub mod Steps

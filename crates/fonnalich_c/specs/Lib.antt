@@ -2,3 +2,8 @@ pub mod Numbers
 pub mod Given
 pub mod Tasks
 pub mod Handle
+pub mod Items
+pub mod Room
+pub mod Commands
+pub mod Exchange
+pub mod Suffix

@@ -6,6 +6,8 @@ use Rattle.cookie_store.specs.declared.action.StoreAction.{StoreAction}
 use Rattle.cookie_store.specs.declared.action.StoreAction.TheVariants as action
 use Rattle.cookie_run.specs.declared.step.LineEnd.{LineEnd}
 use Rattle.cookie_run.specs.declared.step.LineEnd.TheVariants as end
+use Rattle.cookie_run.specs.declared.step.SessionError.{SessionError}
+use Rattle.cookie_run.specs.declared.step.SessionError.TheVariants as session
 use Rattle.fonnalich_c.specs.declared.refusal.Refusal.{Refusal}
 use Rattle.fonnalich_c.specs.declared.refusal.Refusal.TheVariants as refusal
 use Rattle.fonnalich_c.specs.declared.word.Word.{Word}
@@ -66,4 +68,19 @@ refusal_number refusal.Url = pos 0 -ℤ pos 6
 refusal_number refusal.Saved = pos 0 -ℤ pos 7
 refusal_number refusal.Year = pos 0 -ℤ pos 8
 refusal_number refusal.Read = pos 0 -ℤ pos 9
+refusal_number refusal.Key = pos 0 -ℤ pos 10
+refusal_number refusal.Command = pos 0 -ℤ pos 11
+refusal_number refusal.EmptyName = pos 0 -ℤ pos 12
+refusal_number refusal.Expiry = pos 0 -ℤ pos 13
+refusal_number refusal.TooLong = pos 0 -ℤ pos 14
+refusal_number refusal.Nonces = pos 0 -ℤ pos 15
+refusal_number refusal.Host = pos 0 -ℤ pos 16
 refusal_number (refusal.Stopped line) = stopped_number line
+
+-- what a session's refusal is told as
+abbrev pub told_as : SessionError → Refusal
+told_as session.EmptyName = refusal.EmptyName
+told_as session.Year = refusal.Expiry
+told_as session.TooLong = refusal.TooLong
+told_as session.Rng = refusal.Nonces
+told_as session.OutOfMemory = refusal.Memory

@@ -8,17 +8,28 @@ ghost use Rattle.std.specs.Prelude.{◌≡◌};
 ghost use types.Logic.{sem};
 ghost use base.Fml.{fex, fsep, ftrue};
 ghost use Rattle.std.specs.Ptr.{points_to, room_at};
+ghost use Rattle.fonnalich_c.specs.Exchange.{IsExchange, IsNoExchange};
 ghost use Rattle.fonnalich_c.specs.Handle.{IsFresh, Acts};
+ghost use Rattle.fonnalich_c.specs.Room.{Gives};
+ghost use Rattle.fonnalich_c.specs.Suffix.{IsSuffixOf, HasNoSuffix};
 ghost use Rattle.fonnalich_c.specs.contracts.held.Held as held;
 
+mod command;
+mod exchange;
 mod given;
 mod held;
 mod memory;
+mod nonce;
 mod refusal;
+mod room;
+mod suffix;
 mod task;
 mod word;
 
+use crate::exchange::exchange;
 use crate::held::{Held, fresh, let_go, work};
+use crate::room::write;
+use crate::suffix::suffix;
 use std::alloc::Global;
 
 /// How many bytes the place of a handle has, which stands at a multiple of 8.
@@ -87,4 +98,38 @@ pub unsafe extern "C" fn fonnalich_end(at: *mut u8)
 {
     let place = at as *mut Held;
     let_go(place.read());
+}
+
+/// One exchange of a site: what a session with this key on this header answers to the commands, a line each.
+///
+/// It needs no handle and keeps nothing: an answer that has no room is made again by the same call with more, as long
+/// as its nonces are the same. Each set by `Sealed` takes the next twelve bytes of `nonces`.
+#[unsafe(no_mangle)]
+pub extern "C" fn fonnalich_exchange(
+    alloc: Global,
+    key: &[u8],
+    header: &[u8],
+    second: i64,
+    commands: &[u8],
+    nonces: &[u8],
+    out: &mut [u8],
+) -> isize
+    ensures { Gives (IsExchange key.now header.now second commands.now nonces.now)
+        (IsNoExchange key.now header.now second commands.now nonces.now) out.old out.new result }
+{
+    match exchange(alloc, key, header, second, commands, nonces) {
+        Ok(answer) => write(&answer, out),
+        Err(refusal) => refusal.number(),
+    }
+}
+
+/// The public suffix of a host by the list of a text, which is read anew at each call.
+#[unsafe(no_mangle)]
+pub extern "C" fn fonnalich_suffix(alloc: Global, list: &[u8], host: &[u8], out: &mut [u8]) -> isize
+    ensures { Gives (IsSuffixOf list.now host.now) (HasNoSuffix list.now host.now) out.old out.new result }
+{
+    match suffix(alloc, list, host) {
+        Ok(suffix) => write(suffix, out),
+        Err(refusal) => refusal.number(),
+    }
 }

@@ -2,8 +2,9 @@
 ghost use Rattle.std.specs.Prelude.{◌≡◌, ◌*◌, pos};
 ghost use Rattle.fonnalich_c.specs.Numbers as spec;
 
-use cookie_run::LineEnd;
+use cookie_run::{LineEnd, SessionError};
 use cookie_store::{CookieError, StoreAction};
+use std::alloc::AllocError;
 
 /// A line of so many or more is told as this one.
 const LAST_LINE: usize = 1 << 40;
@@ -29,6 +30,20 @@ pub enum Refusal {
     Year,
     /// The saved text wasn't read to its end. Its bytes lie in memory, so no call answers this.
     Read,
+    /// The key has under 64 bytes.
+    Key,
+    /// A line is no command.
+    Command,
+    /// The name of a cookie is empty.
+    EmptyName,
+    /// The expiry of a cookie is of a year below 100.
+    Expiry,
+    /// The value or the name of a cookie is too long to be sealed.
+    TooLong,
+    /// A cookie is to be sealed, and fewer than twelve bytes of nonces are left.
+    Nonces,
+    /// The host has no byte, or an empty label.
+    Host,
     /// Memory was refused at this line, counted from 1: those before it are applied, and no later one
     /// was looked at. At 0 none was.
     Stopped(usize),
@@ -49,8 +64,38 @@ impl Refusal {
             Refusal::Saved => -7,
             Refusal::Year => -8,
             Refusal::Read => -9,
+            Refusal::Key => -10,
+            Refusal::Command => -11,
+            Refusal::EmptyName => -12,
+            Refusal::Expiry => -13,
+            Refusal::TooLong => -14,
+            Refusal::Nonces => -15,
+            Refusal::Host => -16,
             Refusal::Stopped(line) => stopped_number(line),
         }
+    }
+}
+
+impl From<AllocError> for Refusal {
+    ghost use Rattle.fonnalich_c.specs.declared.refusal.Refusal.TheVariants.{Memory};
+
+    ghost from_gives = { λ _ e. e ≡ Memory };
+
+    fn from(_: AllocError) -> Refusal {
+        Refusal::Memory
+    }
+}
+
+/// What a session's refusal is told as. A nonce that was handed in never fails, so no call answers `Rng`.
+pub fn refused(error: SessionError) -> Refusal
+    ensures { result ≡ spec.told_as error }
+{
+    match error {
+        SessionError::EmptyName => Refusal::EmptyName,
+        SessionError::Year => Refusal::Expiry,
+        SessionError::TooLong => Refusal::TooLong,
+        SessionError::Rng => Refusal::Nonces,
+        SessionError::OutOfMemory => Refusal::Memory,
     }
 }
 

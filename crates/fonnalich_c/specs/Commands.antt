@@ -1,0 +1,78 @@
+-- The commands of a site's exchange, a line each (own: docs/DEFINITIONS.md).
+use Rattle.std.specs.Prelude.{ℕ, ◌≡◌, ◌≢◌, ◌⊎◌, ◌==◌, List, [], ◌∷◌, Option, Some, None, Ok, Err, ⊤}
+use Rattle.std.specs.Prelude.{if◌then◌else◌}
+use Rattle.std.specs.Str.{IsUtf8}
+use Rattle.percent_encoding.specs.Percent.{percent_decode}
+use Rattle.cookie_text.specs.Decoding.{ReadsEncoded}
+use Rattle.cookie_text.specs.Record.{Seen, unsliced}
+use Rattle.cookie_text.specs.declared.error.ParseError.{ParseError}
+use Rattle.cookie_text.specs.declared.error.ParseError.TheVariants.{OutOfMemory}
+use Rattle.cookie_run.specs.declared.step.Command.{Command}
+use Rattle.cookie_run.specs.declared.step.Command.TheVariants as commands
+use Rattle.cookie_run.specs.declared.step.Way.{Way}
+use Rattle.cookie_run.specs.declared.step.Way.TheVariants.{Plain, Host, Secure, Signed, Sealed}
+use Rattle.fonnalich_c.specs.declared.command.Verb.{Verb}
+use Rattle.fonnalich_c.specs.declared.command.Verb.TheVariants.{Set, Remove, Get}
+
+-- `S`, `R` and `G`
+abbrev pub verb_of : ℕ → Option Verb
+verb_of letter =
+    if letter == 83 then Some Set
+    else if letter == 82 then Some Remove
+    else if letter == 71 then Some Get
+    else None
+
+-- `0` to `4`
+abbrev pub way_of : ℕ → Option Way
+way_of digit =
+    if digit == 48 then Some Plain
+    else if digit == 49 then Some Host
+    else if digit == 50 then Some Secure
+    else if digit == 51 then Some Signed
+    else if digit == 52 then Some Sealed
+    else None
+
+-- the name that a text stands for, percent-decoded (RFC 3986, section 2.1)
+abbrev pub IsNamed : List ℕ → List ℕ → Type 0
+IsNamed text name = (name ≡ percent_decode text) × IsUtf8 (percent_decode text)
+
+abbrev pub IsNoName : List ℕ → Type 0
+IsNoName text = ¬ IsUtf8 (percent_decode text)
+
+-- the cookie of a `Set-Cookie` line (RFC 6265, section 5.2), its name and value percent-decoded
+unfoldable pub IsCookieOf : List ℕ → Seen → Type 0
+IsCookieOf text cookie =
+    IsUtf8 text × ((read : Seen) × ReadsEncoded text (Ok read) × (cookie ≡ unsliced read.cookie))
+
+unfoldable pub IsNoCookie : List ℕ → Type 0
+IsNoCookie text =
+    (¬ IsUtf8 text) ⊎ ((error : ParseError) × (error ≢ OutOfMemory) × ReadsEncoded text (Err error))
+
+-- what a verb, a way and a text ask for, where the first two are there
+abbrev pub Asks : Option Verb → Option Way → List ℕ → Command → Type 0
+Asks None way text command = ⊥
+Asks (Some verb) None text command = ⊥
+Asks (Some Set) (Some way) text command =
+    (cookie : Seen) × IsCookieOf text cookie × (command ≡ commands.Set way cookie)
+Asks (Some Remove) (Some way) text command =
+    (name : List ℕ) × IsNamed text name × (command ≡ commands.Remove way name)
+Asks (Some Get) (Some way) text command =
+    (name : List ℕ) × IsNamed text name × (command ≡ commands.Get way name)
+
+abbrev pub AskNothing : Option Verb → Option Way → List ℕ → Type 0
+AskNothing None way text = ⊤
+AskNothing (Some verb) None text = ⊤
+AskNothing (Some Set) (Some way) text = IsNoCookie text
+AskNothing (Some Remove) (Some way) text = IsNoName text
+AskNothing (Some Get) (Some way) text = IsNoName text
+
+-- a line is a letter, a digit and a text: `S4cart=3; HttpOnly`
+abbrev pub IsCommand : List ℕ → Command → Type 0
+IsCommand [] command = ⊥
+IsCommand (verb ∷ []) command = ⊥
+IsCommand (verb ∷ way ∷ text) command = Asks (verb_of verb) (way_of way) text command
+
+abbrev pub IsNoCommand : List ℕ → Type 0
+IsNoCommand [] = ⊤
+IsNoCommand (verb ∷ []) = ⊤
+IsNoCommand (verb ∷ way ∷ text) = AskNothing (verb_of verb) (way_of way) text
