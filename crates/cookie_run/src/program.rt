@@ -4,10 +4,10 @@ ghost use Rattle.cookie_run.specs.Program as spec;
 
 mod answering;
 mod arguments;
-mod draft;
+pub mod draft;
 mod failure;
-mod files;
-mod place;
+pub mod files;
+pub mod place;
 
 pub use crate::program::answering::answer;
 use crate::program::answering::list_of;

@@ -16,5 +16,6 @@ mod row;
 mod writing;
 
 pub use error::{LineFault, ReadError, RowFault, WriteError};
+pub use line::expiry_second;
 pub use reading::read;
-pub use writing::{Written, write};
+pub use writing::{Written, write, write_rows};

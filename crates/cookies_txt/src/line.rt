@@ -160,8 +160,9 @@ fn put_end(raw: &mut RawCookie<'_>, expires: CookieExpiration)
     }
 }
 
-// The whole second of an expiry, at least 1 and at most the latest, or 0 where there is none.
-fn expiry_second(expires: CookieExpiration) -> u64
+/// The second of an expiry, as a line tells it: whole, counted from 1970, at least 1 and at most that of
+/// 9999-12-31T23:59:59; or 0 where there is none.
+pub fn expiry_second(expires: CookieExpiration) -> u64
     ensures { result ≡ spec.expiry_second (death_of expires) }
 {
     match expires {

@@ -59,6 +59,42 @@ pub fn write(
     Ok(Written { text, passed_over })
 }
 
+/// Writes the rows of a list that is handed over, as [`write`] does.
+///
+/// # Errors
+///
+/// As [`write`].
+pub fn write_rows(
+    alloc: Global,
+    cookies: Vec<&Cookie<'static>>,
+    passing_over: bool,
+) -> Result<Written, WriteError>
+    ensures text { IfOk result (λ written. string_bytes written.text
+        ≡ cookies_txt (map line_of_row (held (rows_in cookies.entry.items)))) }
+    ensures passed_over { IfOk result (λ written. written.passed_over + length (held (rows_in cookies.entry.items))
+        ≡ length cookies.entry.items) }
+    ensures all { passing_over ≡ false → IfOk result (λ _. spec.AreHeld (rows_in cookies.entry.items)) }
+    ensures err { IfErr result (spec.IsWriteRefusal passing_over (rows_in cookies.entry.items)) }
+    ensures reads { IfOk result (λ written. SaysLines (string_bytes written.text)
+        (map line_of_row (held (rows_in cookies.entry.items)))) }
+{
+    let mut text = String::from_str(alloc, HEADING)?;
+    let mut passed = 0;
+    let mut number = 0;
+    for cookie in cookies {
+        number += 1;
+        match row_fault(cookie) {
+            Some(_) if passing_over => passed += 1,
+            Some(fault) => return Err(WriteError::Row(number, fault)),
+            None => push_line(&mut text, Line::of(cookie))?,
+        }
+    }
+    Ok(Written {
+        text,
+        passed_over: passed,
+    })
+}
+
 // Adds the line and its end.
 fn push_line(text: &mut String, line: Line<'_>) -> Result<(), AllocError>
     ensures { OnOk result (string_bytes text.new

@@ -7,7 +7,8 @@ use std::io::{self, ErrorKind};
 
 /// A writer to memory, which gives back what was written.
 #[derive(Drop)]
-pub(crate) struct Draft {
+pub struct Draft {
+    /// What was written.
     pub text: Vec<u8>,
     failed: u64,
     flushed: u64,

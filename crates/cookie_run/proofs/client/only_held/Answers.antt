@@ -14,7 +14,7 @@ pub returns-in-Ok : goal.returns-in-Ok
 returns-in-Ok c =
     let (cookies, is, picked) = c.in_ok-cookies.ensures in
     let items = c.in_ok-cookies.cookies.items in
-    copies_are c.laws.ensures.parts into_iter_steps c.into_iter.result c.args.store.rows (civil_nanos c.args.now)
+    copies_are c.laws.ensures.parts into_iter_steps c.into_iter.result c.args.store.rows (civil_nanos c.args.at)
     cookies items c.in-Ok.left c.iter_any-rows.ensures.grouped is picked
     (YieldsList-from_vec {s = c.into_iter.result} items c.into_iter.ensures.rest
     (c.into_iter.ensures.len ∙ c.in_ok-cookies.cookies.ok.0)).runs c.in-Ok.ensures.ok

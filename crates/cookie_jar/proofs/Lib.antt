@@ -1,0 +1,4 @@
+pub mod RowLemmas
+pub mod SavingLemmas
+pub mod Shown
+pub mod ToldLemmas

@@ -1,0 +1,255 @@
+-- Rows that are lent, copied and picked.
+use Rattle.std.proofs.Common.{◌≡◌, ◌≤◌, ℕ, ℤ, Bool, true, false, List, [], ◌∷◌, ◌++◌, map, take, length}
+use Rattle.std.proofs.Common.{Option, None, Result, Ok, Err, sym, refl, ap, ◌∙◌, subst, inl, inr, append_assoc, arith}
+use Rattle.std.specs.Prelude.{◌&&◌, not, filter, if◌then◌else◌, IfOk, IfErr}
+use Rattle.std.specs.Borrow.{Bor}
+use Rattle.std.specs.Iterator.{AlwaysYields, Drains}
+use Rattle.std.specs.List.{AllByRecursion, list_any}
+use Rattle.std.proofs.lemmas.List.{append-nil, map-append}
+use Rattle.publicsuffix.specs.Rules.{Rule}
+use Rattle.store_parts.specs.declared.error.Error.{Error}
+use Rattle.url.specs.Parts.{Parts}
+use Rattle.cookie_store.specs.Given.{ArePicked, lent_row}
+use Rattle.cookie_store.specs.Grouped.{AreGrouped, IsSublist, PartsStay}
+use Rattle.cookie_store.specs.LoadedLines.{GivesStore}
+use Rattle.cookie_store.specs.Placing.{loaded, loaded_store, put_all}
+use Rattle.cookie_store.specs.Rows.{Row, Store, behind_last, has_domain_of, has_key_of, has_place_of, inserted, is_live}
+use Rattle.cookie_store.specs.Rows.{live, put, put_in_place, replaced}
+use Rattle.cookie_store.specs.StoredCookie.{stored_of}
+use Rattle.cookie_store.specs.declared.stored_cookie.Cookie.{Cookie}
+use Rattle.cookie_run.specs.Accept.{AcceptsAll, IsStopped}
+use Rattle.cookie_run.specs.HostPrefix.{AreHeldRightly, IsHeldRightly}
+use Rattle.cookie_run.specs.HostRows.{AnswersHoldRightly}
+use Rattle.cookie_run.specs.declared.step.LineEnd.{LineEnd}
+use Rattle.cookie_jar.specs.Reading.{ImportsRows}
+use Rattle.cookie_jar.specs.Rows.{AreCopies, lent_rows}
+
+-- ---- lent rows
+
+-- what was lent, and what is left to lend
+pub lent_next : (rows left rest : List Row) (items new : List (Bor Cookie)) (cookie : Bor Cookie)
+    → left ≡ lent_row cookie ∷ rest → new ≡ items ++ cookie ∷ [] → lent_rows items ++ left ≡ rows
+    → lent_rows new ++ rest ≡ rows
+lent_next rows left rest items new cookie is pushed far =
+    ap (λ xs. lent_rows xs ++ rest) pushed
+    ∙ (ap (λ xs. xs ++ rest) (map-append lent_row items (cookie ∷ []))
+    ∙ (append_assoc (lent_rows items) (lent_row cookie ∷ []) rest
+    ∙ (ap (λ xs. lent_rows items ++ xs) (sym is) ∙ far)))
+
+pub lent_all : (rows left : List Row) (items : List (Bor Cookie)) → left ≡ [] → lent_rows items ++ left ≡ rows
+    → lent_rows items ≡ rows
+lent_all rows left items none far =
+    sym (append-nil (lent_rows items)) ∙ (ap (λ xs. lent_rows items ++ xs) (sym none) ∙ far)
+
+-- ---- picked rows
+
+pub picked_all : {A : Type 0} (Is : A → Type 0) (xs picked : List A) → ArePicked Is xs picked
+    → AllByRecursion Is picked
+picked_all Is [] picked p = subst (AllByRecursion Is) (sym p) tt
+picked_all Is (x ∷ xs) picked (later, rest, inl h) =
+    subst (AllByRecursion Is) (sym h.1) (h.0, picked_all Is xs later rest)
+picked_all Is (x ∷ xs) picked (later, rest, inr h) =
+    subst (AllByRecursion Is) (sym h.1) (picked_all Is xs later rest)
+
+pub picked_fewer : {A : Type 0} (Is : A → Type 0) (xs picked : List A) → ArePicked Is xs picked
+    → length picked ≤ length xs
+picked_fewer Is [] picked p = omega (arith, ap length p)
+picked_fewer Is (x ∷ xs) picked (later, rest, inl h) =
+    omega (arith, picked_fewer Is xs later rest, ap length h.1)
+picked_fewer Is (x ∷ xs) picked (later, rest, inr h) =
+    omega (arith, picked_fewer Is xs later rest, ap length h.1)
+
+-- what is picked of the rows that are left stands behind what was lent
+abbrev pub PicksSoFar : List Row → List Row → List Row → List Row → Type 0
+PicksSoFar own others lent left =
+    (done : List Row) × (lent ≡ own ++ done)
+    × ((picked : List Row) → ArePicked IsHeldRightly left picked → ArePicked IsHeldRightly others (done ++ picked))
+
+pub picks_none : (own others lent : List Row) → lent ≡ own → PicksSoFar own others lent others
+picks_none own others lent same = ([], same ∙ sym (append-nil own), λ picked p. p)
+
+pub picks_more : (own others left rest : List Row) (items new : List (Bor Cookie)) (cookie : Bor Cookie)
+    → left ≡ lent_row cookie ∷ rest → new ≡ items ++ cookie ∷ [] → IsHeldRightly (lent_row cookie)
+    → PicksSoFar own others (lent_rows items) left → PicksSoFar own others (lent_rows new) rest
+picks_more own others left rest items new cookie is pushed held (done, same, far) = (
+  done ++ lent_row cookie ∷ [],
+  ap lent_rows pushed
+      ∙ (map-append lent_row items (cookie ∷ [])
+      ∙ (ap (λ xs. xs ++ lent_row cookie ∷ []) same ∙ append_assoc own done (lent_row cookie ∷ []))),
+  λ picked p. subst (ArePicked IsHeldRightly others) (sym (append_assoc done (lent_row cookie ∷ []) picked))
+      (far (lent_row cookie ∷ picked)
+      (subst (λ l. ArePicked IsHeldRightly l (lent_row cookie ∷ picked)) (sym is) (picked, p, inl (held, refl)))),
+)
+
+pub picks_same : (own others lent left rest : List Row) (row : Row) → left ≡ row ∷ rest → ¬ (IsHeldRightly row)
+    → PicksSoFar own others lent left → PicksSoFar own others lent rest
+picks_same own others lent left rest row is other (done, same, far) = (
+  done,
+  same,
+  λ picked p.
+      far picked (subst (λ l. ArePicked IsHeldRightly l picked) (sym is) (picked, p, inr (other, refl))),
+)
+
+pub picks_all : (own others lent left : List Row) → left ≡ [] → PicksSoFar own others lent left
+    → (taken : List Row) × ArePicked IsHeldRightly others taken × (lent ≡ own ++ taken)
+picks_all own others lent left none (done, same, far) = (
+  done,
+  subst (ArePicked IsHeldRightly others) (append-nil done)
+      (far [] (subst (λ l. ArePicked IsHeldRightly l []) (sym none) refl)),
+  same,
+)
+
+-- ---- what an iterator gives
+
+-- what it gives to its end is what it always yields
+drained : {S A : Type 0} (steps : S → Option A → S → Type 0) (s : S) (xs ys : List A)
+    → AlwaysYields steps (λ x. x) s ys → Drains steps s xs → xs ≡ ys
+drained steps s [] [] always d = refl
+drained steps s (x ∷ xs) [] always (u, (t, (j, first, rest), last)) = absurd (always x j first)
+drained steps s [] (y ∷ ys) always (u, (t, same, last)) =
+    absurd (always.0 u (subst (λ v. steps v None u) (sym same) last))
+drained steps s (x ∷ xs) (y ∷ ys) always (u, (t, (j, first, rest), last)) =
+    let next = always.1 x j first in
+    let tails : xs ≡ ys = drained steps j xs ys next.1 (u, (t, rest, last)) in
+    λ i. next.0 i ∷ tails i
+
+abbrev pub ok_of : Cookie → Result Cookie Error
+ok_of c = Ok c
+
+same_cookies : (xs ys : List Cookie) → map ok_of xs ≡ map ok_of ys → xs ≡ ys
+same_cookies [] [] e = refl
+same_cookies [] (y ∷ ys) e = absurd (cc)
+same_cookies (x ∷ xs) [] e = absurd (cc)
+same_cookies (x ∷ xs) (y ∷ ys) e =
+    let first : x ≡ y = cc in
+    let rest : map ok_of xs ≡ map ok_of ys = cc in
+    let tails = same_cookies xs ys rest in
+    λ i. first i ∷ tails i
+
+-- the store of cookies that an iterator gives
+pub store_of : {S : Type 0} (steps : S → Option (Result Cookie Error) → S → Type 0) (iter : S) (now : ℤ)
+    (cookies : List Cookie) (items : List (Result Cookie Error)) (store : Store) → items ≡ map ok_of cookies
+    → AlwaysYields steps (λ x. x) iter items → GivesStore steps iter false now store
+    → store ≡ loaded_store false now (map stored_of cookies)
+store_of steps iter now cookies items store are always (given, drains, is) =
+    is ∙ ap (λ cs. loaded_store false now (map stored_of cs))
+    (same_cookies given cookies (drained steps iter (map ok_of given) items always drains ∙ are))
+
+-- ---- copies
+
+pub copies_more : (new made : List (Result Cookie Error)) (rows : List Row) (row : Row) (cookie : Cookie)
+    → AreCopies rows made → new ≡ made ++ ok_of cookie ∷ [] → stored_of cookie ≡ row
+    → AreCopies (rows ++ row ∷ []) new
+copies_more new made rows row cookie (copies, is, are) pushed same = (
+  copies ++ cookie ∷ [],
+  pushed ∙ (ap (λ xs. xs ++ ok_of cookie ∷ []) is ∙ sym (map-append ok_of copies (cookie ∷ []))),
+  map-append stored_of copies (cookie ∷ [])
+      ∙ (ap (λ xs. xs ++ stored_of cookie ∷ []) are ∙ ap (λ r. rows ++ r ∷ []) same),
+)
+
+-- the store of copies of these rows
+pub placed_of : {S : Type 0} (steps : S → Option (Result Cookie Error) → S → Type 0) (iter : S) (now : ℤ)
+    (rows : List Row) (items : List (Result Cookie Error)) (store : Store) → AreCopies rows items
+    → AlwaysYields steps (λ x. x) iter items → GivesStore steps iter false now store
+    → store ≡ loaded_store false now rows
+placed_of steps iter now rows items store (copies, is, are) always gives =
+    store_of steps iter now copies items store is always gives ∙ ap (loaded_store false now) are
+
+-- ---- what holds of each row
+
+-- what holds of all holds of those that pass a test
+pub filter_all : (P : Row → Type 0) (test : Row → Bool) (rows : List Row) → AllByRecursion P rows
+    → AllByRecursion P (filter test rows)
+filter_all P test [] all = tt
+filter_all P test (r ∷ rs) all = by (test r) (filter_all P test rs all.1)
+  where
+    by : (b : Bool) → AllByRecursion P (filter test rs)
+        → AllByRecursion P (if b then r ∷ filter test rs else filter test rs)
+    by true rest = (all.0, rest)
+    by false rest = rest
+
+either : (P : Row → Type 0) (b : Bool) (x y : Row) → P x → P y → P (if b then x else y)
+either P true x y px py = px
+either P false x y px py = py
+
+either_all : (P : Row → Type 0) (b : Bool) (xs ys : List Row) → AllByRecursion P xs → AllByRecursion P ys
+    → AllByRecursion P (if b then xs else ys)
+either_all P true xs ys px py = px
+either_all P false xs ys px py = py
+
+in_place : (P : Row → Type 0) (test : Row → Bool) (x : Row) (ys : List Row) → P x → AllByRecursion P ys
+    → AllByRecursion P (put_in_place test x ys)
+in_place P test x [] px all = tt
+in_place P test x (y ∷ ys) px all = (either P (test y) x y px all.0, in_place P test x ys px all.1)
+
+behind : (P : Row → Type 0) (test : Row → Bool) (x : Row) (ys : List Row) → P x → AllByRecursion P ys
+    → AllByRecursion P (behind_last test x ys)
+behind P test x [] px all = (px, tt)
+behind P test x (y ∷ ys) px all =
+    either_all P (test y && not (list_any test ys)) (y ∷ x ∷ ys) (y ∷ behind_last test x ys)
+    (all.0, (px, all.1)) (all.0, behind P test x ys px all.1)
+
+put_keeps : (P : Row → Type 0) (row : Row) (rows : List Row) → P row → AllByRecursion P rows
+    → AllByRecursion P (put row rows)
+put_keeps P row rows p all =
+    either_all P (list_any (has_key_of row) rows) (replaced row rows) (inserted row rows)
+    (in_place P (has_key_of row) row rows p all)
+    (either_all P (list_any (has_place_of row) rows) (behind_last (has_place_of row) row rows)
+    (behind_last (has_domain_of row) row rows) (behind P (has_place_of row) row rows p all)
+    (behind P (has_domain_of row) row rows p all))
+
+put_all_keeps : (P : Row → Type 0) (rows old : List Row) → AllByRecursion P rows → AllByRecursion P old
+    → AllByRecursion P (put_all rows old)
+put_all_keeps P [] old own all = all
+put_all_keeps P (r ∷ rs) old own all = put_all_keeps P rs (put r old) own.1 (put_keeps P r old own.0 all)
+
+both_all : (P : Row → Type 0) (xs ys : List Row) → AllByRecursion P xs → AllByRecursion P ys
+    → AllByRecursion P (xs ++ ys)
+both_all P [] ys px py = py
+both_all P (x ∷ xs) ys px py = (px.0, both_all P xs ys px.1 py)
+
+-- what is placed of rows that are held rightly is held so
+pub placed_held : (now : ℤ) (xs ys : List Row) → AreHeldRightly xs → AreHeldRightly ys
+    → AreHeldRightly (loaded false now (xs ++ ys))
+placed_held now xs ys hx hy =
+    put_all_keeps IsHeldRightly (live now (xs ++ ys)) []
+    (filter_all IsHeldRightly (is_live now) (xs ++ ys) (both_all IsHeldRightly xs ys hx hy)) tt
+
+-- and so is what an import leaves
+pub imported_held : (now : ℤ) (others old : List Row) (count refused : ℕ) (new : List Row) → AreHeldRightly old
+    → ImportsRows now others old count refused new → AreHeldRightly new
+imported_held now others old count refused new held (taken, picked, is, counted, whole) =
+    subst AreHeldRightly (sym is) (placed_held now old taken held (picked_all IsHeldRightly others taken picked))
+
+-- however receiving ended
+pub received_held : {A B : Type 0} (law : AnswersHoldRightly) (r : Result A B) (all : A → List LineEnd) (at : B → ℕ)
+    (list : List Rule) (url : Parts) (now : ℤ) (lines : List (List ℕ)) (rows new : List Row) → AreHeldRightly rows
+    → IfOk r (λ ends. AcceptsAll list rows url now lines (all ends) new)
+    → IfErr r (λ stopped. IsStopped list rows url now lines (at stopped) new) → AreHeldRightly new
+received_held law (Ok ends) all at list url now lines rows new held h g =
+    law list rows url now lines new (all ends, h) held
+received_held law (Err stopped) all at list url now lines rows new held h (inl none) =
+    subst AreHeldRightly (sym none.1) held
+received_held law (Err stopped) all at list url now lines rows new held h (inr stops) =
+    law list rows url now (take stops.before lines) new stops.taken held
+
+-- ---- live rows
+
+later : (part rows : List Row) (r : Row) → IsSublist part rows → IsSublist part (r ∷ rows)
+later [] rows r h = tt
+later (p ∷ ps) rows r h = inr h
+
+live_part : (now : ℤ) (rows : List Row) → IsSublist (live now rows) rows
+live_part now [] = tt
+live_part now (r ∷ rs) = by (is_live now r) (live_part now rs)
+  where
+    by : (b : Bool) → IsSublist (live now rs) rs
+        → IsSublist (if b then r ∷ live now rs else live now rs) (r ∷ rs)
+    by true rest = inl (refl, rest)
+    by false rest = later (live now rs) rs r rest
+
+-- a store of its live rows has them as they stood
+pub live_stay : (parts : PartsStay) (now : ℤ) (rows lent : List Row) → AreGrouped rows → lent ≡ rows
+    → loaded false now lent ≡ live now rows
+live_stay parts now rows lent grouped same =
+    ap (loaded false now) same ∙ parts.stay rows (live now rows) grouped (live_part now rows)

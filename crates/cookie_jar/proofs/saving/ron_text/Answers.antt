@@ -1,0 +1,12 @@
+use Rattle.std.proofs.Common.{◌∙◌, inl, refl}
+use Rattle.cookie_jar.proofs.SavingLemmas.{behind_nothing, year_only}
+use Rattle.cookie_jar.proofs.saving.ron_text.Goals as goal
+
+pub returns-in-Ok-clause-ok : goal.returns-in-Ok-clause-ok
+returns-in-Ok-clause-ok c =
+    let saved = c.in-Ok.ensures.ok in
+    (saved.2.0, saved.2.1, behind_nothing _ _ _ c.new-draft.ensures saved.3 ∙ saved.2.2)
+
+pub returns-in-Err-Year-clause-err : goal.returns-in-Err-Year-clause-err
+returns-in-Err-Year-clause-err c =
+    inl (refl, year_only _ _ _ _ c.in-Err-Year.field-0-is c.in-Err-Year.ensures.err)

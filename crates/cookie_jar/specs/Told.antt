@@ -1,0 +1,67 @@
+-- What is printed of a header and of lines that were received (this repository's own).
+use Rattle.std.specs.Prelude.{◌==◌, ◌||◌, ◌++◌, ℕ, Bool, List, [], ◌∷◌, codes, length, nat_lt, if◌then◌else◌}
+use Rattle.std.specs.List.{flat_map}
+use Rattle.percent_encoding.specs.Percent.{percent_encode_byte}
+use Rattle.cookie_store.specs.declared.action.StoreAction.{StoreAction}
+use Rattle.cookie_store.specs.declared.action.StoreAction.TheVariants.{Inserted, ExpiredExisting, UpdatedExisting}
+use Rattle.store_parts.specs.declared.error.CookieError.{CookieError}
+use Rattle.store_parts.specs.declared.error.CookieError.TheVariants as cause
+use Rattle.cookie_run.specs.declared.step.LineEnd.{LineEnd}
+use Rattle.cookie_run.specs.declared.step.LineEnd.TheVariants.{Stored, Refused, NotText, HostPrefix}
+
+-- ---- a header
+
+-- the header's field and its end, nothing where no cookie goes with the request
+abbrev pub header_line : List ℕ → List ℕ
+header_line header = if length header == 0 then [] else codes "Cookie: " ++ (header ++ 10 ∷ [])
+
+-- ---- a text that is shown
+
+-- every byte that isn't printable ASCII, and `%`
+abbrev pub is_hidden : ℕ → Bool
+is_hidden b = nat_lt b 32 || nat_lt 126 b || b == 37
+
+-- the text with each such byte as `%` and two upper-case digits
+abbrev pub shown : List ℕ → List ℕ
+shown text = flat_map (λ b. if is_hidden b then percent_encode_byte b else b ∷ []) text
+
+-- ---- lines that were received
+
+abbrev pub action_text : StoreAction → List ℕ
+action_text Inserted = codes "inserted"
+action_text ExpiredExisting = codes "removed"
+action_text UpdatedExisting = codes "replaced"
+
+abbrev pub cause_text : CookieError → List ℕ
+cause_text cause.NonHttpScheme = codes "refused: HttpOnly"
+cause_text cause.NonRelativeScheme = codes "refused: no host"
+cause_text cause.DomainMismatch = codes "refused: other domain"
+cause_text cause.Expired = codes "refused: expired"
+cause_text cause.Parse = codes "refused: no cookie"
+cause_text cause.PublicSuffix = codes "refused: public suffix"
+cause_text cause.UnspecifiedDomain = codes "refused: no domain"
+cause_text cause.OutOfMemory = codes "refused: memory"
+
+-- what became of a line
+abbrev pub end_text : LineEnd → List ℕ
+end_text (Stored action) = action_text action
+end_text (Refused cause) = cause_text cause
+end_text NotText = codes "refused: no text"
+end_text HostPrefix = codes "refused: __Host-"
+
+-- what became of it and the line, parted by a tab
+abbrev pub told_line : List ℕ → LineEnd → List ℕ
+told_line line end = end_text end ++ (9 ∷ [] ++ (shown line ++ 10 ∷ []))
+
+-- each line so
+abbrev pub told_lines : List (List ℕ) → List LineEnd → List ℕ
+told_lines [] ends = []
+told_lines (line ∷ lines) [] = []
+told_lines (line ∷ lines) (end ∷ ends) = told_line line end ++ told_lines lines ends
+
+-- the line wasn't stored
+abbrev pub is_refused : LineEnd → Bool
+is_refused (Stored action) = Rattle.std.specs.Prelude.false
+is_refused (Refused cause) = Rattle.std.specs.Prelude.true
+is_refused NotText = Rattle.std.specs.Prelude.true
+is_refused HostPrefix = Rattle.std.specs.Prelude.true

@@ -1,0 +1,333 @@
+//! A jar: a store that is held to the prefix `__Host-`, with what the commands of a shell do to it.
+ghost use Rattle.std.specs.Prelude.{◌≡◌, ◌+◌, ◌++◌, [], false, true, IfOk, IfErr, OnErr, is_some, length, map};
+ghost use Rattle.std.specs.Prelude.{string_bytes};
+ghost use Rattle.jiff.specs.Words.{civil_nanos};
+ghost use Rattle.cookie_store.specs.Given.{ArePicked};
+ghost use Rattle.cookie_store.specs.Longest.{AreGivenLongest};
+ghost use Rattle.cookie_store.specs.Placing.{loaded};
+ghost use Rattle.cookie_store.specs.Rows.{Store, found, key, live, removed};
+ghost use Rattle.cookie_run.specs.Accept.{AcceptsAll, IsStopped};
+ghost use Rattle.cookie_run.specs.Header.{IsHeader};
+ghost use Rattle.cookie_run.specs.HostPrefix.{AreHeldRightly, IsHeldRightly};
+ghost use Rattle.cookie_jar.specs.Listing as table;
+ghost use Rattle.cookie_jar.specs.Reading as spec;
+ghost use Rattle.cookie_jar.specs.Saving as text;
+ghost use Rattle.cookie_jar.specs.Told as told;
+
+use crate::error::{ReadError, SaveError};
+use crate::form::Form;
+use crate::listing::listing;
+use crate::reading::read;
+use crate::rows::{live_rows, placed, rows_of, rows_with};
+use crate::saving::{Exported, text_of};
+use crate::told::header_line;
+use cookie_run::client::{header_of, only_held, receive_all};
+use cookie_run::laws::host_rows_are_held_rightly;
+use cookie_run::{LineEnd, Stopped};
+use cookie_store::CookieStore;
+use jiff::civil::DateTime;
+use publicsuffix::List;
+use std::alloc::{AllocError, Global};
+use std::marker::Model;
+use url::Url;
+
+/// A jar, which contracts see as its store: the rows in their order, and the list of public suffixes.
+///
+/// It enforces the prefix `__Host-` as a [`cookie_run::Client`] does. Unlike a client, it keeps cookies without an
+/// expiry where it is saved and loaded again, as curl does.
+#[derive(Drop, Debug)]
+pub struct Jar {
+    alloc: Global,
+    store: CookieStore,
+}
+
+impl Model for Jar {
+    ghost use Rattle.cookie_store.specs.Rows.{Store};
+    ghost use Rattle.cookie_run.specs.HostPrefix.{AreHeldRightly};
+
+    ghost Value = { Store };
+
+    ghost view = { λ j. j.store };
+
+    ghost invariant = { λ j. AreHeldRightly j.store.rows };
+}
+
+/// What an import did.
+#[derive(Clone, Copy, Debug, PartialEq, Eq)]
+pub struct Imported {
+    /// How many rows were taken.
+    pub rows: usize,
+    /// How many a jar may not hold, for the prefix `__Host-`.
+    pub refused: usize,
+}
+
+impl Jar {
+    /// A jar without a row, with this list of public suffixes.
+    pub fn new(alloc: Global, list: List) -> Jar
+        ensures { result ≡ record { rows = []; suffixes = list } }
+    {
+        Jar {
+            alloc,
+            store: CookieStore::new(alloc).with_suffix_list(list),
+        }
+    }
+
+    /// The jar of a text, without the rows that are expired at `now` and those that a jar may not hold for the prefix
+    /// `__Host-`. Of two rows with one key the later replaces the earlier in its place. No row is judged by the list of
+    /// public suffixes.
+    ///
+    /// # Errors
+    ///
+    /// `Saved` or `Lines` with why the text isn't one of the form; `OutOfMemory`.
+    pub fn load(
+        alloc: Global,
+        list: List,
+        form: Form,
+        text: &[u8],
+        now: DateTime,
+    ) -> Result<Jar, ReadError>
+        ensures ok { IfOk result (λ jar. (store : Store) × spec.Reads form (civil_nanos now) text.now store
+            × ArePicked IsHeldRightly store.rows jar.rows) }
+        ensures list { IfOk result (λ jar. jar.suffixes ≡ list) }
+        ensures held { IfOk result (λ jar. AreHeldRightly jar.rows) }
+        ensures err { IfErr result (spec.IsUnread form text.now) }
+    {
+        match read(alloc, form, text, now) {
+            Ok(store) => match only_held(alloc, store, now) {
+                Ok(store) => Ok(Jar {
+                    alloc,
+                    store: store.with_suffix_list(list),
+                }),
+                Err(_) => Err(ReadError::OutOfMemory),
+            },
+            Err(cause) => Err(cause),
+        }
+    }
+
+    /// The text of its rows that aren't expired at `now`, in their order.
+    ///
+    /// # Errors
+    ///
+    /// Of RON and JSON `Year` where one of them ends in a year below 0; of `cookies.txt` `Row` with the number of the
+    /// first that a line can't hold, counted from 1, and why; `OutOfMemory`.
+    pub fn save(&self, form: Form, now: DateTime) -> Result<Vec<u8>, SaveError>
+        ensures ok { IfOk result (λ saved.
+            text.IsText form (live (civil_nanos now) self.now.rows) saved.items) }
+        ensures err { IfErr result (text.IsUnsaved form false (live (civil_nanos now) self.now.rows)) }
+    {
+        match self.written(form, false, now) {
+            Ok(exported) => Ok(exported.text),
+            Err(cause) => Err(cause),
+        }
+    }
+
+    /// The same, passing over the rows that a line of `cookies.txt` can't hold.
+    ///
+    /// # Errors
+    ///
+    /// Of RON and JSON `Year` where a row ends in a year below 0; `OutOfMemory`.
+    pub fn export(&self, form: Form, now: DateTime) -> Result<Exported, SaveError>
+        ensures text { IfOk result (λ exported. text.IsText form
+            (text.fitting form (live (civil_nanos now) self.now.rows)) exported.text.items) }
+        ensures rows { IfOk result (λ exported. exported.rows
+            ≡ length (text.fitting form (live (civil_nanos now) self.now.rows))) }
+        ensures passed_over { IfOk result (λ exported. exported.rows + exported.passed_over
+            ≡ length (live (civil_nanos now) self.now.rows)) }
+        ensures err { IfErr result (text.IsUnsaved form true (live (civil_nanos now) self.now.rows)) }
+    {
+        self.written(form, true, now)
+    }
+
+    // The text of its rows that aren't expired.
+    fn written(&self, form: Form, passing_over: bool, now: DateTime) -> Result<Exported, SaveError>
+        ensures text { IfOk result (λ exported. text.IsText form
+            (text.fitting form (live (civil_nanos now) self.now.rows)) exported.text.items) }
+        ensures rows { IfOk result (λ exported. exported.rows
+            ≡ length (text.fitting form (live (civil_nanos now) self.now.rows))) }
+        ensures passed_over { IfOk result (λ exported. exported.rows + exported.passed_over
+            ≡ length (live (civil_nanos now) self.now.rows)) }
+        ensures all { passing_over ≡ false → IfOk result (λ _.
+            text.fitting form (live (civil_nanos now) self.now.rows) ≡ live (civil_nanos now) self.now.rows) }
+        ensures err { IfErr result (text.IsUnsaved form passing_over (live (civil_nanos now) self.now.rows)) }
+    {
+        let store = unexpired(self.alloc, &self.store, now)?;
+        text_of(self.alloc, &store, form, passing_over)
+    }
+
+    /// Puts the rows of a text behind its own, as if all were of one text: without those that are expired at `now`, and
+    /// of two with one key the later in the place of the earlier. Those that a jar may not hold for the prefix
+    /// `__Host-` are left out before. No row is judged by the list of public suffixes.
+    ///
+    /// # Errors
+    ///
+    /// As `load`. The jar is then as it was.
+    pub fn import(&mut self, form: Form, text: &[u8], now: DateTime) -> Result<Imported, ReadError>
+        ensures ok { IfOk result (λ imported. spec.Imports form (civil_nanos now) text.now self.old.rows
+            imported.rows imported.refused self.new.rows) }
+        ensures err { IfErr result (spec.IsUnread form text.now) }
+        ensures same { OnErr result (self.new ≡ self.old) }
+        ensures list { self.new.suffixes ≡ self.old.suffixes }
+        ensures held { AreHeldRightly self.new.rows }
+    {
+        match read(self.alloc, form, text, now) {
+            Ok(store) => Ok(import_rows(self.alloc, &mut self.store, &store, now)?),
+            Err(cause) => Err(cause),
+        }
+    }
+
+    /// The line `Cookie: ..` of a request to this URL at `now` (RFC 6265, section 5.4), with longer paths first, or
+    /// nothing where no cookie goes with it.
+    ///
+    /// # Errors
+    ///
+    /// `AllocError` where there is no memory for the text.
+    pub fn header(&self, url: &Url, now: DateTime) -> Result<String, AllocError>
+        ensures { IfOk result (λ line. (header : _) × IsHeader self.now.rows url.now (civil_nanos now) header
+            × (string_bytes line ≡ told.header_line header)) }
+    {
+        // A URL that was parsed is valid, whatever is done with it.
+        let _path = url.path();
+        let cookies = self.store.matches_longest(url, now)?;
+        let header = header_of(self.alloc, cookies)?;
+        header_line(self.alloc, header.as_str())
+    }
+
+    /// Takes the `Set-Cookie` lines of an answer from this URL at `now`, one after another, and says what became of
+    /// each, as [`cookie_run::Client::receive`] does.
+    ///
+    /// # Errors
+    ///
+    /// `Stopped` with the line, counted from 1, at which memory was refused: those before it are applied and no later
+    /// one was looked at. At 0 none was looked at.
+    pub fn receive(
+        &mut self,
+        url: &Url,
+        lines: &[&[u8]],
+        now: DateTime,
+    ) -> Result<Vec<LineEnd>, Stopped>
+        ensures all { IfOk result (λ ends. AcceptsAll self.old.suffixes self.old.rows url.now
+            (civil_nanos now) (map (λ line. line.now) lines.now) ends.items self.new.rows) }
+        ensures stopped { IfErr result (λ stopped. IsStopped self.old.suffixes self.old.rows url.now
+            (civil_nanos now) (map (λ line. line.now) lines.now) stopped.0 self.new.rows) }
+        ensures list { self.new.suffixes ≡ self.old.suffixes }
+        ensures held { AreHeldRightly self.new.rows }
+    {
+        host_rows_are_held_rightly();
+        receive_all(self.alloc, &mut self.store, url, lines, now)
+    }
+
+    /// The table of its rows that aren't expired at `now`, a line for each in their order: domain with a dot in front
+    /// where the hosts below it count, path, name, value, expiry in whole seconds since 1970 or `0` for none, `Secure`
+    /// or `-`, `HttpOnly` or `-`, parted by tabs. Of the texts each byte that isn't printable ASCII, and `%`, stands as
+    /// `%` and two digits.
+    ///
+    /// # Errors
+    ///
+    /// `AllocError` where there is no memory for the text.
+    pub fn list(&self, now: DateTime) -> Result<String, AllocError>
+        ensures { IfOk result (λ list.
+            string_bytes list ≡ table.listing (live (civil_nanos now) self.now.rows)) }
+    {
+        let rows = live_rows(self.alloc, &self.store, now)?;
+        listing(self.alloc, rows)
+    }
+
+    /// The table of what a request to this URL gets at `now`, with longer paths first.
+    ///
+    /// # Errors
+    ///
+    /// `AllocError` where there is no memory for the text.
+    pub fn list_of(&self, url: &Url, now: DateTime) -> Result<String, AllocError>
+        ensures { IfOk result (λ list. (rows : _)
+            × AreGivenLongest self.now.rows url.now (civil_nanos now) rows
+            × (string_bytes list ≡ table.listing rows)) }
+    {
+        let rows = self.store.matches_longest(url, now)?;
+        listing(self.alloc, rows)
+    }
+
+    /// Takes the row of the domain's text, which has no dot in front, the path's text and the name out, whether or not
+    /// it is expired, and says whether there was one. The others keep their order.
+    pub fn remove(&mut self, domain: &str, path: &str, name: &str) -> bool
+        ensures found { result ≡ is_some (found (key domain.now path.now name.now) self.old.rows) }
+        ensures rest { self.new ≡ record self.old {
+          rows = removed (key domain.now path.now name.now) self.old.rows;
+        } }
+        ensures held { AreHeldRightly self.new.rows }
+    {
+        let was = self.store.contains_any(domain, path, name);
+        let _ = self.store.remove(domain, path, name);
+        was
+    }
+
+    /// Takes all rows out, and says how many there were. The list of public suffixes stays.
+    ///
+    /// # Errors
+    ///
+    /// `AllocError` where there is no memory to count them. The jar is then as it was.
+    pub fn clear(&mut self) -> Result<usize, AllocError>
+        ensures count { IfOk result (λ count. count ≡ length self.old.rows) }
+        ensures ok { IfOk result (λ _. self.new ≡ record self.old { rows = [] }) }
+        ensures same { OnErr result (self.new ≡ self.old) }
+    {
+        let count = rows_of(self.alloc, &self.store)?.len();
+        self.store.clear();
+        Ok(count)
+    }
+
+    /// Its store.
+    pub fn store(&self) -> &CookieStore
+        ensures store { result.now ≡ self.now }
+        ensures held { AreHeldRightly self.now.rows }
+    {
+        &self.store
+    }
+}
+
+// The store without the rows that are expired at `now`.
+fn unexpired(alloc: Global, store: &CookieStore, now: DateTime) -> Result<CookieStore, AllocError>
+    ensures { IfOk result (λ left. left.rows ≡ live (civil_nanos now) store.now.rows) }
+{
+    cookie_store::laws();
+    // The rows of a store stand in groups.
+    let _rows = store.iter_any();
+    let rows = rows_of(alloc, store)?;
+    Ok(placed(alloc, rows, now)?)
+}
+
+// Puts the rows of another store behind those of the first.
+fn import_rows(
+    alloc: Global,
+    store: &mut CookieStore,
+    other: &CookieStore,
+    now: DateTime,
+) -> Result<Imported, AllocError>
+    ensures ok { IfOk result (λ imported. spec.ImportsRows (civil_nanos now) other.now.rows store.old.rows
+        imported.rows imported.refused store.new.rows) }
+    ensures same { OnErr result (store.new ≡ store.old) }
+    ensures list { store.new.suffixes ≡ store.old.suffixes }
+{
+    let all = rows_of(alloc, other)?.len();
+    let (taken, whole) = with_rows(alloc, store, other, now)?;
+    store.replace_rows(whole);
+    Ok(Imported {
+        rows: taken,
+        refused: all - taken,
+    })
+}
+
+// How many rows of another store a jar may hold, and the store of its own rows and then these.
+fn with_rows(
+    alloc: Global,
+    store: &CookieStore,
+    other: &CookieStore,
+    now: DateTime,
+) -> Result<(usize, CookieStore), AllocError>
+    ensures { IfOk result (λ whole. (taken : _) × ArePicked IsHeldRightly other.now.rows taken
+        × (whole.0 ≡ length taken) × (whole.1.rows ≡ loaded false (civil_nanos now) (store.now.rows ++ taken))) }
+{
+    let own = rows_of(alloc, store)?.len();
+    let rows = rows_with(alloc, store, other)?;
+    let taken = rows.len() - own;
+    Ok((taken, placed(alloc, rows, now)?))
+}

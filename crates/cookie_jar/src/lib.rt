@@ -1,0 +1,24 @@
+//! A jar of cookies for the shell: read from a text of RON, JSON or `cookies.txt`, asked, changed and written again.
+//!
+//! ```text
+//! let mut jar = Jar::load(alloc, list, Form::Ron, text, now)?;
+//! let ends = jar.receive(&url, &[b"a=1; Path=/"], now)?;
+//! let line = jar.header(&url, now)?;  // "Cookie: a=1\n"
+//! let text = jar.save(Form::Ron, now)?;
+//! ```
+#![tactic(auto)]
+
+mod error;
+mod form;
+mod jar;
+mod listing;
+mod reading;
+mod rows;
+mod saving;
+mod told;
+
+pub use error::{ReadError, SaveError};
+pub use form::Form;
+pub use jar::{Imported, Jar};
+pub use saving::Exported;
+pub use told::{header_line, is_refused, told_lines};

@@ -1,0 +1,70 @@
+//! The table of rows.
+ghost use Rattle.std.specs.Prelude.{◌≡◌, ◌++◌, ◌∷◌, [], IfOk, OnOk, string_bytes};
+ghost use Rattle.cookie_store.specs.StoredCookie.{stored_of};
+ghost use Rattle.cookies_txt.specs.Layout.{tab};
+ghost use Rattle.cookie_jar.specs.Listing as spec;
+ghost use Rattle.cookie_jar.specs.Rows.{lent_rows};
+ghost use Rattle.cookie_jar.specs.Told.{shown};
+
+use crate::told::push_shown;
+use cookie_store::{Cookie, CookieDomain};
+use cookies_txt::expiry_second;
+use std::alloc::{AllocError, Global};
+
+/// A line of each cookie, in their order: domain with a dot in front where the hosts below it count, path, name, value,
+/// expiry in whole seconds since 1970 or `0` for none, `Secure` or `-`, `HttpOnly` or `-`, parted by tabs. Of the texts
+/// each byte that isn't printable ASCII, and `%`, stands as `%` and two digits.
+///
+/// # Errors
+///
+/// `AllocError` where there is no memory for the text.
+pub(crate) fn listing(alloc: Global, cookies: Vec<&Cookie<'static>>) -> Result<String, AllocError>
+    ensures { IfOk result (λ text. string_bytes text ≡ spec.listing (lent_rows cookies.entry.items)) }
+{
+    let mut text = String::new(alloc);
+    for cookie in cookies {
+        push_row(&mut text, cookie)?;
+    }
+    Ok(text)
+}
+
+#[tactic(auto, unfolding(crate::specs::Listing::row_line))]
+fn push_row(text: &mut String, cookie: &Cookie<'static>) -> Result<(), AllocError>
+    ensures { OnOk result (string_bytes text.new
+        ≡ string_bytes text.old ++ spec.row_line (stored_of cookie.now)) }
+{
+    let raw = cookie.raw();
+    let seconds = expiry_second(cookie.expires);
+    let secure = flag_text("Secure", raw.secure().unwrap_or(false));
+    let http_only = flag_text("HttpOnly", raw.http_only().unwrap_or(false));
+    push_domain(text, cookie)?;
+    push_field(text, cookie.path.as_str())?;
+    push_field(text, raw.name())?;
+    push_field(text, raw.value())?;
+    write!(text, "\t{seconds}\t{secure}\t{http_only}\n")
+}
+
+// The domain, with a dot in front where the hosts below it count.
+fn push_domain(text: &mut String, cookie: &Cookie<'static>) -> Result<(), AllocError>
+    ensures { OnOk result (string_bytes text.new
+        ≡ string_bytes text.old ++ spec.domain_field (stored_of cookie.now)) }
+{
+    if matches!(cookie.domain, CookieDomain::Suffix(_)) {
+        text.push_str(".")?;
+    }
+    push_shown(text, cookie.domain.as_cow().unwrap_or("").as_bytes())
+}
+
+// A field behind a tab.
+fn push_field(text: &mut String, field: &str) -> Result<(), AllocError>
+    ensures { OnOk result (string_bytes text.new ≡ string_bytes text.old ++ tab ∷ shown field.now) }
+{
+    text.push_str("\t")?;
+    push_shown(text, field.as_bytes())
+}
+
+fn flag_text(name: &'static str, flag: bool) -> &'static str
+    ensures { result.now ≡ spec.flag_text name.now flag }
+{
+    if flag { name } else { "-" }
+}

@@ -1,0 +1,119 @@
+//! The text of a store's rows in a form.
+ghost use Rattle.std.specs.Prelude.{◌≡◌, ◌⊎◌, ◌+◌, IfOk, IfErr, false, length, map};
+ghost use Rattle.saved_text.specs.Json.{list_text};
+ghost use Rattle.saved_text.specs.RonLayout.{ron_layout};
+ghost use Rattle.cookie_store.specs.SavedTexts.{IsAnyBeforeYears, Saves};
+ghost use Rattle.cookies_txt.specs.Writing.{IsWriteRefusal};
+ghost use Rattle.cookie_jar.specs.Rows.{lent_rows};
+ghost use Rattle.cookie_jar.specs.Saving as spec;
+
+use crate::error::SaveError;
+use crate::form::Form;
+use crate::rows::rows_of;
+use cookie_run::program::draft::Draft;
+use cookie_store::serde::{json, ron};
+use cookie_store::{CookieStore, Error};
+use cookies_txt::WriteError;
+use std::alloc::Global;
+
+/// A jar's text in a form.
+#[derive(Debug, Drop)]
+pub struct Exported {
+    /// The text.
+    pub text: Vec<u8>,
+    /// How many rows it holds.
+    pub rows: usize,
+    /// How many rows it doesn't hold, since no line of `cookies.txt` can.
+    pub passed_over: usize,
+}
+
+/// The text of a store's rows. A row that a line of `cookies.txt` can't hold is refused, or is passed over where
+/// `passing_over` is set.
+pub(crate) fn text_of(
+    alloc: Global,
+    store: &CookieStore,
+    form: Form,
+    passing_over: bool,
+) -> Result<Exported, SaveError>
+    ensures text { IfOk result (λ exported.
+        spec.IsText form (spec.fitting form store.now.rows) exported.text.items) }
+    ensures rows { IfOk result (λ exported. exported.rows ≡ length (spec.fitting form store.now.rows)) }
+    ensures passed_over { IfOk result (λ exported.
+        exported.rows + exported.passed_over ≡ length store.now.rows) }
+    ensures all { passing_over ≡ false → IfOk result (λ _. spec.fitting form store.now.rows ≡ store.now.rows) }
+    ensures err { IfErr result (spec.IsUnsaved form passing_over store.now.rows) }
+{
+    match form {
+        Form::Ron => Ok(whole(ron_text(alloc, store)?, rows_of(alloc, store)?.len())),
+        Form::Json => Ok(whole(json_text(alloc, store)?, rows_of(alloc, store)?.len())),
+        Form::Txt => txt(alloc, store, passing_over),
+    }
+}
+
+// A text that holds all rows, of which there are so many.
+fn whole(text: Vec<u8>, rows: usize) -> Exported
+    ensures { result ≡ record { text = text; rows = rows; passed_over = 0 } }
+{
+    Exported {
+        text,
+        rows,
+        passed_over: 0,
+    }
+}
+
+fn ron_text(alloc: Global, store: &CookieStore) -> Result<Vec<u8>, SaveError>
+    ensures ok { IfOk result (λ text. Saves ron_layout store.now.rows text.items) }
+    ensures err { IfErr result (λ e. ((e ≡ SaveError.Year) × IsAnyBeforeYears store.now.rows)
+        ⊎ (e ≡ SaveError.OutOfMemory)) }
+{
+    let mut draft = Draft::new(alloc);
+    match ron::save_incl_expired_and_nonpersistent(store, &mut draft) {
+        Ok(()) => Ok(draft.text),
+        Err(Error::Year) => Err(SaveError::Year),
+        Err(_) => Err(SaveError::OutOfMemory),
+    }
+}
+
+fn json_text(alloc: Global, store: &CookieStore) -> Result<Vec<u8>, SaveError>
+    ensures ok { IfOk result (λ text. Saves list_text store.now.rows text.items) }
+    ensures err { IfErr result (λ e. ((e ≡ SaveError.Year) × IsAnyBeforeYears store.now.rows)
+        ⊎ (e ≡ SaveError.OutOfMemory)) }
+{
+    let mut draft = Draft::new(alloc);
+    match json::save_incl_expired_and_nonpersistent(store, &mut draft) {
+        Ok(()) => Ok(draft.text),
+        Err(Error::Year) => Err(SaveError::Year),
+        Err(_) => Err(SaveError::OutOfMemory),
+    }
+}
+
+fn txt(alloc: Global, store: &CookieStore, passing_over: bool) -> Result<Exported, SaveError>
+    ensures text { IfOk result (λ exported.
+        spec.IsText Form.Txt (spec.fitting Form.Txt store.now.rows) exported.text.items) }
+    ensures rows { IfOk result (λ exported. exported.rows ≡ length (spec.fitting Form.Txt store.now.rows)) }
+    ensures passed_over { IfOk result (λ exported.
+        exported.rows + exported.passed_over ≡ length store.now.rows) }
+    ensures all { passing_over ≡ false → IfOk result (λ _. spec.fitting Form.Txt store.now.rows ≡ store.now.rows) }
+    ensures err { IfErr result (spec.IsUnsaved Form.Txt passing_over store.now.rows) }
+{
+    let rows = rows_of(alloc, store)?;
+    let count = rows.len();
+    match cookies_txt::write_rows(alloc, rows, passing_over) {
+        Ok(written) => Ok(Exported {
+            rows: count - written.passed_over,
+            passed_over: written.passed_over,
+            text: written.text.into_bytes(),
+        }),
+        Err(refusal) => Err(unwritten(refusal)),
+    }
+}
+
+// What a refusal to write lines is told as.
+fn unwritten(refusal: WriteError) -> SaveError
+    ensures { result ≡ spec.of_write refusal }
+{
+    match refusal {
+        WriteError::Row(number, fault) => SaveError::Row(number, fault),
+        WriteError::OutOfMemory => SaveError::OutOfMemory,
+    }
+}

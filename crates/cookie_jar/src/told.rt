@@ -1,0 +1,109 @@
+//! What is printed of a header and of lines that were received.
+ghost use Rattle.std.specs.Prelude.{◌≡◌, ◌++◌, IfOk, OnOk, map, string_bytes};
+ghost use Rattle.cookie_jar.specs.Told as spec;
+
+use cookie_run::LineEnd;
+use cookie_store::{CookieError, StoreAction};
+use percent_encoding::{AsciiSet, CONTROLS, ascii_set, percent_encode};
+use std::alloc::{AllocError, Global};
+
+/// The bytes that are escaped in what is printed: all but printable ASCII, and `%`.
+pub(crate) const HIDDEN: AsciiSet = ascii_set!(CONTROLS.add(b'%'));
+
+/// The line of a header, nothing where it is empty: `Cookie: ` and the header.
+///
+/// # Errors
+///
+/// `AllocError` where there is no memory for the text.
+pub fn header_line(alloc: Global, header: &str) -> Result<String, AllocError>
+    ensures { IfOk result (λ line. string_bytes line ≡ spec.header_line header.now) }
+{
+    let mut line = String::new(alloc);
+    if !header.is_empty() {
+        line.push_str("Cookie: ")?;
+        line.push_str(header)?;
+        line.push_str("\n")?;
+    }
+    Ok(line)
+}
+
+/// A line for each of the lines that were received, as long as there are ends: what became of it, a tab, and the line,
+/// of which each byte that isn't printable ASCII, and `%`, stands as `%` and two digits.
+///
+/// # Errors
+///
+/// `AllocError` where there is no memory for the text.
+pub fn told_lines(alloc: Global, lines: &[&[u8]], ends: &[LineEnd]) -> Result<String, AllocError>
+    ensures { IfOk result (λ text. string_bytes text
+        ≡ spec.told_lines (map (λ line. line.now) lines.now) ends.now) }
+{
+    let mut text = String::new(alloc);
+    let mut left = lines;
+    for end in ends {
+        let [line, rest @ ..] = left else {
+            return Ok(text);
+        };
+        push_told(&mut text, line, *end)?;
+        left = rest;
+    }
+    Ok(text)
+}
+
+/// Whether a line of this end wasn't stored.
+pub fn is_refused(end: LineEnd) -> bool
+    ensures { result ≡ spec.is_refused end }
+{
+    !matches!(end, LineEnd::Stored(_))
+}
+
+fn push_told(text: &mut String, line: &[u8], end: LineEnd) -> Result<(), AllocError>
+    ensures { OnOk result (string_bytes text.new
+        ≡ string_bytes text.old ++ spec.told_line line.now end) }
+{
+    text.push_str(end_text(end))?;
+    text.push_str("\t")?;
+    push_shown(text, line)?;
+    text.push_str("\n")
+}
+
+pub(crate) fn push_shown(text: &mut String, bytes: &[u8]) -> Result<(), AllocError>
+    ensures { OnOk result (string_bytes text.new ≡ string_bytes text.old ++ spec.shown bytes.now) }
+{
+    percent_encode(bytes, HIDDEN).append_to(text)
+}
+
+fn end_text(end: LineEnd) -> &'static str
+    ensures { result.now ≡ spec.end_text end }
+{
+    match end {
+        LineEnd::Stored(action) => action_text(action),
+        LineEnd::Refused(cause) => cause_text(cause),
+        LineEnd::NotText => "refused: no text",
+        LineEnd::HostPrefix => "refused: __Host-",
+    }
+}
+
+fn action_text(action: StoreAction) -> &'static str
+    ensures { result.now ≡ spec.action_text action }
+{
+    match action {
+        StoreAction::Inserted => "inserted",
+        StoreAction::ExpiredExisting => "removed",
+        StoreAction::UpdatedExisting => "replaced",
+    }
+}
+
+fn cause_text(cause: CookieError) -> &'static str
+    ensures { result.now ≡ spec.cause_text cause }
+{
+    match cause {
+        CookieError::NonHttpScheme => "refused: HttpOnly",
+        CookieError::NonRelativeScheme => "refused: no host",
+        CookieError::DomainMismatch => "refused: other domain",
+        CookieError::Expired => "refused: expired",
+        CookieError::Parse => "refused: no cookie",
+        CookieError::PublicSuffix => "refused: public suffix",
+        CookieError::UnspecifiedDomain => "refused: no domain",
+        CookieError::OutOfMemory => "refused: memory",
+    }
+}
