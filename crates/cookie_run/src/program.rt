@@ -6,8 +6,8 @@ mod answering;
 mod arguments;
 pub mod draft;
 mod failure;
-pub mod files;
-pub mod place;
+mod files;
+mod place;
 
 pub use crate::program::answering::answer;
 use crate::program::answering::list_of;

@@ -10,9 +10,12 @@ use std::io::{self, ErrorKind};
 pub struct Draft {
     /// What was written.
     pub text: Vec<u8>,
-    failed: u64,
-    flushed: u64,
-    unflushed: u64,
+    /// How many writes failed.
+    pub failed: u64,
+    /// How many times it was flushed.
+    pub flushed: u64,
+    /// How many bytes were written since then.
+    pub unflushed: u64,
 }
 
 impl Draft {
