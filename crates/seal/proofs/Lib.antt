@@ -7,13 +7,16 @@ pub mod FieldLaws
 pub mod ByteLists
 pub mod ScheduleLemmas
 pub mod WordLemmas
+pub mod RoundLemmas
 pub mod GhashLemmas
 pub mod GhashLaws
 pub mod PowerLemmas
 pub mod TableLemmas
+pub mod StepLemmas
 pub mod TableFacts
 pub mod BlockLemmas
 pub mod GcmLemmas
+pub mod CounterLemmas
 pub mod TagLemmas
 pub mod MacLemmas
 pub mod HkdfLemmas

@@ -1,7 +1,7 @@
 //! AES-256-GCM with nonces of 12 bytes and tags of 16 (SP 800-38D).
 
 ghost use Rattle.std.specs.Prelude.{◌≡◌, ◌≤◌, ◌<◌, ◌↔◌, ◌⊎◌, ℕ, List, length, IfOk, OnOk, OnErr, IsErrOf, IsOk, IsTrue};
-ghost use Rattle.std.specs.Prelude.{◌++◌, ◌+◌, ◌*◌, ◌^◌};
+ghost use Rattle.std.specs.Prelude.{◌++◌, ◌+◌, ◌*◌, ◌^◌, take, slice_index};
 ghost use Rattle.std.specs.Int.{w64, to_be_bytes};
 ghost use Rattle.std.specs.List.{slice_range};
 ghost use Rattle.seal.specs.Ghash.{ghash, blocks, blocks_of};
@@ -10,9 +10,9 @@ ghost use Rattle.seal.specs.Gcm as spec;
 ghost use Rattle.seal.specs.Bytes.{xored_front};
 ghost use Rattle.seal.specs.declared.error.SealError.TheVariants.{TooLong, Refused};
 
-use crate::aes::{encipher, schedule, xor_block};
+use crate::aes::{encipher, encipher_last, first_rounds, schedule, xor_block};
 use crate::error::SealError;
-use crate::ghash::Multiples;
+use crate::ghash::ByteMultiples;
 use crate::powers::Turns;
 use std::marker::Brand;
 use std::sync::ledger::{Blank, Ledger};
@@ -60,9 +60,11 @@ fn first_counter(nonce: &[u8; 12]) -> [u8; 16]
     [a, b, c, d, e, f, g, h, i, j, k, l, 0, 0, 0, 1]
 }
 
-// The counter block after this one: the standard's inc32.
+// The counter block after this one: the standard's inc32. Where its last byte isn't 0, all others
+// are those of this one.
 fn next_counter(block: &[u8; 16]) -> [u8; 16]
-    ensures { result ≡ spec.inc32 block.now }
+    ensures next { result ≡ spec.inc32 block.now }
+    ensures front { (¬ (slice_index result 15 ≡ 0)) → take 15 result ≡ take 15 block.now }
 {
     let [a, b, c, d, e, f, g, h, i, j, k, l, m, n, o, p] = *block;
     let [q, r, s, t] = u32::from_be_bytes([m, n, o, p])
@@ -71,17 +73,23 @@ fn next_counter(block: &[u8; 16]) -> [u8; 16]
     [a, b, c, d, e, f, g, h, i, j, k, l, q, r, s, t]
 }
 
-// Adds the key stream to `text`: w is the schedule of the key.
+// Adds the key stream to `text`: w is the schedule of the key. What the first two rounds make of a
+// counter block but for its last byte is kept while that byte alone changes.
 fn cipher(w: &[u8; 240], nonce: &[u8; 12], text: &mut [u8])
     requires { length text.old ≤ 2 ^ 36 }
     ensures { (key : List ℕ) → length key ≡ 32 → w.now ≡ words key 52
         → text.new ≡ spec.ciphered key nonce.now text.old }
 {
     let mut block = first_counter(nonce);
+    let mut kept = first_rounds(w, &block);
     for n in 0..text.len().div_ceil(BLOCK_LEN) {
         let next = next_counter(&block);
         block = next;
-        add_block(text, BLOCK_LEN * n, &encipher(w, next));
+        // The last byte has come round, so another byte has changed too.
+        if next[15] == 0 {
+            kept = first_rounds(w, &next);
+        }
+        add_block(text, BLOCK_LEN * n, &encipher_last(w, &kept, next[15]));
     }
 }
 
@@ -100,7 +108,7 @@ fn whole_block(text: &[u8], n: usize) -> [u8; 16]
 
 // GHASH of the blocks that `before` is the hash of, and of those of a text, filled with zeros.
 fn hash_text<L: Ledger>(
-    multiples: &Multiples,
+    multiples: &ByteMultiples,
     before: u128,
     text: &[u8],
     turns: &mut Turns<L>,
@@ -109,7 +117,7 @@ fn hash_text<L: Ledger>(
     ensures hashed { (bs : List ℕ) → before ≡ ghash multiples.now bs
         → result ≡ ghash multiples.now (bs
         ++ blocks (spec.blocks_begun (length text.now)) (spec.whole_blocks text.now)) }
-    ensures turns { turns.new ≤ turns.old + 32 * spec.blocks_begun (length text.now) }
+    ensures turns { turns.new ≤ turns.old + 15 * spec.blocks_begun (length text.now) }
 {
     let mut sum = before;
     for n in 0..text.len().div_ceil(BLOCK_LEN) {
@@ -131,7 +139,7 @@ fn length_block(aad: usize, text: usize) -> [u8; 16]
 
 // GHASH of the two texts and their lengths.
 fn hash_of<L: Ledger>(
-    multiples: &Multiples,
+    multiples: &ByteMultiples,
     aad: &[u8],
     ciphertext: &[u8],
     turns: &mut Turns<L>,
@@ -139,7 +147,7 @@ fn hash_of<L: Ledger>(
     requires { spec.IsSealable aad.now ciphertext.now }
     ensures hashed { result
         ≡ ghash multiples.now (blocks_of (spec.hashed aad.now ciphertext.now)) }
-    ensures turns { turns.new ≤ turns.old + 32 * (spec.blocks_begun (length aad.now)
+    ensures turns { turns.new ≤ turns.old + 15 * (spec.blocks_begun (length aad.now)
         + spec.blocks_begun (length ciphertext.now) + 1) }
 {
     let sum = hash_text(multiples, 0, aad, turns);
@@ -160,7 +168,7 @@ fn tag_of<L: Ledger>(
         → result ≡ spec.tag key nonce.now aad.now ciphertext.now }
     ensures turns { turns.new ≤ turns.old + spec.turns_of aad.now ciphertext.now }
 {
-    let multiples = Multiples::new(&encipher(w, [0; 16]), turns);
+    let multiples = ByteMultiples::new(&encipher(w, [0; 16]), turns);
     let hash = hash_of(&multiples, aad, ciphertext, turns);
     xor_block(encipher(w, first_counter(nonce)), &hash.to_be_bytes())
 }

@@ -1,10 +1,11 @@
-//! GHASH (SP 800-38D, sections 6.3 and 6.4) by the sixteen multiples of H, four bits a step.
+//! GHASH (SP 800-38D, sections 6.3 and 6.4) by multiples of H: four bits a step by sixteen of them,
+//! eight by twice as many.
 //!
 //! A block is a number, high byte first: its top bit is the coefficient of a^0.
 
 ghost use Rattle.std.specs.Prelude.{◌≡◌, ◌≤◌, ◌<◌, ◌+◌, ◌^◌, ◌++◌, ◌∷◌, [], List, ℕ, bit_xor, slice_index};
 ghost use Rattle.std.specs.Int.{w128, to_be_bytes};
-ghost use Rattle.seal.specs.Ghash.{ghash, number_of, product, product_low};
+ghost use Rattle.seal.specs.Ghash.{ghash, number_of, product, product_low, times_power};
 
 use crate::powers::{Turns, times_power};
 use std::marker::Model;
@@ -33,7 +34,14 @@ impl Multiples {
         ensures value { result ≡ number_of h.now }
         ensures turns { turns.new ≤ turns.old + 3 }
     {
-        let h = u128::from_be_bytes(*h);
+        Multiples::of_number(u128::from_be_bytes(*h), turns)
+    }
+
+    // The same of a number.
+    fn of_number<L: Ledger>(h: u128, turns: &mut Turns<L>) -> Multiples
+        ensures value { result ≡ h }
+        ensures turns { turns.new ≤ turns.old + 3 }
+    {
         let four = times_power(1, h, turns);
         let two = times_power(1, four, turns);
         let one = times_power(1, two, turns);
@@ -63,20 +71,27 @@ impl Multiples {
         }
     }
 
+    // The product of H with the polynomial whose four coefficients are the low bits of x.
+    fn multiple(&self, x: u128) -> u128
+        ensures { result ≡ product_low 4 x self.now }
+    {
+        self.table[(x & 15) as usize]
+    }
+
     // x * H, in at most 32 turns: the halves of x are worked off side by side, low bits first.
     fn times<L: Ledger>(&self, x: u128, turns: &mut Turns<L>) -> u128
         ensures value { result ≡ product x self.now }
         ensures turns { turns.new ≤ turns.old + 32 }
     {
         let mut rest = x;
-        let mut low = self.table[(x & 15) as usize];
-        let mut high = self.table[((x >> 64) & 15) as usize];
+        let mut low = self.multiple(x);
+        let mut high = self.multiple(x >> 64);
         for j in 0..15u32 {
             rest >>= 4;
             let low_moved = times_power(4, low, turns);
-            low = low_moved ^ self.table[(rest & 15) as usize];
+            low = low_moved ^ self.multiple(rest);
             let high_moved = times_power(4, high, turns);
-            high = high_moved ^ self.table[((rest >> 64) & 15) as usize];
+            high = high_moved ^ self.multiple(rest >> 64);
         }
         times_power(64, low, turns) ^ high
     }
@@ -90,6 +105,61 @@ impl Multiples {
         let sum = u128::from_be_bytes(*y) ^ u128::from_be_bytes(*block);
         self.times(sum, turns).to_be_bytes()
     }
+}
+
+/// The multiples of a block H and those of a^4 * H, by which eight bits make a step: four pick one of
+/// the former, four one of the latter. Contracts see H, as a number.
+#[derive(Drop)]
+pub(crate) struct ByteMultiples {
+    near: Multiples,
+    far: Multiples,
+}
+
+impl Model for ByteMultiples {
+    ghost Value = { ℕ };
+
+    ghost view = { λ s. s.near };
+
+    ghost invariant = { λ s. (s.far ≡ times_power 4 s.near) × (s.near < 2 ^ 128) };
+}
+
+impl ByteMultiples {
+    // The multiples of `h`, in seven turns.
+    pub(crate) fn new<L: Ledger>(h: &[u8; 16], turns: &mut Turns<L>) -> ByteMultiples
+        ensures value { result ≡ number_of h.now }
+        ensures turns { turns.new ≤ turns.old + 7 }
+    {
+        let h = u128::from_be_bytes(*h);
+        let next = times_power(4, h, turns);
+        let near = Multiples::of_number(h, turns);
+        let far = Multiples::of_number(next, turns);
+        ByteMultiples { near, far }
+    }
+
+    // The product of H with the polynomial whose eight coefficients are the low bits of x.
+    fn multiple(&self, x: u128) -> u128
+        ensures { result ≡ product_low 8 x self.now }
+    {
+        self.near.multiple(x >> 4) ^ self.far.multiple(x)
+    }
+
+    // x * H, in at most 15 turns: the halves of x are worked off side by side, low bits first.
+    fn times<L: Ledger>(&self, x: u128, turns: &mut Turns<L>) -> u128
+        ensures value { result ≡ product x self.now }
+        ensures turns { turns.new ≤ turns.old + 15 }
+    {
+        let mut rest = x;
+        let mut low = self.multiple(x);
+        let mut high = self.multiple(x >> 64);
+        for j in 0..7u32 {
+            rest >>= 8;
+            let low_moved = times_power(8, low, turns);
+            low = low_moved ^ self.multiple(rest);
+            let high_moved = times_power(8, high, turns);
+            high = high_moved ^ self.multiple(rest >> 64);
+        }
+        times_power(64, low, turns) ^ high
+    }
 
     // The hash of one block more (6.4): H times the sum of the hash so far and the block.
     pub(crate) fn hash_block<L: Ledger>(
@@ -100,9 +170,9 @@ impl Multiples {
     ) -> u128
         ensures hashed { (bs : List ℕ) → sum ≡ ghash self.now bs
             → result ≡ ghash self.now (bs ++ number_of block.now ∷ []) }
-        ensures turns { turns.new ≤ turns.old + 32 }
+        ensures turns { turns.new ≤ turns.old + 15 }
     {
-        let _ = &self.table;
+        let _ = &self.near;
         self.times(sum ^ u128::from_be_bytes(*block), turns)
     }
 }

@@ -1,19 +1,7 @@
-use Rattle.std.proofs.Common.{◌≡◌, ℕ, arith, refl, ◌∙◌}
-use Rattle.seal.specs.Ghash.{times_a, times_power, number_of}
-use Rattle.seal.proofs.TableLemmas.{multiples_of_filled}
+use Rattle.std.proofs.Common.{◌∙◌}
+use Rattle.seal.specs.Ghash.{number_of}
 use Rattle.seal.proofs.ghash.Multiples.new.Goals as goal
-
-once : (x : ℕ) → times_power 1 x ≡ times_a x
-unfolding times_power
-once x = refl
-
-pub invariant_of-result : goal.invariant_of-result
-invariant_of-result g c = (
-  multiples_of_filled c.from_be_bytes-h.result _ _ _ (c.times_power-four.ensures.value ∙ once _)
-      (c.times_power-two.ensures.value ∙ once _) (c.times_power-one.ensures.value ∙ once _),
-  omega arith,
-)
 
 pub returns-clause-value : goal.returns-clause-value
 unfolding number_of
-returns-clause-value g c = c.from_be_bytes-h.ensures
+returns-clause-value g c = c.of_number.ensures.value ∙ c.from_be_bytes.ensures
