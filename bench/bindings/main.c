@@ -13,6 +13,7 @@ size_t bench_client(const char *list, size_t list_length, const char *url, size_
 #define TIMES 1000
 
 static const char *LIST = "com\norg\n*.ck\n", *URL = "https://www.shop.com/cart/list";
+static const char *OTHER = "https://www.shop.com/cart/last";
 static const char *LINE = "user=ann; Path=/; Secure; HttpOnly; Max-Age=3600";
 static const int64_t NOW = 1700000000;
 static char lines[100 * 64], out[8192];
@@ -31,6 +32,22 @@ static void receive_once(void) {
 
 static void header_once(void) {
     some(fonnalich_header(&at, NOW, T(URL), out, sizeof out));
+}
+
+// A handle keeps its last URL parsed, so calls of these parse theirs.
+static const char *other_url(void) {
+    static int turn;
+    return turn++ % 2 ? OTHER : URL;
+}
+
+static void receive_elsewhere(void) {
+    const char *url = other_url();
+    some(fonnalich_receive(&at, NOW, T(url), T(LINE), out, sizeof out));
+}
+
+static void header_elsewhere(void) {
+    const char *url = other_url();
+    some(fonnalich_header(&at, NOW, T(url), out, sizeof out));
 }
 
 static void none(void) {
@@ -75,10 +92,12 @@ static void time_client(int rows) {
     report(name, 0, receive);
     snprintf(name, sizeof name, "the client's own: %.2f times", receive / own_receive);
     report(name, 0, own_receive);
+    report("at another URL each time", 0, least_time(receive_elsewhere));
     snprintf(name, sizeof name, "header, %d rows", rows);
     report(name, 0, header);
     snprintf(name, sizeof name, "the client's own: %.2f times", header / own_header);
     report(name, 0, own_header);
+    report("at another URL each time", 0, least_time(header_elsewhere));
     fonnalich_free(&at);
 }
 

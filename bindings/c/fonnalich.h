@@ -1,17 +1,19 @@
 /* Fonnalich for C: the cookies of a client and of a site (RFC 6265), by a proved static library. A client stands behind
-   a handle; what a site asks for is a call by itself, fonnalich_exchange, and takes no handle.
+   a handle; what a site asks for is a call by itself, as fonnalich_exchange, and takes no handle.
 
    A text is a pointer and a length in bytes; no pointer may be null, even for no bytes ("" serves). A moment is a whole
    second since 1970-01-01T00:00:00 UTC. A call answers the length of its answer, which then stands at the beginning of
-   `out`; where that is more than `out` has room for, nothing is written, and fonnalich_answer hands it out later. A
-   number below 0 is a refusal of the table below, and writes nothing.
+   `out`; where that is more than `out` has room for, nothing is written, and fonnalich_answer hands it out later, or,
+   of a call without a handle, the same call with more room does. A number below 0 is a refusal of the table below, and
+   writes nothing.
 
    What the caller owes, since nothing checks it:
    - a handle is begun once before its first use and freed once after its last, and never copied or moved between;
    - one call at a time uses a handle, always on the thread that began it;
-   - each length is that of its text, and `out` overlaps no other text. */
+   - each length is that of its text, and `out` overlaps no other text and no attributes. */
 #ifndef FONNALICH_H
 #define FONNALICH_H
+#include <stdbool.h>
 #include <stddef.h>
 #include <stdint.h>
 
@@ -38,6 +40,10 @@ enum {
     FONNALICH_TOO_LONG = -14, /* the value or the name of a cookie is too long to be sealed */
     FONNALICH_NONCES = -15,   /* a cookie is to be sealed, and fewer than twelve bytes of nonces are left */
     FONNALICH_HOST = -16,     /* the host has no byte, or an empty label */
+    FONNALICH_TEXT = -17,     /* a text isn't UTF-8, as it stands or percent-decoded */
+    FONNALICH_PAIR = -18,     /* the text before the first semicolon has no '=' */
+    FONNALICH_SITE = -19,     /* the number is none of an attribute SameSite */
+    FONNALICH_RULES = -20,    /* the number is none of FONNALICH_RULE_.. */
     FONNALICH_STOPPED = -100  /* this or less, from fonnalich_receive alone: see there */
 };
 
@@ -53,7 +59,31 @@ enum {
     FONNALICH_DOMAIN_MISMATCH = 12,    /* the URL's host doesn't domain-match */
     FONNALICH_EXPIRED = 13,            /* it is expired, and none stood in its place */
     FONNALICH_PARSE = 14,              /* it is no cookie */
-    FONNALICH_PUBLIC_SUFFIX = 15       /* its domain is a public suffix */
+    FONNALICH_PUBLIC_SUFFIX = 15,      /* its domain is a public suffix */
+    /* a rule of fonnalich_rules refused it, and nothing changed */
+    FONNALICH_BY_CONTROL = 20,
+    FONNALICH_BY_TOO_LONG = 21,
+    FONNALICH_BY_SECURE_PREFIX = 22,
+    FONNALICH_BY_HOST_PREFIX = 23,
+    FONNALICH_BY_SECURE_FROM_HTTP = 24,
+    FONNALICH_BY_SECURE_OVERLAY = 25
+};
+
+/* ---- the rules of user agents (the draft that follows RFC 6265, sections 5.5 to 5.7): fonnalich_rules takes a sum */
+enum {
+    FONNALICH_NO_RULES = 0,
+    /* these refuse, the first of them that is against a line: */
+    FONNALICH_RULE_CONTROL = 1,          /* one with a control character other than a tab */
+    FONNALICH_RULE_TOO_LONG = 2,         /* one whose name and value have over 4,096 bytes together */
+    FONNALICH_RULE_SECURE_PREFIX = 4,    /* __Secure- in any case, decoded, not Secure or not from https */
+    FONNALICH_RULE_HOST_PREFIX = 8,      /* __Host- in any case, decoded, not as that prefix asks, or not from https */
+    FONNALICH_RULE_SECURE_FROM_HTTP = 16,/* a Secure one from a URL that isn't secure */
+    FONNALICH_RULE_SECURE_OVERLAY = 32,  /* one without Secure from such a URL, over a live Secure cookie */
+    /* and these change the line that the client gets: */
+    FONNALICH_RULE_LONG_ATTRIBUTES = 64, /* attributes whose value has over 1,024 bytes are passed over */
+    FONNALICH_RULE_DATES = 128,          /* dates are read in the forms in which servers send them */
+    FONNALICH_RULE_LONG_LIVES = 256,     /* lives are cut at 400 days */
+    FONNALICH_BROWSER = 511              /* all of them */
 };
 
 /* ---- the words of fonnalich_act */
@@ -64,7 +94,8 @@ enum {
     FONNALICH_DO_RECEIVE = 3,
     FONNALICH_DO_HEADER = 4,
     FONNALICH_DO_SAVE = 5,
-    FONNALICH_DO_RESTART = 6
+    FONNALICH_DO_RESTART = 6,
+    FONNALICH_DO_RULES = 7
 };
 
 /* ---- the fronts of a command's line: what is done, and the way in which the cookie is kept */
@@ -76,6 +107,23 @@ enum {
 #define FONNALICH_SECURE_WAY "2" /* under the prefix __Secure- */
 #define FONNALICH_SIGNED "3"
 #define FONNALICH_SEALED "4"
+
+/* ---- a cookie's attributes, but for the texts of two; a number or a text counts where its flag is set. Each bool is
+   true or false before every call, so begin with {0}. */
+typedef struct fonnalich_attributes {
+    int64_t max_age; /* whole seconds */
+    int64_t expires; /* a second since 1970 */
+    bool has_max_age;
+    bool has_expires;
+    bool has_path;
+    bool has_domain;
+    bool http_only;
+    bool secure;
+    bool partitioned;
+    uint8_t same_site; /* one of those below */
+} fonnalich_attributes;
+
+enum { FONNALICH_NO_SITE = 0, FONNALICH_STRICT = 1, FONNALICH_LAX = 2, FONNALICH_NONE = 3 };
 
 /* How many bytes a key has, and a nonce. */
 enum { FONNALICH_KEY_LENGTH = 64, FONNALICH_NONCE_LENGTH = 12 };
@@ -103,8 +151,27 @@ ptrdiff_t fonnalich_exchange(const char *key, size_t key_length, const char *hea
 ptrdiff_t fonnalich_suffix(const char *list, size_t list_length, const char *host, size_t host_length, char *out,
                            size_t out_length);
 
-/* Takes the first item out of an answer that lies from *at to `end`: its text, and its length, or -1 where the value
-   that was read isn't there. Answers 0 where no item is left. */
+/* Reads a cookie of a Set-Cookie line, or of a pair of a Cookie header, into its parts: writes the items of its name,
+   its value, its path and its domain, and its attributes. The name and the value are percent-decoded where `decode`
+   says so. Of an attribute that stands twice the last valid one counts; the domain has lost one leading dot.
+
+   Where the items have no room, the attributes stay as they were too: make the call again with more. FONNALICH_TEXT,
+   FONNALICH_PAIR or FONNALICH_EMPTY_NAME where the text is no cookie. */
+ptrdiff_t fonnalich_parse(bool decode, const char *text, size_t length, fonnalich_attributes *attributes, char *out,
+                          size_t out_length);
+
+/* Writes the Set-Cookie line of these parts, its name and value percent-encoded where `encode` says so. What isn't
+   encoded is written as it is, a semicolon or a line feed too. Secure is written as well where the cookie is
+   partitioned, or for all sites.
+
+   FONNALICH_TEXT where a text that counts isn't UTF-8, FONNALICH_SITE and FONNALICH_MOMENT where same_site or expires
+   is no number of its kind. */
+ptrdiff_t fonnalich_print(bool encode, const fonnalich_attributes *attributes, const char *name, size_t name_length,
+                          const char *value, size_t value_length, const char *path, size_t path_length,
+                          const char *domain, size_t domain_length, char *out, size_t out_length);
+
+/* Takes the first item out of an answer that lies from *at to `end`: its text, and its length, or -1 where the text
+   isn't there. Answers 0 where no item is left. */
 static inline int fonnalich_next(const char **at, const char *end, const char **text, ptrdiff_t *length) {
     uint64_t bytes = 0;
     if (end - *at < 8)
@@ -123,8 +190,8 @@ size_t fonnalich_size(void);
 /* Begins a handle. It takes no memory and is never refused. */
 void fonnalich_begin(fonnalich *at);
 
-/* Does what a word says; the functions below are its forms. */
-ptrdiff_t fonnalich_act(fonnalich *at, uint32_t word, int64_t second, const char *subject, size_t subject_length,
+/* Does what a word says; the functions below are its forms. The number is a second, or the rules. */
+ptrdiff_t fonnalich_act(fonnalich *at, uint32_t word, int64_t number, const char *subject, size_t subject_length,
                         const char *text, size_t text_length, char *out, size_t out_length);
 
 /* Ends a handle and gives all memory back. */
@@ -141,6 +208,13 @@ static inline ptrdiff_t fonnalich_load(fonnalich *at, int64_t second, const char
                                        const char *list, size_t list_length) {
     char none;
     return fonnalich_act(at, FONNALICH_DO_LOAD, second, saved, saved_length, list, list_length, &none, 0);
+}
+
+/* Puts lines that come later behind these rules, a sum of FONNALICH_RULE_.., or behind none. A handle begins without,
+   and keeps them whatever client it gets. They judge no cookie that is there, or is loaded. Answers 0. */
+static inline ptrdiff_t fonnalich_rules(fonnalich *at, int64_t rules) {
+    char none;
+    return fonnalich_act(at, FONNALICH_DO_RULES, rules, "", 0, "", 0, &none, 0);
 }
 
 /* Takes the Set-Cookie lines of an answer from this URL, joined by '\n', and writes a byte for each: what became of it.

@@ -60,7 +60,7 @@ static void tells_refusals(void) {
     fonnalich_begin(&at);
     ask(gives(fonnalich_header(&at, NOW, T(URL), out, sizeof out), FONNALICH_NO_CLIENT), "no client");
     ask(gives(fonnalich_list(&at, "a..b\n", 5), FONNALICH_LIST), "no list");
-    ask(gives(fonnalich_act(&at, 7, NOW, "", 0, "", 0, out, sizeof out), FONNALICH_WORD), "no word");
+    ask(gives(fonnalich_act(&at, 8, NOW, "", 0, "", 0, out, sizeof out), FONNALICH_WORD), "no word");
     ask(gives(fonnalich_list(&at, T(LIST)), 0), "a list");
     ask(gives(fonnalich_header(&at, NOW, T("no url"), out, sizeof out), FONNALICH_URL), "no URL");
     ask(gives(fonnalich_header(&at, NOW, "\xff", 1, out, sizeof out), FONNALICH_URL), "no text");
@@ -73,6 +73,82 @@ static void tells_refusals(void) {
     ptrdiff_t count = fonnalich_receive(&at, NOW, T(URL), T(lines), out, sizeof out);
     ask(gives(count, sizeof ends) && memcmp(out, ends, sizeof ends) == 0, "an outcome for each line");
     ask(is(out, fonnalich_header(&at, NOW, T(URL), out, sizeof out), "g=7"), "one line was kept");
+    fonnalich_free(&at);
+}
+
+/* ---- rules */
+
+/* A line that each rule is against, by the sections 4.1.3 and 5.5 to 5.7 of the draft that follows RFC 6265. */
+static void keeps_rules(void) {
+    static const char *HTTP = "http://example.com/";
+    char out[256], lines[8192];
+    fonnalich at;
+    fonnalich_begin(&at);
+    ask(gives(fonnalich_rules(&at, FONNALICH_BROWSER), 0), "rules before a client");
+    ask(gives(fonnalich_rules(&at, FONNALICH_BROWSER + 1), FONNALICH_RULES), "no flags");
+    ask(gives(fonnalich_rules(&at, -1), FONNALICH_RULES), "nor below 0");
+    ask(gives(fonnalich_list(&at, T(LIST)), 0), "a list");
+    snprintf(lines, sizeof lines, "a=\x01\nlong=%04093d\n__secure-a=1\n__HOST-a=1; Secure; Path=/x\n"
+             "sid=1; Secure; Path=/", 0);
+    const char refused[] = {FONNALICH_BY_CONTROL, FONNALICH_BY_TOO_LONG, FONNALICH_BY_SECURE_PREFIX,
+                            FONNALICH_BY_HOST_PREFIX, FONNALICH_INSERTED};
+    ptrdiff_t count = fonnalich_receive(&at, NOW, T(URL), T(lines), out, sizeof out);
+    ask(gives(count, sizeof refused) && memcmp(out, refused, sizeof refused) == 0, "four rules refuse");
+    count = fonnalich_receive(&at, NOW, T(HTTP), T("b=2; Secure\nsid=3\nc=4"), out, sizeof out);
+    const char insecure[] = {FONNALICH_BY_SECURE_FROM_HTTP, FONNALICH_BY_SECURE_OVERLAY, FONNALICH_INSERTED};
+    ask(gives(count, sizeof insecure) && memcmp(out, insecure, sizeof insecure) == 0, "and two more");
+    ask(is(out, fonnalich_header(&at, NOW, T(URL), out, sizeof out), "sid=1; c=4"), "two lines were kept");
+    /* a date of Netscape's form, a life of two years, and a path of 1,025 bytes */
+    snprintf(lines, sizeof lines, "sid=; Path=/; Secure; Expires=Thu, 1-Jan-70 0:00:00 UTC\nd=5; Max-Age=63072000\n"
+             "e=6; Path=/%01024d", 0);
+    count = fonnalich_receive(&at, NOW, T(URL), T(lines), out, sizeof out);
+    ask(gives(count, 3) && out[0] == FONNALICH_EXPIRED_EXISTING, "a date ends a cookie");
+    ask(is(out, fonnalich_header(&at, NOW, T(URL), out, sizeof out), "c=4; d=5; e=6"), "a long path is passed over");
+    count = fonnalich_header(&at, NOW + 34560000, T(URL), out, sizeof out);
+    ask(is(out, count, "c=4; e=6"), "400 days end a life");
+    ask(gives(fonnalich_rules(&at, FONNALICH_NO_RULES), 0), "no rules");
+    count = fonnalich_receive(&at, NOW, T(HTTP), T("b=2; Secure"), out, sizeof out);
+    ask(gives(count, 1) && out[0] == FONNALICH_INSERTED, "none refuses");
+    fonnalich_free(&at);
+}
+
+/* Of the flags each is the one that refuses its line. */
+static void tells_rules_apart(void) {
+    static const char *lines[] = {"a=\x01", NULL, "__Secure-a=1", "__HOST-a=1", "b=2; Secure", "sid=3"};
+    char out[16], long_line[8192];
+    snprintf(long_line, sizeof long_line, "long=%04093d", 0);
+    lines[1] = long_line;
+    for (int rule = 0; rule < 6; rule++) {
+        const char *url = rule < 4 ? URL : "http://example.com/";
+        for (int line = 0; line < 6; line++) {
+            fonnalich at;
+            fonnalich_begin(&at);
+            fonnalich_list(&at, T(LIST));
+            fonnalich_receive(&at, NOW, T(URL), T("sid=1; Secure"), out, sizeof out);
+            ask(gives(fonnalich_rules(&at, 1 << rule), 0), "a rule");
+            ask(gives(fonnalich_receive(&at, NOW, T(url), T(lines[line]), out, sizeof out), 1), "a line");
+            if ((line < 4) == (rule < 4))
+                ask((out[0] == FONNALICH_BY_CONTROL + rule) == (line == rule), lines[line]);
+            fonnalich_free(&at);
+        }
+    }
+}
+
+/* The URL that was asked for last is kept parsed: another one, or none, in its place. */
+static void goes_from_page_to_page(void) {
+    char out[256];
+    fonnalich at;
+    fonnalich_begin(&at);
+    fonnalich_list(&at, T(LIST));
+    for (int i = 0; i < 2; i++) {
+        fonnalich_receive(&at, NOW, T("https://example.com/a/b"), T("a=1"), out, sizeof out);
+        fonnalich_receive(&at, NOW, T("https://example.org/a/b"), T("b=2"), out, sizeof out);
+        ask(is(out, fonnalich_header(&at, NOW, T("https://example.org/a/b"), out, sizeof out), "b=2"), "the last page");
+        ask(gives(fonnalich_header(&at, NOW, T("https://example.org/c"), out, sizeof out), 0), "another path");
+        ask(gives(fonnalich_header(&at, NOW, T("no url"), out, sizeof out), FONNALICH_URL), "no URL");
+        ask(gives(fonnalich_header(&at, NOW, T("http://example.org/"), out, sizeof out), 0), "one that begins another");
+        ask(is(out, fonnalich_header(&at, NOW, T("https://example.com/a/b"), out, sizeof out), "a=1"), "the first");
+    }
     fonnalich_free(&at);
 }
 
@@ -212,6 +288,159 @@ static void finds_suffixes(void) {
     ask(gives(fonnalich_suffix(T("a..b"), T("a.com"), out, sizeof out), FONNALICH_LIST), "no list");
 }
 
+/* ---- a cookie's parts */
+
+static fonnalich_attributes parts;
+
+/* What is printed of a cookie's attributes, those that count by their numbers. */
+static const char *attributes(void) {
+    static char all[256];
+    size_t used = 0;
+    all[0] = 0;
+    if (parts.has_max_age)
+        used += snprintf(all + used, sizeof all - used, " age %lld", (long long)parts.max_age);
+    if (parts.has_expires)
+        used += snprintf(all + used, sizeof all - used, " end %lld", (long long)parts.expires);
+    snprintf(all + used, sizeof all - used, "%s%s%s%s%s site %d", parts.has_path ? " path" : "",
+             parts.has_domain ? " domain" : "", parts.http_only ? " http" : "", parts.secure ? " secure" : "",
+             parts.partitioned ? " apart" : "", parts.same_site);
+    return all;
+}
+
+static int reads(bool decode, const char *text, const char *wanted, const char *numbers) {
+    char out[512];
+    static const fonnalich_attributes all = {-7, -7, true, true, true, true, true, true, true, 9};
+    parts = all;
+    ptrdiff_t length = fonnalich_parse(decode, T(text), &parts, out, sizeof out);
+    calls++;
+    return length >= 0 && length <= (ptrdiff_t)sizeof out && strcmp(items(out, length), wanted) == 0
+           && strcmp(attributes(), numbers) == 0;
+}
+
+static ptrdiff_t print(bool encode, const char *name, const char *value, const char *path, const char *domain,
+                       char *out, size_t room) {
+    return fonnalich_print(encode, &parts, T(name), T(value), T(path), T(domain), out, room);
+}
+
+static int prints(bool encode, const char *name, const char *value, const char *wanted) {
+    char out[512];
+    return is(out, print(encode, name, value, "/a", ".example.com", out, sizeof out), wanted);
+}
+
+static void takes_cookies_apart(void) {
+    /* RFC 6265, section 3.1; the date is of RFC 9110, section 5.6.7 */
+    ask(reads(false, SID, "|SID|31d4d96e407aad42|/|-", " path http secure site 0"), "a line of RFC 6265");
+    ask(reads(false, "lang=en-US; Path=/; Domain=.example.com", "|lang|en-US|/|example.com", " path domain site 0"),
+        "a domain loses its dot");
+    ask(reads(false, "a=; Expires=Sun, 06 Nov 1994 08:49:37 GMT; Max-Age=0; SameSite=lax; Partitioned", "|a||-|-",
+              " age 0 end 784111777 apart site 2"), "ends and flags");
+    ask(reads(false, "a=1; expires=Sun, 06 Nov 1994 08:49:37 GMT; SameSite=None", "|a|1|-|-",
+              " end 784111777 site 3"), "for all sites, with nothing said of Secure");
+    ask(reads(false, "a=1; SameSite=Strict; Domain=; Max-Age=x; Expires=x", "|a|1|-|-", " site 1"), "what isn't valid");
+    ask(reads(false, "a=1; Max-Age=5; Max-Age=6; Expires=Thu, 01 Jan 1970 00:00:00 GMT", "|a|1|-|-",
+              " age 6 end 0 site 0"), "the last one counts");
+    ask(reads(true, "a%20b=%3B%31; Path=/%20", "|a b|;1|/%20|-", " path site 0"), "a decoded name and value");
+    ask(reads(false, "a%20b=%3B%31", "|a%20b|%3B%31|-|-", " site 0"), "the same as they stand");
+    ask(reads(false, "  a = \"1\" ", "|a|\"1\"|-|-", " site 0"), "white space");
+}
+
+static void puts_cookies_together(void) {
+    memset(&parts, 0, sizeof parts);
+    ask(prints(false, "a", "1", "a=1"), "no attribute");
+    ask(prints(false, "a b", "%;", "a b=%;"), "a name and a value as they stand");
+    ask(prints(true, "a b", "%;\xc3\xa9", "a%20b=%25%3B%C3%A9"), "encoded");
+    ask(prints(false, "", "", "="), "no byte");
+    parts.has_path = true;
+    ask(prints(true, "a", "1", "a=1; Path=/a"), "a path");
+    parts.has_path = false, parts.has_domain = true;
+    ask(prints(true, "a", "1", "a=1; Domain=example.com"), "a domain");
+    parts.has_domain = false, parts.has_max_age = true, parts.max_age = -5, parts.expires = 784111777;
+    ask(prints(false, "a", "1", "a=1; Max-Age=-5"), "an age");
+    parts.has_max_age = false, parts.has_expires = true;
+    ask(prints(false, "a", "1", "a=1; Expires=Sun, 06 Nov 1994 08:49:37 GMT"), "an end");
+    parts.has_expires = false, parts.http_only = true;
+    ask(prints(false, "a", "1", "a=1; HttpOnly"), "HttpOnly");
+    parts.http_only = false, parts.secure = true;
+    ask(prints(false, "a", "1", "a=1; Secure"), "Secure");
+    parts.secure = false, parts.partitioned = true;
+    ask(prints(false, "a", "1", "a=1; Partitioned; Secure"), "Partitioned");
+    parts.partitioned = false, parts.same_site = FONNALICH_NONE;
+    ask(prints(false, "a", "1", "a=1; SameSite=None; Secure"), "for all sites");
+    parts.same_site = FONNALICH_LAX;
+    ask(prints(false, "a", "1", "a=1; SameSite=Lax"), "Lax");
+    parts.same_site = FONNALICH_STRICT;
+    ask(prints(false, "a", "1", "a=1; SameSite=Strict"), "Strict");
+    parts.max_age = INT64_MAX, parts.has_max_age = parts.has_path = parts.has_domain = parts.http_only = true;
+    parts.has_expires = true, parts.expires = 253402300799;
+    ask(prints(false, "a", "1", "a=1; HttpOnly; SameSite=Strict; Path=/a; Domain=example.com; "
+               "Max-Age=9223372036854775807; Expires=Fri, 31 Dec 9999 23:59:59 GMT"), "all of them");
+}
+
+static void refuses_cookies(void) {
+    char out[64] = "#";
+    static const fonnalich_attributes none = {.max_age = 7, .same_site = 9};
+    parts = none;
+    ask(gives(fonnalich_parse(false, "a=\xff", 3, &parts, out, sizeof out), FONNALICH_TEXT), "no text");
+    ask(gives(fonnalich_parse(true, T("a=%ff"), &parts, out, sizeof out), FONNALICH_TEXT), "no decoded text");
+    ask(gives(fonnalich_parse(false, T("a; b=1"), &parts, out, sizeof out), FONNALICH_PAIR), "no pair");
+    ask(gives(fonnalich_parse(true, "", 0, &parts, out, sizeof out), FONNALICH_PAIR), "no byte");
+    ask(gives(fonnalich_parse(true, T(" =1"), &parts, out, sizeof out), FONNALICH_EMPTY_NAME), "no name");
+    ask(memcmp(&parts, &none, sizeof parts) == 0, "the attributes stay as they were");
+    ask(gives(print(false, "a", "1", "", "", out, sizeof out), FONNALICH_SITE), "no site");
+    parts.same_site = FONNALICH_NO_SITE;
+    ask(gives(print(false, "\xff", "1", "", "", out, sizeof out), FONNALICH_TEXT), "a name that is no text");
+    ask(gives(print(true, "a", "\xff", "", "", out, sizeof out), FONNALICH_TEXT), "a value that is no text");
+    ask(is(out, print(true, "a", "1", "\xff", "\xff", out, sizeof out), "a=1"), "texts that don't count");
+    out[0] = '#';
+    parts.has_path = true;
+    ask(gives(print(false, "a", "1", "\xff", "", out, sizeof out), FONNALICH_TEXT), "a path that is no text");
+    parts.has_path = false, parts.has_domain = true;
+    ask(gives(print(false, "a", "1", "", "\xff", out, sizeof out), FONNALICH_TEXT), "a domain that is no text");
+    parts.has_domain = false, parts.has_expires = true, parts.expires = 253402300800;
+    ask(gives(print(false, "a", "1", "", "", out, sizeof out), FONNALICH_MOMENT), "the year 10000");
+    parts.expires = INT64_MIN;
+    ask(gives(print(false, "a", "1", "", "", out, sizeof out), FONNALICH_MOMENT), "no year at all");
+    ask(out[0] == '#', "nothing is written");
+}
+
+static void is_told_the_room_of_parts(void) {
+    char out[128];
+    static const fonnalich_attributes none;
+    const char *line = "a=1; Path=/; Secure";
+    parts = none;
+    memset(out, '#', sizeof out);
+    ptrdiff_t wanted = fonnalich_parse(false, T(line), &parts, out, 34);
+    ask(gives(wanted, 8 + 1 + 8 + 1 + 8 + 1 + 8) && out[0] == '#' && out[33] == '#', "no item without room");
+    ask(memcmp(&parts, &none, sizeof parts) == 0, "and no attribute");
+    ask(gives(fonnalich_parse(false, T(line), &parts, out, wanted), wanted) && out[wanted] == '#', "all with room");
+    ask(strcmp(items(out, wanted), "|a|1|/|-") == 0 && parts.secure && parts.has_path, "the same call again");
+    memset(out, '#', sizeof out);
+    ask(gives(print(false, "a", "1", "/", "", out, 18), strlen(line)) && out[0] == '#', "no line without room");
+    out[18] = '#';
+    ask(is(out, print(false, "a", "1", "/", "", out, 19), "a=1; Secure; Path=/") && out[19] == '#', "the line");
+}
+
+/* What is printed is read again. */
+static void comes_apart_again(long rounds) {
+    char out[512], line[512], text[64], wanted[128];
+    for (long i = 0; i < rounds; i++) {
+        snprintf(text, sizeof text, "a b=%%;%ld\n", i);
+        static const fonnalich_attributes all = {.has_max_age = true, .has_expires = true, .http_only = true};
+        parts = all;
+        parts.max_age = i, parts.expires = i * 40000000, parts.secure = i & 1, parts.partitioned = parts.secure;
+        parts.same_site = i & 3;
+        fonnalich_attributes made = parts;
+        made.secure |= made.partitioned || made.same_site == FONNALICH_NONE;
+        ptrdiff_t length = print(true, "n m", text, "", "", line, sizeof line);
+        ask(length > 0 && length <= (ptrdiff_t)sizeof line, "a line");
+        ptrdiff_t all_items = fonnalich_parse(true, line, length, &parts, out, sizeof out);
+        snprintf(wanted, sizeof wanted, "|n m|%s|-|-", text);
+        ask(strcmp(items(out, all_items), wanted) == 0, "its texts");
+        ask(memcmp(&parts, &made, sizeof parts) == 0, "its attributes");
+        calls += 2;
+    }
+}
+
 static void serves_often(long rounds) {
     char commands[64], wanted[64];
     for (long i = 0; i < rounds; i++) {
@@ -243,6 +472,22 @@ static void goes_on(long rounds) {
 
 static int again(ptrdiff_t number) {
     return number == FONNALICH_MEMORY;
+}
+
+static void bears_a_refusal_behind_rules(fonnalich *at) {
+    const char *http = "http://example.com/";
+    const char *lines = "e=1; Expires=Tue, 1-Jan-30 0:00:00 UTC\nid=2\nf=3; Max-Age=99999999";
+    char out[256];
+    ask(gives(fonnalich_rules(at, FONNALICH_BROWSER), 0), "rules take no memory");
+    ptrdiff_t number = fonnalich_receive(at, NOW, T(http), T(lines), out, sizeof out);
+    if (again(number) || number <= FONNALICH_STOPPED) {
+        ask(again(number) || number >= FONNALICH_STOPPED - 3, "a line that is there");
+        number = fonnalich_receive(at, NOW, T(http), T(lines), out, sizeof out);
+    }
+    ask(gives(number, 3) && out[1] == FONNALICH_UPDATED_EXISTING, "three lines");
+    if (again(number = fonnalich_header(at, NOW, T(http), out, sizeof out)))
+        number = fonnalich_header(at, NOW, T(http), out, sizeof out);
+    ask(is(out, number, "id=2; e=1; f=3"), "their header");
 }
 
 static void bears_a_refusal(long growth) {
@@ -280,6 +525,7 @@ static void bears_a_refusal(long growth) {
     if (again(number = fonnalich_header(&at, NOW, T(URL), out, sizeof out)))
         number = fonnalich_header(&at, NOW, T(URL), out, sizeof out);
     ask(is(out, number, "id=1"), "the header of what was saved");
+    bears_a_refusal_behind_rules(&at);
     fonnalich_free(&at);
     const char *commands = "G3user\nS4a%20b=%2B; Max-Age=60\nG4a%20b\nR3user", *header = "x=1; " SIGNED_PAIR;
     if (again(number = serve(header, commands, 12, out, sizeof out)))
@@ -288,12 +534,22 @@ static void bears_a_refusal(long growth) {
     if (again(number = fonnalich_suffix(T(LIST), T("a.com"), out, sizeof out)))
         number = fonnalich_suffix(T(LIST), T("a.com"), out, sizeof out);
     ask(is(out, number, "com"), "a suffix");
+    const char *line = "a%20b=%2B; Path=/; HttpOnly";
+    if (again(number = fonnalich_parse(true, T(line), &parts, out, sizeof out)))
+        number = fonnalich_parse(true, T(line), &parts, out, sizeof out);
+    ask(number > 0 && strcmp(items(out, number), "|a b|+|/|-") == 0 && parts.http_only, "a cookie's parts");
+    if (again(number = print(true, "a b", "+", "/", "", out, sizeof out)))
+        number = print(true, "a b", "+", "/", "", out, sizeof out);
+    ask(is(out, number, "a%20b=+; HttpOnly; Path=/"), "a cookie of its parts");
 }
 
 int main(int count, char **words) {
     long rounds = count > 1 ? atol(words[1]) : 5000;
     ask(fonnalich_size() <= sizeof(fonnalich), "a handle has room");
     tells_refusals();
+    keeps_rules();
+    tells_rules_apart();
+    goes_from_page_to_page();
     keeps_an_answer();
     comes_back();
     for (int i = 0; i < FONNALICH_KEY_LENGTH; i++)
@@ -305,6 +561,11 @@ int main(int count, char **words) {
     is_told_its_room();
     refuses_a_site();
     finds_suffixes();
+    takes_cookies_apart();
+    puts_cookies_together();
+    refuses_cookies();
+    is_told_the_room_of_parts();
+    comes_apart_again(rounds);
     goes_on(rounds);
     serves_often(rounds);
     long refused = 0;

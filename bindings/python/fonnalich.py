@@ -1,9 +1,11 @@
 """Cookies of an HTTP client and of a site (RFC 6265), by the proved library fonnalich.
 
-`Session` is what a site reads and sets within one request. `Client` is a client; `Jar` is one for `urllib`, and
-`Adapter` one for `requests`. Set FONNALICH_LIB to the path of the shared library where it isn't in out/.
+`Session` is what a site reads and sets within one request, `Cookie` a cookie by itself. `Client` is a client; `Jar` is
+one for `urllib`, and `Adapter` one for `requests`. Set FONNALICH_LIB to the path of the shared library where it isn't
+in out/.
 """
 import ctypes
+import dataclasses
 import email.utils
 import enum
 import http.cookiejar
@@ -14,7 +16,7 @@ import urllib.parse
 import urllib.request
 from typing import Iterable, List, Optional, Union
 
-__all__ = ["Adapter", "Client", "End", "Jar", "Refused", "Session", "Stopped", "Way", "suffix"]
+__all__ = ["Adapter", "Client", "Cookie", "End", "Jar", "Refused", "Rules", "Session", "Stopped", "Way", "suffix"]
 
 _HERE = os.path.dirname(os.path.abspath(__file__))
 _PATH = os.environ.get("FONNALICH_LIB") or os.path.join(_HERE, "..", "..", "out", "libfonnalich.so")
@@ -33,7 +35,25 @@ _LIB.fonnalich_exchange.restype = ctypes.c_ssize_t
 _LIB.fonnalich_suffix.argtypes = [*_TEXT, *_TEXT, ctypes.c_void_p, ctypes.c_size_t]
 _LIB.fonnalich_suffix.restype = ctypes.c_ssize_t
 
-_ANSWER, _LIST, _LOAD, _RECEIVE, _HEADER, _SAVE, _RESTART = range(7)
+
+class _Attributes(ctypes.Structure):
+    """A cookie's attributes. A number or a text counts where its flag is set."""
+
+    _fields_ = [
+        ("max_age", ctypes.c_int64), ("expires", ctypes.c_int64), ("has_max_age", ctypes.c_bool),
+        ("has_expires", ctypes.c_bool), ("has_path", ctypes.c_bool), ("has_domain", ctypes.c_bool),
+        ("http_only", ctypes.c_bool), ("secure", ctypes.c_bool), ("partitioned", ctypes.c_bool),
+        ("same_site", ctypes.c_uint8),
+    ]
+
+
+_LIB.fonnalich_parse.argtypes = [ctypes.c_bool, *_TEXT, ctypes.POINTER(_Attributes), ctypes.c_void_p, ctypes.c_size_t]
+_LIB.fonnalich_parse.restype = ctypes.c_ssize_t
+_LIB.fonnalich_print.argtypes = [ctypes.c_bool, ctypes.POINTER(_Attributes), *_TEXT, *_TEXT, *_TEXT, *_TEXT,
+                                 ctypes.c_void_p, ctypes.c_size_t]
+_LIB.fonnalich_print.restype = ctypes.c_ssize_t
+
+_ANSWER, _LIST, _LOAD, _RECEIVE, _HEADER, _SAVE, _RESTART, _RULES = range(8)
 _STOPPED = -100
 _ROOM = 4096
 _KEY_LENGTH, _NONCE_LENGTH = 64, 12
@@ -53,13 +73,42 @@ class End(enum.IntEnum):
     EXPIRED = 13
     PARSE = 14
     PUBLIC_SUFFIX = 15
+    # A rule refused it.
+    BY_CONTROL = 20
+    BY_TOO_LONG = 21
+    BY_SECURE_PREFIX = 22
+    BY_HOST_PREFIX = 23
+    BY_SECURE_FROM_HTTP = 24
+    BY_SECURE_OVERLAY = 25
+
+
+class Rules(enum.IntFlag):
+    """The rules of user agents (the draft that follows RFC 6265, sections 5.5 to 5.7), joined by `|`.
+
+    The first six refuse a line: with a control character, with over 4,096 bytes of name and value, against a prefix in
+    any case, Secure from a URL that isn't secure, over a Secure cookie from such a URL. The others change it:
+    attributes of over 1,024 bytes are passed over, dates are read as servers send them, lives are cut at 400 days.
+    """
+
+    NONE = 0
+    CONTROL = 1
+    TOO_LONG = 2
+    SECURE_PREFIX = 4
+    HOST_PREFIX = 8
+    SECURE_FROM_HTTP = 16
+    SECURE_OVERLAY = 32
+    LONG_ATTRIBUTES = 64
+    DATES = 128
+    LONG_LIVES = 256
+    BROWSER = 511
 
 
 class Refused(ValueError):
     """A call was refused; `number` is that of the header file."""
 
     NAMES = {-2: "Word", -3: "NoClient", -4: "List", -5: "Moment", -6: "Url", -7: "Saved", -8: "Year", -9: "Read",
-             -10: "Key", -11: "Command", -12: "EmptyName", -13: "Expiry", -14: "TooLong", -15: "Nonces", -16: "Host"}
+             -10: "Key", -11: "Command", -12: "EmptyName", -13: "Expiry", -14: "TooLong", -15: "Nonces", -16: "Host",
+             -17: "Text", -18: "Pair", -19: "Site", -20: "Rules"}
 
     def __init__(self, number: int):
         super().__init__(self.NAMES.get(number, str(number)))
@@ -92,7 +141,7 @@ def _raise(number: int) -> None:
         raise Refused(number)
 
 
-def _answered(call, *words: Union[bytes, int]) -> bytes:
+def _answered(call, *words: Union[bytes, int, _Attributes]) -> bytes:
     """The answer of a call without a handle; where it has no room, the same call is made again with more."""
     given = [it for word in words for it in ([word, len(word)] if isinstance(word, bytes) else [word])]
     length = _ROOM
@@ -104,9 +153,79 @@ def _answered(call, *words: Union[bytes, int]) -> bytes:
             return room[:length]
 
 
+def _items(answer: bytes) -> List[Optional[str]]:
+    """The texts of an answer, each behind its length; one of the length -1 isn't there."""
+    at, items = 0, []
+    while at < len(answer):
+        length = int.from_bytes(answer[at:at + 8], "little", signed=True)
+        items.append(None if length < 0 else answer[at + 8:at + 8 + length].decode())
+        at += 8 + max(length, 0)
+    return items
+
+
 def suffix(suffixes: Union[str, bytes], host: str) -> str:
     """The public suffix of a host, which is in IDNA ASCII form and lower case, by the text of a list."""
     return _answered(_LIB.fonnalich_suffix, _bytes(suffixes), _bytes(host)).decode()
+
+
+_SITES = [None, "Strict", "Lax", "None"]
+
+
+@dataclasses.dataclass
+class Cookie:
+    """A cookie: a name, a value and attributes. `str` gives its `Set-Cookie` line, in which nothing is escaped.
+
+    `max_age` is in seconds, `expires` a second since 1970, `same_site` one of `Strict`, `Lax` and `None`.
+    """
+
+    name: str
+    value: str
+    path: Optional[str] = None
+    domain: Optional[str] = None
+    max_age: Optional[int] = None
+    expires: Optional[int] = None
+    http_only: bool = False
+    secure: bool = False
+    partitioned: bool = False
+    same_site: Optional[str] = None
+
+    @classmethod
+    def parse(cls, text: Union[str, bytes]) -> "Cookie":
+        """The cookie of a `Set-Cookie` line, or of a pair of a `Cookie` header; the domain has lost one leading dot."""
+        return cls._read(False, _bytes(text))
+
+    @classmethod
+    def parse_encoded(cls, text: Union[str, bytes]) -> "Cookie":
+        """The same, whose name and value are percent-decoded."""
+        return cls._read(True, _bytes(text))
+
+    def encoded(self) -> str:
+        """The line with the name and the value percent-encoded."""
+        return self._printed(True)
+
+    def __str__(self) -> str:
+        return self._printed(False)
+
+    @classmethod
+    def _read(cls, decode: bool, text: bytes) -> "Cookie":
+        read = _Attributes()
+        name, value, path, domain = _items(_answered(_LIB.fonnalich_parse, decode, text, read))
+        return cls(name, value, path, domain, read.max_age if read.has_max_age else None,
+                   read.expires if read.has_expires else None, read.http_only, read.secure, read.partitioned,
+                   _SITES[read.same_site])
+
+    def _printed(self, encode: bool) -> str:
+        if self.same_site not in _SITES:
+            raise ValueError(f"same_site is {self.same_site!r}")
+        for number in (self.max_age or 0, self.expires or 0):
+            if not -1 << 63 <= number < 1 << 63:
+                raise OverflowError(f"{number} has over 64 bits")
+        attributes = _Attributes(
+            self.max_age or 0, self.expires or 0, self.max_age is not None, self.expires is not None,
+            self.path is not None, self.domain is not None, self.http_only, self.secure, self.partitioned,
+            _SITES.index(self.same_site))
+        texts = [_bytes(text) for text in (self.name, self.value, self.path or "", self.domain or "")]
+        return _answered(_LIB.fonnalich_print, encode, attributes, *texts).decode()
 
 
 class Way(enum.Enum):
@@ -170,12 +289,7 @@ class Session:
         self._nonces += nonce
 
     def _items(self, commands: List[bytes], nonces: bytes) -> list:
-        answer, at, items = self._exchange(self._header, commands, nonces), 0, []
-        while at < len(answer):
-            length = int.from_bytes(answer[at:at + 8], "little", signed=True)
-            items.append(None if length < 0 else answer[at + 8:at + 8 + length].decode())
-            at += 8 + max(length, 0)
-        return items
+        return _items(self._exchange(self._header, commands, nonces))
 
     def _exchange(self, header: bytes, commands: List[bytes], nonces: bytes) -> bytes:
         return _answered(_LIB.fonnalich_exchange, self._key, header, self._now, b"\n".join(commands), nonces)
@@ -186,10 +300,12 @@ class Client:
 
     `suffixes` is the text of a public suffix list, as publicsuffix.org publishes it. Where `saved` is given, the client
     begins with the cookies of that text that aren't expired now. A moment is a whole second since 1970; none is now.
+    Lines come behind `rules`, which judge none of the cookies that are there.
     Calls of one client wait for one another, so threads may share it.
     """
 
-    def __init__(self, suffixes: Union[str, bytes], saved: Optional[bytes] = None, now: Optional[int] = None):
+    def __init__(self, suffixes: Union[str, bytes], saved: Optional[bytes] = None, now: Optional[int] = None,
+                 rules: int = Rules.NONE):
         self._lock = threading.Lock()
         self._room = ctypes.create_string_buffer(_ROOM)
         self._at = ctypes.create_string_buffer(_LIB.fonnalich_size() + 16)
@@ -199,12 +315,23 @@ class Client:
             self._call(_LIST, 0, b"", _bytes(suffixes))
         else:
             self._call(_LOAD, _second(now), saved, _bytes(suffixes))
+        self.rules = rules
 
-    def _call(self, word: int, second: int, subject: bytes, text: bytes) -> bytes:
+    @property
+    def rules(self) -> Rules:
+        """The rules that lines come behind."""
+        return self._rules
+
+    @rules.setter
+    def rules(self, rules: int) -> None:
+        self._call(_RULES, rules, b"", b"")
+        self._rules = Rules(rules)
+
+    def _call(self, word: int, number: int, subject: bytes, text: bytes) -> bytes:
         with self._lock:
             if self._place is None:
                 raise ValueError("the client is closed")
-            length = _LIB.fonnalich_act(self._place, word, second, subject, len(subject), text, len(text), self._room,
+            length = _LIB.fonnalich_act(self._place, word, number, subject, len(subject), text, len(text), self._room,
                                         len(self._room))
             if length > len(self._room):
                 self._room = ctypes.create_string_buffer(length)

@@ -18,16 +18,20 @@
 //!
 //! let key = Key::from(&[7; 64]);
 //! let mut session = Session::open("theme=dark", &key, 1_700_000_000);
-//! session.set(Way::Signed, Cookie::new("user", "7").max_age(3600).http_only(true))?;
+//! session.set(Way::Signed, Cookie::build(("user", "7")).max_age(3600).http_only(true))?;
 //! let lines = session.close()?;
 //! let session = Session::open(lines[0].split(';').next().unwrap(), &key, 1_700_000_001);
 //! assert_eq!(session.get(Way::Signed, "user")?.as_deref(), Some("7"));
 //! # Ok::<(), fonnalich::Error>(())
 //! ```
 
+mod cookie;
+mod rules;
 mod site;
 
-pub use site::{suffix, Cookie, Key, SameSite, Session, Way};
+pub use cookie::{Cookie, CookieBuilder, Encoded, SameSite};
+pub use rules::{Rule, Rules};
+pub use site::{suffix, Key, Session, Way};
 
 use std::fmt;
 use std::marker::PhantomData;
@@ -35,6 +39,22 @@ use std::marker::PhantomData;
 mod library {
     #[repr(C, align(16))]
     pub struct Handle(pub [u64; 64]);
+
+    /// A cookie's attributes. A number or a text counts where its flag is set.
+    #[repr(C)]
+    #[derive(Default)]
+    pub struct Attributes {
+        pub max_age: i64,
+        pub expires: i64,
+        pub has_max_age: bool,
+        pub has_expires: bool,
+        pub has_path: bool,
+        pub has_domain: bool,
+        pub http_only: bool,
+        pub secure: bool,
+        pub partitioned: bool,
+        pub same_site: u8,
+    }
 
     unsafe extern "C" {
         pub fn fonnalich_size() -> usize;
@@ -44,7 +64,7 @@ mod library {
         pub fn fonnalich_act(
             at: *mut Handle,
             word: u32,
-            second: i64,
+            number: i64,
             subject: *const u8,
             subject_length: usize,
             text: *const u8,
@@ -71,6 +91,29 @@ mod library {
             list_length: usize,
             host: *const u8,
             host_length: usize,
+            out: *mut u8,
+            out_length: usize,
+        ) -> isize;
+        pub fn fonnalich_parse(
+            decode: bool,
+            text: *const u8,
+            length: usize,
+            attributes: *mut Attributes,
+            out: *mut u8,
+            out_length: usize,
+        ) -> isize;
+        #[allow(clippy::too_many_arguments)]
+        pub fn fonnalich_print(
+            encode: bool,
+            attributes: *const Attributes,
+            name: *const u8,
+            name_length: usize,
+            value: *const u8,
+            value_length: usize,
+            path: *const u8,
+            path_length: usize,
+            domain: *const u8,
+            domain_length: usize,
             out: *mut u8,
             out_length: usize,
         ) -> isize;
@@ -106,6 +149,10 @@ pub enum Error {
     TooLong,
     /// The host has no byte, or an empty label.
     Host,
+    /// The name or the value, percent-decoded, isn't UTF-8.
+    Utf8Error,
+    /// The text before the first `;` has no `=`.
+    MissingPair,
     /// The system gave no random bytes for a nonce.
     Random,
     /// Memory was refused at this line, counted from 1: those before it were taken. At 0 none was.
@@ -128,6 +175,8 @@ impl Error {
             -13 => Error::Expiry,
             -14 => Error::TooLong,
             -16 => Error::Host,
+            -17 => Error::Utf8Error,
+            -18 => Error::MissingPair,
             ..=-100 => Error::Stopped((-100 - number) as usize),
             _ => Error::Other(number),
         }
@@ -167,6 +216,8 @@ pub enum LineEnd {
     Parse,
     /// Its domain is a public suffix.
     PublicSuffix,
+    /// A rule refused it, and nothing changed.
+    Ruled(Rule),
 }
 
 impl LineEnd {
@@ -182,7 +233,7 @@ impl LineEnd {
             12 => LineEnd::DomainMismatch,
             13 => LineEnd::Expired,
             15 => LineEnd::PublicSuffix,
-            _ => LineEnd::Parse,
+            _ => Rule::of(number).map_or(LineEnd::Parse, LineEnd::Ruled),
         }
     }
 }
@@ -196,6 +247,7 @@ enum Word {
     Header,
     Save,
     Restart,
+    Rules,
 }
 
 /// A client that keeps what it is sent, and gives each request what it holds for it. It stays on its thread.
@@ -213,6 +265,19 @@ impl Client {
         let mut client = Client::begun();
         client.act(Word::List, 0, b"", list.as_ref())?;
         Ok(client)
+    }
+
+    /// A client without a cookie, whose lines come behind these rules.
+    pub fn with_rules(list: impl AsRef<[u8]>, rules: Rules) -> Result<Client, Error> {
+        let mut client = Client::new(list)?;
+        client.set_rules(rules);
+        Ok(client)
+    }
+
+    /// Puts the lines that come later behind these rules. No cookie that is there is judged by them.
+    pub fn set_rules(&mut self, rules: Rules) {
+        // Each sum of flags is one of rules, and the call takes no memory.
+        self.act(Word::Rules, rules.flags(), b"", b"").expect("flags of rules");
     }
 
     /// A client of a saved text's cookies that aren't expired at this moment.
@@ -257,8 +322,8 @@ impl Client {
         Client { handle, room: vec![0; 4096], stays: PhantomData }
     }
 
-    fn act(&mut self, word: Word, now: i64, subject: &[u8], text: &[u8]) -> Result<&[u8], Error> {
-        let mut length = self.call(word, now, subject, text);
+    fn act(&mut self, word: Word, number: i64, subject: &[u8], text: &[u8]) -> Result<&[u8], Error> {
+        let mut length = self.call(word, number, subject, text);
         if length > self.room.len() as isize {
             self.room.resize(length as usize, 0);
             length = self.call(Word::Answer, 0, b"", b"");
@@ -269,14 +334,14 @@ impl Client {
         }
     }
 
-    fn call(&mut self, word: Word, now: i64, subject: &[u8], text: &[u8]) -> isize {
+    fn call(&mut self, word: Word, number: i64, subject: &[u8], text: &[u8]) -> isize {
         let (out, room) = (self.room.as_mut_ptr(), self.room.len());
         // The handle was begun and isn't ended. The call reads the two texts, and writes at most `room` bytes.
         unsafe {
             library::fonnalich_act(
                 &mut *self.handle,
                 word as u32,
-                now,
+                number,
                 subject.as_ptr(),
                 subject.len(),
                 text.as_ptr(),
@@ -332,6 +397,45 @@ mod tests {
         client.restart(NOW).unwrap();
         assert_eq!(client.header(URL, NOW).unwrap(), b"a=1");
         assert_eq!(Client::load(LIST, b"[(", NOW).err(), Some(Error::Saved));
+    }
+
+    // The sections 4.1.3 and 5.5 to 5.7 of the draft that follows RFC 6265.
+    #[test]
+    fn keeps_rules() {
+        let http = "http://example.com/";
+        let mut client = Client::with_rules(LIST, Rules::browser()).unwrap();
+        let long = format!("long={}", "x".repeat(4093));
+        let lines = ["a=\x01", &long, "__secure-a=1", "__HOST-a=1; Secure; Path=/x", "sid=1; Secure; Path=/"];
+        let rules = [Rule::Control, Rule::TooLong, Rule::SecurePrefix, Rule::HostPrefix].map(LineEnd::Ruled);
+        let ends = client.receive(URL, &lines, NOW).unwrap();
+        assert_eq!((&ends[..4], ends[4]), (&rules[..], LineEnd::Inserted));
+        let ends = client.receive(http, &["b=2; Secure", "sid=3", "c=4"], NOW).unwrap();
+        let wanted = [LineEnd::Ruled(Rule::SecureFromHttp), LineEnd::Ruled(Rule::SecureOverlay), LineEnd::Inserted];
+        assert_eq!(ends, wanted);
+        client.set_rules(Rules { secure_from_http: false, ..Rules::browser() });
+        let ends = client.receive(http, &["b=2; Secure", "sid=3"], NOW).unwrap();
+        assert_eq!(ends, [LineEnd::Inserted, LineEnd::Ruled(Rule::SecureOverlay)]);
+        client.set_rules(Rules::none());
+        assert_eq!(client.receive(http, &["sid=3"], NOW), Ok(vec![LineEnd::UpdatedExisting]));
+    }
+
+    #[test]
+    fn rewrites_lines_by_rules() {
+        let long = format!("c=3; Path=/{}", "x".repeat(1024));
+        let lines = ["a=; Expires=Thu, 1-Jan-70 0:00:00 UTC", "b=2; Max-Age=63072000", &long];
+        let later = NOW + 400 * 24 * 60 * 60;
+        for (rules, header, then) in [
+            (Rules::none(), "a=; b=2", "a=; b=2"),
+            (Rules { dates: true, ..Rules::none() }, "b=2", "b=2"),
+            (Rules { long_lives: true, ..Rules::none() }, "a=; b=2", "a="),
+            (Rules { long_attributes: true, ..Rules::none() }, "a=; b=2; c=3", "a=; b=2; c=3"),
+            (Rules::browser(), "b=2; c=3", "c=3"),
+        ] {
+            let mut client = Client::with_rules(LIST, rules).unwrap();
+            client.receive(URL, &lines, NOW).unwrap();
+            assert_eq!(client.header(URL, NOW).unwrap(), header.as_bytes(), "{rules:?}");
+            assert_eq!(client.header(URL, later).unwrap(), then.as_bytes(), "{rules:?}");
+        }
     }
 
     #[test]

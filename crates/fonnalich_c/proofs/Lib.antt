@@ -1,4 +1,6 @@
 pub mod Exchanges
+pub mod Flags
+pub mod Parting
 pub mod Receiving
 pub mod Refusals
 pub mod Steps

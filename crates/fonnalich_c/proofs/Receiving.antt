@@ -5,6 +5,9 @@ use Rattle.url.specs.Parts.{Parts}
 use Rattle.cookie_store.specs.Rows.{Row}
 use Rattle.cookie_run.specs.Accept.{AcceptsAll}
 use Rattle.cookie_run.specs.declared.step.LineEnd.{LineEnd}
+use Rattle.user_agent.specs.Agent.{TakesLines}
+use Rattle.user_agent.specs.declared.rules.Outcome.{Outcome}
+use Rattle.user_agent.specs.declared.rules.Rules.{Rules}
 
 -- there is one for each line
 pub as_many_ends : (list : List Rule) (rows : List Row) (url : Parts) (now : ℤ) (lines : List (List ℕ))
@@ -14,3 +17,11 @@ as_many_ends list rows url now [] ends new taken = ap length taken.0
 as_many_ends list rows url now (line ∷ lines) [] new taken = absurd taken
 as_many_ends list rows url now (line ∷ lines) (end ∷ ends) new taken =
     let rest = as_many_ends list taken.0 url now lines ends new taken.2 in omega arith
+
+pub as_many_outcomes : (rules : Rules) (list : List Rule) (rows : List Row) (url : Parts) (now : ℤ)
+    (lines : List (List ℕ)) (outcomes : List Outcome) (new : List Row)
+    → TakesLines rules list rows url now lines outcomes new → length outcomes ≡ length lines
+as_many_outcomes rules list rows url now [] outcomes new taken = ap length taken.0
+as_many_outcomes rules list rows url now (line ∷ lines) [] new taken = absurd taken
+as_many_outcomes rules list rows url now (line ∷ lines) (outcome ∷ outcomes) new taken =
+    let rest = as_many_outcomes rules list taken.0 url now lines outcomes new taken.2 in omega arith

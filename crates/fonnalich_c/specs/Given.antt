@@ -33,6 +33,11 @@ IsUrl text url = IsUtf8 text × (url_of text ≡ Some url)
 abbrev pub IsNoUrl : List ℕ → Type 0
 IsNoUrl text = (¬ IsUtf8 text) ⊎ (url_of text ≡ None)
 
+-- a URL beside the text that it was parsed from
+pub record Page : Type 0 where
+  pub text : List ℕ
+  pub url : Parts
+
 -- ---- a list
 
 -- what a refusal to parse a list is told as: want of memory, and every other cause

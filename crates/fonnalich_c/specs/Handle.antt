@@ -2,16 +2,18 @@
 use Rattle.std.specs.Prelude.{ℕ, ℤ, pos, ◌≡◌, ◌≢◌, ◌⊎◌, ◌≤◌, ◌<◌, ◌++◌, List, [], length, drop, Option, None}
 use Rattle.cookie_store.specs.Rows.{Store}
 use Rattle.fonnalich_c.specs.Numbers.{answer_word, word_of, refusal_number}
+use Rattle.user_agent.specs.declared.rules.Rules.{Rules}
 use Rattle.fonnalich_c.specs.Tasks.{Given, Makes, Fails}
 use Rattle.fonnalich_c.specs.declared.refusal.Refusal.{Refusal}
 
--- what a handle holds: a client once there is one, and the answer that had no room
+-- what a handle holds: a client once there is one, the rules of its lines or none, and the answer that had no room
 pub record Held : Type 0 where
   pub client : Option Store
+  pub rules : Option Rules
   pub kept : List ℕ
 
 abbrev pub IsFresh : Held → Type 0
-IsFresh held = (held.client ≡ None) × (held.kept ≡ [])
+IsFresh held = (held.client ≡ None) × (held.rules ≡ None) × (held.kept ≡ [])
 
 -- The number is the answer's length. Where there is room for all of it, it stands at the beginning of what is written
 -- and nothing is kept; else nothing is written and it is kept.
@@ -23,8 +25,10 @@ IsHandedOut answer out kept written number = (number ≡ pos (length answer))
 -- A word hands out what was kept, or what it made; a refusal writes and drops nothing.
 abbrev pub Acts : ℕ → Given → Held → List ℕ → Held → List ℕ → ℤ → Type 0
 Acts word given old out new written number =
-    ((word ≡ answer_word) × (new.client ≡ old.client) × IsHandedOut old.kept out new.kept written number)
-    ⊎ ((word ≢ answer_word) × ((answer : List ℕ) × Makes (word_of word) given old.client answer new.client
+    ((word ≡ answer_word) × (new.client ≡ old.client) × (new.rules ≡ old.rules)
+    × IsHandedOut old.kept out new.kept written number)
+    ⊎ ((word ≢ answer_word) × ((answer : List ℕ)
+    × Makes (word_of word) given old.rules old.client answer new.rules new.client
     × IsHandedOut answer out new.kept written number))
-    ⊎ ((word ≢ answer_word) × ((refused : Refusal) × Fails (word_of word) given old.client refused new.client
-    × (new.kept ≡ old.kept) × (written ≡ out) × (number ≡ refusal_number refused)))
+    ⊎ ((word ≢ answer_word) × ((refused : Refusal) × Fails (word_of word) given old.rules old.client refused new.client
+    × (new.rules ≡ old.rules) × (new.kept ≡ old.kept) × (written ≡ out) × (number ≡ refusal_number refused)))

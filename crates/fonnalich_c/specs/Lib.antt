@@ -1,5 +1,6 @@
 pub mod Numbers
 pub mod Given
+pub mod Rules
 pub mod Tasks
 pub mod Handle
 pub mod Items
@@ -7,3 +8,4 @@ pub mod Room
 pub mod Commands
 pub mod Exchange
 pub mod Suffix
+pub mod Parts

@@ -11,7 +11,7 @@ use Rattle.cookie_run.specs.declared.step.SessionError.TheVariants as session
 use Rattle.fonnalich_c.specs.declared.refusal.Refusal.{Refusal}
 use Rattle.fonnalich_c.specs.declared.refusal.Refusal.TheVariants as refusal
 use Rattle.fonnalich_c.specs.declared.word.Word.{Word}
-use Rattle.fonnalich_c.specs.declared.word.Word.TheVariants.{List, Load, Ask}
+use Rattle.fonnalich_c.specs.declared.word.Word.TheVariants.{List, Load, Rules, Ask}
 use Rattle.fonnalich_c.specs.declared.word.Task.TheVariants.{Receive, Header, Save, Restart}
 
 -- the word that hands out the answer that had no room
@@ -27,6 +27,7 @@ word_of number =
     else if number == 4 then Some (Ask Header)
     else if number == 5 then Some (Ask Save)
     else if number == 6 then Some (Ask Restart)
+    else if number == 7 then Some Rules
     else None
 
 -- ---- what became of a line
@@ -75,6 +76,10 @@ refusal_number refusal.Expiry = pos 0 -ℤ pos 13
 refusal_number refusal.TooLong = pos 0 -ℤ pos 14
 refusal_number refusal.Nonces = pos 0 -ℤ pos 15
 refusal_number refusal.Host = pos 0 -ℤ pos 16
+refusal_number refusal.Text = pos 0 -ℤ pos 17
+refusal_number refusal.Pair = pos 0 -ℤ pos 18
+refusal_number refusal.Site = pos 0 -ℤ pos 19
+refusal_number refusal.Rules = pos 0 -ℤ pos 20
 refusal_number (refusal.Stopped line) = stopped_number line
 
 -- what a session's refusal is told as

@@ -1,7 +1,7 @@
 -- What the words of a call make of a client (own: docs/DEFINITIONS.md).
 use Rattle.std.specs.Prelude.{ℕ, ℤ, ◌≡◌, ◌≢◌, ◌⊎◌, List, [], Option, Some, None, map, false}
 use Rattle.std.specs.Str.{IsUtf8}
-use Rattle.publicsuffix.specs.Rules.{HasRules}
+use Rattle.publicsuffix.specs.Rules.{Rule, HasRules}
 use Rattle.saved_text.specs.RonLayout.{ron_layout}
 use Rattle.saved_text.specs.RonReading.{ShowsOnly}
 use Rattle.store_parts.specs.declared.error.Error.{Error}
@@ -18,8 +18,12 @@ use Rattle.cookie_run.specs.KeptKeys.{KeepsKeys}
 use Rattle.cookie_run.specs.HostPrefix.{IsHeldRightly}
 use Rattle.cookie_run.specs.Program.{IsNoSuffixList, IsNoSavedText}
 use Rattle.cookie_run.specs.declared.step.LineEnd.{LineEnd}
+use Rattle.user_agent.specs.Agent as agent
+use Rattle.user_agent.specs.declared.rules.Outcome.{Outcome}
+use Rattle.user_agent.specs.declared.rules.Rules.{Rules}
 use Rattle.fonnalich_c.specs.Given.{IsUrl, IsNoUrl, IsNoMoment, nanos_of, lines_of}
 use Rattle.fonnalich_c.specs.Numbers.{end_number}
+use Rattle.fonnalich_c.specs.Rules.{IsFlags, IsNoFlags, outcome_number}
 use Rattle.fonnalich_c.specs.declared.refusal.Refusal.{Refusal}
 use Rattle.fonnalich_c.specs.declared.refusal.Refusal.TheVariants as refusal
 use Rattle.fonnalich_c.specs.declared.word.Task.{Task}
@@ -27,36 +31,47 @@ use Rattle.fonnalich_c.specs.declared.word.Task.TheVariants as task
 use Rattle.fonnalich_c.specs.declared.word.Word.{Word}
 use Rattle.fonnalich_c.specs.declared.word.Word.TheVariants as word
 
--- what a call is given: a second since 1970, a URL or a saved text, and lines or a suffix list
+-- what a call is given: a second since 1970 or the flags of rules, a URL or a saved text, and lines or a suffix list
 pub record Given : Type 0 where
-  pub second : ℤ
+  pub number : ℤ
   pub subject : List ℕ
   pub text : List ℕ
 
 -- ---- the tasks of a client
 
+-- the numbers of what becomes of lines: without rules the client takes each, with rules a user agent does
+abbrev pub Tells : Option Rules → List Rule → List Row → Parts → ℤ → List (List ℕ) → List ℕ → List Row → Type 0
+Tells None list rows url now lines answer new = (ends : List LineEnd)
+    × AcceptsAll list rows url now lines ends new × (answer ≡ map end_number ends)
+Tells (Some rules) list rows url now lines answer new = (outcomes : List Outcome)
+    × agent.TakesLines rules list rows url now lines outcomes new × (answer ≡ map outcome_number outcomes)
+
+-- memory was refused at a line of these
+abbrev pub Stops : Option Rules → List Rule → List Row → Parts → ℤ → List (List ℕ) → ℕ → List Row → Type 0
+Stops None list rows url now lines line new = IsStopped list rows url now lines line new
+Stops (Some rules) list rows url now lines line new = agent.IsStopped rules list rows url now lines line new
+
 -- the lines of the text come to it from the URL, and the answer has the number of what became of each
-abbrev pub Receives : ℤ → List ℕ → List ℕ → Store → List ℕ → Store → Type 0
-Receives second subject text old answer new = (new.suffixes ≡ old.suffixes)
-    × ((url : Parts) × IsUrl subject url × ((ends : List LineEnd)
-    × AcceptsAll old.suffixes old.rows url (nanos_of second) (lines_of text) ends new.rows
-    × (answer ≡ map end_number ends)))
+abbrev pub Receives : Option Rules → ℤ → List ℕ → List ℕ → Store → List ℕ → Store → Type 0
+Receives rules second subject text old answer new = (new.suffixes ≡ old.suffixes)
+    × ((url : Parts) × IsUrl subject url
+    × Tells rules old.suffixes old.rows url (nanos_of second) (lines_of text) answer new.rows)
 
 -- memory was refused at a line
-abbrev pub StopsAtLine : ℤ → List ℕ → List ℕ → Store → ℕ → Store → Type 0
-StopsAtLine second subject text old line new = (new.suffixes ≡ old.suffixes)
+abbrev pub StopsAtLine : Option Rules → ℤ → List ℕ → List ℕ → Store → ℕ → Store → Type 0
+StopsAtLine rules second subject text old line new = (new.suffixes ≡ old.suffixes)
     × ((url : Parts) × IsUrl subject url
-    × IsStopped old.suffixes old.rows url (nanos_of second) (lines_of text) line new.rows)
+    × Stops rules old.suffixes old.rows url (nanos_of second) (lines_of text) line new.rows)
 
 -- why no request is made of a second and a URL
 abbrev pub IsRequestFault : ℤ → List ℕ → Refusal → Type 0
 IsRequestFault second subject refused = (refused ≡ refusal.Memory)
     ⊎ ((refused ≡ refusal.Moment) × IsNoMoment second) ⊎ ((refused ≡ refusal.Url) × IsNoUrl subject)
 
-abbrev pub RefusesLines : ℤ → List ℕ → List ℕ → Store → Refusal → Store → Type 0
-RefusesLines second subject text old refused new =
+abbrev pub RefusesLines : Option Rules → ℤ → List ℕ → List ℕ → Store → Refusal → Store → Type 0
+RefusesLines rules second subject text old refused new =
     ((new ≡ old) × IsRequestFault second subject refused)
-    ⊎ ((line : ℕ) × (refused ≡ refusal.Stopped line) × StopsAtLine second subject text old line new)
+    ⊎ ((line : ℕ) × (refused ≡ refusal.Stopped line) × StopsAtLine rules second subject text old line new)
 
 -- the answer is the header of a request to the URL
 abbrev pub Heads : ℤ → List ℕ → List Row → List ℕ → Type 0
@@ -77,17 +92,18 @@ IsSavingFault second rows refused = (refused ≡ refusal.Memory)
     ⊎ ((refused ≡ refusal.Moment) × IsNoMoment second)
     ⊎ ((refused ≡ refusal.Year) × IsAnyBeforeYears (saved (nanos_of second) rows))
 
-abbrev pub Does : Task → Given → Store → List ℕ → Store → Type 0
-Does task.Receive given old answer new = Receives given.second given.subject given.text old answer new
-Does task.Header given old answer new = (new ≡ old) × Heads given.second given.subject old.rows answer
-Does task.Save given old answer new = (new ≡ old) × IsSavedText given.second old.rows answer
-Does task.Restart given old answer new = (answer ≡ []) × Restarts given.second old new
+abbrev pub Does : Task → Given → Option Rules → Store → List ℕ → Store → Type 0
+Does task.Receive given rules old answer new = Receives rules given.number given.subject given.text old answer new
+Does task.Header given rules old answer new = (new ≡ old) × Heads given.number given.subject old.rows answer
+Does task.Save given rules old answer new = (new ≡ old) × IsSavedText given.number old.rows answer
+Does task.Restart given rules old answer new = (answer ≡ []) × Restarts given.number old new
 
-abbrev pub Refuses : Task → Given → Store → Refusal → Store → Type 0
-Refuses task.Receive given old refused new = RefusesLines given.second given.subject given.text old refused new
-Refuses task.Header given old refused new = (new ≡ old) × IsRequestFault given.second given.subject refused
-Refuses task.Save given old refused new = (new ≡ old) × IsSavingFault given.second old.rows refused
-Refuses task.Restart given old refused new = (new ≡ old) × IsSavingFault given.second old.rows refused
+abbrev pub Refuses : Task → Given → Option Rules → Store → Refusal → Store → Type 0
+Refuses task.Receive given rules old refused new =
+    RefusesLines rules given.number given.subject given.text old refused new
+Refuses task.Header given rules old refused new = (new ≡ old) × IsRequestFault given.number given.subject refused
+Refuses task.Save given rules old refused new = (new ≡ old) × IsSavingFault given.number old.rows refused
+Refuses task.Restart given rules old refused new = (new ≡ old) × IsSavingFault given.number old.rows refused
 
 -- ---- a client's beginning
 
@@ -117,23 +133,27 @@ IsLoadToldAs cause refused = ((cause ≡ Io) × (refused ≡ refusal.Read))
 
 -- ---- all words
 
--- what a word makes of the client, where there is one, and the answer
-abbrev pub Makes : Option Word → Given → Option Store → List ℕ → Option Store → Type 0
-Makes None given old answer new = ⊥
-Makes (Some word.List) given old answer new =
-    (answer ≡ []) × ((client : Store) × (new ≡ Some client) × Begins given.text client)
-Makes (Some word.Load) given old answer new =
-    (answer ≡ []) × ((client : Store) × (new ≡ Some client) × IsLoaded given.second given.subject given.text client)
-Makes (Some (word.Ask task)) given None answer new = ⊥
-Makes (Some (word.Ask task)) given (Some old) answer new =
-    (client : Store) × (new ≡ Some client) × Does task given old answer client
+-- what a word makes of the rules and of the client, where there is one, and the answer
+abbrev pub Makes : Option Word → Given → Option Rules → Option Store → List ℕ → Option Rules → Option Store → Type 0
+Makes None given rules old answer later new = ⊥
+Makes (Some word.List) given rules old answer later new =
+    (answer ≡ []) × (later ≡ rules) × ((client : Store) × (new ≡ Some client) × Begins given.text client)
+Makes (Some word.Load) given rules old answer later new = (answer ≡ []) × (later ≡ rules)
+    × ((client : Store) × (new ≡ Some client) × IsLoaded given.number given.subject given.text client)
+Makes (Some word.Rules) given rules old answer later new =
+    (answer ≡ []) × (new ≡ old) × IsFlags given.number later
+Makes (Some (word.Ask task)) given rules None answer later new = ⊥
+Makes (Some (word.Ask task)) given rules (Some old) answer later new =
+    (later ≡ rules) × ((client : Store) × (new ≡ Some client) × Does task given rules old answer client)
 
 -- why it has no answer, and what the client is then
-abbrev pub Fails : Option Word → Given → Option Store → Refusal → Option Store → Type 0
-Fails None given old refused new = (new ≡ old) × (refused ≡ refusal.Word)
-Fails (Some word.List) given old refused new = (new ≡ old) × IsNoBeginning given.text refused
-Fails (Some word.Load) given old refused new =
-    (new ≡ old) × IsNoLoad given.second given.subject given.text refused
-Fails (Some (word.Ask task)) given None refused new = (new ≡ None) × (refused ≡ refusal.NoClient)
-Fails (Some (word.Ask task)) given (Some old) refused new =
-    (client : Store) × (new ≡ Some client) × Refuses task given old refused client
+abbrev pub Fails : Option Word → Given → Option Rules → Option Store → Refusal → Option Store → Type 0
+Fails None given rules old refused new = (new ≡ old) × (refused ≡ refusal.Word)
+Fails (Some word.List) given rules old refused new = (new ≡ old) × IsNoBeginning given.text refused
+Fails (Some word.Load) given rules old refused new =
+    (new ≡ old) × IsNoLoad given.number given.subject given.text refused
+Fails (Some word.Rules) given rules old refused new =
+    (new ≡ old) × (refused ≡ refusal.Rules) × IsNoFlags given.number
+Fails (Some (word.Ask task)) given rules None refused new = (new ≡ None) × (refused ≡ refusal.NoClient)
+Fails (Some (word.Ask task)) given rules (Some old) refused new =
+    (client : Store) × (new ≡ Some client) × Refuses task given rules old refused client

@@ -8,6 +8,7 @@ ghost use Rattle.fonnalich_c.specs.Items.{item, reading_text};
 
 use crate::command::command;
 use crate::given::{lines, moment};
+use crate::item::{push_item, push_none};
 use crate::nonce::Once;
 use crate::refusal::{Refusal, refused};
 use cookie::{Cookie, Key};
@@ -172,7 +173,7 @@ fn push_reading(told: &mut Vec<u8>, value: &Option<String>) -> Result<(), AllocE
 {
     match value {
         Some(value) => push_item(told, value.as_bytes()),
-        None => told.extend_from_slice(&u64::MAX.to_le_bytes()),
+        None => push_none(told),
     }
 }
 
@@ -184,12 +185,4 @@ fn push_lines(answer: &mut Vec<u8>, lines: &[String]) -> Result<(), AllocError>
         push_item(answer, line.as_bytes())?;
     }
     Ok(())
-}
-
-// A text behind its length.
-fn push_item(answer: &mut Vec<u8>, text: &[u8]) -> Result<(), AllocError>
-    ensures { OnOk result (answer.new.items ≡ answer.old.items ++ item text.now) }
-{
-    answer.extend_from_slice(&(text.len() as u64).to_le_bytes())?;
-    answer.extend_from_slice(text)
 }

@@ -3,6 +3,7 @@ ghost use Rattle.std.specs.Prelude.{◌≡◌, ◌⊎◌, map, IfOk, IfErr, Some
 ghost use Rattle.std.specs.List.{slice_split};
 ghost use Rattle.jiff.specs.Words.{civil_nanos};
 ghost use Rattle.publicsuffix.specs.Rules.{HasRules};
+ghost use Rattle.cookie_text.specs.Printing.{whole_seconds};
 ghost use Rattle.cookie_run.specs.Program.{IsNoSuffixList};
 ghost use Rattle.cookie_run.specs.ScriptLine.{url_of};
 ghost use Rattle.fonnalich_c.specs.Given as spec;
@@ -23,6 +24,13 @@ pub fn moment(second: i64) -> Result<DateTime, Refusal>
         Ok(at) => Ok(at),
         Err(_) => Err(Refusal::Moment),
     }
+}
+
+/// The whole seconds from 1970-01-01T00:00:00 to a moment.
+pub fn second_of(at: DateTime) -> i64
+    ensures { result ≡ whole_seconds (civil_nanos at) }
+{
+    at.duration_since(epoch()).as_secs()
 }
 
 fn epoch() -> DateTime

@@ -2,7 +2,7 @@
 ghost use Rattle.std.specs.Prelude.{◌≡◌, length};
 ghost use Rattle.fonnalich_c.specs.Handle as spec;
 
-use crate::task::answer;
+use crate::task::{Habits, answer};
 use crate::word::{ANSWER, Word};
 use cookie_run::Client;
 use std::alloc::Global;
@@ -12,16 +12,26 @@ use std::alloc::Global;
 pub struct Held {
     /// The client, once there is one.
     pub client: Option<Client>,
+    /// What it knows beside.
+    pub habits: Habits,
     /// The answer that had no room.
     pub kept: Vec<u8>,
 }
 
 /// What a new handle holds.
 pub(crate) fn fresh(alloc: Global) -> Held
-    ensures { spec.IsFresh (record { client = result.client; kept = result.kept.items }) }
+    ensures { spec.IsFresh (record {
+      client = result.client;
+      rules = result.habits.rules;
+      kept = result.kept.items;
+    }) }
 {
     Held {
         client: None,
+        habits: Habits {
+            rules: None,
+            page: None,
+        },
         kept: Vec::new(alloc),
     }
 }
@@ -36,14 +46,15 @@ pub(crate) fn work(
     alloc: Global,
     held: &mut Held,
     word: u32,
-    second: i64,
+    number: i64,
     subject: &[u8],
     text: &[u8],
     out: &mut [u8],
 ) -> isize
-    ensures { spec.Acts word (record { second = second; subject = subject.now; text = text.now })
-        (record { client = held.old.client; kept = held.old.kept.items }) out.old
-        (record { client = held.new.client; kept = held.new.kept.items }) out.new result }
+    ensures { spec.Acts word (record { number = number; subject = subject.now; text = text.now })
+        (record { client = held.old.client; rules = held.old.habits.rules; kept = held.old.kept.items }) out.old
+        (record { client = held.new.client; rules = held.new.habits.rules; kept = held.new.kept.items }) out.new
+        result }
 {
     if word == ANSWER {
         return hand_out(&mut held.kept, out);
@@ -51,8 +62,9 @@ pub(crate) fn work(
     match answer(
         alloc,
         &mut held.client,
+        &mut held.habits,
         Word::of(word),
-        second,
+        number,
         subject,
         text,
     ) {

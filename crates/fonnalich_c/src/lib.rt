@@ -1,4 +1,4 @@
-//! Cookies for C, and for what calls C: a client behind a handle, and a site's exchange without one.
+//! Cookies for C, and for what calls C: a client behind a handle; a site's exchange and a cookie by itself without one.
 //!
 //! A text is a pointer, which is not null, and a length. A call answers the length of its answer, or the number of a
 //! refusal, which is below 0.
@@ -10,26 +10,36 @@ ghost use base.Fml.{fex, fsep, ftrue};
 ghost use Rattle.std.specs.Ptr.{points_to, room_at};
 ghost use Rattle.fonnalich_c.specs.Exchange.{IsExchange, IsNoExchange};
 ghost use Rattle.fonnalich_c.specs.Handle.{IsFresh, Acts};
+ghost use Rattle.fonnalich_c.specs.Parts.{GivesParts, IsPrinted, IsUnprinted};
 ghost use Rattle.fonnalich_c.specs.Room.{Gives};
 ghost use Rattle.fonnalich_c.specs.Suffix.{IsSuffixOf, HasNoSuffix};
 ghost use Rattle.fonnalich_c.specs.contracts.held.Held as held;
 
+mod apart;
+mod attributes;
 mod command;
 mod exchange;
 mod given;
 mod held;
+mod item;
 mod memory;
 mod nonce;
+mod page;
 mod refusal;
 mod room;
+mod rule;
 mod suffix;
 mod task;
+mod together;
 mod word;
 
+use crate::apart::apart;
+use crate::attributes::Attributes;
 use crate::exchange::exchange;
 use crate::held::{Held, fresh, let_go, work};
 use crate::room::write;
 use crate::suffix::suffix;
+use crate::together::{Texts, together};
 use std::alloc::Global;
 
 /// How many bytes the place of a handle has, which stands at a multiple of 8.
@@ -52,7 +62,7 @@ pub extern "C" fn fonnalich_size() -> usize
 pub unsafe extern "C" fn fonnalich_begin(alloc: Global, at: *mut u8)
     requires* { sem 𝓛 (room_at held.the_row at) }
     ensures* { sem 𝓛 (fex held.the_row.Denot (λ w. fsep
-        (fex (IsFresh (record { client = w.client; kept = w.kept.items })) (λ _. ftrue))
+        (fex (IsFresh (record { client = w.client; rules = w.habits.rules; kept = w.kept.items })) (λ _. ftrue))
         (points_to held.the_row at w))) }
 {
     let place = at as *mut Held;
@@ -65,7 +75,7 @@ pub unsafe extern "C" fn fonnalich_act(
     alloc: Global,
     at: *mut u8,
     word: u32,
-    second: i64,
+    number: i64,
     subject: &[u8],
     text: &[u8],
     out: &mut [u8],
@@ -73,16 +83,16 @@ pub unsafe extern "C" fn fonnalich_act(
     ghost value: { Held }
     requires* { sem 𝓛 (points_to held.the_row at value) }
     ensures* { sem 𝓛 (fex held.the_row.Denot (λ w. fsep
-        (fex (Acts word (record { second = second; subject = subject.now; text = text.now })
-        (record { client = value.client; kept = value.kept.items }) out.old
-        (record { client = w.client; kept = w.kept.items }) out.new result) (λ _. ftrue))
+        (fex (Acts word (record { number = number; subject = subject.now; text = text.now })
+        (record { client = value.client; rules = value.habits.rules; kept = value.kept.items }) out.old
+        (record { client = w.client; rules = w.habits.rules; kept = w.kept.items }) out.new result) (λ _. ftrue))
         (points_to held.the_row at w))) }
 {
     work(
         alloc,
         &mut *(at as *mut Held),
         word,
-        second,
+        number,
         subject,
         text,
         out,
@@ -130,6 +140,62 @@ pub extern "C" fn fonnalich_suffix(alloc: Global, list: &[u8], host: &[u8], out:
 {
     match suffix(alloc, list, host) {
         Ok(suffix) => write(suffix, out),
+        Err(refusal) => refusal.number(),
+    }
+}
+
+/// Reads a cookie into its parts, its name and value percent-decoded or as they stand: the items of its name, its
+/// value, its path and its domain, and its attributes.
+///
+/// Where the items have no room the attributes stay as they were too, and the same call with more makes both again.
+#[unsafe(no_mangle)]
+pub extern "C" fn fonnalich_parse(
+    alloc: Global,
+    decode: bool,
+    text: &[u8],
+    attributes: &mut Attributes,
+    out: &mut [u8],
+) -> isize
+    ensures { GivesParts decode text.now attributes.old out.old attributes.new out.new result }
+{
+    match apart(alloc, decode, text) {
+        Ok((texts, read)) => {
+            if texts.len() <= out.len() {
+                *attributes = read;
+            }
+            write(&texts, out)
+        }
+        Err(refusal) => refusal.number(),
+    }
+}
+
+/// Prints the cookie of these parts, its name and value percent-encoded or as they stand.
+#[unsafe(no_mangle)]
+pub extern "C" fn fonnalich_print(
+    alloc: Global,
+    encode: bool,
+    attributes: &Attributes,
+    name: &[u8],
+    value: &[u8],
+    path: &[u8],
+    domain: &[u8],
+    out: &mut [u8],
+) -> isize
+    ensures { Gives
+        (IsPrinted encode attributes.now
+        (record { name = name.now; value = value.now; path = path.now; domain = domain.now }))
+        (IsUnprinted attributes.now
+        (record { name = name.now; value = value.now; path = path.now; domain = domain.now }))
+        out.old out.new result }
+{
+    let texts = Texts {
+        name,
+        value,
+        path,
+        domain,
+    };
+    match together(alloc, encode, attributes, texts) {
+        Ok(line) => write(line.as_bytes(), out),
         Err(refusal) => refusal.number(),
     }
 }

@@ -44,6 +44,14 @@ pub enum Refusal {
     Nonces,
     /// The host has no byte, or an empty label.
     Host,
+    /// A text isn't UTF-8, as it stands or percent-decoded.
+    Text,
+    /// The text before the first `;` has no `=`.
+    Pair,
+    /// The number is none of an attribute `SameSite`.
+    Site,
+    /// The number is none of flags of rules.
+    Rules,
     /// Memory was refused at this line, counted from 1: those before it are applied, and no later one
     /// was looked at. At 0 none was.
     Stopped(usize),
@@ -71,6 +79,10 @@ impl Refusal {
             Refusal::TooLong => -14,
             Refusal::Nonces => -15,
             Refusal::Host => -16,
+            Refusal::Text => -17,
+            Refusal::Pair => -18,
+            Refusal::Site => -19,
+            Refusal::Rules => -20,
             Refusal::Stopped(line) => stopped_number(line),
         }
     }

@@ -2,29 +2,47 @@
 ghost use Rattle.std.specs.Prelude.{◌≡◌, ◌⊎◌, ◌≤◌, [], length, map, vec_capacity, IfOk, IfErr, OnOk, OnErr, Some};
 ghost use Rattle.cookie_store.specs.SavedTexts.{IsAnyBeforeYears};
 ghost use Rattle.fonnalich_c.specs.Numbers.{end_number};
+ghost use Rattle.fonnalich_c.specs.Rules.{outcome_number};
 ghost use Rattle.fonnalich_c.specs.Tasks as spec;
 
-use crate::given::{lines, list, moment, url};
+use crate::given::{lines, list, moment};
 use crate::memory::Memory;
+use crate::page::{Page, url_at};
 use crate::refusal::{Refusal, end_number};
+use crate::rule::{outcome_number, rules_of};
 use crate::word::{Task, Word};
 use cookie_run::{Client, LineEnd};
 use cookie_store::{Counting, Error};
 use std::alloc::Global;
+use user_agent::agent::receive_all;
+use user_agent::{Outcome, Rules};
+
+/// What a handle knows beside its client.
+#[derive(Drop)]
+pub struct Habits {
+    /// The rules of its lines, or none.
+    pub rules: Option<Rules>,
+    /// The URL that was asked for last.
+    pub page: Option<Page>,
+}
 
 /// The answer of a word, by the client where there is one.
 pub(crate) fn answer(
     alloc: Global,
     client: &mut Option<Client>,
+    habits: &mut Habits,
     word: Option<Word>,
-    second: i64,
+    number: i64,
     subject: &[u8],
     text: &[u8],
 ) -> Result<Vec<u8>, Refusal>
     ensures ok { IfOk result (λ answer. spec.Makes word
-        (record { second = second; subject = subject.now; text = text.now }) client.old answer.items client.new) }
+        (record { number = number; subject = subject.now; text = text.now }) habits.old.rules client.old
+        answer.items habits.new.rules client.new) }
     ensures err { IfErr result (λ refused. spec.Fails word
-        (record { second = second; subject = subject.now; text = text.now }) client.old refused client.new) }
+        (record { number = number; subject = subject.now; text = text.now }) habits.old.rules client.old
+        refused client.new) }
+    ensures rules { OnErr result (habits.new.rules ≡ habits.old.rules) }
 {
     match word {
         Some(Word::List) => {
@@ -33,12 +51,16 @@ pub(crate) fn answer(
             Ok(Vec::new(alloc))
         }
         Some(Word::Load) => {
-            let loaded = loaded(alloc, second, subject, text)?;
+            let loaded = loaded(alloc, number, subject, text)?;
             *client = Some(loaded);
             Ok(Vec::new(alloc))
         }
+        Some(Word::Rules) => {
+            habits.rules = rules_of(number)?;
+            Ok(Vec::new(alloc))
+        }
         Some(Word::Ask(task)) => match client {
-            Some(client) => ask(alloc, client, task, second, subject, text),
+            Some(client) => ask(alloc, client, habits, task, number, subject, text),
             None => Err(Refusal::NoClient),
         },
         None => Err(Refusal::Word),
@@ -82,19 +104,23 @@ fn unloaded(cause: Error) -> Refusal
 fn ask(
     alloc: Global,
     client: &mut Client,
+    habits: &mut Habits,
     task: Task,
     second: i64,
     subject: &[u8],
     text: &[u8],
 ) -> Result<Vec<u8>, Refusal>
     ensures ok { IfOk result (λ answer. spec.Does task
-        (record { second = second; subject = subject.now; text = text.now }) client.old answer.items client.new) }
+        (record { number = second; subject = subject.now; text = text.now }) habits.old.rules client.old
+        answer.items client.new) }
     ensures err { IfErr result (λ refused. spec.Refuses task
-        (record { second = second; subject = subject.now; text = text.now }) client.old refused client.new) }
+        (record { number = second; subject = subject.now; text = text.now }) habits.old.rules client.old
+        refused client.new) }
+    ensures rules { habits.new.rules ≡ habits.old.rules }
 {
     match task {
-        Task::Receive => receive(alloc, client, second, subject, text),
-        Task::Header => header(alloc, client, second, subject),
+        Task::Receive => receive(alloc, client, habits, second, subject, text),
+        Task::Header => header(alloc, client, &mut habits.page, second, subject),
         Task::Save => save(alloc, client, second),
         Task::Restart => restart(alloc, client, second),
     }
@@ -104,26 +130,34 @@ fn ask(
 fn receive(
     alloc: Global,
     client: &mut Client,
+    habits: &mut Habits,
     second: i64,
     subject: &[u8],
     text: &[u8],
 ) -> Result<Vec<u8>, Refusal>
-    ensures ok { IfOk result (λ answer.
-        spec.Receives second subject.now text.now client.old answer.items client.new) }
-    ensures err { IfErr result (λ refused.
-        spec.RefusesLines second subject.now text.now client.old refused client.new) }
+    ensures ok { IfOk result (λ answer. spec.Receives habits.old.rules second subject.now text.now client.old
+        answer.items client.new) }
+    ensures err { IfErr result (λ refused. spec.RefusesLines habits.old.rules second subject.now text.now client.old
+        refused client.new) }
+    ensures rules { habits.new.rules ≡ habits.old.rules }
 {
     let now = moment(second)?;
-    let url = url(alloc, subject)?;
+    let url = url_at(alloc, &mut habits.page, subject)?;
     let Ok(lines) = lines(alloc, text) else {
         return Err(Refusal::Memory);
     };
     let Ok(room) = Vec::with_capacity(alloc, lines.len()) else {
         return Err(Refusal::Memory);
     };
-    match client.receive(&url, &lines, now) {
-        Ok(ends) => Ok(numbered(room, &ends)),
-        Err(stopped) => Err(Refusal::Stopped(stopped.0)),
+    match habits.rules {
+        Some(rules) => match receive_all(client, &rules, url, &lines, now) {
+            Ok(outcomes) => Ok(outcomes_numbered(room, &outcomes)),
+            Err(stopped) => Err(Refusal::Stopped(stopped.0)),
+        },
+        None => match client.receive(url, &lines, now) {
+            Ok(ends) => Ok(numbered(room, &ends)),
+            Err(stopped) => Err(Refusal::Stopped(stopped.0)),
+        },
     }
 }
 
@@ -140,14 +174,33 @@ fn numbered(room: Vec<u8>, ends: &[LineEnd]) -> Vec<u8>
     answer
 }
 
+// The same of lines behind rules.
+fn outcomes_numbered(room: Vec<u8>, outcomes: &[Outcome]) -> Vec<u8>
+    requires empty { room.items ≡ [] }
+    requires fits { length outcomes.now ≤ vec_capacity room }
+    ensures { result.items ≡ map outcome_number outcomes.now }
+{
+    let mut answer = room;
+    for outcome in outcomes {
+        answer.push_reserved(outcome_number(*outcome));
+    }
+    answer
+}
+
 // The header of a request.
-fn header(alloc: Global, client: &Client, second: i64, subject: &[u8]) -> Result<Vec<u8>, Refusal>
+fn header(
+    alloc: Global,
+    client: &Client,
+    page: &mut Option<Page>,
+    second: i64,
+    subject: &[u8],
+) -> Result<Vec<u8>, Refusal>
     ensures ok { IfOk result (λ answer. spec.Heads second subject.now client.now.rows answer.items) }
     ensures err { IfErr result (spec.IsRequestFault second subject.now) }
 {
     let now = moment(second)?;
-    let url = url(alloc, subject)?;
-    match client.header(&url, now) {
+    let url = url_at(alloc, page, subject)?;
+    match client.header(url, now) {
         Ok(text) => Ok(text.into_bytes()),
         Err(_) => Err(Refusal::Memory),
     }

@@ -25,6 +25,8 @@ pub enum Word {
     List,
     /// A client of a saved text.
     Load,
+    /// The rules of lines that come later.
+    Rules,
     /// A task of the client.
     Ask(Task),
 }
@@ -41,6 +43,7 @@ impl Word {
             4 => Some(Word::Ask(Task::Header)),
             5 => Some(Word::Ask(Task::Save)),
             6 => Some(Word::Ask(Task::Restart)),
+            7 => Some(Word::Rules),
             _ => None,
         }
     }

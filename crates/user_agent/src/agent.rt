@@ -194,8 +194,13 @@ impl UserAgent {
     }
 }
 
-// Takes lines one after another.
-fn receive_all(
+/// Takes the `Set-Cookie` lines of an answer from this URL at `now` into a client behind these rules, one after another,
+/// as [`UserAgent::receive`] does: for a client whose rules another keeps.
+///
+/// # Errors
+///
+/// Those of [`UserAgent::receive`].
+pub fn receive_all(
     client: &mut Client,
     rules: &Rules,
     url: &Url,

@@ -145,12 +145,12 @@ fonnalich_act_spec {M} 𝓤 𝓛 𝓜 𝓡 wired =
     a.1.1.1.1.1.1.0 in
     let R = held.the_row in
     let Acted : R.Denot → List ℕ → ℤ → Type 0 = λ w o r. Acts a.1.1.0 (record {
-      second = a.1.1.1.0;
+      number = a.1.1.1.0;
       subject =
           a.1.1.1.1.0.now;
       text = a.1.1.1.1.1.0.now;
-    }) (record { client = n.client; kept = n.kept.items })
-    a.1.1.1.1.1.1.0.now (record { client = w.client; kept = w.kept.items }) o r in
+    }) (record { client = n.client; rules = n.habits.rules; kept = n.kept.items })
+    a.1.1.1.1.1.1.0.now (record { client = w.client; rules = w.habits.rules; kept = w.kept.items }) o r in
     let Held : ℕ → ℕ × ℕ → GName → R.Denot → Fml = λ α p γ x. (MutRef (named 0) (α ∷ []) R).own_val (record {
       ref_ptr = p;
       ghost_name = γ;

@@ -1,0 +1,87 @@
+//! The rules of user agents (the draft that follows RFC 6265, sections 5.5 to 5.7).
+
+/// Which rules a client's lines come behind.
+#[derive(Clone, Copy, Debug, PartialEq, Eq)]
+pub struct Rules {
+    /// Refuses a line with a control character other than a tab.
+    pub control: bool,
+    /// Refuses one whose name and value have over 4,096 bytes together.
+    pub too_long: bool,
+    /// Refuses one of the prefix `__Secure-` in any case, decoded, that isn't Secure or isn't from https.
+    pub secure_prefix: bool,
+    /// Refuses one of the prefix `__Host-` in any case, decoded, that isn't as it asks or isn't from https.
+    pub host_prefix: bool,
+    /// Refuses a Secure one from a URL that isn't secure.
+    pub secure_from_http: bool,
+    /// Refuses one without Secure from such a URL, over a Secure cookie that hasn't expired.
+    pub secure_overlay: bool,
+    /// Passes over attributes whose value has over 1,024 bytes.
+    pub long_attributes: bool,
+    /// Reads dates in the forms in which servers send them.
+    pub dates: bool,
+    /// Cuts lives at 400 days.
+    pub long_lives: bool,
+}
+
+impl Rules {
+    /// All rules.
+    pub fn browser() -> Rules {
+        Rules {
+            control: true,
+            too_long: true,
+            secure_prefix: true,
+            host_prefix: true,
+            secure_from_http: true,
+            secure_overlay: true,
+            long_attributes: true,
+            dates: true,
+            long_lives: true,
+        }
+    }
+
+    /// No rule.
+    pub fn none() -> Rules {
+        Rules {
+            control: false,
+            too_long: false,
+            secure_prefix: false,
+            host_prefix: false,
+            secure_from_http: false,
+            secure_overlay: false,
+            long_attributes: false,
+            dates: false,
+            long_lives: false,
+        }
+    }
+
+    pub(crate) fn flags(self) -> i64 {
+        let refusing = [self.control, self.too_long, self.secure_prefix, self.host_prefix, self.secure_from_http];
+        let others = [self.secure_overlay, self.long_attributes, self.dates, self.long_lives];
+        refusing.into_iter().chain(others).rev().fold(0, |flags, is_on| flags * 2 + i64::from(is_on))
+    }
+}
+
+/// A rule that refused a line.
+#[derive(Clone, Copy, Debug, PartialEq, Eq)]
+pub enum Rule {
+    Control,
+    TooLong,
+    SecurePrefix,
+    HostPrefix,
+    SecureFromHttp,
+    SecureOverlay,
+}
+
+impl Rule {
+    pub(crate) fn of(number: u8) -> Option<Rule> {
+        match number {
+            20 => Some(Rule::Control),
+            21 => Some(Rule::TooLong),
+            22 => Some(Rule::SecurePrefix),
+            23 => Some(Rule::HostPrefix),
+            24 => Some(Rule::SecureFromHttp),
+            25 => Some(Rule::SecureOverlay),
+            _ => None,
+        }
+    }
+}
