@@ -1,3 +1,4 @@
+pub mod ExplainLemmas
 pub mod RowLemmas
 pub mod SavingLemmas
 pub mod Shown

@@ -60,44 +60,50 @@ picked_fewer Is (x ∷ xs) picked (later, rest, inr h) =
     omega (arith, picked_fewer Is xs later rest, ap length h.1)
 
 -- what is picked of the rows that are left stands behind what was lent
-abbrev pub PicksSoFar : List Row → List Row → List Row → List Row → Type 0
-PicksSoFar own others lent left =
+abbrev pub PicksSoFar : (Row → Type 0) → List Row → List Row → List Row → List Row → Type 0
+PicksSoFar Is own others lent left =
     (done : List Row) × (lent ≡ own ++ done)
-    × ((picked : List Row) → ArePicked IsHeldRightly left picked → ArePicked IsHeldRightly others (done ++ picked))
+    × ((picked : List Row) → ArePicked Is left picked → ArePicked Is others (done ++ picked))
 
-pub picks_none : (own others lent : List Row) → lent ≡ own → PicksSoFar own others lent others
-picks_none own others lent same = ([], same ∙ sym (append-nil own), λ picked p. p)
+pub picks_none : (Is : Row → Type 0) (own others lent : List Row) → lent ≡ own → PicksSoFar Is own others lent others
+picks_none Is own others lent same = ([], same ∙ sym (append-nil own), λ picked p. p)
 
-pub picks_more : (own others left rest : List Row) (items new : List (Bor Cookie)) (cookie : Bor Cookie)
-    → left ≡ lent_row cookie ∷ rest → new ≡ items ++ cookie ∷ [] → IsHeldRightly (lent_row cookie)
-    → PicksSoFar own others (lent_rows items) left → PicksSoFar own others (lent_rows new) rest
-picks_more own others left rest items new cookie is pushed held (done, same, far) = (
+pub picks_more : (Is : Row → Type 0) (own others left rest : List Row) (items new : List (Bor Cookie))
+    (cookie : Bor Cookie) → left ≡ lent_row cookie ∷ rest → new ≡ items ++ cookie ∷ [] → Is (lent_row cookie)
+    → PicksSoFar Is own others (lent_rows items) left → PicksSoFar Is own others (lent_rows new) rest
+picks_more Is own others left rest items new cookie is pushed held (done, same, far) = (
   done ++ lent_row cookie ∷ [],
   ap lent_rows pushed
       ∙ (map-append lent_row items (cookie ∷ [])
       ∙ (ap (λ xs. xs ++ lent_row cookie ∷ []) same ∙ append_assoc own done (lent_row cookie ∷ []))),
-  λ picked p. subst (ArePicked IsHeldRightly others) (sym (append_assoc done (lent_row cookie ∷ []) picked))
+  λ picked p. subst (ArePicked Is others) (sym (append_assoc done (lent_row cookie ∷ []) picked))
       (far (lent_row cookie ∷ picked)
-      (subst (λ l. ArePicked IsHeldRightly l (lent_row cookie ∷ picked)) (sym is) (picked, p, inl (held, refl)))),
+      (subst (λ l. ArePicked Is l (lent_row cookie ∷ picked)) (sym is) (picked, p, inl (held, refl)))),
 )
 
-pub picks_same : (own others lent left rest : List Row) (row : Row) → left ≡ row ∷ rest → ¬ (IsHeldRightly row)
-    → PicksSoFar own others lent left → PicksSoFar own others lent rest
-picks_same own others lent left rest row is other (done, same, far) = (
+pub picks_same : (Is : Row → Type 0) (own others lent left rest : List Row) (row : Row) → left ≡ row ∷ rest
+    → ¬ (Is row) → PicksSoFar Is own others lent left → PicksSoFar Is own others lent rest
+picks_same Is own others lent left rest row is other (done, same, far) = (
   done,
   same,
-  λ picked p.
-      far picked (subst (λ l. ArePicked IsHeldRightly l picked) (sym is) (picked, p, inr (other, refl))),
+  λ picked p. far picked (subst (λ l. ArePicked Is l picked) (sym is) (picked, p, inr (other, refl))),
 )
 
-pub picks_all : (own others lent left : List Row) → left ≡ [] → PicksSoFar own others lent left
-    → (taken : List Row) × ArePicked IsHeldRightly others taken × (lent ≡ own ++ taken)
-picks_all own others lent left none (done, same, far) = (
+pub picks_all : (Is : Row → Type 0) (own others lent left : List Row) → left ≡ []
+    → PicksSoFar Is own others lent left
+    → (taken : List Row) × ArePicked Is others taken × (lent ≡ own ++ taken)
+picks_all Is own others lent left none (done, same, far) = (
   done,
-  subst (ArePicked IsHeldRightly others) (append-nil done)
-      (far [] (subst (λ l. ArePicked IsHeldRightly l []) (sym none) refl)),
+  subst (ArePicked Is others) (append-nil done) (far [] (subst (λ l. ArePicked Is l []) (sym none) refl)),
   same,
 )
+
+-- what is picked behind nothing
+pub picks_alone : (Is : Row → Type 0) (others lent left : List Row) → left ≡ [] → PicksSoFar Is [] others lent left
+    → ArePicked Is others lent
+picks_alone Is others lent left none far =
+    let (taken, picked, same) = picks_all Is [] others lent left none far in
+    subst (ArePicked Is others) (sym same) picked
 
 -- ---- what an iterator gives
 
@@ -216,9 +222,9 @@ placed_held now xs ys hx hy =
     (filter_all IsHeldRightly (is_live now) (xs ++ ys) (both_all IsHeldRightly xs ys hx hy)) tt
 
 -- and so is what an import leaves
-pub imported_held : (now : ℤ) (others old : List Row) (count refused : ℕ) (new : List Row) → AreHeldRightly old
-    → ImportsRows now others old count refused new → AreHeldRightly new
-imported_held now others old count refused new held (taken, picked, is, counted, whole) =
+pub imported_held : (now : ℤ) (others old : List Row) (count refused : ℕ) (told : List ℕ) (new : List Row)
+    → AreHeldRightly old → ImportsRows now others old count refused told new → AreHeldRightly new
+imported_held now others old count refused told new held (taken, picked, is, counted, whole, tells) =
     subst AreHeldRightly (sym is) (placed_held now old taken held (picked_all IsHeldRightly others taken picked))
 
 -- however receiving ended

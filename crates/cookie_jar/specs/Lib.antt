@@ -1,6 +1,10 @@
+pub mod Explaining
 pub mod Forms
+pub mod Json
+pub mod LeftOut
 pub mod Listing
 pub mod Reading
 pub mod Rows
 pub mod Saving
+pub mod Steps
 pub mod Told

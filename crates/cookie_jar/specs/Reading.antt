@@ -1,14 +1,17 @@
 -- The rows that a jar takes of a text, and why it takes none (this repository's own).
-use Rattle.std.specs.Prelude.{◌≡◌, ◌⊎◌, ◌+◌, ◌++◌, ℕ, ℤ, List, length, false}
+use Rattle.std.specs.Prelude.{◌≡◌, ◌≢◌, ◌⊎◌, ◌+◌, ◌++◌, ℕ, ℤ, List, length, false}
 use Rattle.saved_text.specs.RonReading.{ShowsOnly}
 use Rattle.store_parts.specs.declared.error.Error.{Error}
+use Rattle.store_parts.specs.declared.error.Error.TheVariants as saved
 use Rattle.cookie_store.specs.Given.{ArePicked}
 use Rattle.cookie_store.specs.Placing.{loaded, loaded_store}
 use Rattle.cookie_store.specs.Rows.{Row, Store}
 use Rattle.cookie_store.specs.SavedTexts.{IsJsonOf, IsJsonRefusal, IsRonRefusal, Loads}
 use Rattle.cookies_txt.specs.Reading.{GivesRows, IsBytesRefusal}
 use Rattle.cookies_txt.specs.declared.error.ReadError.{ReadError as LinesError}
+use Rattle.cookies_txt.specs.declared.error.ReadError.TheVariants as lines
 use Rattle.cookie_run.specs.HostPrefix.{IsHeldRightly}
+use Rattle.cookie_jar.specs.LeftOut.{TellsRefused}
 use Rattle.cookie_jar.specs.declared.error.ReadError.{ReadError}
 use Rattle.cookie_jar.specs.declared.error.ReadError.TheVariants.{Saved, Lines, OutOfMemory}
 use Rattle.cookie_jar.specs.declared.form.Form.{Form}
@@ -20,20 +23,23 @@ Reads Ron now text store = Loads ShowsOnly false now text store
 Reads Json now text store = Loads IsJsonOf false now text store
 Reads Txt now text store = (rows : List Row) × GivesRows text rows × (store ≡ loaded_store false now rows)
 
--- why a text of this form isn't read
+-- why a text of this form isn't read; want of memory is told by its own name alone
 abbrev pub IsUnread : Form → List ℕ → ReadError → Type 0
-IsUnread Ron text e = (e ≡ OutOfMemory) ⊎ ((cause : Error) × IsRonRefusal text cause × (e ≡ Saved cause))
-IsUnread Json text e = (e ≡ OutOfMemory) ⊎ ((cause : Error) × IsJsonRefusal text cause × (e ≡ Saved cause))
-IsUnread Txt text e = (e ≡ OutOfMemory) ⊎ ((cause : LinesError) × IsBytesRefusal text cause × (e ≡ Lines cause))
+IsUnread Ron text e = (e ≡ OutOfMemory)
+    ⊎ ((cause : Error) × (cause ≢ saved.OutOfMemory) × IsRonRefusal text cause × (e ≡ Saved cause))
+IsUnread Json text e = (e ≡ OutOfMemory)
+    ⊎ ((cause : Error) × (cause ≢ saved.OutOfMemory) × IsJsonRefusal text cause × (e ≡ Saved cause))
+IsUnread Txt text e = (e ≡ OutOfMemory)
+    ⊎ ((cause : LinesError) × (cause ≢ lines.OutOfMemory) × IsBytesRefusal text cause × (e ≡ Lines cause))
 
 -- Rows and then those of others that a jar may hold, placed by their keys, without those that are expired at the
--- moment: how many others were taken, and how many it may not hold.
-abbrev pub ImportsRows : ℤ → List Row → List Row → ℕ → ℕ → List Row → Type 0
-ImportsRows now others old count refused new =
+-- moment: how many others were taken, how many it may not hold, and what is told of these.
+abbrev pub ImportsRows : ℤ → List Row → List Row → ℕ → ℕ → List ℕ → List Row → Type 0
+ImportsRows now others old count refused told new =
     (taken : List Row) × ArePicked IsHeldRightly others taken × (new ≡ loaded false now (old ++ taken))
-    × (count ≡ length taken) × (count + refused ≡ length others)
+    × (count ≡ length taken) × (count + refused ≡ length others) × TellsRefused others told
 
 -- a jar's rows and then those of a text
-abbrev pub Imports : Form → ℤ → List ℕ → List Row → ℕ → ℕ → List Row → Type 0
-Imports form now text old count refused new =
-    (read : Store) × Reads form now text read × ImportsRows now read.rows old count refused new
+abbrev pub Imports : Form → ℤ → List ℕ → List Row → ℕ → ℕ → List ℕ → List Row → Type 0
+Imports form now text old count refused told new =
+    (read : Store) × Reads form now text read × ImportsRows now read.rows old count refused told new

@@ -9,16 +9,22 @@ ghost use Rattle.cookie_store.specs.Rows.{Store, found, key, live, removed};
 ghost use Rattle.cookie_run.specs.Accept.{AcceptsAll, IsStopped};
 ghost use Rattle.cookie_run.specs.Header.{IsHeader};
 ghost use Rattle.cookie_run.specs.HostPrefix.{AreHeldRightly, IsHeldRightly};
+ghost use Rattle.cookie_jar.specs.Explaining.{IsExplained};
+ghost use Rattle.cookie_jar.specs.Json.{rows_json};
+ghost use Rattle.cookie_jar.specs.LeftOut.{passed_lines};
 ghost use Rattle.cookie_jar.specs.Listing as table;
 ghost use Rattle.cookie_jar.specs.Reading as spec;
 ghost use Rattle.cookie_jar.specs.Saving as text;
 ghost use Rattle.cookie_jar.specs.Told as told;
 
 use crate::error::{ReadError, SaveError};
+use crate::explaining::explained;
 use crate::form::Form;
+use crate::json_list::rows_json;
+use crate::left_out::refused_lines;
 use crate::listing::listing;
 use crate::reading::read;
-use crate::rows::{live_rows, placed, rows_of, rows_with};
+use crate::rows::{live_rows, placed, refused_rows, rows_of, rows_with};
 use crate::saving::{Exported, text_of};
 use crate::told::header_line;
 use cookie_run::client::{header_of, only_held, receive_all};
@@ -53,12 +59,15 @@ impl Model for Jar {
 }
 
 /// What an import did.
-#[derive(Clone, Copy, Debug, PartialEq, Eq)]
+#[derive(Debug, Drop)]
 pub struct Imported {
     /// How many rows were taken.
     pub rows: usize,
     /// How many a jar may not hold, for the prefix `__Host-`.
     pub refused: usize,
+    /// A line of each of these: `refused: __Host-`, domain, path and name, parted by tabs. Of the texts each byte that
+    /// isn't printable ASCII, and `%`, stands as `%` and two digits.
+    pub told: String,
 }
 
 impl Jar {
@@ -133,6 +142,8 @@ impl Jar {
             ≡ length (text.fitting form (live (civil_nanos now) self.now.rows))) }
         ensures passed_over { IfOk result (λ exported. exported.rows + exported.passed_over
             ≡ length (live (civil_nanos now) self.now.rows)) }
+        ensures told { IfOk result (λ exported. string_bytes exported.told
+            ≡ passed_lines form (live (civil_nanos now) self.now.rows)) }
         ensures err { IfErr result (text.IsUnsaved form true (live (civil_nanos now) self.now.rows)) }
     {
         self.written(form, true, now)
@@ -146,6 +157,8 @@ impl Jar {
             ≡ length (text.fitting form (live (civil_nanos now) self.now.rows))) }
         ensures passed_over { IfOk result (λ exported. exported.rows + exported.passed_over
             ≡ length (live (civil_nanos now) self.now.rows)) }
+        ensures told { IfOk result (λ exported. string_bytes exported.told
+            ≡ passed_lines form (live (civil_nanos now) self.now.rows)) }
         ensures all { passing_over ≡ false → IfOk result (λ _.
             text.fitting form (live (civil_nanos now) self.now.rows) ≡ live (civil_nanos now) self.now.rows) }
         ensures err { IfErr result (text.IsUnsaved form passing_over (live (civil_nanos now) self.now.rows)) }
@@ -163,7 +176,7 @@ impl Jar {
     /// As `load`. The jar is then as it was.
     pub fn import(&mut self, form: Form, text: &[u8], now: DateTime) -> Result<Imported, ReadError>
         ensures ok { IfOk result (λ imported. spec.Imports form (civil_nanos now) text.now self.old.rows
-            imported.rows imported.refused self.new.rows) }
+            imported.rows imported.refused (string_bytes imported.told) self.new.rows) }
         ensures err { IfErr result (spec.IsUnread form text.now) }
         ensures same { OnErr result (self.new ≡ self.old) }
         ensures list { self.new.suffixes ≡ self.old.suffixes }
@@ -246,6 +259,46 @@ impl Jar {
         listing(self.alloc, rows)
     }
 
+    /// Its rows that aren't expired at `now`, in their order, as an array of JSON in one line (RFC 8259), and a line
+    /// feed. A row is an object of `domain`, `hosts_below`, `path`, `name`, `value`, `expires`, `secure` and
+    /// `http_only`: texts as the row has them, the expiry in whole seconds since 1970 or `null`, and flags.
+    ///
+    /// # Errors
+    ///
+    /// `AllocError` where there is no memory for the text.
+    pub fn list_json(&self, now: DateTime) -> Result<String, AllocError>
+        ensures { IfOk result (λ list. string_bytes list ≡ rows_json (live (civil_nanos now) self.now.rows)) }
+    {
+        rows_json(self.alloc, live_rows(self.alloc, &self.store, now)?)
+    }
+
+    /// The same of what a request to this URL gets at `now`, with longer paths first.
+    ///
+    /// # Errors
+    ///
+    /// `AllocError` where there is no memory for the text.
+    pub fn list_json_of(&self, url: &Url, now: DateTime) -> Result<String, AllocError>
+        ensures { IfOk result (λ list. (rows : _)
+            × AreGivenLongest self.now.rows url.now (civil_nanos now) rows × (string_bytes list ≡ rows_json rows)) }
+    {
+        rows_json(self.alloc, self.store.matches_longest(url, now)?)
+    }
+
+    /// What a `Set-Cookie` line from this URL means: its name and its value, what each of its pieces says and whether
+    /// it counts, what would become of it at `now` and by which rule, and which requests would get it. Each is a line.
+    /// Of what others sent each byte that isn't printable ASCII, and `%`, stands as `%` and two digits. It takes a copy
+    /// of the jar, which stays as it is.
+    ///
+    /// # Errors
+    ///
+    /// `AllocError`, for want of memory.
+    pub fn explain(&self, url: &Url, line: &[u8], now: DateTime) -> Result<String, AllocError>
+        ensures { IfOk result (λ text.
+            IsExplained self.now url.now (civil_nanos now) line.now (string_bytes text)) }
+    {
+        explained(self.alloc, &self.store, url, line, now)
+    }
+
     /// Takes the row of the domain's text, which has no dot in front, the path's text and the name out, whether or not
     /// it is expired, and says whether there was one. The others keep their order.
     pub fn remove(&mut self, domain: &str, path: &str, name: &str) -> bool
@@ -303,16 +356,18 @@ fn import_rows(
     now: DateTime,
 ) -> Result<Imported, AllocError>
     ensures ok { IfOk result (λ imported. spec.ImportsRows (civil_nanos now) other.now.rows store.old.rows
-        imported.rows imported.refused store.new.rows) }
+        imported.rows imported.refused (string_bytes imported.told) store.new.rows) }
     ensures same { OnErr result (store.new ≡ store.old) }
     ensures list { store.new.suffixes ≡ store.old.suffixes }
 {
     let all = rows_of(alloc, other)?.len();
+    let told = refused_lines(alloc, refused_rows(alloc, other)?)?;
     let (taken, whole) = with_rows(alloc, store, other, now)?;
     store.replace_rows(whole);
     Ok(Imported {
         rows: taken,
         refused: all - taken,
+        told,
     })
 }
 

@@ -9,8 +9,11 @@
 #![tactic(auto)]
 
 mod error;
+mod explaining;
 mod form;
 mod jar;
+mod json_list;
+mod left_out;
 mod listing;
 mod reading;
 mod rows;

@@ -2,6 +2,8 @@
 ghost use Rattle.std.specs.Prelude.{◌≡◌, ◌++◌, ◌∷◌, [], IfOk, OnOk, string_bytes};
 ghost use Rattle.cookie_store.specs.StoredCookie.{stored_of};
 ghost use Rattle.cookies_txt.specs.Layout.{tab};
+ghost use Rattle.cookies_txt.specs.Writing.{is_suffix};
+ghost use Rattle.store_parts.specs.DomainMatch.{domain_of};
 ghost use Rattle.cookie_jar.specs.Listing as spec;
 ghost use Rattle.cookie_jar.specs.Rows.{lent_rows};
 ghost use Rattle.cookie_jar.specs.Told.{shown};
@@ -45,7 +47,7 @@ fn push_row(text: &mut String, cookie: &Cookie<'static>) -> Result<(), AllocErro
 }
 
 // The domain, with a dot in front where the hosts below it count.
-fn push_domain(text: &mut String, cookie: &Cookie<'static>) -> Result<(), AllocError>
+pub(crate) fn push_domain(text: &mut String, cookie: &Cookie<'static>) -> Result<(), AllocError>
     ensures { OnOk result (string_bytes text.new
         ≡ string_bytes text.old ++ spec.domain_field (stored_of cookie.now)) }
 {
@@ -56,11 +58,18 @@ fn push_domain(text: &mut String, cookie: &Cookie<'static>) -> Result<(), AllocE
 }
 
 // A field behind a tab.
-fn push_field(text: &mut String, field: &str) -> Result<(), AllocError>
+pub(crate) fn push_field(text: &mut String, field: &str) -> Result<(), AllocError>
     ensures { OnOk result (string_bytes text.new ≡ string_bytes text.old ++ tab ∷ shown field.now) }
 {
     text.push_str("\t")?;
     push_shown(text, field.as_bytes())
+}
+
+// Whether the hosts below the domain count.
+pub(crate) fn is_suffix(domain: &CookieDomain) -> bool
+    ensures { result ≡ is_suffix (domain_of domain.now) }
+{
+    matches!(domain, CookieDomain::Suffix(_))
 }
 
 fn flag_text(name: &'static str, flag: bool) -> &'static str

@@ -3,6 +3,7 @@ ghost use Rattle.std.specs.Prelude.{◌≡◌, ◌≢◌, ◌⊎◌, false, IfOk
 ghost use Rattle.jiff.specs.Words.{civil_nanos};
 ghost use Rattle.cookie_store.specs.Placing.{loaded_store};
 ghost use Rattle.cookie_store.specs.StoredCookie.{stored_of};
+ghost use Rattle.cookies_txt.specs.declared.error.ReadError.TheVariants as lines;
 ghost use Rattle.cookie_jar.specs.Reading as spec;
 
 use crate::error::ReadError;
@@ -66,7 +67,18 @@ fn read_txt(alloc: Global, text: &[u8], now: DateTime) -> Result<CookieStore, Re
 {
     match cookies_txt::read(alloc, text) {
         Ok(cookies) => Ok(placed(alloc, cookies, now)?),
-        Err(cause) => Err(ReadError::Lines(cause)),
+        Err(cause) => Err(unread_lines(cause)),
+    }
+}
+
+// What a refusal to read lines is told as.
+fn unread_lines(cause: cookies_txt::ReadError) -> ReadError
+    ensures { ((result ≡ ReadError.OutOfMemory) × (cause ≡ lines.OutOfMemory))
+        ⊎ ((result ≡ ReadError.Lines cause) × (cause ≢ lines.OutOfMemory)) }
+{
+    match cause {
+        cookies_txt::ReadError::OutOfMemory => ReadError::OutOfMemory,
+        cause => ReadError::Lines(cause),
     }
 }
 

@@ -5,6 +5,7 @@ ghost use Rattle.cookie_store.specs.Given.{ArePicked};
 ghost use Rattle.cookie_store.specs.Placing.{loaded_store};
 ghost use Rattle.cookie_store.specs.Rows.{Row, live};
 ghost use Rattle.cookie_run.specs.HostPrefix.{IsHeldRightly};
+ghost use Rattle.cookie_jar.specs.LeftOut.{IsRefused};
 ghost use Rattle.cookie_jar.specs.Rows.{AreCopies, lent_rows};
 
 use cookie_run::client::is_held;
@@ -53,6 +54,22 @@ pub(crate) fn rows_with<'a>(
     let mut rows = rows_of(alloc, store)?;
     for cookie in other.iter_any() {
         if is_held(cookie) {
+            rows.push(cookie)?;
+        }
+    }
+    Ok(rows)
+}
+
+/// The rows of a store that a jar may not hold, in their order.
+pub(crate) fn refused_rows(
+    alloc: Global,
+    store: &CookieStore,
+) -> Result<Vec<&Cookie<'static>>, AllocError>
+    ensures { IfOk result (λ rows. ArePicked IsRefused store.now.rows (lent_rows rows.items)) }
+{
+    let mut rows = Vec::new(alloc);
+    for cookie in store.iter_any() {
+        if !is_held(cookie) {
             rows.push(cookie)?;
         }
     }

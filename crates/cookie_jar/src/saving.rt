@@ -1,14 +1,16 @@
 //! The text of a store's rows in a form.
-ghost use Rattle.std.specs.Prelude.{◌≡◌, ◌⊎◌, ◌+◌, IfOk, IfErr, false, length, map};
+ghost use Rattle.std.specs.Prelude.{◌≡◌, ◌⊎◌, ◌+◌, [], IfOk, IfErr, false, length, map, string_bytes};
 ghost use Rattle.saved_text.specs.Json.{list_text};
 ghost use Rattle.saved_text.specs.RonLayout.{ron_layout};
 ghost use Rattle.cookie_store.specs.SavedTexts.{IsAnyBeforeYears, Saves};
 ghost use Rattle.cookies_txt.specs.Writing.{IsWriteRefusal};
+ghost use Rattle.cookie_jar.specs.LeftOut.{passed_lines};
 ghost use Rattle.cookie_jar.specs.Rows.{lent_rows};
 ghost use Rattle.cookie_jar.specs.Saving as spec;
 
 use crate::error::SaveError;
 use crate::form::Form;
+use crate::left_out::passed_over_lines;
 use crate::rows::rows_of;
 use cookie_run::program::draft::Draft;
 use cookie_store::serde::{json, ron};
@@ -25,6 +27,9 @@ pub struct Exported {
     pub rows: usize,
     /// How many rows it doesn't hold, since no line of `cookies.txt` can.
     pub passed_over: usize,
+    /// A line of each of these: `passed over: ` and why, domain, path and name, parted by tabs. Of the texts each byte
+    /// that isn't printable ASCII, and `%`, stands as `%` and two digits.
+    pub told: String,
 }
 
 /// The text of a store's rows. A row that a line of `cookies.txt` can't hold is refused, or is passed over where
@@ -40,24 +45,32 @@ pub(crate) fn text_of(
     ensures rows { IfOk result (λ exported. exported.rows ≡ length (spec.fitting form store.now.rows)) }
     ensures passed_over { IfOk result (λ exported.
         exported.rows + exported.passed_over ≡ length store.now.rows) }
+    ensures told { IfOk result (λ exported. string_bytes exported.told ≡ passed_lines form store.now.rows) }
     ensures all { passing_over ≡ false → IfOk result (λ _. spec.fitting form store.now.rows ≡ store.now.rows) }
     ensures err { IfErr result (spec.IsUnsaved form passing_over store.now.rows) }
 {
     match form {
-        Form::Ron => Ok(whole(ron_text(alloc, store)?, rows_of(alloc, store)?.len())),
-        Form::Json => Ok(whole(json_text(alloc, store)?, rows_of(alloc, store)?.len())),
+        Form::Ron => Ok(whole(alloc, ron_text(alloc, store)?, rows_of(alloc, store)?.len())),
+        Form::Json => Ok(whole(
+            alloc,
+            json_text(alloc, store)?,
+            rows_of(alloc, store)?.len(),
+        )),
         Form::Txt => txt(alloc, store, passing_over),
     }
 }
 
 // A text that holds all rows, of which there are so many.
-fn whole(text: Vec<u8>, rows: usize) -> Exported
-    ensures { result ≡ record { text = text; rows = rows; passed_over = 0 } }
+fn whole(alloc: Global, text: Vec<u8>, rows: usize) -> Exported
+    ensures text { result.text ≡ text }
+    ensures rows { (result.rows ≡ rows) × (result.passed_over ≡ 0) }
+    ensures told { string_bytes result.told ≡ [] }
 {
     Exported {
         text,
         rows,
         passed_over: 0,
+        told: String::new(alloc),
     }
 }
 
@@ -93,9 +106,11 @@ fn txt(alloc: Global, store: &CookieStore, passing_over: bool) -> Result<Exporte
     ensures rows { IfOk result (λ exported. exported.rows ≡ length (spec.fitting Form.Txt store.now.rows)) }
     ensures passed_over { IfOk result (λ exported.
         exported.rows + exported.passed_over ≡ length store.now.rows) }
+    ensures told { IfOk result (λ exported. string_bytes exported.told ≡ passed_lines Form.Txt store.now.rows) }
     ensures all { passing_over ≡ false → IfOk result (λ _. spec.fitting Form.Txt store.now.rows ≡ store.now.rows) }
     ensures err { IfErr result (spec.IsUnsaved Form.Txt passing_over store.now.rows) }
 {
+    let told = passed_over_lines(alloc, rows_of(alloc, store)?)?;
     let rows = rows_of(alloc, store)?;
     let count = rows.len();
     match cookies_txt::write_rows(alloc, rows, passing_over) {
@@ -103,6 +118,7 @@ fn txt(alloc: Global, store: &CookieStore, passing_over: bool) -> Result<Exporte
             rows: count - written.passed_over,
             passed_over: written.passed_over,
             text: written.text.into_bytes(),
+            told,
         }),
         Err(refusal) => Err(unwritten(refusal)),
     }

@@ -72,7 +72,7 @@ pub(crate) fn push_shown(text: &mut String, bytes: &[u8]) -> Result<(), AllocErr
     percent_encode(bytes, HIDDEN).append_to(text)
 }
 
-fn end_text(end: LineEnd) -> &'static str
+pub(crate) fn end_text(end: LineEnd) -> &'static str
     ensures { result.now ≡ spec.end_text end }
 {
     match end {

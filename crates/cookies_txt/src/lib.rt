@@ -18,4 +18,5 @@ mod writing;
 pub use error::{LineFault, ReadError, RowFault, WriteError};
 pub use line::expiry_second;
 pub use reading::read;
+pub use row::row_fault;
 pub use writing::{Written, write, write_rows};

@@ -9,7 +9,7 @@ use cookie_store::{Cookie, CookieDomain};
 
 /// Why a line can't hold the row, where that is so.
 #[tactic(auto, unfolding(crate::specs::Writing::row_fault))]
-pub(crate) fn row_fault(cookie: &Cookie<'static>) -> Option<RowFault>
+pub fn row_fault(cookie: &Cookie<'static>) -> Option<RowFault>
     ensures { result ≡ spec.row_fault (stored_of cookie.now) }
 {
     if let Some(fault) = domain_fault(&cookie.domain) {

@@ -1,7 +1,9 @@
 -- The piece that counts among those so far.
-use Rattle.std.proofs.Common.{◌≡◌, ◌≢◌, ◌+◌, ◌<◌, ℕ, List, [], ◌∷◌, ◌++◌, length, take, get_or, map, Option, Some}
+use Rattle.std.proofs.Common.{◌≡◌, ◌≢◌, ◌+◌, ◌<◌, ℕ, Bool, List, [], ◌∷◌, ◌++◌, length, take, get_or, map, Option, Some}
 use Rattle.std.proofs.Common.{None, MatchOption}
 use Rattle.std.proofs.Common.{refl, sym, ap, subst, ◌∙◌, append_assoc, arith}
+use Rattle.std.specs.List.{list_any}
+use Rattle.std.specs.Prelude.{◌||◌}
 use Rattle.std.proofs.lemmas.List.{length-map, length-take-le, map-append, take_more}
 use Rattle.line_report.specs.Pieces.{IsLastValid, NoneIsValid, PieceText, piece_text}
 use Rattle.line_report.specs.declared.judging.Judgement.TheVariants.{Valid}
@@ -66,3 +68,9 @@ found_next_new name pieces i d within is =
 -- the same of the first so many pieces
 abbrev pub FoundIn : AttributeName → List Piece → ℕ → Option ℕ → Type 0
 FoundIn name pieces n o = Found name (map piece_text (take n pieces)) o
+
+-- a test of what pieces say
+pub any_text : (test : PieceText → Bool) (ps : List Piece)
+    → list_any (λ p. test (piece_text p)) ps ≡ list_any test (map piece_text ps)
+any_text test [] = refl
+any_text test (p ∷ ps) = ap (λ b. test (piece_text p) || b) (any_text test ps)

@@ -1,11 +1,12 @@
 -- The pieces of a line (RFC 6265, section 5.2).
-use Rattle.std.specs.Prelude.{◌≡◌, ◌≢◌, ◌++◌, ◌∷◌, ℕ, List, [], length}
-use Rattle.std.specs.List.{AllByRecursion}
+use Rattle.std.specs.Prelude.{◌≡◌, ◌≢◌, ◌++◌, ◌∷◌, ℕ, Bool, false, List, [], length}
+use Rattle.std.specs.List.{AllByRecursion, list_any}
+use Rattle.std.specs.Str.{bytes_eq}
 use Rattle.cookie_text.specs.Pieces.{pieces}
 use Rattle.cookie_text.specs.Reading.{first_piece}
-use Rattle.line_report.specs.Judging.{IsJudged}
+use Rattle.line_report.specs.Judging.{IsJudged, small_name}
 use Rattle.line_report.specs.declared.judging.Judgement.{Judgement}
-use Rattle.line_report.specs.declared.judging.Judgement.TheVariants.{Valid}
+use Rattle.line_report.specs.declared.judging.Judgement.TheVariants.{Valid, Invalid, Unknown}
 use Rattle.line_report.specs.declared.name.AttributeName.{AttributeName}
 use Rattle.line_report.specs.declared.judging.Piece.{Piece}
 
@@ -47,3 +48,18 @@ pub record IsLastValid (name : AttributeName) (ps : List PieceText) (place : ℕ
   pub at : place ≡ length before
   pub is : piece.judgement ≡ Valid name
   pub later : NoneIsValid name after
+
+-- the piece is a valid one of this name
+abbrev pub is_valid_as : AttributeName → Judgement → Bool
+is_valid_as name (Valid other) = bytes_eq (small_name name) (small_name other)
+is_valid_as name (Invalid other) = false
+is_valid_as name Unknown = false
+
+abbrev pub is_valid_of : AttributeName → PieceText → Bool
+is_valid_of name piece = is_valid_as name piece.judgement
+
+-- what a piece says is said anew by a later one, which counts in its place: both are valid, of one name
+abbrev pub is_overruled : Judgement → List PieceText → Bool
+is_overruled (Valid name) later = list_any (is_valid_of name) later
+is_overruled (Invalid name) later = false
+is_overruled Unknown later = false

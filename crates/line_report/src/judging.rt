@@ -1,8 +1,9 @@
 //! What becomes of each piece of a line.
 ghost use Rattle.std.specs.Prelude.{◌≡◌, ◌==◌, ◌↔◌, map, IfOk, IsTrue, false, MatchOption, Some};
-ghost use Rattle.std.specs.List.{All};
+ghost use Rattle.std.specs.List.{All, list_any};
 ghost use Rattle.cookie_text.specs.Pieces.{semicolon};
 ghost use Rattle.line_report.specs.Judging as spec;
+ghost use Rattle.line_report.specs.Pieces as text;
 ghost use Rattle.line_report.specs.Pieces.{AreJudged, IsLastValid, NoneIsValid, PiecesAreJudged, piece_text};
 ghost use Rattle.line_report.specs.Printing.{piece_line, place_of, words_of};
 ghost use Rattle.line_report.specs.Steps as steps;
@@ -30,6 +31,19 @@ pub struct Piece<'a> {
     pub text: &'a str,
     /// What it says.
     pub judgement: Judgement,
+}
+
+impl Piece<'_> {
+    /// Whether one of these later pieces of its line counts in place of this one: both are valid, of one attribute
+    /// (RFC 6265, section 5.3). So a valid piece counts where none of all later ones does.
+    pub fn is_overruled(&self, later: &[Piece<'_>]) -> bool
+        ensures { result ≡ text.is_overruled self.now.judgement (map piece_text later.now) }
+    {
+        match self.judgement {
+            Judgement::Valid(name) => is_any_valid(later, name),
+            Judgement::Invalid(_) | Judgement::Unknown => false,
+        }
+    }
 }
 
 /// The piece without the white space round it, a colon, what it says, and where RFC 6265 has it:
@@ -92,6 +106,22 @@ pub fn counting(pieces: &[Piece<'_>], name: AttributeName) -> Option<usize>
         }
     }
     found
+}
+
+// Whether one of the pieces is a valid one of this name.
+fn is_any_valid(pieces: &[Piece<'_>], name: AttributeName) -> bool
+    ensures { result ≡ list_any (text.is_valid_of name) (map piece_text pieces.now) }
+{
+    pieces.iter().any(|piece| is_valid_of(piece, name))
+}
+
+fn is_valid_of(piece: &Piece<'_>, name: AttributeName) -> bool
+    ensures { result ≡ text.is_valid_of name (piece_text piece.now) }
+{
+    match piece.judgement {
+        Judgement::Valid(other) => name.is(other),
+        Judgement::Invalid(_) | Judgement::Unknown => false,
+    }
 }
 
 fn is_valid(piece: &Piece<'_>, name: AttributeName) -> bool

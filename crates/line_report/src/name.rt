@@ -1,6 +1,6 @@
 //! The names of attributes.
 ghost use Rattle.std.specs.Prelude.{◌≡◌, ◌≢◌, MatchOption, option_map};
-ghost use Rattle.std.specs.Str.{str_to_ascii_lowercase};
+ghost use Rattle.std.specs.Str.{bytes_eq, str_to_ascii_lowercase};
 ghost use Rattle.cookie_text.specs.Pieces.{name_of};
 ghost use Rattle.line_report.specs.Judging as spec;
 ghost use Rattle.line_report.specs.Printing.{place_of_name};
@@ -40,6 +40,29 @@ impl AttributeName {
             AttributeName::Secure => Some("5.2.5"),
             AttributeName::HttpOnly => Some("5.2.6"),
             AttributeName::SameSite | AttributeName::Partitioned => None,
+        }
+    }
+
+    // Whether it is the other one.
+    pub(crate) fn is(self, other: AttributeName) -> bool
+        ensures { result ≡ bytes_eq (spec.small_name self) (spec.small_name other) }
+    {
+        self.lower() == other.lower()
+    }
+
+    // Its name in small letters.
+    fn lower(self) -> &'static str
+        ensures { result.now ≡ spec.small_name self }
+    {
+        match self {
+            AttributeName::Expires => "expires",
+            AttributeName::MaxAge => "max-age",
+            AttributeName::Domain => "domain",
+            AttributeName::Path => "path",
+            AttributeName::Secure => "secure",
+            AttributeName::HttpOnly => "httponly",
+            AttributeName::SameSite => "samesite",
+            AttributeName::Partitioned => "partitioned",
         }
     }
 

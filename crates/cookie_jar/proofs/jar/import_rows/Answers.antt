@@ -3,6 +3,7 @@ use Rattle.std.proofs.lemmas.List.{length-map}
 use Rattle.cookie_store.specs.Given.{lent_row}
 use Rattle.cookie_store.specs.Rows.{Store}
 use Rattle.cookie_run.specs.HostPrefix.{IsHeldRightly}
+use Rattle.cookie_jar.specs.Rows.{lent_rows}
 use Rattle.cookie_jar.proofs.RowLemmas.{picked_fewer}
 use Rattle.cookie_jar.proofs.jar.import_rows.Goals as goal
 
@@ -36,4 +37,5 @@ returns-clause-ok c =
       ap (λ (s : Store). s.rows) c.replace_rows.ensures ∙ rows,
       count,
       whole,
+      (lent_rows c.in_ok-refused_rows.field-0.items, c.in_ok-refused_rows.ensures, c.in_ok-told.ensures),
     )

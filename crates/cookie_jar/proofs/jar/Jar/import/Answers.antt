@@ -1,4 +1,4 @@
-use Rattle.std.proofs.Common.{sym, subst}
+use Rattle.std.proofs.Common.{string_bytes, sym, subst}
 use Rattle.jiff.specs.Words.{civil_nanos}
 use Rattle.cookie_store.specs.Rows.{Store}
 use Rattle.cookie_run.specs.HostPrefix.{AreHeldRightly}
@@ -10,20 +10,20 @@ pub invariant_of-self-in_ok-import_rows-in-Ok : goal.invariant_of-self-in_ok-imp
 invariant_of-self-in_ok-import_rows-in-Ok c =
     let done = c.in_ok-import_rows-in-Ok.field-0 in
     imported_held (civil_nanos c.args.now) c.in-Ok.store.rows c.self.inside.store.rows done.rows done.refused
-    c.import_rows.new.store.rows c.self.invariant c.in_ok-import_rows-in-Ok.ensures.ok
+    (string_bytes done.told) c.import_rows.new.store.rows c.self.invariant c.in_ok-import_rows-in-Ok.ensures.ok
 
 pub invariant_of-self-in_ok-import_rows-in-Ok-2 : goal.invariant_of-self-in_ok-import_rows-in-Ok-2
 invariant_of-self-in_ok-import_rows-in-Ok-2 c =
     let done = c.in_ok-import_rows-in-Ok.field-0 in
     imported_held (civil_nanos c.args.now) c.in-Ok.store.rows c.self.inside.store.rows done.rows done.refused
-    c.import_rows.new.store.rows c.self.invariant c.in_ok-import_rows-in-Ok.ensures.ok
+    (string_bytes done.told) c.import_rows.new.store.rows c.self.invariant c.in_ok-import_rows-in-Ok.ensures.ok
 
 pub returns-in_ok-import_rows-in-Ok-clause-held : goal.returns-in_ok-import_rows-in-Ok-clause-held
 returns-in_ok-import_rows-in-Ok-clause-held c =
     let done = c.in_ok-import_rows-in-Ok.field-0 in
     let held : AreHeldRightly c.import_rows.new.store.rows =
     imported_held (civil_nanos c.args.now) c.in-Ok.store.rows c.self.inside.store.rows done.rows done.refused
-    c.import_rows.new.store.rows c.self.invariant c.in_ok-import_rows-in-Ok.ensures.ok in
+    (string_bytes done.told) c.import_rows.new.store.rows c.self.invariant c.in_ok-import_rows-in-Ok.ensures.ok in
     elim c.match-store-2.branch [
       | in-Some-2 w ↦ subst (λ (s : Store). AreHeldRightly s.rows) (sym w.self-is) held
       | in-None-2 w ↦ subst (λ (s : Store). AreHeldRightly s.rows) (sym w.self-is) held

@@ -1,0 +1,141 @@
+-- What is told of one line, and what a writer of JSON has written.
+use Rattle.std.proofs.Common.{◌≡◌, ◌∙◌, ◌++◌, ◌∷◌, [], ℕ, ℤ, List, Result, Ok, Err, Option, OnOk, ap, append_assoc}
+use Rattle.std.proofs.Common.{inl, inr, refl, slice_index_or, subst, sym}
+use Rattle.std.specs.Prelude.{MatchResult}
+use Rattle.std.specs.Borrow.{Bor}
+use Rattle.std.specs.Str.{IsUtf8}
+use Rattle.std.proofs.lemmas.List.{append-nil}
+use Rattle.json.specs.Token.{Token}
+use Rattle.json.specs.Written.{Writes, Written}
+use Rattle.publicsuffix.specs.Rules.{Rule}
+use Rattle.url.specs.Parts.{Parts}
+use Rattle.cookie_store.specs.Making.{ReadsStored}
+use Rattle.cookie_store.specs.Rows.{Row, Store, found, key_of}
+use Rattle.cookie_run.specs.Accept.{Accepts, AcceptsAll}
+use Rattle.cookie_run.specs.declared.step.LineEnd.{LineEnd}
+use Rattle.line_report.specs.Pair.{HasNoPair, IsPairOf}
+use Rattle.line_report.specs.Pieces.{AreJudged, PieceText}
+use Rattle.line_report.specs.declared.pairing.PairFault.{PairFault}
+use Rattle.cookie_jar.specs.Explaining.{Becomes, IsExplained, IsSent, Says, SaysText, SentAs}
+use Rattle.cookie_jar.specs.Explaining.{pair_lines, piece_lines, row_lines, rule_text}
+use Rattle.cookie_jar.specs.Steps.{Appends, WritesMore, pair_of}
+use Rattle.cookie_jar.specs.Told.{end_text}
+
+-- ---- one line
+
+-- it has one end
+pub one_end : (list : List Rule) (rows : List Row) (url : Parts) (now : ℤ) (line : List ℕ) (ends : List LineEnd)
+    (new : List Row) (other : LineEnd) → AcceptsAll list rows url now (line ∷ []) ends new
+    → Accepts list rows url now line (slice_index_or ends 0 other) new
+one_end list rows url now line [] new other all = absurd all
+one_end list rows url now line (end ∷ ends) new other (mid, accepts, (none, same)) =
+    subst (Accepts list rows url now line end) (sym same) accepts
+
+-- what is put behind a text, and more behind that
+put_both : (old mid new first next : List ℕ) → mid ≡ old ++ first → new ≡ mid ++ next → new ≡ old ++ (first ++ next)
+put_both old mid new first next one two =
+    two ∙ (ap (λ t. t ++ next) one ∙ append_assoc old first next)
+
+-- five texts, one behind another
+pub put_five : {A E : Type 0} (r : Result A E) (o p q s t u a b c d e : List ℕ) → p ≡ o ++ a → q ≡ p ++ b → s ≡ q ++ c
+    → t ≡ s ++ d → OnOk r (u ≡ t ++ e) → OnOk r (u ≡ o ++ (a ++ (b ++ (c ++ (d ++ e)))))
+put_five (Ok x) o p q s t u a b c d e ha hb hc hd he =
+    put_both o p u a (b ++ (c ++ (d ++ e))) ha (put_both p q u b (c ++ (d ++ e)) hb
+    (put_both q s u c (d ++ e) hc (put_both s t u d e hd he)))
+put_five (Err x) o p q s t u a b c d e ha hb hc hd he = tt
+
+-- ---- what it says
+
+pair_said : (line : List ℕ) (pair : Result (Bor (List ℕ) × Bor (List ℕ)) PairFault)
+    → MatchResult pair (λ p. IsPairOf line p.0.now p.1.now) (HasNoPair line)
+    → MatchResult (pair_of pair) (λ p. IsPairOf line p.0 p.1) (HasNoPair line)
+pair_said line (Ok p) is = is
+pair_said line (Err fault) is = is
+
+pub says_text : {A E : Type 0} (r : Result A E) (line : List ℕ)
+    (pair : Result (Bor (List ℕ) × Bor (List ℕ)) PairFault) (pieces : List PieceText) (old mid new : List ℕ)
+    → MatchResult pair (λ p. IsPairOf line p.0.now p.1.now) (HasNoPair line) → AreJudged line pieces
+    → mid ≡ old ++ pair_lines (pair_of pair) → OnOk r (new ≡ mid ++ piece_lines pieces)
+    → OnOk r (Appends (SaysText line) old new)
+says_text (Ok x) line pair pieces old mid new is judged first next = (
+  pair_lines (pair_of pair) ++ piece_lines pieces,
+  record { pair = pair_of pair; pair_is = pair_said line pair is; pieces = pieces; pieces_are = judged; told = refl },
+  put_both old mid new (pair_lines (pair_of pair)) (piece_lines pieces) first next,
+)
+says_text (Err x) line pair pieces old mid new is judged first next = tt
+
+-- of a text, and of another line
+pub says : {A E : Type 0} (r : Result A E) (line text old new : List ℕ) → text ≡ line → IsUtf8 line
+    → OnOk r (Appends (SaysText text) old new) → OnOk r (Appends (Says line) old new)
+says (Ok x) line text old new same utf8 (more, is, told) =
+    (more, inr (utf8, subst (λ t. SaysText t more) same is), told)
+says (Err x) line text old new same utf8 h = tt
+
+pub says_nothing : (line old : List ℕ) → (¬ (IsUtf8 line)) → Appends (Says line) old old
+says_nothing line old none = ([], inl (none, refl), sym (append-nil old))
+
+-- ---- what becomes of it
+
+pub is_sent : {A E : Type 0} (r : Result A E) (url : Parts) (now : ℤ) (line text : List ℕ) (made : Row)
+    (rows : List Row) (row : Option Row) (old new : List ℕ) → text ≡ line → ReadsStored text url now (Ok made)
+    → row ≡ found (key_of made) rows → OnOk r (new ≡ old ++ row_lines row)
+    → OnOk r (Appends (IsSent url now line rows) old new)
+is_sent (Ok x) url now line text made rows row old new same reads is told =
+    (row_lines row, (made, subst (λ t. ReadsStored t url now (Ok made)) same reads, ap row_lines is), told)
+is_sent (Err x) url now line text made rows row old new same reads is told = tt
+
+pub becomes : {A E : Type 0} (r : Result A E) (store copy : Store) (url : Parts) (now : ℤ) (line : List ℕ)
+    (end : LineEnd) (rows : List Row) (old mid new : List ℕ) → copy ≡ store
+    → Accepts copy.suffixes copy.rows url now line end rows → mid ≡ old ++ (end_text end ++ rule_text end)
+    → OnOk r (Appends (SentAs url now line end rows) mid new) → OnOk r (Appends (Becomes store url now line) old new)
+becomes (Ok x) store copy url now line end rows old mid new same accepts first (sent, is, told) = (
+  end_text end ++ (rule_text end ++ sent),
+  record {
+    end = end;
+    rows = rows;
+    accepts = subst (λ s. Accepts s.suffixes s.rows url now line end rows) same accepts;
+    sent = sent;
+    sent_as = is;
+    told = refl;
+  },
+  put_both old mid new (end_text end ++ rule_text end) sent first told
+      ∙ ap (λ t. old ++ t) (append_assoc (end_text end) (rule_text end) sent),
+)
+becomes (Err x) store copy url now line end rows old mid new same accepts first h = tt
+
+-- ---- all
+
+pub is_explained : (store : Store) (url : Parts) (now : ℤ) (line none mid text : List ℕ) → none ≡ []
+    → Appends (Says line) none mid → Appends (Becomes store url now line) mid text
+    → IsExplained store url now line text
+is_explained store url now line none mid text empty (says, is, first) (becomes, are, next) =
+    (says, becomes, is, are, next ∙ ap (λ t. t ++ becomes) (first ∙ ap (λ t. t ++ says) empty))
+
+-- ---- JSON
+
+-- tokens behind tokens
+writes_both : (front back : List Token) (x y z : Written) → WritesMore front x y → WritesMore back y z
+    → WritesMore (front ++ back) x z
+writes_both front back x y z first next = record {
+  before = next.before ∙ first.before;
+  more = next.more ∙ (ap (λ ts. ts ++ back) first.more ∙ append_assoc x.tokens front back);
+}
+
+pub writes_three : {A E : Type 0} (r : Result A E) (a b c : List Token) (w x y z : Written) → WritesMore a w x
+    → WritesMore b x y → OnOk r (WritesMore c y z) → OnOk r (WritesMore (a ++ (b ++ c)) w z)
+writes_three (Ok u) a b c w x y z first next last =
+    writes_both a (b ++ c) w x z first (writes_both b c x y z next last)
+writes_three (Err e) a b c w x y z first next last = tt
+
+pub writes_four : {A E : Type 0} (r : Result A E) (a b c d : List Token) (v w x y z : Written) → WritesMore a v w
+    → WritesMore b w x → WritesMore c x y → OnOk r (WritesMore d y z)
+    → OnOk r (WritesMore (a ++ (b ++ (c ++ d))) v z)
+writes_four (Ok u) a b c d v w x y z first next later last =
+    writes_both a (b ++ (c ++ d)) v w z first (writes_both b (c ++ d) w x z next (writes_both c d x y z later last))
+writes_four (Err e) a b c d v w x y z first next later last = tt
+
+-- one token
+pub writes_one : {E : Type 0} (r : Result (Unit {0}) E) (token : Token) (old new : Written) → Writes r old new token
+    → OnOk r (WritesMore (token ∷ []) old new)
+writes_one (Ok u) token old new writes = record { before = writes.room.0; more = writes.ok }
+writes_one (Err e) token old new writes = tt

@@ -1,0 +1,154 @@
+-- What is told of a `Set-Cookie` line at a URL (this repository's own; the sections are those of RFC 6265).
+use Rattle.std.specs.Prelude.{◌≡◌, ◌⊎◌, ◌==◌, ◌++◌, ℕ, ℤ, Bool, List, [], ◌∷◌, Option, Some, None}
+use Rattle.std.specs.Prelude.{Result, Ok, Err, MatchResult, codes, if◌then◌else◌}
+use Rattle.std.specs.Fmt.{decimal}
+use Rattle.std.specs.Str.{IsUtf8}
+use Rattle.cookie_text.specs.Printing.{is_set}
+use Rattle.url.specs.Parts.{Parts}
+use Rattle.store_parts.specs.declared.error.CookieError.{CookieError}
+use Rattle.store_parts.specs.declared.error.CookieError.TheVariants as cause
+use Rattle.cookie_store.specs.Making.{ReadsStored}
+use Rattle.cookie_store.specs.Rows.{Row, Store, domain_text, found, key_of}
+use Rattle.cookie_store.specs.declared.action.StoreAction.{StoreAction}
+use Rattle.cookie_store.specs.declared.action.StoreAction.TheVariants.{Inserted, ExpiredExisting, UpdatedExisting}
+use Rattle.line_report.specs.Pair.{HasNoPair, IsPairOf}
+use Rattle.line_report.specs.Pieces.{AreJudged, PieceText, is_overruled}
+use Rattle.line_report.specs.Printing.{piece_line}
+use Rattle.line_report.specs.declared.judging.Judgement.{Judgement}
+use Rattle.line_report.specs.declared.judging.Judgement.TheVariants.{Valid, Invalid, Unknown}
+use Rattle.line_report.specs.declared.pairing.PairFault.{PairFault}
+use Rattle.line_report.specs.declared.pairing.PairFault.TheVariants.{NoEquals, EmptyName}
+use Rattle.cookies_txt.specs.Layout.{when}
+use Rattle.cookies_txt.specs.Writing.{expiry_second, is_suffix}
+use Rattle.cookie_run.specs.Accept.{Accepts}
+use Rattle.cookie_run.specs.declared.step.LineEnd.{LineEnd}
+use Rattle.cookie_run.specs.declared.step.LineEnd.TheVariants.{Stored, Refused, NotText, HostPrefix}
+use Rattle.cookie_jar.specs.Told.{end_text, shown}
+
+-- ---- what the line says
+
+abbrev pub fault_line : PairFault → List ℕ
+fault_line NoEquals = codes "no pair: no = stands before the first ; (RFC 6265, section 5.2, step 2)\n"
+fault_line EmptyName = codes "no pair: the name is empty (RFC 6265, section 5.2, step 5)\n"
+
+-- its name and its value, or why it has none
+abbrev pub pair_lines : Result (List ℕ × List ℕ) PairFault → List ℕ
+pair_lines (Ok pair) = codes "name: " ++ (shown pair.0 ++ (codes "\nvalue: " ++ (shown pair.1 ++ codes "\n")))
+pair_lines (Err fault) = fault_line fault
+
+-- whether a valid piece counts: the last of its name does (5.3)
+abbrev pub counts_text : Judgement → List PieceText → List ℕ
+counts_text (Valid name) later =
+    if is_overruled (Valid name) later then codes ", a later one counts\n" else codes ", counts\n"
+counts_text (Invalid name) later = codes "\n"
+counts_text Unknown later = codes "\n"
+
+-- a line of each piece
+abbrev pub piece_lines : List PieceText → List ℕ
+piece_lines [] = []
+piece_lines (piece ∷ later) =
+    shown (piece_line piece) ++ (counts_text piece.judgement later ++ piece_lines later)
+
+-- the lines on a line that is a text
+pub record SaysText (line text : List ℕ) : Type 0 where
+  pub pair : Result (List ℕ × List ℕ) PairFault
+  pub pair_is : MatchResult pair (λ p. IsPairOf line p.0 p.1) (HasNoPair line)
+  pub pieces : List PieceText
+  pub pieces_are : AreJudged line pieces
+  pub told : text ≡ pair_lines pair ++ piece_lines pieces
+
+-- nothing of one that isn't
+abbrev pub Says : List ℕ → List ℕ → Type 0
+Says line text = ((¬ (IsUtf8 line)) × (text ≡ [])) ⊎ (IsUtf8 line × SaysText line text)
+
+-- ---- what becomes of it
+
+abbrev pub action_rule : StoreAction → List ℕ
+action_rule Inserted = codes " (RFC 6265, section 5.3, step 12)\n"
+action_rule UpdatedExisting = codes " (RFC 6265, section 5.3, steps 11 and 12)\n"
+action_rule ExpiredExisting = codes " (RFC 6265, section 5.3, steps 11 and 12, and behind them: it is expired)\n"
+
+-- no cookie is refused by the last two
+abbrev pub cause_rule : CookieError → List ℕ
+cause_rule cause.NonHttpScheme = codes " (RFC 6265, section 5.3, steps 10 and 11)\n"
+cause_rule cause.NonRelativeScheme = codes " (RFC 6265, section 5.1.2, and section 5.3, step 6)\n"
+cause_rule cause.DomainMismatch = codes " (RFC 6265, section 5.3, step 6)\n"
+cause_rule cause.Expired = codes " (RFC 6265, section 5.3, behind step 12)\n"
+cause_rule cause.Parse = codes " (RFC 6265, section 5.2, and section 5.1.2 of a Domain)\n"
+cause_rule cause.PublicSuffix = codes " (RFC 6265, section 5.3, step 5)\n"
+cause_rule cause.UnspecifiedDomain = codes "\n"
+cause_rule cause.OutOfMemory = codes "\n"
+
+-- by which rule it became so
+abbrev pub rule_text : LineEnd → List ℕ
+rule_text (Stored action) = action_rule action
+rule_text (Refused cause) = cause_rule cause
+rule_text NotText = codes " (a rule of this jar: a line is UTF-8)\n"
+rule_text HostPrefix = codes " (draft-ietf-httpbis-rfc6265bis, section 4.1.3.2)\n"
+
+-- ---- which requests get it
+
+abbrev pub hosts_text : Bool → List ℕ
+hosts_text below = if below then codes " and the hosts below it\n" else codes " alone\n"
+
+abbrev pub path_text : Bool → List ℕ
+path_text from_attribute =
+    if from_attribute then codes " and below\n" else codes " and below, the default-path (RFC 6265, section 5.1.4)\n"
+
+-- the second of an expiry, 0 for none
+abbrev pub until_text : ℕ → List ℕ
+until_text second =
+    if second == 0 then codes "until: the end of the session\n"
+    else codes "until: second " ++ (decimal second ++ codes " since 1970\n")
+
+unfoldable pub host_line : Row → List ℕ
+host_line row = codes "host: " ++ (shown (domain_text row) ++ hosts_text (is_suffix row.domain))
+
+unfoldable pub path_line : Row → List ℕ
+path_line row = codes "path: " ++ (shown row.path.text ++ path_text row.path.from_attribute)
+
+unfoldable pub secure_line : List ℕ
+secure_line = codes "Secure: by https alone, or to this computer\n"
+
+unfoldable pub http_only_line : List ℕ
+http_only_line = codes "HttpOnly: by http and https alone\n"
+
+-- the hosts, the paths, the schemes and the end of a row (5.4)
+abbrev pub request_lines : Row → List ℕ
+request_lines row =
+    host_line row ++ (path_line row ++ (when (is_set row.raw.cookie.secure) secure_line ++
+    (when (is_set row.raw.cookie.http_only) http_only_line ++ until_text (expiry_second row.death))))
+
+abbrev pub row_lines : Option Row → List ℕ
+row_lines None = []
+row_lines (Some row) = request_lines row
+
+-- the lines on the row of the cookie that the line gives
+abbrev pub IsSent : Parts → ℤ → List ℕ → List Row → List ℕ → Type 0
+IsSent url now line rows text =
+    (made : Row) × ReadsStored line url now (Ok made) × (text ≡ row_lines (found (key_of made) rows))
+
+-- where it is put among the rows, they are these
+abbrev pub SentAs : Parts → ℤ → List ℕ → LineEnd → List Row → List ℕ → Type 0
+SentAs url now line (Stored Inserted) rows text = IsSent url now line rows text
+SentAs url now line (Stored UpdatedExisting) rows text = IsSent url now line rows text
+SentAs url now line (Stored ExpiredExisting) rows text = text ≡ []
+SentAs url now line (Refused cause) rows text = text ≡ []
+SentAs url now line NotText rows text = text ≡ []
+SentAs url now line HostPrefix rows text = text ≡ []
+
+-- ---- all
+
+-- what would become of it in a store at the moment, and the rows that there would be
+pub record Becomes (store : Store) (url : Parts) (now : ℤ) (line text : List ℕ) : Type 0 where
+  pub end : LineEnd
+  pub rows : List Row
+  pub accepts : Accepts store.suffixes store.rows url now line end rows
+  pub sent : List ℕ
+  pub sent_as : SentAs url now line end rows sent
+  pub told : text ≡ end_text end ++ (rule_text end ++ sent)
+
+-- what it says, and what would become of it
+abbrev pub IsExplained : Store → Parts → ℤ → List ℕ → List ℕ → Type 0
+IsExplained store url now line text =
+    (says becomes : List ℕ) × Says line says × Becomes store url now line becomes × (text ≡ says ++ becomes)

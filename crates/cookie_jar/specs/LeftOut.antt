@@ -1,0 +1,54 @@
+-- What is told of rows that are left out of a jar or of a text (this repository's own).
+use Rattle.std.specs.Prelude.{◌≡◌, ◌++◌, ℕ, List, [], ◌∷◌, Option, Some, None, codes}
+use Rattle.std.specs.List.{flat_map}
+use Rattle.cookie_store.specs.Given.{ArePicked}
+use Rattle.cookie_store.specs.Rows.{Row}
+use Rattle.cookies_txt.specs.Writing.{row_fault}
+use Rattle.cookies_txt.specs.declared.error.RowFault.{RowFault}
+use Rattle.cookies_txt.specs.declared.error.RowFault.TheVariants.{NoDomain, HostSign, NoSlash, EmptyName}
+use Rattle.cookies_txt.specs.declared.error.RowFault.TheVariants.{Separator, CarriageReturn}
+use Rattle.cookie_run.specs.HostPrefix.{IsHeldRightly}
+use Rattle.cookie_jar.specs.Listing.{domain_field}
+use Rattle.cookie_jar.specs.Told.{shown}
+use Rattle.cookie_jar.specs.declared.form.Form.{Form}
+use Rattle.cookie_jar.specs.declared.form.Form.TheVariants.{Ron, Json, Txt}
+
+-- domain, path and name of a row behind a text, each behind a tab
+abbrev pub left_out_line : List ℕ → Row → List ℕ
+left_out_line why row =
+    why ++ (9 ∷ (domain_field row ++ (9 ∷ (shown row.path.text ++ (9 ∷ (shown row.raw.cookie.name ++ 10 ∷ []))))))
+
+-- ---- rows that a jar may not hold
+
+abbrev pub IsRefused : Row → Type 0
+IsRefused row = ¬ (IsHeldRightly row)
+
+unfoldable pub refused_line : Row → List ℕ
+refused_line row = left_out_line (codes "refused: __Host-") row
+
+-- a line of each of them, in their order
+abbrev pub TellsRefused : List Row → List ℕ → Type 0
+TellsRefused rows told = (left : List Row) × ArePicked IsRefused rows left × (told ≡ flat_map refused_line left)
+
+-- ---- rows that a line of `cookies.txt` can't hold
+
+abbrev pub fault_text : RowFault → List ℕ
+fault_text NoDomain = codes "passed over: no domain"
+fault_text HostSign = codes "passed over: host begins with # or a dot"
+fault_text NoSlash = codes "passed over: path without /"
+fault_text EmptyName = codes "passed over: empty name"
+fault_text Separator = codes "passed over: tab or line feed"
+fault_text CarriageReturn = codes "passed over: value ends in a carriage return"
+
+abbrev pub line_for : Option RowFault → Row → List ℕ
+line_for None row = []
+line_for (Some fault) row = left_out_line (fault_text fault) row
+
+abbrev pub passed_line : Row → List ℕ
+passed_line row = line_for (row_fault row) row
+
+-- a line of each of them, in their order: the other forms hold every row
+abbrev pub passed_lines : Form → List Row → List ℕ
+passed_lines Ron rows = []
+passed_lines Json rows = []
+passed_lines Txt rows = flat_map passed_line rows

@@ -1,0 +1,358 @@
+//! What a `Set-Cookie` line at a URL means.
+ghost use Rattle.std.specs.Prelude.{◌≡◌, ◌++◌, IfOk, OnOk, Result, map, option_copied, option_map, string_bytes};
+ghost use Rattle.jiff.specs.Words.{civil_nanos};
+ghost use Rattle.cookie_store.specs.StoredCookie.{stored_of};
+ghost use Rattle.cookie_run.specs.Accept.{Accepts};
+ghost use Rattle.line_report.specs.Pair.{HasNoPair, IsPairOf};
+ghost use Rattle.line_report.specs.Pieces.{piece_text};
+ghost use Rattle.cookies_txt.specs.Layout.{when};
+ghost use Rattle.cookie_text.specs.Printing.{is_set};
+ghost use Rattle.cookie_store.specs.Rows.{found, key_of};
+ghost use Rattle.cookie_jar.specs.Told as told;
+ghost use Rattle.cookie_jar.specs.Explaining as spec;
+ghost use Rattle.cookie_jar.specs.Steps as steps;
+
+use crate::listing::is_suffix;
+use crate::told::{end_text, push_shown};
+use cookie_run::LineEnd;
+use cookie_run::client::receive_all;
+use cookie_store::{Cookie, CookieError, CookieStore, StoreAction};
+use cookies_txt::expiry_second;
+use jiff::civil::DateTime;
+use line_report::{Judgement, PairFault, Piece, pair, pieces};
+use std::alloc::{AllocError, Global};
+use url::Url;
+
+/// What the line says, what would become of it in the store at `now` and by which rule, and which requests would get
+/// it.
+///
+/// # Errors
+///
+/// `AllocError`, for want of memory.
+pub(crate) fn explained(
+    alloc: Global,
+    store: &CookieStore,
+    url: &Url,
+    line: &[u8],
+    now: DateTime,
+) -> Result<String, AllocError>
+    ensures { IfOk result (λ text. spec.IsExplained store.now url.now (civil_nanos now) line.now
+        (string_bytes text)) }
+{
+    let mut text = String::new(alloc);
+    push_said(alloc, &mut text, line)?;
+    push_became(alloc, &mut text, store, url, line, now)?;
+    Ok(text)
+}
+
+// What the line says, where it is a text.
+fn push_said(alloc: Global, text: &mut String, line: &[u8]) -> Result<(), AllocError>
+    ensures { OnOk result (steps.Appends (spec.Says line.now) (string_bytes text.old) (string_bytes text.new)) }
+{
+    match str::from_utf8(line) {
+        Ok(line) => push_text(alloc, text, line),
+        Err(_) => Ok(()),
+    }
+}
+
+// What a line that is a text says: its pair, and each of its pieces.
+fn push_text(alloc: Global, text: &mut String, line: &str) -> Result<(), AllocError>
+    ensures { OnOk result (steps.Appends (spec.SaysText line.now) (string_bytes text.old) (string_bytes text.new)) }
+{
+    push_pair(text, pair(line))?;
+    let pieces = pieces(alloc, line)?;
+    push_pieces(alloc, text, &pieces)
+}
+
+fn push_pair(text: &mut String, pair: Result<(&str, &str), PairFault>) -> Result<(), AllocError>
+    ensures { OnOk result (string_bytes text.new
+        ≡ string_bytes text.old ++ spec.pair_lines (steps.pair_of pair.entry)) }
+{
+    match pair {
+        Ok((name, value)) => {
+            text.push_str("name: ")?;
+            push_shown(text, name.as_bytes())?;
+            text.push_str("\nvalue: ")?;
+            push_shown(text, value.as_bytes())?;
+            text.push_str("\n")
+        }
+        Err(fault) => text.push_str(fault_line(fault)),
+    }
+}
+
+fn fault_line(fault: PairFault) -> &'static str
+    ensures { result.now ≡ spec.fault_line fault }
+{
+    match fault {
+        PairFault::NoEquals =>
+            "no pair: no = stands before the first ; (RFC 6265, section 5.2, step 2)\n",
+        PairFault::EmptyName => "no pair: the name is empty (RFC 6265, section 5.2, step 5)\n",
+    }
+}
+
+// A line of each piece.
+fn push_pieces(alloc: Global, text: &mut String, pieces: &[Piece<'_>]) -> Result<(), AllocError>
+    ensures { OnOk result (string_bytes text.new
+        ≡ string_bytes text.old ++ spec.piece_lines (map piece_text pieces.now)) }
+{
+    let mut left = pieces;
+    while let [piece, later @ ..] = left {
+        let said = format!(in alloc; "{piece}")?;
+        push_shown(text, said.as_bytes())?;
+        text.push_str(counts_text(piece, later))?;
+        left = later;
+    }
+    Ok(())
+}
+
+fn counts_text(piece: &Piece<'_>, later: &[Piece<'_>]) -> &'static str
+    ensures { result.now ≡ spec.counts_text piece.now.judgement (map piece_text later.now) }
+{
+    match piece.judgement {
+        Judgement::Valid(_) if piece.is_overruled(later) => ", a later one counts\n",
+        Judgement::Valid(_) => ", counts\n",
+        Judgement::Invalid(_) | Judgement::Unknown => "\n",
+    }
+}
+
+// What would become of the line in the store, and which requests would get it.
+fn push_became(
+    alloc: Global,
+    text: &mut String,
+    store: &CookieStore,
+    url: &Url,
+    line: &[u8],
+    now: DateTime,
+) -> Result<(), AllocError>
+    ensures { OnOk result (steps.Appends (spec.Becomes store.now url.now (civil_nanos now) line.now)
+        (string_bytes text.old) (string_bytes text.new)) }
+{
+    let mut store = store.clone()?;
+    let end = taken(alloc, &mut store, url, line, now)?;
+    push_end(text, end)?;
+    push_sent(alloc, text, &store, url, line, end, now)
+}
+
+// What became of the line, and by which rule.
+fn push_end(text: &mut String, end: LineEnd) -> Result<(), AllocError>
+    ensures { OnOk result (string_bytes text.new ≡ string_bytes text.old ++ (told.end_text end ++ spec.rule_text end)) }
+{
+    text.push_str(end_text(end))?;
+    text.push_str(rule_text(end))
+}
+
+// Takes the line into the store.
+fn taken(
+    alloc: Global,
+    store: &mut CookieStore,
+    url: &Url,
+    line: &[u8],
+    now: DateTime,
+) -> Result<LineEnd, AllocError>
+    ensures { IfOk result (λ end. Accepts store.old.suffixes store.old.rows url.now (civil_nanos now) line.now end
+        store.new.rows) }
+{
+    let lines = [line];
+    match receive_all(alloc, store, url, &lines, now) {
+        Ok(ends) => match ends.as_slice() {
+            [end] => Ok(*end),
+            // A line has one end.
+            _ => Err(AllocError),
+        },
+        // A store stops only where memory was refused.
+        Err(_) => Err(AllocError),
+    }
+}
+
+// By which rule a line has this end.
+fn rule_text(end: LineEnd) -> &'static str
+    ensures { result.now ≡ spec.rule_text end }
+{
+    match end {
+        LineEnd::Stored(action) => action_rule(action),
+        LineEnd::Refused(cause) => cause_rule(cause),
+        LineEnd::NotText => " (a rule of this jar: a line is UTF-8)\n",
+        LineEnd::HostPrefix => " (draft-ietf-httpbis-rfc6265bis, section 4.1.3.2)\n",
+    }
+}
+
+fn action_rule(action: StoreAction) -> &'static str
+    ensures { result.now ≡ spec.action_rule action }
+{
+    match action {
+        StoreAction::Inserted => " (RFC 6265, section 5.3, step 12)\n",
+        StoreAction::UpdatedExisting => " (RFC 6265, section 5.3, steps 11 and 12)\n",
+        StoreAction::ExpiredExisting => {
+            " (RFC 6265, section 5.3, steps 11 and 12, and behind them: it is expired)\n"
+        }
+    }
+}
+
+fn cause_rule(cause: CookieError) -> &'static str
+    ensures { result.now ≡ spec.cause_rule cause }
+{
+    match cause {
+        CookieError::NonHttpScheme => " (RFC 6265, section 5.3, steps 10 and 11)\n",
+        CookieError::NonRelativeScheme => " (RFC 6265, section 5.1.2, and section 5.3, step 6)\n",
+        CookieError::DomainMismatch => " (RFC 6265, section 5.3, step 6)\n",
+        CookieError::Expired => " (RFC 6265, section 5.3, behind step 12)\n",
+        CookieError::Parse => " (RFC 6265, section 5.2, and section 5.1.2 of a Domain)\n",
+        CookieError::PublicSuffix => " (RFC 6265, section 5.3, step 5)\n",
+        CookieError::UnspecifiedDomain | CookieError::OutOfMemory => "\n",
+    }
+}
+
+// Which requests get the row of a line that was put among the rows.
+fn push_sent(
+    alloc: Global,
+    text: &mut String,
+    store: &CookieStore,
+    url: &Url,
+    line: &[u8],
+    end: LineEnd,
+    now: DateTime,
+) -> Result<(), AllocError>
+    ensures { OnOk result (steps.Appends (spec.SentAs url.now (civil_nanos now) line.now end store.now.rows)
+        (string_bytes text.old) (string_bytes text.new)) }
+{
+    match end {
+        LineEnd::Stored(StoreAction::Inserted | StoreAction::UpdatedExisting) => {
+            push_row(alloc, text, store, url, line, now)
+        }
+        _ => Ok(()),
+    }
+}
+
+fn push_row(
+    alloc: Global,
+    text: &mut String,
+    store: &CookieStore,
+    url: &Url,
+    line: &[u8],
+    now: DateTime,
+) -> Result<(), AllocError>
+    ensures { OnOk result (steps.Appends (spec.IsSent url.now (civil_nanos now) line.now store.now.rows)
+        (string_bytes text.old) (string_bytes text.new)) }
+{
+    // A line that was put among the rows is a text, and a cookie for which there is memory.
+    let Ok(line) = str::from_utf8(line) else {
+        return Err(AllocError);
+    };
+    let Ok(made) = Cookie::parse(alloc, line, url, now) else {
+        return Err(AllocError);
+    };
+    push_found(text, sought(store, &made))
+}
+
+// The row with the domain, the path and the name of the cookie.
+fn sought<'s>(store: &'s CookieStore, made: &Cookie<'_>) -> Option<&'s Cookie<'static>>
+    ensures { option_map stored_of (option_copied result) ≡ found (key_of (stored_of made.now)) store.now.rows }
+{
+    let domain = made.domain.as_cow().unwrap_or("");
+    store.get_any(domain, made.path.as_str(), made.raw().name())
+}
+
+fn push_found(text: &mut String, row: Option<&Cookie<'static>>) -> Result<(), AllocError>
+    ensures { OnOk result (string_bytes text.new
+        ≡ string_bytes text.old ++ spec.row_lines (option_map stored_of (option_copied row.entry))) }
+{
+    match row {
+        Some(row) => push_requests(text, row),
+        None => Ok(()),
+    }
+}
+
+// The hosts, the paths, the schemes and the end of a row.
+fn push_requests(text: &mut String, row: &Cookie<'static>) -> Result<(), AllocError>
+    ensures { OnOk result (string_bytes text.new
+        ≡ string_bytes text.old ++ spec.request_lines (stored_of row.now)) }
+{
+    push_host(text, row)?;
+    push_path(text, row)?;
+    push_secure(text, row)?;
+    push_http_only(text, row)?;
+    push_until(text, expiry_second(row.expires))
+}
+
+#[tactic(auto, unfolding(crate::specs::Explaining::host_line))]
+fn push_host(text: &mut String, row: &Cookie<'static>) -> Result<(), AllocError>
+    ensures { OnOk result (string_bytes text.new ≡ string_bytes text.old ++ spec.host_line (stored_of row.now)) }
+{
+    text.push_str("host: ")?;
+    push_shown(text, row.domain.as_cow().unwrap_or("").as_bytes())?;
+    text.push_str(hosts_text(is_suffix(&row.domain)))
+}
+
+#[tactic(auto, unfolding(crate::specs::Explaining::path_line))]
+fn push_path(text: &mut String, row: &Cookie<'static>) -> Result<(), AllocError>
+    ensures { OnOk result (string_bytes text.new ≡ string_bytes text.old ++ spec.path_line (stored_of row.now)) }
+{
+    text.push_str("path: ")?;
+    push_shown(text, row.path.as_str().as_bytes())?;
+    text.push_str(path_text(row.path.is_from_path_attr()))
+}
+
+fn push_secure(text: &mut String, row: &Cookie<'static>) -> Result<(), AllocError>
+    ensures { OnOk result (string_bytes text.new
+        ≡ string_bytes text.old ++ when (is_set (stored_of row.now).raw.cookie.secure) spec.secure_line) }
+{
+    text.push_str(when(row.raw().secure().unwrap_or(false), secure_line()))
+}
+
+fn push_http_only(text: &mut String, row: &Cookie<'static>) -> Result<(), AllocError>
+    ensures { OnOk result (string_bytes text.new
+        ≡ string_bytes text.old ++ when (is_set (stored_of row.now).raw.cookie.http_only) spec.http_only_line) }
+{
+    text.push_str(when(row.raw().http_only().unwrap_or(false), http_only_line()))
+}
+
+#[tactic(auto, unfolding(crate::specs::Explaining::secure_line))]
+fn secure_line() -> &'static str
+    ensures { result.now ≡ spec.secure_line }
+{
+    "Secure: by https alone, or to this computer\n"
+}
+
+#[tactic(auto, unfolding(crate::specs::Explaining::http_only_line))]
+fn http_only_line() -> &'static str
+    ensures { result.now ≡ spec.http_only_line }
+{
+    "HttpOnly: by http and https alone\n"
+}
+
+fn hosts_text(below: bool) -> &'static str
+    ensures { result.now ≡ spec.hosts_text below }
+{
+    if below {
+        " and the hosts below it\n"
+    } else {
+        " alone\n"
+    }
+}
+
+fn path_text(from_attribute: bool) -> &'static str
+    ensures { result.now ≡ spec.path_text from_attribute }
+{
+    if from_attribute {
+        " and below\n"
+    } else {
+        " and below, the default-path (RFC 6265, section 5.1.4)\n"
+    }
+}
+
+// The text, or nothing.
+fn when(is_so: bool, text: &'static str) -> &'static str
+    ensures { result.now ≡ when is_so text.now }
+{
+    if is_so { text } else { "" }
+}
+
+fn push_until(text: &mut String, second: u64) -> Result<(), AllocError>
+    ensures { OnOk result (string_bytes text.new ≡ string_bytes text.old ++ spec.until_text second) }
+{
+    if second == 0 {
+        text.push_str("until: the end of the session\n")
+    } else {
+        write!(text, "until: second {second} since 1970\n")
+    }
+}
