@@ -1,0 +1,70 @@
+//! The usage of `cookie-jar`, for clap.
+ghost use Rattle.std.specs.Prelude.{◌≡◌, [], IfOk, false};
+ghost use Rattle.clap.specs.Walk.{rule_of};
+ghost use Rattle.clap.specs.Simple.{app_of};
+ghost use Rattle.jar_words.specs.Usage as spec;
+
+mod commands;
+mod parts;
+
+use clap::{Arg, Command};
+use commands::{clear, explain, export, header, import, list, receive, remove};
+use parts::{command, flag, valued, with_word};
+use std::alloc::{AllocError, Global};
+
+const ABOUT: &str = "Keeps cookies in a file, for requests that are made in a shell";
+
+const AFTER: &str = "\
+Example: cookie-jar jar.json header https://shop.com/ | curl -H @- https://shop.com/
+Options stand before the command. A JAR that is named as a command is written ./list
+Status: 0; 1 where a line was refused or nothing removed; 2 with one line on standard error";
+
+const NOW_HELP: &str = "The moment, as 2024-01-01T00:00:00Z; the clock's by default";
+
+const SUFFIXES_HELP: &str = "The list of public suffixes; Debian's or a small one by default";
+
+const FORMAT_HELP: &str =
+    "The form of JAR, ron, json or txt (cookies.txt); by its ending by default";
+
+const VERBOSE_HELP: &str = "Says on standard error which list of public suffixes is used";
+
+const JAR_HELP: &str = "The file with the cookies; where there is none, the jar is empty";
+
+/// The program with its options, JAR and commands.
+pub(crate) fn cookie_jar<'a>(alloc: Global) -> Result<Command<'a>, AllocError>
+    ensures { IfOk result (λ r. app_of r ≡ spec.cookie_jar_app) }
+{
+    let program = with_options(alloc)?
+        .subcommand(receive(alloc)?)?
+        .subcommand(header(alloc)?)?
+        .subcommand(list(alloc)?)?
+        .subcommand(explain(alloc)?)?
+        .subcommand(remove(alloc)?)?
+        .subcommand(clear(alloc))?
+        .subcommand(import(alloc)?)?
+        .subcommand(export(alloc)?)?;
+    Ok(program)
+}
+
+// The program with its options and JAR, which wants a command.
+fn with_options<'a>(alloc: Global) -> Result<Command<'a>, AllocError>
+    ensures { IfOk result (λ r. app_of r ≡ record { top = spec.program; subs = [] }) }
+{
+    let program = command(alloc, "cookie-jar", ABOUT, AFTER)
+        .no_binary_name(true)
+        .disable_help_subcommand(true)
+        .subcommand_required(true)
+        .bin_name("cookie-jar")?
+        .arg(valued(alloc, "now", "MOMENT", NOW_HELP))?
+        .arg(valued(alloc, "suffixes", "FILE", SUFFIXES_HELP))?
+        .arg(valued(alloc, "format", "FORM", FORMAT_HELP))?
+        .arg(verbose(alloc))?;
+    with_word(alloc, program, "JAR", JAR_HELP)
+}
+
+fn verbose<'a>(alloc: Global) -> Arg<'a>
+    ensures rule { rule_of result ≡ spec.verbose }
+    ensures local { result.global ≡ false }
+{
+    flag(alloc, "verbose", VERBOSE_HELP).short('v')
+}
