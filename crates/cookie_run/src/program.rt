@@ -6,17 +6,19 @@ mod answering;
 mod arguments;
 pub mod draft;
 mod failure;
-mod files;
-mod place;
+pub mod files;
+pub mod place;
 
-pub use crate::program::answering::answer;
-use crate::program::answering::list_of;
+pub use crate::program::answering::{answer, list_of};
 pub use crate::program::failure::Failure;
 use crate::program::files::Unread;
 use crate::program::place::Place;
 use devices::{Sink, Source};
 use std::alloc::Global;
 use std::fs::Files;
+
+// What the name of a new file beside the store file begins with.
+const STEM: &str = "cookie-run";
 
 /// What `cookie-run SUFFIXFILE SEED STOREFILE MOMENT` does: runs the script of a reader on the client
 /// of a store file, and keeps that client in the file if the script ended whole. Answers the exit
@@ -97,7 +99,7 @@ fn serve<H: Files + AllocGlobal, R: Source, W: Sink>(
         Ok(asked) => asked,
         Err(failure) => return Err(failure),
     };
-    let place = Place::of(rt, asked.store_file);
+    let place = Place::of(rt, asked.store_file, STEM);
     let suffixes = read_suffixes(rt, asked.suffix_file)?;
     let stored = match read_stored(rt, &place) {
         Ok(stored) => stored,

@@ -4,7 +4,7 @@ mod cause;
 pub mod ended;
 mod field;
 mod line;
-pub(crate) mod moment;
+pub mod moment;
 mod print;
 pub mod run;
 mod visit;

@@ -98,7 +98,7 @@ fn client_of(
 /// # Errors
 ///
 /// `SuffixList` where the text is none, or `Memory`.
-pub(crate) fn list_of(alloc: Global, text: &[u8]) -> Result<List, Failure>
+pub fn list_of(alloc: Global, text: &[u8]) -> Result<List, Failure>
     ensures ok { IfOk result (spec.IsSuffixList text.now) }
     ensures err { IfErr result (spec.MakesNoList text.now) }
 {

@@ -1,4 +1,4 @@
-//! The file that a client is kept in, read and replaced as a whole. What it holds, no contract sees.
+//! The file that a program keeps its cookies in, read and replaced as a whole. What it holds, no contract sees.
 ghost use Rattle.std.specs.Prelude.{◌≡◌, ◌⊎◌, IfErr};
 
 use crate::program::failure::Failure;
@@ -12,27 +12,29 @@ use std::path::{Path, PathBuf};
 // The rights of a file that is made: its owner's alone, for it holds session cookies.
 const OWNERS: u32 = 0o600;
 
-/// Where a client is kept: a plain file, or none yet; where the store file is a link, what it points to.
+/// Where cookies are kept: a plain file, or none yet; where the store file is a link, what it points to.
 #[derive(Drop)]
 pub struct Place {
     path: Result<PathBuf, Unread>,
+    stem: &'static str,
 }
 
 impl Place {
-    /// The place of a store file, which is read and replaced there from now on.
+    /// The place of a store file, which is read and replaced there from now on. A new file beside it is named
+    /// `STEM.N.new`, as `cookie-run.0.new`.
     ///
     /// It is one that is never read, and so tells `Failed`, where a link points to nothing, where what
     /// stands there is no plain file, and where a new file beside it can't be, for the length of its name
     /// or because the store file itself has such a name. `Memory` it tells where memory was refused.
-    pub fn of<H: Files + AllocGlobal>(rt: &H, path: &str) -> Place {
-        let path = match resolved(rt, path) {
+    pub fn of<H: Files + AllocGlobal>(rt: &H, path: &str, stem: &'static str) -> Place {
+        let path = match resolved(rt, path, stem) {
             Ok(path) => Ok(path),
             Err(error) => match error.kind() {
                 ErrorKind::OutOfMemory => Err(Unread::Memory),
                 _ => Err(Unread::Failed),
             },
         };
-        Place { path }
+        Place { path, stem }
     }
 
     /// All that the file holds.
@@ -55,7 +57,7 @@ impl Place {
         let Ok(path) = &self.path else {
             return Err(Failure::StoreFile);
         };
-        match put(rt, path.as_path(), text) {
+        match put(rt, path.as_path(), self.stem, text) {
             Ok(()) => Ok(()),
             Err(error) => match error.kind() {
                 ErrorKind::OutOfMemory => Err(Failure::Memory),
@@ -66,7 +68,7 @@ impl Place {
 }
 
 // The name that a store file is read and replaced under.
-fn resolved<H: Files + AllocGlobal>(rt: &H, path: &str) -> io::Result<PathBuf> {
+fn resolved<H: Files + AllocGlobal>(rt: &H, path: &str, stem: &str) -> io::Result<PathBuf> {
     let is_link = match standing(rt, Path::new(path))? {
         Some(found) => found.is_symlink(),
         None => false,
@@ -77,11 +79,11 @@ fn resolved<H: Files + AllocGlobal>(rt: &H, path: &str) -> io::Result<PathBuf> {
         PathBuf::from_str(rt.alloc(), path)?
     };
     plain_file(rt, place.as_path())?;
-    if is_of_new_file(place.as_path()) {
+    if is_of_new_file(place.as_path(), stem) {
         return Err(io::Error::from(ErrorKind::InvalidInput));
     }
     // (a longest name that the system takes now isn't refused behind the script)
-    let longest = beside(rt, place.as_path(), u32::MAX)?;
+    let longest = beside(rt, place.as_path(), stem, u32::MAX)?;
     standing(rt, longest.as_path())?;
     Ok(place)
 }
@@ -110,31 +112,43 @@ fn plain_file<H: Files>(rt: &H, path: Path<'_>) -> io::Result<Option<Metadata>> 
 }
 
 // The name of a new file beside one, of this number.
-fn beside<H: AllocGlobal>(rt: &H, path: Path<'_>, number: u32) -> Result<PathBuf, AllocError> {
-    let name = format!(in rt.alloc(); "cookie-run.{number}.new")?;
+fn beside<H: AllocGlobal>(
+    rt: &H,
+    path: Path<'_>,
+    stem: &str,
+    number: u32,
+) -> Result<PathBuf, AllocError> {
+    let name = format!(in rt.alloc(); "{stem}.{number}.new")?;
     path.with_file_name(rt.alloc(), name.as_str())
 }
 
 // Whether a file has the name of such a new file.
-fn is_of_new_file(path: Path<'_>) -> bool {
+fn is_of_new_file(path: Path<'_>, stem: &str) -> bool {
     let Some(name) = path.file_name() else {
         return false;
     };
-    let Some(behind) = name.strip_prefix("cookie-run.") else {
+    let Some(behind) = name.strip_prefix(stem) else {
         return false;
     };
-    match behind.strip_suffix(".new") {
+    let Some(number) = behind.strip_prefix(".") else {
+        return false;
+    };
+    match number.strip_suffix(".new") {
         Some(number) => number.parse::<u32>().is_ok(),
         None => false,
     }
 }
 
 // Makes a new file beside one, of the first name under which nothing stands.
-fn create_beside<H: Files + AllocGlobal>(rt: &H, path: Path<'_>) -> io::Result<(H::File, PathBuf)> {
+fn create_beside<H: Files + AllocGlobal>(
+    rt: &H,
+    path: Path<'_>,
+    stem: &str,
+) -> io::Result<(H::File, PathBuf)> {
     let mut how = OpenOptions::new();
     how.write(true).create_new(true).mode(OWNERS);
     for number in 0..u32::MAX {
-        let name = beside(rt, path, number)?;
+        let name = beside(rt, path, stem, number)?;
         match how.open(rt, name.as_path()) {
             Ok(file) => return Ok((file, name)),
             Err(error) if error.kind() == ErrorKind::AlreadyExists => {}
@@ -146,10 +160,10 @@ fn create_beside<H: Files + AllocGlobal>(rt: &H, path: Path<'_>) -> io::Result<(
 
 // Writes a new file beside one, up to the disk, and gives it that one's name. Where this is refused, it
 // is taken away again.
-fn put<H: Files + AllocGlobal>(rt: &H, path: Path<'_>, text: &[u8]) -> io::Result<()> {
+fn put<H: Files + AllocGlobal>(rt: &H, path: Path<'_>, stem: &str, text: &[u8]) -> io::Result<()> {
     let old = plain_file(rt, path)?;
     let folder = File::open(rt, path.with_file_name(rt.alloc(), ".")?)?;
-    let (mut file, name) = create_beside(rt, path)?;
+    let (mut file, name) = create_beside(rt, path, stem)?;
     let mut done = fill(rt, &mut file, name.as_path(), &old, text);
     if done.is_ok() {
         done = fs::rename(rt, name.as_path(), path);
