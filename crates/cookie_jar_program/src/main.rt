@@ -1,0 +1,89 @@
+//! `cookie-jar`: a jar of cookies for the shell.
+#![tactic(auto)]
+
+use devices::Counting;
+use jar_commands::program::{Ended, program};
+use jiff::Timestamp;
+use jiff::civil::DateTime;
+use jiff::tz::TimeZone;
+use std::alloc::AllocError;
+use std::env::{self, VarError};
+use std::io::{self, BufReader, BufWriter, ErrorKind};
+use std::process::ExitCode;
+
+// Where Debian's package `publicsuffix` puts its list.
+const INSTALLED: &str = "/usr/share/publicsuffix/public_suffix_list.dat";
+// The file that counts where that one isn't there, unless the environment names another.
+const LAST: &str = "examples/suffixes.dat";
+
+fn main(rt: HostRuntime) -> ExitCode {
+    match start(&rt) {
+        Ok(status) => ExitCode::from(status),
+        Err(AllocError) => {
+            let _ = eprintln!(rt; "cookie-jar: memory");
+            ExitCode::from(2)
+        }
+    }
+}
+
+// Runs the program, and tells on standard error what is to be told there. Gives the exit status.
+fn start(rt: &HostRuntime) -> Result<u8, AllocError> {
+    let words = words(rt)?;
+    let named = named_list(rt)?;
+    let last = match &named {
+        Some(path) => path.as_str(),
+        None => LAST,
+    };
+    let Ok(reader) = BufReader::new(rt.alloc(), rt.reader()) else {
+        return Err(AllocError);
+    };
+    let Ok(writer) = BufWriter::new(rt.alloc(), io::writer(rt)) else {
+        return Err(AllocError);
+    };
+    tell(
+        rt,
+        program(
+            rt,
+            &words,
+            clock(rt),
+            &[INSTALLED, last],
+            &mut Counting::new(reader),
+            &mut Counting::new(writer),
+        ),
+    )
+}
+
+fn tell(rt: &HostRuntime, ended: Ended<'_>) -> Result<u8, AllocError> {
+    if let Some(path) = ended.list {
+        let _ = eprintln!(rt; "cookie-jar: suffix list of {path}");
+    }
+    if let Some(words) = ended.failure {
+        let _ = eprintln!(rt; "cookie-jar: {words}");
+    }
+    Ok(ended.status)
+}
+
+// The whole second that the clock shows in UTC.
+fn clock(rt: &HostRuntime) -> Option<DateTime> {
+    let now = Timestamp::now(rt).ok()?;
+    let second = Timestamp::from_second(now.as_second()).ok()?;
+    Some(TimeZone::UTC.to_datetime(second))
+}
+
+// The file of a suffix list that the environment names.
+fn named_list(rt: &HostRuntime) -> Result<Option<String>, AllocError> {
+    match env::var(rt, "COOKIE_JAR_SUFFIXES") {
+        Ok(path) => Ok(Some(path)),
+        Err(VarError::OutOfMemory) => Err(AllocError),
+        Err(VarError::NotPresent | VarError::NotUnicode) => Ok(None),
+    }
+}
+
+// The words behind the program's name. One that isn't UTF-8 is no text, so there are none then.
+fn words(rt: &HostRuntime) -> Result<Vec<String>, AllocError> {
+    match env::args(rt) {
+        Ok(words) => words.skip(1).collect(rt.alloc()),
+        Err(error) if error.kind() == ErrorKind::OutOfMemory => Err(AllocError),
+        Err(_) => Ok(Vec::new(rt.alloc())),
+    }
+}

@@ -1,0 +1,5 @@
+pub mod KeepLemmas
+pub mod PlanLemmas
+pub mod PrintLemmas
+pub mod ServeLemmas
+pub mod VisitLemmas

@@ -1,0 +1,43 @@
+-- The jar that a command begins with, and the text that it ends with (this repository's own).
+use Rattle.std.specs.Prelude.{◌≡◌, ◌≢◌, ◌⊎◌, ℕ, ℤ, Bool, List, [], Option, Some, None, IsSomeAnd}
+use Rattle.publicsuffix.specs.Rules.{Rule}
+use Rattle.cookie_store.specs.Given.{ArePicked}
+use Rattle.cookie_store.specs.Rows.{Row, Store}
+use Rattle.cookie_run.specs.HostPrefix.{IsHeldRightly}
+use Rattle.cookie_run.specs.Program.{IsNoSuffixList, IsSuffixList}
+use Rattle.cookie_jar.specs.Reading.{IsUnread, Reads}
+use Rattle.cookie_jar.specs.Saving.{IsUnsaved}
+use Rattle.cookie_jar.specs.declared.error.ReadError.{ReadError}
+use Rattle.cookie_jar.specs.declared.error.ReadError.TheVariants as read
+use Rattle.cookie_jar.specs.declared.error.SaveError.{SaveError}
+use Rattle.cookie_jar.specs.declared.error.SaveError.TheVariants as save
+use Rattle.cookie_jar.specs.declared.form.Form.{Form}
+use Rattle.jar_commands.specs.declared.failure.Failure.{Failure}
+use Rattle.jar_commands.specs.declared.failure.Failure.TheVariants.{SuffixList, JarText, Memory}
+
+-- the text isn't one of the form
+abbrev pub IsNoTextOf : Form → List ℕ → Type 0
+IsNoTextOf form text = (e : ReadError) × (e ≢ read.OutOfMemory) × IsUnread form text e
+
+-- the rows have no text of the form; those that a line can't hold count where they aren't passed over
+abbrev pub HaveNoText : Form → Bool → List Row → Type 0
+HaveNoText form passing_over rows = (e : SaveError) × (e ≢ save.OutOfMemory) × IsUnsaved form passing_over rows e
+
+-- the rows of a jar's text that are held rightly and not expired at the moment, or none where there is no text
+abbrev pub AreRows : Form → ℤ → Option (List ℕ) → List Row → Type 0
+AreRows form now None rows = rows ≡ []
+AreRows form now (Some text) rows =
+    (store : Store) × Reads form now text store × ArePicked IsHeldRightly store.rows rows
+
+-- the jar of a suffix list's text and a jar's text, or none
+abbrev pub IsJar : Form → ℤ → List ℕ → Option (List ℕ) → Store → Type 0
+IsJar form now suffixes stored jar = IsSuffixList suffixes jar.suffixes × AreRows form now stored jar.rows
+
+-- No jar is made of these texts: the first is no list; or it is one, and the other no text of the form; or memory was
+-- refused.
+abbrev pub MakesNoJar : Form → List ℕ → Option (List ℕ) → Failure → Type 0
+MakesNoJar form suffixes stored failure =
+    (failure ≡ Memory)
+    ⊎ (((failure ≡ SuffixList) × IsNoSuffixList suffixes)
+    ⊎ ((failure ≡ JarText) × ((list : List Rule) × IsSuffixList suffixes list)
+    × IsSomeAnd stored (IsNoTextOf form)))

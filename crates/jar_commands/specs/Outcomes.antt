@@ -1,0 +1,114 @@
+-- What each command gives, of the jar that it begins with (this repository's own).
+use Rattle.std.specs.Prelude.{◌≡◌, ◌++◌, ℕ, ℤ, Bool, true, false, List, [], ◌∷◌, Option, Some, None, codes, is_some}
+use Rattle.std.specs.Prelude.{if◌then◌else◌, length, option_map, string_bytes}
+use Rattle.std.specs.Fmt.{decimal}
+use Rattle.url.specs.Parts.{Parts}
+use Rattle.cookie_store.specs.Longest.{AreGivenLongest}
+use Rattle.cookie_store.specs.Rows.{Key, Row, Store, found, live, removed}
+use Rattle.cookie_run.specs.Header.{IsHeader}
+use Rattle.cookie_jar.specs.Explaining.{IsExplained}
+use Rattle.cookie_jar.specs.Json.{rows_json}
+use Rattle.cookie_jar.specs.LeftOut.{passed_lines}
+use Rattle.cookie_jar.specs.Listing.{listing}
+use Rattle.cookie_jar.specs.Reading.{Imports}
+use Rattle.cookie_jar.specs.Saving.{IsText, fitting}
+use Rattle.cookie_jar.specs.Told.{header_line}
+use Rattle.cookie_jar.specs.declared.form.Form.{Form}
+use Rattle.jar_commands.specs.Plans.{PlanText}
+use Rattle.jar_commands.specs.Receiving.{TakesHeads}
+use Rattle.jar_commands.specs.declared.outcome.Outcome.{Outcome}
+
+-- what is printed, the exit status, and the texts that the jar and the other file are to hold, where they change
+pub record OutcomeText : Type 0 where
+  pub printed : List ℕ
+  pub status : ℕ
+  pub jar : Option (List ℕ)
+  pub file : Option (List ℕ)
+
+abbrev pub outcome_text : Outcome → OutcomeText
+outcome_text outcome = record {
+  printed = string_bytes outcome.printed;
+  status = outcome.status;
+  jar = option_map (λ text. text.items) outcome.jar;
+  file = option_map (λ text. text.items) outcome.file;
+}
+
+-- a text is printed, and the files stay
+abbrev pub Prints : List ℕ → OutcomeText → Type 0
+Prints printed outcome = outcome ≡ record { printed = printed; status = 0; jar = None; file = None }
+
+-- a text is printed, and the jar is to hold the text of these rows that aren't expired
+abbrev pub Keeps : PlanText → List ℕ → ℕ → List Row → OutcomeText → Type 0
+Keeps plan printed status rows outcome =
+    (text : List ℕ) × IsText plan.form (live plan.now rows) text
+    × (outcome ≡ record { printed = printed; status = status; jar = Some text; file = None })
+
+-- ---- commands that print
+
+abbrev pub GivesHeader : PlanText → Store → Parts → OutcomeText → Type 0
+GivesHeader plan jar url outcome =
+    (header : List ℕ) × IsHeader jar.rows url plan.now header × Prints (header_line header) outcome
+
+abbrev pub GivesList : PlanText → Store → OutcomeText → Type 0
+GivesList plan jar outcome = Prints (listing (live plan.now jar.rows)) outcome
+
+abbrev pub GivesListOf : PlanText → Store → Parts → OutcomeText → Type 0
+GivesListOf plan jar url outcome =
+    (rows : List Row) × AreGivenLongest jar.rows url plan.now rows × Prints (listing rows) outcome
+
+abbrev pub GivesJson : PlanText → Store → OutcomeText → Type 0
+GivesJson plan jar outcome = Prints (rows_json (live plan.now jar.rows)) outcome
+
+abbrev pub GivesJsonOf : PlanText → Store → Parts → OutcomeText → Type 0
+GivesJsonOf plan jar url outcome =
+    (rows : List Row) × AreGivenLongest jar.rows url plan.now rows × Prints (rows_json rows) outcome
+
+abbrev pub GivesExplained : PlanText → Store → Parts → List ℕ → OutcomeText → Type 0
+GivesExplained plan jar url line outcome =
+    (text : List ℕ) × IsExplained jar url plan.now line text × Prints text outcome
+
+-- ---- commands that change the jar
+
+-- how many rows were taken out, taken in or given away
+abbrev pub rows_line : ℕ → List ℕ
+rows_line count = codes "rows: " ++ (decimal count ++ 10 ∷ [])
+
+-- the status tells a refused line
+abbrev pub GivesReceived : PlanText → Store → Parts → List ℕ → OutcomeText → Type 0
+GivesReceived plan jar url text outcome =
+    (told : List ℕ) × (refused : Bool) × (new : List Row) × TakesHeads jar plan.now url text told refused new
+    × Keeps plan told (if refused then 1 else 0) new outcome
+
+-- where there was a row to take out, these are left; else the status tells that there was none
+abbrev pub RemovesWhere : Bool → PlanText → List Row → OutcomeText → Type 0
+RemovesWhere true plan rest outcome = Keeps plan (rows_line 1) 0 rest outcome
+RemovesWhere false plan rest outcome =
+    outcome ≡ record { printed = rows_line 0; status = 1; jar = None; file = None }
+
+abbrev pub GivesRemoved : PlanText → Store → Key → OutcomeText → Type 0
+GivesRemoved plan jar key outcome =
+    RemovesWhere (is_some (found key jar.rows)) plan (removed key jar.rows) outcome
+
+abbrev pub GivesCleared : PlanText → Store → OutcomeText → Type 0
+GivesCleared plan jar outcome = Keeps plan (rows_line (length jar.rows)) 0 [] outcome
+
+-- the rows of another text are taken in, behind which stands a line for each that isn't
+abbrev pub GivesImported : PlanText → Store → Form → List ℕ → OutcomeText → Type 0
+GivesImported plan jar form given outcome =
+    (count : ℕ) × (refused : ℕ) × (told : List ℕ) × (new : List Row)
+    × Imports form plan.now given jar.rows count refused told new
+    × Keeps plan (rows_line count ++ told) 0 new outcome
+
+-- ---- the command that gives rows away
+
+-- the rows that a text of the form holds, behind which stands a line for each that it doesn't; the jar stays
+abbrev pub GivesExported : PlanText → Store → Form → OutcomeText → Type 0
+GivesExported plan jar form outcome =
+    let rows = live plan.now jar.rows in
+    (text : List ℕ) × IsText form (fitting form rows) text
+    × (outcome ≡ record {
+      printed = rows_line (length (fitting form rows)) ++ passed_lines form rows;
+      status = 0;
+      jar = None;
+      file = Some text;
+    })

@@ -1,0 +1,73 @@
+//! A jar, of its text and back.
+ghost use Rattle.std.specs.Prelude.{◌≡◌, ◌⊎◌, IfOk, IfErr, false};
+ghost use Rattle.std.specs.Option.{option_copied};
+ghost use Rattle.jiff.specs.Words.{civil_nanos};
+ghost use Rattle.cookie_store.specs.Rows.{live};
+ghost use Rattle.cookie_run.specs.Program.{IsNoSuffixList, IsSuffixList};
+ghost use Rattle.cookie_jar.specs.Saving.{IsText};
+ghost use Rattle.jar_commands.specs.Jars as spec;
+
+use crate::failure::Failure;
+use crate::plan::Plan;
+use cookie_jar::{Jar, ReadError, SaveError};
+use cookie_run::program;
+use publicsuffix::List;
+use std::alloc::Global;
+
+/// The jar of a text of the plan's form, or one without a row where there is none, with the list of a text.
+///
+/// # Errors
+///
+/// `SuffixList` where the first text is no list, else `JarText` where the other isn't one of the form;
+/// `Memory`.
+pub(crate) fn jar_of(
+    alloc: Global,
+    plan: &Plan<'_>,
+    suffixes: &[u8],
+    stored: Option<&[u8]>,
+) -> Result<Jar, Failure>
+    ensures ok { IfOk result (spec.IsJar plan.now.form (civil_nanos plan.now.at) suffixes.now
+        (option_copied stored.entry)) }
+    ensures err { IfErr result (spec.MakesNoJar plan.now.form suffixes.now (option_copied stored.entry)) }
+{
+    let list = list_of(alloc, suffixes)?;
+    let Some(text) = stored else {
+        return Ok(Jar::new(alloc, list));
+    };
+    match Jar::load(alloc, list, plan.form, text, plan.at) {
+        Ok(jar) => Ok(jar),
+        Err(ReadError::OutOfMemory) => Err(Failure::Memory),
+        Err(_) => Err(Failure::JarText),
+    }
+}
+
+// The suffix list of a text.
+fn list_of(alloc: Global, text: &[u8]) -> Result<List, Failure>
+    ensures ok { IfOk result (IsSuffixList text.now) }
+    ensures err { IfErr result (λ failure. (failure ≡ Failure.Memory)
+        ⊎ ((failure ≡ Failure.SuffixList) × IsNoSuffixList text.now)) }
+{
+    match program::list_of(alloc, text) {
+        Ok(list) => Ok(list),
+        Err(program::Failure::Memory) => Err(Failure::Memory),
+        Err(_) => Err(Failure::SuffixList),
+    }
+}
+
+/// The text of a jar in the plan's form, at its moment.
+///
+/// # Errors
+///
+/// `JarRow` where a row has none, or `Memory`.
+pub(crate) fn saved(plan: &Plan<'_>, jar: &Jar) -> Result<Vec<u8>, Failure>
+    ensures ok { IfOk result (λ text.
+        IsText plan.now.form (live (civil_nanos plan.now.at) jar.now.rows) text.items) }
+    ensures err { IfErr result (λ failure. (failure ≡ Failure.Memory) ⊎ ((failure ≡ Failure.JarRow)
+        × spec.HaveNoText plan.now.form false (live (civil_nanos plan.now.at) jar.now.rows))) }
+{
+    match jar.save(plan.form, plan.at) {
+        Ok(text) => Ok(text),
+        Err(SaveError::OutOfMemory) => Err(Failure::Memory),
+        Err(_) => Err(Failure::JarRow),
+    }
+}

@@ -1,0 +1,24 @@
+//! What each command of the program `cookie-jar` does.
+//!
+//! ```text
+//! let asked = jar_words::read(alloc, &words)?;
+//! let outcome = answer(alloc, &asked, suffixes, stored, given, clock, &mut reader)?;
+//! // outcome.printed, outcome.status, and the texts that the jar and the other file are to hold
+//! ```
+#![tactic(auto)]
+
+mod answering;
+mod failure;
+mod jar_text;
+mod moving;
+mod outcome;
+mod plan;
+pub mod program;
+mod receiving;
+mod removing;
+mod showing;
+
+pub use answering::answer;
+pub use failure::Failure;
+pub use outcome::Outcome;
+pub use plan::{Plan, Task, plan_of};

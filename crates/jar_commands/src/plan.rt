@@ -1,0 +1,149 @@
+//! What is asked, with its moment, its form and its URL read.
+ghost use Rattle.std.specs.Prelude.{◌≡◌, ◌⊎◌, IfOk, IfErr, option_map};
+ghost use Rattle.jiff.specs.Words.{civil_nanos};
+ghost use Rattle.cookie_run.specs.ScriptLine.{url_of};
+ghost use Rattle.jar_commands.specs.Plans as spec;
+
+use crate::failure::Failure;
+use cookie_jar::Form;
+use cookie_run::script::moment::moment_of;
+use jar_words::{Asked, Command, Format};
+use jiff::civil::DateTime;
+use std::alloc::Global;
+use url::{ParseError, Url};
+
+/// What is to be done to a jar.
+#[derive(Debug, Drop)]
+pub enum Task<'a> {
+    /// Takes the lines of heads that this URL answered.
+    Receive(Url),
+    /// Prints the header of a request to this URL.
+    Header(Url),
+    /// Prints the table of all rows.
+    List,
+    /// Prints the table of what a request to this URL gets.
+    ListOf(Url),
+    /// Prints all rows as JSON.
+    ListJson,
+    /// Prints what a request to this URL gets as JSON.
+    ListJsonOf(Url),
+    /// Prints what a line from this URL means.
+    Explain(Url, &'a str),
+    /// Takes the row of a domain, a path and a name out.
+    Remove(&'a str, &'a str, &'a str),
+    /// Takes all rows out.
+    Clear,
+    /// Takes the rows of a text of this form in.
+    Import(Form),
+    /// Gives the rows as a text of this form.
+    Export(Form),
+}
+
+/// A task, with the moment at which it is done and the form of the jar's text.
+#[derive(Debug, Drop)]
+pub struct Plan<'a> {
+    /// The moment.
+    pub at: DateTime,
+    /// The form of the jar's text.
+    pub form: Form,
+    /// What is to be done.
+    pub task: Task<'a>,
+}
+
+/// The plan of what is asked; the moment is the clock's where none is asked.
+///
+/// # Errors
+///
+/// The first of `Moment`, `Format`, and then `Url` or `FileFormat`; `Memory` where memory was refused
+/// for a URL.
+pub fn plan_of<'a>(
+    alloc: Global,
+    asked: &Asked<'a>,
+    clock: Option<DateTime>,
+) -> Result<Plan<'a>, Failure>
+    ensures ok { IfOk result (λ plan.
+        spec.plan_of asked.entry.now (option_map civil_nanos clock) ≡ Ok (spec.plan_text plan)) }
+    ensures err { IfErr result (λ failure. (failure ≡ Failure.Memory)
+        ⊎ (spec.plan_of asked.entry.now (option_map civil_nanos clock) ≡ Err failure)) }
+{
+    let Some(at) = moment(asked.now, clock) else {
+        return Err(Failure::Moment);
+    };
+    let Some(form) = form_of(asked.format, asked.jar) else {
+        return Err(Failure::Format);
+    };
+    match task_of(alloc, asked.command) {
+        Ok(task) => Ok(Plan { at, form, task }),
+        Err(failure) => Err(failure),
+    }
+}
+
+// The moment that a text names, or the clock's.
+fn moment(text: Option<&str>, clock: Option<DateTime>) -> Option<DateTime>
+    ensures { option_map civil_nanos result
+        ≡ spec.moment_asked (option_map (λ text. text.now) text.entry) (option_map civil_nanos clock) }
+{
+    match text {
+        Some(text) => match moment_of(text) {
+            Some(moment) => Some(moment.date),
+            None => None,
+        },
+        None => clock,
+    }
+}
+
+// The form that is asked, or the one that the jar's name ends with.
+fn form_of(format: Option<Format>, jar: &str) -> Option<Form>
+    ensures { result ≡ spec.form_asked format jar.now }
+{
+    match format {
+        Some(Format::Ron) => Some(Form::Ron),
+        Some(Format::Json) => Some(Form::Json),
+        Some(Format::Txt) => Some(Form::Txt),
+        None => Form::of(jar),
+    }
+}
+
+// The task of a command.
+fn task_of<'a>(alloc: Global, command: Command<'a>) -> Result<Task<'a>, Failure>
+    ensures ok { IfOk result (λ task. spec.task_of command.entry ≡ Ok task) }
+    ensures err { IfErr result (λ failure.
+        (failure ≡ Failure.Memory) ⊎ (spec.task_of command.entry ≡ Err failure)) }
+{
+    match command {
+        Command::Receive(url) => Ok(Task::Receive(url_of(alloc, url)?)),
+        Command::Header(url) => Ok(Task::Header(url_of(alloc, url)?)),
+        Command::List(Some(url)) => Ok(Task::ListOf(url_of(alloc, url)?)),
+        Command::List(None) => Ok(Task::List),
+        Command::ListJson(Some(url)) => Ok(Task::ListJsonOf(url_of(alloc, url)?)),
+        Command::ListJson(None) => Ok(Task::ListJson),
+        Command::Explain(url, line) => Ok(Task::Explain(url_of(alloc, url)?, line)),
+        Command::Remove(domain, path, name) => Ok(Task::Remove(domain, path, name)),
+        Command::Clear => Ok(Task::Clear),
+        Command::Import(file) => Ok(Task::Import(form_of_file(file)?)),
+        Command::Export(file) => Ok(Task::Export(form_of_file(file)?)),
+    }
+}
+
+#[tactic(auto, unfolding(cookie_run::specs::ScriptLine::url_of))]
+fn url_of(alloc: Global, text: &str) -> Result<Url, Failure>
+    ensures ok { IfOk result (λ url. url_of text.now ≡ Some url) }
+    ensures err { IfErr result (λ failure.
+        ((failure ≡ Failure.Url) × (url_of text.now ≡ None)) ⊎ (failure ≡ Failure.Memory)) }
+{
+    match Url::parse(alloc, text) {
+        Ok(url) => Ok(url),
+        Err(ParseError::OutOfMemory | ParseError::Overflow) => Err(Failure::Memory),
+        Err(_) => Err(Failure::Url),
+    }
+}
+
+// The form that the other file's name ends with.
+fn form_of_file(file: &str) -> Result<Form, Failure>
+    ensures { result ≡ spec.form_of_file file.now }
+{
+    match Form::of(file) {
+        Some(form) => Ok(form),
+        None => Err(Failure::FileFormat),
+    }
+}

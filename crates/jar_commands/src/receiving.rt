@@ -1,0 +1,153 @@
+//! The command that takes what URLs answered.
+ghost use Rattle.std.specs.Prelude.{◌≡◌, ◌⊎◌, IfOk, IfErr, OnOk, map, string_bytes, if◌then◌else◌};
+ghost use Rattle.jiff.specs.Words.{civil_nanos};
+ghost use Rattle.response_heads.specs.Visits.{GivesVisits, visit_text};
+ghost use Rattle.jar_commands.specs.Outcomes.{GivesReceived, outcome_text};
+ghost use Rattle.jar_commands.specs.Performing.{FailsToReceive, OfInput, Unkept};
+ghost use Rattle.jar_commands.specs.Plans.{plan_text};
+ghost use Rattle.jar_commands.specs.Receiving as spec;
+ghost use Rattle.jar_commands.specs.Steps.{FailsToTake, TakesVisit};
+
+use crate::failure::Failure;
+use crate::jar_text::saved;
+use crate::outcome::Outcome;
+use crate::plan::Plan;
+use cookie_jar::{Jar, is_refused, told_lines};
+use cookie_run::LineEnd;
+use devices::Source;
+use devices::pour::{Stop, read_all};
+use jiff::civil::DateTime;
+use response_heads::{ReadError, Visit, visits};
+use std::alloc::{AllocError, Global};
+use url::Url;
+
+// What is told of lines, and whether one of them was refused.
+#[derive(Drop)]
+struct Received {
+    told: String,
+    is_any_refused: bool,
+}
+
+/// `receive URL`.
+pub(crate) fn receive<R: Source>(
+    alloc: Global,
+    plan: &Plan<'_>,
+    jar: &mut Jar,
+    url: &Url,
+    reader: &mut R,
+) -> Result<Outcome, Failure>
+    ensures ok { IfOk result (λ outcome. OfInput
+        (record {
+          left = R.left reader.old;
+          reads = R.reads reader.new;
+          unread = (R.failures reader.old, R.failures reader.new);
+        })
+        (λ text. GivesReceived (plan_text plan.now) jar.old url.now text (outcome_text outcome))) }
+    ensures err { IfErr result (FailsToReceive
+        (record {
+          left = R.left reader.old;
+          reads = R.reads reader.new;
+          unread = (R.failures reader.old, R.failures reader.new);
+        })
+        (plan_text plan.now) jar.old url.now) }
+    ensures failures { OnOk result (R.failures reader.new ≡ R.failures reader.old) }
+{
+    let text = match read_all(alloc, reader) {
+        Ok(text) => text,
+        Err(Stop::Read) => return Err(Failure::Input),
+        Err(Stop::Memory) => return Err(Failure::Memory),
+    };
+    receive_text(alloc, plan, jar, url, &text)
+}
+
+// Takes the lines of the heads of a text.
+fn receive_text(
+    alloc: Global,
+    plan: &Plan<'_>,
+    jar: &mut Jar,
+    url: &Url,
+    text: &[u8],
+) -> Result<Outcome, Failure>
+    ensures ok { IfOk result (λ outcome.
+        GivesReceived (plan_text plan.now) jar.old url.now text.now (outcome_text outcome)) }
+    ensures err { IfErr result (FailsToTake (plan_text plan.now) jar.old url.now text.now) }
+{
+    let visits = visits_of(alloc, url, text)?;
+    let Received {
+        told,
+        is_any_refused,
+    } = receive_visits(alloc, jar, &visits, plan.at)?;
+    match saved(plan, jar) {
+        Ok(text) => Ok(Outcome::kept(told, status_of(is_any_refused), text)),
+        Err(failure) => Err(failure),
+    }
+}
+
+fn status_of(is_any_refused: bool) -> u8
+    ensures { result ≡ (if is_any_refused then 1 else 0) }
+{
+    if is_any_refused { 1 } else { 0 }
+}
+
+// The heads of a text, each with the URL that answered it.
+fn visits_of<'a>(alloc: Global, url: &Url, text: &'a [u8]) -> Result<Vec<Visit<'a>>, Failure>
+    ensures ok { IfOk result (λ visits. GivesVisits url.now text.now (map visit_text visits.items)) }
+    ensures err { IfErr result (λ failure. (failure ≡ Failure.Memory)
+        ⊎ ((failure ≡ Failure.Heads) × spec.IsNoHeads url.now text.now)) }
+{
+    match visits(alloc, url, text) {
+        Ok(visits) => Ok(visits),
+        Err(ReadError::OutOfMemory) => Err(Failure::Memory),
+        Err(_) => Err(Failure::Heads),
+    }
+}
+
+// Takes the lines of each visit, one after another.
+fn receive_visits(
+    alloc: Global,
+    jar: &mut Jar,
+    visits: &[Visit<'_>],
+    now: DateTime,
+) -> Result<Received, AllocError>
+    ensures { IfOk result (λ received. spec.TakesVisits jar.old.suffixes jar.old.rows (civil_nanos now)
+        (map visit_text visits.now) (string_bytes received.told) received.is_any_refused jar.new.rows) }
+{
+    let mut received = Received {
+        told: String::new(alloc),
+        is_any_refused: false,
+    };
+    for visit in visits {
+        receive_visit(alloc, jar, visit, now, &mut received)?;
+    }
+    Ok(received)
+}
+
+// Takes the lines of a visit, and tells of them behind what was told.
+fn receive_visit(
+    alloc: Global,
+    jar: &mut Jar,
+    visit: &Visit<'_>,
+    now: DateTime,
+    received: &mut Received,
+) -> Result<(), AllocError>
+    ensures ok { OnOk result (TakesVisit jar.old.suffixes jar.old.rows (civil_nanos now) (visit_text visit.now)
+        (string_bytes received.old.told) received.old.is_any_refused
+        (string_bytes received.new.told) received.new.is_any_refused jar.new.rows) }
+    ensures list { jar.new.suffixes ≡ jar.old.suffixes }
+{
+    let lines = visit.head.set_cookie_lines(alloc)?;
+    let Ok(ends) = jar.receive(&visit.url, &lines, now) else {
+        return Err(AllocError);
+    };
+    let told = told_lines(alloc, &lines, &ends)?;
+    received.told.push_str(told.as_str())?;
+    received.is_any_refused = received.is_any_refused || is_any_refused(&ends);
+    Ok(())
+}
+
+// Whether a line wasn't stored.
+fn is_any_refused(ends: &[LineEnd]) -> bool
+    ensures { result ≡ spec.is_any_refused ends.now }
+{
+    ends.iter().any(|end| is_refused(*end))
+}

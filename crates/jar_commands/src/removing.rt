@@ -1,0 +1,67 @@
+//! The commands that take rows out of a jar.
+ghost use Rattle.std.specs.Prelude.{◌≡◌, ◌⊎◌, [], IfOk, IfErr, is_some, string_bytes};
+ghost use Rattle.cookie_store.specs.Rows.{found, key, removed};
+ghost use Rattle.jar_commands.specs.Outcomes as spec;
+ghost use Rattle.jar_commands.specs.Performing.{FailsToRemove, Unkept};
+ghost use Rattle.jar_commands.specs.Plans.{plan_text};
+
+use crate::failure::Failure;
+use crate::jar_text::saved;
+use crate::outcome::Outcome;
+use crate::plan::Plan;
+use cookie_jar::Jar;
+use std::alloc::{AllocError, Global};
+
+/// `remove DOMAIN PATH NAME`.
+pub(crate) fn remove(
+    alloc: Global,
+    plan: &Plan<'_>,
+    jar: &mut Jar,
+    domain: &str,
+    path: &str,
+    name: &str,
+) -> Result<Outcome, Failure>
+    ensures ok { IfOk result (λ outcome. spec.GivesRemoved (plan_text plan.now) jar.old
+        (key domain.now path.now name.now) (spec.outcome_text outcome)) }
+    ensures err { IfErr result (FailsToRemove (plan_text plan.now)
+        (is_some (found (key domain.now path.now name.now) jar.old.rows))
+        (removed (key domain.now path.now name.now) jar.old.rows)) }
+{
+    if !jar.remove(domain, path, name) {
+        return Ok(Outcome {
+            printed: count_line(alloc, 0)?,
+            status: 1,
+            jar: None,
+            file: None,
+        });
+    }
+    Ok(Outcome {
+        printed: count_line(alloc, 1)?,
+        status: 0,
+        jar: Some(saved(plan, jar)?),
+        file: None,
+    })
+}
+
+/// `clear`.
+pub(crate) fn clear(alloc: Global, plan: &Plan<'_>, jar: &mut Jar) -> Result<Outcome, Failure>
+    ensures ok { IfOk result (λ outcome.
+        spec.GivesCleared (plan_text plan.now) jar.old (spec.outcome_text outcome)) }
+    ensures err { IfErr result (λ failure.
+        (failure ≡ Failure.Memory) ⊎ Unkept (plan_text plan.now) [] failure) }
+{
+    let count = jar.clear()?;
+    Ok(Outcome {
+        printed: count_line(alloc, count)?,
+        status: 0,
+        jar: Some(saved(plan, jar)?),
+        file: None,
+    })
+}
+
+/// The line of how many rows were moved or taken out.
+pub(crate) fn count_line(alloc: Global, count: usize) -> Result<String, AllocError>
+    ensures { IfOk result (λ line. string_bytes line ≡ spec.rows_line count) }
+{
+    format!(in alloc; "rows: {count}\n")
+}

@@ -1,0 +1,76 @@
+//! The commands that print what a jar holds.
+ghost use Rattle.std.specs.Prelude.{◌≡◌, IfOk, IfErr, string_bytes};
+ghost use Rattle.jar_commands.specs.Outcomes as spec;
+ghost use Rattle.jar_commands.specs.Plans.{plan_text};
+
+use crate::failure::Failure;
+use crate::outcome::Outcome;
+use crate::plan::Plan;
+use cookie_jar::Jar;
+use url::Url;
+
+/// `header URL`.
+pub(crate) fn header(plan: &Plan<'_>, jar: &Jar, url: &Url) -> Result<Outcome, Failure>
+    ensures ok { IfOk result (λ outcome.
+        spec.GivesHeader (plan_text plan.now) jar.now url.now (spec.outcome_text outcome)) }
+    ensures err { IfErr result (λ failure. failure ≡ Failure.Memory) }
+{
+    Ok(shown(jar.header(url, plan.at)?))
+}
+
+/// `list`.
+pub(crate) fn list(plan: &Plan<'_>, jar: &Jar) -> Result<Outcome, Failure>
+    ensures ok { IfOk result (λ outcome.
+        spec.GivesList (plan_text plan.now) jar.now (spec.outcome_text outcome)) }
+    ensures err { IfErr result (λ failure. failure ≡ Failure.Memory) }
+{
+    Ok(shown(jar.list(plan.at)?))
+}
+
+/// `list URL`.
+pub(crate) fn list_of(plan: &Plan<'_>, jar: &Jar, url: &Url) -> Result<Outcome, Failure>
+    ensures ok { IfOk result (λ outcome.
+        spec.GivesListOf (plan_text plan.now) jar.now url.now (spec.outcome_text outcome)) }
+    ensures err { IfErr result (λ failure. failure ≡ Failure.Memory) }
+{
+    Ok(shown(jar.list_of(url, plan.at)?))
+}
+
+/// `list --json`.
+pub(crate) fn list_json(plan: &Plan<'_>, jar: &Jar) -> Result<Outcome, Failure>
+    ensures ok { IfOk result (λ outcome.
+        spec.GivesJson (plan_text plan.now) jar.now (spec.outcome_text outcome)) }
+    ensures err { IfErr result (λ failure. failure ≡ Failure.Memory) }
+{
+    Ok(shown(jar.list_json(plan.at)?))
+}
+
+/// `list --json URL`.
+pub(crate) fn list_json_of(plan: &Plan<'_>, jar: &Jar, url: &Url) -> Result<Outcome, Failure>
+    ensures ok { IfOk result (λ outcome.
+        spec.GivesJsonOf (plan_text plan.now) jar.now url.now (spec.outcome_text outcome)) }
+    ensures err { IfErr result (λ failure. failure ≡ Failure.Memory) }
+{
+    Ok(shown(jar.list_json_of(url, plan.at)?))
+}
+
+/// `explain URL LINE`.
+pub(crate) fn explain(plan: &Plan<'_>, jar: &Jar, url: &Url, line: &str) -> Result<Outcome, Failure>
+    ensures ok { IfOk result (λ outcome.
+        spec.GivesExplained (plan_text plan.now) jar.now url.now line.now (spec.outcome_text outcome)) }
+    ensures err { IfErr result (λ failure. failure ≡ Failure.Memory) }
+{
+    Ok(shown(jar.explain(url, line.as_bytes(), plan.at)?))
+}
+
+// A text that is printed, while each file stays as it was.
+fn shown(printed: String) -> Outcome
+    ensures { spec.Prints (string_bytes printed) (spec.outcome_text result) }
+{
+    Outcome {
+        printed,
+        status: 0,
+        jar: None,
+        file: None,
+    }
+}
