@@ -52,22 +52,27 @@ fn report(name: &str, nanos: f64) {
 }
 
 fn time_cookies() {
-    report("parse 60 bytes", least_time(|| {
-        let cookie = Cookie::parse(black_box(LINE)).expect("a cookie");
-        black_box(cookie.name().len() + cookie.value().len());
-    }));
     for line in ["foo=bar", LINE] {
+        let of = |name: &str| format!("{name} {} bytes", line.len());
+        report(&of("parse"), least_time(|| {
+            let cookie = Cookie::parse(black_box(line)).expect("a cookie");
+            black_box(cookie.name().len() + cookie.value().len());
+        }));
+        report(&of("parse encoded"), least_time(|| {
+            let cookie = Cookie::parse_encoded(black_box(line)).expect("a cookie");
+            black_box(cookie.name().len() + cookie.value().len());
+        }));
+        report(&of("parse and print"), least_time(|| {
+            black_box(Cookie::parse(black_box(line)).expect("a cookie").to_string());
+        }));
         let cookie = Cookie::parse(line).expect("a cookie");
-        report(&format!("print {} bytes", line.len()), least_time(|| {
+        report(&of("print"), least_time(|| {
             black_box(black_box(&cookie).to_string());
         }));
-        report(&format!("encode {} bytes", line.len()), least_time(|| {
+        report(&of("encode"), least_time(|| {
             black_box(black_box(&cookie).encoded().to_string());
         }));
     }
-    report("parse and print 60 bytes", least_time(|| {
-        black_box(Cookie::parse(black_box(LINE)).expect("a cookie").to_string());
-    }));
 }
 
 /// A jar that both cookies of an exchange were put into.
@@ -95,25 +100,33 @@ fn time_exchange(size: usize) {
 }
 
 fn time_ciphers() {
-    let (key, nonce, plain) = ([0u8; 32], [0u8; 12].into(), [0u8; 1024]);
+    let (key, plain) = ([0u8; 32], [0u8; 1024]);
     report("hmac of 1 KiB", least_time(|| {
         let mut mac = <Hmac<Sha256> as Mac>::new_from_slice(black_box(&key)).expect("a key");
         mac.update(black_box(&plain));
         black_box(mac.finalize().into_bytes());
     }));
-    report("seal of 1 KiB", least_time(|| {
-        let mut work = plain;
-        let cipher = Aes256Gcm::new(black_box(&key).into());
+    for size in [16, 1024, 65536] {
+        time_sealing(&key, size);
+    }
+}
+
+fn time_sealing(key: &[u8; 32], size: usize) {
+    let (nonce, plain) = ([0u8; 12].into(), vec![0u8; size]);
+    let mut work = plain.clone();
+    report(&format!("seal of {size} bytes"), least_time(|| {
+        work.copy_from_slice(&plain);
+        let cipher = Aes256Gcm::new(black_box(key).into());
         black_box(cipher.encrypt_in_place_detached(&nonce, b"name", &mut work)).expect("sealed");
     }));
-    let cipher = Aes256Gcm::new(&key.into());
-    let mut sealed = plain;
+    let cipher = Aes256Gcm::new(key.into());
+    let mut sealed = plain.clone();
     let tag = cipher.encrypt_in_place_detached(&nonce, b"name", &mut sealed).expect("sealed");
-    report("open of 1 KiB", least_time(|| {
-        let mut work = sealed;
-        let cipher = Aes256Gcm::new(black_box(&key).into());
+    report(&format!("open of {size} bytes"), least_time(|| {
+        work.copy_from_slice(&sealed);
+        let cipher = Aes256Gcm::new(black_box(key).into());
         cipher.decrypt_in_place_detached(&nonce, b"name", &mut work, &tag).expect("opened");
-        black_box(work);
+        black_box(&work);
     }));
 }
 
@@ -208,6 +221,10 @@ fn time_store(rows: usize) {
     report(&format!("the cookies of a request, of {rows}"), least_time(|| {
         black_box(store.get_request_values(black_box(&url)).count());
     }));
+    let row = store.get(&host, "/", "name0").expect("a row");
+    report(&format!("1,000 matches of one row, of {rows}"), least_time(|| {
+        assert_eq!((0..1_000).filter(|_| row.matches(black_box(&url))).count(), 1_000);
+    }));
     let (mut inserting, mut removing) = (f64::MAX, f64::MAX);
     for _ in 0..10_000 {
         let cookie = RawCookie::parse("new=value; Path=/; Max-Age=2592000").expect("a cookie");
@@ -220,7 +237,7 @@ fn time_store(rows: usize) {
         removing = removing.min(from.elapsed().as_nanos() as f64);
     }
     report(&format!("a new row beside {rows}"), inserting);
-    report("its removal", removing);
+    report(&format!("its removal beside {rows}"), removing);
 }
 
 /// The least time of ten loads; letting the store go isn't in it, as it isn't in bench/store.
@@ -235,6 +252,16 @@ fn least_load(load: impl Fn() -> CookieStore) -> f64 {
     (0..10).map(|_| one()).fold(f64::MAX, f64::min)
 }
 
+#[allow(deprecated)]
+fn save_lines(store: &CookieStore, lines: &mut Vec<u8>) {
+    store.save_json(lines).expect("lines");
+}
+
+#[allow(deprecated)]
+fn load_lines(lines: &[u8]) -> CookieStore {
+    CookieStore::load_json(lines).expect("a store")
+}
+
 fn time_loading(rows: usize) {
     let list = saved(rows);
     report(&format!("load {rows} cookies from RON"), least_load(|| loaded(black_box(&list))));
@@ -242,5 +269,10 @@ fn time_loading(rows: usize) {
     cookie_store::serde::json::save(&loaded(&list), &mut json).expect("a list");
     report(&format!("load {rows} cookies from JSON"), least_load(|| {
         cookie_store::serde::json::load(black_box(&json[..])).expect("a store")
+    }));
+    let mut lines = Vec::new();
+    save_lines(&loaded(&list), &mut lines);
+    report(&format!("load {rows} cookies from JSON lines"), least_load(|| {
+        load_lines(black_box(&lines[..]))
     }));
 }
