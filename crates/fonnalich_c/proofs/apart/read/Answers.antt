@@ -6,7 +6,3 @@ pub returns-then-decode : goal.returns-then-decode
 returns-then-decode c =
     subst (λ decode. Reads decode c.args.text.now c.parse_encoded.result) (sym c.if-decode.true)
     c.parse_encoded.ensures
-
-pub returns-else-decode : goal.returns-else-decode
-returns-else-decode c =
-    subst (λ decode. Reads decode c.args.text.now c.parse.result) (sym c.if-decode.false) c.parse.ensures
