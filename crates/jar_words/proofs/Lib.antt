@@ -1,3 +1,4 @@
+pub mod CommandLemmas
 pub mod ReadLemmas
 pub mod UsageFacts
 pub mod WordFacts

@@ -1,4 +1,4 @@
-use Rattle.std.proofs.Common.{rules, ◌≡◌, ◌∙◌, ap, ap₂}
+use Rattle.std.proofs.Common.{◌∙◌, ap, ap₂}
 use Rattle.clap.specs.Simple.{App, with_subcommand}
 use Rattle.jar_words.proofs.building.cookie_jar.Goals as goal
 
