@@ -63,3 +63,4 @@ mod ScriptFacts
 mod VisitFacts
 pub mod HostRows
 pub mod HeldCopies
+pub mod MappedSteps

@@ -2,9 +2,11 @@ use Rattle.std.proofs.Common.{◌∙◌, List, ℕ, subst, refl}
 use Rattle.std.specs.Prelude.{string_bytes}
 use Rattle.jiff.specs.Words.{civil_nanos}
 use Rattle.cookie_run.specs.Jar.{IsOpened}
-use Rattle.cookie_run.proofs.Standings.{begins}
 use Rattle.cookie_run.specs.ScriptLine as spec
-use Rattle.cookie_run.proofs.Halting.{open_already, open_open}
+use Rattle.cookie_run.specs.ScriptText.{obeyed}
+use Rattle.cookie_run.proofs.Halting.{no_memory, open_already, open_open}
+use Rattle.cookie_run.proofs.Runs.{err_gives}
+use Rattle.cookie_run.proofs.Standings.{begins}
 use Rattle.cookie_run.proofs.script.visit.begin.Goals as goal
 
 pub returns-clause-ok : goal.returns-clause-ok
@@ -23,3 +25,18 @@ returns-then-is_some-clause-err c = λ start r output drawn s.
     open_already drawn c.args.client.now.suffixes c.args.key.now start c.args.client.now.rows r
     (civil_nanos c.args.last.now) c.args.visit.now output (spec.Opens c.args.url (civil_nanos c.args.at.date)) s (cc)
     (open_open r c.args.url (civil_nanos c.args.at.date))
+
+pub returns-in_err-header-clause-err : goal.returns-in_err-header-clause-err
+returns-in_err-header-clause-err c =
+    err_gives c.from_residual.result _ _ c.from_residual.ensures (λ cause e start r output drawn s.
+    no_memory drawn c.args.client.now.suffixes c.args.key.now start c.args.client.now.rows r
+    (civil_nanos c.args.last.now) c.args.visit.now output
+    (obeyed r.acts r.last r.now (spec.Opens c.args.url (civil_nanos c.args.at.date))) cause s e)
+
+pub returns-in_err-session-clause-err : goal.returns-in_err-session-clause-err
+returns-in_err-session-clause-err c =
+    err_gives c.from_residual-in_err-session.result _ _ c.from_residual-in_err-session.ensures
+    (λ cause e start r output drawn s.
+    no_memory drawn c.args.client.now.suffixes c.args.key.now start c.args.client.now.rows r
+    (civil_nanos c.args.last.now) c.args.visit.now output
+    (obeyed r.acts r.last r.now (spec.Opens c.args.url (civil_nanos c.args.at.date))) cause s e)
