@@ -74,6 +74,21 @@ digits_of_zeros (d ∷ ds) ss e z = let z' = subst Zeros (sym e) z in
 range_map : (text : List ℕ) (a b : ℕ) → map blanked (slice_range text a b) ≡ slice_range (map blanked text) a b
 range_map text a b = sym (take-map blanked (b - a) (drop a text)) ∙ ap (take (b - a)) (sym (drop-map blanked a text))
 
+-- the part is as long as that of the shape
+part_length : (text : List ℕ) (a b : ℕ) → has_shape text ≡ true
+    → length (slice_range text a b) ≡ length (slice_range shape a b)
+part_length text a b e =
+    sym (length-map (slice_range text a b) blanked)
+    ∙ ap length (range_map text a b ∙ ap (λ xs. slice_range xs a b) (shape_is text e))
+
+pub part_few : (text : List ℕ) (a b : ℕ) → has_shape text ≡ true → length (slice_range shape a b) ≤ 4
+    → length (slice_range text a b) ≤ 4
+part_few text a b e few = subst (λ n. n ≤ 4) (sym (part_length text a b e)) few
+
+pub part_below : (text : List ℕ) (a b n : ℕ) → has_shape text ≡ true → n < 10 ^ length (slice_range text a b)
+    → n < 10 ^ length (slice_range shape a b)
+part_below text a b n e below = subst (λ k. n < 10 ^ k) (part_length text a b e) below
+
 pub digits_at : (text : List ℕ) (a b : ℕ) → has_shape text ≡ true → Zeros (slice_range shape a b)
     → AllDigits 10 (slice_range text a b)
 digits_at text a b e z = digits_of_zeros (slice_range text a b) (slice_range shape a b)
