@@ -1,6 +1,6 @@
 -- What the program tells (this repository's own).
 use Rattle.std.specs.Prelude.{◌≡◌, ◌⊎◌, ℕ, ℤ, Bool, List, [], Option, Some, None, Result, Ok, Err, string_bytes}
-use Rattle.std.specs.Prelude.{if◌then◌else◌}
+use Rattle.std.specs.Prelude.{if◌then◌else◌, Contains, IfSome, is_some, option_map}
 use Rattle.std.specs.Io.KnownBytes.{Appends}
 use Rattle.devices.specs.Device.{AppendsFront, Rose}
 use Rattle.jar_words.specs.declared.asked.Asked.{Asked}
@@ -79,3 +79,18 @@ Runs Unread Unwritten reader writer clock (Err refusal.OutOfMemory) result =
 abbrev pub IsToldBy : Result ℕ Failure → ℕ → Option (List ℕ) → Type 0
 IsToldBy (Ok given) status said = (status ≡ given) × (said ≡ None)
 IsToldBy (Err failure) status said = (status ≡ 2) × (said ≡ Some (failure_text failure))
+
+-- the file of the suffix list that counts: the one that is named, else one of these; of none it has no name
+abbrev pub IsListFile : Option (List ℕ) → List (List ℕ) → List ℕ → Type 0
+IsListFile (Some named) lists path = path ≡ named
+IsListFile None lists path = Contains lists path ⊎ ((lists ≡ []) × (path ≡ []))
+
+-- that file is told just where the words ask for it
+abbrev pub TellsAskedList : Asked → List (List ℕ) → Option (List ℕ) → Type 0
+TellsAskedList asked lists told = (is_some told ≡ asked.is_verbose)
+    × IfSome told (IsListFile (option_map (λ path. path.now) asked.suffixes) lists)
+
+-- the file that is told, of words as they were read
+abbrev pub TellsList : Result Asked Refusal → List (List ℕ) → Option (List ℕ) → Type 0
+TellsList (Ok asked) lists told = TellsAskedList asked lists told
+TellsList (Err refused) lists told = told ≡ None

@@ -44,7 +44,8 @@ pub struct Ended<'a> {
 /// file of an export, as a whole, by a new file beside it; and then is printed. The status is 2 where
 /// the words, or what they ask, are refused, then where a file isn't read (`suffix file`, `jar file`,
 /// `file`), then where [`crate::answer`] fails, then where a file isn't written (`jar file`, `file`), and last
-/// where the writer failed (`output`). Up to there each file is as it was.
+/// where the writer failed (`output`). Up to there each file is as it was. The file of the suffix list is
+/// told where the words ask for that (`-v`).
 pub fn program<'a, H: Files + AllocGlobal, R: Source, W: Sink>(
     rt: &H,
     words: &'a [String],
@@ -65,7 +66,8 @@ pub fn program<'a, H: Files + AllocGlobal, R: Source, W: Sink>(
           unwritten = (W.failures writer.old, W.failures writer.new);
         })
         (option_map civil_nanos clock) read given
-        × spec.IsToldBy given result.status (option_map (λ said. said.now) result.failure)) }
+        × spec.IsToldBy given result.status (option_map (λ said. said.now) result.failure))
+        × spec.TellsList read (map (λ path. path.now) lists.now) (option_map (λ path. path.now) result.list) }
 {
     match jar_words::read(rt.alloc(), words) {
         Ok(asked) => run(rt, &asked, clock, lists, reader, writer),
@@ -96,6 +98,8 @@ fn run<'a, H: Files + AllocGlobal, R: Source, W: Sink>(
         })
         asked.entry.now (option_map civil_nanos clock) given
         × spec.IsToldBy given result.status (option_map (λ said. said.now) result.failure) }
+    ensures list { spec.TellsAskedList asked.entry.now (map (λ path. path.now) lists.now)
+        (option_map (λ path. path.now) result.list) }
 {
     let list = list_file(rt, asked.suffixes, lists);
     let list_told = if asked.is_verbose { Some(list) } else { None };
@@ -104,7 +108,8 @@ fn run<'a, H: Files + AllocGlobal, R: Source, W: Sink>(
 
 // How the program ended, of the status or the failure.
 fn told<'a>(list: Option<&'a str>, status: Result<u8, Failure>) -> Ended<'a>
-    ensures { spec.IsToldBy status result.status (option_map (λ said. said.now) result.failure) }
+    ensures told { spec.IsToldBy status result.status (option_map (λ said. said.now) result.failure) }
+    ensures list { option_map (λ path. path.now) result.list ≡ option_map (λ path. path.now) list.entry }
 {
     match status {
         Ok(status) => Ended {
@@ -122,7 +127,10 @@ fn told<'a>(list: Option<&'a str>, status: Result<u8, Failure>) -> Ended<'a>
 
 // The file of the suffix list that counts: the one that is asked, else the first of these that is
 // there, else the last.
-fn list_file<'a, H: Files>(rt: &H, asked: Option<&'a str>, lists: &[&'a str]) -> &'a str {
+fn list_file<'a, H: Files>(rt: &H, asked: Option<&'a str>, lists: &[&'a str]) -> &'a str
+    ensures { spec.IsListFile (option_map (λ path. path.now) asked.entry)
+        (map (λ path. path.now) lists.now) result.now }
+{
     if let Some(asked) = asked {
         return asked;
     }

@@ -19,8 +19,9 @@ returns-in-Err-Words g c =
           Err (failure.Words kind),
           (refl, refl, refl),
           subst (λ k. IsToldBy (Err (failure.Words k)) told.status (option_map (λ said. said.now) told.failure))
-              c.in-Err-Words.kind-is c.told-in-Err-Words.ensures,
+              c.in-Err-Words.kind-is c.told-in-Err-Words.ensures.told,
         ),
+        c.told-in-Err-Words.ensures.list,
       );
     }
 
@@ -29,6 +30,7 @@ returns-in-Err-OutOfMemory g c = record {
   tells = (
     Err refusal.OutOfMemory,
     tt,
-    (Err failure.Memory, (refl, refl, refl), c.told-in-Err-OutOfMemory.ensures),
+    (Err failure.Memory, (refl, refl, refl), c.told-in-Err-OutOfMemory.ensures.told),
+    c.told-in-Err-OutOfMemory.ensures.list,
   );
 }
