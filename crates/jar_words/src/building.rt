@@ -1,7 +1,7 @@
 //! The usage of `cookie-jar`, for clap.
 ghost use Rattle.std.specs.Prelude.{◌≡◌, [], IfOk, false};
 ghost use Rattle.clap.specs.Walk.{rule_of};
-ghost use Rattle.clap.specs.Simple.{app_of};
+ghost use Rattle.clap.specs.Simple.{Shape, app_of, with_subcommand};
 ghost use Rattle.jar_words.specs.Usage as spec;
 
 mod commands;
@@ -34,16 +34,29 @@ const JAR_HELP: &str = "The file with the cookies; where there is none, the jar 
 pub(crate) fn cookie_jar<'a>(alloc: Global) -> Result<Command<'a>, AllocError>
     ensures { IfOk result (λ r. app_of r ≡ spec.cookie_jar_app) }
 {
-    let program = with_options(alloc)?
-        .subcommand(receive(alloc)?)?
-        .subcommand(header(alloc)?)?
-        .subcommand(list(alloc)?)?
-        .subcommand(explain(alloc)?)?
-        .subcommand(remove(alloc)?)?
-        .subcommand(clear(alloc))?
-        .subcommand(import(alloc)?)?
-        .subcommand(export(alloc)?)?;
-    Ok(program)
+    let program = with_options(alloc)?;
+    let program = with_command(program, receive(alloc))?;
+    let program = with_command(program, header(alloc))?;
+    let program = with_command(program, list(alloc))?;
+    let program = with_command(program, explain(alloc))?;
+    let program = with_command(program, remove(alloc))?;
+    let program = with_command(program, Ok(clear(alloc)))?;
+    let program = with_command(program, import(alloc))?;
+    with_command(program, export(alloc))
+}
+
+// The program with one more command, if that was made.
+fn with_command<'a>(
+    program: Command<'a>,
+    command: Result<Command<'a>, AllocError>,
+) -> Result<Command<'a>, AllocError>
+    ensures { IfOk result (λ r. (shape : Shape) → IfOk command.entry (spec.IsCommand shape)
+        → app_of r ≡ with_subcommand (app_of program.entry) shape) }
+{
+    match command {
+        Ok(command) => program.subcommand(command),
+        Err(error) => Err(error),
+    }
 }
 
 // The program with its options and JAR, which wants a command.

@@ -8,9 +8,9 @@ use Rattle.jar_words.proofs.building.parts.with_word.Goals as goal
 pub returns-clause-app : goal.returns-clause-app
 returns-clause-app c =
     let rule : rule_of c.help-word.result ≡ spec.needed c.args.word.now =
-        rw (c.help-word.ensures, c.required.ensures)
-        (ap (λ (rule : Rule). record rule { required = true }) c.new.ensures.rule) in
+    rw (c.help-word.ensures, c.required.ensures)
+    (ap (λ (rule : Rule). record rule { required = true }) c.new.ensures.rule) in
     let local : c.help-word.result.global ≡ false =
-        rw (c.help-word.ensures, c.required.ensures) c.new.ensures.optional.1 in
+    rw (c.help-word.ensures, c.required.ensures) c.new.ensures.optional.1 in
     IfOk-weaker c.arg.result _ _ (λ r added. added.shape local ∙ ap (with_rule (app_of c.args.command)) rule)
     c.arg.ensures
