@@ -1,5 +1,5 @@
 -- What was written, behind a flush.
-use Rattle.std.proofs.Common.{◌≡◌, ℕ, List, [], ◌++◌, ◌∙◌, Option, Some, None, sym}
+use Rattle.std.proofs.Common.{ℕ, List, [], ◌∙◌, Option, Some, None, sym}
 use Rattle.std.specs.Io.KnownBytes.{Appends, Keeps}
 use Rattle.std.proofs.lemmas.List.{append-nil}
 use Rattle.devices.specs.Device.{AppendsFront}

@@ -1,5 +1,5 @@
 -- What each command gives, of the jar that it begins with (this repository's own).
-use Rattle.std.specs.Prelude.{◌≡◌, ◌++◌, ℕ, ℤ, Bool, true, false, List, [], ◌∷◌, Option, Some, None, codes, is_some}
+use Rattle.std.specs.Prelude.{◌≡◌, ◌++◌, ℕ, Bool, true, false, List, [], ◌∷◌, Option, Some, None, codes, is_some}
 use Rattle.std.specs.Prelude.{if◌then◌else◌, length, option_map, string_bytes}
 use Rattle.std.specs.Fmt.{decimal}
 use Rattle.url.specs.Parts.{Parts}

@@ -1,6 +1,6 @@
 -- What the program tells (this repository's own).
-use Rattle.std.specs.Prelude.{◌≡◌, ◌⊎◌, ℕ, ℤ, Bool, List, [], Option, Some, None, Result, Ok, Err, string_bytes}
-use Rattle.std.specs.Prelude.{if◌then◌else◌, Contains, IfSome, is_some, option_map}
+use Rattle.std.specs.Prelude.{◌≡◌, ◌⊎◌, ℕ, ℤ, List, [], Option, Some, None, Result, Ok, Err, string_bytes}
+use Rattle.std.specs.Prelude.{Contains, IfSome, is_some, option_map}
 use Rattle.std.specs.Io.KnownBytes.{Appends}
 use Rattle.devices.specs.Device.{AppendsFront, Rose}
 use Rattle.jar_words.specs.declared.asked.Asked.{Asked}
