@@ -28,7 +28,10 @@ fn main(rt: HostRuntime) -> ExitCode {
 
 // Runs the program, and tells on standard error what is to be told there. Gives the exit status.
 fn start(rt: &HostRuntime) -> Result<u8, AllocError> {
-    let words = words(rt)?;
+    let Some(words) = words(rt)? else {
+        let _ = eprintln!(rt; "cookie-jar: a word that isn't UTF-8");
+        return Ok(2);
+    };
     let named = named_list(rt)?;
     let last = match &named {
         Some(path) => path.as_str(),
@@ -79,11 +82,11 @@ fn named_list(rt: &HostRuntime) -> Result<Option<String>, AllocError> {
     }
 }
 
-// The words behind the program's name. One that isn't UTF-8 is no text, so there are none then.
-fn words(rt: &HostRuntime) -> Result<Vec<String>, AllocError> {
+// The words behind the program's name, or nothing where one isn't UTF-8.
+fn words(rt: &HostRuntime) -> Result<Option<Vec<String>>, AllocError> {
     match env::args(rt) {
-        Ok(words) => words.skip(1).collect(rt.alloc()),
+        Ok(words) => Ok(Some(words.skip(1).collect(rt.alloc())?)),
         Err(error) if error.kind() == ErrorKind::OutOfMemory => Err(AllocError),
-        Err(_) => Ok(Vec::new(rt.alloc())),
+        Err(_) => Ok(None),
     }
 }
