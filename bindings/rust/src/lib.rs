@@ -139,9 +139,11 @@ pub enum Error {
     Year,
     /// A line has a line feed.
     LineFeed,
-    /// The name and the value are those of no cookie.
+    /// A key has under 64 bytes.
+    Key,
+    /// A cookie that is to be set has no name.
     Command,
-    /// The name of a cookie is empty.
+    /// The name that is to be read or removed, or that of a text, is empty.
     EmptyName,
     /// The expiry of a cookie is of a year below 100.
     Expiry,
@@ -170,6 +172,7 @@ impl Error {
             -6 => Error::Url,
             -7 => Error::Saved,
             -8 => Error::Year,
+            -10 => Error::Key,
             -11 => Error::Command,
             -12 => Error::EmptyName,
             -13 => Error::Expiry,
