@@ -5,7 +5,7 @@
    second since 1970-01-01T00:00:00 UTC. A call answers the length of its answer, which then stands at the beginning of
    `out`; where that is more than `out` has room for, nothing is written, and fonnalich_answer hands it out later, or,
    of a call without a handle, the same call with more room does. A number below 0 is a refusal of the table below, and
-   writes nothing.
+   writes nothing. So what stands in `out` is looked at only where `length >= 0 && length <= (ptrdiff_t)sizeof out`.
 
    What the caller owes, since nothing checks it:
    - a handle is begun once before its first use and freed once after its last, and never copied or moved between;
@@ -32,10 +32,12 @@ enum {
     FONNALICH_URL = -6,       /* the text is no URL */
     FONNALICH_SAVED = -7,     /* the text is no saved client */
     FONNALICH_YEAR = -8,      /* a cookie that is to be saved ends in a year below 0 */
-    FONNALICH_READ = -9,      /* the saved text wasn't read to its end; no call answers this */
+    FONNALICH_READ = -9,      /* the saved text wasn't read to its end: no run was seen to answer this, but the
+                                 contract lets fonnalich_load */
     FONNALICH_KEY = -10,      /* the key has under 64 bytes */
-    FONNALICH_COMMAND = -11,  /* a line is no command */
-    FONNALICH_EMPTY_NAME = -12, /* the name of a cookie is empty */
+    FONNALICH_COMMAND = -11,  /* a line is no command: the letter or the digit is none, or the text behind them is no
+                                 cookie that could be set, as without a name, or no UTF-8 */
+    FONNALICH_EMPTY_NAME = -12, /* the name to be read or removed is empty, or that of fonnalich_parse's text */
     FONNALICH_EXPIRY = -13,   /* the expiry of a cookie is of a year below 100 */
     FONNALICH_TOO_LONG = -14, /* the value or the name of a cookie is too long to be sealed */
     FONNALICH_NONCES = -15,   /* a cookie is to be sealed, and fewer than twelve bytes of nonces are left */
@@ -171,7 +173,8 @@ ptrdiff_t fonnalich_print(bool encode, const fonnalich_attributes *attributes, c
                           const char *domain, size_t domain_length, char *out, size_t out_length);
 
 /* Takes the first item out of an answer that lies from *at to `end`: its text, and its length, or -1 where the text
-   isn't there. Answers 0 where no item is left. */
+   isn't there, as of a cookie that the header hasn't, or that isn't by this key: *text has no byte then. Answers 0
+   where no item is left. */
 static inline int fonnalich_next(const char **at, const char *end, const char **text, ptrdiff_t *length) {
     uint64_t bytes = 0;
     if (end - *at < 8)
@@ -218,6 +221,7 @@ static inline ptrdiff_t fonnalich_rules(fonnalich *at, int64_t rules) {
 }
 
 /* Takes the Set-Cookie lines of an answer from this URL, joined by '\n', and writes a byte for each: what became of it.
+   An empty text has no line: so one empty line alone, which is no cookie, is told 0 outcomes.
    FONNALICH_STOPPED - n says that memory was refused at line n, counted from 1: those before it were taken, and no
    later one; at 0 none was. */
 static inline ptrdiff_t fonnalich_receive(fonnalich *at, int64_t second, const char *url, size_t url_length,
@@ -242,8 +246,9 @@ static inline ptrdiff_t fonnalich_restart(fonnalich *at, int64_t second) {
     return fonnalich_act(at, FONNALICH_DO_RESTART, second, "", 0, "", 0, &none, 0);
 }
 
-/* Hands out the last answer that had no room, without doing the work again; 0 where there is none. A call with an
-   answer of its own drops it. */
+/* Hands out the last answer that had no room, without doing the work again; 0 where there is none. It is kept until it
+   is handed out with room for all of it, or another call by the handle isn't refused: fonnalich_list, _load, _rules and
+   _restart drop it too. */
 static inline ptrdiff_t fonnalich_answer(fonnalich *at, char *out, size_t out_length) {
     return fonnalich_act(at, FONNALICH_DO_ANSWER, 0, "", 0, "", 0, out, out_length);
 }

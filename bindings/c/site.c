@@ -6,13 +6,15 @@
 
 static char key[FONNALICH_KEY_LENGTH];
 
-/* Makes an exchange at this second, and prints its items. */
+/* Makes an exchange at this second: the length of what stands in `out` then, or -1. */
 static ptrdiff_t serve(const char *header, const char *commands, char *out, size_t room) {
     char nonces[4 * FONNALICH_NONCE_LENGTH];
     if (getrandom(nonces, sizeof nonces, 0) != sizeof nonces)
         return -1;
-    return fonnalich_exchange(key, sizeof key, header, strlen(header), 1700000000, commands, strlen(commands), nonces,
-                              sizeof nonces, out, room);
+    ptrdiff_t length = fonnalich_exchange(key, sizeof key, header, strlen(header), 1700000000, commands,
+                                          strlen(commands), nonces, sizeof nonces, out, room);
+    /* Below 0 it is a refusal; above the room nothing was written, and the same call with more room writes it. */
+    return length > (ptrdiff_t)room ? -1 : length;
 }
 
 int main(void) {
@@ -25,12 +27,20 @@ int main(void) {
     if (getrandom(key, sizeof key, 0) != sizeof key)
         return 1;
     ptrdiff_t all = serve("", sets, out, sizeof out);
+    if (all < 0)
+        return 1;
     /* A client sends of each line what stands before its first semicolon. */
-    for (const char *at = out; all > 0 && fonnalich_next(&at, out + all, &text, &length);)
+    for (const char *at = out; fonnalich_next(&at, out + all, &text, &length);)
         sprintf(header + strlen(header), "%s%.*s", *header ? "; " : "",
                 (int)((const char *)memchr(text, ';', length) - text), text);
     all = serve(header, gets, out, sizeof out);
-    for (const char *at = out; all > 0 && fonnalich_next(&at, out + all, &text, &length);)
-        printf("%.*s\n", length < 0 ? 1 : (int)length, length < 0 ? "-" : text);
-    return all < 0;
+    if (all < 0)
+        return 1;
+    /* The length -1 says that there is no such cookie, or none that this site made. */
+    for (const char *at = out; fonnalich_next(&at, out + all, &text, &length);)
+        if (length < 0)
+            printf("-\n");
+        else
+            printf("%.*s\n", (int)length, text);
+    return 0;
 }

@@ -73,6 +73,8 @@ static void tells_refusals(void) {
     ptrdiff_t count = fonnalich_receive(&at, NOW, T(URL), T(lines), out, sizeof out);
     ask(gives(count, sizeof ends) && memcmp(out, ends, sizeof ends) == 0, "an outcome for each line");
     ask(is(out, fonnalich_header(&at, NOW, T(URL), out, sizeof out), "g=7"), "one line was kept");
+    ask(gives(fonnalich_receive(&at, NOW, T(URL), T(""), out, sizeof out), 0), "one empty line is none");
+    ask(gives(fonnalich_receive(&at, NOW, T(URL), T("\n"), out, sizeof out), 2), "two are two");
     fonnalich_free(&at);
 }
 
@@ -169,6 +171,21 @@ static void keeps_an_answer(void) {
     ask(gives(fonnalich_answer(&at, out, 3), strlen(HEADER)), "it is kept");
     ask(gives(fonnalich_header(&at, NOW, T("no url"), out, 3), FONNALICH_URL), "a refusal");
     ask(is(out, fonnalich_answer(&at, out, sizeof out), HEADER), "it is still kept");
+    /* whatever isn't refused drops it, without an answer of its own too */
+    for (int i = 0; i < 5; i++) {
+        fonnalich_list(&at, T(LIST));
+        fonnalich_receive(&at, NOW, T(URL), T("a=1; Max-Age=60"), out, sizeof out);
+        ask(gives(fonnalich_header(&at, NOW, T(URL), out, 2), 3), "no room");
+        ptrdiff_t number = i == 0   ? fonnalich_rules(&at, FONNALICH_NO_RULES)
+                           : i == 1 ? fonnalich_restart(&at, NOW)
+                           : i == 2 ? fonnalich_list(&at, T(LIST))
+                           : i == 3 ? fonnalich_load(&at, NOW, T("[]"), T(LIST))
+                                    : fonnalich_header(&at, NOW, T("http://example.org/"), out, sizeof out);
+        ask(gives(number, 0) && gives(fonnalich_answer(&at, out, sizeof out), 0), "it is dropped");
+        ask(gives(fonnalich_receive(&at, NOW, T(URL), T("a=1\nb=2"), out, 1), 2), "no room again");
+        ask(gives(fonnalich_load(&at, NOW, T("[("), T(LIST)), FONNALICH_SAVED), "a refusal");
+        ask(gives(fonnalich_answer(&at, out, sizeof out), 2), "keeps it");
+    }
     fonnalich_free(&at);
 }
 
