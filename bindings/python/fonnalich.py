@@ -14,7 +14,7 @@ import threading
 import time
 import urllib.parse
 import urllib.request
-from typing import Iterable, List, Optional, Union
+from typing import Iterable, List, NoReturn, Optional, Union
 
 __all__ = ["Adapter", "Client", "Cookie", "End", "Jar", "Refused", "Rules", "Session", "Stopped", "Way", "suffix"]
 
@@ -282,6 +282,10 @@ class Session:
         """The `Set-Cookie` line of each cookie that was set or removed, in no promised order."""
         return self._items(self._commands, self._nonces)
 
+    def __reduce__(self) -> NoReturn:
+        """Raises, since a nonce is used once, and a key is kept from files."""
+        raise TypeError("a Session is neither copied nor pickled: open another on the header")
+
     def _add(self, command: bytes, nonce: bytes) -> None:
         # What a command is refused for is in itself, and so is asked of it alone.
         self._exchange(b"", [command], nonce)
@@ -369,6 +373,10 @@ class Client:
             if self._place is not None:
                 _LIB.fonnalich_end(self._place)
                 self._place = None
+
+    def __reduce__(self) -> NoReturn:
+        """Raises, since two would give the same memory back."""
+        raise TypeError("a Client is neither copied nor pickled: save it, and begin another with the saved text")
 
     def __enter__(self) -> "Client":
         return self
