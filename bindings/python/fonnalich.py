@@ -127,6 +127,16 @@ def _bytes(text: Union[str, bytes]) -> bytes:
     return text if isinstance(text, bytes) else text.encode("utf-8", "surrogateescape")
 
 
+def _received(line: str) -> bytes:
+    """The bytes of a header that `http.client` read, which makes a character of each. A folded line becomes one."""
+    return b" ".join(line.encode("latin-1").splitlines())
+
+
+def _sendable(header: str) -> str:
+    """A header as `http.client` sends it, which makes a byte of each character."""
+    return _bytes(header).decode("latin-1")
+
+
 def _second(now: Optional[int]) -> int:
     return int(time.time()) if now is None else now
 
@@ -245,6 +255,8 @@ def _escaped(text: str) -> bytes:
 class Session:
     """The cookies of one request of a site: those of its header, and what was set and removed since.
 
+    A header that has a character for each byte, as those of `http.server` and WSGI, goes in as
+    `header.encode("latin-1")`.
     `key` has 64 secret bytes, and is the same for all requests. `now` is the second of the request, since 1970; none is
     now. A set cookie gets `Secure` and `Path=/`. Nothing is kept behind a session, and none has to be closed.
     """
@@ -302,6 +314,8 @@ class Session:
 class Client:
     """A client that keeps what it is sent, and gives each request what it holds for it.
 
+    A line as `str` goes in as UTF-8, and a header comes out so. What has a character for each byte, as a header from
+    `http.client`, goes in as `line.encode("latin-1")`, and out as `header.encode().decode("latin-1")`: `Jar` does so.
     `suffixes` is the text of a public suffix list, as publicsuffix.org publishes it. Where `saved` is given, the client
     begins with the cookies of that text that aren't expired now. A moment is a whole second since 1970; none is now.
     Lines come behind `rules`, which judge none of the cookies that are there.
@@ -397,12 +411,15 @@ class Jar(http.cookiejar.CookieJar):
         self.client = client
 
     def extract_cookies(self, response: object, request: urllib.request.Request) -> None:
-        self.client.receive(request.get_full_url(), response.info().get_all("Set-Cookie", []))
+        """Has the client take the `Set-Cookie` lines of an answer, byte for byte."""
+        lines = response.info().get_all("Set-Cookie", [])
+        self.client.receive(request.get_full_url(), [_received(line) for line in lines])
 
     def add_cookie_header(self, request: urllib.request.Request) -> None:
+        """Gives a request the client's header, byte for byte, where it has no `Cookie` header of its own."""
         header = self.client.header(request.get_full_url())
         if header and not request.has_header("Cookie"):
-            request.add_unredirected_header("Cookie", header)
+            request.add_unredirected_header("Cookie", _sendable(header))
 
 
 def Adapter(client: Client, **how: object) -> object:
@@ -416,7 +433,7 @@ def Adapter(client: Client, **how: object) -> object:
         def add_headers(self, request, **_):
             header = client.header(request.url)
             if header:
-                request.headers["Cookie"] = header
+                request.headers["Cookie"] = _sendable(header)
             else:
                 request.headers.pop("Cookie", None)
 

@@ -21,7 +21,8 @@ class Site(http.server.BaseHTTPRequestHandler):
     def do_GET(self) -> None:
         url = urllib.parse.urlsplit(self.path)
         asked = urllib.parse.parse_qs(url.query)
-        session = Session(self.headers.get("Cookie", ""), KEY)
+        # A header has a character for each byte.
+        session = Session(self.headers.get("Cookie", "").encode("latin-1"), KEY)
         if url.path == "/login" and "user" in asked:
             session.set(Way.SIGNED, "user", asked["user"][0], max_age=3600, http_only=True, same_site="Lax")
             self.redirect(session)
