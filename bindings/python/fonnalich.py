@@ -6,9 +6,9 @@ in out/.
 """
 import ctypes
 import dataclasses
-import email.utils
 import enum
 import http.cookiejar
+import math
 import os
 import threading
 import time
@@ -57,6 +57,8 @@ _ANSWER, _LIST, _LOAD, _RECEIVE, _HEADER, _SAVE, _RESTART, _RULES = range(8)
 _STOPPED = -100
 _ROOM = 4096
 _KEY_LENGTH, _NONCE_LENGTH = 64, 12
+_EXPIRY = -13
+_YEAR_100 = -59011459200
 
 
 class End(enum.IntEnum):
@@ -185,7 +187,8 @@ _SITES = [None, "Strict", "Lax", "None"]
 class Cookie:
     """A cookie: a name, a value and attributes. `str` gives its `Set-Cookie` line, in which nothing is escaped.
 
-    `max_age` is in seconds, `expires` a second since 1970, `same_site` one of `Strict`, `Lax` and `None`.
+    `max_age` is in seconds, `expires` a second since 1970, `same_site` one of `Strict`, `Lax` and `None`. A year below
+    100 is printed as it stands, and read as one from 1970 to 2069.
     """
 
     name: str
@@ -252,6 +255,14 @@ def _escaped(text: str) -> bytes:
     return urllib.parse.quote_from_bytes(_bytes(text), safe="").encode()
 
 
+def _date(second: int) -> bytes:
+    """The date of an expiry, whose year has three digits or four."""
+    printed = str(Cookie("a", "", expires=second)).encode()
+    if second < _YEAR_100:
+        raise Refused(_EXPIRY)
+    return printed.partition(b"=; Expires=")[2]
+
+
 class Session:
     """The cookies of one request of a site: those of its header, and what was set and removed since.
 
@@ -275,7 +286,12 @@ class Session:
     def set(self, way: Way, name: str, value: str, max_age: Optional[int] = None, expires: Optional[int] = None,
             http_only: bool = False, same_site: Optional[str] = None, partitioned: bool = False) -> None:
         """Sets a cookie in a way. `max_age` is in seconds, `expires` a second since 1970, `same_site` one of `Strict`,
-        `Lax` and `None`. By `Way.SEALED` it takes a nonce of `os.urandom`."""
+        `Lax` and `None`. By `Way.SEALED` it takes a nonce of `os.urandom`.
+
+        An expiry before the year 100 is refused as `Expiry`, since its year would be read as one from 1970 to 2069, and
+        one past 9999 as `Moment`. The years 100 to 1600, by the Gregorian calendar carried back, are written as they
+        stand, and a `Client` takes such a cookie as expired. But by RFC 6265, section 5.1.1, step 5, a client passes
+        over such an expiry, and so keeps the cookie until its session ends. `remove` ends a cookie in either."""
         if same_site not in (None, "Strict", "Lax", "None"):
             raise ValueError(f"same_site is {same_site!r}")
         line = b"S" + way.value + _escaped(name) + b"=" + _escaped(value)
@@ -283,7 +299,7 @@ class Session:
         line += f"; SameSite={same_site}".encode() if same_site else b""
         line += b"; Partitioned" if partitioned else b""
         line += b"; Max-Age=%d" % max_age if max_age is not None else b""
-        line += b"; Expires=" + email.utils.formatdate(expires, usegmt=True).encode() if expires is not None else b""
+        line += b"; Expires=" + _date(math.floor(expires)) if expires is not None else b""
         self._add(line, os.urandom(_NONCE_LENGTH) if way is Way.SEALED else b"")
 
     def remove(self, way: Way, name: str) -> None:
