@@ -139,8 +139,15 @@ def _sendable(header: str) -> str:
     return _bytes(header).decode("latin-1")
 
 
+def _counted(number: int) -> int:
+    """The number, where 64 bits hold it: ctypes would cut it."""
+    if not -1 << 63 <= number < 1 << 63:
+        raise OverflowError(f"{number} has over 64 bits")
+    return number
+
+
 def _second(now: Optional[int]) -> int:
-    return int(time.time()) if now is None else now
+    return int(time.time()) if now is None else _counted(now)
 
 
 def _raise(number: int) -> None:
@@ -230,13 +237,10 @@ class Cookie:
     def _printed(self, encode: bool) -> str:
         if self.same_site not in _SITES:
             raise ValueError(f"same_site is {self.same_site!r}")
-        for number in (self.max_age or 0, self.expires or 0):
-            if not -1 << 63 <= number < 1 << 63:
-                raise OverflowError(f"{number} has over 64 bits")
         attributes = _Attributes(
-            self.max_age or 0, self.expires or 0, self.max_age is not None, self.expires is not None,
-            self.path is not None, self.domain is not None, self.http_only, self.secure, self.partitioned,
-            _SITES.index(self.same_site))
+            _counted(self.max_age or 0), _counted(self.expires or 0), self.max_age is not None,
+            self.expires is not None, self.path is not None, self.domain is not None, self.http_only, self.secure,
+            self.partitioned, _SITES.index(self.same_site))
         texts = [_bytes(text) for text in (self.name, self.value, self.path or "", self.domain or "")]
         return _answered(_LIB.fonnalich_print, encode, attributes, *texts).decode()
 
@@ -358,7 +362,7 @@ class Client:
 
     @rules.setter
     def rules(self, rules: int) -> None:
-        self._call(_RULES, rules, b"", b"")
+        self._call(_RULES, _counted(rules), b"", b"")
         self._rules = Rules(rules)
 
     def _call(self, word: int, number: int, subject: bytes, text: bytes) -> bytes:
