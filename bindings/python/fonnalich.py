@@ -14,7 +14,11 @@ import threading
 import time
 import urllib.parse
 import urllib.request
-from typing import Iterable, List, NoReturn, Optional, Union
+from typing import TYPE_CHECKING, Any, Iterable, List, NoReturn, Optional, Union
+
+if TYPE_CHECKING:
+    from requests import PreparedRequest
+    from requests.adapters import HTTPAdapter
 
 __all__ = ["Adapter", "Client", "Cookie", "End", "Jar", "Refused", "Rules", "Session", "Stopped", "Way", "suffix"]
 
@@ -134,9 +138,11 @@ def _received(line: str) -> bytes:
     return b" ".join(line.encode("latin-1").splitlines())
 
 
-def _sendable(header: str) -> str:
-    """A header as `http.client` sends it, which makes a byte of each character."""
-    return _bytes(header).decode("latin-1")
+class _Sendable(str):
+    """A client's header as `http.client` sends it, which makes a byte of each character."""
+
+    def __new__(cls, header: str) -> "_Sendable":
+        return super().__new__(cls, _bytes(header).decode("latin-1"))
 
 
 def _counted(number: int) -> int:
@@ -424,13 +430,17 @@ class Client:
 
 
 class Jar(http.cookiejar.CookieJar):
-    """A jar for `urllib.request.HTTPCookieProcessor` over a client. Its own table stays empty."""
+    """A jar for `urllib.request.HTTPCookieProcessor` over a client. Its own table stays empty, so it lists no cookie.
+
+    `clear_session_cookies` is done to the client. What isn't there raises `NotImplementedError`, which says what to do:
+    `get`, `set`, `update`, `set_cookie`, `clear`, `set_policy` and what a jar of `requests` has of a dict.
+    """
 
     def __init__(self, client: Client):
         super().__init__()
         self.client = client
 
-    def extract_cookies(self, response: object, request: urllib.request.Request) -> None:
+    def extract_cookies(self, response: Any, request: urllib.request.Request) -> None:
         """Has the client take the `Set-Cookie` lines of an answer, byte for byte."""
         lines = response.info().get_all("Set-Cookie", [])
         self.client.receive(request.get_full_url(), [_received(line) for line in lines])
@@ -439,21 +449,64 @@ class Jar(http.cookiejar.CookieJar):
         """Gives a request the client's header, byte for byte, where it has no `Cookie` header of its own."""
         header = self.client.header(request.get_full_url())
         if header and not request.has_header("Cookie"):
-            request.add_unredirected_header("Cookie", _sendable(header))
+            request.add_unredirected_header("Cookie", _Sendable(header))
+
+    def clear_session_cookies(self) -> None:
+        """Ends the client's session cookies."""
+        self.client.restart()
+
+    def copy(self) -> "Jar":
+        """Another jar over the same client."""
+        return Jar(self.client)
+
+    def update(self, other: Iterable[object]) -> None:
+        """Takes nothing of an empty jar or dict, and raises by any other."""
+        for cookie in other:
+            self.set_cookie(cookie)
+
+    def set_cookie(self, *_: object, **__: object) -> NoReturn:
+        """Raises, since a client takes lines alone, each from a URL."""
+        raise NotImplementedError("a Jar sets no cookie: hand its line to client.receive(url, [line])")
+
+    def get(self, *_: object, **__: object) -> NoReturn:
+        """Raises, since a client tells the cookies of a URL alone."""
+        raise NotImplementedError("a Jar reads no cookie: client.header(url) has those of a URL")
+
+    def clear(self, *_: object, **__: object) -> NoReturn:
+        """Raises, since a client forgets no cookie unless a line ends it."""
+        raise NotImplementedError("a Jar clears no cookie: begin a new Client, or end one cookie by "
+                                  "client.receive(url, ['name=; Max-Age=0'])")
+
+    def set_policy(self, policy: object) -> NoReturn:
+        """Raises, since the client judges by its rules."""
+        raise NotImplementedError("a Jar has no policy: set client.rules")
+
+    set = set_cookie_if_ok = __setitem__ = set_cookie
+    get_dict = items = keys = values = __contains__ = __getitem__ = get
+    __delitem__ = clear
 
 
-def Adapter(client: Client, **how: object) -> object:
+def Adapter(client: Client, **how: Any) -> "HTTPAdapter":
     """An adapter for `requests`: mount it for `http://` and `https://` of a session whose `cookies` are `Jar(client)`.
 
-    It puts the header of each request, at a redirect anew.
+    It puts the header of each request, at a redirect anew. A `Cookie` header of the caller's own goes out instead, up
+    to a redirect. `cookies=` of a request is passed over, and so is an own header beside it. What a request gets goes
+    by its URL, whatever its `Host` header says, while `requests` has the lines of the answer taken as from that host.
     """
     from requests.adapters import HTTPAdapter
 
     class CookieAdapter(HTTPAdapter):
-        def add_headers(self, request, **_):
+        """Puts the client's header."""
+
+        def add_headers(self, request: "PreparedRequest", **_: Any) -> None:
+            """Puts the client's header, but in the place of the caller's own."""
+            given = request.headers.get("Cookie")
+            # `requests` makes a header itself of the cookies of this table alone.
+            if given is not None and not isinstance(given, _Sendable) and not request._cookies:
+                return
             header = client.header(request.url)
             if header:
-                request.headers["Cookie"] = _sendable(header)
+                request.headers["Cookie"] = _Sendable(header)
             else:
                 request.headers.pop("Cookie", None)
 
