@@ -14,7 +14,7 @@ import threading
 import time
 import urllib.parse
 import urllib.request
-from typing import TYPE_CHECKING, Any, Iterable, List, NoReturn, Optional, Union
+from typing import TYPE_CHECKING, Any, Callable, Iterable, List, NoReturn, Optional, Union
 
 if TYPE_CHECKING:
     from requests import PreparedRequest
@@ -129,8 +129,11 @@ class Stopped(MemoryError):
         self.line = line
 
 
-def _bytes(text: Union[str, bytes]) -> bytes:
-    return text if isinstance(text, bytes) else text.encode("utf-8", "surrogateescape")
+def _bytes(text: Union[str, bytes, bytearray, memoryview]) -> bytes:
+    if isinstance(text, str):
+        return text.encode("utf-8", "surrogateescape")
+    # By way of a view, since `bytes` makes something of a number too.
+    return text if isinstance(text, bytes) else bytes(memoryview(text))
 
 
 def _received(line: str) -> bytes:
@@ -166,7 +169,7 @@ def _raise(number: int) -> None:
         raise Refused(number)
 
 
-def _answered(call, *words: Union[bytes, int, _Attributes]) -> bytes:
+def _answered(call: Callable[..., int], *words: Union[bytes, int, _Attributes]) -> bytes:
     """The answer of a call without a handle; where it has no room, the same call is made again with more."""
     given = [it for word in words for it in ([word, len(word)] if isinstance(word, bytes) else [word])]
     length = _ROOM
@@ -282,10 +285,12 @@ class Session:
     now. A set cookie gets `Secure` and `Path=/`. Nothing is kept behind a session, and none has to be closed.
     """
 
-    def __init__(self, header: Union[str, bytes], key: bytes, now: Optional[int] = None):
-        if len(key) != _KEY_LENGTH:
-            raise ValueError(f"a key of {len(key)} bytes")
-        self._header, self._key, self._now = _bytes(header), key, _second(now)
+    def __init__(self, header: Union[str, bytes], key: Union[bytes, bytearray, memoryview], now: Optional[int] = None):
+        if isinstance(key, str):
+            raise TypeError("a key is of bytes")
+        self._header, self._key, self._now = _bytes(header), _bytes(key), _second(now)
+        if len(self._key) != _KEY_LENGTH:
+            raise ValueError(f"a key of {len(self._key)} bytes")
         self._commands: List[bytes] = []
         self._nonces = b""
 
@@ -330,7 +335,7 @@ class Session:
         self._commands.append(command)
         self._nonces += nonce
 
-    def _items(self, commands: List[bytes], nonces: bytes) -> list:
+    def _items(self, commands: List[bytes], nonces: bytes) -> List[Optional[str]]:
         return _items(self._exchange(self._header, commands, nonces))
 
     def _exchange(self, header: bytes, commands: List[bytes], nonces: bytes) -> bytes:
@@ -342,9 +347,9 @@ class Client:
 
     A line as `str` goes in as UTF-8, and a header comes out so. What has a character for each byte, as a header from
     `http.client`, goes in as `line.encode("latin-1")`, and out as `header.encode().decode("latin-1")`: `Jar` does so.
-    `suffixes` is the text of a public suffix list, as publicsuffix.org publishes it. Where `saved` is given, the client
-    begins with the cookies of that text that aren't expired now. A moment is a whole second since 1970; none is now.
-    Lines come behind `rules`, which judge none of the cookies that are there.
+    `suffixes` is the text of a public suffix list, as publicsuffix.org publishes it, in `str` or bytes. Where `saved`
+    is given, the client begins with the cookies of that text that aren't expired now. A moment is a whole second since
+    1970; none is now. Lines come behind `rules`, which judge none of the cookies that are there.
     Calls of one client wait for one another, so threads may share it.
     """
 
@@ -358,7 +363,7 @@ class Client:
         if saved is None:
             self._call(_LIST, 0, b"", _bytes(suffixes))
         else:
-            self._call(_LOAD, _second(now), saved, _bytes(suffixes))
+            self._call(_LOAD, _second(now), _bytes(saved), _bytes(suffixes))
         self.rules = rules
 
     @property
