@@ -270,10 +270,9 @@ def _escaped(text: str) -> bytes:
 
 def _date(second: int) -> bytes:
     """The date of an expiry, whose year has three digits or four."""
-    printed = str(Cookie("a", "", expires=second)).encode()
-    if second < _YEAR_100:
+    if _counted(second) < _YEAR_100:
         raise Refused(_EXPIRY)
-    return printed.partition(b"=; Expires=")[2]
+    return str(Cookie("a", "", expires=second)).partition("; Expires=")[2].encode()
 
 
 class Session:
