@@ -54,8 +54,10 @@ impl Place {
     pub fn replace<H: Files + AllocGlobal>(&self, rt: &H, text: &[u8]) -> Result<(), Failure>
         ensures { IfErr result (λ failure. (failure ≡ Failure.StoreFile) ⊎ (failure ≡ Failure.Memory)) }
     {
-        let Ok(path) = &self.path else {
-            return Err(Failure::StoreFile);
+        let path = match &self.path {
+            Ok(path) => path,
+            Err(Unread::Memory) => return Err(Failure::Memory),
+            Err(Unread::Missing | Unread::Failed) => return Err(Failure::StoreFile),
         };
         match put(rt, path.as_path(), self.stem, text) {
             Ok(()) => Ok(()),
