@@ -28,7 +28,7 @@ pub enum Refusal {
     Saved,
     /// A cookie that is to be saved ends in a year below 0.
     Year,
-    /// The saved text wasn't read to its end. Its bytes lie in memory, so no call answers this.
+    /// The saved text wasn't read to its end. Its bytes lie in memory, and no run was seen to answer this.
     Read,
     /// The key has under 64 bytes.
     Key,
