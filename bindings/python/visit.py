@@ -1,0 +1,10 @@
+"""README's visit: a site seals a cookie, a client keeps it, and the site reads it."""
+# README: README.md
+import os
+from fonnalich import Client, Session, Way
+key, url, client = os.urandom(64), "https://shop.com/", Client("com\n")
+session = Session("", key)
+session.set(Way.SEALED, "cart", "3", max_age=60)
+client.receive(url, session.close())
+print(Session(client.header(url), key).get(Way.SEALED, "cart"))
+# README: end
