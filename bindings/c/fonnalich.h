@@ -9,7 +9,10 @@
 
    What the caller owes, since nothing checks it:
    - a handle is begun once before its first use and freed once after its last, and never copied or moved between;
-   - one call at a time uses a handle, always on the thread that began it;
+   - it lies at an address that is a multiple of 8, as every `fonnalich` of C does. A byte buffer of ctypes, Go or Zig
+     may miss it: the library that checks accesses of memory ends the process then (SIGILL);
+   - one call at a time uses a handle, always on the thread that began it, and on one side of a `fork`: save, and load
+     in the child. Calls without a handle keep nothing, and may run on several threads at once;
    - each length is that of its text, and `out` overlaps no other text and no attributes. */
 #ifndef FONNALICH_H
 #define FONNALICH_H
@@ -143,7 +146,7 @@ extern "C" {
 
    Each set by FONNALICH_SEALED takes the next twelve bytes of `nonces`, which have to be random and never used before
    with this key. The call keeps nothing. Where the answer has no room, make the call again with more, and with the same
-   nonces: the answer is as long, since it is the same. */
+   nonces: the answer is as long then, since all but the order of its lines is the same. */
 ptrdiff_t fonnalich_exchange(const char *key, size_t key_length, const char *header, size_t header_length,
                              int64_t second, const char *commands, size_t commands_length, const char *nonces,
                              size_t nonces_length, char *out, size_t out_length);
