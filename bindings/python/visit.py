@@ -2,9 +2,9 @@
 # README: README.md
 import os
 from fonnalich import Client, Session, Way
-key, url, client = os.urandom(64), "https://shop.com/", Client("com\n")
+key, url, client = os.urandom(64), "https://shop.com/", Client(suffixes="com\n")
 session = Session("", key)
 session.set(Way.SEALED, "cart", "3", max_age=60)
 client.receive(url, session.close())
-print(Session(client.header(url), key).get(Way.SEALED, "cart"))
+print(Session(client.header(url), key).get(Way.SEALED, "cart"))  # 3
 # README: end
