@@ -2,6 +2,7 @@
 import hashlib
 import os
 import shutil
+import signal
 import subprocess
 import sys
 import tempfile
@@ -10,7 +11,8 @@ import time
 sys.dont_write_bytecode = True
 sys.path.insert(0, os.path.dirname(os.path.dirname(os.path.abspath(__file__))))
 
-from gate.kit import load_rt
+from gate import compiler
+from gate.kit import CC, demand, load_rt
 from gate.progress import Progress
 
 TOP = os.path.dirname(os.path.dirname(os.path.dirname(os.path.abspath(__file__))))
@@ -20,6 +22,13 @@ COMPILED = f"{TOP}/out/compiled"
 SUFFIXES = f"{TOP}/examples/suffixes.dat"
 SEED = "00" * 32
 BEGIN = "2024-01-01T00:00:00Z"
+# Seconds of a first compile, on four calm cores at 2.5 GHz.
+SECONDS = {"cookie-run": 75, "cookie-jar": 105}
+# Optimises in little time: some passes, which inline next to nothing, and then the fastest making of code.
+CLANG = """#!/bin/sh
+"{clang}" "$@" -O1 -emit-llvm -mllvm -inline-threshold=0 && mv module.o module.bc &&
+    exec "{clang}" "$@" -Xclang -disable-llvm-passes
+"""
 
 
 def crate_of(command):
@@ -36,13 +45,6 @@ def built(command, top=TOP):
     """Where the proved build of a program stands."""
     name = crate_of(command)
     return f"{top}/crates/{name}/out/{name}"
-
-
-def demand_rt(command):
-    """Ends where the toolchain is not there."""
-    if subprocess.run(["sh", "-c", "command -v rt"], stdout=subprocess.DEVNULL).returncode:
-        print(f"{command}: the Rattle toolchain's command 'rt' is not on the PATH", file=sys.stderr)
-        sys.exit(127)
 
 
 def crates(command):
@@ -98,7 +100,6 @@ def ready(command):
     """The program that is proved and built, else the one that is compiled of these sources, else none."""
     if is_built(command):
         return built(command)
-    demand_rt(command)
     path = compiled(command)
     return path if os.access(path, os.X_OK) else None
 
@@ -122,7 +123,7 @@ def run_words(command, store):
 
 def build(command):
     """Proves and builds the program, one crate after the other."""
-    demand_rt(command)
+    demand("rt", CC[0])
     progress, log, names, began = Progress(command), log_of("build"), crates(command), time.time()
     with open(log, "wb") as to, tempfile.TemporaryDirectory() as room:
         for number, name in enumerate(names, 1):
@@ -142,26 +143,66 @@ def build(command):
 
 def compile_sources(command, is_shown=True):
     """Compiles the program from its sources, with checks of each index, sum and access of memory and with no proof,
-    and keeps it. Returns its path."""
-    demand_rt(command)
-    path, log, progress = compiled(command), log_of("compile"), Progress(command, is_shown)
-    progress.show("compiling, with no proof")
-    shutil.rmtree(f"{COMPILED}/{command}", ignore_errors=True)
-    os.makedirs(os.path.dirname(path))
-    # (a program is linked to its place, so it is made on the same file system)
-    with open(log, "wb") as to, tempfile.TemporaryDirectory(prefix="try-", dir=COMPILED) as room:
-        words = [os.environ.get("CC", "cc"), "-O2", "-fPIC", "-c", f'-DKEPT="{path}.program"', "-o", f"{room}/keep.o"]
-        how = {"stdin": subprocess.DEVNULL, "stdout": to, "stderr": to}
-        status = subprocess.run([*words, f"{os.path.dirname(__file__)}/keep.c"], **how).returncode
-        if not status:
-            env = {**os.environ, "TMPDIR": room}
-            status = subprocess.run([sys.executable, __file__, command, f"{room}/keep.o"], env=env, **how).returncode
-    progress.end()
-    if status or not os.path.isfile(f"{path}.program"):
+    and keeps it in the place of those of other sources. Returns its path."""
+    demand("rt", CC[0])
+    path, log = compiled(command), log_of("compile")
+    folder = f"{COMPILED}/{command}"
+    with compiler.alone(f"{folder}/lock", lambda: say(command, "waiting for another compile")):
+        if os.access(path, os.X_OK):
+            return path
+        say(command, f"compiling the program, with no proof: some {SECONDS[command]} seconds, once")
+        progress = Progress(command, is_shown)
+        progress.show("compiling")
+        try:
+            with open(log, "wb") as to:
+                is_done = put_compiled(command, f"{folder}/new", path, to)
+        finally:
+            progress.end()
+            shutil.rmtree(f"{folder}/new", ignore_errors=True)
+    if not is_done:
         print(f"{command}: the program was not compiled; {os.path.relpath(log)} tells why", file=sys.stderr)
         sys.exit(126)
-    put_words(path)
     return path
+
+
+def put_compiled(command, room, path, log):
+    """Compiles the program in a folder, and puts it at its path at once. Returns whether that was done."""
+    # (what one that was killed left)
+    shutil.rmtree(room, ignore_errors=True)
+    made = f"{room}/made/{command}"
+    os.makedirs(os.path.dirname(made))
+    # (a program is linked to its place, so it is made on the same file system)
+    keeper = [*CC, "-O2", "-fPIC", "-c", f'-DKEPT="{made}.program"', "-o", f"{room}/keep.o"]
+    how = {"stdin": subprocess.DEVNULL, "stdout": log, "stderr": log}
+    if subprocess.run([*keeper, f"{os.path.dirname(__file__)}/keep.c"], **how).returncode:
+        return False
+    rtlib = load_rt().rtlib
+    crate = next(it for it in rtlib.crates_below(TOP) if it.name == crate_of(command))
+    links = [f"{rtlib.KIT}/c/libos_c.a", f"{rtlib.KIT}/c/liblibc_c.a", f"{room}/keep.o"]
+    compiler.compiled(crate, room, CLANG, log, [word for it in links for word in ("--link", it)])
+    if not os.path.isfile(f"{made}.program"):
+        return False
+    put_words(made, path)
+    folder = os.path.dirname(os.path.dirname(path))
+    for it in os.listdir(folder):
+        if it not in ("lock", os.path.basename(room)):
+            shutil.rmtree(f"{folder}/{it}")
+    os.rename(os.path.dirname(made), os.path.dirname(path))
+    return True
+
+
+def put_words(made, path):
+    """Puts a file where the program is made that runs it at the path where both will be, by the toolchain's C
+    library."""
+    lib = f"{load_rt().rtlib.KIT}/toolchain/lib"
+    words = f'"{lib}/ld-linux-x86-64.so.2" --inhibit-cache --library-path "{lib}" "{path}.program" "$@"'
+    with open(made, "w", encoding="utf-8") as to:
+        to.write(f"#!/bin/sh\nexec {words}\n")
+    os.chmod(made, 0o755)
+
+
+def say(command, text):
+    print(f"{command}: {text}", file=sys.stderr, flush=True)
 
 
 def start(command, usage):
@@ -170,40 +211,16 @@ def start(command, usage):
     if usage and sys.argv[1:] == ["--help"]:
         print(usage, end="")
         sys.exit()
-    if sys.argv[1:] == ["--prove"]:
-        if not is_built(command):
-            build(command)
-        sys.exit()
-    path = ready(command)
-    if not path:
-        path = compile_sources(command)
-        if sys.stderr.isatty():
-            said = f"compiled, and not proved here; ./{command} --prove proves and builds it"
-            print(f"{command}: {said}", file=sys.stderr)
+    compiler.end_by_exception()
+    try:
+        if sys.argv[1:] == ["--prove"]:
+            if not is_built(command):
+                build(command)
+            sys.exit()
+        path = ready(command)
+        if not path:
+            path = compile_sources(command)
+            say(command, f"compiled, and not proved here; ./{command} --prove proves and builds it")
+    except KeyboardInterrupt:
+        sys.exit(128 + signal.SIGINT)
     os.execv(path, [path, *sys.argv[1:]])
-
-
-def put_words(path):
-    """Puts a file there that runs the program beside it, by the toolchain's C library."""
-    lib = f"{load_rt().rtlib.KIT}/toolchain/lib"
-    words = f'"{lib}/ld-linux-x86-64.so.2" --inhibit-cache --library-path "{lib}" "{path}.program" "$@"'
-    with open(path, "w", encoding="utf-8") as to:
-        to.write(f"#!/bin/sh\nexec {words}\n")
-    os.chmod(path, 0o755)
-
-
-def main(command, keeper):
-    """One run of the program that `rt try` compiles, with one more object file in it."""
-    rt = load_rt()
-    crate = next(it for it in rt.rtlib.crates_below(TOP) if it.name == crate_of(command))
-    crate.c_code = lambda _: [keeper]
-    # The check that would hint at names that a proof refuses takes longer than the run.
-    rt.rtlib.RATTLE = "true"
-    os.chdir(crate.folder)
-    # (the interpreter can't run a program that reads: one step of it will do)
-    flags = ["--steps", "1", "--data", f"suffixes.dat={SUFFIXES}"]
-    return crate.try_unproved(flags, [it.replace(SUFFIXES, "suffixes.dat") for it in words_of(command, "store.ron")])
-
-
-if __name__ == "__main__":
-    sys.exit(main(*sys.argv[1:]))

@@ -11,7 +11,7 @@ from concurrent.futures import ThreadPoolExecutor
 sys.dont_write_bytecode = True
 sys.path.insert(0, os.path.dirname(os.path.dirname(os.path.abspath(__file__))))
 
-from gate.kit import load_rt
+from gate.kit import CC, demand, load_rt
 
 HERE = os.path.dirname(os.path.abspath(__file__))
 CRATE = "unproved_tests"
@@ -70,6 +70,7 @@ def run(top, planted=None):
     which can refuse a growth of memory. Sources that `rt fmt` would change fail before that. A planted body (an Edit of
     the crates) is put into the sources, and such a program isn't kept.
     """
+    demand("rt", CC[0])
     to = program(top)
     if not planted:
         os.makedirs(os.path.dirname(to), exist_ok=True)
@@ -81,7 +82,7 @@ def run(top, planted=None):
         if planted:
             plant(planted, room)
         kept = f"{room}/kept" if planted else to
-        words = [os.environ.get("CC", "cc"), "-O2", "-fPIC", "-c", f'-DKEPT="{kept}"', f'-DTOLD="{TOLD}"']
+        words = [*CC, "-O2", "-fPIC", "-c", f'-DKEPT="{kept}"', f'-DTOLD="{TOLD}"']
         subprocess.run([*words, f"{HERE}/refuse.c", "-o", f"{room}/refuse.o"], check=True)
         status, output = compiled(room, kept)
         return (status, output) if status else run_each(kept, room)

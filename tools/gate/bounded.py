@@ -1,0 +1,43 @@
+"""Commands with a time that grows with the machine's load."""
+import os
+import signal
+import subprocess
+import time
+
+
+def patience(seconds):
+    """How long to wait for what takes at most so many seconds on a calm machine."""
+    return seconds * max(1, 2 * os.getloadavg()[0] / len(os.sched_getaffinity(0)))
+
+
+def run(words, seconds, given=None, **how):
+    """How a command ended, and what it wrote to standard output and error: the status is None where it was killed at the
+    end of its time, with all that it started, and that is told behind what it wrote."""
+    how = {"stdout": subprocess.PIPE, "stderr": subprocess.PIPE, **how}
+    stdin = subprocess.DEVNULL if given is None else subprocess.PIPE
+    with subprocess.Popen(words, stdin=stdin, start_new_session=True, **how) as process:
+        began = time.monotonic()
+        try:
+            while True:
+                try:
+                    out, err = communicated(process, given, 5)
+                    return process.returncode, out, err
+                except subprocess.TimeoutExpired:
+                    given, taken = None, time.monotonic() - began
+                    if taken > patience(seconds):
+                        return None, *killed(process, f"it had not ended after {taken:.0f} seconds\n".encode())
+        except BaseException:
+            killed(process, b"")
+            raise
+
+
+def communicated(process, given, seconds):
+    out, err = process.communicate(given, timeout=seconds)
+    return out or b"", err or b""
+
+
+def killed(process, told):
+    """What a process wrote that is killed with all that is in its session's group."""
+    os.killpg(process.pid, signal.SIGKILL)
+    out, err = communicated(process, None, None)
+    return out, err + told

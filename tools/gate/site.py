@@ -1,0 +1,74 @@
+"""Sites on loopback, by http and by https, and how curl finds them whatever the host and the port."""
+import ssl
+import subprocess
+import threading
+from collections import defaultdict
+from http.server import BaseHTTPRequestHandler, ThreadingHTTPServer
+from pathlib import Path
+
+# What the site of an example sets.
+EXAMPLE = "sid=a3f; Path=/; Max-Age=3600"
+# The hosts of its certificate, for curl that looks at it.
+HOSTS = ("shop.com", "*.shop.com")
+
+
+class Site(BaseHTTPRequestHandler):
+    """Answers each request with the next of what is to be said to its visit, and keeps the cookies that it has.
+
+    A visit is what the field X-Visit names; one without it is that of an example."""
+
+    protocol_version = "HTTP/1.1"
+    said, heard = {}, defaultdict(list)
+
+    def do_GET(self):
+        visit = self.headers["X-Visit"]
+        Site.heard[visit].append(b"; ".join(it.encode("latin-1") for it in self.headers.get_all("Cookie", [])))
+        nothing = ([] if visit else [EXAMPLE.encode()], None)
+        lines, location = Site.said[visit].pop(0) if Site.said.get(visit) else nothing
+        fields = [b"Set-Cookie: " + line for line in lines] + ([b"Location: " + location] if location else [])
+        fields += [b"Content-Length: 3", b"Connection: close"]
+        status = b"HTTP/1.1 302 Found" if location else b"HTTP/1.1 200 OK"
+        self.wfile.write(b"\r\n".join([status, *fields, b"", b"ok\n"]))
+
+    def log_message(self, *_):
+        pass
+
+
+class Quiet(ThreadingHTTPServer):
+    daemon_threads, request_queue_size = True, 64
+
+    def handle_error(self, *_):
+        """Says nothing of a client that went: what it wasn't told is missed where it is compared."""
+
+
+def serve(certificate=None):
+    """The port of a server that ends with this process."""
+    server = Quiet(("127.0.0.1", 0), Site)
+    if certificate:
+        context = ssl.SSLContext(ssl.PROTOCOL_TLS_SERVER)
+        context.load_cert_chain(certificate)
+        server.socket = context.wrap_socket(server.socket, server_side=True)
+    threading.Thread(target=server.serve_forever, daemon=True).start()
+    return server.server_port
+
+
+def made_certificate(folder):
+    path = f"{folder}/site.pem"
+    words = ["req", "-x509", "-newkey", "ec", "-pkeyopt", "ec_paramgen_curve:prime256v1", "-nodes", "-days", "2"]
+    words += ["-subj", "/CN=loopback", "-addext", f"subjectAltName={','.join(f'DNS:{it}' for it in HOSTS)}"]
+    subprocess.run(["openssl", *words, "-keyout", path, "-out", f"{path}.2"], check=True, capture_output=True)
+    with open(path, "ab") as to:
+        to.write(Path(f"{path}.2").read_bytes())
+    return path
+
+
+def connections(ports):
+    """Where curl connects to, as options: by http to the first port, by https to the second."""
+    plain, secure = ports
+    return [f":443:127.0.0.1:{secure}", f"::127.0.0.1:{plain}"]
+
+
+def put_curlrc(folder, ports, certificate):
+    """Writes a file for curl, by which it finds the sites and trusts the certificate, where CURL_HOME is its folder."""
+    lines = [*(f'connect-to = "{it}"' for it in connections(ports)), f'cacert = "{certificate}"', 'noproxy = "*"']
+    Path(folder, ".curlrc").write_text("".join(f"{it}\n" for it in lines), encoding="utf-8")
