@@ -18,5 +18,6 @@ pub mod BlockLemmas
 pub mod GcmLemmas
 pub mod CounterLemmas
 pub mod TagLemmas
+pub mod EqualLemmas
 pub mod MacLemmas
 pub mod HkdfLemmas

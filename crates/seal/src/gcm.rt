@@ -11,6 +11,7 @@ ghost use Rattle.seal.specs.Bytes.{xored_front};
 ghost use Rattle.seal.specs.declared.error.SealError.TheVariants.{TooLong, Refused};
 
 use crate::aes::{encipher, encipher_last, first_rounds, schedule, xor_block};
+use crate::equal::equal_bytes;
 use crate::error::SealError;
 use crate::ghash::ByteMultiples;
 use crate::powers::Turns;
@@ -187,7 +188,8 @@ fn has_tag<L: Ledger>(
         → (IsTrue result ↔ (tag.now ≡ spec.tag key nonce.now aad.now ciphertext.now)) }
     ensures turns { turns.new ≤ turns.old + spec.turns_of aad.now ciphertext.now }
 {
-    tag_of(w, nonce, aad, ciphertext, turns) == *tag
+    let right = tag_of(w, nonce, aad, ciphertext, turns);
+    equal_bytes(&right, tag)
 }
 
 /// Seals `text` in place under AES-256-GCM, and returns its tag (SP 800-38D, section 7.1).

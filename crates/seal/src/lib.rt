@@ -10,6 +10,7 @@
 
 mod aes;
 mod derive;
+mod equal;
 mod error;
 mod field;
 mod gcm;
@@ -20,6 +21,7 @@ mod powers;
 mod tables;
 
 pub use derive::expand;
+pub use equal::equal_bytes;
 pub use error::SealError;
 pub use gcm::{is_sealable, open, open_counted, seal, seal_counted};
 pub use ghash::Multiples;
