@@ -21,3 +21,9 @@ pub mod TagLemmas
 pub mod EqualLemmas
 pub mod MacLemmas
 pub mod HkdfLemmas
+pub mod RegisterLemmas
+pub mod LaneLemmas
+pub mod RegisterAesLemmas
+pub mod RegisterScheduleLemmas
+pub mod MaskLemmas
+pub mod StreamLemmas
