@@ -25,5 +25,4 @@ pub mod RegisterLemmas
 pub mod LaneLemmas
 pub mod RegisterAesLemmas
 pub mod RegisterScheduleLemmas
-pub mod MaskLemmas
 pub mod StreamLemmas
