@@ -20,3 +20,6 @@ pub mod CounterLemmas
 pub mod TagLemmas
 pub mod MacLemmas
 pub mod HkdfLemmas
+pub mod RegisterLemmas
+pub mod LaneLemmas
+pub mod SubkeyLemmas

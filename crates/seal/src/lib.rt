@@ -14,9 +14,11 @@ mod error;
 mod field;
 mod gcm;
 mod ghash;
+mod hash_subkey;
 pub mod laws;
 mod mac;
 mod powers;
+mod registers;
 mod tables;
 
 pub use derive::expand;
