@@ -26,3 +26,4 @@ pub mod LaneLemmas
 pub mod RegisterAesLemmas
 pub mod RegisterScheduleLemmas
 pub mod StreamLemmas
+pub mod SubkeyLemmas

@@ -1,5 +1,5 @@
 -- Look-ups within a register, lane by lane.
-use Rattle.std.proofs.Common.{◌≡◌, ℕ, ◌+◌, ◌*◌, ◌/◌, ◌<◌, true, cond, ltb, leb, ◌||◌, T, List, map, length, get_or}
+use Rattle.std.proofs.Common.{◌≡◌, ℕ, ◌+◌, ◌*◌, ◌/◌, ◌<◌, true, false, cond, ltb, leb, ◌||◌, T, List, map, length, get_or}
 use Rattle.std.proofs.Common.{replicate, bit_and, refl, sym, ap, subst, ◌∙◌, arith, w8, Fits}
 use Rattle.std.proofs.lemmas.Bool.{agree_below_at}
 use Rattle.std.proofs.lemmas.List.{get_or-map, length-map, ext_get_or}
@@ -7,6 +7,7 @@ use Rattle.std.proofs.lemmas.Simd.{Each1-weaker, Each1-zip2, Each2-splat, below_
 use Rattle.std.proofs.lemmas.Simd.{swz_l, SwzOk, SwzOk-from_Each1, length-swz_l, get_or-swz_l}
 use lib.Lanes.{zip2, Each1}
 use Rattle.seal.specs.Registers.{looked_up}
+use Rattle.seal.proofs.ByteFacts.{equal_below}
 
 -- the lanes of a register of bytes
 abbrev pub IsBlock : List ℕ → Type 0
@@ -41,3 +42,11 @@ picks t v fits =
     ∙ ap (λ (k : ℕ). cond (leb 128 (get_or js i 0)) 0 (get_or t k 0)) base
     ∙ ap (λ (k : ℕ). cond (leb 128 k) 0 (get_or t k 0)) is
     ∙ sym (get_or-map (looked_up t) v i 0 0 (omega (arith, fits.0))))
+
+-- a look-up at a place below 16
+pub looked_up-below : (t : List ℕ) (k : ℕ) → k < 16 → looked_up t k ≡ get_or t k 0
+looked_up-below t k h =
+    let low : leb 128 (bit_and k 143) ≡ false =
+    agree_below_at (λ b. leb 128 (bit_and b 143)) (λ b. false) 16 k refl h in
+    ap (λ q. cond q 0 (get_or t (bit_and k 143) 0)) low
+    ∙ ap (λ (q : ℕ). get_or t q 0) (equal_below (λ b. bit_and b 143) (λ b. b) 16 k refl h)
