@@ -18,5 +18,12 @@ pub mod BlockLemmas
 pub mod GcmLemmas
 pub mod CounterLemmas
 pub mod TagLemmas
+pub mod EqualLemmas
 pub mod MacLemmas
 pub mod HkdfLemmas
+pub mod RegisterLemmas
+pub mod LaneLemmas
+pub mod RegisterAesLemmas
+pub mod RegisterScheduleLemmas
+pub mod StreamLemmas
+pub mod SubkeyLemmas

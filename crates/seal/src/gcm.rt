@@ -11,13 +11,14 @@ ghost use Rattle.seal.specs.Bytes.{xored_front};
 ghost use Rattle.seal.specs.declared.error.SealError.TheVariants.{TooLong, Refused};
 
 use crate::aes::{encipher, encipher_last, first_rounds, schedule, xor_block};
+use crate::equal::equal_bytes;
 use crate::error::SealError;
 use crate::ghash::ByteMultiples;
 use crate::powers::Turns;
 use std::marker::Brand;
 use std::sync::ledger::{Blank, Ledger};
 
-const BLOCK_LEN: usize = 16;
+pub(crate) const BLOCK_LEN: usize = 16;
 
 // The counter has 2^32 - 2 blocks to give to a text.
 const MAX_TEXT_LEN: usize = (1 << 36) - 32;
@@ -33,8 +34,8 @@ pub fn is_sealable(aad: &[u8], text: &[u8]) -> bool
     text.len() <= MAX_TEXT_LEN && aad.len() <= MAX_AAD_LEN
 }
 
-// Adds a block to the text from `at` on, as far as the text goes: ys is what was added before.
-fn add_block(text: &mut [u8], at: usize, block: &[u8; 16])
+/// Adds a block to the text from `at` on, as far as the text goes: ys is what was added before.
+pub(crate) fn add_block(text: &mut [u8], at: usize, block: &[u8; 16])
     requires { at < length text.old }
     ensures { (xs ys : List ℕ) → length xs ≡ length text.old → length ys ≡ at
         → text.old ≡ xored_front xs ys
@@ -52,17 +53,17 @@ fn add_block(text: &mut [u8], at: usize, block: &[u8; 16])
     }
 }
 
-// The standard's J0.
-fn first_counter(nonce: &[u8; 12]) -> [u8; 16]
+/// The standard's J0.
+pub(crate) fn first_counter(nonce: &[u8; 12]) -> [u8; 16]
     ensures { result ≡ spec.first_counter nonce.now }
 {
     let [a, b, c, d, e, f, g, h, i, j, k, l] = *nonce;
     [a, b, c, d, e, f, g, h, i, j, k, l, 0, 0, 0, 1]
 }
 
-// The counter block after this one: the standard's inc32. Where its last byte isn't 0, all others
-// are those of this one.
-fn next_counter(block: &[u8; 16]) -> [u8; 16]
+/// The counter block after this one: the standard's inc32. Where its last byte isn't 0, all others
+/// are those of this one.
+pub(crate) fn next_counter(block: &[u8; 16]) -> [u8; 16]
     ensures next { result ≡ spec.inc32 block.now }
     ensures front { (¬ (slice_index result 15 ≡ 0)) → take 15 result ≡ take 15 block.now }
 {
@@ -93,8 +94,8 @@ fn cipher(w: &[u8; 240], nonce: &[u8; 12], text: &mut [u8])
     }
 }
 
-// Block n of a text that is filled with zeros to whole blocks.
-fn whole_block(text: &[u8], n: usize) -> [u8; 16]
+/// Block n of a text that is filled with zeros to whole blocks.
+pub(crate) fn whole_block(text: &[u8], n: usize) -> [u8; 16]
     requires { 16 * n < length text.now }
     ensures { result ≡ slice_range (spec.whole_blocks text.now) (16 * n) (16 * n + 16) }
 {
@@ -127,8 +128,8 @@ fn hash_text<L: Ledger>(
     sum
 }
 
-// The block of both lengths, in bits.
-fn length_block(aad: usize, text: usize) -> [u8; 16]
+/// The block of both lengths, in bits.
+pub(crate) fn length_block(aad: usize, text: usize) -> [u8; 16]
     requires { (aad < 2 ^ 61) × (text < 2 ^ 61) }
     ensures { result ≡ to_be_bytes w64 (aad * 8) ++ to_be_bytes w64 (text * 8) }
 {
@@ -187,7 +188,8 @@ fn has_tag<L: Ledger>(
         → (IsTrue result ↔ (tag.now ≡ spec.tag key nonce.now aad.now ciphertext.now)) }
     ensures turns { turns.new ≤ turns.old + spec.turns_of aad.now ciphertext.now }
 {
-    tag_of(w, nonce, aad, ciphertext, turns) == *tag
+    let right = tag_of(w, nonce, aad, ciphertext, turns);
+    equal_bytes(&right, tag)
 }
 
 /// Seals `text` in place under AES-256-GCM, and returns its tag (SP 800-38D, section 7.1).

@@ -10,18 +10,25 @@
 
 mod aes;
 mod derive;
+mod equal;
 mod error;
 mod field;
 mod gcm;
 mod ghash;
+mod hash_subkey;
 pub mod laws;
 mod mac;
 mod powers;
+mod register_aes;
+mod register_gcm;
+mod registers;
 mod tables;
 
 pub use derive::expand;
+pub use equal::equal_bytes;
 pub use error::SealError;
 pub use gcm::{is_sealable, open, open_counted, seal, seal_counted};
 pub use ghash::Multiples;
 pub use mac::{MacKey, hmac};
 pub use powers::Turns;
+pub use register_gcm::{open_in_registers, seal_in_registers};

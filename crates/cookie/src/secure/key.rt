@@ -10,7 +10,7 @@ ghost use Rattle.seal.specs.Kept.{KeepsPads};
 ghost use Rattle.cookie.specs.Key as spec;
 
 use rand_core::{Rng, TryRng};
-use seal::MacKey;
+use seal::{MacKey, equal_bytes};
 use std::fmt::{self, Debug, Formatter, Write};
 use std::marker::Model;
 use thiserror::Error;
@@ -56,7 +56,7 @@ impl PartialEq for Key {
     ghost laws = { partial_equiv_from_equiv nat_list_eq_equiv };
 
     fn eq(&self, other: &Key) -> bool {
-        self.bytes == other.bytes
+        equal_bytes(&self.bytes, &other.bytes)
     }
 }
 

@@ -13,7 +13,7 @@ use super::encoding::{decoded, encoded};
 use super::key::Key;
 use super::private_error::PrivateError;
 use rand_core::TryRng;
-use seal::{open, seal};
+use seal::{open_in_registers, seal_in_registers};
 use std::alloc::{AllocError, Global};
 
 const NONCE_LEN: usize = 12;
@@ -55,7 +55,7 @@ fn sealed_bytes(
     let mut bytes = Vec::with_capacity(alloc, NONCE_LEN + value.len() + TAG_LEN)?;
     bytes.extend_from_slice(nonce)?;
     bytes.extend_from_slice(value.as_bytes())?;
-    let tag = seal(
+    let tag = seal_in_registers(
         key.encryption(),
         nonce,
         name.as_bytes(),
@@ -166,7 +166,7 @@ fn opened_bytes(key: &Key, name: &str, mut bytes: Vec<u8>) -> Option<Vec<u8>>
     let tag = tag_of(&bytes);
     let end = bytes.len() - TAG_LEN;
     let text = &mut bytes[NONCE_LEN..end];
-    match open(encryption, &nonce, name.as_bytes(), text, &tag) {
+    match open_in_registers(encryption, &nonce, name.as_bytes(), text, &tag) {
         Ok(()) => Some(without_ends(bytes)),
         Err(_) => None,
     }

@@ -1,28 +1,18 @@
 //! The texts of signed values.
 
-ghost use Rattle.std.specs.Prelude.{◌≡◌, ◌↔◌, ℕ, List, IfOk, Some};
+ghost use Rattle.std.specs.Prelude.{◌≡◌, ◌↔◌, ℕ, List, length, IfOk, IsTrue, Some};
 ghost use Rattle.std.specs.Option.{option_copied};
 ghost use Rattle.std.specs.String.{string_bytes};
-ghost use Rattle.seal.specs.Hmac.{hmac as hmac_of};
-ghost use Rattle.cookie.specs.Key.{signing_half};
 ghost use Rattle.cookie.specs.Base64.{base64 as base64_of};
 ghost use Rattle.cookie.specs.Signing as spec;
 
 use super::key::Key;
 use base64::engine::general_purpose::STANDARD;
+use seal::equal_bytes;
 use std::alloc::{AllocError, Global};
 
 // The base64 of 32 bytes.
 const CODE_LEN: usize = 44;
-
-// The code of the value in base64.
-fn code_of(key: &Key, value: &str) -> [u8; 44]
-    ensures { result ≡ base64_of (hmac_of (signing_half key.now) value.now) }
-{
-    let mut code = [0; CODE_LEN];
-    let _ = STANDARD.encode_slice(&key.code(value.as_bytes()), &mut code);
-    code
-}
 
 /// The signing of `value`: its code under the key's signing half (HMAC with SHA-256, RFC 2104) in
 /// base64, which has 44 characters, and then the value.
@@ -40,6 +30,19 @@ pub fn signed_text(alloc: Global, key: &Key, value: &str) -> Result<String, Allo
     Ok(text)
 }
 
+// Whether the text is the base64 of the code. It is the text that is decoded, and not the code that
+// is printed: so no table is read at places that a code decides which nobody sent.
+fn is_base64_of(text: &[u8], code: &[u8; 32]) -> bool
+    requires { length text.now ≡ 44 }
+    ensures { IsTrue result ↔ (text.now ≡ base64_of code.now) }
+{
+    let mut bytes = [0; 33];
+    match STANDARD.decode_slice_unchecked(text, &mut bytes) {
+        Ok(count) => equal_bytes(&bytes[..count], code),
+        Err(_) => false,
+    }
+}
+
 /// The value that `text` is the signing of, a slice of it, and none where it is no signing under
 /// this key.
 pub fn verified_value<'t>(key: &Key, text: &'t str) -> Option<&'t str>
@@ -49,7 +52,8 @@ pub fn verified_value<'t>(key: &Key, text: &'t str) -> Option<&'t str>
     let Some((code, value)) = text.split_at_checked(CODE_LEN) else {
         return None;
     };
-    if code.as_bytes() == code_of(key, value).as_slice() {
+    let right = key.code(value.as_bytes());
+    if is_base64_of(code.as_bytes(), &right) {
         Some(value)
     } else {
         None

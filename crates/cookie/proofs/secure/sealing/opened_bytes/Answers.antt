@@ -24,7 +24,7 @@ returns-in-Ok c =
     let name : List ℕ = c.args.name.now in
     let bytes : List ℕ = c.args.bytes.items in
     let lent : List ℕ = c.deref_mut.result.now in
-    let new : List ℕ = c.open.new.text in
+    let new : List ℕ = c.open_in_registers.new.text in
     let end : ℕ = c.len-end.result in
     let half : length (encryption_half key) ≡ 32 = ap length (sym c.encryption-encryption.ensures.half)
     ∙ c.encryption-encryption.ensures.len in
@@ -33,7 +33,7 @@ returns-in-Ok c =
     let long : 28 ≤ end = omega arith in
     let items_are : c.without_ends.result.items ≡ new =
     c.without_ends.ensures ∙ (middle_written lent bytes new c.args.bytes.len end c.deref_mut.ensures.value len_is end_is
-    long c.open.auto.text).0 in
+    long c.open_in_registers.auto.text).0 in
     let nonce_is : c.nonce_of-nonce.result ≡ take 12 bytes = c.nonce_of-nonce.ensures
     ∙ ap (take 12) c.deref.ensures.value in
     let tag_is : c.tag_of-tag.result ≡ last bytes = c.tag_of-tag.ensures ∙ ap last c.deref-2.ensures.value in

@@ -9,7 +9,7 @@ returns c =
     let value : List ℕ = c.args.value.now in
     let held : List ℕ = c.extend_from_slice-2.new.self.items in
     let lent : List ℕ = c.deref_mut.result.now in
-    let new : List ℕ = c.seal.new.text in
+    let new : List ℕ = c.seal_in_registers.new.text in
     let tag : List ℕ = c.unwrap-tag.result in
     let nonce_held = c.in_ok-extend_from_slice.ensures.items
     ∙ ap (λ (q : List ℕ). q ++ nonce) c.in_ok-bytes.ensures.items in
@@ -18,10 +18,10 @@ returns c =
     let lent_is : lent ≡ nonce ++ value = c.deref_mut.ensures.value ∙ held_is in
     let len_is = sym c.deref_mut.ensures.len ∙ ap length c.deref_mut.ensures.value in
     let written = behind_nonce lent held new nonce value c.extend_from_slice-2.new.self.len c.deref_mut.ensures.value
-    len_is held_is c.told-nonce c.seal.auto.text in
-    let sealed : IfOk c.seal.result (λ tag. Sealed c.encryption.result.now nonce c.as_bytes-2.result.now
+    len_is held_is c.told-nonce c.seal_in_registers.auto.text in
+    let sealed : IfOk c.seal_in_registers.result (λ tag. Sealed c.encryption.result.now nonce c.as_bytes-2.result.now
     (take (length lent - 12) (drop 12 lent)) new tag) =
-    c.seal.ensures.ok in
+    c.seal_in_registers.ensures.ok in
     let sealed_as = rw (
       c.unwrap-tag.ensures,
       c.encryption.ensures.half,

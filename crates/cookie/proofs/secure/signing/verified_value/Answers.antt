@@ -1,6 +1,5 @@
 use Rattle.std.proofs.Common.{◌≡◌, ℕ, List, ap, sym, ◌∙◌, Some}
-use Rattle.std.proofs.lemmas.Bool.Decides.{Decides-eqb}
-use Rattle.std.proofs.lemmas.Slice.Eq.{slice_eq-Decides}
+use Rattle.cookie.specs.Base64.{base64}
 use Rattle.cookie.specs.Signing.{signing}
 use Rattle.cookie.proofs.SigningLemmas.{code, boundary_of_signing, signing_from_parts, parts_of_signing}
 use Rattle.cookie.proofs.secure.signing.verified_value.Goals as goal
@@ -13,13 +12,13 @@ returns-in_default c = λ value. (
       cc cut,
 )
 
-pub returns-then-eq : goal.returns-then-eq
-returns-then-eq c =
+pub returns-then-is_base64_of : goal.returns-then-is_base64_of
+returns-then-is_base64_of c =
     let key : List ℕ = c.args.key.now in
-    let equal : c.as_bytes.result.now ≡ c.as_slice.result.now =
-    (slice_eq-Decides Decides-eqb _ _ _ c.eq.ensures).0 c.if-eq.true in
+    let right : base64 c.code-right.result ≡ code key c.in-Some.value.now =
+    ap base64 c.code-right.ensures ∙ ap (code key) c.as_bytes.ensures.value in
     let same : c.in-Some.code.now ≡ code key c.in-Some.value.now =
-    sym c.as_bytes.ensures.value ∙ equal ∙ c.as_slice.ensures ∙ c.code_of.ensures in
+    sym c.as_bytes-2.ensures.value ∙ c.is_base64_of.ensures.0 c.if-is_base64_of.true ∙ right in
     let is : c.args.text.now ≡ signing key c.in-Some.value.now =
     signing_from_parts key _ c.args.text.now _ c.in-Some.ensures.front c.in-Some.ensures.back same in
     λ value. (
@@ -28,14 +27,15 @@ returns-then-eq c =
           c.in-Some.ensures.back e).1,
     )
 
-pub returns-else-eq : goal.returns-else-eq
-returns-else-eq c = λ value. (
+pub returns-else-is_base64_of : goal.returns-else-is_base64_of
+returns-else-is_base64_of c = λ value. (
   λ e. cc e,
-  λ e. let parts = parts_of_signing c.lengths.ensures.code c.args.key.now value c.args.text.now _ _
-      c.in-Some.ensures.front c.in-Some.ensures.back e in
-      let equal : c.as_bytes.result.now ≡ c.as_slice.result.now =
-      c.as_bytes.ensures.value ∙ parts.0 ∙ sym c.code_of.ensures ∙ sym c.as_slice.ensures in
-      let yes = (slice_eq-Decides Decides-eqb _ _ _ c.eq.ensures).1 equal in
-      let no = c.if-eq.false in
+  λ e. let key : List ℕ = c.args.key.now in
+      let parts = parts_of_signing c.lengths.ensures.code key value c.args.text.now _ _ c.in-Some.ensures.front
+      c.in-Some.ensures.back e in
+      let right : base64 c.code-right.result ≡ code key c.in-Some.value.now =
+      ap base64 c.code-right.ensures ∙ ap (code key) c.as_bytes.ensures.value in
+      let yes = c.is_base64_of.ensures.1 (c.as_bytes-2.ensures.value ∙ parts.0 ∙ sym right) in
+      let no = c.if-is_base64_of.false in
       cc (yes, no),
 )
