@@ -1,0 +1,171 @@
+/* Exchanges by a key of which nothing is known. With the word `counts` it has callgrind write down how many
+   instructions readings take whose codes, or whose sealed texts, are wrong at one place. */
+#include "fonnalich.h"
+#include "secrets.h"
+#include <malloc.h>
+#include <valgrind/callgrind.h>
+
+static const char *VALUES[] = {"3", "a text of 41 bytes, so of two blocks more"};
+enum { VALUES_COUNT = 2 };
+
+static char key[FONNALICH_KEY_LENGTH], nonces[FONNALICH_NONCE_LENGTH];
+/* The answer of the last exchange, and the item at its front. */
+static char out[1024];
+static const char *item;
+static ptrdiff_t item_length;
+
+/* Makes an exchange, of whose answer all is told. */
+static void ask(const char *header, const char *commands) {
+    ptrdiff_t length = fonnalich_exchange(key, sizeof key, header, strlen(header), 1700000000, commands,
+                                          strlen(commands), nonces, sizeof nonces, out, sizeof out);
+    PUBLIC(length);
+    PUBLIC(out);
+    const char *at = out;
+    demand(length > 0 && length <= (ptrdiff_t)sizeof out, "an exchange");
+    demand(fonnalich_next(&at, out + length, &item, &item_length), "an exchange");
+}
+
+static void set(char way, const char *value) {
+    char command[128];
+    snprintf(command, sizeof command, FONNALICH_SET "%cuser=%s", way, value);
+    ask("", command);
+}
+
+static void get(char way, const char *header) {
+    char command[] = FONNALICH_GET "-user";
+    command[1] = way;
+    verdicts++;
+    ask(header, command);
+}
+
+/* The header that brings a value back, its signing or sealing not escaped; made by a key of which all is known. */
+static const char *header_of(char way, const char *value) {
+    static char header[512];
+    char *to = header;
+    PUBLIC(key);
+    set(way, value);
+    for (const char *at = item; *at != ';'; at++) {
+        unsigned byte = (unsigned char)*at;
+        if (*at == '%' && sscanf(at + 1, "%2x", &byte) == 1)
+            at += 2;
+        *to++ = (char)byte;
+    }
+    *to = 0;
+    SECRET(key);
+    return header;
+}
+
+static const char *LETTERS = "ABCDEFGHIJKLMNOPQRSTUVWXYZabcdefghijklmnopqrstuvwxyz0123456789+/";
+
+/* A character of base64 in which one bit of four is another one: a letter for a letter and a digit for a digit, where
+   there is one, since whoever reads a header may take them in different ways. */
+static char another(char letter) {
+    ptrdiff_t at = strchr(LETTERS, letter) - LETTERS;
+    for (int bit = 4; bit < 64; bit *= 2)
+        if ((at < 52) == ((at ^ bit) < 52) && (at ^ bit) < 62)
+            return LETTERS[at ^ bit];
+    return LETTERS[at ^ 4];
+}
+
+/* The header with one bit changed of what stands at a place of the base64, counted from its end where it is below 0. */
+static const char *wrong(char way, const char *value, int place) {
+    static char header[512];
+    strcpy(header, header_of(way, value));
+    char *text = header + strlen("user="), *at = place < 0 ? strchr(text, 0) + place : text + place;
+    while (*at == '=')
+        at--;
+    *at = another(*at);
+    return header;
+}
+
+static int is_read(const char *value) {
+    return item_length == (ptrdiff_t)strlen(value) && memcmp(item, value, strlen(value)) == 0;
+}
+
+static void sets_signed(void) {
+    for (int i = 0; i < VALUES_COUNT; i++)
+        set(*FONNALICH_SIGNED, VALUES[i]);
+}
+
+static void sets_sealed(void) {
+    for (int i = 0; i < VALUES_COUNT; i++)
+        set(*FONNALICH_SEALED, VALUES[i]);
+}
+
+static void reads(char way) {
+    for (int i = 0; i < VALUES_COUNT; i++) {
+        get(way, header_of(way, VALUES[i]));
+        demand(is_read(VALUES[i]), "a reading");
+    }
+}
+
+static void reads_wrong(char way, const int *places, int count) {
+    for (int i = 0; i < count; i++) {
+        get(way, wrong(way, VALUES[i % VALUES_COUNT], places[i]));
+        demand(item_length < 0, "a wrong reading");
+    }
+}
+
+/* The first, a middle and the last byte of a code, and the value. */
+static const int CODES[] = {0, 21, 42, 44};
+/* Those of a nonce and of the text's beginning, and of the tag. */
+static const int SEALINGS[] = {0, 15, 16, -20, -11, -1};
+#define COUNT(places) (int)(sizeof(places) / sizeof *(places))
+
+static void reads_signed(void) {
+    reads(*FONNALICH_SIGNED);
+}
+
+static void reads_sealed(void) {
+    reads(*FONNALICH_SEALED);
+}
+
+static void reads_wrong_signed(void) {
+    reads_wrong(*FONNALICH_SIGNED, CODES, COUNT(CODES));
+}
+
+static void reads_wrong_sealed(void) {
+    reads_wrong(*FONNALICH_SEALED, SEALINGS, COUNT(SEALINGS));
+}
+
+/* Has callgrind write down what a reading takes that is wrong at a place, where it is to be kept. */
+static void count(char way, int place, int is_kept) {
+    char header[512], name[32];
+    strcpy(header, wrong(way, VALUES[1], place));
+    snprintf(name, sizeof name, "%s %d", way == *FONNALICH_SIGNED ? "signed" : "sealed", place);
+    get(way, header);
+    CALLGRIND_ZERO_STATS;
+    get(way, header);
+    if (is_kept)
+        CALLGRIND_DUMP_STATS_AT(name);
+}
+
+static void counts(void) {
+    /* What is taken from the system and given back to it hangs on what was asked before. */
+    mallopt(M_TRIM_THRESHOLD, 1 << 30);
+    count(*FONNALICH_SIGNED, 1, 0);
+    count(*FONNALICH_SEALED, 1, 0);
+    for (int place = 0; place < 43; place += 2)
+        count(*FONNALICH_SIGNED, place, 1);
+    for (int i = 0; i < COUNT(SEALINGS); i++)
+        count(*FONNALICH_SEALED, SEALINGS[i], 1);
+}
+
+int main(int count, char **words) {
+    for (int i = 0; i < FONNALICH_KEY_LENGTH; i++)
+        key[i] = (char)(7 * i + 1);
+    for (int i = 0; i < FONNALICH_NONCE_LENGTH; i++)
+        nonces[i] = (char)(11 * i + 3);
+    if (count > 1 && strcmp(words[1], "counts") == 0) {
+        counts();
+        return 0;
+    }
+    SECRET(key);
+    TAKE(sets_signed);
+    TAKE(sets_sealed);
+    TAKE(reads_signed);
+    TAKE(reads_wrong_signed);
+    TAKE(reads_sealed);
+    TAKE(reads_wrong_sealed);
+    return 0;
+}
