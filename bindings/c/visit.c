@@ -3,13 +3,14 @@
 #include "fonnalich.h"
 #include <stdio.h>
 int main(void) {
-    char ends[1], header[256];
+    const char url[] = "https://shop.com/", line[] = "__Host-cart=3; Secure; Path=/";
+    char outcome, header[256];
     fonnalich client;
     fonnalich_begin(&client);
-    fonnalich_list(&client, "com\n", 4);
-    fonnalich_receive(&client, 1700000000, "https://shop.com/", 17, "cart=3; Secure; Path=/", 22, ends, 1);
-    ptrdiff_t length = fonnalich_header(&client, 1700000001, "https://shop.com/", 17, header, 256);
-    if (length >= 0 && length <= 256) printf("%.*s\n", (int)length, header);
+    ptrdiff_t got = fonnalich_list(&client, "com\n", 4);
+    if (got == 0) got = fonnalich_receive(&client, 1700000000, url, sizeof url - 1, line, sizeof line - 1, &outcome, 1);
+    if (got == 1) got = fonnalich_header(&client, 1700000001, url, sizeof url - 1, header, sizeof header);
+    if (got >= 0 && got <= 256) printf("%.*s\n", (int)got, header);
     fonnalich_free(&client);
 }
 /* README: end */

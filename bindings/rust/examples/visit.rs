@@ -5,9 +5,9 @@ use fonnalich::{Client, Cookie, Error, Key, Session, Way};
 fn main() -> Result<(), Error> {
     let (key, url, now, mut client) = (Key::generate(), "https://shop.com/", 1_700_000_000, Client::new("com\n")?);
     let mut session = Session::open("", &key, now);
-    session.set(Way::Sealed, Cookie::build(("cart", "3")).max_age(60))?;
+    session.set(Way::Sealed, Cookie::build(("__Host-cart", "3")).max_age(60))?;
     client.receive(url, &session.close()?, now)?;
-    println!("{:?}", Session::open(client.header(url, now)?, &key, now).get(Way::Sealed, "cart")?);
+    println!("{:?}", Session::open(client.header(url, now)?, &key, now).get(Way::Sealed, "__Host-cart")?);
     Ok(())
 }
 // README: end
