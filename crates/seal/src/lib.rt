@@ -25,5 +25,6 @@ pub use derive::expand;
 pub use error::SealError;
 pub use gcm::{is_sealable, open, open_counted, seal, seal_counted};
 pub use ghash::Multiples;
+pub use hash_subkey::HashSubkey;
 pub use mac::{MacKey, hmac};
 pub use powers::Turns;
