@@ -29,6 +29,7 @@ pub use equal::equal_bytes;
 pub use error::SealError;
 pub use gcm::{is_sealable, open, open_counted, seal, seal_counted};
 pub use ghash::Multiples;
+pub use hash_subkey::HashSubkey;
 pub use mac::{MacKey, hmac};
 pub use powers::Turns;
 pub use register_gcm::{open_in_registers, seal_in_registers};
