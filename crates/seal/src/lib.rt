@@ -1,10 +1,10 @@
 //! Ciphers over plain bytes: HMAC with SHA-256 (RFC 2104), HKDF's expansion (RFC 5869), and
-//! AES-256-GCM (FIPS 197, SP 800-38D). No call takes memory.
+//! AES-256-GCM (FIPS 197, SP 800-38D), in registers and by tables. No call takes memory.
 //!
 //! ```
 //! let mut text = *b"attack at dawn";
-//! let tag = seal::seal(&key, &nonce, b"aad", &mut text)?;
-//! seal::open(&key, &nonce, b"aad", &mut text, &tag)?;
+//! let tag = seal::seal_in_registers(&key, &nonce, b"aad", &mut text)?;
+//! seal::open_in_registers(&key, &nonce, b"aad", &mut text, &tag)?;
 //! ```
 #![tactic(auto)]
 
