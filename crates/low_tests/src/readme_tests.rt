@@ -3,7 +3,7 @@
 use devices::Counting;
 use devices::pour::{flush, read_all, write_all, write_number};
 use publicsuffix::{List, ListError};
-use seal::{SealError, open, seal};
+use seal::{SealError, open_in_registers, seal_in_registers};
 use std::test::Fail;
 
 #[test]
@@ -26,9 +26,9 @@ fn readme_seal(rt: HostRuntime) -> Result<(), SealError> {
     // README: crates/seal/README.md
     let (key, nonce) = ([7; 32], [9; 12]);
     let mut text = *b"attack at dawn";
-    let tag = seal(&key, &nonce, b"header", &mut text)?;
+    let tag = seal_in_registers(&key, &nonce, b"header", &mut text)?;
     assert!(rt; text != *b"attack at dawn");
-    open(&key, &nonce, b"header", &mut text, &tag)?;
+    open_in_registers(&key, &nonce, b"header", &mut text, &tag)?;
     assert!(rt; text == *b"attack at dawn");
     // README: end
     Ok(())

@@ -1,8 +1,8 @@
 -- Products with a^n, by the part of x that stays below a^128 and the part that goes past it.
-use Rattle.std.proofs.Common.{◌≡◌, ℕ, zero, suc, ◌*◌, ◌/◌, ◌%◌, ◌^◌, ◌<◌, refl, sym, ap, ◌∙◌, arith, bit_xor, mod-lt}
+use Rattle.std.proofs.Common.{◌≡◌, ℕ, zero, suc, ◌*◌, ◌/◌, ◌%◌, ◌^◌, ◌<◌, refl, sym, ap, ◌∙◌, arith, bit_xor, bit_and, mod-lt}
 use Rattle.std.proofs.Common.{pow_pos}
 use Rattle.std.proofs.Math.Nat.{pow-suc}
-use Rattle.std.proofs.lemmas.Nat.{shr_split}
+use Rattle.std.proofs.lemmas.Nat.{shr_split, and_mask}
 use Rattle.std.specs.Int.Bits.{xor_shifted}
 use Rattle.seal.specs.Ghash.{one, times_a, times_power, product_low}
 use Rattle.seal.proofs.GhashLemmas.{times_a_even, times_power_xor, product_low_power, product_low-xor_right}
@@ -56,3 +56,24 @@ power_64_low r h =
     (product_low-xor_right 64 r (bit_xor one (times_power 1 one)) (times_power 2 one)
     ∙ ap (λ (k : ℕ). bit_xor k (p (times_power 2 one))) (product_low-xor_right 64 r one (times_power 1 one)))
     ∙ (λ i. spread (top i) (m1 i) (m2 i) (m7 i))
+
+-- .. as shifts of a block's lower half
+pub power_64_shifted : (x : ℕ) → bit_xor (x / 2 ^ 64)
+    (spread (bit_and x 0xFFFFFFFFFFFFFFFF * 2 ^ 64 % 2 ^ 128) (bit_and x 0xFFFFFFFFFFFFFFFF * 2 ^ 63 % 2 ^ 128)
+    (bit_and x 0xFFFFFFFFFFFFFFFF * 2 ^ 62 % 2 ^ 128) (bit_and x 0xFFFFFFFFFFFFFFFF * 2 ^ 57 % 2 ^ 128))
+    ≡ times_power 64 x
+power_64_shifted x =
+    let low : bit_and x 0xFFFFFFFFFFFFFFFF ≡ x % 2 ^ 64 = and_mask x 64 in
+    let r : ℕ = x % 2 ^ 64 in
+    let shifted : (r : ℕ) → r < 2 ^ 64
+    → spread (r * 2 ^ 64 % 2 ^ 128) (r * 2 ^ 63 % 2 ^ 128) (r * 2 ^ 62 % 2 ^ 128) (r * 2 ^ 57 % 2 ^ 128)
+    ≡ spread (r * 2 ^ 64) (r * 2 ^ 63) (r * 2 ^ 62) (r * 2 ^ 57) = λ r h.
+    let e0 : r * 2 ^ 64 % 2 ^ 128 ≡ r * 2 ^ 64 = omega arith in
+    let e1 : r * 2 ^ 63 % 2 ^ 128 ≡ r * 2 ^ 63 = omega arith in
+    let e2 : r * 2 ^ 62 % 2 ^ 128 ≡ r * 2 ^ 62 = omega arith in
+    let e3 : r * 2 ^ 57 % 2 ^ 128 ≡ r * 2 ^ 57 = omega arith in
+    λ i. spread (e0 i) (e1 i) (e2 i) (e3 i) in
+    ap (λ (n : ℕ). bit_xor (x / 2 ^ 64)
+    (spread (n * 2 ^ 64 % 2 ^ 128) (n * 2 ^ 63 % 2 ^ 128) (n * 2 ^ 62 % 2 ^ 128) (n * 2 ^ 57 % 2 ^ 128))) low
+    ∙ ap (bit_xor (x / 2 ^ 64)) (shifted r (omega arith) ∙ sym (power_64_low r (omega arith)))
+    ∙ sym (power_by_parts 64 x)

@@ -1,10 +1,10 @@
 -- A product with H by the bytes of its multiples: byte t of those that the bytes of x pick is a number of its own.
 use Rattle.std.proofs.Common.{◌≡◌, ℕ, zero, suc, ◌+◌, ◌-◌, ◌*◌, ◌/◌, ◌%◌, ◌^◌, ◌<◌, List, [], ◌∷◌, map, length, refl, sym}
 use Rattle.std.proofs.Common.{w8, Fits, ◌≤◌, ◌++◌, take, drop, length-drop, bit_and, ap, subst, ◌∙◌, arith, bit_xor, mod-lt, pow_pos, pow-add, shr-shr, get_or, add-one}
-use Rattle.std.proofs.Math.Nat.{zero-mul, mul_assoc, mul_comm, pow-suc, add-mul, mul-lt-mul_of_pos_right, mod-eq_of_lt}
+use Rattle.std.proofs.Math.Nat.{zero-mul, mul-mod_left, mul_assoc, mul_comm, pow-suc, add-mul, mul-lt-mul_of_pos_right, mod-eq_of_lt}
 use Rattle.std.proofs.lemmas.Nat.{xor_comm, xor_shr, xor_mod, mod-pow-add}
 use Rattle.std.specs.Int.{bit_at, byte_at}
-use Rattle.std.specs.Int.Bits.{xor_shifted}
+use Rattle.std.specs.Int.Bits.{xor_assoc, xor_shifted}
 use Rattle.std.specs.Simd.Lanes.{digits_l, number_l}
 use Rattle.seal.specs.Ghash.{scale, times_a, times_power, product_low, product}
 use lib.Lanes.{Each1, chunk, put_chunk}
@@ -15,7 +15,7 @@ use Rattle.seal.proofs.RegisterLemmas.{IsBlock}
 use Rattle.seal.proofs.Sums.{xor_swap}
 use Rattle.seal.proofs.GhashLaws.{product_is}
 use Rattle.seal.proofs.GhashLemmas.{times_power_xor, product_low-add, product_low-mod, product_low-lt, product_low_power}
-use Rattle.seal.proofs.PowerLemmas.{power_even}
+use Rattle.seal.proofs.PowerLemmas.{power_even, power_by_parts}
 use Rattle.seal.proofs.ByteFacts.{equal_below}
 use Rattle.seal.proofs.TableLemmas.{product_low-four}
 
@@ -84,7 +84,7 @@ horner-xor f g (suc n) =
     ∙ ap (λ (q : ℕ). bit_xor q (bit_xor (f n) (g n))) (times_power_xor 8 (horner f n) (horner g n))
     ∙ xor_swap (times_power 8 (horner f n)) (times_power 8 (horner g n)) (f n) (g n)
 
-times_power-add : (m n x : ℕ) → times_power m (times_power n x) ≡ times_power (m + n) x
+pub times_power-add : (m n x : ℕ) → times_power m (times_power n x) ≡ times_power (m + n) x
 unfolding times_power
 times_power-add zero n x = ap (λ (k : ℕ). times_power k x) (omega arith)
 times_power-add (suc m) n x =
@@ -98,6 +98,76 @@ power_8-zero = refl
 power_0 : (x : ℕ) → times_power 0 x ≡ x
 unfolding times_power
 power_0 x = refl
+
+-- ---- what goes past a^127 is put off
+
+power_128-zero : times_power 128 0 ≡ 0
+unfolding times_power times_a
+power_128-zero = refl
+
+-- after t bytes: sum, and past, whose a^0 is a^128, of which the last 16 - t bytes are 0
+pub record PutOff (f : ℕ → ℕ) (t sum past : ℕ) : Type 0 where
+  pub value : bit_xor sum (times_power 128 past) ≡ horner f t
+  pub room : past % 2 ^ (8 * (16 - t)) ≡ 0
+
+pub put_off-none : (f : ℕ → ℕ) → PutOff f 0 0 0
+put_off-none f = record {
+  value = ap (bit_xor 0) power_128-zero ∙ horner-none f;
+  room = omega arith;
+}
+
+-- the terms of a step, in another order
+turned : (a v p b : ℕ) → bit_xor (bit_xor a v) (bit_xor p b) ≡ bit_xor (bit_xor (bit_xor a b) p) v
+turned a v p b =
+    ap (bit_xor (bit_xor a v)) (xor_comm p b) ∙ xor_swap a v b p ∙ ap (bit_xor (bit_xor a b)) (xor_comm v p)
+    ∙ sym (xor_assoc (bit_xor a b) p v)
+
+-- a byte more is past a^127
+step_value : (f : ℕ → ℕ) (t s p v : ℕ) → bit_xor s (times_power 128 p) ≡ horner f t → p % 256 ≡ 0 → v ≡ f t
+    → bit_xor (bit_xor (s / 256) v) (times_power 128 (bit_xor (p / 256) (s % 256 * 2 ^ 120))) ≡ horner f (t + 1)
+step_value f t s p v so_far none is =
+    let whole : p ≡ p / 256 * 2 ^ 8 = omega arith in
+    let kept : p / 256 ≡ times_power 8 p = sym (ap (times_power 8) whole ∙ power_even 8 (p / 256)) in
+    let before : times_power 128 (p / 256) ≡ times_power 8 (times_power 128 p) =
+    ap (times_power 128) kept ∙ times_power-add 128 8 p ∙ sym (times_power-add 8 128 p) in
+    let new : times_power 128 (s % 256 * 2 ^ 120) ≡ times_power 8 (s % 256) =
+    sym (times_power-add 8 120 (s % 256 * 2 ^ 120)) ∙ ap (times_power 8) (power_even 120 (s % 256)) in
+    ap (bit_xor (bit_xor (s / 256) v)) (times_power_xor 128 (p / 256) (s % 256 * 2 ^ 120)
+    ∙ (λ i. bit_xor (before i) (new i)))
+    ∙ turned (s / 256) v (times_power 8 (times_power 128 p)) (times_power 8 (s % 256))
+    ∙ (λ i. bit_xor (bit_xor (sym (power_by_parts 8 s) i) (times_power 8 (times_power 128 p))) (is i))
+    ∙ ap (λ (q : ℕ). bit_xor q (f t)) (sym (times_power_xor 8 s (times_power 128 p)) ∙ ap (times_power 8) so_far)
+    ∙ horner-more f t
+
+-- .. and its place was free
+step_room : (m s p : ℕ) → m ≤ 15 → p % 2 ^ (8 * m + 8) ≡ 0
+    → (p % 256 ≡ 0) × (bit_xor (p / 256) (s % 256 * 2 ^ 120) % 2 ^ (8 * m) ≡ 0)
+step_room m s p few none =
+    let both : (p / 256 % 2 ^ (8 * m)) * 256 + p % 256 ≡ 0 = sym (mod-pow-add p (8 * m) 8) ∙ none in
+    let free : p / 256 % 2 ^ (8 * m) ≡ 0 = omega arith in
+    let high : 120 ≡ 8 * (15 - m) + 8 * m = omega arith in
+    let up : s % 256 * 2 ^ 120 ≡ s % 256 * 2 ^ (8 * (15 - m)) * 2 ^ (8 * m) =
+    ap (λ (k : ℕ). s % 256 * 2 ^ k) high ∙ ap (λ (q : ℕ). s % 256 * q) (pow-add 2 (8 * (15 - m)) (8 * m))
+    ∙ sym (mul_assoc (s % 256) (2 ^ (8 * (15 - m))) (2 ^ (8 * m))) in
+    let above : s % 256 * 2 ^ 120 % 2 ^ (8 * m) ≡ 0 =
+    ap (λ (q : ℕ). q % 2 ^ (8 * m)) up ∙ mul-mod_left (s % 256 * 2 ^ (8 * (15 - m))) (2 ^ (8 * m)) in (
+      omega arith,
+      xor_mod (p / 256) (s % 256 * 2 ^ 120) (8 * m) ∙ (λ i. bit_xor (free i) (above i)),
+    )
+
+pub put_off-more : (f : ℕ → ℕ) (t s p v : ℕ) → t < 16 → PutOff f t s p → v ≡ f t
+    → PutOff f (t + 1) (bit_xor (s / 256) v) (bit_xor (p / 256) (s * 2 ^ 120 % 2 ^ 128))
+put_off-more f t s p v h off is =
+    let m : ℕ = 15 - t in
+    let bits : 8 * (16 - t) ≡ 8 * m + 8 = omega arith in
+    let left : 8 * m ≡ 8 * (16 - (t + 1)) = omega arith in
+    let low : s % 256 * 2 ^ 120 ≡ s * 2 ^ 120 % 2 ^ 128 = omega arith in
+    let room = step_room m s p (omega arith) (ap (λ (k : ℕ). p % 2 ^ k) (sym bits) ∙ off.room) in
+    record {
+      value = ap (λ (q : ℕ). bit_xor (bit_xor (s / 256) v) (times_power 128 (bit_xor (p / 256) q))) (sym low)
+          ∙ step_value f t s p v off.value room.0 is;
+      room = (λ i. bit_xor (p / 256) (sym low i) % 2 ^ sym left i) ∙ room.1;
+    }
 
 -- ---- the bytes of one number m, each moved by d bits
 

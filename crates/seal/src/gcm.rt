@@ -1,4 +1,4 @@
-//! AES-256-GCM with nonces of 12 bytes and tags of 16 (SP 800-38D).
+//! AES-256-GCM with nonces of 12 bytes and tags of 16 (SP 800-38D), by tables.
 
 ghost use Rattle.std.specs.Prelude.{◌≡◌, ◌≤◌, ◌<◌, ◌↔◌, ◌⊎◌, ℕ, List, length, IfOk, OnOk, OnErr, IsErrOf, IsOk, IsTrue};
 ghost use Rattle.std.specs.Prelude.{◌++◌, ◌+◌, ◌*◌, ◌^◌, take, slice_index};
@@ -192,7 +192,8 @@ fn has_tag<L: Ledger>(
     equal_bytes(&right, tag)
 }
 
-/// Seals `text` in place under AES-256-GCM, and returns its tag (SP 800-38D, section 7.1).
+/// Seals `text` in place under AES-256-GCM, and returns its tag (SP 800-38D, section 7.1), by tables at places that key
+/// and text decide: [`seal_in_registers`](crate::seal_in_registers) has none.
 ///
 /// `aad`, the additional data, is covered by the tag and stays as it is. A nonce serves for one
 /// text under a key: that is the caller's care.

@@ -5,7 +5,7 @@
 //! lowest first.
 
 ghost use Rattle.std.specs.Prelude.{◌≡◌, ◌<◌, ◌+◌, ◌*◌, ◌^◌, ◌++◌, ◌∷◌, [], List, ℕ, bit_xor, map, slice_index};
-ghost use Rattle.std.specs.Int.{bit_at, byte_at};
+ghost use Rattle.std.specs.Int.{w128, bit_at, byte_at, to_be_bytes};
 ghost use Rattle.std.specs.Simd.Lanes.{digits_l, number_l};
 ghost use Rattle.seal.specs.Ghash.{ghash, number_of, product, product_low, scale, times_a, times_power};
 
@@ -31,21 +31,22 @@ fn number_of_lanes(v: u8x16) -> u128
     ((high as u128) << 64) ^ (low as u128)
 }
 
-// The product with a.
+// The product with a: the coefficient that goes past a^127 is added at 1, a, a^2 and a^7. By shifts alone: from a
+// mask or a product by one bit the optimiser makes a choice.
 fn times_a(x: u128) -> u128
     ensures { result ≡ times_a x }
 {
-    let low = x & 1;
-    (x >> 1) ^ ((low << 127) ^ (low << 126) ^ (low << 125) ^ (low << 120))
+    let past = x << 127;
+    (x >> 1) ^ (past ^ (past >> 1) ^ (past >> 2) ^ (past >> 7))
 }
 
-// The product with a^8: the byte that goes past a^127 is added at 1, a, a^2 and a^7.
+// The product with a^64: the half that goes past a^127 is added at 1, a, a^2 and a^7.
 #[inline(always)]
-fn times_power_8(x: u128) -> u128
-    ensures { result ≡ times_power 8 x }
+fn times_power_64(x: u128) -> u128
+    ensures { result ≡ times_power 64 x }
 {
-    let low = x & 0xFF;
-    (x >> 8) ^ ((low << 120) ^ (low << 119) ^ (low << 118) ^ (low << 113))
+    let low = x & 0xFFFF_FFFF_FFFF_FFFF;
+    (x >> 64) ^ ((low << 64) ^ (low << 63) ^ (low << 62) ^ (low << 57))
 }
 
 // Lane n is all ones where n has the bit, and else 0.
@@ -102,10 +103,10 @@ fn rows_of(h: u128) -> [u8; 256]
     rows
 }
 
-/// The hash subkey H, laid out for products: the bytes of its multiples and of those of a^4 * H.
-/// Contracts see H, as a number.
+/// The hash subkey H (SP 800-38D, section 6.4), laid out for products: the bytes of its sixteen multiples and of those
+/// of a^4 * H. Contracts see H, as a number.
 #[derive(Drop)]
-pub(crate) struct HashSubkey {
+pub struct HashSubkey {
     number: u128,
     near: [u8; 256],
     far: [u8; 256],
@@ -125,7 +126,7 @@ impl Model for HashSubkey {
 
 impl HashSubkey {
     /// The subkey of a block.
-    pub(crate) fn new(h: &[u8; 16]) -> HashSubkey
+    pub fn new(h: &[u8; 16]) -> HashSubkey
         ensures { result ≡ number_of h.now }
     {
         let number = u128::from_be_bytes(*h);
@@ -148,22 +149,32 @@ impl HashSubkey {
         shuffled(near, x >> u8x16::splat(4)) ^ shuffled(far, x & u8x16::splat(15))
     }
 
-    // x * H: byte t of the sixteen multiples that the bytes of x pick is a number of its own, and those are worked
-    // off by Horner's rule.
+    // x * H: byte t of the multiples that the bytes of x pick is a number of its own, and those are worked off by
+    // Horner's rule. What goes past a^127 is kept, to be reduced at the end.
     fn times(&self, x: u128) -> u128
         ensures { result ≡ product x self.now }
     {
         let _ = &self.number;
         let bytes = lanes_of(x);
         let mut sum = 0u128;
+        let mut past = 0u128;
         for t in 0..16usize {
-            let moved = times_power_8(sum);
-            sum = moved ^ number_of_lanes(self.bytes_at(t, bytes));
+            past = (past >> 8) ^ (sum << 120);
+            sum = (sum >> 8) ^ number_of_lanes(self.bytes_at(t, bytes));
         }
-        sum
+        sum ^ times_power_64(times_power_64(past))
     }
 
-    /// The hash of one block more (6.4): H times the sum of the hash so far and the block.
+    /// (y + block) * H.
+    pub fn step(&self, y: &[u8; 16], block: &[u8; 16]) -> [u8; 16]
+        ensures { result ≡ to_be_bytes w128
+            (product (bit_xor (number_of y.now) (number_of block.now)) self.now) }
+    {
+        let sum = u128::from_be_bytes(*y) ^ u128::from_be_bytes(*block);
+        self.times(sum).to_be_bytes()
+    }
+
+    // The hash of one block more (6.4): H times the sum of the hash so far and the block.
     pub(crate) fn hash_block(&self, sum: u128, block: &[u8; 16]) -> u128
         ensures { (bs : List ℕ) → sum ≡ ghash self.now bs
             → result ≡ ghash self.now (bs ++ number_of block.now ∷ []) }

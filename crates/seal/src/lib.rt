@@ -1,10 +1,10 @@
 //! Ciphers over plain bytes: HMAC with SHA-256 (RFC 2104), HKDF's expansion (RFC 5869), and
-//! AES-256-GCM (FIPS 197, SP 800-38D). No call takes memory.
+//! AES-256-GCM (FIPS 197, SP 800-38D), in registers and by tables. No call takes memory.
 //!
 //! ```
 //! let mut text = *b"attack at dawn";
-//! let tag = seal::seal(&key, &nonce, b"aad", &mut text)?;
-//! seal::open(&key, &nonce, b"aad", &mut text, &tag)?;
+//! let tag = seal::seal_in_registers(&key, &nonce, b"aad", &mut text)?;
+//! seal::open_in_registers(&key, &nonce, b"aad", &mut text, &tag)?;
 //! ```
 #![tactic(auto)]
 
@@ -29,6 +29,7 @@ pub use equal::equal_bytes;
 pub use error::SealError;
 pub use gcm::{is_sealable, open, open_counted, seal, seal_counted};
 pub use ghash::Multiples;
+pub use hash_subkey::HashSubkey;
 pub use mac::{MacKey, hmac};
 pub use powers::Turns;
 pub use register_gcm::{open_in_registers, seal_in_registers};

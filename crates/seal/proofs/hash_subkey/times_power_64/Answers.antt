@@ -1,0 +1,5 @@
+use Rattle.seal.proofs.PowerLemmas.{power_64_shifted}
+use Rattle.seal.proofs.hash_subkey.times_power_64.Goals as goal
+
+pub returns : goal.returns
+returns c = power_64_shifted c.args.x
