@@ -23,7 +23,7 @@ SUFFIXES = f"{TOP}/examples/suffixes.dat"
 SEED = "00" * 32
 BEGIN = "2024-01-01T00:00:00Z"
 # Seconds of a first compile, on four calm cores at 2.5 GHz.
-SECONDS = {"cookie-run": 75, "cookie-jar": 105}
+SECONDS = {"cookie-run": 55, "cookie-jar": 80}
 # Optimises in little time: some passes, which inline next to nothing, and then the fastest making of code.
 CLANG = """#!/bin/sh
 "{clang}" "$@" -O1 -emit-llvm -mllvm -inline-threshold=0 && mv module.o module.bc &&
