@@ -11,8 +11,10 @@ def patience(seconds):
 
 
 def run(words, seconds, given=None, **how):
-    """How a command ended, and what it wrote to standard output and error: the status is None where it was killed at the
-    end of its time, with all that it started, and that is told behind what it wrote."""
+    """How a command ended, and what it wrote to standard output and error.
+
+    The status is None where it was killed at the end of its time, with all that it started; that is told behind what it
+    wrote."""
     how = {"stdout": subprocess.PIPE, "stderr": subprocess.PIPE, **how}
     stdin = subprocess.DEVNULL if given is None else subprocess.PIPE
     with subprocess.Popen(words, stdin=stdin, start_new_session=True, **how) as process:
