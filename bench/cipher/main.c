@@ -1,4 +1,4 @@
-// Times sealing, opening and HMAC of texts of three lengths.
+// Times sealing and opening, in registers and by tables, and HMAC of texts of three lengths.
 #include <stdbool.h>
 #include <stdint.h>
 #include <stdio.h>
@@ -12,6 +12,12 @@ bool bench_seal(const uint8_t *key, size_t key_len, const uint8_t *nonce, size_t
 bool bench_open(const uint8_t *key, size_t key_len, const uint8_t *nonce, size_t nonce_len,
                 const uint8_t *aad, size_t aad_len, uint8_t *text, size_t text_len,
                 const uint8_t *tag, size_t tag_len);
+bool bench_seal_by_tables(const uint8_t *key, size_t key_len, const uint8_t *nonce, size_t nonce_len,
+                          const uint8_t *aad, size_t aad_len, uint8_t *text, size_t text_len,
+                          uint8_t *tag, size_t tag_len);
+bool bench_open_by_tables(const uint8_t *key, size_t key_len, const uint8_t *nonce, size_t nonce_len,
+                          const uint8_t *aad, size_t aad_len, uint8_t *text, size_t text_len,
+                          const uint8_t *tag, size_t tag_len);
 bool bench_hmac(const uint8_t *key, size_t key_len, const uint8_t *text, size_t text_len,
                 uint8_t *code, size_t code_len);
 
@@ -37,6 +43,16 @@ static void open_once(void) {
     check(bench_open(key, sizeof key, nonce, sizeof nonce, aad, sizeof aad, work, length, tag, sizeof tag));
 }
 
+static void seal_by_tables_once(void) {
+    memcpy(work, plain, length);
+    check(bench_seal_by_tables(key, sizeof key, nonce, sizeof nonce, aad, sizeof aad, work, length, tag, sizeof tag));
+}
+
+static void open_by_tables_once(void) {
+    memcpy(work, sealed, length);
+    check(bench_open_by_tables(key, sizeof key, nonce, sizeof nonce, aad, sizeof aad, work, length, tag, sizeof tag));
+}
+
 static void hmac_once(void) {
     check(bench_hmac(key, sizeof key, plain, length, code, sizeof code));
 }
@@ -52,11 +68,17 @@ int main(void) {
         memcpy(sealed, work, length);
         open_once();
         check(memcmp(work, plain, length) == 0);
+        open_by_tables_once();
+        check(memcmp(work, plain, length) == 0);
         char name[40];
         snprintf(name, sizeof name, "seal %zu bytes", length);
         report(name, length, least_time(seal_once));
         snprintf(name, sizeof name, "open %zu bytes", length);
         report(name, length, least_time(open_once));
+        snprintf(name, sizeof name, "seal %zu bytes by tables", length);
+        report(name, length, least_time(seal_by_tables_once));
+        snprintf(name, sizeof name, "open %zu bytes by tables", length);
+        report(name, length, least_time(open_by_tables_once));
         snprintf(name, sizeof name, "hmac %zu bytes", length);
         report(name, length, least_time(hmac_once));
     }
