@@ -1,5 +1,6 @@
 -- Look-ups within a register, lane by lane.
-use Rattle.std.proofs.Common.{◌≡◌, ℕ, ◌+◌, ◌*◌, ◌/◌, ◌<◌, true, false, cond, ltb, leb, ◌||◌, T, List, map, length, get_or}
+use Rattle.std.proofs.Common.{◌≡◌, ℕ, ◌+◌, ◌*◌, ◌/◌, ◌<◌, true, false, cond, ltb, leb, ◌||◌, T, List, map, length}
+use Rattle.std.proofs.Common.{get_or}
 use Rattle.std.proofs.Common.{replicate, bit_and, refl, sym, ap, subst, ◌∙◌, arith, w8, Fits}
 use Rattle.std.proofs.lemmas.Bool.{agree_below_at}
 use Rattle.std.proofs.lemmas.List.{get_or-map, length-map, ext_get_or}

@@ -1,7 +1,10 @@
 -- A product with H by the bytes of its multiples: byte t of those that the bytes of x pick is a number of its own.
-use Rattle.std.proofs.Common.{◌≡◌, ℕ, zero, suc, ◌+◌, ◌-◌, ◌*◌, ◌/◌, ◌%◌, ◌^◌, ◌<◌, List, [], ◌∷◌, map, length, refl, sym}
-use Rattle.std.proofs.Common.{w8, Fits, ◌≤◌, ◌++◌, take, drop, length-drop, bit_and, ap, subst, ◌∙◌, arith, bit_xor, mod-lt, pow_pos, pow-add, shr-shr, get_or, add-one}
-use Rattle.std.proofs.Math.Nat.{zero-mul, mul-mod_left, mul_assoc, mul_comm, pow-suc, add-mul, mul-lt-mul_of_pos_right, mod-eq_of_lt}
+use Rattle.std.proofs.Common.{◌≡◌, ℕ, zero, suc, ◌+◌, ◌-◌, ◌*◌, ◌/◌, ◌%◌, ◌^◌, ◌<◌, List, [], ◌∷◌, map, length, refl}
+use Rattle.std.proofs.Common.{sym}
+use Rattle.std.proofs.Common.{w8, Fits, ◌≤◌, ◌++◌, take, drop, length-drop, bit_and, ap, subst, ◌∙◌, arith, bit_xor}
+use Rattle.std.proofs.Common.{mod-lt, pow_pos, pow-add, shr-shr, get_or, add-one}
+use Rattle.std.proofs.Math.Nat.{zero-mul, mul-mod_left, mul_assoc, mul_comm, pow-suc, add-mul, mul-lt-mul_of_pos_right}
+use Rattle.std.proofs.Math.Nat.{mod-eq_of_lt}
 use Rattle.std.proofs.lemmas.Nat.{xor_comm, xor_shr, xor_mod, mod-pow-add}
 use Rattle.std.specs.Int.{bit_at, byte_at}
 use Rattle.std.specs.Int.Bits.{xor_assoc, xor_shifted}
@@ -14,7 +17,8 @@ use Rattle.std.proofs.lemmas.Simd.{get_or-chunk, get_or-put_chunk_at, length-put
 use Rattle.seal.proofs.RegisterLemmas.{IsBlock}
 use Rattle.seal.proofs.Sums.{xor_swap}
 use Rattle.seal.proofs.GhashLaws.{product_is}
-use Rattle.seal.proofs.GhashLemmas.{times_power_xor, product_low-add, product_low-mod, product_low-lt, product_low_power}
+use Rattle.seal.proofs.GhashLemmas.{times_power_xor, product_low-add, product_low-mod, product_low-lt}
+use Rattle.seal.proofs.GhashLemmas.{product_low_power}
 use Rattle.seal.proofs.PowerLemmas.{power_even, power_by_parts}
 use Rattle.seal.proofs.ByteFacts.{equal_below}
 use Rattle.seal.proofs.TableLemmas.{product_low-four}
