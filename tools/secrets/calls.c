@@ -39,7 +39,6 @@ static void keys_compared(void) {
         SECRET(key);
         SECRET(other_key);
         bool same = same_keys(key, sizeof key, other_key, sizeof other_key);
-        verdicts++;
         PUBLIC(same);
         demand(same == !i, "same_keys");
     }

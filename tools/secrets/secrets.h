@@ -10,7 +10,7 @@
 #define SECRET(bytes) ((void)VALGRIND_MAKE_MEM_UNDEFINED(&(bytes), sizeof(bytes)))
 #define PUBLIC(bytes) ((void)VALGRIND_MAKE_MEM_DEFINED(&(bytes), sizeof(bytes)))
 
-/* How many answers that say yes or no were asked for. */
+/* How many answers that say yes or no were asked for, by which the library itself goes on. */
 static int verdicts;
 
 /* Does what a word names, and writes how many verdicts it asked for; writes the name where there is no word. Each
