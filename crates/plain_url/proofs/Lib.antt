@@ -1,0 +1,2 @@
+pub mod InsteadLemmas
+pub mod ReadLemmas
