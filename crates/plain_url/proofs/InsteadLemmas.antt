@@ -1,10 +1,9 @@
 -- A web URL's text without user name and password.
-use Rattle.std.proofs.Common.{◌≡◌, ◌∙◌, ◌++◌, ℕ, true, List, [], ap, append-nil, append_assoc, drop, drop_at, inl}
-use Rattle.std.proofs.Common.{length, map, refl, subst, sym, take, take_at}
-use Rattle.std.specs.Prelude.{None, Ok}
+use Rattle.std.proofs.Common.{◌≡◌, ◌∙◌, ◌++◌, true, [], ap, append-nil, append_assoc, drop, drop_at, inl}
+use Rattle.std.proofs.Common.{length, map, refl, subst, take, take_at}
+use Rattle.std.specs.Prelude.{None}
 use Rattle.std.specs.Char.{to_ascii_lowercase}
 use Rattle.std.proofs.lemmas.List.Elements.{All-nil}
-use Rattle.url.specs.Parser.{parse_url}
 use Rattle.url.specs.Parts.{IsValid, IsValidHead, Parts, has_authority, kind_of, serialize}
 use Rattle.url.specs.Scheme.{is_special}
 use Rattle.url.proofs.Theorems.{parse_url-serialize_special}

@@ -1,5 +1,5 @@
 -- What RFC 3986 reads in a URL's own text.
-use Rattle.std.proofs.Common.{◌≡◌, ◌+◌, ◌<◌, ◌≤◌, ◌∙◌, ◌⊎◌, ◌++◌, ◌∷◌, ℕ, zero, suc, Bool, true, false, List, [], All, ap, append-nil}
+use Rattle.std.proofs.Common.{◌≡◌, ◌+◌, ◌<◌, ◌≤◌, ◌∙◌, ◌⊎◌, ◌++◌, ◌∷◌, ℕ, zero, suc, true, false, List, [], All, ap, append-nil}
 use Rattle.std.proofs.Common.{append_assoc, arith, drop, drop_at, get_or, inl, inr, length, length-append, map, refl}
 use Rattle.std.proofs.Common.{subst, sym, take, take-append-drop, take_at, ⊎_elim}
 use Rattle.std.specs.Prelude.{codes, nat_lt}
@@ -19,7 +19,7 @@ use Rattle.url.proofs.TextLemmas.{authority_bytes, is_authority_byte}
 use Rattle.url.proofs.ValidLemmas.{base_from_authority, hierarchical, special_has_authority}
 use Rattle.plain_url.specs.Authority.{authority_of, is_in_authority}
 use Rattle.plain_url.specs.Laws.{IsReadAlike, authority_at, host_and_port}
-use Rattle.plain_url.specs.Plain.{IsOwnText, IsTargetOf, IsWeb, SameInAnyCase, site, target}
+use Rattle.plain_url.specs.Plain.{IsOwnText, IsTargetOf, SameInAnyCase, site, target}
 
 -- ---- texts
 

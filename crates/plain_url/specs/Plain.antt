@@ -1,5 +1,5 @@
 -- Plain URLs: web addresses (the URL Standard, section 4) that each reader of URLs reads alike (this repository's own).
-use Rattle.std.specs.Prelude.{◌≡◌, ◌⊎◌, ◌++◌, ℕ, List, [], Option, Some, None, Result, Ok, codes, drop, length, map, take}
+use Rattle.std.specs.Prelude.{◌≡◌, ◌⊎◌, ◌++◌, ℕ, List, [], None, Ok, codes, drop, length, map, take}
 use Rattle.std.specs.Char.{to_ascii_lowercase}
 use Rattle.url.specs.Parser.{parse_url}
 use Rattle.url.specs.Parts.{Parts, text_between}
