@@ -1,6 +1,7 @@
 -- Plain URLs: web addresses (the URL Standard, section 4) that each reader of URLs reads alike (this repository's own).
-use Rattle.std.specs.Prelude.{◌≡◌, ◌⊎◌, ◌++◌, ℕ, List, [], None, Ok, codes, drop, length, map, take}
+use Rattle.std.specs.Prelude.{◌≡◌, ◌⊎◌, ◌++◌, ◌||◌, ◌&&◌, ℕ, Bool, List, [], None, Ok, codes, drop, length, map, take}
 use Rattle.std.specs.Char.{to_ascii_lowercase}
+use Rattle.std.specs.Str.{bytes_eq}
 use Rattle.url.specs.Parser.{parse_url}
 use Rattle.url.specs.Parts.{Parts, text_between}
 use Rattle.url.specs.declared.slicing.Position.TheVariants.{BeforeScheme, BeforeUsername, BeforeHost, AfterPort}
@@ -36,6 +37,16 @@ pub record IsOwnText (text : List ℕ) (url : Parts) : Type 0 where
   pub user : HasNoUser url
   pub same_site : SameInAnyCase (take (length (site url)) text) (site url)
   pub same_target : IsTargetOf (drop (length (site url)) text) url
+
+-- the same as a test
+abbrev pub is_own_text : List ℕ → Parts → Bool
+is_own_text text url =
+    let front = take (length (site url)) text in
+    let rest = drop (length (site url)) text in
+    (bytes_eq url.scheme (codes "http") || bytes_eq url.scheme (codes "https"))
+    && ((bytes_eq url.username [] && bytes_eq url.password [])
+    && (bytes_eq (map to_ascii_lowercase front) (map to_ascii_lowercase (site url))
+    && (bytes_eq rest (target url) || bytes_eq rest [] && bytes_eq (target url) (codes "/"))))
 
 -- a plain text, and its URL
 abbrev pub IsPlainOf : List ℕ → Parts → Type 0

@@ -23,9 +23,17 @@ pub fn is_plain(alloc: Global, text: &str) -> Result<bool, AllocError>
 
 /// Whether the text, which parses to this URL, is plain, as [`is_plain`] tells it.
 pub fn is_plain_of(url: &Url, text: &str) -> bool
+    ensures own { IsTrue result ↔ spec.IsOwnText text.now url.now }
+    ensures test { result ≡ spec.is_own_text text.now url.now }
+{
+    is_own(url, text.as_bytes())
+}
+
+// Whether the text is the URL's own, which is one of the web without a user.
+fn is_own(url: &Url, text: &[u8]) -> bool
     ensures { IsTrue result ↔ spec.IsOwnText text.now url.now }
 {
-    is_web(url) && has_no_user(url) && has_own_text(url, text.as_bytes())
+    is_web(url) && has_no_user(url) && has_own_text(url, text)
 }
 
 /// Whether a `Location` that leads from a page to this URL is an absolute path which the URL has as it stands, at the

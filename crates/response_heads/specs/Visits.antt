@@ -1,12 +1,13 @@
 -- Which URL answered each head: the first the given one, each further one that to which the head before it leads, where
 -- that is told by a plain URL or by a plain path.
 use Rattle.std.specs.Prelude.{◌≡◌, ◌⊎◌, ◌&&◌, ◌<◌, ℕ, Bool, false, not, List, [], ◌∷◌, Option, Some, None, Result, Ok, Err}
-use Rattle.std.specs.Prelude.{codes, length, nat_lt}
+use Rattle.std.specs.Prelude.{codes, if◌then◌else◌, length, nat_lt}
 use Rattle.std.specs.Str.{IsUtf8, bytes_eq}
 use Rattle.url.specs.Parser.{parse_url}
 use Rattle.url.specs.Parts.{Parts}
 use Rattle.plain_url.specs.Plain.{IsHop, IsPlainOf}
 use Rattle.response_heads.specs.Heads.{GivesHeads, HeadText, IsRefusal}
+use Rattle.response_heads.specs.Read as head
 use Rattle.response_heads.specs.Read.{head_text, is_success, locations}
 use Rattle.response_heads.specs.declared.redirects.Visit.{Visit}
 use Rattle.response_heads.specs.declared.error.LineFault.TheVariants.{Status}
@@ -21,6 +22,10 @@ pub record VisitText : Type 0 where
 
 abbrev pub visit_text : Visit → VisitText
 visit_text visit = record { url = visit.url; head = head_text visit.head; is_tunnel = visit.is_tunnel }
+
+-- the Set-Cookie lines of the URL that answered, none where a proxy did
+abbrev pub set_cookie_lines : VisitText → List (List ℕ)
+set_cookie_lines visit = if visit.is_tunnel then [] else head.set_cookie_lines visit.head
 
 -- ---- where a head leads
 

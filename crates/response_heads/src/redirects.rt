@@ -24,6 +24,23 @@ pub struct Visit<'a> {
     pub is_tunnel: bool,
 }
 
+impl<'a> Visit<'a> {
+    /// The `Set-Cookie` lines of the URL that answered, in their order: none where a proxy did.
+    ///
+    /// # Errors
+    ///
+    /// `AllocError`, for want of memory.
+    pub fn set_cookie_lines(&self, alloc: Global) -> Result<Vec<&'a [u8]>, AllocError>
+        ensures { IfOk result (λ lines. map (λ line. line.now) lines.items
+            ≡ spec.set_cookie_lines (spec.visit_text self.now)) }
+    {
+        if self.is_tunnel {
+            return Ok(Vec::new(alloc));
+        }
+        self.head.set_cookie_lines(alloc)
+    }
+}
+
 /// The heads of a text, each with the URL that answered it.
 #[derive(Debug, Drop)]
 pub struct Visited<'a> {
