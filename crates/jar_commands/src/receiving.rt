@@ -123,8 +123,8 @@ fn visits_of<'a>(alloc: Global, url: &Url, text: &'a [u8]) -> Result<Visited<'a>
 // What is told where heads are left out, behind what was told.
 fn with_lost(alloc: Global, received: Received, lost: Option<usize>) -> Result<Received, AllocError>
     ensures { IfOk result (λ more.
-        (string_bytes more.told ≡ string_bytes received.entry.told ++ spec.lost_line lost)
-        × (more.is_any_refused ≡ (received.entry.is_any_refused || is_some lost))) }
+        (string_bytes more.told ≡ string_bytes received.told ++ spec.lost_line lost)
+        × (more.is_any_refused ≡ (received.is_any_refused || is_some lost))) }
 {
     let Some(line) = lost else {
         return Ok(received);
