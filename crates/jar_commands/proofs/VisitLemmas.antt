@@ -5,8 +5,7 @@ use Rattle.std.specs.Prelude.{map}
 use Rattle.std.proofs.lemmas.List.{append-nil, map-append, take-map, take_more}
 use Rattle.std.proofs.Math.Bool.{false-or, or-false, or_assoc}
 use Rattle.publicsuffix.specs.Rules.{Rule}
-use Rattle.response_heads.specs.Read.{set_cookie_lines}
-use Rattle.response_heads.specs.Visits.{VisitText}
+use Rattle.response_heads.specs.Visits.{VisitText, set_cookie_lines}
 use Rattle.cookie_store.specs.Rows.{Row}
 use Rattle.cookie_run.specs.Accept.{AcceptsAll}
 use Rattle.cookie_jar.specs.Told.{told_lines}
@@ -20,7 +19,7 @@ pub takes_behind : (list : List Rule) (rows : List Row) (now : ℤ) (visits : Li
     → TakesVisit list mid now visit told refused more more_refused new
     → TakesVisits list rows now (visits ++ visit ∷ []) more more_refused new
 takes_behind list rows now [] visit told more refused more_refused mid new takes one =
-    let lines = set_cookie_lines visit.head in (
+    let lines = set_cookie_lines visit in (
       one.0,
       new,
       [],
@@ -32,8 +31,8 @@ takes_behind list rows now [] visit told more refused more_refused mid new takes
           ∙ sym (or-false (is_any_refused one.0)))),
     )
 takes_behind list rows now (v ∷ visits) visit told more refused more_refused mid new takes one =
-    let lines = set_cookie_lines visit.head in
-    let front = told_lines (set_cookie_lines v.head) takes.0 in (
+    let lines = set_cookie_lines visit in
+    let front = told_lines (set_cookie_lines v) takes.0 in (
       takes.0,
       takes.1,
       takes.2 ++ told_lines lines one.0,

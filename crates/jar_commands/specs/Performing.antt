@@ -60,7 +60,7 @@ abbrev pub FailsToReceive : Reader → PlanText → Store → Parts → Failure 
 FailsToReceive reader plan jar url failure =
     (failure ≡ Memory)
     ⊎ (((failure ≡ Input) × (Rose reader.unread.0 reader.unread.1 ⊎ (reader.reads ≡ 2 ^ 64 - 1)))
-    ⊎ (((failure ≡ Heads) × OfInput reader (IsNoHeads url))
+    ⊎ (((failure ≡ Heads) × OfInput reader IsNoHeads)
     ⊎ OfInput reader (λ text. (told : List ℕ) × (refused : Bool) × (new : List Row)
     × TakesHeads jar plan.now url text told refused new × Unkept plan new failure)))
 

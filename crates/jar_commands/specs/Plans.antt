@@ -1,7 +1,8 @@
 -- What words ask for, read: the moment, the form of the jar's text, and the task (this repository's own).
-use Rattle.std.specs.Prelude.{ℕ, ℤ, List, Option, Some, None, Result, Ok, Err, option_map}
+use Rattle.std.specs.Prelude.{ℕ, ℤ, List, Option, Some, None, Result, Ok, Err, if◌then◌else◌, option_map}
 use Rattle.jiff.specs.Words.{civil_nanos}
 use Rattle.url.specs.Parts.{Parts}
+use Rattle.plain_url.specs.Plain.{is_own_text}
 use Rattle.cookie_jar.specs.Forms.{form_of}
 use Rattle.cookie_jar.specs.declared.form.Form.{Form}
 use Rattle.cookie_jar.specs.declared.form.Form.TheVariants as form
@@ -43,6 +44,14 @@ form_asked (Some Txt) jar = Some form.Txt
 
 -- ---- the task
 
+-- the URL of a text, where the text is its own
+abbrev pub plain_at : List ℕ → Option Parts → Option Parts
+plain_at text None = None
+plain_at text (Some url) = if is_own_text text url then Some url else None
+
+abbrev pub plain_of : List ℕ → Option Parts
+plain_of text = plain_at text (url_of text)
+
 -- a task at a URL, where there is one
 abbrev pub at_url : (Parts → Task) → Option Parts → Result Task Failure
 at_url task None = Err failure.Url
@@ -62,13 +71,13 @@ with_form task (Ok form) = Ok (task form)
 
 -- the task of a command
 abbrev pub task_of : Command → Result Task Failure
-task_of (command.Receive url) = at_url task.Receive (url_of url.now)
-task_of (command.Header url) = at_url task.Header (url_of url.now)
+task_of (command.Receive url) = at_url task.Receive (plain_of url.now)
+task_of (command.Header url) = at_url task.Header (plain_of url.now)
 task_of (command.List None) = Ok task.List
-task_of (command.List (Some url)) = at_url task.ListOf (url_of url.now)
+task_of (command.List (Some url)) = at_url task.ListOf (plain_of url.now)
 task_of (command.ListJson None) = Ok task.ListJson
-task_of (command.ListJson (Some url)) = at_url task.ListJsonOf (url_of url.now)
-task_of (command.Explain url line) = at_url (λ parts. task.Explain parts line) (url_of url.now)
+task_of (command.ListJson (Some url)) = at_url task.ListJsonOf (plain_of url.now)
+task_of (command.Explain url line) = at_url (λ parts. task.Explain parts line) (plain_of url.now)
 task_of (command.Remove domain path name) = Ok (task.Remove domain path name)
 task_of command.Clear = Ok task.Clear
 task_of (command.Import file) = with_form task.Import (form_of_file file.now)

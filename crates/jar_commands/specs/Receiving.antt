@@ -1,9 +1,9 @@
 -- What is told of heads of responses, and the rows behind them (this repository's own).
-use Rattle.std.specs.Prelude.{◌≡◌, ◌≢◌, ◌++◌, ◌||◌, ℕ, ℤ, Bool, false, List, [], ◌∷◌}
+use Rattle.std.specs.Prelude.{◌≡◌, ◌≢◌, ◌++◌, ◌||◌, ℕ, ℤ, Bool, false, List, [], ◌∷◌, Option, Some, None, codes, is_some}
+use Rattle.std.specs.Fmt.{decimal}
 use Rattle.std.specs.List.{list_any}
 use Rattle.publicsuffix.specs.Rules.{Rule}
-use Rattle.response_heads.specs.Read.{set_cookie_lines}
-use Rattle.response_heads.specs.Visits.{GivesVisits, IsVisitRefusal, VisitText}
+use Rattle.response_heads.specs.Visits.{GivesVisits, IsVisitRefusal, VisitText, set_cookie_lines}
 use Rattle.response_heads.specs.declared.error.ReadError.{ReadError}
 use Rattle.response_heads.specs.declared.error.ReadError.TheVariants.{OutOfMemory}
 use Rattle.url.specs.Parts.{Parts}
@@ -22,17 +22,23 @@ abbrev pub TakesVisits : List Rule → List Row → ℤ → List VisitText → L
 TakesVisits list rows now [] told refused new = (told ≡ []) × (refused ≡ false) × (new ≡ rows)
 TakesVisits list rows now (visit ∷ visits) told refused new =
     (ends : List LineEnd) × (mid : List Row) × (rest : List ℕ) × (others : Bool)
-    × AcceptsAll list rows visit.url now (set_cookie_lines visit.head) ends mid
+    × AcceptsAll list rows visit.url now (set_cookie_lines visit) ends mid
     × TakesVisits list mid now visits rest others new
-    × (told ≡ told_lines (set_cookie_lines visit.head) ends ++ rest)
+    × (told ≡ told_lines (set_cookie_lines visit) ends ++ rest)
     × (refused ≡ (is_any_refused ends || others))
 
--- so it is with the heads of a text, the first of which this URL answered
+-- what is told of the heads that are left out, behind the head of this line
+abbrev pub lost_line : Option ℕ → List ℕ
+lost_line None = []
+lost_line (Some line) = codes "refused: no plain Location\theads behind that of line " ++ (decimal line ++ 10 ∷ [])
+
+-- So it is with the heads of a text, the first of which this URL answered; to leave heads out is to refuse lines.
 abbrev pub TakesHeads : Store → ℤ → Parts → List ℕ → List ℕ → Bool → List Row → Type 0
 TakesHeads jar now url text told refused new =
-    (visits : List VisitText) × GivesVisits url text visits
-    × TakesVisits jar.suffixes jar.rows now visits told refused new
+    (visits : List VisitText) × (lost : Option ℕ) × (front : List ℕ) × (others : Bool)
+    × GivesVisits url text visits lost × TakesVisits jar.suffixes jar.rows now visits front others new
+    × (told ≡ front ++ lost_line lost) × (refused ≡ (others || is_some lost))
 
--- the text isn't heads of responses, or one of them leads nowhere although a head follows
-abbrev pub IsNoHeads : Parts → List ℕ → Type 0
-IsNoHeads url text = (e : ReadError) × (e ≢ OutOfMemory) × IsVisitRefusal url text e
+-- the text isn't heads of responses
+abbrev pub IsNoHeads : List ℕ → Type 0
+IsNoHeads text = (e : ReadError) × (e ≢ OutOfMemory) × IsVisitRefusal text e

@@ -1,8 +1,7 @@
 -- What private functions answer. No public contract names a word of this file.
 use Rattle.std.specs.Prelude.{◌≡◌, ◌⊎◌, ◌++◌, ◌||◌, ℕ, ℤ, List, Bool}
 use Rattle.publicsuffix.specs.Rules.{Rule}
-use Rattle.response_heads.specs.Read.{set_cookie_lines}
-use Rattle.response_heads.specs.Visits.{VisitText}
+use Rattle.response_heads.specs.Visits.{VisitText, set_cookie_lines}
 use Rattle.url.specs.Parts.{Parts}
 use Rattle.cookie_store.specs.Rows.{Row, Store}
 use Rattle.cookie_run.specs.Accept.{AcceptsAll}
@@ -18,13 +17,13 @@ use Rattle.jar_commands.specs.declared.failure.Failure.TheVariants.{Heads, Memor
 abbrev pub FailsToTake : PlanText → Store → Parts → List ℕ → Failure → Type 0
 FailsToTake plan jar url text failure =
     (failure ≡ Memory)
-    ⊎ (((failure ≡ Heads) × IsNoHeads url text)
+    ⊎ (((failure ≡ Heads) × IsNoHeads text)
     ⊎ ((told : List ℕ) × (refused : Bool) × (new : List Row) × TakesHeads jar plan.now url text told refused new
     × Unkept plan new failure))
 
 -- the lines of one more visit are taken, and told behind what was told
 abbrev pub TakesVisit : List Rule → List Row → ℤ → VisitText → List ℕ → Bool → List ℕ → Bool → List Row → Type 0
 TakesVisit list rows now visit told refused more more_refused new =
-    (ends : List LineEnd) × AcceptsAll list rows visit.url now (set_cookie_lines visit.head) ends new
-    × (more ≡ told ++ told_lines (set_cookie_lines visit.head) ends)
+    (ends : List LineEnd) × AcceptsAll list rows visit.url now (set_cookie_lines visit) ends new
+    × (more ≡ told ++ told_lines (set_cookie_lines visit) ends)
     × (more_refused ≡ (refused || is_any_refused ends))

@@ -16,7 +16,7 @@ pub enum Failure {
     Format,
     /// The ending of the other file's name tells none.
     FileFormat,
-    /// The text isn't a URL.
+    /// The text isn't a plain URL.
     Url,
     /// The file of the suffix list isn't read.
     SuffixFile,
@@ -30,7 +30,7 @@ pub enum Failure {
     JarText,
     /// The reader failed.
     Input,
-    /// What was read aren't heads of responses, or one of them leads nowhere.
+    /// What was read aren't heads of responses.
     Heads,
     /// The other file's text isn't one of its form.
     FileText,

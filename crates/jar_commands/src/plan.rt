@@ -1,7 +1,6 @@
 //! What is asked, with its moment, its form and its URL read.
 ghost use Rattle.std.specs.Prelude.{◌≡◌, ◌⊎◌, IfOk, IfErr, option_map};
 ghost use Rattle.jiff.specs.Words.{civil_nanos};
-ghost use Rattle.cookie_run.specs.ScriptLine.{url_of};
 ghost use Rattle.jar_commands.specs.Plans as spec;
 
 use crate::failure::Failure;
@@ -9,6 +8,7 @@ use cookie_jar::Form;
 use cookie_run::script::moment::moment_of;
 use jar_words::{Asked, Command, Format};
 use jiff::civil::DateTime;
+use plain_url::is_plain_of;
 use std::alloc::Global;
 use url::{ParseError, Url};
 
@@ -54,8 +54,8 @@ pub struct Plan<'a> {
 ///
 /// # Errors
 ///
-/// The first of `Moment`, `Format`, and then `Url` or `FileFormat`; `Memory` where memory was refused
-/// for a URL.
+/// The first of `Moment`, `Format`, and then `Url`, where a text isn't a plain URL, or `FileFormat`; `Memory` where memory
+/// was refused for a URL.
 pub fn plan_of<'a>(
     alloc: Global,
     asked: &Asked<'a>,
@@ -125,16 +125,30 @@ fn task_of<'a>(alloc: Global, command: Command<'a>) -> Result<Task<'a>, Failure>
     }
 }
 
+// The URL of a plain text: of any other, another program may read another one.
 #[tactic(auto, unfolding(cookie_run::specs::ScriptLine::url_of))]
 fn url_of(alloc: Global, text: &str) -> Result<Url, Failure>
-    ensures ok { IfOk result (λ url. url_of text.now ≡ Some url) }
+    ensures ok { IfOk result (λ url. spec.plain_of text.now ≡ Some url) }
     ensures err { IfErr result (λ failure.
-        ((failure ≡ Failure.Url) × (url_of text.now ≡ None)) ⊎ (failure ≡ Failure.Memory)) }
+        ((failure ≡ Failure.Url) × (spec.plain_of text.now ≡ None)) ⊎ (failure ≡ Failure.Memory)) }
 {
     match Url::parse(alloc, text) {
-        Ok(url) => Ok(url),
+        Ok(url) => plain(url, text),
         Err(ParseError::OutOfMemory | ParseError::Overflow) => Err(Failure::Memory),
         Err(_) => Err(Failure::Url),
+    }
+}
+
+// The URL, where this is its plain text.
+fn plain(url: Url, text: &str) -> Result<Url, Failure>
+    ensures ok { IfOk result (λ url_given. spec.plain_at text.now (Some url) ≡ Some url_given) }
+    ensures err { IfErr result (λ failure.
+        (failure ≡ Failure.Url) × (spec.plain_at text.now (Some url) ≡ None)) }
+{
+    if is_plain_of(&url, text) {
+        Ok(url)
+    } else {
+        Err(Failure::Url)
     }
 }
 

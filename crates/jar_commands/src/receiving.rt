@@ -1,5 +1,5 @@
 //! The command that takes what URLs answered.
-ghost use Rattle.std.specs.Prelude.{◌≡◌, ◌⊎◌, IfOk, IfErr, OnOk, map, string_bytes, if◌then◌else◌};
+ghost use Rattle.std.specs.Prelude.{◌≡◌, ◌⊎◌, ◌++◌, ◌||◌, is_some, IfOk, IfErr, OnOk, map, string_bytes, if◌then◌else◌};
 ghost use Rattle.jiff.specs.Words.{civil_nanos};
 ghost use Rattle.response_heads.specs.Visits.{GivesVisits, visit_text};
 ghost use Rattle.jar_commands.specs.Outcomes.{GivesReceived, outcome_text};
@@ -17,7 +17,7 @@ use cookie_run::LineEnd;
 use devices::Source;
 use devices::pour::{Stop, read_all};
 use jiff::civil::DateTime;
-use response_heads::{ReadError, Visit, visits};
+use response_heads::{ReadError, Visit, Visited, visits};
 use std::alloc::{AllocError, Global};
 use url::Url;
 
@@ -72,11 +72,10 @@ fn receive_text(
         GivesReceived (plan_text plan.now) jar.old url.now text.now (outcome_text outcome)) }
     ensures err { IfErr result (FailsToTake (plan_text plan.now) jar.old url.now text.now) }
 {
-    let visits = visits_of(alloc, url, text)?;
     let Received {
         told,
         is_any_refused,
-    } = receive_visits(alloc, jar, &visits, plan.at)?;
+    } = receive_heads(alloc, jar, url, text, plan.at)?;
     match saved(plan, jar) {
         Ok(text) => Ok(Outcome::kept(told, status_of(is_any_refused), text)),
         Err(failure) => Err(failure),
@@ -89,17 +88,54 @@ fn status_of(is_any_refused: bool) -> u8
     if is_any_refused { 1 } else { 0 }
 }
 
-// The heads of a text, each with the URL that answered it.
-fn visits_of<'a>(alloc: Global, url: &Url, text: &'a [u8]) -> Result<Vec<Visit<'a>>, Failure>
-    ensures ok { IfOk result (λ visits. GivesVisits url.now text.now (map visit_text visits.items)) }
+// Takes the lines of the heads of a text, the first of which this URL answered.
+fn receive_heads(
+    alloc: Global,
+    jar: &mut Jar,
+    url: &Url,
+    text: &[u8],
+    now: DateTime,
+) -> Result<Received, Failure>
+    ensures ok { IfOk result (λ received. spec.TakesHeads jar.old (civil_nanos now) url.now text.now
+        (string_bytes received.told) received.is_any_refused jar.new.rows) }
     ensures err { IfErr result (λ failure. (failure ≡ Failure.Memory)
-        ⊎ ((failure ≡ Failure.Heads) × spec.IsNoHeads url.now text.now)) }
+        ⊎ ((failure ≡ Failure.Heads) × spec.IsNoHeads text.now)) }
+{
+    let Visited { visits, lost } = visits_of(alloc, url, text)?;
+    let received = receive_visits(alloc, jar, &visits, now)?;
+    Ok(with_lost(alloc, received, lost)?)
+}
+
+// The heads of a text, each with the URL that answered it.
+fn visits_of<'a>(alloc: Global, url: &Url, text: &'a [u8]) -> Result<Visited<'a>, Failure>
+    ensures ok { IfOk result (λ given.
+        GivesVisits url.now text.now (map visit_text given.visits.items) given.lost) }
+    ensures err { IfErr result (λ failure. (failure ≡ Failure.Memory)
+        ⊎ ((failure ≡ Failure.Heads) × spec.IsNoHeads text.now)) }
 {
     match visits(alloc, url, text) {
-        Ok(visits) => Ok(visits),
+        Ok(given) => Ok(given),
         Err(ReadError::OutOfMemory) => Err(Failure::Memory),
         Err(_) => Err(Failure::Heads),
     }
+}
+
+// What is told where heads are left out, behind what was told.
+fn with_lost(alloc: Global, received: Received, lost: Option<usize>) -> Result<Received, AllocError>
+    ensures { IfOk result (λ more.
+        (string_bytes more.told ≡ string_bytes received.told ++ spec.lost_line lost)
+        × (more.is_any_refused ≡ (received.is_any_refused || is_some lost))) }
+{
+    let Some(line) = lost else {
+        return Ok(received);
+    };
+    let mut told = received.told;
+    let more = format!(in alloc; "refused: no plain Location\theads behind that of line {line}\n")?;
+    told.push_str(more.as_str())?;
+    Ok(Received {
+        told,
+        is_any_refused: true,
+    })
 }
 
 // Takes the lines of each visit, one after another.
@@ -135,7 +171,7 @@ fn receive_visit(
         (string_bytes received.new.told) received.new.is_any_refused jar.new.rows) }
     ensures list { jar.new.suffixes ≡ jar.old.suffixes }
 {
-    let lines = visit.head.set_cookie_lines(alloc)?;
+    let lines = visit.set_cookie_lines(alloc)?;
     let Ok(ends) = jar.receive(&visit.url, &lines, now) else {
         return Err(AllocError);
     };

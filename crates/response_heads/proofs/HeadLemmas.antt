@@ -7,10 +7,10 @@ use Rattle.std.proofs.lemmas.List.{length-append}
 use Rattle.std.proofs.lemmas.List.Concat.{flat_map-append}
 use Rattle.response_heads.specs.Heads.{AreFields, AreHeads, GivesHeads, HeadLines, HeadText, IsFirstFault, IsHead}
 use Rattle.response_heads.specs.Heads.{IsPassedOver, IsRefusal, IsUnended, begun, whole}
-use Rattle.response_heads.specs.Lines.{FieldText, IsField, begins_head, fault_of, status_of}
+use Rattle.response_heads.specs.Lines.{FieldText, GivesField, begins_head, breaks_off, status_of}
 use Rattle.response_heads.specs.Steps.{EndsWithin, IsFieldsRefusal, ReadsFields, StopsAt}
 use Rattle.response_heads.specs.declared.error.LineFault.{LineFault}
-use Rattle.response_heads.specs.declared.error.LineFault.TheVariants.{Status}
+use Rattle.response_heads.specs.declared.error.LineFault.TheVariants.{Status, Unended}
 use Rattle.response_heads.specs.declared.error.ReadError.{ReadError}
 
 -- ---- the fields of a head
@@ -23,7 +23,7 @@ pub record FieldsSoFar (old : List ℕ) (taken : ℕ) (rest : List ℕ) (now : �
   pub counted : now ≡ taken + length read
 
 fields_push : (read : List (List ℕ)) (fields : List FieldText) (line : List ℕ) (field : FieldText)
-    → AreFields read fields → IsField line field → AreFields (read ++ line ∷ []) (fields ++ field ∷ [])
+    → AreFields read fields → GivesField line field → AreFields (read ++ line ∷ []) (fields ++ field ∷ [])
 fields_push [] [] line field h is = (is, tt)
 fields_push [] (f ∷ fs) line field h is = absurd h
 fields_push (l ∷ ls) [] line field h is = absurd h
@@ -40,7 +40,7 @@ longer read line taken now m counted more = omega (arith, length-append read (li
 
 pub fields_more : (old : List ℕ) (taken : ℕ) (rest : List ℕ) (now : ℕ) (fields : List FieldText)
     (line more : List ℕ) (m : ℕ) (field : FieldText) → FieldsSoFar old taken rest now fields
-    → lines rest ≡ line ∷ lines more → m ≡ now + 1 → IsField line field
+    → lines rest ≡ line ∷ lines more → m ≡ now + 1 → GivesField line field
     → FieldsSoFar old taken more m (fields ++ field ∷ [])
 fields_more old taken rest now fields line more m field far next counted is = record {
   read = far.read ++ line ∷ [];
@@ -62,10 +62,10 @@ fields_whole old taken rest now fields line more m far next counted empty = reco
 }
 
 pub fields_stop : (old : List ℕ) (taken : ℕ) (rest : List ℕ) (now : ℕ) (fields : List FieldText)
-    (line more : List ℕ) (m : ℕ) (fault : LineFault) → FieldsSoFar old taken rest now fields
-    → lines rest ≡ line ∷ lines more → m ≡ now + 1 → line ≢ [] → fault_of line ≡ Some fault
-    → StopsAt old taken m fault
-fields_stop old taken rest now fields line more m fault far next counted some is = record {
+    (line more : List ℕ) (m : ℕ) → FieldsSoFar old taken rest now fields
+    → lines rest ≡ line ∷ lines more → m ≡ now + 1 → line ≢ [] → breaks_off line ≡ true
+    → StopsAt old taken m Unended
+fields_stop old taken rest now fields line more m far next counted some is = record {
   read = far.read;
   fields = fields;
   are = far.are;
@@ -74,6 +74,7 @@ fields_stop old taken rest now fields line more m fault far next counted some is
   split = next_line (lines old) far.read rest line (lines more) far.split next;
   some = some;
   is = is;
+  fault_is = refl;
   counted = counted ∙ ap (λ n. n + 1) far.counted;
 }
 
@@ -93,7 +94,7 @@ fields_end old taken rest now fields far none =
 pub record HeadsSoFar (text rest : List ℕ) (taken : ℕ) (heads : List HeadText) : Type 0 where
   pub parts : List HeadLines
   pub front : List (List ℕ)
-  pub are : AreHeads parts heads
+  pub are : AreHeads 0 parts heads
   pub passed : AllByRecursion IsPassedOver front
   pub split : lines text ≡ (flat_map whole parts ++ front) ++ lines rest
   pub counted : taken ≡ length (flat_map whole parts ++ front)
@@ -103,12 +104,19 @@ passed_push : (front : List (List ℕ)) (line : List ℕ) → AllByRecursion IsP
 passed_push [] line h is = (is, tt)
 passed_push (l ∷ ls) line h is = (h.0, passed_push ls line h.1 is)
 
-heads_push : (parts : List HeadLines) (heads : List HeadText) (h : HeadLines) (head : HeadText)
-    → AreHeads parts heads → IsHead h head → AreHeads (parts ++ h ∷ []) (heads ++ head ∷ [])
-heads_push [] [] h head are is = (is, tt)
-heads_push [] (x ∷ xs) h head are is = absurd are
-heads_push (p ∷ ps) [] h head are is = absurd are
-heads_push (p ∷ ps) (x ∷ xs) h head are is = (are.0, heads_push ps xs h head are.1 is)
+heads_push : (before : ℕ) (parts : List HeadLines) (heads : List HeadText) (h : HeadLines) (head : HeadText)
+    → AreHeads before parts heads → IsHead h head
+    → head.number ≡ before + length (flat_map whole parts) + length h.front + 1
+    → AreHeads before (parts ++ h ∷ []) (heads ++ head ∷ [])
+heads_push before [] [] h head are is at = (is, omega (arith, at), tt)
+heads_push before [] (x ∷ xs) h head are is at = absurd are
+heads_push before (p ∷ ps) [] h head are is at = absurd are
+heads_push before (p ∷ ps) (x ∷ xs) h head are is at = (
+  are.0,
+  are.1,
+  heads_push (before + length (whole p)) ps xs h head are.2 is
+      (omega (arith, at, length-append (whole p) (flat_map whole ps))),
+)
 
 pub heads_passed : (text rest : List ℕ) (taken : ℕ) (heads : List HeadText) (line more : List ℕ) (m : ℕ)
     → HeadsSoFar text rest taken heads → lines rest ≡ line ∷ lines more → m ≡ taken + 1
@@ -169,7 +177,7 @@ pub heads_more : (text rest : List ℕ) (taken : ℕ) (heads : List HeadText) (l
     (after : List ℕ) (k : ℕ) (fields : List FieldText) → HeadsSoFar text rest taken heads
     → lines rest ≡ line ∷ lines more → m ≡ taken + 1 → begins_head line ≡ true → status_of line ≡ Some status
     → ReadsFields more after m k fields
-    → HeadsSoFar text after k (heads ++ (record { status = status; fields = fields }) ∷ [])
+    → HeadsSoFar text after k (heads ++ (record { number = m; status = status; fields = fields }) ∷ [])
 heads_more text rest taken heads line more m status after k fields far next counted begins is reads =
     let done = flat_map whole far.parts in
     let h : HeadLines = record { front = far.front; status = line; fields = reads.read } in
@@ -180,8 +188,9 @@ heads_more text rest taken heads line more m status after k fields far next coun
     record {
       parts = far.parts ++ h ∷ [];
       front = [];
-      are = heads_push far.parts heads h (record { status = status; fields = fields }) far.are
-          (record { front = far.passed; begins = begins; status = is; fields = reads.are });
+      are = heads_push 0 far.parts heads h (record { number = m; status = status; fields = fields }) far.are
+          (record { front = far.passed; begins = begins; status = is; fields = reads.are })
+          (omega (arith, counted, far.counted, length-append done far.front));
       passed = tt;
       split = begun_at (lines text) done far.front rest line more (reads.read ++ [] ∷ lines after) far.split next
           reads.split ∙ regroup done far.front line reads.read (lines after) ∙ ap (λ ls. ls ++ lines after) (sym same);
@@ -218,11 +227,12 @@ heads_stop text rest taken heads line more m status number fault far next counte
           ∙ sym (append_assoc done (begun h) (stops.line ∷ stops.after));
       is = inr (
         h,
-        record { status = status; fields = stops.fields },
+        record { number = m; status = status; fields = stops.fields },
         record { front = far.passed; begins = begins; status = is; fields = stops.are },
         refl,
         stops.some,
         stops.is,
+        stops.fault_is,
       );
       counted = stops.counted ∙ ap (λ n. n + 1) (counted_at done far.front line stops.read taken m far.counted counted);
     }
@@ -241,7 +251,7 @@ heads_unended text rest taken heads line more m status number far next counted b
       heads = heads;
       are = far.are;
       h = h;
-      head = record { status = status; fields = ends.fields };
+      head = record { number = m; status = status; fields = ends.fields };
       is = record { front = far.passed; begins = begins; status = is; fields = ends.are };
       split = all;
       counted = ends.counted ∙ counted_at done far.front line (lines more) taken m far.counted counted

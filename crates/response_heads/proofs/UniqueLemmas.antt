@@ -1,14 +1,14 @@
 -- A text gives one list of heads.
-use Rattle.std.proofs.Common.{◌≡◌, ◌-◌, ◌<◌, ℕ, zero, suc, Bool, true, false, List, [], ◌∷◌, ◌++◌, length}
+use Rattle.std.proofs.Common.{◌≡◌, ◌+◌, ◌-◌, ◌<◌, ℕ, zero, suc, Bool, true, false, List, [], ◌∷◌, ◌++◌, length}
 use Rattle.std.proofs.Common.{get_or}
-use Rattle.std.proofs.Common.{Some, None, refl, sym, ap, subst, ◌∙◌, arith, append_assoc}
+use Rattle.std.proofs.Common.{Some, None, inl, inr, refl, sym, ap, subst, ◌∙◌, arith, append_assoc}
 use Rattle.std.specs.Prelude.{◌&&◌, slice_index}
 use Rattle.std.specs.List.{AllByRecursion, after_first, flat_map, list_all}
 use Rattle.std.proofs.lemmas.Bool.{false≢true}
 use Rattle.response_heads.specs.Heads.{AreFields, AreHeads, GivesHeads, HeadLines, HeadText, IsHead, IsPassedOver}
 use Rattle.response_heads.specs.Heads.{whole}
-use Rattle.response_heads.specs.Lines.{AllWhite, FieldText, IsField, IsTrimmed, begins_head, fault_of, is_colon}
-use Rattle.response_heads.specs.Lines.{is_white}
+use Rattle.response_heads.specs.Lines.{AllWhite, FieldText, GivesField, IsField, IsNoField, IsTrimmed, begins_head}
+use Rattle.response_heads.specs.Lines.{fault_of, is_colon, is_white}
 
 -- ---- a trimmed text
 
@@ -106,6 +106,17 @@ one_field line f g hf hg =
     let make : List ℕ → List ℕ → FieldText = λ n v. record { name = n; value = v } in
     ap (λ n. make n f.value) name ∙ ap (make g.name) value
 
+no_fields : (line : List ℕ) (f g : FieldText) → IsNoField line f → IsNoField line g → f ≡ g
+no_fields line f g hf hg =
+    let make : List ℕ → List ℕ → FieldText = λ n v. record { name = n; value = v } in
+    ap (λ n. make n f.value) (hf.name ∙ sym hg.name) ∙ ap (make g.name) (hf.value ∙ sym hg.value)
+
+one_given : (line : List ℕ) (f g : FieldText) → GivesField line f → GivesField line g → f ≡ g
+one_given line f g (off, inl hf) (on, inl hg) = one_field line f g hf hg
+one_given line f g (off, inl hf) (on, inr hg) = absurd (hg.fault hf.fine)
+one_given line f g (off, inr hf) (on, inl hg) = absurd (hf.fault hg.fine)
+one_given line f g (off, inr hf) (on, inr hg) = no_fields line f g hf hg
+
 one_fields : (ls : List (List ℕ)) (fs gs : List FieldText) → AreFields ls fs → AreFields ls gs → fs ≡ gs
 one_fields [] [] [] hf hg = refl
 one_fields [] [] (g ∷ gs) hf hg = absurd hg
@@ -113,17 +124,18 @@ one_fields [] (f ∷ fs) gs hf hg = absurd hf
 one_fields (l ∷ ls) [] gs hf hg = absurd hf
 one_fields (l ∷ ls) (f ∷ fs) [] hf hg = absurd hg
 one_fields (l ∷ ls) (f ∷ fs) (g ∷ gs) hf hg =
-    let here = one_field l f g hf.0 hg.0 in
+    let here = one_given l f g hf.0 hg.0 in
     let there = one_fields ls fs gs hf.1 hg.1 in
     cc
 
-one_head : (h : HeadLines) (a b : HeadText) → IsHead h a → IsHead h b → a ≡ b
-one_head h a b ha hb =
+one_head : (h : HeadLines) (a b : HeadText) → IsHead h a → IsHead h b → a.number ≡ b.number → a ≡ b
+one_head h a b ha hb number =
     let fields : a.fields ≡ b.fields = one_fields h.fields a.fields b.fields ha.fields hb.fields in
     let some : Some a.status ≡ Some b.status = sym ha.status ∙ hb.status in
     let status : a.status ≡ b.status = cc in
-    let make : ℕ → List FieldText → HeadText = λ n fs. record { status = n; fields = fs } in
-    ap (λ n. make n a.fields) status ∙ ap (make b.status) fields
+    let make : ℕ → ℕ → List FieldText → HeadText = λ at n fs. record { number = at; status = n; fields = fs } in
+    ap (λ at. make at a.status a.fields) number ∙ (ap (λ n. make b.number n a.fields) status
+    ∙ ap (make b.number b.status) fields)
 
 -- ---- where heads end
 
@@ -131,8 +143,9 @@ empty_is_none : fault_of [] ≡ None → ⊥
 unfolding fault_of
 empty_is_none e = cc
 
-no_empty : (ls : List (List ℕ)) (f : FieldText) → IsField [] f → ⊥
-no_empty ls f h = empty_is_none h.fine
+no_empty : (f : FieldText) → GivesField [] f → ⊥
+no_empty f (off, inl h) = empty_is_none h.fine
+no_empty f (off, inr h) = h.some refl
 
 line_first : (x y : List ℕ) (xs ys : List (List ℕ)) → x ∷ xs ≡ y ∷ ys → x ≡ y
 line_first x y xs ys e = cc
@@ -145,10 +158,10 @@ same_fields : (ps qs : List (List ℕ)) (fs gs : List FieldText) (u v : List (Li
 same_fields [] [] fs gs u v hp hq e = (refl, line_rest [] [] u v e)
 same_fields [] (q ∷ qs) fs [] u v hp hq e = absurd hq
 same_fields [] (q ∷ qs) fs (g ∷ gs) u v hp hq e =
-    absurd (no_empty [] g (subst (λ l. IsField l g) (sym (line_first [] q u (qs ++ [] ∷ v) e)) hq.0))
+    absurd (no_empty g (subst (λ l. GivesField l g) (sym (line_first [] q u (qs ++ [] ∷ v) e)) hq.0))
 same_fields (p ∷ ps) [] [] gs u v hp hq e = absurd hp
 same_fields (p ∷ ps) [] (f ∷ fs) gs u v hp hq e =
-    absurd (no_empty [] f (subst (λ l. IsField l f) (line_first p [] (ps ++ [] ∷ u) v e) hp.0))
+    absurd (no_empty f (subst (λ l. GivesField l f) (line_first p [] (ps ++ [] ∷ u) v e) hp.0))
 same_fields (p ∷ ps) (q ∷ qs) [] gs u v hp hq e = absurd hp
 same_fields (p ∷ ps) (q ∷ qs) (f ∷ fs) [] u v hp hq e = absurd hq
 same_fields (p ∷ ps) (q ∷ qs) (f ∷ fs) (g ∷ gs) u v hp hq e =
@@ -185,22 +198,23 @@ behind : (h : HeadLines) (hs : List HeadLines) (rest : List (List ℕ))
     → flat_map whole (h ∷ hs) ++ rest ≡ h.front ++ h.status ∷ (h.fields ++ [] ∷ (flat_map whole hs ++ rest))
 behind h hs rest = append_assoc (whole h) (flat_map whole hs) rest ∙ opened h (flat_map whole hs ++ rest)
 
-same_heads : (ps qs : List HeadLines) (r s : List (List ℕ)) (hs ks : List HeadText) → AreHeads ps hs → AreHeads qs ks
+same_heads : (before : ℕ) (ps qs : List HeadLines) (r s : List (List ℕ)) (hs ks : List HeadText) → AreHeads before ps hs
+    → AreHeads before qs ks
     → AllByRecursion IsPassedOver r → AllByRecursion IsPassedOver s
     → flat_map whole ps ++ r ≡ flat_map whole qs ++ s → hs ≡ ks
-same_heads [] [] r s [] [] hp hq hr hs e = refl
-same_heads [] [] r s [] (k ∷ ks) hp hq hr hs e = absurd hq
-same_heads [] [] r s (h ∷ hs) ks hp hq hr hs2 e = absurd hp
-same_heads [] (q ∷ qs) r s hs [] hp hq hr hs2 e = absurd hq
-same_heads [] (q ∷ qs) r s hs (k ∷ ks) hp hq hr hs2 e =
+same_heads before [] [] r s [] [] hp hq hr hs e = refl
+same_heads before [] [] r s [] (k ∷ ks) hp hq hr hs e = absurd hq
+same_heads before [] [] r s (h ∷ hs) ks hp hq hr hs2 e = absurd hp
+same_heads before [] (q ∷ qs) r s hs [] hp hq hr hs2 e = absurd hq
+same_heads before [] (q ∷ qs) r s hs (k ∷ ks) hp hq hr hs2 e =
     absurd (none_begins q.front q.status _ (subst (AllByRecursion IsPassedOver) (e ∙ behind q qs s) hr) hq.0.begins)
-same_heads (p ∷ ps) [] r s [] ks hp hq hr hs2 e = absurd hp
-same_heads (p ∷ ps) [] r s (h ∷ hs) ks hp hq hr hs2 e =
+same_heads before (p ∷ ps) [] r s [] ks hp hq hr hs2 e = absurd hp
+same_heads before (p ∷ ps) [] r s (h ∷ hs) ks hp hq hr hs2 e =
     let all = subst (AllByRecursion IsPassedOver) (sym e ∙ behind p ps r) hs2 in
     absurd (none_begins p.front p.status _ all hp.0.begins)
-same_heads (p ∷ ps) (q ∷ qs) r s [] ks hp hq hr hs2 e = absurd hp
-same_heads (p ∷ ps) (q ∷ qs) r s (h ∷ hs) [] hp hq hr hs2 e = absurd hq
-same_heads (p ∷ ps) (q ∷ qs) r s (h ∷ hs) (k ∷ ks) hp hq hr hs2 e =
+same_heads before (p ∷ ps) (q ∷ qs) r s [] ks hp hq hr hs2 e = absurd hp
+same_heads before (p ∷ ps) (q ∷ qs) r s (h ∷ hs) [] hp hq hr hs2 e = absurd hq
+same_heads before (p ∷ ps) (q ∷ qs) r s (h ∷ hs) (k ∷ ks) hp hq hr hs2 e =
     let (front, status, more) = same_begin p.front q.front p.status q.status _ _ hp.0.front hq.0.front hp.0.begins
     hq.0.begins (sym (behind p ps r) ∙ (e ∙ behind q qs s)) in
     let (fields, left) = same_fields p.fields q.fields h.fields k.fields _ _ hp.0.fields hq.0.fields more in
@@ -209,11 +223,14 @@ same_heads (p ∷ ps) (q ∷ qs) r s (h ∷ hs) (k ∷ ks) hp hq hr hs2 e =
     let same : p ≡ q =
     ap (λ f. make f p.status p.fields) front ∙ ap (λ l. make q.front l p.fields) status
     ∙ ap (make q.front q.status) fields in
-    let here : h ≡ k = one_head q h k (subst (λ x. IsHead x h) same hp.0) hq.0 in
-    let there : hs ≡ ks = same_heads ps qs r s hs ks hp.1 hq.1 hr hs2 left in
+    let here : h ≡ k = one_head q h k (subst (λ x. IsHead x h) same hp.0) hq.0
+    (hp.1 ∙ (ap (λ x. before + length x.front + 1) same ∙ sym hq.1)) in
+    let there : hs ≡ ks =
+    same_heads (before + length (whole q)) ps qs r s hs ks
+    (subst (λ x. AreHeads (before + length (whole x)) ps hs) same hp.2) hq.2 hr hs2 left in
     cc
 
 pub one_list : (text : List ℕ) (heads others : List HeadText) → GivesHeads text heads → GivesHeads text others
     → heads ≡ others
 one_list text heads others a b =
-    same_heads a.parts b.parts a.rest b.rest heads others a.are b.are a.passed b.passed (sym a.split ∙ b.split)
+    same_heads 0 a.parts b.parts a.rest b.rest heads others a.are b.are a.passed b.passed (sym a.split ∙ b.split)

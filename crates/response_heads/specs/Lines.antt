@@ -1,5 +1,5 @@
 -- The lines of a head: a status line (RFC 9112, section 4) and field lines (section 5).
-use Rattle.std.specs.Prelude.{◌≡◌, ◌==◌, ◌||◌, ◌&&◌, ◌++◌, ◌-◌, ℕ, Bool, true, false, not, List, [], ◌∷◌, length, drop}
+use Rattle.std.specs.Prelude.{◌≡◌, ◌≢◌, ◌⊎◌, ◌==◌, ◌||◌, ◌&&◌, ◌++◌, ◌-◌, ℕ, Bool, true, false, not, List, [], ◌∷◌, length, drop}
 use Rattle.std.specs.Prelude.{slice_index, Option, Some, None, codes, if◌then◌else◌}
 use Rattle.std.specs.Char.{is_ascii_alphanumeric, is_ascii_digit}
 use Rattle.std.specs.List.{after_first, before_first, list_all, list_any, slice_split, starts_with}
@@ -101,3 +101,19 @@ pub record IsField (line : List ℕ) (field : FieldText) : Type 0 where
   pub fine : fault_of line ≡ None
   pub name : field.name ≡ before_first is_colon line
   pub value : IsTrimmed (after_first is_colon line) field.value
+
+-- The line is no field line. It stands for a field without a name, whose value it is.
+pub record IsNoField (line : List ℕ) (field : FieldText) : Type 0 where
+  pub some : line ≢ []
+  pub fault : fault_of line ≢ None
+  pub name : field.name ≡ []
+  pub value : field.value ≡ line
+
+-- Such a line ends a head as no line may, and what stands behind it could be another head's: one that begins a head, or
+-- one that begins with a carriage return, which some read as the empty line.
+abbrev pub breaks_off : List ℕ → Bool
+breaks_off line = begins_head line || slice_index line 0 == 13
+
+-- what a line of a head gives
+abbrev pub GivesField : List ℕ → FieldText → Type 0
+GivesField line field = (breaks_off line ≡ false) × (IsField line field ⊎ IsNoField line field)

@@ -1,10 +1,12 @@
 -- What a caller reads in a head: the fields of a name, and where it leads (RFC 9110, sections 5.1, 10.2.2 and 15.4).
-use Rattle.std.specs.Prelude.{◌&&◌, ℕ, Bool, List, Option, None, codes, filter, map, nat_le, nat_lt, slice_get}
+use Rattle.std.specs.Prelude.{◌&&◌, ◌||◌, ℕ, Bool, List, [], Option, None, codes, filter, map, nat_le, nat_lt, slice_index, take}
 use Rattle.std.specs.Prelude.{if◌then◌else◌}
+use Rattle.url.specs.Input.{is_empty}
 use Rattle.std.specs.Char.{to_ascii_lowercase}
 use Rattle.std.specs.Str.{bytes_eq}
 use Rattle.response_heads.specs.Heads.{HeadText}
-use Rattle.response_heads.specs.Lines.{FieldText}
+use Rattle.response_heads.specs.Lines.{FieldText, fault_of, is_white}
+use Rattle.response_heads.specs.declared.error.LineFault.{LineFault}
 use Rattle.response_heads.specs.declared.head.Field.{Field}
 use Rattle.response_heads.specs.declared.head.Head.{Head}
 
@@ -13,11 +15,15 @@ abbrev pub field_text : Field → FieldText
 field_text field = record { name = field.name.now; value = field.value.now }
 
 abbrev pub head_text : Head → HeadText
-head_text head = record { status = head.status; fields = map field_text head.fields.items }
+head_text head = record { number = head.number; status = head.status; fields = map field_text head.fields.items }
 
 -- the field has this name, which is in lower case; the case of its letters doesn't count (RFC 9110, section 5.1)
 abbrev pub is_named : List ℕ → FieldText → Bool
 is_named name field = bytes_eq (map to_ascii_lowercase field.name) name
+
+-- why the field's line is no field line
+abbrev pub fault : FieldText → Option LineFault
+fault field = if is_empty field.name then fault_of field.value else None
 
 -- the values of the fields of a name, in their order
 unfoldable pub values_named : List ℕ → HeadText → List (List ℕ)
@@ -31,6 +37,19 @@ set_cookie_lines head = values_named (codes "set-cookie") head
 abbrev pub is_redirection : ℕ → Bool
 is_redirection status = nat_le 300 status && nat_lt status 400
 
--- the value of the first Location field of a redirection: a URL or a reference (RFC 9110, section 10.2.2)
-abbrev pub location : HeadText → Option (List ℕ)
-location head = if is_redirection head.status then slice_get (values_named (codes "location") head) 0 else None
+-- a success (section 15.3)
+abbrev pub is_success : ℕ → Bool
+is_success status = nat_le 200 status && nat_lt status 300
+
+-- Some program may read such a field as a Location, or as a part of one: one of that name, and of lines that are no
+-- field lines one that begins with it, or that goes on with the line before (RFC 9112, section 5.2).
+abbrev pub is_location : FieldText → Bool
+is_location field =
+    is_named (codes "location") field
+    || is_empty field.name && (is_white (slice_index field.value 0)
+    || bytes_eq (map to_ascii_lowercase (take 8 field.value)) (codes "location"))
+
+-- the values of the Location fields of a redirection (RFC 9110, section 10.2.2)
+unfoldable pub locations : HeadText → List (List ℕ)
+locations head =
+    if is_redirection head.status then map (λ field. field.value) (filter is_location head.fields) else []

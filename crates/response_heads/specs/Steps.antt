@@ -1,14 +1,12 @@
 -- What private functions answer. No public contract names a word of this file.
-use Rattle.std.specs.Prelude.{◌≡◌, ◌≢◌, ◌⊎◌, ◌+◌, ◌++◌, ◌-◌, ℕ, false, List, [], ◌∷◌, Some, length, slice_index}
+use Rattle.std.specs.Prelude.{◌≡◌, ◌≢◌, ◌⊎◌, ◌+◌, ◌++◌, ◌-◌, ℕ, true, false, List, [], ◌∷◌, length, slice_index}
 use Rattle.std.specs.Str.Lines.{lines}
 use Rattle.response_heads.specs.Heads.{AreFields}
-use Rattle.response_heads.specs.Lines.{AllWhite, FieldText, fault_of, is_white}
-use Rattle.url.specs.Parts.{Parts}
-use Rattle.response_heads.specs.Visits.{LeadsNowhere, LeadsTo, VisitText}
+use Rattle.response_heads.specs.Lines.{AllWhite, FieldText, breaks_off, is_white}
 use Rattle.response_heads.specs.declared.error.LineFault.{LineFault}
 use Rattle.response_heads.specs.declared.error.LineFault.TheVariants.{Unended}
 use Rattle.response_heads.specs.declared.error.ReadError.{ReadError}
-use Rattle.response_heads.specs.declared.error.ReadError.TheVariants.{Line, Location, OutOfMemory}
+use Rattle.response_heads.specs.declared.error.ReadError.TheVariants.{Line, OutOfMemory}
 
 -- the text without the white space in front
 pub record IsTrimmedStart (text rest : List ℕ) : Type 0 where
@@ -31,7 +29,7 @@ pub record ReadsFields (old new : List ℕ) (taken now : ℕ) (fields : List Fie
   pub split : lines old ≡ read ++ [] ∷ lines new
   pub counted : now ≡ (taken + length read) + 1
 
--- the first line with a fault behind the field lines that were read
+-- the first line that breaks the head off, behind those that were read
 pub record StopsAt (old : List ℕ) (taken number : ℕ) (fault : LineFault) : Type 0 where
   pub read : List (List ℕ)
   pub fields : List FieldText
@@ -40,10 +38,11 @@ pub record StopsAt (old : List ℕ) (taken number : ℕ) (fault : LineFault) : T
   pub after : List (List ℕ)
   pub split : lines old ≡ read ++ line ∷ after
   pub some : line ≢ []
-  pub is : fault_of line ≡ Some fault
+  pub is : breaks_off line ≡ true
+  pub fault_is : fault ≡ Unended
   pub counted : number ≡ (taken + length read) + 1
 
--- all lines are field lines
+-- all lines are the head's
 pub record EndsWithin (old : List ℕ) (taken number : ℕ) : Type 0 where
   pub fields : List FieldText
   pub are : AreFields (lines old) fields
@@ -55,16 +54,3 @@ IsFieldsRefusal old taken e =
     (e ≡ OutOfMemory)
     ⊎ ((number : ℕ) × (fault : LineFault) × StopsAt old taken number fault × (e ≡ Line number fault))
     ⊎ ((number : ℕ) × EndsWithin old taken number × (e ≡ Line number Unended))
-
--- the URL that answers behind these visits, which begin at the given one
-abbrev pub IsNext : Parts → List VisitText → Parts → Type 0
-IsNext url [] next = next ≡ url
-IsNext url (visit ∷ []) next = LeadsTo visit next
-IsNext url (visit ∷ other ∷ visits) next = IsNext url (other ∷ visits) next
-
--- why there is none
-abbrev pub IsNoNext : List VisitText → ReadError → Type 0
-IsNoNext visits e =
-    (e ≡ OutOfMemory)
-    ⊎ ((front : List VisitText) × (last : VisitText) × (visits ≡ front ++ last ∷ []) × LeadsNowhere last
-    × (e ≡ Location (length visits)))

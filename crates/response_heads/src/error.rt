@@ -22,7 +22,7 @@ pub enum LineFault {
     /// It holds a carriage return that isn't at its end, or a zero byte (RFC 9110, section 5.5).
     #[error("Control")]
     Control,
-    /// It is the last line, and no empty line ended the head.
+    /// No empty line ended the head before it: it begins a head, or with a carriage return, or it is the text's last.
     #[error("Unended")]
     Unended,
 }
@@ -33,9 +33,6 @@ pub enum ReadError {
     /// The line of this number, counted from 1, is faulty.
     #[error("line {0}: {1}")]
     Line(usize, LineFault),
-    /// The head of this number, counted from 1, leads to no URL although a head follows. Told of visits alone.
-    #[error("head {0}: Location")]
-    Location(usize),
     /// Memory was refused, or a URL would have more than 4 GB.
     #[error("OutOfMemory")]
     OutOfMemory,

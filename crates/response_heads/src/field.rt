@@ -33,7 +33,15 @@ pub(crate) fn read_field(line: &[u8]) -> Result<Field<'_>, LineFault>
     })
 }
 
-fn begins_white(line: &[u8]) -> bool
+/// The first fault of a line, in the order of [`LineFault`].
+pub(crate) fn fault_of(line: &[u8]) -> Option<LineFault>
+    ensures { result ≡ spec.fault_of line.now }
+{
+    read_field(line).err()
+}
+
+// Whether the line begins with a space or a tab.
+pub(crate) fn begins_white(line: &[u8]) -> bool
     ensures { result ≡ spec.is_white (slice_index line.now 0) }
 {
     matches!(line, [first, ..] if is_white(*first))

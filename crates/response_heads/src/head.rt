@@ -1,13 +1,15 @@
 //! Heads, and the heads of a text.
-ghost use Rattle.std.specs.Prelude.{◌≡◌, ◌≤◌, map, length, option_map, IfOk, IfErr};
+ghost use Rattle.std.specs.Prelude.{◌≡◌, ◌≤◌, ◌<◌, ◌⊎◌, codes, map, length, take, IfOk, IfErr};
+ghost use Rattle.std.specs.Str.{bytes_eq};
 ghost use Rattle.std.specs.Char.{to_ascii_lowercase};
 ghost use Rattle.response_heads.specs.Heads as spec;
-ghost use Rattle.response_heads.specs.Read.{field_text, head_text, is_named, is_redirection, location};
-ghost use Rattle.response_heads.specs.Read.{set_cookie_lines};
+ghost use Rattle.response_heads.specs.Lines as spec_lines;
+ghost use Rattle.response_heads.specs.Read.{fault, field_text, head_text, is_location, is_named, is_redirection};
+ghost use Rattle.response_heads.specs.Read.{locations, set_cookie_lines};
 ghost use Rattle.response_heads.specs.Steps as steps;
 
 use crate::error::{LineFault, ReadError};
-use crate::field::read_field;
+use crate::field::{begins_white, fault_of, read_field};
 use crate::lines::Lines;
 use crate::status::{begins_head, status_of};
 use std::alloc::{AllocError, Global};
@@ -15,18 +17,22 @@ use std::alloc::{AllocError, Global};
 /// A field of a head.
 #[derive(Clone, Copy, Debug)]
 pub struct Field<'a> {
-    /// As it stands: the case of its letters doesn't count.
+    /// As it stands: the case of its letters doesn't count. Empty where the line is no field line.
     pub name: &'a [u8],
-    /// Without the spaces and tabs at both its ends; any bytes but carriage returns, line feeds and zeros.
+    /// Without the spaces and tabs at both its ends; any bytes but carriage returns, line feeds and zeros. The whole line
+    /// where it is no field line.
     pub value: &'a [u8],
 }
 
 /// The head of a response.
 #[derive(Debug, Drop)]
 pub struct Head<'a> {
+    /// The number of its status line, counted from 1.
+    pub number: usize,
     /// Three digits: 0 to 999.
     pub status: u16,
-    /// The fields in their order.
+    /// The fields in their order, one for each line behind the status line. A line that is no field line stands for one
+    /// without a name.
     pub fields: Vec<Field<'a>>,
 }
 
@@ -36,6 +42,34 @@ impl<'a> Field<'a> {
         ensures { result ≡ is_named (map to_ascii_lowercase name.now) (field_text self.now) }
     {
         self.name.eq_ignore_ascii_case(name)
+    }
+
+    // Whether some program may read the field as a Location.
+    fn is_location(&self) -> bool
+        ensures { result ≡ is_location (field_text self.now) }
+    {
+        self.is_named(b"location")
+            || self.name.is_empty() && (begins_white(self.value) || begins_as_location(self.value))
+    }
+
+    /// What is wrong with the line, where it is no field line (RFC 9112, section 5).
+    pub fn fault(&self) -> Option<LineFault>
+        ensures { result ≡ fault (field_text self.now) }
+    {
+        if self.name.is_empty() {
+            fault_of(self.value)
+        } else {
+            None
+        }
+    }
+}
+
+fn begins_as_location(line: &[u8]) -> bool
+    ensures { result ≡ bytes_eq (map to_ascii_lowercase (take 8 line.now)) (codes "location") }
+{
+    match line.get(..8) {
+        Some(front) => front.eq_ignore_ascii_case(b"location"),
+        None => false,
     }
 }
 
@@ -58,20 +92,25 @@ impl<'a> Head<'a> {
         Ok(lines)
     }
 
-    /// The value of the first `Location` field, where the status is one of a redirection, 300 to 399 (RFC 9110,
-    /// sections 10.2.2 and 15.4).
-    pub fn location(&self) -> Option<&'a [u8]>
-        ensures { option_map (λ value. value.now) result ≡ location (head_text self.now) }
+    /// The values of the `Location` fields, where the status is one of a redirection, 300 to 399 (RFC 9110, sections
+    /// 10.2.2 and 15.4), and of each line that is no field line and that another program may read as one.
+    ///
+    /// # Errors
+    ///
+    /// `AllocError`, for want of memory.
+    pub fn locations(&self, alloc: Global) -> Result<Vec<&'a [u8]>, AllocError>
+        ensures { IfOk result (λ texts. map (λ text. text.now) texts.items ≡ locations (head_text self.now)) }
     {
+        let mut texts = Vec::new(alloc);
         if !is_redirection(self.status) {
-            return None;
+            return Ok(texts);
         }
         for field in &self.fields {
-            if field.is_named(b"location") {
-                return Some(field.value);
+            if field.is_location() {
+                texts.push(field.value)?;
             }
         }
-        None
+        Ok(texts)
     }
 }
 
@@ -87,7 +126,8 @@ fn is_redirection(status: u16) -> bool
 ///
 /// # Errors
 ///
-/// `Line` with the number of the first faulty line, counted from 1, and its fault; `OutOfMemory`.
+/// `Line` with the number of the first line, counted from 1, that begins a head and is no status line (`Status`), or
+/// before which a head has no end (`Unended`); `OutOfMemory`.
 pub fn heads<'a>(alloc: Global, text: &'a [u8]) -> Result<Vec<Head<'a>>, ReadError>
     ensures ok { IfOk result (λ heads. spec.GivesHeads text.now (map head_text heads.items)) }
     ensures err { IfErr result (spec.IsRefusal text.now) }
@@ -99,11 +139,37 @@ pub fn heads<'a>(alloc: Global, text: &'a [u8]) -> Result<Vec<Head<'a>>, ReadErr
             let Some(status) = status_of(line) else {
                 return Err(ReadError::Line(lines.taken, LineFault::Status));
             };
+            let number = lines.taken;
             let fields = read_fields(alloc, &mut lines)?;
-            heads.push(Head { status, fields })?;
+            heads.push(Head {
+                number,
+                status,
+                fields,
+            })?;
         }
     }
     Ok(heads)
+}
+
+// What a line of a head gives that isn't empty: its field, or one without a name.
+fn field_of(line: &[u8]) -> Field<'_>
+    requires { 0 < length line.now }
+    ensures { spec_lines.IsField line.now (field_text result) ⊎ spec_lines.IsNoField line.now (field_text result) }
+{
+    match read_field(line) {
+        Ok(field) => field,
+        Err(_) => Field {
+            name: &line[..0],
+            value: line,
+        },
+    }
+}
+
+// Whether the line ends a head as no line may.
+fn breaks_off(line: &[u8]) -> bool
+    ensures { result ≡ spec_lines.breaks_off line.now }
+{
+    begins_head(line) || matches!(line, [b'\r', ..])
 }
 
 // The fields up to the empty line that ends the head.
@@ -118,10 +184,10 @@ fn read_fields<'a>(alloc: Global, lines: &mut Lines<'a>) -> Result<Vec<Field<'a>
         if line.is_empty() {
             return Ok(fields);
         }
-        match read_field(line) {
-            Ok(field) => fields.push(field)?,
-            Err(fault) => return Err(ReadError::Line(lines.taken, fault)),
+        if breaks_off(line) {
+            return Err(ReadError::Line(lines.taken, LineFault::Unended));
         }
+        fields.push(field_of(line))?;
     }
     Err(ReadError::Line(lines.taken, LineFault::Unended))
 }

@@ -1,7 +1,7 @@
 //! Heads of HTTP responses, as `curl -i`, `curl -D` and `curl -L` print them (RFC 9112, sections 4 and 5).
 //!
 //! ```text
-//! for visit in &visits(alloc, &url, text)? {       // the heads of a text, each with the URL that answered it
+//! for visit in &visits(alloc, &url, text)?.visits {       // the heads of a text, each with the URL that answered it
 //!     let lines = visit.head.set_cookie_lines(alloc)?;
 //! }
 //! ```
@@ -17,4 +17,4 @@ mod status;
 
 pub use error::{LineFault, ReadError};
 pub use head::{Field, Head, heads};
-pub use redirects::{Visit, visits};
+pub use redirects::{Visit, Visited, visits};

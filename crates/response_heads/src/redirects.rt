@@ -1,12 +1,15 @@
 //! Which URL answered each head.
-ghost use Rattle.std.specs.Prelude.{◌≡◌, ◌<◌, ◌⊎◌, map, length, IfOk, IfErr};
-ghost use Rattle.response_heads.specs.Heads.{HeadText};
-ghost use Rattle.response_heads.specs.Steps.{IsNext, IsNoNext};
+ghost use Rattle.std.specs.Prelude.{◌≡◌, ◌&&◌, Ok, map, IfOk, IfErr, MatchOption, codes, false, nat_lt, not};
+ghost use Rattle.std.specs.Str.{bytes_eq};
+ghost use Rattle.url.specs.Parts.{Parts};
+ghost use Rattle.plain_url.specs.Plain.{IsPlainOf};
+ghost use Rattle.response_heads.specs.Read.{head_text, is_success};
 ghost use Rattle.response_heads.specs.Visits as spec;
 
-use crate::error::ReadError;
+use crate::error::{LineFault, ReadError};
 use crate::head::{Head, heads};
-use std::alloc::Global;
+use plain_url::{is_plain_hop, is_plain_of};
+use std::alloc::{AllocError, Global};
 use url::{ParseError, Url};
 
 /// A head, and the URL that answered it.
@@ -16,56 +19,153 @@ pub struct Visit<'a> {
     pub url: Url,
     /// What it answered.
     pub head: Head<'a>,
+    /// Whether a proxy answered, and opened a tunnel to that URL (RFC 9110, section 9.3.6): a success that isn't the
+    /// last head and comes behind none, where the URL is one of `https`.
+    pub is_tunnel: bool,
+}
+
+impl<'a> Visit<'a> {
+    /// The `Set-Cookie` lines of the URL that answered, in their order: none where a proxy did.
+    ///
+    /// # Errors
+    ///
+    /// `AllocError`, for want of memory.
+    pub fn set_cookie_lines(&self, alloc: Global) -> Result<Vec<&'a [u8]>, AllocError>
+        ensures { IfOk result (λ lines. map (λ line. line.now) lines.items
+            ≡ spec.set_cookie_lines (spec.visit_text self.now)) }
+    {
+        if self.is_tunnel {
+            return Ok(Vec::new(alloc));
+        }
+        self.head.set_cookie_lines(alloc)
+    }
+}
+
+/// The heads of a text, each with the URL that answered it.
+#[derive(Debug, Drop)]
+pub struct Visited<'a> {
+    /// In their order.
+    pub visits: Vec<Visit<'a>>,
+    /// The number of the status line, counted from 1, of a head behind which all are left out: none can say which URL
+    /// answered them.
+    pub lost: Option<usize>,
 }
 
 /// The heads of a text, each with the URL that answered it: the first is answered by the given one. Behind a
-/// redirection with a `Location` the next is answered by the URL that this joins to ([`Url::join`], which keeps a
-/// fragment), and behind any other head by the same URL as that.
+/// redirection the next is answered by the URL of its `Location`, which must be plain, or an absolute path that this URL
+/// has as it stands, and behind any other head by the same URL as that. Where a redirection has another `Location`, or
+/// several, the heads behind it are left out.
 ///
 /// # Errors
 ///
-/// `Line` and `OutOfMemory` as [`heads`] tells them; `Location` with the number of the first head, counted from 1,
-/// whose `Location` isn't UTF-8 or is neither a URL nor a reference, although a head follows.
-pub fn visits<'a>(alloc: Global, url: &Url, text: &'a [u8]) -> Result<Vec<Visit<'a>>, ReadError>
-    ensures ok { IfOk result (λ visits. spec.GivesVisits url.now text.now (map spec.visit_text visits.items)) }
-    ensures err { IfErr result (spec.IsVisitRefusal url.now text.now) }
+/// `Line` and `OutOfMemory` as [`heads`] tells them; `Line` of the first line and `Status` where the text has no head.
+pub fn visits<'a>(alloc: Global, url: &Url, text: &'a [u8]) -> Result<Visited<'a>, ReadError>
+    ensures ok { IfOk result (λ given. spec.GivesVisits url.now text.now (map spec.visit_text given.visits.items)
+        given.lost) }
+    ensures err { IfErr result (spec.IsVisitRefusal text.now) }
+{
+    let heads = heads(alloc, text)?;
+    if heads.is_empty() {
+        return Err(ReadError::Line(1, LineFault::Status));
+    }
+    Ok(walk(alloc, url, heads)?)
+}
+
+// The visits of heads, the first of which this URL answered.
+fn walk<'a>(alloc: Global, url: &Url, heads: Vec<Head<'a>>) -> Result<Visited<'a>, AllocError>
+    ensures { IfOk result (λ given. spec.Walks (Ok url.now) false (map head_text heads.entry.items)
+        (map spec.visit_text given.visits.items) given.lost) }
 {
     let mut visits = Vec::new(alloc);
-    for head in heads(alloc, text)? {
-        let url = next_url(url, &visits)?;
-        visits.push(Visit { url, head })?;
+    let mut here = Ok(url.clone()?);
+    let mut is_behind_success = false;
+    let mut left = heads.len();
+    for head in heads {
+        left -= 1;
+        let url = match here {
+            Ok(url) => url,
+            Err(line) => {
+                return Ok(Visited {
+                    visits,
+                    lost: Some(line),
+                });
+            }
+        };
+        here = leads_to(alloc, &url, &head)?;
+        let is_tunnel = is_tunnel(&url, is_behind_success, head.status, left);
+        is_behind_success = is_success(head.status);
+        visits.push(Visit {
+            url,
+            head,
+            is_tunnel,
+        })?;
     }
-    Ok(visits)
+    Ok(Visited { visits, lost: None })
 }
 
-// The URL that answers behind these visits, which begin at the given one.
-fn next_url(url: &Url, visits: &[Visit<'_>]) -> Result<Url, ReadError>
-    ensures ok { IfOk result (IsNext url.now (map spec.visit_text visits.now)) }
-    ensures err { IfErr result (IsNoNext (map spec.visit_text visits.now)) }
+// Where a head leads from the URL that answered it, or the number of its status line, where none can say.
+fn leads_to(alloc: Global, url: &Url, head: &Head<'_>) -> Result<Result<Url, usize>, AllocError>
+    ensures { IfOk result (spec.LeadsTo url.now (head_text head.now)) }
 {
-    match visits.last() {
-        Some(visit) => visit.leads_to(visits.len()),
-        None => Ok(url.clone()?),
+    let locations = head.locations(alloc)?;
+    match locations.as_slice() {
+        [] => Ok(Ok(url.clone()?)),
+        [text] => match plain_step(alloc, url, text)? {
+            Some(next) => Ok(Ok(next)),
+            None => Ok(Err(head.number)),
+        },
+        _ => Ok(Err(head.number)),
     }
 }
 
-impl Visit<'_> {
-    // The URL that answers behind this visit, which has this number.
-    fn leads_to(&self, number: usize) -> Result<Url, ReadError>
-        ensures ok { IfOk result (spec.LeadsTo (spec.visit_text self.now)) }
-        ensures err { IfErr result (λ e. (e ≡ ReadError.OutOfMemory)
-            ⊎ ((e ≡ ReadError.Location number) × spec.LeadsNowhere (spec.visit_text self.now))) }
-    {
-        let Some(location) = self.head.location() else {
-            return Ok(self.url.clone()?);
-        };
-        let Ok(text) = str::from_utf8(location) else {
-            return Err(ReadError::Location(number));
-        };
-        match self.url.join(text) {
-            Ok(url) => Ok(url),
-            Err(ParseError::OutOfMemory | ParseError::Overflow) => Err(ReadError::OutOfMemory),
-            Err(_) => Err(ReadError::Location(number)),
-        }
+// The URL to which a Location leads, if it is plain.
+fn plain_step(alloc: Global, url: &Url, text: &[u8]) -> Result<Option<Url>, AllocError>
+    ensures { IfOk result (λ found. MatchOption found ((next : Parts) → ¬ (spec.LeadsPlainly url.now text.now next))
+        (spec.LeadsPlainly url.now text.now)) }
+{
+    let Ok(text) = str::from_utf8(text) else {
+        return Ok(None);
+    };
+    if let Some(next) = plain(alloc, text)? {
+        return Ok(Some(next));
     }
+    match url.join(text) {
+        Ok(next) => Ok(if is_plain_hop(url, &next, text) {
+            Some(next)
+        } else {
+            None
+        }),
+        Err(ParseError::OutOfMemory | ParseError::Overflow) => Err(AllocError),
+        Err(_) => Ok(None),
+    }
+}
+
+// The URL of which this is the plain text.
+fn plain(alloc: Global, text: &str) -> Result<Option<Url>, AllocError>
+    ensures { IfOk result (λ found. MatchOption found ((url : Parts) → ¬ (IsPlainOf text.now url))
+        (IsPlainOf text.now)) }
+{
+    match Url::parse(alloc, text) {
+        Ok(url) => Ok(if is_plain_of(&url, text) {
+            Some(url)
+        } else {
+            None
+        }),
+        Err(ParseError::OutOfMemory | ParseError::Overflow) => Err(AllocError),
+        Err(_) => Ok(None),
+    }
+}
+
+// Whether a head is a proxy's, behind which so many are left.
+fn is_tunnel(url: &Url, is_behind_success: bool, status: u16, left: usize) -> bool
+    ensures { result ≡ (is_success status && (not is_behind_success && (bytes_eq url.now.scheme (codes "https")
+        && nat_lt 0 left))) }
+{
+    is_success(status) && !is_behind_success && url.scheme() == "https" && left > 0
+}
+
+fn is_success(status: u16) -> bool
+    ensures { result ≡ is_success status }
+{
+    200 <= status && status < 300
 }

@@ -14,7 +14,7 @@ loop-line-init c =
     record {
       parts = [];
       front = [];
-      are = subst (AreHeads []) (sym none) tt;
+      are = subst (AreHeads 0 []) (sym none) tt;
       passed = tt;
       split = ap lines (sym c.of-lines.ensures.rest);
       counted = c.of-lines.ensures.taken;
@@ -38,7 +38,11 @@ loop-line-preserved-in-Continue-branch-2 c =
     let old = map head_text c.loop-line.heads.items in
     let fields = map field_text c.in_ok-fields.fields.items in
     let new : map head_text c.push.new.self.items
-    ≡ old ++ (record { status = c.in-Some-status_of.status; fields = fields }) ∷ [] =
+    ≡ old ++ (record {
+      number = c.next.new.self.taken;
+      status = c.in-Some-status_of.status;
+      fields = fields;
+    }) ∷ [] =
     ap (map head_text) c.in_ok-push.ensures.items ∙ map-append head_text c.loop-line.heads.items (_ ∷ []) in
     let is : status_of c.in-Some.line.now ≡ Some c.in-Some-status_of.status =
     sym c.status_of.ensures ∙ c.in-Some-status_of.is in

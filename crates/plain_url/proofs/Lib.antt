@@ -1,0 +1,3 @@
+pub mod InsteadLemmas
+pub mod ReadLemmas
+pub mod TestLemmas
