@@ -20,6 +20,9 @@
 #include <stddef.h>
 #include <stdint.h>
 
+/* The version of this file. fonnalich_version tells the library's. */
+#define FONNALICH_VERSION "0.9.0"
+
 /* A handle: memory of the caller's own, which the library alone reads and writes. */
 typedef struct fonnalich {
     uint64_t words[64];
@@ -136,6 +139,9 @@ enum { FONNALICH_KEY_LENGTH = 64, FONNALICH_NONCE_LENGTH = 12 };
 #ifdef __cplusplus
 extern "C" {
 #endif
+
+/* Writes the version of the library, as FONNALICH_VERSION. It takes no memory and is never refused. */
+ptrdiff_t fonnalich_version(char *out, size_t out_length);
 
 /* One exchange of a site: a session with this key on a request's Cookie header obeys the commands, lines joined by
    '\n', as FONNALICH_SET FONNALICH_SEALED "cart=3; Max-Age=60; HttpOnly". A set cookie gets Secure and Path=/ and loses

@@ -27,6 +27,8 @@ _PATH = os.environ.get("FONNALICH_LIB") or os.path.join(_HERE, "..", "..", "out"
 _LIB = ctypes.CDLL(_PATH)
 _TEXT = [ctypes.c_char_p, ctypes.c_size_t]
 _LIB.fonnalich_size.restype = ctypes.c_size_t
+_LIB.fonnalich_version.argtypes = [ctypes.c_void_p, ctypes.c_size_t]
+_LIB.fonnalich_version.restype = ctypes.c_ssize_t
 _LIB.fonnalich_begin.argtypes = [ctypes.c_void_p]
 _LIB.fonnalich_begin.restype = None
 _LIB.fonnalich_end.argtypes = [ctypes.c_void_p]
@@ -189,6 +191,9 @@ def _items(answer: bytes) -> List[Optional[str]]:
         items.append(None if length < 0 else answer[at + 8:at + 8 + length].decode())
         at += 8 + max(length, 0)
     return items
+
+
+__version__ = _answered(_LIB.fonnalich_version).decode()
 
 
 def suffix(suffixes: Union[str, bytes], host: str) -> str:

@@ -58,6 +58,7 @@ mod library {
 
     unsafe extern "C" {
         pub fn fonnalich_size() -> usize;
+        pub fn fonnalich_version(out: *mut u8, out_length: usize) -> isize;
         pub fn fonnalich_begin(at: *mut Handle);
         pub fn fonnalich_end(at: *mut Handle);
         #[allow(clippy::too_many_arguments)]
@@ -121,6 +122,13 @@ mod library {
 }
 
 use library::Handle;
+
+/// The version of the library, which is this crate's.
+pub fn version() -> String {
+    // The call writes within `out`, and is never refused.
+    let answer = site::answered(|out| unsafe { library::fonnalich_version(out.as_mut_ptr(), out.len()) });
+    String::from_utf8_lossy(&answer.unwrap_or_default()).into_owned()
+}
 
 /// Why a call is refused. The client is as it was, but for `Stopped`.
 #[derive(Clone, Copy, Debug, PartialEq, Eq)]
@@ -372,6 +380,11 @@ mod tests {
     const NOW: i64 = 1_700_000_000;
 
     // The lines and the header of RFC 6265, section 3.1.
+    #[test]
+    fn tells_the_version() {
+        assert_eq!(super::version(), env!("CARGO_PKG_VERSION"));
+    }
+
     #[test]
     fn gives_what_it_received() {
         let mut client = Client::new(LIST).unwrap();

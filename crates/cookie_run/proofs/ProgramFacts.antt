@@ -4,7 +4,9 @@ use Rattle.std.proofs.Common.{sym, subst, ap, ◌∙◌, true, false, true≢fal
 use Rattle.std.proofs.Common.{ℤ}
 use Rattle.std.specs.Prelude.{IsErrOf, IfSome, IsErrAnd, option_map, ◌↔◌}
 use Rattle.std.specs.Result.{result_map_both}
-use Rattle.std.specs.Io.KnownBytes.{Appends}
+use Rattle.std.specs.Io.KnownBytes.{Appends, Keeps}
+use Rattle.std.proofs.lemmas.List.{append-nil}
+use Rattle.devices.specs.Device.{AppendsFront}
 use Rattle.std.specs.declared.convert.Infallible.{Infallible}
 use Rattle.rand_chacha.specs.ChaCha.{ChaCha, of_seed}
 use Rattle.cookie.specs.Key.{derived}
@@ -191,3 +193,17 @@ tells_faulty Untouched io words suffixes stored given is gives = inl (
   (refl, refl),
   (suffixes, stored, subst (λ t. RunGives Untouched io words suffixes stored (Ok t)) is gives),
 )
+
+-- ---- what was written, behind a flush
+
+pub appends_kept : (old mid new : Option (List ℕ)) (text : List ℕ) → Appends old mid text → Keeps mid new
+    → Appends old new text
+appends_kept None mid new text appends keeps = tt
+appends_kept (Some xs) None new text appends keeps = absurd appends
+appends_kept (Some xs) (Some ys) None text appends keeps = absurd keeps
+appends_kept (Some xs) (Some ys) (Some zs) text appends keeps = keeps ∙ appends
+
+pub front_kept : (old mid new : Option (List ℕ)) (text : List ℕ) → Appends old mid text → Keeps mid new
+    → AppendsFront old new text
+front_kept old mid new text appends keeps =
+    (text, [], sym (append-nil text), appends_kept old mid new text appends keeps)

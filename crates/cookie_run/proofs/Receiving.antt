@@ -1,7 +1,7 @@
 -- What a client does with lines one after another.
 use Rattle.std.proofs.Common.{◌≡◌, ◌≢◌, ℕ, ℤ, ◌+◌, ◌<◌, List, [], ◌∷◌, ◌++◌, length, take, get_or, sym, refl, ap, ◌∙◌}
 use Rattle.std.proofs.Common.{subst, inl, inr, true, false, Result, Ok, Err, ⊎_elim, zero, suc, arith}
-use Rattle.std.specs.Prelude.{map, IfOk, OnErr}
+use Rattle.std.specs.Prelude.{map, IfErr, IfOk, OnErr}
 use Rattle.std.specs.List.{list_any}
 use Rattle.std.specs.Str.{IsUtf8}
 use Rattle.std.proofs.lemmas.Bool.{both_ways, cases_Bool, cond-true, cond-false}
@@ -23,7 +23,7 @@ use Rattle.cookie_store.specs.declared.action.StoreAction.TheVariants.{ExpiredEx
 use Rattle.cookie_run.specs.declared.step.LineEnd.{LineEnd}
 use Rattle.cookie_run.specs.declared.step.LineEnd.TheVariants.{Refused}
 use Rattle.cookie_run.specs.HostPrefix.{BreaksHost, IsAgainstHost}
-use Rattle.cookie_run.specs.Accept.{Accepts, AcceptsAll, AcceptsCookie, AsksForMemory, StopsAt}
+use Rattle.cookie_run.specs.Accept.{Accepts, AcceptsAll, AcceptsCookie, AsksForMemory, IsStopped, StopsAt}
 use Rattle.cookie_run.proofs.ReadOnce.{ReadsOnce, read_once}
 
 -- ---- line by line
@@ -76,6 +76,19 @@ stopped_line f list start mid new old url now xs i d h all same asks = record {
   taken = (old, subst (AcceptsAll list start url now (take i (map f xs)) old) (sym same) all);
   asks = subst (AsksForMemory url) (sym (map_at f xs i d h)) asks;
 }
+
+-- one line as an answer of one
+pub one_taken : {E : Type 0} (r : Result LineEnd E) (list : List Rule) (rows new : List Row) (url : Parts) (now : ℤ)
+    (line : List ℕ) → IfOk r (λ end. Accepts list rows url now line end new)
+    → IfOk r (λ end. AcceptsAll list rows url now (line ∷ []) (end ∷ []) new)
+one_taken (Ok end) list rows new url now line h = (new, h, (refl, refl))
+one_taken (Err e) list rows new url now line h = tt
+
+pub one_stopped : {E : Type 0} (r : Result LineEnd E) (list : List Rule) (rows new : List Row) (url : Parts) (now : ℤ)
+    (line : List ℕ) → OnErr r ((new ≡ rows) × AsksForMemory url line)
+    → IfErr r (λ _. IsStopped list rows url now (line ∷ []) 0 new)
+one_stopped (Ok end) list rows new url now line h = tt
+one_stopped (Err e) list rows new url now line h = inl (refl, h.0)
 
 -- ---- no insertion ends so for want of memory
 

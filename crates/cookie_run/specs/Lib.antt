@@ -30,6 +30,7 @@ pub mod ScriptText
 pub mod ScriptDrawn
 pub mod ScriptLaws
 pub mod ScriptRead
+pub mod Version
 pub mod Standing
 pub mod Program
 pub mod ProgramRead

@@ -5,7 +5,7 @@ use Rattle.std.specs.Result.{result_ok}
 use Rattle.std.specs.Str.{IsUtf8}
 use Rattle.std.specs.Io.KnownBytes.{Appends}
 use Rattle.std.specs.declared.convert.Infallible.{Infallible}
-use Rattle.devices.specs.Device.{Rose}
+use Rattle.devices.specs.Device.{AppendsFront, Rose}
 use Rattle.hex.specs.Hex.{decode_sized}
 use Rattle.rand_core.specs.Steps.{steps_u32, stream_of}
 use Rattle.rand_core.specs.Stream.{Stream, fill_bytes}
@@ -27,6 +27,7 @@ use Rattle.cookie_run.specs.HostPrefix.{IsHeldRightly}
 use Rattle.cookie_run.specs.ScriptDrawn.{IsScriptBy}
 use Rattle.cookie_run.specs.ScriptMoment.{moment_of}
 use Rattle.cookie_run.specs.ScriptText.{Runs}
+use Rattle.cookie_run.specs.Version.{version_line}
 use Rattle.cookie_run.specs.declared.program.failure.Failure.{Failure}
 use Rattle.cookie_run.specs.declared.program.failure.Failure.TheVariants.{Arguments, Seed, Moment, SuffixFile}
 use Rattle.cookie_run.specs.declared.program.failure.Failure.TheVariants.{SuffixList, StoreFile, StoreText, Input}
@@ -217,3 +218,29 @@ abbrev pub ProgramTells : Type 0 → Devices → List (List ℕ) → ℕ → Opt
 ProgramTells Untouched io words status said =
     ((kept : Option (List ℕ)) × IsToldBy (Ok kept) status said × FilesGive Untouched io words (Ok kept))
     ⊎ ((failure : Failure) × IsToldBy (Err failure) status said × ProgramFails Untouched io words failure)
+
+-- ---- the version
+
+-- `--version`, alone
+abbrev pub version_words : List (List ℕ)
+version_words = codes "--version" ∷ []
+
+-- `cookie-run`, a space, the version and a line feed
+abbrev pub program_version : List ℕ
+program_version = version_line (codes "cookie-run")
+
+-- The line of the version was written; or the writer failed behind a front of it; or memory was refused for it, and the
+-- writer is as it was.
+abbrev pub VersionTells : Type 0 → Option (List ℕ) × Option (List ℕ) → ℕ × ℕ → ℕ → Option (List ℕ) → Type 0
+VersionTells Unwritten written unwritten status said =
+    ((status ≡ 0) × (said ≡ None) × Appends written.0 written.1 program_version)
+    ⊎ (((status ≡ 2) × (said ≡ Some (failure_text Output)) × Rose unwritten.0 unwritten.1
+    × AppendsFront written.0 written.1 program_version)
+    ⊎ ((status ≡ 2) × (said ≡ Some (failure_text Memory)) × Unwritten))
+
+-- What the program tells of any words: of its version where they ask for it, and nothing is read then; else what a run
+-- tells.
+abbrev pub WordsTell : Type 0 → Type 0 → Devices → List (List ℕ) → ℕ → Option (List ℕ) → Type 0
+WordsTell Unread Unwritten io words status said =
+    ((words ≡ version_words) × Unread × VersionTells Unwritten io.written io.unwritten status said)
+    ⊎ ((words ≢ version_words) × ProgramTells (Unread × Unwritten) io words status said)

@@ -13,6 +13,7 @@ mod moment;
 pub mod play;
 pub mod program;
 pub mod reading;
+mod release;
 pub mod script;
 pub mod session;
 pub mod step;
@@ -20,6 +21,7 @@ pub mod text;
 
 pub use client::Client;
 pub use cookie_store::{Counting, Failing, Sink, Source};
+pub use release::{version, version_line};
 pub use script::ended::{Ended, RunError};
 pub use script::run::run;
 pub use session::Session;

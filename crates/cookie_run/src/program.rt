@@ -1,5 +1,8 @@
 //! The program: a script from a reader, played to a writer for a client that is kept in a file.
-ghost use Rattle.std.specs.Prelude.{◌≡◌, ◌⊎◌, IfOk, IfErr, IsNone, None, Ok, OnOk, map, option_map, string_bytes};
+ghost use Rattle.std.specs.Prelude.{◌≡◌, ◌⊎◌, ◌↔◌, IfOk, IfErr, IsNone, IsTrue, None, Ok, OnErr, OnOk, map};
+ghost use Rattle.std.specs.Prelude.{option_map, string_bytes};
+ghost use Rattle.std.specs.Io.KnownBytes.{Appends};
+ghost use Rattle.devices.specs.Device.{AppendsFront, Rose};
 ghost use Rattle.cookie_run.specs.Program as spec;
 
 mod answering;
@@ -13,12 +16,14 @@ pub use crate::program::answering::{answer, list_of};
 pub use crate::program::failure::Failure;
 use crate::program::files::Unread;
 use crate::program::place::Place;
+use crate::release::version_line;
+use devices::pour::{WriteFailed, write_all};
 use devices::{Sink, Source};
 use std::alloc::Global;
 use std::fs::Files;
 
-// What the name of a new file beside the store file begins with.
-const STEM: &str = "cookie-run";
+// What the name of a new file beside the store file begins with, and the line of the version.
+const NAME: &str = "cookie-run";
 
 /// What `cookie-run SUFFIXFILE SEED STOREFILE MOMENT` does: runs the script of a reader on the client
 /// of a store file, and keeps that client in the file if the script ended whole. Answers the exit
@@ -38,7 +43,85 @@ const STEM: &str = "cookie-run";
 /// reader or the writer failed (`input`, `output`). `memory` stands in their place where memory was
 /// refused outside the script. Up to `store text` of what STOREFILE holds, the reader and the writer are
 /// as they were.
+///
+/// By `cookie-run --version` it prints the line `cookie-run VERSION` and reads nothing. `output` stands
+/// against that where the writer failed, and `memory`, which leaves the writer as it was.
 pub fn program<H: Files + AllocGlobal, R: Source, W: Sink>(
+    rt: &H,
+    words: &[String],
+    reader: &mut R,
+    writer: &mut W,
+) -> (u8, Option<&'static str>)
+    ensures tells { spec.WordsTell
+        (reader.new ≡ reader.old)
+        (writer.new ≡ writer.old)
+        (record {
+          left = R.left reader.old;
+          reads = R.reads reader.new;
+          unread = (R.failures reader.old, R.failures reader.new);
+          written = (W.written writer.old, W.written writer.new);
+          unwritten = (W.failures writer.old, W.failures writer.new);
+        })
+        (map (λ word. string_bytes word) words.now) result.0 (option_map (λ said. said.now) result.1) }
+    ensures failures { IsNone result.1 → (R.failures reader.new ≡ R.failures reader.old)
+        × (W.failures writer.new ≡ W.failures writer.old) }
+    ensures unflushed { IsNone result.1 → W.unflushed writer.new ≡ 0 }
+{
+    if asks_version(words) {
+        return print_version(rt.alloc(), writer);
+    }
+    run_told(rt, words, reader, writer)
+}
+
+// Whether the words ask for the version.
+fn asks_version(words: &[String]) -> bool
+    ensures { IsTrue result ↔ (map (λ word. string_bytes word) words.now ≡ spec.version_words) }
+{
+    match words {
+        [word] => word.as_str() == "--version",
+        _ => false,
+    }
+}
+
+// Prints the line of the version.
+fn print_version<W: Sink>(alloc: Global, writer: &mut W) -> (u8, Option<&'static str>)
+    ensures tells { spec.VersionTells
+        (writer.new ≡ writer.old)
+        (W.written writer.old, W.written writer.new)
+        (W.failures writer.old, W.failures writer.new)
+        result.0 (option_map (λ said. said.now) result.1) }
+    ensures failures { IsNone result.1 → W.failures writer.new ≡ W.failures writer.old }
+    ensures unflushed { IsNone result.1 → W.unflushed writer.new ≡ 0 }
+{
+    let Ok(line) = version_line(alloc, NAME) else {
+        return (2, Some(Failure::Memory.words()));
+    };
+    match write_flushed(writer, line.as_bytes()) {
+        Ok(()) => (0, None),
+        Err(_) => (2, Some(Failure::Output.words())),
+    }
+}
+
+// Writes the text whole, and flushes.
+#[tactic(auto, using(crate::proofs::ProgramFacts::appends_kept, crate::proofs::ProgramFacts::front_kept))]
+fn write_flushed<W: Sink>(writer: &mut W, text: &[u8]) -> Result<(), WriteFailed>
+    ensures ok { OnOk result (Appends (W.written writer.old) (W.written writer.new) text.now) }
+    ensures err { OnErr result (Rose (W.failures writer.old) (W.failures writer.new)
+        × AppendsFront (W.written writer.old) (W.written writer.new) text.now) }
+    ensures failures { OnOk result (W.failures writer.new ≡ W.failures writer.old) }
+    ensures unflushed { OnOk result (W.unflushed writer.new ≡ 0) }
+{
+    match write_all(writer, text) {
+        Ok(()) => match writer.flush() {
+            Ok(()) => Ok(()),
+            Err(_) => Err(WriteFailed),
+        },
+        Err(failed) => Err(failed),
+    }
+}
+
+// Answers the exit status of a run, with what goes to standard error at status 2.
+fn run_told<H: Files + AllocGlobal, R: Source, W: Sink>(
     rt: &H,
     words: &[String],
     reader: &mut R,
@@ -99,7 +182,7 @@ fn serve<H: Files + AllocGlobal, R: Source, W: Sink>(
         Ok(asked) => asked,
         Err(failure) => return Err(failure),
     };
-    let place = Place::of(rt, asked.store_file, STEM);
+    let place = Place::of(rt, asked.store_file, NAME);
     let suffixes = read_suffixes(rt, asked.suffix_file)?;
     let stored = match read_stored(rt, &place) {
         Ok(stored) => stored,

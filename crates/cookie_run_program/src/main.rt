@@ -2,6 +2,7 @@
 #![tactic(auto)]
 
 use cookie_run::Counting;
+use cookie_run::program::files::{self, Unread};
 use cookie_run::program::program;
 use std::alloc::AllocError;
 use std::env;
@@ -26,7 +27,7 @@ fn start(rt: &HostRuntime) -> (u8, Option<&'static str>) {
 
 // Hands the program its words, standard input and standard output.
 fn play(rt: &HostRuntime) -> Result<(u8, Option<&'static str>), AllocError> {
-    let words = words(rt)?;
+    let words = with_seed(rt, words(rt)?)?;
     let Ok(reader) = BufReader::new(rt.alloc(), rt.reader()) else {
         return Err(AllocError);
     };
@@ -47,5 +48,32 @@ fn words(rt: &HostRuntime) -> Result<Vec<String>, AllocError> {
         Ok(words) => words.skip(1).collect(rt.alloc()),
         Err(error) if error.kind() == ErrorKind::OutOfMemory => Err(AllocError),
         Err(_) => Ok(Vec::new(rt.alloc())),
+    }
+}
+
+// The words, with what a file holds in the place of a SEED `@FILE`: a line feed at its end is left out.
+fn with_seed(rt: &HostRuntime, mut words: Vec<String>) -> Result<Vec<String>, AllocError> {
+    if let Some(seed) = words.get_mut(1) {
+        if let Some(path) = seed.strip_prefix('@') {
+            if let Some(text) = file_text(rt, path)? {
+                *seed = text;
+            }
+        }
+    }
+    Ok(words)
+}
+
+// The text of a file, or none where it isn't read or isn't UTF-8: then the word stays, which is no seed.
+fn file_text(rt: &HostRuntime, path: &str) -> Result<Option<String>, AllocError> {
+    match files::read(rt, path) {
+        Ok(bytes) => match str::from_utf8(&bytes) {
+            Ok(text) => Ok(Some(String::from_str(
+                rt.alloc(),
+                text.strip_suffix('\n').unwrap_or(text),
+            )?)),
+            Err(_) => Ok(None),
+        },
+        Err(Unread::Memory) => Err(AllocError),
+        Err(Unread::Missing | Unread::Failed) => Ok(None),
     }
 }

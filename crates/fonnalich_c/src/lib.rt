@@ -11,7 +11,8 @@ ghost use Rattle.std.specs.Ptr.{points_to, room_at};
 ghost use Rattle.fonnalich_c.specs.Exchange.{IsExchange, IsNoExchange};
 ghost use Rattle.fonnalich_c.specs.Handle.{IsFresh, Acts};
 ghost use Rattle.fonnalich_c.specs.Parts.{GivesParts, IsPrinted, IsUnprinted};
-ghost use Rattle.fonnalich_c.specs.Room.{Gives};
+ghost use Rattle.cookie_run.specs.Version.{version};
+ghost use Rattle.fonnalich_c.specs.Room.{Gives, IsWritten};
 ghost use Rattle.fonnalich_c.specs.Suffix.{IsSuffixOf, HasNoSuffix};
 ghost use Rattle.fonnalich_c.specs.contracts.held.Held as held;
 
@@ -40,6 +41,7 @@ use crate::held::{Held, fresh, let_go, work};
 use crate::room::write;
 use crate::suffix::suffix;
 use crate::together::{Texts, together};
+use cookie_run::version;
 use std::alloc::Global;
 
 /// How many bytes the place of a handle has, which stands at a multiple of 8.
@@ -55,6 +57,14 @@ pub extern "C" fn fonnalich_size() -> usize
     ensures { result ≡ 512 }
 {
     PLACE
+}
+
+/// The version of the library, as `0.9.0`.
+#[unsafe(no_mangle)]
+pub extern "C" fn fonnalich_version(out: &mut [u8]) -> isize
+    ensures { IsWritten version out.old out.new result }
+{
+    write(version().as_bytes(), out)
 }
 
 /// Begins a handle at this place, without a client. It takes no memory.

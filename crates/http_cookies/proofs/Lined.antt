@@ -59,17 +59,18 @@ map_at f (x ∷ xs) (suc i) d h = map_at f xs i d (omega arith)
 pub stopped_line : {A : Type 0} (f : A → List ℕ) (list : List Rule) (start mid new : List Row) (old : List LineEnd)
     (url : Parts) (now : ℤ) (xs : List A) (i : ℕ) (d : A) → i < length xs
     → StoresEach list start url now (take i (map f xs)) old mid → new ≡ mid → (here : List Rule) → here ≡ list
-    → ReceivesText here mid url now (f (get_or xs i d)) (Err OutOfMemory, mid)
+    → IsUtf8 (f (get_or xs i d)) × ReceivesText here mid url now (f (get_or xs i d)) (Err OutOfMemory, mid)
     → StopsStoringAt list start url now (map f xs) (i + 1) new
-stopped_line f list start mid new old url now xs i d h all same here is refused = record {
+stopped_line f list start mid new old url now xs i d h all same here is asks = record {
   before = i;
   number = refl;
   within = subst (λ n. i < n) (sym (length-map xs f)) h;
   ends = old;
   taken = subst (StoresEach list start url now (take i (map f xs)) old) (sym same) all;
+  text = subst IsUtf8 (sym (map_at f xs i d h)) asks.0;
   refused = subst (λ line. ReceivesText list new url now line (Err OutOfMemory, new)) (sym (map_at f xs i d h))
       (subst (λ rs. ReceivesText list rs url now (f (get_or xs i d)) (Err OutOfMemory, rs)) (sym same)
-      (subst (λ l. ReceivesText l mid url now (f (get_or xs i d)) (Err OutOfMemory, mid)) is refused));
+      (subst (λ l. ReceivesText l mid url now (f (get_or xs i d)) (Err OutOfMemory, mid)) is asks.1));
 }
 
 -- ---- one line
@@ -82,12 +83,12 @@ text_ok (Ok end) list rows new url now line text utf8 same h =
 text_ok (Err e) list rows new url now line text utf8 same h = tt
 
 pub text_err : {E : Type 0} (r : Result LineEnd E) (list : List Rule) (rows new : List Row) (url : Parts) (now : ℤ)
-    (line text : List ℕ) → text ≡ line
+    (line text : List ℕ) → IsUtf8 line → text ≡ line
     → OnErr r ((new ≡ rows) × ReceivesText list rows url now text (Err OutOfMemory, rows))
-    → OnErr r ((new ≡ rows) × ReceivesText list rows url now line (Err OutOfMemory, rows))
-text_err (Ok end) list rows new url now line text same h = tt
-text_err (Err e) list rows new url now line text same h =
-    (h.0, subst (λ t. ReceivesText list rows url now t (Err OutOfMemory, rows)) same h.1)
+    → OnErr r ((new ≡ rows) × (IsUtf8 line × ReceivesText list rows url now line (Err OutOfMemory, rows)))
+text_err (Ok end) list rows new url now line text utf8 same h = tt
+text_err (Err e) list rows new url now line text utf8 same h =
+    (h.0, (utf8, subst (λ t. ReceivesText list rows url now t (Err OutOfMemory, rows)) same h.1))
 
 -- an answer that isn't want of memory
 pub text_stored : (list : List Rule) (rows new : List Row) (url : Parts) (now : ℤ) (text : List ℕ)

@@ -1,5 +1,6 @@
 -- What becomes of the lines of an answer by a store alone, and the rows after them (RFC 6265, 5.2 and 5.3).
 use Rattle.std.specs.Prelude.{◌≡◌, ◌⊎◌, ◌+◌, ◌<◌, ℕ, ℤ, List, [], ◌∷◌, length, take, get_or, Result, Err}
+use Rattle.std.specs.Str.{IsUtf8}
 use Rattle.cookie_text.specs.Reading.{ReadsPlain}
 use Rattle.cookie_text.specs.Record.{Seen}
 use Rattle.cookie_text.specs.declared.error.ParseError.{ParseError}
@@ -35,6 +36,7 @@ pub record StopsStoringAt (list : List Rule) (rows : List Row) (url : Parts) (no
   pub within : before < length lines
   pub ends : List LineEnd
   pub taken : StoresEach list rows url now (take before lines) ends new
+  pub text : IsUtf8 (get_or lines before [])
   pub refused : ReceivesText list new url now (get_or lines before []) (Err OutOfMemory, new)
 
 -- so, or before any line was looked at, which is 0

@@ -1,5 +1,6 @@
 //! The lines of an answer, taken by a store alone.
 ghost use Rattle.std.specs.Prelude.{◌≡◌, map, Err, IfOk, OnErr, IfErr};
+ghost use Rattle.std.specs.Str.{IsUtf8};
 ghost use Rattle.jiff.specs.Words.{civil_nanos};
 ghost use Rattle.store_parts.specs.declared.error.CookieError.TheVariants as causes;
 ghost use Rattle.cookie_run.specs.Accept.{Stores};
@@ -81,8 +82,9 @@ fn store_line(
 ) -> Result<LineEnd, AllocError>
     ensures ok { IfOk result (λ end. Stores store.old.suffixes store.old.rows url.now
         (civil_nanos now) line.now end store.new.rows) }
-    ensures err { OnErr result ((store.new.rows ≡ store.old.rows) × ReceivesText store.old.suffixes store.old.rows
-        url.now (civil_nanos now) line.now (Err causes.OutOfMemory, store.old.rows)) }
+    ensures err { OnErr result ((store.new.rows ≡ store.old.rows) × (IsUtf8 line.now
+        × ReceivesText store.old.suffixes store.old.rows url.now (civil_nanos now) line.now
+        (Err causes.OutOfMemory, store.old.rows))) }
     ensures list { store.new.suffixes ≡ store.old.suffixes }
 {
     match str::from_utf8(line) {

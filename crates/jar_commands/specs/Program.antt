@@ -1,8 +1,9 @@
 -- What the program tells (this repository's own).
 use Rattle.std.specs.Prelude.{◌≡◌, ◌⊎◌, ℕ, ℤ, List, [], Option, Some, None, Result, Ok, Err, string_bytes}
-use Rattle.std.specs.Prelude.{Contains, IfSome, is_some, option_map}
+use Rattle.std.specs.Prelude.{Contains, IfSome, codes, is_some, option_map}
 use Rattle.std.specs.Io.KnownBytes.{Appends}
 use Rattle.devices.specs.Device.{AppendsFront, Rose}
+use Rattle.cookie_run.specs.Version.{version_line}
 use Rattle.jar_words.specs.declared.asked.Asked.{Asked}
 use Rattle.jar_words.specs.declared.refusal.Refusal.{Refusal}
 use Rattle.jar_words.specs.declared.refusal.Refusal.TheVariants as refusal
@@ -63,13 +64,22 @@ Serves Unread Unwritten reader writer asked clock (Ok status) = Ends Unread read
 Serves Unread Unwritten reader writer asked clock (Err failure) =
     Fails Unread Unwritten reader writer asked clock failure
 
--- what the program gives for its words as they were read: what is asked, the help that is printed, or a refusal
+-- `cookie-jar`, a space, the version and a line feed
+abbrev pub program_version : List ℕ
+program_version = version_line (codes "cookie-jar")
+
+-- what the program gives for its words as they were read: what is asked, the help or the version that is printed, or a
+-- refusal
 abbrev pub Runs : Type 0 → Type 0 → Reader → Writer → Option ℤ → Result Asked Refusal → Result ℕ Failure → Type 0
 Runs Unread Unwritten reader writer clock (Ok asked) result = Serves Unread Unwritten reader writer asked clock result
 Runs Unread Unwritten reader writer clock (Err (refusal.Help text)) (Ok status) =
     (status ≡ 0) × Printed writer (string_bytes text) × Unread
 Runs Unread Unwritten reader writer clock (Err (refusal.Help text)) (Err failure) =
     (failure ≡ Output) × Unprinted writer (string_bytes text) × Unread
+Runs Unread Unwritten reader writer clock (Err refusal.Version) (Ok status) =
+    (status ≡ 0) × Printed writer program_version × Unread
+Runs Unread Unwritten reader writer clock (Err refusal.Version) (Err failure) =
+    (((failure ≡ Output) × Unprinted writer program_version) ⊎ ((failure ≡ Memory) × Unwritten)) × Unread
 Runs Unread Unwritten reader writer clock (Err (refusal.Words kind)) result =
     (result ≡ Err (Words kind)) × Unread × Unwritten
 Runs Unread Unwritten reader writer clock (Err refusal.OutOfMemory) result =

@@ -16,15 +16,17 @@ use crate::outcome::Outcome;
 use crate::plan::plan_of;
 use cookie_run::program::files::{self, Unread};
 use cookie_run::program::place::Place;
+use cookie_run::version_line;
 use devices::pour::write_all;
 use devices::{Sink, Source};
 use jar_words::{Asked, Command, Refusal};
 use jiff::civil::DateTime;
+use std::alloc::Global;
 use std::fs::{self, Files};
 use std::io::ErrorKind;
 
-// What the name of a new file beside a jar begins with.
-const STEM: &str = "cookie-jar";
+// What the name of a new file beside a jar begins with, and the line of the version.
+const NAME: &str = "cookie-jar";
 
 /// How the program ended.
 #[derive(Clone, Copy, Debug)]
@@ -72,8 +74,31 @@ pub fn program<'a, H: Files + AllocGlobal, R: Source, W: Sink>(
     match jar_words::read(rt.alloc(), words) {
         Ok(asked) => run(rt, &asked, clock, lists, reader, writer),
         Err(Refusal::Help(text)) => told(None, print(writer, text.as_bytes(), 0)),
+        Err(Refusal::Version) => told(None, print_version(rt.alloc(), writer)),
         Err(Refusal::Words(kind)) => told(None, Err(Failure::Words(kind))),
         Err(Refusal::OutOfMemory) => told(None, Err(Failure::Memory)),
+    }
+}
+
+// Prints the line of the version.
+fn print_version<W: Sink>(alloc: Global, writer: &mut W) -> Result<u8, Failure>
+    ensures ok { IfOk result (λ status. (status ≡ 0) × spec.Printed
+        (record {
+          written = (W.written writer.old, W.written writer.new);
+          unwritten = (W.failures writer.old, W.failures writer.new);
+        })
+        spec.program_version) }
+    ensures err { IfErr result (λ failure. ((failure ≡ Failure.Output) × spec.Unprinted
+        (record {
+          written = (W.written writer.old, W.written writer.new);
+          unwritten = (W.failures writer.old, W.failures writer.new);
+        })
+        spec.program_version)
+        ⊎ ((failure ≡ Failure.Memory) × (writer.new ≡ writer.old))) }
+{
+    match version_line(alloc, NAME) {
+        Ok(line) => print(writer, line.as_bytes(), 0),
+        Err(_) => Err(Failure::Memory),
     }
 }
 
@@ -176,7 +201,7 @@ fn serve<H: Files + AllocGlobal, R: Source, W: Sink>(
         Ok(plan) => plan,
         Err(failure) => return Err(failure),
     };
-    let place = Place::of(rt, asked.jar, STEM);
+    let place = Place::of(rt, asked.jar, NAME);
     let suffixes = read_suffixes(rt, list)?;
     let stored = read_jar(rt, &place)?;
     let given = read_given(rt, asked.command)?;
@@ -272,7 +297,7 @@ fn keep<H: Files + AllocGlobal>(
         put(rt, place, text, Failure::JarFile)?;
     }
     if let (Command::Export(path), Some(text)) = (command, &outcome.file) {
-        put(rt, &Place::of(rt, path, STEM), text, Failure::File)?;
+        put(rt, &Place::of(rt, path, NAME), text, Failure::File)?;
     }
     Ok(())
 }

@@ -8,7 +8,7 @@ use Rattle.clap.specs.Simple.{matches_of, subcommand_of}
 use Rattle.clap.specs.Kinds.{IsAmong, Kinds}
 use Rattle.clap.specs.Faults.{fault_of}
 use Rattle.clap.specs.declared.error.kind.ErrorKind.{ErrorKind}
-use Rattle.clap.specs.declared.error.kind.ErrorKind.TheVariants.{DisplayHelp, OutOfMemory}
+use Rattle.clap.specs.declared.error.kind.ErrorKind.TheVariants.{DisplayHelp, DisplayVersion, OutOfMemory}
 use Rattle.jar_words.specs.Usage.{cookie_jar_app}
 use Rattle.jar_words.specs.Refusing.{told}
 use Rattle.jar_words.specs.declared.asked.Asked.{Asked}
@@ -154,21 +154,27 @@ asked_of words = asked_by (matches_of cookie_jar_app words) (subcommand_of cooki
 abbrev pub faults : List Text → Kinds
 faults words = fault_of cookie_jar_app words
 
+-- the kind is of words that are wrong, and is told so
+abbrev pub IsWrong : Kind → ErrorKind → Type 0
+IsWrong kind k = (k ≢ DisplayHelp) × (k ≢ DisplayVersion) × (told k ≡ kind)
+
 -- one of the kinds is told so
 abbrev pub IsToldAs : Kind → Kinds → Type 0
 IsToldAs kind [] = ⊥
-IsToldAs kind (k ∷ ks) = (told k ≡ kind) ⊎ IsToldAs kind ks
+IsToldAs kind (k ∷ ks) = IsWrong kind k ⊎ IsToldAs kind ks
 
 -- an error of this kind is told so; memory may be refused for the text of help
 abbrev pub IsRefusal : ErrorKind → Refusal → Type 0
 IsRefusal k (refusal.Help text) = k ≡ DisplayHelp
-IsRefusal k (refusal.Words kind) = (k ≢ OutOfMemory) × (told k ≡ kind)
+IsRefusal k refusal.Version = k ≡ DisplayVersion
+IsRefusal k (refusal.Words kind) = (k ≢ OutOfMemory) × IsWrong kind k
 IsRefusal k refusal.OutOfMemory = (k ≡ OutOfMemory) ⊎ (k ≡ DisplayHelp)
 
 -- what is read of the words; memory may be refused at any
 abbrev pub ReadsWords : List Text → Result Asked Refusal → Type 0
 ReadsWords words (Ok asked) = (faults words ≡ []) × (asked_of words ≡ Ok (request_of asked))
 ReadsWords words (Err (refusal.Help text)) = IsAmong DisplayHelp (faults words)
+ReadsWords words (Err refusal.Version) = IsAmong DisplayVersion (faults words)
 ReadsWords words (Err (refusal.Words kind)) =
     IsToldAs kind (faults words) ⊎ ((faults words ≡ []) × (asked_of words ≡ Err kind))
 ReadsWords words (Err refusal.OutOfMemory) = ⊤

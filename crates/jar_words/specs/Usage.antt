@@ -4,7 +4,7 @@ use Rattle.clap.specs.Walk.{Rule, Text}
 use Rattle.clap.specs.Simple.{App, Shape, app_of, new_rule, new_shape}
 use Rattle.clap.specs.declared.builder.command.Command.TheViews.{out-Command}
 use Rattle.clap.specs.declared.builder.command.Command.{Command}
-use Rattle.clap.specs.declared.builder.action.ArgAction.TheVariants.{SetTrue}
+use Rattle.clap.specs.declared.builder.action.ArgAction.TheVariants.{SetTrue, Version}
 
 -- an option `--name VALUE`
 abbrev pub valued : Text → Text → Rule
@@ -67,13 +67,22 @@ letter_v = 118
 abbrev pub verbose : Rule
 verbose = record (flag (codes "verbose")) { short = Some letter_v }
 
--- `[--now MOMENT] [--suffixes FILE] [--format FORM] [-v] JAR`
+-- `b'V'`
+abbrev pub letter_V : ℕ
+letter_V = 86
+
+-- `--version` or `-V`
+abbrev pub version : Rule
+version = record (flag (codes "version")) { short = Some letter_V; action = Some Version }
+
+-- `[--now MOMENT] [--suffixes FILE] [--format FORM] [-v] [-V] JAR`
 abbrev pub options_and_jar : List Rule
 options_and_jar =
     valued (codes "now") (codes "MOMENT")
     ∷ valued (codes "suffixes") (codes "FILE")
     ∷ valued (codes "format") (codes "FORM")
     ∷ verbose
+    ∷ version
     ∷ needed (codes "JAR")
     ∷ []
 

@@ -7,7 +7,7 @@ ghost use Rattle.jar_words.specs.Usage as spec;
 mod commands;
 mod parts;
 
-use clap::{Arg, Command};
+use clap::{Arg, ArgAction, Command};
 use commands::{clear, explain, export, header, import, list, receive, remove};
 use parts::{command, flag, valued, with_word};
 use std::alloc::{AllocError, Global};
@@ -27,6 +27,8 @@ const FORMAT_HELP: &str =
     "The form of JAR, ron, json or txt (cookies.txt); by its ending by default";
 
 const VERBOSE_HELP: &str = "Says on standard error which list of public suffixes is used";
+
+const VERSION_HELP: &str = "Prints the version";
 
 const JAR_HELP: &str = "The file with the cookies; where there is none, the jar is empty";
 
@@ -71,7 +73,8 @@ fn with_options<'a>(alloc: Global) -> Result<Command<'a>, AllocError>
         .arg(valued(alloc, "now", "MOMENT", NOW_HELP))?
         .arg(valued(alloc, "suffixes", "FILE", SUFFIXES_HELP))?
         .arg(valued(alloc, "format", "FORM", FORMAT_HELP))?
-        .arg(verbose(alloc))?;
+        .arg(verbose(alloc))?
+        .arg(version(alloc))?;
     with_word(alloc, program, "JAR", JAR_HELP)
 }
 
@@ -80,4 +83,14 @@ fn verbose<'a>(alloc: Global) -> Arg<'a>
     ensures local { result.global ≡ false }
 {
     flag(alloc, "verbose", VERBOSE_HELP).short('v')
+}
+
+// What it prints is the caller's to say.
+fn version<'a>(alloc: Global) -> Arg<'a>
+    ensures rule { rule_of result ≡ spec.version }
+    ensures local { result.global ≡ false }
+{
+    flag(alloc, "version", VERSION_HELP)
+        .short('V')
+        .action(ArgAction::Version)
 }

@@ -17,7 +17,7 @@ use std::alloc::Global;
 ///
 /// # Errors
 ///
-/// `Help` where they ask for help, `Words` where they are wrong, `OutOfMemory` where memory was
+/// `Help` where they ask for help, `Version` where they ask for the version, `Words` where they are wrong, `OutOfMemory` where memory was
 /// refused.
 pub fn read<'a>(alloc: Global, words: &'a [String]) -> Result<Asked<'a>, Refusal>
     ensures { spec.ReadsWords (map (λ word. string_bytes word) words.entry.now) result }
@@ -45,6 +45,7 @@ fn refused(alloc: Global, error: &clap::Error) -> Refusal
             Ok(text) => Refusal::Help(text),
             Err(_) => Refusal::OutOfMemory,
         },
+        ErrorKind::DisplayVersion => Refusal::Version,
         kind => Refusal::Words(told(kind)),
     }
 }

@@ -45,6 +45,8 @@ impl Kind {
 pub enum Refusal {
     /// The words ask for help: its text.
     Help(String),
+    /// The words ask for the version.
+    Version,
     /// What is wrong with them.
     Words(Kind),
     /// Memory was refused.

@@ -1,16 +1,21 @@
 -- What a user agent does with lines one after another.
 use Rattle.std.proofs.Common.{◌≡◌, ℕ, ℤ, ◌+◌, ◌<◌, List, [], ◌∷◌, ◌++◌, length, take, get_or, sym, refl, ap, ◌∙◌}
-use Rattle.std.proofs.Common.{subst, inl, inr, Result, Ok, Err, zero, suc, arith}
-use Rattle.std.specs.Prelude.{map, IfOk, IsTrue}
-use Rattle.std.specs.Str.{IsUtf8}
+use Rattle.std.proofs.Common.{subst, inl, inr, Result, Ok, Err, zero, suc, arith, Bool, true, false, true≢false}
+use Rattle.std.specs.Prelude.{map, ◌||◌, IfOk, IsTrue, OnErr}
+use Rattle.std.specs.Str.{IsUtf8, is_utf8}
+use Rattle.std.proofs.lemmas.Str.{IsUtf8-from_is_utf8, is_utf8-from_IsUtf8}
 use Rattle.std.proofs.lemmas.List.{take_more, take-map, map-append, length-map}
 use Rattle.publicsuffix.specs.Rules.{Rule}
 use Rattle.url.specs.Parts.{Parts}
 use Rattle.cookie_store.specs.Rows.{Row}
-use Rattle.cookie_run.specs.Accept.{Accepts, AcceptsAll, IsStopped as ClientStopped}
+use Rattle.cookie_run.specs.Accept.{Accepts, AcceptsAll}
 use Rattle.cookie_run.specs.declared.step.LineEnd.{LineEnd}
-use Rattle.user_agent.specs.Agent.{AreGiven, ClientsTakeTheirs, IsHandedOn, IsHandedText, NoRulesAreTheClient, StopsAtLine, TakesHanded}
-use Rattle.user_agent.specs.Agent.{TakesLine, TakesLines}
+use Rattle.user_agent.specs.Agent.{AreGiven, AsksForMemory, ClientsTakeTheirs, HandedAsks, IsDoneIf, IsHandedOn}
+use Rattle.user_agent.specs.Agent.{IsHandedText, IsRewritten, rewrites}
+use Rattle.user_agent.specs.Agent.{NoRulesAreTheClient, StopsAtLine, TakesHanded, TakesLine, TakesLines}
+use Rattle.user_agent.specs.CutLives.{IsCutLine}
+use Rattle.user_agent.specs.KnownDates.{IsKnownLine}
+use Rattle.user_agent.specs.LongAttributes.{IsShortLine}
 use Rattle.user_agent.specs.Refusals.{IsStoppedByControl, is_on, no_rules}
 use Rattle.user_agent.specs.declared.rules.Outcome.{Outcome}
 use Rattle.user_agent.specs.declared.rules.Outcome.TheVariants.{Taken, Refused}
@@ -52,63 +57,86 @@ next_line f rules list start mid new old outcomes outcome url now xs i d h all h
     (lines_push rules list start mid new url now (take i (map f xs)) old (f (get_or xs i d)) outcome all
     (subst (λ l. TakesLine rules l mid url now (f (get_or xs i d)) outcome new) same one)))
 
+map_at : {A : Type 0} (f : A → List ℕ) (xs : List A) (i : ℕ) (d : A) → i < length xs
+    → get_or (map f xs) i [] ≡ f (get_or xs i d)
+map_at f [] i d h = absurd (omega (arith, h))
+map_at f (x ∷ xs) zero d h = refl
+map_at f (x ∷ xs) (suc i) d h = map_at f xs i d (omega arith)
+
 pub stopped_line : {A : Type 0} (f : A → List ℕ) (rules : Rules) (list : List Rule) (start mid new : List Row)
-    (old : List Outcome) (url : Parts) (now : ℤ) (xs : List A) (i : ℕ) → i < length xs
+    (old : List Outcome) (url : Parts) (now : ℤ) (xs : List A) (i : ℕ) (d : A) → i < length xs
     → TakesLines rules list start url now (take i (map f xs)) old mid → new ≡ mid
-    → StopsAtLine rules list start url now (map f xs) (i + 1) new
-stopped_line f rules list start mid new old url now xs i h all same = record {
+    → AsksForMemory rules url (f (get_or xs i d)) → StopsAtLine rules list start url now (map f xs) (i + 1) new
+stopped_line f rules list start mid new old url now xs i d h all same asks = record {
   before = i;
   outcomes = old;
   number = refl;
   within = subst (λ n. i < n) (sym (length-map xs f)) h;
   taken = subst (TakesLines rules list start url now (take i (map f xs)) old) (sym same) all;
+  asks = subst (AsksForMemory rules url) (sym (map_at f xs i d h)) asks;
 }
 
--- ---- one line at the client
+-- ---- one line
 
-pub one_end : (list : List Rule) (rows new : List Row) (url : Parts) (now : ℤ) (line : List ℕ) (ends : List LineEnd)
-    → AcceptsAll list rows url now (line ∷ []) ends new → length ends ≡ 1
-one_end list rows new url now line [] h = absurd h
-one_end list rows new url now line (end ∷ []) h = refl
-one_end list rows new url now line (end ∷ e ∷ es) h = absurd (not_nil e es h.2.0)
+-- where no rule changes lines, each goes on as it came
+or_false : (a b : Bool) → false ≡ (a || b) → (a ≡ false) × (b ≡ false)
+or_false true b e = absurd (true≢false (sym e))
+or_false false b e = (refl, sym e)
+
+not_done : (b : Bool) (Step : List ℕ → List ℕ → Type 0) (line : List ℕ) → b ≡ false → IsDoneIf b Step line line
+not_done b Step line e = subst (λ x. IsDoneIf x Step line line) (sym e) refl
+
+unchanged : (rules : Rules) (now : ℤ) (line : List ℕ) → false ≡ rewrites rules → IsHandedText rules now line line
+unchanged rules now line e =
+    let first = or_false rules.long_attributes (rules.dates || rules.long_lives) e in
+    let rest = or_false rules.dates rules.long_lives (sym first.1) in
+    record {
+      short = line;
+      known = line;
+      shortened = not_done rules.long_attributes IsShortLine line first.0;
+      dated = not_done rules.dates IsKnownLine line rest.0;
+      cut = not_done rules.long_lives (IsCutLine now) line rest.1;
+    }
+
+pub kept_as_is : (rules : Rules) (now : ℤ) (line : List ℕ) → false ≡ rewrites rules → IsHandedOn rules now line line
+kept_as_is rules now line is = go (is_utf8 line) refl
   where
-    not_nil : (x : LineEnd) (xs : List LineEnd) → ¬ (x ∷ xs ≡ [])
-    not_nil x xs p = cc
+    go : (b : Bool) → is_utf8 line ≡ b → IsHandedOn rules now line line
+    go true text = inl (IsUtf8-from_is_utf8 line text, unchanged rules now line is)
+    go false none = inr ((λ u. true≢false (sym (is_utf8-from_IsUtf8 line u) ∙ none)), refl)
 
-pub first_end : (list : List Rule) (rows new : List Row) (url : Parts) (now : ℤ) (line : List ℕ) (ends : List LineEnd)
-    (d : LineEnd) → AcceptsAll list rows url now (line ∷ []) ends new
-    → Accepts list rows url now line (get_or ends 0 d) new
-first_end list rows new url now line [] d h = absurd h
-first_end list rows new url now line (end ∷ ends) d h =
-    subst (λ rs. Accepts list rows url now line end rs) (sym h.2.1) h.1
+-- a text that a rule changes
+pub rewritten_so : {E : Type 0} (r : Result Outcome E) (rules : Rules) (list : List Rule) (rows new : List Row)
+    (url : Parts) (now : ℤ) (line handed : List ℕ) → ¬ (IsStoppedByControl rules line)
+    → IsRewritten rules now line handed → IfOk r (λ outcome. TakesHanded rules list rows url now handed outcome new)
+    → IfOk r (λ outcome. TakesLine rules list rows url now line outcome new)
+rewritten_so (Ok outcome) rules list rows new url now line handed free on h =
+    inr (free, (handed, inl (on.0, on.2), h))
+rewritten_so (Err e) rules list rows new url now line handed free on h = tt
 
-pub not_taken : (list : List Rule) (rows new : List Row) (url : Parts) (now : ℤ) (line : List ℕ) (n : ℕ)
-    → ClientStopped list rows url now (line ∷ []) n new → new ≡ rows
-not_taken list rows new url now line n (inl (none, same)) = same
-not_taken list rows new url now line n (inr s) = go s.before s.within s.taken.0 s.taken.1
-  where
-    go : (i : ℕ) → i < 1 → (ends : List LineEnd) → AcceptsAll list rows url now (take i (line ∷ [])) ends new
-        → new ≡ rows
-    go zero within ends h = h.1
-    go (suc i) within ends h = absurd (omega (arith, within))
+pub rewritten_asks : {E : Type 0} (r : Result Outcome E) (rules : Rules) (rows new : List Row) (url : Parts) (now : ℤ)
+    (line handed : List ℕ) → ¬ (IsStoppedByControl rules line) → IsRewritten rules now line handed
+    → OnErr r ((new ≡ rows) × HandedAsks rules url handed) → OnErr r ((new ≡ rows) × AsksForMemory rules url line)
+rewritten_asks (Ok outcome) rules rows new url now line handed free on h = tt
+rewritten_asks (Err e) rules rows new url now line handed free on h = (h.0, (free, on.0, inl on.1))
 
--- a line that is no text is handed on as it stands
-pub handed_as_is : {E : Type 0} (r : Result Outcome E) (rules : Rules) (list : List Rule) (rows new : List Row)
-    (url : Parts) (now : ℤ) (line : List ℕ) → ¬ (IsStoppedByControl rules line)
-    → ¬ (IsUtf8 line)
+-- a line that goes on as it came
+pub handed_so : {E : Type 0} (r : Result Outcome E) (rules : Rules) (list : List Rule) (rows new : List Row)
+    (url : Parts) (now : ℤ) (line : List ℕ) → ¬ (IsStoppedByControl rules line) → IsHandedOn rules now line line
     → IfOk r (λ outcome. TakesHanded rules list rows url now line outcome new)
     → IfOk r (λ outcome. TakesLine rules list rows url now line outcome new)
-handed_as_is (Ok outcome) rules list rows new url now line free none h = inr (free, (line, inr (none, refl), h))
-handed_as_is (Err e) rules list rows new url now line free none h = tt
+handed_so (Ok outcome) rules list rows new url now line free on h = inr (free, (line, on, h))
+handed_so (Err e) rules list rows new url now line free on h = tt
 
--- a text is handed on step by step
-pub handed_so : {E : Type 0} (r : Result Outcome E) (rules : Rules) (list : List Rule) (rows new : List Row)
-    (url : Parts) (now : ℤ) (line handed : List ℕ) → ¬ (IsStoppedByControl rules line) → IsUtf8 line
-    → IsHandedText rules now line handed → IfOk r (λ outcome. TakesHanded rules list rows url now handed outcome new)
-    → IfOk r (λ outcome. TakesLine rules list rows url now line outcome new)
-handed_so (Ok outcome) rules list rows new url now line handed free text steps h =
-    inr (free, (handed, inl (text, steps), h))
-handed_so (Err e) rules list rows new url now line handed free text steps h = tt
+pub handed_asks : {E : Type 0} (r : Result Outcome E) (rules : Rules) (rows new : List Row) (url : Parts)
+    (line : List ℕ) → ¬ (IsStoppedByControl rules line) → OnErr r ((new ≡ rows) × HandedAsks rules url line)
+    → OnErr r ((new ≡ rows) × AsksForMemory rules url line)
+handed_asks (Ok outcome) rules rows new url line free h = tt
+handed_asks (Err e) rules rows new url line free h = (h.0, (free, text h.1, inr h.1))
+  where
+    text : HandedAsks rules url line → IsUtf8 line
+    text (inl over) = over.1.0
+    text (inr client) = client.1
 
 -- ---- what the client gets
 

@@ -1,7 +1,7 @@
 -- What a line reads as, and the rules against it.
 use Rattle.std.proofs.Common.{◌≡◌, ◌⊎◌, ◌<◌, ◌+◌, ◌==◌, ℕ, ℤ, List, cond, Result, Ok, Err, Option, Some, None, refl, sym}
 use Rattle.std.proofs.Common.{ap, subst, ◌∙◌, arith, IsTrue, inl, inr, ⊎_elim}
-use Rattle.std.specs.Prelude.{MatchOption, IfOk}
+use Rattle.std.specs.Prelude.{MatchOption, IfOk, OnErr}
 use Rattle.std.specs.List.{list_any}
 use Rattle.std.specs.Str.{IsUtf8}
 use Rattle.std.proofs.lemmas.Bool.{both_ways}
@@ -10,7 +10,8 @@ use Rattle.cookie_text.specs.Reading.{ReadsPlain}
 use Rattle.cookie_text.specs.Record.{Seen}
 use Rattle.cookie_text.specs.declared.error.ParseError.{ParseError}
 use Rattle.cookie_store.specs.Rows.{Row}
-use Rattle.user_agent.specs.Refusals.{IsFirstOf, IsLetIn, IsRefusedBy, NoneOf, Refuses, RefusesCookie, is_on}
+use Rattle.user_agent.specs.Refusals.{AsksForOverlay, IsFirstOf, IsLetIn, IsRefusedBy, MayOverlay, NoneOf, Refuses}
+use Rattle.user_agent.specs.Refusals.{RefusesCookie, is_on}
 use Rattle.user_agent.specs.Refusals.{place}
 use Rattle.user_agent.specs.declared.rules.Refusal.{Refusal}
 use Rattle.user_agent.specs.declared.rules.Refusal.TheVariants.{Control, TooLong, SecurePrefix, HostPrefix}
@@ -46,3 +47,10 @@ module _ (once : OneOutcome) (rules : Rules) (rows : List Row) (url : Parts) (no
       against = up rule h.against;
       first = λ r less on against. h.first r less on (down r against);
     }
+
+-- what wants memory for the cookie as which a line reads
+pub asked_of : {E : Type 0} (r : Result (Option Refusal) E) (rules : Rules) (url : Parts) (line : List ℕ) (seen : Seen)
+    → IsUtf8 line → ReadsPlain line (Ok seen) → OnErr r (IsTrue rules.secure_overlay × MayOverlay url seen.cookie)
+    → OnErr r (IsTrue rules.secure_overlay × AsksForOverlay url line)
+asked_of (Ok found) rules url line seen utf8 reads h = tt
+asked_of (Err e) rules url line seen utf8 reads h = (h.0, (utf8, (seen, reads, h.1)))

@@ -1,15 +1,16 @@
 -- What a user agent does with the lines of an answer: those that no rule refuses go to its client, one after another.
-use Rattle.std.specs.Prelude.{◌≡◌, ◌⊎◌, ◌+◌, ◌<◌, ℕ, ℤ, Bool, true, false, List, [], ◌∷◌, length, map, take}
+use Rattle.std.specs.Prelude.{◌≡◌, ◌⊎◌, ◌+◌, ◌<◌, ◌||◌, ℕ, ℤ, Bool, true, false, List, [], ◌∷◌, length, map}
+use Rattle.std.specs.Prelude.{IsTrue, get_or, take}
 use Rattle.std.specs.Str.{IsUtf8}
 use Rattle.publicsuffix.specs.Rules.{Rule}
 use Rattle.url.specs.Parts.{Parts}
 use Rattle.cookie_store.specs.Rows.{Row, Store}
-use Rattle.cookie_run.specs.Accept.{Accepts, AcceptsAll}
+use Rattle.cookie_run.specs.Accept.{Accepts, AcceptsAll, AsksForMemory as ClientAsks}
 use Rattle.cookie_run.specs.declared.step.LineEnd.{LineEnd}
 use Rattle.user_agent.specs.CutLives.{IsCutLine}
 use Rattle.user_agent.specs.KnownDates.{IsKnownLine}
 use Rattle.user_agent.specs.LongAttributes.{IsShortLine}
-use Rattle.user_agent.specs.Refusals.{IsLetIn, IsRefusedBy, IsStoppedByControl, no_rules}
+use Rattle.user_agent.specs.Refusals.{AsksForOverlay, IsLetIn, IsRefusedBy, IsStoppedByControl, no_rules}
 use Rattle.user_agent.specs.declared.rules.Outcome.{Outcome}
 use Rattle.user_agent.specs.declared.rules.Outcome.TheVariants.{Taken, Refused}
 use Rattle.user_agent.specs.declared.rules.Refusal.{Refusal}
@@ -85,6 +86,25 @@ ClientsTakeTheirs =
 
 -- ---- want of memory
 
+-- a rule is on that changes lines
+abbrev pub rewrites : Rules → Bool
+rewrites rules = rules.long_attributes || (rules.dates || rules.long_lives)
+
+-- a step of the code, for private contracts alone: a text that a rule which is on may change, as the client gets it
+abbrev pub IsRewritten : Rules → ℤ → List ℕ → List ℕ → Type 0
+IsRewritten rules now line handed =
+    IsUtf8 line × IsTrue (rewrites rules) × IsHandedText rules now line handed
+
+-- For what is handed on there may be no memory: what it lies over is looked for, or the client asks for it.
+abbrev pub HandedAsks : Rules → Parts → List ℕ → Type 0
+HandedAsks rules url handed = (IsTrue rules.secure_overlay × AsksForOverlay url handed) ⊎ ClientAsks url handed
+
+-- For a line there may be no memory: no control character stops it, and it is a text that a rule changes, or for which
+-- there may be none as it is handed on.
+abbrev pub AsksForMemory : Rules → Parts → List ℕ → Type 0
+AsksForMemory rules url line =
+    (¬ (IsStoppedByControl rules line)) × IsUtf8 line × (IsTrue (rewrites rules) ⊎ HandedAsks rules url line)
+
 -- memory was refused at line n, counted from 1, once those before it were taken
 pub record StopsAtLine (rules : Rules) (list : List Rule) (rows : List Row) (url : Parts) (now : ℤ)
     (lines : List (List ℕ)) (n : ℕ) (new : List Row) : Type 0 where
@@ -93,6 +113,7 @@ pub record StopsAtLine (rules : Rules) (list : List Rule) (rows : List Row) (url
   pub number : n ≡ before + 1
   pub within : before < length lines
   pub taken : TakesLines rules list rows url now (take before lines) outcomes new
+  pub asks : AsksForMemory rules url (get_or lines before [])
 
 -- so, or before any line was looked at, which is 0
 abbrev pub IsStopped : Rules → List Rule → List Row → Parts → ℤ → List (List ℕ) → ℕ → List Row → Type 0

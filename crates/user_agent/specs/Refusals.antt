@@ -88,6 +88,14 @@ pub record IsOverlay (rows : List Row) (url : Parts) (now : ℤ) (cookie : Recor
   pub row : IsSomeAnd (new_domain cookie url)
       (λ domain. HasOne (IsOverlaid cookie.name domain (path_at cookie url).text now) rows)
 
+-- Whether a cookie is an overlay is looked for where it isn't Secure and came from a URL that isn't.
+abbrev pub MayOverlay : Parts → Record → Type 0
+MayOverlay url cookie = (¬ (cookie.secure ≡ Some true)) × (¬ (IsSecure url))
+
+abbrev pub AsksForOverlay : Parts → List ℕ → Type 0
+AsksForOverlay url line =
+    IsUtf8 line × ((seen : Seen) × ReadsPlain line (Ok seen) × MayOverlay url seen.cookie)
+
 -- ---- the rules
 
 -- the rule refuses a cookie; that on control characters is none of cookies, but of lines as they came

@@ -1,5 +1,6 @@
 //! A user agent: a client behind rules.
-ghost use Rattle.std.specs.Prelude.{◌≡◌, ◌⊎◌, ◌≤ℤ◌, false, map, pos, IfErr, IfOk, OnErr, OnOk, string_bytes};
+ghost use Rattle.std.specs.Prelude.{◌≡◌, ◌⊎◌, ◌≤ℤ◌, false, map, pos, IfErr, IfOk, IsTrue, MatchOption};
+ghost use Rattle.std.specs.Prelude.{◌↔◌, OnErr, OnOk, string_bytes};
 ghost use Rattle.std.specs.Io.KnownBytes.{Appends};
 ghost use Rattle.std.specs.List.{AllByRecursion};
 ghost use Rattle.std.specs.Str.{IsUtf8};
@@ -12,7 +13,6 @@ ghost use Rattle.cookie_store.specs.Placing.{saved};
 ghost use Rattle.cookie_store.specs.Rows.{Store};
 ghost use Rattle.cookie_store.specs.SavedLaws.{IsOfBytes};
 ghost use Rattle.cookie_store.specs.SavedTexts as form;
-ghost use Rattle.cookie_run.specs.Accept.{Accepts};
 ghost use Rattle.cookie_run.specs.Header.{IsHeader};
 ghost use Rattle.cookie_run.specs.HostPrefix.{AreHeldRightly, IsHeldRightly};
 ghost use Rattle.cookie_run.specs.Keeping.{HaveReadPairs, Keeps};
@@ -22,13 +22,14 @@ ghost use Rattle.user_agent.specs.CutLives.{IsCutLine};
 ghost use Rattle.user_agent.specs.Integrity.{ProtectedRowsStay};
 ghost use Rattle.user_agent.specs.KnownDates.{IsKnownLine};
 ghost use Rattle.user_agent.specs.LongAttributes.{IsShortLine};
+ghost use Rattle.user_agent.specs.Refusals.{IsStoppedByControl};
 
 use crate::cut_life::with_cut_life;
 use crate::judging::{has_control, refusal};
 use crate::known_date::with_known_date;
 use crate::long_attributes::without_long_attributes;
 use crate::rules::{Outcome, Refusal, Rules};
-use cookie_run::{Client, LineEnd, Stopped};
+use cookie_run::{Client, Stopped};
 use cookie_store::{Error, Sink, Source};
 use jiff::civil::DateTime;
 use publicsuffix::List;
@@ -92,7 +93,8 @@ impl UserAgent {
     ///
     /// A line is refused by the first rule that is on and refuses it, which looks at the rows as the lines before it
     /// left them, and changes nothing then. Any other goes to the client, as `Client::receive` says: where these rules
-    /// are on, without its long attributes, its dates known and its life cut.
+    /// are on, without its long attributes, its dates known and its life cut. Where none of these three is on, no line is
+    /// copied.
     ///
     /// # Errors
     ///
@@ -230,6 +232,7 @@ pub fn receive_all(
 }
 
 // Takes one line.
+#[tactic(auto, using(crate::proofs::AgentLemmas::rewritten_so, crate::proofs::AgentLemmas::rewritten_asks, crate::proofs::AgentLemmas::handed_so, crate::proofs::AgentLemmas::handed_asks,))]
 fn take_line(
     client: &mut Client,
     rules: &Rules,
@@ -239,19 +242,52 @@ fn take_line(
 ) -> Result<Outcome, AllocError>
     ensures ok { IfOk result (λ outcome. spec.TakesLine rules.now client.old.suffixes client.old.rows url.now
         (civil_nanos now) line.now outcome client.new.rows) }
-    ensures err { OnErr result (client.new.rows ≡ client.old.rows) }
+    ensures err { OnErr result ((client.new.rows ≡ client.old.rows)
+        × spec.AsksForMemory rules.now url.now line.now) }
     ensures list { client.new.suffixes ≡ client.old.suffixes }
 {
-    if rules.control && has_control(line) {
+    if is_stopped(rules, line) {
         return Ok(Outcome::Refused(Refusal::Control));
     }
-    match str::from_utf8(line) {
-        Ok(text) => {
-            let handed = handed_text(client.alloc(), rules, text, now)?;
-            take_handed(client, rules, url, handed.as_bytes(), now)
-        }
-        Err(_) => take_handed(client, rules, url, line, now),
+    match rewritten(client.alloc(), rules, line, now)? {
+        Some(handed) => take_handed(client, rules, url, handed.as_bytes(), now),
+        None => take_handed(client, rules, url, line, now),
     }
+}
+
+// The line as the client gets it, where a rule is on that changes lines and it is a text.
+fn rewritten(
+    alloc: Global,
+    rules: &Rules,
+    line: &[u8],
+    now: DateTime,
+) -> Result<Option<String>, AllocError>
+    ensures handed { IfOk result (λ handed. MatchOption handed
+        (spec.IsHandedOn rules.now (civil_nanos now) line.now line.now)
+        (λ text. spec.IsRewritten rules.now (civil_nanos now) line.now (string_bytes text))) }
+    ensures err { OnErr result (IsUtf8 line.now × IsTrue (spec.rewrites rules.now)) }
+{
+    if !rewrites(rules) {
+        return Ok(None);
+    }
+    match str::from_utf8(line) {
+        Ok(text) => Ok(Some(handed_text(alloc, rules, text, now)?)),
+        Err(_) => Ok(None),
+    }
+}
+
+// Whether a control character stops the line.
+fn is_stopped(rules: &Rules, line: &[u8]) -> bool
+    ensures { IsTrue result ↔ IsStoppedByControl rules.now line.now }
+{
+    rules.control && has_control(line)
+}
+
+// Whether a rule is on that changes lines.
+fn rewrites(rules: &Rules) -> bool
+    ensures { result ≡ spec.rewrites rules.now }
+{
+    rules.long_attributes || rules.dates || rules.long_lives
 }
 
 // The text as the client gets it.
@@ -315,32 +351,14 @@ fn take_handed(
 ) -> Result<Outcome, AllocError>
     ensures ok { IfOk result (λ outcome. spec.TakesHanded rules.now client.old.suffixes client.old.rows url.now
         (civil_nanos now) line.now outcome client.new.rows) }
-    ensures err { OnErr result (client.new.rows ≡ client.old.rows) }
+    ensures err { OnErr result ((client.new.rows ≡ client.old.rows) × spec.HandedAsks rules.now url.now line.now) }
     ensures list { client.new.suffixes ≡ client.old.suffixes }
 {
     if let Some(rule) = refusal(client.alloc(), rules, client.store(), url, line, now)? {
         return Ok(Outcome::Refused(rule));
     }
-    let end = give_line(client, url, line, now)?;
+    let end = client.receive_line(url, line, now)?;
     Ok(Outcome::Taken(end))
-}
-
-// Gives one line to the client.
-fn give_line(
-    client: &mut Client,
-    url: &Url,
-    line: &[u8],
-    now: DateTime,
-) -> Result<LineEnd, AllocError>
-    ensures ok { IfOk result (λ end. Accepts client.old.suffixes client.old.rows url.now (civil_nanos now)
-        line.now end client.new.rows) }
-    ensures err { OnErr result (client.new.rows ≡ client.old.rows) }
-    ensures list { client.new.suffixes ≡ client.old.suffixes }
-{
-    match client.receive(url, &[line], now) {
-        Ok(ends) => Ok(ends[0]),
-        Err(_) => Err(AllocError),
-    }
 }
 
 /// With no rule on, a user agent takes lines exactly as its client does.

@@ -31,7 +31,7 @@ pub fn read(text: &str) -> Option<DateTime>
 
 // What was found of a date so far: a token of each kind.
 #[derive(Clone, Copy)]
-pub struct Found {
+struct Found {
     time: Option<(u8, u8, u8)>,
     day: Option<u8>,
     month: Option<u8>,

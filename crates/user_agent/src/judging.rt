@@ -1,5 +1,5 @@
 //! Which rule refuses a line.
-ghost use Rattle.std.specs.Prelude.{◌≡◌, ◌↔◌, ◌++◌, ℕ, List, IfOk, IsTrue, MatchOption, Some, false, map, true};
+ghost use Rattle.std.specs.Prelude.{◌≡◌, ◌↔◌, ◌++◌, ℕ, List, IfOk, IsTrue, MatchOption, OnErr, Some, false, map, true};
 ghost use Rattle.std.specs.Prelude.{option_map, string_bytes, codes};
 ghost use Rattle.std.specs.Char.{to_ascii_lowercase};
 ghost use Rattle.std.specs.List.{list_any};
@@ -37,9 +37,10 @@ pub fn refusal(
     line: &[u8],
     now: DateTime,
 ) -> Result<Option<Refusal>, AllocError>
-    ensures { IfOk result (λ found. MatchOption found
+    ensures found { IfOk result (λ found. MatchOption found
         (spec.IsLetIn rules.now store.now.rows url.now (civil_nanos now) line.now)
         (spec.IsRefusedBy rules.now store.now.rows url.now (civil_nanos now) line.now)) }
+    ensures err { OnErr result (IsTrue rules.now.secure_overlay × spec.AsksForOverlay url.now line.now) }
 {
     one_outcome();
     let Ok(text) = str::from_utf8(line) else {
@@ -60,9 +61,10 @@ fn cookie_refusal(
     cookie: &RawCookie<'_>,
     now: DateTime,
 ) -> Result<Option<Refusal>, AllocError>
-    ensures { IfOk result (λ found. MatchOption found
+    ensures found { IfOk result (λ found. MatchOption found
         (spec.NoneOf rules.now (spec.RefusesCookie store.now.rows url.now (civil_nanos now) cookie.now))
         (spec.IsFirstOf rules.now (spec.RefusesCookie store.now.rows url.now (civil_nanos now) cookie.now))) }
+    ensures err { OnErr result (IsTrue rules.now.secure_overlay × spec.MayOverlay url.now cookie.now.cookie) }
 {
     if rules.too_long && is_too_long(cookie) {
         return Ok(Some(Refusal::TooLong));
@@ -154,8 +156,9 @@ fn is_overlay(
     url: &Url,
     now: DateTime,
 ) -> Result<bool, AllocError>
-    ensures { IfOk result (λ is. IsTrue is
+    ensures is { IfOk result (λ is. IsTrue is
         ↔ spec.IsOverlay store.now.rows url.now (civil_nanos now) cookie.now.cookie) }
+    ensures err { OnErr result (spec.MayOverlay url.now cookie.now.cookie) }
 {
     if is_marked_secure(cookie) || is_secure(url) {
         return Ok(false);

@@ -11,5 +11,5 @@ returns-in-Ok-clause-ok c =
 pub returns-in-Ok-clause-err : goal.returns-in-Ok-clause-err
 returns-in-Ok-clause-err c =
     text_err c.store_text.result c.args.store.now.suffixes c.args.store.now.rows c.store_text.new.store.rows
-    c.args.url.now (civil_nanos c.args.now) c.args.line.now c.in-Ok.text.now c.in-Ok.ensures.cases.0
-    c.store_text.ensures.err
+    c.args.url.now (civil_nanos c.args.now) c.args.line.now c.in-Ok.text.now c.in-Ok.ensures.cases.1
+    c.in-Ok.ensures.cases.0 c.store_text.ensures.err

@@ -21,6 +21,7 @@ returns c =
     let first = c.in_ok-arg.ensures.shape c.valued.ensures.local ∙ ap₂ with_rule settled now_is in
     let second = c.in_ok-arg-2.ensures.shape c.valued-2.ensures.local ∙ ap₂ with_rule first suffixes_is in
     let third = c.in_ok-arg-3.ensures.shape c.valued-3.ensures.local ∙ ap₂ with_rule second format_is in
-    let fourth = c.in_ok-program.ensures.shape c.verbose.ensures.local ∙ ap₂ with_rule third c.verbose.ensures.rule in
-    let last = ap (λ (a : App). with_rule a (spec.needed (codes "JAR"))) fourth in
+    let fourth = c.in_ok-arg-4.ensures.shape c.verbose.ensures.local ∙ ap₂ with_rule third c.verbose.ensures.rule in
+    let fifth = c.in_ok-program.ensures.shape c.version.ensures.local ∙ ap₂ with_rule fourth c.version.ensures.rule in
+    let last = ap (λ (a : App). with_rule a (spec.needed (codes "JAR"))) fifth in
     IfOk-weaker c.with_word.result _ _ (λ r e. e ∙ last) c.with_word.ensures.app

@@ -19,4 +19,5 @@ pub returns-in-Err-clause-stopped : goal.returns-in-Err-clause-stopped
 returns-in-Err-clause-stopped c =
     inr (stopped_line (λ line. line.now) c.args.rules.now c.args.client.now.suffixes c.args.client.now.rows
     c.loop-i.client.rows c.take_line.new.client.rows c.loop-i.outcomes.items c.args.url.now (civil_nanos c.args.now)
-    c.args.lines.now c.loop-i.i c.loop-i-test.true c.loop-i.invariant.all c.in-Err.ensures.err)
+    c.args.lines.now c.loop-i.i _ c.loop-i-test.true c.loop-i.invariant.all c.in-Err.ensures.err.0
+    c.in-Err.ensures.err.1)

@@ -17,8 +17,8 @@ use Rattle.user_agent.proofs.judging.cookie_refusal.Goals.{else-rules-4-via-else
 use Rattle.user_agent.proofs.judging.cookie_refusal.Goals.{else-rules-5-via-then-rules-5+in_ok-is_overlay+else-branch}
 use Rattle.user_agent.proofs.judging.cookie_refusal.Goals.{else-rules-5-via-else-rules-5}
 
-pub returns : goal.returns
-returns c = by
+pub returns-clause-found : goal.returns-clause-found
+returns-clause-found c = by
   where
     by : (rule : Refusal) → IsTrue (is_on c.args.rules.now rule)
         → RefusesCookie c.args.store.now.rows c.args.url.now (civil_nanos c.args.now) c.args.cookie.now rule → ⊥
@@ -44,6 +44,6 @@ returns c = by
     ]
     by SecureOverlay on against = elim c.else-rules-5.branch [
       | else-rules-5-via-then-rules-5+in_ok-is_overlay+else-branch w ↦
-          both_ways _ w.if-branch.false (w.in_ok-is_overlay.ensures.1 against)
+          both_ways _ w.if-branch.false (w.in_ok-is_overlay.ensures.is.1 against)
       | else-rules-5-via-else-rules-5 w ↦ both_ways _ w.if-rules-5.false on
     ]
