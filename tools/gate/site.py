@@ -13,15 +13,17 @@ HOSTS = ("shop.com", "*.shop.com")
 
 
 class Site(BaseHTTPRequestHandler):
-    """Answers each request with the next of what is to be said to its visit, and keeps the cookies that it has.
+    """Answers each request with the next of what is to be said to its visit, and keeps the cookies that it has
+    and the host that it asks.
 
     A visit is what the field X-Visit names; one without it is that of an example."""
 
     protocol_version = "HTTP/1.1"
-    said, heard = {}, defaultdict(list)
+    said, heard, asked = {}, defaultdict(list), defaultdict(list)
 
     def do_GET(self):
         visit = self.headers["X-Visit"]
+        Site.asked[visit].append(self.headers["Host"].lower())
         Site.heard[visit].append(b"; ".join(it.encode("latin-1") for it in self.headers.get_all("Cookie", [])))
         nothing = ([] if visit else [EXAMPLE.encode()], None)
         lines, location = Site.said[visit].pop(0) if Site.said.get(visit) else nothing
@@ -29,6 +31,10 @@ class Site(BaseHTTPRequestHandler):
         fields += [b"Content-Length: 3", b"Connection: close"]
         status = b"HTTP/1.1 302 Found" if location else b"HTTP/1.1 200 OK"
         self.wfile.write(b"\r\n".join([status, *fields, b"", b"ok\n"]))
+
+    def do_POST(self):
+        self.rfile.read(int(self.headers["Content-Length"]))
+        self.do_GET()
 
     def log_message(self, *_):
         pass
