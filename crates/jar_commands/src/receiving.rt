@@ -12,8 +12,7 @@ use crate::failure::Failure;
 use crate::jar_text::saved;
 use crate::outcome::Outcome;
 use crate::plan::Plan;
-use cookie_jar::{Jar, is_refused, told_lines};
-use cookie_run::LineEnd;
+use cookie_jar::{End, Form, Jar, is_refused, told_lines};
 use devices::Source;
 use devices::pour::{Stop, read_all};
 use jiff::civil::DateTime;
@@ -76,7 +75,7 @@ fn receive_text(
     let Received {
         told,
         is_any_refused,
-    } = receive_visits(alloc, jar, &visits, plan.at)?;
+    } = receive_visits(alloc, jar, plan.form, &visits, plan.at)?;
     match saved(plan, jar) {
         Ok(text) => Ok(Outcome::kept(told, status_of(is_any_refused), text)),
         Err(failure) => Err(failure),
@@ -106,10 +105,11 @@ fn visits_of<'a>(alloc: Global, url: &Url, text: &'a [u8]) -> Result<Vec<Visit<'
 fn receive_visits(
     alloc: Global,
     jar: &mut Jar,
+    form: Form,
     visits: &[Visit<'_>],
     now: DateTime,
 ) -> Result<Received, AllocError>
-    ensures { IfOk result (λ received. spec.TakesVisits jar.old.suffixes jar.old.rows (civil_nanos now)
+    ensures { IfOk result (λ received. spec.TakesVisits form jar.old.suffixes jar.old.rows (civil_nanos now)
         (map visit_text visits.now) (string_bytes received.told) received.is_any_refused jar.new.rows) }
 {
     let mut received = Received {
@@ -117,7 +117,7 @@ fn receive_visits(
         is_any_refused: false,
     };
     for visit in visits {
-        receive_visit(alloc, jar, visit, now, &mut received)?;
+        receive_visit(alloc, jar, form, visit, now, &mut received)?;
     }
     Ok(received)
 }
@@ -126,17 +126,18 @@ fn receive_visits(
 fn receive_visit(
     alloc: Global,
     jar: &mut Jar,
+    form: Form,
     visit: &Visit<'_>,
     now: DateTime,
     received: &mut Received,
 ) -> Result<(), AllocError>
-    ensures ok { OnOk result (TakesVisit jar.old.suffixes jar.old.rows (civil_nanos now) (visit_text visit.now)
+    ensures ok { OnOk result (TakesVisit form jar.old.suffixes jar.old.rows (civil_nanos now) (visit_text visit.now)
         (string_bytes received.old.told) received.old.is_any_refused
         (string_bytes received.new.told) received.new.is_any_refused jar.new.rows) }
     ensures list { jar.new.suffixes ≡ jar.old.suffixes }
 {
     let lines = visit.head.set_cookie_lines(alloc)?;
-    let Ok(ends) = jar.receive(&visit.url, &lines, now) else {
+    let Ok(ends) = jar.receive(form, &visit.url, &lines, now) else {
         return Err(AllocError);
     };
     let told = told_lines(alloc, &lines, &ends)?;
@@ -146,7 +147,7 @@ fn receive_visit(
 }
 
 // Whether a line wasn't stored.
-fn is_any_refused(ends: &[LineEnd]) -> bool
+fn is_any_refused(ends: &[End]) -> bool
     ensures { result ≡ spec.is_any_refused ends.now }
 {
     ends.iter().any(|end| is_refused(*end))
