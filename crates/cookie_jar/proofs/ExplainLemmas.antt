@@ -1,35 +1,27 @@
 -- What is told of one line, and what a writer of JSON has written.
 use Rattle.std.proofs.Common.{◌≡◌, ◌∙◌, ◌++◌, ◌∷◌, [], ℕ, ℤ, List, Result, Ok, Err, Option, OnOk, ap, append_assoc}
-use Rattle.std.proofs.Common.{inl, inr, refl, slice_index_or, subst, sym}
+use Rattle.std.proofs.Common.{inl, inr, refl, subst, sym}
 use Rattle.std.specs.Prelude.{MatchResult}
 use Rattle.std.specs.Borrow.{Bor}
 use Rattle.std.specs.Str.{IsUtf8}
 use Rattle.std.proofs.lemmas.List.{append-nil}
 use Rattle.json.specs.Token.{Token}
 use Rattle.json.specs.Written.{Writes, Written}
-use Rattle.publicsuffix.specs.Rules.{Rule}
 use Rattle.url.specs.Parts.{Parts}
 use Rattle.cookie_store.specs.Making.{ReadsStored}
 use Rattle.cookie_store.specs.Rows.{Row, Store, found, key_of}
-use Rattle.cookie_run.specs.Accept.{Accepts, AcceptsAll}
-use Rattle.cookie_run.specs.declared.step.LineEnd.{LineEnd}
 use Rattle.line_report.specs.Pair.{HasNoPair, IsPairOf}
 use Rattle.line_report.specs.Pieces.{AreJudged, PieceText}
 use Rattle.line_report.specs.declared.pairing.PairFault.{PairFault}
 use Rattle.cookie_jar.specs.Explaining.{Becomes, IsExplained, IsSent, Says, SaysText, SentAs}
 use Rattle.cookie_jar.specs.Explaining.{pair_lines, piece_lines, row_lines, rule_text}
 use Rattle.cookie_jar.specs.Steps.{Appends, WritesMore, pair_of}
+use Rattle.cookie_jar.specs.Taking.{TakesLine}
 use Rattle.cookie_jar.specs.Told.{end_text}
+use Rattle.cookie_jar.specs.declared.form.Form.{Form}
+use Rattle.cookie_jar.specs.declared.taking.End.{End}
 
--- ---- one line
-
--- it has one end
-pub one_end : (list : List Rule) (rows : List Row) (url : Parts) (now : ℤ) (line : List ℕ) (ends : List LineEnd)
-    (new : List Row) (other : LineEnd) → AcceptsAll list rows url now (line ∷ []) ends new
-    → Accepts list rows url now line (slice_index_or ends 0 other) new
-one_end list rows url now line [] new other all = absurd all
-one_end list rows url now line (end ∷ ends) new other (mid, accepts, (none, same)) =
-    subst (Accepts list rows url now line end) (sym same) accepts
+-- ---- texts behind texts
 
 -- what is put behind a text, and more behind that
 put_both : (old mid new first next : List ℕ) → mid ≡ old ++ first → new ≡ mid ++ next → new ≡ old ++ (first ++ next)
@@ -84,16 +76,16 @@ is_sent (Ok x) url now line text made rows row old new same reads is told =
     (row_lines row, (made, subst (λ t. ReadsStored t url now (Ok made)) same reads, ap row_lines is), told)
 is_sent (Err x) url now line text made rows row old new same reads is told = tt
 
-pub becomes : {A E : Type 0} (r : Result A E) (store copy : Store) (url : Parts) (now : ℤ) (line : List ℕ)
-    (end : LineEnd) (rows : List Row) (old mid new : List ℕ) → copy ≡ store
-    → Accepts copy.suffixes copy.rows url now line end rows → mid ≡ old ++ (end_text end ++ rule_text end)
-    → OnOk r (Appends (SentAs url now line end rows) mid new) → OnOk r (Appends (Becomes store url now line) old new)
-becomes (Ok x) store copy url now line end rows old mid new same accepts first (sent, is, told) = (
+pub becomes : {A E : Type 0} (r : Result A E) (form : Form) (store copy : Store) (url : Parts) (now : ℤ) (line : List ℕ)
+    (end : End) (rows : List Row) (old mid new : List ℕ) → copy ≡ store
+    → TakesLine form copy.suffixes copy.rows url now line end rows → mid ≡ old ++ (end_text end ++ rule_text end)
+    → OnOk r (Appends (SentAs url now line end rows) mid new) → OnOk r (Appends (Becomes form store url now line) old new)
+becomes (Ok x) form store copy url now line end rows old mid new same takes first (sent, is, told) = (
   end_text end ++ (rule_text end ++ sent),
   record {
     end = end;
     rows = rows;
-    accepts = subst (λ s. Accepts s.suffixes s.rows url now line end rows) same accepts;
+    takes = subst (λ s. TakesLine form s.suffixes s.rows url now line end rows) same takes;
     sent = sent;
     sent_as = is;
     told = refl;
@@ -101,14 +93,14 @@ becomes (Ok x) store copy url now line end rows old mid new same accepts first (
   put_both old mid new (end_text end ++ rule_text end) sent first told
       ∙ ap (λ t. old ++ t) (append_assoc (end_text end) (rule_text end) sent),
 )
-becomes (Err x) store copy url now line end rows old mid new same accepts first h = tt
+becomes (Err x) form store copy url now line end rows old mid new same takes first h = tt
 
 -- ---- all
 
-pub is_explained : (store : Store) (url : Parts) (now : ℤ) (line none mid text : List ℕ) → none ≡ []
-    → Appends (Says line) none mid → Appends (Becomes store url now line) mid text
-    → IsExplained store url now line text
-is_explained store url now line none mid text empty (says, is, first) (becomes, are, next) =
+pub is_explained : (form : Form) (store : Store) (url : Parts) (now : ℤ) (line none mid text : List ℕ) → none ≡ []
+    → Appends (Says line) none mid → Appends (Becomes form store url now line) mid text
+    → IsExplained form store url now line text
+is_explained form store url now line none mid text empty (says, is, first) (becomes, are, next) =
     (says, becomes, is, are, next ∙ ap (λ t. t ++ becomes) (first ∙ ap (λ t. t ++ says) empty))
 
 -- ---- JSON

@@ -1,5 +1,9 @@
 pub mod ExplainLemmas
+pub mod KeepLemmas
+pub mod KeyLemmas
+pub mod LawLemmas
 pub mod RowLemmas
 pub mod SavingLemmas
 pub mod Shown
+pub mod TakeLemmas
 pub mod ToldLemmas

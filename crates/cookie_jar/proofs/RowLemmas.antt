@@ -6,9 +6,7 @@ use Rattle.std.specs.Borrow.{Bor}
 use Rattle.std.specs.Iterator.{AlwaysYields, Drains}
 use Rattle.std.specs.List.{AllByRecursion, list_any}
 use Rattle.std.proofs.lemmas.List.{append-nil, map-append}
-use Rattle.publicsuffix.specs.Rules.{Rule}
 use Rattle.store_parts.specs.declared.error.Error.{Error}
-use Rattle.url.specs.Parts.{Parts}
 use Rattle.cookie_store.specs.Given.{ArePicked, lent_row}
 use Rattle.cookie_store.specs.Grouped.{AreGrouped, IsSublist, PartsStay}
 use Rattle.cookie_store.specs.LoadedLines.{GivesStore}
@@ -17,10 +15,7 @@ use Rattle.cookie_store.specs.Rows.{Row, Store, behind_last, has_domain_of, has_
 use Rattle.cookie_store.specs.Rows.{live, put, put_in_place, replaced}
 use Rattle.cookie_store.specs.StoredCookie.{stored_of}
 use Rattle.cookie_store.specs.declared.stored_cookie.Cookie.{Cookie}
-use Rattle.cookie_run.specs.Accept.{AcceptsAll, IsStopped}
-use Rattle.cookie_run.specs.HostPrefix.{AreHeldRightly, IsHeldRightly}
-use Rattle.cookie_run.specs.HostRows.{AnswersHoldRightly}
-use Rattle.cookie_run.specs.declared.step.LineEnd.{LineEnd}
+use Rattle.cookie_jar.specs.Keeping.{AreKept, IsKept}
 use Rattle.cookie_jar.specs.Reading.{ImportsRows}
 use Rattle.cookie_jar.specs.Rows.{AreCopies, lent_rows}
 
@@ -133,12 +128,12 @@ same_cookies (x ∷ xs) (y ∷ ys) e =
     λ i. first i ∷ tails i
 
 -- the store of cookies that an iterator gives
-pub store_of : {S : Type 0} (steps : S → Option (Result Cookie Error) → S → Type 0) (iter : S) (now : ℤ)
-    (cookies : List Cookie) (items : List (Result Cookie Error)) (store : Store) → items ≡ map ok_of cookies
-    → AlwaysYields steps (λ x. x) iter items → GivesStore steps iter false now store
-    → store ≡ loaded_store false now (map stored_of cookies)
-store_of steps iter now cookies items store are always (given, drains, is) =
-    is ∙ ap (λ cs. loaded_store false now (map stored_of cs))
+pub store_of : {S : Type 0} (steps : S → Option (Result Cookie Error) → S → Type 0) (iter : S) (expired : Bool)
+    (now : ℤ) (cookies : List Cookie) (items : List (Result Cookie Error)) (store : Store) → items ≡ map ok_of cookies
+    → AlwaysYields steps (λ x. x) iter items → GivesStore steps iter expired now store
+    → store ≡ loaded_store expired now (map stored_of cookies)
+store_of steps iter expired now cookies items store are always (given, drains, is) =
+    is ∙ ap (λ cs. loaded_store expired now (map stored_of cs))
     (same_cookies given cookies (drained steps iter (map ok_of given) items always drains ∙ are))
 
 -- ---- copies
@@ -154,12 +149,12 @@ copies_more new made rows row cookie (copies, is, are) pushed same = (
 )
 
 -- the store of copies of these rows
-pub placed_of : {S : Type 0} (steps : S → Option (Result Cookie Error) → S → Type 0) (iter : S) (now : ℤ)
-    (rows : List Row) (items : List (Result Cookie Error)) (store : Store) → AreCopies rows items
-    → AlwaysYields steps (λ x. x) iter items → GivesStore steps iter false now store
-    → store ≡ loaded_store false now rows
-placed_of steps iter now rows items store (copies, is, are) always gives =
-    store_of steps iter now copies items store is always gives ∙ ap (loaded_store false now) are
+pub placed_of : {S : Type 0} (steps : S → Option (Result Cookie Error) → S → Type 0) (iter : S) (expired : Bool)
+    (now : ℤ) (rows : List Row) (items : List (Result Cookie Error)) (store : Store) → AreCopies rows items
+    → AlwaysYields steps (λ x. x) iter items → GivesStore steps iter expired now store
+    → store ≡ loaded_store expired now rows
+placed_of steps iter expired now rows items store (copies, is, are) always gives =
+    store_of steps iter expired now copies items store is always gives ∙ ap (loaded_store expired now) are
 
 -- ---- what holds of each row
 
@@ -214,30 +209,17 @@ both_all : (P : Row → Type 0) (xs ys : List Row) → AllByRecursion P xs → A
 both_all P [] ys px py = py
 both_all P (x ∷ xs) ys px py = (px.0, both_all P xs ys px.1 py)
 
--- what is placed of rows that are held rightly is held so
-pub placed_held : (now : ℤ) (xs ys : List Row) → AreHeldRightly xs → AreHeldRightly ys
-    → AreHeldRightly (loaded false now (xs ++ ys))
-placed_held now xs ys hx hy =
-    put_all_keeps IsHeldRightly (live now (xs ++ ys)) []
-    (filter_all IsHeldRightly (is_live now) (xs ++ ys) (both_all IsHeldRightly xs ys hx hy)) tt
+-- what is placed of rows that a jar keeps is kept
+placed_kept : (now : ℤ) (xs ys : List Row) → AreKept xs → AreKept ys → AreKept (loaded false now (xs ++ ys))
+placed_kept now xs ys hx hy =
+    put_all_keeps IsKept (live now (xs ++ ys)) []
+    (filter_all IsKept (is_live now) (xs ++ ys) (both_all IsKept xs ys hx hy)) tt
 
 -- and so is what an import leaves
-pub imported_held : (now : ℤ) (others old : List Row) (count refused : ℕ) (told : List ℕ) (new : List Row)
-    → AreHeldRightly old → ImportsRows now others old count refused told new → AreHeldRightly new
-imported_held now others old count refused told new held (taken, picked, is, counted, whole, tells) =
-    subst AreHeldRightly (sym is) (placed_held now old taken held (picked_all IsHeldRightly others taken picked))
-
--- however receiving ended
-pub received_held : {A B : Type 0} (law : AnswersHoldRightly) (r : Result A B) (all : A → List LineEnd) (at : B → ℕ)
-    (list : List Rule) (url : Parts) (now : ℤ) (lines : List (List ℕ)) (rows new : List Row) → AreHeldRightly rows
-    → IfOk r (λ ends. AcceptsAll list rows url now lines (all ends) new)
-    → IfErr r (λ stopped. IsStopped list rows url now lines (at stopped) new) → AreHeldRightly new
-received_held law (Ok ends) all at list url now lines rows new held h g =
-    law list rows url now lines new (all ends, h) held
-received_held law (Err stopped) all at list url now lines rows new held h (inl none) =
-    subst AreHeldRightly (sym none.1) held
-received_held law (Err stopped) all at list url now lines rows new held h (inr stops) =
-    law list rows url now (take stops.before lines) new stops.taken held
+pub imported_kept : (now : ℤ) (others old : List Row) (count refused : ℕ) (told : List ℕ) (new : List Row)
+    → AreKept old → ImportsRows now others old count refused told new → AreKept new
+imported_kept now others old count refused told new kept (taken, picked, is, counted, whole, tells) =
+    subst AreKept (sym is) (placed_kept now old taken kept (picked_all IsKept others taken picked))
 
 -- ---- live rows
 
@@ -245,7 +227,7 @@ later : (part rows : List Row) (r : Row) → IsSublist part rows → IsSublist p
 later [] rows r h = tt
 later (p ∷ ps) rows r h = inr h
 
-live_part : (now : ℤ) (rows : List Row) → IsSublist (live now rows) rows
+pub live_part : (now : ℤ) (rows : List Row) → IsSublist (live now rows) rows
 live_part now [] = tt
 live_part now (r ∷ rs) = by (is_live now r) (live_part now rs)
   where
@@ -253,6 +235,27 @@ live_part now (r ∷ rs) = by (is_live now r) (live_part now rs)
         → IsSublist (if b then r ∷ live now rs else live now rs) (r ∷ rs)
     by true rest = inl (refl, rest)
     by false rest = later (live now rs) rs r rest
+
+-- what is picked of a store's rows, put where there was none, stands as it did
+picked_part : (Is : Row → Type 0) (rows picked : List Row) → ArePicked Is rows picked → IsSublist picked rows
+picked_part Is [] picked p = subst (λ xs. IsSublist xs []) (sym p) tt
+picked_part Is (r ∷ rs) picked (rest, p, inl is) =
+    subst (λ xs. IsSublist xs (r ∷ rs)) (sym is.1) (inl (refl, picked_part Is rs rest p))
+picked_part Is (r ∷ rs) picked (rest, p, inr is) =
+    subst (λ xs. IsSublist xs (r ∷ rs)) (sym is.1) (later rest rs r (picked_part Is rs rest p))
+
+picked_stay : (Is : Row → Type 0) (parts : PartsStay) (now : ℤ) (rows picked : List Row) (left : Store)
+    → AreGrouped rows → ArePicked Is rows picked → left ≡ loaded_store true now picked → ArePicked Is rows left.rows
+picked_stay Is parts now rows picked left grouped are placed =
+    subst (ArePicked Is rows) (sym (ap (λ (s : Store). s.rows) placed
+    ∙ parts.stay rows picked grouped (picked_part Is rows picked are))) are
+
+pub only_picked : {E : Type 0} (r : Result Store E) (Is : Row → Type 0) (parts : PartsStay) (now : ℤ)
+    (rows picked : List Row) → AreGrouped rows → ArePicked Is rows picked
+    → IfOk r (λ left. left ≡ loaded_store true now picked) → IfOk r (λ left. ArePicked Is rows left.rows)
+only_picked (Ok left) Is parts now rows picked grouped are placed =
+    picked_stay Is parts now rows picked left grouped are placed
+only_picked (Err e) Is parts now rows picked grouped are placed = tt
 
 -- a store of its live rows has them as they stood
 pub live_stay : (parts : PartsStay) (now : ℤ) (rows lent : List Row) → AreGrouped rows → lent ≡ rows

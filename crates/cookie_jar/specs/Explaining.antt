@@ -20,10 +20,13 @@ use Rattle.line_report.specs.declared.pairing.PairFault.{PairFault}
 use Rattle.line_report.specs.declared.pairing.PairFault.TheVariants.{NoEquals, EmptyName}
 use Rattle.cookies_txt.specs.Layout.{when}
 use Rattle.cookies_txt.specs.Writing.{expiry_second, is_suffix}
-use Rattle.cookie_run.specs.Accept.{Accepts}
 use Rattle.cookie_run.specs.declared.step.LineEnd.{LineEnd}
 use Rattle.cookie_run.specs.declared.step.LineEnd.TheVariants.{Stored, Refused, NotText, HostPrefix}
+use Rattle.cookie_jar.specs.Taking.{TakesLine}
 use Rattle.cookie_jar.specs.Told.{end_text, shown}
+use Rattle.cookie_jar.specs.declared.form.Form.{Form}
+use Rattle.cookie_jar.specs.declared.taking.End.{End}
+use Rattle.cookie_jar.specs.declared.taking.End.TheVariants.{Line, Control, Tab}
 
 -- ---- what the line says
 
@@ -79,12 +82,17 @@ cause_rule cause.PublicSuffix = codes " (RFC 6265, section 5.3, step 5)\n"
 cause_rule cause.UnspecifiedDomain = codes "\n"
 cause_rule cause.OutOfMemory = codes "\n"
 
+abbrev pub line_end_rule : LineEnd → List ℕ
+line_end_rule (Stored action) = action_rule action
+line_end_rule (Refused cause) = cause_rule cause
+line_end_rule NotText = codes " (a rule of this jar: a line is UTF-8)\n"
+line_end_rule HostPrefix = codes " (draft-ietf-httpbis-rfc6265bis, section 4.1.3.2)\n"
+
 -- by which rule it became so
-abbrev pub rule_text : LineEnd → List ℕ
-rule_text (Stored action) = action_rule action
-rule_text (Refused cause) = cause_rule cause
-rule_text NotText = codes " (a rule of this jar: a line is UTF-8)\n"
-rule_text HostPrefix = codes " (draft-ietf-httpbis-rfc6265bis, section 4.1.3.2)\n"
+abbrev pub rule_text : End → List ℕ
+rule_text (Line end) = line_end_rule end
+rule_text Control = codes " (draft-ietf-httpbis-rfc6265bis, section 5.6, step 1)\n"
+rule_text Tab = codes " (a rule of this jar: cookies.txt parts its fields by tabs)\n"
 
 -- ---- which requests get it
 
@@ -129,26 +137,28 @@ IsSent url now line rows text =
     (made : Row) × ReadsStored line url now (Ok made) × (text ≡ row_lines (found (key_of made) rows))
 
 -- where it is put among the rows, they are these
-abbrev pub SentAs : Parts → ℤ → List ℕ → LineEnd → List Row → List ℕ → Type 0
-SentAs url now line (Stored Inserted) rows text = IsSent url now line rows text
-SentAs url now line (Stored UpdatedExisting) rows text = IsSent url now line rows text
-SentAs url now line (Stored ExpiredExisting) rows text = text ≡ []
-SentAs url now line (Refused cause) rows text = text ≡ []
-SentAs url now line NotText rows text = text ≡ []
-SentAs url now line HostPrefix rows text = text ≡ []
+abbrev pub SentAs : Parts → ℤ → List ℕ → End → List Row → List ℕ → Type 0
+SentAs url now line (Line (Stored Inserted)) rows text = IsSent url now line rows text
+SentAs url now line (Line (Stored UpdatedExisting)) rows text = IsSent url now line rows text
+SentAs url now line (Line (Stored ExpiredExisting)) rows text = text ≡ []
+SentAs url now line (Line (Refused cause)) rows text = text ≡ []
+SentAs url now line (Line NotText) rows text = text ≡ []
+SentAs url now line (Line HostPrefix) rows text = text ≡ []
+SentAs url now line Control rows text = text ≡ []
+SentAs url now line Tab rows text = text ≡ []
 
 -- ---- all
 
--- what would become of it in a store at the moment, and the rows that there would be
-pub record Becomes (store : Store) (url : Parts) (now : ℤ) (line text : List ℕ) : Type 0 where
-  pub end : LineEnd
+-- what would become of it in a jar of this form at the moment, and the rows that there would be
+pub record Becomes (form : Form) (store : Store) (url : Parts) (now : ℤ) (line text : List ℕ) : Type 0 where
+  pub end : End
   pub rows : List Row
-  pub accepts : Accepts store.suffixes store.rows url now line end rows
+  pub takes : TakesLine form store.suffixes store.rows url now line end rows
   pub sent : List ℕ
   pub sent_as : SentAs url now line end rows sent
   pub told : text ≡ end_text end ++ (rule_text end ++ sent)
 
 -- what it says, and what would become of it
-abbrev pub IsExplained : Store → Parts → ℤ → List ℕ → List ℕ → Type 0
-IsExplained store url now line text =
-    (says becomes : List ℕ) × Says line says × Becomes store url now line becomes × (text ≡ says ++ becomes)
+abbrev pub IsExplained : Form → Store → Parts → ℤ → List ℕ → List ℕ → Type 0
+IsExplained form store url now line text =
+    (says becomes : List ℕ) × Says line says × Becomes form store url now line becomes × (text ≡ says ++ becomes)

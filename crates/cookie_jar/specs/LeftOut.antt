@@ -7,7 +7,7 @@ use Rattle.cookies_txt.specs.Writing.{row_fault}
 use Rattle.cookies_txt.specs.declared.error.RowFault.{RowFault}
 use Rattle.cookies_txt.specs.declared.error.RowFault.TheVariants.{NoDomain, HostSign, NoSlash, EmptyName}
 use Rattle.cookies_txt.specs.declared.error.RowFault.TheVariants.{Separator, CarriageReturn}
-use Rattle.cookie_run.specs.HostPrefix.{IsHeldRightly}
+use Rattle.cookie_jar.specs.Keeping.{IsKept, refusal_text}
 use Rattle.cookie_jar.specs.Listing.{domain_field}
 use Rattle.cookie_jar.specs.Told.{shown}
 use Rattle.cookie_jar.specs.declared.form.Form.{Form}
@@ -18,13 +18,13 @@ abbrev pub left_out_line : List ℕ → Row → List ℕ
 left_out_line why row =
     why ++ (9 ∷ (domain_field row ++ (9 ∷ (shown row.path.text ++ (9 ∷ (shown row.raw.cookie.name ++ 10 ∷ []))))))
 
--- ---- rows that a jar may not hold
+-- ---- rows that a jar doesn't keep
 
 abbrev pub IsRefused : Row → Type 0
-IsRefused row = ¬ (IsHeldRightly row)
+IsRefused row = ¬ (IsKept row)
 
 unfoldable pub refused_line : Row → List ℕ
-refused_line row = left_out_line (codes "refused: __Host-") row
+refused_line row = left_out_line (refusal_text row) row
 
 -- a line of each of them, in their order
 abbrev pub TellsRefused : List Row → List ℕ → Type 0

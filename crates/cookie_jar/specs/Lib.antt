@@ -1,10 +1,13 @@
 pub mod Explaining
 pub mod Forms
 pub mod Json
+pub mod Keeping
+pub mod Laws
 pub mod LeftOut
 pub mod Listing
 pub mod Reading
 pub mod Rows
 pub mod Saving
 pub mod Steps
+pub mod Taking
 pub mod Told

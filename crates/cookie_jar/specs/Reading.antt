@@ -10,7 +10,7 @@ use Rattle.cookie_store.specs.SavedTexts.{IsJsonOf, IsJsonRefusal, IsRonRefusal,
 use Rattle.cookies_txt.specs.Reading.{GivesRows, IsBytesRefusal}
 use Rattle.cookies_txt.specs.declared.error.ReadError.{ReadError as LinesError}
 use Rattle.cookies_txt.specs.declared.error.ReadError.TheVariants as lines
-use Rattle.cookie_run.specs.HostPrefix.{IsHeldRightly}
+use Rattle.cookie_jar.specs.Keeping.{IsKept}
 use Rattle.cookie_jar.specs.LeftOut.{TellsRefused}
 use Rattle.cookie_jar.specs.declared.error.ReadError.{ReadError}
 use Rattle.cookie_jar.specs.declared.error.ReadError.TheVariants.{Saved, Lines, OutOfMemory}
@@ -32,11 +32,11 @@ IsUnread Json text e = (e ≡ OutOfMemory)
 IsUnread Txt text e = (e ≡ OutOfMemory)
     ⊎ ((cause : LinesError) × (cause ≢ lines.OutOfMemory) × IsBytesRefusal text cause × (e ≡ Lines cause))
 
--- Rows and then those of others that a jar may hold, placed by their keys, without those that are expired at the
--- moment: how many others were taken, how many it may not hold, and what is told of these.
+-- Rows and then those of others that a jar keeps, placed by their keys, without those that are expired at the moment:
+-- how many others were taken, how many it doesn't keep, and what is told of these.
 abbrev pub ImportsRows : ℤ → List Row → List Row → ℕ → ℕ → List ℕ → List Row → Type 0
 ImportsRows now others old count refused told new =
-    (taken : List Row) × ArePicked IsHeldRightly others taken × (new ≡ loaded false now (old ++ taken))
+    (taken : List Row) × ArePicked IsKept others taken × (new ≡ loaded false now (old ++ taken))
     × (count ≡ length taken) × (count + refused ≡ length others) × TellsRefused others told
 
 -- a jar's rows and then those of a text

@@ -1,8 +1,10 @@
 -- The text of a jar's rows in a form, and why there is none (this repository's own).
 use Rattle.std.specs.Prelude.{◌≡◌, ◌⊎◌, ℕ, List, Bool, false, map}
+use Rattle.std.specs.List.{AllByRecursion}
 use Rattle.saved_text.specs.Json.{list_text}
 use Rattle.saved_text.specs.RonLayout.{ron_layout}
 use Rattle.cookie_store.specs.Rows.{Row}
+use Rattle.cookie_store.specs.SavedLaws.{IsOfBytes}
 use Rattle.cookie_store.specs.SavedTexts.{IsAnyBeforeYears, Saves}
 use Rattle.cookies_txt.specs.Layout.{cookies_txt}
 use Rattle.cookies_txt.specs.Writing.{IsFirstRefused, held, line_of_row}
@@ -25,6 +27,12 @@ abbrev pub fitting : Form → List Row → List Row
 fitting Ron rows = rows
 fitting Json rows = rows
 fitting Txt rows = held rows
+
+-- the texts of the rows are bytes, as RON asks of what it shows
+abbrev pub AreBytesIn : Form → List Row → Type 0
+AreBytesIn Ron rows = AllByRecursion IsOfBytes rows
+AreBytesIn Json rows = Unit {0}
+AreBytesIn Txt rows = Unit {0}
 
 -- why there is none
 abbrev pub IsUnsaved : Form → Bool → List Row → SaveError → Type 0

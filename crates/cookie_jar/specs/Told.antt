@@ -8,6 +8,8 @@ use Rattle.store_parts.specs.declared.error.CookieError.{CookieError}
 use Rattle.store_parts.specs.declared.error.CookieError.TheVariants as cause
 use Rattle.cookie_run.specs.declared.step.LineEnd.{LineEnd}
 use Rattle.cookie_run.specs.declared.step.LineEnd.TheVariants.{Stored, Refused, NotText, HostPrefix}
+use Rattle.cookie_jar.specs.declared.taking.End.{End}
+use Rattle.cookie_jar.specs.declared.taking.End.TheVariants.{Line, Control, Tab}
 
 -- ---- a header
 
@@ -42,26 +44,33 @@ cause_text cause.PublicSuffix = codes "refused: public suffix"
 cause_text cause.UnspecifiedDomain = codes "refused: no domain"
 cause_text cause.OutOfMemory = codes "refused: memory"
 
+abbrev pub line_end_text : LineEnd → List ℕ
+line_end_text (Stored action) = action_text action
+line_end_text (Refused cause) = cause_text cause
+line_end_text NotText = codes "refused: no text"
+line_end_text HostPrefix = codes "refused: __Host-"
+
 -- what became of a line
-abbrev pub end_text : LineEnd → List ℕ
-end_text (Stored action) = action_text action
-end_text (Refused cause) = cause_text cause
-end_text NotText = codes "refused: no text"
-end_text HostPrefix = codes "refused: __Host-"
+abbrev pub end_text : End → List ℕ
+end_text (Line end) = line_end_text end
+end_text Control = codes "refused: control character"
+end_text Tab = codes "refused: tab"
 
 -- what became of it and the line, parted by a tab
-abbrev pub told_line : List ℕ → LineEnd → List ℕ
+abbrev pub told_line : List ℕ → End → List ℕ
 told_line line end = end_text end ++ (9 ∷ [] ++ (shown line ++ 10 ∷ []))
 
 -- each line so
-abbrev pub told_lines : List (List ℕ) → List LineEnd → List ℕ
+abbrev pub told_lines : List (List ℕ) → List End → List ℕ
 told_lines [] ends = []
 told_lines (line ∷ lines) [] = []
 told_lines (line ∷ lines) (end ∷ ends) = told_line line end ++ told_lines lines ends
 
 -- the line wasn't stored
-abbrev pub is_refused : LineEnd → Bool
-is_refused (Stored action) = Rattle.std.specs.Prelude.false
-is_refused (Refused cause) = Rattle.std.specs.Prelude.true
-is_refused NotText = Rattle.std.specs.Prelude.true
-is_refused HostPrefix = Rattle.std.specs.Prelude.true
+abbrev pub is_refused : End → Bool
+is_refused (Line (Stored action)) = Rattle.std.specs.Prelude.false
+is_refused (Line (Refused cause)) = Rattle.std.specs.Prelude.true
+is_refused (Line NotText) = Rattle.std.specs.Prelude.true
+is_refused (Line HostPrefix) = Rattle.std.specs.Prelude.true
+is_refused Control = Rattle.std.specs.Prelude.true
+is_refused Tab = Rattle.std.specs.Prelude.true

@@ -2,7 +2,6 @@
 ghost use Rattle.std.specs.Prelude.{◌≡◌, ◌++◌, IfOk, OnOk, Result, map, option_copied, option_map, string_bytes};
 ghost use Rattle.jiff.specs.Words.{civil_nanos};
 ghost use Rattle.cookie_store.specs.StoredCookie.{stored_of};
-ghost use Rattle.cookie_run.specs.Accept.{Accepts};
 ghost use Rattle.line_report.specs.Pair.{HasNoPair, IsPairOf};
 ghost use Rattle.line_report.specs.Pieces.{piece_text};
 ghost use Rattle.cookies_txt.specs.Layout.{when};
@@ -12,10 +11,11 @@ ghost use Rattle.cookie_jar.specs.Told as told;
 ghost use Rattle.cookie_jar.specs.Explaining as spec;
 ghost use Rattle.cookie_jar.specs.Steps as steps;
 
+use crate::form::Form;
 use crate::listing::is_suffix;
+use crate::taking::{End, take_line};
 use crate::told::{end_text, push_shown};
 use cookie_run::LineEnd;
-use cookie_run::client::receive_all;
 use cookie_store::{Cookie, CookieError, CookieStore, StoreAction};
 use cookies_txt::expiry_second;
 use jiff::civil::DateTime;
@@ -23,8 +23,8 @@ use line_report::{Judgement, PairFault, Piece, pair, pieces};
 use std::alloc::{AllocError, Global};
 use url::Url;
 
-/// What the line says, what would become of it in the store at `now` and by which rule, and which requests would get
-/// it.
+/// What the line says, what would become of it at `now` in the store of a jar of this form and by which rule, and which
+/// requests would get it.
 ///
 /// # Errors
 ///
@@ -32,16 +32,17 @@ use url::Url;
 pub(crate) fn explained(
     alloc: Global,
     store: &CookieStore,
+    form: Form,
     url: &Url,
     line: &[u8],
     now: DateTime,
 ) -> Result<String, AllocError>
-    ensures { IfOk result (λ text. spec.IsExplained store.now url.now (civil_nanos now) line.now
+    ensures { IfOk result (λ text. spec.IsExplained form store.now url.now (civil_nanos now) line.now
         (string_bytes text)) }
 {
     let mut text = String::new(alloc);
     push_said(alloc, &mut text, line)?;
-    push_became(alloc, &mut text, store, url, line, now)?;
+    push_became(alloc, &mut text, store, form, url, line, now)?;
     Ok(text)
 }
 
@@ -120,53 +121,41 @@ fn push_became(
     alloc: Global,
     text: &mut String,
     store: &CookieStore,
+    form: Form,
     url: &Url,
     line: &[u8],
     now: DateTime,
 ) -> Result<(), AllocError>
-    ensures { OnOk result (steps.Appends (spec.Becomes store.now url.now (civil_nanos now) line.now)
+    ensures { OnOk result (steps.Appends (spec.Becomes form store.now url.now (civil_nanos now) line.now)
         (string_bytes text.old) (string_bytes text.new)) }
 {
     let mut store = store.clone()?;
-    let end = taken(alloc, &mut store, url, line, now)?;
+    let end = take_line(&mut store, form, url, line, now)?;
     push_end(text, end)?;
     push_sent(alloc, text, &store, url, line, end, now)
 }
 
 // What became of the line, and by which rule.
-fn push_end(text: &mut String, end: LineEnd) -> Result<(), AllocError>
+fn push_end(text: &mut String, end: End) -> Result<(), AllocError>
     ensures { OnOk result (string_bytes text.new ≡ string_bytes text.old ++ (told.end_text end ++ spec.rule_text end)) }
 {
     text.push_str(end_text(end))?;
     text.push_str(rule_text(end))
 }
 
-// Takes the line into the store.
-fn taken(
-    alloc: Global,
-    store: &mut CookieStore,
-    url: &Url,
-    line: &[u8],
-    now: DateTime,
-) -> Result<LineEnd, AllocError>
-    ensures { IfOk result (λ end. Accepts store.old.suffixes store.old.rows url.now (civil_nanos now) line.now end
-        store.new.rows) }
+// By which rule a line has this end.
+fn rule_text(end: End) -> &'static str
+    ensures { result.now ≡ spec.rule_text end }
 {
-    let lines = [line];
-    match receive_all(alloc, store, url, &lines, now) {
-        Ok(ends) => match ends.as_slice() {
-            [end] => Ok(*end),
-            // A line has one end.
-            _ => Err(AllocError),
-        },
-        // A store stops only where memory was refused.
-        Err(_) => Err(AllocError),
+    match end {
+        End::Line(end) => line_end_rule(end),
+        End::Control => " (draft-ietf-httpbis-rfc6265bis, section 5.6, step 1)\n",
+        End::Tab => " (a rule of this jar: cookies.txt parts its fields by tabs)\n",
     }
 }
 
-// By which rule a line has this end.
-fn rule_text(end: LineEnd) -> &'static str
-    ensures { result.now ≡ spec.rule_text end }
+fn line_end_rule(end: LineEnd) -> &'static str
+    ensures { result.now ≡ spec.line_end_rule end }
 {
     match end {
         LineEnd::Stored(action) => action_rule(action),
@@ -209,14 +198,14 @@ fn push_sent(
     store: &CookieStore,
     url: &Url,
     line: &[u8],
-    end: LineEnd,
+    end: End,
     now: DateTime,
 ) -> Result<(), AllocError>
     ensures { OnOk result (steps.Appends (spec.SentAs url.now (civil_nanos now) line.now end store.now.rows)
         (string_bytes text.old) (string_bytes text.new)) }
 {
     match end {
-        LineEnd::Stored(StoreAction::Inserted | StoreAction::UpdatedExisting) => {
+        End::Line(LineEnd::Stored(StoreAction::Inserted | StoreAction::UpdatedExisting)) => {
             push_row(alloc, text, store, url, line, now)
         }
         _ => Ok(()),

@@ -1,35 +1,38 @@
-//! A jar: a store that is held to the prefix `__Host-`, with what the commands of a shell do to it.
+//! A jar: a store whose rows can be sent, saved and read again, with what the commands of a shell do to it.
 ghost use Rattle.std.specs.Prelude.{◌≡◌, ◌+◌, ◌++◌, [], false, true, IfOk, IfErr, OnErr, is_some, length, map};
 ghost use Rattle.std.specs.Prelude.{string_bytes};
+ghost use Rattle.std.specs.Str.{IsUtf8};
 ghost use Rattle.jiff.specs.Words.{civil_nanos};
 ghost use Rattle.cookie_store.specs.Given.{ArePicked};
 ghost use Rattle.cookie_store.specs.Longest.{AreGivenLongest};
 ghost use Rattle.cookie_store.specs.Placing.{loaded};
 ghost use Rattle.cookie_store.specs.Rows.{Store, found, key, live, removed};
-ghost use Rattle.cookie_run.specs.Accept.{AcceptsAll, IsStopped};
 ghost use Rattle.cookie_run.specs.Header.{IsHeader};
-ghost use Rattle.cookie_run.specs.HostPrefix.{AreHeldRightly, IsHeldRightly};
 ghost use Rattle.cookie_jar.specs.Explaining.{IsExplained};
 ghost use Rattle.cookie_jar.specs.Json.{rows_json};
+ghost use Rattle.cookie_jar.specs.Keeping.{AreKept, IsKept, has_control};
 ghost use Rattle.cookie_jar.specs.LeftOut.{passed_lines};
 ghost use Rattle.cookie_jar.specs.Listing as table;
 ghost use Rattle.cookie_jar.specs.Reading as spec;
 ghost use Rattle.cookie_jar.specs.Saving as text;
+ghost use Rattle.cookie_jar.specs.Taking as take;
 ghost use Rattle.cookie_jar.specs.Told as told;
 
 use crate::error::{ReadError, SaveError};
 use crate::explaining::explained;
 use crate::form::Form;
 use crate::json_list::rows_json;
+use crate::keeping::only_kept;
 use crate::left_out::refused_lines;
 use crate::listing::listing;
 use crate::reading::read;
 use crate::rows::{live_rows, placed, refused_rows, rows_of, rows_with};
 use crate::saving::{Exported, text_of};
+use crate::taking::{End, take_all};
 use crate::told::header_line;
-use cookie_run::client::{header_of, only_held, receive_all};
+use cookie_run::Stopped;
+use cookie_run::client::header_of;
 use cookie_run::laws::host_rows_are_held_rightly;
-use cookie_run::{LineEnd, Stopped};
 use cookie_store::CookieStore;
 use jiff::civil::DateTime;
 use publicsuffix::List;
@@ -39,8 +42,10 @@ use url::Url;
 
 /// A jar, which contracts see as its store: the rows in their order, and the list of public suffixes.
 ///
-/// It enforces the prefix `__Host-` as a [`cookie_run::Client`] does. Unlike a client, it keeps cookies without an
-/// expiry where it is saved and loaded again, as curl does.
+/// It enforces the prefix `__Host-` as a [`cookie_run::Client`] does. Names and values of its rows have no control
+/// character, and are as a text gives them: so its texts are read again as these rows
+/// ([`crate::laws::saved_rows_are_loaded`]). Unlike a client, it keeps cookies without an expiry where it is saved and
+/// loaded again, as curl does.
 #[derive(Drop, Debug)]
 pub struct Jar {
     alloc: Global,
@@ -49,13 +54,13 @@ pub struct Jar {
 
 impl Model for Jar {
     ghost use Rattle.cookie_store.specs.Rows.{Store};
-    ghost use Rattle.cookie_run.specs.HostPrefix.{AreHeldRightly};
+    ghost use Rattle.cookie_jar.specs.Keeping.{AreKept};
 
     ghost Value = { Store };
 
     ghost view = { λ j. j.store };
 
-    ghost invariant = { λ j. AreHeldRightly j.store.rows };
+    ghost invariant = { λ j. AreKept j.store.rows };
 }
 
 /// What an import did.
@@ -63,10 +68,10 @@ impl Model for Jar {
 pub struct Imported {
     /// How many rows were taken.
     pub rows: usize,
-    /// How many a jar may not hold, for the prefix `__Host-`.
+    /// How many a jar doesn't keep.
     pub refused: usize,
-    /// A line of each of these: `refused: __Host-`, domain, path and name, parted by tabs. Of the texts each byte that
-    /// isn't printable ASCII, and `%`, stands as `%` and two digits.
+    /// A line of each of these: `refused: ` and why (`control character`, `name or value`, `__Host-`), domain, path and
+    /// name, parted by tabs. Of the texts each byte that isn't printable ASCII, and `%`, stands as `%` and two digits.
     pub told: String,
 }
 
@@ -81,9 +86,9 @@ impl Jar {
         }
     }
 
-    /// The jar of a text, without the rows that are expired at `now` and those that a jar may not hold for the prefix
-    /// `__Host-`. Of two rows with one key the later replaces the earlier in its place. No row is judged by the list of
-    /// public suffixes.
+    /// The jar of a text, without the rows that are expired at `now`, and then without those that a jar doesn't keep: of
+    /// a name or a value with a control character, or that no text gives, or against the prefix `__Host-`. Of two rows
+    /// with one key the later replaces the earlier in its place. No row is judged by the list of public suffixes.
     ///
     /// # Errors
     ///
@@ -96,13 +101,13 @@ impl Jar {
         now: DateTime,
     ) -> Result<Jar, ReadError>
         ensures ok { IfOk result (λ jar. (store : Store) × spec.Reads form (civil_nanos now) text.now store
-            × ArePicked IsHeldRightly store.rows jar.rows) }
+            × ArePicked IsKept store.rows jar.rows) }
         ensures list { IfOk result (λ jar. jar.suffixes ≡ list) }
-        ensures held { IfOk result (λ jar. AreHeldRightly jar.rows) }
+        ensures kept { IfOk result (λ jar. AreKept jar.rows) }
         ensures err { IfErr result (spec.IsUnread form text.now) }
     {
         match read(alloc, form, text, now) {
-            Ok(store) => match only_held(alloc, store, now) {
+            Ok(store) => match only_kept(alloc, store, now) {
                 Ok(store) => Ok(Jar {
                     alloc,
                     store: store.with_suffix_list(list),
@@ -113,7 +118,8 @@ impl Jar {
         }
     }
 
-    /// The text of its rows that aren't expired at `now`, in their order.
+    /// The text of its rows that aren't expired at `now`, in their order. It is read again as these rows
+    /// ([`crate::laws::saved_rows_are_loaded`]).
     ///
     /// # Errors
     ///
@@ -122,6 +128,10 @@ impl Jar {
     pub fn save(&self, form: Form, now: DateTime) -> Result<Vec<u8>, SaveError>
         ensures ok { IfOk result (λ saved.
             text.IsText form (live (civil_nanos now) self.now.rows) saved.items) }
+        ensures fits { IfOk result (λ _.
+            text.fitting form (live (civil_nanos now) self.now.rows) ≡ live (civil_nanos now) self.now.rows) }
+        ensures bytes { IfOk result (λ _. text.AreBytesIn form (live (civil_nanos now) self.now.rows)) }
+        ensures utf8 { IfOk result (λ saved. IsUtf8 saved.items) }
         ensures err { IfErr result (text.IsUnsaved form false (live (civil_nanos now) self.now.rows)) }
     {
         match self.written(form, false, now) {
@@ -161,6 +171,8 @@ impl Jar {
             ≡ passed_lines form (live (civil_nanos now) self.now.rows)) }
         ensures all { passing_over ≡ false → IfOk result (λ _.
             text.fitting form (live (civil_nanos now) self.now.rows) ≡ live (civil_nanos now) self.now.rows) }
+        ensures bytes { IfOk result (λ _. text.AreBytesIn form (live (civil_nanos now) self.now.rows)) }
+        ensures utf8 { IfOk result (λ exported. IsUtf8 exported.text.items) }
         ensures err { IfErr result (text.IsUnsaved form passing_over (live (civil_nanos now) self.now.rows)) }
     {
         let store = unexpired(self.alloc, &self.store, now)?;
@@ -168,8 +180,9 @@ impl Jar {
     }
 
     /// Puts the rows of a text behind its own, as if all were of one text: without those that are expired at `now`, and
-    /// of two with one key the later in the place of the earlier. Those that a jar may not hold for the prefix
-    /// `__Host-` are left out before. No row is judged by the list of public suffixes.
+    /// of two with one key the later in the place of the earlier. Those that a jar doesn't keep are left out before, and
+    /// told: of a name or a value with a control character, or that no text gives, or against the prefix `__Host-`. No
+    /// row is judged by the list of public suffixes.
     ///
     /// # Errors
     ///
@@ -180,7 +193,7 @@ impl Jar {
         ensures err { IfErr result (spec.IsUnread form text.now) }
         ensures same { OnErr result (self.new ≡ self.old) }
         ensures list { self.new.suffixes ≡ self.old.suffixes }
-        ensures held { AreHeldRightly self.new.rows }
+        ensures kept { AreKept self.new.rows }
     {
         match read(self.alloc, form, text, now) {
             Ok(store) => Ok(import_rows(self.alloc, &mut self.store, &store, now)?),
@@ -189,24 +202,22 @@ impl Jar {
     }
 
     /// The line `Cookie: ..` of a request to this URL at `now` (RFC 6265, section 5.4), with longer paths first, or
-    /// nothing where no cookie goes with it.
+    /// nothing where no cookie goes with it. But for its end no control character stands in it.
     ///
     /// # Errors
     ///
     /// `AllocError` where there is no memory for the text.
     pub fn header(&self, url: &Url, now: DateTime) -> Result<String, AllocError>
         ensures { IfOk result (λ line. (header : _) × IsHeader self.now.rows url.now (civil_nanos now) header
-            × (string_bytes line ≡ told.header_line header)) }
+            × (string_bytes line ≡ told.header_line header) × (has_control header ≡ false)) }
     {
-        // A URL that was parsed is valid, whatever is done with it.
-        let _path = url.path();
-        let cookies = self.store.matches_longest(url, now)?;
-        let header = header_of(self.alloc, cookies)?;
+        let header = header_text(self.alloc, self.store(), url, now)?;
         header_line(self.alloc, header.as_str())
     }
 
     /// Takes the `Set-Cookie` lines of an answer from this URL at `now`, one after another, and says what became of
-    /// each, as [`cookie_run::Client::receive`] does.
+    /// each, as [`cookie_run::Client::receive`] does. A line with a control character in its name or its value is
+    /// refused, and one with a tab where the jar is to be saved as `cookies.txt`.
     ///
     /// # Errors
     ///
@@ -214,19 +225,20 @@ impl Jar {
     /// one was looked at. At 0 none was looked at.
     pub fn receive(
         &mut self,
+        form: Form,
         url: &Url,
         lines: &[&[u8]],
         now: DateTime,
-    ) -> Result<Vec<LineEnd>, Stopped>
-        ensures all { IfOk result (λ ends. AcceptsAll self.old.suffixes self.old.rows url.now
+    ) -> Result<Vec<End>, Stopped>
+        ensures all { IfOk result (λ ends. take.TakesAll form self.old.suffixes self.old.rows url.now
             (civil_nanos now) (map (λ line. line.now) lines.now) ends.items self.new.rows) }
-        ensures stopped { IfErr result (λ stopped. IsStopped self.old.suffixes self.old.rows url.now
+        ensures stopped { IfErr result (λ stopped. take.IsStopped form self.old.suffixes self.old.rows url.now
             (civil_nanos now) (map (λ line. line.now) lines.now) stopped.0 self.new.rows) }
         ensures list { self.new.suffixes ≡ self.old.suffixes }
-        ensures held { AreHeldRightly self.new.rows }
+        ensures kept { AreKept self.new.rows }
     {
         host_rows_are_held_rightly();
-        receive_all(self.alloc, &mut self.store, url, lines, now)
+        take_all(self.alloc, &mut self.store, form, url, lines, now)
     }
 
     /// The table of its rows that aren't expired at `now`, a line for each in their order: domain with a dot in front
@@ -285,18 +297,24 @@ impl Jar {
     }
 
     /// What a `Set-Cookie` line from this URL means: its name and its value, what each of its pieces says and whether
-    /// it counts, what would become of it at `now` and by which rule, and which requests would get it. Each is a line.
-    /// Of what others sent each byte that isn't printable ASCII, and `%`, stands as `%` and two digits. It takes a copy
-    /// of the jar, which stays as it is.
+    /// it counts, what would become of it at `now` in a jar that is to be saved in this form and by which rule, and
+    /// which requests would get it. Each is a line. Of what others sent each byte that isn't printable ASCII, and `%`,
+    /// stands as `%` and two digits. It takes a copy of the jar, which stays as it is.
     ///
     /// # Errors
     ///
     /// `AllocError`, for want of memory.
-    pub fn explain(&self, url: &Url, line: &[u8], now: DateTime) -> Result<String, AllocError>
+    pub fn explain(
+        &self,
+        form: Form,
+        url: &Url,
+        line: &[u8],
+        now: DateTime,
+    ) -> Result<String, AllocError>
         ensures { IfOk result (λ text.
-            IsExplained self.now url.now (civil_nanos now) line.now (string_bytes text)) }
+            IsExplained form self.now url.now (civil_nanos now) line.now (string_bytes text)) }
     {
-        explained(self.alloc, &self.store, url, line, now)
+        explained(self.alloc, &self.store, form, url, line, now)
     }
 
     /// Takes the row of the domain's text, which has no dot in front, the path's text and the name out, whether or not
@@ -306,7 +324,7 @@ impl Jar {
         ensures rest { self.new ≡ record self.old {
           rows = removed (key domain.now path.now name.now) self.old.rows;
         } }
-        ensures held { AreHeldRightly self.new.rows }
+        ensures kept { AreKept self.new.rows }
     {
         let was = self.store.contains_any(domain, path, name);
         let _ = self.store.remove(domain, path, name);
@@ -331,10 +349,26 @@ impl Jar {
     /// Its store.
     pub fn store(&self) -> &CookieStore
         ensures store { result.now ≡ self.now }
-        ensures held { AreHeldRightly self.now.rows }
+        ensures kept { AreKept self.now.rows }
     {
         &self.store
     }
+}
+
+// The header of a request to the URL, with longer paths first.
+fn header_text(
+    alloc: Global,
+    store: &CookieStore,
+    url: &Url,
+    now: DateTime,
+) -> Result<String, AllocError>
+    ensures { IfOk result (λ header.
+        IsHeader store.now.rows url.now (civil_nanos now) (string_bytes header)) }
+{
+    // A URL that was parsed is valid, whatever is done with it.
+    let _path = url.path();
+    let cookies = store.matches_longest(url, now)?;
+    header_of(alloc, cookies)
 }
 
 // The store without the rows that are expired at `now`.
@@ -345,7 +379,7 @@ fn unexpired(alloc: Global, store: &CookieStore, now: DateTime) -> Result<Cookie
     // The rows of a store stand in groups.
     let _rows = store.iter_any();
     let rows = rows_of(alloc, store)?;
-    Ok(placed(alloc, rows, now)?)
+    Ok(placed(alloc, rows, false, now)?)
 }
 
 // Puts the rows of another store behind those of the first.
@@ -371,18 +405,18 @@ fn import_rows(
     })
 }
 
-// How many rows of another store a jar may hold, and the store of its own rows and then these.
+// How many rows of another store a jar keeps, and the store of its own rows and then these.
 fn with_rows(
     alloc: Global,
     store: &CookieStore,
     other: &CookieStore,
     now: DateTime,
 ) -> Result<(usize, CookieStore), AllocError>
-    ensures { IfOk result (λ whole. (taken : _) × ArePicked IsHeldRightly other.now.rows taken
+    ensures { IfOk result (λ whole. (taken : _) × ArePicked IsKept other.now.rows taken
         × (whole.0 ≡ length taken) × (whole.1.rows ≡ loaded false (civil_nanos now) (store.now.rows ++ taken))) }
 {
     let own = rows_of(alloc, store)?.len();
     let rows = rows_with(alloc, store, other)?;
     let taken = rows.len() - own;
-    Ok((taken, placed(alloc, rows, now)?))
+    Ok((taken, placed(alloc, rows, false, now)?))
 }

@@ -5,12 +5,13 @@ ghost use Rattle.cookie_store.specs.StoredCookie.{stored_of};
 ghost use Rattle.cookie_jar.specs.LeftOut as spec;
 ghost use Rattle.cookie_jar.specs.Rows.{lent_rows};
 
+use crate::keeping::refusal_text;
 use crate::listing::{push_domain, push_field};
 use cookie_store::Cookie;
 use cookies_txt::{RowFault, row_fault};
 use std::alloc::{AllocError, Global};
 
-/// A line of each cookie, which a jar may not hold.
+/// A line of each cookie, which a jar doesn't keep.
 ///
 /// # Errors
 ///
@@ -53,7 +54,7 @@ fn push_refused(text: &mut String, cookie: &Cookie<'static>) -> Result<(), Alloc
     ensures { OnOk result (string_bytes text.new
         ≡ string_bytes text.old ++ spec.refused_line (stored_of cookie.now)) }
 {
-    push_left_out(text, "refused: __Host-", cookie)
+    push_left_out(text, refusal_text(cookie), cookie)
 }
 
 fn push_passed(text: &mut String, cookie: &Cookie<'static>) -> Result<(), AllocError>

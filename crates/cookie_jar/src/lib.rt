@@ -2,7 +2,7 @@
 //!
 //! ```text
 //! let mut jar = Jar::load(alloc, list, Form::Ron, text, now)?;
-//! let ends = jar.receive(&url, &[b"a=1; Path=/"], now)?;
+//! let ends = jar.receive(Form::Ron, &url, &[b"a=1; Path=/"], now)?;
 //! let line = jar.header(&url, now)?;  // "Cookie: a=1\n"
 //! let text = jar.save(Form::Ron, now)?;
 //! ```
@@ -13,15 +13,19 @@ mod explaining;
 mod form;
 mod jar;
 mod json_list;
+mod keeping;
+pub mod laws;
 mod left_out;
 mod listing;
 mod reading;
 mod rows;
 mod saving;
+mod taking;
 mod told;
 
 pub use error::{ReadError, SaveError};
 pub use form::Form;
 pub use jar::{Imported, Jar};
 pub use saving::Exported;
+pub use taking::End;
 pub use told::{header_line, is_refused, told_lines};

@@ -1,14 +1,14 @@
 //! The rows of a store, lent and copied.
-ghost use Rattle.std.specs.Prelude.{◌≡◌, ◌++◌, false, IfOk, List};
+ghost use Rattle.std.specs.Prelude.{◌≡◌, ◌++◌, IfOk, List};
 ghost use Rattle.jiff.specs.Words.{civil_nanos};
 ghost use Rattle.cookie_store.specs.Given.{ArePicked};
 ghost use Rattle.cookie_store.specs.Placing.{loaded_store};
 ghost use Rattle.cookie_store.specs.Rows.{Row, live};
-ghost use Rattle.cookie_run.specs.HostPrefix.{IsHeldRightly};
+ghost use Rattle.cookie_jar.specs.Keeping.{IsKept};
 ghost use Rattle.cookie_jar.specs.LeftOut.{IsRefused};
 ghost use Rattle.cookie_jar.specs.Rows.{AreCopies, lent_rows};
 
-use cookie_run::client::is_held;
+use crate::keeping::is_kept;
 use cookie_store::{Cookie, CookieStore, Error};
 use jiff::civil::DateTime;
 use std::alloc::{AllocError, Global};
@@ -42,25 +42,41 @@ pub(crate) fn live_rows(
     Ok(rows)
 }
 
-/// The rows of a store and then those of another that a jar may hold, in their order.
+/// The rows of a store and then those of another that a jar keeps, in their order.
 pub(crate) fn rows_with<'a>(
     alloc: Global,
     store: &'a CookieStore,
     other: &'a CookieStore,
 ) -> Result<Vec<&'a Cookie<'static>>, AllocError>
-    ensures { IfOk result (λ rows. (taken : List Row) × ArePicked IsHeldRightly other.now.rows taken
+    ensures { IfOk result (λ rows. (taken : List Row) × ArePicked IsKept other.now.rows taken
         × (lent_rows rows.items ≡ store.now.rows ++ taken)) }
 {
     let mut rows = rows_of(alloc, store)?;
     for cookie in other.iter_any() {
-        if is_held(cookie) {
+        if is_kept(cookie) {
             rows.push(cookie)?;
         }
     }
     Ok(rows)
 }
 
-/// The rows of a store that a jar may not hold, in their order.
+/// The rows of a store that a jar keeps, in their order.
+pub(crate) fn kept_rows(
+    alloc: Global,
+    store: &CookieStore,
+) -> Result<Vec<&Cookie<'static>>, AllocError>
+    ensures { IfOk result (λ rows. ArePicked IsKept store.now.rows (lent_rows rows.items)) }
+{
+    let mut rows = Vec::new(alloc);
+    for cookie in store.iter_any() {
+        if is_kept(cookie) {
+            rows.push(cookie)?;
+        }
+    }
+    Ok(rows)
+}
+
+/// The rows of a store that a jar doesn't keep, in their order.
 pub(crate) fn refused_rows(
     alloc: Global,
     store: &CookieStore,
@@ -69,24 +85,26 @@ pub(crate) fn refused_rows(
 {
     let mut rows = Vec::new(alloc);
     for cookie in store.iter_any() {
-        if !is_held(cookie) {
+        if !is_kept(cookie) {
             rows.push(cookie)?;
         }
     }
     Ok(rows)
 }
 
-/// A store of these rows without those that are expired at `now`. Of two with one key the later replaces the earlier in
-/// its place.
+/// A store of these rows, with those that are expired at `now` or without. Of two with one key the later replaces the
+/// earlier in its place.
 pub(crate) fn placed(
     alloc: Global,
     rows: Vec<&Cookie<'static>>,
+    with_expired: bool,
     now: DateTime,
 ) -> Result<CookieStore, AllocError>
-    ensures { IfOk result (λ store. store ≡ loaded_store false (civil_nanos now) (lent_rows rows.entry.items)) }
+    ensures { IfOk result (λ store. store
+        ≡ loaded_store with_expired (civil_nanos now) (lent_rows rows.entry.items)) }
 {
     let copies = copies_of(alloc, rows)?;
-    match CookieStore::from_cookies(alloc, copies.into_iter(), false, now) {
+    match CookieStore::from_cookies(alloc, copies.into_iter(), with_expired, now) {
         Ok(store) => Ok(store),
         // Each of the copies is a cookie, so only memory was refused.
         Err(_) => Err(AllocError),

@@ -1,7 +1,10 @@
 //! The text of a store's rows in a form.
 ghost use Rattle.std.specs.Prelude.{◌≡◌, ◌⊎◌, ◌+◌, [], IfOk, IfErr, false, length, map, string_bytes};
+ghost use Rattle.std.specs.List.{AllByRecursion};
+ghost use Rattle.std.specs.Str.{IsUtf8};
 ghost use Rattle.saved_text.specs.Json.{list_text};
 ghost use Rattle.saved_text.specs.RonLayout.{ron_layout};
+ghost use Rattle.cookie_store.specs.SavedLaws.{IsOfBytes};
 ghost use Rattle.cookie_store.specs.SavedTexts.{IsAnyBeforeYears, Saves};
 ghost use Rattle.cookies_txt.specs.Writing.{IsWriteRefusal};
 ghost use Rattle.cookie_jar.specs.LeftOut.{passed_lines};
@@ -47,6 +50,8 @@ pub(crate) fn text_of(
         exported.rows + exported.passed_over ≡ length store.now.rows) }
     ensures told { IfOk result (λ exported. string_bytes exported.told ≡ passed_lines form store.now.rows) }
     ensures all { passing_over ≡ false → IfOk result (λ _. spec.fitting form store.now.rows ≡ store.now.rows) }
+    ensures bytes { IfOk result (λ _. spec.AreBytesIn form store.now.rows) }
+    ensures utf8 { IfOk result (λ exported. IsUtf8 exported.text.items) }
     ensures err { IfErr result (spec.IsUnsaved form passing_over store.now.rows) }
 {
     match form {
@@ -75,7 +80,8 @@ fn whole(alloc: Global, text: Vec<u8>, rows: usize) -> Exported
 }
 
 fn ron_text(alloc: Global, store: &CookieStore) -> Result<Vec<u8>, SaveError>
-    ensures ok { IfOk result (λ text. Saves ron_layout store.now.rows text.items) }
+    ensures ok { IfOk result (λ text. IsUtf8 text.items × Saves ron_layout store.now.rows text.items) }
+    ensures bytes { IfOk result (λ _. AllByRecursion IsOfBytes store.now.rows) }
     ensures err { IfErr result (λ e. ((e ≡ SaveError.Year) × IsAnyBeforeYears store.now.rows)
         ⊎ (e ≡ SaveError.OutOfMemory)) }
 {
@@ -88,7 +94,7 @@ fn ron_text(alloc: Global, store: &CookieStore) -> Result<Vec<u8>, SaveError>
 }
 
 fn json_text(alloc: Global, store: &CookieStore) -> Result<Vec<u8>, SaveError>
-    ensures ok { IfOk result (λ text. Saves list_text store.now.rows text.items) }
+    ensures ok { IfOk result (λ text. IsUtf8 text.items × Saves list_text store.now.rows text.items) }
     ensures err { IfErr result (λ e. ((e ≡ SaveError.Year) × IsAnyBeforeYears store.now.rows)
         ⊎ (e ≡ SaveError.OutOfMemory)) }
 {
@@ -108,6 +114,7 @@ fn txt(alloc: Global, store: &CookieStore, passing_over: bool) -> Result<Exporte
         exported.rows + exported.passed_over ≡ length store.now.rows) }
     ensures told { IfOk result (λ exported. string_bytes exported.told ≡ passed_lines Form.Txt store.now.rows) }
     ensures all { passing_over ≡ false → IfOk result (λ _. spec.fitting Form.Txt store.now.rows ≡ store.now.rows) }
+    ensures utf8 { IfOk result (λ exported. IsUtf8 exported.text.items) }
     ensures err { IfErr result (spec.IsUnsaved Form.Txt passing_over store.now.rows) }
 {
     let told = passed_over_lines(alloc, rows_of(alloc, store)?)?;

@@ -2,6 +2,7 @@
 ghost use Rattle.std.specs.Prelude.{◌≡◌, ◌++◌, IfOk, OnOk, map, string_bytes};
 ghost use Rattle.cookie_jar.specs.Told as spec;
 
+use crate::taking::End;
 use cookie_run::LineEnd;
 use cookie_store::{CookieError, StoreAction};
 use percent_encoding::{AsciiSet, CONTROLS, ascii_set, percent_encode};
@@ -33,7 +34,7 @@ pub fn header_line(alloc: Global, header: &str) -> Result<String, AllocError>
 /// # Errors
 ///
 /// `AllocError` where there is no memory for the text.
-pub fn told_lines(alloc: Global, lines: &[&[u8]], ends: &[LineEnd]) -> Result<String, AllocError>
+pub fn told_lines(alloc: Global, lines: &[&[u8]], ends: &[End]) -> Result<String, AllocError>
     ensures { IfOk result (λ text. string_bytes text
         ≡ spec.told_lines (map (λ line. line.now) lines.now) ends.now) }
 {
@@ -50,13 +51,13 @@ pub fn told_lines(alloc: Global, lines: &[&[u8]], ends: &[LineEnd]) -> Result<St
 }
 
 /// Whether a line of this end wasn't stored.
-pub fn is_refused(end: LineEnd) -> bool
+pub fn is_refused(end: End) -> bool
     ensures { result ≡ spec.is_refused end }
 {
-    !matches!(end, LineEnd::Stored(_))
+    !matches!(end, End::Line(LineEnd::Stored(_)))
 }
 
-fn push_told(text: &mut String, line: &[u8], end: LineEnd) -> Result<(), AllocError>
+fn push_told(text: &mut String, line: &[u8], end: End) -> Result<(), AllocError>
     ensures { OnOk result (string_bytes text.new
         ≡ string_bytes text.old ++ spec.told_line line.now end) }
 {
@@ -72,8 +73,18 @@ pub(crate) fn push_shown(text: &mut String, bytes: &[u8]) -> Result<(), AllocErr
     percent_encode(bytes, HIDDEN).append_to(text)
 }
 
-pub(crate) fn end_text(end: LineEnd) -> &'static str
+pub(crate) fn end_text(end: End) -> &'static str
     ensures { result.now ≡ spec.end_text end }
+{
+    match end {
+        End::Line(end) => line_end_text(end),
+        End::Control => "refused: control character",
+        End::Tab => "refused: tab",
+    }
+}
+
+fn line_end_text(end: LineEnd) -> &'static str
+    ensures { result.now ≡ spec.line_end_text end }
 {
     match end {
         LineEnd::Stored(action) => action_text(action),

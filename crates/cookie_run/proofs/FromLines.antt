@@ -141,7 +141,7 @@ module _ (P : Row → Type 0) (ends : (r : Row) → P r → P (expired r)) (apar
       fits_from url now (alone row) rows end new (apart row own) all here.2
   admits_from list url now row rows end new own all (inr (inr listed)) = same_from rows new (second_of listed.2) all
 
-  inserts_from : (list : List Rule) (url : Parts) (now : ℤ) (row : Row) (rows : List Row)
+  pub inserts_from : (list : List Rule) (url : Parts) (now : ℤ) (row : Row) (rows : List Row)
       (end : Result StoreAction CookieError) (new : List Row) → P row → All rows
       → Inserts list rows url now row (end, new) → All new
   inserts_from list url now row rows end new own all (inl barred) = same_from rows new (second_of barred.1) all

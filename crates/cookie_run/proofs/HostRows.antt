@@ -132,7 +132,7 @@ slash_piece = record {
   clean = All-cons (λ b. (b == semicolon) ≡ false) 47 [] refl (All-nil (λ b. (b == semicolon) ≡ false));
 }
 
-reread_held : (law : PairsReadAgain) (bound : BoundReadAgain) (r x : Row) → HasReadPair r → IsHeldRightly r
+pub reread_held : (law : PairsReadAgain) (bound : BoundReadAgain) (r x : Row) → HasReadPair r → IsHeldRightly r
     → IsReread r x → IsHeldRightly x
 reread_held law bound r x own held h = λ begins.
     let name = ap (λ (s : Seen). s.cookie.name) h.raw ∙ (law r.raw.cookie (Ok h.seen) own h.reads).pair.0 in

@@ -3,8 +3,8 @@ use Rattle.std.specs.Prelude.{◌≡◌, ◌≢◌, ◌⊎◌, ℕ, ℤ, Bool, L
 use Rattle.publicsuffix.specs.Rules.{Rule}
 use Rattle.cookie_store.specs.Given.{ArePicked}
 use Rattle.cookie_store.specs.Rows.{Row, Store}
-use Rattle.cookie_run.specs.HostPrefix.{IsHeldRightly}
 use Rattle.cookie_run.specs.Program.{IsNoSuffixList, IsSuffixList}
+use Rattle.cookie_jar.specs.Keeping.{IsKept}
 use Rattle.cookie_jar.specs.Reading.{IsUnread, Reads}
 use Rattle.cookie_jar.specs.Saving.{IsUnsaved}
 use Rattle.cookie_jar.specs.declared.error.ReadError.{ReadError}
@@ -23,11 +23,11 @@ IsNoTextOf form text = (e : ReadError) × (e ≢ read.OutOfMemory) × IsUnread f
 abbrev pub HaveNoText : Form → Bool → List Row → Type 0
 HaveNoText form passing_over rows = (e : SaveError) × (e ≢ save.OutOfMemory) × IsUnsaved form passing_over rows e
 
--- the rows of a jar's text that are held rightly and not expired at the moment, or none where there is no text
+-- the rows of a jar's text that a jar keeps and that aren't expired at the moment, or none where there is no text
 abbrev pub AreRows : Form → ℤ → Option (List ℕ) → List Row → Type 0
 AreRows form now None rows = rows ≡ []
 AreRows form now (Some text) rows =
-    (store : Store) × Reads form now text store × ArePicked IsHeldRightly store.rows rows
+    (store : Store) × Reads form now text store × ArePicked IsKept store.rows rows
 
 -- the jar of a suffix list's text and a jar's text, or none
 abbrev pub IsJar : Form → ℤ → List ℕ → Option (List ℕ) → Store → Type 0

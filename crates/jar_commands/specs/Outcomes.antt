@@ -8,6 +8,7 @@ use Rattle.cookie_store.specs.Rows.{Key, Row, Store, found, live, removed}
 use Rattle.cookie_run.specs.Header.{IsHeader}
 use Rattle.cookie_jar.specs.Explaining.{IsExplained}
 use Rattle.cookie_jar.specs.Json.{rows_json}
+use Rattle.cookie_jar.specs.Keeping.{has_control}
 use Rattle.cookie_jar.specs.LeftOut.{passed_lines}
 use Rattle.cookie_jar.specs.Listing.{listing}
 use Rattle.cookie_jar.specs.Reading.{Imports}
@@ -47,7 +48,8 @@ Keeps plan printed status rows outcome =
 
 abbrev pub GivesHeader : PlanText → Store → Parts → OutcomeText → Type 0
 GivesHeader plan jar url outcome =
-    (header : List ℕ) × IsHeader jar.rows url plan.now header × Prints (header_line header) outcome
+    (header : List ℕ) × IsHeader jar.rows url plan.now header × (has_control header ≡ false)
+    × Prints (header_line header) outcome
 
 abbrev pub GivesList : PlanText → Store → OutcomeText → Type 0
 GivesList plan jar outcome = Prints (listing (live plan.now jar.rows)) outcome
@@ -65,7 +67,7 @@ GivesJsonOf plan jar url outcome =
 
 abbrev pub GivesExplained : PlanText → Store → Parts → List ℕ → OutcomeText → Type 0
 GivesExplained plan jar url line outcome =
-    (text : List ℕ) × IsExplained jar url plan.now line text × Prints text outcome
+    (text : List ℕ) × IsExplained plan.form jar url plan.now line text × Prints text outcome
 
 -- ---- commands that change the jar
 
@@ -76,7 +78,7 @@ rows_line count = codes "rows: " ++ (decimal count ++ 10 ∷ [])
 -- the status tells a refused line
 abbrev pub GivesReceived : PlanText → Store → Parts → List ℕ → OutcomeText → Type 0
 GivesReceived plan jar url text outcome =
-    (told : List ℕ) × (refused : Bool) × (new : List Row) × TakesHeads jar plan.now url text told refused new
+    (told : List ℕ) × (refused : Bool) × (new : List Row) × TakesHeads plan.form jar plan.now url text told refused new
     × Keeps plan told (if refused then 1 else 0) new outcome
 
 -- where there was a row to take out, these are left; else the status tells that there was none

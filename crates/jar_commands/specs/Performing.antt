@@ -62,7 +62,7 @@ FailsToReceive reader plan jar url failure =
     ⊎ (((failure ≡ Input) × (Rose reader.unread.0 reader.unread.1 ⊎ (reader.reads ≡ 2 ^ 64 - 1)))
     ⊎ (((failure ≡ Heads) × OfInput reader IsNoHeads)
     ⊎ OfInput reader (λ text. (told : List ℕ) × (refused : Bool) × (new : List Row)
-    × TakesHeads jar plan.now url text told refused new × Unkept plan new failure)))
+    × TakesHeads plan.form jar plan.now url text told refused new × Unkept plan new failure)))
 
 -- `remove`
 abbrev pub FailsToRemove : PlanText → Bool → List Row → Failure → Type 0

@@ -12,8 +12,7 @@ use crate::failure::Failure;
 use crate::jar_text::saved;
 use crate::outcome::Outcome;
 use crate::plan::Plan;
-use cookie_jar::{Jar, is_refused, told_lines};
-use cookie_run::LineEnd;
+use cookie_jar::{End, Form, Jar, is_refused, told_lines};
 use devices::Source;
 use devices::pour::{Stop, read_all};
 use jiff::civil::DateTime;
@@ -75,7 +74,7 @@ fn receive_text(
     let Received {
         told,
         is_any_refused,
-    } = receive_heads(alloc, jar, url, text, plan.at)?;
+    } = receive_heads(alloc, jar, plan.form, url, text, plan.at)?;
     match saved(plan, jar) {
         Ok(text) => Ok(Outcome::kept(told, status_of(is_any_refused), text)),
         Err(failure) => Err(failure),
@@ -92,17 +91,18 @@ fn status_of(is_any_refused: bool) -> u8
 fn receive_heads(
     alloc: Global,
     jar: &mut Jar,
+    form: Form,
     url: &Url,
     text: &[u8],
     now: DateTime,
 ) -> Result<Received, Failure>
-    ensures ok { IfOk result (λ received. spec.TakesHeads jar.old (civil_nanos now) url.now text.now
+    ensures ok { IfOk result (λ received. spec.TakesHeads form jar.old (civil_nanos now) url.now text.now
         (string_bytes received.told) received.is_any_refused jar.new.rows) }
     ensures err { IfErr result (λ failure. (failure ≡ Failure.Memory)
         ⊎ ((failure ≡ Failure.Heads) × spec.IsNoHeads text.now)) }
 {
     let Visited { visits, lost } = visits_of(alloc, url, text)?;
-    let received = receive_visits(alloc, jar, &visits, now)?;
+    let received = receive_visits(alloc, jar, form, &visits, now)?;
     Ok(with_lost(alloc, received, lost)?)
 }
 
@@ -142,10 +142,11 @@ fn with_lost(alloc: Global, received: Received, lost: Option<usize>) -> Result<R
 fn receive_visits(
     alloc: Global,
     jar: &mut Jar,
+    form: Form,
     visits: &[Visit<'_>],
     now: DateTime,
 ) -> Result<Received, AllocError>
-    ensures { IfOk result (λ received. spec.TakesVisits jar.old.suffixes jar.old.rows (civil_nanos now)
+    ensures { IfOk result (λ received. spec.TakesVisits form jar.old.suffixes jar.old.rows (civil_nanos now)
         (map visit_text visits.now) (string_bytes received.told) received.is_any_refused jar.new.rows) }
 {
     let mut received = Received {
@@ -153,7 +154,7 @@ fn receive_visits(
         is_any_refused: false,
     };
     for visit in visits {
-        receive_visit(alloc, jar, visit, now, &mut received)?;
+        receive_visit(alloc, jar, form, visit, now, &mut received)?;
     }
     Ok(received)
 }
@@ -162,17 +163,18 @@ fn receive_visits(
 fn receive_visit(
     alloc: Global,
     jar: &mut Jar,
+    form: Form,
     visit: &Visit<'_>,
     now: DateTime,
     received: &mut Received,
 ) -> Result<(), AllocError>
-    ensures ok { OnOk result (TakesVisit jar.old.suffixes jar.old.rows (civil_nanos now) (visit_text visit.now)
+    ensures ok { OnOk result (TakesVisit form jar.old.suffixes jar.old.rows (civil_nanos now) (visit_text visit.now)
         (string_bytes received.old.told) received.old.is_any_refused
         (string_bytes received.new.told) received.new.is_any_refused jar.new.rows) }
     ensures list { jar.new.suffixes ≡ jar.old.suffixes }
 {
     let lines = visit.set_cookie_lines(alloc)?;
-    let Ok(ends) = jar.receive(&visit.url, &lines, now) else {
+    let Ok(ends) = jar.receive(form, &visit.url, &lines, now) else {
         return Err(AllocError);
     };
     let told = told_lines(alloc, &lines, &ends)?;
@@ -182,7 +184,7 @@ fn receive_visit(
 }
 
 // Whether a line wasn't stored.
-fn is_any_refused(ends: &[LineEnd]) -> bool
+fn is_any_refused(ends: &[End]) -> bool
     ensures { result ≡ spec.is_any_refused ends.now }
 {
     ends.iter().any(|end| is_refused(*end))

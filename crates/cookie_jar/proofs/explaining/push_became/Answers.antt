@@ -5,7 +5,7 @@ use Rattle.cookie_jar.proofs.explaining.push_became.Goals as goal
 
 pub returns : goal.returns
 returns c =
-    becomes c.push_sent.result c.args.store.now c.in_ok-store.store c.args.url.now (civil_nanos c.args.now)
-    c.args.line.now c.in_ok-end.end c.taken.new.store.rows (string_bytes c.args.text.now)
-    (string_bytes c.push_end.new.text) (string_bytes c.push_sent.new.text) c.in_ok-store.ensures c.in_ok-end.ensures
+    becomes c.push_sent.result c.args.form c.args.store.now c.in_ok-store.store c.args.url.now (civil_nanos c.args.now)
+    c.args.line.now c.in_ok-end.end c.take_line.new.store.rows (string_bytes c.args.text.now)
+    (string_bytes c.push_end.new.text) (string_bytes c.push_sent.new.text) c.in_ok-store.ensures c.in_ok-end.ensures.ok
     c.in_ok-push_end.ensures c.push_sent.ensures

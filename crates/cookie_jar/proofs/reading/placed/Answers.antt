@@ -1,4 +1,4 @@
-use Rattle.std.proofs.Common.{◌≡◌, ◌∙◌, ◌∷◌, ◌++◌, [], ap, map, sym}
+use Rattle.std.proofs.Common.{◌≡◌, ◌∙◌, ◌∷◌, ◌++◌, [], ap, false, map, sym}
 use Rattle.std.proofs.lemmas.Iterator.Adapters.{YieldsList-from_vec}
 use Rattle.std.proofs.lemmas.Iterator.Consumers.{YieldsList-end}
 use Rattle.std.proofs.lemmas.List.{map-append, map-id}
@@ -24,7 +24,7 @@ returns-in-Ok c =
     c.next.new.self c.in-None.is c.next.ensures.steps in
     let same : xs ≡ items = sym (map-id xs) ∙ end.0 in
     let given = c.loop-cookie.given.items in
-    store_of into_iter_steps c.into_iter.result (civil_nanos c.args.now) items given c.in-Ok.store
+    store_of into_iter_steps c.into_iter.result false (civil_nanos c.args.now) items given c.in-Ok.store
     (c.loop-cookie.invariant ∙ ap (map ok_of) same)
     (YieldsList-from_vec {s = c.into_iter.result} given c.into_iter.ensures.rest
     (c.into_iter.ensures.len ∙ c.loop-cookie.given.ok.0)).runs c.in-Ok.ensures.ok

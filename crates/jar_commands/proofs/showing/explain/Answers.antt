@@ -8,7 +8,7 @@ pub returns-clause-ok : goal.returns-clause-ok
 returns-clause-ok c =
     let text = string_bytes c.in_ok-explain.field-0 in (
       text,
-      subst (λ line. IsExplained c.args.jar.now c.args.url.now (civil_nanos c.args.plan.now.at) line text)
+      subst (λ line. IsExplained c.args.plan.now.form c.args.jar.now c.args.url.now (civil_nanos c.args.plan.now.at) line text)
           c.as_bytes.ensures.value c.in_ok-explain.ensures,
       c.shown.ensures,
     )

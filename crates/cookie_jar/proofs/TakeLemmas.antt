@@ -1,0 +1,158 @@
+-- What a jar does with lines one after another.
+use Rattle.std.proofs.Common.{◌≡◌, ◌∙◌, ◌+◌, ◌<◌, ◌∷◌, [], ◌++◌, ℕ, ℤ, Bool, true, false, zero, suc, List, length}
+use Rattle.std.proofs.Common.{take, get_or, sym, refl, ap, subst, inl, inr, Result, Ok, Err, ⊎_elim, arith}
+use Rattle.std.specs.Prelude.{◌||◌, map, IfOk, IfErr}
+use Rattle.std.specs.List.{AllByRecursion}
+use Rattle.std.specs.Str.{IsUtf8}
+use Rattle.std.proofs.lemmas.Bool.{cases_Bool}
+use Rattle.std.proofs.lemmas.List.{take_more, take-map, map-append, length-map}
+use Rattle.cookie_text.specs.Reading.{ReadsPlain}
+use Rattle.cookie_text.specs.Record.{Seen, unsliced}
+use Rattle.cookie_text.specs.declared.error.ParseError.{ParseError}
+use Rattle.publicsuffix.specs.Rules.{Rule}
+use Rattle.store_parts.specs.declared.error.CookieError.{CookieError}
+use Rattle.url.specs.Parts.{Parts}
+use Rattle.cookie_store.specs.Insertion.{InsertsRead}
+use Rattle.cookie_store.specs.Making.{IsMade}
+use Rattle.cookie_store.specs.Rows.{Row}
+use Rattle.cookie_store.specs.declared.action.StoreAction.{StoreAction}
+use Rattle.line_report.specs.Pair.{IsPairOf}
+use Rattle.cookie_run.specs.Accept.{Accepts, AsksForMemory}
+use Rattle.cookie_run.specs.HostRows.{AnswersHoldRightly}
+use Rattle.cookie_run.specs.declared.step.LineEnd.{LineEnd}
+use Rattle.cookie_run.proofs.ClientRows.{received_pairs}
+use Rattle.cookie_run.proofs.FromLines.{inserts_from}
+use Rattle.cookie_jar.specs.Keeping.{AreKept, IsClean, has_control}
+use Rattle.cookie_jar.specs.Taking.{HasControl, IsStopped, StopsAt, TakesAll, TakesLine}
+use Rattle.cookie_jar.specs.declared.form.Form.{Form}
+use Rattle.cookie_jar.specs.declared.taking.End.{End}
+use Rattle.cookie_jar.specs.declared.taking.End.TheVariants.{Line, Control, Tab}
+use Rattle.cookie_jar.proofs.KeepLemmas.{clean_of, held_of, kept_from, pairs_of}
+
+-- ---- line by line
+
+all_push : (form : Form) (list : List Rule) (rows mid new : List Row) (url : Parts) (now : ℤ) (lines : List (List ℕ))
+    (ends : List End) (line : List ℕ) (end : End) → TakesAll form list rows url now lines ends mid
+    → TakesLine form list mid url now line end new
+    → TakesAll form list rows url now (lines ++ line ∷ []) (ends ++ end ∷ []) new
+all_push form list rows mid new url now [] [] line end h a =
+    (new, subst (λ rs. TakesLine form list rs url now line end new) h.1 a, (refl, refl))
+all_push form list rows mid new url now [] (e ∷ ends) line end h a = absurd (not_nil e ends h.0)
+  where
+    not_nil : (e : End) (es : List End) → e ∷ es ≡ [] → ⊥
+    not_nil e es p = cc
+all_push form list rows mid new url now (l ∷ lines) [] line end h a = absurd h
+all_push form list rows mid new url now (l ∷ lines) (e ∷ ends) line end h a =
+    (h.0, h.1, all_push form list h.0 mid new url now lines ends line end h.2 a)
+
+map_take : {A : Type 0} (f : A → List ℕ) (xs : List A) (i : ℕ) (d : A) → i < length xs
+    → take (i + 1) (map f xs) ≡ take i (map f xs) ++ f (get_or xs i d) ∷ []
+map_take f xs i d h =
+    take-map f (i + 1) xs ∙ (ap (map f) (take_more xs i d h) ∙ (map-append f (take i xs) (get_or xs i d ∷ [])
+    ∙ ap (λ ys. ys ++ f (get_or xs i d) ∷ []) (sym (take-map f i xs))))
+
+map_at : {A : Type 0} (f : A → List ℕ) (xs : List A) (i : ℕ) (d : A) → i < length xs
+    → get_or (map f xs) i [] ≡ f (get_or xs i d)
+map_at f [] i d h = absurd (omega (arith, h))
+map_at f (x ∷ xs) zero d h = refl
+map_at f (x ∷ xs) (suc i) d h = map_at f xs i d (omega arith)
+
+pub next_line : {A : Type 0} (f : A → List ℕ) (form : Form) (list : List Rule) (start mid new : List Row)
+    (old ends : List End) (end : End) (url : Parts) (now : ℤ) (xs : List A) (i : ℕ) (d : A) → i < length xs
+    → TakesAll form list start url now (take i (map f xs)) old mid → (here : List Rule) → here ≡ list
+    → TakesLine form here mid url now (f (get_or xs i d)) end new → ends ≡ old ++ end ∷ []
+    → TakesAll form list start url now (take (i + 1) (map f xs)) ends new
+next_line f form list start mid new old ends end url now xs i d h all here same one is =
+    subst (λ es. TakesAll form list start url now (take (i + 1) (map f xs)) es new) (sym is)
+    (subst (λ ls. TakesAll form list start url now ls (old ++ end ∷ []) new) (sym (map_take f xs i d h))
+    (all_push form list start mid new url now (take i (map f xs)) old (f (get_or xs i d)) end all
+    (subst (λ l. TakesLine form l mid url now (f (get_or xs i d)) end new) same one)))
+
+pub stopped_line : {A : Type 0} (f : A → List ℕ) (form : Form) (list : List Rule) (start mid new : List Row)
+    (old : List End) (url : Parts) (now : ℤ) (xs : List A) (i : ℕ) (d : A) → i < length xs
+    → TakesAll form list start url now (take i (map f xs)) old mid → new ≡ mid → AsksForMemory url (f (get_or xs i d))
+    → StopsAt form list start url now (map f xs) (i + 1) new
+stopped_line f form list start mid new old url now xs i d h all same asks = record {
+  before = i;
+  number = refl;
+  within = subst (λ n. i < n) (sym (length-map xs f)) h;
+  ends = old;
+  taken = subst (TakesAll form list start url now (take i (map f xs)) old) (sym same) all;
+  asks = subst (AsksForMemory url) (sym (map_at f xs i d h)) asks;
+}
+
+-- ---- no row of a line has a control character
+
+clean_made : (line : List ℕ) (s : Seen) (url : Parts) (now : ℤ) (made : Row) → IsUtf8 line → ReadsPlain line (Ok s)
+    → (¬ (HasControl line)) → IsMade (unsliced s.cookie) url now made → IsClean made
+clean_made line s url now made utf8 reads free h =
+    let n = s.cookie.name in
+    let v = s.cookie.value in
+    let pair : IsPairOf line n v =
+    record { is = (reads.name.0, subst (λ x. 0 < length x) reads.name.1 reads.name.2); name_is = reads.name.1; value_is = reads.value } in
+    subst (λ (raw : Seen). (has_control raw.cookie.name || has_control raw.cookie.value) ≡ false) (sym h.raw)
+    (⊎_elim
+    (λ (e : (has_control n || has_control v) ≡ true). absurd (free (utf8, (n, v, pair, e))))
+    (λ (e : (has_control n || has_control v) ≡ false). e)
+    (cases_Bool (has_control n || has_control v)))
+
+same_clean : (rows new : List Row) → new ≡ rows → AllByRecursion IsClean rows → AllByRecursion IsClean new
+same_clean rows new is all = subst (AllByRecursion IsClean) (sym is) all
+
+read_clean : (list : List Rule) (url : Parts) (now : ℤ) (line : List ℕ) (rows : List Row)
+    (end : Result StoreAction CookieError) (new : List Row) (o : Result Seen ParseError) → IsUtf8 line
+    → ReadsPlain line o → (¬ (HasControl line)) → AllByRecursion IsClean rows
+    → InsertsRead list rows url now o (end, new) → AllByRecursion IsClean new
+read_clean list url now line rows end new (Err e) utf8 reads free all h = same_clean rows new (ap (λ p. p.1) h) all
+read_clean list url now line rows end new (Ok s) utf8 reads free all (inl wrong) =
+    same_clean rows new (ap (λ p. p.1) wrong.3) all
+read_clean list url now line rows end new (Ok s) utf8 reads free all (inr made) =
+    inserts_from IsClean (λ r h. h) (λ r h. h) list url now made.0 rows end new
+    (clean_made line s url now made.0 utf8 reads free made.1) all made.2
+
+accepts_clean : (list : List Rule) (url : Parts) (now : ℤ) (line : List ℕ) (rows : List Row) (end : LineEnd)
+    (new : List Row) → (¬ (HasControl line)) → AllByRecursion IsClean rows → Accepts list rows url now line end new
+    → AllByRecursion IsClean new
+accepts_clean list url now line rows end new free all (inl against) = same_clean rows new against.2 all
+accepts_clean list url now line rows end new free all (inr (other, inl wrong)) = same_clean rows new wrong.2 all
+accepts_clean list url now line rows end new free all (inr (other, inr right)) =
+    read_clean list url now line rows right.1.2.0 new right.1.0 right.0 right.1.1 free all right.1.2.1
+
+-- ---- the rows behind lines are kept
+
+accepts_kept : (law : AnswersHoldRightly) (list : List Rule) (url : Parts) (now : ℤ) (line : List ℕ) (rows : List Row)
+    (end : LineEnd) (new : List Row) → (¬ (HasControl line)) → AreKept rows → Accepts list rows url now line end new
+    → AreKept new
+accepts_kept law list url now line rows end new free kept accepts = kept_from new
+    (accepts_clean list url now line rows end new free (clean_of rows kept) accepts)
+    (received_pairs list url now (line ∷ []) rows (end ∷ []) new (pairs_of rows kept) (new, accepts, (refl, refl)))
+    (law list rows url now (line ∷ []) new (end ∷ [], (new, accepts, (refl, refl))) (held_of rows kept))
+
+line_kept : (law : AnswersHoldRightly) (form : Form) (list : List Rule) (url : Parts) (now : ℤ) (line : List ℕ)
+    (rows : List Row) (end : End) (new : List Row) → AreKept rows → TakesLine form list rows url now line end new
+    → AreKept new
+line_kept law form list url now line rows Control new kept takes = subst AreKept (sym takes.1) kept
+line_kept law form list url now line rows Tab new kept takes = subst AreKept (sym takes.2) kept
+line_kept law form list url now line rows (Line end) new kept takes =
+    accepts_kept law list url now line rows end new takes.0 kept takes.2
+
+all_kept : (law : AnswersHoldRightly) (form : Form) (list : List Rule) (url : Parts) (now : ℤ)
+    (lines : List (List ℕ)) (rows : List Row) (ends : List End) (new : List Row) → AreKept rows
+    → TakesAll form list rows url now lines ends new → AreKept new
+all_kept law form list url now [] rows ends new kept takes = subst AreKept (sym takes.1) kept
+all_kept law form list url now (line ∷ lines) rows [] new kept takes = absurd takes
+all_kept law form list url now (line ∷ lines) rows (end ∷ ends) new kept takes =
+    all_kept law form list url now lines takes.0 ends new
+    (line_kept law form list url now line rows end takes.0 kept takes.1) takes.2
+
+-- however receiving ended
+pub received_kept : {A B : Type 0} (law : AnswersHoldRightly) (r : Result A B) (all : A → List End) (at : B → ℕ)
+    (form : Form) (list : List Rule) (url : Parts) (now : ℤ) (lines : List (List ℕ)) (rows new : List Row)
+    → AreKept rows → IfOk r (λ ends. TakesAll form list rows url now lines (all ends) new)
+    → IfErr r (λ stopped. IsStopped form list rows url now lines (at stopped) new) → AreKept new
+received_kept law (Ok ends) all at form list url now lines rows new kept h g =
+    all_kept law form list url now lines rows (all ends) new kept h
+received_kept law (Err stopped) all at form list url now lines rows new kept h (inl none) =
+    subst AreKept (sym none.1) kept
+received_kept law (Err stopped) all at form list url now lines rows new kept h (inr stops) =
+    all_kept law form list url now (take stops.before lines) rows stops.ends new kept stops.taken

@@ -1,0 +1,8 @@
+use Rattle.std.specs.Prelude.{[]}
+use Rattle.cookie_jar.proofs.RowLemmas.{PicksSoFar}
+use Rattle.cookie_jar.specs.Keeping.{IsKept}
+use Rattle.cookie_jar.specs.Rows.{lent_rows}
+use Rattle.cookie_jar.proofs.rows.kept_rows.Given as goal
+
+abbrev pub invariant-loop-cookie : goal.invariant-loop-cookie
+invariant-loop-cookie l = PicksSoFar IsKept [] l.store.rows (lent_rows l.rows.items) l.cookie-iterator

@@ -1,0 +1,63 @@
+-- Which rows a jar keeps (RFC 6265, 5.2; draft-ietf-httpbis-rfc6265bis, 4.1.3.2 and 5.6).
+use Rattle.std.specs.Prelude.{◌≡◌, ◌==◌, ◌||◌, ◌&&◌, ℕ, Bool, true, false, not, List, length, codes, nat_lt}
+use Rattle.std.specs.Prelude.{if◌then◌else◌}
+use Rattle.std.specs.List.{AllByRecursion, list_any}
+use Rattle.std.specs.Str.{bytes_eq, trim}
+use Rattle.cookie_text.specs.Pieces.{equals, semicolon}
+use Rattle.cookie_store.specs.Rows.{Row}
+use Rattle.cookie_run.specs.HostPrefix.{IsHeldRightly}
+use Rattle.cookie_run.specs.Keeping.{HasReadPair}
+use Rattle.cookies_txt.specs.Layout.{tab}
+
+-- ---- control characters
+
+-- a byte below 32 that isn't a tab, and 127
+abbrev pub is_control : ℕ → Bool
+is_control b = (nat_lt b 32 && not (b == tab)) || b == 127
+
+abbrev pub has_control : List ℕ → Bool
+has_control text = list_any is_control text
+
+-- neither the name nor the value has one
+abbrev pub IsClean : Row → Type 0
+IsClean row = (has_control row.raw.cookie.name || has_control row.raw.cookie.value) ≡ false
+
+-- ---- names and values that a text gives
+
+abbrev pub has_semicolon : List ℕ → Bool
+has_semicolon text = list_any (λ b. b == semicolon) text
+
+abbrev pub has_equals : List ℕ → Bool
+has_equals text = list_any (λ b. b == equals) text
+
+-- no semicolon, and no white space at an end
+abbrev pub is_whole : List ℕ → Bool
+is_whole text = not (has_semicolon text) && bytes_eq (trim text) text
+
+-- so, not empty and without `=`
+abbrev pub is_name : List ℕ → Bool
+is_name text = (not (length text == 0) && not (has_equals text)) && is_whole text
+
+-- such a name and such a value: what a printed cookie reads as again
+abbrev pub is_read_pair : List ℕ → List ℕ → Bool
+is_read_pair name value = is_name name && is_whole value
+
+-- ---- the rows of a jar
+
+-- no control character in name or value, both as the printed text of the cookie gives them again, and the prefix
+-- `__Host-` obeyed
+pub record IsKept (row : Row) : Type 0 where
+  pub clean : IsClean row
+  pub pair : HasReadPair row
+  pub held : IsHeldRightly row
+
+abbrev pub AreKept : List Row → Type 0
+AreKept rows = AllByRecursion IsKept rows
+
+-- why a row that isn't kept is refused: the first of these
+abbrev pub refusal_text : Row → List ℕ
+refusal_text row =
+    if has_control row.raw.cookie.name || has_control row.raw.cookie.value
+    then codes "refused: control character"
+    else if is_read_pair row.raw.cookie.name row.raw.cookie.value then codes "refused: __Host-"
+    else codes "refused: name or value"

@@ -1,0 +1,40 @@
+-- What a jar's text is read as again (this repository's own).
+use Rattle.std.specs.Prelude.{◌≡◌, ℕ, ℤ, List, false}
+use Rattle.std.specs.Str.{IsUtf8}
+use Rattle.cookie_text.specs.ReadingBack.{Pairwise}
+use Rattle.cookie_store.specs.Given.{ArePicked}
+use Rattle.cookie_store.specs.Grouped.{AreGrouped}
+use Rattle.cookie_store.specs.Rows.{Row, Store, live}
+use Rattle.cookies_txt.specs.Writing.{IsThroughCookiesTxt}
+use Rattle.cookie_run.specs.KeptKeys.{IsRowKept}
+use Rattle.cookie_jar.specs.Keeping.{AreKept, IsKept}
+use Rattle.cookie_jar.specs.Reading.{IsUnread, Reads}
+use Rattle.cookie_jar.specs.Saving.{AreBytesIn, IsText, fitting}
+use Rattle.cookie_jar.specs.declared.error.ReadError.{ReadError}
+use Rattle.cookie_jar.specs.declared.error.ReadError.TheVariants.{OutOfMemory}
+use Rattle.cookie_jar.specs.declared.form.Form.{Form}
+use Rattle.cookie_jar.specs.declared.form.Form.TheVariants.{Ron, Json, Txt}
+
+-- the second row is the first as the form keeps it: in RON and JSON its domain, path, name and value, and its death
+-- without a fraction of a second; in `cookies.txt` what a line says of it
+abbrev pub IsSameIn : Form → Row → Row → Type 0
+IsSameIn Ron row other = IsRowKept row other
+IsSameIn Json row other = IsRowKept row other
+IsSameIn Txt row other = IsThroughCookiesTxt row other
+
+-- Rows that a jar keeps, saved at a moment in a form that holds them and loaded of that text at another: each as the
+-- form keeps it, in their order, without those that are dead then, and no other; and a jar keeps them all.
+abbrev pub SavedRowsAreLoaded : Type 0
+SavedRowsAreLoaded =
+    (form : Form) (rows : List Row) (saving loading : ℤ) (text : List ℕ) (store : Store) (left : List Row)
+    → AreKept rows → AreGrouped rows → AreBytesIn form (live saving rows)
+    → fitting form (live saving rows) ≡ live saving rows → IsText form (live saving rows) text
+    → Reads form loading text store → ArePicked IsKept store.rows left
+    → (read : List Row) × Pairwise (IsSameIn form) (live saving rows) read × (left ≡ live loading read)
+
+-- and that text is refused for want of memory alone
+abbrev pub SavedTextsAreRead : Type 0
+SavedTextsAreRead =
+    (form : Form) (rows : List Row) (saving : ℤ) (text : List ℕ) (e : ReadError) → AreKept rows
+    → AreBytesIn form (live saving rows) → fitting form (live saving rows) ≡ live saving rows → IsUtf8 text
+    → IsText form (live saving rows) text → IsUnread form text e → e ≡ OutOfMemory

@@ -1,0 +1,62 @@
+-- What becomes of the `Set-Cookie` lines of an answer in a jar (RFC 6265, 5.2 and 5.3; the draft that follows it, 5.6).
+use Rattle.std.specs.Prelude.{◌≡◌, ◌==◌, ◌⊎◌, ◌+◌, ◌<◌, ◌||◌, ◌&&◌, ℕ, ℤ, Bool, true, false, List, [], ◌∷◌}
+use Rattle.std.specs.Prelude.{length, take, get_or}
+use Rattle.std.specs.List.{list_any}
+use Rattle.std.specs.Str.{IsUtf8}
+use Rattle.publicsuffix.specs.Rules.{Rule}
+use Rattle.url.specs.Parts.{Parts}
+use Rattle.cookie_store.specs.Rows.{Row}
+use Rattle.cookies_txt.specs.Layout.{tab}
+use Rattle.cookie_run.specs.Accept.{Accepts, AsksForMemory}
+use Rattle.line_report.specs.Pair.{IsPairOf}
+use Rattle.cookie_jar.specs.Keeping.{has_control}
+use Rattle.cookie_jar.specs.declared.form.Form.{Form}
+use Rattle.cookie_jar.specs.declared.form.Form.TheVariants.{Ron, Json, Txt}
+use Rattle.cookie_jar.specs.declared.taking.End.{End}
+use Rattle.cookie_jar.specs.declared.taking.End.TheVariants.{Line, Control, Tab}
+
+-- the line is a text that begins with a pair, of which the name or the value has a control character
+abbrev pub HasControl : List ℕ → Type 0
+HasControl line =
+    IsUtf8 line
+    × ((name value : List ℕ) × IsPairOf line name value × ((has_control name || has_control value) ≡ true))
+
+-- a line of `cookies.txt` parts its fields by tabs
+abbrev pub parts_by_tabs : Form → Bool
+parts_by_tabs Ron = false
+parts_by_tabs Json = false
+parts_by_tabs Txt = true
+
+abbrev pub has_tab : List ℕ → Bool
+has_tab line = list_any (λ b. b == tab) line
+
+-- What becomes of a line from the URL at the moment in a jar of this form: a control character, and then a tab where
+-- the form's lines are parted by tabs, has it refused, and nothing changes; any other goes as a client takes it.
+abbrev pub TakesLine : Form → List Rule → List Row → Parts → ℤ → List ℕ → End → List Row → Type 0
+TakesLine form list rows url now line Control new = HasControl line × (new ≡ rows)
+TakesLine form list rows url now line Tab new =
+    (¬ (HasControl line)) × ((parts_by_tabs form && has_tab line) ≡ true) × (new ≡ rows)
+TakesLine form list rows url now line (Line end) new =
+    (¬ (HasControl line)) × ((parts_by_tabs form && has_tab line) ≡ false) × Accepts list rows url now line end new
+
+-- what becomes of each of the lines, and the rows after them
+abbrev pub TakesAll : Form → List Rule → List Row → Parts → ℤ → List (List ℕ) → List End → List Row → Type 0
+TakesAll form list rows url now [] ends new = (ends ≡ []) × (new ≡ rows)
+TakesAll form list rows url now (line ∷ lines) [] new = ⊥
+TakesAll form list rows url now (line ∷ lines) (end ∷ ends) new =
+    (mid : List Row) × TakesLine form list rows url now line end mid × TakesAll form list mid url now lines ends new
+
+-- memory was refused at line n, counted from 1, once those before it were taken
+pub record StopsAt (form : Form) (list : List Rule) (rows : List Row) (url : Parts) (now : ℤ) (lines : List (List ℕ))
+    (n : ℕ) (new : List Row) : Type 0 where
+  pub before : ℕ
+  pub number : n ≡ before + 1
+  pub within : before < length lines
+  pub ends : List End
+  pub taken : TakesAll form list rows url now (take before lines) ends new
+  pub asks : AsksForMemory url (get_or lines before [])
+
+-- so, or before any line was looked at, which is 0
+abbrev pub IsStopped : Form → List Rule → List Row → Parts → ℤ → List (List ℕ) → ℕ → List Row → Type 0
+IsStopped form list rows url now lines n new =
+    ((n ≡ 0) × (new ≡ rows)) ⊎ StopsAt form list rows url now lines n new

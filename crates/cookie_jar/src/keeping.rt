@@ -1,0 +1,120 @@
+//! Which rows a jar keeps.
+ghost use Rattle.std.specs.Prelude.{◌≡◌, ◌↔◌, ◌||◌, IfOk, IsTrue};
+ghost use Rattle.jiff.specs.Words.{civil_nanos};
+ghost use Rattle.cookie_store.specs.Given.{ArePicked};
+ghost use Rattle.cookie_store.specs.StoredCookie.{stored_of};
+ghost use Rattle.cookie_text.specs.Again.{IsReadPair};
+ghost use Rattle.cookie_jar.specs.Keeping as spec;
+
+use crate::rows::{kept_rows, placed};
+use cookie_run::client::is_held;
+use cookie_store::{Cookie, CookieStore};
+use jiff::civil::DateTime;
+use std::alloc::{AllocError, Global};
+
+/// Whether a jar keeps the cookie: no control character stands in its name or its value, both are as the printed text
+/// of the cookie gives them again, and it obeys the prefix `__Host-`.
+pub(crate) fn is_kept(cookie: &Cookie<'static>) -> bool
+    ensures { IsTrue result ↔ spec.IsKept (stored_of cookie.now) }
+{
+    let (name, value) = cookie.raw().name_value();
+    !(has_control(name) || has_control(value)) && is_read_pair(name, value) && is_held(cookie)
+}
+
+/// Why a jar doesn't keep the cookie, as it is told.
+pub(crate) fn refusal_text(cookie: &Cookie<'static>) -> &'static str
+    ensures { result.now ≡ spec.refusal_text (stored_of cookie.now) }
+{
+    let (name, value) = cookie.raw().name_value();
+    if has_control(name) || has_control(value) {
+        "refused: control character"
+    } else if is_read_pair(name, value) {
+        "refused: __Host-"
+    } else {
+        "refused: name or value"
+    }
+}
+
+/// Whether a control character stands in the text: a byte below 32 but the tab, or 127.
+pub(crate) fn has_control(text: &str) -> bool
+    ensures { result ≡ spec.has_control text.now }
+{
+    text.as_bytes()
+        .iter()
+        .any(|b| (*b < 32 && *b != b'\t') || *b == 127)
+}
+
+// Whether what is printed of the name and the value reads as these again.
+fn is_read_pair(name: &str, value: &str) -> bool
+    ensures is { result ≡ spec.is_read_pair name.now value.now }
+    ensures pair { IsTrue result ↔ IsReadPair name.now value.now }
+{
+    are_read(name, value)
+}
+
+fn are_read(name: &str, value: &str) -> bool
+    ensures { result ≡ spec.is_read_pair name.now value.now }
+{
+    is_name(name) && is_whole(value)
+}
+
+// Whether the text isn't empty, has no `=` and no semicolon, and no white space at an end.
+fn is_name(text: &str) -> bool
+    ensures { result ≡ spec.is_name text.now }
+{
+    !text.is_empty() && !has_equals(text) && is_whole(text)
+}
+
+// Whether the text has no semicolon, and no white space at an end.
+fn is_whole(text: &str) -> bool
+    ensures { result ≡ spec.is_whole text.now }
+{
+    !has_semicolon(text) && text.trim() == text
+}
+
+fn has_semicolon(text: &str) -> bool
+    ensures { result ≡ spec.has_semicolon text.now }
+{
+    text.as_bytes().iter().any(|b| *b == b';')
+}
+
+fn has_equals(text: &str) -> bool
+    ensures { result ≡ spec.has_equals text.now }
+{
+    text.as_bytes().iter().any(|b| *b == b'=')
+}
+
+/// The store without the rows that a jar doesn't keep, and then without a list of public suffixes. Memory is taken only
+/// where there are some.
+///
+/// # Errors
+///
+/// `AllocError`, for want of memory.
+pub(crate) fn only_kept(
+    alloc: Global,
+    store: CookieStore,
+    now: DateTime,
+) -> Result<CookieStore, AllocError>
+    ensures { IfOk result (λ left. ArePicked spec.IsKept store.rows left.rows) }
+{
+    cookie_store::laws();
+    if are_kept(&store) {
+        return Ok(store);
+    }
+    // The rows of a store stand in groups.
+    let _rows = store.iter_any();
+    let rows = kept_rows(alloc, &store)?;
+    placed(alloc, rows, true, now)
+}
+
+// Whether a jar keeps each of its cookies.
+fn are_kept(store: &CookieStore) -> bool
+    ensures { IsTrue result ↔ spec.AreKept store.now.rows }
+{
+    for cookie in store.iter_any() {
+        if !is_kept(cookie) {
+            return false;
+        }
+    }
+    true
+}

@@ -1,0 +1,127 @@
+//! The `Set-Cookie` lines of an answer, taken into the rows of a jar.
+ghost use Rattle.std.specs.Prelude.{◌≡◌, ◌↔◌, ◌||◌, IfOk, IfErr, OnErr, IsTrue, map, true};
+ghost use Rattle.jiff.specs.Words.{civil_nanos};
+ghost use Rattle.cookie_run.specs.Accept.{AsksForMemory};
+ghost use Rattle.line_report.specs.Pair.{IsPairOf};
+ghost use Rattle.cookie_jar.specs.Keeping as kept;
+ghost use Rattle.cookie_jar.specs.Taking as spec;
+
+use crate::form::Form;
+use crate::keeping::has_control;
+use cookie_run::client::accept_line;
+use cookie_run::{LineEnd, Stopped};
+use cookie_store::CookieStore;
+use jiff::civil::DateTime;
+use line_report::pair;
+use std::alloc::{AllocError, Global};
+use url::Url;
+
+/// What became of a line in a jar.
+#[derive(Clone, Copy, Debug, PartialEq, Eq)]
+pub enum End {
+    /// It went as a client takes it.
+    Line(LineEnd),
+    /// A control character, which is a byte below 32 but the tab, or 127, stands in its name or its value. Nothing
+    /// changed.
+    Control,
+    /// A tab stands in it, and the jar is to be saved as `cookies.txt`, which parts its fields by tabs. Nothing changed.
+    Tab,
+}
+
+/// Takes the lines of an answer from this URL at `now` into the store of a jar that is to be saved in this form, one
+/// after another.
+///
+/// # Errors
+///
+/// `Stopped` with the line, counted from 1, at which memory was refused: those before it are applied and no later one
+/// was looked at. At 0 none was looked at.
+pub(crate) fn take_all(
+    alloc: Global,
+    store: &mut CookieStore,
+    form: Form,
+    url: &Url,
+    lines: &[&[u8]],
+    now: DateTime,
+) -> Result<Vec<End>, Stopped>
+    ensures all { IfOk result (λ ends. spec.TakesAll form store.old.suffixes store.old.rows url.now
+        (civil_nanos now) (map (λ line. line.now) lines.now) ends.items store.new.rows) }
+    ensures stopped { IfErr result (λ stopped. spec.IsStopped form store.old.suffixes store.old.rows url.now
+        (civil_nanos now) (map (λ line. line.now) lines.now) stopped.0 store.new.rows) }
+    ensures list { store.new.suffixes ≡ store.old.suffixes }
+{
+    let Ok(mut ends) = Vec::with_capacity(alloc, lines.len()) else {
+        return Err(Stopped(0));
+    };
+    for (i, line) in lines.iter().enumerate() {
+        match take_line(store, form, url, line, now) {
+            // There is room for one end a line, so this push is not refused.
+            Ok(end) => match ends.push(end) {
+                Ok(()) => {}
+                Err(_) => return Err(Stopped(0)),
+            },
+            Err(_) => return Err(Stopped(i + 1)),
+        }
+    }
+    Ok(ends)
+}
+
+/// Takes one line.
+///
+/// # Errors
+///
+/// `AllocError` where memory was refused. The rows are then as they were.
+pub(crate) fn take_line(
+    store: &mut CookieStore,
+    form: Form,
+    url: &Url,
+    line: &[u8],
+    now: DateTime,
+) -> Result<End, AllocError>
+    ensures ok { IfOk result (λ end. spec.TakesLine form store.old.suffixes store.old.rows url.now
+        (civil_nanos now) line.now end store.new.rows) }
+    ensures err { OnErr result ((store.new.rows ≡ store.old.rows) × AsksForMemory url.now line.now) }
+    ensures list { store.new.suffixes ≡ store.old.suffixes }
+{
+    if has_control_pair(line) {
+        return Ok(End::Control);
+    }
+    if parts_by_tabs(form) && has_tab(line) {
+        return Ok(End::Tab);
+    }
+    match accept_line(store, url, line, now) {
+        Ok(end) => Ok(End::Line(end)),
+        Err(refused) => Err(refused),
+    }
+}
+
+// Whether a control character stands in the name or the value of the line.
+fn has_control_pair(line: &[u8]) -> bool
+    ensures { IsTrue result ↔ spec.HasControl line.now }
+{
+    match str::from_utf8(line) {
+        Ok(text) => has_control_text(text),
+        Err(_) => false,
+    }
+}
+
+fn has_control_text(line: &str) -> bool
+    ensures { IsTrue result ↔ ((name : _) × (value : _) × IsPairOf line.now name value
+        × ((kept.has_control name || kept.has_control value) ≡ true)) }
+{
+    match pair(line) {
+        Ok((name, value)) => has_control(name) || has_control(value),
+        Err(_) => false,
+    }
+}
+
+fn has_tab(line: &[u8]) -> bool
+    ensures { result ≡ spec.has_tab line.now }
+{
+    line.iter().any(|b| *b == b'\t')
+}
+
+fn parts_by_tabs(form: Form) -> bool
+    ensures { result ≡ spec.parts_by_tabs form }
+{
+    matches!(form, Form::Txt)
+}
