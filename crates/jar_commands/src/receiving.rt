@@ -116,7 +116,7 @@ fn visits_of<'a>(alloc: Global, url: &Url, text: &'a [u8]) -> Result<Visited<'a>
     match visits(alloc, url, text) {
         Ok(given) => Ok(given),
         Err(ReadError::OutOfMemory) => Err(Failure::Memory),
-        Err(_) => Err(Failure::Heads),
+        Err(ReadError::Line(_, _)) => Err(Failure::Heads),
     }
 }
 
