@@ -206,7 +206,8 @@ value_shown (e ∷ es) q h =
     ∙ ap (option_and_then standing) (sym (cond-false (bytes_eq q e.0) (Some e.1) (value_in es q) no)))
     (cases_Bool (bytes_eq q e.0))
 
-apart_with_standing : (n : List ℕ) (o : Option Seen) (fs : List (List ℕ × Seen)) → value_in fs n ≡ None → HaveOwnNames fs
+apart_with_standing : (n : List ℕ) (o : Option Seen) (fs : List (List ℕ × Seen)) → value_in fs n ≡ None
+    → HaveOwnNames fs
     → HaveOwnNames (with_standing n o fs)
 unfolding with_standing
 apart_with_standing n None fs none h = h

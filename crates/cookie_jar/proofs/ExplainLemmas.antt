@@ -79,7 +79,8 @@ is_sent (Err x) url now line text made rows row old new same reads is told = tt
 pub becomes : {A E : Type 0} (r : Result A E) (form : Form) (store copy : Store) (url : Parts) (now : ℤ) (line : List ℕ)
     (end : End) (rows : List Row) (old mid new : List ℕ) → copy ≡ store
     → TakesLine form copy.suffixes copy.rows url now line end rows → mid ≡ old ++ (end_text end ++ rule_text end)
-    → OnOk r (Appends (SentAs url now line end rows) mid new) → OnOk r (Appends (Becomes form store url now line) old new)
+    → OnOk r (Appends (SentAs url now line end rows) mid new)
+    → OnOk r (Appends (Becomes form store url now line) old new)
 becomes (Ok x) form store copy url now line end rows old mid new same takes first (sent, is, told) = (
   end_text end ++ (rule_text end ++ sent),
   record {

@@ -89,7 +89,11 @@ clean_made line s url now made utf8 reads free h =
     let n = s.cookie.name in
     let v = s.cookie.value in
     let pair : IsPairOf line n v =
-    record { is = (reads.name.0, subst (λ x. 0 < length x) reads.name.1 reads.name.2); name_is = reads.name.1; value_is = reads.value } in
+    record {
+      is = (reads.name.0, subst (λ x. 0 < length x) reads.name.1 reads.name.2);
+      name_is = reads.name.1;
+      value_is = reads.value;
+    } in
     subst (λ (raw : Seen). (has_control raw.cookie.name || has_control raw.cookie.value) ≡ false) (sym h.raw)
     (⊎_elim
     (λ (e : (has_control n || has_control v) ≡ true). absurd (free (utf8, (n, v, pair, e))))

@@ -86,9 +86,9 @@ impl Jar {
         }
     }
 
-    /// The jar of a text, without the rows that are expired at `now`, and then without those that a jar doesn't keep: of
-    /// a name or a value with a control character, or that no text gives, or against the prefix `__Host-`. Of two rows
-    /// with one key the later replaces the earlier in its place. No row is judged by the list of public suffixes.
+    /// The jar of a text, without the rows that are expired at `now`, and then without those that a jar doesn't keep:
+    /// of a name or a value with a control character, or that no text gives, or against the prefix `__Host-`. Of two
+    /// rows with one key the later replaces the earlier in its place. No row is judged by the list of public suffixes.
     ///
     /// # Errors
     ///
@@ -180,9 +180,9 @@ impl Jar {
     }
 
     /// Puts the rows of a text behind its own, as if all were of one text: without those that are expired at `now`, and
-    /// of two with one key the later in the place of the earlier. Those that a jar doesn't keep are left out before, and
-    /// told: of a name or a value with a control character, or that no text gives, or against the prefix `__Host-`. No
-    /// row is judged by the list of public suffixes.
+    /// of two with one key the later in the place of the earlier. Those that a jar doesn't keep are left out before,
+    /// and told: of a name or a value with a control character, or that no text gives, or against the prefix `__Host-`.
+    /// No row is judged by the list of public suffixes.
     ///
     /// # Errors
     ///

@@ -5,9 +5,9 @@ use cookie_text::laws::{bound_read_again, pairs_read_again};
 use cookies_txt::laws::what_is_written_is_read;
 
 /// What [`crate::Jar::save`] writes of a jar, [`crate::Jar::load`] reads again as the same rows, in each form: each as
-/// the form keeps it, in their order, without those that are expired when it is loaded, and no other; and want of memory
-/// alone refuses it. What it asks of the rows [`crate::Jar::store`] tells, and of that store `iter_any`; what of the
-/// text `save`.
+/// the form keeps it, in their order, without those that are expired when it is loaded, and no other; and want of
+/// memory alone refuses it. What it asks of the rows [`crate::Jar::store`] tells, and of that store `iter_any`; what of
+/// the text `save`.
 pub fn saved_rows_are_loaded()
     ensures rows { law.SavedRowsAreLoaded }
     ensures read { law.SavedTextsAreRead }

@@ -8,4 +8,5 @@ unfolding row_tokens
 returns c =
     let row = stored_of c.args.cookie.now in
     writes_three c.write_flags.result (place_tokens row) (pair_tokens row) (flag_tokens row) c.args.writer.now
-    c.write_place.new.writer c.write_pair.new.writer c.write_flags.new.writer c.in_ok-write_place.ensures c.in_ok-write_pair.ensures c.write_flags.ensures
+    c.write_place.new.writer c.write_pair.new.writer c.write_flags.new.writer c.in_ok-write_place.ensures
+    c.in_ok-write_pair.ensures c.write_flags.ensures
