@@ -28,7 +28,10 @@ typedef struct fonnalich {
     uint64_t words[64];
 } fonnalich;
 
-/* ---- why a call answers no text */
+/* ---- why a call answers no text. Of several causes the first of this table is told: the one with the number nearest
+   to 0. But where the second and the key of an exchange are right, the first of its commands that is refused is told,
+   and of one that sets, first that nonces are too few, then the expiry, then the length. Want of memory may be told in
+   the place of any cause. */
 enum {
     FONNALICH_MEMORY = -1,    /* memory was refused; what the handle holds is as it was */
     FONNALICH_WORD = -2,      /* no word of fonnalich_act */
@@ -74,7 +77,8 @@ enum {
     FONNALICH_BY_SECURE_PREFIX = 22,
     FONNALICH_BY_HOST_PREFIX = 23,
     FONNALICH_BY_SECURE_FROM_HTTP = 24,
-    FONNALICH_BY_SECURE_OVERLAY = 25
+    FONNALICH_BY_SECURE_OVERLAY = 25,
+    FONNALICH_BY_LACKS_SECURE = 26
 };
 
 /* ---- the rules of user agents (the draft that follows RFC 6265, sections 5.5 to 5.7): fonnalich_rules takes a sum */
@@ -91,7 +95,11 @@ enum {
     FONNALICH_RULE_LONG_ATTRIBUTES = 64, /* attributes whose value has over 1,024 bytes are passed over */
     FONNALICH_RULE_DATES = 128,          /* dates are read in the forms in which servers send them */
     FONNALICH_RULE_LONG_LIVES = 256,     /* lives are cut at 400 days */
-    FONNALICH_BROWSER = 511              /* all of them */
+    FONNALICH_BROWSER = 511,             /* all of these */
+    /* no browser's: a header leaves out what isn't Secure and has the name, decoded, of a Secure cookie in it, and one
+       of SameSite=None or Partitioned that isn't Secure is refused from a URL that isn't secure; it rests on
+       FONNALICH_RULE_SECURE_FROM_HTTP */
+    FONNALICH_RULE_SECURE_WINS = 512
 };
 
 /* ---- the words of fonnalich_act */
@@ -162,12 +170,19 @@ ptrdiff_t fonnalich_exchange(const char *key, size_t key_length, const char *hea
 ptrdiff_t fonnalich_suffix(const char *list, size_t list_length, const char *host, size_t host_length, char *out,
                            size_t out_length);
 
+/* Answers 1 where a text is a plain URL, which each program reads as the same web address, and 0 where it isn't, or
+   FONNALICH_MEMORY. Ask it of a URL before you hand it to another program, as curl, a browser or a proxy. Programs read
+   odd URLs differently: of https://shop.test\@evil.test/x this library, by the URL Standard, reads the host shop.test,
+   and curl evil.test. So one would send the cookies of the one site to the other. */
+ptrdiff_t fonnalich_is_plain_url(const char *url, size_t url_length);
+
 /* Reads a cookie of a Set-Cookie line, or of a pair of a Cookie header, into its parts: writes the items of its name,
    its value, its path and its domain, and its attributes. The name and the value are percent-decoded where `decode`
    says so. Of an attribute that stands twice the last valid one counts; the domain has lost one leading dot.
 
    Where the items have no room, the attributes stay as they were too: make the call again with more. FONNALICH_TEXT,
-   FONNALICH_PAIR or FONNALICH_EMPTY_NAME where the text is no cookie. */
+   FONNALICH_PAIR or FONNALICH_EMPTY_NAME where the text is no cookie; one that isn't UTF-8 is FONNALICH_TEXT, whatever
+   its name. */
 ptrdiff_t fonnalich_parse(bool decode, const char *text, size_t length, fonnalich_attributes *attributes, char *out,
                           size_t out_length);
 

@@ -78,6 +78,33 @@ static void tells_refusals(void) {
     fonnalich_free(&at);
 }
 
+/* Of two causes or more the one is told whose number is nearest to 0. */
+static void tells_the_first_cause(void) {
+    static const char *none = "no url", *no_list = "a..b", *no_client = "[(";
+    /* the last second of the year -1, where the year 0 begins at -62167219200 */
+    static const int64_t below = -62167219201;
+    char out[256];
+    fonnalich at;
+    fonnalich_begin(&at);
+    ask(gives(fonnalich_act(&at, 8, INT64_MAX, T(none), "", 0, out, 0), FONNALICH_WORD), "word, client, second, URL");
+    ask(gives(fonnalich_header(&at, INT64_MAX, T(none), out, sizeof out), FONNALICH_NO_CLIENT), "client, second, URL");
+    ask(gives(fonnalich_save(&at, INT64_MAX, out, sizeof out), FONNALICH_NO_CLIENT), "client, second");
+    ask(gives(fonnalich_load(&at, INT64_MAX, T(no_client), T(no_list)), FONNALICH_LIST), "list, second, saved text");
+    ask(gives(fonnalich_load(&at, INT64_MAX, T("[]"), T(no_list)), FONNALICH_LIST), "list, second");
+    ask(gives(fonnalich_load(&at, NOW, T(no_client), T(no_list)), FONNALICH_LIST), "list, saved text");
+    ask(gives(fonnalich_load(&at, INT64_MIN, T(no_client), T(LIST)), FONNALICH_MOMENT), "second, saved text");
+    fonnalich_list(&at, T(LIST));
+    ask(gives(fonnalich_header(&at, INT64_MAX, T(none), out, sizeof out), FONNALICH_MOMENT), "second, URL");
+    ask(gives(fonnalich_receive(&at, INT64_MIN, T(none), T("a=1"), out, sizeof out), FONNALICH_MOMENT), "the same");
+    fonnalich_receive(&at, below - 60, T(URL), T("a=1; Max-Age=60"), out, sizeof out);
+    ask(gives(fonnalich_save(&at, below - 60, out, sizeof out), FONNALICH_YEAR), "a year below 0");
+    ask(gives(fonnalich_restart(&at, below - 60), FONNALICH_YEAR), "the same");
+    ask(gives(fonnalich_save(&at, INT64_MIN, out, sizeof out), FONNALICH_MOMENT), "second, year");
+    ask(gives(fonnalich_restart(&at, INT64_MIN), FONNALICH_MOMENT), "the same");
+    fonnalich_free(&at);
+    ask(gives(fonnalich_suffix(T(no_list), T("a..com"), out, sizeof out), FONNALICH_LIST), "list, host");
+}
+
 /* ---- rules */
 
 /* A line that each rule is against, by the sections 4.1.3 and 5.5 to 5.7 of the draft that follows RFC 6265. */
@@ -87,7 +114,7 @@ static void keeps_rules(void) {
     fonnalich at;
     fonnalich_begin(&at);
     ask(gives(fonnalich_rules(&at, FONNALICH_BROWSER), 0), "rules before a client");
-    ask(gives(fonnalich_rules(&at, FONNALICH_BROWSER + 1), FONNALICH_RULES), "no flags");
+    ask(gives(fonnalich_rules(&at, 2 * FONNALICH_RULE_SECURE_WINS), FONNALICH_RULES), "no flags");
     ask(gives(fonnalich_rules(&at, -1), FONNALICH_RULES), "nor below 0");
     ask(gives(fonnalich_list(&at, T(LIST)), 0), "a list");
     snprintf(lines, sizeof lines, "a=\x01\nlong=%04093d\n__secure-a=1\n__HOST-a=1; Secure; Path=/x\n"
@@ -112,6 +139,31 @@ static void keeps_rules(void) {
     count = fonnalich_receive(&at, NOW, T(HTTP), T("b=2; Secure"), out, sizeof out);
     ask(gives(count, 1) && out[0] == FONNALICH_INSERTED, "none refuses");
     fonnalich_free(&at);
+}
+
+/* A neighbour sets its cookie over http first, the name escaped; then the site sets its own. */
+static void lets_secure_cookies_win(void) {
+    static const char *EVIL = "http://evil.example.com/", *PLAIN = "http://www.example.com/";
+    static const char *SITE = "https://www.example.com/";
+    static const char *headers[] = {"s%69d=0; b=2; sid=1", "b=2; sid=1"};
+    static const char ends[] = {FONNALICH_INSERTED, FONNALICH_BY_LACKS_SECURE};
+    char out[256];
+    for (int wins = 0; wins < 2; wins++) {
+        fonnalich at;
+        fonnalich_begin(&at);
+        fonnalich_list(&at, T(LIST));
+        fonnalich_rules(&at, FONNALICH_BROWSER + (wins ? FONNALICH_RULE_SECURE_WINS : 0));
+        ptrdiff_t count = fonnalich_receive(&at, NOW, T(EVIL), T("s%69d=0; Domain=example.com; Path=/\n"
+                                            "b=2; Domain=example.com; Path=/"), out, sizeof out);
+        ask(gives(count, 2) && out[0] == FONNALICH_INSERTED && out[1] == FONNALICH_INSERTED, "two are planted");
+        count = fonnalich_receive(&at, NOW, T(SITE), T("sid=1; Secure; Path=/"), out, sizeof out);
+        ask(gives(count, 1) && out[0] == FONNALICH_INSERTED, "the site's own");
+        ask(is(out, fonnalich_header(&at, NOW, T(SITE), out, sizeof out), headers[wins]), "a header to the site");
+        ask(is(out, fonnalich_header(&at, NOW, T(PLAIN), out, sizeof out), "s%69d=0; b=2"), "and over http");
+        count = fonnalich_receive(&at, NOW, T(EVIL), T("c=3; SameSite=None"), out, sizeof out);
+        ask(gives(count, 1) && out[0] == ends[wins], "a line that asks for Secure");
+        fonnalich_free(&at);
+    }
 }
 
 /* Of the flags each is the one that refuses its line. */
@@ -295,6 +347,24 @@ static void refuses_a_site(void) {
     ask(out[0] == '#', "nothing is written");
 }
 
+static ptrdiff_t refused(size_t key_length, int64_t second, const char *commands, size_t nonces_length) {
+    char out[64];
+    return fonnalich_exchange(key, key_length, "", 0, second, T(commands), nonces, nonces_length, out, sizeof out);
+}
+
+static void tells_the_first_cause_of_a_site(void) {
+    ask(gives(refused(63, INT64_MIN, "x", 0), FONNALICH_MOMENT), "second, key, command");
+    ask(gives(refused(63, INT64_MAX, "", 0), FONNALICH_MOMENT), "second, key");
+    ask(gives(refused(64, INT64_MIN, "x", 0), FONNALICH_MOMENT), "second, command");
+    ask(gives(refused(63, NOW, "x", 0), FONNALICH_KEY), "key, command");
+    /* of commands the first */
+    ask(gives(refused(64, NOW, "S4a=1\nx\nG0", 0), FONNALICH_NONCES), "nonces, then a command, then a name");
+    ask(gives(refused(64, NOW, "S0a=1\nx\nS4a=1", 0), FONNALICH_COMMAND), "a command, then nonces");
+    ask(gives(refused(64, -60000000000, "G0\nR0a", 0), FONNALICH_EMPTY_NAME), "a name, then an expiry");
+    ask(gives(refused(64, -60000000000, "R0a\nG0", 0), FONNALICH_EXPIRY), "an expiry, then a name");
+    ask(gives(refused(64, -60000000000, "R0", 0), FONNALICH_EMPTY_NAME), "a name and an expiry");
+}
+
 static void finds_suffixes(void) {
     char out[64];
     ask(is(out, fonnalich_suffix(T(LIST), T("www.example.com"), out, sizeof out), "com"), "a rule");
@@ -418,6 +488,44 @@ static void refuses_cookies(void) {
     parts.expires = INT64_MIN;
     ask(gives(print(false, "a", "1", "", "", out, sizeof out), FONNALICH_MOMENT), "no year at all");
     ask(out[0] == '#', "nothing is written");
+}
+
+static void tells_the_first_cause_of_a_cookie(void) {
+    char out[64];
+    static const fonnalich_attributes all = {.expires = INT64_MAX, .has_expires = true, .has_path = true,
+                                             .same_site = 4};
+    ask(gives(fonnalich_parse(true, "\xff", 1, &parts, out, sizeof out), FONNALICH_TEXT), "text, pair");
+    ask(gives(fonnalich_parse(true, "=\xff", 2, &parts, out, sizeof out), FONNALICH_TEXT), "text, name");
+    ask(gives(fonnalich_parse(true, T("=%ff"), &parts, out, sizeof out), FONNALICH_EMPTY_NAME), "name, decoded text");
+    parts = all;
+    ask(gives(print(true, "\xff", "\xff", "\xff", "", out, sizeof out), FONNALICH_MOMENT), "second, texts, site");
+    ask(gives(print(true, "a", "1", "/", "", out, sizeof out), FONNALICH_MOMENT), "second, site");
+    parts.has_expires = false;
+    ask(gives(print(true, "a", "1", "\xff", "", out, sizeof out), FONNALICH_TEXT), "text, site");
+    parts.same_site = FONNALICH_LAX, parts.has_expires = true;
+    ask(gives(print(true, "a", "\xff", "/", "", out, sizeof out), FONNALICH_MOMENT), "second, text");
+}
+
+/* ---- plain URLs */
+
+/* Texts in which RFC 3986 (section 3) and the URL Standard read one web address, and such in which they don't. */
+static void tells_plain_urls(void) {
+    static const char *plain[] = {"https://shop.test/", "https://shop.test", "http://shop.test:8080/a?b=c#d",
+                                  "HTTPS://Shop.TEST/A", "http://127.0.0.1/", "http://[::1]/", "https://shop.test/%2F",
+                                  "https://xn--bcher-kva.test/", "https://shop.test/a;b=c,d!$&()*+~@:"};
+    static const char *others[] = {"https://shop.test\\@evil.test/x", "https:\\\\shop.test\\x", "https:/shop.test/x",
+                                   "https:///shop.test/x", "https:shop.test", "https://u@shop.test/",
+                                   "https://u:p@shop.test/", "https://shop.test:443/", "https://shop.test?q",
+                                   "https://shop.test/a/../b", "https://shop.test\t/", " https://shop.test/",
+                                   "https://shop.test%2eevil.test/", "https://b\xc3\xbc" "cher.test/", "https://127.1/",
+                                   "https://0x7f.1/", "ftp://shop.test/", "mailto:a@shop.test", "//shop.test/",
+                                   "shop.test", "/x", "", "\xff", "https://shop.test/\xff"};
+    for (size_t i = 0; i < sizeof plain / sizeof *plain; i++)
+        ask(gives(fonnalich_is_plain_url(T(plain[i])), 1), plain[i]);
+    for (size_t i = 0; i < sizeof others / sizeof *others; i++)
+        ask(gives(fonnalich_is_plain_url(T(others[i])), 0), others[i]);
+    ask(gives(fonnalich_is_plain_url("https://shop.test/\0", 19), 0), "a NUL");
+    ask(gives(fonnalich_is_plain_url("https://shop.test/ ", 18), 1), "the length counts");
 }
 
 static void is_told_the_room_of_parts(void) {
@@ -558,6 +666,9 @@ static void bears_a_refusal(long growth) {
     if (again(number = print(true, "a b", "+", "/", "", out, sizeof out)))
         number = print(true, "a b", "+", "/", "", out, sizeof out);
     ask(is(out, number, "a%20b=+; HttpOnly; Path=/"), "a cookie of its parts");
+    if (again(number = fonnalich_is_plain_url(T("HTTPS://shop.test"))))
+        number = fonnalich_is_plain_url(T("HTTPS://shop.test"));
+    ask(gives(number, 1), "a plain URL");
 }
 
 int main(int count, char **words) {
@@ -567,7 +678,9 @@ int main(int count, char **words) {
     ask(fonnalich_version(version, sizeof version) == 5 && strcmp(version, FONNALICH_VERSION) == 0, "the version");
     ask(fonnalich_version(version, 4) == 5 && strcmp(version, FONNALICH_VERSION) == 0, "no room for the version");
     tells_refusals();
+    tells_the_first_cause();
     keeps_rules();
+    lets_secure_cookies_win();
     tells_rules_apart();
     goes_from_page_to_page();
     keeps_an_answer();
@@ -580,10 +693,13 @@ int main(int count, char **words) {
     signs_and_seals();
     is_told_its_room();
     refuses_a_site();
+    tells_the_first_cause_of_a_site();
     finds_suffixes();
     takes_cookies_apart();
     puts_cookies_together();
     refuses_cookies();
+    tells_the_first_cause_of_a_cookie();
+    tells_plain_urls();
     is_told_the_room_of_parts();
     comes_apart_again(rounds);
     goes_on(rounds);

@@ -20,7 +20,8 @@ if TYPE_CHECKING:
     from requests import PreparedRequest
     from requests.adapters import HTTPAdapter
 
-__all__ = ["Adapter", "Client", "Cookie", "End", "Jar", "Refused", "Rules", "Session", "Stopped", "Way", "suffix"]
+__all__ = ["Adapter", "Client", "Cookie", "End", "Jar", "Refused", "Rules", "Session", "Stopped", "Way", "is_plain_url",
+           "suffix"]
 
 _HERE = os.path.dirname(os.path.abspath(__file__))
 _PATH = os.environ.get("FONNALICH_LIB") or os.path.join(_HERE, "..", "..", "out", "libfonnalich.so")
@@ -40,6 +41,9 @@ _LIB.fonnalich_exchange.argtypes = [*_TEXT, *_TEXT, ctypes.c_int64, *_TEXT, *_TE
 _LIB.fonnalich_exchange.restype = ctypes.c_ssize_t
 _LIB.fonnalich_suffix.argtypes = [*_TEXT, *_TEXT, ctypes.c_void_p, ctypes.c_size_t]
 _LIB.fonnalich_suffix.restype = ctypes.c_ssize_t
+
+_LIB.fonnalich_is_plain_url.argtypes = _TEXT
+_LIB.fonnalich_is_plain_url.restype = ctypes.c_ssize_t
 
 
 class _Attributes(ctypes.Structure):
@@ -88,6 +92,7 @@ class End(enum.IntEnum):
     BY_HOST_PREFIX = 23
     BY_SECURE_FROM_HTTP = 24
     BY_SECURE_OVERLAY = 25
+    BY_LACKS_SECURE = 26
 
 
 class Rules(enum.IntFlag):
@@ -96,6 +101,9 @@ class Rules(enum.IntFlag):
     The first six refuse a line: with a control character, with over 4,096 bytes of name and value, against a prefix in
     any case, Secure from a URL that isn't secure, over a Secure cookie from such a URL. The others change it:
     attributes of over 1,024 bytes are passed over, dates are read as servers send them, lives are cut at 400 days.
+    No browser has `SECURE_WINS`: a header leaves out what isn't Secure and has the name, decoded, of a Secure cookie in
+    it, and one of `SameSite=None` or `Partitioned` that isn't Secure is refused from a URL that isn't secure. It rests
+    on `SECURE_FROM_HTTP`.
     """
 
     NONE = 0
@@ -109,10 +117,11 @@ class Rules(enum.IntFlag):
     DATES = 128
     LONG_LIVES = 256
     BROWSER = 511
+    SECURE_WINS = 512
 
 
 class Refused(ValueError):
-    """A call was refused; `number` is that of the header file."""
+    """A call was refused; `number` is that of the header file. Of several causes the number nearest to 0 is told."""
 
     NAMES = {-2: "Word", -3: "NoClient", -4: "List", -5: "Moment", -6: "Url", -7: "Saved", -8: "Year", -9: "Read",
              -10: "Key", -11: "Command", -12: "EmptyName", -13: "Expiry", -14: "TooLong", -15: "Nonces", -16: "Host",
@@ -199,6 +208,18 @@ __version__ = _answered(_LIB.fonnalich_version).decode()
 def suffix(suffixes: Union[str, bytes], host: str) -> str:
     """The public suffix of a host, which is in IDNA ASCII form and lower case, by the text of a list."""
     return _answered(_LIB.fonnalich_suffix, _bytes(suffixes), _bytes(host)).decode()
+
+
+def is_plain_url(url: Union[str, bytes]) -> bool:
+    """Whether a text is a plain URL, which each program reads as the same web address.
+
+    Ask it of a URL before you hand it to another program, as curl, a browser or a proxy. Programs read odd URLs
+    differently: of `https://shop.test\\@evil.test/x` a `Client` reads the host `shop.test`, and curl `evil.test`.
+    """
+    text = _bytes(url)
+    number = _LIB.fonnalich_is_plain_url(text, len(text))
+    _raise(number)
+    return number == 1
 
 
 _SITES = [None, "Strict", "Lax", "None"]

@@ -31,6 +31,8 @@ UNKNOWN = re.compile(r"^rattle: error: `\S+` has no function `\w+::([^`]+)`", re
 # The words by which antt says that a proof file names what is not there, and that this is a goal.
 GONE = re.compile(r"has no field|is not in scope|has no `")
 GOAL_GONE = re.compile(r"Goals` has no `")
+# What wasn't looked at, since it stands on what failed before it.
+UNSEEN = re.compile(r"\d+ declarations? that depends? on .*\b(?:was|were) not checked")
 FAILS = ("not proved", "no proof")
 PASSES = re.compile(r"no holes$|proved$|depends on a hole in ")
 
@@ -183,7 +185,7 @@ class Bundle:
             return Verdict(Verdict.BROKEN, f"its check breaks off: {self.first_error()}")
         own = [name for name in self.told if any(it.owns(name) for it in edit.functions)]
         failed = [name for name in own if self.told[name].startswith(FAILS)]
-        errors = [it for it in self.errors if self.is_of(edit, it[0])]
+        errors = [it for it in self.errors if self.is_of(edit, it[0]) and not UNSEEN.match(it[1])]
         gone = [it for it in errors if GONE.search(it[1])]
         verdict = self.judge_goals(edit, failed, [it for it in errors if it not in gone], gone) if failed else None
         if verdict:

@@ -1,4 +1,5 @@
 """Sites on loopback, by http and by https, and how curl finds them whatever the host and the port."""
+import socket
 import ssl
 import subprocess
 import threading
@@ -56,6 +57,41 @@ def serve(certificate=None):
         server.socket = context.wrap_socket(server.socket, server_side=True)
     threading.Thread(target=server.serve_forever, daemon=True).start()
     return server.server_port
+
+
+def tunnel_to(port, answer):
+    """The port of a proxy that ends with this process: it answers each CONNECT so, and leads to that port, whatever is
+    asked."""
+    proxy = socket.create_server(("127.0.0.1", 0))
+
+    def pour(one, other):
+        try:
+            while read := one.recv(65536):
+                other.sendall(read)
+            other.shutdown(socket.SHUT_WR)
+        except OSError:
+            pass  # (the other side went)
+
+    def lead(client):
+        asked = b""
+        while b"\r\n\r\n" not in asked:
+            read = client.recv(4096)
+            if not read:
+                return
+            asked += read
+        with socket.create_connection(("127.0.0.1", port)) as site, client:
+            client.sendall(answer)
+            back = threading.Thread(target=pour, args=(site, client), daemon=True)
+            back.start()
+            pour(client, site)
+            back.join()
+
+    def accept():
+        while True:
+            threading.Thread(target=lead, args=(proxy.accept()[0],), daemon=True).start()
+
+    threading.Thread(target=accept, daemon=True).start()
+    return proxy.getsockname()[1]
 
 
 def made_certificate(folder):

@@ -6,6 +6,9 @@
 bool derive_key(const uint8_t *master_key, size_t master_key_length, uint8_t *key);
 bool same_keys(const uint8_t *a, size_t a_length, const uint8_t *b, size_t b_length);
 void sign(const uint8_t *key, size_t key_length, const uint8_t *text, size_t text_length, uint8_t *code);
+size_t sign_value(const uint8_t *key, size_t key_length, const uint8_t *value, size_t value_length, uint8_t *out,
+                  size_t out_length);
+bool verify_text(const uint8_t *key, size_t key_length, const uint8_t *text, size_t text_length);
 bool seal_text(const uint8_t *key, const uint8_t *nonce, const uint8_t *aad, size_t aad_length, uint8_t *text,
                size_t text_length, uint8_t *tag);
 bool open_text(const uint8_t *key, const uint8_t *nonce, const uint8_t *aad, size_t aad_length, uint8_t *text,
@@ -16,7 +19,7 @@ void branches(const uint8_t *h, const uint8_t *block, uint8_t *product);
 void masks(const uint8_t *h, const uint8_t *block, uint8_t *product);
 
 static uint8_t master[40], key[64], other_key[64], nonce[12], name[20], text[41], sealed[41], tag[16], code[32];
-static uint8_t other_code[32], table[256], h[16], block[16], product[16];
+static uint8_t signing[44 + sizeof text], other_code[32], table[256], h[16], block[16], product[16];
 
 /* Makes a key and a sealed text, of which all is known. */
 static void prepare(void) {
@@ -48,6 +51,21 @@ static void text_signed(void) {
     SECRET(key);
     SECRET(text);
     sign(key, sizeof key, text, sizeof text, code);
+}
+
+/* What was sent is known: with the code that is right, and with one whose last byte is another one. */
+static void text_verified(void) {
+    for (int i = 0; i < 2; i++) {
+        size_t length = sign_value(key, sizeof key, text, sizeof text, signing, sizeof signing);
+        demand(length == sizeof signing, "sign_value");
+        signing[42] = i ? (signing[42] == 'A' ? 'E' : 'A') : signing[42];
+        SECRET(key);
+        bool right = verify_text(key, sizeof key, signing, sizeof signing);
+        verdicts++;
+        PUBLIC(right);
+        PUBLIC(key);
+        demand(right == !i, "verify_text");
+    }
 }
 
 static void text_sealed(void) {
@@ -107,6 +125,7 @@ int main(int count, char **words) {
     TAKE(key_derived);
     TAKE(keys_compared);
     TAKE(text_signed);
+    TAKE(text_verified);
     TAKE(text_sealed);
     TAKE(text_opened);
     TAKE(planted_end);

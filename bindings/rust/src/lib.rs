@@ -31,7 +31,7 @@ mod site;
 
 pub use cookie::{Cookie, CookieBuilder, Encoded, SameSite};
 pub use rules::{Rule, Rules};
-pub use site::{suffix, Key, Session, Way};
+pub use site::{is_plain_url, suffix, Key, Session, Way};
 
 use std::fmt;
 use std::marker::PhantomData;
@@ -95,6 +95,7 @@ mod library {
             out: *mut u8,
             out_length: usize,
         ) -> isize;
+        pub fn fonnalich_is_plain_url(url: *const u8, url_length: usize) -> isize;
         pub fn fonnalich_parse(
             decode: bool,
             text: *const u8,
@@ -130,7 +131,8 @@ pub fn version() -> String {
     String::from_utf8_lossy(&answer.unwrap_or_default()).into_owned()
 }
 
-/// Why a call is refused. The client is as it was, but for `Stopped`.
+/// Why a call is refused. The client is as it was, but for `Stopped`. Of several causes the one is told whose number
+/// in the header file is nearest to 0; want of memory may be told in the place of any.
 #[derive(Clone, Copy, Debug, PartialEq, Eq)]
 pub enum Error {
     /// Memory was refused.
@@ -435,6 +437,26 @@ mod tests {
         assert_eq!(client.receive(http, &["sid=3"], NOW), Ok(vec![LineEnd::UpdatedExisting]));
     }
 
+    // A neighbour sets its cookie over http first, the name escaped; then the site sets its own.
+    #[test]
+    fn lets_secure_cookies_win() {
+        let (evil, plain) = ("http://evil.example.com/", "http://www.example.com/");
+        let site = "https://www.example.com/";
+        let rules = Rules { secure_wins: true, ..Rules::browser() };
+        for (rules, header, end) in [
+            (rules, "b=2; sid=1", LineEnd::Ruled(Rule::LacksSecure)),
+            (Rules::browser(), "s%69d=0; b=2; sid=1", LineEnd::Inserted),
+        ] {
+            let mut client = Client::with_rules(LIST, rules).unwrap();
+            let planted = ["s%69d=0; Domain=example.com; Path=/", "b=2; Domain=example.com; Path=/"];
+            assert_eq!(client.receive(evil, &planted, NOW), Ok(vec![LineEnd::Inserted; 2]));
+            assert_eq!(client.receive(site, &["sid=1; Secure; Path=/"], NOW), Ok(vec![LineEnd::Inserted]));
+            assert_eq!(client.header(site, NOW).unwrap(), header.as_bytes(), "{rules:?}");
+            assert_eq!(client.header(plain, NOW).unwrap(), b"s%69d=0; b=2", "{rules:?}");
+            assert_eq!(client.receive(evil, &["c=3; SameSite=None"], NOW), Ok(vec![end]));
+        }
+    }
+
     #[test]
     fn rewrites_lines_by_rules() {
         let long = format!("c=3; Path=/{}", "x".repeat(1024));
@@ -463,5 +485,37 @@ mod tests {
         assert_eq!(client.receive(URL, &["a=1\nb=2"], NOW), Err(Error::LineFeed));
         assert_eq!(client.receive(URL, &[""], NOW), Ok(vec![LineEnd::Parse]));
         assert_eq!(client.receive(URL, &["a=1; Domain=com"], NOW), Ok(vec![LineEnd::PublicSuffix]));
+    }
+
+    // Of two causes or more the one is told whose number in the header file is nearest to 0.
+    #[test]
+    fn tells_the_first_cause() {
+        assert_eq!(Client::load("a..b", b"[(", i64::MAX).err(), Some(Error::List));
+        assert_eq!(Client::load("a..b", b"[(", NOW).err(), Some(Error::List));
+        assert_eq!(Client::load(LIST, b"[(", i64::MIN).err(), Some(Error::Moment));
+        let mut client = Client::new(LIST).unwrap();
+        assert_eq!(client.header("no url", i64::MAX), Err(Error::Moment));
+        assert_eq!(client.receive("no url", &["a=1"], i64::MIN), Err(Error::Moment));
+        // The year 0 begins at -62167219200.
+        let below = -62_167_219_261;
+        client.receive(URL, &["a=1; Max-Age=60"], below).unwrap();
+        assert_eq!((client.save(below), client.restart(below)), (Err(Error::Year), Err(Error::Year)));
+        assert_eq!((client.save(i64::MIN), client.restart(i64::MIN)), (Err(Error::Moment), Err(Error::Moment)));
+        assert_eq!(suffix("a..b", "a..com"), Err(Error::List));
+        let session = Session::open("", &Key::from(&[7; 64]), i64::MAX);
+        assert_eq!(session.get(Way::Plain, ""), Err(Error::Moment));
+        assert_eq!(Cookie::parse_encoded("=%ff").err(), Some(Error::EmptyName));
+    }
+
+    #[test]
+    fn takes_many_lines() {
+        let lines: Vec<String> = (0..100_000).map(|i| format!("n{i}={i}; Path=/; Max-Age=60")).collect();
+        let header = (0..100_000).map(|i| format!("n{i}={i}")).collect::<Vec<_>>().join("; ");
+        let mut client = Client::new(LIST).unwrap();
+        assert!(client.receive(URL, &lines, NOW).unwrap().iter().all(|end| *end == LineEnd::Inserted));
+        assert!(client.header(URL, NOW).unwrap() == header.as_bytes());
+        let saved = client.save(NOW).unwrap();
+        assert!(saved.len() > 4 << 20);
+        assert!(Client::load(LIST, &saved, NOW + 1).unwrap().header(URL, NOW + 1).unwrap() == header.as_bytes());
     }
 }

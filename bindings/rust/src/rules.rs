@@ -21,10 +21,14 @@ pub struct Rules {
     pub dates: bool,
     /// Cuts lives at 400 days.
     pub long_lives: bool,
+    /// Leaves out of a header what isn't Secure and has the name, decoded, of a Secure cookie in it, and refuses one of
+    /// `SameSite=None` or `Partitioned` that isn't Secure from a URL that isn't secure. No browser has it. It rests on
+    /// `secure_from_http`: without that a Secure cookie may come from anyone.
+    pub secure_wins: bool,
 }
 
 impl Rules {
-    /// All rules.
+    /// All rules of browsers, and so all but `secure_wins`.
     pub fn browser() -> Rules {
         Rules {
             control: true,
@@ -36,6 +40,7 @@ impl Rules {
             long_attributes: true,
             dates: true,
             long_lives: true,
+            secure_wins: false,
         }
     }
 
@@ -51,12 +56,13 @@ impl Rules {
             long_attributes: false,
             dates: false,
             long_lives: false,
+            secure_wins: false,
         }
     }
 
     pub(crate) fn flags(self) -> i64 {
         let refusing = [self.control, self.too_long, self.secure_prefix, self.host_prefix, self.secure_from_http];
-        let others = [self.secure_overlay, self.long_attributes, self.dates, self.long_lives];
+        let others = [self.secure_overlay, self.long_attributes, self.dates, self.long_lives, self.secure_wins];
         refusing.into_iter().chain(others).rev().fold(0, |flags, is_on| flags * 2 + i64::from(is_on))
     }
 }
@@ -70,6 +76,7 @@ pub enum Rule {
     HostPrefix,
     SecureFromHttp,
     SecureOverlay,
+    LacksSecure,
 }
 
 impl Rule {
@@ -81,6 +88,7 @@ impl Rule {
             23 => Some(Rule::HostPrefix),
             24 => Some(Rule::SecureFromHttp),
             25 => Some(Rule::SecureOverlay),
+            26 => Some(Rule::LacksSecure),
             _ => None,
         }
     }

@@ -1,3 +1,4 @@
+pub mod PrintingLemmas
 pub mod SigningLemmas
 pub mod SealingLemmas
 pub mod NameMaps

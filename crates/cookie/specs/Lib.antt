@@ -3,6 +3,7 @@ pub mod Jar
 pub mod Prefix
 pub mod Key
 pub mod Base64
+pub mod Base64Steps
 pub mod Signing
 pub mod Sealing
 pub mod Reading

@@ -2,6 +2,7 @@
 
 mod encoding;
 mod key;
+mod printing;
 mod private_error;
 mod private_jar;
 mod sealing;

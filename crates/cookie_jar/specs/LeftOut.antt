@@ -34,7 +34,7 @@ TellsRefused rows told = (left : List Row) × ArePicked IsRefused rows left × (
 
 abbrev pub fault_text : RowFault → List ℕ
 fault_text NoDomain = codes "passed over: no domain"
-fault_text HostSign = codes "passed over: host begins with # or a dot"
+fault_text HostSign = codes "passed over: host begins with #, a dot or white space"
 fault_text NoSlash = codes "passed over: path without /"
 fault_text EmptyName = codes "passed over: empty name"
 fault_text Separator = codes "passed over: tab or line feed"

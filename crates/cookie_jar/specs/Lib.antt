@@ -10,4 +10,5 @@ pub mod Rows
 pub mod Saving
 pub mod Steps
 pub mod Taking
+pub mod Terminal
 pub mod Told

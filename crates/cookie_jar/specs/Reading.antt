@@ -43,3 +43,7 @@ ImportsRows now others old count refused told new =
 abbrev pub Imports : Form → ℤ → List ℕ → List Row → ℕ → ℕ → List ℕ → List Row → Type 0
 Imports form now text old count refused told new =
     (read : Store) × Reads form now text read × ImportsRows now read.rows old count refused told new
+
+-- what is told of the rows of a text that a jar drops as it is loaded, since it doesn't keep them
+abbrev pub TellsDropped : Form → ℤ → List ℕ → List ℕ → Type 0
+TellsDropped form now text told = (read : Store) × Reads form now text read × TellsRefused read.rows told

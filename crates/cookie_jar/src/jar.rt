@@ -273,7 +273,8 @@ impl Jar {
 
     /// Its rows that aren't expired at `now`, in their order, as an array of JSON in one line (RFC 8259), and a line
     /// feed. A row is an object of `domain`, `hosts_below`, `path`, `name`, `value`, `expires`, `secure` and
-    /// `http_only`: texts as the row has them, the expiry in whole seconds since 1970 or `null`, and flags.
+    /// `http_only`: texts as the row has them, the expiry in whole seconds since 1970 or `null`, and flags. Control
+    /// characters and marks of bidirectional text, on which a terminal acts, stand as `\u` and four digits.
     ///
     /// # Errors
     ///

@@ -1,5 +1,6 @@
 //! Rows in JSON.
 ghost use Rattle.std.specs.Prelude.{◌≡◌, ◌++◌, ◌∷◌, [], IfOk, OnOk, codes, string_bytes};
+ghost use Rattle.json.specs.Print.{print};
 ghost use Rattle.json.specs.Token.{boolean, key, string};
 ghost use Rattle.cookie_text.specs.Printing.{is_set};
 ghost use Rattle.cookie_store.specs.Rows.{domain_text};
@@ -10,12 +11,14 @@ ghost use Rattle.cookie_jar.specs.Rows.{lent_rows};
 ghost use Rattle.cookie_jar.specs.Steps.{WritesMore};
 
 use crate::listing::is_suffix;
+use crate::terminal::shown_json;
 use cookie_store::Cookie;
 use cookies_txt::expiry_second;
 use json::Writer;
 use std::alloc::{AllocError, Global};
 
-/// An array with an object of each cookie, in their order, and a line feed.
+/// An array with an object of each cookie, in their order, and a line feed. No other character on which a terminal acts
+/// stands in it: such ones are escaped.
 ///
 /// # Errors
 ///
@@ -24,15 +27,17 @@ pub(crate) fn rows_json(alloc: Global, cookies: Vec<&Cookie<'static>>) -> Result
     ensures { IfOk result (λ text. string_bytes text ≡ spec.rows_json (lent_rows cookies.entry.items)) }
 {
     let bytes = rows_text(alloc, cookies)?;
-    match String::from_utf8(bytes) {
-        Ok(text) => Ok(text),
+    let Ok(text) = String::from_utf8(bytes) else {
         // What a writer of JSON writes is UTF-8.
-        Err(_) => Err(AllocError),
-    }
+        return Err(AllocError);
+    };
+    let mut shown = shown_json(alloc, text.as_str())?;
+    shown.push_str("\n")?;
+    Ok(shown)
 }
 
 fn rows_text(alloc: Global, cookies: Vec<&Cookie<'static>>) -> Result<Vec<u8>, AllocError>
-    ensures { IfOk result (λ text. text.items ≡ spec.rows_json (lent_rows cookies.entry.items)) }
+    ensures { IfOk result (λ text. text.items ≡ print (spec.rows_tokens (lent_rows cookies.entry.items))) }
 {
     let mut writer = Writer::new(Vec::new(alloc));
     writer.begin_array()?;
@@ -40,9 +45,7 @@ fn rows_text(alloc: Global, cookies: Vec<&Cookie<'static>>) -> Result<Vec<u8>, A
         write_row(&mut writer, cookie)?;
     }
     writer.end_array()?;
-    let mut text = writer.into_inner();
-    text.push(b'\n')?;
-    Ok(text)
+    Ok(writer.into_inner())
 }
 
 fn write_row(writer: &mut Writer, cookie: &Cookie<'static>) -> Result<(), AllocError>

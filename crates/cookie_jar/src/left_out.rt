@@ -85,7 +85,7 @@ fn fault_text(fault: RowFault) -> &'static str
 {
     match fault {
         RowFault::NoDomain => "passed over: no domain",
-        RowFault::HostSign => "passed over: host begins with # or a dot",
+        RowFault::HostSign => "passed over: host begins with #, a dot or white space",
         RowFault::NoSlash => "passed over: path without /",
         RowFault::EmptyName => "passed over: empty name",
         RowFault::Separator => "passed over: tab or line feed",

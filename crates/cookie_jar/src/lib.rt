@@ -8,6 +8,7 @@
 //! ```
 #![tactic(auto)]
 
+mod dropping;
 mod error;
 mod explaining;
 mod form;
@@ -21,8 +22,10 @@ mod reading;
 mod rows;
 mod saving;
 mod taking;
+mod terminal;
 mod told;
 
+pub use dropping::dropped_lines;
 pub use error::{ReadError, SaveError};
 pub use form::Form;
 pub use jar::{Imported, Jar};

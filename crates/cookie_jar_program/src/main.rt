@@ -6,6 +6,7 @@ use jar_commands::program::{Ended, program};
 use jiff::Timestamp;
 use jiff::civil::DateTime;
 use jiff::tz::TimeZone;
+use kept_file::Locked;
 use std::alloc::AllocError;
 use std::env::{self, VarError};
 use std::io::{self, BufReader, BufWriter, ErrorKind};
@@ -43,27 +44,46 @@ fn start(rt: &HostRuntime) -> Result<u8, AllocError> {
     let Ok(writer) = BufWriter::new(rt.alloc(), io::writer(rt)) else {
         return Err(AllocError);
     };
-    tell(
+    let ended = program(
         rt,
-        program(
-            rt,
-            &words,
-            clock(rt),
-            &[INSTALLED, last],
-            &mut Counting::new(reader),
-            &mut Counting::new(writer),
-        ),
-    )
+        &words,
+        clock(rt),
+        &[INSTALLED, last],
+        &mut Locked::new(rt, "cookie-jar"),
+        &mut Counting::new(reader),
+        &mut Counting::new(writer),
+    );
+    tell(rt, &ended);
+    Ok(ended.status)
 }
 
-fn tell(rt: &HostRuntime, ended: Ended<'_>) -> Result<u8, AllocError> {
+fn tell(rt: &HostRuntime, ended: &Ended<'_>) {
     if let Some(path) = ended.list {
         let _ = eprintln!(rt; "cookie-jar: suffix list of {path}");
     }
-    if let Some(words) = ended.failure {
-        let _ = eprintln!(rt; "cookie-jar: {words}");
+    if let Some(dropped) = &ended.dropped {
+        for line in dropped.as_str().lines() {
+            let _ = eprintln!(rt; "cookie-jar: {line}");
+        }
     }
-    Ok(ended.status)
+    if let Some(words) = ended.failure {
+        tell_failure(rt, words, ended);
+    }
+}
+
+fn tell_failure(rt: &HostRuntime, words: &str, ended: &Ended<'_>) {
+    if let Some(plain) = &ended.instead {
+        let _ = eprintln!(rt; "cookie-jar: {words}: ask {} instead", plain.as_str());
+        return;
+    }
+    match ended.line {
+        Some(line) => {
+            let _ = eprintln!(rt; "cookie-jar: {words}: line {line}");
+        }
+        None => {
+            let _ = eprintln!(rt; "cookie-jar: {words}");
+        }
+    }
 }
 
 // The whole second that the clock shows in UTC.

@@ -2,7 +2,8 @@
 use Rattle.std.proofs.Common.{◌≡◌, ◌⊎◌, ℕ, Bool, List, [], ◌++◌, Option, Some, None, Result, Ok, Err, inl, inr, refl}
 use Rattle.std.proofs.Common.{sym, subst, ap, ◌∙◌, true, false, true≢false}
 use Rattle.std.proofs.Common.{ℤ}
-use Rattle.std.specs.Prelude.{IsErrOf, IfSome, IsErrAnd, option_map, ◌↔◌}
+use Rattle.kept_file.specs.Locks.{Held, Lock, bytes_of, given_back}
+use Rattle.std.specs.Prelude.{IsErrOf, IfSome, OnErr, IsErrAnd, option_map, ◌↔◌}
 use Rattle.std.specs.Result.{result_map_both}
 use Rattle.std.specs.Io.KnownBytes.{Appends, Keeps}
 use Rattle.std.proofs.lemmas.List.{append-nil}
@@ -13,6 +14,7 @@ use Rattle.cookie.specs.Key.{derived}
 use Rattle.publicsuffix.specs.Rules.{Rule}
 use Rattle.cookie_run.specs.Drawn.{DrawsSo}
 use Rattle.cookie_run.specs.Program.{IsFill, ScriptEnds, ScriptFails, ScriptGives}
+use Rattle.cookie_run.specs.ProgramKept.{KeepsStore, RunKeeps, kept_so, put_by, text_of}
 use Rattle.cookie_run.specs.ScriptDrawn.{IsScriptBy}
 use Rattle.cookie_run.specs.ScriptText.{Runs}
 use Rattle.cookie_run.specs.declared.script.ended.Ended.{Ended}
@@ -193,6 +195,36 @@ tells_faulty Untouched io words suffixes stored given is gives = inl (
   (refl, refl),
   (suffixes, stored, subst (λ t. RunGives Untouched io words suffixes stored (Ok t)) is gives),
 )
+
+-- ---- the store file, under its lock
+
+kept_by : (given : Result (Option (List ℕ)) Failure) (path : List ℕ) (stored : Option (List ℕ))
+    → given_back (put_by given (Held (record { path = path; seen = Some stored; put = None })))
+    ≡ kept_so path stored (text_of given)
+kept_by (Ok (Some text)) path stored = refl
+kept_by (Ok None) path stored = refl
+kept_by (Err failure) path stored = refl
+
+-- a run under the lock, which is given back then
+pub keeps_store : (Untouched : Type 0) (io : Devices) (words : List (List ℕ)) (asked : Asked) (suffixes : List ℕ)
+    (stored : Option (List ℕ)) (old held mid new : Lock) (status : ℕ) → asked_of words ≡ Ok asked
+    → held ≡ Held (record { path = asked.store_file; seen = Some stored; put = None }) → new ≡ given_back mid
+    → RunKeeps Untouched io words suffixes (held, mid) status → KeepsStore Untouched io words (old, new) status
+keeps_store Untouched io words asked suffixes stored old held mid new status is held_is new_is keeps = inl (
+  asked,
+  suffixes,
+  stored,
+  keeps.0,
+  is,
+  subst (λ lock. RunGives Untouched io words suffixes (bytes_of lock) keeps.0) held_is keeps.1,
+  keeps.2,
+  new_is ∙ (ap given_back keeps.3 ∙ (ap (λ lock. given_back (put_by keeps.0 lock)) held_is
+      ∙ kept_by keeps.0 asked.store_file stored)),
+)
+
+pub on_err : {T E : Type 0} {P Q : Type 0} (r : Result T E) → (P → Q) → OnErr r P → OnErr r Q
+on_err (Ok x) f p = tt
+on_err (Err e) f p = f p
 
 -- ---- what was written, behind a flush
 

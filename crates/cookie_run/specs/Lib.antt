@@ -33,4 +33,5 @@ pub mod ScriptRead
 pub mod Version
 pub mod Standing
 pub mod Program
+pub mod ProgramKept
 pub mod ProgramRead

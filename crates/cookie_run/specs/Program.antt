@@ -30,8 +30,8 @@ use Rattle.cookie_run.specs.ScriptText.{Runs}
 use Rattle.cookie_run.specs.Version.{version_line}
 use Rattle.cookie_run.specs.declared.program.failure.Failure.{Failure}
 use Rattle.cookie_run.specs.declared.program.failure.Failure.TheVariants.{Arguments, Seed, Moment, SuffixFile}
-use Rattle.cookie_run.specs.declared.program.failure.Failure.TheVariants.{SuffixList, StoreFile, StoreText, Input}
-use Rattle.cookie_run.specs.declared.program.failure.Failure.TheVariants.{Output, Memory}
+use Rattle.cookie_run.specs.declared.program.failure.Failure.TheVariants.{SuffixList, StoreInUse, LockFile, StoreFile}
+use Rattle.cookie_run.specs.declared.program.failure.Failure.TheVariants.{StoreText, Input, Output, Memory}
 use Rattle.cookie_run.specs.declared.script.ended.Ended.{Ended}
 use Rattle.cookie_run.specs.declared.script.ended.Ended.TheVariants.{Whole, Faulty}
 
@@ -67,6 +67,8 @@ failure_text Seed = codes "seed"
 failure_text Moment = codes "moment"
 failure_text SuffixFile = codes "suffix file"
 failure_text SuffixList = codes "suffix list"
+failure_text StoreInUse = codes "store in use"
+failure_text LockFile = codes "lock file"
 failure_text StoreFile = codes "store file"
 failure_text StoreText = codes "store text"
 failure_text Input = codes "input"
@@ -196,9 +198,10 @@ abbrev pub FilesGive : Type 0 → Devices → List (List ℕ) → Result (Option
 FilesGive Untouched io words result = (suffixes : List ℕ) × (stored : Option (List ℕ))
     × RunGives Untouched io words suffixes stored result
 
--- a file isn't read or not written, or memory was refused for it
+-- a file isn't read or not written, the store's lock isn't to be had, or memory was refused for it
 abbrev pub IsOfFiles : Failure → Type 0
-IsOfFiles failure = (failure ≡ SuffixFile) ⊎ ((failure ≡ StoreFile) ⊎ (failure ≡ Memory))
+IsOfFiles failure = (failure ≡ SuffixFile) ⊎ ((failure ≡ StoreInUse) ⊎ ((failure ≡ LockFile)
+    ⊎ ((failure ≡ StoreFile) ⊎ (failure ≡ Memory))))
 
 -- A file isn't read, and the devices stay untouched; or the store file isn't written, behind a script that ended whole.
 abbrev pub FilesFail : Type 0 → Devices → List (List ℕ) → Failure → Type 0

@@ -1,29 +1,34 @@
 //! The program: a script from a reader, played to a writer for a client that is kept in a file.
-ghost use Rattle.std.specs.Prelude.{◌≡◌, ◌⊎◌, ◌↔◌, IfOk, IfErr, IsNone, IsTrue, None, Ok, OnErr, OnOk, map};
+ghost use Rattle.std.specs.Prelude.{◌≡◌, ◌⊎◌, ◌↔◌, ℕ, IfOk, IfErr, IsNone, IsTrue, List, None, Ok, OnErr};
+ghost use Rattle.std.specs.Prelude.{OnOk, Option, Result, Some, map};
 ghost use Rattle.std.specs.Prelude.{option_map, string_bytes};
 ghost use Rattle.std.specs.Io.KnownBytes.{Appends};
 ghost use Rattle.devices.specs.Device.{AppendsFront, Rose};
+ghost use Rattle.kept_file.specs.Locks.{Held, bytes_of};
 ghost use Rattle.cookie_run.specs.Program as spec;
+ghost use Rattle.cookie_run.specs.ProgramKept as kept_spec;
 
 mod answering;
 mod arguments;
-pub mod draft;
 mod failure;
-pub mod files;
-pub mod place;
 
 pub use crate::program::answering::{answer, list_of};
 pub use crate::program::failure::Failure;
-use crate::program::files::Unread;
-use crate::program::place::Place;
 use crate::release::version_line;
 use devices::pour::{WriteFailed, write_all};
 use devices::{Sink, Source};
+use kept_file::files::Unread;
+pub use kept_file::{draft, files, place};
+use kept_file::{Keeper, Untaken, Unwritten};
 use std::alloc::Global;
 use std::fs::Files;
+use std::time::Duration;
 
-// What the name of a new file beside the store file begins with, and the line of the version.
+// What the line of the version begins with.
 const NAME: &str = "cookie-run";
+
+// How long it is waited for the lock of the store file, in seconds.
+const WAIT: u64 = 10;
 
 /// What `cookie-run SUFFIXFILE SEED STOREFILE MOMENT` does: runs the script of a reader on the client
 /// of a store file, and keeps that client in the file if the script ended whole. Answers the exit
@@ -38,17 +43,21 @@ const NAME: &str = "cookie-run";
 ///
 /// The status is 0 where every line was done and 1 after the fault of a line. At 2 the first of these
 /// stands against it: not four words (`arguments`), SEED or MOMENT of another form (`seed`, `moment`),
-/// SUFFIXFILE not read (`suffix file`) or no suffix list (`suffix list`), STOREFILE not read or not
-/// written (`store file`), no saved text in it, as in an empty file, or for it (`store text`), the
-/// reader or the writer failed (`input`, `output`). `memory` stands in their place where memory was
+/// SUFFIXFILE not read (`suffix file`) or no suffix list (`suffix list`), the lock of STOREFILE held by
+/// another for ten seconds (`store in use`), no lock file to be had beside it (`lock file`), STOREFILE not
+/// read or not written (`store file`), no saved text in it, as in an empty file, or for it (`store text`),
+/// the reader or the writer failed (`input`, `output`). `memory` stands in their place where memory was
 /// refused outside the script. Up to `store text` of what STOREFILE holds, the reader and the writer are
 /// as they were.
 ///
+/// STOREFILE is kept by `kept`: its lock is held from before it is read until the text stands in its place.
+///
 /// By `cookie-run --version` it prints the line `cookie-run VERSION` and reads nothing. `output` stands
 /// against that where the writer failed, and `memory`, which leaves the writer as it was.
-pub fn program<H: Files + AllocGlobal, R: Source, W: Sink>(
+pub fn program<H: Files + AllocGlobal, K: Keeper, R: Source, W: Sink>(
     rt: &H,
     words: &[String],
+    kept: &mut K,
     reader: &mut R,
     writer: &mut W,
 ) -> (u8, Option<&'static str>)
@@ -65,12 +74,22 @@ pub fn program<H: Files + AllocGlobal, R: Source, W: Sink>(
         (map (λ word. string_bytes word) words.now) result.0 (option_map (λ said. said.now) result.1) }
     ensures failures { IsNone result.1 → (R.failures reader.new ≡ R.failures reader.old)
         × (W.failures writer.new ≡ W.failures writer.old) }
+    ensures keeps { kept_spec.WordsKeep
+        ((reader.new ≡ reader.old) × (writer.new ≡ writer.old))
+        (record {
+          left = R.left reader.old;
+          reads = R.reads reader.new;
+          unread = (R.failures reader.old, R.failures reader.new);
+          written = (W.written writer.old, W.written writer.new);
+          unwritten = (W.failures writer.old, W.failures writer.new);
+        })
+        (map (λ word. string_bytes word) words.now) (K.lock kept.old, K.lock kept.new) result.0 }
     ensures unflushed { IsNone result.1 → W.unflushed writer.new ≡ 0 }
 {
     if asks_version(words) {
         return print_version(rt.alloc(), writer);
     }
-    run_told(rt, words, reader, writer)
+    run_told(rt, words, kept, reader, writer)
 }
 
 // Whether the words ask for the version.
@@ -121,9 +140,10 @@ fn write_flushed<W: Sink>(writer: &mut W, text: &[u8]) -> Result<(), WriteFailed
 }
 
 // Answers the exit status of a run, with what goes to standard error at status 2.
-fn run_told<H: Files + AllocGlobal, R: Source, W: Sink>(
+fn run_told<H: Files + AllocGlobal, K: Keeper, R: Source, W: Sink>(
     rt: &H,
     words: &[String],
+    kept: &mut K,
     reader: &mut R,
     writer: &mut W,
 ) -> (u8, Option<&'static str>)
@@ -139,18 +159,29 @@ fn run_told<H: Files + AllocGlobal, R: Source, W: Sink>(
         (map (λ word. string_bytes word) words.now) result.0 (option_map (λ said. said.now) result.1) }
     ensures failures { IsNone result.1 → (R.failures reader.new ≡ R.failures reader.old)
         × (W.failures writer.new ≡ W.failures writer.old) }
+    ensures keeps { kept_spec.KeepsStore
+        ((reader.new ≡ reader.old) × (writer.new ≡ writer.old))
+        (record {
+          left = R.left reader.old;
+          reads = R.reads reader.new;
+          unread = (R.failures reader.old, R.failures reader.new);
+          written = (W.written writer.old, W.written writer.new);
+          unwritten = (W.failures writer.old, W.failures writer.new);
+        })
+        (map (λ word. string_bytes word) words.now) (K.lock kept.old, K.lock kept.new) result.0 }
     ensures unflushed { IsNone result.1 → W.unflushed writer.new ≡ 0 }
 {
-    match serve(rt, words, reader, writer) {
+    match serve(rt, words, kept, reader, writer) {
         Ok(status) => (status, None),
         Err(failure) => (2, Some(failure.words())),
     }
 }
 
 // Reads the files, answers for them, and keeps what is to be saved. Gives the exit status.
-fn serve<H: Files + AllocGlobal, R: Source, W: Sink>(
+fn serve<H: Files + AllocGlobal, K: Keeper, R: Source, W: Sink>(
     rt: &H,
     words: &[String],
+    kept: &mut K,
     reader: &mut R,
     writer: &mut W,
 ) -> Result<u8, Failure>
@@ -174,6 +205,26 @@ fn serve<H: Files + AllocGlobal, R: Source, W: Sink>(
           unwritten = (W.failures writer.old, W.failures writer.new);
         })
         (map (λ word. string_bytes word) words.now)) }
+    ensures keeps_ok { IfOk result (kept_spec.KeepsStore
+        ((reader.new ≡ reader.old) × (writer.new ≡ writer.old))
+        (record {
+          left = R.left reader.old;
+          reads = R.reads reader.new;
+          unread = (R.failures reader.old, R.failures reader.new);
+          written = (W.written writer.old, W.written writer.new);
+          unwritten = (W.failures writer.old, W.failures writer.new);
+        })
+        (map (λ word. string_bytes word) words.now) (K.lock kept.old, K.lock kept.new)) }
+    ensures keeps_err { OnErr result (kept_spec.KeepsStore
+        ((reader.new ≡ reader.old) × (writer.new ≡ writer.old))
+        (record {
+          left = R.left reader.old;
+          reads = R.reads reader.new;
+          unread = (R.failures reader.old, R.failures reader.new);
+          written = (W.written writer.old, W.written writer.new);
+          unwritten = (W.failures writer.old, W.failures writer.new);
+        })
+        (map (λ word. string_bytes word) words.now) (K.lock kept.old, K.lock kept.new) 2) }
     ensures failures { OnOk result ((R.failures reader.new ≡ R.failures reader.old)
         × (W.failures writer.new ≡ W.failures writer.old)) }
     ensures unflushed { OnOk result (W.unflushed writer.new ≡ 0) }
@@ -182,23 +233,116 @@ fn serve<H: Files + AllocGlobal, R: Source, W: Sink>(
         Ok(asked) => asked,
         Err(failure) => return Err(failure),
     };
-    let place = Place::of(rt, asked.store_file, NAME);
     let suffixes = read_suffixes(rt, asked.suffix_file)?;
-    let stored = match read_stored(rt, &place) {
-        Ok(stored) => stored,
-        Err(failure) => return Err(first_of(rt.alloc(), &suffixes, failure)),
-    };
-    match answer(
-        rt.alloc(),
-        words,
-        &suffixes,
-        stored.as_deref(),
-        reader,
-        writer,
-    ) {
-        Ok(Some(text)) => match place.replace(rt, &text) {
+    match begin(kept, asked.store_file) {
+        Ok(()) => {
+            let ended = serve_held(rt.alloc(), words, &suffixes, kept, reader, writer);
+            kept.give();
+            ended
+        }
+        Err(failure) => Err(first_of(rt.alloc(), &suffixes, failure)),
+    }
+}
+
+// Takes the lock of the store file, and reads it. Where it isn't read, the lock is given back.
+fn begin<K: Keeper>(kept: &mut K, path: &str) -> Result<(), Failure>
+    ensures ok { OnOk result ((stored : Option (List ℕ))
+        × (K.lock kept.new ≡ Held (record { path = path.now; seen = Some stored; put = None }))) }
+    ensures err { IfErr result (λ failure. spec.IsOfFiles failure
+        × kept_spec.IsUnread (K.lock kept.old, K.lock kept.new)) }
+{
+    if let Err(untaken) = kept.take(path, Duration::from_secs(WAIT)) {
+        return Err(untaken_as(untaken));
+    }
+    match kept.read() {
+        Ok(()) => Ok(()),
+        Err(unread) => {
+            kept.give();
+            Err(unread_as(unread))
+        }
+    }
+}
+
+// What is told where the lock isn't taken.
+fn untaken_as(untaken: Untaken) -> Failure
+    ensures { spec.IsOfFiles result }
+{
+    match untaken {
+        Untaken::InUse => Failure::StoreInUse,
+        Untaken::NoLock => Failure::LockFile,
+        Untaken::Failed => Failure::StoreFile,
+        Untaken::Memory => Failure::Memory,
+    }
+}
+
+// What is told where the store file isn't read.
+fn unread_as(unread: Unread) -> Failure
+    ensures { spec.IsOfFiles result }
+{
+    match unread {
+        Unread::Memory => Failure::Memory,
+        Unread::Missing | Unread::Failed => Failure::StoreFile,
+    }
+}
+
+// Answers for what was read, and puts what is to be saved in the store file's place. Gives the exit status.
+fn serve_held<K: Keeper, R: Source, W: Sink>(
+    alloc: Global,
+    words: &[String],
+    suffixes: &[u8],
+    kept: &mut K,
+    reader: &mut R,
+    writer: &mut W,
+) -> Result<u8, Failure>
+    ensures ok { IfOk result (λ status. spec.ProgramTells
+        ((reader.new ≡ reader.old) × (writer.new ≡ writer.old))
+        (record {
+          left = R.left reader.old;
+          reads = R.reads reader.new;
+          unread = (R.failures reader.old, R.failures reader.new);
+          written = (W.written writer.old, W.written writer.new);
+          unwritten = (W.failures writer.old, W.failures writer.new);
+        })
+        (map (λ word. string_bytes word) words.now) status None) }
+    ensures err { IfErr result (spec.ProgramFails
+        ((reader.new ≡ reader.old) × (writer.new ≡ writer.old))
+        (record {
+          left = R.left reader.old;
+          reads = R.reads reader.new;
+          unread = (R.failures reader.old, R.failures reader.new);
+          written = (W.written writer.old, W.written writer.new);
+          unwritten = (W.failures writer.old, W.failures writer.new);
+        })
+        (map (λ word. string_bytes word) words.now)) }
+    ensures keeps_ok { IfOk result (kept_spec.RunKeeps
+        ((reader.new ≡ reader.old) × (writer.new ≡ writer.old))
+        (record {
+          left = R.left reader.old;
+          reads = R.reads reader.new;
+          unread = (R.failures reader.old, R.failures reader.new);
+          written = (W.written writer.old, W.written writer.new);
+          unwritten = (W.failures writer.old, W.failures writer.new);
+        })
+        (map (λ word. string_bytes word) words.now) suffixes.now (K.lock kept.old, K.lock kept.new)) }
+    ensures keeps_err { OnErr result (kept_spec.RunKeeps
+        ((reader.new ≡ reader.old) × (writer.new ≡ writer.old))
+        (record {
+          left = R.left reader.old;
+          reads = R.reads reader.new;
+          unread = (R.failures reader.old, R.failures reader.new);
+          written = (W.written writer.old, W.written writer.new);
+          unwritten = (W.failures writer.old, W.failures writer.new);
+        })
+        (map (λ word. string_bytes word) words.now) suffixes.now (K.lock kept.old, K.lock kept.new) 2) }
+    ensures failures { OnOk result ((R.failures reader.new ≡ R.failures reader.old)
+        × (W.failures writer.new ≡ W.failures writer.old)) }
+    ensures unflushed { OnOk result (W.unflushed writer.new ≡ 0) }
+{
+    match answer(alloc, words, suffixes, kept.bytes(), reader, writer) {
+        Ok(Some(text)) => match kept.replace(text) {
             Ok(()) => Ok(0),
-            Err(failure) => Err(failure),
+            Err(Unwritten::Memory) => Err(Failure::Memory),
+            Err(Unwritten::Failed) => Err(Failure::StoreFile),
         },
         Ok(None) => Ok(1),
         Err(failure) => Err(failure),
@@ -213,18 +357,6 @@ fn read_suffixes<H: Files + AllocGlobal>(rt: &H, path: &str) -> Result<Vec<u8>, 
         Ok(text) => Ok(text),
         Err(Unread::Memory) => Err(Failure::Memory),
         Err(Unread::Missing | Unread::Failed) => Err(Failure::SuffixFile),
-    }
-}
-
-// All that the store file holds, or none where it isn't there.
-fn read_stored<H: Files + AllocGlobal>(rt: &H, place: &Place) -> Result<Option<Vec<u8>>, Failure>
-    ensures { IfErr result spec.IsOfFiles }
-{
-    match place.read(rt) {
-        Ok(text) => Ok(Some(text)),
-        Err(Unread::Missing) => Ok(None),
-        Err(Unread::Memory) => Err(Failure::Memory),
-        Err(Unread::Failed) => Err(Failure::StoreFile),
     }
 }
 

@@ -4,6 +4,7 @@
 use cookie_run::Counting;
 use cookie_run::program::files::{self, Unread};
 use cookie_run::program::program;
+use kept_file::Locked;
 use std::alloc::AllocError;
 use std::env;
 use std::io::{self, BufReader, BufWriter, ErrorKind};
@@ -37,6 +38,7 @@ fn play(rt: &HostRuntime) -> Result<(u8, Option<&'static str>), AllocError> {
     Ok(program(
         rt,
         &words,
+        &mut Locked::new(rt, "cookie-run"),
         &mut Counting::new(reader),
         &mut Counting::new(writer),
     ))

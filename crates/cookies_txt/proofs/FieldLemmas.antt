@@ -1,25 +1,18 @@
 -- The fields of a line.
-use Rattle.std.proofs.Common.{◌≡◌, ◌≢◌, ◌<◌, ◌≤◌, ◌^◌, min, ℕ, Bool, true, false, cond, List, [], ◌∷◌, ◌++◌, All}
+use Rattle.std.proofs.Common.{◌≡◌, ◌≢◌, ◌<◌, ℕ, Bool, true, false, cond, List, [], ◌∷◌, ◌++◌, All}
 use Rattle.std.proofs.Common.{length}
-use Rattle.std.proofs.Common.{get_or, Option, Some, None, MatchOption, Result, Err, option_map, refl, sym, ap, subst}
+use Rattle.std.proofs.Common.{get_or, Option, Some, None, MatchOption, option_map, refl, sym, ap, subst}
 use Rattle.std.proofs.Common.{◌∙◌, arith, unwrap_or}
 use Rattle.std.specs.Borrow.{Bor}
-use Rattle.std.specs.Prelude.{◌==◌, ◌&&◌, is_some, not}
-use Rattle.std.specs.Char.{is_ascii_digit}
-use Rattle.std.specs.List.{slice_split, onto_first, list_all}
-use Rattle.std.specs.Result.{OkIff}
-use Rattle.std.specs.Str.Parse.{digits_value}
+use Rattle.std.specs.Prelude.{◌==◌, is_some}
+use Rattle.std.specs.List.{slice_split, onto_first}
 use Rattle.std.proofs.lemmas.Bool.Decides.{nat_tests}
 use Rattle.std.proofs.lemmas.List.{get_or_default}
 use Rattle.std.proofs.lemmas.List.Splits.{slice_split_at, slice_split_none}
-use Rattle.std.proofs.lemmas.Result.{OkIff-at_err}
-use Rattle.std.proofs.lemmas.Str.Parse.{IsNumeralModel, numerals_by_value}
-use Rattle.std.proofs.Common.{rules}
 use Rattle.cookie_text.specs.Record.{without_dot}
 use Rattle.cookies_txt.specs.Layout.{tab}
-use Rattle.cookies_txt.specs.Reading.{field_texts, is_number, parts}
+use Rattle.cookies_txt.specs.Reading.{field_texts, parts}
 use Rattle.cookies_txt.specs.Steps.{last_two}
-use Rattle.cookies_txt.specs.Writing.{latest_second}
 
 abbrev pub is_tab : ℕ → Bool
 is_tab b = b == tab
@@ -104,21 +97,6 @@ pub without_dot-stripped : (text : Bor (List ℕ)) (stripped : Option (Bor (List
 without_dot-stripped text None none = sym (without_dot-other text.now none)
 without_dot-stripped text (Some x) split = sym (ap without_dot split)
 
--- the words for digits are std's
-pub own : IsNumeralModel (λ ds. list_all is_ascii_digit ds ≡ true) (digits_value 10)
-own = numerals_by_value _ (search rules)
-
--- digits that are no number of 64 bits are of the latest second
-pub largest_second : {E : Type 0} (text : List ℕ) (r : Result ℕ E) (e : E)
-    → 0 < length text → OkIff r ((0 < length text) × (digits_value 10 text < 2 ^ 64)) (digits_value 10 text)
-    → r ≡ Err e → latest_second ≡ min (digits_value 10 text) latest_second
-largest_second text r e some parsed failed =
-    let large : 2 ^ 64 ≤ digits_value 10 text = omega (
-      arith,
-      λ (h : digits_value 10 text < 2 ^ 64). OkIff-at_err r _ _ e parsed failed (some, h),
-    ) in
-    omega arith
-
 -- the fields of a line that was cut five times
 pub joined_fields : (line domain below path secure expires r1 r2 r3 r4 r5 : List ℕ)
     (two : Option (List ℕ × List ℕ)) → parts line ≡ domain ∷ parts r1 → parts r1 ≡ below ∷ parts r2
@@ -135,11 +113,3 @@ pub joined_fields : (line domain below path secure expires r1 r2 r3 r4 r5 : List
 joined_fields line domain below path secure expires r1 r2 r3 r4 r5 two e1 e2 e3 e4 e5 e6 =
     let all : parts line ≡ domain ∷ below ∷ path ∷ secure ∷ expires ∷ parts r5 = cc in
     ap field_texts all ∙ (with_last_two domain below path secure expires (parts r5) ∙ ap (option_map _) e6)
-
--- what the test of digits means
-pub digits_in : (text : List ℕ) → is_number text ≡ true
-    → (0 < length text) × (list_all is_ascii_digit text ≡ true)
-digits_in [] h = cc
-digits_in (b ∷ bs) h =
-    let some : (length (b ∷ bs) == 0) ≡ false = grind (arith, nat_tests) in
-    (omega arith, sym (ap (λ e. not e && list_all is_ascii_digit (b ∷ bs)) some) ∙ h)

@@ -1,3 +1,5 @@
+pub mod EntryLemmas
+pub mod ExpiryLemmas
 pub mod FieldLemmas
 pub mod LineLemmas
 pub mod PartLemmas

@@ -1,9 +1,9 @@
 -- What was written is read: a line, and the lines of a text.
 use Rattle.std.proofs.Common.{◌≡◌, ◌≢◌, ◌<◌, ◌≤◌, ◌-◌, ℕ, Bool, true, false, List, [], ◌∷◌, ◌++◌}
-use Rattle.std.proofs.Common.{length, get_or, map, Some, None, Ok, refl, sym, ap, subst, ◌∙◌, arith}
+use Rattle.std.proofs.Common.{length, get_or, map, min, Some, None, Ok, refl, sym, ap, subst, ◌∙◌, arith}
 use Rattle.std.proofs.Common.{append_assoc, suc, rules}
 use Rattle.std.specs.Prelude.{◌==◌, ◌||◌, ◌&&◌, codes, IsOk}
-use Rattle.std.specs.Char.{is_ascii_digit}
+use Rattle.std.specs.Char.{is_ascii_digit, is_ascii_whitespace}
 use Rattle.std.specs.Fmt.{decimal}
 use Rattle.std.specs.List.{AllByRecursion, flat_map, join_with_byte, list_all, slice_split}
 use Rattle.std.specs.Str.Lines.{lines, lines_of_parts, strip_carriage_return}
@@ -15,11 +15,13 @@ use Rattle.std.proofs.lemmas.List.Splits.{slice_split_at, slice_split_none}
 use Rattle.cookie_text.specs.Record.{without_dot}
 use Rattle.cookies_txt.specs.Layout.{CookieLine, cookies_txt, flag_text, heading_text}
 use Rattle.cookies_txt.specs.Layout.{http_only_mark, line_text, tab, when}
-use Rattle.cookies_txt.specs.Reading.{FieldTexts, fault_of, field_texts, is_flag, is_marked, is_number, is_passed_over}
-use Rattle.cookies_txt.specs.Reading.{is_true, parts, read_line, said, said_by_fields, second_of, unmarked}
+use Rattle.cookies_txt.specs.Reading.{FieldTexts, fault_of, field_texts, is_expiry, is_flag, is_marked}
+use Rattle.cookies_txt.specs.Reading.{is_passed_over, is_true, parts, read_line, said, said_by_fields, second_of}
+use Rattle.cookies_txt.specs.Reading.{unindented, unmarked}
 use Rattle.cookies_txt.specs.Reading.{IsFine, SaysLines}
 use Rattle.cookies_txt.specs.Writing.{begins_with_slash, ends_in_return, has_separator, latest_second}
-use Rattle.cookies_txt.proofs.FieldLemmas.{HasFirst, first_part, is_tab, own}
+use Rattle.cookies_txt.proofs.FieldLemmas.{HasFirst, first_part, is_tab}
+use Rattle.cookies_txt.proofs.ExpiryLemmas.{number_parts, own}
 
 -- ---- bytes that a text lacks
 
@@ -58,6 +60,13 @@ digits_lack (b ∷ bs) h =
 
     no_ten : (b : ℕ) → is_ascii_digit b ≡ true → is_feed b ≡ false
     no_ten b h = grind (arith, nat_tests)
+
+both_true : (x y : Bool) → (x && y) ≡ true → (x ≡ true) × (y ≡ true)
+both_true true y h = (refl, h)
+both_true false y h = cc
+
+no_minus : (b : ℕ) → is_ascii_digit b ≡ true → (b == 45) ≡ false
+no_minus b h = grind (arith, nat_tests)
 
 lacks_append : (p : ℕ → Bool) (xs ys : List ℕ) → Lacks p xs → Lacks p ys → Lacks p (xs ++ ys)
 lacks_append p [] ys hx hy = hy
@@ -113,9 +122,15 @@ not_stripped text h = rw h refl
 
 -- ---- a line that holds
 
+-- a byte that a host may begin with
+pub record IsHostSign (b : ℕ) : Type 0 where
+  pub no_comment : b ≢ 35
+  pub no_dot : b ≢ 46
+  pub no_white : is_ascii_whitespace b ≡ false
+
 pub record IsWhole (l : CookieLine) : Type 0 where
   pub domain : 0 < length l.domain
-  pub sign : l.below ≡ false → (get_or l.domain 0 0 ≢ 35) × (get_or l.domain 0 0 ≢ 46)
+  pub sign : l.below ≡ false → IsHostSign (get_or l.domain 0 0)
   pub path : begins_with_slash l.path ≡ true
   pub name : 0 < length l.name
   pub domain_clean : has_separator l.domain ≡ false
@@ -139,83 +154,110 @@ marked_text : (l : CookieLine) → line_text l ≡ when l.http_only http_only_ma
 unfolding line_text
 marked_text l = append_assoc (when l.http_only http_only_mark) (dotted l) (tab ∷ join_with_byte tab (others l))
 
--- the domain's field begins with no number sign
-dotted_first : (l : CookieLine) → IsWhole l → (b : ℕ) × (bs : List ℕ) × (dotted l ≡ b ∷ bs) × (b ≢ 35)
+-- the domain's field begins with neither a number sign nor white space
+pub record Begins (text : List ℕ) : Type 0 where
+  pub first : ℕ
+  pub rest : List ℕ
+  pub is : text ≡ first ∷ rest
+  pub no_comment : first ≢ 35
+  pub no_white : is_ascii_whitespace first ≡ false
+
+dotted_first : (l : CookieLine) → IsWhole l → Begins (dotted l)
 dotted_first l h = by l.below l.domain h.domain h.sign
   where
     by : (below : Bool) (domain : List ℕ) → 0 < length domain
-        → (below ≡ false → (get_or domain 0 0 ≢ 35) × (get_or domain 0 0 ≢ 46))
-        → (b : ℕ) × (bs : List ℕ) × (when below (46 ∷ []) ++ domain ≡ b ∷ bs) × (b ≢ 35)
-    by true domain some sign = (46, domain, refl, λ e. absurd (omega (arith, e)))
+        → (below ≡ false → IsHostSign (get_or domain 0 0)) → Begins (when below (46 ∷ []) ++ domain)
+    by true domain some sign = record {
+      first = 46;
+      rest = domain;
+      is = refl;
+      no_comment = λ e. absurd (omega (arith, e));
+      no_white = refl;
+    }
     by false [] some sign = absurd (omega arith)
-    by false (b ∷ bs) some sign = (b, bs, refl, (sign refl).0)
+    by false (b ∷ bs) some sign = record {
+      first = b;
+      rest = bs;
+      is = refl;
+      no_comment = (sign refl).no_comment;
+      no_white = (sign refl).no_white;
+    }
 
 without_first_dot : (l : CookieLine) → IsWhole l → without_dot (dotted l) ≡ l.domain
 without_first_dot l h = by l.below l.domain h.domain h.sign
   where
     by : (below : Bool) (domain : List ℕ) → 0 < length domain
-        → (below ≡ false → (get_or domain 0 0 ≢ 35) × (get_or domain 0 0 ≢ 46))
-        → without_dot (when below (46 ∷ []) ++ domain) ≡ domain
+        → (below ≡ false → IsHostSign (get_or domain 0 0)) → without_dot (when below (46 ∷ []) ++ domain) ≡ domain
     by true domain some sign = refl
     by false [] some sign = refl
     by false (b ∷ bs) some sign =
-        let other : b ≢ 46 = (sign refl).1 in
+        let other : b ≢ 46 = (sign refl).no_dot in
         let apart : (b == 46) ≡ false = grind (arith, nat_tests) in
         rw apart refl
 
 other_sign : (b : ℕ) → b ≢ 35 → ((35 == b) ≡ false) × ((b == 35) ≡ false)
 other_sign b h = (grind (arith, nat_tests), grind (arith, nat_tests))
 
--- a text that begins with another byte isn't marked, and isn't passed over
-unmarked_first : (b : ℕ) (bs : List ℕ) → b ≢ 35 → is_marked (b ∷ bs) ≡ false
-unmarked_first b bs h = let e = (other_sign b h).0 in rw e refl
+-- a text that begins with no white space stays
+stays : (b : ℕ) (bs : List ℕ) → is_ascii_whitespace b ≡ false → unindented (b ∷ bs) ≡ b ∷ bs
+unfolding unindented
+stays b bs h = rw h refl
 
-kept_first : (b : ℕ) (bs : List ℕ) → b ≢ 35 → is_passed_over (b ∷ bs) ≡ false
-kept_first b bs h =
+marked_stays : (text : List ℕ) → unindented (http_only_mark ++ text) ≡ http_only_mark ++ text
+marked_stays text = stays 35 (codes "HttpOnly_" ++ text) refl
+
+-- a text that begins with another byte isn't marked, and isn't passed over
+unmarked_first : (b : ℕ) (bs : List ℕ) → b ≢ 35 → is_ascii_whitespace b ≡ false → is_marked (b ∷ bs) ≡ false
+unmarked_first b bs h white =
+    let e = (other_sign b h).0 in
+    let same = stays b bs white in
+    rw (same, e) refl
+
+kept_first : (b : ℕ) (bs : List ℕ) → b ≢ 35 → is_ascii_whitespace b ≡ false → is_passed_over (b ∷ bs) ≡ false
+kept_first b bs h white =
     let e = (other_sign b h).1 in
+    let same = stays b bs white in
     let some : (length (b ∷ bs) == 0) ≡ false = grind (arith, nat_tests) in
-    rw (some, e) refl
+    rw (same, some, e) refl
 
 marked_mark : (text : List ℕ) → is_marked (http_only_mark ++ text) ≡ true
-marked_mark text = refl
+marked_mark text = rw (marked_stays text) refl
 
 marked_kept : (text : List ℕ) → is_passed_over (http_only_mark ++ text) ≡ false
 marked_kept text =
+    let same = marked_stays text in
     let some : (length (http_only_mark ++ text) == 0) ≡ false = grind (arith, nat_tests) in
-    rw some refl
+    rw (same, some) refl
+
+marked_rest : (text : List ℕ) → unmarked (http_only_mark ++ text) ≡ text
+marked_rest text = rw (marked_stays text) refl
 
 -- the mark, and what is behind it
-line_marked : (l : CookieLine) → IsWhole l → is_marked (line_text l) ≡ l.http_only
-line_marked l h = ap is_marked (marked_text l) ∙ by l.http_only (dotted_first l h)
-  where
-    by : (http_only : Bool) → ((b : ℕ) × (bs : List ℕ) × (dotted l ≡ b ∷ bs) × (b ≢ 35))
-        → is_marked (when http_only http_only_mark ++ bare_text l) ≡ http_only
-    by true w = refl
-    by false (b, bs, e, other) =
-        subst (λ d. is_marked (d ++ tab ∷ join_with_byte tab (others l)) ≡ false) (sym e)
-        (unmarked_first b (bs ++ tab ∷ join_with_byte tab (others l)) other)
+pub record IsMarked (marked : Bool) (text whole : List ℕ) : Type 0 where
+  pub mark : is_marked whole ≡ marked
+  pub kept : is_passed_over whole ≡ false
+  pub rest : unmarked whole ≡ text
 
-line_kept : (l : CookieLine) → IsWhole l → is_passed_over (line_text l) ≡ false
-line_kept l h = ap is_passed_over (marked_text l) ∙ by l.http_only (dotted_first l h)
-  where
-    by : (http_only : Bool) → ((b : ℕ) × (bs : List ℕ) × (dotted l ≡ b ∷ bs) × (b ≢ 35))
-        → is_passed_over (when http_only http_only_mark ++ bare_text l) ≡ false
-    by true w = marked_kept (bare_text l)
-    by false (b, bs, e, other) =
-        subst (λ d. is_passed_over (d ++ tab ∷ join_with_byte tab (others l)) ≡ false) (sym e)
-        (kept_first b (bs ++ tab ∷ join_with_byte tab (others l)) other)
+mark_read : (marked : Bool) (first more : List ℕ) → Begins first
+    → IsMarked marked (first ++ tab ∷ more) (when marked http_only_mark ++ (first ++ tab ∷ more))
+mark_read true first more begins = record {
+  mark = marked_mark (first ++ tab ∷ more);
+  kept = marked_kept (first ++ tab ∷ more);
+  rest = marked_rest (first ++ tab ∷ more);
+}
+mark_read false first more begins =
+    subst (λ text. IsMarked false (text ++ tab ∷ more) (text ++ tab ∷ more)) (sym begins.is)
+    (let none = unmarked_first begins.first (begins.rest ++ tab ∷ more) begins.no_comment begins.no_white in
+    record {
+      mark = none;
+      kept = kept_first begins.first (begins.rest ++ tab ∷ more) begins.no_comment begins.no_white;
+      rest = rw none refl;
+    })
 
-line_unmarked : (l : CookieLine) → IsWhole l → unmarked (line_text l) ≡ bare_text l
-line_unmarked l h = ap unmarked (marked_text l) ∙ by l.http_only (dotted_first l h)
-  where
-    by : (http_only : Bool) → ((b : ℕ) × (bs : List ℕ) × (dotted l ≡ b ∷ bs) × (b ≢ 35))
-        → unmarked (when http_only http_only_mark ++ bare_text l) ≡ bare_text l
-    by true w = refl
-    by false (b, bs, e, other) =
-        let none : is_marked (bare_text l) ≡ false =
-        subst (λ d. is_marked (d ++ tab ∷ join_with_byte tab (others l)) ≡ false) (sym e)
-        (unmarked_first b (bs ++ tab ∷ join_with_byte tab (others l)) other) in
-        rw none refl
+line_mark : (l : CookieLine) → IsWhole l → IsMarked l.http_only (bare_text l) (line_text l)
+line_mark l h =
+    subst (IsMarked l.http_only (bare_text l)) (sym (marked_text l))
+    (mark_read l.http_only (dotted l) (join_with_byte tab (others l)) (dotted_first l h))
 
 -- ---- what the fields of a line say
 
@@ -257,19 +299,29 @@ written_texts l = record {
 
 line_fields : (l : CookieLine) → IsWhole l → field_texts (parts (unmarked (line_text l))) ≡ Some (written_texts l)
 line_fields l h =
-    ap (λ t. field_texts (parts t)) (line_unmarked l h)
+    ap (λ t. field_texts (parts t)) (line_mark l h).rest
     ∙ ap field_texts (parts_joined (dotted l) (others l) (line_clean l h).0)
 
 flag_is : (b : Bool) → (is_flag (flag_text b) ≡ true) × (is_true (flag_text b) ≡ b)
 flag_is true = (refl, refl)
 flag_is false = (refl, refl)
 
-number_is : (n : ℕ) → n ≤ latest_second → (is_number (decimal n) ≡ true) × (second_of (decimal n) ≡ n)
+number_is : (n : ℕ) → n ≤ latest_second → (is_expiry (decimal n) ≡ true) × (second_of (decimal n) ≡ n)
 number_is n h =
     let digits : list_all is_ascii_digit (decimal n) ≡ true = digits_decimal own n (omega (arith, h)) in
     let some : (length (decimal n) == 0) ≡ false = grind (arith, nat_tests, decimal_nonempty n (omega (arith, h))) in
     let value : digits_value 10 (decimal n) ≡ n = digits_value-decimal own n (omega (arith, h)) in
-    (rw (some, digits) refl, rw value (omega (arith, h)))
+    let (is, second) = by (decimal n) some digits in
+    (is, second ∙ rw value (omega (arith, h)))
+  where
+    -- digits are an expiry of their value
+    by : (text : List ℕ) → (length text == 0) ≡ false → list_all is_ascii_digit text ≡ true
+        → (is_expiry text ≡ true) × (second_of text ≡ min (digits_value 10 text) latest_second)
+    by [] some digits = cc
+    by (b ∷ bs) some digits =
+        let plus : (b == 45) ≡ false = no_minus b (both_true (is_ascii_digit b) _ digits).0 in
+        let single = number_parts (b ∷ bs) digits in
+        (rw (plus, single, some, digits) refl, rw (plus, single) refl)
 
 no_fault : (l : CookieLine) → IsWhole l → fault_of (written_texts l) ≡ None
 unfolding fault_of
@@ -296,8 +348,8 @@ line_said l h =
 pub line_reads : (l : CookieLine) → IsWhole l → read_line (line_text l) ≡ Ok (Some l)
 unfolding read_line
 line_reads l h =
-    let kept = line_kept l h in
-    let marked = line_marked l h in
+    let kept = (line_mark l h).kept in
+    let marked = (line_mark l h).mark in
     let texts = line_fields l h in
     let fine = no_fault l h in
     let said = line_said l h in
@@ -363,7 +415,7 @@ headed_lines text =
     comment = search rules
 
 heading_reads : (read_line (codes "# Netscape HTTP Cookie File") ≡ Ok None) × (read_line [] ≡ Ok None)
-unfolding read_line
+unfolding read_line unindented
 heading_reads = (refl, refl)
 
 fine_lines : (all : List CookieLine) → AllByRecursion IsWhole all → AllByRecursion IsFine (map line_text all)

@@ -2,6 +2,7 @@
 use Rattle.std.proofs.Common.{◌≡◌, ◌≢◌, ◌<◌, ◌≤◌, ℕ, ℤ, pos, negsuc, Bool, true, false, cond, List, [], ◌∷◌}
 use Rattle.std.proofs.Common.{length, get_or, map, Option, Some, None, refl, sym, subst, ◌∙◌, arith}
 use Rattle.std.specs.Prelude.{◌==◌, ◌||◌, not, is_none, if◌then◌else◌}
+use Rattle.std.specs.Char.{is_ascii_whitespace}
 use Rattle.std.specs.List.{AllByRecursion}
 use Rattle.std.specs.Option.{option_or}
 use Rattle.std.proofs.lemmas.Bool.Decides.{nat_tests}
@@ -16,7 +17,7 @@ use Rattle.cookies_txt.specs.Writing.{ends_in_return, expiry_second, has_separat
 use Rattle.cookies_txt.specs.Writing.{line_of_row, row_fault, text_fault}
 use Rattle.cookies_txt.specs.declared.error.RowFault.{RowFault}
 use Rattle.cookies_txt.specs.declared.error.RowFault.TheVariants.{HostSign}
-use Rattle.cookies_txt.proofs.LineLemmas.{IsWhole, written_says}
+use Rattle.cookies_txt.proofs.LineLemmas.{IsHostSign, IsWhole, written_says}
 
 -- ---- a row that a line holds
 
@@ -39,12 +40,15 @@ not_false false h = cc
 
 -- a domain that a line holds
 domain_whole : (d : Domain) → domain_fault d ≡ None → (0 < length (text_or_empty d))
-    × (is_suffix d ≡ false → (get_or (text_or_empty d) 0 0 ≢ 35) × (get_or (text_or_empty d) 0 0 ≢ 46))
+    × (is_suffix d ≡ false → IsHostSign (get_or (text_or_empty d) 0 0))
 domain_whole (host_only []) h = cc
 domain_whole (host_only (b ∷ bs)) h =
-    let sign = if_none (b == 35 || b == 46) HostSign None h in
-    let both = or_false (b == 35) (b == 46) sign.0 in
-    (omega arith, λ e. (other_35 b both.0, other_46 b both.1))
+    let sign = if_none ((b == 35 || b == 46) || is_ascii_whitespace b) HostSign None h in
+    let white = or_false (b == 35 || b == 46) (is_ascii_whitespace b) sign.0 in
+    let both = or_false (b == 35) (b == 46) white.0 in (
+      omega arith,
+      λ e. record { no_comment = other_35 b both.0; no_dot = other_46 b both.1; no_white = white.1 },
+    )
   where
     other_35 : (b : ℕ) → (b == 35) ≡ false → b ≢ 35
     other_35 b h = grind (arith, nat_tests)

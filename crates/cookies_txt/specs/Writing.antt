@@ -2,6 +2,7 @@
 use Rattle.std.specs.Prelude.{◌≡◌, ◌==◌, ◌||◌, ◌+◌, ◌-◌, ◌++◌, ◌⊎◌, ℕ, ℤ, pos, negsuc, Bool, true, false, not, max, min}
 use Rattle.std.specs.Prelude.{List, [], ◌∷◌, length, map, slice_index, Option, Some, None, is_none, if◌then◌else◌}
 use Rattle.std.specs.Borrow.{Bor}
+use Rattle.std.specs.Char.{is_ascii_whitespace}
 use Rattle.std.specs.List.{AllByRecursion, filter, list_any}
 use Rattle.std.specs.Option.{option_or}
 use Rattle.cookie_text.specs.Printing.{is_set}
@@ -26,10 +27,10 @@ use Rattle.cookies_txt.specs.declared.error.WriteError.TheVariants.{Row as Refus
 abbrev pub number_sign : ℕ
 number_sign = 35
 
--- A host that begins with `#` would be a comment, and one that begins with a dot would lose it.
+-- A host that begins with `#` would be a comment, with a dot would lose it, and with white space might be indented.
 abbrev pub host_fault : List ℕ → Option RowFault
 host_fault [] = Some NoDomain
-host_fault (b ∷ bs) = if b == number_sign || b == dot then Some HostSign else None
+host_fault (b ∷ bs) = if (b == number_sign || b == dot) || is_ascii_whitespace b then Some HostSign else None
 
 abbrev pub domain_fault : Domain → Option RowFault
 domain_fault (host_only host) = host_fault host

@@ -10,7 +10,7 @@ pub enum RowFault {
     /// The row has no domain, or an empty one.
     #[error("NoDomain")]
     NoDomain,
-    /// The host begins with `#`, as comments do, or with a dot, which readers leave out.
+    /// The host begins with `#`, as comments do, with a dot, which readers leave out, or with white space.
     #[error("HostSign")]
     HostSign,
     /// The path doesn't begin with `/`.
@@ -47,18 +47,21 @@ pub enum LineFault {
     /// The domain is empty.
     #[error("EmptyDomain")]
     EmptyDomain,
-    /// A flag is neither `TRUE` nor `FALSE`.
+    /// A flag is neither `TRUE` nor `FALSE`, in any case.
     #[error("Flag")]
     Flag,
     /// The path doesn't begin with `/`.
     #[error("NoSlash")]
     NoSlash,
-    /// The expiry isn't one or more digits.
+    /// The expiry is neither empty nor a number of seconds, behind which a fraction and before which a minus may stand.
     #[error("Number")]
     Number,
     /// The name is empty.
     #[error("EmptyName")]
     EmptyName,
+    /// The domain has no IDNA form. Only [`crate::read_entries`] tells it.
+    #[error("Domain")]
+    Domain,
 }
 
 /// Why a text isn't read.

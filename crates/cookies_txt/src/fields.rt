@@ -1,5 +1,5 @@
 //! The fields of a line.
-ghost use Rattle.std.specs.Prelude.{◌≡◌, ◌≤◌, ◌∷◌, [], true, false, Some, None, Ok, Err, MatchOption, IfOk};
+ghost use Rattle.std.specs.Prelude.{◌≡◌, ◌≤◌, ◌&&◌, ◌∷◌, [], true, false, Some, None, Ok, Err, MatchOption, IfOk};
 ghost use Rattle.std.specs.Prelude.{option_map, IfSome, MatchResult};
 ghost use Rattle.cookie_text.specs.Record.{without_dot};
 ghost use Rattle.cookies_txt.specs.Reading as spec;
@@ -30,11 +30,19 @@ impl<'a> Line<'a> {
     }
 }
 
-// Whether the line is empty, or a comment.
+// The line without the ASCII white space in front.
+fn unindented(line: &str) -> &str
+    ensures { result.now ≡ spec.unindented line.now }
+{
+    line.trim_ascii_start()
+}
+
+// Whether the line is blank, or a comment.
 fn is_passed_over(line: &str) -> bool
     ensures { result ≡ spec.is_passed_over line.now }
 {
-    line.is_empty() || (begins_with_sign(line) && !unmarked(line).0)
+    let text = unindented(line);
+    text.is_empty() || (begins_with_sign(text) && !unmarked(line).0)
 }
 
 fn begins_with_sign(line: &str) -> bool
@@ -43,12 +51,12 @@ fn begins_with_sign(line: &str) -> bool
     matches!(line.as_bytes(), [b'#', ..])
 }
 
-// Whether the line is marked as HttpOnly, and the line without this mark.
+// Whether the line is marked as HttpOnly, and what stands behind this mark, or else the line.
 fn unmarked(line: &str) -> (bool, &str)
     ensures marked { result.0 ≡ spec.is_marked line.now }
     ensures rest { result.1.now ≡ spec.unmarked line.now }
 {
-    match line.strip_prefix(HTTP_ONLY_MARK) {
+    match unindented(line).strip_prefix(HTTP_ONLY_MARK) {
         Some(rest) => (true, rest),
         None => (false, line),
     }
@@ -155,29 +163,81 @@ fn flag_of(text: &str) -> Result<bool, LineFault>
     ensures { MatchResult result (λ flag. (spec.is_flag text.now ≡ true) × (flag ≡ spec.is_true text.now))
         (λ fault. (spec.is_flag text.now ≡ false) × (fault ≡ LineFault.Flag)) }
 {
-    if text == "TRUE" {
+    if text.eq_ignore_ascii_case("TRUE") {
         Ok(true)
-    } else if text == "FALSE" {
+    } else if text.eq_ignore_ascii_case("FALSE") {
         Ok(false)
     } else {
         Err(LineFault::Flag)
     }
 }
 
-// The seconds of an expiry, at most the latest.
+// The second of an expiry, at most the latest. No text is none, and a second before 1970 counts as the first behind.
 fn second_of(text: &str) -> Result<u64, LineFault>
     ensures second { MatchResult result
-        (λ second. (spec.is_number text.now ≡ true) × (second ≡ spec.second_of text.now))
-        (λ fault. (spec.is_number text.now ≡ false) × (fault ≡ LineFault.Number)) }
+        (λ second. (spec.is_expiry text.now ≡ true) × (second ≡ spec.second_of text.now))
+        (λ fault. (spec.is_expiry text.now ≡ false) × (fault ≡ LineFault.Number)) }
     ensures bound { IfOk result (λ second. second ≤ latest_second) }
 {
-    if !is_number(text) {
-        return Err(LineFault::Number);
+    if text.is_empty() {
+        return Ok(0);
     }
-    match text.parse::<u64>() {
+    match text.strip_prefix('-') {
+        Some(size) => {
+            whole_second_of(size)?;
+            Ok(1)
+        }
+        None => whole_second_of(text),
+    }
+}
+
+// The whole seconds of a number with or without a fraction, at most the latest.
+fn whole_second_of(text: &str) -> Result<u64, LineFault>
+    ensures second { MatchResult result
+        (λ second. (spec.is_decimal text.now ≡ true) × (second ≡ spec.whole_second_of text.now))
+        (λ fault. (spec.is_decimal text.now ≡ false) × (fault ≡ LineFault.Number)) }
+    ensures bound { IfOk result (λ second. second ≤ latest_second) }
+{
+    let whole = whole_of(text)?;
+    match whole.parse::<u64>() {
         Ok(second) => Ok(second.min(LATEST_SECOND)),
         Err(_) => Ok(LATEST_SECOND),
     }
+}
+
+// The digits of a number that stand before its fraction.
+fn whole_of(text: &str) -> Result<&str, LineFault>
+    ensures whole { MatchResult result
+        (λ whole. (spec.is_decimal text.now ≡ true) × (whole.now ≡ spec.whole_in (spec.dotted_parts text.now))
+        × (spec.is_number whole.now ≡ true))
+        (λ fault. (spec.is_decimal text.now ≡ false) × (fault ≡ LineFault.Number)) }
+{
+    match cut_at_dot(text) {
+        Some((whole, fraction)) => if are_numbers(whole, fraction) {
+            Ok(whole)
+        } else {
+            Err(LineFault::Number)
+        },
+        None => if is_number(text) {
+            Ok(text)
+        } else {
+            Err(LineFault::Number)
+        },
+    }
+}
+
+// What stands before the first dot of a text, and behind it.
+fn cut_at_dot(text: &str) -> Option<(&str, &str)>
+    ensures { MatchOption result (spec.dotted_parts text.now ≡ text.now ∷ [])
+        (λ cut. spec.dotted_parts text.now ≡ cut.0.now ∷ spec.dotted_parts cut.1.now) }
+{
+    text.split_once('.')
+}
+
+fn are_numbers(whole: &str, fraction: &str) -> bool
+    ensures { result ≡ (spec.is_number whole.now && spec.is_number fraction.now) }
+{
+    is_number(whole) && is_number(fraction)
 }
 
 // Whether the text is one or more digits.

@@ -7,6 +7,7 @@
 //! ```
 #![tactic(auto)]
 
+mod entries;
 mod error;
 mod fields;
 pub mod laws;
@@ -15,6 +16,7 @@ mod reading;
 mod row;
 mod writing;
 
+pub use entries::{Entry, read_entries};
 pub use error::{LineFault, ReadError, RowFault, WriteError};
 pub use line::expiry_second;
 pub use reading::read;

@@ -37,6 +37,7 @@ fn host_fault(host: &str) -> Option<RowFault>
     match host.as_bytes() {
         [] => Some(RowFault::NoDomain),
         [b'#' | b'.', ..] => Some(RowFault::HostSign),
+        [b, ..] if b.is_ascii_whitespace() => Some(RowFault::HostSign),
         _ => None,
     }
 }

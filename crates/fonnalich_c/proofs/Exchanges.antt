@@ -93,9 +93,9 @@ pub stopped : (key header : List ℕ) (second : ℤ) (commands nonces : List ℕ
     (lines : List (List ℕ)) (refused : Refusal) → Opens key header second opened now → lines ≡ lines_of commands
     → (refused ≡ Memory) ⊎ StopsAt opened now lines nonces refused
     → IsNoExchange key header second commands nonces refused
-stopped key header second commands nonces opened now lines refused opens same (inl lack) = inl lack
+stopped key header second commands nonces opened now lines refused opens same (inl lack) = inl (inl lack)
 stopped key header second commands nonces opened now lines refused opens same (inr why) =
-    inr (inr (inr (opened, now, opens, subst (λ ls. StopsAt opened now ls nonces refused) same why)))
+    inr (opened, now, opens, subst (λ ls. StopsAt opened now ls nonces refused) same why)
 
 -- ---- what an export gives
 

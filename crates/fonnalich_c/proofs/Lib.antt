@@ -1,4 +1,5 @@
 pub mod Exchanges
+pub mod Faults
 pub mod Flags
 pub mod Parting
 pub mod Receiving

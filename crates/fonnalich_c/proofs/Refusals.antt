@@ -1,7 +1,9 @@
 -- What refusals are told as.
-use Rattle.std.proofs.Common.{◌≡◌, ◌⊎◌, ℕ, ℤ, List, Result, Err, Some, inl, inr, refl, sym, subst, ◌∙◌}
+use Rattle.std.proofs.Common.{◌≡◌, ◌⊎◌, ℕ, Bool, List, Result, Ok, Err, Some, inl, inr, refl, sym, subst, ◌∙◌}
+use Rattle.std.proofs.Common.{true, false, true≢false}
+use Rattle.std.proofs.lemmas.Str.{IsUtf8-from_is_utf8, is_utf8-from_IsUtf8}
 use Rattle.std.specs.Prelude.{IsErrOf, ◌↔◌}
-use Rattle.std.specs.Str.{IsUtf8}
+use Rattle.std.specs.Str.{IsUtf8, is_utf8}
 use Rattle.publicsuffix.specs.declared.error.ListError.{ListError}
 use Rattle.publicsuffix.specs.declared.error.ListError.TheVariants as list
 use Rattle.publicsuffix.specs.Rules.{HasFirstFault}
@@ -12,9 +14,24 @@ use Rattle.cookie_store.specs.SavedTexts.{OfText, IsAnyBeforeYears, IsReadFault,
 use Rattle.cookie_store.specs.SavedTexts.{IsWriteFault}
 use Rattle.cookie_run.specs.Program.{IsNoSuffixList, IsNoSavedText}
 use Rattle.fonnalich_c.specs.Given.{IsListToldAs}
-use Rattle.fonnalich_c.specs.Tasks.{IsLoadToldAs, IsNoLoad}
+use Rattle.fonnalich_c.specs.Tasks.{IsLoadToldAs}
 use Rattle.fonnalich_c.specs.declared.refusal.Refusal.{Refusal}
 use Rattle.fonnalich_c.specs.declared.refusal.Refusal.TheVariants as refusal
+
+-- what is a text where that it is none is refuted
+utf8_or : (text : List ℕ) (b : Bool) → is_utf8 text ≡ b → (¬ IsUtf8 text → ⊥) → IsUtf8 text
+utf8_or text true is never = IsUtf8-from_is_utf8 text is
+utf8_or text false is never =
+    absurd (never (λ u. true≢false (sym (is_utf8-from_IsUtf8 text u) ∙ is)))
+
+ok_err : {T E : Type 0} (x : T) (e : E) → Ok x ≡ Err e → ⊥
+ok_err x e same = cc
+
+-- a list that was parsed is that of a text
+pub listed : {L : Type 0} (text : List ℕ) (given : L)
+    → (let r : Result L ListError = Ok given in IsErrOf r list.NotText ↔ (¬ IsUtf8 text)) → IsUtf8 text
+listed text given not_text =
+    utf8_or text (is_utf8 text) refl (λ none. ok_err given list.NotText (not_text.1 none))
 
 -- why a text is no list
 pub not_listed : {L : Type 0} (r : Result L ListError) (text : List ℕ) (cause : ListError) (told : Refusal)
@@ -38,18 +55,15 @@ not_loaded text cause told before after reads (inr (inr other)) (inr (inl memory
 not_loaded text cause told before after reads (inr (inr other)) (inr (inr of)) =
     inr (inr (other.2, (cause, other.1, subst (λ t. IsRonRefusal t cause) of.1 of.2)))
 
--- the same beside the other refusals
-pub no_load : (second : ℤ) (saved text : List ℕ) (told : Refusal)
-    → (told ≡ refusal.Read) ⊎ (told ≡ refusal.Memory) ⊎ ((told ≡ refusal.Saved) × IsNoSavedText saved)
-    → IsNoLoad second saved text told
-no_load second saved text told (inl read) = inr (inr (inr read))
-no_load second saved text told (inr (inl memory)) = inl (inl memory)
-no_load second saved text told (inr (inr no_store)) = inr (inr (inl no_store))
-
 -- a client that isn't saved for `Year`
 IsYear : Error → Type 0
 IsYear Year = Unit {0}
 IsYear e = ⊥
+
+pub year_saved : (rows : List Row) (e : Error) → e ≡ Year → IsSaveFault rows e → IsAnyBeforeYears rows
+unfolding IsYear
+year_saved rows e is (inl year) = year.1
+year_saved rows e is (inr memory) = absurd (subst IsYear (sym is ∙ memory) tt)
 
 pub year_only : {Same : Type 0} (rows : List Row) (before after : ℕ) (e : Error) → e ≡ Year
     → (IsWriteFault before after e ⊎ (Same × IsSaveFault rows e)) → IsAnyBeforeYears rows

@@ -13,6 +13,7 @@ use Rattle.cookie_run.specs.declared.step.SessionError.{SessionError}
 use Rattle.cookie_run.specs.declared.step.Way.{Way}
 use Rattle.cookie_run.specs.declared.step.Way.TheVariants.{Plain, Host, Secure, Signed, Sealed}
 use Rattle.fonnalich_c.specs.Commands.{IsCommand, IsNoCommand}
+use Rattle.fonnalich_c.specs.Faults.{IsTold}
 use Rattle.fonnalich_c.specs.Given.{IsNoMoment, nanos_of, lines_of}
 use Rattle.fonnalich_c.specs.Items.{item, reading_text}
 use Rattle.fonnalich_c.specs.Numbers.{told_as}
@@ -108,10 +109,14 @@ IsExchange key header second commands nonces answer =
     (opened : Keyed) × (now : DateTime) × Opens key header second opened now
     × Answers opened now (lines_of commands) nonces answer
 
+-- what is wrong with a key and a second
+abbrev pub IsOpeningFault : List ℕ → ℤ → Refusal → Type 0
+IsOpeningFault key second refused =
+    ((refused ≡ refusal.Moment) × IsNoMoment second) ⊎ ((refused ≡ refusal.Key) × (length key < 64))
+
+-- none opens, or the first command that is refused refuses it
 abbrev pub IsNoExchange : List ℕ → List ℕ → ℤ → List ℕ → List ℕ → Refusal → Type 0
 IsNoExchange key header second commands nonces refused =
-    (refused ≡ refusal.Memory)
-    ⊎ ((refused ≡ refusal.Key) × (length key < 64))
-    ⊎ ((refused ≡ refusal.Moment) × IsNoMoment second)
+    IsTold (IsOpeningFault key second) refused
     ⊎ ((opened : Keyed) × (now : DateTime) × Opens key header second opened now
     × StopsAt opened now (lines_of commands) nonces refused)

@@ -1,4 +1,5 @@
 pub mod Numbers
+pub mod Faults
 pub mod Given
 pub mod Rules
 pub mod Tasks
@@ -8,4 +9,5 @@ pub mod Room
 pub mod Commands
 pub mod Exchange
 pub mod Suffix
+pub mod Plain
 pub mod Parts

@@ -15,6 +15,7 @@ use Rattle.cookie_text.specs.declared.error.ParseError.{ParseError}
 use Rattle.cookie_text.specs.declared.error.ParseError.TheVariants as error
 use Rattle.cookie_text.specs.declared.expiration.Expiration.{Expiration}
 use Rattle.cookie_text.specs.declared.expiration.Expiration.TheVariants.{DateTime as At}
+use Rattle.fonnalich_c.specs.Faults.{IsTold}
 use Rattle.fonnalich_c.specs.Given.{IsNoMoment, nanos_of}
 use Rattle.fonnalich_c.specs.Items.{item, reading_text}
 use Rattle.fonnalich_c.specs.Numbers.{refusal_number}
@@ -153,12 +154,16 @@ line_of false c = printed c
 abbrev pub IsPrinted : Bool → Attributes → Texts → List ℕ → Type 0
 IsPrinted is_encoded a texts line = (cookie : Record) × IsMade a texts cookie × (line ≡ line_of is_encoded cookie)
 
--- a text isn't UTF-8, the number is none of an attribute `SameSite`, or the second none of the calendar
+-- the second counts, and is none of the calendar
+abbrev pub IsNoEnd : Attributes → Type 0
+IsNoEnd a = (a.has_expires ≡ true) × IsNoMoment a.expires
+
+-- the second is none of the calendar, a text isn't UTF-8, or the number is none of an attribute `SameSite`
 abbrev pub IsUnmade : Attributes → Texts → Refusal → Type 0
 IsUnmade a texts refused =
-    ((refused ≡ refusal.Text) × (¬ AreTexts a texts))
+    ((refused ≡ refusal.Moment) × IsNoEnd a)
+    ⊎ ((refused ≡ refusal.Text) × (¬ AreTexts a texts))
     ⊎ ((refused ≡ refusal.Site) × (3 < a.same_site))
-    ⊎ ((refused ≡ refusal.Moment) × (a.has_expires ≡ true) × IsNoMoment a.expires)
 
 abbrev pub IsUnprinted : Attributes → Texts → Refusal → Type 0
-IsUnprinted a texts refused = (refused ≡ refusal.Memory) ⊎ IsUnmade a texts refused
+IsUnprinted a texts refused = IsTold (IsUnmade a texts) refused

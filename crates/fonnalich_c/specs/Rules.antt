@@ -5,7 +5,7 @@ use Rattle.user_agent.specs.declared.rules.Outcome.{Outcome}
 use Rattle.user_agent.specs.declared.rules.Outcome.TheVariants.{Taken, Refused}
 use Rattle.user_agent.specs.declared.rules.Refusal.{Refusal}
 use Rattle.user_agent.specs.declared.rules.Refusal.TheVariants.{Control, TooLong, SecurePrefix, HostPrefix}
-use Rattle.user_agent.specs.declared.rules.Refusal.TheVariants.{SecureFromHttp, SecureOverlay}
+use Rattle.user_agent.specs.declared.rules.Refusal.TheVariants.{SecureFromHttp, SecureOverlay, LacksSecure}
 use Rattle.user_agent.specs.declared.rules.Rules.{Rules}
 use Rattle.fonnalich_c.specs.Numbers.{end_number}
 
@@ -15,7 +15,7 @@ use Rattle.fonnalich_c.specs.Numbers.{end_number}
 abbrev pub is_set : ℕ → ℕ → Bool
 is_set flag flags = (flags / flag) % 2 == 1
 
--- each rule is on whose flag is set: those that refuse, in their order, and then those that rewrite
+-- each rule is on whose flag is set: those that refuse, in their order, those that rewrite, and that Secure rows win
 abbrev pub ruled : ℕ → Rules
 ruled flags = record {
   control = flags % 2 == 1;
@@ -27,18 +27,19 @@ ruled flags = record {
   long_attributes = is_set 64 flags;
   dates = is_set 128 flags;
   long_lives = is_set 256 flags;
+  secure_wins = is_set 512 flags;
 }
 
--- the rules of a number of nine flags; without a flag there are none, and lines go to the client as they stand
+-- the rules of a number of ten flags; without a flag there are none, and lines go to the client as they stand
 abbrev pub rules_of : ℕ → Option Rules
 rules_of zero = None
 rules_of (suc flags) = Some (ruled (suc flags))
 
 abbrev pub IsFlags : ℤ → Option Rules → Type 0
-IsFlags number rules = (flags : ℕ) × (number ≡ pos flags) × (flags < 512) × (rules ≡ rules_of flags)
+IsFlags number rules = (flags : ℕ) × (number ≡ pos flags) × (flags < 1024) × (rules ≡ rules_of flags)
 
 abbrev pub IsNoFlags : ℤ → Type 0
-IsNoFlags number = (flags : ℕ) → flags < 512 → ¬ (number ≡ pos flags)
+IsNoFlags number = (flags : ℕ) → flags < 1024 → ¬ (number ≡ pos flags)
 
 -- ---- what becomes of a line
 
@@ -49,6 +50,7 @@ rule_number SecurePrefix = 22
 rule_number HostPrefix = 23
 rule_number SecureFromHttp = 24
 rule_number SecureOverlay = 25
+rule_number LacksSecure = 26
 
 abbrev pub outcome_number : Outcome → ℕ
 outcome_number (Taken end) = end_number end

@@ -1,7 +1,7 @@
 -- What the words of a call make of a client (own: docs/DEFINITIONS.md).
 use Rattle.std.specs.Prelude.{ℕ, ℤ, ◌≡◌, ◌≢◌, ◌⊎◌, List, [], Option, Some, None, map, false}
 use Rattle.std.specs.Str.{IsUtf8}
-use Rattle.publicsuffix.specs.Rules.{Rule, HasRules}
+use Rattle.publicsuffix.specs.Rules.{Rule}
 use Rattle.saved_text.specs.RonLayout.{ron_layout}
 use Rattle.saved_text.specs.RonReading.{ShowsOnly}
 use Rattle.store_parts.specs.declared.error.Error.{Error}
@@ -16,11 +16,13 @@ use Rattle.cookie_run.specs.Header.{IsHeader}
 use Rattle.cookie_run.specs.Keeping.{Keeps}
 use Rattle.cookie_run.specs.KeptKeys.{KeepsKeys}
 use Rattle.cookie_run.specs.HostPrefix.{IsHeldRightly}
-use Rattle.cookie_run.specs.Program.{IsNoSuffixList, IsNoSavedText}
+use Rattle.cookie_run.specs.Program.{IsSuffixList, IsNoSuffixList, IsNoSavedText}
 use Rattle.cookie_run.specs.declared.step.LineEnd.{LineEnd}
 use Rattle.user_agent.specs.Agent as agent
+use Rattle.user_agent.specs.SecureWins.{IsHeaderBehind}
 use Rattle.user_agent.specs.declared.rules.Outcome.{Outcome}
 use Rattle.user_agent.specs.declared.rules.Rules.{Rules}
+use Rattle.fonnalich_c.specs.Faults.{IsTold}
 use Rattle.fonnalich_c.specs.Given.{IsUrl, IsNoUrl, IsNoMoment, nanos_of, lines_of}
 use Rattle.fonnalich_c.specs.Numbers.{end_number}
 use Rattle.fonnalich_c.specs.Rules.{IsFlags, IsNoFlags, outcome_number}
@@ -63,19 +65,25 @@ StopsAtLine rules second subject text old line new = (new.suffixes ≡ old.suffi
     × ((url : Parts) × IsUrl subject url
     × Stops rules old.suffixes old.rows url (nanos_of second) (lines_of text) line new.rows)
 
--- why no request is made of a second and a URL
+-- what is wrong with a second and a URL
 abbrev pub IsRequestFault : ℤ → List ℕ → Refusal → Type 0
-IsRequestFault second subject refused = (refused ≡ refusal.Memory)
-    ⊎ ((refused ≡ refusal.Moment) × IsNoMoment second) ⊎ ((refused ≡ refusal.Url) × IsNoUrl subject)
+IsRequestFault second subject refused =
+    ((refused ≡ refusal.Moment) × IsNoMoment second) ⊎ ((refused ≡ refusal.Url) × IsNoUrl subject)
 
 abbrev pub RefusesLines : Option Rules → ℤ → List ℕ → List ℕ → Store → Refusal → Store → Type 0
 RefusesLines rules second subject text old refused new =
-    ((new ≡ old) × IsRequestFault second subject refused)
+    ((new ≡ old) × IsTold (IsRequestFault second subject) refused)
     ⊎ ((line : ℕ) × (refused ≡ refusal.Stopped line) × StopsAtLine rules second subject text old line new)
 
+-- the header of a request: without rules the client's, with rules that of a user agent
+abbrev pub Sends : Option Rules → List Row → Parts → ℤ → List ℕ → Type 0
+Sends None rows url now header = IsHeader rows url now header
+Sends (Some rules) rows url now header = IsHeaderBehind rules rows url now header
+
 -- the answer is the header of a request to the URL
-abbrev pub Heads : ℤ → List ℕ → List Row → List ℕ → Type 0
-Heads second subject rows answer = (url : Parts) × IsUrl subject url × IsHeader rows url (nanos_of second) answer
+abbrev pub Heads : Option Rules → ℤ → List ℕ → List Row → List ℕ → Type 0
+Heads rules second subject rows answer =
+    (url : Parts) × IsUrl subject url × Sends rules rows url (nanos_of second) answer
 
 -- the answer is its saved text
 abbrev pub IsSavedText : ℤ → List Row → List ℕ → Type 0
@@ -88,42 +96,48 @@ Restarts second old new = (new.suffixes ≡ old.suffixes)
 
 -- why rows have no saved text
 abbrev pub IsSavingFault : ℤ → List Row → Refusal → Type 0
-IsSavingFault second rows refused = (refused ≡ refusal.Memory)
-    ⊎ ((refused ≡ refusal.Moment) × IsNoMoment second)
+IsSavingFault second rows refused =
+    ((refused ≡ refusal.Moment) × IsNoMoment second)
     ⊎ ((refused ≡ refusal.Year) × IsAnyBeforeYears (saved (nanos_of second) rows))
 
 abbrev pub Does : Task → Given → Option Rules → Store → List ℕ → Store → Type 0
 Does task.Receive given rules old answer new = Receives rules given.number given.subject given.text old answer new
-Does task.Header given rules old answer new = (new ≡ old) × Heads given.number given.subject old.rows answer
+Does task.Header given rules old answer new = (new ≡ old) × Heads rules given.number given.subject old.rows answer
 Does task.Save given rules old answer new = (new ≡ old) × IsSavedText given.number old.rows answer
 Does task.Restart given rules old answer new = (answer ≡ []) × Restarts given.number old new
 
 abbrev pub Refuses : Task → Given → Option Rules → Store → Refusal → Store → Type 0
 Refuses task.Receive given rules old refused new =
     RefusesLines rules given.number given.subject given.text old refused new
-Refuses task.Header given rules old refused new = (new ≡ old) × IsRequestFault given.number given.subject refused
-Refuses task.Save given rules old refused new = (new ≡ old) × IsSavingFault given.number old.rows refused
-Refuses task.Restart given rules old refused new = (new ≡ old) × IsSavingFault given.number old.rows refused
+Refuses task.Header given rules old refused new =
+    (new ≡ old) × IsTold (IsRequestFault given.number given.subject) refused
+Refuses task.Save given rules old refused new = (new ≡ old) × IsTold (IsSavingFault given.number old.rows) refused
+Refuses task.Restart given rules old refused new = (new ≡ old) × IsTold (IsSavingFault given.number old.rows) refused
 
 -- ---- a client's beginning
 
 -- without a row, with the suffix list of the text
 abbrev pub Begins : List ℕ → Store → Type 0
-Begins text new = (new.rows ≡ []) × HasRules text new.suffixes
+Begins text new = (new.rows ≡ []) × IsSuffixList text new.suffixes
 
 abbrev pub IsNoBeginning : List ℕ → Refusal → Type 0
 IsNoBeginning text refused = (refused ≡ refusal.Memory) ⊎ ((refused ≡ refusal.List) × IsNoSuffixList text)
 
 -- with the rows of a saved text that aren't expired at the second, but for those that aren't held rightly
 abbrev pub IsLoaded : ℤ → List ℕ → List ℕ → Store → Type 0
-IsLoaded second subject text new = HasRules text new.suffixes
+IsLoaded second subject text new = IsSuffixList text new.suffixes
     × ((loaded : Store) × Loads ShowsOnly false (nanos_of second) subject loaded
     × ArePicked IsHeldRightly loaded.rows new.rows)
 
-abbrev pub IsNoLoad : ℤ → List ℕ → List ℕ → Refusal → Type 0
-IsNoLoad second subject text refused = IsNoBeginning text refused
-    ⊎ ((refused ≡ refusal.Moment) × IsNoMoment second)
-    ⊎ ((refused ≡ refusal.Saved) × IsNoSavedText subject) ⊎ (refused ≡ refusal.Read)
+-- what is wrong with a second, a saved text and a list
+abbrev pub IsLoadFault : ℤ → List ℕ → List ℕ → Refusal → Type 0
+IsLoadFault second subject text refused = ((refused ≡ refusal.List) × IsNoSuffixList text)
+    ⊎ ((refused ≡ refusal.Moment) × IsNoMoment second) ⊎ ((refused ≡ refusal.Saved) × IsNoSavedText subject)
+
+-- a failed read has no cause that is known, and comes behind the list's fault and the second's
+unfoldable pub IsNoLoad : ℤ → List ℕ → List ℕ → Refusal → Type 0
+IsNoLoad second subject text refused = IsTold (IsLoadFault second subject text) refused
+    ⊎ ((refused ≡ refusal.Read) × (¬ IsNoSuffixList text) × (¬ IsNoMoment second))
 
 -- what a refusal to load is told as: a failed read, want of memory, and every other cause
 abbrev pub IsLoadToldAs : Error → Refusal → Type 0

@@ -33,10 +33,10 @@ pub(crate) fn exchange(
         spec.IsExchange key.now header.now second commands.now nonces.now answer.items) }
     ensures err { IfErr result (spec.IsNoExchange key.now header.now second commands.now nonces.now) }
 {
+    let now = moment(second)?;
     let Ok(key) = Key::try_from(key) else {
         return Err(Refusal::Key);
     };
-    let now = moment(second)?;
     let lines = lines(alloc, commands)?;
     let mut session = Session::open(alloc, header, key)?;
     converse(alloc, &mut session, now, &lines, nonces)

@@ -2,9 +2,8 @@
 ghost use Rattle.std.specs.Prelude.{◌≡◌, ◌⊎◌, map, IfOk, IfErr, Some, None};
 ghost use Rattle.std.specs.List.{slice_split};
 ghost use Rattle.jiff.specs.Words.{civil_nanos};
-ghost use Rattle.publicsuffix.specs.Rules.{HasRules};
 ghost use Rattle.cookie_text.specs.Printing.{whole_seconds};
-ghost use Rattle.cookie_run.specs.Program.{IsNoSuffixList};
+ghost use Rattle.cookie_run.specs.Program.{IsSuffixList, IsNoSuffixList};
 ghost use Rattle.cookie_run.specs.ScriptLine.{url_of};
 ghost use Rattle.fonnalich_c.specs.Given as spec;
 
@@ -67,7 +66,7 @@ fn url_of(alloc: Global, text: &str) -> Result<Url, Refusal>
 
 /// The public suffix list of a text.
 pub fn list(alloc: Global, text: &[u8]) -> Result<List, Refusal>
-    ensures ok { IfOk result (HasRules text.now) }
+    ensures ok { IfOk result (IsSuffixList text.now) }
     ensures err { IfErr result (λ refusal.
         (refusal ≡ Refusal.Memory) ⊎ ((refusal ≡ Refusal.List) × IsNoSuffixList text.now)) }
 {

@@ -10,6 +10,7 @@ ghost use base.Fml.{fex, fsep, ftrue};
 ghost use Rattle.std.specs.Ptr.{points_to, room_at};
 ghost use Rattle.fonnalich_c.specs.Exchange.{IsExchange, IsNoExchange};
 ghost use Rattle.fonnalich_c.specs.Handle.{IsFresh, Acts};
+ghost use Rattle.fonnalich_c.specs.Plain.{TellsPlain};
 ghost use Rattle.fonnalich_c.specs.Parts.{GivesParts, IsPrinted, IsUnprinted};
 ghost use Rattle.cookie_run.specs.Version.{version};
 ghost use Rattle.fonnalich_c.specs.Room.{Gives, IsWritten};
@@ -26,6 +27,7 @@ mod item;
 mod memory;
 mod nonce;
 mod page;
+mod plain;
 mod refusal;
 mod room;
 mod rule;
@@ -38,6 +40,7 @@ use crate::apart::apart;
 use crate::attributes::Attributes;
 use crate::exchange::exchange;
 use crate::held::{Held, fresh, let_go, work};
+use crate::plain::plain_number;
 use crate::room::write;
 use crate::suffix::suffix;
 use crate::together::{Texts, together};
@@ -152,6 +155,14 @@ pub extern "C" fn fonnalich_suffix(alloc: Global, list: &[u8], host: &[u8], out:
         Ok(suffix) => write(suffix, out),
         Err(refusal) => refusal.number(),
     }
+}
+
+/// Whether a text is a plain URL, which each program reads as the same web address: 1 where it is, 0 where it isn't.
+#[unsafe(no_mangle)]
+pub extern "C" fn fonnalich_is_plain_url(alloc: Global, text: &[u8]) -> isize
+    ensures { TellsPlain text.now result }
+{
+    plain_number(alloc, text)
 }
 
 /// Reads a cookie into its parts, its name and value percent-decoded or as they stand: the items of its name, its

@@ -13,7 +13,7 @@ pub fn rules_of(number: i64) -> Result<Option<Rules>, Refusal>
     if number == 0 {
         return Ok(None);
     }
-    if 0 < number && number < 512 {
+    if 0 < number && number < 1024 {
         return Ok(Some(ruled(number as u64)));
     }
     Err(Refusal::Rules)
@@ -33,6 +33,7 @@ fn ruled(flags: u64) -> Rules
         long_attributes: flags / 64 % 2 == 1,
         dates: flags / 128 % 2 == 1,
         long_lives: flags / 256 % 2 == 1,
+        secure_wins: flags / 512 % 2 == 1,
     }
 }
 
@@ -56,5 +57,6 @@ fn rule_number(rule: Rule) -> u8
         Rule::HostPrefix => 23,
         Rule::SecureFromHttp => 24,
         Rule::SecureOverlay => 25,
+        Rule::LacksSecure => 26,
     }
 }

@@ -1,6 +1,7 @@
 //! What the words make of a client.
 ghost use Rattle.std.specs.Prelude.{◌≡◌, ◌⊎◌, ◌≤◌, [], length, map, vec_capacity, IfOk, IfErr, OnOk, OnErr, Some};
 ghost use Rattle.cookie_store.specs.SavedTexts.{IsAnyBeforeYears};
+ghost use Rattle.fonnalich_c.specs.Faults.{IsTold};
 ghost use Rattle.fonnalich_c.specs.Numbers.{end_number};
 ghost use Rattle.fonnalich_c.specs.Rules.{outcome_number};
 ghost use Rattle.fonnalich_c.specs.Tasks as spec;
@@ -14,13 +15,13 @@ use crate::word::{Task, Word};
 use cookie_run::{Client, LineEnd};
 use cookie_store::{Counting, Error};
 use std::alloc::Global;
-use user_agent::agent::receive_all;
+use user_agent::agent::{header_of, receive_all};
 use user_agent::{Outcome, Rules};
 
 /// What a handle knows beside its client.
 #[derive(Drop)]
 pub struct Habits {
-    /// The rules of its lines, or none.
+    /// The rules of its lines and headers, or none.
     pub rules: Option<Rules>,
     /// The URL that was asked for last.
     pub page: Option<Page>,
@@ -81,8 +82,8 @@ fn loaded(alloc: Global, second: i64, saved: &[u8], text: &[u8]) -> Result<Clien
     ensures ok { IfOk result (spec.IsLoaded second saved.now text.now) }
     ensures err { IfErr result (spec.IsNoLoad second saved.now text.now) }
 {
-    let now = moment(second)?;
     let list = list(alloc, text)?;
+    let now = moment(second)?;
     match Client::load(alloc, list, &mut Counting::new(saved), now) {
         Ok(client) => Ok(client),
         Err((cause, _)) => Err(unloaded(cause)),
@@ -120,7 +121,7 @@ fn ask(
 {
     match task {
         Task::Receive => receive(alloc, client, habits, second, subject, text),
-        Task::Header => header(alloc, client, &mut habits.page, second, subject),
+        Task::Header => header(alloc, client, habits, second, subject),
         Task::Save => save(alloc, client, second),
         Task::Restart => restart(alloc, client, second),
     }
@@ -191,16 +192,22 @@ fn outcomes_numbered(room: Vec<u8>, outcomes: &[Outcome]) -> Vec<u8>
 fn header(
     alloc: Global,
     client: &Client,
-    page: &mut Option<Page>,
+    habits: &mut Habits,
     second: i64,
     subject: &[u8],
 ) -> Result<Vec<u8>, Refusal>
-    ensures ok { IfOk result (λ answer. spec.Heads second subject.now client.now.rows answer.items) }
-    ensures err { IfErr result (spec.IsRequestFault second subject.now) }
+    ensures ok { IfOk result (λ answer.
+        spec.Heads habits.old.rules second subject.now client.now.rows answer.items) }
+    ensures err { IfErr result (IsTold (spec.IsRequestFault second subject.now)) }
+    ensures rules { habits.new.rules ≡ habits.old.rules }
 {
     let now = moment(second)?;
-    let url = url_at(alloc, page, subject)?;
-    match client.header(url, now) {
+    let url = url_at(alloc, &mut habits.page, subject)?;
+    let header = match habits.rules {
+        Some(rules) => header_of(client, &rules, url, now),
+        None => client.header(url, now),
+    };
+    match header {
         Ok(text) => Ok(text.into_bytes()),
         Err(_) => Err(Refusal::Memory),
     }
@@ -209,7 +216,7 @@ fn header(
 // The saved text. Memory alone refuses a write.
 fn save(alloc: Global, client: &Client, second: i64) -> Result<Vec<u8>, Refusal>
     ensures ok { IfOk result (λ answer. spec.IsSavedText second client.now.rows answer.items) }
-    ensures err { IfErr result (spec.IsSavingFault second client.now.rows) }
+    ensures err { IfErr result (IsTold (spec.IsSavingFault second client.now.rows)) }
 {
     let now = moment(second)?;
     let mut memory = Memory::new(alloc);
@@ -223,7 +230,7 @@ fn save(alloc: Global, client: &Client, second: i64) -> Result<Vec<u8>, Refusal>
 // Keeps what a saved text keeps.
 fn restart(alloc: Global, client: &mut Client, second: i64) -> Result<Vec<u8>, Refusal>
     ensures ok { IfOk result (λ answer. (answer.items ≡ []) × spec.Restarts second client.old client.new) }
-    ensures err { IfErr result (spec.IsSavingFault second client.old.rows) }
+    ensures err { IfErr result (IsTold (spec.IsSavingFault second client.old.rows)) }
     ensures same { OnErr result (client.new ≡ client.old) }
 {
     let now = moment(second)?;

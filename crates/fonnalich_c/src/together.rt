@@ -5,7 +5,8 @@ ghost use Rattle.std.specs.Str.{IsUtf8};
 ghost use Rattle.jiff.specs.Words.{civil_nanos, signed_nanos};
 ghost use Rattle.cookie_text.specs.Setting.{SetsExpires, with_domain, with_expires, with_path};
 ghost use Rattle.cookie_text.specs.declared.expiration.Expiration.TheVariants.{DateTime as At};
-ghost use Rattle.fonnalich_c.specs.Given.{IsNoMoment, nanos_of};
+ghost use Rattle.fonnalich_c.specs.Faults.{IsFirst};
+ghost use Rattle.fonnalich_c.specs.Given.{nanos_of};
 ghost use Rattle.fonnalich_c.specs.Parts as spec;
 
 use crate::attributes::Attributes;
@@ -62,14 +63,14 @@ fn printed(alloc: Global, encode: bool, cookie: &Cookie<'_>) -> Result<String, A
 // The cookie of these parts.
 fn made<'t>(attributes: &Attributes, texts: Texts<'t>) -> Result<Cookie<'t>, Refusal>
     ensures ok { IfOk result (λ cookie. spec.IsMade attributes.now texts.entry cookie.cookie) }
-    ensures err { IfErr result (spec.IsUnmade attributes.now texts.entry) }
+    ensures err { IfErr result (IsFirst (spec.IsUnmade attributes.now texts.entry)) }
 {
+    let end = end(attributes)?;
     let name = text(texts.name)?;
     let value = text(texts.value)?;
     let path = text_where(attributes.has_path, texts.path)?;
     let domain = text_where(attributes.has_domain, texts.domain)?;
     let site = site(attributes.same_site)?;
-    let end = end(attributes)?;
     let mut cookie = Cookie::new(name, value);
     put_path(&mut cookie, path);
     put_domain(&mut cookie, domain);
@@ -171,8 +172,7 @@ fn site(number: u8) -> Result<Option<SameSite>, Refusal>
 fn end(attributes: &Attributes) -> Result<Option<DateTime>, Refusal>
     ensures ok { IfOk result (λ at. option_map civil_nanos at
         ≡ option_map nanos_of (spec.counted attributes.now.has_expires attributes.now.expires)) }
-    ensures err { IfErr result (λ refused. (refused ≡ Refusal.Moment)
-        × (attributes.now.has_expires ≡ true) × IsNoMoment attributes.now.expires) }
+    ensures err { IfErr result (λ refused. (refused ≡ Refusal.Moment) × spec.IsNoEnd attributes.now) }
 {
     if attributes.has_expires {
         Ok(Some(moment(attributes.expires)?))

@@ -13,7 +13,7 @@ use Rattle.jar_commands.specs.declared.failure.Failure.TheVariants.{Memory}
 
 -- behind heads that were taken
 pub heads_unkept : (plan : PlanText) (jar : Store) (url : Parts) (text told : List ℕ) (refused : Bool) (new : List Row)
-    (failure : Failure) → TakesHeads plan.form jar plan.now url text told refused new
+    (failure : Failure) → TakesHeads plan.is_verbose plan.form jar plan.now url text told refused new
     → (failure ≡ Memory) ⊎ Unkept plan new failure → FailsToTake plan jar url text failure
 heads_unkept plan jar url text told refused new failure takes (inl memory) = inl memory
 heads_unkept plan jar url text told refused new failure takes (inr unkept) =

@@ -1,4 +1,6 @@
+pub mod InsteadLemmas
 pub mod KeepLemmas
+mod KeptLemmas
 pub mod PlanLemmas
 pub mod PrintLemmas
 pub mod ServeLemmas

@@ -1,8 +1,14 @@
+pub mod Dropped
 pub mod Failures
+pub mod Instead
 pub mod Jars
+pub mod KeptSteps
 pub mod Outcomes
+pub mod PassedOver
 pub mod Performing
 pub mod Plans
 pub mod Program
+pub mod ProgramKept
 pub mod Receiving
 pub mod Steps
+pub mod Waiting

@@ -78,7 +78,8 @@ rows_line count = codes "rows: " ++ (decimal count ++ 10 ∷ [])
 -- the status tells a refused line
 abbrev pub GivesReceived : PlanText → Store → Parts → List ℕ → OutcomeText → Type 0
 GivesReceived plan jar url text outcome =
-    (told : List ℕ) × (refused : Bool) × (new : List Row) × TakesHeads plan.form jar plan.now url text told refused new
+    (told : List ℕ) × (refused : Bool) × (new : List Row)
+    × TakesHeads plan.is_verbose plan.form jar plan.now url text told refused new
     × Keeps plan told (if refused then 1 else 0) new outcome
 
 -- where there was a row to take out, these are left; else the status tells that there was none

@@ -1,6 +1,6 @@
 -- What a command gives for the texts of the files, and why it gives nothing (this repository's own).
 use Rattle.std.specs.Prelude.{◌≡◌, ◌⊎◌, ◌^◌, ◌-◌, ℕ, ℤ, Bool, true, false, List, [], Option, Some, None}
-use Rattle.std.specs.Prelude.{Result, Ok, Err, IfSome, IsSomeAnd, is_some}
+use Rattle.std.specs.Prelude.{Result, Ok, Err, IfSome, IsSomeAnd, is_some, ⊤}
 use Rattle.devices.specs.Device.{Rose}
 use Rattle.url.specs.Parts.{Parts}
 use Rattle.cookie_store.specs.Rows.{Row, Store, found, key, live, removed}
@@ -13,7 +13,7 @@ use Rattle.jar_commands.specs.Outcomes.{OutcomeText}
 use Rattle.jar_commands.specs.Plans.{PlanText, plan_of}
 use Rattle.jar_commands.specs.Receiving.{IsNoHeads, TakesHeads}
 use Rattle.jar_commands.specs.declared.failure.Failure.{Failure}
-use Rattle.jar_commands.specs.declared.failure.Failure.TheVariants.{File, FileRow, FileText, Heads, Input, JarRow}
+use Rattle.jar_commands.specs.declared.failure.Failure.TheVariants.{File, FileRow, FileText, Input, JarRow}
 use Rattle.jar_commands.specs.declared.failure.Failure.TheVariants.{Memory}
 use Rattle.jar_commands.specs.declared.plan.Task.{Task}
 use Rattle.jar_commands.specs.declared.plan.Task.TheVariants as task
@@ -25,29 +25,56 @@ pub record Reader : Type 0 where
   pub reads : ℕ
   pub unread : ℕ × ℕ
 
--- so it is with a text that was read to its end: with all that was left, where that is known
-abbrev pub OfInput : Reader → (List ℕ → Type 0) → Type 0
-OfInput reader Is = (text : List ℕ) × IfSome reader.left (λ whole. text ≡ whole) × Is text
+-- only `receive` reads
+abbrev pub reads : Task → Bool
+reads (task.Receive url) = true
+reads (task.Header url) = false
+reads task.List = false
+reads (task.ListOf url) = false
+reads task.ListJson = false
+reads (task.ListJsonOf url) = false
+reads (task.Explain url line) = false
+reads (task.Remove domain path name) = false
+reads task.Clear = false
+reads (task.Import form) = false
+reads (task.Export form) = false
+
+-- What is brought to a task: where it reads all that was left, where that is known; else what is given, and nothing is
+-- read.
+abbrev pub Brings : Type 0 → Reader → Bool → Option (List ℕ) → Option (List ℕ) → Type 0
+Brings Unread reader true given brought =
+    (text : List ℕ) × (brought ≡ Some text) × IfSome reader.left (λ whole. text ≡ whole)
+Brings Unread reader false given brought = (brought ≡ given) × Unread
+
+-- nothing is brought where the reader failed, or memory was refused
+abbrev pub BringsNothing : Reader → Bool → Failure → Type 0
+BringsNothing reader true failure =
+    (failure ≡ Memory) ⊎ ((failure ≡ Input) × (Rose reader.unread.0 reader.unread.1 ⊎ (reader.reads ≡ 2 ^ 64 - 1)))
+BringsNothing reader false failure = ⊥
+
+-- nothing is read by a task that doesn't read
+abbrev pub UnreadBut : Type 0 → Bool → Type 0
+UnreadBut Unread true = ⊤
+UnreadBut Unread false = Unread
 
 -- ---- what a task gives
 
--- A task gives this of a jar; only `receive` reads, and only `import` has the bytes of another file.
-abbrev pub Gives : Type 0 → Reader → PlanText → Store → Option (List ℕ) → Task → OutcomeText → Type 0
-Gives Unread reader plan jar given (task.Receive url) outcome =
-    OfInput reader (λ text. gives.GivesReceived plan jar url text outcome)
-Gives Unread reader plan jar given (task.Header url) outcome = gives.GivesHeader plan jar url outcome × Unread
-Gives Unread reader plan jar given task.List outcome = gives.GivesList plan jar outcome × Unread
-Gives Unread reader plan jar given (task.ListOf url) outcome = gives.GivesListOf plan jar url outcome × Unread
-Gives Unread reader plan jar given task.ListJson outcome = gives.GivesJson plan jar outcome × Unread
-Gives Unread reader plan jar given (task.ListJsonOf url) outcome = gives.GivesJsonOf plan jar url outcome × Unread
-Gives Unread reader plan jar given (task.Explain url line) outcome =
-    gives.GivesExplained plan jar url line.now outcome × Unread
-Gives Unread reader plan jar given (task.Remove domain path name) outcome =
-    gives.GivesRemoved plan jar (key domain.now path.now name.now) outcome × Unread
-Gives Unread reader plan jar given task.Clear outcome = gives.GivesCleared plan jar outcome × Unread
-Gives Unread reader plan jar given (task.Import form) outcome =
-    IsSomeAnd given (λ text. gives.GivesImported plan jar form text outcome) × Unread
-Gives Unread reader plan jar given (task.Export form) outcome = gives.GivesExported plan jar form outcome × Unread
+-- A task gives this of a jar; `receive` and `import` want what is brought.
+abbrev pub Gives : PlanText → Store → Option (List ℕ) → Task → OutcomeText → Type 0
+Gives plan jar brought (task.Receive url) outcome =
+    IsSomeAnd brought (λ text. gives.GivesReceived plan jar url text outcome)
+Gives plan jar brought (task.Header url) outcome = gives.GivesHeader plan jar url outcome
+Gives plan jar brought task.List outcome = gives.GivesList plan jar outcome
+Gives plan jar brought (task.ListOf url) outcome = gives.GivesListOf plan jar url outcome
+Gives plan jar brought task.ListJson outcome = gives.GivesJson plan jar outcome
+Gives plan jar brought (task.ListJsonOf url) outcome = gives.GivesJsonOf plan jar url outcome
+Gives plan jar brought (task.Explain url line) outcome = gives.GivesExplained plan jar url line.now outcome
+Gives plan jar brought (task.Remove domain path name) outcome =
+    gives.GivesRemoved plan jar (key domain.now path.now name.now) outcome
+Gives plan jar brought task.Clear outcome = gives.GivesCleared plan jar outcome
+Gives plan jar brought (task.Import form) outcome =
+    IsSomeAnd brought (λ text. gives.GivesImported plan jar form text outcome)
+Gives plan jar brought (task.Export form) outcome = gives.GivesExported plan jar form outcome
 
 -- ---- why it gives nothing
 
@@ -56,13 +83,13 @@ abbrev pub Unkept : PlanText → List Row → Failure → Type 0
 Unkept plan rows failure = (failure ≡ JarRow) × HaveNoText plan.form false (live plan.now rows)
 
 -- `receive`
-abbrev pub FailsToReceive : Reader → PlanText → Store → Parts → Failure → Type 0
-FailsToReceive reader plan jar url failure =
+abbrev pub FailsToReceive : PlanText → Store → Parts → Option (List ℕ) → Failure → Type 0
+FailsToReceive plan jar url None failure = failure ≡ Input
+FailsToReceive plan jar url (Some text) failure =
     (failure ≡ Memory)
-    ⊎ (((failure ≡ Input) × (Rose reader.unread.0 reader.unread.1 ⊎ (reader.reads ≡ 2 ^ 64 - 1)))
-    ⊎ (((failure ≡ Heads) × OfInput reader IsNoHeads)
-    ⊎ OfInput reader (λ text. (told : List ℕ) × (refused : Bool) × (new : List Row)
-    × TakesHeads plan.form jar plan.now url text told refused new × Unkept plan new failure)))
+    ⊎ (IsNoHeads text failure
+    ⊎ ((told : List ℕ) × (refused : Bool) × (new : List Row)
+    × TakesHeads plan.is_verbose plan.form jar plan.now url text told refused new × Unkept plan new failure))
 
 -- `remove`
 abbrev pub FailsToRemove : PlanText → Bool → List Row → Failure → Type 0
@@ -83,36 +110,45 @@ FailsToExport plan jar form failure =
     (failure ≡ Memory) ⊎ ((failure ≡ FileRow) × HaveNoText form true (live plan.now jar.rows))
 
 -- a task fails so
-abbrev pub Fails : Type 0 → Reader → PlanText → Store → Option (List ℕ) → Task → Failure → Type 0
-Fails Unread reader plan jar given (task.Receive url) failure = FailsToReceive reader plan jar url failure
-Fails Unread reader plan jar given (task.Header url) failure = (failure ≡ Memory) × Unread
-Fails Unread reader plan jar given task.List failure = (failure ≡ Memory) × Unread
-Fails Unread reader plan jar given (task.ListOf url) failure = (failure ≡ Memory) × Unread
-Fails Unread reader plan jar given task.ListJson failure = (failure ≡ Memory) × Unread
-Fails Unread reader plan jar given (task.ListJsonOf url) failure = (failure ≡ Memory) × Unread
-Fails Unread reader plan jar given (task.Explain url line) failure = (failure ≡ Memory) × Unread
-Fails Unread reader plan jar given (task.Remove domain path name) failure =
+abbrev pub Fails : PlanText → Store → Option (List ℕ) → Task → Failure → Type 0
+Fails plan jar brought (task.Receive url) failure = FailsToReceive plan jar url brought failure
+Fails plan jar brought (task.Header url) failure = failure ≡ Memory
+Fails plan jar brought task.List failure = failure ≡ Memory
+Fails plan jar brought (task.ListOf url) failure = failure ≡ Memory
+Fails plan jar brought task.ListJson failure = failure ≡ Memory
+Fails plan jar brought (task.ListJsonOf url) failure = failure ≡ Memory
+Fails plan jar brought (task.Explain url line) failure = failure ≡ Memory
+Fails plan jar brought (task.Remove domain path name) failure =
     FailsToRemove plan (is_some (found (key domain.now path.now name.now) jar.rows))
-    (removed (key domain.now path.now name.now) jar.rows) failure × Unread
-Fails Unread reader plan jar given task.Clear failure = ((failure ≡ Memory) ⊎ Unkept plan [] failure) × Unread
-Fails Unread reader plan jar given (task.Import form) failure = FailsToImport plan jar form given failure × Unread
-Fails Unread reader plan jar given (task.Export form) failure = FailsToExport plan jar form failure × Unread
+    (removed (key domain.now path.now name.now) jar.rows) failure
+Fails plan jar brought task.Clear failure = (failure ≡ Memory) ⊎ Unkept plan [] failure
+Fails plan jar brought (task.Import form) failure = FailsToImport plan jar form brought failure
+Fails plan jar brought (task.Export form) failure = FailsToExport plan jar form failure
 
 -- ---- all
 
 -- what a task gives, or why nothing
-abbrev pub Performs : Type 0 → Reader → PlanText → Store → Option (List ℕ) → Result OutcomeText Failure → Type 0
-Performs Unread reader plan jar given (Ok outcome) = Gives Unread reader plan jar given plan.task outcome
-Performs Unread reader plan jar given (Err failure) = Fails Unread reader plan jar given plan.task failure
+abbrev pub Performs : PlanText → Store → Option (List ℕ) → Result OutcomeText Failure → Type 0
+Performs plan jar brought (Ok outcome) = Gives plan jar brought plan.task outcome
+Performs plan jar brought (Err failure) = Fails plan jar brought plan.task failure
 
--- Where what is asked is refused, or the texts make no jar, nothing is read; else the task is done with the jar.
+-- What a plan gives for the texts of the suffix list, of the jar, or none, and what is brought: the texts make no jar,
+-- or the task is done with the jar.
+abbrev pub AnswersTexts : PlanText → List ℕ → Option (List ℕ) → Option (List ℕ) → Result OutcomeText Failure
+    → Type 0
+AnswersTexts plan suffixes stored brought result =
+    ((failure : Failure) × (result ≡ Err failure) × MakesNoJar plan.form suffixes stored failure)
+    ⊎ ((jar : Store) × IsJar plan.form plan.now suffixes stored jar × Performs plan jar brought result)
+
+-- Where what is asked is refused, nothing is read; else first what is brought is read.
 abbrev pub AnswersPlan : Type 0 → Reader → Result PlanText Failure → List ℕ → Option (List ℕ) → Option (List ℕ)
     → Result OutcomeText Failure → Type 0
 AnswersPlan Unread reader (Err failure) suffixes stored given result =
     ((result ≡ Err failure) ⊎ (result ≡ Err Memory)) × Unread
 AnswersPlan Unread reader (Ok plan) suffixes stored given result =
-    ((failure : Failure) × (result ≡ Err failure) × MakesNoJar plan.form suffixes stored failure × Unread)
-    ⊎ ((jar : Store) × IsJar plan.form plan.now suffixes stored jar × Performs Unread reader plan jar given result)
+    ((failure : Failure) × (result ≡ Err failure) × BringsNothing reader (reads plan.task) failure)
+    ⊎ ((brought : Option (List ℕ)) × Brings Unread reader (reads plan.task) given brought
+    × AnswersTexts plan suffixes stored brought result)
 
 -- What a command gives for the texts of the suffix list, of the jar, or none, and of the other file, or none.
 abbrev pub Answers : Type 0 → Reader → Asked → Option ℤ → List ℕ → Option (List ℕ) → Option (List ℕ)

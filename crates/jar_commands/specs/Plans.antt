@@ -1,5 +1,5 @@
 -- What words ask for, read: the moment, the form of the jar's text, and the task (this repository's own).
-use Rattle.std.specs.Prelude.{ℕ, ℤ, List, Option, Some, None, Result, Ok, Err, if◌then◌else◌, option_map}
+use Rattle.std.specs.Prelude.{ℕ, ℤ, Bool, List, Option, Some, None, Result, Ok, Err, if◌then◌else◌, option_map}
 use Rattle.jiff.specs.Words.{civil_nanos}
 use Rattle.url.specs.Parts.{Parts}
 use Rattle.plain_url.specs.Plain.{is_own_text}
@@ -23,10 +23,12 @@ use Rattle.jar_commands.specs.declared.plan.Task.TheVariants as task
 pub record PlanText : Type 0 where
   pub now : ℤ
   pub form : Form
+  pub is_verbose : Bool
   pub task : Task
 
 abbrev pub plan_text : Plan → PlanText
-plan_text plan = record { now = civil_nanos plan.at; form = plan.form; task = plan.task }
+plan_text plan =
+    record { now = civil_nanos plan.at; form = plan.form; is_verbose = plan.is_verbose; task = plan.task }
 
 -- ---- the moment and the form
 
@@ -85,14 +87,15 @@ task_of (command.Export file) = with_form task.Export (form_of_file file.now)
 
 -- ---- the plan
 
-abbrev pub plan_by : Option ℤ → Option Form → Result Task Failure → Result PlanText Failure
-plan_by None form task = Err failure.Moment
-plan_by (Some now) None task = Err failure.Format
-plan_by (Some now) (Some form) (Err failure) = Err failure
-plan_by (Some now) (Some form) (Ok task) = Ok (record { now = now; form = form; task = task })
+abbrev pub plan_by : Bool → Option ℤ → Option Form → Result Task Failure → Result PlanText Failure
+plan_by is_verbose None form task = Err failure.Moment
+plan_by is_verbose (Some now) None task = Err failure.Format
+plan_by is_verbose (Some now) (Some form) (Err failure) = Err failure
+plan_by is_verbose (Some now) (Some form) (Ok task) =
+    Ok (record { now = now; form = form; is_verbose = is_verbose; task = task })
 
 -- what is asked, at the clock's moment where none is asked; the moment is tested first, then the form, then the task
 abbrev pub plan_of : Asked → Option ℤ → Result PlanText Failure
 plan_of asked clock =
-    plan_by (moment_asked (option_map (λ text. text.now) asked.now) clock) (form_asked asked.format asked.jar.now)
-    (task_of asked.command)
+    plan_by asked.is_verbose (moment_asked (option_map (λ text. text.now) asked.now) clock)
+    (form_asked asked.format asked.jar.now) (task_of asked.command)

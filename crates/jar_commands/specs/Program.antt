@@ -9,10 +9,12 @@ use Rattle.jar_words.specs.declared.refusal.Refusal.{Refusal}
 use Rattle.jar_words.specs.declared.refusal.Refusal.TheVariants as refusal
 use Rattle.jar_commands.specs.Failures.{failure_text}
 use Rattle.jar_commands.specs.Outcomes.{OutcomeText}
-use Rattle.jar_commands.specs.Performing.{Answers, Reader}
+use Rattle.jar_commands.specs.Performing.{Answers, Reader, UnreadBut, reads}
 use Rattle.jar_commands.specs.Plans.{PlanText, plan_of}
+use Rattle.jar_commands.specs.Waiting.{IsNoWait}
 use Rattle.jar_commands.specs.declared.failure.Failure.{Failure}
-use Rattle.jar_commands.specs.declared.failure.Failure.TheVariants.{Words, SuffixFile, JarFile, File, Output, Memory}
+use Rattle.jar_commands.specs.declared.failure.Failure.TheVariants.{Words, Wait, SuffixFile, JarInUse, LockFile}
+use Rattle.jar_commands.specs.declared.failure.Failure.TheVariants.{JarFile, File, Output, Memory}
 
 -- what is known of a writer, before and behind a call: what was written, and how many calls failed
 pub record Writer : Type 0 where
@@ -34,9 +36,14 @@ FilesGive Unread reader asked clock result =
     (suffixes : List ℕ) × (stored : Option (List ℕ)) × (given : Option (List ℕ))
     × Answers Unread reader asked clock suffixes stored given result
 
--- a file isn't read, or memory was refused for it
+-- a file isn't read, the jar's lock isn't to be had, or memory was refused for it
 abbrev pub IsOfFiles : Failure → Type 0
-IsOfFiles failure = (failure ≡ SuffixFile) ⊎ ((failure ≡ JarFile) ⊎ ((failure ≡ File) ⊎ (failure ≡ Memory)))
+IsOfFiles failure = (failure ≡ SuffixFile) ⊎ ((failure ≡ JarInUse) ⊎ ((failure ≡ LockFile)
+    ⊎ ((failure ≡ JarFile) ⊎ ((failure ≡ File) ⊎ (failure ≡ Memory)))))
+
+-- what is told before the texts are there: `--wait` is no number of seconds, or a file isn't read
+abbrev pub IsBefore : Asked → Failure → Type 0
+IsBefore asked failure = ((failure ≡ Wait) × IsNoWait (option_map (λ text. text.now) asked.wait)) ⊎ IsOfFiles failure
 
 -- a file isn't written, or memory was refused for it
 abbrev pub IsUnwritten : Failure → Type 0
@@ -47,7 +54,8 @@ IsUnwritten failure = (failure ≡ JarFile) ⊎ ((failure ≡ File) ⊎ (failure
 abbrev pub Fails : Type 0 → Type 0 → Reader → Writer → Asked → Option ℤ → Failure → Type 0
 Fails Unread Unwritten reader writer asked clock failure =
     (FilesGive Unread reader asked clock (Err failure) × Unwritten)
-    ⊎ (((plan : PlanText) × (plan_of asked clock ≡ Ok plan) × IsOfFiles failure × Unread × Unwritten)
+    ⊎ (((plan : PlanText) × (plan_of asked clock ≡ Ok plan) × IsBefore asked failure
+    × UnreadBut Unread (reads plan.task) × Unwritten)
     ⊎ (((outcome : OutcomeText) × FilesGive Unread reader asked clock (Ok outcome) × IsUnwritten failure × Unwritten)
     ⊎ ((outcome : OutcomeText) × FilesGive Unread reader asked clock (Ok outcome) × (failure ≡ Output)
     × Unprinted writer outcome.printed)))

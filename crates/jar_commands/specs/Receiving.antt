@@ -1,31 +1,38 @@
 -- What is told of heads of responses, and the rows behind them (this repository's own).
-use Rattle.std.specs.Prelude.{◌≡◌, ◌≢◌, ◌++◌, ◌||◌, ℕ, ℤ, Bool, false, List, [], ◌∷◌, Option, Some, None, codes, is_some}
+use Rattle.std.specs.Prelude.{◌≡◌, ◌++◌, ◌||◌, ℕ, ℤ, Bool, false, List, [], ◌∷◌, Option, Some, None, codes, is_some}
 use Rattle.std.specs.Fmt.{decimal}
 use Rattle.std.specs.List.{list_any}
 use Rattle.publicsuffix.specs.Rules.{Rule}
 use Rattle.response_heads.specs.Visits.{GivesVisits, IsVisitRefusal, VisitText, set_cookie_lines}
-use Rattle.response_heads.specs.declared.error.ReadError.{ReadError}
-use Rattle.response_heads.specs.declared.error.ReadError.TheVariants.{OutOfMemory}
+use Rattle.response_heads.specs.declared.error.LineFault.{LineFault}
+use Rattle.response_heads.specs.declared.error.ReadError.TheVariants.{Line}
 use Rattle.url.specs.Parts.{Parts}
 use Rattle.cookie_store.specs.Rows.{Row, Store}
 use Rattle.cookie_jar.specs.Taking.{TakesAll}
 use Rattle.cookie_jar.specs.Told.{is_refused, told_lines}
 use Rattle.cookie_jar.specs.declared.form.Form.{Form}
 use Rattle.cookie_jar.specs.declared.taking.End.{End}
+use Rattle.jar_commands.specs.PassedOver.{passed_over}
+use Rattle.jar_commands.specs.declared.failure.Failure.{Failure}
+use Rattle.jar_commands.specs.declared.failure.Failure.TheVariants.{Heads}
 
 -- one of the lines wasn't stored
 abbrev pub is_any_refused : List End → Bool
 is_any_refused ends = list_any is_refused ends
 
+-- what is told of a visit: what is passed over, where that is asked, and what became of its lines
+abbrev pub visit_told : Bool → VisitText → List End → List ℕ
+visit_told is_verbose visit ends = passed_over is_verbose visit ++ told_lines (set_cookie_lines visit) ends
+
 -- The Set-Cookie lines of each visit are taken from its URL, one visit after another, in a jar of this form: what is
 -- told of them, whether one was refused, and the rows behind them.
-abbrev pub TakesVisits : Form → List Rule → List Row → ℤ → List VisitText → List ℕ → Bool → List Row → Type 0
-TakesVisits form list rows now [] told refused new = (told ≡ []) × (refused ≡ false) × (new ≡ rows)
-TakesVisits form list rows now (visit ∷ visits) told refused new =
+abbrev pub TakesVisits : Bool → Form → List Rule → List Row → ℤ → List VisitText → List ℕ → Bool → List Row → Type 0
+TakesVisits is_verbose form list rows now [] told refused new = (told ≡ []) × (refused ≡ false) × (new ≡ rows)
+TakesVisits is_verbose form list rows now (visit ∷ visits) told refused new =
     (ends : List End) × (mid : List Row) × (rest : List ℕ) × (others : Bool)
     × TakesAll form list rows visit.url now (set_cookie_lines visit) ends mid
-    × TakesVisits form list mid now visits rest others new
-    × (told ≡ told_lines (set_cookie_lines visit) ends ++ rest)
+    × TakesVisits is_verbose form list mid now visits rest others new
+    × (told ≡ visit_told is_verbose visit ends ++ rest)
     × (refused ≡ (is_any_refused ends || others))
 
 -- what is told of the heads that are left out, behind the head of this line
@@ -34,12 +41,14 @@ lost_line None = []
 lost_line (Some line) = codes "refused: no plain Location\theads behind that of line " ++ (decimal line ++ 10 ∷ [])
 
 -- So it is with the heads of a text, the first of which this URL answered; to leave heads out is to refuse lines.
-abbrev pub TakesHeads : Form → Store → ℤ → Parts → List ℕ → List ℕ → Bool → List Row → Type 0
-TakesHeads form jar now url text told refused new =
+abbrev pub TakesHeads : Bool → Form → Store → ℤ → Parts → List ℕ → List ℕ → Bool → List Row → Type 0
+TakesHeads is_verbose form jar now url text told refused new =
     (visits : List VisitText) × (lost : Option ℕ) × (front : List ℕ) × (others : Bool)
-    × GivesVisits url text visits lost × TakesVisits form jar.suffixes jar.rows now visits front others new
+    × GivesVisits url text visits lost
+    × TakesVisits is_verbose form jar.suffixes jar.rows now visits front others new
     × (told ≡ front ++ lost_line lost) × (refused ≡ (others || is_some lost))
 
--- the text isn't heads of responses
-abbrev pub IsNoHeads : List ℕ → Type 0
-IsNoHeads text = (e : ReadError) × (e ≢ OutOfMemory) × IsVisitRefusal text e
+-- the text isn't heads of responses, and the failure has the number of the line that isn't
+abbrev pub IsNoHeads : List ℕ → Failure → Type 0
+IsNoHeads text failure =
+    (line : ℕ) × (fault : LineFault) × (failure ≡ Heads line) × IsVisitRefusal text (Line line fault)

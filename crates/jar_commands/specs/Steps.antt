@@ -5,27 +5,27 @@ use Rattle.response_heads.specs.Visits.{VisitText, set_cookie_lines}
 use Rattle.url.specs.Parts.{Parts}
 use Rattle.cookie_store.specs.Rows.{Row, Store}
 use Rattle.cookie_jar.specs.Taking.{TakesAll}
-use Rattle.cookie_jar.specs.Told.{told_lines}
 use Rattle.cookie_jar.specs.declared.form.Form.{Form}
 use Rattle.cookie_jar.specs.declared.taking.End.{End}
 use Rattle.jar_commands.specs.Performing.{Unkept}
 use Rattle.jar_commands.specs.Plans.{PlanText}
-use Rattle.jar_commands.specs.Receiving.{IsNoHeads, TakesHeads, is_any_refused}
+use Rattle.jar_commands.specs.Receiving.{IsNoHeads, TakesHeads, is_any_refused, visit_told}
 use Rattle.jar_commands.specs.declared.failure.Failure.{Failure}
-use Rattle.jar_commands.specs.declared.failure.Failure.TheVariants.{Heads, Memory}
+use Rattle.jar_commands.specs.declared.failure.Failure.TheVariants.{Memory}
 
 -- why the heads of a text that was read give nothing
 abbrev pub FailsToTake : PlanText → Store → Parts → List ℕ → Failure → Type 0
 FailsToTake plan jar url text failure =
     (failure ≡ Memory)
-    ⊎ (((failure ≡ Heads) × IsNoHeads text)
-    ⊎ ((told : List ℕ) × (refused : Bool) × (new : List Row) × TakesHeads plan.form jar plan.now url text told refused new
+    ⊎ (IsNoHeads text failure
+    ⊎ ((told : List ℕ) × (refused : Bool) × (new : List Row)
+    × TakesHeads plan.is_verbose plan.form jar plan.now url text told refused new
     × Unkept plan new failure))
 
 -- the lines of one more visit are taken, and told behind what was told
-abbrev pub TakesVisit : Form → List Rule → List Row → ℤ → VisitText → List ℕ → Bool → List ℕ → Bool → List Row
+abbrev pub TakesVisit : Bool → Form → List Rule → List Row → ℤ → VisitText → List ℕ → Bool → List ℕ → Bool → List Row
     → Type 0
-TakesVisit form list rows now visit told refused more more_refused new =
+TakesVisit is_verbose form list rows now visit told refused more more_refused new =
     (ends : List End) × TakesAll form list rows visit.url now (set_cookie_lines visit) ends new
-    × (more ≡ told ++ told_lines (set_cookie_lines visit) ends)
+    × (more ≡ told ++ visit_told is_verbose visit ends)
     × (more_refused ≡ (refused || is_any_refused ends))

@@ -1,5 +1,5 @@
 //! What a command gives for the texts of the files.
-ghost use Rattle.std.specs.Prelude.{◌≡◌, OnOk, option_map};
+ghost use Rattle.std.specs.Prelude.{◌≡◌, IfErr, IfOk, IfSome, OnOk, option_map, true};
 ghost use Rattle.std.specs.Option.{option_copied};
 ghost use Rattle.std.specs.Result.{result_map_both};
 ghost use Rattle.jiff.specs.Words.{civil_nanos};
@@ -17,13 +17,14 @@ use crate::removing::{clear, remove};
 use crate::showing::{explain, header, list, list_json, list_json_of, list_of};
 use cookie_jar::Jar;
 use devices::Source;
+use devices::pour::{Stop, read_all};
 use jar_words::Asked;
 use jiff::civil::DateTime;
 use std::alloc::Global;
 
 /// What a command gives for the bytes of the suffix list, of the jar, or none where that isn't there,
 /// and of the other file of an import. The moment is the clock's where none is asked. Only `receive`
-/// reads, and to the reader's end.
+/// reads, to the reader's end and before all else but the plan.
 ///
 /// Status 1 is that a line was refused (`receive`), or that no row matched (`remove`), which changes no
 /// file.
@@ -31,10 +32,10 @@ use std::alloc::Global;
 /// # Errors
 ///
 /// The first of these that holds. Before anything is read: `Moment`, `Format`, and then `Url` or
-/// `FileFormat`, as [`plan_of`] tells them; `SuffixList` where the first bytes are no suffix list,
-/// `JarText` where the others are no text of the jar's form. Of `receive` then `Input` where the reader
-/// failed, and `Heads` where what it gave aren't heads of responses, or one leads nowhere although a
-/// head follows. Of `import` `File` where there are no bytes, and `FileText` where they aren't a text of
+/// `FileFormat`, as [`plan_of`] tells them. Of `receive` then `Input` where the reader failed. `SuffixList`
+/// where the first bytes are no suffix list, `JarText` where the others are no text of the jar's form. Of
+/// `receive` `Heads` where what was read aren't heads of responses, or one leads nowhere although a head
+/// follows. Of `import` `File` where there are no bytes, and `FileText` where they aren't a text of
 /// the form. `JarRow` where a row that is to be kept has no text in the jar's form; of `export`
 /// `FileRow` where one ends in a year below 0. `Memory` stands in their place where memory was refused.
 #[tactic(auto, using(crate::proofs::PlanLemmas::refused, crate::proofs::PlanLemmas::planned))]
@@ -82,32 +83,75 @@ pub(crate) fn answer_plan<R: Source>(
         (option_copied given.entry) (result_map_both outcome_text (λ failure. failure) result) }
     ensures failures { OnOk result (R.failures reader.new ≡ R.failures reader.old) }
 {
-    match jar_of(alloc, plan, suffixes, stored) {
-        Ok(mut jar) => perform(alloc, plan, &mut jar, given, reader),
+    if !reads(&plan.task) {
+        return answer_texts(alloc, plan, suffixes, stored, given);
+    }
+    match read_input(alloc, reader) {
+        Ok(text) => answer_texts(alloc, plan, suffixes, stored, Some(&text)),
         Err(failure) => Err(failure),
     }
 }
 
-// Does what is planned.
-fn perform<R: Source>(
-    alloc: Global,
-    plan: &Plan<'_>,
-    jar: &mut Jar,
-    given: Option<&[u8]>,
-    reader: &mut R,
-) -> Result<Outcome, Failure>
-    ensures gives { spec.Performs (reader.new ≡ reader.old)
+/// Whether the task reads.
+pub(crate) fn reads(task: &Task<'_>) -> bool
+    ensures { result ≡ spec.reads task.now }
+{
+    match task {
+        Task::Receive(_) => true,
+        Task::Header(_) | Task::List | Task::ListOf(_) | Task::ListJson => false,
+        Task::ListJsonOf(_) | Task::Explain(_, _) | Task::Remove(_, _, _) => false,
+        Task::Clear | Task::Import(_) | Task::Export(_) => false,
+    }
+}
+
+/// All that the reader has.
+pub(crate) fn read_input<R: Source>(alloc: Global, reader: &mut R) -> Result<Vec<u8>, Failure>
+    ensures ok { IfOk result (λ text. IfSome (R.left reader.old) (λ whole. text.items ≡ whole)) }
+    ensures err { IfErr result (spec.BringsNothing
         (record {
           left = R.left reader.old;
           reads = R.reads reader.new;
           unread = (R.failures reader.old, R.failures reader.new);
         })
-        (plan_text plan.now) jar.old (option_copied given.entry)
-        (result_map_both outcome_text (λ failure. failure) result) }
+        true) }
     ensures failures { OnOk result (R.failures reader.new ≡ R.failures reader.old) }
 {
+    match read_all(alloc, reader) {
+        Ok(text) => Ok(text),
+        Err(Stop::Read) => Err(Failure::Input),
+        Err(Stop::Memory) => Err(Failure::Memory),
+    }
+}
+
+/// What a plan gives for the texts of the files, and for what is brought to it.
+pub(crate) fn answer_texts(
+    alloc: Global,
+    plan: &Plan<'_>,
+    suffixes: &[u8],
+    stored: Option<&[u8]>,
+    brought: Option<&[u8]>,
+) -> Result<Outcome, Failure>
+    ensures { spec.AnswersTexts (plan_text plan.now) suffixes.now (option_copied stored.entry)
+        (option_copied brought.entry) (result_map_both outcome_text (λ failure. failure) result) }
+{
+    match jar_of(alloc, plan, suffixes, stored) {
+        Ok(mut jar) => perform(alloc, plan, &mut jar, brought),
+        Err(failure) => Err(failure),
+    }
+}
+
+// Does what is planned.
+fn perform(
+    alloc: Global,
+    plan: &Plan<'_>,
+    jar: &mut Jar,
+    brought: Option<&[u8]>,
+) -> Result<Outcome, Failure>
+    ensures { spec.Performs (plan_text plan.now) jar.old (option_copied brought.entry)
+        (result_map_both outcome_text (λ failure. failure) result) }
+{
     match &plan.task {
-        Task::Receive(url) => receive(alloc, plan, jar, url, reader),
+        Task::Receive(url) => receive(alloc, plan, jar, url, brought),
         Task::Header(url) => header(plan, jar, url),
         Task::List => list(plan, jar),
         Task::ListOf(url) => list_of(plan, jar, url),
@@ -116,7 +160,7 @@ fn perform<R: Source>(
         Task::Explain(url, line) => explain(plan, jar, url, line),
         Task::Remove(domain, path, name) => remove(alloc, plan, jar, domain, path, name),
         Task::Clear => clear(alloc, plan, jar),
-        Task::Import(form) => import(alloc, plan, jar, *form, given),
+        Task::Import(form) => import(alloc, plan, jar, *form, brought),
         Task::Export(form) => export(alloc, plan, jar, *form),
     }
 }

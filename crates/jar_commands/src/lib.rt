@@ -8,10 +8,14 @@
 #![tactic(auto)]
 
 mod answering;
+mod dropped;
 mod failure;
+mod instead;
 mod jar_text;
+mod keeping;
 mod moving;
 mod outcome;
+mod passed_over;
 mod plan;
 pub mod program;
 mod receiving;

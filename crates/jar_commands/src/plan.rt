@@ -46,6 +46,8 @@ pub struct Plan<'a> {
     pub at: DateTime,
     /// The form of the jar's text.
     pub form: Form,
+    /// Whether `receive` tells of what it passes over.
+    pub is_verbose: bool,
     /// What is to be done.
     pub task: Task<'a>,
 }
@@ -73,7 +75,12 @@ pub fn plan_of<'a>(
         return Err(Failure::Format);
     };
     match task_of(alloc, asked.command) {
-        Ok(task) => Ok(Plan { at, form, task }),
+        Ok(task) => Ok(Plan {
+            at,
+            form,
+            is_verbose: asked.is_verbose,
+            task,
+        }),
         Err(failure) => Err(failure),
     }
 }

@@ -1,9 +1,10 @@
 //! The command that takes what URLs answered.
-ghost use Rattle.std.specs.Prelude.{◌≡◌, ◌⊎◌, ◌++◌, ◌||◌, is_some, IfOk, IfErr, OnOk, map, string_bytes, if◌then◌else◌};
+ghost use Rattle.std.specs.Prelude.{◌≡◌, ◌⊎◌, ◌++◌, ◌||◌, is_some, IfOk, IfErr, IsSomeAnd, OnOk, map, string_bytes, if◌then◌else◌};
+ghost use Rattle.std.specs.Option.{option_copied};
 ghost use Rattle.jiff.specs.Words.{civil_nanos};
-ghost use Rattle.response_heads.specs.Visits.{GivesVisits, visit_text};
+ghost use Rattle.response_heads.specs.Visits.{GivesVisits, set_cookie_lines, visit_text};
 ghost use Rattle.jar_commands.specs.Outcomes.{GivesReceived, outcome_text};
-ghost use Rattle.jar_commands.specs.Performing.{FailsToReceive, OfInput, Unkept};
+ghost use Rattle.jar_commands.specs.Performing.{FailsToReceive};
 ghost use Rattle.jar_commands.specs.Plans.{plan_text};
 ghost use Rattle.jar_commands.specs.Receiving as spec;
 ghost use Rattle.jar_commands.specs.Steps.{FailsToTake, TakesVisit};
@@ -11,10 +12,9 @@ ghost use Rattle.jar_commands.specs.Steps.{FailsToTake, TakesVisit};
 use crate::failure::Failure;
 use crate::jar_text::saved;
 use crate::outcome::Outcome;
+use crate::passed_over::push_passed_over;
 use crate::plan::Plan;
 use cookie_jar::{End, Form, Jar, is_refused, told_lines};
-use devices::Source;
-use devices::pour::{Stop, read_all};
 use jiff::civil::DateTime;
 use response_heads::{ReadError, Visit, Visited, visits};
 use std::alloc::{AllocError, Global};
@@ -27,36 +27,23 @@ struct Received {
     is_any_refused: bool,
 }
 
-/// `receive URL`.
-pub(crate) fn receive<R: Source>(
+/// `receive URL`, of the text that was read.
+pub(crate) fn receive(
     alloc: Global,
     plan: &Plan<'_>,
     jar: &mut Jar,
     url: &Url,
-    reader: &mut R,
+    brought: Option<&[u8]>,
 ) -> Result<Outcome, Failure>
-    ensures ok { IfOk result (λ outcome. OfInput
-        (record {
-          left = R.left reader.old;
-          reads = R.reads reader.new;
-          unread = (R.failures reader.old, R.failures reader.new);
-        })
-        (λ text. GivesReceived (plan_text plan.now) jar.old url.now text (outcome_text outcome))) }
-    ensures err { IfErr result (FailsToReceive
-        (record {
-          left = R.left reader.old;
-          reads = R.reads reader.new;
-          unread = (R.failures reader.old, R.failures reader.new);
-        })
-        (plan_text plan.now) jar.old url.now) }
-    ensures failures { OnOk result (R.failures reader.new ≡ R.failures reader.old) }
+    ensures ok { IfOk result (λ outcome. IsSomeAnd (option_copied brought.entry) (λ text.
+        GivesReceived (plan_text plan.now) jar.old url.now text (outcome_text outcome))) }
+    ensures err { IfErr result
+        (FailsToReceive (plan_text plan.now) jar.old url.now (option_copied brought.entry)) }
 {
-    let text = match read_all(alloc, reader) {
-        Ok(text) => text,
-        Err(Stop::Read) => return Err(Failure::Input),
-        Err(Stop::Memory) => return Err(Failure::Memory),
-    };
-    receive_text(alloc, plan, jar, url, &text)
+    match brought {
+        Some(text) => receive_text(alloc, plan, jar, url, text),
+        None => Err(Failure::Input),
+    }
 }
 
 // Takes the lines of the heads of a text.
@@ -74,7 +61,7 @@ fn receive_text(
     let Received {
         told,
         is_any_refused,
-    } = receive_heads(alloc, jar, plan.form, url, text, plan.at)?;
+    } = receive_heads(alloc, plan, jar, url, text)?;
     match saved(plan, jar) {
         Ok(text) => Ok(Outcome::kept(told, status_of(is_any_refused), text)),
         Err(failure) => Err(failure),
@@ -90,19 +77,18 @@ fn status_of(is_any_refused: bool) -> u8
 // Takes the lines of the heads of a text, the first of which this URL answered.
 fn receive_heads(
     alloc: Global,
+    plan: &Plan<'_>,
     jar: &mut Jar,
-    form: Form,
     url: &Url,
     text: &[u8],
-    now: DateTime,
 ) -> Result<Received, Failure>
-    ensures ok { IfOk result (λ received. spec.TakesHeads form jar.old (civil_nanos now) url.now text.now
+    ensures ok { IfOk result (λ received. spec.TakesHeads plan.now.is_verbose plan.now.form jar.old
+        (civil_nanos plan.now.at) url.now text.now
         (string_bytes received.told) received.is_any_refused jar.new.rows) }
-    ensures err { IfErr result (λ failure. (failure ≡ Failure.Memory)
-        ⊎ ((failure ≡ Failure.Heads) × spec.IsNoHeads text.now)) }
+    ensures err { IfErr result (λ failure. (failure ≡ Failure.Memory) ⊎ spec.IsNoHeads text.now failure) }
 {
     let Visited { visits, lost } = visits_of(alloc, url, text)?;
-    let received = receive_visits(alloc, jar, form, &visits, now)?;
+    let received = receive_visits(alloc, plan, jar, &visits)?;
     Ok(with_lost(alloc, received, lost)?)
 }
 
@@ -110,13 +96,12 @@ fn receive_heads(
 fn visits_of<'a>(alloc: Global, url: &Url, text: &'a [u8]) -> Result<Visited<'a>, Failure>
     ensures ok { IfOk result (λ given.
         GivesVisits url.now text.now (map visit_text given.visits.items) given.lost) }
-    ensures err { IfErr result (λ failure. (failure ≡ Failure.Memory)
-        ⊎ ((failure ≡ Failure.Heads) × spec.IsNoHeads text.now)) }
+    ensures err { IfErr result (λ failure. (failure ≡ Failure.Memory) ⊎ spec.IsNoHeads text.now failure) }
 {
     match visits(alloc, url, text) {
         Ok(given) => Ok(given),
         Err(ReadError::OutOfMemory) => Err(Failure::Memory),
-        Err(ReadError::Line(_, _)) => Err(Failure::Heads),
+        Err(ReadError::Line(line, _)) => Err(Failure::Heads(line)),
     }
 }
 
@@ -141,20 +126,20 @@ fn with_lost(alloc: Global, received: Received, lost: Option<usize>) -> Result<R
 // Takes the lines of each visit, one after another.
 fn receive_visits(
     alloc: Global,
+    plan: &Plan<'_>,
     jar: &mut Jar,
-    form: Form,
     visits: &[Visit<'_>],
-    now: DateTime,
 ) -> Result<Received, AllocError>
-    ensures { IfOk result (λ received. spec.TakesVisits form jar.old.suffixes jar.old.rows (civil_nanos now)
-        (map visit_text visits.now) (string_bytes received.told) received.is_any_refused jar.new.rows) }
+    ensures { IfOk result (λ received. spec.TakesVisits plan.now.is_verbose plan.now.form jar.old.suffixes
+        jar.old.rows (civil_nanos plan.now.at) (map visit_text visits.now) (string_bytes received.told)
+        received.is_any_refused jar.new.rows) }
 {
     let mut received = Received {
         told: String::new(alloc),
         is_any_refused: false,
     };
     for visit in visits {
-        receive_visit(alloc, jar, form, visit, now, &mut received)?;
+        receive_visit(alloc, plan, jar, visit, &mut received)?;
     }
     Ok(received)
 }
@@ -162,25 +147,42 @@ fn receive_visits(
 // Takes the lines of a visit, and tells of them behind what was told.
 fn receive_visit(
     alloc: Global,
+    plan: &Plan<'_>,
     jar: &mut Jar,
-    form: Form,
     visit: &Visit<'_>,
-    now: DateTime,
     received: &mut Received,
 ) -> Result<(), AllocError>
-    ensures ok { OnOk result (TakesVisit form jar.old.suffixes jar.old.rows (civil_nanos now) (visit_text visit.now)
-        (string_bytes received.old.told) received.old.is_any_refused
-        (string_bytes received.new.told) received.new.is_any_refused jar.new.rows) }
+    ensures ok { OnOk result (TakesVisit plan.now.is_verbose plan.now.form jar.old.suffixes jar.old.rows
+        (civil_nanos plan.now.at) (visit_text visit.now) (string_bytes received.old.told)
+        received.old.is_any_refused (string_bytes received.new.told) received.new.is_any_refused jar.new.rows) }
     ensures list { jar.new.suffixes ≡ jar.old.suffixes }
 {
     let lines = visit.set_cookie_lines(alloc)?;
-    let Ok(ends) = jar.receive(form, &visit.url, &lines, now) else {
+    let Ok(ends) = jar.receive(plan.form, &visit.url, &lines, plan.at) else {
         return Err(AllocError);
     };
-    let told = told_lines(alloc, &lines, &ends)?;
+    let told = visit_told(alloc, plan.is_verbose, visit, &lines, &ends)?;
     received.told.push_str(told.as_str())?;
     received.is_any_refused = received.is_any_refused || is_any_refused(&ends);
     Ok(())
+}
+
+// What is told of a visit, of which these are the lines.
+fn visit_told(
+    alloc: Global,
+    is_verbose: bool,
+    visit: &Visit<'_>,
+    lines: &[&[u8]],
+    ends: &[End],
+) -> Result<String, AllocError>
+    ensures { map (λ line. line.now) lines.now ≡ set_cookie_lines (visit_text visit.now)
+        → IfOk result (λ told. string_bytes told ≡ spec.visit_told is_verbose (visit_text visit.now) ends.now) }
+{
+    let mut told = String::new(alloc);
+    push_passed_over(&mut told, is_verbose, visit)?;
+    let lines = told_lines(alloc, lines, ends)?;
+    told.push_str(lines.as_str())?;
+    Ok(told)
 }
 
 // Whether a line wasn't stored.

@@ -13,6 +13,7 @@ pub asks_for_a_list : asked_of (codes "jar.ron" ∷ codes "list" ∷ codes "--js
   now = None;
   suffixes = None;
   format = None;
+  wait = None;
   is_verbose = false;
   jar = codes "jar.ron";
   order = list_json None;
@@ -20,15 +21,17 @@ pub asks_for_a_list : asked_of (codes "jar.ron" ∷ codes "list" ∷ codes "--js
 unfolding clap_on_literals
 asks_for_a_list = refl
 
--- `-v --now M --format=json --suffixes F jar header u`
+-- `-v --now M --format=json --suffixes F --wait=3 jar header u`
 abbrev all_options : List Text
 all_options = codes "-v" ∷ codes "--now" ∷ codes "M" ∷ codes "--format=json" ∷ codes "--suffixes" ∷ codes "F"
+    ∷ codes "--wait=3"
     ∷ codes "jar" ∷ codes "header" ∷ codes "u" ∷ []
 
 pub asks_with_options : asked_of all_options ≡ Ok (record {
   now = Some (codes "M");
   suffixes = Some (codes "F");
   format = Some Json;
+  wait = Some (codes "3");
   is_verbose = true;
   jar = codes "jar";
   order = header (codes "u");
@@ -53,6 +56,7 @@ pub asks_behind_dashes : asked_of behind_dashes ≡ Ok (record {
   now = None;
   suffixes = None;
   format = None;
+  wait = None;
   is_verbose = false;
   jar = codes "jar";
   order = remove (codes "a") (codes "/") (codes "-v");

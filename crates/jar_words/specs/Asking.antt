@@ -39,6 +39,7 @@ pub record Request : Type 0 where
   pub now : Option Text
   pub suffixes : Option Text
   pub format : Option Format
+  pub wait : Option Text
   pub is_verbose : Bool
   pub jar : Text
   pub order : Order
@@ -59,6 +60,7 @@ request_of asked = record {
   now = option_map (λ text. text.now) asked.now;
   suffixes = option_map (λ text. text.now) asked.suffixes;
   format = asked.format;
+  wait = option_map (λ text. text.now) asked.wait;
   is_verbose = asked.is_verbose;
   jar = asked.jar.now;
   order = order_of asked.command;
@@ -130,6 +132,7 @@ asked_with rows format jar (Ok order) = Ok (record {
   now = first_of (codes "MOMENT") rows;
   suffixes = first_of (codes "FILE") rows;
   format = format;
+  wait = first_of (codes "SECONDS") rows;
   is_verbose = is_given (codes "verbose") rows;
   jar = jar;
   order = order;

@@ -75,12 +75,13 @@ letter_V = 86
 abbrev pub version : Rule
 version = record (flag (codes "version")) { short = Some letter_V; action = Some Version }
 
--- `[--now MOMENT] [--suffixes FILE] [--format FORM] [-v] [-V] JAR`
+-- `[--now MOMENT] [--suffixes FILE] [--format FORM] [--wait SECONDS] [-v] [-V] JAR`
 abbrev pub options_and_jar : List Rule
 options_and_jar =
     valued (codes "now") (codes "MOMENT")
     ∷ valued (codes "suffixes") (codes "FILE")
     ∷ valued (codes "format") (codes "FORM")
+    ∷ valued (codes "wait") (codes "SECONDS")
     ∷ verbose
     ∷ version
     ∷ needed (codes "JAR")

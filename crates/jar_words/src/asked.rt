@@ -39,6 +39,8 @@ pub struct Asked<'a> {
     pub suffixes: Option<&'a str>,
     /// The form of `--format`.
     pub format: Option<Format>,
+    /// The seconds of `--wait`, as they are written.
+    pub wait: Option<&'a str>,
     /// Whether `-v` was given.
     pub is_verbose: bool,
     /// The jar's file.

@@ -16,6 +16,8 @@ const ABOUT: &str = "Keeps cookies in a file, for requests that are made in a sh
 
 const AFTER: &str = "\
 Example: cookie-jar jar.json header https://shop.com/ | curl -H @- https://shop.com/
+cookie-jar url TEXT, without JAR, prints the plain URL to ask for in the place of TEXT
+A command that changes JAR locks JAR.lock, an empty file beside it that stays: never remove it
 Options stand before the command. A JAR that is named as a command is written ./list
 Status: 0; 1 where a line was refused or nothing removed; 2 with one line on standard error";
 
@@ -26,7 +28,11 @@ const SUFFIXES_HELP: &str = "The list of public suffixes; Debian's or a small on
 const FORMAT_HELP: &str =
     "The form of JAR, ron, json or txt (cookies.txt); by its ending by default";
 
-const VERBOSE_HELP: &str = "Says on standard error which list of public suffixes is used";
+const WAIT_HELP: &str =
+    "For so many seconds another may hold JAR, which is locked while it changes; 10 by default";
+
+const VERBOSE_HELP: &str =
+    "Says on standard error which list of public suffixes is used, and which rows JAR drops";
 
 const VERSION_HELP: &str = "Prints the version";
 
@@ -73,6 +79,7 @@ fn with_options<'a>(alloc: Global) -> Result<Command<'a>, AllocError>
         .arg(valued(alloc, "now", "MOMENT", NOW_HELP))?
         .arg(valued(alloc, "suffixes", "FILE", SUFFIXES_HELP))?
         .arg(valued(alloc, "format", "FORM", FORMAT_HELP))?
+        .arg(valued(alloc, "wait", "SECONDS", WAIT_HELP))?
         .arg(verbose(alloc))?
         .arg(version(alloc))?;
     with_word(alloc, program, "JAR", JAR_HELP)

@@ -12,7 +12,9 @@ mod asked;
 mod building;
 mod reading;
 mod refusal;
+mod without_jar;
 
 pub use asked::{Asked, Command, Format};
 pub use reading::read;
 pub use refusal::{Kind, Refusal};
+pub use without_jar::url_asked;

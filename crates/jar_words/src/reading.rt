@@ -62,6 +62,7 @@ fn asked_by<'a>(matches: &ArgMatches<'a>) -> Result<Asked<'a>, Kind>
         now: text(matches, "MOMENT"),
         suffixes: text(matches, "FILE"),
         format,
+        wait: text(matches, "SECONDS"),
         is_verbose: is_given(matches, "verbose"),
         jar,
         command,

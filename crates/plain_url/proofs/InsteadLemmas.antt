@@ -8,7 +8,7 @@ use Rattle.url.specs.Parts.{IsValid, IsValidHead, Parts, has_authority, kind_of,
 use Rattle.url.specs.Scheme.{is_special}
 use Rattle.url.proofs.Theorems.{parse_url-serialize_special}
 use Rattle.url.proofs.ValidLemmas.{special_has_authority}
-use Rattle.plain_url.specs.Plain.{IsOwnText, IsPlain, IsWeb, site, target, without_user}
+use Rattle.plain_url.specs.Plain.{HasNoUser, IsOwnText, IsPlain, IsWeb, site, target, without_user}
 use Rattle.plain_url.proofs.ReadLemmas.{web_is_special}
 
 -- the URL without a user
@@ -59,6 +59,11 @@ own url valid web user password =
       same_site = ap (map to_ascii_lowercase) (ap (take n) parts ∙ take_at (site url) (target url) n refl);
       same_target = inl (ap (drop n) parts ∙ drop_at (site url) (target url) n refl);
     }
+
+-- the own text of a web URL without a user
+pub own_text_is_plain : (url : Parts) → IsValid url → IsWeb url → HasNoUser url → IsPlain (serialize url)
+own_text_is_plain url valid web user =
+    (url, (parse_url-serialize_special url None valid (web_is_special url.scheme web), own url valid web user.0 user.1))
 
 pub without_user_is_plain : (url : Parts) → IsValid url → IsWeb url → IsPlain (without_user url)
 without_user_is_plain url valid web =

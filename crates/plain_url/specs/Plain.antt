@@ -3,7 +3,7 @@ use Rattle.std.specs.Prelude.{◌≡◌, ◌⊎◌, ◌++◌, ◌||◌, ◌&&◌
 use Rattle.std.specs.Char.{to_ascii_lowercase}
 use Rattle.std.specs.Str.{bytes_eq}
 use Rattle.url.specs.Parser.{parse_url}
-use Rattle.url.specs.Parts.{Parts, text_between}
+use Rattle.url.specs.Parts.{Parts, serialize, text_between}
 use Rattle.url.specs.declared.slicing.Position.TheVariants.{BeforeScheme, BeforeUsername, BeforeHost, AfterPort}
 use Rattle.url.specs.declared.slicing.Position.TheVariants.{BeforePath, AfterFragment}
 
@@ -63,3 +63,18 @@ IsHop page hop location = (site hop ≡ site page) × (target hop ≡ location)
 -- the URL's text without user name and password
 abbrev pub without_user : Parts → List ℕ
 without_user url = text_between url BeforeScheme BeforeUsername ++ text_between url BeforeHost AfterFragment
+
+-- the URL of a text is one of the web without a user
+abbrev pub IsBareWeb : List ℕ → Parts → Type 0
+IsBareWeb text url = (parse_url None text ≡ Ok url) × IsWeb url × HasNoUser url
+
+-- What to ask for in the place of a text: the text itself where it is plain, and else the text of its URL, which is one
+-- of the web without a user.
+abbrev pub IsPlainFor : List ℕ → List ℕ → Type 0
+IsPlainFor text plain =
+    (IsPlain text × (plain ≡ text))
+    ⊎ (¬ (IsPlain text) × ((url : Parts) × IsBareWeb text url × (plain ≡ serialize url)))
+
+-- there is none
+abbrev pub HasNoPlain : List ℕ → Type 0
+HasNoPlain text = (url : Parts) → ¬ (IsBareWeb text url)

@@ -10,5 +10,5 @@ mod instead;
 pub mod laws;
 mod plain;
 
-pub use instead::plain_text;
+pub use instead::{plain_for, plain_text};
 pub use plain::{is_plain, is_plain_hop, is_plain_of};

@@ -50,7 +50,7 @@ pub(crate) fn is_web(url: &Url) -> bool
     url.scheme() == "http" || url.scheme() == "https"
 }
 
-fn has_no_user(url: &Url) -> bool
+pub(crate) fn has_no_user(url: &Url) -> bool
     ensures { IsTrue result ↔ spec.HasNoUser url.now }
 {
     url.username().is_empty() && url.password().is_none()

@@ -1,7 +1,8 @@
 -- The fields of a name, and where a head leads.
-use Rattle.std.proofs.Common.{◌≡◌, ◌≤◌, ℕ, true, false, List, [], length, take, map}
+use Rattle.std.proofs.Common.{◌≡◌, ◌≤◌, ◌||◌, ◌∷◌, ℕ, Bool, true, false, List, [], length, take, map, refl}
 use Rattle.std.proofs.Common.{sym, ap, ◌∙◌}
 use Rattle.std.specs.Prelude.{filter, if◌then◌else◌}
+use Rattle.std.specs.List.{list_any}
 use Rattle.std.proofs.lemmas.List.{take_all}
 use Rattle.response_heads.specs.Heads.{HeadText}
 use Rattle.response_heads.specs.Lines.{FieldText}
@@ -34,3 +35,9 @@ pub locations_none : (head : HeadText) (given : List (List ℕ)) → is_redirect
 unfolding locations
 locations_none head given redirects e =
     e ∙ sym (ap (λ t. if t then values (filter is_location head.fields) else []) redirects)
+
+-- a test of what each gives
+pub any_given : {A B : Type 0} (f : A → B) (test : B → Bool) (xs : List A)
+    → list_any (λ x. test (f x)) xs ≡ list_any test (map f xs)
+any_given f test [] = refl
+any_given f test (x ∷ xs) = ap (λ b. test (f x) || b) (any_given f test xs)

@@ -3,6 +3,7 @@ use Rattle.std.specs.Prelude.{◌&&◌, ◌||◌, ℕ, Bool, List, [], Option, N
 use Rattle.std.specs.Prelude.{if◌then◌else◌}
 use Rattle.url.specs.Input.{is_empty}
 use Rattle.std.specs.Char.{to_ascii_lowercase}
+use Rattle.std.specs.List.{list_any}
 use Rattle.std.specs.Str.{bytes_eq}
 use Rattle.response_heads.specs.Heads.{HeadText}
 use Rattle.response_heads.specs.Lines.{FieldText, fault_of, is_white}
@@ -40,6 +41,14 @@ is_redirection status = nat_le 300 status && nat_lt status 400
 -- a success (section 15.3)
 abbrev pub is_success : ℕ → Bool
 is_success status = nat_le 200 status && nat_lt status 300
+
+-- the field says that content follows (RFC 9112, section 6.1)
+abbrev pub says_content : FieldText → Bool
+says_content field = is_named (codes "content-length") field || is_named (codes "transfer-encoding") field
+
+-- one of the head's fields does
+abbrev pub announces_content : HeadText → Bool
+announces_content head = list_any says_content head.fields
 
 -- Some program may read such a field as a Location, or as a part of one: one of that name, and of lines that are no
 -- field lines one that begins with it, or that goes on with the line before (RFC 9112, section 5.2).

@@ -8,7 +8,7 @@ use Rattle.url.specs.Parts.{Parts}
 use Rattle.plain_url.specs.Plain.{IsHop, IsPlainOf}
 use Rattle.response_heads.specs.Heads.{GivesHeads, HeadText, IsRefusal}
 use Rattle.response_heads.specs.Read as head
-use Rattle.response_heads.specs.Read.{head_text, is_success, locations}
+use Rattle.response_heads.specs.Read.{announces_content, head_text, is_success, locations}
 use Rattle.response_heads.specs.declared.redirects.Visit.{Visit}
 use Rattle.response_heads.specs.declared.error.LineFault.TheVariants.{Status}
 use Rattle.response_heads.specs.declared.error.ReadError.{ReadError}
@@ -47,12 +47,13 @@ LeadsTo url head next = LeadsBy url head.number (locations head) next
 
 -- ---- all heads
 
--- The head is that of a proxy's answer to CONNECT (RFC 9110, section 9.3.6): a success that isn't the last head and
--- comes behind none, from the URL of a site that is asked through a tunnel.
+-- The head is that of a proxy's answer to CONNECT (RFC 9110, section 9.3.6): a success that isn't the last head, from
+-- the URL of a site that is asked through a tunnel. Such an answer has no content: so behind another success it is one
+-- only where it announces none, but the first is one whatever it announces.
 abbrev pub is_tunnel : Parts → Bool → HeadText → List HeadText → Bool
 is_tunnel url is_behind_success head heads =
-    is_success head.status && (not is_behind_success && (bytes_eq url.scheme (codes "https")
-    && nat_lt 0 (length heads)))
+    is_success head.status && (not (is_behind_success && announces_content head)
+    && (bytes_eq url.scheme (codes "https") && nat_lt 0 (length heads)))
 
 -- The visits of heads, the first of which was answered here, or none knows where for the head of this line, and the line
 -- for which heads are left out.

@@ -1,11 +1,12 @@
 //! Heads, and the heads of a text.
 ghost use Rattle.std.specs.Prelude.{◌≡◌, ◌≤◌, ◌<◌, ◌⊎◌, codes, map, length, take, IfOk, IfErr};
+ghost use Rattle.std.specs.List.{list_any};
 ghost use Rattle.std.specs.Str.{bytes_eq};
 ghost use Rattle.std.specs.Char.{to_ascii_lowercase};
 ghost use Rattle.response_heads.specs.Heads as spec;
 ghost use Rattle.response_heads.specs.Lines as spec_lines;
-ghost use Rattle.response_heads.specs.Read.{fault, field_text, head_text, is_location, is_named, is_redirection};
-ghost use Rattle.response_heads.specs.Read.{locations, set_cookie_lines};
+ghost use Rattle.response_heads.specs.Read.{announces_content, fault, field_text, head_text, is_location, is_named};
+ghost use Rattle.response_heads.specs.Read.{is_redirection, locations, says_content, set_cookie_lines};
 ghost use Rattle.response_heads.specs.Steps as steps;
 
 use crate::error::{LineFault, ReadError};
@@ -42,6 +43,13 @@ impl<'a> Field<'a> {
         ensures { result ≡ is_named (map to_ascii_lowercase name.now) (field_text self.now) }
     {
         self.name.eq_ignore_ascii_case(name)
+    }
+
+    // Whether the field says that content follows.
+    fn says_content(&self) -> bool
+        ensures { result ≡ says_content (field_text self.now) }
+    {
+        self.is_named(b"content-length") || self.is_named(b"transfer-encoding")
     }
 
     // Whether some program may read the field as a Location.
@@ -112,6 +120,20 @@ impl<'a> Head<'a> {
         }
         Ok(texts)
     }
+
+    // Whether content follows, by the fields.
+    pub(crate) fn announces_content(&self) -> bool
+        ensures { result ≡ announces_content (head_text self.now) }
+    {
+        say_content(&self.fields)
+    }
+}
+
+// Whether one of the fields says that content follows.
+fn say_content(fields: &[Field<'_>]) -> bool
+    ensures { result ≡ list_any (λ field. says_content (field_text field)) fields.now }
+{
+    fields.iter().any(|field| field.says_content())
 }
 
 fn is_redirection(status: u16) -> bool

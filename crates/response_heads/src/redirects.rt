@@ -3,7 +3,7 @@ ghost use Rattle.std.specs.Prelude.{◌≡◌, ◌&&◌, Ok, map, IfOk, IfErr, M
 ghost use Rattle.std.specs.Str.{bytes_eq};
 ghost use Rattle.url.specs.Parts.{Parts};
 ghost use Rattle.plain_url.specs.Plain.{IsPlainOf};
-ghost use Rattle.response_heads.specs.Read.{head_text, is_success};
+ghost use Rattle.response_heads.specs.Read.{announces_content, head_text, is_success};
 ghost use Rattle.response_heads.specs.Visits as spec;
 
 use crate::error::{LineFault, ReadError};
@@ -20,7 +20,8 @@ pub struct Visit<'a> {
     /// What it answered.
     pub head: Head<'a>,
     /// Whether a proxy answered, and opened a tunnel to that URL (RFC 9110, section 9.3.6): a success that isn't the
-    /// last head and comes behind none, where the URL is one of `https`.
+    /// last head, where the URL is one of `https`. Behind another success it is one only without `Content-Length` and
+    /// `Transfer-Encoding`, since such an answer has no content.
     pub is_tunnel: bool,
 }
 
@@ -92,7 +93,7 @@ fn walk<'a>(alloc: Global, url: &Url, heads: Vec<Head<'a>>) -> Result<Visited<'a
             }
         };
         here = leads_to(alloc, &url, &head)?;
-        let is_tunnel = is_tunnel(&url, is_behind_success, head.status, left);
+        let is_tunnel = is_tunnel(&url, is_behind_success, &head, left);
         is_behind_success = is_success(head.status);
         visits.push(Visit {
             url,
@@ -157,11 +158,15 @@ fn plain(alloc: Global, text: &str) -> Result<Option<Url>, AllocError>
 }
 
 // Whether a head is a proxy's, behind which so many are left.
-fn is_tunnel(url: &Url, is_behind_success: bool, status: u16, left: usize) -> bool
-    ensures { result ≡ (is_success status && (not is_behind_success && (bytes_eq url.now.scheme (codes "https")
-        && nat_lt 0 left))) }
+fn is_tunnel(url: &Url, is_behind_success: bool, head: &Head<'_>, left: usize) -> bool
+    ensures { result ≡ (is_success head.now.status
+        && (not (is_behind_success && announces_content (head_text head.now))
+        && (bytes_eq url.now.scheme (codes "https") && nat_lt 0 left))) }
 {
-    is_success(status) && !is_behind_success && url.scheme() == "https" && left > 0
+    is_success(head.status)
+        && !(is_behind_success && head.announces_content())
+        && url.scheme() == "https"
+        && left > 0
 }
 
 fn is_success(status: u16) -> bool

@@ -21,7 +21,7 @@ use Rattle.user_agent.specs.declared.rules.Outcome.{Outcome}
 use Rattle.user_agent.specs.declared.rules.Outcome.TheVariants.{Taken, Refused}
 use Rattle.user_agent.specs.declared.rules.Refusal.{Refusal}
 use Rattle.user_agent.specs.declared.rules.Refusal.TheVariants.{Control, TooLong, SecurePrefix, HostPrefix}
-use Rattle.user_agent.specs.declared.rules.Refusal.TheVariants.{SecureFromHttp, SecureOverlay}
+use Rattle.user_agent.specs.declared.rules.Refusal.TheVariants.{SecureFromHttp, SecureOverlay, LacksSecure}
 use Rattle.user_agent.specs.declared.rules.Rules.{Rules}
 
 -- ---- line by line
@@ -189,6 +189,7 @@ no_line list rows new url now line outcome (inr (free, (handed, is_handed, inl (
     off HostPrefix on = cc on
     off SecureFromHttp on = cc on
     off SecureOverlay on = cc on
+    off LacksSecure on = cc on
 no_line list rows new url now line outcome (inr (free, (handed, is_handed, inr (let_in, (end, accepts, is))))) =
     (end, is, subst (λ l. Accepts list rows url now l end new) (same is_handed) accepts)
   where

@@ -73,7 +73,7 @@ pub set_is : (flag : Option Bool) → is_set flag ≡ true → flag ≡ Some tru
 set_is None e = absurd (both_ways false refl e)
 set_is (Some b) e = ap Some e
 
-set_not : (flag : Option Bool) → ¬ (flag ≡ Some true) → is_set flag ≡ false
+pub set_not : (flag : Option Bool) → ¬ (flag ≡ Some true) → is_set flag ≡ false
 set_not None h = refl
 set_not (Some true) h = absurd (h refl)
 set_not (Some false) h = refl

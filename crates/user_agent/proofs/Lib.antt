@@ -10,7 +10,10 @@ mod MatchLemmas
 mod NestedLemmas
 mod PieceLemmas
 mod RelateLemmas
+mod SecureReadLemmas
+mod SecureRunLemmas
 mod SessionLemmas
 mod StandingLemmas
 mod StrictLemmas
 mod TokenLemmas
+mod WinningLemmas

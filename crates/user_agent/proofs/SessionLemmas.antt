@@ -73,7 +73,7 @@ use Rattle.user_agent.specs.declared.rules.Outcome.{Outcome}
 use Rattle.user_agent.specs.declared.rules.Outcome.TheVariants.{Taken}
 use Rattle.user_agent.specs.declared.rules.Refusal.{Refusal}
 use Rattle.user_agent.specs.declared.rules.Refusal.TheVariants.{Control, TooLong, SecurePrefix, HostPrefix}
-use Rattle.user_agent.specs.declared.rules.Refusal.TheVariants.{SecureFromHttp, SecureOverlay}
+use Rattle.user_agent.specs.declared.rules.Refusal.TheVariants.{SecureFromHttp, SecureOverlay, LacksSecure}
 use Rattle.user_agent.specs.declared.rules.Rules.{Rules}
 use Rattle.user_agent.proofs.CutLemmas.{IsOther, age_end_apart, age_or_end, one_kind, other_age, other_end}
 use Rattle.user_agent.proofs.KnownLemmas.{first_is}
@@ -532,6 +532,7 @@ module _ (rules : Rules) (rows : List Row) (url : Parts) (now : ℤ) (c : Record
     )
     none_refuses SecureFromHttp on against = against.1 (inl https)
     none_refuses SecureOverlay on against = against.plain read_secure
+    none_refuses LacksSecure on against = against.plain read_secure
 
   passes : Passes rules rows url now line
   passes = record {

@@ -6,5 +6,7 @@ pub mod Integrity
 pub mod KnownDates
 pub mod LongAttributes
 pub mod Refusals
+pub mod SecureRuns
+pub mod SecureWins
 pub mod SessionLines
 pub mod StrictDates

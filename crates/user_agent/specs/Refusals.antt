@@ -8,6 +8,7 @@ use Rattle.std.specs.Str.{IsUtf8}
 use Rattle.percent_encoding.specs.Percent.{percent_decode}
 use Rattle.url.specs.Parts.{Parts}
 use Rattle.cookie.specs.Prefix.{IsHost}
+use Rattle.cookie_text.specs.Printing.{is_set, is_unrestricted}
 use Rattle.cookie_text.specs.Reading.{ReadsPlain}
 use Rattle.cookie_text.specs.Record.{Record, Seen}
 use Rattle.store_parts.specs.DomainMatch.{Domain, host_only, suffix, not_present, empty, DomainMatches}
@@ -18,7 +19,7 @@ use Rattle.cookie_store.specs.Making.{asked_domain, path_at}
 use Rattle.cookie_store.specs.Rows.{Row, domain_text}
 use Rattle.user_agent.specs.declared.rules.Refusal.{Refusal}
 use Rattle.user_agent.specs.declared.rules.Refusal.TheVariants.{Control, TooLong, SecurePrefix, HostPrefix}
-use Rattle.user_agent.specs.declared.rules.Refusal.TheVariants.{SecureFromHttp, SecureOverlay}
+use Rattle.user_agent.specs.declared.rules.Refusal.TheVariants.{SecureFromHttp, SecureOverlay, LacksSecure}
 use Rattle.user_agent.specs.declared.rules.Rules.{Rules}
 
 -- ---- what each rule is against
@@ -96,6 +97,16 @@ abbrev pub AsksForOverlay : Parts → List ℕ → Type 0
 AsksForOverlay url line =
     IsUtf8 line × ((seen : Seen) × ReadsPlain line (Ok seen) × MayOverlay url seen.cookie)
 
+-- `SameSite=None` or `Partitioned`, which ask for Secure: a cookie of either is printed with it
+abbrev pub asks_for_secure : Record → Bool
+asks_for_secure cookie = is_unrestricted cookie.same_site || is_set cookie.partitioned
+
+-- so, and not Secure, from a URL that isn't secure (5.7, where the draft asks it of `SameSite=None` from any URL)
+pub record IsWithoutSecure (url : Parts) (cookie : Record) : Type 0 where
+  pub asks : IsTrue (asks_for_secure cookie)
+  pub plain : ¬ (cookie.secure ≡ Some true)
+  pub insecure : ¬ (IsSecure url)
+
 -- ---- the rules
 
 -- the rule refuses a cookie; that on control characters is none of cookies, but of lines as they came
@@ -106,6 +117,7 @@ RefusesCookie rows url now seen SecurePrefix = BreaksSecurePrefix url seen
 RefusesCookie rows url now seen HostPrefix = BreaksHostPrefix url seen
 RefusesCookie rows url now seen SecureFromHttp = IsSecureFromHttp url seen.cookie
 RefusesCookie rows url now seen SecureOverlay = IsOverlay rows url now seen.cookie
+RefusesCookie rows url now seen LacksSecure = IsWithoutSecure url seen.cookie
 
 -- the rule refuses what the line reads as
 abbrev pub Refuses : List Row → Parts → ℤ → List ℕ → Refusal → Type 0
@@ -120,9 +132,11 @@ is_on rules SecurePrefix = rules.secure_prefix
 is_on rules HostPrefix = rules.host_prefix
 is_on rules SecureFromHttp = rules.secure_from_http
 is_on rules SecureOverlay = rules.secure_overlay
+is_on rules LacksSecure = rules.secure_wins
 
-abbrev pub all_rules : Rules
-all_rules = record {
+-- those of user agents, which have no `secure_wins`
+abbrev pub browser_rules : Rules
+browser_rules = record {
   long_attributes = true;
   dates = true;
   long_lives = true;
@@ -132,6 +146,7 @@ all_rules = record {
   host_prefix = true;
   secure_from_http = true;
   secure_overlay = true;
+  secure_wins = false;
 }
 
 abbrev pub no_rules : Rules
@@ -145,6 +160,7 @@ no_rules = record {
   host_prefix = false;
   secure_from_http = false;
   secure_overlay = false;
+  secure_wins = false;
 }
 
 -- the place of a rule in their order
@@ -155,6 +171,7 @@ place SecurePrefix = 2
 place HostPrefix = 3
 place SecureFromHttp = 4
 place SecureOverlay = 5
+place LacksSecure = 6
 
 -- the first of the rules that are on and refuse; none of those that are on refuses
 pub record IsFirstOf (rules : Rules) (Against : Refusal → Type 0) (rule : Refusal) : Type 0 where

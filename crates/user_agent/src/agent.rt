@@ -13,7 +13,6 @@ ghost use Rattle.cookie_store.specs.Placing.{saved};
 ghost use Rattle.cookie_store.specs.Rows.{Store};
 ghost use Rattle.cookie_store.specs.SavedLaws.{IsOfBytes};
 ghost use Rattle.cookie_store.specs.SavedTexts as form;
-ghost use Rattle.cookie_run.specs.Header.{IsHeader};
 ghost use Rattle.cookie_run.specs.HostPrefix.{AreHeldRightly, IsHeldRightly};
 ghost use Rattle.cookie_run.specs.Keeping.{HaveReadPairs, Keeps};
 ghost use Rattle.cookie_run.specs.KeptKeys.{KeepsKeys};
@@ -23,12 +22,15 @@ ghost use Rattle.user_agent.specs.Integrity.{ProtectedRowsStay};
 ghost use Rattle.user_agent.specs.KnownDates.{IsKnownLine};
 ghost use Rattle.user_agent.specs.LongAttributes.{IsShortLine};
 ghost use Rattle.user_agent.specs.Refusals.{IsStoppedByControl};
+ghost use Rattle.user_agent.specs.SecureWins.{IsHeaderBehind, IsWinnersHeader};
 
 use crate::cut_life::with_cut_life;
 use crate::judging::{has_control, refusal};
 use crate::known_date::with_known_date;
 use crate::long_attributes::without_long_attributes;
 use crate::rules::{Outcome, Refusal, Rules};
+use crate::secure_wins::winners;
+use cookie_run::client::header_of as header_text;
 use cookie_run::{Client, Stopped};
 use cookie_store::{Error, Sink, Source};
 use jiff::civil::DateTime;
@@ -76,16 +78,19 @@ impl UserAgent {
         self.rules
     }
 
-    /// The `Cookie` header of a request to this URL at `now`, which is the client's.
+    /// The `Cookie` header of a request to this URL at `now`: the client's, but where `secure_wins` is on without the
+    /// rows that aren't `Secure` and whose name, percent-decoded, is that of a `Secure` row which the request is given.
+    ///
+    /// A request to a URL that isn't secure is given no `Secure` row, so its header stays.
     ///
     /// # Errors
     ///
-    /// `AllocError` where there is no memory for the text.
+    /// `AllocError` where there is no memory for the text, or for the names of the rows.
     pub fn header(&self, url: &Url, now: DateTime) -> Result<String, AllocError>
         ensures { IfOk result (λ header.
-            IsHeader self.now.store.rows url.now (civil_nanos now) (string_bytes header)) }
+            IsHeaderBehind self.now.rules self.now.store.rows url.now (civil_nanos now) (string_bytes header)) }
     {
-        self.client.header(url, now)
+        header_of(&self.client, &self.rules, url, now)
     }
 
     /// Takes the `Set-Cookie` lines of an answer from this URL at `now`, one after another, and says what became of
@@ -194,6 +199,39 @@ impl UserAgent {
     {
         self.client.restart(now)
     }
+}
+
+/// The `Cookie` header of a request to this URL at `now` from a client behind these rules, as [`UserAgent::header`]
+/// gives it: for a client whose rules another keeps.
+///
+/// # Errors
+///
+/// Those of [`UserAgent::header`].
+pub fn header_of(
+    client: &Client,
+    rules: &Rules,
+    url: &Url,
+    now: DateTime,
+) -> Result<String, AllocError>
+    ensures { IfOk result (λ header.
+        IsHeaderBehind rules.now client.now.rows url.now (civil_nanos now) (string_bytes header)) }
+{
+    if rules.secure_wins {
+        winners_header(client, url, now)
+    } else {
+        client.header(url, now)
+    }
+}
+
+// The header of the rows that win.
+fn winners_header(client: &Client, url: &Url, now: DateTime) -> Result<String, AllocError>
+    ensures { IfOk result (λ header. IsWinnersHeader client.now.rows url.now (civil_nanos now) (string_bytes header)) }
+{
+    // A URL that was parsed is valid, whatever is done with it.
+    let _path = url.path();
+    let given = client.store().matches_longest(url, now)?;
+    let left = winners(client.alloc(), given)?;
+    header_text(client.alloc(), left)
 }
 
 /// Takes the `Set-Cookie` lines of an answer from this URL at `now` into a client behind these rules, one after another,

@@ -14,7 +14,7 @@ ghost use Rattle.cookie_store.specs.StoredCookie.{stored_of};
 ghost use Rattle.user_agent.specs.Refusals as spec;
 
 use crate::rules::{Refusal, Rules};
-use cookie::{Cookie as RawCookie, Host, Prefix};
+use cookie::{Cookie as RawCookie, Host, Prefix, SameSite};
 use cookie_store::utils::{is_host_name, is_secure};
 use cookie_store::{Cookie, CookieDomain, CookiePath, CookieStore, Error};
 use cookie_text::laws::one_outcome;
@@ -28,7 +28,7 @@ use url::Url;
 ///
 /// # Errors
 ///
-/// `AllocError` for want of memory, which the last rule alone takes.
+/// `AllocError` for want of memory, which the rule on overlays alone takes.
 pub fn refusal(
     alloc: Global,
     rules: &Rules,
@@ -81,6 +81,9 @@ fn cookie_refusal(
     if rules.secure_overlay && is_overlay(alloc, store, cookie, url, now)? {
         return Ok(Some(Refusal::SecureOverlay));
     }
+    if rules.secure_wins && is_without_secure(cookie, url) {
+        return Ok(Some(Refusal::LacksSecure));
+    }
     Ok(None)
 }
 
@@ -128,7 +131,22 @@ fn is_secure_from_http(cookie: &RawCookie<'_>, url: &Url) -> bool
     is_marked_secure(cookie) && !is_secure(url)
 }
 
-fn is_marked_secure(cookie: &RawCookie<'_>) -> bool
+// Whether the cookie asks for Secure and isn't, nor is the URL.
+fn is_without_secure(cookie: &RawCookie<'_>, url: &Url) -> bool
+    ensures { IsTrue result ↔ spec.IsWithoutSecure url.now cookie.now.cookie }
+{
+    asks_for_secure(cookie) && !is_marked_secure(cookie) && !is_secure(url)
+}
+
+// Whether one of its attributes asks for Secure.
+fn asks_for_secure(cookie: &RawCookie<'_>) -> bool
+    ensures { result ≡ spec.asks_for_secure cookie.now.cookie }
+{
+    matches!(cookie.same_site(), Some(SameSite::None)) || cookie.partitioned().unwrap_or(false)
+}
+
+/// Whether the cookie is Secure.
+pub fn is_marked_secure(cookie: &RawCookie<'_>) -> bool
     ensures { IsTrue result ↔ (cookie.now.cookie.secure ≡ Some true) }
 {
     cookie.secure().unwrap_or(false)

@@ -14,11 +14,14 @@ mod judging;
 pub mod known_date;
 pub mod laws;
 pub mod long_attributes;
+mod plain;
 pub mod rules;
+mod secure_wins;
 mod token;
 
 pub use agent::UserAgent;
 pub use cut_life::with_cut_life;
 pub use known_date::with_known_date;
 pub use long_attributes::without_long_attributes;
+pub use plain::is_plain_url;
 pub use rules::{Outcome, Refusal, Rules};

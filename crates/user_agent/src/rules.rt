@@ -23,6 +23,9 @@ pub enum Refusal {
     /// It isn't `Secure`, came from a URL that isn't secure, and a `Secure` cookie that isn't expired has its name, a
     /// domain that domain-matches its own or is domain-matched by it, and a path that its path matches (section 5.7).
     SecureOverlay,
+    /// It has `SameSite=None` or `Partitioned`, which ask for `Secure`, isn't `Secure`, and came from a URL that isn't
+    /// secure: saved and loaded again it would be `Secure` (section 5.7). Its rule is [`Rules::secure_wins`].
+    LacksSecure,
 }
 
 /// Which rules are on.
@@ -40,12 +43,16 @@ pub struct Rules {
     pub host_prefix: bool,
     pub secure_from_http: bool,
     pub secure_overlay: bool,
+    /// Of the rows that a request is given, those without `Secure` are left out of its header whose name,
+    /// percent-decoded, is that of a `Secure` one among them; and [`Refusal::LacksSecure`] is a rule. No user agent has
+    /// it. It rests on `secure_from_http`: without that a `Secure` row may come from anyone.
+    pub secure_wins: bool,
 }
 
 impl Rules {
-    /// All rules.
+    /// All rules of user agents, and so all but `secure_wins`.
     pub fn browser() -> Rules
-        ensures { result ≡ spec.all_rules }
+        ensures { result ≡ spec.browser_rules }
     {
         Rules {
             long_attributes: true,
@@ -57,6 +64,7 @@ impl Rules {
             host_prefix: true,
             secure_from_http: true,
             secure_overlay: true,
+            secure_wins: false,
         }
     }
 
@@ -74,6 +82,7 @@ impl Rules {
             host_prefix: false,
             secure_from_http: false,
             secure_overlay: false,
+            secure_wins: false,
         }
     }
 
@@ -88,6 +97,7 @@ impl Rules {
             Refusal::HostPrefix => self.host_prefix,
             Refusal::SecureFromHttp => self.secure_from_http,
             Refusal::SecureOverlay => self.secure_overlay,
+            Refusal::LacksSecure => self.secure_wins,
         }
     }
 }

@@ -1,12 +1,12 @@
 //! The texts of signed values.
 
-ghost use Rattle.std.specs.Prelude.{◌≡◌, ◌↔◌, ℕ, List, length, IfOk, IsTrue, Some};
+ghost use Rattle.std.specs.Prelude.{◌≡◌, ◌↔◌, ℕ, List, IfOk, Some};
 ghost use Rattle.std.specs.Option.{option_copied};
 ghost use Rattle.std.specs.String.{string_bytes};
-ghost use Rattle.cookie.specs.Base64.{base64 as base64_of};
 ghost use Rattle.cookie.specs.Signing as spec;
 
 use super::key::Key;
+use super::printing::code_text;
 use base64::engine::general_purpose::STANDARD;
 use seal::equal_bytes;
 use std::alloc::{AllocError, Global};
@@ -30,19 +30,6 @@ pub fn signed_text(alloc: Global, key: &Key, value: &str) -> Result<String, Allo
     Ok(text)
 }
 
-// Whether the text is the base64 of the code. It is the text that is decoded, and not the code that
-// is printed: so no table is read at places that a code decides which nobody sent.
-fn is_base64_of(text: &[u8], code: &[u8; 32]) -> bool
-    requires { length text.now ≡ 44 }
-    ensures { IsTrue result ↔ (text.now ≡ base64_of code.now) }
-{
-    let mut bytes = [0; 33];
-    match STANDARD.decode_slice_unchecked(text, &mut bytes) {
-        Ok(count) => equal_bytes(&bytes[..count], code),
-        Err(_) => false,
-    }
-}
-
 /// The value that `text` is the signing of, a slice of it, and none where it is no signing under
 /// this key.
 pub fn verified_value<'t>(key: &Key, text: &'t str) -> Option<&'t str>
@@ -52,8 +39,8 @@ pub fn verified_value<'t>(key: &Key, text: &'t str) -> Option<&'t str>
     let Some((code, value)) = text.split_at_checked(CODE_LEN) else {
         return None;
     };
-    let right = key.code(value.as_bytes());
-    if is_base64_of(code.as_bytes(), &right) {
+    let right = code_text(&key.code(value.as_bytes()));
+    if equal_bytes(code.as_bytes(), &right) {
         Some(value)
     } else {
         None

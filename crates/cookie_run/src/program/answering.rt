@@ -13,7 +13,6 @@ ghost use Rattle.cookie_run.specs.ProgramRead.{asked_for};
 
 use crate::client::Client;
 use crate::program::arguments::{self, Asked};
-use crate::program::draft::Draft;
 use crate::program::failure::Failure;
 use crate::script::ended::{Ended, RunError};
 use crate::script::run::run;
@@ -21,6 +20,7 @@ use cookie::Key;
 use cookie_store::Error;
 use devices::{Counting, Sink, Source};
 use jiff::civil::DateTime;
+use kept_file::draft::Draft;
 use publicsuffix::{List, ListError};
 use rand_chacha::ChaCha20Rng;
 use rand_core::SeedableRng;

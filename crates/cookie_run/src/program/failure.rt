@@ -15,6 +15,10 @@ pub enum Failure {
     SuffixFile,
     /// It is no suffix list.
     SuffixList,
+    /// The lock of the store file was held by another.
+    StoreInUse,
+    /// No lock file can be made or opened beside the store file.
+    LockFile,
     /// The store file isn't read, or, after the script, not written.
     StoreFile,
     /// It is no saved text, or, after the script, there is none.
@@ -38,6 +42,8 @@ impl Failure {
             Failure::Moment => "moment",
             Failure::SuffixFile => "suffix file",
             Failure::SuffixList => "suffix list",
+            Failure::StoreInUse => "store in use",
+            Failure::LockFile => "lock file",
             Failure::StoreFile => "store file",
             Failure::StoreText => "store text",
             Failure::Input => "input",

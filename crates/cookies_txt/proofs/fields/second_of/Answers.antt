@@ -1,13 +1,11 @@
-use Rattle.std.proofs.Common.{◌≡◌, ◌∙◌, true, sym}
-use Rattle.std.proofs.lemmas.Str.Parse.{parse_digits}
-use Rattle.cookies_txt.specs.Reading.{is_number}
-use Rattle.cookies_txt.proofs.FieldLemmas.{own, largest_second, digits_in}
+use Rattle.std.proofs.Common.{lit<, sym}
+use Rattle.std.proofs.lemmas.Str.Pattern.{strip_prefix_char}
+use Rattle.cookies_txt.proofs.ExpiryLemmas.{unsigned_second}
 use Rattle.cookies_txt.proofs.fields.second_of.Goals as goal
 
-pub returns-in-Err-clause-second : goal.returns-in-Err-clause-second
-returns-in-Err-clause-second c =
-    let text = c.args.text.now in
-    let number : is_number text ≡ true = sym c.is_number.ensures ∙ c.if-not-is_number.false in
-    let digits = digits_in text number in
-    let parsed = parse_digits own 64 text c.parse.result c.parse.ensures.value.0 digits.1 in
-    (number, largest_second text c.parse.result c.in-Err.field-0 digits.0 parsed c.in-Err.is)
+pub returns-in-None-clause-second : goal.returns-in-None-clause-second
+returns-in-None-clause-second c =
+    unsigned_second c.args.text.now c.whole_second_of-in-None.result c.strip_prefix.result
+    (sym c.if-is_empty.ensures) c.in-None.is
+    (strip_prefix_char 45 c.args.text.now c.strip_prefix.result c.strip_prefix.ensures.cases (lit< tt))
+    c.whole_second_of-in-None.ensures.second

@@ -5,6 +5,7 @@ use Rattle.cookie_run.specs.Jar.{IsOpened}
 use Rattle.fonnalich_c.specs.Exchange.{Answers}
 use Rattle.fonnalich_c.specs.Given.{lines_of, nanos_of}
 use Rattle.fonnalich_c.proofs.Exchanges.{fault_gives, ok_gives, stopped}
+use Rattle.fonnalich_c.proofs.Faults.{is_moment, key_unopened, too_short}
 use Rattle.fonnalich_c.proofs.exchange.exchange.Goals as goal
 
 pub returns-clause-ok : goal.returns-clause-ok
@@ -33,3 +34,11 @@ returns-clause-err c =
     fault_gives c.converse.result _ _ (λ refused so. stopped c.args.key.now c.args.header.now c.args.second
     c.args.commands.now c.args.nonces.now c.in_ok-session.session c.in_ok-now.now _ refused
     (c.in-Ok.ensures.accepted.0 refl, opened, moment) lines so) c.converse.ensures.err
+
+pub returns-in_default-clause-err : goal.returns-in_default-clause-err
+returns-in_default-clause-err c =
+    let fits : FitsSigned w64 c.args.second = c.ranges.second in
+    let moment : civil_nanos c.in_ok-now.now ≡ nanos_of c.args.second = simp to_z-of_z at c.in_ok-now.ensures.ok in
+    key_unopened c.args.key.now c.args.header.now c.args.second c.args.commands.now c.args.nonces.now _
+    (is_moment c.in_ok-now.now c.args.second moment)
+    (refl, too_short c.args.key.now c.try_from.result c.in_default.not-Ok c.try_from.ensures.accepted)

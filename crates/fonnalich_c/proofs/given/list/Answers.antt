@@ -1,6 +1,10 @@
 use Rattle.std.proofs.Common.{refl}
-use Rattle.fonnalich_c.proofs.Refusals.{not_listed}
+use Rattle.fonnalich_c.proofs.Refusals.{listed, not_listed}
 use Rattle.fonnalich_c.proofs.given.list.Goals as goal
+
+pub returns-in-Ok-clause-ok : goal.returns-in-Ok-clause-ok
+returns-in-Ok-clause-ok c =
+    (listed c.args.text.now c.in-Ok.list c.in-Ok.ensures.not_text, c.in-Ok.ensures.rules)
 
 pub returns-in-Err-clause-err : goal.returns-in-Err-clause-err
 returns-in-Err-clause-err c =

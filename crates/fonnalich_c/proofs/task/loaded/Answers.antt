@@ -1,12 +1,15 @@
 use Rattle.std.proofs.Common.{◌≡◌, ◌∙◌, ap, false, subst, sym, FitsSigned, w64}
 use Rattle.std.proofs.lemmas.Int.{to_z-of_z}
 use Rattle.jiff.specs.Words.{civil_nanos}
-use Rattle.publicsuffix.specs.Rules.{HasRules}
 use Rattle.saved_text.specs.RonReading.{ShowsOnly}
 use Rattle.cookie_store.specs.SavedTexts.{Loads}
-use Rattle.fonnalich_c.specs.Given.{nanos_of}
+use Rattle.cookie_run.specs.Program.{IsSuffixList}
+use Rattle.fonnalich_c.specs.Given.{IsNoMoment, nanos_of}
 use Rattle.fonnalich_c.specs.Tasks.{IsNoLoad}
-use Rattle.fonnalich_c.proofs.Refusals.{no_load, not_loaded}
+use Rattle.fonnalich_c.specs.declared.refusal.Refusal.TheVariants.{Moment}
+use Rattle.fonnalich_c.proofs.Exchanges.{err_gives}
+use Rattle.fonnalich_c.proofs.Faults.{is_list, is_moment, list_first, moment_second, saved_third}
+use Rattle.fonnalich_c.proofs.Refusals.{not_loaded}
 use Rattle.fonnalich_c.proofs.task.loaded.Goals as goal
 
 pub returns-in-Ok-clause-ok : goal.returns-in-Ok-clause-ok
@@ -15,7 +18,7 @@ returns-in-Ok-clause-ok c =
     let moment : civil_nanos c.in_ok-now.now ≡ nanos_of c.args.second = simp to_z-of_z at c.in_ok-now.ensures.ok in
     let loaded = c.in-Ok.ensures.ok in
     let same = loaded.1 ∙ ap (λ text. text.now) c.new.ensures.inner in (
-      subst (HasRules c.args.text.now) (sym c.in-Ok.ensures.suffixes) c.in_ok-list.ensures.ok,
+      subst (IsSuffixList c.args.text.now) (sym c.in-Ok.ensures.suffixes) c.in_ok-list.ensures.ok,
       (
         loaded.2.0,
         subst (λ now. Loads ShowsOnly false now c.args.saved.now loaded.2.0) moment
@@ -26,7 +29,27 @@ returns-in-Ok-clause-ok c =
 
 pub returns-clause-err : goal.returns-clause-err
 returns-clause-err c =
+    let fits : FitsSigned w64 c.args.second = c.ranges.second in
+    let moment : civil_nanos c.in_ok-now.now ≡ nanos_of c.args.second = simp to_z-of_z at c.in_ok-now.ensures.ok in
     subst (λ text. IsNoLoad c.args.second text c.args.text.now c.unloaded.result)
     (ap (λ text. text.now) c.new.ensures.inner)
-    (no_load c.args.second _ c.args.text.now c.unloaded.result
+    (saved_third c.args.second _ c.args.text.now c.unloaded.result
+    (is_list c.args.text.now c.in_ok-list.list c.in_ok-list.ensures.ok)
+    (is_moment c.in_ok-now.now c.args.second moment)
     (not_loaded _ c.in-Err.cause c.unloaded.result _ _ _ c.unloaded.ensures c.in-Err.ensures.err))
+
+pub returns-in_err-list-clause-err : goal.returns-in_err-list-clause-err
+returns-in_err-list-clause-err c =
+    err_gives c.from_residual.result _ _ c.from_residual.ensures (λ refused is.
+    subst (IsNoLoad c.args.second c.args.saved.now c.args.text.now) (sym is)
+    (list_first c.args.second c.args.saved.now c.args.text.now c.in_err-list.field-0.0 c.in_err-list.ensures.err))
+
+pub returns-in_err-now-clause-err : goal.returns-in_err-now-clause-err
+returns-in_err-now-clause-err c =
+    let fits : FitsSigned w64 c.args.second = c.ranges.second in
+    let none : (c.in_err-now.field-0.0 ≡ Moment) × IsNoMoment c.args.second =
+    simp to_z-of_z at c.in_err-now.ensures.err in
+    err_gives c.from_residual-in_err-now.result _ _ c.from_residual-in_err-now.ensures (λ refused is.
+    subst (IsNoLoad c.args.second c.args.saved.now c.args.text.now) (sym is)
+    (moment_second c.args.second c.args.saved.now c.args.text.now c.in_err-now.field-0.0
+    (is_list c.args.text.now c.in_ok-list.list c.in_ok-list.ensures.ok) none))

@@ -3,7 +3,7 @@ use Rattle.std.specs.Prelude.{◌&&◌, codes, nat_lt, not}
 use Rattle.std.specs.Str.{bytes_eq}
 use Rattle.std.specs.Vec.Iter.{into_iter_items}
 use Rattle.std.proofs.lemmas.List.{length-map}
-use Rattle.response_heads.specs.Read.{head_text, is_success}
+use Rattle.response_heads.specs.Read.{announces_content, head_text, is_success}
 use Rattle.response_heads.specs.Visits.{VisitText, is_tunnel, visit_text}
 use Rattle.response_heads.proofs.VisitLemmas.{WalksOn, ends, goes_on, leaves_out, none_left}
 use Rattle.response_heads.proofs.redirects.walk.Goals as goal
@@ -38,7 +38,8 @@ loop-head-preserved c =
     let left : c.loop-head.left - 1 ≡ length (map head_text rest) = one_less ∙ sym (length-map rest head_text) in
     let tunnel : c.is_tunnel-is_tunnel.result ≡ is_tunnel here flag (head_text head) (map head_text rest) =
     c.is_tunnel-is_tunnel.ensures
-    ∙ ap (λ n. is_success head.status && (not flag && (bytes_eq here.scheme (codes "https") && nat_lt 0 n))) left in
+    ∙ ap (λ n. is_success head.status && (not (flag && announces_content (head_text head))
+    && (bytes_eq here.scheme (codes "https") && nat_lt 0 n))) left in
     let make : Bool → VisitText = λ b. record { url = here; head = head_text head; is_tunnel = b } in
     record {
       walks = subst (λ b. WalksOn url heads c.in_ok-here.here b (map head_text rest)

@@ -4,7 +4,7 @@ use Rattle.jiff.specs.Words.{civil_nanos}
 use Rattle.user_agent.specs.Refusals.{RefusesCookie, is_on}
 use Rattle.user_agent.specs.declared.rules.Refusal.{Refusal}
 use Rattle.user_agent.specs.declared.rules.Refusal.TheVariants.{Control, TooLong, SecurePrefix, HostPrefix}
-use Rattle.user_agent.specs.declared.rules.Refusal.TheVariants.{SecureFromHttp, SecureOverlay}
+use Rattle.user_agent.specs.declared.rules.Refusal.TheVariants.{SecureFromHttp, SecureOverlay, LacksSecure}
 use Rattle.user_agent.proofs.judging.cookie_refusal.Goals as goal
 use Rattle.user_agent.proofs.judging.cookie_refusal.Goals.{else-rules-via-then-rules+else-is_too_long}
 use Rattle.user_agent.proofs.judging.cookie_refusal.Goals.{else-rules-via-else-rules}
@@ -16,6 +16,8 @@ use Rattle.user_agent.proofs.judging.cookie_refusal.Goals.{else-rules-4-via-then
 use Rattle.user_agent.proofs.judging.cookie_refusal.Goals.{else-rules-4-via-else-rules-4}
 use Rattle.user_agent.proofs.judging.cookie_refusal.Goals.{else-rules-5-via-then-rules-5+in_ok-is_overlay+else-branch}
 use Rattle.user_agent.proofs.judging.cookie_refusal.Goals.{else-rules-5-via-else-rules-5}
+use Rattle.user_agent.proofs.judging.cookie_refusal.Goals.{else-rules-6-via-then-rules-6+else-is_without_secure}
+use Rattle.user_agent.proofs.judging.cookie_refusal.Goals.{else-rules-6-via-else-rules-6}
 
 pub returns-clause-found : goal.returns-clause-found
 returns-clause-found c = by
@@ -46,4 +48,9 @@ returns-clause-found c = by
       | else-rules-5-via-then-rules-5+in_ok-is_overlay+else-branch w ↦
           both_ways _ w.if-branch.false (w.in_ok-is_overlay.ensures.is.1 against)
       | else-rules-5-via-else-rules-5 w ↦ both_ways _ w.if-rules-5.false on
+    ]
+    by LacksSecure on against = elim c.else-rules-6.branch [
+      | else-rules-6-via-then-rules-6+else-is_without_secure w ↦
+          both_ways _ w.if-is_without_secure.false (w.is_without_secure.ensures.1 against)
+      | else-rules-6-via-else-rules-6 w ↦ both_ways _ w.if-rules-6.false on
     ]

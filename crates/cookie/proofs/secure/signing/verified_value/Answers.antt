@@ -12,13 +12,14 @@ returns-in_default c = λ value. (
       cc cut,
 )
 
-pub returns-then-is_base64_of : goal.returns-then-is_base64_of
-returns-then-is_base64_of c =
+pub returns-then-equal_bytes : goal.returns-then-equal_bytes
+returns-then-equal_bytes c =
     let key : List ℕ = c.args.key.now in
-    let right : base64 c.code-right.result ≡ code key c.in-Some.value.now =
-    ap base64 c.code-right.ensures ∙ ap (code key) c.as_bytes.ensures.value in
+    let right : base64 c.code.result ≡ code key c.in-Some.value.now =
+    ap base64 c.code.ensures ∙ ap (code key) c.as_bytes.ensures.value in
     let same : c.in-Some.code.now ≡ code key c.in-Some.value.now =
-    sym c.as_bytes-2.ensures.value ∙ c.is_base64_of.ensures.0 c.if-is_base64_of.true ∙ right in
+    sym c.as_bytes-2.ensures.value ∙ c.equal_bytes.ensures.0 c.if-equal_bytes.true
+    ∙ c.code_text-right.ensures ∙ right in
     let is : c.args.text.now ≡ signing key c.in-Some.value.now =
     signing_from_parts key _ c.args.text.now _ c.in-Some.ensures.front c.in-Some.ensures.back same in
     λ value. (
@@ -27,15 +28,16 @@ returns-then-is_base64_of c =
           c.in-Some.ensures.back e).1,
     )
 
-pub returns-else-is_base64_of : goal.returns-else-is_base64_of
-returns-else-is_base64_of c = λ value. (
+pub returns-else-equal_bytes : goal.returns-else-equal_bytes
+returns-else-equal_bytes c = λ value. (
   λ e. cc e,
   λ e. let key : List ℕ = c.args.key.now in
       let parts = parts_of_signing c.lengths.ensures.code key value c.args.text.now _ _ c.in-Some.ensures.front
       c.in-Some.ensures.back e in
-      let right : base64 c.code-right.result ≡ code key c.in-Some.value.now =
-      ap base64 c.code-right.ensures ∙ ap (code key) c.as_bytes.ensures.value in
-      let yes = c.is_base64_of.ensures.1 (c.as_bytes-2.ensures.value ∙ parts.0 ∙ sym right) in
-      let no = c.if-is_base64_of.false in
+      let right : base64 c.code.result ≡ code key c.in-Some.value.now =
+      ap base64 c.code.ensures ∙ ap (code key) c.as_bytes.ensures.value in
+      let yes = c.equal_bytes.ensures.1 (c.as_bytes-2.ensures.value ∙ parts.0
+      ∙ sym (c.code_text-right.ensures ∙ right)) in
+      let no = c.if-equal_bytes.false in
       cc (yes, no),
 )

@@ -1,0 +1,100 @@
+/* Hands the library a thousand times what a visit does: 100,000 lines at once, their header, a saved text of megabytes,
+   and an exchange of as many commands. Each must end as one of a few does. */
+#include "fonnalich.h"
+#include <stdio.h>
+#include <stdlib.h>
+#include <string.h>
+
+#define T(text) (text), strlen(text)
+
+enum { MANY = 100000, ROOM = 64 << 20, COMMANDS = 20000 };
+static const char *LIST = "com\norg\n*.ck\n", *URL = "https://example.com/";
+static const int64_t NOW = 1700000000;
+static int failures;
+
+static void ask(int holds, const char *what) {
+    if (!holds) {
+        failures++;
+        printf("not so: %s\n", what);
+    }
+}
+
+static char *room(void) {
+    char *found = malloc(ROOM);
+    if (!found)
+        exit(3);
+    return found;
+}
+
+/* MANY texts, by this format of their number, joined by `between`. */
+static size_t joined(char *to, int many, const char *format, const char *between) {
+    size_t used = 0;
+    for (int i = 0; i < many; i++) {
+        used += sprintf(to + used, "%s", i ? between : "");
+        used += sprintf(to + used, format, i, i);
+    }
+    return used;
+}
+
+static int is_each(const char *out, ptrdiff_t length, int number) {
+    ptrdiff_t i = 0;
+    while (i < length && out[i] == number)
+        i++;
+    return i == MANY && length == MANY;
+}
+
+static void takes_many_lines(int64_t rules) {
+    char *lines = room(), *header = room(), *out = room(), *saved = room();
+    size_t length = joined(lines, MANY, "n%d=%d; Path=/; Max-Age=60", "\n");
+    size_t header_length = joined(header, MANY, "n%d=%d", "; ");
+    fonnalich at, other;
+    fonnalich_begin(&at);
+    fonnalich_begin(&other);
+    ask(fonnalich_rules(&at, rules) == 0 && fonnalich_list(&at, T(LIST)) == 0, "a list");
+    ptrdiff_t number = fonnalich_receive(&at, NOW, T(URL), lines, length, out, ROOM);
+    ask(is_each(out, number, FONNALICH_INSERTED), "each line is a new cookie");
+    number = fonnalich_header(&at, NOW, T(URL), out, ROOM);
+    ask(number == (ptrdiff_t)header_length && !memcmp(out, header, header_length), "the header has each of them");
+    ptrdiff_t saved_length = fonnalich_save(&at, NOW, saved, ROOM);
+    ask(saved_length > 4 << 20 && saved_length <= ROOM, "a saved text of megabytes");
+    ask(fonnalich_load(&other, NOW + 1, saved, saved_length, T(LIST)) == 0, "it is loaded");
+    number = fonnalich_header(&other, NOW + 1, T(URL), out, ROOM);
+    ask(number == (ptrdiff_t)header_length && !memcmp(out, header, header_length), "with each of them");
+    number = fonnalich_receive(&at, NOW, T(URL), lines, length, out, ROOM);
+    ask(is_each(out, number, FONNALICH_UPDATED_EXISTING), "each line takes the place of one");
+    ask(fonnalich_restart(&at, NOW) == 0, "a restart");
+    number = fonnalich_header(&at, NOW + 60, T(URL), out, ROOM);
+    ask(number == 0, "all of them end");
+    fonnalich_free(&other);
+    fonnalich_free(&at);
+    free(lines), free(header), free(out), free(saved);
+}
+
+static void obeys_many_commands(void) {
+    static const char key[FONNALICH_KEY_LENGTH];
+    char *header = room(), *commands = room(), *out = room();
+    size_t header_length = joined(header, COMMANDS, "n%d=%d", "; "), length = joined(commands, COMMANDS, "G0n%d", "\n");
+    commands[length++] = '\n';
+    length += joined(commands + length, COMMANDS, "S0m%d=%d", "\n");
+    ptrdiff_t number = fonnalich_exchange(key, sizeof key, header, header_length, NOW, commands, length, "", 0, out,
+                                          ROOM);
+    ask(number > 0 && number <= ROOM, "an exchange of many commands");
+    const char *at = out, *text;
+    ptrdiff_t text_length;
+    char wanted[16];
+    int items = 0, read = 0;
+    while (fonnalich_next(&at, out + number, &text, &text_length)) {
+        int is = sprintf(wanted, "%d", items++);
+        read += items <= COMMANDS && text_length == is && !memcmp(text, wanted, is);
+    }
+    ask(read == COMMANDS && items == 2 * COMMANDS, "each value is read, and each cookie has a line");
+    free(header), free(commands), free(out);
+}
+
+int main(void) {
+    takes_many_lines(FONNALICH_NO_RULES);
+    takes_many_lines(FONNALICH_BROWSER);
+    obeys_many_commands();
+    printf("%s\n", failures ? "not as of a few" : "as of a few");
+    return failures != 0;
+}

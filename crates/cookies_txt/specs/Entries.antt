@@ -1,0 +1,101 @@
+-- What the lines of a text give where each is read by itself: a row, its domain in IDNA form (RFC 6265, 5.1.2), or a
+-- fault (this repository's own).
+use Rattle.std.specs.Prelude.{◌≡◌, ◌==◌, ◌⊎◌, ◌+◌, ◌++◌, ℕ, List, [], ◌∷◌, drop, map, Option, Some, None}
+use Rattle.std.specs.Prelude.{Result, Ok, Err, MatchOption, MatchResult, if◌then◌else◌}
+use Rattle.std.specs.List.{starts_with}
+use Rattle.std.specs.Result.{result_map_both}
+use Rattle.std.specs.Str.{IsUtf8}
+use Rattle.std.specs.Str.Lines.{lines}
+use Rattle.cookie_text.specs.ReadingBack.{Pairwise}
+use Rattle.store_parts.specs.DomainMatch.{Domain, host_only, suffix, not_present, empty}
+use Rattle.store_parts.specs.DomainText.{read_domain}
+use Rattle.cookie_store.specs.Rows.{Row}
+use Rattle.cookie_store.specs.StoredCookie.{stored_of}
+use Rattle.cookies_txt.specs.Layout.{CookieLine}
+use Rattle.cookies_txt.specs.Reading.{read_line}
+use Rattle.cookies_txt.specs.Writing.{IsRowOf}
+use Rattle.cookies_txt.specs.declared.entries.Entry.{Entry}
+use Rattle.cookies_txt.specs.declared.error.LineFault.{LineFault}
+use Rattle.cookies_txt.specs.declared.error.LineFault.TheVariants.{Domain as NoDomain}
+use Rattle.cookies_txt.specs.declared.error.ReadError.{ReadError}
+use Rattle.cookies_txt.specs.declared.error.ReadError.TheVariants.{NotText, OutOfMemory}
+
+-- ---- a line
+
+-- the line with its domain in IDNA form, or the fault that there is none
+abbrev pub in_idna : CookieLine → Option Domain → Result (Option CookieLine) LineFault
+in_idna line None = Err NoDomain
+in_idna line (Some (suffix text)) = Ok (Some (record line { domain = text }))
+in_idna line (Some (host_only text)) = Err NoDomain
+in_idna line (Some not_present) = Err NoDomain
+in_idna line (Some empty) = Err NoDomain
+
+abbrev pub with_idna : Result (Option CookieLine) LineFault → Result (Option CookieLine) LineFault
+with_idna (Ok (Some line)) = in_idna line (read_domain line.domain)
+with_idna (Ok None) = Ok None
+with_idna (Err fault) = Err fault
+
+-- what a line gives: a cookie, nothing where it is passed over, or its first fault
+unfoldable pub given_by : List ℕ → Result (Option CookieLine) LineFault
+given_by line = with_idna (read_line line)
+
+-- ---- a text
+
+-- U+FEFF, as some editors put it in front
+abbrev pub byte_order_mark : List ℕ
+byte_order_mark = 239 ∷ 187 ∷ 191 ∷ []
+
+abbrev pub without_mark : List ℕ → List ℕ
+without_mark text = if starts_with ◌==◌ text byte_order_mark then drop 3 text else text
+
+-- what the line of this number gives, unless it is passed over
+abbrev pub numbered : ℕ → Result (Option CookieLine) LineFault → List (ℕ × Result CookieLine LineFault)
+numbered number (Ok None) = []
+numbered number (Ok (Some line)) = (number, Ok line) ∷ []
+numbered number (Err fault) = (number, Err fault) ∷ []
+
+-- what lines give of which so many were counted before
+abbrev pub entries_behind : ℕ → List (List ℕ) → List (ℕ × Result CookieLine LineFault)
+entries_behind count [] = []
+entries_behind count (line ∷ more) = numbered (count + 1) (given_by line) ++ entries_behind (count + 1) more
+
+-- what the lines of a text give that aren't passed over, with their numbers, counted from 1, in their order
+abbrev pub entries_of : List ℕ → List (ℕ × Result CookieLine LineFault)
+entries_of text = entries_behind 0 (lines (without_mark text))
+
+-- ---- what is answered
+
+-- a line's number, and its row or its fault
+abbrev pub entry_text : Entry → ℕ × Result Row LineFault
+entry_text entry = (entry.number, result_map_both stored_of (λ fault. fault) entry.row)
+
+abbrev pub IsAnswer : Result CookieLine LineFault → Result Row LineFault → Type 0
+IsAnswer (Ok line) (Ok row) = IsRowOf line row
+IsAnswer (Ok line) (Err fault) = ⊥
+IsAnswer (Err fault) (Ok row) = ⊥
+IsAnswer (Err fault) (Err told) = told ≡ fault
+
+-- the same number, and the row of that line, or its fault
+abbrev pub IsEntry : ℕ × Result CookieLine LineFault → ℕ × Result Row LineFault → Type 0
+IsEntry given answered = (answered.0 ≡ given.0) × IsAnswer given.1 answered.1
+
+-- one for each line of the text that isn't passed over, in their order
+abbrev pub GivesEntries : List ℕ → List (ℕ × Result Row LineFault) → Type 0
+GivesEntries text answered = Pairwise IsEntry (entries_of text) answered
+
+-- why there are none
+abbrev pub IsNoText : List ℕ → ReadError → Type 0
+IsNoText bytes e = (e ≡ OutOfMemory) ⊎ ((e ≡ NotText) × (¬ IsUtf8 bytes))
+
+-- a step of the code, for a private contract alone: what is answered for a line
+abbrev pub AnswersLine : List ℕ → Option (Result Row LineFault) → Type 0
+AnswersLine line answered = MatchOption answered (given_by line ≡ Ok None) (λ answer.
+    MatchResult answer (λ row. (said : CookieLine) × (given_by line ≡ Ok (Some said)) × IsRowOf said row)
+    (λ fault. given_by line ≡ Err fault))
+
+-- so, where the line says this
+abbrev pub AnswersSaid : CookieLine → Result Row LineFault → Type 0
+AnswersSaid said answer =
+    MatchResult answer
+    (λ row. (whole : CookieLine) × (in_idna said (read_domain said.domain) ≡ Ok (Some whole)) × IsRowOf whole row)
+    (λ fault. in_idna said (read_domain said.domain) ≡ Err fault)

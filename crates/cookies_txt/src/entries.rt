@@ -1,0 +1,99 @@
+//! The lines of a `cookies.txt`, each read by itself.
+ghost use Rattle.std.specs.Prelude.{◌≡◌, ◌≤◌, map, IfOk, IfErr, option_map};
+ghost use Rattle.std.specs.Result.{result_map_both};
+ghost use Rattle.std.specs.Str.{IsUtf8};
+ghost use Rattle.cookie_store.specs.StoredCookie.{stored_of};
+ghost use Rattle.cookies_txt.specs.Entries as spec;
+ghost use Rattle.cookies_txt.specs.Steps.{said_of};
+ghost use Rattle.cookies_txt.specs.Writing.{latest_second};
+
+use crate::error::{LineFault, ReadError};
+use crate::line::Line;
+use cookie_store::{Cookie, CookieDomain, Error};
+use std::alloc::{AllocError, Global};
+
+// What some editors put in front of a text.
+const BYTE_ORDER_MARK: &str = "\u{feff}";
+
+/// A line that isn't passed over.
+#[derive(Debug, Drop)]
+pub struct Entry {
+    /// Its number, counted from 1.
+    pub number: usize,
+    /// Its row, the domain in IDNA form, or its first fault.
+    pub row: Result<Cookie<'static>, LineFault>,
+}
+
+/// Reads each line of a text by itself, as [`crate::read`] does: one entry for each that isn't passed over, in their
+/// order. A row's domain is put into its IDNA form (RFC 6265, section 5.1.2): in small letters, and without white space
+/// at its ends. A byte order mark in front of the text is left out.
+///
+/// # Errors
+///
+/// `NotText` where the bytes aren't UTF-8; `OutOfMemory`. A faulty line is an entry, and no error.
+pub fn read_entries(alloc: Global, text: &[u8]) -> Result<Vec<Entry>, ReadError>
+    ensures ok { IfOk result (λ entries. spec.GivesEntries text.now (map spec.entry_text entries.items)) }
+    ensures utf8 { IfOk result (λ _. IsUtf8 text.now) }
+    ensures err { IfErr result (spec.IsNoText text.now) }
+{
+    match str::from_utf8(text) {
+        Ok(text) => Ok(entries_of(alloc, text)?),
+        Err(_) => Err(ReadError::NotText),
+    }
+}
+
+fn entries_of(alloc: Global, text: &str) -> Result<Vec<Entry>, AllocError>
+    ensures { IfOk result (λ entries. spec.GivesEntries text.now (map spec.entry_text entries.items)) }
+{
+    let mut entries = Vec::new(alloc);
+    let mut number = 0;
+    for line in without_mark(text).lines() {
+        number += 1;
+        match row_of(alloc, line)? {
+            Some(row) => entries.push(Entry { number, row })?,
+            None => {}
+        }
+    }
+    Ok(entries)
+}
+
+fn without_mark(text: &str) -> &str
+    ensures { result.now ≡ spec.without_mark text.now }
+{
+    text.strip_prefix(BYTE_ORDER_MARK).unwrap_or(text)
+}
+
+// The row of a line or its first fault, nothing where the line is passed over.
+#[tactic(auto, unfolding(crate::specs::Entries::given_by))]
+fn row_of(
+    alloc: Global,
+    line: &str,
+) -> Result<Option<Result<Cookie<'static>, LineFault>>, AllocError>
+    ensures { IfOk result (λ answer. spec.AnswersLine line.now
+        (option_map (λ row. result_map_both stored_of (λ fault. fault) row) answer)) }
+{
+    match Line::parse(line) {
+        Ok(Some(said)) => Ok(Some(row_in_idna(alloc, said)?)),
+        Ok(None) => Ok(None),
+        Err(fault) => Ok(Some(Err(fault))),
+    }
+}
+
+// The row of what a line says, its domain in IDNA form.
+fn row_in_idna(
+    alloc: Global,
+    line: Line<'_>,
+) -> Result<Result<Cookie<'static>, LineFault>, AllocError>
+    requires { line.expires ≤ latest_second }
+    ensures { IfOk result (λ answer. spec.AnswersSaid (said_of line.entry)
+        (result_map_both stored_of (λ fault. fault) answer)) }
+{
+    match CookieDomain::from_text(alloc, line.domain) {
+        Ok(CookieDomain::Suffix(domain)) => {
+            let domain = domain.as_str();
+            Ok(Ok(Line { domain, ..line }.to_cookie(alloc)?))
+        }
+        Err(Error::OutOfMemory) => Err(AllocError),
+        Ok(_) | Err(_) => Ok(Err(LineFault::Domain)),
+    }
+}

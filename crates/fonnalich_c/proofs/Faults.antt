@@ -1,0 +1,220 @@
+-- Of several faults the first is told.
+use Rattle.std.proofs.Common.{◌≡◌, ◌⊎◌, ◌≤◌, ◌<◌, ◌≤ℤ◌, ◌++◌, ℕ, ℤ, Bool, true, false, true≢false, List, [], ◌∷◌}
+use Rattle.std.proofs.Common.{length, get_or, Option, Some, None, Result, Ok, Err, inl, inr, refl, sym, subst, arith}
+use Rattle.std.proofs.Math.Nat.{lt_of_not-le}
+use Rattle.std.specs.Prelude.{option_map, IsOk, ◌↔◌}
+use Rattle.std.specs.Int.Signed.{≤ℤ_refl}
+use Rattle.jiff.specs.Types.{DateTime}
+use Rattle.jiff.specs.Words.{civil_nanos, IsCivilNanos}
+use Rattle.jiff.proofs.Family.{civil_nanos_range}
+use Rattle.publicsuffix.specs.Rules.{Rule, Line, Faulty, HasNoFault}
+use Rattle.cookie_store.specs.Placing.{saved}
+use Rattle.cookie_store.specs.Rows.{Row}
+use Rattle.cookie_store.specs.SavedTexts.{IsAnyBeforeYears}
+use Rattle.cookie_run.specs.Program.{IsSuffixList, IsNoSuffixList, IsNoSavedText}
+use Rattle.fonnalich_c.specs.Exchange.{IsNoExchange}
+use Rattle.fonnalich_c.specs.Faults.{IsFirst, IsTold}
+use Rattle.fonnalich_c.specs.Given.{IsNoMoment, IsNoUrl, nanos_of}
+use Rattle.fonnalich_c.specs.Numbers.{refusal_number}
+use Rattle.fonnalich_c.specs.Parts.{AreTexts, IsNoEnd, IsUnmade, Texts, counted}
+use Rattle.fonnalich_c.specs.Tasks.{IsNoLoad, IsRequestFault, IsSavingFault}
+use Rattle.fonnalich_c.specs.declared.attributes.Attributes.{Attributes}
+use Rattle.fonnalich_c.specs.declared.refusal.Refusal.{Refusal}
+use Rattle.fonnalich_c.specs.declared.refusal.Refusal.TheVariants as refusal
+
+-- ---- two faults and three, in the order of their numbers
+
+abbrev IsBefore : Refusal → Refusal → Type 0
+IsBefore first second = refusal_number second ≤ℤ refusal_number first
+
+numbered : (refused first other second : Refusal) → refused ≡ first → other ≡ second → IsBefore first second
+    → refusal_number other ≤ℤ refusal_number refused
+numbered refused first other second is so before =
+    subst (λ r. refusal_number other ≤ℤ refusal_number r) (sym is)
+    (subst (λ o. refusal_number o ≤ℤ refusal_number first) (sym so) before)
+
+abbrev pub Two : Refusal → Type 0 → Refusal → Type 0 → Refusal → Type 0
+Two first A second B refused = ((refused ≡ first) × A) ⊎ ((refused ≡ second) × B)
+
+abbrev pub Three : Refusal → Type 0 → Refusal → Type 0 → Refusal → Type 0 → Refusal → Type 0
+Three first A second B third C refused =
+    ((refused ≡ first) × A) ⊎ ((refused ≡ second) × B) ⊎ ((refused ≡ third) × C)
+
+first_of_two : (first second : Refusal) (A B : Type 0) (refused : Refusal) → IsBefore first second
+    → (refused ≡ first) × A → IsFirst (Two first A second B) refused
+first_of_two first second A B refused before why = (inl why, behind)
+  where
+    behind : (other : Refusal) → Two first A second B other → refusal_number other ≤ℤ refusal_number refused
+    behind other (inl so) = numbered refused first other first why.0 so.0 (≤ℤ_refl (refusal_number first))
+    behind other (inr so) = numbered refused first other second why.0 so.0 before
+
+second_of_two : (first second : Refusal) (A B : Type 0) (refused : Refusal) → ¬ A → (refused ≡ second) × B
+    → IsFirst (Two first A second B) refused
+second_of_two first second A B refused never why = (inr why, behind)
+  where
+    behind : (other : Refusal) → Two first A second B other → refusal_number other ≤ℤ refusal_number refused
+    behind other (inl so) = absurd (never so.1)
+    behind other (inr so) = numbered refused second other second why.0 so.0 (≤ℤ_refl (refusal_number second))
+
+pub first_of_three : (first second third : Refusal) (A B C : Type 0) (refused : Refusal) → IsBefore first second
+    → IsBefore first third → (refused ≡ first) × A → IsFirst (Three first A second B third C) refused
+first_of_three first second third A B C refused before_second before_third why = (inl why, behind)
+  where
+    behind : (other : Refusal) → Three first A second B third C other
+        → refusal_number other ≤ℤ refusal_number refused
+    behind other (inl so) = numbered refused first other first why.0 so.0 (≤ℤ_refl (refusal_number first))
+    behind other (inr (inl so)) = numbered refused first other second why.0 so.0 before_second
+    behind other (inr (inr so)) = numbered refused first other third why.0 so.0 before_third
+
+pub second_of_three : (first second third : Refusal) (A B C : Type 0) (refused : Refusal) → IsBefore second third
+    → ¬ A → (refused ≡ second) × B → IsFirst (Three first A second B third C) refused
+second_of_three first second third A B C refused before never why = (inr (inl why), behind)
+  where
+    behind : (other : Refusal) → Three first A second B third C other
+        → refusal_number other ≤ℤ refusal_number refused
+    behind other (inl so) = absurd (never so.1)
+    behind other (inr (inl so)) = numbered refused second other second why.0 so.0 (≤ℤ_refl (refusal_number second))
+    behind other (inr (inr so)) = numbered refused second other third why.0 so.0 before
+
+pub third_of_three : (first second third : Refusal) (A B C : Type 0) (refused : Refusal) → ¬ A → ¬ B
+    → (refused ≡ third) × C → IsFirst (Three first A second B third C) refused
+third_of_three first second third A B C refused never nor why = (inr (inr why), behind)
+  where
+    behind : (other : Refusal) → Three first A second B third C other
+        → refusal_number other ≤ℤ refusal_number refused
+    behind other (inl so) = absurd (never so.1)
+    behind other (inr (inl so)) = absurd (nor so.1)
+    behind other (inr (inr so)) = numbered refused third other third why.0 so.0 (≤ℤ_refl (refusal_number third))
+
+-- ---- what is at no fault
+
+pub is_moment : (at : DateTime) (second : ℤ) → civil_nanos at ≡ nanos_of second → ¬ IsNoMoment second
+is_moment at second same none = none (subst IsCivilNanos same (civil_nanos_range at))
+
+at_fault : (before after : List Line) → get_or (before ++ Faulty ∷ after) (length before) Faulty ≡ Faulty
+at_fault [] after = refl
+at_fault (line ∷ before) after = at_fault before after
+
+is_within : (before after : List Line) → length before < length (before ++ Faulty ∷ after)
+is_within [] after = omega arith
+is_within (line ∷ before) after = let less = is_within before after in omega arith
+
+no_fault_within : (before after : List Line) → HasNoFault (before ++ Faulty ∷ after) → ⊥
+no_fault_within before after none = none (length before) Faulty (is_within before after) (at_fault before after)
+
+pub is_list : (text : List ℕ) (rules : List Rule) → IsSuffixList text rules → ¬ IsNoSuffixList text
+is_list text rules is (inl no_text) = no_text is.0
+is_list text rules is (inr fault) =
+    no_fault_within fault.1.before fault.1.after (subst HasNoFault fault.1.split is.1.sound)
+
+-- ---- a second and a URL
+
+pub moment_first : (second : ℤ) (subject : List ℕ) (refused : Refusal) → (refused ≡ refusal.Moment) × IsNoMoment second
+    → IsTold (IsRequestFault second subject) refused
+moment_first second subject refused why =
+    inr (first_of_two refusal.Moment refusal.Url (IsNoMoment second) (IsNoUrl subject) refused (record { le = tt }) why)
+
+pub url_second : (second : ℤ) (subject : List ℕ) (refused : Refusal) → ¬ IsNoMoment second
+    → (refused ≡ refusal.Memory) ⊎ ((refused ≡ refusal.Url) × IsNoUrl subject)
+    → IsTold (IsRequestFault second subject) refused
+url_second second subject refused is (inl memory) = inl memory
+url_second second subject refused is (inr why) =
+    inr (second_of_two refusal.Moment refusal.Url (IsNoMoment second) (IsNoUrl subject) refused is why)
+
+-- ---- a second and rows
+
+abbrev BeforeYears : ℤ → List Row → Type 0
+BeforeYears second rows = IsAnyBeforeYears (saved (nanos_of second) rows)
+
+pub moment_unsaved : (second : ℤ) (rows : List Row) (refused : Refusal)
+    → (refused ≡ refusal.Moment) × IsNoMoment second → IsTold (IsSavingFault second rows) refused
+moment_unsaved second rows refused why =
+    inr (first_of_two refusal.Moment refusal.Year (IsNoMoment second) (BeforeYears second rows) refused (record {
+      le = tt;
+    }) why)
+
+pub year_unsaved : (second : ℤ) (rows : List Row) (refused : Refusal) → ¬ IsNoMoment second
+    → (refused ≡ refusal.Year) × IsAnyBeforeYears (saved (nanos_of second) rows)
+    → IsTold (IsSavingFault second rows) refused
+year_unsaved second rows refused is why =
+    inr (second_of_two refusal.Moment refusal.Year (IsNoMoment second) (BeforeYears second rows) refused is why)
+
+-- ---- a list, a second and a saved text
+
+pub list_first : (second : ℤ) (saved text : List ℕ) (refused : Refusal)
+    → (refused ≡ refusal.Memory) ⊎ ((refused ≡ refusal.List) × IsNoSuffixList text) → IsNoLoad second saved text refused
+unfolding IsNoLoad
+list_first second saved text refused (inl memory) = inl (inl memory)
+list_first second saved text refused (inr why) =
+    inl (inr (first_of_three refusal.List refusal.Moment refusal.Saved (IsNoSuffixList text) (IsNoMoment second)
+    (IsNoSavedText saved) refused (record { le = tt }) (record { le = tt }) why))
+
+pub moment_second : (second : ℤ) (saved text : List ℕ) (refused : Refusal) → ¬ IsNoSuffixList text
+    → (refused ≡ refusal.Moment) × IsNoMoment second → IsNoLoad second saved text refused
+unfolding IsNoLoad
+moment_second second saved text refused is why =
+    inl (inr (second_of_three refusal.List refusal.Moment refusal.Saved (IsNoSuffixList text) (IsNoMoment second)
+    (IsNoSavedText saved) refused (record { le = tt }) is why))
+
+pub saved_third : (second : ℤ) (saved text : List ℕ) (refused : Refusal) → ¬ IsNoSuffixList text
+    → ¬ IsNoMoment second
+    → (refused ≡ refusal.Read) ⊎ (refused ≡ refusal.Memory) ⊎ ((refused ≡ refusal.Saved) × IsNoSavedText saved)
+    → IsNoLoad second saved text refused
+unfolding IsNoLoad
+saved_third second saved text refused is at (inl read) = inr (read, is, at)
+saved_third second saved text refused is at (inr (inl memory)) = inl (inl memory)
+saved_third second saved text refused is at (inr (inr why)) =
+    inl (inr (third_of_three refusal.List refusal.Moment refusal.Saved (IsNoSuffixList text) (IsNoMoment second)
+    (IsNoSavedText saved) refused is at why))
+
+-- ---- a second and a key
+
+not_ok : {A E : Type 0} (r : Result A E) → ((x : A) → ¬ (r ≡ Ok x)) → ¬ (IsOk r)
+not_ok (Ok x) never is = never x refl
+not_ok (Err e) never is = absurd (cc is)
+
+-- what isn't accepted has too few bytes
+pub too_short : {A E : Type 0} (key : List ℕ) (r : Result A E) → ((x : A) → ¬ (r ≡ Ok x))
+    → (IsOk r ↔ (64 ≤ length key)) → length key < 64
+too_short key r never accepted = lt_of_not-le (λ long. not_ok r never (accepted.1 long))
+
+pub moment_unopened : (key header : List ℕ) (second : ℤ) (commands nonces : List ℕ) (refused : Refusal)
+    → (refused ≡ refusal.Moment) × IsNoMoment second → IsNoExchange key header second commands nonces refused
+moment_unopened key header second commands nonces refused why =
+    inl (inr (first_of_two refusal.Moment refusal.Key (IsNoMoment second) (length key < 64) refused (record {
+      le = tt;
+    }) why))
+
+pub key_unopened : (key header : List ℕ) (second : ℤ) (commands nonces : List ℕ) (refused : Refusal)
+    → ¬ IsNoMoment second → (refused ≡ refusal.Key) × (length key < 64)
+    → IsNoExchange key header second commands nonces refused
+key_unopened key header second commands nonces refused is why =
+    inl (inr (second_of_two refusal.Moment refusal.Key (IsNoMoment second) (length key < 64) refused is why))
+
+-- ---- a second, texts and a number of an attribute `SameSite`
+
+pub is_end : (has : Bool) (second : ℤ) (at : Option DateTime)
+    → option_map civil_nanos at ≡ option_map nanos_of (counted has second) → ¬ ((has ≡ true) × IsNoMoment second)
+is_end false second at same none = true≢false (sym none.0)
+is_end true second None same none = none_some (nanos_of second) same
+  where
+    none_some : (n : ℤ) → None ≡ Some n → ⊥
+    none_some n e = cc
+is_end true second (Some at) same none = is_moment at second (some_is (civil_nanos at) (nanos_of second) same) none.1
+  where
+    some_is : (a b : ℤ) → Some a ≡ Some b → a ≡ b
+    some_is a b e = cc
+
+pub text_unmade : (a : Attributes) (texts : Texts) (refused : Refusal)
+    → ¬ IsNoEnd a → refused ≡ refusal.Text → ¬ AreTexts a texts
+    → IsFirst (IsUnmade a texts) refused
+text_unmade a texts refused ends told none =
+    second_of_three refusal.Moment refusal.Text refusal.Site (IsNoEnd a) (¬ AreTexts a texts) (3 < a.same_site)
+    refused (record { le = tt }) ends (told, none)
+
+pub site_unmade : (a : Attributes) (texts : Texts) (refused : Refusal)
+    → ¬ IsNoEnd a → AreTexts a texts → (refused ≡ refusal.Site) × (3 < a.same_site)
+    → IsFirst (IsUnmade a texts) refused
+site_unmade a texts refused ends are why =
+    third_of_three refusal.Moment refusal.Text refusal.Site (IsNoEnd a) (¬ AreTexts a texts) (3 < a.same_site)
+    refused ends (λ none. none are) why

@@ -1,0 +1,14 @@
+use Rattle.std.proofs.Common.{◌≡◌, ◌+◌, ◌++◌, length, map, string_bytes}
+use Rattle.response_heads.specs.Read.{field_text}
+use Rattle.jar_commands.specs.PassedOver.{odd_lines}
+use Rattle.jar_commands.proofs.passed_over.push_odd_lines.Given as goal
+
+abbrev pub invariant-loop-left : goal.invariant-loop-left
+invariant-loop-left l = record {
+  told : string_bytes l.told ++ odd_lines l.number (map field_text l.left)
+      ≡ string_bytes l.fn.told ++ odd_lines l.fn.first (map field_text l.fn.fields);
+  counted : l.number + length l.left ≡ l.fn.first + length l.fn.fields;
+}
+
+abbrev pub decreases-loop-left : goal.decreases-loop-left
+decreases-loop-left l = length l.left

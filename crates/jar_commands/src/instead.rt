@@ -1,0 +1,69 @@
+//! What to ask instead of a URL that isn't plain, and the command `url TEXT`, which has no jar.
+ghost use Rattle.std.specs.Prelude.{◌≡◌, ◌⊎◌, IfOk, option_map, string_bytes};
+ghost use Rattle.std.specs.Prelude.{MatchOption, ◌++◌, ◌∷◌, []};
+ghost use Rattle.plain_url.specs.Plain.{HasNoPlain};
+ghost use Rattle.jar_commands.specs.Instead as spec;
+
+use crate::failure::Failure;
+use crate::program::print;
+use devices::Sink;
+use jar_words::Command;
+use plain_url::plain_for;
+use std::alloc::{AllocError, Global};
+
+/// The plain text to ask for in the place of a command's URL, where there is one.
+///
+/// # Errors
+///
+/// `AllocError`, for want of memory.
+pub(crate) fn instead_of(alloc: Global, command: Command<'_>) -> Result<Option<String>, AllocError>
+    ensures { IfOk result (λ plain. spec.IsInstead (spec.url_in command.entry) (option_map string_bytes plain)) }
+{
+    match url_in(command) {
+        Some(text) => plain_for(alloc, text),
+        None => Ok(None),
+    }
+}
+
+fn url_in(command: Command<'_>) -> Option<&str>
+    ensures { option_map (λ text. text.now) result ≡ spec.url_in command.entry }
+{
+    match command {
+        Command::Receive(url) | Command::Header(url) | Command::Explain(url, _) => Some(url),
+        Command::List(url) | Command::ListJson(url) => url,
+        Command::Remove(_, _, _) | Command::Clear | Command::Import(_) | Command::Export(_) => None,
+    }
+}
+
+/// `url TEXT`: prints the plain text for TEXT. Gives the exit status.
+///
+/// # Errors
+///
+/// `Url` where there is none, `Memory`, and `Output` where the writer failed.
+pub(crate) fn print_plain<W: Sink>(alloc: Global, text: &str, writer: &mut W) -> Result<u8, Failure>
+    ensures { spec.GivesPlain (writer.new ≡ writer.old)
+        (record {
+          written = (W.written writer.old, W.written writer.new);
+          unwritten = (W.failures writer.old, W.failures writer.new);
+        })
+        text.now result }
+{
+    match plain_line(alloc, text) {
+        Ok(Some(line)) => print(writer, line.as_bytes(), 0),
+        Ok(None) => Err(Failure::Url),
+        Err(_) => Err(Failure::Memory),
+    }
+}
+
+// The plain text for a text, and a line feed.
+fn plain_line(alloc: Global, text: &str) -> Result<Option<String>, AllocError>
+    ensures { IfOk result (λ found. MatchOption found (HasNoPlain text.now)
+        (λ line. (plain : _) × spec.IsPlainInstead text.now plain × (string_bytes line ≡ plain ++ 10 ∷ []))) }
+{
+    let Some(plain) = plain_for(alloc, text)? else {
+        return Ok(None);
+    };
+    let mut line = plain;
+    line.push_str("\n")?;
+    Ok(Some(line))
+}

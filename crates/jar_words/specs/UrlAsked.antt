@@ -1,0 +1,18 @@
+-- The words that ask for a plain URL (own: docs/DEFINITIONS.md).
+use Rattle.std.specs.Prelude.{◌==◌, ◌&&◌, Bool, not, List, [], ◌∷◌, Option, Some, None, codes, slice_index}
+use Rattle.std.specs.Prelude.{if◌then◌else◌}
+use Rattle.std.specs.Str.{bytes_eq}
+use Rattle.clap.specs.Walk.{Text}
+
+-- it begins with a dash
+abbrev pub is_option : Text → Bool
+is_option text = slice_index text 0 == 45
+
+-- the text behind the command `url`
+abbrev pub text_behind : Text → Text → Option Text
+text_behind command text = if bytes_eq command (codes "url") && not (is_option text) then Some text else None
+
+-- the text of `url TEXT`
+abbrev pub url_asked : List Text → Option Text
+url_asked (command ∷ text ∷ []) = text_behind command text
+url_asked other = None

@@ -1,0 +1,254 @@
+-- A row that is Secure was set by an answer from a secure URL, and so was what a request is sent under its name.
+use Rattle.std.proofs.Common.{◌≡◌, ◌⊎◌, ℕ, ℤ, List, [], ◌∷◌, ◌&&◌, ◌||◌, Bool, true, false, not, cond, Option, Some, None}
+use Rattle.std.proofs.Common.{Result, Ok, Err, sym, refl, ap, ◌∙◌, subst, inl, inr, IsTrue, codes, take}
+use Rattle.std.specs.Net.Addr.{ipv4_octets, ipv6_segments}
+use Rattle.std.specs.Prelude.{filter, map, IsSomeAnd}
+use Rattle.std.specs.List.{AllByRecursion, list_any}
+use Rattle.std.specs.Str.{IsUtf8, bytes_eq}
+use Rattle.std.proofs.lemmas.Bool.{both_ways, true≢false}
+use Rattle.std.proofs.lemmas.List.Elements.{All-from_recursion, recursion_from_All}
+use Rattle.std.proofs.lemmas.List.Sorted.{All-permutation}
+use Rattle.std.proofs.lemmas.Slice.Eq.{bytes_eq-Decides}
+use Rattle.publicsuffix.specs.Rules.{Rule}
+use Rattle.url.specs.Parts.{Parts, nonempty_host}
+use Rattle.url.specs.declared.host.Host.{Host}
+use Rattle.url.specs.declared.host.Host.TheVariants.{Domain, Ipv4, Ipv6}
+use Rattle.cookie_text.specs.Printing.{is_set}
+use Rattle.cookie_text.specs.Reading.{ReadsPlain}
+use Rattle.cookie_text.specs.Record.{Seen, unsliced}
+use Rattle.cookie_text.specs.declared.error.ParseError.{ParseError}
+use Rattle.store_parts.specs.Expiry.{is_dead}
+use Rattle.store_parts.specs.Schemes.{IsSecure, IsThisHost}
+use Rattle.cookie_store.specs.Given.{ArePicked, pair_of}
+use Rattle.cookie_store.specs.Insertion.{End, Fits, Inserts, InsertsRead, alone, settled}
+use Rattle.cookie_store.specs.Rows.{Row, behind_last, ended, expired, has_domain_of, has_key_of, has_place_of}
+use Rattle.cookie_store.specs.Rows.{inserted, is_live_of, put, replaced}
+use Rattle.cookie_run.specs.Accept.{Accepts}
+use Rattle.cookie_run.specs.declared.step.LineEnd.{LineEnd}
+use Rattle.user_agent.specs.Agent.{TakesLine, TakesLines}
+use Rattle.user_agent.specs.SecureRuns.{Answer, IsAny, SecureNamesAreSetSecurely, Sets, SetsSecurely, TakesAnswers}
+use Rattle.user_agent.specs.SecureRuns.{WereSetSecurely}
+use Rattle.user_agent.specs.SecureWins.{IsHeaderIf, IsWinnersHeader, decoded_name, is_secure_of, wins}
+use Rattle.user_agent.specs.declared.rules.Outcome.{Outcome}
+use Rattle.user_agent.specs.declared.rules.Refusal.TheVariants.{SecureFromHttp}
+use Rattle.user_agent.specs.declared.rules.Rules.{Rules}
+use Rattle.user_agent.proofs.IntegrityLemmas.{set_is}
+
+-- ---- what holds of all rows, whatever becomes of a cookie
+
+module _ (P : Row → Type 0) (same : (row other : Row) → other.raw ≡ row.raw → P row → P other) where
+  abbrev All : List Row → Type 0
+  All rows = AllByRecursion P rows
+
+  all_map : (f : Row → Row) → ((row : Row) → P row → P (f row)) → (rows : List Row) → All rows → All (map f rows)
+  all_map f each [] h = tt
+  all_map f each (y ∷ ys) h = (each y h.0, all_map f each ys h.1)
+
+  by_cond : (b : Bool) (x y : Row) → P x → P y → P (cond b x y)
+  by_cond true x y p q = p
+  by_cond false x y p q = q
+
+  all_cond : (b : Bool) (xs ys : List Row) → All xs → All ys → All (cond b xs ys)
+  all_cond true xs ys p q = p
+  all_cond false xs ys p q = q
+
+  all_behind : (test : Row → Bool) (x : Row) (rows : List Row) → P x → All rows → All (behind_last test x rows)
+  all_behind test x [] p h = (p, tt)
+  all_behind test x (y ∷ ys) p h =
+      all_cond (test y && not (list_any test ys)) (y ∷ x ∷ ys) (y ∷ behind_last test x ys) (h.0, (p, h.1))
+      (h.0, all_behind test x ys p h.1)
+
+  all_put : (row : Row) (rows : List Row) → P row → All rows → All (put row rows)
+  all_put row rows p h =
+      all_cond (list_any (has_key_of row) rows) (replaced row rows) (inserted row rows)
+      (all_map (λ y. cond (has_key_of row y) row y) (λ y q. by_cond (has_key_of row y) row y p q) rows h)
+      (all_cond (list_any (has_place_of row) rows) (behind_last (has_place_of row) row rows)
+      (behind_last (has_domain_of row) row rows) (all_behind (has_place_of row) row rows p h)
+      (all_behind (has_domain_of row) row rows p h))
+
+  all_ended : (now : ℤ) (row : Row) (rows : List Row) → All rows → All (ended now row rows)
+  all_ended now row rows h =
+      all_map (λ y. cond (is_live_of now row y) (expired y) y)
+      (λ y q. by_cond (is_live_of now row y) (expired y) y (same y (expired y) refl q) q) rows h
+
+  end_cond : (b : Bool) (x y : End) → All x.1 → All y.1 → All (cond b x y).1
+  end_cond true x y p q = p
+  end_cond false x y p q = q
+
+  all_settled : (now : ℤ) (row : Row) (rows : List Row) → P row → All rows → All (settled rows now row).1
+  all_settled now row rows p h =
+      end_cond (is_dead now row.death) _ _
+      (end_cond (list_any (is_live_of now row) rows) _ _ (all_ended now row rows h) h) (all_put row rows p h)
+
+  all_fits : (url : Parts) (now : ℤ) (row : Row) (rows : List Row) (end : End) → P row → All rows
+      → Fits rows url now row end → All end.1
+  all_fits url now row rows end p h (inl (out, e)) = subst (λ (x : End). All x.1) (sym e) h
+  all_fits url now row rows end p h (inr (covers, inl (guarded, e))) = subst (λ (x : End). All x.1) (sym e) h
+  all_fits url now row rows end p h (inr (covers, inr (free, e))) =
+      subst (λ (x : End). All x.1) (sym e) (all_settled now row rows p h)
+
+  all_inserts : (list : List Rule) (url : Parts) (now : ℤ) (row : Row) (rows : List Row) (end : End) → P row → All rows
+      → Inserts list rows url now row end → All end.1
+  all_inserts list url now row rows end p h (inl (barred, e)) = subst (λ (x : End). All x.1) (sym e) h
+  all_inserts list url now row rows end p h (inr (allowed, inl (unlisted, fits))) =
+      all_fits url now row rows end p h fits
+  all_inserts list url now row rows end p h (inr (allowed, inr (inl (listed, own, fits)))) =
+      all_fits url now (alone row) rows end (same row (alone row) refl p) h fits
+  all_inserts list url now row rows end p h (inr (allowed, inr (inr (listed, other, e)))) =
+      subst (λ (x : End). All x.1) (sym e) h
+
+  -- where it holds of each row of the cookie as which the line reads, it holds after the line
+  module _ (line : List ℕ)
+      (made : (seen : Seen) → IsUtf8 line → ReadsPlain line (Ok seen) → (row : Row) → row.raw ≡ unsliced seen.cookie
+      → P row) where
+    all_accepts : (list : List Rule) (rows new : List Row) (url : Parts) (now : ℤ) (end : LineEnd) → All rows
+        → Accepts list rows url now line end new → All new
+    all_accepts list rows new url now end h (inl (against, is, same_rows)) = subst All (sym same_rows) h
+    all_accepts list rows new url now end h (inr (free, inl (no_text, is, same_rows))) = subst All (sym same_rows) h
+    all_accepts list rows new url now end h (inr (free, inr (utf8, (read, reads, (answer, inserts, is))))) =
+        by read reads inserts
+      where
+        by : (r : Result Seen ParseError) → ReadsPlain line r → InsertsRead list rows url now r (answer, new) → All new
+        by (Err error) r e = subst (λ (x : End). All x.1) (sym e) h
+        by (Ok seen) r (inl (cause, known, refuses, e)) = subst (λ (x : End). All x.1) (sym e) h
+        by (Ok seen) r (inr (row, is_made, ins)) =
+            all_inserts list url now row rows (answer, new) (made seen utf8 r row is_made.raw) h ins
+
+-- ---- a URL is secure, or it isn't
+
+by_bytes : (xs ys : List ℕ) → (xs ≡ ys) ⊎ (¬ (xs ≡ ys))
+by_bytes xs ys = by (bytes_eq xs ys) refl
+  where
+    by : (b : Bool) → bytes_eq xs ys ≡ b → (xs ≡ ys) ⊎ (¬ (xs ≡ ys))
+    by true e = inl ((bytes_eq-Decides xs ys).0 e)
+    by false e = inr (λ same. both_ways _ e ((bytes_eq-Decides xs ys).1 same))
+
+this_host : (host : Host (List ℕ)) → IsThisHost host ⊎ (¬ (IsThisHost host))
+this_host (Domain domain) = by_bytes domain (codes "localhost")
+this_host (Ipv4 address) = by_bytes (take 1 (ipv4_octets address)) (127 ∷ [])
+this_host (Ipv6 address) = by_bytes (ipv6_segments address) (0 ∷ 0 ∷ 0 ∷ 0 ∷ 0 ∷ 0 ∷ 0 ∷ 1 ∷ [])
+
+some_host : (host : Option (Host (List ℕ))) → IsSomeAnd host IsThisHost ⊎ (¬ (IsSomeAnd host IsThisHost))
+some_host None = inr (λ h. h)
+some_host (Some host) = this_host host
+
+secure_or_not : (url : Parts) → IsSecure url ⊎ (¬ (IsSecure url))
+secure_or_not url = by (by_bytes url.scheme (codes "https")) (some_host (nonempty_host url))
+  where
+    by : ((url.scheme ≡ codes "https") ⊎ (¬ (url.scheme ≡ codes "https")))
+        → (IsSomeAnd (nonempty_host url) IsThisHost ⊎ (¬ (IsSomeAnd (nonempty_host url) IsThisHost)))
+        → IsSecure url ⊎ (¬ (IsSecure url))
+    by (inl https) host = inl (inl https)
+    by (inr other) (inl this) = inl (inr this)
+    by (inr other) (inr none) = inr (λ h. elim h [ inl https ↦ other https | inr this ↦ none this ])
+
+-- what holds of all rows holds of those that a request is given
+pub picked_all : (P : Row → Type 0) (Is : Row → Type 0) (rows picked : List Row) → AllByRecursion P rows
+    → ArePicked Is rows picked → AllByRecursion P picked
+picked_all P Is [] picked h e = subst (AllByRecursion P) (sym e) tt
+picked_all P Is (x ∷ xs) picked h (later, are, inl (is, e)) =
+    subst (AllByRecursion P) (sym e) (h.0, picked_all P Is xs later h.1 are)
+picked_all P Is (x ∷ xs) picked h (later, are, inr (out, e)) =
+    subst (AllByRecursion P) (sym e) (picked_all P Is xs later h.1 are)
+
+-- ---- a Secure row was set over a secure URL
+
+module _ (rules : Rules) (from_http : IsTrue rules.secure_from_http) (Was : List ℕ × List ℕ → Type 0) where
+  -- where the row is Secure, its pair is such
+  abbrev Q : Row → Type 0
+  Q row = IsTrue (is_set row.raw.cookie.secure) → Was (pair_of row)
+
+  q_same : (row other : Row) → other.raw ≡ row.raw → Q row → Q other
+  q_same row other e q secure =
+      subst (λ (s : Seen). Was (s.cookie.name, s.cookie.value)) (sym e)
+      (q (subst (λ (s : Seen). IsTrue (is_set s.cookie.secure)) e secure))
+
+  line_sets : (list : List Rule) (rows new : List Row) (url : Parts) (now : ℤ) (line : List ℕ) (outcome : Outcome)
+      → (IsSecure url → (name value : List ℕ) → Sets rules now name value line → Was (name, value))
+      → AllByRecursion Q rows → TakesLine rules list rows url now line outcome new → AllByRecursion Q new
+  line_sets list rows new url now line outcome sets h (inl (stopped, is, same)) = subst (AllByRecursion Q) (sym same) h
+  line_sets list rows new url now line outcome sets h (inr (free, (handed, is_handed, inl (rule, refused, is, same)))) =
+      subst (AllByRecursion Q) (sym same) h
+  line_sets list rows new url now line outcome sets h
+      (inr (free, (handed, is_handed, inr (let_in, (end, accepts, is))))) =
+      all_accepts Q q_same handed made list rows new url now end h accepts
+    where
+      made : (seen : Seen) → IsUtf8 handed → ReadsPlain handed (Ok seen) → (row : Row)
+          → row.raw ≡ unsliced seen.cookie → Q row
+      made seen utf8 reads row e secure =
+          let marked : seen.cookie.secure ≡ Some true =
+          set_is seen.cookie.secure (subst (λ (s : Seen). IsTrue (is_set s.cookie.secure)) e secure) in
+          subst (λ (s : Seen). Was (s.cookie.name, s.cookie.value)) (sym e) (by marked (secure_or_not url))
+        where
+          by : seen.cookie.secure ≡ Some true → (IsSecure url ⊎ (¬ (IsSecure url)))
+              → Was (seen.cookie.name, seen.cookie.value)
+          by marked (inl at_https) =
+              sets at_https seen.cookie.name seen.cookie.value (record {
+                handed = handed;
+                is_handed = is_handed;
+                seen = seen;
+                reads = reads;
+                named = refl;
+                valued = refl;
+              })
+          by marked (inr at_http) = absurd (let_in SecureFromHttp from_http (utf8, (seen, reads, (marked, at_http))))
+
+  lines_set : (list : List Rule) (rows new : List Row) (url : Parts) (now : ℤ) (lines : List (List ℕ))
+      (outcomes : List Outcome)
+      → (IsSecure url → (name value : List ℕ) → IsAny (Sets rules now name value) lines → Was (name, value))
+      → AllByRecursion Q rows → TakesLines rules list rows url now lines outcomes new → AllByRecursion Q new
+  lines_set list rows new url now [] outcomes sets h takes = subst (AllByRecursion Q) (sym takes.1) h
+  lines_set list rows new url now (line ∷ lines) [] sets h takes = absurd takes
+  lines_set list rows new url now (line ∷ lines) (outcome ∷ outcomes) sets h (mid, one, rest) =
+      lines_set list mid new url now lines outcomes (λ s name value any. sets s name value (inr any))
+      (line_sets list rows mid url now line outcome (λ s name value here. sets s name value (inl here)) h one) rest
+
+  answers_set : (list : List Rule) (rows new : List Row) (answers : List Answer)
+      → ((name value : List ℕ) → IsAny (SetsSecurely rules name value) answers → Was (name, value))
+      → AllByRecursion Q rows → TakesAnswers rules list rows answers new → AllByRecursion Q new
+  answers_set list rows new [] sets h takes = subst (AllByRecursion Q) (sym takes) h
+  answers_set list rows new (answer ∷ answers) sets h (mid, outcomes, one, rest) =
+      answers_set list mid new answers (λ name value any. sets name value (inr any))
+      (lines_set list rows mid answer.url answer.at answer.lines outcomes
+      (λ s name value any. sets name value (inl (s, any))) h one) rest
+
+  -- ---- those that win
+
+  -- where a Secure one of these has the row's name, its pair is such
+  abbrev W : List Row → Row → Type 0
+  W given row = IsTrue (list_any (is_secure_of (decoded_name row)) given) → Was (pair_of row)
+
+  -- a row that wins over a Secure one of its name is Secure
+  won : (given : List Row) (row : Row) → wins given row ≡ true → Q row → W given row
+  won given row win q there = by (is_set row.raw.cookie.secure) refl
+    where
+      by : (b : Bool) → is_set row.raw.cookie.secure ≡ b → Was (pair_of row)
+      by true e = q e
+      by false e =
+          absurd (both_ways (wins given row) (λ i. e i || not (there i)) win)
+
+  all_won : (given rows : List Row) → AllByRecursion Q rows
+      → AllByRecursion (W given) (filter (wins given) rows)
+  all_won given [] h = tt
+  all_won given (row ∷ rows) h = by (wins given row) refl (all_won given rows h.1)
+    where
+      by : (b : Bool) → wins given row ≡ b → AllByRecursion (W given) (filter (wins given) rows)
+          → AllByRecursion (W given) (cond b (row ∷ filter (wins given) rows) (filter (wins given) rows))
+      by true e later = (won given row e h.0, later)
+      by false e later = later
+
+header_of_winners : (b : Bool) (rows : List Row) (to : Parts) (now : ℤ) (header : List ℕ) → b ≡ true
+    → IsHeaderIf b rows to now header → IsWinnersHeader rows to now header
+header_of_winners true rows to now header e h = h
+header_of_winners false rows to now header e h = absurd (true≢false (sym e))
+
+pub secure_names_are_set_securely : SecureNamesAreSetSecurely
+secure_names_are_set_securely rules list answers rows from_http on takes to now header is =
+    let h = header_of_winners rules.secure_wins rows to now header on is in
+    let Was : List ℕ × List ℕ → Type 0 = WereSetSecurely rules answers in
+    let all = answers_set rules from_http Was list [] rows answers (λ name value any. any) tt takes in
+    let picked = picked_all (Q rules from_http Was) _ rows h.are_given.0 all h.are_given.1 in
+    let longest = recursion_from_All (Q rules from_http Was) h.given
+    (All-permutation (Q rules from_http Was) h.are_given.0 h.given h.are_given.2.permutation
+    (All-from_recursion (Q rules from_http Was) h.are_given.0 picked)) in
+    (h.given, h.are_given, h.printed, all_won rules from_http Was h.given h.given longest)

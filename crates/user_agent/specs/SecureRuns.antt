@@ -1,0 +1,93 @@
+-- What a request is sent under the name of a Secure row, where Secure rows win (own: docs/DEFINITIONS.md).
+use Rattle.std.specs.Prelude.{◌≡◌, ◌⊎◌, ℕ, ℤ, List, [], ◌∷◌, map, IsTrue, Ok}
+use Rattle.std.specs.List.{AllByRecursion, list_any}
+use Rattle.publicsuffix.specs.Rules.{Rule}
+use Rattle.percent_encoding.specs.Percent.{percent_decode}
+use Rattle.url.specs.Parts.{Parts}
+use Rattle.cookie_text.specs.Reading.{ReadsPlain}
+use Rattle.cookie_text.specs.Record.{Record, Seen}
+use Rattle.store_parts.specs.Schemes.{IsSecure}
+use Rattle.cookie_store.specs.Given.{pair_of}
+use Rattle.cookie_store.specs.Longest.{AreGivenLongest}
+use Rattle.cookie_store.specs.Rows.{Row}
+use Rattle.cookie_run.specs.Header.{header_of}
+use Rattle.cookie_run.specs.Keeping.{HaveReadPairs}
+use Rattle.cookie_run.specs.Reading.{AreCookiesOf}
+use Rattle.user_agent.specs.Agent.{IsHandedOn, TakesLines}
+use Rattle.user_agent.specs.SecureWins.{IsHeaderBehind, decoded_name, is_secure_of, winners}
+use Rattle.user_agent.specs.declared.rules.Outcome.{Outcome}
+use Rattle.user_agent.specs.declared.rules.Rules.{Rules}
+
+-- ---- what comes to a user agent
+
+-- an answer: its URL, its moment and its lines
+pub record Answer : Type 0 where
+  pub url : Parts
+  pub at : ℤ
+  pub lines : List (List ℕ)
+
+-- the rows after the answers, one after another
+abbrev pub TakesAnswers : Rules → List Rule → List Row → List Answer → List Row → Type 0
+TakesAnswers rules list rows [] new = new ≡ rows
+TakesAnswers rules list rows (answer ∷ answers) new =
+    (mid : List Row) × (outcomes : List Outcome)
+    × TakesLines rules list rows answer.url answer.at answer.lines outcomes mid
+    × TakesAnswers rules list mid answers new
+
+-- ---- what was set over a secure URL
+
+-- one of the list is so
+abbrev pub IsAny : {A : Type 0} → (A → Type 0) → List A → Type 0
+IsAny Is [] = ⊥
+IsAny Is (x ∷ xs) = Is x ⊎ IsAny Is xs
+
+-- the line, as the client gets it, reads as a cookie of this name and value
+pub record Sets (rules : Rules) (now : ℤ) (name value line : List ℕ) : Type 0 where
+  pub handed : List ℕ
+  pub is_handed : IsHandedOn rules now line handed
+  pub seen : Seen
+  pub reads : ReadsPlain handed (Ok seen)
+  pub named : seen.cookie.name ≡ name
+  pub valued : seen.cookie.value ≡ value
+
+-- the answer is from a secure URL, and one of its lines does
+abbrev pub SetsSecurely : Rules → List ℕ → List ℕ → Answer → Type 0
+SetsSecurely rules name value answer =
+    IsSecure answer.url × IsAny (Sets rules answer.at name value) answer.lines
+
+-- one of the answers is so
+abbrev pub WereSetSecurely : Rules → List Answer → List ℕ × List ℕ → Type 0
+WereSetSecurely rules answers pair = IsAny (SetsSecurely rules pair.0 pair.1) answers
+
+-- ---- what a request is sent
+
+-- Where the rules on Secure cookies from http and on Secure rows are on, whatever answers came: the header of each
+-- request has the pairs of the rows that win among those that it is given; and where one of these is Secure and has the
+-- decoded name of a pair, that pair was set by an answer from a secure URL.
+abbrev pub SecureNamesAreSetSecurely : Type 0
+SecureNamesAreSetSecurely =
+    (rules : Rules) (list : List Rule) (answers : List Answer) (rows : List Row) → IsTrue rules.secure_from_http
+    → IsTrue rules.secure_wins → TakesAnswers rules list [] answers rows
+    → (to : Parts) (now : ℤ) (header : List ℕ) → IsHeaderBehind rules rows to now header
+    → (given : List Row) × AreGivenLongest rows to now given × (header ≡ header_of (map pair_of (winners given)))
+    × AllByRecursion (λ row. IsTrue (list_any (is_secure_of (decoded_name row)) given)
+    → WereSetSecurely rules answers (pair_of row)) (winners given)
+
+-- ---- what a session reads
+
+-- the cookie is of a pair that was set securely: its name and its value are that pair's, decoded
+abbrev pub WasReadSecurely : Rules → List Answer → Record → Type 0
+WasReadSecurely rules answers cookie =
+    (pair : List ℕ × List ℕ) × WereSetSecurely rules answers pair × (cookie.name ≡ percent_decode pair.0)
+    × (cookie.value ≡ percent_decode pair.1)
+
+-- So of the cookies of that header, which a session on it reads, each is that has the name of a Secure row which the
+-- request is given. Names and values of the rows are as a text gives them, as a client's are.
+abbrev pub SecureNamesAreReadSecurely : Type 0
+SecureNamesAreReadSecurely =
+    (rules : Rules) (list : List Rule) (answers : List Answer) (rows : List Row) → IsTrue rules.secure_from_http
+    → IsTrue rules.secure_wins → TakesAnswers rules list [] answers rows → HaveReadPairs rows
+    → (to : Parts) (now : ℤ) (header : List ℕ) → IsHeaderBehind rules rows to now header
+    → (cookies : List Record) → AreCookiesOf header cookies → (given : List Row) × AreGivenLongest rows to now given
+    × AllByRecursion (λ cookie. IsTrue (list_any (is_secure_of cookie.name) given)
+    → WasReadSecurely rules answers cookie) cookies

@@ -1,0 +1,46 @@
+"""Small libraries of tools/, each of a folder's lib.rt.txt, crate.txt and main.rt.txt, over the repository's crates."""
+import importlib.machinery
+import importlib.util
+import os
+import shutil
+
+
+def load_build(top):
+    """The script bindings/build as a module."""
+    loader = importlib.machinery.SourceFileLoader("build", f"{top}/bindings/build")
+    made = importlib.util.module_from_spec(importlib.util.spec_from_loader("build", loader))
+    loader.exec_module(made)
+    return made
+
+
+def needs_of(text):
+    """What each line of a crates.txt says that a crate stands on."""
+    lines = [it.split("#")[0].partition(":") for it in text.splitlines()]
+    return {head.split()[0]: needs.split() for head, colon, needs in lines if colon}
+
+
+def read(*path):
+    with open(os.path.join(*path), encoding="utf-8") as file:
+        return file.read()
+
+
+def put_tree(top, here, room, is_proved):
+    """Copies the crates that the library of the folder `here` stands on to a folder, and that one, and where they are
+    to be proved what earlier checks kept. Returns its name."""
+    line, needs = read(here, "crate.txt"), needs_of(read(top, "crates.txt"))
+    passed_over = ("must-fail",) if is_proved else ("must-fail", "out", "proofs")
+    left, found = [it for them in needs_of(line).values() for it in them], set()
+    while left:
+        name = left.pop()
+        if name in needs and name not in found:
+            found.add(name)
+            left += needs[name]
+            ignored = shutil.ignore_patterns(*passed_over)
+            shutil.copytree(f"{top}/crates/{name}", f"{room}/crates/{name}", symlinks=True, ignore=ignored)
+    crate, = needs_of(line)
+    os.makedirs(f"{room}/crates/{crate}/src")
+    shutil.copyfile(f"{here}/lib.rt.txt", f"{room}/crates/{crate}/src/lib.rt")
+    with open(f"{room}/crates.txt", "w", encoding="utf-8") as to:
+        to.writelines(f"{it}: {' '.join(needs[it])}\n" for it in sorted(found))
+        to.write(line)
+    return crate
