@@ -240,7 +240,7 @@ module _ (now : ℤ) where
         ap pieces k.joined ∙ pieces-joined (first_piece line) k.others clean.0
         (cut_clean k.rest k.others k.each clean.1)
 
-    same_first : first_piece cut ≡ first_piece line
+    pub same_first : first_piece cut ≡ first_piece line
     same_first = first_is cut (first_piece line) k.others cut_pieces
 
     -- what it reads as, by the age and the end of the pieces in their places

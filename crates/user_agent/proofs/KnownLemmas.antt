@@ -208,7 +208,7 @@ known_pieces line known k =
     let clean : AreClean (first_piece line ∷ k.rest) = subst AreClean k.cut (pieces_clean line) in
     ap pieces k.joined ∙ pieces-joined (first_piece line) k.others clean.0 (known_clean k.rest k.others k.each clean.1)
 
-same_first : (line known : List ℕ) → IsKnownLine line known → first_piece known ≡ first_piece line
+pub same_first : (line known : List ℕ) → IsKnownLine line known → first_piece known ≡ first_piece line
 same_first line known k = first_is known (first_piece line) k.others (known_pieces line known k)
 
 -- ---- what is read

@@ -2,12 +2,14 @@ mod AgentLemmas
 mod CutLemmas
 mod DatedLemmas
 mod FindingLemmas
+mod FlagLemmas
 mod IntegrityLemmas
 mod JudgingLemmas
 mod KnownLemmas
 mod LongLemmas
 mod MatchLemmas
 mod NestedLemmas
+mod PairLemmas
 mod PieceLemmas
 mod RelateLemmas
 mod SecureReadLemmas
@@ -16,4 +18,5 @@ mod SessionLemmas
 mod StandingLemmas
 mod StrictLemmas
 mod TokenLemmas
+mod WholeLemmas
 mod WinningLemmas

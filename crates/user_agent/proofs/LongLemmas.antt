@@ -42,7 +42,7 @@ module _ (line short : List ℕ) (k : IsShortLine line short) where
       ap pieces k.joined ∙ pieces-joined (first_piece line) (filter is_short k.rest) clean.0
       (some_clean k.rest clean.1)
 
-  same_first : first_piece short ≡ first_piece line
+  pub same_first : first_piece short ≡ first_piece line
   same_first = first_is short (first_piece line) (filter is_short k.rest) left
 
   rest_moves : (r : Record) → HasRest short r → HasShortRest line r

@@ -1,5 +1,5 @@
 -- What a session reads of a header under the name of a Secure row.
-use Rattle.std.proofs.Common.{◌≡◌, ◌≢◌, ◌==◌, ◌&&◌, ◌++◌, ◌∙◌, ℕ, List, [], ◌∷◌, Bool, true, false, cond, length, map}
+use Rattle.std.proofs.Common.{◌≡◌, ◌==◌, ◌&&◌, ◌++◌, ◌∙◌, ℕ, List, [], ◌∷◌, Bool, true, false, cond, length, map}
 use Rattle.std.proofs.Common.{Option, Some, None, sym, refl, ap, subst, arith, IsTrue}
 use Rattle.std.specs.Prelude.{filter, IfSome}
 use Rattle.std.specs.List.{AllByRecursion, cons_option, filter_map, list_any, position_or_len}
@@ -9,21 +9,21 @@ use Rattle.std.proofs.lemmas.List.Elements.{All-from_recursion, recursion_from_A
 use Rattle.std.proofs.lemmas.List.Sorted.{All-permutation}
 use Rattle.std.proofs.lemmas.Option.{same_Some}
 use Rattle.percent_encoding.specs.Percent.{percent_decode}
-use Rattle.cookie_text.specs.Again.{IsReadPair, Lacks}
+use Rattle.cookie_text.specs.Again.{Lacks}
 use Rattle.cookie_text.specs.Pieces.{equals, name_of, value_of}
 use Rattle.cookie_text.specs.Record.{Record, bare}
 use Rattle.cookie_text.proofs.PrintedPieces.{value_cut}
 use Rattle.cookie_store.specs.Given.{pair_of}
 use Rattle.cookie_store.specs.Rows.{Row}
-use Rattle.cookie_run.specs.Header.{header_of, pair_text}
+use Rattle.cookie_run.specs.Header.{pair_text}
 use Rattle.cookie_run.specs.Keeping.{HasReadPair}
 use Rattle.cookie_run.proofs.HeaderBack.{IsRead, cookie_named, header_back, texts_of}
 use Rattle.cookie_run.proofs.HeaderCookies.{cookie_of, cookies_of, pair_in}
 use Rattle.cookie_run.proofs.ReadBack.{led, led_pair}
 use Rattle.cookie_run.proofs.ReadCode.{cookies_are}
-use Rattle.user_agent.specs.SecureRuns.{SecureNamesAreReadSecurely, WasReadSecurely, WereSetSecurely}
+use Rattle.user_agent.specs.SecureRuns.{SecureNamesAreReadSecurely, WasReadSecurely}
 use Rattle.user_agent.specs.SecureWins.{decoded_name, is_secure_of, winners, wins}
-use Rattle.user_agent.proofs.SecureRunLemmas.{picked_all, secure_names_are_set_securely}
+use Rattle.user_agent.proofs.SecureRunLemmas.{have_read_pairs, picked_all, secure_names_are_set_securely}
 
 -- ---- the cookie of a pair
 
@@ -113,15 +113,16 @@ each_of A B f [] h = tt
 each_of A B f (row ∷ rows) h = (f row h.0, each_of A B f rows h.1)
 
 pub secure_names_are_read_securely : SecureNamesAreReadSecurely
-secure_names_are_read_securely rules list answers rows from_http on takes read to now header is cookies of =
+secure_names_are_read_securely rules list steps rows from_http on takes to now header is cookies of =
     let (given, are, printed, won) =
-    secure_names_are_set_securely rules list answers rows from_http on takes to now header is in
+    secure_names_are_set_securely rules list steps rows from_http on takes to now header is in
+    let read = have_read_pairs rules list steps rows from_http on takes in
     let picked = picked_all HasReadPair _ rows are.0 read are.1 in
     let longest = recursion_from_All HasReadPair given
     (All-permutation HasReadPair are.0 given are.2.permutation (All-from_recursion HasReadPair are.0 picked)) in
     let left = some_left (wins given) HasReadPair given longest in
     let P : Record → Type 0 =
-    λ c. IsTrue (list_any (is_secure_of c.name) given) → WasReadSecurely rules answers c in
+    λ c. IsTrue (list_any (is_secure_of c.name) given) → WasReadSecurely rules steps c in
     let each = each_of _ (λ row. (c : Record) → c.name ≡ decoded_name row
     → c.value ≡ percent_decode row.raw.cookie.value → P c)
     (λ row w c named valued there.

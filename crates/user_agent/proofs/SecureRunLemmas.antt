@@ -1,6 +1,6 @@
 -- A row that is Secure was set by an answer from a secure URL, and so was what a request is sent under its name.
-use Rattle.std.proofs.Common.{◌≡◌, ◌⊎◌, ℕ, ℤ, List, [], ◌∷◌, ◌&&◌, ◌||◌, Bool, true, false, not, cond, Option, Some, None}
-use Rattle.std.proofs.Common.{Result, Ok, Err, sym, refl, ap, ◌∙◌, subst, inl, inr, IsTrue, codes, take}
+use Rattle.std.proofs.Common.{◌≡◌, ◌⊎◌, ℕ, ℤ, List, [], ◌∷◌, ◌&&◌, ◌||◌, Bool, true, false, not, cond, Option, Some}
+use Rattle.std.proofs.Common.{None, Result, Ok, Err, sym, refl, ap, ◌∙◌, subst, inl, inr, IsTrue, codes, take}
 use Rattle.std.specs.Net.Addr.{ipv4_octets, ipv6_segments}
 use Rattle.std.specs.Prelude.{filter, map, IsSomeAnd}
 use Rattle.std.specs.List.{AllByRecursion, list_any}
@@ -13,25 +13,34 @@ use Rattle.publicsuffix.specs.Rules.{Rule}
 use Rattle.url.specs.Parts.{Parts, nonempty_host}
 use Rattle.url.specs.declared.host.Host.{Host}
 use Rattle.url.specs.declared.host.Host.TheVariants.{Domain, Ipv4, Ipv6}
+use Rattle.cookie_text.specs.Again.{IsReadPair}
 use Rattle.cookie_text.specs.Printing.{is_set}
 use Rattle.cookie_text.specs.Reading.{ReadsPlain}
+use Rattle.cookie_text.specs.ReadingBack.{Pairwise}
 use Rattle.cookie_text.specs.Record.{Seen, unsliced}
 use Rattle.cookie_text.specs.declared.error.ParseError.{ParseError}
+use Rattle.cookie_text.proofs.PairsAgain.{pair_of as texts_give_pairs, pair_reads_again}
 use Rattle.store_parts.specs.Expiry.{is_dead}
 use Rattle.store_parts.specs.Schemes.{IsSecure, IsThisHost}
 use Rattle.cookie_store.specs.Given.{ArePicked, pair_of}
 use Rattle.cookie_store.specs.Insertion.{End, Fits, Inserts, InsertsRead, alone, settled}
+use Rattle.cookie_store.specs.Placing.{is_saved, saved}
 use Rattle.cookie_store.specs.Rows.{Row, behind_last, ended, expired, has_domain_of, has_key_of, has_place_of}
-use Rattle.cookie_store.specs.Rows.{inserted, is_live_of, put, replaced}
+use Rattle.cookie_store.specs.Rows.{inserted, is_live, is_live_of, put, replaced}
+use Rattle.cookie_store.specs.SavedRows.{IsReread}
 use Rattle.cookie_run.specs.Accept.{Accepts}
+use Rattle.cookie_run.specs.Keeping.{HaveReadPairs, Keeps}
 use Rattle.cookie_run.specs.declared.step.LineEnd.{LineEnd}
+use Rattle.cookie_run.proofs.FromLines.{filter_all}
 use Rattle.user_agent.specs.Agent.{TakesLine, TakesLines}
-use Rattle.user_agent.specs.SecureRuns.{Answer, IsAny, SecureNamesAreSetSecurely, Sets, SetsSecurely, TakesAnswers}
-use Rattle.user_agent.specs.SecureRuns.{WereSetSecurely}
+use Rattle.user_agent.specs.Refusals.{asks_for_secure}
+use Rattle.user_agent.specs.SecureRuns.{Answers, IsAny, Restarts, SecureNamesAreSetSecurely, Sets, SetsSecurely, Step}
+use Rattle.user_agent.specs.SecureRuns.{TakesStep, TakesSteps, WereSetSecurely}
 use Rattle.user_agent.specs.SecureWins.{IsHeaderIf, IsWinnersHeader, decoded_name, is_secure_of, wins}
 use Rattle.user_agent.specs.declared.rules.Outcome.{Outcome}
-use Rattle.user_agent.specs.declared.rules.Refusal.TheVariants.{SecureFromHttp}
+use Rattle.user_agent.specs.declared.rules.Refusal.TheVariants.{LacksSecure, SecureFromHttp}
 use Rattle.user_agent.specs.declared.rules.Rules.{Rules}
+use Rattle.user_agent.proofs.FlagLemmas.{IsUncut, flags_read, line_uncut, may_be_secure}
 use Rattle.user_agent.proofs.IntegrityLemmas.{set_is}
 
 -- ---- what holds of all rows, whatever becomes of a cookie
@@ -153,15 +162,20 @@ picked_all P Is (x ∷ xs) picked h (later, are, inr (out, e)) =
 
 -- ---- a Secure row was set over a secure URL
 
-module _ (rules : Rules) (from_http : IsTrue rules.secure_from_http) (Was : List ℕ × List ℕ → Type 0) where
-  -- where the row is Secure, its pair is such
-  abbrev Q : Row → Type 0
-  Q row = IsTrue (is_set row.raw.cookie.secure) → Was (pair_of row)
+-- a cookie whose name and value are as a text gives them, whose path and domain hold no semicolon, and whose pair is
+-- such where it may be Secure
+pub record IsSafe (Was : List ℕ × List ℕ → Type 0) (s : Seen) : Type 0 where
+  pub pair : IsReadPair s.cookie.name s.cookie.value
+  pub uncut : IsUncut s.cookie
+  pub was : may_be_secure s.cookie ≡ true → Was (s.cookie.name, s.cookie.value)
+
+module _ (rules : Rules) (from_http : IsTrue rules.secure_from_http) (on : IsTrue rules.secure_wins)
+    (Was : List ℕ × List ℕ → Type 0) where
+  abbrev pub Q : Row → Type 0
+  Q row = IsSafe Was row.raw
 
   q_same : (row other : Row) → other.raw ≡ row.raw → Q row → Q other
-  q_same row other e q secure =
-      subst (λ (s : Seen). Was (s.cookie.name, s.cookie.value)) (sym e)
-      (q (subst (λ (s : Seen). IsTrue (is_set s.cookie.secure)) e secure))
+  q_same row other e q = subst (IsSafe Was) (sym e) q
 
   line_sets : (list : List Rule) (rows new : List Row) (url : Parts) (now : ℤ) (line : List ℕ) (outcome : Outcome)
       → (IsSecure url → (name value : List ℕ) → Sets rules now name value line → Was (name, value))
@@ -175,14 +189,33 @@ module _ (rules : Rules) (from_http : IsTrue rules.secure_from_http) (Was : List
     where
       made : (seen : Seen) → IsUtf8 handed → ReadsPlain handed (Ok seen) → (row : Row)
           → row.raw ≡ unsliced seen.cookie → Q row
-      made seen utf8 reads row e secure =
-          let marked : seen.cookie.secure ≡ Some true =
-          set_is seen.cookie.secure (subst (λ (s : Seen). IsTrue (is_set s.cookie.secure)) e secure) in
-          subst (λ (s : Seen). Was (s.cookie.name, s.cookie.value)) (sym e) (by marked (secure_or_not url))
+      made seen utf8 reads row e =
+          subst (IsSafe Was) (sym e) (record {
+            pair = texts_give_pairs handed seen utf8 reads;
+            uncut = line_uncut handed seen utf8 reads;
+            was = λ may. by may (secure_or_not url);
+          })
         where
-          by : seen.cookie.secure ≡ Some true → (IsSecure url ⊎ (¬ (IsSecure url)))
+          at : (b : Bool) → is_set seen.cookie.secure ≡ b → may_be_secure seen.cookie ≡ true → ¬ (IsSecure url) → ⊥
+          at true set may at_http =
+              let_in SecureFromHttp from_http (utf8, (seen, reads, (set_is seen.cookie.secure set, at_http)))
+          at false unset may at_http =
+              let_in LacksSecure on (
+                utf8,
+                (
+                  seen,
+                  reads,
+                  record {
+                    asks = ap (λ b. b || asks_for_secure seen.cookie) (sym unset) ∙ may;
+                    plain = λ set. both_ways (is_set seen.cookie.secure) unset (ap is_set set);
+                    insecure = at_http;
+                  },
+                ),
+              )
+
+          by : may_be_secure seen.cookie ≡ true → (IsSecure url ⊎ (¬ (IsSecure url)))
               → Was (seen.cookie.name, seen.cookie.value)
-          by marked (inl at_https) =
+          by may (inl at_https) =
               sets at_https seen.cookie.name seen.cookie.value (record {
                 handed = handed;
                 is_handed = is_handed;
@@ -191,7 +224,7 @@ module _ (rules : Rules) (from_http : IsTrue rules.secure_from_http) (Was : List
                 named = refl;
                 valued = refl;
               })
-          by marked (inr at_http) = absurd (let_in SecureFromHttp from_http (utf8, (seen, reads, (marked, at_http))))
+          by may (inr at_http) = absurd (at (is_set seen.cookie.secure) refl may at_http)
 
   lines_set : (list : List Rule) (rows new : List Row) (url : Parts) (now : ℤ) (lines : List (List ℕ))
       (outcomes : List Outcome)
@@ -203,14 +236,50 @@ module _ (rules : Rules) (from_http : IsTrue rules.secure_from_http) (Was : List
       lines_set list mid new url now lines outcomes (λ s name value any. sets s name value (inr any))
       (line_sets list rows mid url now line outcome (λ s name value here. sets s name value (inl here)) h one) rest
 
-  answers_set : (list : List Rule) (rows new : List Row) (answers : List Answer)
-      → ((name value : List ℕ) → IsAny (SetsSecurely rules name value) answers → Was (name, value))
-      → AllByRecursion Q rows → TakesAnswers rules list rows answers new → AllByRecursion Q new
-  answers_set list rows new [] sets h takes = subst (AllByRecursion Q) (sym takes) h
-  answers_set list rows new (answer ∷ answers) sets h (mid, outcomes, one, rest) =
-      answers_set list mid new answers (λ name value any. sets name value (inr any))
-      (lines_set list rows mid answer.url answer.at answer.lines outcomes
-      (λ s name value any. sets name value (inl (s, any))) h one) rest
+  -- ---- a restart
+
+  reread_safe : (row read : Row) → Q row → IsReread row read → Q read
+  reread_safe row read q h =
+      let again = pair_reads_again row.raw.cookie (Ok h.seen) q.pair h.reads in
+      let flags = flags_read row.raw.cookie h.seen q.pair q.uncut h.reads in
+      let pair : (row.raw.cookie.name, row.raw.cookie.value) ≡ (h.seen.cookie.name, h.seen.cookie.value) =
+      λ i. (sym again.pair.0 i, sym again.pair.1 i) in
+      subst (IsSafe Was) (sym h.raw) (record {
+        pair = subst (λ (p : List ℕ × List ℕ). IsReadPair p.0 p.1) pair q.pair;
+        uncut = flags.1;
+        was = λ may. subst Was pair (q.was (flags.0 may));
+      })
+
+  rereads_safe : (rows read : List Row) → AllByRecursion Q rows → Pairwise IsReread rows read → AllByRecursion Q read
+  rereads_safe [] [] h p = tt
+  rereads_safe [] (x ∷ xs) h p = absurd p
+  rereads_safe (r ∷ rs) [] h p = absurd p
+  rereads_safe (r ∷ rs) (x ∷ xs) h p = (reread_safe r x h.0 p.0, rereads_safe rs xs h.1 p.1)
+
+  restart_keeps : (rows new : List Row) (saving loading : ℤ) → AllByRecursion Q rows → Keeps rows saving loading new
+      → AllByRecursion Q new
+  restart_keeps rows new saving loading h keeps =
+      subst (AllByRecursion Q) (sym keeps.lives)
+      (filter_all Q (is_live loading) keeps.read
+      (rereads_safe (saved saving rows) keeps.read (filter_all Q (is_saved saving) rows h) keeps.reread))
+
+  -- ---- all steps
+
+  step_sets : (list : List Rule) (rows new : List Row) (step : Step)
+      → ((name value : List ℕ) → SetsSecurely rules name value step → Was (name, value)) → AllByRecursion Q rows
+      → TakesStep rules list rows step new → AllByRecursion Q new
+  step_sets list rows new (Answers answer) sets h (outcomes, takes) =
+      lines_set list rows new answer.url answer.at answer.lines outcomes
+      (λ s name value any. sets name value (s, any)) h takes
+  step_sets list rows new (Restarts saving loading) sets h keeps = restart_keeps rows new saving loading h keeps
+
+  pub steps_set : (list : List Rule) (rows new : List Row) (steps : List Step)
+      → ((name value : List ℕ) → IsAny (SetsSecurely rules name value) steps → Was (name, value))
+      → AllByRecursion Q rows → TakesSteps rules list rows steps new → AllByRecursion Q new
+  steps_set list rows new [] sets h takes = subst (AllByRecursion Q) (sym takes) h
+  steps_set list rows new (step ∷ steps) sets h (mid, one, rest) =
+      steps_set list mid new steps (λ name value any. sets name value (inr any))
+      (step_sets list rows mid step (λ name value here. sets name value (inl here)) h one) rest
 
   -- ---- those that win
 
@@ -223,7 +292,7 @@ module _ (rules : Rules) (from_http : IsTrue rules.secure_from_http) (Was : List
   won given row win q there = by (is_set row.raw.cookie.secure) refl
     where
       by : (b : Bool) → is_set row.raw.cookie.secure ≡ b → Was (pair_of row)
-      by true e = q e
+      by true e = q.was (ap (λ b. b || asks_for_secure row.raw.cookie) e)
       by false e =
           absurd (both_ways (wins given row) (λ i. e i || not (there i)) win)
 
@@ -242,13 +311,32 @@ header_of_winners : (b : Bool) (rows : List Row) (to : Parts) (now : ℤ) (heade
 header_of_winners true rows to now header e h = h
 header_of_winners false rows to now header e h = absurd (true≢false (sym e))
 
+-- after all steps of a user agent that begins without a row
+pub safe_rows : (rules : Rules) (list : List Rule) (steps : List Step) (rows : List Row)
+    (from_http : IsTrue rules.secure_from_http) (on : IsTrue rules.secure_wins) → TakesSteps rules list [] steps rows
+    → AllByRecursion (Q rules from_http on (WereSetSecurely rules steps)) rows
+safe_rows rules list steps rows from_http on takes =
+    steps_set rules from_http on (WereSetSecurely rules steps) list [] rows steps (λ name value any. any) tt takes
+
+read_pairs_of : (Was : List ℕ × List ℕ → Type 0) (rows : List Row) → AllByRecursion (λ row. IsSafe Was row.raw) rows
+    → HaveReadPairs rows
+read_pairs_of Was [] h = tt
+read_pairs_of Was (row ∷ rows) h = (h.0.pair, read_pairs_of Was rows h.1)
+
+-- so their names and values are as texts give them
+pub have_read_pairs : (rules : Rules) (list : List Rule) (steps : List Step) (rows : List Row)
+    → IsTrue rules.secure_from_http → IsTrue rules.secure_wins → TakesSteps rules list [] steps rows
+    → HaveReadPairs rows
+have_read_pairs rules list steps rows from_http on takes =
+    read_pairs_of (WereSetSecurely rules steps) rows (safe_rows rules list steps rows from_http on takes)
+
 pub secure_names_are_set_securely : SecureNamesAreSetSecurely
-secure_names_are_set_securely rules list answers rows from_http on takes to now header is =
+secure_names_are_set_securely rules list steps rows from_http on takes to now header is =
     let h = header_of_winners rules.secure_wins rows to now header on is in
-    let Was : List ℕ × List ℕ → Type 0 = WereSetSecurely rules answers in
-    let all = answers_set rules from_http Was list [] rows answers (λ name value any. any) tt takes in
-    let picked = picked_all (Q rules from_http Was) _ rows h.are_given.0 all h.are_given.1 in
-    let longest = recursion_from_All (Q rules from_http Was) h.given
-    (All-permutation (Q rules from_http Was) h.are_given.0 h.given h.are_given.2.permutation
-    (All-from_recursion (Q rules from_http Was) h.are_given.0 picked)) in
-    (h.given, h.are_given, h.printed, all_won rules from_http Was h.given h.given longest)
+    let Was : List ℕ × List ℕ → Type 0 = WereSetSecurely rules steps in
+    let all = safe_rows rules list steps rows from_http on takes in
+    let picked = picked_all (Q rules from_http on Was) _ rows h.are_given.0 all h.are_given.1 in
+    let longest = recursion_from_All (Q rules from_http on Was) h.given
+    (All-permutation (Q rules from_http on Was) h.are_given.0 h.given h.are_given.2.permutation
+    (All-from_recursion (Q rules from_http on Was) h.are_given.0 picked)) in
+    (h.given, h.are_given, h.printed, all_won rules from_http on Was h.given h.given longest)

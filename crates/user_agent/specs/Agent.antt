@@ -2,6 +2,7 @@
 use Rattle.std.specs.Prelude.{◌≡◌, ◌⊎◌, ◌+◌, ◌<◌, ◌||◌, ℕ, ℤ, Bool, true, false, List, [], ◌∷◌, length, map}
 use Rattle.std.specs.Prelude.{IsTrue, get_or, take}
 use Rattle.std.specs.Str.{IsUtf8}
+use Rattle.cookie_text.specs.Reading.{first_piece}
 use Rattle.publicsuffix.specs.Rules.{Rule}
 use Rattle.url.specs.Parts.{Parts}
 use Rattle.cookie_store.specs.Rows.{Row, Store}
@@ -40,6 +41,12 @@ pub record IsHandedText (rules : Rules) (now : ℤ) (line handed : List ℕ) : T
 abbrev pub IsHandedOn : Rules → ℤ → List ℕ → List ℕ → Type 0
 IsHandedOn rules now line handed =
     (IsUtf8 line × IsHandedText rules now line handed) ⊎ ((¬ (IsUtf8 line)) × (handed ≡ line))
+
+-- whatever rules are on, the first piece of a line stays, and so do its name and its value
+abbrev pub PairsStay : Type 0
+PairsStay =
+    (rules : Rules) (now : ℤ) (line handed : List ℕ) → IsHandedOn rules now line handed
+    → first_piece handed ≡ first_piece line
 
 -- what becomes of a line that is handed on, and the rows after it: the first rule that refuses it changes nothing;
 -- where none does, the client gets it

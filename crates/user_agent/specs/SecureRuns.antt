@@ -11,7 +11,7 @@ use Rattle.cookie_store.specs.Given.{pair_of}
 use Rattle.cookie_store.specs.Longest.{AreGivenLongest}
 use Rattle.cookie_store.specs.Rows.{Row}
 use Rattle.cookie_run.specs.Header.{header_of}
-use Rattle.cookie_run.specs.Keeping.{HaveReadPairs}
+use Rattle.cookie_run.specs.Keeping.{Keeps}
 use Rattle.cookie_run.specs.Reading.{AreCookiesOf}
 use Rattle.user_agent.specs.Agent.{IsHandedOn, TakesLines}
 use Rattle.user_agent.specs.SecureWins.{IsHeaderBehind, decoded_name, is_secure_of, winners}
@@ -26,13 +26,22 @@ pub record Answer : Type 0 where
   pub at : ℤ
   pub lines : List (List ℕ)
 
--- the rows after the answers, one after another
-abbrev pub TakesAnswers : Rules → List Rule → List Row → List Answer → List Row → Type 0
-TakesAnswers rules list rows [] new = new ≡ rows
-TakesAnswers rules list rows (answer ∷ answers) new =
-    (mid : List Row) × (outcomes : List Outcome)
-    × TakesLines rules list rows answer.url answer.at answer.lines outcomes mid
-    × TakesAnswers rules list mid answers new
+-- an answer; or the rows are saved at a moment, and loaded again at another
+pub data Step : Type 0 where
+  Answers : (answer : Answer) → Step
+  Restarts : (saving loading : ℤ) → Step
+
+-- the rows after a step
+abbrev pub TakesStep : Rules → List Rule → List Row → Step → List Row → Type 0
+TakesStep rules list rows (Answers answer) new =
+    (outcomes : List Outcome) × TakesLines rules list rows answer.url answer.at answer.lines outcomes new
+TakesStep rules list rows (Restarts saving loading) new = Keeps rows saving loading new
+
+-- the rows after the steps, one after another
+abbrev pub TakesSteps : Rules → List Rule → List Row → List Step → List Row → Type 0
+TakesSteps rules list rows [] new = new ≡ rows
+TakesSteps rules list rows (step ∷ steps) new =
+    (mid : List Row) × TakesStep rules list rows step mid × TakesSteps rules list mid steps new
 
 -- ---- what was set over a secure URL
 
@@ -50,44 +59,45 @@ pub record Sets (rules : Rules) (now : ℤ) (name value line : List ℕ) : Type 
   pub named : seen.cookie.name ≡ name
   pub valued : seen.cookie.value ≡ value
 
--- the answer is from a secure URL, and one of its lines does
-abbrev pub SetsSecurely : Rules → List ℕ → List ℕ → Answer → Type 0
-SetsSecurely rules name value answer =
+-- it is an answer from a secure URL, and one of its lines does
+abbrev pub SetsSecurely : Rules → List ℕ → List ℕ → Step → Type 0
+SetsSecurely rules name value (Answers answer) =
     IsSecure answer.url × IsAny (Sets rules answer.at name value) answer.lines
+SetsSecurely rules name value (Restarts saving loading) = ⊥
 
--- one of the answers is so
-abbrev pub WereSetSecurely : Rules → List Answer → List ℕ × List ℕ → Type 0
-WereSetSecurely rules answers pair = IsAny (SetsSecurely rules pair.0 pair.1) answers
+-- one of the steps is so
+abbrev pub WereSetSecurely : Rules → List Step → List ℕ × List ℕ → Type 0
+WereSetSecurely rules steps pair = IsAny (SetsSecurely rules pair.0 pair.1) steps
 
 -- ---- what a request is sent
 
--- Where the rules on Secure cookies from http and on Secure rows are on, whatever answers came: the header of each
--- request has the pairs of the rows that win among those that it is given; and where one of these is Secure and has the
--- decoded name of a pair, that pair was set by an answer from a secure URL.
+-- Where the rules on Secure cookies from http and on Secure rows are on, whatever answers came, with restarts between:
+-- the header of each request has the pairs of the rows that win among those that it is given; and where one of these is
+-- Secure and has the decoded name of a pair, that pair was set by an answer from a secure URL.
 abbrev pub SecureNamesAreSetSecurely : Type 0
 SecureNamesAreSetSecurely =
-    (rules : Rules) (list : List Rule) (answers : List Answer) (rows : List Row) → IsTrue rules.secure_from_http
-    → IsTrue rules.secure_wins → TakesAnswers rules list [] answers rows
+    (rules : Rules) (list : List Rule) (steps : List Step) (rows : List Row) → IsTrue rules.secure_from_http
+    → IsTrue rules.secure_wins → TakesSteps rules list [] steps rows
     → (to : Parts) (now : ℤ) (header : List ℕ) → IsHeaderBehind rules rows to now header
     → (given : List Row) × AreGivenLongest rows to now given × (header ≡ header_of (map pair_of (winners given)))
     × AllByRecursion (λ row. IsTrue (list_any (is_secure_of (decoded_name row)) given)
-    → WereSetSecurely rules answers (pair_of row)) (winners given)
+    → WereSetSecurely rules steps (pair_of row)) (winners given)
 
 -- ---- what a session reads
 
 -- the cookie is of a pair that was set securely: its name and its value are that pair's, decoded
-abbrev pub WasReadSecurely : Rules → List Answer → Record → Type 0
-WasReadSecurely rules answers cookie =
-    (pair : List ℕ × List ℕ) × WereSetSecurely rules answers pair × (cookie.name ≡ percent_decode pair.0)
+abbrev pub WasReadSecurely : Rules → List Step → Record → Type 0
+WasReadSecurely rules steps cookie =
+    (pair : List ℕ × List ℕ) × WereSetSecurely rules steps pair × (cookie.name ≡ percent_decode pair.0)
     × (cookie.value ≡ percent_decode pair.1)
 
 -- So of the cookies of that header, which a session on it reads, each is that has the name of a Secure row which the
--- request is given. Names and values of the rows are as a text gives them, as a client's are.
+-- request is given.
 abbrev pub SecureNamesAreReadSecurely : Type 0
 SecureNamesAreReadSecurely =
-    (rules : Rules) (list : List Rule) (answers : List Answer) (rows : List Row) → IsTrue rules.secure_from_http
-    → IsTrue rules.secure_wins → TakesAnswers rules list [] answers rows → HaveReadPairs rows
+    (rules : Rules) (list : List Rule) (steps : List Step) (rows : List Row) → IsTrue rules.secure_from_http
+    → IsTrue rules.secure_wins → TakesSteps rules list [] steps rows
     → (to : Parts) (now : ℤ) (header : List ℕ) → IsHeaderBehind rules rows to now header
     → (cookies : List Record) → AreCookiesOf header cookies → (given : List Row) × AreGivenLongest rows to now given
     × AllByRecursion (λ cookie. IsTrue (list_any (is_secure_of cookie.name) given)
-    → WasReadSecurely rules answers cookie) cookies
+    → WasReadSecurely rules steps cookie) cookies

@@ -294,7 +294,7 @@ fn take_line(
 }
 
 // The line as the client gets it, where a rule is on that changes lines and it is a text.
-fn rewritten(
+pub(crate) fn rewritten(
     alloc: Global,
     rules: &Rules,
     line: &[u8],
@@ -315,7 +315,7 @@ fn rewritten(
 }
 
 // Whether a control character stops the line.
-fn is_stopped(rules: &Rules, line: &[u8]) -> bool
+pub(crate) fn is_stopped(rules: &Rules, line: &[u8]) -> bool
     ensures { IsTrue result ↔ IsStoppedByControl rules.now line.now }
 {
     rules.control && has_control(line)

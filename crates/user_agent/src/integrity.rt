@@ -11,17 +11,15 @@ pub fn protected_rows_stand()
     ensures { ProtectedRowsStand }
 {}
 
-/// Where the rules `secure_from_http` and `secure_wins` are on, whatever answers came since there was no row: a pair of
-/// a request's header was set by an answer from a secure URL, where the request is given a Secure row that has its
-/// name, both percent-decoded.
+/// Where the rules `secure_from_http` and `secure_wins` are on, whatever answers came since there was no row, with
+/// restarts between: a pair of a request's header was set by an answer from a secure URL, where the request is given a
+/// Secure row that has its name, both percent-decoded.
 pub fn secure_names_are_set_securely()
     ensures { SecureNamesAreSetSecurely }
 {}
 
 /// So a session on that header reads under such a name what an answer from a secure URL set: name and value of each
 /// cookie that it reads are those of such a pair, percent-decoded.
-///
-/// Names and values of the rows are as a text gives them, as `Client::store` says of a client's.
 pub fn secure_names_are_read_securely()
     ensures { SecureNamesAreReadSecurely }
 {}

@@ -1,11 +1,17 @@
 //! Laws of answers that a user agent takes. Each function changes nothing: its contract is the law.
-ghost use Rattle.user_agent.specs.Agent.{ClientsTakeTheirs};
+ghost use Rattle.user_agent.specs.Agent.{ClientsTakeTheirs, PairsStay};
 ghost use Rattle.user_agent.specs.SessionLines as spec;
 
 /// Whatever lines come, the rows are those after the client took the lines that it gets: of those that no rule refused,
 /// in their order, what each is handed on as. So what is proved of a client holds behind any rules.
 pub fn clients_take_theirs()
     ensures { ClientsTakeTheirs }
+{}
+
+/// Whatever rules are on, what the client gets of a line begins with the line's own first piece: its name and its value
+/// stay as they came.
+pub fn pairs_stay()
+    ensures { PairsStay }
 {}
 
 /// The line of a session's cookie from an https URL is refused by no rule, whatever rows there are, and the client gets

@@ -5,6 +5,7 @@
 //! ```
 #![tactic(auto)]
 
+mod accepting;
 pub mod agent;
 pub mod cut_life;
 mod date_text;
@@ -19,6 +20,7 @@ pub mod rules;
 mod secure_wins;
 mod token;
 
+pub use accepting::accept_line;
 pub use agent::UserAgent;
 pub use cut_life::with_cut_life;
 pub use known_date::with_known_date;
