@@ -1,5 +1,6 @@
 -- What is told of one line, and what a writer of JSON has written.
-use Rattle.std.proofs.Common.{◌≡◌, ◌∙◌, ◌++◌, ◌∷◌, [], ℕ, ℤ, List, Result, Ok, Err, Option, OnOk, ap, append_assoc}
+use Rattle.std.proofs.Common.{◌≡◌, ◌∙◌, ◌++◌, ◌∷◌, [], ℕ, ℤ, List, Result, Ok, Err, Option, Some, None, OnOk, ap}
+use Rattle.std.proofs.Common.{ap₂, append_assoc}
 use Rattle.std.proofs.Common.{inl, inr, refl, subst, sym}
 use Rattle.std.specs.Prelude.{MatchResult}
 use Rattle.std.specs.Borrow.{Bor}
@@ -13,9 +14,16 @@ use Rattle.cookie_store.specs.Rows.{Row, Store, found, key_of}
 use Rattle.line_report.specs.Pair.{HasNoPair, IsPairOf}
 use Rattle.line_report.specs.Pieces.{AreJudged, PieceText}
 use Rattle.line_report.specs.declared.pairing.PairFault.{PairFault}
-use Rattle.cookie_jar.specs.Explaining.{Becomes, IsExplained, IsSent, Says, SaysText, SentAs}
+use Rattle.user_agent.specs.Agent.{IsDoneIf}
+use Rattle.user_agent.specs.CutLives.{IsCutLine}
+use Rattle.user_agent.specs.KnownDates.{IsKnownLine}
+use Rattle.user_agent.specs.LongAttributes.{IsShortLine}
+use Rattle.user_agent.specs.declared.rules.Rules.{Rules}
+use Rattle.cookie_jar.specs.Changing.{TellsChanges, change_line}
+use Rattle.cookie_jar.specs.declared.changing.Change.TheVariants.{LongAttributes, Dates, LongLives}
+use Rattle.cookie_jar.specs.Explaining.{IsExplained, IsSent, Says, SaysHanded, SaysText, SentAs}
 use Rattle.cookie_jar.specs.Explaining.{pair_lines, piece_lines, row_lines, rule_text}
-use Rattle.cookie_jar.specs.Steps.{Appends, WritesMore, pair_of}
+use Rattle.cookie_jar.specs.Steps.{Appends, SaysLeft, WritesMore, left_of, pair_of}
 use Rattle.cookie_jar.specs.Taking.{TakesLine}
 use Rattle.cookie_jar.specs.Told.{end_text}
 use Rattle.cookie_jar.specs.declared.form.Form.{Form}
@@ -56,15 +64,59 @@ says_text (Ok x) line pair pieces old mid new is judged first next = (
 )
 says_text (Err x) line pair pieces old mid new is judged first next = tt
 
--- of a text, and of another line
-pub says : {A E : Type 0} (r : Result A E) (line text old new : List ℕ) → text ≡ line → IsUtf8 line
-    → OnOk r (Appends (SaysText text) old new) → OnOk r (Appends (Says line) old new)
-says (Ok x) line text old new same utf8 (more, is, told) =
-    (more, inr (utf8, subst (λ t. SaysText t more) same is), told)
-says (Err x) line text old new same utf8 h = tt
+-- ---- what the rules change of it
 
-pub says_nothing : (line old : List ℕ) → (¬ (IsUtf8 line)) → Appends (Says line) old old
-says_nothing line old none = ([], inl (none, refl), sym (append-nil old))
+-- the texts a to h are views of what each rule leaves
+pub tells_changes : (rules : Rules) (now : ℤ) (line short known handed a b d e f g h old one two new : List ℕ)
+    → a ≡ short → b ≡ short → d ≡ short → e ≡ known → f ≡ known → g ≡ known → h ≡ handed
+    → IsDoneIf rules.long_attributes IsShortLine line short → IsDoneIf rules.dates IsKnownLine b known
+    → IsDoneIf rules.long_lives (IsCutLine now) f handed → one ≡ old ++ change_line LongAttributes line a
+    → two ≡ one ++ change_line Dates d e → new ≡ two ++ change_line LongLives g h
+    → Appends (TellsChanges rules now line handed) old new
+tells_changes rules now line short known handed a b d e f g h old one two new va vb vd ve vf vg vh first second third
+    ha hb hc = (
+      change_line LongAttributes line short ++ (change_line Dates short known ++ change_line LongLives known handed),
+      record {
+        is = record {
+          short = short;
+          known = known;
+          shortened = first;
+          dated = subst (λ l. IsDoneIf rules.dates IsKnownLine l known) vb second;
+          cut = subst (λ l. IsDoneIf rules.long_lives (IsCutLine now) l handed) vf third;
+        };
+        told = refl;
+      },
+      put_both old one new (change_line LongAttributes line short)
+          (change_line Dates short known ++ change_line LongLives known handed)
+          (ha ∙ ap (λ l. old ++ change_line LongAttributes line l) va)
+          (put_both one two new (change_line Dates short known) (change_line LongLives known handed)
+          (hb ∙ ap₂ (λ l m. one ++ change_line Dates l m) vd ve)
+          (hc ∙ ap₂ (λ l m. two ++ change_line LongLives l m) vg vh)),
+    )
+
+pub says_handed : (rules : Rules) (now : ℤ) (line handed said old mid new : List ℕ) → said ≡ handed
+    → Appends (TellsChanges rules now line handed) old mid → Appends (SaysText said) mid new
+    → Appends (SaysHanded rules now line handed) old new
+says_handed rules now line handed said old mid new same (changes, tells, first) (says, is, next) = (
+  changes ++ says,
+  (changes, says, tells, subst (λ t. SaysText t says) same is, refl),
+  put_both old mid new changes says first next,
+)
+
+-- of a text, and of another line
+pub says_some : (rules : Rules) (now : ℤ) (line text handed old new : List ℕ) → text ≡ line → IsUtf8 line
+    → Appends (SaysHanded rules now text handed) old new → Appends (SaysLeft rules now line (Some handed)) old new
+says_some rules now line text handed old new same utf8 (more, is, told) =
+    (more, (utf8, subst (λ t. SaysHanded rules now t handed more) same is), told)
+
+pub says_nothing : (rules : Rules) (now : ℤ) (line old : List ℕ) → (¬ (IsUtf8 line))
+    → Appends (SaysLeft rules now line None) old old
+says_nothing rules now line old none = ([], (none, refl), sym (append-nil old))
+
+says_left : (rules : Rules) (now : ℤ) (line : List ℕ) (handed : Option (List ℕ)) (text : List ℕ)
+    → SaysLeft rules now line handed text → Says rules now line (left_of handed line) text
+says_left rules now line None text (none, is) = inl (none, refl, is)
+says_left rules now line (Some handed) text says = inr says
 
 -- ---- what becomes of it
 
@@ -76,33 +128,32 @@ is_sent (Ok x) url now line text made rows row old new same reads is told =
     (row_lines row, (made, subst (λ t. ReadsStored t url now (Ok made)) same reads, ap row_lines is), told)
 is_sent (Err x) url now line text made rows row old new same reads is told = tt
 
-pub becomes : {A E : Type 0} (r : Result A E) (form : Form) (store copy : Store) (url : Parts) (now : ℤ) (line : List ℕ)
-    (end : End) (rows : List Row) (old mid new : List ℕ) → copy ≡ store
-    → TakesLine form copy.suffixes copy.rows url now line end rows → mid ≡ old ++ (end_text end ++ rule_text end)
-    → OnOk r (Appends (SentAs url now line end rows) mid new)
-    → OnOk r (Appends (Becomes form store url now line) old new)
-becomes (Ok x) form store copy url now line end rows old mid new same takes first (sent, is, told) = (
-  end_text end ++ (rule_text end ++ sent),
-  record {
-    end = end;
-    rows = rows;
-    takes = subst (λ s. TakesLine form s.suffixes s.rows url now line end rows) same takes;
-    sent = sent;
-    sent_as = is;
-    told = refl;
-  },
-  put_both old mid new (end_text end ++ rule_text end) sent first told
-      ∙ ap (λ t. old ++ t) (append_assoc (end_text end) (rule_text end) sent),
-)
-becomes (Err x) form store copy url now line end rows old mid new same takes first h = tt
-
 -- ---- all
 
-pub is_explained : (form : Form) (store : Store) (url : Parts) (now : ℤ) (line none mid text : List ℕ) → none ≡ []
-    → Appends (Says line) none mid → Appends (Becomes form store url now line) mid text
-    → IsExplained form store url now line text
-is_explained form store url now line none mid text empty (says, is, first) (becomes, are, next) =
-    (says, becomes, is, are, next ∙ ap (λ t. t ++ becomes) (first ∙ ap (λ t. t ++ says) empty))
+pub is_explained : (form : Form) (rules : Rules) (store copy : Store) (url : Parts) (now : ℤ) (line : List ℕ)
+    (handed : Option (List ℕ)) (left : List ℕ) (end : End) (rows : List Row) (none said ended text : List ℕ)
+    → none ≡ [] → Appends (SaysLeft rules now line handed) none said → copy ≡ store
+    → TakesLine form rules copy.suffixes copy.rows url now line end rows
+    → ended ≡ said ++ (end_text end ++ rule_text end) → left ≡ left_of handed line
+    → Appends (SentAs url now left end rows) ended text → IsExplained form rules store url now line text
+is_explained form rules store copy url now line handed left end rows none said ended text empty (says, is, first) same
+    takes next still (sent, sends, last) = (
+      left_of handed line,
+      says,
+      end_text end ++ (rule_text end ++ sent),
+      says_left rules now line handed says is,
+      record {
+        end = end;
+        rows = rows;
+        takes = subst (λ (s : Store). TakesLine form rules s.suffixes s.rows url now line end rows) same takes;
+        sent = sent;
+        sent_as = subst (λ l. SentAs url now l end rows sent) still sends;
+        told = refl;
+      },
+      put_both said ended text (end_text end ++ rule_text end) sent next last
+          ∙ (ap (λ t. said ++ t) (append_assoc (end_text end) (rule_text end) sent)
+          ∙ ap (λ t. t ++ (end_text end ++ (rule_text end ++ sent))) (first ∙ ap (λ t. t ++ says) empty)),
+    )
 
 -- ---- JSON
 

@@ -1,4 +1,5 @@
 pub mod ExplainLemmas
+pub mod ImportLemmas
 pub mod KeepLemmas
 pub mod KeyLemmas
 pub mod LawLemmas

@@ -210,7 +210,7 @@ both_all P [] ys px py = py
 both_all P (x ∷ xs) ys px py = (px.0, both_all P xs ys px.1 py)
 
 -- what is placed of rows that a jar keeps is kept
-placed_kept : (now : ℤ) (xs ys : List Row) → AreKept xs → AreKept ys → AreKept (loaded false now (xs ++ ys))
+pub placed_kept : (now : ℤ) (xs ys : List Row) → AreKept xs → AreKept ys → AreKept (loaded false now (xs ++ ys))
 placed_kept now xs ys hx hy =
     put_all_keeps IsKept (live now (xs ++ ys)) []
     (filter_all IsKept (is_live now) (xs ++ ys) (both_all IsKept xs ys hx hy)) tt

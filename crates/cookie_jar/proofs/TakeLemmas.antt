@@ -16,13 +16,18 @@ use Rattle.cookie_store.specs.Insertion.{InsertsRead}
 use Rattle.cookie_store.specs.Making.{IsMade}
 use Rattle.cookie_store.specs.Rows.{Row}
 use Rattle.cookie_store.specs.declared.action.StoreAction.{StoreAction}
-use Rattle.line_report.specs.Pair.{IsPairOf}
-use Rattle.cookie_run.specs.Accept.{Accepts, AsksForMemory}
+use Rattle.line_report.specs.Pair.{IsPairIn, IsPairOf}
+use Rattle.cookie_run.specs.Accept.{Accepts, AcceptsAll}
 use Rattle.cookie_run.specs.HostRows.{AnswersHoldRightly}
 use Rattle.cookie_run.specs.declared.step.LineEnd.{LineEnd}
 use Rattle.cookie_run.proofs.ClientRows.{received_pairs}
 use Rattle.cookie_run.proofs.FromLines.{inserts_from}
+use Rattle.user_agent.specs.Agent.{AsksForMemory, IsHandedOn, NoRulesAreTheClient, PairsStay, TakesLine as AgentTakes}
+use Rattle.user_agent.specs.declared.rules.Outcome.{Outcome}
+use Rattle.user_agent.specs.declared.rules.Outcome.TheVariants.{Taken}
+use Rattle.user_agent.specs.declared.rules.Rules.{Rules}
 use Rattle.cookie_jar.specs.Keeping.{AreKept, IsClean, has_control}
+use Rattle.cookie_jar.specs.Laws.{WithoutRules}
 use Rattle.cookie_jar.specs.Taking.{HasControl, IsStopped, StopsAt, TakesAll, TakesLine}
 use Rattle.cookie_jar.specs.declared.form.Form.{Form}
 use Rattle.cookie_jar.specs.declared.taking.End.{End}
@@ -31,19 +36,20 @@ use Rattle.cookie_jar.proofs.KeepLemmas.{clean_of, held_of, kept_from, pairs_of}
 
 -- ---- line by line
 
-all_push : (form : Form) (list : List Rule) (rows mid new : List Row) (url : Parts) (now : ℤ) (lines : List (List ℕ))
-    (ends : List End) (line : List ℕ) (end : End) → TakesAll form list rows url now lines ends mid
-    → TakesLine form list mid url now line end new
-    → TakesAll form list rows url now (lines ++ line ∷ []) (ends ++ end ∷ []) new
-all_push form list rows mid new url now [] [] line end h a =
-    (new, subst (λ rs. TakesLine form list rs url now line end new) h.1 a, (refl, refl))
-all_push form list rows mid new url now [] (e ∷ ends) line end h a = absurd (not_nil e ends h.0)
+all_push : (form : Form) (rules : Rules) (list : List Rule) (rows mid new : List Row) (url : Parts) (now : ℤ)
+    (lines : List (List ℕ)) (ends : List End) (line : List ℕ) (end : End)
+    → TakesAll form rules list rows url now lines ends mid
+    → TakesLine form rules list mid url now line end new
+    → TakesAll form rules list rows url now (lines ++ line ∷ []) (ends ++ end ∷ []) new
+all_push form rules list rows mid new url now [] [] line end h a =
+    (new, subst (λ rs. TakesLine form rules list rs url now line end new) h.1 a, (refl, refl))
+all_push form rules list rows mid new url now [] (e ∷ ends) line end h a = absurd (not_nil e ends h.0)
   where
     not_nil : (e : End) (es : List End) → e ∷ es ≡ [] → ⊥
     not_nil e es p = cc
-all_push form list rows mid new url now (l ∷ lines) [] line end h a = absurd h
-all_push form list rows mid new url now (l ∷ lines) (e ∷ ends) line end h a =
-    (h.0, h.1, all_push form list h.0 mid new url now lines ends line end h.2 a)
+all_push form rules list rows mid new url now (l ∷ lines) [] line end h a = absurd h
+all_push form rules list rows mid new url now (l ∷ lines) (e ∷ ends) line end h a =
+    (h.0, h.1, all_push form rules list h.0 mid new url now lines ends line end h.2 a)
 
 map_take : {A : Type 0} (f : A → List ℕ) (xs : List A) (i : ℕ) (d : A) → i < length xs
     → take (i + 1) (map f xs) ≡ take i (map f xs) ++ f (get_or xs i d) ∷ []
@@ -57,28 +63,30 @@ map_at f [] i d h = absurd (omega (arith, h))
 map_at f (x ∷ xs) zero d h = refl
 map_at f (x ∷ xs) (suc i) d h = map_at f xs i d (omega arith)
 
-pub next_line : {A : Type 0} (f : A → List ℕ) (form : Form) (list : List Rule) (start mid new : List Row)
-    (old ends : List End) (end : End) (url : Parts) (now : ℤ) (xs : List A) (i : ℕ) (d : A) → i < length xs
-    → TakesAll form list start url now (take i (map f xs)) old mid → (here : List Rule) → here ≡ list
-    → TakesLine form here mid url now (f (get_or xs i d)) end new → ends ≡ old ++ end ∷ []
-    → TakesAll form list start url now (take (i + 1) (map f xs)) ends new
-next_line f form list start mid new old ends end url now xs i d h all here same one is =
-    subst (λ es. TakesAll form list start url now (take (i + 1) (map f xs)) es new) (sym is)
-    (subst (λ ls. TakesAll form list start url now ls (old ++ end ∷ []) new) (sym (map_take f xs i d h))
-    (all_push form list start mid new url now (take i (map f xs)) old (f (get_or xs i d)) end all
-    (subst (λ l. TakesLine form l mid url now (f (get_or xs i d)) end new) same one)))
+pub next_line : {A : Type 0} (f : A → List ℕ) (form : Form) (rules : Rules) (list : List Rule)
+    (start mid new : List Row) (old ends : List End) (end : End) (url : Parts) (now : ℤ) (xs : List A) (i : ℕ)
+    (d : A) → i < length xs → TakesAll form rules list start url now (take i (map f xs)) old mid
+    → (here : List Rule) → here ≡ list
+    → TakesLine form rules here mid url now (f (get_or xs i d)) end new → ends ≡ old ++ end ∷ []
+    → TakesAll form rules list start url now (take (i + 1) (map f xs)) ends new
+next_line f form rules list start mid new old ends end url now xs i d h all here same one is =
+    subst (λ es. TakesAll form rules list start url now (take (i + 1) (map f xs)) es new) (sym is)
+    (subst (λ ls. TakesAll form rules list start url now ls (old ++ end ∷ []) new) (sym (map_take f xs i d h))
+    (all_push form rules list start mid new url now (take i (map f xs)) old (f (get_or xs i d)) end all
+    (subst (λ l. TakesLine form rules l mid url now (f (get_or xs i d)) end new) same one)))
 
-pub stopped_line : {A : Type 0} (f : A → List ℕ) (form : Form) (list : List Rule) (start mid new : List Row)
-    (old : List End) (url : Parts) (now : ℤ) (xs : List A) (i : ℕ) (d : A) → i < length xs
-    → TakesAll form list start url now (take i (map f xs)) old mid → new ≡ mid → AsksForMemory url (f (get_or xs i d))
-    → StopsAt form list start url now (map f xs) (i + 1) new
-stopped_line f form list start mid new old url now xs i d h all same asks = record {
+pub stopped_line : {A : Type 0} (f : A → List ℕ) (form : Form) (rules : Rules) (list : List Rule)
+    (start mid new : List Row) (old : List End) (url : Parts) (now : ℤ) (xs : List A) (i : ℕ) (d : A) → i < length xs
+    → TakesAll form rules list start url now (take i (map f xs)) old mid → new ≡ mid
+    → AsksForMemory rules url (f (get_or xs i d))
+    → StopsAt form rules list start url now (map f xs) (i + 1) new
+stopped_line f form rules list start mid new old url now xs i d h all same asks = record {
   before = i;
   number = refl;
   within = subst (λ n. i < n) (sym (length-map xs f)) h;
   ends = old;
-  taken = subst (TakesAll form list start url now (take i (map f xs)) old) (sym same) all;
-  asks = subst (AsksForMemory url) (sym (map_at f xs i d h)) asks;
+  taken = subst (TakesAll form rules list start url now (take i (map f xs)) old) (sym same) all;
+  asks = subst (AsksForMemory rules url) (sym (map_at f xs i d h)) asks;
 }
 
 -- ---- no row of a line has a control character
@@ -122,6 +130,16 @@ accepts_clean list url now line rows end new free all (inr (other, inl wrong)) =
 accepts_clean list url now line rows end new free all (inr (other, inr right)) =
     read_clean list url now line rows right.1.2.0 new right.1.0 right.0 right.1.1 free all right.1.2.1
 
+-- ---- what a rule leaves of a line
+
+-- a control character in the pair that is left stood in the pair that came
+control_came : (stay : PairsStay) (rules : Rules) (now : ℤ) (line handed : List ℕ) → IsHandedOn rules now line handed
+    → HasControl handed → HasControl line
+control_came stay rules now line handed (inl (utf8, text)) (left, (name, value, pair, has)) =
+    let same = stay rules now line handed (inl (utf8, text)) in
+    (utf8, (name, value, subst (λ piece. IsPairIn piece name value) same pair, has))
+control_came stay rules now line handed (inr (other, same)) has = subst HasControl same has
+
 -- ---- the rows behind lines are kept
 
 accepts_kept : (law : AnswersHoldRightly) (list : List Rule) (url : Parts) (now : ℤ) (line : List ℕ) (rows : List Row)
@@ -132,31 +150,51 @@ accepts_kept law list url now line rows end new free kept accepts = kept_from ne
     (received_pairs list url now (line ∷ []) rows (end ∷ []) new (pairs_of rows kept) (new, accepts, (refl, refl)))
     (law list rows url now (line ∷ []) new (end ∷ [], (new, accepts, (refl, refl))) (held_of rows kept))
 
-line_kept : (law : AnswersHoldRightly) (form : Form) (list : List Rule) (url : Parts) (now : ℤ) (line : List ℕ)
-    (rows : List Row) (end : End) (new : List Row) → AreKept rows → TakesLine form list rows url now line end new
-    → AreKept new
-line_kept law form list url now line rows Control new kept takes = subst AreKept (sym takes.1) kept
-line_kept law form list url now line rows Tab new kept takes = subst AreKept (sym takes.2) kept
-line_kept law form list url now line rows (Line end) new kept takes =
-    accepts_kept law list url now line rows end new takes.0 kept takes.2
+module _ (law : AnswersHoldRightly) (stay : PairsStay) (form : Form) (rules : Rules) (list : List Rule) (url : Parts)
+    (now : ℤ) where
+  agent_kept : (line : List ℕ) (rows : List Row) (outcome : Outcome) (new : List Row) → (¬ (HasControl line))
+      → AreKept rows → AgentTakes rules list rows url now line outcome new → AreKept new
+  agent_kept line rows outcome new free kept (inl (stopped, is, same)) = subst AreKept (sym same) kept
+  agent_kept line rows outcome new free kept (inr (passed, (handed, is, inl (rule, refused, told, same)))) =
+      subst AreKept (sym same) kept
+  agent_kept line rows outcome new free kept (inr (passed, (handed, is, inr (let_in, (end, accepts, told))))) =
+      accepts_kept law list url now handed rows end new
+      (λ has. free (control_came stay rules now line handed is has)) kept accepts
 
-all_kept : (law : AnswersHoldRightly) (form : Form) (list : List Rule) (url : Parts) (now : ℤ)
-    (lines : List (List ℕ)) (rows : List Row) (ends : List End) (new : List Row) → AreKept rows
-    → TakesAll form list rows url now lines ends new → AreKept new
-all_kept law form list url now [] rows ends new kept takes = subst AreKept (sym takes.1) kept
-all_kept law form list url now (line ∷ lines) rows [] new kept takes = absurd takes
-all_kept law form list url now (line ∷ lines) rows (end ∷ ends) new kept takes =
-    all_kept law form list url now lines takes.0 ends new
-    (line_kept law form list url now line rows end takes.0 kept takes.1) takes.2
+  line_kept : (line : List ℕ) (rows : List Row) (end : End) (new : List Row) → AreKept rows
+      → TakesLine form rules list rows url now line end new → AreKept new
+  line_kept line rows Control new kept takes = subst AreKept (sym takes.1) kept
+  line_kept line rows Tab new kept takes = subst AreKept (sym takes.2) kept
+  line_kept line rows (Line outcome) new kept takes = agent_kept line rows outcome new takes.0 kept takes.2
 
--- however receiving ended
-pub received_kept : {A B : Type 0} (law : AnswersHoldRightly) (r : Result A B) (all : A → List End) (at : B → ℕ)
-    (form : Form) (list : List Rule) (url : Parts) (now : ℤ) (lines : List (List ℕ)) (rows new : List Row)
-    → AreKept rows → IfOk r (λ ends. TakesAll form list rows url now lines (all ends) new)
-    → IfErr r (λ stopped. IsStopped form list rows url now lines (at stopped) new) → AreKept new
-received_kept law (Ok ends) all at form list url now lines rows new kept h g =
-    all_kept law form list url now lines rows (all ends) new kept h
-received_kept law (Err stopped) all at form list url now lines rows new kept h (inl none) =
-    subst AreKept (sym none.1) kept
-received_kept law (Err stopped) all at form list url now lines rows new kept h (inr stops) =
-    all_kept law form list url now (take stops.before lines) rows stops.ends new kept stops.taken
+  all_kept : (lines : List (List ℕ)) (rows : List Row) (ends : List End) (new : List Row) → AreKept rows
+      → TakesAll form rules list rows url now lines ends new → AreKept new
+  all_kept [] rows ends new kept takes = subst AreKept (sym takes.1) kept
+  all_kept (line ∷ lines) rows [] new kept takes = absurd takes
+  all_kept (line ∷ lines) rows (end ∷ ends) new kept takes =
+      all_kept lines takes.0 ends new (line_kept line rows end takes.0 kept takes.1) takes.2
+
+  -- however receiving ended
+  pub received_kept : {A B : Type 0} (r : Result A B) (all : A → List End) (at : B → ℕ) (lines : List (List ℕ))
+      (rows new : List Row) → AreKept rows
+      → IfOk r (λ ends. TakesAll form rules list rows url now lines (all ends) new)
+      → IfErr r (λ stopped. IsStopped form rules list rows url now lines (at stopped) new) → AreKept new
+  received_kept (Ok ends) all at lines rows new kept h g = all_kept lines rows (all ends) new kept h
+  received_kept (Err stopped) all at lines rows new kept h (inl none) = subst AreKept (sym none.1) kept
+  received_kept (Err stopped) all at lines rows new kept h (inr stops) =
+      all_kept (take stops.before lines) rows stops.ends new kept stops.taken
+
+-- ---- without rules
+
+one_end : (list : List Rule) (rows new : List Row) (url : Parts) (now : ℤ) (line : List ℕ) (outcome : Outcome)
+    (ends : List LineEnd) → outcome ∷ [] ≡ map Taken ends → AcceptsAll list rows url now (line ∷ []) ends new
+    → (end : LineEnd) × (outcome ≡ Taken end) × Accepts list rows url now line end new
+one_end list rows new url now line outcome [] same all = absurd all
+one_end list rows new url now line outcome (end ∷ ends) same (mid, accepts, rest) =
+    let first : outcome ≡ Taken end = cc in
+    (end, first, subst (Accepts list rows url now line end) (sym rest.1) accepts)
+
+pub without_rules : NoRulesAreTheClient → WithoutRules
+without_rules law form list rows url now line outcome new takes =
+    let (ends, same, all) = law list rows url now (line ∷ []) (outcome ∷ []) new (new, takes.2, (refl, refl)) in
+    one_end list rows new url now line outcome ends same all

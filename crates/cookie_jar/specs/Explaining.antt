@@ -22,6 +22,12 @@ use Rattle.cookies_txt.specs.Layout.{when}
 use Rattle.cookies_txt.specs.Writing.{expiry_second, is_suffix}
 use Rattle.cookie_run.specs.declared.step.LineEnd.{LineEnd}
 use Rattle.cookie_run.specs.declared.step.LineEnd.TheVariants.{Stored, Refused, NotText, HostPrefix}
+use Rattle.user_agent.specs.declared.rules.Outcome.{Outcome}
+use Rattle.user_agent.specs.declared.rules.Outcome.TheVariants as outcome
+use Rattle.user_agent.specs.declared.rules.Refusal.{Refusal}
+use Rattle.user_agent.specs.declared.rules.Refusal.TheVariants as rule
+use Rattle.user_agent.specs.declared.rules.Rules.{Rules}
+use Rattle.cookie_jar.specs.Changing.{TellsChanges}
 use Rattle.cookie_jar.specs.Taking.{TakesLine}
 use Rattle.cookie_jar.specs.Told.{end_text, shown}
 use Rattle.cookie_jar.specs.declared.form.Form.{Form}
@@ -60,9 +66,16 @@ pub record SaysText (line text : List ℕ) : Type 0 where
   pub pieces_are : AreJudged line pieces
   pub told : text ≡ pair_lines pair ++ piece_lines pieces
 
--- nothing of one that isn't
-abbrev pub Says : List ℕ → List ℕ → Type 0
-Says line text = ((¬ (IsUtf8 line)) × (text ≡ [])) ⊎ (IsUtf8 line × SaysText line text)
+-- what rules of user agents change of it, and the lines on what they leave of it
+abbrev pub SaysHanded : Rules → ℤ → List ℕ → List ℕ → List ℕ → Type 0
+SaysHanded rules now line handed text =
+    (changes says : List ℕ) × TellsChanges rules now line handed changes × SaysText handed says
+    × (text ≡ changes ++ says)
+
+-- nothing of one that isn't a text, which no rule changes
+abbrev pub Says : Rules → ℤ → List ℕ → List ℕ → List ℕ → Type 0
+Says rules now line handed text =
+    ((¬ (IsUtf8 line)) × (handed ≡ line) × (text ≡ [])) ⊎ (IsUtf8 line × SaysHanded rules now line handed text)
 
 -- ---- what becomes of it
 
@@ -88,9 +101,22 @@ line_end_rule (Refused cause) = cause_rule cause
 line_end_rule NotText = codes " (a rule of this jar: a line is UTF-8)\n"
 line_end_rule HostPrefix = codes " (draft-ietf-httpbis-rfc6265bis, section 4.1.3.2)\n"
 
+abbrev pub refusal_rule : Refusal → List ℕ
+refusal_rule rule.Control = codes " (draft-ietf-httpbis-rfc6265bis, section 5.6, step 1)\n"
+refusal_rule rule.TooLong = codes " (draft-ietf-httpbis-rfc6265bis, section 5.6, step 5)\n"
+refusal_rule rule.SecurePrefix = codes " (draft-ietf-httpbis-rfc6265bis, sections 4.1.3.1 and 5.7, step 20)\n"
+refusal_rule rule.HostPrefix = codes " (draft-ietf-httpbis-rfc6265bis, sections 4.1.3.2 and 5.7, step 21)\n"
+refusal_rule rule.SecureFromHttp = codes " (draft-ietf-httpbis-rfc6265bis, section 5.7, step 8)\n"
+refusal_rule rule.SecureOverlay = codes " (draft-ietf-httpbis-rfc6265bis, section 5.7, step 9)\n"
+refusal_rule rule.LacksSecure = codes " (a rule of the crate user_agent: secure_wins)\n"
+
+abbrev pub outcome_rule : Outcome → List ℕ
+outcome_rule (outcome.Taken end) = line_end_rule end
+outcome_rule (outcome.Refused rule) = refusal_rule rule
+
 -- by which rule it became so
 abbrev pub rule_text : End → List ℕ
-rule_text (Line end) = line_end_rule end
+rule_text (Line outcome) = outcome_rule outcome
 rule_text Control = codes " (draft-ietf-httpbis-rfc6265bis, section 5.6, step 1)\n"
 rule_text Tab = codes " (a rule of this jar: cookies.txt parts its fields by tabs)\n"
 
@@ -138,27 +164,31 @@ IsSent url now line rows text =
 
 -- where it is put among the rows, they are these
 abbrev pub SentAs : Parts → ℤ → List ℕ → End → List Row → List ℕ → Type 0
-SentAs url now line (Line (Stored Inserted)) rows text = IsSent url now line rows text
-SentAs url now line (Line (Stored UpdatedExisting)) rows text = IsSent url now line rows text
-SentAs url now line (Line (Stored ExpiredExisting)) rows text = text ≡ []
-SentAs url now line (Line (Refused cause)) rows text = text ≡ []
-SentAs url now line (Line NotText) rows text = text ≡ []
-SentAs url now line (Line HostPrefix) rows text = text ≡ []
+SentAs url now line (Line (outcome.Taken (Stored Inserted))) rows text = IsSent url now line rows text
+SentAs url now line (Line (outcome.Taken (Stored UpdatedExisting))) rows text = IsSent url now line rows text
+SentAs url now line (Line (outcome.Taken (Stored ExpiredExisting))) rows text = text ≡ []
+SentAs url now line (Line (outcome.Taken (Refused cause))) rows text = text ≡ []
+SentAs url now line (Line (outcome.Taken NotText)) rows text = text ≡ []
+SentAs url now line (Line (outcome.Taken HostPrefix)) rows text = text ≡ []
+SentAs url now line (Line (outcome.Refused rule)) rows text = text ≡ []
 SentAs url now line Control rows text = text ≡ []
 SentAs url now line Tab rows text = text ≡ []
 
 -- ---- all
 
--- what would become of it in a jar of this form at the moment, and the rows that there would be
-pub record Becomes (form : Form) (store : Store) (url : Parts) (now : ℤ) (line text : List ℕ) : Type 0 where
+-- what would become of it in a jar of this form behind these rules at the moment, and the rows that there would be; the
+-- cookie is that of what the rules leave of the line
+pub record Becomes (form : Form) (rules : Rules) (store : Store) (url : Parts) (now : ℤ)
+    (line handed text : List ℕ) : Type 0 where
   pub end : End
   pub rows : List Row
-  pub takes : TakesLine form store.suffixes store.rows url now line end rows
+  pub takes : TakesLine form rules store.suffixes store.rows url now line end rows
   pub sent : List ℕ
-  pub sent_as : SentAs url now line end rows sent
+  pub sent_as : SentAs url now handed end rows sent
   pub told : text ≡ end_text end ++ (rule_text end ++ sent)
 
 -- what it says, and what would become of it
-abbrev pub IsExplained : Form → Store → Parts → ℤ → List ℕ → List ℕ → Type 0
-IsExplained form store url now line text =
-    (says becomes : List ℕ) × Says line says × Becomes form store url now line becomes × (text ≡ says ++ becomes)
+abbrev pub IsExplained : Form → Rules → Store → Parts → ℤ → List ℕ → List ℕ → Type 0
+IsExplained form rules store url now line text =
+    (handed says becomes : List ℕ) × Says rules now line handed says
+    × Becomes form rules store url now line handed becomes × (text ≡ says ++ becomes)

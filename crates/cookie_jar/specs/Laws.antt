@@ -1,19 +1,28 @@
--- What a jar's text is read as again (this repository's own).
+-- What a jar's text is read as again, and what a jar is without rules (this repository's own).
 use Rattle.std.specs.Prelude.{◌≡◌, ℕ, ℤ, List, false}
 use Rattle.std.specs.Str.{IsUtf8}
+use Rattle.publicsuffix.specs.Rules.{Rule}
+use Rattle.url.specs.Parts.{Parts}
 use Rattle.cookie_text.specs.ReadingBack.{Pairwise}
 use Rattle.cookie_store.specs.Given.{ArePicked}
 use Rattle.cookie_store.specs.Grouped.{AreGrouped}
 use Rattle.cookie_store.specs.Rows.{Row, Store, live}
 use Rattle.cookies_txt.specs.Writing.{IsThroughCookiesTxt}
+use Rattle.cookie_run.specs.Accept.{Accepts}
 use Rattle.cookie_run.specs.KeptKeys.{IsRowKept}
+use Rattle.cookie_run.specs.declared.step.LineEnd.{LineEnd}
+use Rattle.user_agent.specs.Refusals.{no_rules}
+use Rattle.user_agent.specs.declared.rules.Outcome.{Outcome}
+use Rattle.user_agent.specs.declared.rules.Outcome.TheVariants.{Taken}
 use Rattle.cookie_jar.specs.Keeping.{AreKept, IsKept}
 use Rattle.cookie_jar.specs.Reading.{IsUnread, Reads}
 use Rattle.cookie_jar.specs.Saving.{AreBytesIn, IsText, fitting}
+use Rattle.cookie_jar.specs.Taking.{TakesLine}
 use Rattle.cookie_jar.specs.declared.error.ReadError.{ReadError}
 use Rattle.cookie_jar.specs.declared.error.ReadError.TheVariants.{OutOfMemory}
 use Rattle.cookie_jar.specs.declared.form.Form.{Form}
 use Rattle.cookie_jar.specs.declared.form.Form.TheVariants.{Ron, Json, Txt}
+use Rattle.cookie_jar.specs.declared.taking.End.TheVariants.{Line}
 
 -- the second row is the first as the form keeps it: in RON and JSON its domain, path, name and value, and its death
 -- without a fraction of a second; in `cookies.txt` what a line says of it
@@ -38,3 +47,10 @@ SavedTextsAreRead =
     (form : Form) (rows : List Row) (saving : ℤ) (text : List ℕ) (e : ReadError) → AreKept rows
     → AreBytesIn form (live saving rows) → fitting form (live saving rows) ≡ live saving rows → IsUtf8 text
     → IsText form (live saving rows) text → IsUnread form text e → e ≡ OutOfMemory
+
+-- With no rule on, a line that the jar itself doesn't refuse is taken exactly as by a client.
+abbrev pub WithoutRules : Type 0
+WithoutRules =
+    (form : Form) (list : List Rule) (rows : List Row) (url : Parts) (now : ℤ) (line : List ℕ) (outcome : Outcome)
+    (new : List Row) → TakesLine form no_rules list rows url now line (Line outcome) new
+    → (end : LineEnd) × (outcome ≡ Taken end) × Accepts list rows url now line end new

@@ -1,5 +1,7 @@
+pub mod Changing
 pub mod Explaining
 pub mod Forms
+pub mod Importing
 pub mod Json
 pub mod Keeping
 pub mod Laws

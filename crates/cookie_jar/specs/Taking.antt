@@ -7,8 +7,9 @@ use Rattle.publicsuffix.specs.Rules.{Rule}
 use Rattle.url.specs.Parts.{Parts}
 use Rattle.cookie_store.specs.Rows.{Row}
 use Rattle.cookies_txt.specs.Layout.{tab}
-use Rattle.cookie_run.specs.Accept.{Accepts, AsksForMemory}
 use Rattle.line_report.specs.Pair.{IsPairOf}
+use Rattle.user_agent.specs.Agent.{AsksForMemory, TakesLine as AgentTakes}
+use Rattle.user_agent.specs.declared.rules.Rules.{Rules}
 use Rattle.cookie_jar.specs.Keeping.{has_control}
 use Rattle.cookie_jar.specs.declared.form.Form.{Form}
 use Rattle.cookie_jar.specs.declared.form.Form.TheVariants.{Ron, Json, Txt}
@@ -30,33 +31,36 @@ parts_by_tabs Txt = true
 abbrev pub has_tab : List ℕ → Bool
 has_tab line = list_any (λ b. b == tab) line
 
--- What becomes of a line from the URL at the moment in a jar of this form: a control character, and then a tab where
--- the form's lines are parted by tabs, has it refused, and nothing changes; any other goes as a client takes it.
-abbrev pub TakesLine : Form → List Rule → List Row → Parts → ℤ → List ℕ → End → List Row → Type 0
-TakesLine form list rows url now line Control new = HasControl line × (new ≡ rows)
-TakesLine form list rows url now line Tab new =
+-- What becomes of a line from the URL at the moment in a jar of this form: a control character in name or value, and
+-- then a tab where the form's lines are parted by tabs, has it refused, and nothing changes; any other goes as a user
+-- agent of these rules takes it.
+abbrev pub TakesLine : Form → Rules → List Rule → List Row → Parts → ℤ → List ℕ → End → List Row → Type 0
+TakesLine form rules list rows url now line Control new = HasControl line × (new ≡ rows)
+TakesLine form rules list rows url now line Tab new =
     (¬ (HasControl line)) × ((parts_by_tabs form && has_tab line) ≡ true) × (new ≡ rows)
-TakesLine form list rows url now line (Line end) new =
-    (¬ (HasControl line)) × ((parts_by_tabs form && has_tab line) ≡ false) × Accepts list rows url now line end new
+TakesLine form rules list rows url now line (Line outcome) new =
+    (¬ (HasControl line)) × ((parts_by_tabs form && has_tab line) ≡ false)
+    × AgentTakes rules list rows url now line outcome new
 
 -- what becomes of each of the lines, and the rows after them
-abbrev pub TakesAll : Form → List Rule → List Row → Parts → ℤ → List (List ℕ) → List End → List Row → Type 0
-TakesAll form list rows url now [] ends new = (ends ≡ []) × (new ≡ rows)
-TakesAll form list rows url now (line ∷ lines) [] new = ⊥
-TakesAll form list rows url now (line ∷ lines) (end ∷ ends) new =
-    (mid : List Row) × TakesLine form list rows url now line end mid × TakesAll form list mid url now lines ends new
+abbrev pub TakesAll : Form → Rules → List Rule → List Row → Parts → ℤ → List (List ℕ) → List End → List Row → Type 0
+TakesAll form rules list rows url now [] ends new = (ends ≡ []) × (new ≡ rows)
+TakesAll form rules list rows url now (line ∷ lines) [] new = ⊥
+TakesAll form rules list rows url now (line ∷ lines) (end ∷ ends) new =
+    (mid : List Row) × TakesLine form rules list rows url now line end mid
+    × TakesAll form rules list mid url now lines ends new
 
 -- memory was refused at line n, counted from 1, once those before it were taken
-pub record StopsAt (form : Form) (list : List Rule) (rows : List Row) (url : Parts) (now : ℤ) (lines : List (List ℕ))
-    (n : ℕ) (new : List Row) : Type 0 where
+pub record StopsAt (form : Form) (rules : Rules) (list : List Rule) (rows : List Row) (url : Parts) (now : ℤ)
+    (lines : List (List ℕ)) (n : ℕ) (new : List Row) : Type 0 where
   pub before : ℕ
   pub number : n ≡ before + 1
   pub within : before < length lines
   pub ends : List End
-  pub taken : TakesAll form list rows url now (take before lines) ends new
-  pub asks : AsksForMemory url (get_or lines before [])
+  pub taken : TakesAll form rules list rows url now (take before lines) ends new
+  pub asks : AsksForMemory rules url (get_or lines before [])
 
 -- so, or before any line was looked at, which is 0
-abbrev pub IsStopped : Form → List Rule → List Row → Parts → ℤ → List (List ℕ) → ℕ → List Row → Type 0
-IsStopped form list rows url now lines n new =
-    ((n ≡ 0) × (new ≡ rows)) ⊎ StopsAt form list rows url now lines n new
+abbrev pub IsStopped : Form → Rules → List Rule → List Row → Parts → ℤ → List (List ℕ) → ℕ → List Row → Type 0
+IsStopped form rules list rows url now lines n new =
+    ((n ≡ 0) × (new ≡ rows)) ⊎ StopsAt form rules list rows url now lines n new

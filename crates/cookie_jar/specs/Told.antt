@@ -8,6 +8,10 @@ use Rattle.store_parts.specs.declared.error.CookieError.{CookieError}
 use Rattle.store_parts.specs.declared.error.CookieError.TheVariants as cause
 use Rattle.cookie_run.specs.declared.step.LineEnd.{LineEnd}
 use Rattle.cookie_run.specs.declared.step.LineEnd.TheVariants.{Stored, Refused, NotText, HostPrefix}
+use Rattle.user_agent.specs.declared.rules.Outcome.{Outcome}
+use Rattle.user_agent.specs.declared.rules.Outcome.TheVariants as outcome
+use Rattle.user_agent.specs.declared.rules.Refusal.{Refusal}
+use Rattle.user_agent.specs.declared.rules.Refusal.TheVariants as rule
 use Rattle.cookie_jar.specs.declared.taking.End.{End}
 use Rattle.cookie_jar.specs.declared.taking.End.TheVariants.{Line, Control, Tab}
 
@@ -50,9 +54,23 @@ line_end_text (Refused cause) = cause_text cause
 line_end_text NotText = codes "refused: no text"
 line_end_text HostPrefix = codes "refused: __Host-"
 
+-- the rule of user agents that refused it; the last is none of this jar's
+abbrev pub refusal_text : Refusal → List ℕ
+refusal_text rule.Control = codes "refused: control character"
+refusal_text rule.TooLong = codes "refused: over 4096 bytes"
+refusal_text rule.SecurePrefix = codes "refused: __Secure-"
+refusal_text rule.HostPrefix = codes "refused: __Host-"
+refusal_text rule.SecureFromHttp = codes "refused: Secure over http"
+refusal_text rule.SecureOverlay = codes "refused: over a Secure cookie"
+refusal_text rule.LacksSecure = codes "refused: not Secure"
+
+abbrev pub outcome_text : Outcome → List ℕ
+outcome_text (outcome.Taken end) = line_end_text end
+outcome_text (outcome.Refused rule) = refusal_text rule
+
 -- what became of a line
 abbrev pub end_text : End → List ℕ
-end_text (Line end) = line_end_text end
+end_text (Line outcome) = outcome_text outcome
 end_text Control = codes "refused: control character"
 end_text Tab = codes "refused: tab"
 
@@ -68,9 +86,10 @@ told_lines (line ∷ lines) (end ∷ ends) = told_line line end ++ told_lines li
 
 -- the line wasn't stored
 abbrev pub is_refused : End → Bool
-is_refused (Line (Stored action)) = Rattle.std.specs.Prelude.false
-is_refused (Line (Refused cause)) = Rattle.std.specs.Prelude.true
-is_refused (Line NotText) = Rattle.std.specs.Prelude.true
-is_refused (Line HostPrefix) = Rattle.std.specs.Prelude.true
+is_refused (Line (outcome.Taken (Stored action))) = Rattle.std.specs.Prelude.false
+is_refused (Line (outcome.Taken (Refused cause))) = Rattle.std.specs.Prelude.true
+is_refused (Line (outcome.Taken NotText)) = Rattle.std.specs.Prelude.true
+is_refused (Line (outcome.Taken HostPrefix)) = Rattle.std.specs.Prelude.true
+is_refused (Line (outcome.Refused rule)) = Rattle.std.specs.Prelude.true
 is_refused Control = Rattle.std.specs.Prelude.true
 is_refused Tab = Rattle.std.specs.Prelude.true

@@ -11,6 +11,7 @@ ghost use Rattle.cookie_jar.specs.Told as told;
 ghost use Rattle.cookie_jar.specs.Explaining as spec;
 ghost use Rattle.cookie_jar.specs.Steps as steps;
 
+use crate::changing::push_changes;
 use crate::form::Form;
 use crate::listing::is_suffix;
 use crate::taking::{End, take_line};
@@ -22,9 +23,10 @@ use jiff::civil::DateTime;
 use line_report::{Judgement, PairFault, Piece, pair, pieces};
 use std::alloc::{AllocError, Global};
 use url::Url;
+use user_agent::{Outcome, Refusal, Rules};
 
-/// What the line says, what would become of it at `now` in the store of a jar of this form and by which rule, and which
-/// requests would get it.
+/// Which rules change the line, what it says then, what would become of it at `now` in the store of a jar of this form
+/// behind these rules and by which rule, and which requests would get it.
 ///
 /// # Errors
 ///
@@ -33,27 +35,67 @@ pub(crate) fn explained(
     alloc: Global,
     store: &CookieStore,
     form: Form,
+    rules: &Rules,
     url: &Url,
     line: &[u8],
     now: DateTime,
 ) -> Result<String, AllocError>
-    ensures { IfOk result (λ text. spec.IsExplained form store.now url.now (civil_nanos now) line.now
+    ensures { IfOk result (λ text. spec.IsExplained form rules.now store.now url.now (civil_nanos now) line.now
         (string_bytes text)) }
 {
     let mut text = String::new(alloc);
-    push_said(alloc, &mut text, line)?;
-    push_became(alloc, &mut text, store, form, url, line, now)?;
+    let handed = push_said(alloc, &mut text, rules, line, now)?;
+    let mut copy = store.clone()?;
+    let end = take_line(alloc, &mut copy, form, rules, url, line, now)?;
+    push_end(&mut text, end)?;
+    let left = left_of(&handed, line);
+    push_sent(alloc, &mut text, &copy, url, left, end, now)?;
     Ok(text)
 }
 
-// What the line says, where it is a text.
-fn push_said(alloc: Global, text: &mut String, line: &[u8]) -> Result<(), AllocError>
-    ensures { OnOk result (steps.Appends (spec.Says line.now) (string_bytes text.old) (string_bytes text.new)) }
+// What the rules leave of the line: all, where it is no text.
+fn left_of<'a>(handed: &'a Option<String>, line: &'a [u8]) -> &'a [u8]
+    ensures { result.now ≡ steps.left_of (option_map string_bytes handed.now) line.now }
+{
+    match handed {
+        Some(text) => text.as_bytes(),
+        None => line,
+    }
+}
+
+// What the line says, where it is a text, and that as the rules hand it on.
+fn push_said(
+    alloc: Global,
+    text: &mut String,
+    rules: &Rules,
+    line: &[u8],
+    now: DateTime,
+) -> Result<Option<String>, AllocError>
+    ensures { IfOk result (λ handed. steps.Appends
+        (steps.SaysLeft rules.now (civil_nanos now) line.now (option_map string_bytes handed))
+        (string_bytes text.old) (string_bytes text.new)) }
 {
     match str::from_utf8(line) {
-        Ok(line) => push_text(alloc, text, line),
-        Err(_) => Ok(()),
+        Ok(line) => Ok(Some(push_handed(alloc, text, rules, line, now)?)),
+        Err(_) => Ok(None),
     }
+}
+
+// What the rules change of a line that is a text, and what they leave of it says.
+fn push_handed(
+    alloc: Global,
+    text: &mut String,
+    rules: &Rules,
+    line: &str,
+    now: DateTime,
+) -> Result<String, AllocError>
+    ensures { IfOk result (λ handed. steps.Appends
+        (spec.SaysHanded rules.now (civil_nanos now) line.now (string_bytes handed))
+        (string_bytes text.old) (string_bytes text.new)) }
+{
+    let handed = push_changes(alloc, text, rules, line, now)?;
+    push_text(alloc, text, handed.as_str())?;
+    Ok(handed)
 }
 
 // What a line that is a text says: its pair, and each of its pieces.
@@ -116,25 +158,6 @@ fn counts_text(piece: &Piece<'_>, later: &[Piece<'_>]) -> &'static str
     }
 }
 
-// What would become of the line in the store, and which requests would get it.
-fn push_became(
-    alloc: Global,
-    text: &mut String,
-    store: &CookieStore,
-    form: Form,
-    url: &Url,
-    line: &[u8],
-    now: DateTime,
-) -> Result<(), AllocError>
-    ensures { OnOk result (steps.Appends (spec.Becomes form store.now url.now (civil_nanos now) line.now)
-        (string_bytes text.old) (string_bytes text.new)) }
-{
-    let mut store = store.clone()?;
-    let end = take_line(&mut store, form, url, line, now)?;
-    push_end(text, end)?;
-    push_sent(alloc, text, &store, url, line, end, now)
-}
-
 // What became of the line, and by which rule.
 fn push_end(text: &mut String, end: End) -> Result<(), AllocError>
     ensures { OnOk result (string_bytes text.new ≡ string_bytes text.old ++ (told.end_text end ++ spec.rule_text end)) }
@@ -148,9 +171,36 @@ fn rule_text(end: End) -> &'static str
     ensures { result.now ≡ spec.rule_text end }
 {
     match end {
-        End::Line(end) => line_end_rule(end),
+        End::Line(outcome) => outcome_rule(outcome),
         End::Control => " (draft-ietf-httpbis-rfc6265bis, section 5.6, step 1)\n",
         End::Tab => " (a rule of this jar: cookies.txt parts its fields by tabs)\n",
+    }
+}
+
+fn outcome_rule(outcome: Outcome) -> &'static str
+    ensures { result.now ≡ spec.outcome_rule outcome }
+{
+    match outcome {
+        Outcome::Taken(end) => line_end_rule(end),
+        Outcome::Refused(rule) => refusal_rule(rule),
+    }
+}
+
+fn refusal_rule(rule: Refusal) -> &'static str
+    ensures { result.now ≡ spec.refusal_rule rule }
+{
+    match rule {
+        Refusal::Control => " (draft-ietf-httpbis-rfc6265bis, section 5.6, step 1)\n",
+        Refusal::TooLong => " (draft-ietf-httpbis-rfc6265bis, section 5.6, step 5)\n",
+        Refusal::SecurePrefix => {
+            " (draft-ietf-httpbis-rfc6265bis, sections 4.1.3.1 and 5.7, step 20)\n"
+        }
+        Refusal::HostPrefix => {
+            " (draft-ietf-httpbis-rfc6265bis, sections 4.1.3.2 and 5.7, step 21)\n"
+        }
+        Refusal::SecureFromHttp => " (draft-ietf-httpbis-rfc6265bis, section 5.7, step 8)\n",
+        Refusal::SecureOverlay => " (draft-ietf-httpbis-rfc6265bis, section 5.7, step 9)\n",
+        Refusal::LacksSecure => " (a rule of the crate user_agent: secure_wins)\n",
     }
 }
 
@@ -205,9 +255,9 @@ fn push_sent(
         (string_bytes text.old) (string_bytes text.new)) }
 {
     match end {
-        End::Line(LineEnd::Stored(StoreAction::Inserted | StoreAction::UpdatedExisting)) => {
-            push_row(alloc, text, store, url, line, now)
-        }
+        End::Line(
+            Outcome::Taken(LineEnd::Stored(StoreAction::Inserted | StoreAction::UpdatedExisting)),
+        ) => push_row(alloc, text, store, url, line, now),
         _ => Ok(()),
     }
 }

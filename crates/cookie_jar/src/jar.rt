@@ -9,6 +9,7 @@ ghost use Rattle.cookie_store.specs.Placing.{loaded};
 ghost use Rattle.cookie_store.specs.Rows.{Store, found, key, live, removed};
 ghost use Rattle.cookie_run.specs.Header.{IsHeader};
 ghost use Rattle.cookie_jar.specs.Explaining.{IsExplained};
+ghost use Rattle.cookie_jar.specs.Importing as lines;
 ghost use Rattle.cookie_jar.specs.Json.{rows_json};
 ghost use Rattle.cookie_jar.specs.Keeping.{AreKept, IsKept, has_control};
 ghost use Rattle.cookie_jar.specs.LeftOut.{passed_lines};
@@ -21,6 +22,7 @@ ghost use Rattle.cookie_jar.specs.Told as told;
 use crate::error::{ReadError, SaveError};
 use crate::explaining::explained;
 use crate::form::Form;
+use crate::importing::{ImportedLines, import_lines};
 use crate::json_list::rows_json;
 use crate::keeping::only_kept;
 use crate::left_out::refused_lines;
@@ -39,6 +41,8 @@ use publicsuffix::List;
 use std::alloc::{AllocError, Global};
 use std::marker::Model;
 use url::Url;
+use user_agent::Rules;
+use user_agent::laws::pairs_stay;
 
 /// A jar, which contracts see as its store: the rows in their order, and the list of public suffixes.
 ///
@@ -201,6 +205,24 @@ impl Jar {
         }
     }
 
+    /// The same of the lines of a `cookies.txt`, each read by itself ([`cookies_txt::read_entries`]): a line with a fault,
+    /// and one with a row that a jar doesn't keep, is refused alone. One whose row is expired at `now` is passed over
+    /// before.
+    ///
+    /// # Errors
+    ///
+    /// `Lines` with `NotText` where the bytes aren't UTF-8; `OutOfMemory`. The jar is then as it was.
+    pub fn import_lines(&mut self, text: &[u8], now: DateTime) -> Result<ImportedLines, ReadError>
+        ensures ok { IfOk result (λ done. lines.ImportsLines (civil_nanos now) text.now self.old.rows
+            (lines.lines_text done) self.new.rows) }
+        ensures err { IfErr result (lines.HasNoLines text.now) }
+        ensures same { OnErr result (self.new ≡ self.old) }
+        ensures list { self.new.suffixes ≡ self.old.suffixes }
+        ensures kept { AreKept self.new.rows }
+    {
+        import_lines(self.alloc, &mut self.store, text, now)
+    }
+
     /// The line `Cookie: ..` of a request to this URL at `now` (RFC 6265, section 5.4), with longer paths first, or
     /// nothing where no cookie goes with it. But for its end no control character stands in it.
     ///
@@ -216,8 +238,9 @@ impl Jar {
     }
 
     /// Takes the `Set-Cookie` lines of an answer from this URL at `now`, one after another, and says what became of
-    /// each, as [`cookie_run::Client::receive`] does. A line with a control character in its name or its value is
-    /// refused, and one with a tab where the jar is to be saved as `cookies.txt`.
+    /// each, as [`user_agent::UserAgent::receive`] does behind these rules. Before them a line with a control character
+    /// in its name or its value is refused, and one with a tab where the jar is to be saved as `cookies.txt`. Without a
+    /// rule any other line is taken as a client takes it ([`crate::laws::no_rules_are_a_client`]).
     ///
     /// # Errors
     ///
@@ -226,19 +249,21 @@ impl Jar {
     pub fn receive(
         &mut self,
         form: Form,
+        rules: &Rules,
         url: &Url,
         lines: &[&[u8]],
         now: DateTime,
     ) -> Result<Vec<End>, Stopped>
-        ensures all { IfOk result (λ ends. take.TakesAll form self.old.suffixes self.old.rows url.now
+        ensures all { IfOk result (λ ends. take.TakesAll form rules.now self.old.suffixes self.old.rows url.now
             (civil_nanos now) (map (λ line. line.now) lines.now) ends.items self.new.rows) }
-        ensures stopped { IfErr result (λ stopped. take.IsStopped form self.old.suffixes self.old.rows url.now
+        ensures stopped { IfErr result (λ stopped. take.IsStopped form rules.now self.old.suffixes self.old.rows url.now
             (civil_nanos now) (map (λ line. line.now) lines.now) stopped.0 self.new.rows) }
         ensures list { self.new.suffixes ≡ self.old.suffixes }
         ensures kept { AreKept self.new.rows }
     {
         host_rows_are_held_rightly();
-        take_all(self.alloc, &mut self.store, form, url, lines, now)
+        pairs_stay();
+        take_all(self.alloc, &mut self.store, form, rules, url, lines, now)
     }
 
     /// The table of its rows that aren't expired at `now`, a line for each in their order: domain with a dot in front
@@ -297,10 +322,11 @@ impl Jar {
         rows_json(self.alloc, self.store.matches_longest(url, now)?)
     }
 
-    /// What a `Set-Cookie` line from this URL means: its name and its value, what each of its pieces says and whether
-    /// it counts, what would become of it at `now` in a jar that is to be saved in this form and by which rule, and
-    /// which requests would get it. Each is a line. Of what others sent each byte that isn't printable ASCII, and `%`,
-    /// stands as `%` and two digits. It takes a copy of the jar, which stays as it is.
+    /// What a `Set-Cookie` line from this URL means: which of these rules change it, and what they leave of it; its
+    /// name and its value then, what each of its pieces says and whether it counts; what would become of it at `now` in
+    /// a jar that is to be saved in this form and by which rule, and which requests would get it. Each is a line. Of
+    /// what others sent each byte that isn't printable ASCII, and `%`, stands as `%` and two digits. It takes a copy of
+    /// the jar, which stays as it is.
     ///
     /// # Errors
     ///
@@ -308,14 +334,15 @@ impl Jar {
     pub fn explain(
         &self,
         form: Form,
+        rules: &Rules,
         url: &Url,
         line: &[u8],
         now: DateTime,
     ) -> Result<String, AllocError>
         ensures { IfOk result (λ text.
-            IsExplained form self.now url.now (civil_nanos now) line.now (string_bytes text)) }
+            IsExplained form rules.now self.now url.now (civil_nanos now) line.now (string_bytes text)) }
     {
-        explained(self.alloc, &self.store, form, url, line, now)
+        explained(self.alloc, &self.store, form, rules, url, line, now)
     }
 
     /// Takes the row of the domain's text, which has no dot in front, the path's text and the name out, whether or not
@@ -407,7 +434,7 @@ fn import_rows(
 }
 
 // How many rows of another store a jar keeps, and the store of its own rows and then these.
-fn with_rows(
+pub(crate) fn with_rows(
     alloc: Global,
     store: &CookieStore,
     other: &CookieStore,

@@ -45,7 +45,7 @@ pub(crate) fn has_control(text: &str) -> bool
 }
 
 // Whether what is printed of the name and the value reads as these again.
-fn is_read_pair(name: &str, value: &str) -> bool
+pub(crate) fn is_read_pair(name: &str, value: &str) -> bool
     ensures is { result ≡ spec.is_read_pair name.now value.now }
     ensures pair { IsTrue result ↔ IsReadPair name.now value.now }
 {

@@ -2,16 +2,18 @@
 //!
 //! ```text
 //! let mut jar = Jar::load(alloc, list, Form::Ron, text, now)?;
-//! let ends = jar.receive(Form::Ron, &url, &[b"a=1; Path=/"], now)?;
+//! let ends = jar.receive(Form::Ron, &Rules::browser(), &url, &[b"a=1; Path=/"], now)?;
 //! let line = jar.header(&url, now)?;  // "Cookie: a=1\n"
 //! let text = jar.save(Form::Ron, now)?;
 //! ```
 #![tactic(auto)]
 
+mod changing;
 mod dropping;
 mod error;
 mod explaining;
 mod form;
+mod importing;
 mod jar;
 mod json_list;
 mod keeping;
@@ -28,6 +30,7 @@ mod told;
 pub use dropping::dropped_lines;
 pub use error::{ReadError, SaveError};
 pub use form::Form;
+pub use importing::{Cause, ImportedLines, RefusedLine, refused_text};
 pub use jar::{Imported, Jar};
 pub use saving::Exported;
 pub use taking::End;

@@ -72,7 +72,7 @@ fn read_txt(alloc: Global, text: &[u8], now: DateTime) -> Result<CookieStore, Re
 }
 
 // What a refusal to read lines is told as.
-fn unread_lines(cause: cookies_txt::ReadError) -> ReadError
+pub(crate) fn unread_lines(cause: cookies_txt::ReadError) -> ReadError
     ensures { ((result ≡ ReadError.OutOfMemory) × (cause ≡ lines.OutOfMemory))
         ⊎ ((result ≡ ReadError.Lines cause) × (cause ≢ lines.OutOfMemory)) }
 {
@@ -83,7 +83,7 @@ fn unread_lines(cause: cookies_txt::ReadError) -> ReadError
 }
 
 // The store of these cookies without those that are expired at `now`.
-fn placed(
+pub(crate) fn placed(
     alloc: Global,
     cookies: Vec<Cookie<'static>>,
     now: DateTime,

@@ -1,26 +1,26 @@
 //! The `Set-Cookie` lines of an answer, taken into the rows of a jar.
 ghost use Rattle.std.specs.Prelude.{◌≡◌, ◌↔◌, ◌||◌, IfOk, IfErr, OnErr, IsTrue, map, true};
 ghost use Rattle.jiff.specs.Words.{civil_nanos};
-ghost use Rattle.cookie_run.specs.Accept.{AsksForMemory};
 ghost use Rattle.line_report.specs.Pair.{IsPairOf};
+ghost use Rattle.user_agent.specs.Agent.{AsksForMemory};
 ghost use Rattle.cookie_jar.specs.Keeping as kept;
 ghost use Rattle.cookie_jar.specs.Taking as spec;
 
 use crate::form::Form;
 use crate::keeping::has_control;
-use cookie_run::client::accept_line;
-use cookie_run::{LineEnd, Stopped};
+use cookie_run::Stopped;
 use cookie_store::CookieStore;
 use jiff::civil::DateTime;
 use line_report::pair;
 use std::alloc::{AllocError, Global};
 use url::Url;
+use user_agent::{Outcome, Rules, accept_line};
 
 /// What became of a line in a jar.
 #[derive(Clone, Copy, Debug, PartialEq, Eq)]
 pub enum End {
-    /// It went as a client takes it.
-    Line(LineEnd),
+    /// It went as a user agent takes it.
+    Line(Outcome),
     /// A control character, which is a byte below 32 but the tab, or 127, stands in its name or its value. Nothing
     /// changed.
     Control,
@@ -29,7 +29,7 @@ pub enum End {
 }
 
 /// Takes the lines of an answer from this URL at `now` into the store of a jar that is to be saved in this form, one
-/// after another.
+/// after another, each behind these rules.
 ///
 /// # Errors
 ///
@@ -39,13 +39,14 @@ pub(crate) fn take_all(
     alloc: Global,
     store: &mut CookieStore,
     form: Form,
+    rules: &Rules,
     url: &Url,
     lines: &[&[u8]],
     now: DateTime,
 ) -> Result<Vec<End>, Stopped>
-    ensures all { IfOk result (λ ends. spec.TakesAll form store.old.suffixes store.old.rows url.now
+    ensures all { IfOk result (λ ends. spec.TakesAll form rules.now store.old.suffixes store.old.rows url.now
         (civil_nanos now) (map (λ line. line.now) lines.now) ends.items store.new.rows) }
-    ensures stopped { IfErr result (λ stopped. spec.IsStopped form store.old.suffixes store.old.rows url.now
+    ensures stopped { IfErr result (λ stopped. spec.IsStopped form rules.now store.old.suffixes store.old.rows url.now
         (civil_nanos now) (map (λ line. line.now) lines.now) stopped.0 store.new.rows) }
     ensures list { store.new.suffixes ≡ store.old.suffixes }
 {
@@ -53,7 +54,7 @@ pub(crate) fn take_all(
         return Err(Stopped(0));
     };
     for (i, line) in lines.iter().enumerate() {
-        match take_line(store, form, url, line, now) {
+        match take_line(alloc, store, form, rules, url, line, now) {
             // There is room for one end a line, so this push is not refused.
             Ok(end) => match ends.push(end) {
                 Ok(()) => {}
@@ -71,15 +72,17 @@ pub(crate) fn take_all(
 ///
 /// `AllocError` where memory was refused. The rows are then as they were.
 pub(crate) fn take_line(
+    alloc: Global,
     store: &mut CookieStore,
     form: Form,
+    rules: &Rules,
     url: &Url,
     line: &[u8],
     now: DateTime,
 ) -> Result<End, AllocError>
-    ensures ok { IfOk result (λ end. spec.TakesLine form store.old.suffixes store.old.rows url.now
+    ensures ok { IfOk result (λ end. spec.TakesLine form rules.now store.old.suffixes store.old.rows url.now
         (civil_nanos now) line.now end store.new.rows) }
-    ensures err { OnErr result ((store.new.rows ≡ store.old.rows) × AsksForMemory url.now line.now) }
+    ensures err { OnErr result ((store.new.rows ≡ store.old.rows) × AsksForMemory rules.now url.now line.now) }
     ensures list { store.new.suffixes ≡ store.old.suffixes }
 {
     if has_control_pair(line) {
@@ -88,8 +91,8 @@ pub(crate) fn take_line(
     if parts_by_tabs(form) && has_tab(line) {
         return Ok(End::Tab);
     }
-    match accept_line(store, url, line, now) {
-        Ok(end) => Ok(End::Line(end)),
+    match accept_line(alloc, store, rules, url, line, now) {
+        Ok(outcome) => Ok(End::Line(outcome)),
         Err(refused) => Err(refused),
     }
 }

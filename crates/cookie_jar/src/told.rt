@@ -7,6 +7,7 @@ use cookie_run::LineEnd;
 use cookie_store::{CookieError, StoreAction};
 use percent_encoding::{AsciiSet, CONTROLS, ascii_set, percent_encode};
 use std::alloc::{AllocError, Global};
+use user_agent::{Outcome, Refusal};
 
 /// The bytes that are escaped in what is printed: all but printable ASCII, and `%`.
 pub(crate) const HIDDEN: AsciiSet = ascii_set!(CONTROLS.add(b'%'));
@@ -54,7 +55,7 @@ pub fn told_lines(alloc: Global, lines: &[&[u8]], ends: &[End]) -> Result<String
 pub fn is_refused(end: End) -> bool
     ensures { result ≡ spec.is_refused end }
 {
-    !matches!(end, End::Line(LineEnd::Stored(_)))
+    !matches!(end, End::Line(Outcome::Taken(LineEnd::Stored(_))))
 }
 
 fn push_told(text: &mut String, line: &[u8], end: End) -> Result<(), AllocError>
@@ -77,9 +78,32 @@ pub(crate) fn end_text(end: End) -> &'static str
     ensures { result.now ≡ spec.end_text end }
 {
     match end {
-        End::Line(end) => line_end_text(end),
+        End::Line(outcome) => outcome_text(outcome),
         End::Control => "refused: control character",
         End::Tab => "refused: tab",
+    }
+}
+
+fn outcome_text(outcome: Outcome) -> &'static str
+    ensures { result.now ≡ spec.outcome_text outcome }
+{
+    match outcome {
+        Outcome::Taken(end) => line_end_text(end),
+        Outcome::Refused(rule) => refusal_text(rule),
+    }
+}
+
+fn refusal_text(rule: Refusal) -> &'static str
+    ensures { result.now ≡ spec.refusal_text rule }
+{
+    match rule {
+        Refusal::Control => "refused: control character",
+        Refusal::TooLong => "refused: over 4096 bytes",
+        Refusal::SecurePrefix => "refused: __Secure-",
+        Refusal::HostPrefix => "refused: __Host-",
+        Refusal::SecureFromHttp => "refused: Secure over http",
+        Refusal::SecureOverlay => "refused: over a Secure cookie",
+        Refusal::LacksSecure => "refused: not Secure",
     }
 }
 

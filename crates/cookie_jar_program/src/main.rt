@@ -1,6 +1,9 @@
 //! `cookie-jar`: a jar of cookies for the shell.
 #![tactic(auto)]
 
+mod piped;
+
+use crate::piped::Piped;
 use devices::Counting;
 use jar_commands::program::{Ended, program};
 use jiff::Timestamp;
@@ -44,6 +47,7 @@ fn start(rt: &HostRuntime) -> Result<u8, AllocError> {
     let Ok(writer) = BufWriter::new(rt.alloc(), io::writer(rt)) else {
         return Err(AllocError);
     };
+    let mut writer = Piped::new(Counting::new(writer));
     let ended = program(
         rt,
         &words,
@@ -51,13 +55,14 @@ fn start(rt: &HostRuntime) -> Result<u8, AllocError> {
         &[INSTALLED, last],
         &mut Locked::new(rt, "cookie-jar"),
         &mut Counting::new(reader),
-        &mut Counting::new(writer),
+        &mut writer,
     );
-    tell(rt, &ended);
+    tell(rt, &ended, writer.is_closed);
     Ok(ended.status)
 }
 
-fn tell(rt: &HostRuntime, ended: &Ended<'_>) {
+// Of an output that nobody reads nothing is told.
+fn tell(rt: &HostRuntime, ended: &Ended<'_>, is_closed: bool) {
     if let Some(path) = ended.list {
         let _ = eprintln!(rt; "cookie-jar: suffix list of {path}");
     }
@@ -66,8 +71,10 @@ fn tell(rt: &HostRuntime, ended: &Ended<'_>) {
             let _ = eprintln!(rt; "cookie-jar: {line}");
         }
     }
-    if let Some(words) = ended.failure {
-        tell_failure(rt, words, ended);
+    match ended.failure {
+        Some("output") if is_closed => {}
+        Some(words) => tell_failure(rt, words, ended),
+        None => {}
     }
 }
 

@@ -3,5 +3,6 @@ pub mod KeepLemmas
 mod KeptLemmas
 pub mod PlanLemmas
 pub mod PrintLemmas
+pub mod RuleLemmas
 pub mod ServeLemmas
 pub mod VisitLemmas

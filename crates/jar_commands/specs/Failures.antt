@@ -1,17 +1,39 @@
 -- What goes to standard error (this repository's own).
 use Rattle.std.specs.Prelude.{ℕ, List, Option, Some, None, Result, Ok, Err, codes}
+use Rattle.cookies_txt.specs.declared.error.LineFault.{LineFault}
+use Rattle.cookies_txt.specs.declared.error.LineFault.TheVariants.{Fields, EmptyDomain, Flag, NoSlash}
+use Rattle.cookies_txt.specs.declared.error.LineFault.TheVariants.{Number, EmptyName, Domain}
+use Rattle.cookie_jar.specs.declared.importing.Cause.{Cause}
+use Rattle.cookie_jar.specs.declared.importing.Cause.TheVariants.{Faulty, Control, Pair, HostPrefix}
 use Rattle.jar_words.specs.Refusing.{kind_text}
 use Rattle.jar_commands.specs.declared.failure.Failure.{Failure}
 use Rattle.jar_commands.specs.declared.failure.Failure.TheVariants.{Words, Moment, Format, FileFormat, Url, SuffixFile}
 use Rattle.jar_commands.specs.declared.failure.Failure.TheVariants.{JarFile, File, SuffixList, JarText, Input, Heads}
-use Rattle.jar_commands.specs.declared.failure.Failure.TheVariants.{FileText, JarRow, FileRow, Output, Memory, Wait}
-use Rattle.jar_commands.specs.declared.failure.Failure.TheVariants.{JarInUse, LockFile}
+use Rattle.jar_commands.specs.declared.failure.Failure.TheVariants.{FileText, FileLine, JarRow, FileRow, Output, Memory}
+use Rattle.jar_commands.specs.declared.failure.Failure.TheVariants.{Wait, JarInUse, LockFile, Rules}
+
+-- the words of a line that is refused
+abbrev pub fault_text : LineFault → List ℕ
+fault_text Fields = codes "file text: neither six nor seven fields"
+fault_text EmptyDomain = codes "file text: no domain"
+fault_text Flag = codes "file text: flag neither TRUE nor FALSE"
+fault_text NoSlash = codes "file text: path without /"
+fault_text Number = codes "file text: expiry is no number"
+fault_text EmptyName = codes "file text: empty name"
+fault_text Domain = codes "file text: domain without IDNA form"
+
+abbrev pub line_text : Cause → List ℕ
+line_text (Faulty fault) = fault_text fault
+line_text Control = codes "file text: control character"
+line_text Pair = codes "file text: name or value"
+line_text HostPrefix = codes "file text: __Host-"
 
 -- the words of each cause
 abbrev pub failure_text : Failure → List ℕ
 failure_text (Words kind) = kind_text kind
 failure_text Moment = codes "moment"
 failure_text Format = codes "format"
+failure_text Rules = codes "rules"
 failure_text FileFormat = codes "file format"
 failure_text Url = codes "url"
 failure_text Wait = codes "wait"
@@ -25,6 +47,7 @@ failure_text JarText = codes "jar text"
 failure_text Input = codes "input"
 failure_text (Heads line) = codes "heads"
 failure_text FileText = codes "file text"
+failure_text (FileLine line cause) = line_text cause
 failure_text JarRow = codes "jar row"
 failure_text FileRow = codes "file row"
 failure_text Output = codes "output"
@@ -33,4 +56,5 @@ failure_text Memory = codes "memory"
 -- the number of the line that is told with it
 abbrev pub line_of : Result ℕ Failure → Option ℕ
 line_of (Err (Heads line)) = Some line
+line_of (Err (FileLine line cause)) = Some line
 line_of other = None

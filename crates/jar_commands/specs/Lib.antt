@@ -1,5 +1,6 @@
 pub mod Dropped
 pub mod Failures
+pub mod Importing
 pub mod Instead
 pub mod Jars
 pub mod KeptSteps
@@ -10,5 +11,6 @@ pub mod Plans
 pub mod Program
 pub mod ProgramKept
 pub mod Receiving
+pub mod RuleNames
 pub mod Steps
 pub mod Waiting

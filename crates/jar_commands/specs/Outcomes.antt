@@ -11,7 +11,6 @@ use Rattle.cookie_jar.specs.Json.{rows_json}
 use Rattle.cookie_jar.specs.Keeping.{has_control}
 use Rattle.cookie_jar.specs.LeftOut.{passed_lines}
 use Rattle.cookie_jar.specs.Listing.{listing}
-use Rattle.cookie_jar.specs.Reading.{Imports}
 use Rattle.cookie_jar.specs.Saving.{IsText, fitting}
 use Rattle.cookie_jar.specs.Told.{header_line}
 use Rattle.cookie_jar.specs.declared.form.Form.{Form}
@@ -67,7 +66,7 @@ GivesJsonOf plan jar url outcome =
 
 abbrev pub GivesExplained : PlanText → Store → Parts → List ℕ → OutcomeText → Type 0
 GivesExplained plan jar url line outcome =
-    (text : List ℕ) × IsExplained plan.form jar url plan.now line text × Prints text outcome
+    (text : List ℕ) × IsExplained plan.form plan.rules jar url plan.now line text × Prints text outcome
 
 -- ---- commands that change the jar
 
@@ -79,7 +78,7 @@ rows_line count = codes "rows: " ++ (decimal count ++ 10 ∷ [])
 abbrev pub GivesReceived : PlanText → Store → Parts → List ℕ → OutcomeText → Type 0
 GivesReceived plan jar url text outcome =
     (told : List ℕ) × (refused : Bool) × (new : List Row)
-    × TakesHeads plan.is_verbose plan.form jar plan.now url text told refused new
+    × TakesHeads plan.is_verbose plan.form plan.rules jar plan.now url text told refused new
     × Keeps plan told (if refused then 1 else 0) new outcome
 
 -- where there was a row to take out, these are left; else the status tells that there was none
@@ -94,13 +93,6 @@ GivesRemoved plan jar key outcome =
 
 abbrev pub GivesCleared : PlanText → Store → OutcomeText → Type 0
 GivesCleared plan jar outcome = Keeps plan (rows_line (length jar.rows)) 0 [] outcome
-
--- the rows of another text are taken in, behind which stands a line for each that isn't
-abbrev pub GivesImported : PlanText → Store → Form → List ℕ → OutcomeText → Type 0
-GivesImported plan jar form given outcome =
-    (count : ℕ) × (refused : ℕ) × (told : List ℕ) × (new : List Row)
-    × Imports form plan.now given jar.rows count refused told new
-    × Keeps plan (rows_line count ++ told) 0 new outcome
 
 -- ---- the command that gives rows away
 

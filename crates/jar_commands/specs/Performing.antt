@@ -1,12 +1,16 @@
 -- What a command gives for the texts of the files, and why it gives nothing (this repository's own).
-use Rattle.std.specs.Prelude.{◌≡◌, ◌⊎◌, ◌^◌, ◌-◌, ℕ, ℤ, Bool, true, false, List, [], Option, Some, None}
+use Rattle.std.specs.Prelude.{◌≡◌, ◌⊎◌, ◌<◌, ◌^◌, ◌-◌, ℕ, ℤ, Bool, true, false, List, [], Option, Some, None}
 use Rattle.std.specs.Prelude.{Result, Ok, Err, IfSome, IsSomeAnd, is_some, ⊤}
+use Rattle.std.specs.Str.{IsUtf8}
 use Rattle.devices.specs.Device.{Rose}
 use Rattle.url.specs.Parts.{Parts}
 use Rattle.cookie_store.specs.Rows.{Row, Store, found, key, live, removed}
+use Rattle.cookie_jar.specs.Importing.{ImportsLines, LinesText}
 use Rattle.cookie_jar.specs.Reading.{Imports}
 use Rattle.cookie_jar.specs.declared.form.Form.{Form}
+use Rattle.cookie_jar.specs.declared.form.Form.TheVariants.{Ron, Json, Txt}
 use Rattle.jar_words.specs.declared.asked.Asked.{Asked}
+use Rattle.jar_commands.specs.Importing.{AreLet, GivesImported, IsLet, IsToldOf}
 use Rattle.jar_commands.specs.Jars.{HaveNoText, IsJar, IsNoTextOf, MakesNoJar}
 use Rattle.jar_commands.specs.Outcomes as gives
 use Rattle.jar_commands.specs.Outcomes.{OutcomeText}
@@ -36,7 +40,7 @@ reads (task.ListJsonOf url) = false
 reads (task.Explain url line) = false
 reads (task.Remove domain path name) = false
 reads task.Clear = false
-reads (task.Import form) = false
+reads (task.Import form is_strict) = false
 reads (task.Export form) = false
 
 -- What is brought to a task: where it reads all that was left, where that is known; else what is given, and nothing is
@@ -72,8 +76,8 @@ Gives plan jar brought (task.Explain url line) outcome = gives.GivesExplained pl
 Gives plan jar brought (task.Remove domain path name) outcome =
     gives.GivesRemoved plan jar (key domain.now path.now name.now) outcome
 Gives plan jar brought task.Clear outcome = gives.GivesCleared plan jar outcome
-Gives plan jar brought (task.Import form) outcome =
-    IsSomeAnd brought (λ text. gives.GivesImported plan jar form text outcome)
+Gives plan jar brought (task.Import form is_strict) outcome =
+    IsSomeAnd brought (λ text. GivesImported plan jar form is_strict text outcome)
 Gives plan jar brought (task.Export form) outcome = gives.GivesExported plan jar form outcome
 
 -- ---- why it gives nothing
@@ -89,20 +93,40 @@ FailsToReceive plan jar url (Some text) failure =
     (failure ≡ Memory)
     ⊎ (IsNoHeads text failure
     ⊎ ((told : List ℕ) × (refused : Bool) × (new : List Row)
-    × TakesHeads plan.is_verbose plan.form jar plan.now url text told refused new × Unkept plan new failure))
+    × TakesHeads plan.is_verbose plan.form plan.rules jar plan.now url text told refused new × Unkept plan new failure))
 
 -- `remove`
 abbrev pub FailsToRemove : PlanText → Bool → List Row → Failure → Type 0
 FailsToRemove plan is_found rest failure = (failure ≡ Memory) ⊎ ((is_found ≡ true) × Unkept plan rest failure)
 
--- `import`
-abbrev pub FailsToImport : PlanText → Store → Form → Option (List ℕ) → Failure → Type 0
-FailsToImport plan jar form None failure = failure ≡ File
-FailsToImport plan jar form (Some text) failure =
+-- `import` of rows: a row is refused where none may be, or the others have no text
+abbrev pub FailsToImportRows : PlanText → Store → Form → Bool → List ℕ → Failure → Type 0
+FailsToImportRows plan jar form is_strict text failure =
     (failure ≡ Memory)
     ⊎ (((failure ≡ FileText) × IsNoTextOf form text)
     ⊎ ((count : ℕ) × (refused : ℕ) × (told : List ℕ) × (new : List Row)
-    × Imports form plan.now text jar.rows count refused told new × Unkept plan new failure))
+    × Imports form plan.now text jar.rows count refused told new
+    × (((failure ≡ FileText) × (is_strict ≡ true) × (0 < refused))
+    ⊎ (IsLet is_strict refused × Unkept plan new failure))))
+
+-- `import` of lines: they are no text, or one of them is refused where none may be, or their rows have no text
+abbrev pub FailsToImportLines : PlanText → Store → Bool → List ℕ → Failure → Type 0
+FailsToImportLines plan jar is_strict text failure =
+    (failure ≡ Memory)
+    ⊎ (((failure ≡ FileText) × (¬ IsUtf8 text))
+    ⊎ ((lines : LinesText) × (new : List Row) × ImportsLines plan.now text jar.rows lines new
+    × (((is_strict ≡ true) × IsToldOf lines.refused failure)
+    ⊎ (AreLet is_strict lines.refused × Unkept plan new failure))))
+
+abbrev pub FailsToImportText : PlanText → Store → Form → Bool → List ℕ → Failure → Type 0
+FailsToImportText plan jar Ron is_strict text failure = FailsToImportRows plan jar Ron is_strict text failure
+FailsToImportText plan jar Json is_strict text failure = FailsToImportRows plan jar Json is_strict text failure
+FailsToImportText plan jar Txt is_strict text failure = FailsToImportLines plan jar is_strict text failure
+
+-- `import`
+abbrev pub FailsToImport : PlanText → Store → Form → Bool → Option (List ℕ) → Failure → Type 0
+FailsToImport plan jar form is_strict None failure = failure ≡ File
+FailsToImport plan jar form is_strict (Some text) failure = FailsToImportText plan jar form is_strict text failure
 
 -- `export`
 abbrev pub FailsToExport : PlanText → Store → Form → Failure → Type 0
@@ -122,7 +146,7 @@ Fails plan jar brought (task.Remove domain path name) failure =
     FailsToRemove plan (is_some (found (key domain.now path.now name.now) jar.rows))
     (removed (key domain.now path.now name.now) jar.rows) failure
 Fails plan jar brought task.Clear failure = (failure ≡ Memory) ⊎ Unkept plan [] failure
-Fails plan jar brought (task.Import form) failure = FailsToImport plan jar form brought failure
+Fails plan jar brought (task.Import form is_strict) failure = FailsToImport plan jar form is_strict brought failure
 Fails plan jar brought (task.Export form) failure = FailsToExport plan jar form failure
 
 -- ---- all

@@ -1,4 +1,4 @@
--- What words ask for, read: the moment, the form of the jar's text, and the task (this repository's own).
+-- What words ask for, read: the moment, the form of the jar's text, the rules, and the task (this repository's own).
 use Rattle.std.specs.Prelude.{ℕ, ℤ, Bool, List, Option, Some, None, Result, Ok, Err, if◌then◌else◌, option_map}
 use Rattle.jiff.specs.Words.{civil_nanos}
 use Rattle.url.specs.Parts.{Parts}
@@ -13,6 +13,8 @@ use Rattle.jar_words.specs.declared.asked.Command.{Command}
 use Rattle.jar_words.specs.declared.asked.Command.TheVariants as command
 use Rattle.jar_words.specs.declared.asked.Format.{Format}
 use Rattle.jar_words.specs.declared.asked.Format.TheVariants.{Ron, Json, Txt}
+use Rattle.user_agent.specs.declared.rules.Rules.{Rules}
+use Rattle.jar_commands.specs.RuleNames.{rules_asked}
 use Rattle.jar_commands.specs.declared.failure.Failure.{Failure}
 use Rattle.jar_commands.specs.declared.failure.Failure.TheVariants as failure
 use Rattle.jar_commands.specs.declared.plan.Plan.{Plan}
@@ -23,12 +25,18 @@ use Rattle.jar_commands.specs.declared.plan.Task.TheVariants as task
 pub record PlanText : Type 0 where
   pub now : ℤ
   pub form : Form
+  pub rules : Rules
   pub is_verbose : Bool
   pub task : Task
 
 abbrev pub plan_text : Plan → PlanText
-plan_text plan =
-    record { now = civil_nanos plan.at; form = plan.form; is_verbose = plan.is_verbose; task = plan.task }
+plan_text plan = record {
+  now = civil_nanos plan.at;
+  form = plan.form;
+  rules = plan.rules;
+  is_verbose = plan.is_verbose;
+  task = plan.task;
+}
 
 -- ---- the moment and the form
 
@@ -82,20 +90,23 @@ task_of (command.ListJson (Some url)) = at_url task.ListJsonOf (plain_of url.now
 task_of (command.Explain url line) = at_url (λ parts. task.Explain parts line) (plain_of url.now)
 task_of (command.Remove domain path name) = Ok (task.Remove domain path name)
 task_of command.Clear = Ok task.Clear
-task_of (command.Import file) = with_form task.Import (form_of_file file.now)
+task_of (command.Import file is_strict) = with_form (λ form. task.Import form is_strict) (form_of_file file.now)
 task_of (command.Export file) = with_form task.Export (form_of_file file.now)
 
 -- ---- the plan
 
-abbrev pub plan_by : Bool → Option ℤ → Option Form → Result Task Failure → Result PlanText Failure
-plan_by is_verbose None form task = Err failure.Moment
-plan_by is_verbose (Some now) None task = Err failure.Format
-plan_by is_verbose (Some now) (Some form) (Err failure) = Err failure
-plan_by is_verbose (Some now) (Some form) (Ok task) =
-    Ok (record { now = now; form = form; is_verbose = is_verbose; task = task })
+abbrev pub plan_by : Bool → Option ℤ → Option Form → Option Rules → Result Task Failure → Result PlanText Failure
+plan_by is_verbose None form rules task = Err failure.Moment
+plan_by is_verbose (Some now) None rules task = Err failure.Format
+plan_by is_verbose (Some now) (Some form) None task = Err failure.Rules
+plan_by is_verbose (Some now) (Some form) (Some rules) (Err failure) = Err failure
+plan_by is_verbose (Some now) (Some form) (Some rules) (Ok task) =
+    Ok (record { now = now; form = form; rules = rules; is_verbose = is_verbose; task = task })
 
--- what is asked, at the clock's moment where none is asked; the moment is tested first, then the form, then the task
+-- what is asked, at the clock's moment where none is asked; the moment is tested first, then the form, then the rules,
+-- then the task
 abbrev pub plan_of : Asked → Option ℤ → Result PlanText Failure
 plan_of asked clock =
     plan_by asked.is_verbose (moment_asked (option_map (λ text. text.now) asked.now) clock)
-    (form_asked asked.format asked.jar.now) (task_of asked.command)
+    (form_asked asked.format asked.jar.now) (rules_asked (option_map (λ text. text.now) asked.rules))
+    (task_of asked.command)

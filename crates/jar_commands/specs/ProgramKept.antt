@@ -22,7 +22,7 @@ changes (task.ListJsonOf url) = false
 changes (task.Explain url line) = false
 changes (task.Remove domain path name) = true
 changes task.Clear = true
-changes (task.Import form) = true
+changes (task.Import form is_strict) = true
 changes (task.Export form) = false
 
 -- the text that the jar is to hold, or none

@@ -12,6 +12,7 @@ use Rattle.cookie_jar.specs.Taking.{TakesAll}
 use Rattle.cookie_jar.specs.Told.{is_refused, told_lines}
 use Rattle.cookie_jar.specs.declared.form.Form.{Form}
 use Rattle.cookie_jar.specs.declared.taking.End.{End}
+use Rattle.user_agent.specs.declared.rules.Rules.{Rules}
 use Rattle.jar_commands.specs.PassedOver.{passed_over}
 use Rattle.jar_commands.specs.declared.failure.Failure.{Failure}
 use Rattle.jar_commands.specs.declared.failure.Failure.TheVariants.{Heads}
@@ -24,14 +25,15 @@ is_any_refused ends = list_any is_refused ends
 abbrev pub visit_told : Bool → VisitText → List End → List ℕ
 visit_told is_verbose visit ends = passed_over is_verbose visit ++ told_lines (set_cookie_lines visit) ends
 
--- The Set-Cookie lines of each visit are taken from its URL, one visit after another, in a jar of this form: what is
--- told of them, whether one was refused, and the rows behind them.
-abbrev pub TakesVisits : Bool → Form → List Rule → List Row → ℤ → List VisitText → List ℕ → Bool → List Row → Type 0
-TakesVisits is_verbose form list rows now [] told refused new = (told ≡ []) × (refused ≡ false) × (new ≡ rows)
-TakesVisits is_verbose form list rows now (visit ∷ visits) told refused new =
+-- The Set-Cookie lines of each visit are taken from its URL, one visit after another, in a jar of this form behind
+-- these rules: what is told of them, whether one was refused, and the rows behind them.
+abbrev pub TakesVisits : Bool → Form → Rules → List Rule → List Row → ℤ → List VisitText → List ℕ → Bool → List Row
+    → Type 0
+TakesVisits is_verbose form rules list rows now [] told refused new = (told ≡ []) × (refused ≡ false) × (new ≡ rows)
+TakesVisits is_verbose form rules list rows now (visit ∷ visits) told refused new =
     (ends : List End) × (mid : List Row) × (rest : List ℕ) × (others : Bool)
-    × TakesAll form list rows visit.url now (set_cookie_lines visit) ends mid
-    × TakesVisits is_verbose form list mid now visits rest others new
+    × TakesAll form rules list rows visit.url now (set_cookie_lines visit) ends mid
+    × TakesVisits is_verbose form rules list mid now visits rest others new
     × (told ≡ visit_told is_verbose visit ends ++ rest)
     × (refused ≡ (is_any_refused ends || others))
 
@@ -41,11 +43,11 @@ lost_line None = []
 lost_line (Some line) = codes "refused: no plain Location\theads behind that of line " ++ (decimal line ++ 10 ∷ [])
 
 -- So it is with the heads of a text, the first of which this URL answered; to leave heads out is to refuse lines.
-abbrev pub TakesHeads : Bool → Form → Store → ℤ → Parts → List ℕ → List ℕ → Bool → List Row → Type 0
-TakesHeads is_verbose form jar now url text told refused new =
+abbrev pub TakesHeads : Bool → Form → Rules → Store → ℤ → Parts → List ℕ → List ℕ → Bool → List Row → Type 0
+TakesHeads is_verbose form rules jar now url text told refused new =
     (visits : List VisitText) × (lost : Option ℕ) × (front : List ℕ) × (others : Bool)
     × GivesVisits url text visits lost
-    × TakesVisits is_verbose form jar.suffixes jar.rows now visits front others new
+    × TakesVisits is_verbose form rules jar.suffixes jar.rows now visits front others new
     × (told ≡ front ++ lost_line lost) × (refused ≡ (others || is_some lost))
 
 -- the text isn't heads of responses, and the failure has the number of the line that isn't

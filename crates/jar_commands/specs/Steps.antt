@@ -7,6 +7,7 @@ use Rattle.cookie_store.specs.Rows.{Row, Store}
 use Rattle.cookie_jar.specs.Taking.{TakesAll}
 use Rattle.cookie_jar.specs.declared.form.Form.{Form}
 use Rattle.cookie_jar.specs.declared.taking.End.{End}
+use Rattle.user_agent.specs.declared.rules.Rules.{Rules}
 use Rattle.jar_commands.specs.Performing.{Unkept}
 use Rattle.jar_commands.specs.Plans.{PlanText}
 use Rattle.jar_commands.specs.Receiving.{IsNoHeads, TakesHeads, is_any_refused, visit_told}
@@ -19,13 +20,13 @@ FailsToTake plan jar url text failure =
     (failure ≡ Memory)
     ⊎ (IsNoHeads text failure
     ⊎ ((told : List ℕ) × (refused : Bool) × (new : List Row)
-    × TakesHeads plan.is_verbose plan.form jar plan.now url text told refused new
+    × TakesHeads plan.is_verbose plan.form plan.rules jar plan.now url text told refused new
     × Unkept plan new failure))
 
 -- the lines of one more visit are taken, and told behind what was told
-abbrev pub TakesVisit : Bool → Form → List Rule → List Row → ℤ → VisitText → List ℕ → Bool → List ℕ → Bool → List Row
-    → Type 0
-TakesVisit is_verbose form list rows now visit told refused more more_refused new =
-    (ends : List End) × TakesAll form list rows visit.url now (set_cookie_lines visit) ends new
+abbrev pub TakesVisit : Bool → Form → Rules → List Rule → List Row → ℤ → VisitText → List ℕ → Bool → List ℕ → Bool
+    → List Row → Type 0
+TakesVisit is_verbose form rules list rows now visit told refused more more_refused new =
+    (ends : List End) × TakesAll form rules list rows visit.url now (set_cookie_lines visit) ends new
     × (more ≡ told ++ visit_told is_verbose visit ends)
     × (more_refused ≡ (refused || is_any_refused ends))

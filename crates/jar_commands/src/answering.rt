@@ -8,8 +8,9 @@ ghost use Rattle.jar_commands.specs.Performing as spec;
 ghost use Rattle.jar_commands.specs.Plans.{plan_text};
 
 use crate::failure::Failure;
+use crate::importing::import;
 use crate::jar_text::jar_of;
-use crate::moving::{export, import};
+use crate::moving::export;
 use crate::outcome::Outcome;
 use crate::plan::{Plan, Task, plan_of};
 use crate::receiving::receive;
@@ -100,7 +101,7 @@ pub(crate) fn reads(task: &Task<'_>) -> bool
         Task::Receive(_) => true,
         Task::Header(_) | Task::List | Task::ListOf(_) | Task::ListJson => false,
         Task::ListJsonOf(_) | Task::Explain(_, _) | Task::Remove(_, _, _) => false,
-        Task::Clear | Task::Import(_) | Task::Export(_) => false,
+        Task::Clear | Task::Import(_, _) | Task::Export(_) => false,
     }
 }
 
@@ -160,7 +161,7 @@ fn perform(
         Task::Explain(url, line) => explain(plan, jar, url, line),
         Task::Remove(domain, path, name) => remove(alloc, plan, jar, domain, path, name),
         Task::Clear => clear(alloc, plan, jar),
-        Task::Import(form) => import(alloc, plan, jar, *form, brought),
+        Task::Import(form, is_strict) => import(alloc, plan, jar, *form, *is_strict, brought),
         Task::Export(form) => export(alloc, plan, jar, *form),
     }
 }

@@ -1,7 +1,9 @@
 //! Why the program ends with status 2.
 ghost use Rattle.std.specs.Prelude.{◌≡◌};
-ghost use Rattle.jar_commands.specs.Failures.{failure_text, line_of};
+ghost use Rattle.jar_commands.specs.Failures.{failure_text, fault_text, line_of, line_text};
 
+use cookie_jar::Cause;
+use cookies_txt::LineFault;
 use jar_words::Kind;
 use std::alloc::AllocError;
 
@@ -14,6 +16,8 @@ pub enum Failure {
     Moment,
     /// Neither `--format` nor the ending of the jar's name tells a form.
     Format,
+    /// What `--rules` has isn't a list of rules.
+    Rules,
     /// The ending of the other file's name tells none.
     FileFormat,
     /// The text isn't a plain URL.
@@ -40,6 +44,8 @@ pub enum Failure {
     Heads(usize),
     /// The other file's text isn't one of its form.
     FileText,
+    /// The line of this number of the other file, counted from 1, is refused for this cause, and nothing may be.
+    FileLine(usize, Cause),
     /// A row has no text in the jar's form.
     JarRow,
     /// A row has no text in the other file's form.
@@ -59,6 +65,7 @@ impl Failure {
             Failure::Words(kind) => kind.words(),
             Failure::Moment => "moment",
             Failure::Format => "format",
+            Failure::Rules => "rules",
             Failure::FileFormat => "file format",
             Failure::Url => "url",
             Failure::Wait => "wait",
@@ -72,6 +79,7 @@ impl Failure {
             Failure::Input => "input",
             Failure::Heads(_) => "heads",
             Failure::FileText => "file text",
+            Failure::FileLine(_, cause) => line_words(cause),
             Failure::JarRow => "jar row",
             Failure::FileRow => "file row",
             Failure::Output => "output",
@@ -80,12 +88,38 @@ impl Failure {
     }
 }
 
+// The words of a line that is refused.
+fn line_words(cause: Cause) -> &'static str
+    ensures { result.now ≡ line_text cause }
+{
+    match cause {
+        Cause::Faulty(fault) => fault_words(fault),
+        Cause::Control => "file text: control character",
+        Cause::Pair => "file text: name or value",
+        Cause::HostPrefix => "file text: __Host-",
+    }
+}
+
+fn fault_words(fault: LineFault) -> &'static str
+    ensures { result.now ≡ fault_text fault }
+{
+    match fault {
+        LineFault::Fields => "file text: neither six nor seven fields",
+        LineFault::EmptyDomain => "file text: no domain",
+        LineFault::Flag => "file text: flag neither TRUE nor FALSE",
+        LineFault::NoSlash => "file text: path without /",
+        LineFault::Number => "file text: expiry is no number",
+        LineFault::EmptyName => "file text: empty name",
+        LineFault::Domain => "file text: domain without IDNA form",
+    }
+}
+
 // The number of the line that is told with a failure.
 pub(crate) fn line_of(status: Result<u8, Failure>) -> Option<usize>
     ensures { result ≡ line_of status }
 {
     match status {
-        Err(Failure::Heads(line)) => Some(line),
+        Err(Failure::Heads(line) | Failure::FileLine(line, _)) => Some(line),
         _ => None,
     }
 }

@@ -31,7 +31,8 @@ fn url_in(command: Command<'_>) -> Option<&str>
     match command {
         Command::Receive(url) | Command::Header(url) | Command::Explain(url, _) => Some(url),
         Command::List(url) | Command::ListJson(url) => url,
-        Command::Remove(_, _, _) | Command::Clear | Command::Import(_) | Command::Export(_) => None,
+        Command::Remove(_, _, _) | Command::Clear | Command::Import(_, _) | Command::Export(_) =>
+            None,
     }
 }
 

@@ -48,7 +48,7 @@ pub(crate) fn changes(task: &Task<'_>) -> bool
     ensures { result ≡ spec.changes task.now }
 {
     match task {
-        Task::Receive(_) | Task::Remove(_, _, _) | Task::Clear | Task::Import(_) => true,
+        Task::Receive(_) | Task::Remove(_, _, _) | Task::Clear | Task::Import(_, _) => true,
         Task::Header(_) | Task::List | Task::ListOf(_) | Task::ListJson => false,
         Task::ListJsonOf(_) | Task::Explain(_, _) | Task::Export(_) => false,
     }

@@ -10,6 +10,7 @@
 mod answering;
 mod dropped;
 mod failure;
+mod importing;
 mod instead;
 mod jar_text;
 mod keeping;
@@ -20,6 +21,7 @@ mod plan;
 pub mod program;
 mod receiving;
 mod removing;
+mod rule_names;
 mod showing;
 
 pub use answering::answer;

@@ -4,6 +4,7 @@ ghost use Rattle.jiff.specs.Words.{civil_nanos};
 ghost use Rattle.jar_commands.specs.Plans as spec;
 
 use crate::failure::Failure;
+use crate::rule_names::rules_of;
 use cookie_jar::Form;
 use cookie_run::script::moment::moment_of;
 use jar_words::{Asked, Command, Format};
@@ -11,6 +12,7 @@ use jiff::civil::DateTime;
 use plain_url::is_plain_of;
 use std::alloc::Global;
 use url::{ParseError, Url};
+use user_agent::Rules;
 
 /// What is to be done to a jar.
 #[derive(Debug, Drop)]
@@ -33,8 +35,8 @@ pub enum Task<'a> {
     Remove(&'a str, &'a str, &'a str),
     /// Takes all rows out.
     Clear,
-    /// Takes the rows of a text of this form in.
-    Import(Form),
+    /// Takes the rows of a text of this form in, or nothing where this is set and something of it is refused.
+    Import(Form, bool),
     /// Gives the rows as a text of this form.
     Export(Form),
 }
@@ -46,6 +48,8 @@ pub struct Plan<'a> {
     pub at: DateTime,
     /// The form of the jar's text.
     pub form: Form,
+    /// The rules of user agents for lines.
+    pub rules: Rules,
     /// Whether `receive` tells of what it passes over.
     pub is_verbose: bool,
     /// What is to be done.
@@ -56,8 +60,8 @@ pub struct Plan<'a> {
 ///
 /// # Errors
 ///
-/// The first of `Moment`, `Format`, and then `Url`, where a text isn't a plain URL, or `FileFormat`; `Memory` where memory
-/// was refused for a URL.
+/// The first of `Moment`, `Format`, `Rules`, and then `Url`, where a text isn't a plain URL, or `FileFormat`; `Memory`
+/// where memory was refused for the rules or a URL.
 pub fn plan_of<'a>(
     alloc: Global,
     asked: &Asked<'a>,
@@ -74,10 +78,12 @@ pub fn plan_of<'a>(
     let Some(form) = form_of(asked.format, asked.jar) else {
         return Err(Failure::Format);
     };
+    let rules = rules_of(alloc, asked.rules)?;
     match task_of(alloc, asked.command) {
         Ok(task) => Ok(Plan {
             at,
             form,
+            rules,
             is_verbose: asked.is_verbose,
             task,
         }),
@@ -127,7 +133,7 @@ fn task_of<'a>(alloc: Global, command: Command<'a>) -> Result<Task<'a>, Failure>
         Command::Explain(url, line) => Ok(Task::Explain(url_of(alloc, url)?, line)),
         Command::Remove(domain, path, name) => Ok(Task::Remove(domain, path, name)),
         Command::Clear => Ok(Task::Clear),
-        Command::Import(file) => Ok(Task::Import(form_of_file(file)?)),
+        Command::Import(file, is_strict) => Ok(Task::Import(form_of_file(file)?, is_strict)),
         Command::Export(file) => Ok(Task::Export(form_of_file(file)?)),
     }
 }

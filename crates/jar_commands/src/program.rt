@@ -432,7 +432,7 @@ fn read_given<H: Files + AllocGlobal>(
 ) -> Result<Option<Vec<u8>>, Failure>
     ensures { IfErr result spec.IsOfFiles }
 {
-    let Command::Import(path) = command else {
+    let Command::Import(path, _) = command else {
         return Ok(None);
     };
     match files::read(rt, path) {

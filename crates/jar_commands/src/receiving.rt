@@ -82,7 +82,7 @@ fn receive_heads(
     url: &Url,
     text: &[u8],
 ) -> Result<Received, Failure>
-    ensures ok { IfOk result (λ received. spec.TakesHeads plan.now.is_verbose plan.now.form jar.old
+    ensures ok { IfOk result (λ received. spec.TakesHeads plan.now.is_verbose plan.now.form plan.now.rules jar.old
         (civil_nanos plan.now.at) url.now text.now
         (string_bytes received.told) received.is_any_refused jar.new.rows) }
     ensures err { IfErr result (λ failure. (failure ≡ Failure.Memory) ⊎ spec.IsNoHeads text.now failure) }
@@ -130,8 +130,8 @@ fn receive_visits(
     jar: &mut Jar,
     visits: &[Visit<'_>],
 ) -> Result<Received, AllocError>
-    ensures { IfOk result (λ received. spec.TakesVisits plan.now.is_verbose plan.now.form jar.old.suffixes
-        jar.old.rows (civil_nanos plan.now.at) (map visit_text visits.now) (string_bytes received.told)
+    ensures { IfOk result (λ received. spec.TakesVisits plan.now.is_verbose plan.now.form plan.now.rules
+        jar.old.suffixes jar.old.rows (civil_nanos plan.now.at) (map visit_text visits.now) (string_bytes received.told)
         received.is_any_refused jar.new.rows) }
 {
     let mut received = Received {
@@ -152,13 +152,13 @@ fn receive_visit(
     visit: &Visit<'_>,
     received: &mut Received,
 ) -> Result<(), AllocError>
-    ensures ok { OnOk result (TakesVisit plan.now.is_verbose plan.now.form jar.old.suffixes jar.old.rows
+    ensures ok { OnOk result (TakesVisit plan.now.is_verbose plan.now.form plan.now.rules jar.old.suffixes jar.old.rows
         (civil_nanos plan.now.at) (visit_text visit.now) (string_bytes received.old.told)
         received.old.is_any_refused (string_bytes received.new.told) received.new.is_any_refused jar.new.rows) }
     ensures list { jar.new.suffixes ≡ jar.old.suffixes }
 {
     let lines = visit.set_cookie_lines(alloc)?;
-    let Ok(ends) = jar.receive(plan.form, &visit.url, &lines, plan.at) else {
+    let Ok(ends) = jar.receive(plan.form, &plan.rules, &visit.url, &lines, plan.at) else {
         return Err(AllocError);
     };
     let told = visit_told(alloc, plan.is_verbose, visit, &lines, &ends)?;

@@ -60,7 +60,8 @@ pub(crate) fn explain(plan: &Plan<'_>, jar: &Jar, url: &Url, line: &str) -> Resu
         spec.GivesExplained (plan_text plan.now) jar.now url.now line.now (spec.outcome_text outcome)) }
     ensures err { IfErr result (λ failure. failure ≡ Failure.Memory) }
 {
-    Ok(shown(jar.explain(plan.form, url, line.as_bytes(), plan.at)?))
+    let text = jar.explain(plan.form, &plan.rules, url, line.as_bytes(), plan.at)?;
+    Ok(shown(text))
 }
 
 // A text that is printed, while each file stays as it was.

@@ -14,6 +14,7 @@ pub asks_for_a_list : asked_of (codes "jar.ron" ∷ codes "list" ∷ codes "--js
   suffixes = None;
   format = None;
   wait = None;
+  rules = None;
   is_verbose = false;
   jar = codes "jar.ron";
   order = list_json None;
@@ -21,10 +22,10 @@ pub asks_for_a_list : asked_of (codes "jar.ron" ∷ codes "list" ∷ codes "--js
 unfolding clap_on_literals
 asks_for_a_list = refl
 
--- `-v --now M --format=json --suffixes F --wait=3 jar header u`
+-- `-v --now M --format=json --suffixes F --wait=3 --rules none jar header u`
 abbrev all_options : List Text
 all_options = codes "-v" ∷ codes "--now" ∷ codes "M" ∷ codes "--format=json" ∷ codes "--suffixes" ∷ codes "F"
-    ∷ codes "--wait=3"
+    ∷ codes "--wait=3" ∷ codes "--rules" ∷ codes "none"
     ∷ codes "jar" ∷ codes "header" ∷ codes "u" ∷ []
 
 pub asks_with_options : asked_of all_options ≡ Ok (record {
@@ -32,6 +33,7 @@ pub asks_with_options : asked_of all_options ≡ Ok (record {
   suffixes = Some (codes "F");
   format = Some Json;
   wait = Some (codes "3");
+  rules = Some (codes "none");
   is_verbose = true;
   jar = codes "jar";
   order = header (codes "u");
@@ -57,6 +59,7 @@ pub asks_behind_dashes : asked_of behind_dashes ≡ Ok (record {
   suffixes = None;
   format = None;
   wait = None;
+  rules = None;
   is_verbose = false;
   jar = codes "jar";
   order = remove (codes "a") (codes "/") (codes "-v");

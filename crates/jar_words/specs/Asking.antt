@@ -32,7 +32,7 @@ pub data Order : Type 0 where
   explain : Text → Text → Order
   remove : Text → Text → Text → Order
   clear : Order
-  import : Text → Order
+  import : Text → Bool → Order
   export : Text → Order
 
 pub record Request : Type 0 where
@@ -40,6 +40,7 @@ pub record Request : Type 0 where
   pub suffixes : Option Text
   pub format : Option Format
   pub wait : Option Text
+  pub rules : Option Text
   pub is_verbose : Bool
   pub jar : Text
   pub order : Order
@@ -52,7 +53,7 @@ order_of (of.ListJson url) = list_json (option_map (λ text. text.now) url)
 order_of (of.Explain url line) = explain url.now line.now
 order_of (of.Remove domain path name) = remove domain.now path.now name.now
 order_of of.Clear = clear
-order_of (of.Import file) = import file.now
+order_of (of.Import file is_strict) = import file.now is_strict
 order_of (of.Export file) = export file.now
 
 abbrev pub request_of : Asked → Request
@@ -61,6 +62,7 @@ request_of asked = record {
   suffixes = option_map (λ text. text.now) asked.suffixes;
   format = asked.format;
   wait = option_map (λ text. text.now) asked.wait;
+  rules = option_map (λ text. text.now) asked.rules;
   is_verbose = asked.is_verbose;
   jar = asked.jar.now;
   order = order_of asked.command;
@@ -109,6 +111,10 @@ abbrev pub removal : List Row → Result Order Kind
 removal rows = with_word (codes "DOMAIN") rows (λ domain. with_word (codes "PATH") rows (λ path.
     with_word (codes "NAME") rows (λ name. Ok (remove domain path name))))
 
+-- `import`, strict or not
+abbrev pub importing : List Row → Result Order Kind
+importing rows = with_word (codes "FILE") rows (λ file. Ok (import file (is_given (codes "strict") rows)))
+
 -- the command of this name, by the rows of its options and words
 abbrev pub order_by : Text → List Row → Result Order Kind
 order_by name rows =
@@ -118,7 +124,7 @@ order_by name rows =
     else (if bytes_eq name (codes "explain") then explaining rows
     else (if bytes_eq name (codes "remove") then removal rows
     else (if bytes_eq name (codes "clear") then Ok clear
-    else (if bytes_eq name (codes "import") then with_word (codes "FILE") rows (λ file. Ok (import file))
+    else (if bytes_eq name (codes "import") then importing rows
     else (if bytes_eq name (codes "export") then with_word (codes "FILE") rows (λ file. Ok (export file))
     else Err kind.MissingCommand)))))))
 
@@ -133,6 +139,7 @@ asked_with rows format jar (Ok order) = Ok (record {
   suffixes = first_of (codes "FILE") rows;
   format = format;
   wait = first_of (codes "SECONDS") rows;
+  rules = first_of (codes "LIST") rows;
   is_verbose = is_given (codes "verbose") rows;
   jar = jar;
   order = order;

@@ -52,7 +52,7 @@ abbrev pub clear : Shape
 clear = command (codes "clear") []
 
 abbrev pub import : Shape
-import = command (codes "import") (needed (codes "FILE") ∷ [])
+import = command (codes "import") (flag (codes "strict") ∷ needed (codes "FILE") ∷ [])
 
 abbrev pub export : Shape
 export = command (codes "export") (needed (codes "FILE") ∷ [])
@@ -75,13 +75,14 @@ letter_V = 86
 abbrev pub version : Rule
 version = record (flag (codes "version")) { short = Some letter_V; action = Some Version }
 
--- `[--now MOMENT] [--suffixes FILE] [--format FORM] [--wait SECONDS] [-v] [-V] JAR`
+-- `[--now MOMENT] [--suffixes FILE] [--format FORM] [--wait SECONDS] [--rules LIST] [-v] [-V] JAR`
 abbrev pub options_and_jar : List Rule
 options_and_jar =
     valued (codes "now") (codes "MOMENT")
     ∷ valued (codes "suffixes") (codes "FILE")
     ∷ valued (codes "format") (codes "FORM")
     ∷ valued (codes "wait") (codes "SECONDS")
+    ∷ valued (codes "rules") (codes "LIST")
     ∷ verbose
     ∷ version
     ∷ needed (codes "JAR")

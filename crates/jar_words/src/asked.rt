@@ -41,6 +41,8 @@ pub struct Asked<'a> {
     pub format: Option<Format>,
     /// The seconds of `--wait`, as they are written.
     pub wait: Option<&'a str>,
+    /// The list of `--rules`, as it is written.
+    pub rules: Option<&'a str>,
     /// Whether `-v` was given.
     pub is_verbose: bool,
     /// The jar's file.
@@ -66,8 +68,8 @@ pub enum Command<'a> {
     Remove(&'a str, &'a str, &'a str),
     /// `clear`.
     Clear,
-    /// `import FILE`.
-    Import(&'a str),
+    /// `import [--strict] FILE`: the file, and whether nothing is taken where something of it is refused.
+    Import(&'a str, bool),
     /// `export FILE`.
     Export(&'a str),
 }

@@ -18,6 +18,8 @@ const AFTER: &str = "\
 Example: cookie-jar jar.json header https://shop.com/ | curl -H @- https://shop.com/
 cookie-jar url TEXT, without JAR, prints the plain URL to ask for in the place of TEXT
 A command that changes JAR locks JAR.lock, an empty file beside it that stays: never remove it
+Rules: long-attributes, dates, long-lives, control, too-long, secure-prefix, host-prefix,
+secure-from-http, secure-overlay; LIST is some of them, or browser for all, or none
 Options stand before the command. A JAR that is named as a command is written ./list
 Status: 0; 1 where a line was refused or nothing removed; 2 with one line on standard error";
 
@@ -30,6 +32,9 @@ const FORMAT_HELP: &str =
 
 const WAIT_HELP: &str =
     "For so many seconds another may hold JAR, which is locked while it changes; 10 by default";
+
+const RULES_HELP: &str =
+    "The rules of browsers for what is received, named below; browser by default";
 
 const VERBOSE_HELP: &str =
     "Says on standard error which list of public suffixes is used, and which rows JAR drops";
@@ -80,6 +85,7 @@ fn with_options<'a>(alloc: Global) -> Result<Command<'a>, AllocError>
         .arg(valued(alloc, "suffixes", "FILE", SUFFIXES_HELP))?
         .arg(valued(alloc, "format", "FORM", FORMAT_HELP))?
         .arg(valued(alloc, "wait", "SECONDS", WAIT_HELP))?
+        .arg(valued(alloc, "rules", "LIST", RULES_HELP))?
         .arg(verbose(alloc))?
         .arg(version(alloc))?;
     with_word(alloc, program, "JAR", JAR_HELP)

@@ -63,6 +63,7 @@ fn asked_by<'a>(matches: &ArgMatches<'a>) -> Result<Asked<'a>, Kind>
         suffixes: text(matches, "FILE"),
         format,
         wait: text(matches, "SECONDS"),
+        rules: text(matches, "LIST"),
         is_verbose: is_given(matches, "verbose"),
         jar,
         command,
@@ -140,7 +141,7 @@ fn command_by<'a>(name: &str, matches: &ArgMatches<'a>) -> Result<Command<'a>, K
     } else if name == "clear" {
         Ok(Command::Clear)
     } else if name == "import" {
-        Ok(Command::Import(word(matches, "FILE")?))
+        importing(matches)
     } else if name == "export" {
         Ok(Command::Export(word(matches, "FILE")?))
     } else {
@@ -158,6 +159,16 @@ fn listing<'a>(matches: &ArgMatches<'a>) -> Command<'a>
     } else {
         Command::List(url)
     }
+}
+
+// `import`, strict or not.
+fn importing<'a>(matches: &ArgMatches<'a>) -> Result<Command<'a>, Kind>
+    ensures { result_map_both spec.order_of (λ kind. kind) result
+        ≡ spec.importing (rows_of (found_of matches.now)) }
+{
+    let is_strict = is_given(matches, "strict");
+    let file = word(matches, "FILE")?;
+    Ok(Command::Import(file, is_strict))
 }
 
 // `remove`, by its three words.

@@ -6,6 +6,9 @@ use super::parts::{command, flag, with_word};
 use clap::{Arg, Command};
 use std::alloc::{AllocError, Global};
 
+const STRICT_HELP: &str =
+    "Takes nothing where a line or a row is refused; else the others are taken";
+
 /// `receive URL`.
 pub(super) fn receive<'a>(alloc: Global) -> Result<Command<'a>, AllocError>
     ensures { IfOk result (spec.IsCommand spec.receive) }
@@ -102,7 +105,7 @@ pub(super) fn clear<'a>(alloc: Global) -> Command<'a>
     )
 }
 
-/// `import FILE`.
+/// `import [--strict] FILE`.
 pub(super) fn import<'a>(alloc: Global) -> Result<Command<'a>, AllocError>
     ensures { IfOk result (spec.IsCommand spec.import) }
 {
@@ -112,6 +115,7 @@ pub(super) fn import<'a>(alloc: Global) -> Result<Command<'a>, AllocError>
         "Takes the cookies of a file, by its ending .txt (cookies.txt), .json or .ron",
         "Example: cookie-jar jar.json import cookies.txt",
     );
+    let import = import.arg(flag(alloc, "strict", STRICT_HELP))?;
     with_word(alloc, import, "FILE", "The file")
 }
 

@@ -6,7 +6,7 @@ use Rattle.cookie_jar.proofs.taking.take_all.Given as goal
 
 abbrev pub invariant-loop-i : goal.invariant-loop-i
 invariant-loop-i l = record {
-  all : TakesAll l.form l.fn.store.suffixes l.fn.store.rows l.url (civil_nanos l.now)
+  all : TakesAll l.form l.rules l.fn.store.suffixes l.fn.store.rows l.url (civil_nanos l.now)
       (take l.i (map (λ line. line.now) l.lines)) l.ends.items l.store.rows;
   list : l.store.suffixes ≡ l.fn.store.suffixes;
   count : vec_len l.ends ≡ l.i;

@@ -19,11 +19,13 @@ returns c =
     let suffixes_is : rule_of c.valued-2.result ≡ spec.valued (codes "suffixes") (codes "FILE") = search rules in
     let format_is : rule_of c.valued-3.result ≡ spec.valued (codes "format") (codes "FORM") = search rules in
     let wait_is : rule_of c.valued-4.result ≡ spec.valued (codes "wait") (codes "SECONDS") = search rules in
+    let rules_is : rule_of c.valued-5.result ≡ spec.valued (codes "rules") (codes "LIST") = search rules in
     let first = c.in_ok-arg.ensures.shape c.valued.ensures.local ∙ ap₂ with_rule settled now_is in
     let second = c.in_ok-arg-2.ensures.shape c.valued-2.ensures.local ∙ ap₂ with_rule first suffixes_is in
     let third = c.in_ok-arg-3.ensures.shape c.valued-3.ensures.local ∙ ap₂ with_rule second format_is in
     let fourth = c.in_ok-arg-4.ensures.shape c.valued-4.ensures.local ∙ ap₂ with_rule third wait_is in
-    let fifth = c.in_ok-arg-5.ensures.shape c.verbose.ensures.local ∙ ap₂ with_rule fourth c.verbose.ensures.rule in
-    let sixth = c.in_ok-program.ensures.shape c.version.ensures.local ∙ ap₂ with_rule fifth c.version.ensures.rule in
-    let last = ap (λ (a : App). with_rule a (spec.needed (codes "JAR"))) sixth in
+    let fifth = c.in_ok-arg-5.ensures.shape c.valued-5.ensures.local ∙ ap₂ with_rule fourth rules_is in
+    let sixth = c.in_ok-arg-6.ensures.shape c.verbose.ensures.local ∙ ap₂ with_rule fifth c.verbose.ensures.rule in
+    let seventh = c.in_ok-program.ensures.shape c.version.ensures.local ∙ ap₂ with_rule sixth c.version.ensures.rule in
+    let last = ap (λ (a : App). with_rule a (spec.needed (codes "JAR"))) seventh in
     IfOk-weaker c.with_word.result _ _ (λ r e. e ∙ last) c.with_word.ensures.app

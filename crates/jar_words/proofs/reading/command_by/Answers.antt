@@ -1,7 +1,7 @@
 use Rattle.std.proofs.Common.{◌∙◌, sym, Ok, codes}
 use Rattle.clap.specs.Matches.{found_of}
 use Rattle.clap.specs.Walk.{rows_of}
-use Rattle.jar_words.specs.Asking.{export, header, import, receive}
+use Rattle.jar_words.specs.Asking.{export, header, receive}
 use Rattle.jar_words.proofs.CommandLemmas.{named, of_word}
 use Rattle.jar_words.proofs.reading.command_by.Goals as goal
 
@@ -20,11 +20,5 @@ returns-in_ok-word-2 c =
 pub returns-in_ok-word-5 : goal.returns-in_ok-word-5
 returns-in_ok-word-5 c =
     let rows = rows_of (found_of c.args.matches.now) in
-    of_word _ (λ file. Ok (import file)) _ c.in_ok-word-5.ensures
-    ∙ named c.args.name.now (codes "import") rows (sym c.eq-else-eq-6.ensures ∙ c.if-eq-7.true)
-
-pub returns-in_ok-word-6 : goal.returns-in_ok-word-6
-returns-in_ok-word-6 c =
-    let rows = rows_of (found_of c.args.matches.now) in
-    of_word _ (λ file. Ok (export file)) _ c.in_ok-word-6.ensures
+    of_word _ (λ file. Ok (export file)) _ c.in_ok-word-5.ensures
     ∙ named c.args.name.now (codes "export") rows (sym c.eq-else-eq-7.ensures ∙ c.if-eq-8.true)

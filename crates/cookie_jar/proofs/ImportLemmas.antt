@@ -1,0 +1,272 @@
+-- What an import takes of lines.
+use Rattle.std.proofs.Common.{◌≡◌, ◌≤◌, ◌+◌, ◌-◌, ◌∙◌, ℕ, ℤ, Bool, true, false, List, [], ◌∷◌, ◌++◌, length, map}
+use Rattle.std.proofs.Common.{Option, None, Some, Result, Ok, Err, refl, sym, subst, ap, inl, inr, arith, ◌<◌, get_or, suc, take}
+use Rattle.std.specs.Prelude.{◌&&◌, IfOk, IfSome, OnErr, filter, not, option_map, if◌then◌else◌}
+use Rattle.std.specs.List.{AllByRecursion, flat_map, list_any}
+use Rattle.std.proofs.lemmas.Grind.{flat_map-append}
+use Rattle.std.proofs.lemmas.List.{append-nil, length-append, length-map, map-append, take_more}
+use Rattle.std.proofs.lemmas.List.Elements.{filter-append}
+use Rattle.cookie_store.specs.Given.{ArePicked}
+use Rattle.cookie_store.specs.Placing.{loaded, put_all}
+use Rattle.cookie_store.specs.Rows.{Row, Store, behind_last, has_domain_of, has_key_of, has_place_of, inserted, is_live, live}
+use Rattle.cookie_store.specs.Rows.{put, put_in_place, replaced}
+use Rattle.cookie_store.specs.StoredCookie.{stored_of}
+use Rattle.cookie_store.specs.declared.stored_cookie.Cookie.{Cookie}
+use Rattle.cookies_txt.specs.Entries.{entry_text}
+use Rattle.cookies_txt.specs.declared.entries.Entry.{Entry as LineEntry}
+use Rattle.cookies_txt.specs.declared.error.LineFault.{LineFault}
+use Rattle.cookie_jar.specs.Importing.{AreRefused, Entry, ImportsEntries, ImportsLines, IsUntaken, LinesText, cause_of}
+use Rattle.cookie_jar.specs.Importing.{expired_of, lines_text, lone, refused_pair, row_in, rows_in}
+use Rattle.cookie_jar.specs.Keeping.{AreKept, IsKept}
+use Rattle.cookie_jar.specs.declared.importing.Cause.{Cause}
+use Rattle.cookie_jar.specs.declared.importing.ImportedLines.{ImportedLines}
+use Rattle.cookie_jar.specs.declared.importing.RefusedLine.{RefusedLine}
+use Rattle.cookie_jar.proofs.RowLemmas.{picked_all, placed_kept}
+
+-- ---- picked
+
+pub picked_append : {A : Type 0} (Is : A → Type 0) (xs ys picked more : List A) → ArePicked Is xs picked
+    → ArePicked Is ys more → ArePicked Is (xs ++ ys) (picked ++ more)
+picked_append Is [] ys picked more p q = subst (λ l. ArePicked Is ys (l ++ more)) (sym p) q
+picked_append Is (x ∷ xs) ys picked more (later, rest, inl h) q = (
+  later ++ more,
+  picked_append Is xs ys later more rest q,
+  inl (h.0, ap (λ l. l ++ more) h.1),
+)
+picked_append Is (x ∷ xs) ys picked more (later, rest, inr h) q = (
+  later ++ more,
+  picked_append Is xs ys later more rest q,
+  inr (h.0, ap (λ l. l ++ more) h.1),
+)
+
+pub picked_one : {A : Type 0} (Is : A → Type 0) (x : A) → Is x → ArePicked Is (x ∷ []) (x ∷ [])
+picked_one Is x h = ([], refl, inl (h, refl))
+
+pub picked_none : {A : Type 0} (Is : A → Type 0) (x : A) → ¬ (Is x) → ArePicked Is (x ∷ []) []
+picked_none Is x h = ([], refl, inr (h, refl))
+
+-- of a list of which all are so, all are picked
+pub picked_whole : {A : Type 0} (Is : A → Type 0) (xs picked : List A) → AllByRecursion Is xs → ArePicked Is xs picked
+    → picked ≡ xs
+picked_whole Is [] picked all p = p
+picked_whole Is (x ∷ xs) picked all (later, rest, inl h) =
+    h.1 ∙ ap (λ l. x ∷ l) (picked_whole Is xs later all.1 rest)
+picked_whole Is (x ∷ xs) picked all (later, rest, inr h) = absurd (h.0 all.0)
+
+-- ---- refused lines
+
+pub refused_none : (now : ℤ) → AreRefused now [] []
+refused_none now = ([], refl, refl)
+
+-- one more that is refused
+pub refused_more : (now : ℤ) (entries : List Entry) (refused : List (ℕ × Cause)) (entry : Entry)
+    → AreRefused now entries refused → IsUntaken now entry.1
+    → AreRefused now (entries ++ entry ∷ []) (refused ++ (entry.0, cause_of entry.1) ∷ [])
+refused_more now entries refused entry (left, picked, is) untaken = (
+  left ++ entry ∷ [],
+  picked_append (λ e. IsUntaken now e.1) entries (entry ∷ []) left (entry ∷ []) picked
+      (picked_one (λ e. IsUntaken now e.1) entry untaken),
+  ap (λ l. l ++ (entry.0, cause_of entry.1) ∷ []) is
+      ∙ sym (map-append (λ e. (e.0, cause_of e.1)) left (entry ∷ [])),
+)
+
+-- one more that isn't
+pub refused_same : (now : ℤ) (entries : List Entry) (refused : List (ℕ × Cause)) (entry : Entry)
+    → AreRefused now entries refused → ¬ (IsUntaken now entry.1) → AreRefused now (entries ++ entry ∷ []) refused
+refused_same now entries refused entry (left, picked, is) taken = (
+  left,
+  subst (ArePicked (λ e. IsUntaken now e.1) (entries ++ entry ∷ [])) (append-nil left)
+      (picked_append (λ e. IsUntaken now e.1) entries (entry ∷ []) left [] picked
+      (picked_none (λ e. IsUntaken now e.1) entry taken)),
+  is,
+)
+
+entries_next : (xs : List LineEntry) (i : ℕ) (entry : LineEntry) → i < length xs → entry ≡ get_or xs i entry
+    → map entry_text (take (i + 1) xs) ≡ map entry_text (take i xs) ++ entry_text entry ∷ []
+entries_next xs i entry within is =
+    ap (map entry_text) (take_more xs i entry within ∙ ap (λ x. take i xs ++ x ∷ []) (sym is))
+    ∙ map-append entry_text (take i xs) (entry ∷ [])
+
+-- one line more that was looked at, of those that are refused
+pub next_refused : (now : ℤ) (xs : List LineEntry) (i : ℕ) (entry : LineEntry) (old new : List RefusedLine)
+    (found : Option Cause) (cause : Cause) → i < length xs → entry ≡ get_or xs i entry
+    → AreRefused now (map entry_text (take i xs)) (map refused_pair old)
+    → IfSome found (λ cause. IsUntaken now (entry_text entry).1 × (cause ≡ cause_of (entry_text entry).1))
+    → found ≡ Some cause → new ≡ old ++ record { number = entry.number; cause = cause } ∷ []
+    → AreRefused now (map entry_text (take (i + 1) xs)) (map refused_pair new)
+next_refused now xs i entry old new found cause within is far why some pushed =
+    let here : IsUntaken now (entry_text entry).1 × (cause ≡ cause_of (entry_text entry).1) =
+    subst (λ o. IfSome o (λ c. IsUntaken now (entry_text entry).1 × (c ≡ cause_of (entry_text entry).1))) some why in
+    let line : RefusedLine = record { number = entry.number; cause = cause } in
+    let told : map refused_pair new ≡ map refused_pair old ++ (entry.number, cause_of (entry_text entry).1) ∷ [] =
+    ap (map refused_pair) pushed ∙ (map-append refused_pair old (line ∷ [])
+    ∙ ap (λ c. map refused_pair old ++ (entry.number, c) ∷ []) here.1) in
+    subst (λ es. AreRefused now es (map refused_pair new)) (sym (entries_next xs i entry within is))
+    (subst (AreRefused now (map entry_text (take i xs) ++ entry_text entry ∷ [])) (sym told)
+    (refused_more now (map entry_text (take i xs)) (map refused_pair old) (entry_text entry) far here.0))
+
+pub next_taken : (now : ℤ) (xs : List LineEntry) (i : ℕ) (entry : LineEntry) (refused : List RefusedLine)
+    → i < length xs → entry ≡ get_or xs i entry
+    → AreRefused now (map entry_text (take i xs)) (map refused_pair refused)
+    → ¬ (IsUntaken now (entry_text entry).1)
+    → AreRefused now (map entry_text (take (i + 1) xs)) (map refused_pair refused)
+next_taken now xs i entry refused within is far taken =
+    subst (λ es. AreRefused now es (map refused_pair refused)) (sym (entries_next xs i entry within is))
+    (refused_same now (map entry_text (take i xs)) (map refused_pair refused) (entry_text entry) far taken)
+
+-- ---- kept rows
+
+-- rows that a line more gives
+rows_more : (now : ℤ) (entries : List Entry) (entry : Entry)
+    → live now (rows_in (entries ++ entry ∷ [])) ≡ live now (rows_in entries) ++ live now (row_in entry.1)
+rows_more now entries entry =
+    ap (live now) (flat_map-append (λ e. row_in e.1) entries (entry ∷ [])
+    ∙ ap (λ l. rows_in entries ++ l) (append-nil (row_in entry.1)))
+    ∙ filter-append (is_live now) (rows_in entries) (row_in entry.1)
+
+pub kept_more : (now : ℤ) (entries : List Entry) (kept more : List Row) (entry : Entry)
+    → ArePicked IsKept (live now (rows_in entries)) kept → ArePicked IsKept (live now (row_in entry.1)) more
+    → ArePicked IsKept (live now (rows_in (entries ++ entry ∷ []))) (kept ++ more)
+kept_more now entries kept more entry far one =
+    subst (λ rows. ArePicked IsKept rows (kept ++ more)) (sym (rows_more now entries entry))
+    (picked_append IsKept (live now (rows_in entries)) (live now (row_in entry.1)) kept more far one)
+
+-- the row of a line alone, live and kept, or not
+pub kept_row : (now : ℤ) (row : Row) → is_live now row ≡ true → IsKept row
+    → ArePicked IsKept (live now (row ∷ [])) (row ∷ [])
+kept_row now row lives kept =
+    subst (λ b. ArePicked IsKept (if b then row ∷ [] else []) (row ∷ [])) (sym lives) (picked_one IsKept row kept)
+
+pub unkept_row : (now : ℤ) (row : Row) → ¬ ((is_live now row ≡ true) × IsKept row)
+    → ArePicked IsKept (live now (row ∷ [])) []
+unkept_row now row not_both = by (is_live now row) (λ lives kept. not_both (lives, kept))
+  where
+    by : (b : Bool) → (b ≡ true → ¬ (IsKept row)) → ArePicked IsKept (if b then row ∷ [] else []) []
+    by true other = picked_none IsKept row (other refl)
+    by false other = refl
+
+-- one line more that was looked at, of those that are kept
+pub kept_next : (now : ℤ) (xs : List LineEntry) (entry : LineEntry) (old new : List Cookie) (found : Option Cookie)
+    → ArePicked IsKept (live now (rows_in (map entry_text xs))) (map stored_of old)
+    → ArePicked IsKept (live now (row_in (entry_text entry).1)) (lone (option_map stored_of found))
+    → map stored_of new ≡ map stored_of old ++ lone (option_map stored_of found)
+    → ArePicked IsKept (live now (rows_in (map entry_text (xs ++ entry ∷ [])))) (map stored_of new)
+kept_next now xs entry old new found far one pushed =
+    subst (λ es. ArePicked IsKept (live now (rows_in es)) (map stored_of new))
+    (sym (map-append entry_text xs (entry ∷ [])))
+    (subst (ArePicked IsKept (live now (rows_in (map entry_text xs ++ entry_text entry ∷ [])))) (sym pushed)
+    (kept_more now (map entry_text xs) (map stored_of old) (lone (option_map stored_of found)) (entry_text entry) far
+    one))
+
+-- ---- how many
+
+-- a line is refused, or its row is expired, or kept
+counts : (now : ℤ) (entries left : List Entry) (kept : List Row) → ArePicked (λ e. IsUntaken now e.1) entries left
+    → ArePicked IsKept (live now (rows_in entries)) kept
+    → length left + length kept + length (expired_of now (rows_in entries)) ≡ length entries
+counts now [] left kept untaken picked = omega (arith, ap length untaken, ap length picked)
+counts now ((n, Err fault) ∷ entries) left kept (later, rest, inl h) picked =
+    omega (arith, counts now entries later kept rest picked, ap length h.1)
+counts now ((n, Err fault) ∷ entries) left kept (later, rest, inr h) picked = absurd (h.0 tt)
+counts now ((n, Ok row) ∷ entries) left kept untaken picked =
+    by (is_live now row) refl (counts now entries) untaken picked
+  where
+    by : (b : Bool) → is_live now row ≡ b
+        → ((later : List Entry) (more : List Row) → ArePicked (λ e. IsUntaken now e.1) entries later
+        → ArePicked IsKept (live now (rows_in entries)) more
+        → length later + length more + length (expired_of now (rows_in entries)) ≡ length entries)
+        → ArePicked (λ e. IsUntaken now e.1) ((n, Ok row) ∷ entries) left
+        → ArePicked IsKept (if b then row ∷ live now (rows_in entries) else live now (rows_in entries)) kept
+        → length left + length kept
+        + length (if not b then row ∷ expired_of now (rows_in entries) else expired_of now (rows_in entries))
+        ≡ suc (length entries)
+    by true lives deeper (later, rest, inl h) (more, behind, inl k) = absurd (h.0.1 k.0)
+    by true lives deeper (later, rest, inl h) (more, behind, inr k) =
+        omega (arith, deeper later more rest behind, ap length h.1, ap length k.1)
+    by true lives deeper (later, rest, inr h) (more, behind, inl k) =
+        omega (arith, deeper later more rest behind, ap length h.1, ap length k.1)
+    by true lives deeper (later, rest, inr h) (more, behind, inr k) = absurd (h.0 (lives, k.0))
+    by false dead deeper (later, rest, inl h) behind =
+        let bad : true ≡ false = sym h.0.0 ∙ dead in absurd (cc)
+    by false dead deeper (later, rest, inr h) behind =
+        omega (arith, deeper later kept rest behind, ap length h.1)
+
+pub all_counted : (now : ℤ) (entries : List Entry) (refused : List (ℕ × Cause)) (kept : List Row)
+    → AreRefused now entries refused → ArePicked IsKept (live now (rows_in entries)) kept
+    → length refused + length kept + length (expired_of now (rows_in entries)) ≡ length entries
+all_counted now entries refused kept (left, picked, is) are_kept =
+    omega (arith, counts now entries left kept picked are_kept, ap length is, length-map {B = ℕ × Cause} left (λ e. (e.0, cause_of e.1)))
+
+pub entries_counted : (now : ℤ) (xs : List LineEntry) (refused : List RefusedLine) (kept : List Cookie)
+    → AreRefused now (map entry_text xs) (map refused_pair refused)
+    → ArePicked IsKept (live now (rows_in (map entry_text xs))) (map stored_of kept)
+    → length refused + length kept + length (expired_of now (rows_in (map entry_text xs))) ≡ length xs
+entries_counted now xs refused kept are_refused are_kept =
+    omega (
+      arith,
+      all_counted now (map entry_text xs) (map refused_pair refused) (map stored_of kept) are_refused are_kept,
+      length-map refused refused_pair,
+      length-map kept stored_of,
+      length-map xs entry_text,
+    )
+
+-- ---- placed by their keys
+
+either_one : (b : Bool) (xs ys : List Row) (n : ℕ) → length xs ≤ n → length ys ≤ n → length (if b then xs else ys) ≤ n
+either_one true xs ys n hx hy = hx
+either_one false xs ys n hx hy = hy
+
+behind_length : (test : Row → Bool) (x : Row) (ys : List Row) → length (behind_last test x ys) ≤ length ys + 1
+behind_length test x [] = omega arith
+behind_length test x (y ∷ ys) =
+    either_one (test y && not (list_any test ys)) (y ∷ x ∷ ys) (y ∷ behind_last test x ys) (length (y ∷ ys) + 1)
+    (omega arith) (omega (arith, behind_length test x ys))
+
+put_length : (row : Row) (rows : List Row) → length (put row rows) ≤ length rows + 1
+put_length row rows =
+    either_one (list_any (has_key_of row) rows) (replaced row rows) (inserted row rows) (length rows + 1)
+    (omega (arith, length-map rows (λ y. if has_key_of row y then row else y)))
+    (either_one (list_any (has_place_of row) rows) (behind_last (has_place_of row) row rows)
+    (behind_last (has_domain_of row) row rows) (length rows + 1) (behind_length (has_place_of row) row rows)
+    (behind_length (has_domain_of row) row rows))
+
+put_all_length : (rows old : List Row) → length (put_all rows old) ≤ length rows + length old
+put_all_length [] old = omega arith
+put_all_length (r ∷ rs) old = omega (arith, put_all_length rs (put r old), put_length r old)
+
+live_length : (now : ℤ) (rows : List Row) → length (live now rows) ≤ length rows
+live_length now [] = omega arith
+live_length now (r ∷ rs) =
+    either_one (is_live now r) (r ∷ live now rs) (live now rs) (length (r ∷ rs)) (omega (arith, live_length now rs))
+    (omega (arith, live_length now rs))
+
+-- no more than there were
+pub loaded_fewer : (now : ℤ) (rows : List Row) → length (loaded false now rows) ≤ length rows
+loaded_fewer now rows =
+    let placed : length (put_all (live now rows) []) ≤ length (live now rows) + 0 = put_all_length (live now rows) [] in
+    omega (arith, placed, live_length now rows)
+
+-- kept rows that are placed are kept
+pub loaded_kept : (now : ℤ) (rows : List Row) → AreKept rows → AreKept (loaded false now rows)
+loaded_kept now rows kept = placed_kept now [] rows tt kept
+
+-- what is taken of them is all
+pub taken_all : (now : ℤ) (rows kept others taken : List Row) → ArePicked IsKept (live now rows) kept
+    → others ≡ loaded false now kept → ArePicked IsKept others taken → taken ≡ loaded false now kept
+taken_all now rows kept others taken are_kept same picked =
+    picked_whole IsKept others taken
+    (subst AreKept (sym same) (loaded_kept now kept (picked_all IsKept (live now rows) kept are_kept))) picked ∙ same
+
+-- what an import leaves
+pub lines_kept : (now : ℤ) (entries : List Entry) (old : List Row) (told : LinesText) (new : List Row) → AreKept old
+    → ImportsEntries now entries old told new → AreKept new
+lines_kept now entries old told new kept done =
+    subst AreKept (sym done.new_rows) (placed_kept now old (loaded false now done.kept) kept
+    (loaded_kept now done.kept (picked_all IsKept (live now (rows_in entries)) done.kept done.are_kept)))
+
+pub lines_held : {E : Type 0} (r : Result ImportedLines E) (now : ℤ) (text : List ℕ) (before after : Store)
+    → AreKept before.rows → IfOk r (λ lines. ImportsLines now text before.rows (lines_text lines) after.rows)
+    → OnErr r (after ≡ before) → AreKept after.rows
+lines_held (Ok lines) now text before after kept (utf8, (entries, gives, done)) same =
+    lines_kept now entries before.rows (lines_text lines) after.rows kept done
+lines_held (Err e) now text before after kept ok same = subst (λ (s : Store). AreKept s.rows) (sym same) kept

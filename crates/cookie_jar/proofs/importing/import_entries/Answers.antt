@@ -1,0 +1,106 @@
+use Rattle.std.proofs.Common.{◌≡◌, ◌+◌, ◌-◌, ◌++◌, ◌∙◌, ap, arith, false, length, map, subst}
+use Rattle.std.proofs.lemmas.List.{length-map}
+use Rattle.jiff.specs.Words.{civil_nanos}
+use Rattle.cookie_store.specs.Placing.{loaded}
+use Rattle.cookie_store.specs.Rows.{Store}
+use Rattle.cookie_store.specs.StoredCookie.{stored_of}
+use Rattle.cookies_txt.specs.Entries.{entry_text}
+use Rattle.cookie_jar.specs.Importing.{AreRefused, expired_of, refused_pair, rows_in}
+use Rattle.cookie_jar.proofs.ImportLemmas.{entries_counted, loaded_fewer, taken_all}
+use Rattle.cookie_jar.proofs.importing.import_entries.Goals as goal
+
+pub overflow_sub-expired : goal.overflow_sub-expired
+overflow_sub-expired c =
+    let now = civil_nanos c.args.now in
+    let refused = c.in_ok-refused.refused in
+    let kept = c.in_ok-kept.kept in
+    let told = subst (λ xs. AreRefused now (map entry_text xs) (map refused_pair refused.items)) c.deref.ensures.value
+    c.in_ok-refused.ensures in
+    omega (
+      arith,
+      entries_counted now c.args.entries.items refused.items kept.items told c.in_ok-kept.ensures,
+      c.len-count.ensures,
+      c.args.entries.ok.0,
+      c.len.ensures,
+      refused.ok.0,
+    )
+
+pub overflow_sub-expired-2 : goal.overflow_sub-expired-2
+overflow_sub-expired-2 c =
+    let now = civil_nanos c.args.now in
+    let refused = c.in_ok-refused.refused in
+    let kept = c.in_ok-kept.kept in
+    let told = subst (λ xs. AreRefused now (map entry_text xs) (map refused_pair refused.items)) c.deref.ensures.value
+    c.in_ok-refused.ensures in
+    omega (
+      arith,
+      entries_counted now c.args.entries.items refused.items kept.items told c.in_ok-kept.ensures,
+      c.len-count.ensures,
+      c.args.entries.ok.0,
+      c.len.ensures,
+      refused.ok.0,
+      c.len-2.ensures,
+      kept.ok.0,
+    )
+
+pub overflow_sub-result : goal.overflow_sub-result
+overflow_sub-result c =
+    let now = civil_nanos c.args.now in
+    let kept = c.in_ok-kept.kept in
+    let entries = map entry_text c.args.entries.items in
+    let (taken, picked, count, rows) = c.in_ok-rows.ensures in
+    let whole = taken_all now (rows_in entries) (map stored_of kept.items) c.in_ok-others.others.rows taken
+    c.in_ok-kept.ensures (ap (λ (s : Store). s.rows) c.in_ok-others.ensures) picked in
+    omega (
+      arith,
+      count,
+      ap length whole,
+      loaded_fewer now (map stored_of kept.items),
+      length-map kept.items stored_of,
+      c.len-of_keys.ensures,
+      kept.ok.0,
+    )
+
+pub returns-clause-ok : goal.returns-clause-ok
+returns-clause-ok c =
+    let now = civil_nanos c.args.now in
+    let refused = c.in_ok-refused.refused in
+    let kept = c.in_ok-kept.kept in
+    let entries = map entry_text c.args.entries.items in
+    let own = c.args.store.now.rows in
+    let told = subst (λ xs. AreRefused now (map entry_text xs) (map refused_pair refused.items)) c.deref.ensures.value
+    c.in_ok-refused.ensures in
+    let (taken, picked, count, rows) = c.in_ok-rows.ensures in
+    let whole = taken_all now (rows_in entries) (map stored_of kept.items) c.in_ok-others.others.rows taken
+    c.in_ok-kept.ensures (ap (λ (s : Store). s.rows) c.in_ok-others.ensures) picked in
+    let expired : c.len-count.result - c.len.result - c.len-2.result ≡ length (expired_of now (rows_in entries)) =
+    omega (
+      arith,
+      entries_counted now c.args.entries.items refused.items kept.items told c.in_ok-kept.ensures,
+      c.len-count.ensures,
+      c.args.entries.ok.0,
+      c.len.ensures,
+      refused.ok.0,
+      c.len-2.ensures,
+      kept.ok.0,
+    ) in
+    let replaced : c.in_ok-rows.rows + (c.len-of_keys.result - c.in_ok-rows.rows) ≡ length (map stored_of kept.items) =
+    omega (
+      arith,
+      count,
+      ap length whole,
+      loaded_fewer now (map stored_of kept.items),
+      length-map kept.items stored_of,
+      c.len-of_keys.ensures,
+      kept.ok.0,
+    ) in
+    record {
+      kept = map stored_of kept.items;
+      are_kept = c.in_ok-kept.ensures;
+      new_rows = ap (λ (s : Store). s.rows) c.replace_rows.ensures
+          ∙ (rows ∙ ap (λ rs. loaded false now (own ++ rs)) whole);
+      taken = count ∙ ap length whole;
+      replaced = replaced;
+      expired = expired;
+      refused = told;
+    }

@@ -1,0 +1,138 @@
+-- What an import takes of the lines of a `cookies.txt`, each read by itself (this repository's own).
+use Rattle.std.specs.Prelude.{◌≡◌, ◌⊎◌, ◌||◌, ◌+◌, ◌++◌, ℕ, ℤ, Bool, true, false, not, List, [], ◌∷◌, length, map}
+use Rattle.std.specs.Prelude.{Option, Some, None, Result, Ok, Err, ⊤, codes, filter}
+use Rattle.std.specs.Prelude.{if◌then◌else◌}
+use Rattle.std.specs.Fmt.{decimal}
+use Rattle.std.specs.List.{flat_map}
+use Rattle.std.specs.Str.{IsUtf8}
+use Rattle.cookie_store.specs.Given.{ArePicked}
+use Rattle.cookie_store.specs.Placing.{loaded}
+use Rattle.cookie_store.specs.Rows.{Row, is_live, live}
+use Rattle.cookies_txt.specs.Entries.{GivesEntries}
+use Rattle.cookies_txt.specs.declared.error.LineFault.{LineFault}
+use Rattle.cookies_txt.specs.declared.error.LineFault.TheVariants.{Fields, EmptyDomain, Flag, NoSlash}
+use Rattle.cookies_txt.specs.declared.error.LineFault.TheVariants.{Number, EmptyName, Domain}
+use Rattle.cookies_txt.specs.declared.error.ReadError.TheVariants.{NotText}
+use Rattle.cookie_jar.specs.Keeping.{IsKept, has_control, is_read_pair}
+use Rattle.cookie_jar.specs.LeftOut.{IsRefused}
+use Rattle.cookie_jar.specs.declared.error.ReadError.{ReadError}
+use Rattle.cookie_jar.specs.declared.error.ReadError.TheVariants.{Lines, OutOfMemory}
+use Rattle.cookie_jar.specs.declared.importing.Cause.{Cause}
+use Rattle.cookie_jar.specs.declared.importing.Cause.TheVariants.{Faulty, Control, Pair, HostPrefix}
+use Rattle.cookie_jar.specs.declared.importing.ImportedLines.{ImportedLines}
+use Rattle.cookie_jar.specs.declared.importing.RefusedLine.{RefusedLine}
+
+-- what a line that isn't passed over gives, with its number: its row, or its fault
+abbrev pub Entry : Type 0
+Entry = ℕ × Result Row LineFault
+
+-- ---- the rows that are read
+
+abbrev pub row_in : Result Row LineFault → List Row
+row_in (Ok row) = row ∷ []
+row_in (Err fault) = []
+
+-- those of all lines, in their order
+abbrev pub rows_in : List Entry → List Row
+rows_in entries = flat_map (λ entry. row_in entry.1) entries
+
+-- those that are expired at the moment
+abbrev pub expired_of : ℤ → List Row → List Row
+expired_of now rows = filter (λ row. not (is_live now row)) rows
+
+-- ---- the lines that are refused
+
+-- the line has a fault, or a row that isn't expired at the moment and that a jar doesn't keep
+abbrev pub IsUntaken : ℤ → Result Row LineFault → Type 0
+IsUntaken now (Ok row) = (is_live now row ≡ true) × IsRefused row
+IsUntaken now (Err fault) = ⊤
+
+-- why a jar doesn't keep the row: the first of these
+abbrev pub refusal_of : Row → Cause
+refusal_of row =
+    if has_control row.raw.cookie.name || has_control row.raw.cookie.value then Control
+    else if is_read_pair row.raw.cookie.name row.raw.cookie.value then HostPrefix
+    else Pair
+
+-- why the line is refused
+abbrev pub cause_of : Result Row LineFault → Cause
+cause_of (Ok row) = refusal_of row
+cause_of (Err fault) = Faulty fault
+
+-- the numbers of the lines that are refused, and why each is, in their order
+abbrev pub AreRefused : ℤ → List Entry → List (ℕ × Cause) → Type 0
+AreRefused now entries refused =
+    (left : List Entry) × ArePicked (λ entry. IsUntaken now entry.1) entries left
+    × (refused ≡ map (λ entry. (entry.0, cause_of entry.1)) left)
+
+-- ---- what an import does
+
+-- How many rows are taken; how many are passed over since they are expired, and how many for a later row of their key;
+-- and which lines are refused.
+pub record LinesText : Type 0 where
+  pub rows : ℕ
+  pub expired : ℕ
+  pub replaced : ℕ
+  pub refused : List (ℕ × Cause)
+
+-- Rows, and behind them those of lines that a jar keeps, placed by their keys, without those that are expired at the
+-- moment. Of the lines' rows of one key the last counts as taken, and the others as replaced.
+pub record ImportsEntries (now : ℤ) (entries : List Entry) (old : List Row) (told : LinesText) (new : List Row)
+    : Type 0 where
+  pub kept : List Row
+  pub are_kept : ArePicked IsKept (live now (rows_in entries)) kept
+  pub new_rows : new ≡ loaded false now (old ++ loaded false now kept)
+  pub taken : told.rows ≡ length (loaded false now kept)
+  pub replaced : told.rows + told.replaced ≡ length kept
+  pub expired : told.expired ≡ length (expired_of now (rows_in entries))
+  pub refused : AreRefused now entries told.refused
+
+-- so with the lines of a text
+abbrev pub ImportsLines : ℤ → List ℕ → List Row → LinesText → List Row → Type 0
+ImportsLines now text old told new =
+    IsUtf8 text × ((entries : List Entry) × GivesEntries text entries × ImportsEntries now entries old told new)
+
+-- why a text has no lines
+abbrev pub HasNoLines : List ℕ → ReadError → Type 0
+HasNoLines text e = (e ≡ OutOfMemory) ⊎ ((e ≡ Lines NotText) × (¬ IsUtf8 text))
+
+-- ---- what is told
+
+abbrev pub refused_pair : RefusedLine → ℕ × Cause
+refused_pair line = (line.number, line.cause)
+
+abbrev pub lines_text : ImportedLines → LinesText
+lines_text lines = record {
+  rows = lines.rows;
+  expired = lines.expired;
+  replaced = lines.replaced;
+  refused = map refused_pair lines.refused.items;
+}
+
+abbrev pub fault_text : LineFault → List ℕ
+fault_text Fields = codes "refused: neither six nor seven fields"
+fault_text EmptyDomain = codes "refused: no domain"
+fault_text Flag = codes "refused: flag neither TRUE nor FALSE"
+fault_text NoSlash = codes "refused: path without /"
+fault_text Number = codes "refused: expiry is no number"
+fault_text EmptyName = codes "refused: empty name"
+fault_text Domain = codes "refused: domain without IDNA form"
+
+abbrev pub cause_text : Cause → List ℕ
+cause_text (Faulty fault) = fault_text fault
+cause_text Control = codes "refused: control character"
+cause_text Pair = codes "refused: name or value"
+cause_text HostPrefix = codes "refused: __Host-"
+
+-- the line that tells of a refused one
+abbrev pub refused_line : ℕ × Cause → List ℕ
+refused_line line = cause_text line.1 ++ (codes "\tline " ++ (decimal line.0 ++ 10 ∷ []))
+
+-- one for each
+abbrev pub refused_lines : List (ℕ × Cause) → List ℕ
+refused_lines refused = flat_map refused_line refused
+
+-- a step of the code, for a private contract alone: the row, or none
+abbrev pub lone : Option Row → List Row
+lone None = []
+lone (Some row) = row ∷ []

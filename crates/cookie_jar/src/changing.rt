@@ -1,0 +1,120 @@
+//! What the rules of user agents make of a line before it is taken.
+ghost use Rattle.std.specs.Prelude.{◌≡◌, ◌++◌, IfOk, OnOk, string_bytes};
+ghost use Rattle.jiff.specs.Words.{civil_nanos};
+ghost use Rattle.user_agent.specs.Agent.{IsDoneIf};
+ghost use Rattle.user_agent.specs.CutLives.{IsCutLine};
+ghost use Rattle.user_agent.specs.KnownDates.{IsKnownLine};
+ghost use Rattle.user_agent.specs.LongAttributes.{IsShortLine};
+ghost use Rattle.cookie_jar.specs.Changing as spec;
+ghost use Rattle.cookie_jar.specs.Steps as steps;
+
+use crate::told::push_shown;
+use jiff::civil::DateTime;
+use std::alloc::{AllocError, Global};
+use user_agent::{Rules, with_cut_life, with_known_date, without_long_attributes};
+
+// A rule that changes lines.
+#[derive(Clone, Copy, Debug, PartialEq, Eq)]
+pub(crate) enum Change {
+    LongAttributes,
+    Dates,
+    LongLives,
+}
+
+/// The line as these rules hand it on, with a line behind the text for each of them that changes it.
+///
+/// # Errors
+///
+/// `AllocError`, for want of memory.
+pub(crate) fn push_changes(
+    alloc: Global,
+    text: &mut String,
+    rules: &Rules,
+    line: &str,
+    now: DateTime,
+) -> Result<String, AllocError>
+    ensures { IfOk result (λ handed. steps.Appends
+        (spec.TellsChanges rules.now (civil_nanos now) line.now (string_bytes handed))
+        (string_bytes text.old) (string_bytes text.new)) }
+{
+    let short = shortened(alloc, rules, line)?;
+    push_change(text, Change::LongAttributes, line, short.as_str())?;
+    let known = dated(alloc, rules, short.as_str())?;
+    push_change(text, Change::Dates, short.as_str(), known.as_str())?;
+    let handed = cut(alloc, rules, known.as_str(), now)?;
+    push_change(text, Change::LongLives, known.as_str(), handed.as_str())?;
+    Ok(handed)
+}
+
+// The line without its long attributes, where that rule is on.
+fn shortened(alloc: Global, rules: &Rules, line: &str) -> Result<String, AllocError>
+    ensures { IfOk result (λ short.
+        IsDoneIf rules.now.long_attributes IsShortLine line.now (string_bytes short)) }
+{
+    if rules.long_attributes {
+        without_long_attributes(alloc, line)
+    } else {
+        String::from_str(alloc, line)
+    }
+}
+
+// The line with its dates known, where that rule is on.
+fn dated(alloc: Global, rules: &Rules, line: &str) -> Result<String, AllocError>
+    ensures { IfOk result (λ known. IsDoneIf rules.now.dates IsKnownLine line.now (string_bytes known)) }
+{
+    if rules.dates {
+        with_known_date(alloc, line)
+    } else {
+        String::from_str(alloc, line)
+    }
+}
+
+// The line with its life cut, where that rule is on.
+fn cut(alloc: Global, rules: &Rules, line: &str, now: DateTime) -> Result<String, AllocError>
+    ensures { IfOk result (λ cut.
+        IsDoneIf rules.now.long_lives (IsCutLine (civil_nanos now)) line.now (string_bytes cut)) }
+{
+    if rules.long_lives {
+        with_cut_life(alloc, line, now)
+    } else {
+        String::from_str(alloc, line)
+    }
+}
+
+// Tells what the rule made of the line, where it changed it.
+fn push_change(
+    text: &mut String,
+    change: Change,
+    line: &str,
+    changed: &str,
+) -> Result<(), AllocError>
+    ensures { OnOk result (string_bytes text.new
+        ≡ string_bytes text.old ++ spec.change_line change line.now changed.now) }
+{
+    if line == changed {
+        return Ok(());
+    }
+    text.push_str(words(change))?;
+    push_shown(text, changed.as_bytes())?;
+    text.push_str(section(change))
+}
+
+fn words(change: Change) -> &'static str
+    ensures { result.now ≡ spec.words change }
+{
+    match change {
+        Change::LongAttributes => "long-attributes: taken as ",
+        Change::Dates => "dates: taken as ",
+        Change::LongLives => "long-lives: taken as ",
+    }
+}
+
+fn section(change: Change) -> &'static str
+    ensures { result.now ≡ spec.section change }
+{
+    match change {
+        Change::LongAttributes => " (draft-ietf-httpbis-rfc6265bis, section 5.6)\n",
+        Change::Dates => " (RFC 6265, section 5.1.1)\n",
+        Change::LongLives => " (draft-ietf-httpbis-rfc6265bis, section 5.5)\n",
+    }
+}
