@@ -11,19 +11,19 @@ import time
 sys.dont_write_bytecode = True
 sys.path.insert(0, os.path.dirname(os.path.dirname(os.path.abspath(__file__))))
 
-from gate import compiler
+from gate import compiler, firefox
 from gate.kit import CC, demand, load_rt
 from gate.progress import Progress
 
 TOP = os.path.dirname(os.path.dirname(os.path.dirname(os.path.abspath(__file__))))
 # Their names in the shell.
-NAMES = ("cookie-run", "cookie-jar")
+NAMES = ("cookie-run", "cookie-jar", "cookie-import-firefox")
 COMPILED = f"{TOP}/out/compiled"
 SUFFIXES = f"{TOP}/examples/suffixes.dat"
 SEED = "00" * 32
 BEGIN = "2024-01-01T00:00:00Z"
 # Seconds of a first compile, on four calm cores at 2.5 GHz.
-SECONDS = {"cookie-run": 55, "cookie-jar": 80}
+SECONDS = {"cookie-run": 55, "cookie-jar": 80, "cookie-import-firefox": 100}
 # Drops what the program doesn't reach, optimises the rest in little time, puts the checks of memory in, and makes code
 # in four parts at once. (The parts are of a shared object, since an executable's would be of what is called from outside
 # alone.)
@@ -116,7 +116,10 @@ def log_of(name):
 
 
 def words_of(command, store):
-    """Words with which a program ends with 0, over a file where it keeps its cookies."""
+    """Words with which a program ends with 0, over a file where it keeps its cookies, or one that is made of such."""
+    if command == "cookie-import-firefox":
+        firefox.put(f"{store}.sqlite", firefox.EXAMPLE)
+        return [f"{store}.sqlite"]
     if command == "cookie-jar":
         return ["--now", BEGIN, "--suffixes", SUFFIXES, "--format", "ron", store, "list"]
     return [SUFFIXES, SEED, store, BEGIN]
