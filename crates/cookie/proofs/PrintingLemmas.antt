@@ -1,6 +1,7 @@
 -- The base64 of 32 bytes, by three registers.
-use Rattle.std.proofs.Common.{◌≡◌, ℕ, zero, suc, ◌+◌, ◌-◌, ◌*◌, ◌/◌, ◌%◌, ◌^◌, ◌<◌, true, eqb, ltb, List, [], ◌∷◌, ◌++◌, map}
-use Rattle.std.proofs.Common.{length, take, drop, drop-cons, get_or, replicate, bit_and, refl, sym, ap, ◌∙◌, arith, w8, Fits, if◌then◌else◌}
+use Rattle.std.proofs.Common.{◌≡◌, ℕ, zero, suc, ◌+◌, ◌-◌, ◌*◌, ◌/◌, ◌%◌, ◌^◌, ◌<◌, true, eqb, ltb, List, [], ◌∷◌, ◌++◌}
+use Rattle.std.proofs.Common.{map, length, take, drop, drop-cons, get_or, replicate, bit_and, refl, sym, ap, ◌∙◌, arith}
+use Rattle.std.proofs.Common.{w8, Fits, if◌then◌else◌}
 use Rattle.std.proofs.lemmas.Bool.{agree_below, agree_below_at, eqb-true}
 use Rattle.std.proofs.lemmas.List.{length-map, drop_all}
 use Rattle.std.proofs.lemmas.Nat.{and_mask}
@@ -110,7 +111,8 @@ listing_is (suc n) i xs e =
 
 -- the first lane of 32 bits, of four bytes
 first_lane : (a b c d n : ℕ) (rest : List ℕ) → a < 256 → b < 256 → c < 256 → d < 256
-    → digits_l (2 ^ 32) (suc n) (number_l 256 (c ∷ b ∷ a ∷ d ∷ rest)) ≡ word a b c d ∷ digits_l (2 ^ 32) n (number_l 256 rest)
+    → digits_l (2 ^ 32) (suc n) (number_l 256 (c ∷ b ∷ a ∷ d ∷ rest))
+    ≡ word a b c d ∷ digits_l (2 ^ 32) n (number_l 256 rest)
 first_lane a b c d n rest ha hb hc hd =
     let r : ℕ = number_l 256 rest in
     let x : ℕ = number_l 256 (c ∷ b ∷ a ∷ d ∷ rest) in

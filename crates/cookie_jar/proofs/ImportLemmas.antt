@@ -1,6 +1,7 @@
 -- What an import takes of lines.
 use Rattle.std.proofs.Common.{◌≡◌, ◌≤◌, ◌+◌, ◌-◌, ◌∙◌, ℕ, ℤ, Bool, true, false, List, [], ◌∷◌, ◌++◌, length, map}
-use Rattle.std.proofs.Common.{Option, None, Some, Result, Ok, Err, refl, sym, subst, ap, inl, inr, arith, ◌<◌, get_or, suc, take}
+use Rattle.std.proofs.Common.{Option, None, Some, Result, Ok, Err, refl, sym, subst, ap, inl, inr, arith, ◌<◌, get_or}
+use Rattle.std.proofs.Common.{suc, take}
 use Rattle.std.specs.Prelude.{◌&&◌, IfOk, IfSome, OnErr, filter, not, option_map, if◌then◌else◌}
 use Rattle.std.specs.List.{AllByRecursion, flat_map, list_any}
 use Rattle.std.proofs.lemmas.Grind.{flat_map-append}
@@ -8,8 +9,8 @@ use Rattle.std.proofs.lemmas.List.{append-nil, length-append, length-map, map-ap
 use Rattle.std.proofs.lemmas.List.Elements.{filter-append}
 use Rattle.cookie_store.specs.Given.{ArePicked}
 use Rattle.cookie_store.specs.Placing.{loaded, put_all}
-use Rattle.cookie_store.specs.Rows.{Row, Store, behind_last, has_domain_of, has_key_of, has_place_of, inserted, is_live, live}
-use Rattle.cookie_store.specs.Rows.{put, put_in_place, replaced}
+use Rattle.cookie_store.specs.Rows.{Row, Store, behind_last, has_domain_of, has_key_of, has_place_of, inserted}
+use Rattle.cookie_store.specs.Rows.{is_live, live, put, put_in_place, replaced}
 use Rattle.cookie_store.specs.StoredCookie.{stored_of}
 use Rattle.cookie_store.specs.declared.stored_cookie.Cookie.{Cookie}
 use Rattle.cookies_txt.specs.Entries.{entry_text}
@@ -195,7 +196,12 @@ pub all_counted : (now : ℤ) (entries : List Entry) (refused : List (ℕ × Cau
     → AreRefused now entries refused → ArePicked IsKept (live now (rows_in entries)) kept
     → length refused + length kept + length (expired_of now (rows_in entries)) ≡ length entries
 all_counted now entries refused kept (left, picked, is) are_kept =
-    omega (arith, counts now entries left kept picked are_kept, ap length is, length-map {B = ℕ × Cause} left (λ e. (e.0, cause_of e.1)))
+    omega (
+      arith,
+      counts now entries left kept picked are_kept,
+      ap length is,
+      length-map {B = ℕ × Cause} left (λ e. (e.0, cause_of e.1)),
+    )
 
 pub entries_counted : (now : ℤ) (xs : List LineEntry) (refused : List RefusedLine) (kept : List Cookie)
     → AreRefused now (map entry_text xs) (map refused_pair refused)

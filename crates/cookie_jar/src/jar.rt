@@ -205,9 +205,9 @@ impl Jar {
         }
     }
 
-    /// The same of the lines of a `cookies.txt`, each read by itself ([`cookies_txt::read_entries`]): a line with a fault,
-    /// and one with a row that a jar doesn't keep, is refused alone. One whose row is expired at `now` is passed over
-    /// before.
+    /// The same of the lines of a `cookies.txt`, each read by itself ([`cookies_txt::read_entries`]): a line with a
+    /// fault, and one with a row that a jar doesn't keep, is refused alone. One whose row is expired at `now` is passed
+    /// over before.
     ///
     /// # Errors
     ///

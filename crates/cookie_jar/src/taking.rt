@@ -24,7 +24,8 @@ pub enum End {
     /// A control character, which is a byte below 32 but the tab, or 127, stands in its name or its value. Nothing
     /// changed.
     Control,
-    /// A tab stands in it, and the jar is to be saved as `cookies.txt`, which parts its fields by tabs. Nothing changed.
+    /// A tab stands in it, and the jar is to be saved as `cookies.txt`, which parts its fields by tabs. Nothing
+    /// changed.
     Tab,
 }
 

@@ -105,7 +105,8 @@ some_so Q None h = tt
 some_so Q (Some x) h = h x refl
 
 module _ (P : Attribute → Type 0) (r : Record) (http : P HttpOnly)
-    (site : (s : SameSite) → r.same_site ≡ Some s → P (OfSite s)) (parted : is_set r.partitioned ≡ true → P Partitioned) (secure : prints_secure r ≡ true → P Secure)
+    (site : (s : SameSite) → r.same_site ≡ Some s → P (OfSite s)) (parted : is_set r.partitioned ≡ true → P Partitioned)
+    (secure : prints_secure r ≡ true → P Secure)
     (path : (t : List ℕ) → r.path ≡ Some t → P (Path t)) (domain : (t : List ℕ) → domain_of r ≡ Some t → P (Domain t))
     (aged : (z : ℤ) → P (MaxAge z)) (dated : (d : DateTime) → P (Expires d)) where
   each_there : AllThere P (attributes_of r)
@@ -338,10 +339,11 @@ flags_read r s pair uncut h =
     (set_some s.cookie.partitioned (is_set r.partitioned ≡ true)
     (last_has (GivesFlag Partitioned) (λ b. is_set r.partitioned ≡ true) (pieces_of os) s.cookie.partitioned
     (parted_given r uncut) has.partitioned) e) in
+    let one : IfSome s.cookie.same_site (IsOpenOnly r uncut) =
+    last_has GivesSite (IsOpenOnly r uncut) (pieces_of os) s.cookie.same_site (site_given r uncut) has.same_site in
     let none : is_unrestricted s.cookie.same_site ≡ true → may =
     λ e. second_may (is_set r.secure) (is_unrestricted r.same_site) (is_set r.partitioned)
-    (open_some s.cookie.same_site (is_unrestricted r.same_site ≡ true)
-    (last_has GivesSite (IsOpenOnly r uncut) (pieces_of os) s.cookie.same_site (site_given r uncut) has.same_site) e) in (
+    (open_some s.cookie.same_site (is_unrestricted r.same_site ≡ true) one e) in (
       either_of (is_set s.cookie.secure) (is_unrestricted s.cookie.same_site) (is_set s.cookie.partitioned) may secure
           none parted,
       record {

@@ -8,7 +8,8 @@ returns c =
     let v : List ℕ = c.args.code.now in
     let whole : v ≡ listing 0 32 v = sym (listing_is 32 0 v (omega (arith, c.told-code))) in
     let front : c.symbols_of-front.result ≡ symbols_of (take 16 v) = c.symbols_of-front.ensures in
-    let middle : c.symbols_of-middle.result ≡ symbols_of (take 16 (take 20 (drop 12 v))) = c.symbols_of-middle.ensures in
+    let middle : c.symbols_of-middle.result ≡ symbols_of (take 16 (take 20 (drop 12 v))) =
+    c.symbols_of-middle.ensures in
     let back : c.symbols_of.result ≡ symbols_of (last_eight v) = c.symbols_of.ensures in
     let parts : c.joined.result ≡ by_registers v = c.joined.ensures
     ∙ (λ i. front i ++ (middle i ++ (take 11 (back i) ++ 61 ∷ []))) in

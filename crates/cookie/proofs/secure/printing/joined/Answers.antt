@@ -35,7 +35,8 @@ pub returns : goal.returns
 returns c =
     let a = whole c.args.front _ c.fits-front.0 c.copy_from_slice.ensures.after in
     let b = whole c.args.middle _ c.fits-middle.0 c.copy_from_slice-2.ensures.after in
-    let back : c.args.back ≡ listing 0 16 c.args.back = sym (listing_is 16 0 c.args.back (omega (arith, c.fits-back.0))) in
+    let back : c.args.back ≡ listing 0 16 c.args.back =
+    sym (listing_is 16 0 c.args.back (omega (arith, c.fits-back.0))) in
     let d = c.copy_from_slice-3.ensures.after ∙ ap (take 11) back in
     (λ i. put_mid 32 11 (two (a i) (b i)) (d i))
     ∙ sym (λ i. whole c.args.front c.args.front c.fits-front.0 (λ j. c.args.front) i
