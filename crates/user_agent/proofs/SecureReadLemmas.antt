@@ -1,6 +1,6 @@
 -- What a session reads of a header under the name of a Secure row.
 use Rattle.std.proofs.Common.{◌≡◌, ◌==◌, ◌&&◌, ◌++◌, ◌∙◌, ℕ, List, [], ◌∷◌, Bool, true, false, cond, length, map}
-use Rattle.std.proofs.Common.{Option, Some, None, sym, refl, ap, subst, arith, IsTrue}
+use Rattle.std.proofs.Common.{Option, Some, None, sym, refl, ap, subst, arith, IsTrue, inl, inr}
 use Rattle.std.specs.Prelude.{filter, IfSome}
 use Rattle.std.specs.List.{AllByRecursion, cons_option, filter_map, list_any, position_or_len}
 use Rattle.std.specs.Str.{is_utf8}
@@ -21,7 +21,7 @@ use Rattle.cookie_run.proofs.HeaderBack.{IsRead, cookie_named, header_back, text
 use Rattle.cookie_run.proofs.HeaderCookies.{cookie_of, cookies_of, pair_in}
 use Rattle.cookie_run.proofs.ReadBack.{led, led_pair}
 use Rattle.cookie_run.proofs.ReadCode.{cookies_are}
-use Rattle.user_agent.specs.SecureRuns.{SecureNamesAreReadSecurely, WasReadSecurely}
+use Rattle.user_agent.specs.SecureRuns.{IsAny, SecureNamesAreReadSecurely, WasReadSecurely}
 use Rattle.user_agent.specs.SecureWins.{decoded_name, is_secure_of, winners, wins}
 use Rattle.user_agent.proofs.SecureRunLemmas.{have_read_pairs, picked_all, secure_names_are_set_securely}
 
@@ -107,10 +107,22 @@ some_left test P (row ∷ rows) h = by (test row) (some_left test P rows h.1)
     by true later = (h.0, later)
     by false later = later
 
-each_of : (A B : Row → Type 0) → ((row : Row) → A row → B row) → (rows : List Row) → AllByRecursion A rows
-    → AllByRecursion B rows
-each_of A B f [] h = tt
-each_of A B f (row ∷ rows) h = (f row h.0, each_of A B f rows h.1)
+each_of : (M A B : Row → Type 0) → ((row : Row) → M row → A row → B row) → (rows : List Row) → AllByRecursion M rows
+    → AllByRecursion A rows → AllByRecursion B rows
+each_of M A B f [] m h = tt
+each_of M A B f (row ∷ rows) m h = (f row m.0 h.0, each_of M A B f rows m.1 h.1)
+
+-- each of those that are left of a list is one of the list
+are_members : (test : Row → Bool) (all rows : List Row) → ((row : Row) → IsAny (λ other. row ≡ other) rows
+    → IsAny (λ other. row ≡ other) all) → AllByRecursion (λ row. IsAny (λ other. row ≡ other) all) (filter test rows)
+are_members test all [] within = tt
+are_members test all (row ∷ rows) within =
+    by (test row) (are_members test all rows (λ other any. within other (inr any)))
+  where
+    by : (b : Bool) → AllByRecursion (λ row. IsAny (λ other. row ≡ other) all) (filter test rows)
+        → AllByRecursion (λ row. IsAny (λ other. row ≡ other) all) (cond b (row ∷ filter test rows) (filter test rows))
+    by true later = (within row (inl refl), later)
+    by false later = later
 
 pub secure_names_are_read_securely : SecureNamesAreReadSecurely
 secure_names_are_read_securely rules list steps rows from_http on takes to now header is cookies of =
@@ -122,12 +134,18 @@ secure_names_are_read_securely rules list steps rows from_http on takes to now h
     (All-permutation HasReadPair are.0 given are.2.permutation (All-from_recursion HasReadPair are.0 picked)) in
     let left = some_left (wins given) HasReadPair given longest in
     let P : Record → Type 0 =
-    λ c. IsTrue (list_any (is_secure_of c.name) given) → WasReadSecurely rules steps c in
-    let each = each_of _ (λ row. (c : Record) → c.name ≡ decoded_name row
+    λ c. IsTrue (list_any (is_secure_of c.name) given) → WasReadSecurely rules steps given c in
+    let members = are_members (wins given) given given (λ row any. any) in
+    let each = each_of (λ row. IsAny (λ other. row ≡ other) given) _ (λ row. (c : Record) → c.name ≡ decoded_name row
     → c.value ≡ percent_decode row.raw.cookie.value → P c)
-    (λ row w c named valued there.
-    (pair_of row, w (subst (λ n. IsTrue (list_any (is_secure_of n) given)) named there), named, valued))
-    (winners given) won in (
+    (λ row member w c named valued there. record {
+      row = row;
+      given_row = member;
+      was = w (subst (λ n. IsTrue (list_any (is_secure_of n) given)) named there);
+      named = named;
+      valued = valued;
+    })
+    (winners given) members won in (
       given,
       are,
       subst (AllByRecursion P)

@@ -20,13 +20,15 @@ use Rattle.cookie_text.specs.ReadingBack.{Pairwise}
 use Rattle.cookie_text.specs.Record.{Seen, unsliced}
 use Rattle.cookie_text.specs.declared.error.ParseError.{ParseError}
 use Rattle.cookie_text.proofs.PairsAgain.{pair_of as texts_give_pairs, pair_reads_again}
+use Rattle.store_parts.specs.DomainMatch.{text_or_empty}
 use Rattle.store_parts.specs.Expiry.{is_dead}
 use Rattle.store_parts.specs.Schemes.{IsSecure, IsThisHost}
-use Rattle.cookie_store.specs.Given.{ArePicked, pair_of}
+use Rattle.cookie_store.specs.Given.{ArePicked}
 use Rattle.cookie_store.specs.Insertion.{End, Fits, Inserts, InsertsRead, alone, settled}
+use Rattle.cookie_store.specs.Making.{IsMade}
 use Rattle.cookie_store.specs.Placing.{is_saved, saved}
-use Rattle.cookie_store.specs.Rows.{Row, behind_last, ended, expired, has_domain_of, has_key_of, has_place_of}
-use Rattle.cookie_store.specs.Rows.{inserted, is_live, is_live_of, put, replaced}
+use Rattle.cookie_store.specs.Rows.{Key, Row, behind_last, ended, expired, has_domain_of, has_key_of, has_place_of}
+use Rattle.cookie_store.specs.Rows.{inserted, is_live, is_live_of, key_of, put, replaced}
 use Rattle.cookie_store.specs.SavedRows.{IsReread}
 use Rattle.cookie_run.specs.Accept.{Accepts}
 use Rattle.cookie_run.specs.Keeping.{HaveReadPairs, Keeps}
@@ -35,7 +37,7 @@ use Rattle.cookie_run.proofs.FromLines.{filter_all}
 use Rattle.user_agent.specs.Agent.{TakesLine, TakesLines}
 use Rattle.user_agent.specs.Refusals.{asks_for_secure}
 use Rattle.user_agent.specs.SecureRuns.{Answers, IsAny, Restarts, SecureNamesAreSetSecurely, Sets, SetsSecurely, Step}
-use Rattle.user_agent.specs.SecureRuns.{TakesStep, TakesSteps, WereSetSecurely}
+use Rattle.user_agent.specs.SecureRuns.{TakesStep, TakesSteps}
 use Rattle.user_agent.specs.SecureWins.{IsHeaderIf, IsWinnersHeader, decoded_name, is_secure_of, wins}
 use Rattle.user_agent.specs.declared.rules.Outcome.{Outcome}
 use Rattle.user_agent.specs.declared.rules.Refusal.TheVariants.{LacksSecure, SecureFromHttp}
@@ -45,7 +47,8 @@ use Rattle.user_agent.proofs.IntegrityLemmas.{set_is}
 
 -- ---- what holds of all rows, whatever becomes of a cookie
 
-module _ (P : Row → Type 0) (same : (row other : Row) → other.raw ≡ row.raw → P row → P other) where
+module _ (P : Row → Type 0)
+    (same : (row other : Row) → other.raw ≡ row.raw → key_of other ≡ key_of row → P row → P other) where
   abbrev All : List Row → Type 0
   All rows = AllByRecursion P rows
 
@@ -78,7 +81,7 @@ module _ (P : Row → Type 0) (same : (row other : Row) → other.raw ≡ row.ra
   all_ended : (now : ℤ) (row : Row) (rows : List Row) → All rows → All (ended now row rows)
   all_ended now row rows h =
       all_map (λ y. cond (is_live_of now row y) (expired y) y)
-      (λ y q. by_cond (is_live_of now row y) (expired y) y (same y (expired y) refl q) q) rows h
+      (λ y q. by_cond (is_live_of now row y) (expired y) y (same y (expired y) refl refl q) q) rows h
 
   end_cond : (b : Bool) (x y : End) → All x.1 → All y.1 → All (cond b x y).1
   end_cond true x y p q = p
@@ -102,26 +105,26 @@ module _ (P : Row → Type 0) (same : (row other : Row) → other.raw ≡ row.ra
   all_inserts list url now row rows end p h (inr (allowed, inl (unlisted, fits))) =
       all_fits url now row rows end p h fits
   all_inserts list url now row rows end p h (inr (allowed, inr (inl (listed, own, fits)))) =
-      all_fits url now (alone row) rows end (same row (alone row) refl p) h fits
+      all_fits url now (alone row) rows end (same row (alone row) refl refl p) h fits
   all_inserts list url now row rows end p h (inr (allowed, inr (inr (listed, other, e)))) =
       subst (λ (x : End). All x.1) (sym e) h
 
   -- where it holds of each row of the cookie as which the line reads, it holds after the line
-  module _ (line : List ℕ)
-      (made : (seen : Seen) → IsUtf8 line → ReadsPlain line (Ok seen) → (row : Row) → row.raw ≡ unsliced seen.cookie
-      → P row) where
-    all_accepts : (list : List Rule) (rows new : List Row) (url : Parts) (now : ℤ) (end : LineEnd) → All rows
+  module _ (url : Parts) (now : ℤ) (line : List ℕ)
+      (made : (seen : Seen) → IsUtf8 line → ReadsPlain line (Ok seen) → (row : Row)
+      → IsMade (unsliced seen.cookie) url now row → P row) where
+    all_accepts : (list : List Rule) (rows new : List Row) (end : LineEnd) → All rows
         → Accepts list rows url now line end new → All new
-    all_accepts list rows new url now end h (inl (against, is, same_rows)) = subst All (sym same_rows) h
-    all_accepts list rows new url now end h (inr (free, inl (no_text, is, same_rows))) = subst All (sym same_rows) h
-    all_accepts list rows new url now end h (inr (free, inr (utf8, (read, reads, (answer, inserts, is))))) =
+    all_accepts list rows new end h (inl (against, is, same_rows)) = subst All (sym same_rows) h
+    all_accepts list rows new end h (inr (free, inl (no_text, is, same_rows))) = subst All (sym same_rows) h
+    all_accepts list rows new end h (inr (free, inr (utf8, (read, reads, (answer, inserts, is))))) =
         by read reads inserts
       where
         by : (r : Result Seen ParseError) → ReadsPlain line r → InsertsRead list rows url now r (answer, new) → All new
         by (Err error) r e = subst (λ (x : End). All x.1) (sym e) h
         by (Ok seen) r (inl (cause, known, refuses, e)) = subst (λ (x : End). All x.1) (sym e) h
         by (Ok seen) r (inr (row, is_made, ins)) =
-            all_inserts list url now row rows (answer, new) (made seen utf8 r row is_made.raw) h ins
+            all_inserts list url now row rows (answer, new) (made seen utf8 r row is_made) h ins
 
 -- ---- a URL is secure, or it isn't
 
@@ -162,39 +165,46 @@ picked_all P Is (x ∷ xs) picked h (later, are, inr (out, e)) =
 
 -- ---- a Secure row was set over a secure URL
 
--- a cookie whose name and value are as a text gives them, whose path and domain hold no semicolon, and whose pair is
--- such where it may be Secure
-pub record IsSafe (Was : List ℕ × List ℕ → Type 0) (s : Seen) : Type 0 where
-  pub pair : IsReadPair s.cookie.name s.cookie.value
-  pub uncut : IsUncut s.cookie
-  pub was : may_be_secure s.cookie ≡ true → Was (s.cookie.name, s.cookie.value)
+-- a row whose name and value are as a text gives them, whose Path and Domain hold no semicolon, and whose value was
+-- such under its key where it may be Secure
+pub record IsSafe (Was : Key → List ℕ → Type 0) (row : Row) : Type 0 where
+  pub pair : IsReadPair row.raw.cookie.name row.raw.cookie.value
+  pub uncut : IsUncut row.raw.cookie
+  pub was : may_be_secure row.raw.cookie ≡ true → Was (key_of row) row.raw.cookie.value
 
 module _ (rules : Rules) (from_http : IsTrue rules.secure_from_http) (on : IsTrue rules.secure_wins)
-    (Was : List ℕ × List ℕ → Type 0) where
+    (Was : Key → List ℕ → Type 0) where
   abbrev pub Q : Row → Type 0
-  Q row = IsSafe Was row.raw
+  Q = IsSafe Was
 
-  q_same : (row other : Row) → other.raw ≡ row.raw → Q row → Q other
-  q_same row other e q = subst (IsSafe Was) (sym e) q
+  q_same : (row other : Row) → other.raw ≡ row.raw → key_of other ≡ key_of row → Q row → Q other
+  q_same row other e keyed q = record {
+    pair = subst (λ (s : Seen). IsReadPair s.cookie.name s.cookie.value) (sym e) q.pair;
+    uncut = subst (λ (s : Seen). IsUncut s.cookie) (sym e) q.uncut;
+    was = λ may. subst (λ (k : Key). Was k other.raw.cookie.value) (sym keyed)
+        (subst (λ (s : Seen). Was (key_of row) s.cookie.value) (sym e)
+        (q.was (subst (λ (s : Seen). may_be_secure s.cookie ≡ true) e may)));
+  }
 
   line_sets : (list : List Rule) (rows new : List Row) (url : Parts) (now : ℤ) (line : List ℕ) (outcome : Outcome)
-      → (IsSecure url → (name value : List ℕ) → Sets rules now name value line → Was (name, value))
+      → (IsSecure url → (key : Key) (value : List ℕ) → Sets rules url now key value line → Was key value)
       → AllByRecursion Q rows → TakesLine rules list rows url now line outcome new → AllByRecursion Q new
   line_sets list rows new url now line outcome sets h (inl (stopped, is, same)) = subst (AllByRecursion Q) (sym same) h
   line_sets list rows new url now line outcome sets h (inr (free, (handed, is_handed, inl (rule, refused, is, same)))) =
       subst (AllByRecursion Q) (sym same) h
   line_sets list rows new url now line outcome sets h
       (inr (free, (handed, is_handed, inr (let_in, (end, accepts, is))))) =
-      all_accepts Q q_same handed made list rows new url now end h accepts
+      all_accepts Q q_same url now handed made list rows new end h accepts
     where
       made : (seen : Seen) → IsUtf8 handed → ReadsPlain handed (Ok seen) → (row : Row)
-          → row.raw ≡ unsliced seen.cookie → Q row
-      made seen utf8 reads row e =
-          subst (IsSafe Was) (sym e) (record {
-            pair = texts_give_pairs handed seen utf8 reads;
-            uncut = line_uncut handed seen utf8 reads;
-            was = λ may. by may (secure_or_not url);
-          })
+          → IsMade (unsliced seen.cookie) url now row → Q row
+      made seen utf8 reads row is_made =
+          record {
+            pair = subst (λ (s : Seen). IsReadPair s.cookie.name s.cookie.value) (sym is_made.raw)
+                (texts_give_pairs handed seen utf8 reads);
+            uncut = subst (λ (s : Seen). IsUncut s.cookie) (sym is_made.raw) (line_uncut handed seen utf8 reads);
+            was = λ may. by (subst (λ (s : Seen). may_be_secure s.cookie ≡ true) is_made.raw may) (secure_or_not url);
+          }
         where
           at : (b : Bool) → is_set seen.cookie.secure ≡ b → may_be_secure seen.cookie ≡ true → ¬ (IsSecure url) → ⊥
           at true set may at_http =
@@ -214,27 +224,29 @@ module _ (rules : Rules) (from_http : IsTrue rules.secure_from_http) (on : IsTru
               )
 
           by : may_be_secure seen.cookie ≡ true → (IsSecure url ⊎ (¬ (IsSecure url)))
-              → Was (seen.cookie.name, seen.cookie.value)
+              → Was (key_of row) row.raw.cookie.value
           by may (inl at_https) =
-              sets at_https seen.cookie.name seen.cookie.value (record {
+              sets at_https (key_of row) row.raw.cookie.value (record {
                 handed = handed;
                 is_handed = is_handed;
                 seen = seen;
                 reads = reads;
-                named = refl;
+                made = row;
+                is_made = is_made;
+                keyed = refl;
                 valued = refl;
               })
           by may (inr at_http) = absurd (at (is_set seen.cookie.secure) refl may at_http)
 
   lines_set : (list : List Rule) (rows new : List Row) (url : Parts) (now : ℤ) (lines : List (List ℕ))
       (outcomes : List Outcome)
-      → (IsSecure url → (name value : List ℕ) → IsAny (Sets rules now name value) lines → Was (name, value))
+      → (IsSecure url → (key : Key) (value : List ℕ) → IsAny (Sets rules url now key value) lines → Was key value)
       → AllByRecursion Q rows → TakesLines rules list rows url now lines outcomes new → AllByRecursion Q new
   lines_set list rows new url now [] outcomes sets h takes = subst (AllByRecursion Q) (sym takes.1) h
   lines_set list rows new url now (line ∷ lines) [] sets h takes = absurd takes
   lines_set list rows new url now (line ∷ lines) (outcome ∷ outcomes) sets h (mid, one, rest) =
-      lines_set list mid new url now lines outcomes (λ s name value any. sets s name value (inr any))
-      (line_sets list rows mid url now line outcome (λ s name value here. sets s name value (inl here)) h one) rest
+      lines_set list mid new url now lines outcomes (λ s key value any. sets s key value (inr any))
+      (line_sets list rows mid url now line outcome (λ s key value here. sets s key value (inl here)) h one) rest
 
   -- ---- a restart
 
@@ -242,13 +254,26 @@ module _ (rules : Rules) (from_http : IsTrue rules.secure_from_http) (on : IsTru
   reread_safe row read q h =
       let again = pair_reads_again row.raw.cookie (Ok h.seen) q.pair h.reads in
       let flags = flags_read row.raw.cookie h.seen q.pair q.uncut h.reads in
-      let pair : (row.raw.cookie.name, row.raw.cookie.value) ≡ (h.seen.cookie.name, h.seen.cookie.value) =
-      λ i. (sym again.pair.0 i, sym again.pair.1 i) in
-      subst (IsSafe Was) (sym h.raw) (record {
-        pair = subst (λ (p : List ℕ × List ℕ). IsReadPair p.0 p.1) pair q.pair;
-        uncut = flags.1;
-        was = λ may. subst Was pair (q.was (flags.0 may));
-      })
+      let name : row.raw.cookie.name ≡ h.seen.cookie.name = sym again.pair.0 in
+      let value : row.raw.cookie.value ≡ h.seen.cookie.value = sym again.pair.1 in
+      let raw_name : read.raw.cookie.name ≡ row.raw.cookie.name =
+      ap (λ (s : Seen). s.cookie.name) h.raw ∙ sym name in
+      let keyed : key_of row ≡ key_of read =
+      λ i. record {
+        domain = text_or_empty (sym h.domain i);
+        path = (sym h.path i).text;
+        name = sym raw_name i;
+      } in
+      record {
+        pair = subst (λ (s : Seen). IsReadPair s.cookie.name s.cookie.value) (sym h.raw)
+            (subst (λ v. IsReadPair h.seen.cookie.name v) value
+            (subst (λ n. IsReadPair n row.raw.cookie.value) name q.pair));
+        uncut = subst (λ (s : Seen). IsUncut s.cookie) (sym h.raw) flags.1;
+        was = λ may. subst (λ (k : Key). Was k read.raw.cookie.value) keyed
+            (subst (λ (s : Seen). Was (key_of row) s.cookie.value) (sym h.raw)
+            (subst (λ v. Was (key_of row) v) value
+            (q.was (flags.0 (subst (λ (s : Seen). may_be_secure s.cookie ≡ true) h.raw may)))));
+      }
 
   rereads_safe : (rows read : List Row) → AllByRecursion Q rows → Pairwise IsReread rows read → AllByRecursion Q read
   rereads_safe [] [] h p = tt
@@ -266,32 +291,33 @@ module _ (rules : Rules) (from_http : IsTrue rules.secure_from_http) (on : IsTru
   -- ---- all steps
 
   step_sets : (list : List Rule) (rows new : List Row) (step : Step)
-      → ((name value : List ℕ) → SetsSecurely rules name value step → Was (name, value)) → AllByRecursion Q rows
+      → ((key : Key) (value : List ℕ) → SetsSecurely rules key value step → Was key value) → AllByRecursion Q rows
       → TakesStep rules list rows step new → AllByRecursion Q new
   step_sets list rows new (Answers answer) sets h (outcomes, takes) =
       lines_set list rows new answer.url answer.at answer.lines outcomes
-      (λ s name value any. sets name value (s, any)) h takes
+      (λ s key value any. sets key value (s, any)) h takes
   step_sets list rows new (Restarts saving loading) sets h keeps = restart_keeps rows new saving loading h keeps
 
   pub steps_set : (list : List Rule) (rows new : List Row) (steps : List Step)
-      → ((name value : List ℕ) → IsAny (SetsSecurely rules name value) steps → Was (name, value))
+      → ((key : Key) (value : List ℕ) → IsAny (SetsSecurely rules key value) steps → Was key value)
       → AllByRecursion Q rows → TakesSteps rules list rows steps new → AllByRecursion Q new
   steps_set list rows new [] sets h takes = subst (AllByRecursion Q) (sym takes) h
   steps_set list rows new (step ∷ steps) sets h (mid, one, rest) =
-      steps_set list mid new steps (λ name value any. sets name value (inr any))
-      (step_sets list rows mid step (λ name value here. sets name value (inl here)) h one) rest
+      steps_set list mid new steps (λ key value any. sets key value (inr any))
+      (step_sets list rows mid step (λ key value here. sets key value (inl here)) h one) rest
 
   -- ---- those that win
 
-  -- where a Secure one of these has the row's name, its pair is such
+  -- where a Secure one of these has the row's name, its value is such under its key
   abbrev W : List Row → Row → Type 0
-  W given row = IsTrue (list_any (is_secure_of (decoded_name row)) given) → Was (pair_of row)
+  W given row =
+      IsTrue (list_any (is_secure_of (decoded_name row)) given) → Was (key_of row) row.raw.cookie.value
 
   -- a row that wins over a Secure one of its name is Secure
   won : (given : List Row) (row : Row) → wins given row ≡ true → Q row → W given row
   won given row win q there = by (is_set row.raw.cookie.secure) refl
     where
-      by : (b : Bool) → is_set row.raw.cookie.secure ≡ b → Was (pair_of row)
+      by : (b : Bool) → is_set row.raw.cookie.secure ≡ b → Was (key_of row) row.raw.cookie.value
       by true e = q.was (ap (λ b. b || asks_for_secure row.raw.cookie) e)
       by false e =
           absurd (both_ways (wins given row) (λ i. e i || not (there i)) win)
@@ -311,14 +337,18 @@ header_of_winners : (b : Bool) (rows : List Row) (to : Parts) (now : ℤ) (heade
 header_of_winners true rows to now header e h = h
 header_of_winners false rows to now header e h = absurd (true≢false (sym e))
 
+-- one of the steps set the value under the key
+abbrev pub WasSet : Rules → List Step → Key → List ℕ → Type 0
+WasSet rules steps key value = IsAny (SetsSecurely rules key value) steps
+
 -- after all steps of a user agent that begins without a row
 pub safe_rows : (rules : Rules) (list : List Rule) (steps : List Step) (rows : List Row)
     (from_http : IsTrue rules.secure_from_http) (on : IsTrue rules.secure_wins) → TakesSteps rules list [] steps rows
-    → AllByRecursion (Q rules from_http on (WereSetSecurely rules steps)) rows
+    → AllByRecursion (Q rules from_http on (WasSet rules steps)) rows
 safe_rows rules list steps rows from_http on takes =
-    steps_set rules from_http on (WereSetSecurely rules steps) list [] rows steps (λ name value any. any) tt takes
+    steps_set rules from_http on (WasSet rules steps) list [] rows steps (λ key value any. any) tt takes
 
-read_pairs_of : (Was : List ℕ × List ℕ → Type 0) (rows : List Row) → AllByRecursion (λ row. IsSafe Was row.raw) rows
+read_pairs_of : (Was : Key → List ℕ → Type 0) (rows : List Row) → AllByRecursion (IsSafe Was) rows
     → HaveReadPairs rows
 read_pairs_of Was [] h = tt
 read_pairs_of Was (row ∷ rows) h = (h.0.pair, read_pairs_of Was rows h.1)
@@ -328,12 +358,12 @@ pub have_read_pairs : (rules : Rules) (list : List Rule) (steps : List Step) (ro
     → IsTrue rules.secure_from_http → IsTrue rules.secure_wins → TakesSteps rules list [] steps rows
     → HaveReadPairs rows
 have_read_pairs rules list steps rows from_http on takes =
-    read_pairs_of (WereSetSecurely rules steps) rows (safe_rows rules list steps rows from_http on takes)
+    read_pairs_of (WasSet rules steps) rows (safe_rows rules list steps rows from_http on takes)
 
 pub secure_names_are_set_securely : SecureNamesAreSetSecurely
 secure_names_are_set_securely rules list steps rows from_http on takes to now header is =
     let h = header_of_winners rules.secure_wins rows to now header on is in
-    let Was : List ℕ × List ℕ → Type 0 = WereSetSecurely rules steps in
+    let Was : Key → List ℕ → Type 0 = WasSet rules steps in
     let all = safe_rows rules list steps rows from_http on takes in
     let picked = picked_all (Q rules from_http on Was) _ rows h.are_given.0 all h.are_given.1 in
     let longest = recursion_from_All (Q rules from_http on Was) h.given

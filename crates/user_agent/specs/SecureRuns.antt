@@ -5,11 +5,12 @@ use Rattle.publicsuffix.specs.Rules.{Rule}
 use Rattle.percent_encoding.specs.Percent.{percent_decode}
 use Rattle.url.specs.Parts.{Parts}
 use Rattle.cookie_text.specs.Reading.{ReadsPlain}
-use Rattle.cookie_text.specs.Record.{Record, Seen}
+use Rattle.cookie_text.specs.Record.{Record, Seen, unsliced}
 use Rattle.store_parts.specs.Schemes.{IsSecure}
 use Rattle.cookie_store.specs.Given.{pair_of}
 use Rattle.cookie_store.specs.Longest.{AreGivenLongest}
-use Rattle.cookie_store.specs.Rows.{Row}
+use Rattle.cookie_store.specs.Making.{IsMade}
+use Rattle.cookie_store.specs.Rows.{Key, Row, key_of}
 use Rattle.cookie_run.specs.Header.{header_of}
 use Rattle.cookie_run.specs.Keeping.{Keeps}
 use Rattle.cookie_run.specs.Reading.{AreCookiesOf}
@@ -50,30 +51,33 @@ abbrev pub IsAny : {A : Type 0} → (A → Type 0) → List A → Type 0
 IsAny Is [] = ⊥
 IsAny Is (x ∷ xs) = Is x ⊎ IsAny Is xs
 
--- the line, as the client gets it, reads as a cookie of this name and value
-pub record Sets (rules : Rules) (now : ℤ) (name value line : List ℕ) : Type 0 where
+-- the line, as the client gets it, reads as a cookie that becomes a row of this key and value, if it is stored
+pub record Sets (rules : Rules) (url : Parts) (now : ℤ) (key : Key) (value line : List ℕ) : Type 0 where
   pub handed : List ℕ
   pub is_handed : IsHandedOn rules now line handed
   pub seen : Seen
   pub reads : ReadsPlain handed (Ok seen)
-  pub named : seen.cookie.name ≡ name
-  pub valued : seen.cookie.value ≡ value
+  pub made : Row
+  pub is_made : IsMade (unsliced seen.cookie) url now made
+  pub keyed : key_of made ≡ key
+  pub valued : made.raw.cookie.value ≡ value
 
 -- it is an answer from a secure URL, and one of its lines does
-abbrev pub SetsSecurely : Rules → List ℕ → List ℕ → Step → Type 0
-SetsSecurely rules name value (Answers answer) =
-    IsSecure answer.url × IsAny (Sets rules answer.at name value) answer.lines
-SetsSecurely rules name value (Restarts saving loading) = ⊥
+abbrev pub SetsSecurely : Rules → Key → List ℕ → Step → Type 0
+SetsSecurely rules key value (Answers answer) =
+    IsSecure answer.url × IsAny (Sets rules answer.url answer.at key value) answer.lines
+SetsSecurely rules key value (Restarts saving loading) = ⊥
 
--- one of the steps is so
-abbrev pub WereSetSecurely : Rules → List Step → List ℕ × List ℕ → Type 0
-WereSetSecurely rules steps pair = IsAny (SetsSecurely rules pair.0 pair.1) steps
+-- one of the steps set the row's value under its domain, its path and its name
+abbrev pub WasSetSecurely : Rules → List Step → Row → Type 0
+WasSetSecurely rules steps row = IsAny (SetsSecurely rules (key_of row) row.raw.cookie.value) steps
 
 -- ---- what a request is sent
 
 -- Where the rules on Secure cookies from http and on Secure rows are on, whatever answers came, with restarts between:
 -- the header of each request has the pairs of the rows that win among those that it is given; and where one of these is
--- Secure and has the decoded name of a pair, that pair was set by an answer from a secure URL.
+-- Secure and has the decoded name of such a row, that row's value was set under its domain, path and name by an answer
+-- from a secure URL.
 abbrev pub SecureNamesAreSetSecurely : Type 0
 SecureNamesAreSetSecurely =
     (rules : Rules) (list : List Rule) (steps : List Step) (rows : List Row) → IsTrue rules.secure_from_http
@@ -81,15 +85,18 @@ SecureNamesAreSetSecurely =
     → (to : Parts) (now : ℤ) (header : List ℕ) → IsHeaderBehind rules rows to now header
     → (given : List Row) × AreGivenLongest rows to now given × (header ≡ header_of (map pair_of (winners given)))
     × AllByRecursion (λ row. IsTrue (list_any (is_secure_of (decoded_name row)) given)
-    → WereSetSecurely rules steps (pair_of row)) (winners given)
+    → WasSetSecurely rules steps row) (winners given)
 
 -- ---- what a session reads
 
--- the cookie is of a pair that was set securely: its name and its value are that pair's, decoded
-abbrev pub WasReadSecurely : Rules → List Step → Record → Type 0
-WasReadSecurely rules steps cookie =
-    (pair : List ℕ × List ℕ) × WereSetSecurely rules steps pair × (cookie.name ≡ percent_decode pair.0)
-    × (cookie.value ≡ percent_decode pair.1)
+-- the cookie is of a row that the request is given and that was set securely: its name and its value are that row's,
+-- decoded
+pub record WasReadSecurely (rules : Rules) (steps : List Step) (given : List Row) (cookie : Record) : Type 0 where
+  pub row : Row
+  pub given_row : IsAny (λ other. row ≡ other) given
+  pub was : WasSetSecurely rules steps row
+  pub named : cookie.name ≡ decoded_name row
+  pub valued : cookie.value ≡ percent_decode row.raw.cookie.value
 
 -- So of the cookies of that header, which a session on it reads, each is that has the name of a Secure row which the
 -- request is given.
@@ -100,4 +107,4 @@ SecureNamesAreReadSecurely =
     → (to : Parts) (now : ℤ) (header : List ℕ) → IsHeaderBehind rules rows to now header
     → (cookies : List Record) → AreCookiesOf header cookies → (given : List Row) × AreGivenLongest rows to now given
     × AllByRecursion (λ cookie. IsTrue (list_any (is_secure_of cookie.name) given)
-    → WasReadSecurely rules steps cookie) cookies
+    → WasReadSecurely rules steps given cookie) cookies

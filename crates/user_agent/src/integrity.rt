@@ -12,14 +12,15 @@ pub fn protected_rows_stand()
 {}
 
 /// Where the rules `secure_from_http` and `secure_wins` are on, whatever answers came since there was no row, with
-/// restarts between: a pair of a request's header was set by an answer from a secure URL, where the request is given a
-/// Secure row that has its name, both percent-decoded.
+/// restarts between: a pair of a request's header is of a row whose value an answer from a secure URL set under its
+/// domain, path and name, where the request is given a Secure row that has its name, both percent-decoded. That URL's
+/// host is one that the row's domain covers.
 pub fn secure_names_are_set_securely()
     ensures { SecureNamesAreSetSecurely }
 {}
 
 /// So a session on that header reads under such a name what an answer from a secure URL set: name and value of each
-/// cookie that it reads are those of such a pair, percent-decoded.
+/// cookie that it reads are those of such a row, which the request is given, percent-decoded.
 pub fn secure_names_are_read_securely()
     ensures { SecureNamesAreReadSecurely }
 {}
