@@ -35,7 +35,7 @@ fn whole<H: Files + AllocGlobal>(rt: &H, path: &str) -> Result<Vec<u8>, Unread> 
     match files::read(rt, path) {
         Ok(bytes) => Ok(bytes),
         Err(Cause::Memory) => Err(Unread::Memory),
-        Err(Cause::Missing | Cause::Failed) => Err(Unread::File),
+        Err(Cause::Missing | Cause::Failed(_)) => Err(Unread::File),
     }
 }
 
@@ -48,7 +48,7 @@ fn beside<H: Files + AllocGlobal>(rt: &H, path: &str, ending: &str) -> Result<Ve
         Ok(bytes) => Ok(bytes),
         Err(Cause::Missing) => Ok(Vec::new(rt.alloc())),
         Err(Cause::Memory) => Err(Unread::Memory),
-        Err(Cause::Failed) => Err(Unread::File),
+        Err(Cause::Failed(_)) => Err(Unread::File),
     }
 }
 

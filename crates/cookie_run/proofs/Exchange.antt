@@ -194,8 +194,8 @@ walked counts Read tell key laws host rows url now d site cs told session header
     serves =
     let brought = brings counts key now a.cookies header serves.0 a.agrees.apart
     (header_last counts host url now rows a.cookies header secure reads pairs a.agrees is) serves.1 in
-    all_go counts Read tell key now d (found_in a.cookies) serves.0 session (live_view site now) site cs told laws.only after
-    late (opened_walks counts key now d a.cookies header serves.0 site after brought serves.1 a.each) serves.2
+    all_go counts Read tell key now d (found_in a.cookies) serves.0 session (live_view site now) site cs told laws.only
+    after late (opened_walks counts key now d a.cookies header serves.0 site after brought serves.1 a.each) serves.2
 
 -- an exchange that is opened at the moment
 abbrev pub ExchangeIn : Gets → Site → ℤ → List Command → Arrival → List Reading → Site → Type 0

@@ -1,6 +1,6 @@
 -- A script says of moments and removals what a play says of them.
-use Rattle.std.proofs.Common.{◌≡◌, ◌*◌, ◌≤ℤ◌, ◌<ℤ◌, pos, ℕ, ℤ, List, [], ◌∷◌, true, false, Option, Some, None, ap, arith}
-use Rattle.std.proofs.Common.{refl, ◌∙◌, if◌then◌else◌}
+use Rattle.std.proofs.Common.{◌≡◌, ◌*◌, ◌≤ℤ◌, ◌<ℤ◌, pos, ℕ, ℤ, List, [], ◌∷◌, true, false, Option, Some, None, ap}
+use Rattle.std.proofs.Common.{arith, refl, ◌∙◌, if◌then◌else◌}
 use Rattle.std.specs.Cmp.{int_ranks}
 use Rattle.std.specs.Ordering.{MatchOrdering, int_cmp, is_lt}
 use Rattle.std.specs.declared.cmp.Ordering.{Ordering}

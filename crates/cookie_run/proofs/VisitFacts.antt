@@ -93,8 +93,9 @@ first_told age arrival told new h =
 
 -- the second one reads what its site has then
 second_told : (site : Site) (later : ℤ) (value : Option (List ℕ))
-    → ((v : Option (List ℕ)) → IsReadAt kinds.Plain (live_view site later the_name) v → v ≡ value) → (told : List Reading)
-    (new : Site) → ReadsOn shop site (reads_it later) told new → told ≡ Value Plain the_name value ∷ []
+    → ((v : Option (List ℕ)) → IsReadAt kinds.Plain (live_view site later the_name) v → v ≡ value)
+    → (told : List Reading) (new : Site) → ReadsOn shop site (reads_it later) told new
+    → told ≡ Value Plain the_name value ∷ []
 second_told site later value reads told new h =
     let c = (h.0 refl).2 in
     let get = c.5.0 in

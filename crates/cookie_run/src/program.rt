@@ -269,8 +269,8 @@ fn untaken_as(untaken: Untaken) -> Failure
 {
     match untaken {
         Untaken::InUse => Failure::StoreInUse,
-        Untaken::NoLock => Failure::LockFile,
-        Untaken::Failed => Failure::StoreFile,
+        Untaken::NoLock(_) => Failure::LockFile,
+        Untaken::Failed(_) => Failure::StoreFile,
         Untaken::Memory => Failure::Memory,
     }
 }
@@ -281,7 +281,7 @@ fn unread_as(unread: Unread) -> Failure
 {
     match unread {
         Unread::Memory => Failure::Memory,
-        Unread::Missing | Unread::Failed => Failure::StoreFile,
+        Unread::Missing | Unread::Failed(_) => Failure::StoreFile,
     }
 }
 
@@ -342,7 +342,7 @@ fn serve_held<K: Keeper, R: Source, W: Sink>(
         Ok(Some(text)) => match kept.replace(text) {
             Ok(()) => Ok(0),
             Err(Unwritten::Memory) => Err(Failure::Memory),
-            Err(Unwritten::Failed) => Err(Failure::StoreFile),
+            Err(Unwritten::Failed(_)) => Err(Failure::StoreFile),
         },
         Ok(None) => Ok(1),
         Err(failure) => Err(failure),
@@ -356,7 +356,7 @@ fn read_suffixes<H: Files + AllocGlobal>(rt: &H, path: &str) -> Result<Vec<u8>, 
     match files::read(rt, path) {
         Ok(text) => Ok(text),
         Err(Unread::Memory) => Err(Failure::Memory),
-        Err(Unread::Missing | Unread::Failed) => Err(Failure::SuffixFile),
+        Err(Unread::Missing | Unread::Failed(_)) => Err(Failure::SuffixFile),
     }
 }
 

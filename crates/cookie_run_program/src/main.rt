@@ -76,6 +76,6 @@ fn file_text(rt: &HostRuntime, path: &str) -> Result<Option<String>, AllocError>
             Err(_) => Ok(None),
         },
         Err(Unread::Memory) => Err(AllocError),
-        Err(Unread::Missing | Unread::Failed) => Ok(None),
+        Err(Unread::Missing | Unread::Failed(_)) => Ok(None),
     }
 }

@@ -120,8 +120,8 @@ fn untaken_as(untaken: Untaken) -> Failure
 {
     match untaken {
         Untaken::InUse => Failure::JarInUse,
-        Untaken::NoLock => Failure::LockFile,
-        Untaken::Failed => Failure::JarFile,
+        Untaken::NoLock(_) => Failure::LockFile,
+        Untaken::Failed(_) => Failure::JarFile,
         Untaken::Memory => Failure::Memory,
     }
 }
@@ -132,7 +132,7 @@ fn unread_as(unread: Unread) -> Failure
 {
     match unread {
         Unread::Memory => Failure::Memory,
-        Unread::Missing | Unread::Failed => Failure::JarFile,
+        Unread::Missing | Unread::Failed(_) => Failure::JarFile,
     }
 }
 
@@ -193,7 +193,7 @@ pub(crate) fn unwritten_as(unwritten: Unwritten, refused: Failure) -> Failure
 {
     match unwritten {
         Unwritten::Memory => Failure::Memory,
-        Unwritten::Failed => refused,
+        Unwritten::Failed(_) => refused,
     }
 }
 

@@ -421,7 +421,7 @@ fn read_suffixes<H: Files + AllocGlobal>(rt: &H, path: &str) -> Result<Vec<u8>, 
     match files::read(rt, path) {
         Ok(text) => Ok(text),
         Err(Unread::Memory) => Err(Failure::Memory),
-        Err(Unread::Missing | Unread::Failed) => Err(Failure::SuffixFile),
+        Err(Unread::Missing | Unread::Failed(_)) => Err(Failure::SuffixFile),
     }
 }
 
@@ -438,7 +438,7 @@ fn read_given<H: Files + AllocGlobal>(
     match files::read(rt, path) {
         Ok(text) => Ok(Some(text)),
         Err(Unread::Memory) => Err(Failure::Memory),
-        Err(Unread::Missing | Unread::Failed) => Err(Failure::File),
+        Err(Unread::Missing | Unread::Failed(_)) => Err(Failure::File),
     }
 }
 

@@ -1,4 +1,5 @@
 //! Files that are read as a whole. What a file holds, no contract sees.
+use crate::cause::words_of;
 use std::fs::{self, Files};
 use std::io::ErrorKind;
 
@@ -9,8 +10,8 @@ pub enum Unread {
     Missing,
     /// Memory was refused.
     Memory,
-    /// The system refused it.
-    Failed,
+    /// The system refused it, for this cause in words, as `Permission denied`.
+    Failed(&'static str),
 }
 
 /// All that a file holds.
@@ -20,7 +21,7 @@ pub fn read<H: Files + AllocGlobal>(rt: &H, path: &str) -> Result<Vec<u8>, Unrea
         Err(error) => match error.kind() {
             ErrorKind::NotFound => Err(Unread::Missing),
             ErrorKind::OutOfMemory => Err(Unread::Memory),
-            _ => Err(Unread::Failed),
+            kind => Err(Unread::Failed(words_of(kind))),
         },
     }
 }

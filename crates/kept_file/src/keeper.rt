@@ -10,10 +10,10 @@ use std::time::Duration;
 pub enum Untaken {
     /// It was held by another all the time.
     InUse,
-    /// No lock file can be made or opened beside the file.
-    NoLock,
-    /// The file isn't one that can be kept, or its folder isn't there.
-    Failed,
+    /// No lock file can be made or opened beside the file, for this cause in words.
+    NoLock(&'static str),
+    /// The file isn't one that can be kept, or its folder isn't there, for this cause in words.
+    Failed(&'static str),
     /// Memory was refused.
     Memory,
 }

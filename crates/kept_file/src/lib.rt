@@ -10,6 +10,7 @@
 //! ```
 #![tactic(auto)]
 
+mod cause;
 pub mod draft;
 pub mod files;
 pub mod keeper;

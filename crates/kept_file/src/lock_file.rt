@@ -1,4 +1,5 @@
 //! The lock file beside a kept file.
+use crate::cause::words_of;
 use crate::files::Unread;
 use crate::keeper::Untaken;
 use crate::place::{OWNERS, Place, plain_file};
@@ -22,7 +23,8 @@ pub(crate) fn locked<H: Files<File = File> + AllocGlobal + Clock>(
     let (path, lock) = match place.with_lock(rt) {
         Ok(names) => names,
         Err(Unread::Memory) => return Err(Untaken::Memory),
-        Err(Unread::Missing | Unread::Failed) => return Err(Untaken::Failed),
+        Err(Unread::Missing) => return Err(Untaken::Failed(words_of(ErrorKind::NotFound))),
+        Err(Unread::Failed(cause)) => return Err(Untaken::Failed(cause)),
     };
     let file = match opened(rt, path.as_path(), lock.as_path()) {
         Ok(file) => file,
@@ -39,8 +41,8 @@ fn untaken(error: io::Error) -> Untaken {
     match error.kind() {
         ErrorKind::OutOfMemory => Untaken::Memory,
         // (its folder isn't there, so the file can't be kept either)
-        ErrorKind::NotFound => Untaken::Failed,
-        _ => Untaken::NoLock,
+        ErrorKind::NotFound => Untaken::Failed(words_of(ErrorKind::NotFound)),
+        kind => Untaken::NoLock(words_of(kind)),
     }
 }
 

@@ -13,6 +13,9 @@ use std::mem;
 use std::rt::Clock;
 use std::time::Duration;
 
+// Why what wants the lock is refused without it.
+const UNHELD: &str = "its lock isn't held";
+
 /// A file of the system. Its lock is the system's (flock) on a file beside it, `NAME.lock`, which is empty,
 /// its owner's alone, and stays. The system gives the lock back where the process ends.
 #[derive(Drop)]
@@ -61,7 +64,7 @@ impl<'a, H: Files<File = File> + AllocGlobal + Clock> Keeper for Locked<'a, H> {
 
     fn read(&mut self) -> Result<(), Unread> {
         let Some((place, _)) = &self.held else {
-            return Err(Unread::Failed);
+            return Err(Unread::Failed(UNHELD));
         };
         let bytes = match place.read(self.rt) {
             Ok(bytes) => Some(bytes),
@@ -73,7 +76,7 @@ impl<'a, H: Files<File = File> + AllocGlobal + Clock> Keeper for Locked<'a, H> {
                 holding.seen = Some(bytes);
                 Ok(())
             }
-            Lock::Free | Lock::Given(_) => Err(Unread::Failed),
+            Lock::Free | Lock::Given(_) => Err(Unread::Failed(UNHELD)),
         }
     }
 
@@ -86,11 +89,11 @@ impl<'a, H: Files<File = File> + AllocGlobal + Clock> Keeper for Locked<'a, H> {
 
     fn replace(&mut self, text: Vec<u8>) -> Result<(), Unwritten> {
         let Lock::Held(holding) = &mut self.lock else {
-            return Err(Unwritten::Failed);
+            return Err(Unwritten::Failed(UNHELD));
         };
         let done = match &self.held {
             Some((place, _)) => place.replace_alone(self.rt, &text),
-            None => Err(Unwritten::Failed),
+            None => Err(Unwritten::Failed(UNHELD)),
         };
         holding.put = Some(text);
         done

@@ -1,4 +1,5 @@
 //! The file that a program keeps something in, read and replaced as a whole. What it holds, no contract sees.
+use crate::cause::words_of;
 use crate::files::{self, Unread};
 use std::alloc::AllocError;
 use std::fs::{self, File, Files, Metadata, OpenFile, OpenOptions, Permissions};
@@ -14,8 +15,8 @@ pub(crate) const OWNERS: u32 = 0o600;
 pub enum Unwritten {
     /// Memory was refused.
     Memory,
-    /// The system refused it.
-    Failed,
+    /// The system refused it, for this cause in words, as `No space left on device`.
+    Failed(&'static str),
 }
 
 /// Where something is kept: a plain file, or none yet; where the file is a link, what it points to.
@@ -38,7 +39,7 @@ impl Place {
             Ok(path) => Ok(path),
             Err(error) => match error.kind() {
                 ErrorKind::OutOfMemory => Err(Unread::Memory),
-                _ => Err(Unread::Failed),
+                kind => Err(Unread::Failed(words_of(kind))),
             },
         };
         Place { path, stem }
@@ -81,13 +82,14 @@ impl Place {
         let path = match &self.path {
             Ok(path) => path,
             Err(Unread::Memory) => return Err(Unwritten::Memory),
-            Err(Unread::Missing | Unread::Failed) => return Err(Unwritten::Failed),
+            Err(Unread::Missing) => return Err(Unwritten::Failed(words_of(ErrorKind::NotFound))),
+            Err(Unread::Failed(cause)) => return Err(Unwritten::Failed(*cause)),
         };
         match put(rt, path.as_path(), self.stem, naming, text) {
             Ok(()) => Ok(()),
             Err(error) => match error.kind() {
                 ErrorKind::OutOfMemory => Err(Unwritten::Memory),
-                _ => Err(Unwritten::Failed),
+                kind => Err(Unwritten::Failed(words_of(kind))),
             },
         }
     }
@@ -105,7 +107,7 @@ impl Place {
             Ok(names) => Ok(names),
             Err(error) => match error.kind() {
                 ErrorKind::OutOfMemory => Err(Unread::Memory),
-                _ => Err(Unread::Failed),
+                kind => Err(Unread::Failed(words_of(kind))),
             },
         }
     }

@@ -57,7 +57,8 @@ returns-in-Err-clause-keeps_err g c =
       unwritten = (g.W.Failing.failures c.args.writer.now, g.W.Failing.failures c.answer.new.writer);
     } in (
       Err c.in-Err.failure,
-      subst (λ stored. RunGives ((c.answer.new.reader ≡ c.args.reader.now) × (c.answer.new.writer ≡ c.args.writer.now)) io
+      subst (λ stored. RunGives
+          ((c.answer.new.reader ≡ c.args.reader.now) × (c.answer.new.writer ≡ c.args.writer.now)) io
           (map (λ word. string_bytes word) c.args.words.now) c.args.suffixes.now stored (Err c.in-Err.failure))
           c.bytes.ensures c.in-Err.ensures.gives,
       refl,

@@ -27,7 +27,8 @@ returns-in_err-saved_text-in-Ok-Whole-clause-gives g c =
     (λ failure is. subst (λ f. spec.ScriptFails io asked rules rows f) (sym is)
     (unsaved io asked rules rows _ c.run.new.client.rows (civil_nanos c.run.new.last)
     (λ Is so. script_ends io asked rules rows Whole c.in-Ok-Whole.field-0 Is _ _ c.run.new.client.rows
-    (civil_nanos c.run.new.last) c.run.new.rng c.in-Ok-Whole.field-0-is c.seeded-key.ensures.key c.seeded-key.ensures.generator c.in-Ok-Whole.ensures.text c.in-Ok-Whole.ensures.draws so)
+    (civil_nanos c.run.new.last) c.run.new.rng c.in-Ok-Whole.field-0-is c.seeded-key.ensures.key
+    c.seeded-key.ensures.generator c.in-Ok-Whole.ensures.text c.in-Ok-Whole.ensures.draws so)
     c.in_err-saved_text-in-Ok-Whole.ensures.err))
 
 -- src/program/answering.rt:145:1
