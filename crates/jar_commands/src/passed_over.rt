@@ -1,5 +1,5 @@
-//! What is told of heads and lines that are passed over.
-ghost use Rattle.std.specs.Prelude.{◌≡◌, ◌≤◌, ◌^◌, ◌++◌, OnOk, map, string_bytes};
+//! What is told of heads and lines that are passed over, and of lines that are joined to others.
+ghost use Rattle.std.specs.Prelude.{◌≡◌, ◌≤◌, ◌^◌, ◌++◌, OnOk, false, map, string_bytes};
 ghost use Rattle.response_heads.specs.Read.{field_text};
 ghost use Rattle.response_heads.specs.Visits.{visit_text};
 ghost use Rattle.jar_commands.specs.PassedOver as spec;
@@ -8,7 +8,7 @@ use response_heads::{Field, LineFault, Visit};
 use std::alloc::AllocError;
 
 /// Tells behind a text of a visit's head, where a proxy answered, and of its lines that are no field lines, each with
-/// its number.
+/// its number: that it is passed over, or is a folded one that is joined to the field before it.
 ///
 /// # Errors
 ///
@@ -35,12 +35,15 @@ pub(crate) fn push_passed_over(
 fn push_odd_lines(told: &mut String, first: u128, fields: &[Field<'_>]) -> Result<(), AllocError>
     requires { first ≤ 2 ^ 64 }
     ensures { OnOk result (string_bytes told.new
-        ≡ string_bytes told.old ++ spec.odd_lines first (map field_text fields.now)) }
+        ≡ string_bytes told.old ++ spec.odd_lines first false (map field_text fields.now)) }
 {
     let mut left = fields;
     let mut number = first;
+    let mut is_behind_field = false;
     while let [field, rest @ ..] = left {
-        push_odd_line(told, number, field.fault())?;
+        let fault = field.fault();
+        push_odd_line(told, number, is_behind_field, fault)?;
+        is_behind_field = takes_folds(is_behind_field, fault);
         left = rest;
         number += 1;
     }
@@ -50,13 +53,26 @@ fn push_odd_lines(told: &mut String, first: u128, fields: &[Field<'_>]) -> Resul
 fn push_odd_line(
     told: &mut String,
     number: u128,
+    is_behind_field: bool,
     fault: Option<LineFault>,
 ) -> Result<(), AllocError>
-    ensures { OnOk result (string_bytes told.new ≡ string_bytes told.old ++ spec.odd_line number fault) }
+    ensures { OnOk result (string_bytes told.new
+        ≡ string_bytes told.old ++ spec.odd_line number is_behind_field fault) }
 {
     match fault {
-        Some(fault) => push_line(told, fault_words(fault), number),
+        Some(fault) => push_line(told, fault_words(is_behind_field, fault), number),
         None => Ok(()),
+    }
+}
+
+// Whether a folded line behind this one goes on with a field.
+fn takes_folds(is_behind_field: bool, fault: Option<LineFault>) -> bool
+    ensures { result ≡ spec.takes_folds is_behind_field fault }
+{
+    match fault {
+        None => true,
+        Some(LineFault::Folded) => is_behind_field,
+        Some(_) => false,
     }
 }
 
@@ -66,10 +82,11 @@ fn push_line(told: &mut String, words: &str, number: u128) -> Result<(), AllocEr
     write!(told, "{words}{number}\n")
 }
 
-fn fault_words(fault: LineFault) -> &'static str
-    ensures { result.now ≡ spec.fault_words fault }
+fn fault_words(is_behind_field: bool, fault: LineFault) -> &'static str
+    ensures { result.now ≡ spec.fault_words is_behind_field fault }
 {
     match fault {
+        LineFault::Folded if is_behind_field => "joined: folded line\tline ",
         LineFault::Folded => "passed over: folded line\tline ",
         LineFault::NoColon => "passed over: no colon\tline ",
         LineFault::Name => "passed over: no field name\tline ",

@@ -1,5 +1,6 @@
 //! The command that takes what URLs answered.
-ghost use Rattle.std.specs.Prelude.{◌≡◌, ◌⊎◌, ◌++◌, ◌||◌, is_some, IfOk, IfErr, IsSomeAnd, OnOk, map, string_bytes, if◌then◌else◌};
+ghost use Rattle.std.specs.Prelude.{◌≡◌, ◌⊎◌, ◌++◌, ◌||◌, is_some, IfOk, IfErr, IsSomeAnd, OnOk, map, string_bytes};
+ghost use Rattle.std.specs.Prelude.{if◌then◌else◌};
 ghost use Rattle.std.specs.Option.{option_copied};
 ghost use Rattle.jiff.specs.Words.{civil_nanos};
 ghost use Rattle.response_heads.specs.Visits.{GivesVisits, set_cookie_lines, visit_text};
@@ -157,7 +158,8 @@ fn receive_visit(
         received.old.is_any_refused (string_bytes received.new.told) received.new.is_any_refused jar.new.rows) }
     ensures list { jar.new.suffixes ≡ jar.old.suffixes }
 {
-    let lines = visit.set_cookie_lines(alloc)?;
+    let read = visit.set_cookie_lines(alloc)?;
+    let lines = slices_of(alloc, &read)?;
     let Ok(ends) = jar.receive(plan.form, &plan.rules, &visit.url, &lines, plan.at) else {
         return Err(AllocError);
     };
@@ -165,6 +167,18 @@ fn receive_visit(
     received.told.push_str(told.as_str())?;
     received.is_any_refused = received.is_any_refused || is_any_refused(&ends);
     Ok(())
+}
+
+// The bytes of each line.
+fn slices_of(alloc: Global, lines: &[Vec<u8>]) -> Result<Vec<&[u8]>, AllocError>
+    ensures { IfOk result (λ slices.
+        map (λ slice. slice.now) slices.items ≡ map (λ line. line.items) lines.now) }
+{
+    let mut slices = Vec::new(alloc);
+    for line in lines {
+        slices.push(line.as_slice())?;
+    }
+    Ok(slices)
 }
 
 // What is told of a visit, of which these are the lines.

@@ -1,8 +1,8 @@
 pub mod FieldLemmas
+pub mod FoldLemmas
 pub mod HeadLemmas
 pub mod ReadLemmas
 pub mod StatusLemmas
 pub mod TextLemmas
-pub mod TrimLemmas
 pub mod UniqueLemmas
 pub mod VisitLemmas

@@ -1,108 +1,21 @@
 -- A text gives one list of heads.
-use Rattle.std.proofs.Common.{◌≡◌, ◌+◌, ◌-◌, ◌<◌, ℕ, zero, suc, Bool, true, false, List, [], ◌∷◌, ◌++◌, length}
-use Rattle.std.proofs.Common.{get_or}
-use Rattle.std.proofs.Common.{Some, None, inl, inr, refl, sym, ap, subst, ◌∙◌, arith, append_assoc}
-use Rattle.std.specs.Prelude.{◌&&◌, slice_index}
-use Rattle.std.specs.List.{AllByRecursion, after_first, flat_map, list_all}
+use Rattle.std.proofs.Common.{◌≡◌, ◌+◌, ℕ, Bool, true, false, List, [], ◌∷◌, ◌++◌, length}
+use Rattle.std.proofs.Common.{Some, None, inl, inr, refl, sym, ap, subst, ◌∙◌, append_assoc}
+use Rattle.std.specs.List.{AllByRecursion, flat_map}
 use Rattle.std.proofs.lemmas.Bool.{false≢true}
 use Rattle.response_heads.specs.Heads.{AreFields, AreHeads, GivesHeads, HeadLines, HeadText, IsHead, IsPassedOver}
 use Rattle.response_heads.specs.Heads.{whole}
-use Rattle.response_heads.specs.Lines.{AllWhite, FieldText, GivesField, IsField, IsNoField, IsTrimmed, begins_head}
-use Rattle.response_heads.specs.Lines.{fault_of, is_colon, is_white}
-
--- ---- a trimmed text
-
-white_head : (x : ℕ) (xs : List ℕ) → AllWhite (x ∷ xs) → (is_white x ≡ true) × AllWhite xs
-white_head x xs h = by (is_white x) h
-  where
-    by : (b : Bool) → (b && list_all is_white xs) ≡ true → (b ≡ true) × AllWhite xs
-    by true h = (refl, h)
-    by false h = cc
-
-white_tail : (c y : List ℕ) → AllWhite (c ++ y) → AllWhite y
-white_tail [] y h = h
-white_tail (x ∷ c) y h = white_tail c y (white_head x (c ++ y) h).1
-
-white_front : (y d : List ℕ) → AllWhite (y ++ d) → AllWhite y
-white_front [] d h = refl
-white_front (x ∷ y) d h =
-    let both = white_head x (y ++ d) h in
-    ap (λ t. t && list_all is_white y) both.0 ∙ white_front y d both.1
-
-white_at : (xs : List ℕ) (i : ℕ) → AllWhite xs → i < length xs → is_white (get_or xs i 0) ≡ true
-white_at [] i h within = absurd (omega (arith, within))
-white_at (x ∷ xs) zero h within = (white_head x xs h).0
-white_at (x ∷ xs) (suc i) h within = white_at xs i (white_head x xs h).1 (omega (arith, within))
-
-both_white : (b a : List ℕ) → AllWhite b → AllWhite a → AllWhite (b ++ a)
-both_white [] a hb ha = ha
-both_white (x ∷ b) a hb ha =
-    let both = white_head x b hb in
-    ap (λ t. t && list_all is_white (b ++ a)) both.0 ∙ both_white b a both.1 ha
+use Rattle.response_heads.specs.Lines.{FieldText, GivesField, IsField, IsNoField, begins_head, fault_of}
 
 clash : (b : Bool) → b ≡ true → b ≡ false → ⊥
 clash b is isnt = false≢true (sym isnt ∙ is)
-
-first_of : (x y : ℕ) (xs ys : List ℕ) → x ∷ xs ≡ y ∷ ys → x ≡ y
-first_of x y xs ys e = cc
-
-rest_of : (x y : ℕ) (xs ys : List ℕ) → x ∷ xs ≡ y ∷ ys → xs ≡ ys
-rest_of x y xs ys e = cc
-
-same_front : (b c : List ℕ) (k l : ℕ) (x y : List ℕ) → b ++ k ∷ x ≡ c ++ l ∷ y → AllWhite b → AllWhite c
-    → is_white k ≡ false → is_white l ≡ false → k ∷ x ≡ l ∷ y
-same_front [] [] k l x y e hb hc hk hl = e
-same_front [] (m ∷ c) k l x y e hb hc hk hl =
-    absurd (clash (is_white k) (ap is_white (first_of k m x (c ++ l ∷ y) e) ∙ (white_head m c hc).0) hk)
-same_front (m ∷ b) [] k l x y e hb hc hk hl =
-    absurd (clash (is_white l) (ap is_white (sym (first_of m l (b ++ k ∷ x) y e)) ∙ (white_head m b hb).0) hl)
-same_front (m ∷ b) (n ∷ c) k l x y e hb hc hk hl =
-    same_front b c k l x y (rest_of m n (b ++ k ∷ x) (c ++ l ∷ y) e) (white_head m b hb).1 (white_head n c hc).1 hk hl
-
--- the last byte, where there is one, isn't white
-abbrev Ends : List ℕ → Type 0
-Ends v = is_white (slice_index v (length v - 1)) ≡ false
-
-ends_tail : (k : ℕ) (v : List ℕ) → Ends (k ∷ v) → Ends v
-ends_tail k [] h = refl
-ends_tail k (m ∷ v) h =
-    let e : length (k ∷ m ∷ v) - 1 ≡ suc (length (m ∷ v) - 1) = omega arith in
-    subst (λ n. is_white (slice_index (k ∷ m ∷ v) n) ≡ false) e h
-
-not_white : (k : ℕ) (v : List ℕ) → Ends (k ∷ v) → AllWhite (k ∷ v) → ⊥
-not_white k v h white = clash _ (white_at (k ∷ v) (length (k ∷ v) - 1) white (omega arith)) h
-
-same_end : (v w a d : List ℕ) → v ++ a ≡ w ++ d → AllWhite a → AllWhite d → Ends v → Ends w → v ≡ w
-same_end [] [] a d e ha hd hv hw = refl
-same_end [] (l ∷ w) a d e ha hd hv hw = absurd (not_white l w hw (white_front (l ∷ w) d (subst AllWhite e ha)))
-same_end (k ∷ v) [] a d e ha hd hv hw = absurd (not_white k v hv (white_front (k ∷ v) a (subst AllWhite (sym e) hd)))
-same_end (k ∷ v) (l ∷ w) a d e ha hd hv hw =
-    let same = same_end v w a d (rest_of k l (v ++ a) (w ++ d) e) ha hd (ends_tail k v hv) (ends_tail l w hw) in
-    ap (λ x. x ∷ v) (first_of k l (v ++ a) (w ++ d) e) ∙ ap (λ xs. l ∷ xs) same
-
-none_left : (text w : List ℕ) → AllWhite text → IsTrimmed text w → [] ≡ w
-none_left text [] white h = refl
-none_left text (k ∷ w) white h =
-    let inside = white_tail h.before ((k ∷ w) ++ h.after) (subst AllWhite h.split white) in
-    absurd (clash (is_white k) (white_head k (w ++ h.after) inside).0 h.begins)
-
-all_white : (text : List ℕ) → IsTrimmed text [] → AllWhite text
-all_white text h = subst AllWhite (sym h.split) (both_white h.before h.after h.white_before h.white_after)
-
-one_trimmed : (text v w : List ℕ) → IsTrimmed text v → IsTrimmed text w → v ≡ w
-one_trimmed text [] w hv hw = none_left text w (all_white text hv) hw
-one_trimmed text (k ∷ v) [] hv hw = sym (none_left text (k ∷ v) (all_white text hw) hv)
-one_trimmed text (k ∷ v) (l ∷ w) hv hw =
-    let e = same_front hv.before hw.before k l (v ++ hv.after) (w ++ hw.after) (sym hv.split ∙ hw.split)
-    hv.white_before hw.white_before hv.begins hw.begins in
-    same_end (k ∷ v) (l ∷ w) hv.after hw.after e hv.white_after hw.white_after hv.ends hw.ends
 
 -- ---- fields and heads of the same lines
 
 one_field : (line : List ℕ) (f g : FieldText) → IsField line f → IsField line g → f ≡ g
 one_field line f g hf hg =
     let name : f.name ≡ g.name = hf.name ∙ sym hg.name in
-    let value : f.value ≡ g.value = one_trimmed (after_first is_colon line) f.value g.value hf.value hg.value in
+    let value : f.value ≡ g.value = hf.value ∙ sym hg.value in
     let make : List ℕ → List ℕ → FieldText = λ n v. record { name = n; value = v } in
     ap (λ n. make n f.value) name ∙ ap (make g.name) value
 

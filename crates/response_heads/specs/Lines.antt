@@ -1,8 +1,10 @@
 -- The lines of a head: a status line (RFC 9112, section 4) and field lines (section 5).
-use Rattle.std.specs.Prelude.{◌≡◌, ◌≢◌, ◌⊎◌, ◌==◌, ◌||◌, ◌&&◌, ◌++◌, ◌-◌, ℕ, Bool, true, false, not, List, [], ◌∷◌, length, drop}
+use Rattle.std.specs.Prelude.{◌≡◌, ◌≢◌, ◌⊎◌, ◌==◌, ◌||◌, ◌&&◌, ◌-◌, ℕ, Bool, false, not, List, [], ◌∷◌, length, drop}
+use Rattle.std.specs.Prelude.{take}
 use Rattle.std.specs.Prelude.{slice_index, Option, Some, None, codes, if◌then◌else◌}
 use Rattle.std.specs.Char.{is_ascii_alphanumeric, is_ascii_digit}
-use Rattle.std.specs.List.{after_first, before_first, list_all, list_any, slice_split, starts_with}
+use Rattle.std.specs.List.{after_first, before_first, list_all, list_any, prefix_len, slice_split, starts_with}
+use Rattle.std.specs.List.{suffix_len}
 use Rattle.std.specs.Str.Parse.{digits_value}
 use Rattle.response_heads.specs.declared.error.LineFault.{LineFault}
 use Rattle.response_heads.specs.declared.error.LineFault.TheVariants.{Folded, NoColon, Name, Control}
@@ -72,35 +74,34 @@ is_token_byte b = is_ascii_alphanumeric b || list_any (λ c. c == b) (codes "!#$
 abbrev pub is_token : List ℕ → Bool
 is_token text = not (length text == 0) && list_all is_token_byte text
 
--- The first fault of a field line, in this order: it begins with white space, and so goes on with the field before
--- (RFC 9112, section 5.2); no colon; what stands before the first colon is no token, as where white space ends it
--- (section 5.1); a carriage return or a zero byte.
+-- Why a line is no field line: it begins with white space, and so goes on with the field before it (RFC 9112, section
+-- 5.2), which it may not with a carriage return or a zero byte. Else the first of these: no colon; what stands before
+-- the first colon is no token, as where white space ends it (section 5.1); a carriage return or a zero byte.
 unfoldable pub fault_of : List ℕ → Option LineFault
 fault_of line =
-    if is_white (slice_index line 0) then Some Folded
+    if is_white (slice_index line 0) then (if list_any is_control line then Some Control else Some Folded)
     else if not (list_any is_colon line) then Some NoColon
     else if not (is_token (before_first is_colon line)) then Some Name
     else if list_any is_control line then Some Control
     else None
 
-abbrev pub AllWhite : List ℕ → Type 0
-AllWhite text = list_all is_white text ≡ true
+-- the text without the spaces and tabs in front
+abbrev pub trimmed_start : List ℕ → List ℕ
+trimmed_start text = drop (prefix_len is_white text) text
 
--- the value is the text without the spaces and tabs at both its ends
-pub record IsTrimmed (text value : List ℕ) : Type 0 where
-  pub before : List ℕ
-  pub after : List ℕ
-  pub split : text ≡ before ++ (value ++ after)
-  pub white_before : AllWhite before
-  pub white_after : AllWhite after
-  pub begins : is_white (slice_index value 0) ≡ false
-  pub ends : is_white (slice_index value (length value - 1)) ≡ false
+-- the text without the spaces and tabs at its end
+abbrev pub trimmed_end : List ℕ → List ℕ
+trimmed_end text = take (length text - suffix_len is_white text) text
+
+-- the text without those at both its ends
+unfoldable pub trimmed : List ℕ → List ℕ
+trimmed text = trimmed_end (trimmed_start text)
 
 -- The line has no fault and gives this field: the name stands before the first colon, the value behind it.
 pub record IsField (line : List ℕ) (field : FieldText) : Type 0 where
   pub fine : fault_of line ≡ None
   pub name : field.name ≡ before_first is_colon line
-  pub value : IsTrimmed (after_first is_colon line) field.value
+  pub value : field.value ≡ trimmed (after_first is_colon line)
 
 -- The line is no field line. It stands for a field without a name, whose value it is.
 pub record IsNoField (line : List ℕ) (field : FieldText) : Type 0 where

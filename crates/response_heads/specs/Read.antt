@@ -1,12 +1,13 @@
 -- What a caller reads in a head: the fields of a name, and where it leads (RFC 9110, sections 5.1, 10.2.2 and 15.4).
-use Rattle.std.specs.Prelude.{◌&&◌, ◌||◌, ℕ, Bool, List, [], Option, None, codes, filter, map, nat_le, nat_lt, slice_index, take}
-use Rattle.std.specs.Prelude.{if◌then◌else◌}
+use Rattle.std.specs.Prelude.{◌&&◌, ◌||◌, ◌++◌, ℕ, Bool, not, List, [], ◌∷◌, Option, None, codes, filter, map, nat_le}
+use Rattle.std.specs.Prelude.{nat_lt}
+use Rattle.std.specs.Prelude.{slice_index, take, if◌then◌else◌}
 use Rattle.url.specs.Input.{is_empty}
 use Rattle.std.specs.Char.{to_ascii_lowercase}
-use Rattle.std.specs.List.{list_any}
+use Rattle.std.specs.List.{fold, list_any, take_while}
 use Rattle.std.specs.Str.{bytes_eq}
 use Rattle.response_heads.specs.Heads.{HeadText}
-use Rattle.response_heads.specs.Lines.{FieldText, fault_of, is_white}
+use Rattle.response_heads.specs.Lines.{FieldText, fault_of, is_control, is_white, trimmed}
 use Rattle.response_heads.specs.declared.error.LineFault.{LineFault}
 use Rattle.response_heads.specs.declared.head.Field.{Field}
 use Rattle.response_heads.specs.declared.head.Head.{Head}
@@ -26,13 +27,33 @@ is_named name field = bytes_eq (map to_ascii_lowercase field.name) name
 abbrev pub fault : FieldText → Option LineFault
 fault field = if is_empty field.name then fault_of field.value else None
 
+-- ---- folded lines
+
+-- the line goes on with the field before it (RFC 9112, section 5.2)
+abbrev pub is_fold : FieldText → Bool
+is_fold field = is_empty field.name && is_white (slice_index field.value 0)
+
+-- one space between them, or one of them where the other is empty
+unfoldable pub joined : List ℕ → List ℕ → List ℕ
+joined text more = if is_empty text then more else if is_empty more then text else text ++ 32 ∷ more
+
+-- what stands in a field, and joined to it what stands in the folded lines with which what is behind it begins
+unfoldable pub unfolded : List ℕ → List FieldText → List ℕ
+unfolded value behind = fold (λ text line. joined text (trimmed line.value)) value (take_while is_fold behind)
+
 -- the values of the fields of a name, in their order
-unfoldable pub values_named : List ℕ → HeadText → List (List ℕ)
-values_named name head = map (λ field. field.value) (filter (is_named name) head.fields)
+abbrev pub values_named : List ℕ → List FieldText → List (List ℕ)
+values_named name [] = []
+values_named name (field ∷ behind) =
+    if is_named name field then unfolded field.value behind ∷ values_named name behind else values_named name behind
+
+-- no value may hold a carriage return or a zero byte (RFC 9110, section 5.5)
+abbrev pub is_value : List ℕ → Bool
+is_value text = not (list_any is_control text)
 
 -- the Set-Cookie lines (RFC 6265, section 4.1)
-abbrev pub set_cookie_lines : HeadText → List (List ℕ)
-set_cookie_lines head = values_named (codes "set-cookie") head
+unfoldable pub set_cookie_lines : HeadText → List (List ℕ)
+set_cookie_lines head = filter is_value (values_named (codes "set-cookie") head.fields)
 
 -- a redirection (RFC 9110, section 15.4)
 abbrev pub is_redirection : ℕ → Bool

@@ -1,26 +1,12 @@
 -- What private functions answer. No public contract names a word of this file.
-use Rattle.std.specs.Prelude.{◌≡◌, ◌≢◌, ◌⊎◌, ◌+◌, ◌++◌, ◌-◌, ℕ, true, false, List, [], ◌∷◌, length, slice_index}
+use Rattle.std.specs.Prelude.{◌≡◌, ◌≢◌, ◌⊎◌, ◌+◌, ◌++◌, ℕ, true, List, [], ◌∷◌, length}
 use Rattle.std.specs.Str.Lines.{lines}
 use Rattle.response_heads.specs.Heads.{AreFields}
-use Rattle.response_heads.specs.Lines.{AllWhite, FieldText, breaks_off, is_white}
+use Rattle.response_heads.specs.Lines.{FieldText, breaks_off}
 use Rattle.response_heads.specs.declared.error.LineFault.{LineFault}
 use Rattle.response_heads.specs.declared.error.LineFault.TheVariants.{Unended}
 use Rattle.response_heads.specs.declared.error.ReadError.{ReadError}
 use Rattle.response_heads.specs.declared.error.ReadError.TheVariants.{Line, OutOfMemory}
-
--- the text without the white space in front
-pub record IsTrimmedStart (text rest : List ℕ) : Type 0 where
-  pub before : List ℕ
-  pub split : text ≡ before ++ rest
-  pub white : AllWhite before
-  pub begins : is_white (slice_index rest 0) ≡ false
-
--- the text without the white space at its end
-pub record IsTrimmedEnd (text rest : List ℕ) : Type 0 where
-  pub after : List ℕ
-  pub split : text ≡ rest ++ after
-  pub white : AllWhite after
-  pub ends : is_white (slice_index rest (length rest - 1)) ≡ false
 
 -- the fields up to the empty line, of which this is left and so many lines were taken
 pub record ReadsFields (old new : List ℕ) (taken now : ℕ) (fields : List FieldText) : Type 0 where

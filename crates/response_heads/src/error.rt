@@ -10,7 +10,8 @@ pub enum LineFault {
     /// It begins with `HTTP/` where no head has begun, and is no status line (RFC 9112, section 4).
     #[error("Status")]
     Status,
-    /// It begins with white space: the obsolete way to go on with the field before it (section 5.2).
+    /// It begins with white space: the obsolete way to go on with the field before it (section 5.2). It holds neither a
+    /// carriage return nor a zero byte.
     #[error("Folded")]
     Folded,
     /// It has no colon.

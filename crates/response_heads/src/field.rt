@@ -1,21 +1,21 @@
 //! Field lines (RFC 9112, section 5).
 ghost use Rattle.std.specs.Prelude.{◌≡◌, ◌≢◌, ◌<◌, position, slice_index, None, Some, MatchResult, length};
+ghost use Rattle.std.specs.Prelude.{if◌then◌else◌};
 ghost use Rattle.std.specs.List.{list_any};
 ghost use Rattle.response_heads.specs.Lines as spec;
 ghost use Rattle.response_heads.specs.Read.{field_text};
-ghost use Rattle.response_heads.specs.Steps as steps;
 
 use crate::error::LineFault;
 use crate::head::Field;
 
-/// The field of a field line, or its first fault in the order of [`LineFault`].
+/// The field of a field line, or why it is none.
 #[tactic(auto, unfolding(crate::specs::Lines::fault_of))]
 pub(crate) fn read_field(line: &[u8]) -> Result<Field<'_>, LineFault>
     ensures { MatchResult result (λ field. spec.IsField line.now (field_text field))
         (λ fault. spec.fault_of line.now ≡ Some fault) }
 {
     if begins_white(line) {
-        return Err(LineFault::Folded);
+        return Err(fault_of_fold(line));
     }
     let Some(at) = colon_in(line) else {
         return Err(LineFault::NoColon);
@@ -33,11 +33,22 @@ pub(crate) fn read_field(line: &[u8]) -> Result<Field<'_>, LineFault>
     })
 }
 
-/// The first fault of a line, in the order of [`LineFault`].
+/// Why a line is no field line.
 pub(crate) fn fault_of(line: &[u8]) -> Option<LineFault>
     ensures { result ≡ spec.fault_of line.now }
 {
     read_field(line).err()
+}
+
+// What is wrong with a line that begins with white space.
+fn fault_of_fold(line: &[u8]) -> LineFault
+    ensures { result ≡ (if list_any spec.is_control line.now then LineFault.Control else LineFault.Folded) }
+{
+    if has_control(line) {
+        LineFault::Control
+    } else {
+        LineFault::Folded
+    }
 }
 
 // Whether the line begins with a space or a tab.
@@ -72,22 +83,24 @@ fn is_token_byte(b: u8) -> bool
     b.is_ascii_alphanumeric() || b"!#$%&'*+-.^_`|~".contains(&b)
 }
 
-fn has_control(line: &[u8]) -> bool
+/// Whether a carriage return or a zero byte stands in the line.
+pub(crate) fn has_control(line: &[u8]) -> bool
     ensures { result ≡ list_any spec.is_control line.now }
 {
     line.iter().any(|b| *b == b'\r' || *b == 0)
 }
 
-// The text without the spaces and tabs at both its ends.
-fn trimmed(text: &[u8]) -> &[u8]
-    ensures { spec.IsTrimmed text.now result.now }
+/// The text without the spaces and tabs at both its ends.
+#[tactic(auto, unfolding(crate::specs::Lines::trimmed))]
+pub(crate) fn trimmed(text: &[u8]) -> &[u8]
+    ensures { result.now ≡ spec.trimmed text.now }
 {
     trimmed_end(trimmed_start(text))
 }
 
 // The text without the spaces and tabs in front.
 fn trimmed_start(text: &[u8]) -> &[u8]
-    ensures { steps.IsTrimmedStart text.now result.now }
+    ensures { result.now ≡ spec.trimmed_start text.now }
 {
     let mut rest = text;
     while let [first, more @ ..] = rest
@@ -100,7 +113,7 @@ fn trimmed_start(text: &[u8]) -> &[u8]
 
 // The text without the spaces and tabs at its end.
 fn trimmed_end(text: &[u8]) -> &[u8]
-    ensures { steps.IsTrimmedEnd text.now result.now }
+    ensures { result.now ≡ spec.trimmed_end text.now }
 {
     let mut rest = text;
     while let [more @ .., last] = rest

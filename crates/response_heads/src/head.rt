@@ -1,16 +1,19 @@
 //! Heads, and the heads of a text.
-ghost use Rattle.std.specs.Prelude.{◌≡◌, ◌≤◌, ◌<◌, ◌⊎◌, codes, map, length, take, IfOk, IfErr};
+ghost use Rattle.std.specs.Prelude.{◌≡◌, ◌≤◌, ◌<◌, ◌⊎◌, ◌++◌, ◌∷◌, [], codes, filter, map, length, take, IfOk, IfErr};
+ghost use Rattle.std.specs.Prelude.{OnOk};
 ghost use Rattle.std.specs.List.{list_any};
 ghost use Rattle.std.specs.Str.{bytes_eq};
 ghost use Rattle.std.specs.Char.{to_ascii_lowercase};
 ghost use Rattle.response_heads.specs.Heads as spec;
 ghost use Rattle.response_heads.specs.Lines as spec_lines;
 ghost use Rattle.response_heads.specs.Read.{announces_content, fault, field_text, head_text, is_location, is_named};
-ghost use Rattle.response_heads.specs.Read.{is_redirection, locations, says_content, set_cookie_lines};
+ghost use Rattle.response_heads.specs.Read.{is_fold, is_redirection, is_value, locations, says_content};
+ghost use Rattle.response_heads.specs.Read.{set_cookie_lines};
 ghost use Rattle.response_heads.specs.Steps as steps;
 
 use crate::error::{LineFault, ReadError};
-use crate::field::{begins_white, fault_of, read_field};
+use crate::field::{begins_white, fault_of, has_control, read_field};
+use crate::folds::unfolded;
 use crate::lines::Lines;
 use crate::status::{begins_head, status_of};
 use std::alloc::{AllocError, Global};
@@ -20,8 +23,8 @@ use std::alloc::{AllocError, Global};
 pub struct Field<'a> {
     /// As it stands: the case of its letters doesn't count. Empty where the line is no field line.
     pub name: &'a [u8],
-    /// Without the spaces and tabs at both its ends; any bytes but carriage returns, line feeds and zeros. The whole line
-    /// where it is no field line.
+    /// Of its line, without the spaces and tabs at both its ends; any bytes but carriage returns, line feeds and zeros.
+    /// The whole line where it is no field line, as a folded one isn't, which goes on with the field before it.
     pub value: &'a [u8],
 }
 
@@ -50,6 +53,13 @@ impl<'a> Field<'a> {
         ensures { result ≡ says_content (field_text self.now) }
     {
         self.is_named(b"content-length") || self.is_named(b"transfer-encoding")
+    }
+
+    // Whether the line goes on with the field before it.
+    pub(crate) fn is_fold(&self) -> bool
+        ensures { result ≡ is_fold (field_text self.now) }
+    {
+        self.name.is_empty() && begins_white(self.value)
     }
 
     // Whether some program may read the field as a Location.
@@ -81,21 +91,37 @@ fn begins_as_location(line: &[u8]) -> bool
     }
 }
 
+// Adds a line that holds no control character, and leaves out any other.
+fn push_value(lines: &mut Vec<Vec<u8>>, line: Vec<u8>) -> Result<(), AllocError>
+    ensures { OnOk result (map (λ line. line.items) lines.new.items
+        ≡ map (λ line. line.items) lines.old.items ++ filter is_value (line.items ∷ [])) }
+{
+    if has_control(&line) {
+        return Ok(());
+    }
+    lines.push(line)?;
+    Ok(())
+}
+
 impl<'a> Head<'a> {
-    /// The values of the `Set-Cookie` fields, in their order (RFC 6265, section 4.1).
+    /// The values of the `Set-Cookie` fields, in their order (RFC 6265, section 4.1), each with the folded lines behind
+    /// it, joined to it by single spaces (RFC 9112, section 5.2). One that then holds a carriage return or a zero byte
+    /// is none.
     ///
     /// # Errors
     ///
     /// `AllocError`, for want of memory.
-    pub fn set_cookie_lines(&self, alloc: Global) -> Result<Vec<&'a [u8]>, AllocError>
+    pub fn set_cookie_lines(&self, alloc: Global) -> Result<Vec<Vec<u8>>, AllocError>
         ensures { IfOk result (λ lines.
-            map (λ line. line.now) lines.items ≡ set_cookie_lines (head_text self.now)) }
+            map (λ line. line.items) lines.items ≡ set_cookie_lines (head_text self.now)) }
     {
         let mut lines = Vec::new(alloc);
-        for field in &self.fields {
+        let mut left = self.fields.as_slice();
+        while let [field, behind @ ..] = left {
             if field.is_named(b"set-cookie") {
-                lines.push(field.value)?;
+                push_value(&mut lines, unfolded(alloc, field.value, behind)?)?;
             }
+            left = behind;
         }
         Ok(lines)
     }

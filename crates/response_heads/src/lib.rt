@@ -9,6 +9,7 @@
 
 mod error;
 mod field;
+mod folds;
 mod head;
 pub mod laws;
 mod lines;

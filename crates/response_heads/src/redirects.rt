@@ -26,13 +26,14 @@ pub struct Visit<'a> {
 }
 
 impl<'a> Visit<'a> {
-    /// The `Set-Cookie` lines of the URL that answered, in their order: none where a proxy did.
+    /// The `Set-Cookie` lines of the URL that answered, as [`Head::set_cookie_lines`] gives them. Where a proxy
+    /// answered there are none.
     ///
     /// # Errors
     ///
     /// `AllocError`, for want of memory.
-    pub fn set_cookie_lines(&self, alloc: Global) -> Result<Vec<&'a [u8]>, AllocError>
-        ensures { IfOk result (λ lines. map (λ line. line.now) lines.items
+    pub fn set_cookie_lines(&self, alloc: Global) -> Result<Vec<Vec<u8>>, AllocError>
+        ensures { IfOk result (λ lines. map (λ line. line.items) lines.items
             ≡ spec.set_cookie_lines (spec.visit_text self.now)) }
     {
         if self.is_tunnel {

@@ -1,6 +1,6 @@
-use Rattle.std.proofs.Common.{◌≡◌, ◌∙◌, false, sym, ap, subst}
+use Rattle.std.proofs.Common.{◌≡◌, ◌∙◌, false, sym, ap}
 use Rattle.std.specs.Prelude.{slice_index}
-use Rattle.response_heads.specs.Lines.{IsTrimmed, is_token, is_white}
+use Rattle.response_heads.specs.Lines.{is_token, is_white, trimmed}
 use Rattle.response_heads.proofs.FieldLemmas.{fault-control, fault-name, fault-no_colon, fault-none, has_colon}
 use Rattle.response_heads.proofs.FieldLemmas.{no_colon}
 use Rattle.response_heads.proofs.field.read_field.Goals as goal
@@ -37,5 +37,5 @@ returns c =
           (ap is_token colon.before ∙ (sym c.is_token.ensures ∙ c.if-not-is_token.false))
           (sym c.has_control.ensures ∙ c.if-has_control.false);
       name = sym colon.before;
-      value = subst (λ text. IsTrimmed text c.trimmed.result.now) (sym colon.after) c.trimmed.ensures;
+      value = c.trimmed.ensures ∙ ap trimmed (sym colon.after);
     }

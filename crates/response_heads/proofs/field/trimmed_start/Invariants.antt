@@ -1,9 +1,9 @@
-use Rattle.std.proofs.Common.{length}
-use Rattle.response_heads.proofs.TrimLemmas.{FrontCut}
+use Rattle.std.proofs.Common.{◌≡◌, length}
+use Rattle.response_heads.specs.Lines.{trimmed_start}
 use Rattle.response_heads.proofs.field.trimmed_start.Given as goal
 
 abbrev pub invariant-loop-rest : goal.invariant-loop-rest
-invariant-loop-rest l = FrontCut l.fn.text l.rest
+invariant-loop-rest l = trimmed_start l.rest ≡ trimmed_start l.fn.text
 
 abbrev pub decreases-loop-rest : goal.decreases-loop-rest
 decreases-loop-rest l = length l.rest

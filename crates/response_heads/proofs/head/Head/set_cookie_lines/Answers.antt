@@ -1,13 +1,14 @@
-use Rattle.std.proofs.Common.{◌∙◌, ap}
+use Rattle.std.proofs.Common.{◌∙◌, ◌++◌, ap, arith, map, sym}
 use Rattle.std.specs.Prelude.{codes}
-use Rattle.response_heads.specs.Read.{values_named}
-use Rattle.response_heads.proofs.ReadLemmas.{all_taken, named, values}
+use Rattle.std.proofs.lemmas.List.{append-nil}
+use Rattle.response_heads.specs.Read.{set_cookie_lines}
+use Rattle.response_heads.proofs.FoldLemmas.{lines_none}
 use Rattle.response_heads.proofs.head.Head.set_cookie_lines.Goals as goal
 
 pub returns : goal.returns
-unfolding values_named
+unfolding set_cookie_lines
 returns c =
-    c.loop-field.invariant
-    ∙ ap (λ fields. values (named (codes "set-cookie") fields))
-    (all_taken c.deref-field-items.result.now c.args.self.now.fields.items c.loop-field.field-index
-    c.deref-field-items.ensures.value c.loop-field-test.false)
+    let lines = map (λ line. line.items) c.loop-left.lines.items in
+    sym (ap (λ rest. lines ++ rest)
+    (lines_none (codes "set-cookie") c.loop-left.left.now (omega (arith, c.in_default.len_below))) ∙ append-nil lines)
+    ∙ c.loop-left.invariant

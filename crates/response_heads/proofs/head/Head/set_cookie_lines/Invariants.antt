@@ -1,8 +1,12 @@
-use Rattle.std.proofs.Common.{◌≡◌, take, map}
+use Rattle.std.proofs.Common.{◌≡◌, ◌++◌, length, map}
 use Rattle.std.specs.Prelude.{codes}
-use Rattle.response_heads.proofs.ReadLemmas.{named, values}
+use Rattle.response_heads.proofs.FoldLemmas.{lines_in}
 use Rattle.response_heads.proofs.head.Head.set_cookie_lines.Given as goal
 
-abbrev pub invariant-loop-field : goal.invariant-loop-field
-invariant-loop-field l = map (λ line. line.now) l.lines.items
-    ≡ values (named (codes "set-cookie") (take l.field-index l.field-items))
+abbrev pub invariant-loop-left : goal.invariant-loop-left
+invariant-loop-left l =
+    map (λ line. line.items) l.lines.items ++ lines_in (codes "set-cookie") l.left
+    ≡ lines_in (codes "set-cookie") l.fn.self.fields.items
+
+abbrev pub decreases-loop-left : goal.decreases-loop-left
+decreases-loop-left l = length l.left
