@@ -1,10 +1,10 @@
 -- Rows that are lent, copied and picked.
 use Rattle.std.proofs.Common.{◌≡◌, ◌≤◌, ℕ, ℤ, Bool, true, false, List, [], ◌∷◌, ◌++◌, map, take, length}
 use Rattle.std.proofs.Common.{Option, None, Result, Ok, Err, sym, refl, ap, ◌∙◌, subst, inl, inr, append_assoc, arith}
-use Rattle.std.specs.Prelude.{◌&&◌, not, filter, if◌then◌else◌, IfOk, IfErr}
+use Rattle.std.specs.Prelude.{◌&&◌, cond, not, filter, if◌then◌else◌, IfOk, IfErr}
 use Rattle.std.specs.Borrow.{Bor}
 use Rattle.std.specs.Iterator.{AlwaysYields, Drains}
-use Rattle.std.specs.List.{AllByRecursion, list_any}
+use Rattle.std.specs.List.{AllByRecursion, list_all, list_any}
 use Rattle.std.proofs.lemmas.List.{append-nil, map-append}
 use Rattle.store_parts.specs.declared.error.Error.{Error}
 use Rattle.cookie_store.specs.Given.{ArePicked, lent_row}
@@ -262,3 +262,13 @@ pub live_stay : (parts : PartsStay) (now : ℤ) (rows lent : List Row) → AreGr
     → loaded false now lent ≡ live now rows
 live_stay parts now rows lent grouped same =
     ap (loaded false now) same ∙ parts.stay rows (live now rows) grouped (live_part now rows)
+
+-- where no row is dead all of them are the live ones
+pub all_live : (now : ℤ) (rows : List Row) → list_all (is_live now) rows ≡ true → live now rows ≡ rows
+all_live now [] all = refl
+all_live now (row ∷ rows) all = by (is_live now row) (all_live now rows) all
+  where
+    by : (b : Bool) → (list_all (is_live now) rows ≡ true → live now rows ≡ rows)
+        → (b && list_all (is_live now) rows) ≡ true → cond b (row ∷ live now rows) (live now rows) ≡ row ∷ rows
+    by true more h = ap (λ rest. row ∷ rest) (more h)
+    by false more h = cc

@@ -1,13 +1,16 @@
 //! A jar: a store whose rows can be sent, saved and read again, with what the commands of a shell do to it.
-ghost use Rattle.std.specs.Prelude.{◌≡◌, ◌+◌, ◌++◌, [], false, true, IfOk, IfErr, OnErr, is_some, length, map};
+ghost use Rattle.std.specs.Prelude.{◌≡◌, ◌+◌, ◌++◌, [], false, true, IfOk, IfErr, OnErr, is_some, length, map, IsTrue};
 ghost use Rattle.std.specs.Prelude.{string_bytes};
+ghost use Rattle.std.specs.List.{list_all};
 ghost use Rattle.std.specs.Str.{IsUtf8};
 ghost use Rattle.jiff.specs.Words.{civil_nanos};
 ghost use Rattle.cookie_store.specs.Given.{ArePicked};
 ghost use Rattle.cookie_store.specs.Longest.{AreGivenLongest};
 ghost use Rattle.cookie_store.specs.Placing.{loaded};
-ghost use Rattle.cookie_store.specs.Rows.{Store, found, key, live, removed};
+ghost use Rattle.cookie_store.specs.Rows.{Store, found, is_live, key, live, removed};
 ghost use Rattle.cookie_run.specs.Header.{IsHeader};
+ghost use Rattle.cookies_txt.specs.Layout.{text_for};
+ghost use Rattle.cookies_txt.specs.Writing.{held, line_of_row};
 ghost use Rattle.cookie_jar.specs.Explaining.{IsExplained};
 ghost use Rattle.cookie_jar.specs.Importing as lines;
 ghost use Rattle.cookie_jar.specs.Json.{rows_json};
@@ -25,17 +28,18 @@ use crate::form::Form;
 use crate::importing::{ImportedLines, import_lines};
 use crate::json_list::rows_json;
 use crate::keeping::only_kept;
-use crate::left_out::refused_lines;
+use crate::left_out::{passed_over_lines, refused_lines};
 use crate::listing::listing;
 use crate::reading::read;
 use crate::rows::{live_rows, placed, refused_rows, rows_of, rows_with};
-use crate::saving::{Exported, text_of};
+use crate::saving::{Exported, lines_for, text_of};
 use crate::taking::{End, take_all};
 use crate::told::header_line;
 use cookie_run::Stopped;
 use cookie_run::client::header_of;
 use cookie_run::laws::host_rows_are_held_rightly;
 use cookie_store::CookieStore;
+use cookies_txt::Reader;
 use jiff::civil::DateTime;
 use publicsuffix::List;
 use std::alloc::{AllocError, Global};
@@ -163,6 +167,32 @@ impl Jar {
         self.written(form, true, now)
     }
 
+    /// The text of its rows that aren't expired at `now` as `cookies.txt` for this reader, in their order, passing over
+    /// those that a line can't hold. For wget no line is marked as HttpOnly, since it takes such for comments, and for
+    /// Python an expiry that there isn't is left empty.
+    ///
+    /// # Errors
+    ///
+    /// `AllocError`, for want of memory.
+    pub fn export_for(&self, reader: Reader, now: DateTime) -> Result<Exported, AllocError>
+        ensures text { IfOk result (λ exported. exported.text.items
+            ≡ text_for reader (map line_of_row (held (live (civil_nanos now) self.now.rows)))) }
+        ensures rows { IfOk result (λ exported. exported.rows
+            ≡ length (held (live (civil_nanos now) self.now.rows))) }
+        ensures passed_over { IfOk result (λ exported. exported.rows + exported.passed_over
+            ≡ length (live (civil_nanos now) self.now.rows)) }
+        ensures told { IfOk result (λ exported. string_bytes exported.told
+            ≡ passed_lines Form.Txt (live (civil_nanos now) self.now.rows)) }
+    {
+        let told = passed_over_lines(self.alloc, live_rows(self.alloc, &self.store, now)?)?;
+        lines_for(
+            self.alloc,
+            reader,
+            live_rows(self.alloc, &self.store, now)?,
+            told,
+        )
+    }
+
     // The text of its rows that aren't expired.
     fn written(&self, form: Form, passing_over: bool, now: DateTime) -> Result<Exported, SaveError>
         ensures text { IfOk result (λ exported. text.IsText form
@@ -179,6 +209,9 @@ impl Jar {
         ensures utf8 { IfOk result (λ exported. IsUtf8 exported.text.items) }
         ensures err { IfErr result (text.IsUnsaved form passing_over (live (civil_nanos now) self.now.rows)) }
     {
+        if are_live(&self.store, now) {
+            return text_of(self.alloc, &self.store, form, passing_over);
+        }
         let store = unexpired(self.alloc, &self.store, now)?;
         text_of(self.alloc, &store, form, passing_over)
     }
@@ -397,6 +430,19 @@ fn header_text(
     let _path = url.path();
     let cookies = store.matches_longest(url, now)?;
     header_of(alloc, cookies)
+}
+
+// Whether none of the rows is expired at `now`.
+fn are_live(store: &CookieStore, now: DateTime) -> bool
+    ensures all { result ≡ list_all (is_live (civil_nanos now)) store.now.rows }
+    ensures rows { IsTrue result → live (civil_nanos now) store.now.rows ≡ store.now.rows }
+{
+    for cookie in store.iter_any() {
+        if cookie.is_expired(now) {
+            return false;
+        }
+    }
+    true
 }
 
 // The store without the rows that are expired at `now`.

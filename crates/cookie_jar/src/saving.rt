@@ -6,7 +6,8 @@ ghost use Rattle.saved_text.specs.Json.{list_text};
 ghost use Rattle.saved_text.specs.RonLayout.{ron_layout};
 ghost use Rattle.cookie_store.specs.SavedLaws.{IsOfBytes};
 ghost use Rattle.cookie_store.specs.SavedTexts.{IsAnyBeforeYears, Saves};
-ghost use Rattle.cookies_txt.specs.Writing.{IsWriteRefusal};
+ghost use Rattle.cookies_txt.specs.Layout.{text_for};
+ghost use Rattle.cookies_txt.specs.Writing.{IsWriteRefusal, held, line_of_row};
 ghost use Rattle.cookie_jar.specs.LeftOut.{passed_lines};
 ghost use Rattle.cookie_jar.specs.Rows.{lent_rows};
 ghost use Rattle.cookie_jar.specs.Saving as spec;
@@ -17,9 +18,9 @@ use crate::left_out::passed_over_lines;
 use crate::rows::rows_of;
 use cookie_run::program::draft::Draft;
 use cookie_store::serde::{json, ron};
-use cookie_store::{CookieStore, Error};
-use cookies_txt::WriteError;
-use std::alloc::Global;
+use cookie_store::{Cookie, CookieStore, Error};
+use cookies_txt::{Reader, WriteError};
+use std::alloc::{AllocError, Global};
 
 /// A jar's text in a form.
 #[derive(Debug, Drop)]
@@ -128,6 +129,33 @@ fn txt(alloc: Global, store: &CookieStore, passing_over: bool) -> Result<Exporte
             told,
         }),
         Err(refusal) => Err(unwritten(refusal)),
+    }
+}
+
+/// The text of these rows as `cookies.txt` for a reader, without those that a line can't hold, of which this is told.
+pub(crate) fn lines_for(
+    alloc: Global,
+    reader: Reader,
+    rows: Vec<&Cookie<'static>>,
+    told: String,
+) -> Result<Exported, AllocError>
+    ensures text { IfOk result (λ exported.
+        exported.text.items ≡ text_for reader (map line_of_row (held (lent_rows rows.entry.items)))) }
+    ensures rows { IfOk result (λ exported. exported.rows ≡ length (held (lent_rows rows.entry.items))) }
+    ensures passed_over { IfOk result (λ exported.
+        exported.rows + exported.passed_over ≡ length (lent_rows rows.entry.items)) }
+    ensures told { IfOk result (λ exported. string_bytes exported.told ≡ string_bytes told) }
+{
+    let count = rows.len();
+    match cookies_txt::write_for(alloc, reader, rows, true) {
+        Ok(written) => Ok(Exported {
+            rows: count - written.passed_over,
+            passed_over: written.passed_over,
+            text: written.text.into_bytes(),
+            told,
+        }),
+        // Rows that no line holds are passed over, so only memory was refused.
+        Err(_) => Err(AllocError),
     }
 }
 

@@ -2,7 +2,7 @@
 use Rattle.std.proofs.Common.{◌≡◌, ◌≢◌, ◌<◌, ◌≤◌, ◌-◌, ℕ, Bool, true, false, List, [], ◌∷◌, ◌++◌}
 use Rattle.std.proofs.Common.{length, get_or, map, min, Some, None, Ok, refl, sym, ap, subst, ◌∙◌, arith}
 use Rattle.std.proofs.Common.{append_assoc, suc, rules}
-use Rattle.std.specs.Prelude.{◌==◌, ◌||◌, ◌&&◌, codes, IsOk}
+use Rattle.std.specs.Prelude.{◌==◌, ◌||◌, ◌&&◌, codes, not, IsOk}
 use Rattle.std.specs.Char.{is_ascii_digit, is_ascii_whitespace}
 use Rattle.std.specs.Fmt.{decimal}
 use Rattle.std.specs.List.{AllByRecursion, flat_map, join_with_byte, list_all, slice_split}
@@ -13,13 +13,14 @@ use Rattle.std.proofs.lemmas.Fmt.{decimal_nonempty, digits_decimal, digits_value
 use Rattle.std.proofs.lemmas.List.Elements.{All-from_recursion}
 use Rattle.std.proofs.lemmas.List.Splits.{slice_split_at, slice_split_none}
 use Rattle.cookie_text.specs.Record.{without_dot}
-use Rattle.cookies_txt.specs.Layout.{CookieLine, cookies_txt, flag_text, heading_text}
-use Rattle.cookies_txt.specs.Layout.{http_only_mark, line_text, tab, when}
+use Rattle.cookies_txt.specs.Layout.{CookieLine, expiry_field, flag_text, heading_text, http_only_mark, kept_for}
+use Rattle.cookies_txt.specs.Layout.{knows_mark, knows_zero, line_text, tab, text_for, when}
 use Rattle.cookies_txt.specs.Reading.{FieldTexts, fault_of, field_texts, is_expiry, is_flag, is_marked}
 use Rattle.cookies_txt.specs.Reading.{is_passed_over, is_true, parts, read_line, said, said_by_fields, second_of}
 use Rattle.cookies_txt.specs.Reading.{unindented, unmarked}
 use Rattle.cookies_txt.specs.Reading.{IsFine, SaysLines}
 use Rattle.cookies_txt.specs.Writing.{begins_with_slash, ends_in_return, has_separator, latest_second}
+use Rattle.cookies_txt.specs.declared.readers.Reader.{Reader}
 use Rattle.cookies_txt.proofs.FieldLemmas.{HasFirst, first_part, is_tab}
 use Rattle.cookies_txt.proofs.ExpiryLemmas.{number_parts, own}
 
@@ -144,15 +145,19 @@ pub record IsWhole (l : CookieLine) : Type 0 where
 abbrev pub dotted : CookieLine → List ℕ
 dotted l = when l.below (46 ∷ []) ++ l.domain
 
-abbrev pub others : CookieLine → List (List ℕ)
-others l = flag_text l.below ∷ l.path ∷ flag_text l.secure ∷ decimal l.expires ∷ l.name ∷ l.value ∷ []
+abbrev pub others : Reader → CookieLine → List (List ℕ)
+others r l =
+    flag_text l.below ∷ l.path ∷ flag_text l.secure ∷ expiry_field r l.expires ∷ l.name ∷ l.value ∷ []
 
-abbrev pub bare_text : CookieLine → List ℕ
-bare_text l = join_with_byte tab (dotted l ∷ others l)
+abbrev pub bare_text : Reader → CookieLine → List ℕ
+bare_text r l = join_with_byte tab (dotted l ∷ others r l)
 
-marked_text : (l : CookieLine) → line_text l ≡ when l.http_only http_only_mark ++ bare_text l
+abbrev pub mark_of : Reader → CookieLine → List ℕ
+mark_of r l = when (knows_mark r && l.http_only) http_only_mark
+
+marked_text : (r : Reader) (l : CookieLine) → line_text r l ≡ mark_of r l ++ bare_text r l
 unfolding line_text
-marked_text l = append_assoc (when l.http_only http_only_mark) (dotted l) (tab ∷ join_with_byte tab (others l))
+marked_text r l = append_assoc (mark_of r l) (dotted l) (tab ∷ join_with_byte tab (others r l))
 
 -- the domain's field begins with neither a number sign nor white space
 pub record Begins (text : List ℕ) : Type 0 where
@@ -254,21 +259,23 @@ mark_read false first more begins =
       rest = rw none refl;
     })
 
-line_mark : (l : CookieLine) → IsWhole l → IsMarked l.http_only (bare_text l) (line_text l)
-line_mark l h =
-    subst (IsMarked l.http_only (bare_text l)) (sym (marked_text l))
-    (mark_read l.http_only (dotted l) (join_with_byte tab (others l)) (dotted_first l h))
+line_mark : (r : Reader) (l : CookieLine) → IsWhole l
+    → IsMarked (knows_mark r && l.http_only) (bare_text r l) (line_text r l)
+line_mark r l h =
+    subst (IsMarked (knows_mark r && l.http_only) (bare_text r l)) (sym (marked_text r l))
+    (mark_read (knows_mark r && l.http_only) (dotted l) (join_with_byte tab (others r l)) (dotted_first l h))
 
 -- ---- what the fields of a line say
 
-line_clean : (l : CookieLine) → IsWhole l
-    → AllByRecursion (Lacks is_tab) (dotted l ∷ others l) × AllByRecursion (Lacks is_feed) (dotted l ∷ others l)
-line_clean l h =
+line_clean : (r : Reader) (l : CookieLine) → IsWhole l
+    → AllByRecursion (Lacks is_tab) (dotted l ∷ others r l) × AllByRecursion (Lacks is_feed) (dotted l ∷ others r l)
+line_clean r l h =
     let domain = lacks_separators l.domain h.domain_clean in
     let below = flag_lacks l.below in
     let path = lacks_separators l.path h.path_clean in
     let secure = flag_lacks l.secure in
-    let expires = digits_lack (decimal l.expires) (digits_decimal own l.expires (omega (arith, h.expires))) in
+    let expires = when_lacks (not (l.expires == 0) || knows_zero r) (decimal l.expires)
+    (digits_lack (decimal l.expires) (digits_decimal own l.expires (omega (arith, h.expires)))) in
     let name = lacks_separators l.name h.name_clean in
     let value = lacks_separators l.value h.value_clean in (
       (
@@ -285,22 +292,28 @@ line_clean l h =
     dot_lacks true = ((refl, tt), (refl, tt))
     dot_lacks false = (tt, tt)
 
+    when_lacks : (b : Bool) (text : List ℕ) → Lacks is_tab text × Lacks is_feed text
+        → Lacks is_tab (when b text) × Lacks is_feed (when b text)
+    when_lacks true text h = h
+    when_lacks false text h = (tt, tt)
+
 -- the fields as they stand
-abbrev pub written_texts : CookieLine → FieldTexts
-written_texts l = record {
+abbrev pub written_texts : Reader → CookieLine → FieldTexts
+written_texts r l = record {
   domain = dotted l;
   below = flag_text l.below;
   path = l.path;
   secure = flag_text l.secure;
-  expires = decimal l.expires;
+  expires = expiry_field r l.expires;
   name = l.name;
   value = l.value;
 }
 
-line_fields : (l : CookieLine) → IsWhole l → field_texts (parts (unmarked (line_text l))) ≡ Some (written_texts l)
-line_fields l h =
-    ap (λ t. field_texts (parts t)) (line_mark l h).rest
-    ∙ ap field_texts (parts_joined (dotted l) (others l) (line_clean l h).0)
+line_fields : (r : Reader) (l : CookieLine) → IsWhole l
+    → field_texts (parts (unmarked (line_text r l))) ≡ Some (written_texts r l)
+line_fields r l h =
+    ap (λ t. field_texts (parts t)) (line_mark r l h).rest
+    ∙ ap field_texts (parts_joined (dotted l) (others r l) (line_clean r l h).0)
 
 flag_is : (b : Bool) → (is_flag (flag_text b) ≡ true) × (is_true (flag_text b) ≡ b)
 flag_is true = (refl, refl)
@@ -323,36 +336,52 @@ number_is n h =
         let single = number_parts (b ∷ bs) digits in
         (rw (plus, single, some, digits) refl, rw (plus, single) refl)
 
-no_fault : (l : CookieLine) → IsWhole l → fault_of (written_texts l) ≡ None
+-- so is none where it is left empty
+expiry_is : (r : Reader) (n : ℕ) → n ≤ latest_second
+    → (is_expiry (expiry_field r n) ≡ true) × (second_of (expiry_field r n) ≡ n)
+expiry_is r n h = by (n == 0) refl (knows_zero r)
+  where
+    none : (n : ℕ) → (n == 0) ≡ true → 0 ≡ n
+    none n e = grind (arith, nat_tests)
+
+    by : (zero : Bool) → (n == 0) ≡ zero → (known : Bool)
+        → (is_expiry (when (not zero || known) (decimal n)) ≡ true)
+        × (second_of (when (not zero || known) (decimal n)) ≡ n)
+    by true e true = number_is n h
+    by true e false = (refl, none n e)
+    by false e known = number_is n h
+
+no_fault : (r : Reader) (l : CookieLine) → IsWhole l → fault_of (written_texts r l) ≡ None
 unfolding fault_of
-no_fault l h =
+no_fault r l h =
     let domain : (length (without_dot (dotted l)) == 0) ≡ false =
     ap (λ d. length d == 0) (without_first_dot l h) ∙ grind (arith, nat_tests, h.domain) in
     let below = (flag_is l.below).0 in
     let path = h.path in
     let secure = (flag_is l.secure).0 in
-    let number = (number_is l.expires h.expires).0 in
+    let number = (expiry_is r l.expires h.expires).0 in
     let name : (length l.name == 0) ≡ false = grind (arith, nat_tests, h.name) in
     rw (domain, below, path, secure, number, name) refl
 
-line_said : (l : CookieLine) → IsWhole l → said_by_fields l.http_only (written_texts l) ≡ l
+line_said : (r : Reader) (l : CookieLine) → IsWhole l
+    → said_by_fields (knows_mark r && l.http_only) (written_texts r l) ≡ kept_for r l
 unfolding said_by_fields
-line_said l h =
+line_said r l h =
     let domain = without_first_dot l h in
     let below = (flag_is l.below).1 in
     let secure = (flag_is l.secure).1 in
-    let second = (number_is l.expires h.expires).1 in
+    let second = (expiry_is r l.expires h.expires).1 in
     rw (domain, below, secure, second) refl
 
--- the line is read as what it says
-pub line_reads : (l : CookieLine) → IsWhole l → read_line (line_text l) ≡ Ok (Some l)
+-- the line is read as what is written of it
+pub line_reads : (r : Reader) (l : CookieLine) → IsWhole l → read_line (line_text r l) ≡ Ok (Some (kept_for r l))
 unfolding read_line
-line_reads l h =
-    let kept = (line_mark l h).kept in
-    let marked = (line_mark l h).mark in
-    let texts = line_fields l h in
-    let fine = no_fault l h in
-    let said = line_said l h in
+line_reads r l h =
+    let kept = (line_mark r l h).kept in
+    let marked = (line_mark r l h).mark in
+    let texts = line_fields r l h in
+    let fine = no_fault r l h in
+    let said = line_said r l h in
     rw (kept, texts, marked, fine, said) refl
 
 -- ---- the lines of a text
@@ -370,23 +399,24 @@ first_line line after unended whole =
     behind ps (part, more, e) =
         subst (λ ps. lines_of_parts (line ∷ ps) ≡ strip_carriage_return line ∷ lines_of_parts ps) (sym e) refl
 
-line_ends : (l : CookieLine) → IsWhole l → Lacks is_feed (line_text l) × (ends_in_return (line_text l) ≡ false)
-line_ends l h =
-    let clean = line_clean l h in
-    let bare = joined_lacks (dotted l) (others l) clean.1 in
+line_ends : (r : Reader) (l : CookieLine) → IsWhole l
+    → Lacks is_feed (line_text r l) × (ends_in_return (line_text r l) ≡ false)
+line_ends r l h =
+    let clean = line_clean r l h in
+    let end = expiry_field r l.expires in
+    let bare = joined_lacks (dotted l) (others r l) clean.1 in
     let value = behind_tab l.value h.last in
     let name = joined_return l.name l.value [] value in
-    let expires = joined_return (decimal l.expires) l.name (l.value ∷ []) name in
-    let secure = joined_return (flag_text l.secure) (decimal l.expires) (l.name ∷ l.value ∷ []) expires in
-    let path = joined_return l.path (flag_text l.secure) (decimal l.expires ∷ l.name ∷ l.value ∷ []) secure in
+    let expires = joined_return end l.name (l.value ∷ []) name in
+    let secure = joined_return (flag_text l.secure) end (l.name ∷ l.value ∷ []) expires in
+    let path = joined_return l.path (flag_text l.secure) (end ∷ l.name ∷ l.value ∷ []) secure in
     let below = joined_return (flag_text l.below) l.path
-    (flag_text l.secure ∷ decimal l.expires ∷ l.name ∷ l.value ∷ [])
-    path in (
-      subst (Lacks is_feed) (sym (marked_text l))
-          (lacks_append is_feed (when l.http_only http_only_mark) (bare_text l) (mark_lacks l.http_only) bare),
-      ap ends_in_return (marked_text l ∙ sym (append_assoc (when l.http_only http_only_mark) (dotted l)
-          (tab ∷ join_with_byte tab (others l))))
-          ∙ (return_after (when l.http_only http_only_mark ++ dotted l) (tab ∷ join_with_byte tab (others l))
+    (flag_text l.secure ∷ end ∷ l.name ∷ l.value ∷ []) path in (
+      subst (Lacks is_feed) (sym (marked_text r l))
+          (lacks_append is_feed (mark_of r l) (bare_text r l) (mark_lacks (knows_mark r && l.http_only)) bare),
+      ap ends_in_return (marked_text r l ∙ sym (append_assoc (mark_of r l) (dotted l)
+          (tab ∷ join_with_byte tab (others r l))))
+          ∙ (return_after (mark_of r l ++ dotted l) (tab ∷ join_with_byte tab (others r l))
           (omega arith)
           ∙ below),
     )
@@ -396,15 +426,17 @@ line_ends l h =
         (refl, (refl, (refl, (refl, (refl, (refl, (refl, (refl, (refl, (refl, tt))))))))))
     mark_lacks false = tt
 
-abbrev pub written : List CookieLine → List ℕ
-written all = flat_map (λ l. line_text l ++ 10 ∷ []) all
+abbrev pub written : Reader → List CookieLine → List ℕ
+written r all = flat_map (λ l. line_text r l ++ 10 ∷ []) all
 
-written_lines : (all : List CookieLine) → AllByRecursion IsWhole all → lines (written all) ≡ map line_text all
-written_lines [] h = refl
-written_lines (l ∷ more) h =
-    let ends = line_ends l h.0 in
-    ap lines (append_assoc (line_text l) (10 ∷ []) (written more))
-    ∙ (first_line (line_text l) (written more) ends.0 ends.1 ∙ ap (λ ls. line_text l ∷ ls) (written_lines more h.1))
+written_lines : (r : Reader) (all : List CookieLine) → AllByRecursion IsWhole all
+    → lines (written r all) ≡ map (line_text r) all
+written_lines r [] h = refl
+written_lines r (l ∷ more) h =
+    let ends = line_ends r l h.0 in
+    ap lines (append_assoc (line_text r l) (10 ∷ []) (written r more))
+    ∙ (first_line (line_text r l) (written r more) ends.0 ends.1
+    ∙ ap (λ ls. line_text r l ∷ ls) (written_lines r more h.1))
 
 headed_lines : (text : List ℕ) → lines (heading_text ++ text) ≡ codes "# Netscape HTTP Cookie File" ∷ [] ∷ lines text
 headed_lines text =
@@ -418,29 +450,32 @@ heading_reads : (read_line (codes "# Netscape HTTP Cookie File") ≡ Ok None) ×
 unfolding read_line unindented
 heading_reads = (refl, refl)
 
-fine_lines : (all : List CookieLine) → AllByRecursion IsWhole all → AllByRecursion IsFine (map line_text all)
-fine_lines [] h = tt
-fine_lines (l ∷ more) h = (subst IsOk (sym (line_reads l h.0)) refl, fine_lines more h.1)
+fine_lines : (r : Reader) (all : List CookieLine) → AllByRecursion IsWhole all
+    → AllByRecursion IsFine (map (line_text r) all)
+fine_lines r [] h = tt
+fine_lines r (l ∷ more) h = (subst IsOk (sym (line_reads r l h.0)) refl, fine_lines r more h.1)
 
-said_lines : (all : List CookieLine) → AllByRecursion IsWhole all
-    → flat_map (λ line. said (read_line line)) (map line_text all) ≡ all
-said_lines [] h = refl
-said_lines (l ∷ more) h =
-    ap (λ r. said r ++ flat_map (λ line. said (read_line line)) (map line_text more)) (line_reads l h.0)
-    ∙ ap (λ ls. l ∷ ls) (said_lines more h.1)
+-- what the lines say that are written for a reader
+abbrev pub said_for : Reader → List CookieLine → List CookieLine
+said_for r all = flat_map (λ line. said (read_line line)) (map (line_text r) all)
 
--- a text of lines that hold says these
-pub written_says : (all : List CookieLine) → AllByRecursion IsWhole all → SaysLines (cookies_txt all) all
-written_says all h =
-    let all_lines : lines (cookies_txt all) ≡ codes "# Netscape HTTP Cookie File" ∷ [] ∷ map line_text all =
-    headed_lines (written all) ∙ ap (λ ls. codes "# Netscape HTTP Cookie File" ∷ [] ∷ ls) (written_lines all h) in
+said_lines : (r : Reader) (all : List CookieLine) → AllByRecursion IsWhole all → said_for r all ≡ map (kept_for r) all
+said_lines r [] h = refl
+said_lines r (l ∷ more) h =
+    ap (λ it. said it ++ said_for r more) (line_reads r l h.0)
+    ∙ ap (λ ls. kept_for r l ∷ ls) (said_lines r more h.1)
+
+-- a text of lines that hold says what is written of these
+pub written_says : (r : Reader) (all : List CookieLine) → AllByRecursion IsWhole all
+    → SaysLines (text_for r all) (map (kept_for r) all)
+written_says r all h =
+    let all_lines : lines (text_for r all) ≡ codes "# Netscape HTTP Cookie File" ∷ [] ∷ map (line_text r) all =
+    headed_lines (written r all)
+    ∙ ap (λ ls. codes "# Netscape HTTP Cookie File" ∷ [] ∷ ls) (written_lines r all h) in
     record {
       fine = subst (AllByRecursion IsFine) (sym all_lines)
-          (subst IsOk (sym heading_reads.0) refl, (subst IsOk (sym heading_reads.1) refl, fine_lines all h));
+          (subst IsOk (sym heading_reads.0) refl, (subst IsOk (sym heading_reads.1) refl, fine_lines r all h));
       says = sym (ap (flat_map (λ line. said (read_line line))) all_lines
-          ∙ (ap (λ r. said r ++ (said (read_line []) ++ rest)) heading_reads.0
-          ∙ (ap (λ r. said r ++ rest) heading_reads.1 ∙ said_lines all h)));
+          ∙ (ap (λ it. said it ++ (said (read_line []) ++ said_for r all)) heading_reads.0
+          ∙ (ap (λ it. said it ++ said_for r all) heading_reads.1 ∙ said_lines r all h)));
     }
-  where
-    rest : List CookieLine
-    rest = flat_map (λ line. said (read_line line)) (map line_text all)

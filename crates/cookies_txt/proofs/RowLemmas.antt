@@ -6,17 +6,20 @@ use Rattle.std.specs.Char.{is_ascii_whitespace}
 use Rattle.std.specs.List.{AllByRecursion}
 use Rattle.std.specs.Option.{option_or}
 use Rattle.std.proofs.lemmas.Bool.Decides.{nat_tests}
+use Rattle.std.proofs.lemmas.Simd.{map-map}
 use Rattle.cookie_text.specs.ReadingBack.{Pairwise}
 use Rattle.store_parts.specs.DomainMatch.{Domain, host_only, suffix, not_present, empty, text_or_empty}
 use Rattle.store_parts.specs.Expiry.{whole_second}
 use Rattle.cookie_store.specs.Rows.{Row}
-use Rattle.cookies_txt.specs.Layout.{cookies_txt}
+use Rattle.cookies_txt.specs.Layout.{cookies_txt, kept_for, text_for}
 use Rattle.cookies_txt.specs.Reading.{GivesRows, SaysLines}
 use Rattle.cookies_txt.specs.Writing.{IsRowOf, IsThroughCookiesTxt, begins_with_slash, clamped, domain_fault}
 use Rattle.cookies_txt.specs.Writing.{ends_in_return, expiry_second, has_separator, held, is_suffix, latest_second}
 use Rattle.cookies_txt.specs.Writing.{line_of_row, row_fault, text_fault}
 use Rattle.cookies_txt.specs.declared.error.RowFault.{RowFault}
 use Rattle.cookies_txt.specs.declared.error.RowFault.TheVariants.{HostSign}
+use Rattle.cookies_txt.specs.declared.readers.Reader.{Reader}
+use Rattle.cookies_txt.specs.declared.readers.Reader.TheVariants.{Curl}
 use Rattle.cookies_txt.proofs.LineLemmas.{IsHostSign, IsWhole, written_says}
 
 -- ---- a row that a line holds
@@ -130,8 +133,14 @@ held_whole (row ∷ rows) = by (row_fault row) refl (held_whole rows)
     by (Some fault) e rest = rest
 
 -- the text of rows says those that lines hold
+pub rows_said_for : (r : Reader) (rows : List Row)
+    → SaysLines (text_for r (map line_of_row (held rows))) (map (λ row. kept_for r (line_of_row row)) (held rows))
+rows_said_for r rows =
+    subst (SaysLines (text_for r (map line_of_row (held rows)))) (map-map (kept_for r) line_of_row (held rows))
+    (written_says r (map line_of_row (held rows)) (held_whole rows))
+
 pub rows_said : (rows : List Row) → SaysLines (cookies_txt (map line_of_row (held rows))) (map line_of_row (held rows))
-rows_said rows = written_says (map line_of_row (held rows)) (held_whole rows)
+rows_said rows = rows_said_for Curl rows
 
 pub lines_paired : (rows back : List Row) → Pairwise IsRowOf (map line_of_row rows) back
     → Pairwise IsThroughCookiesTxt rows back

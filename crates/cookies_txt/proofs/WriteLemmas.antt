@@ -10,16 +10,17 @@ use Rattle.std.proofs.lemmas.List.Elements.{filter-append}
 use Rattle.cookie_store.specs.Rows.{Row}
 use Rattle.cookie_store.specs.StoredCookie.{stored_of}
 use Rattle.cookie_store.specs.declared.stored_cookie.Cookie.{Cookie}
-use Rattle.cookies_txt.specs.Layout.{cookies_txt, heading_text, line_text}
+use Rattle.cookies_txt.specs.Layout.{heading_text, line_text, text_for}
 use Rattle.cookies_txt.specs.Writing.{AreHeld, IsFirstRefused, held, line_of_row, row_fault, rows_in}
 use Rattle.cookies_txt.specs.declared.error.RowFault.{RowFault}
+use Rattle.cookies_txt.specs.declared.readers.Reader.{Reader}
 
-abbrev pub text_of : List Row → List ℕ
-text_of rows = cookies_txt (map line_of_row (held rows))
+abbrev pub text_of : Reader → List Row → List ℕ
+text_of r rows = text_for r (map line_of_row (held rows))
 
 -- the rows so far are written, and so many of them are passed over
-pub record WritesSoFar (rows : List Row) (out : List ℕ) (passed : ℕ) : Type 0 where
-  pub text : out ≡ text_of rows
+pub record WritesSoFar (r : Reader) (rows : List Row) (out : List ℕ) (passed : ℕ) : Type 0 where
+  pub text : out ≡ text_of r rows
   pub passed_over : passed + length (held rows) ≡ length rows
 
 held_push : (rows : List Row) (row : Row) (o : Option RowFault) → row_fault row ≡ o
@@ -28,26 +29,26 @@ held_push rows row o e =
     filter-append (λ row. is_none (row_fault row)) rows (row ∷ [])
     ∙ ap (λ f. held rows ++ cond (is_none f) (row ∷ []) []) e
 
-text_push : (rows : List Row) (row : Row)
-    → cookies_txt (map line_of_row (rows ++ row ∷ []))
-    ≡ cookies_txt (map line_of_row rows) ++ (line_text (line_of_row row) ++ 10 ∷ [])
-text_push rows row =
-    ap cookies_txt (map-append line_of_row rows (row ∷ []))
+text_push : (r : Reader) (rows : List Row) (row : Row)
+    → text_for r (map line_of_row (rows ++ row ∷ []))
+    ≡ text_for r (map line_of_row rows) ++ (line_text r (line_of_row row) ++ 10 ∷ [])
+text_push r rows row =
+    ap (text_for r) (map-append line_of_row rows (row ∷ []))
     ∙ (ap (λ t. heading_text ++ t)
-    (flat_map-append (λ line. line_text line ++ 10 ∷ []) (map line_of_row rows) (line_of_row row ∷ [])
-    ∙ ap (λ t. flat_map (λ line. line_text line ++ 10 ∷ []) (map line_of_row rows) ++ t)
-    (append-nil (line_text (line_of_row row) ++ 10 ∷ [])))
-    ∙ sym (append_assoc heading_text (flat_map (λ line. line_text line ++ 10 ∷ []) (map line_of_row rows))
-    (line_text (line_of_row row) ++ 10 ∷ [])))
+    (flat_map-append (λ line. line_text r line ++ 10 ∷ []) (map line_of_row rows) (line_of_row row ∷ [])
+    ∙ ap (λ t. flat_map (λ line. line_text r line ++ 10 ∷ []) (map line_of_row rows) ++ t)
+    (append-nil (line_text r (line_of_row row) ++ 10 ∷ [])))
+    ∙ sym (append_assoc heading_text (flat_map (λ line. line_text r line ++ 10 ∷ []) (map line_of_row rows))
+    (line_text r (line_of_row row) ++ 10 ∷ [])))
 
-pub writes_row : (rows : List Row) (row : Row) (text new : List ℕ) (passed_over : ℕ)
-    → WritesSoFar rows text passed_over → None ≡ row_fault row
-    → new ≡ text ++ (line_text (line_of_row row) ++ 10 ∷ []) → WritesSoFar (rows ++ row ∷ []) new passed_over
-writes_row rows row text new passed_over far fine put =
+pub writes_row : (r : Reader) (rows : List Row) (row : Row) (text new : List ℕ) (passed_over : ℕ)
+    → WritesSoFar r rows text passed_over → None ≡ row_fault row
+    → new ≡ text ++ (line_text r (line_of_row row) ++ 10 ∷ []) → WritesSoFar r (rows ++ row ∷ []) new passed_over
+writes_row r rows row text new passed_over far fine put =
     let kept : held (rows ++ row ∷ []) ≡ held rows ++ row ∷ [] = held_push rows row None (sym fine) in
     record {
-      text = put ∙ (ap (λ t. t ++ (line_text (line_of_row row) ++ 10 ∷ [])) far.text
-          ∙ (sym (text_push (held rows) row) ∙ sym (ap (λ rs. cookies_txt (map line_of_row rs)) kept)));
+      text = put ∙ (ap (λ t. t ++ (line_text r (line_of_row row) ++ 10 ∷ [])) far.text
+          ∙ (sym (text_push r (held rows) row) ∙ sym (ap (λ rs. text_for r (map line_of_row rs)) kept)));
       passed_over = omega (
         arith,
         far.passed_over,
@@ -56,14 +57,14 @@ writes_row rows row text new passed_over far fine put =
       );
     }
 
-pub writes_none : (rows : List Row) (row : Row) (fault : RowFault) (text : List ℕ) (passed_over : ℕ)
-    → WritesSoFar rows text passed_over → Some fault ≡ row_fault row
-    → WritesSoFar (rows ++ row ∷ []) text (passed_over + 1)
-writes_none rows row fault text passed_over far refused =
+pub writes_none : (r : Reader) (rows : List Row) (row : Row) (fault : RowFault) (text : List ℕ) (passed_over : ℕ)
+    → WritesSoFar r rows text passed_over → Some fault ≡ row_fault row
+    → WritesSoFar r (rows ++ row ∷ []) text (passed_over + 1)
+writes_none r rows row fault text passed_over far refused =
     let kept : held (rows ++ row ∷ []) ≡ held rows =
     held_push rows row (Some fault) (sym refused) ∙ append-nil (held rows) in
     record {
-      text = far.text ∙ sym (ap (λ rs. cookies_txt (map line_of_row rs)) kept);
+      text = far.text ∙ sym (ap (λ rs. text_for r (map line_of_row rs)) kept);
       passed_over = omega (arith, far.passed_over, ap length kept, length-append rows (row ∷ []));
     }
 

@@ -9,6 +9,7 @@ ghost use Rattle.cookies_txt.specs.Steps as steps;
 ghost use Rattle.cookies_txt.specs.Steps.{said_of};
 ghost use Rattle.cookies_txt.specs.Writing as spec;
 
+use crate::readers::Reader;
 use cookie::{Cookie as RawCookie, Expiration};
 use cookie_store::{Cookie, CookieDomain, CookieExpiration, CookiePath};
 use jiff::civil::{DateTime, datetime};
@@ -112,23 +113,34 @@ impl<'a> Line<'a> {
     }
 }
 
-/// The line without its end.
-impl fmt::Display for Line<'_> {
-    ghost output = { λ line. Some (line_text (said_of line)) };
+/// A line for a reader, without its end.
+#[derive(Clone, Copy)]
+pub(crate) struct LineFor<'a> {
+    pub line: Line<'a>,
+    pub reader: Reader,
+}
+
+impl fmt::Display for LineFor<'_> {
+    ghost output = { λ it. Some (line_text it.reader (said_of it.line)) };
 
     #[tactic(auto, unfolding(crate::specs::Layout::line_text))]
     fn fmt<W: fmt::Write>(&self, f: &mut fmt::Formatter<W>) -> fmt::Result {
-        let mark = when(self.http_only, HTTP_ONLY_MARK);
-        let dot = when(self.below, ".");
-        let domain = self.domain;
-        let below = flag_text(self.below);
-        let path = self.path;
+        let line = self.line;
+        let mark = when(self.reader.knows_mark() && line.http_only, HTTP_ONLY_MARK);
+        let dot = when(line.below, ".");
+        let domain = line.domain;
+        let below = flag_text(line.below);
+        let path = line.path;
         write!(f, "{mark}{dot}{domain}\t{below}\t{path}\t")?;
-        let secure = flag_text(self.secure);
-        let expires = self.expires;
-        let name = self.name;
-        let value = self.value;
-        write!(f, "{secure}\t{expires}\t{name}\t{value}")
+        let secure = flag_text(line.secure);
+        let expires = line.expires;
+        let name = line.name;
+        let value = line.value;
+        if expires != 0 || self.reader.knows_zero() {
+            write!(f, "{secure}\t{expires}\t{name}\t{value}")
+        } else {
+            write!(f, "{secure}\t\t{name}\t{value}")
+        }
     }
 }
 

@@ -4,6 +4,7 @@ use Rattle.std.proofs.lemmas.List.{length-map, length-take-le}
 use Rattle.cookie_store.specs.StoredCookie.{stored_of}
 use Rattle.cookies_txt.specs.Reading.{SaysLines}
 use Rattle.cookies_txt.specs.Writing.{held, line_of_row, rows_in}
+use Rattle.cookies_txt.specs.declared.readers.Reader.TheVariants.{Curl}
 use Rattle.cookies_txt.proofs.RowLemmas.{rows_said}
 use Rattle.cookies_txt.proofs.WriteLemmas.{refused_at, text_of}
 use Rattle.cookies_txt.proofs.writing.write.Goals as goal
@@ -27,6 +28,6 @@ pub returns-clause-reads : goal.returns-clause-reads
 returns-clause-reads c =
     let cookies = c.args.cookies.now in
     let all : take c.loop-index.index cookies ≡ cookies = grind (arith, common_steps) in
-    let text : string_bytes c.loop-index.text ≡ text_of (rows_in cookies) =
-    c.loop-index.invariant.writes.text ∙ ap (λ cs. text_of (rows_in cs)) all in
+    let text : string_bytes c.loop-index.text ≡ text_of Curl (rows_in cookies) =
+    c.loop-index.invariant.writes.text ∙ ap (λ cs. text_of Curl (rows_in cs)) all in
     subst (λ t. SaysLines t (map line_of_row (held (rows_in cookies)))) (sym text) (rows_said (rows_in cookies))

@@ -3,12 +3,12 @@ use Rattle.std.proofs.lemmas.Iterator.Adapters.{YieldsList-from_vec}
 use Rattle.std.proofs.lemmas.Iterator.Consumers.{YieldsList-end, YieldsList-so_far, YieldsList-turn}
 use Rattle.std.proofs.lemmas.List.{length-map, length_push, map-append, map-id}
 use Rattle.cookie_store.specs.StoredCookie.{stored_of}
-use Rattle.cookies_txt.specs.Layout.{line_text}
+use Rattle.cookies_txt.specs.Layout.{kept_for, line_text}
 use Rattle.cookies_txt.specs.Reading.{SaysLines}
 use Rattle.cookies_txt.specs.Writing.{AreHeld, IsFirstRefused, held, line_of_row, rows_in}
-use Rattle.cookies_txt.proofs.RowLemmas.{rows_said}
+use Rattle.cookies_txt.proofs.RowLemmas.{rows_said_for}
 use Rattle.cookies_txt.proofs.WriteLemmas.{WritesSoFar, held_more, refused_at, text_of, writes_row}
-use Rattle.cookies_txt.proofs.writing.write_rows.Goals as goal
+use Rattle.cookies_txt.proofs.writing.write_for.Goals as goal
 
 pub loop-cookie-preserved : goal.loop-cookie-preserved
 loop-cookie-preserved c =
@@ -18,11 +18,12 @@ loop-cookie-preserved c =
     let more = map-append (λ cookie. stored_of cookie.now) xs (cookie ∷ []) in
     let fine = sym c.in-None-row_fault.is ∙ c.row_fault.ensures in
     record {
-      writes = subst (λ rs. WritesSoFar rs (string_bytes c.push_line.new.text) c.loop-cookie.passed) (sym more)
-          (writes_row (rows_in xs) row (string_bytes c.loop-cookie.text) (string_bytes c.push_line.new.text)
-          c.loop-cookie.passed c.loop-cookie.invariant.writes fine
+      writes = subst (λ rs. WritesSoFar c.args.reader rs (string_bytes c.push_line.new.text) c.loop-cookie.passed)
+          (sym more)
+          (writes_row c.args.reader (rows_in xs) row (string_bytes c.loop-cookie.text)
+          (string_bytes c.push_line.new.text) c.loop-cookie.passed c.loop-cookie.invariant.writes fine
           (c.in_ok-push_line-in-None-row_fault.ensures
-          ∙ ap (λ l. string_bytes c.loop-cookie.text ++ (line_text l ++ 10 ∷ [])) c.of.ensures));
+          ∙ ap (λ l. string_bytes c.loop-cookie.text ++ (line_text c.args.reader l ++ 10 ∷ [])) c.of.ensures));
       held = λ e. subst AreHeld (sym more) (held_more (rows_in xs) row (c.loop-cookie.invariant.held e) fine);
       counted = ap (λ n. n + 1) c.loop-cookie.invariant.counted ∙ sym (length_push xs cookie);
     }
@@ -62,6 +63,7 @@ returns-clause-reads c =
     (gives.1 ∙ c.args.cookies.ok.0) in
     let end = YieldsList-end all xs c.loop-cookie.cookie-iterator c.loop-cookie.yielded_by c.next.result
     c.next.new.self c.in-None.is c.next.ensures.steps in
-    let text : string_bytes c.loop-cookie.text ≡ text_of (rows_in items) =
-    c.loop-cookie.invariant.writes.text ∙ ap (λ ys. text_of (rows_in ys)) (sym (map-id xs) ∙ end.0) in
-    subst (λ t. SaysLines t (map line_of_row (held (rows_in items)))) (sym text) (rows_said (rows_in items))
+    let text : string_bytes c.loop-cookie.text ≡ text_of c.args.reader (rows_in items) =
+    c.loop-cookie.invariant.writes.text ∙ ap (λ ys. text_of c.args.reader (rows_in ys)) (sym (map-id xs) ∙ end.0) in
+    subst (λ t. SaysLines t (map (λ row. kept_for c.args.reader (line_of_row row)) (held (rows_in items)))) (sym text)
+    (rows_said_for c.args.reader (rows_in items))
