@@ -1,8 +1,8 @@
 """Cookies of an HTTP client and of a site (RFC 6265), by the proved library fonnalich.
 
 `Session` is what a site reads and sets within one request, `Cookie` a cookie by itself. `Client` is a client; `Jar` is
-one for `urllib`, and `Adapter` one for `requests`. Set FONNALICH_LIB to the path of the shared library where it isn't
-in out/.
+one for `urllib`, and `Adapter` one for `requests`. Set FONNALICH_LIB to the path of the shared library where it lies
+neither beside this module nor in out/.
 """
 import ctypes
 import dataclasses
@@ -24,8 +24,27 @@ __all__ = ["Adapter", "Client", "Cookie", "End", "Jar", "Refused", "Rules", "Ses
            "suffix"]
 
 _HERE = os.path.dirname(os.path.abspath(__file__))
-_PATH = os.environ.get("FONNALICH_LIB") or os.path.join(_HERE, "..", "..", "out", "libfonnalich.so")
-_LIB = ctypes.CDLL(_PATH)
+
+
+def _lacks_sse() -> bool:
+    """Whether this is a processor of x86-64 that lacks SSE 4.2, as far as the system tells."""
+    try:
+        with open("/proc/cpuinfo", encoding="ascii", errors="replace") as file:
+            flags = next((line.split() for line in file if line.startswith("flags")), None)
+    except OSError:
+        return False
+    return flags is not None and "sse4_2" not in flags
+
+
+def _path() -> str:
+    """Where the shared library is: in a package beside this module, in the repository in out/."""
+    beside = os.path.join(_HERE, "libfonnalich.so")
+    return beside if os.path.exists(beside) else os.path.join(_HERE, "..", "..", "out", "libfonnalich.so")
+
+
+if _lacks_sse():
+    raise ImportError("fonnalich: this processor lacks SSE 4.2, which the library needs")
+_LIB = ctypes.CDLL(os.environ.get("FONNALICH_LIB") or _path())
 _TEXT = [ctypes.c_char_p, ctypes.c_size_t]
 _LIB.fonnalich_size.restype = ctypes.c_size_t
 _LIB.fonnalich_version.argtypes = [ctypes.c_void_p, ctypes.c_size_t]

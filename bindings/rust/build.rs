@@ -1,14 +1,28 @@
-//! Links the static library of FONNALICH_DIR, or of the repository's out/.
+//! Links the static library of FONNALICH_DIR, or that of this crate's lib/TARGET, or of the repository's out/.
 
 use std::env;
-use std::path::PathBuf;
+use std::path::{Path, PathBuf};
+
+const NAME: &str = "libfonnalich.a";
+
+/// The folder of the library for a target, if there is one.
+fn folder_for(target: &str) -> Option<PathBuf> {
+    if let Ok(folder) = env::var("FONNALICH_DIR") {
+        return Some(PathBuf::from(folder));
+    }
+    let home = env::var("CARGO_MANIFEST_DIR").unwrap();
+    let home = Path::new(&home);
+    let folders = [home.join("lib").join(target), home.join("../../out")];
+    folders.into_iter().find(|folder| folder.join(NAME).exists())
+}
 
 fn main() {
-    let folder = env::var("FONNALICH_DIR").map(PathBuf::from).unwrap_or_else(|_| {
-        PathBuf::from(env::var("CARGO_MANIFEST_DIR").unwrap()).join("../../out")
-    });
+    let target = env::var("TARGET").unwrap();
+    println!("cargo:rerun-if-env-changed=FONNALICH_DIR");
+    let Some(folder) = folder_for(&target) else {
+        panic!("fonnalich: there is no {NAME} for {target}: set FONNALICH_DIR to the folder of one");
+    };
     println!("cargo:rustc-link-search=native={}", folder.display());
     println!("cargo:rustc-link-lib=static=fonnalich");
-    println!("cargo:rerun-if-env-changed=FONNALICH_DIR");
-    println!("cargo:rerun-if-changed={}", folder.join("libfonnalich.a").display());
+    println!("cargo:rerun-if-changed={}", folder.join(NAME).display());
 }

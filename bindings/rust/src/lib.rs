@@ -327,6 +327,7 @@ impl Client {
     }
 
     fn begun() -> Client {
+        site::demand_processor();
         let mut handle = Box::new(Handle([0; 64]));
         // The call asks nothing. Its answer is at most the size of a handle.
         assert!(unsafe { library::fonnalich_size() } <= size_of::<Handle>());
