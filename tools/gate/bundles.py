@@ -6,6 +6,7 @@ import subprocess
 import tempfile
 
 from gate.edits import all_applied
+from gate.kit import guarded
 from gate.stubs import stubbed
 
 HOLE = """use Rattle.{crate}.proofs.{module}.Statement as stated
@@ -113,7 +114,7 @@ class Bundle:
 
     def check(self, room, words):
         return subprocess.run(
-            [*self.rt.rtlib.guarded(), self.rt.rtlib.RATTLE, "check", *words], cwd=room, errors="replace",
+            [*guarded(self.rt.rtlib), self.rt.rtlib.RATTLE, "check", *words], cwd=room, errors="replace",
             stdin=subprocess.DEVNULL, stdout=subprocess.PIPE, stderr=subprocess.STDOUT,
         )
 
