@@ -11,8 +11,8 @@
    - a handle is begun once before its first use and freed once after its last, and never copied or moved between;
    - it lies at an address that is a multiple of 8, as every `fonnalich` of C does. A byte buffer of ctypes, Go or Zig
      may miss it: the library that checks accesses of memory ends the process then (SIGILL);
-   - one call at a time uses a handle, always on the thread that began it, and on one side of a `fork`: save, and load
-     in the child. Calls without a handle keep nothing, and may run on several threads at once;
+   - one call at a time uses a handle, on any thread, and on one side of a `fork`: save, and load in the child. Calls
+     without a handle keep nothing, and may run on several threads at once;
    - each length is that of its text, and `out` overlaps no other text and no attributes. */
 #ifndef FONNALICH_H
 #define FONNALICH_H

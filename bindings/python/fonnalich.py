@@ -6,6 +6,7 @@ neither beside this module nor in out/.
 """
 import ctypes
 import dataclasses
+import datetime
 import enum
 import http.cookiejar
 import math
@@ -14,11 +15,8 @@ import threading
 import time
 import urllib.parse
 import urllib.request
-from typing import TYPE_CHECKING, Any, Callable, Iterable, List, NoReturn, Optional, Union
-
-if TYPE_CHECKING:
-    from requests import PreparedRequest
-    from requests.adapters import HTTPAdapter
+import weakref
+from typing import Any, Callable, Iterable, List, NoReturn, Optional, Union
 
 __all__ = ["Adapter", "Client", "Cookie", "End", "Jar", "Refused", "Rules", "Session", "Stopped", "Way", "is_plain_url",
            "suffix"]
@@ -44,6 +42,13 @@ def _path() -> str:
 
 if _lacks_sse():
     raise ImportError("fonnalich: this processor lacks SSE 4.2, which the library needs")
+Bytes = Union[bytes, bytearray, memoryview]
+Text = Union[str, Bytes]
+# A moment: seconds since 1970, of which the whole part counts, or a datetime that has a zone.
+Moment = Union[int, float, datetime.datetime]
+# How long a cookie lives: seconds, of which the whole part counts, or a timedelta.
+Life = Union[int, float, datetime.timedelta]
+
 _LIB = ctypes.CDLL(os.environ.get("FONNALICH_LIB") or _path())
 _TEXT = [ctypes.c_char_p, ctypes.c_size_t]
 _LIB.fonnalich_size.restype = ctypes.c_size_t
@@ -88,6 +93,7 @@ _ROOM = 4096
 _KEY_LENGTH, _NONCE_LENGTH = 64, 12
 _EXPIRY = -13
 _YEAR_100 = -59011459200
+_EPOCH = datetime.datetime(1970, 1, 1, tzinfo=datetime.timezone.utc)
 
 
 class End(enum.IntEnum):
@@ -159,7 +165,7 @@ class Stopped(MemoryError):
         self.line = line
 
 
-def _bytes(text: Union[str, bytes, bytearray, memoryview]) -> bytes:
+def _bytes(text: Text) -> bytes:
     if isinstance(text, str):
         return text.encode("utf-8", "surrogateescape")
     # By way of a view, since `bytes` makes something of a number too.
@@ -185,8 +191,32 @@ def _counted(number: int) -> int:
     return number
 
 
-def _second(now: Optional[int]) -> int:
-    return int(time.time()) if now is None else _counted(now)
+def _second_of(moment: Moment) -> int:
+    """The whole second in which a moment is."""
+    if isinstance(moment, datetime.datetime):
+        if moment.tzinfo is None:
+            raise ValueError("a datetime without a zone")
+        moment = (moment - _EPOCH) // datetime.timedelta(seconds=1)
+    return _counted(math.floor(moment))
+
+
+def _seconds_of(life: Life) -> int:
+    """The whole seconds of a life."""
+    return _counted(life // datetime.timedelta(seconds=1) if isinstance(life, datetime.timedelta) else math.floor(life))
+
+
+def _second(now: Optional[Moment]) -> int:
+    return _second_of(time.time() if now is None else now)
+
+
+def _lines(lines: Iterable[Text]) -> List[bytes]:
+    """The bytes of each line. A single text is no list of lines, though each of its characters would be one."""
+    if isinstance(lines, (str, bytes, bytearray, memoryview)):
+        raise TypeError("lines are a list: hand in [line]")
+    each = [_bytes(line) for line in lines]
+    if any(b"\n" in line for line in each):
+        raise ValueError("a line feed in a line")
+    return each
 
 
 def _raise(number: int) -> None:
@@ -208,7 +238,7 @@ def _answered(call: Callable[..., int], *words: Union[bytes, int, _Attributes]) 
         length = call(*given, room, len(room))
         _raise(length)
         if length <= len(room):
-            return room[:length]
+            return ctypes.string_at(room, length)
 
 
 def _items(answer: bytes) -> List[Optional[str]]:
@@ -224,19 +254,19 @@ def _items(answer: bytes) -> List[Optional[str]]:
 __version__ = _answered(_LIB.fonnalich_version).decode()
 
 
-def suffix(suffixes: Union[str, bytes], host: str) -> str:
+def suffix(suffixes: Text, host: str) -> str:
     """The public suffix of a host, which is in IDNA ASCII form and lower case, by the text of a list."""
     return _answered(_LIB.fonnalich_suffix, _bytes(suffixes), _bytes(host)).decode()
 
 
-def is_plain_url(url: Union[str, bytes]) -> bool:
+def is_plain_url(url: Text) -> bool:
     """Whether a text is a plain URL, which each program reads as the same web address.
 
     Ask it of a URL before you hand it to another program, as curl, a browser or a proxy. Programs read odd URLs
     differently: of `https://shop.test\\@evil.test/x` a `Client` reads the host `shop.test`, and curl `evil.test`.
     """
     text = _bytes(url)
-    number = _LIB.fonnalich_is_plain_url(text, len(text))
+    number: int = _LIB.fonnalich_is_plain_url(text, len(text))
     _raise(number)
     return number == 1
 
@@ -248,28 +278,28 @@ _SITES = [None, "Strict", "Lax", "None"]
 class Cookie:
     """A cookie: a name, a value and attributes. `str` gives its `Set-Cookie` line, in which nothing is escaped.
 
-    `max_age` is in seconds, `expires` a second since 1970, `same_site` one of `Strict`, `Lax` and `None`. A year below
-    100 is printed as it stands, and read as one from 1970 to 2069.
+    `max_age` is in seconds or a `timedelta`, `expires` in seconds since 1970 or a `datetime` with a zone, `same_site`
+    one of `Strict`, `Lax` and `None`. A year below 100 is printed as it stands, and read as one from 1970 to 2069.
     """
 
     name: str
     value: str
     path: Optional[str] = None
     domain: Optional[str] = None
-    max_age: Optional[int] = None
-    expires: Optional[int] = None
+    max_age: Optional[Life] = None
+    expires: Optional[Moment] = None
     http_only: bool = False
     secure: bool = False
     partitioned: bool = False
     same_site: Optional[str] = None
 
     @classmethod
-    def parse(cls, text: Union[str, bytes]) -> "Cookie":
+    def parse(cls, text: Text) -> "Cookie":
         """The cookie of a `Set-Cookie` line, or of a pair of a `Cookie` header; the domain has lost one leading dot."""
         return cls._read(False, _bytes(text))
 
     @classmethod
-    def parse_encoded(cls, text: Union[str, bytes]) -> "Cookie":
+    def parse_encoded(cls, text: Text) -> "Cookie":
         """The same, whose name and value are percent-decoded."""
         return cls._read(True, _bytes(text))
 
@@ -284,7 +314,7 @@ class Cookie:
     def _read(cls, decode: bool, text: bytes) -> "Cookie":
         read = _Attributes()
         name, value, path, domain = _items(_answered(_LIB.fonnalich_parse, decode, text, read))
-        return cls(name, value, path, domain, read.max_age if read.has_max_age else None,
+        return cls(name or "", value or "", path, domain, read.max_age if read.has_max_age else None,
                    read.expires if read.has_expires else None, read.http_only, read.secure, read.partitioned,
                    _SITES[read.same_site])
 
@@ -292,7 +322,7 @@ class Cookie:
         if self.same_site not in _SITES:
             raise ValueError(f"same_site is {self.same_site!r}")
         attributes = _Attributes(
-            _counted(self.max_age or 0), _counted(self.expires or 0), self.max_age is not None,
+            _seconds_of(self.max_age or 0), _second_of(self.expires or 0), self.max_age is not None,
             self.expires is not None, self.path is not None, self.domain is not None, self.http_only, self.secure,
             self.partitioned, _SITES.index(self.same_site))
         texts = [_bytes(text) for text in (self.name, self.value, self.path or "", self.domain or "")]
@@ -300,7 +330,7 @@ class Cookie:
 
 
 class Way(enum.Enum):
-    """How a site keeps a cookie."""
+    """How a site keeps a cookie. Where a way is asked its name does too, as `"sealed"`."""
 
     PLAIN = b"0"
     HOST = b"1"
@@ -309,13 +339,25 @@ class Way(enum.Enum):
     SEALED = b"4"
 
 
+WayOrName = Union[Way, str]
+
+
+def _way(way: WayOrName) -> Way:
+    if isinstance(way, Way):
+        return way
+    found = Way.__members__.get(way.upper())
+    if found is None:
+        raise ValueError(f"no way is named {way!r}")
+    return found
+
+
 def _escaped(text: str) -> bytes:
     return urllib.parse.quote_from_bytes(_bytes(text), safe="").encode()
 
 
 def _date(second: int) -> bytes:
     """The date of an expiry, whose year has three digits or four."""
-    if _counted(second) < _YEAR_100:
+    if second < _YEAR_100:
         raise Refused(_EXPIRY)
     return str(Cookie("a", "", expires=second)).partition("; Expires=")[2].encode()
 
@@ -325,11 +367,12 @@ class Session:
 
     A header that has a character for each byte, as those of `http.server` and WSGI, goes in as
     `header.encode("latin-1")`.
-    `key` has 64 secret bytes, and is the same for all requests. `now` is the second of the request, since 1970; none is
-    now. A set cookie gets `Secure` and `Path=/`. Nothing is kept behind a session, and none has to be closed.
+    `key` has 64 secret bytes, and is the same for all requests. `now` is the moment of the request, in seconds since
+    1970 or a `datetime` with a zone; none is now. A set cookie gets `Secure` and `Path=/`. Nothing is kept behind a
+    session, and none has to be closed.
     """
 
-    def __init__(self, header: Union[str, bytes], key: Union[bytes, bytearray, memoryview], now: Optional[int] = None):
+    def __init__(self, header: Text, key: Bytes, now: Optional[Moment] = None):
         if isinstance(key, str):
             raise TypeError("a key is of bytes")
         self._header, self._key, self._now = _bytes(header), _bytes(key), _second(now)
@@ -338,14 +381,16 @@ class Session:
         self._commands: List[bytes] = []
         self._nonces = b""
 
-    def get(self, way: Way, name: str) -> Optional[str]:
+    def get(self, way: WayOrName, name: str) -> Optional[str]:
         """The value of a name, as it was set in this way: set last here, else in the header."""
-        return self._items([*self._commands, b"G" + way.value + _escaped(name)], self._nonces)[0]
+        return self._items([*self._commands, b"G" + _way(way).value + _escaped(name)], self._nonces)[0]
 
-    def set(self, way: Way, name: str, value: str, max_age: Optional[int] = None, expires: Optional[int] = None,
-            http_only: bool = False, same_site: Optional[str] = None, partitioned: bool = False) -> None:
-        """Sets a cookie in a way. `max_age` is in seconds, `expires` a second since 1970, `same_site` one of `Strict`,
-        `Lax` and `None`. By `Way.SEALED` it takes a nonce of `os.urandom`.
+    def set(self, way: WayOrName, name: str, value: str, max_age: Optional[Life] = None,
+            expires: Optional[Moment] = None, http_only: bool = False, same_site: Optional[str] = None,
+            partitioned: bool = False) -> None:
+        """Sets a cookie in a way. `max_age` is in seconds or a `timedelta`, `expires` in seconds since 1970 or a
+        `datetime` with a zone, `same_site` one of `Strict`, `Lax` and `None`. By `Way.SEALED` it takes a nonce of
+        `os.urandom`.
 
         An expiry before the year 100 is refused as `Expiry`, since its year would be read as one from 1970 to 2069, and
         one past 9999 as `Moment`. The years 100 to 1600, by the Gregorian calendar carried back, are written as they
@@ -353,21 +398,22 @@ class Session:
         over such an expiry, and so keeps the cookie until its session ends. `remove` ends a cookie in either."""
         if same_site not in (None, "Strict", "Lax", "None"):
             raise ValueError(f"same_site is {same_site!r}")
+        way = _way(way)
         line = b"S" + way.value + _escaped(name) + b"=" + _escaped(value)
         line += b"; HttpOnly" if http_only else b""
         line += f"; SameSite={same_site}".encode() if same_site else b""
         line += b"; Partitioned" if partitioned else b""
-        line += b"; Max-Age=%d" % max_age if max_age is not None else b""
-        line += b"; Expires=" + _date(math.floor(expires)) if expires is not None else b""
+        line += b"; Max-Age=%d" % _seconds_of(max_age) if max_age is not None else b""
+        line += b"; Expires=" + _date(_second_of(expires)) if expires is not None else b""
         self._add(line, os.urandom(_NONCE_LENGTH) if way is Way.SEALED else b"")
 
-    def remove(self, way: Way, name: str) -> None:
+    def remove(self, way: WayOrName, name: str) -> None:
         """Removes the cookie of a name that was set in a way."""
-        self._add(b"R" + way.value + _escaped(name), b"")
+        self._add(b"R" + _way(way).value + _escaped(name), b"")
 
     def close(self) -> List[str]:
         """The `Set-Cookie` line of each cookie that was set or removed, in no promised order."""
-        return self._items(self._commands, self._nonces)
+        return [line for line in self._items(self._commands, self._nonces) if line is not None]
 
     def __reduce__(self) -> NoReturn:
         """Raises, since a nonce is used once, and a key is kept from files."""
@@ -392,23 +438,27 @@ class Client:
     A line as `str` goes in as UTF-8, and a header comes out so. What has a character for each byte, as a header from
     `http.client`, goes in as `line.encode("latin-1")`, and out as `header.encode().decode("latin-1")`: `Jar` does so.
     `suffixes` is the text of a public suffix list, as publicsuffix.org publishes it, in `str` or bytes. Where `saved`
-    is given, the client begins with the cookies of that text that aren't expired now. A moment is a whole second since
-    1970; none is now. Lines come behind `rules`, which judge none of the cookies that are there.
-    Calls of one client wait for one another, so threads may share it.
+    is given, the client begins with the cookies of that text that aren't expired now. A moment is in seconds since
+    1970, of which the whole part counts, or a `datetime` with a zone; none is now. Lines come behind `rules`, which
+    judge none of the cookies that are there.
+    Calls of one client wait for one another, so threads may share it. In a process that was forked while another thread
+    was in a call of the client, each call of it raises `RuntimeError`.
     """
 
-    def __init__(self, suffixes: Union[str, bytes], saved: Optional[bytes] = None, now: Optional[int] = None,
+    def __init__(self, suffixes: Text, saved: Optional[Bytes] = None, now: Optional[Moment] = None,
                  rules: int = Rules.NONE):
         self._lock = threading.Lock()
+        self._is_torn = False
         self._room = ctypes.create_string_buffer(_ROOM)
         self._at = ctypes.create_string_buffer(_LIB.fonnalich_size() + 16)
         self._place: Optional[int] = -(-ctypes.addressof(self._at) // 16) * 16
         _LIB.fonnalich_begin(self._place)
+        _CLIENTS.add(self)
         if saved is None:
             self._call(_LIST, 0, b"", _bytes(suffixes))
         else:
             self._call(_LOAD, _second(now), _bytes(saved), _bytes(suffixes))
-        self.rules = rules
+        self._put(rules)
 
     @property
     def rules(self) -> Rules:
@@ -416,12 +466,17 @@ class Client:
         return self._rules
 
     @rules.setter
-    def rules(self, rules: int) -> None:
+    def rules(self, rules: Rules) -> None:
+        self._put(rules)
+
+    def _put(self, rules: int) -> None:
         self._call(_RULES, _counted(rules), b"", b"")
         self._rules = Rules(rules)
 
     def _call(self, word: int, number: int, subject: bytes, text: bytes) -> bytes:
         with self._lock:
+            if self._is_torn:
+                raise RuntimeError("the client was in a call of another thread as this process was forked")
             if self._place is None:
                 raise ValueError("the client is closed")
             length = _LIB.fonnalich_act(self._place, word, number, subject, len(subject), text, len(text), self._room,
@@ -430,13 +485,11 @@ class Client:
                 self._room = ctypes.create_string_buffer(length)
                 length = _LIB.fonnalich_act(self._place, _ANSWER, 0, b"", 0, b"", 0, self._room, length)
             _raise(length)
-            return self._room[:length]
+            return ctypes.string_at(self._room, length)
 
-    def receive(self, url: str, lines: Iterable[Union[str, bytes]], now: Optional[int] = None) -> List[End]:
+    def receive(self, url: str, lines: Iterable[Text], now: Optional[Moment] = None) -> List[End]:
         """Takes the Set-Cookie lines of an answer from this URL, and says what became of each."""
-        each = [_bytes(line) for line in lines]
-        if any(b"\n" in line for line in each):
-            raise ValueError("a line feed in a line")
+        each = _lines(lines)
         if not each:
             return []
         # One empty line is no text, and no cookie.
@@ -444,24 +497,24 @@ class Client:
             return [End.PARSE]
         return [End(number) for number in self._call(_RECEIVE, _second(now), _bytes(url), b"\n".join(each))]
 
-    def header(self, url: str, now: Optional[int] = None) -> str:
+    def header(self, url: str, now: Optional[Moment] = None) -> str:
         """The Cookie header of a request to this URL; empty where it gets none."""
         return self._call(_HEADER, _second(now), _bytes(url), b"").decode("utf-8", "surrogateescape")
 
-    def save(self, now: Optional[int] = None) -> bytes:
+    def save(self, now: Optional[Moment] = None) -> bytes:
         """The saved text of the cookies that have an expiry and aren't expired."""
         return self._call(_SAVE, _second(now), b"", b"")
 
-    def restart(self, now: Optional[int] = None) -> None:
+    def restart(self, now: Optional[Moment] = None) -> None:
         """Ends the session cookies, as saving and loading does."""
         self._call(_RESTART, _second(now), b"", b"")
 
     def close(self) -> None:
         """Gives all memory back. No other call may follow."""
         with self._lock:
-            if self._place is not None:
+            if self._place is not None and not self._is_torn:
                 _LIB.fonnalich_end(self._place)
-                self._place = None
+            self._place = None
 
     def __reduce__(self) -> NoReturn:
         """Raises, since two would give the same memory back."""
@@ -476,6 +529,20 @@ class Client:
     def __del__(self) -> None:
         if getattr(self, "_place", None) is not None:
             self.close()
+
+
+_CLIENTS: "weakref.WeakSet[Client]" = weakref.WeakSet()
+
+
+def _after_fork() -> None:
+    """Gives each client a lock again whose own no thread of this process will open, and marks it."""
+    for client in list(_CLIENTS):
+        if client._lock.locked():
+            client._lock, client._is_torn = threading.Lock(), True
+
+
+if hasattr(os, "register_at_fork"):
+    os.register_at_fork(after_in_child=_after_fork)
 
 
 class Jar(http.cookiejar.CookieJar):
@@ -535,28 +602,36 @@ class Jar(http.cookiejar.CookieJar):
     __delitem__ = clear
 
 
-def Adapter(client: Client, **how: Any) -> "HTTPAdapter":
+class Adapter:
     """An adapter for `requests`: mount it for `http://` and `https://` of a session whose `cookies` are `Jar(client)`.
 
     It puts the header of each request, at a redirect anew. A `Cookie` header of the caller's own goes out instead, up
     to a redirect. `cookies=` of a request is passed over, and so is an own header beside it. What a request gets goes
     by its URL, whatever its `Host` header says, while `requests` has the lines of the answer taken as from that host.
+    Requests go out by `over`, else by an `HTTPAdapter` of `requests` that is made of the other words.
     """
-    from requests.adapters import HTTPAdapter
 
-    class CookieAdapter(HTTPAdapter):
-        """Puts the client's header."""
+    def __init__(self, client: Client, over: Any = None, **how: Any):
+        # (nobody else loads `requests`)
+        from requests.adapters import HTTPAdapter
+        self.client = client
+        self.over = HTTPAdapter(**how) if over is None else over
 
-        def add_headers(self, request: "PreparedRequest", **_: Any) -> None:
-            """Puts the client's header, but in the place of the caller's own."""
-            given = request.headers.get("Cookie")
-            # `requests` makes a header itself of the cookies of this table alone.
-            if given is not None and not isinstance(given, _Sendable) and not request._cookies:
-                return
-            header = client.header(request.url)
-            if header:
-                request.headers["Cookie"] = _Sendable(header)
-            else:
-                request.headers.pop("Cookie", None)
+    def send(self, request: Any, *words: Any, **how: Any) -> Any:
+        """Sends a request with the client's header, but where the caller put one."""
+        given = request.headers.get("Cookie")
+        # `requests` makes a header itself of the cookies of this table alone.
+        if given is None or isinstance(given, _Sendable) or request._cookies:
+            self._put(request)
+        return self.over.send(request, *words, **how)
 
-    return CookieAdapter(**how)
+    def close(self) -> None:
+        """Closes what requests go out by."""
+        self.over.close()
+
+    def _put(self, request: Any) -> None:
+        header = self.client.header(request.url)
+        if header:
+            request.headers["Cookie"] = _Sendable(header)
+        else:
+            request.headers.pop("Cookie", None)

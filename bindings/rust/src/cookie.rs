@@ -78,6 +78,23 @@ impl Cookie {
         Cookie::read(true, text.as_ref())
     }
 
+    /// The cookie of each pair of a `Cookie` header, in their order: what stands between two `;` and isn't blank.
+    ///
+    /// ```
+    /// use fonnalich::Cookie;
+    ///
+    /// let names: Vec<_> = Cookie::split_parse("a=1; b=2").flatten().map(|cookie| cookie.name().to_owned()).collect();
+    /// assert_eq!(names, ["a", "b"]);
+    /// ```
+    pub fn split_parse(header: &str) -> SplitCookies<'_> {
+        SplitCookies { rest: Some(header), decode: false }
+    }
+
+    /// The same, whose names and values are percent-decoded.
+    pub fn split_parse_encoded(header: &str) -> SplitCookies<'_> {
+        SplitCookies { rest: Some(header), decode: true }
+    }
+
     /// The name.
     pub fn name(&self) -> &str {
         &self.name
@@ -232,6 +249,28 @@ impl From<CookieBuilder> for Cookie {
     }
 }
 
+/// The cookies of a `Cookie` header, each read as it is asked for.
+#[derive(Clone, Debug)]
+pub struct SplitCookies<'h> {
+    rest: Option<&'h str>,
+    decode: bool,
+}
+
+impl Iterator for SplitCookies<'_> {
+    type Item = Result<Cookie, Error>;
+
+    fn next(&mut self) -> Option<Result<Cookie, Error>> {
+        while let Some(rest) = self.rest {
+            let (pair, left) = rest.split_once(';').map_or((rest, None), |(pair, left)| (pair, Some(left)));
+            self.rest = left;
+            if !pair.trim().is_empty() {
+                return Some(Cookie::read(self.decode, pair.trim()));
+            }
+        }
+        None
+    }
+}
+
 /// What prints a cookie with its name and value percent-encoded.
 pub struct Encoded<'c> {
     cookie: &'c Cookie,
@@ -328,6 +367,24 @@ mod tests {
         let text = "a%20b=%C3%A9; Path=/%20";
         assert_eq!(Cookie::parse(text), Ok(Cookie::build(("a%20b", "%C3%A9")).path("/%20").build()));
         assert_eq!(Cookie::parse_encoded(text), Ok(Cookie::build(("a b", "é")).path("/%20").build()));
+    }
+
+    // RFC 6265, section 4.2.1, and what upstream passes over.
+    #[test]
+    fn is_read_of_a_header() {
+        let read = |header| Cookie::split_parse(header).collect::<Result<Vec<_>, _>>();
+        let two = Ok(vec![Cookie::new("SID", "31d4d96e407aad42"), Cookie::new("lang", "en-US")]);
+        assert_eq!(read("SID=31d4d96e407aad42; lang=en-US"), two);
+        assert_eq!(read(" ;; SID=31d4d96e407aad42;lang=en-US ; "), two);
+        assert_eq!((read(""), read(" ; ")), (Ok(vec![]), Ok(vec![])));
+        let each: Vec<_> = Cookie::split_parse("a=%20; b; =c; d=%ff").collect();
+        let wrong = [Err(Error::MissingPair), Err(Error::EmptyName)];
+        assert_eq!(each[1..3], wrong);
+        assert_eq!((&each[0], &each[3]), (&Ok(Cookie::new("a", "%20")), &Ok(Cookie::new("d", "%ff"))));
+        let each: Vec<_> = Cookie::split_parse_encoded("a=%20; d=%ff").collect();
+        assert_eq!(each, [Ok(Cookie::new("a", " ")), Err(Error::Utf8Error)]);
+        let header = (0..100_000).map(|i| format!("n{i}={i}")).collect::<Vec<_>>().join("; ");
+        assert_eq!(Cookie::split_parse(&header).flatten().count(), 100_000);
     }
 
     #[test]

@@ -29,12 +29,11 @@ mod cookie;
 mod rules;
 mod site;
 
-pub use cookie::{Cookie, CookieBuilder, Encoded, SameSite};
+pub use cookie::{Cookie, CookieBuilder, Encoded, SameSite, SplitCookies};
 pub use rules::{Rule, Rules};
 pub use site::{is_plain_url, suffix, Key, Session, Way};
 
 use std::fmt;
-use std::marker::PhantomData;
 
 mod library {
     #[repr(C, align(16))]
@@ -134,6 +133,7 @@ pub fn version() -> String {
 /// Why a call is refused. The client is as it was, but for `Stopped`. Of several causes the one is told whose number
 /// in the header file is nearest to 0; want of memory may be told in the place of any.
 #[derive(Clone, Copy, Debug, PartialEq, Eq)]
+#[non_exhaustive]
 pub enum Error {
     /// Memory was refused.
     OutOfMemory,
@@ -198,7 +198,26 @@ impl Error {
 
 impl fmt::Display for Error {
     fn fmt(&self, to: &mut fmt::Formatter<'_>) -> fmt::Result {
-        write!(to, "{self:?}")
+        match self {
+            Error::OutOfMemory => to.write_str("memory was refused"),
+            Error::List => to.write_str("the text is no public suffix list"),
+            Error::Moment => to.write_str("the moment is out of the years -9999 to 9999"),
+            Error::Url => to.write_str("the text is no URL"),
+            Error::Saved => to.write_str("the text is no saved client"),
+            Error::Year => to.write_str("a cookie that is to be saved ends in a year below 0"),
+            Error::LineFeed => to.write_str("a line has a line feed"),
+            Error::Key => to.write_str("the key has under 64 bytes"),
+            Error::Command => to.write_str("the cookie has no name"),
+            Error::EmptyName => to.write_str("the name is empty"),
+            Error::Expiry => to.write_str("the expiry is of a year below 100"),
+            Error::TooLong => to.write_str("the cookie is too long to be sealed"),
+            Error::Host => to.write_str("the host has no byte, or an empty label"),
+            Error::Utf8Error => to.write_str("the name or the value, percent-decoded, isn't UTF-8"),
+            Error::MissingPair => to.write_str("the text has no = before its first ;"),
+            Error::Random => to.write_str("the system gave no random bytes"),
+            Error::Stopped(line) => write!(to, "memory was refused at line {line}"),
+            Error::Other(number) => write!(to, "the library answered {number}"),
+        }
     }
 }
 
@@ -206,6 +225,7 @@ impl std::error::Error for Error {}
 
 /// What became of a line.
 #[derive(Clone, Copy, Debug, PartialEq, Eq)]
+#[non_exhaustive]
 pub enum LineEnd {
     /// It is a new cookie.
     Inserted,
@@ -263,14 +283,20 @@ enum Word {
     Rules,
 }
 
-/// A client that keeps what it is sent, and gives each request what it holds for it. It stays on its thread.
+/// A client that keeps what it is sent, and gives each request what it holds for it. It may move to another thread.
 ///
 /// Moments are whole seconds since 1970.
 pub struct Client {
     handle: Box<Handle>,
     room: Vec<u8>,
-    stays: PhantomData<*mut u8>,
 }
+
+// (nothing of the library belongs to a thread, and `&mut` lets one call at a time use a handle)
+const _: () = {
+    const fn moves<T: Send>() {}
+    moves::<Client>();
+    moves::<Session>();
+};
 
 impl Client {
     /// A client without a cookie, by the text of a public suffix list.
@@ -333,7 +359,7 @@ impl Client {
         assert!(unsafe { library::fonnalich_size() } <= size_of::<Handle>());
         // The place has room for a handle, and stays where it is until the client is dropped.
         unsafe { library::fonnalich_begin(&mut *handle) };
-        Client { handle, room: vec![0; 4096], stays: PhantomData }
+        Client { handle, room: vec![0; 4096] }
     }
 
     fn act(&mut self, word: Word, number: i64, subject: &[u8], text: &[u8]) -> Result<&[u8], Error> {
@@ -506,6 +532,36 @@ mod tests {
         let session = Session::open("", &Key::from(&[7; 64]), i64::MAX);
         assert_eq!(session.get(Way::Plain, ""), Err(Error::Moment));
         assert_eq!(Cookie::parse_encoded("=%ff").err(), Some(Error::EmptyName));
+    }
+
+    #[test]
+    fn tells_refusals_in_words() {
+        let numbers = [-1, -4, -5, -6, -7, -8, -10, -11, -12, -13, -14, -16, -17, -18];
+        let mut words: Vec<String> = numbers.iter().map(|number| Error::of(*number).to_string()).collect();
+        words.extend([Error::LineFeed, Error::Random].map(|error| error.to_string()));
+        assert!(words.iter().all(|words| words.contains(' ') && words.is_ascii()), "{words:?}");
+        words.sort();
+        words.dedup();
+        assert_eq!(words.len(), 16);
+        assert_eq!(Error::of(-107).to_string(), "memory was refused at line 7");
+        assert_eq!(Error::of(-9).to_string(), "the library answered -9");
+    }
+
+    #[test]
+    fn moves_between_threads() {
+        let mut clients: Vec<Client> = (0..8).map(|_| Client::new(LIST).unwrap()).collect();
+        for round in 0..4 {
+            let work = move |mut client: Client| {
+                client.receive(URL, &[format!("n{round}={round}")], NOW).unwrap();
+                client
+            };
+            let threads: Vec<_> =
+                clients.into_iter().map(|client| std::thread::spawn(move || work(client))).collect();
+            clients = threads.into_iter().map(|thread| thread.join().unwrap()).collect();
+        }
+        for mut client in clients {
+            assert_eq!(client.header(URL, NOW).unwrap(), b"n0=0; n1=1; n2=2; n3=3");
+        }
     }
 
     #[test]

@@ -1,7 +1,13 @@
 //! The rules of user agents (the draft that follows RFC 6265, sections 5.5 to 5.7).
 
-/// Which rules a client's lines come behind.
+/// Which rules a client's lines come behind. Further rules may follow, so begin with some and change a field.
+///
+/// ```
+/// let mut rules = fonnalich::Rules::browser();
+/// rules.long_lives = false;
+/// ```
 #[derive(Clone, Copy, Debug, PartialEq, Eq)]
+#[non_exhaustive]
 pub struct Rules {
     /// Refuses a line with a control character other than a tab.
     pub control: bool,
@@ -69,6 +75,7 @@ impl Rules {
 
 /// A rule that refused a line.
 #[derive(Clone, Copy, Debug, PartialEq, Eq)]
+#[non_exhaustive]
 pub enum Rule {
     Control,
     TooLong,
