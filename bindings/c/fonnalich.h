@@ -10,7 +10,7 @@
    What the caller owes, since nothing checks it:
    - a handle is begun once before its first use and freed once after its last, and never copied or moved between;
    - it lies at an address that is a multiple of 8, as every `fonnalich` of C does. A byte buffer of ctypes, Go or Zig
-     may miss it: the library that checks accesses of memory ends the process then (SIGILL);
+     may miss it: the library that is compiled with no proof ends the process then (SIGILL);
    - one call at a time uses a handle, on any thread, and on one side of a `fork`: save, and load in the child. Calls
      without a handle keep nothing, and may run on several threads at once;
    - each length is that of its text, and `out` overlaps no other text and no attributes. */
@@ -245,7 +245,9 @@ static inline ptrdiff_t fonnalich_rules(fonnalich *at, int64_t rules) {
 }
 
 /* Takes the Set-Cookie lines of an answer from this URL, joined by '\n', and writes a byte for each: what became of it.
-   An empty text has no line: so one empty line alone, which is no cookie, is told 0 outcomes.
+   An empty text has no line: so one empty line alone, which is no cookie, is told 0 outcomes. A '\r' before the '\n' is
+   one of the line's bytes: it is trimmed as white space, but FONNALICH_RULE_CONTROL refuses the line. So join lines by
+   '\n' alone.
    FONNALICH_STOPPED - n says that memory was refused at line n, counted from 1: those before it were taken, and no
    later one; at 0 none was. */
 static inline ptrdiff_t fonnalich_receive(fonnalich *at, int64_t second, const char *url, size_t url_length,
