@@ -8,6 +8,10 @@ int main(void) {
     const char *lines = "user=ann; Path=/; Secure\ncart=7; Path=/cart; Max-Age=60";
     char ends[16], header[256];
     fonnalich client;
+    if (fonnalich_processor() < 0) {
+        fputs("this processor lacks SSE 4.2\n", stderr);
+        return 1;
+    }
     fonnalich_begin(&client);
     if (fonnalich_list(&client, list, strlen(list)) < 0)
         return 1;

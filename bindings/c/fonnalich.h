@@ -55,6 +55,7 @@ enum {
     FONNALICH_PAIR = -18,     /* the text before the first semicolon has no '=' */
     FONNALICH_SITE = -19,     /* the number is none of an attribute SameSite */
     FONNALICH_RULES = -20,    /* the number is none of FONNALICH_RULE_.. */
+    FONNALICH_PROCESSOR = -21, /* this processor lacks what the library needs: from fonnalich_processor alone */
     FONNALICH_STOPPED = -100  /* this or less, from fonnalich_receive alone: see there */
 };
 
@@ -147,6 +148,16 @@ enum { FONNALICH_KEY_LENGTH = 64, FONNALICH_NONCE_LENGTH = 12 };
 #ifdef __cplusplus
 extern "C" {
 #endif
+
+/* Answers 0, or FONNALICH_PROCESSOR on a processor of x86-64 that lacks SSE 4.2. Ask it before any other call, which
+   would end the process there by an illegal instruction. */
+static inline ptrdiff_t fonnalich_processor(void) {
+#if defined(__x86_64__) && defined(__GNUC__)
+    return __builtin_cpu_supports("sse4.2") ? 0 : FONNALICH_PROCESSOR;
+#else
+    return 0;
+#endif
+}
 
 /* Writes the version of the library, as FONNALICH_VERSION. It takes no memory and is never refused. */
 ptrdiff_t fonnalich_version(char *out, size_t out_length);

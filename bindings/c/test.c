@@ -674,6 +674,7 @@ static void bears_a_refusal(long growth) {
 int main(int count, char **words) {
     long rounds = count > 1 ? atol(words[1]) : 5000;
     ask(fonnalich_size() <= sizeof(fonnalich), "a handle has room");
+    ask(fonnalich_processor() == 0, "the processor");
     char version[16] = "";
     ask(fonnalich_version(version, sizeof version) == 5 && strcmp(version, FONNALICH_VERSION) == 0, "the version");
     ask(fonnalich_version(version, 4) == 5 && strcmp(version, FONNALICH_VERSION) == 0, "no room for the version");
