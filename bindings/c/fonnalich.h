@@ -55,7 +55,8 @@ enum {
     FONNALICH_PAIR = -18,     /* the text before the first semicolon has no '=' */
     FONNALICH_SITE = -19,     /* the number is none of an attribute SameSite */
     FONNALICH_RULES = -20,    /* the number is none of FONNALICH_RULE_.. */
-    FONNALICH_PROCESSOR = -21, /* this processor lacks what the library needs: from fonnalich_processor alone */
+    FONNALICH_LINE = -21,     /* the header has a control character, as a line break, of a loaded cookie */
+    FONNALICH_PROCESSOR = -22, /* this processor lacks what the library needs: from fonnalich_processor alone */
     FONNALICH_STOPPED = -100  /* this or less, from fonnalich_receive alone: see there */
 };
 
@@ -266,7 +267,8 @@ static inline ptrdiff_t fonnalich_receive(fonnalich *at, int64_t second, const c
     return fonnalich_act(at, FONNALICH_DO_RECEIVE, second, url, url_length, lines, lines_length, out, out_length);
 }
 
-/* Writes the Cookie header of a request to this URL; where the answer is 0, the request has none. */
+/* Writes the Cookie header of a request to this URL; where the answer is 0, the request has none. It is one line: it
+   has no byte below 32 but the tab, and no 127. FONNALICH_LINE where a cookie of a saved text would put one there. */
 static inline ptrdiff_t fonnalich_header(fonnalich *at, int64_t second, const char *url, size_t url_length, char *out,
                                          size_t out_length) {
     return fonnalich_act(at, FONNALICH_DO_HEADER, second, url, url_length, "", 0, out, out_length);

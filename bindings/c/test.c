@@ -243,6 +243,28 @@ static void keeps_an_answer(void) {
 
 /* ---- saved and loaded */
 
+/* A saved text of another hand, whose cookie has this value in the place of 1xxxx2: a line break or not. */
+static void is_one_line(const char *value, ptrdiff_t wanted) {
+    char saved[2048], out[256];
+    fonnalich at;
+    fonnalich_begin(&at);
+    fonnalich_list(&at, T(LIST));
+    fonnalich_receive(&at, NOW, T(URL), T("a=1xxxx2; Max-Age=60; Path=/"), out, sizeof out);
+    ptrdiff_t length = fonnalich_save(&at, NOW, saved, sizeof saved - 1);
+    ask(length > 0 && length < (ptrdiff_t)sizeof saved, "a saved text");
+    saved[length] = 0;
+    char *pair = strstr(saved, "a=1xxxx2");
+    ask(pair != NULL, "its cookie");
+    memcpy(pair + 2, value, strlen(value));
+    ask(gives(fonnalich_load(&at, NOW, saved, length, T(LIST)), 0), "another's is loaded");
+    for (int64_t rules = 0; rules <= FONNALICH_BROWSER; rules += FONNALICH_BROWSER) {
+        ask(gives(fonnalich_rules(&at, rules), 0), "rules");
+        ask(gives(fonnalich_header(&at, NOW, T(URL), out, sizeof out), wanted), value);
+        ask(gives(fonnalich_header(&at, NOW, T("https://example.org/"), out, sizeof out), 0), "another site's");
+    }
+    fonnalich_free(&at);
+}
+
 static void comes_back(void) {
     char saved[2048], out[256];
     const char *lines = "a=1; Max-Age=60\nb=2";
@@ -686,6 +708,8 @@ int main(int count, char **words) {
     goes_from_page_to_page();
     keeps_an_answer();
     comes_back();
+    is_one_line("1\\r\\n2", FONNALICH_LINE);
+    is_one_line("\\u{7f}", FONNALICH_LINE);
     for (int i = 0; i < FONNALICH_KEY_LENGTH; i++)
         key[i] = i;
     for (int i = 0; i < 2 * FONNALICH_NONCE_LENGTH; i++)

@@ -150,7 +150,7 @@ class Refused(ValueError):
 
     NAMES = {-2: "Word", -3: "NoClient", -4: "List", -5: "Moment", -6: "Url", -7: "Saved", -8: "Year", -9: "Read",
              -10: "Key", -11: "Command", -12: "EmptyName", -13: "Expiry", -14: "TooLong", -15: "Nonces", -16: "Host",
-             -17: "Text", -18: "Pair", -19: "Site", -20: "Rules"}
+             -17: "Text", -18: "Pair", -19: "Site", -20: "Rules", -21: "Line"}
 
     def __init__(self, number: int):
         super().__init__(self.NAMES.get(number, str(number)))
@@ -498,7 +498,9 @@ class Client:
         return [End(number) for number in self._call(_RECEIVE, _second(now), _bytes(url), b"\n".join(each))]
 
     def header(self, url: str, now: Optional[Moment] = None) -> str:
-        """The Cookie header of a request to this URL; empty where it gets none."""
+        """The Cookie header of a request to this URL; empty where it gets none.
+
+        It is one line: it is refused as `Line` where a cookie of a saved text would put a control character there."""
         return self._call(_HEADER, _second(now), _bytes(url), b"").decode("utf-8", "surrogateescape")
 
     def save(self, now: Optional[Moment] = None) -> bytes:

@@ -165,6 +165,8 @@ pub enum Error {
     Utf8Error,
     /// The text before the first `;` has no `=`.
     MissingPair,
+    /// The header has a control character, as a line break, of a loaded cookie.
+    Line,
     /// The system gave no random bytes for a nonce.
     Random,
     /// Memory was refused at this line, counted from 1: those before it were taken. At 0 none was.
@@ -190,6 +192,7 @@ impl Error {
             -16 => Error::Host,
             -17 => Error::Utf8Error,
             -18 => Error::MissingPair,
+            -21 => Error::Line,
             ..=-100 => Error::Stopped((-100 - number) as usize),
             _ => Error::Other(number),
         }
@@ -214,6 +217,7 @@ impl fmt::Display for Error {
             Error::Host => to.write_str("the host has no byte, or an empty label"),
             Error::Utf8Error => to.write_str("the name or the value, percent-decoded, isn't UTF-8"),
             Error::MissingPair => to.write_str("the text has no = before its first ;"),
+            Error::Line => to.write_str("the header has a control character"),
             Error::Random => to.write_str("the system gave no random bytes"),
             Error::Stopped(line) => write!(to, "memory was refused at line {line}"),
             Error::Other(number) => write!(to, "the library answered {number}"),
@@ -337,7 +341,8 @@ impl Client {
         Ok(if lines.len() == 1 && text.is_empty() { vec![LineEnd::Parse] } else { ends })
     }
 
-    /// The Cookie header of a request to this URL; empty where it gets none.
+    /// The Cookie header of a request to this URL; empty where it gets none. It is one line: `Line` where a cookie of a
+    /// saved text would put a control character there.
     pub fn header(&mut self, url: &str, now: i64) -> Result<Vec<u8>, Error> {
         self.act(Word::Header, now, url.as_bytes(), b"").map(<[u8]>::to_vec)
     }
@@ -514,6 +519,30 @@ mod tests {
         assert_eq!(client.receive(URL, &["a=1; Domain=com"], NOW), Ok(vec![LineEnd::PublicSuffix]));
     }
 
+    // A saved text of another hand: the cookie's value has a line break and a further field of the request.
+    #[test]
+    fn hands_out_no_header_of_two_lines() {
+        let client = |pair: &str| {
+            let mut client = Client::new(LIST).unwrap();
+            client.receive(URL, &["a=1; Max-Age=60; Path=/"], NOW).unwrap();
+            let saved = String::from_utf8(client.save(NOW).unwrap()).unwrap();
+            Client::load(LIST, saved.replace("a=1", pair).as_bytes(), NOW).unwrap()
+        };
+        for rules in [Rules::none(), Rules::browser()] {
+            for pair in [r"a=1\r\nX-Evil: 1", r"a=1\n2", r"a\u{1}=1", r"a=\u{7f}"] {
+                let mut client = client(pair);
+                client.set_rules(rules);
+                assert_eq!(client.header(URL, NOW), Err(Error::Line), "{pair} {rules:?}");
+                assert_eq!(client.header(URL, i64::MAX), Err(Error::Moment));
+                assert_eq!(client.header("no url", NOW), Err(Error::Url));
+                assert_eq!(client.header("https://example.org/", NOW).unwrap(), b"");
+            }
+            let mut client = client(r"a=1\t2");
+            client.set_rules(rules);
+            assert_eq!(client.header(URL, NOW).unwrap(), b"a=1\t2");
+        }
+    }
+
     // Of two causes or more the one is told whose number in the header file is nearest to 0.
     #[test]
     fn tells_the_first_cause() {
@@ -536,13 +565,13 @@ mod tests {
 
     #[test]
     fn tells_refusals_in_words() {
-        let numbers = [-1, -4, -5, -6, -7, -8, -10, -11, -12, -13, -14, -16, -17, -18];
+        let numbers = [-1, -4, -5, -6, -7, -8, -10, -11, -12, -13, -14, -16, -17, -18, -21];
         let mut words: Vec<String> = numbers.iter().map(|number| Error::of(*number).to_string()).collect();
         words.extend([Error::LineFeed, Error::Random].map(|error| error.to_string()));
         assert!(words.iter().all(|words| words.contains(' ') && words.is_ascii()), "{words:?}");
         words.sort();
         words.dedup();
-        assert_eq!(words.len(), 16);
+        assert_eq!(words.len(), 17);
         assert_eq!(Error::of(-107).to_string(), "memory was refused at line 7");
         assert_eq!(Error::of(-9).to_string(), "the library answered -9");
     }

@@ -8,16 +8,19 @@ use Rattle.jiff.specs.Types.{DateTime}
 use Rattle.jiff.specs.Words.{civil_nanos, IsCivilNanos}
 use Rattle.jiff.proofs.Family.{civil_nanos_range}
 use Rattle.publicsuffix.specs.Rules.{Rule, Line, Faulty, HasNoFault}
+use Rattle.url.specs.Parts.{Parts}
+use Rattle.user_agent.specs.declared.rules.Rules.{Rules}
 use Rattle.cookie_store.specs.Placing.{saved}
 use Rattle.cookie_store.specs.Rows.{Row}
 use Rattle.cookie_store.specs.SavedTexts.{IsAnyBeforeYears}
 use Rattle.cookie_run.specs.Program.{IsSuffixList, IsNoSuffixList, IsNoSavedText}
+use Rattle.cookie_run.specs.ScriptLine.{url_of}
 use Rattle.fonnalich_c.specs.Exchange.{IsNoExchange}
 use Rattle.fonnalich_c.specs.Faults.{IsFirst, IsTold}
-use Rattle.fonnalich_c.specs.Given.{IsNoMoment, IsNoUrl, nanos_of}
+use Rattle.fonnalich_c.specs.Given.{IsNoMoment, IsNoUrl, IsUrl, nanos_of}
 use Rattle.fonnalich_c.specs.Numbers.{refusal_number}
 use Rattle.fonnalich_c.specs.Parts.{AreTexts, IsNoEnd, IsUnmade, Texts, counted}
-use Rattle.fonnalich_c.specs.Tasks.{IsNoLoad, IsRequestFault, IsSavingFault}
+use Rattle.fonnalich_c.specs.Tasks.{IsBroken, IsHeaderFault, IsNoLoad, IsRequestFault, IsSavingFault}
 use Rattle.fonnalich_c.specs.declared.attributes.Attributes.{Attributes}
 use Rattle.fonnalich_c.specs.declared.refusal.Refusal.{Refusal}
 use Rattle.fonnalich_c.specs.declared.refusal.Refusal.TheVariants as refusal
@@ -120,6 +123,36 @@ pub url_second : (second : ℤ) (subject : List ℕ) (refused : Refusal) → ¬ 
 url_second second subject refused is (inl memory) = inl memory
 url_second second subject refused is (inr why) =
     inr (second_of_two refusal.Moment refusal.Url (IsNoMoment second) (IsNoUrl subject) refused is why)
+
+-- ---- a second, a URL and a header
+
+pub is_url : (subject : List ℕ) (url : Parts) → IsUrl subject url → ¬ IsNoUrl subject
+is_url subject url is (inl no_text) = no_text is.0
+is_url subject url is (inr none) = none_some (url_of subject) url none is.1
+  where
+    none_some : (found : Option Parts) (it : Parts) → found ≡ None → found ≡ Some it → ⊥
+    none_some found it none some = cc
+
+pub moment_unsent : (rules : Option Rules) (second : ℤ) (subject : List ℕ) (rows : List Row) (refused : Refusal)
+    → (refused ≡ refusal.Moment) × IsNoMoment second → IsTold (IsHeaderFault rules second subject rows) refused
+moment_unsent rules second subject rows refused why =
+    inr (first_of_three refusal.Moment refusal.Url refusal.Line (IsNoMoment second) (IsNoUrl subject)
+    (IsBroken rules second subject rows) refused (record { le = tt }) (record { le = tt }) why)
+
+pub url_unsent : (rules : Option Rules) (second : ℤ) (subject : List ℕ) (rows : List Row) (refused : Refusal)
+    → ¬ IsNoMoment second → (refused ≡ refusal.Memory) ⊎ ((refused ≡ refusal.Url) × IsNoUrl subject)
+    → IsTold (IsHeaderFault rules second subject rows) refused
+url_unsent rules second subject rows refused is (inl memory) = inl memory
+url_unsent rules second subject rows refused is (inr why) =
+    inr (second_of_three refusal.Moment refusal.Url refusal.Line (IsNoMoment second) (IsNoUrl subject)
+    (IsBroken rules second subject rows) refused (record { le = tt }) is why)
+
+pub line_unsent : (rules : Option Rules) (second : ℤ) (subject : List ℕ) (rows : List Row) (refused : Refusal)
+    → ¬ IsNoMoment second → ¬ IsNoUrl subject → (refused ≡ refusal.Line) × IsBroken rules second subject rows
+    → IsTold (IsHeaderFault rules second subject rows) refused
+line_unsent rules second subject rows refused is at why =
+    inr (third_of_three refusal.Moment refusal.Url refusal.Line (IsNoMoment second) (IsNoUrl subject)
+    (IsBroken rules second subject rows) refused is at why)
 
 -- ---- a second and rows
 

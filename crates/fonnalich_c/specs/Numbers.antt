@@ -80,6 +80,7 @@ refusal_number refusal.Text = pos 0 -ℤ pos 17
 refusal_number refusal.Pair = pos 0 -ℤ pos 18
 refusal_number refusal.Site = pos 0 -ℤ pos 19
 refusal_number refusal.Rules = pos 0 -ℤ pos 20
+refusal_number refusal.Line = pos 0 -ℤ pos 21
 refusal_number (refusal.Stopped line) = stopped_number line
 
 -- what a session's refusal is told as

@@ -1,5 +1,7 @@
 -- What the words of a call make of a client (own: docs/DEFINITIONS.md).
-use Rattle.std.specs.Prelude.{ℕ, ℤ, ◌≡◌, ◌≢◌, ◌⊎◌, List, [], Option, Some, None, map, false}
+use Rattle.std.specs.Prelude.{ℕ, ℤ, Bool, ◌≡◌, ◌≢◌, ◌⊎◌, ◌==◌, ◌&&◌, ◌||◌, not, List, [], Option, Some, None, map}
+use Rattle.std.specs.Prelude.{false, nat_lt, true}
+use Rattle.std.specs.List.{list_any}
 use Rattle.std.specs.Str.{IsUtf8}
 use Rattle.publicsuffix.specs.Rules.{Rule}
 use Rattle.saved_text.specs.RonLayout.{ron_layout}
@@ -80,10 +82,31 @@ abbrev pub Sends : Option Rules → List Row → Parts → ℤ → List ℕ → 
 Sends None rows url now header = IsHeader rows url now header
 Sends (Some rules) rows url now header = IsHeaderBehind rules rows url now header
 
--- the answer is the header of a request to the URL
+-- a control character: a byte below 32 but the tab, or 127
+abbrev pub is_control : ℕ → Bool
+is_control b = (nat_lt b 32 && not (b == 9)) || b == 127
+
+abbrev pub has_control : List ℕ → Bool
+has_control text = list_any is_control text
+
+-- this is the header of a request to the URL, and whether it has a control character
+abbrev pub HeadsSo : Bool → Option Rules → ℤ → List ℕ → List Row → List ℕ → Type 0
+HeadsSo is_broken rules second subject rows header = (has_control header ≡ is_broken)
+    × ((url : Parts) × IsUrl subject url × Sends rules rows url (nanos_of second) header)
+
+-- the answer is that header, and has none
 abbrev pub Heads : Option Rules → ℤ → List ℕ → List Row → List ℕ → Type 0
-Heads rules second subject rows answer =
-    (url : Parts) × IsUrl subject url × Sends rules rows url (nanos_of second) answer
+Heads rules second subject rows answer = HeadsSo false rules second subject rows answer
+
+-- that header has one
+abbrev pub IsBroken : Option Rules → ℤ → List ℕ → List Row → Type 0
+IsBroken rules second subject rows = (header : List ℕ) × HeadsSo true rules second subject rows header
+
+-- what is wrong with a second, a URL and the header of the request
+abbrev pub IsHeaderFault : Option Rules → ℤ → List ℕ → List Row → Refusal → Type 0
+IsHeaderFault rules second subject rows refused = ((refused ≡ refusal.Moment) × IsNoMoment second)
+    ⊎ ((refused ≡ refusal.Url) × IsNoUrl subject)
+    ⊎ ((refused ≡ refusal.Line) × IsBroken rules second subject rows)
 
 -- the answer is its saved text
 abbrev pub IsSavedText : ℤ → List Row → List ℕ → Type 0
@@ -110,7 +133,7 @@ abbrev pub Refuses : Task → Given → Option Rules → Store → Refusal → S
 Refuses task.Receive given rules old refused new =
     RefusesLines rules given.number given.subject given.text old refused new
 Refuses task.Header given rules old refused new =
-    (new ≡ old) × IsTold (IsRequestFault given.number given.subject) refused
+    (new ≡ old) × IsTold (IsHeaderFault rules given.number given.subject old.rows) refused
 Refuses task.Save given rules old refused new = (new ≡ old) × IsTold (IsSavingFault given.number old.rows) refused
 Refuses task.Restart given rules old refused new = (new ≡ old) × IsTold (IsSavingFault given.number old.rows) refused
 

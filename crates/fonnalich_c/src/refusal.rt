@@ -52,6 +52,8 @@ pub enum Refusal {
     Site,
     /// The number is none of flags of rules.
     Rules,
+    /// The header has a control character, as a line break.
+    Line,
     /// Memory was refused at this line, counted from 1: those before it are applied, and no later one
     /// was looked at. At 0 none was.
     Stopped(usize),
@@ -83,6 +85,7 @@ impl Refusal {
             Refusal::Pair => -18,
             Refusal::Site => -19,
             Refusal::Rules => -20,
+            Refusal::Line => -21,
             Refusal::Stopped(line) => stopped_number(line),
         }
     }

@@ -1,5 +1,7 @@
 //! What the words make of a client.
 ghost use Rattle.std.specs.Prelude.{◌≡◌, ◌⊎◌, ◌≤◌, [], length, map, vec_capacity, IfOk, IfErr, OnOk, OnErr, Some};
+ghost use Rattle.std.specs.Prelude.{false, string_bytes, true};
+ghost use Rattle.jiff.specs.Words.{civil_nanos};
 ghost use Rattle.cookie_store.specs.SavedTexts.{IsAnyBeforeYears};
 ghost use Rattle.fonnalich_c.specs.Faults.{IsTold};
 ghost use Rattle.fonnalich_c.specs.Numbers.{end_number};
@@ -14,7 +16,9 @@ use crate::rule::{outcome_number, rules_of};
 use crate::word::{Task, Word};
 use cookie_run::{Client, LineEnd};
 use cookie_store::{Counting, Error};
-use std::alloc::Global;
+use jiff::civil::DateTime;
+use std::alloc::{AllocError, Global};
+use url::Url;
 use user_agent::agent::{header_of, receive_all};
 use user_agent::{Outcome, Rules};
 
@@ -198,19 +202,52 @@ fn header(
 ) -> Result<Vec<u8>, Refusal>
     ensures ok { IfOk result (λ answer.
         spec.Heads habits.old.rules second subject.now client.now.rows answer.items) }
-    ensures err { IfErr result (IsTold (spec.IsRequestFault second subject.now)) }
+    ensures err { IfErr result
+        (IsTold (spec.IsHeaderFault habits.old.rules second subject.now client.now.rows)) }
     ensures rules { habits.new.rules ≡ habits.old.rules }
 {
     let now = moment(second)?;
     let url = url_at(alloc, &mut habits.page, subject)?;
-    let header = match habits.rules {
-        Some(rules) => header_of(client, &rules, url, now),
-        None => client.header(url, now),
-    };
-    match header {
-        Ok(text) => Ok(text.into_bytes()),
+    match sent(client, habits.rules, url, now) {
+        Ok(header) => one_line(header),
         Err(_) => Err(Refusal::Memory),
     }
+}
+
+// The header that a request gets behind the rules, or without any.
+fn sent(
+    client: &Client,
+    rules: Option<Rules>,
+    url: &Url,
+    now: DateTime,
+) -> Result<String, AllocError>
+    ensures { IfOk result (λ header.
+        spec.Sends rules client.now.rows url.now (civil_nanos now) (string_bytes header)) }
+{
+    match rules {
+        Some(rules) => header_of(client, &rules, url, now),
+        None => client.header(url, now),
+    }
+}
+
+// The bytes of a header, if none is a control character: one that is would begin a further field of the request.
+fn one_line(header: String) -> Result<Vec<u8>, Refusal>
+    ensures ok { IfOk result (λ answer.
+        (answer.items ≡ string_bytes header) × (spec.has_control answer.items ≡ false)) }
+    ensures err { IfErr result (λ refused.
+        (refused ≡ Refusal.Line) × (spec.has_control (string_bytes header) ≡ true)) }
+{
+    if has_control(header.as_bytes()) {
+        Err(Refusal::Line)
+    } else {
+        Ok(header.into_bytes())
+    }
+}
+
+fn has_control(text: &[u8]) -> bool
+    ensures { result ≡ spec.has_control text.now }
+{
+    text.iter().any(|b| (*b < 32 && *b != b'\t') || *b == 127)
 }
 
 // The saved text. Memory alone refuses a write.
