@@ -1,4 +1,3 @@
-pub mod CommandLemmas
 pub mod ReadLemmas
-pub mod UsageFacts
+pub mod TokenLemmas
 pub mod WordFacts

@@ -1,100 +1,133 @@
--- What words ask for, and how they are refused, at words that are written out.
-use Rattle.std.proofs.Common.{◌≡◌, refl, List, [], ◌∷◌, Some, None, Ok, true, false, codes}
-use Rattle.clap.specs.Walk.{Text}
-use Rattle.clap.specs.declared.error.kind.ErrorKind.TheVariants.{ArgumentConflict, DisplayHelp, DisplayVersion, InvalidValue}
-use Rattle.clap.specs.declared.error.kind.ErrorKind.TheVariants.{MissingRequiredArgument, MissingSubcommand}
-use Rattle.clap.specs.declared.error.kind.ErrorKind.TheVariants.{TooManyValues, UnknownArgument}
-use Rattle.clap.proofs.OnLiterals.{clap_on_literals}
-use Rattle.jar_words.specs.Asking.{asked_of, faults, header, list_json, remove}
-use Rattle.jar_words.specs.declared.asked.Format.TheVariants.{Json}
+-- What is read of words that are written out.
+use Rattle.std.proofs.Common.{◌≡◌, refl, [], ◌∷◌, Some, None, Ok, Err, true, false, codes}
+use Rattle.jar_words.specs.Asking.{Order, Request, all, clear, export, header, import, list, list_json, remove}
+use Rattle.jar_words.specs.Asking.{under}
+use Rattle.jar_words.specs.Names.{Text, option_of, row_of, verb_of}
+use Rattle.jar_words.specs.Reading.{first_wrong, first_wrong_option, order_asked, read}
+use Rattle.jar_words.specs.Refusing.{help, version, words}
+use Rattle.jar_words.specs.Tokens.{behind_equals, is_option, name_in, token, tokens, value_of, words_of}
+use Rattle.jar_words.specs.declared.asked.Format.TheVariants.{Json, Txt}
+use Rattle.jar_words.specs.declared.asked.Reader.TheVariants.{Wget}
+use Rattle.jar_words.specs.declared.refusal.Kind.TheVariants as kind
 
--- `jar.ron list --json`
-pub asks_for_a_list : asked_of (codes "jar.ron" ∷ codes "list" ∷ codes "--json" ∷ []) ≡ Ok (record {
+-- opens all that is read by
+unfoldable pub read_by : Unit {0}
+unfolding read tokens token is_option name_in behind_equals option_of verb_of row_of value_of words_of
+    first_wrong first_wrong_option order_asked
+read_by = tt
+
+-- the order alone, with no option
+abbrev pub plainly : Text → Order → Request
+plainly jar order = record {
   now = None;
   suffixes = None;
   format = None;
   wait = None;
   rules = None;
   is_verbose = false;
-  jar = codes "jar.ron";
-  order = list_json None;
-})
-unfolding clap_on_literals
-asks_for_a_list = refl
+  jar = jar;
+  order = order;
+}
 
--- `-v --now M --format=json --suffixes F --wait=3 --rules none jar header u`
-abbrev all_options : List Text
-all_options = codes "-v" ∷ codes "--now" ∷ codes "M" ∷ codes "--format=json" ∷ codes "--suffixes" ∷ codes "F"
-    ∷ codes "--wait=3" ∷ codes "--rules" ∷ codes "none"
-    ∷ codes "jar" ∷ codes "header" ∷ codes "u" ∷ []
+pub reads_a_list : read (codes "jar.ron" ∷ codes "list" ∷ codes "--json" ∷ [])
+    ≡ Ok (plainly (codes "jar.ron") (list_json all))
+unfolding read_by
+reads_a_list = refl
 
-pub asks_with_options : asked_of all_options ≡ Ok (record {
-  now = Some (codes "M");
-  suffixes = Some (codes "F");
-  format = Some Json;
-  wait = Some (codes "3");
-  rules = Some (codes "none");
-  is_verbose = true;
-  jar = codes "jar";
-  order = header (codes "u");
-})
-unfolding clap_on_literals
-asks_with_options = refl
+pub reads_options_anywhere : read (codes "-v" ∷ codes "jar" ∷ codes "--now" ∷ codes "M" ∷ codes "header"
+    ∷ codes "--format=json" ∷ codes "u" ∷ codes "--wait="
+    ∷ codes "--suffixes" ∷ codes "-" ∷ codes "--rules" ∷ codes "none" ∷ [])
+    ≡ Ok (record {
+      now = Some (codes "M");
+      suffixes = Some (codes "-");
+      format = Some Json;
+      wait = Some [];
+      rules = Some (codes "none");
+      is_verbose = true;
+      jar = codes "jar";
+      order = header (codes "u");
+    })
+unfolding read_by
+reads_options_anywhere = refl
 
-pub takes_options : faults all_options ≡ []
-unfolding clap_on_literals
-takes_options = refl
+-- behind `--` no word is an option
+pub reads_behind_dashes : read (codes "jar" ∷ codes "remove" ∷ codes "a" ∷ codes "--" ∷ codes "/" ∷ codes "-v" ∷ [])
+    ≡ Ok (plainly (codes "jar") (remove (codes "a") (codes "/") (codes "-v")))
+unfolding read_by
+reads_behind_dashes = refl
 
--- a JAR that is named as a command is no JAR
-pub wants_a_jar : faults (codes "list" ∷ []) ≡ MissingRequiredArgument ∷ []
-unfolding clap_on_literals
-wants_a_jar = refl
+pub reads_a_domain : read (codes "jar" ∷ codes "list" ∷ codes "--domain" ∷ codes "a.com" ∷ [])
+    ≡ Ok (plainly (codes "jar") (list (under (codes "a.com"))))
+unfolding read_by
+reads_a_domain = refl
 
--- `jar remove a / -- -v`
-abbrev behind_dashes : List Text
-behind_dashes = codes "jar" ∷ codes "remove" ∷ codes "a" ∷ codes "/" ∷ codes "--" ∷ codes "-v" ∷ []
+pub reads_an_import : read (codes "jar" ∷ codes "import" ∷ codes "-" ∷ codes "--file-format" ∷ codes "txt"
+    ∷ codes "--strict" ∷ [])
+    ≡ Ok (plainly (codes "jar") (import (codes "-") (Some Txt) true))
+unfolding read_by
+reads_an_import = refl
 
-pub asks_behind_dashes : asked_of behind_dashes ≡ Ok (record {
-  now = None;
-  suffixes = None;
-  format = None;
-  wait = None;
-  rules = None;
-  is_verbose = false;
-  jar = codes "jar";
-  order = remove (codes "a") (codes "/") (codes "-v");
-})
-unfolding clap_on_literals
-asks_behind_dashes = refl
+pub reads_an_export : read (codes "jar" ∷ codes "export" ∷ codes "--for=wget" ∷ codes "c.txt" ∷ [])
+    ≡ Ok (plainly (codes "jar") (export (codes "c.txt") None (Some Wget)))
+unfolding read_by
+reads_an_export = refl
 
-pub wants_a_command : faults (codes "jar" ∷ []) ≡ MissingSubcommand ∷ []
-unfolding clap_on_literals
-wants_a_command = refl
+-- a command is read by its place: a JAR may be named as one
+pub reads_by_place : read (codes "clear" ∷ codes "clear" ∷ []) ≡ Ok (plainly (codes "clear") clear)
+unfolding read_by
+reads_by_place = refl
 
-pub wants_each_word : faults (codes "jar" ∷ codes "explain" ∷ codes "u" ∷ []) ≡ MissingRequiredArgument ∷ []
-unfolding clap_on_literals
-wants_each_word = refl
-
-pub knows_no_other_option : faults (codes "jar" ∷ codes "clear" ∷ codes "-v" ∷ []) ≡ UnknownArgument ∷ []
-unfolding clap_on_literals
-knows_no_other_option = refl
-
-pub takes_no_option_twice : faults (codes "-vv" ∷ []) ≡ ArgumentConflict ∷ []
-unfolding clap_on_literals
-takes_no_option_twice = refl
-
-pub wants_a_value : faults (codes "--now" ∷ []) ≡ InvalidValue ∷ []
-unfolding clap_on_literals
-wants_a_value = refl
-
-pub takes_no_value : faults (codes "--verbose=1" ∷ []) ≡ TooManyValues ∷ []
-unfolding clap_on_literals
-takes_no_value = refl
-
-pub gives_help : faults (codes "list" ∷ codes "--help" ∷ []) ≡ DisplayHelp ∷ []
-unfolding clap_on_literals
+pub gives_help : read (codes "jar" ∷ codes "list" ∷ codes "--help" ∷ codes "--jsn" ∷ []) ≡ Err help
+unfolding read_by
 gives_help = refl
 
-pub gives_the_version : faults (codes "--version" ∷ []) ≡ DisplayVersion ∷ []
-unfolding clap_on_literals
+pub gives_the_version : read (codes "-V" ∷ []) ≡ Err version
+unfolding read_by
 gives_the_version = refl
+
+-- what is wrong before a call for help is told
+pub tells_the_first : read (codes "jar" ∷ codes "list" ∷ codes "--jsn" ∷ codes "--help" ∷ [])
+    ≡ Err (words kind.UnknownWord (codes "--jsn"))
+unfolding read_by
+tells_the_first = refl
+
+pub knows_no_option_of_another : read (codes "jar" ∷ codes "header" ∷ codes "--json" ∷ codes "u" ∷ [])
+    ≡ Err (words kind.UnknownWord (codes "--json"))
+unfolding read_by
+knows_no_option_of_another = refl
+
+pub takes_no_further_word : read (codes "jar" ∷ codes "clear" ∷ codes "all" ∷ [])
+    ≡ Err (words kind.UnknownWord (codes "all"))
+unfolding read_by
+takes_no_further_word = refl
+
+pub takes_no_option_twice : read (codes "-v" ∷ codes "jar" ∷ codes "--verbose" ∷ [])
+    ≡ Err (words kind.Repeated (codes "--verbose"))
+unfolding read_by
+takes_no_option_twice = refl
+
+pub wants_a_value : read (codes "--now" ∷ codes "--wait" ∷ codes "3" ∷ []) ≡ Err (words kind.NoValue (codes "--now"))
+unfolding read_by
+wants_a_value = refl
+
+pub takes_no_value : read (codes "--verbose=1" ∷ []) ≡ Err (words kind.UnneededValue (codes "--verbose=1"))
+unfolding read_by
+takes_no_value = refl
+
+pub wants_a_command : read (codes "jar" ∷ []) ≡ Err (words kind.MissingCommand (codes "COMMAND"))
+unfolding read_by
+wants_a_command = refl
+
+pub wants_each_word : read (codes "jar" ∷ codes "set" ∷ codes "u" ∷ []) ≡ Err (words kind.MissingWord (codes "LINE"))
+unfolding read_by
+wants_each_word = refl
+
+pub wants_one_of_both : read (codes "jar" ∷ codes "list" ∷ codes "--domain=a.com" ∷ codes "u" ∷ [])
+    ≡ Err (words kind.Both (codes "u"))
+unfolding read_by
+wants_one_of_both = refl
+
+pub knows_the_forms : read (codes "jar" ∷ codes "clear" ∷ codes "--format=RON" ∷ [])
+    ≡ Err (words kind.Format (codes "RON"))
+unfolding read_by
+knows_the_forms = refl

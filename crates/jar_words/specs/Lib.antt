@@ -1,4 +1,7 @@
 pub mod Asking
+pub mod Left
+pub mod Names
+pub mod Reading
 pub mod Refusing
+pub mod Tokens
 pub mod UrlAsked
-pub mod Usage

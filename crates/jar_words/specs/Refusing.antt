@@ -1,9 +1,10 @@
 -- What is wrong with words (own: docs/DEFINITIONS.md).
 use Rattle.std.specs.Prelude.{ℕ, List, codes}
-use Rattle.clap.specs.declared.error.kind.ErrorKind.{ErrorKind}
-use Rattle.clap.specs.declared.error.kind.ErrorKind.TheVariants as clap
+use Rattle.jar_words.specs.Names.{Text}
 use Rattle.jar_words.specs.declared.refusal.Kind.{Kind}
 use Rattle.jar_words.specs.declared.refusal.Kind.TheVariants as kind
+use Rattle.jar_words.specs.declared.refusal.Refusal.{Refusal}
+use Rattle.jar_words.specs.declared.refusal.Refusal.TheVariants as refusal
 
 -- what goes to standard error
 abbrev pub kind_text : Kind → List ℕ
@@ -14,13 +15,16 @@ kind_text kind.Repeated = codes "an option given twice"
 kind_text kind.MissingWord = codes "a word is missing"
 kind_text kind.MissingCommand = codes "a command is missing"
 kind_text kind.Format = codes "a format that is none of ron, json and txt"
+kind_text kind.Reader = codes "a reader that is none of curl, wget and python"
+kind_text kind.Both = codes "a URL beside --domain"
 
--- what is wrong, by the kind of clap's error: those of the last line are an unknown argument or subcommand,
--- and kinds that no words bring about
-abbrev pub told : ErrorKind → Kind
-told clap.InvalidValue = kind.NoValue
-told clap.TooManyValues = kind.UnneededValue
-told clap.ArgumentConflict = kind.Repeated
-told clap.MissingRequiredArgument = kind.MissingWord
-told clap.MissingSubcommand = kind.MissingCommand
-told other = kind.UnknownWord
+-- why words aren't read: they ask for help or the version, or are wrong, which shows at this word
+pub data Refused : Type 0 where
+  help : Refused
+  version : Refused
+  words : Kind → Text → Refused
+
+abbrev pub refused_of : Refusal → Refused
+refused_of refusal.Help = help
+refused_of refusal.Version = version
+refused_of (refusal.Words kind word) = words kind word.now

@@ -2,11 +2,12 @@
 use Rattle.std.specs.Prelude.{◌==◌, ◌&&◌, Bool, not, List, [], ◌∷◌, Option, Some, None, codes, slice_index}
 use Rattle.std.specs.Prelude.{if◌then◌else◌}
 use Rattle.std.specs.Str.{bytes_eq}
-use Rattle.clap.specs.Walk.{Text}
+use Rattle.jar_words.specs.Names.{Text}
+use Rattle.jar_words.specs.Tokens.{dash}
 
 -- it begins with a dash
 abbrev pub is_option : Text → Bool
-is_option text = slice_index text 0 == 45
+is_option text = slice_index text 0 == dash
 
 -- the text behind the command `url`
 abbrev pub text_behind : Text → Text → Option Text

@@ -2,7 +2,7 @@
 ghost use Rattle.std.specs.Prelude.{◌≡◌};
 ghost use Rattle.jar_words.specs.Asking as spec;
 
-/// The form of a jar's text.
+/// The form of a text with cookies.
 #[derive(Clone, Copy, Debug, PartialEq, Eq)]
 pub enum Format {
     /// The list of rows in RON.
@@ -28,6 +28,45 @@ impl Format {
             None
         }
     }
+}
+
+/// A program that reads a `cookies.txt`.
+#[derive(Clone, Copy, Debug, PartialEq, Eq)]
+pub enum Reader {
+    /// curl, by `-b FILE`.
+    Curl,
+    /// wget, by `--load-cookies FILE`.
+    Wget,
+    /// Python's `http.cookiejar.MozillaCookieJar`.
+    Python,
+}
+
+impl Reader {
+    /// The reader of this name: `curl`, `wget` or `python`, in small letters.
+    pub(crate) fn of(name: &str) -> Option<Reader>
+        ensures { result ≡ spec.reader_of name.now }
+    {
+        if name == "curl" {
+            Some(Reader::Curl)
+        } else if name == "wget" {
+            Some(Reader::Wget)
+        } else if name == "python" {
+            Some(Reader::Python)
+        } else {
+            None
+        }
+    }
+}
+
+/// The cookies that are listed.
+#[derive(Clone, Copy, Debug, PartialEq, Eq)]
+pub enum Which<'a> {
+    /// All.
+    All,
+    /// Those that a request of this URL gets.
+    For(&'a str),
+    /// Those of this domain and of the domains below it.
+    Under(&'a str),
 }
 
 /// What the words behind the program's name ask for.
@@ -58,18 +97,24 @@ pub enum Command<'a> {
     Receive(&'a str),
     /// `header URL`.
     Header(&'a str),
-    /// `list [URL]`.
-    List(Option<&'a str>),
-    /// `list --json [URL]`.
-    ListJson(Option<&'a str>),
+    /// `get URL NAME`.
+    Get(&'a str, &'a str),
+    /// `set URL LINE`.
+    Set(&'a str, &'a str),
+    /// `list [--domain DOMAIN] [URL]`.
+    List(Which<'a>),
+    /// `list --json [--domain DOMAIN] [URL]`.
+    ListJson(Which<'a>),
     /// `explain URL LINE`.
     Explain(&'a str, &'a str),
     /// `remove DOMAIN PATH NAME`.
     Remove(&'a str, &'a str, &'a str),
     /// `clear`.
     Clear,
-    /// `import [--strict] FILE`: the file, and whether nothing is taken where something of it is refused.
-    Import(&'a str, bool),
-    /// `export FILE`.
-    Export(&'a str),
+    /// `import [--strict] [--file-format FORM] FILE`: the file, its form where it is given, and whether nothing is
+    /// taken where something of it is refused.
+    Import(&'a str, Option<Format>, bool),
+    /// `export [--for READER] [--file-format FORM] FILE`: the file, its form where it is given, and who is to read it
+    /// where that is.
+    Export(&'a str, Option<Format>, Option<Reader>),
 }

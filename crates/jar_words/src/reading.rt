@@ -1,183 +1,157 @@
 //! What the words behind the program's name ask for.
-ghost use Rattle.std.specs.Prelude.{◌≡◌, map, ok_or, option_map, string_bytes};
+ghost use Rattle.std.specs.Prelude.{◌≡◌, [], map, option_map, string_bytes};
 ghost use Rattle.std.specs.Result.{result_map_both};
-ghost use Rattle.clap.specs.Walk.{first_of, rows_of};
-ghost use Rattle.clap.specs.Matches.{found_of};
-ghost use Rattle.clap.specs.Words.{kind_of, subcommand_rows_of};
-ghost use Rattle.jar_words.specs.Asking as spec;
+ghost use Rattle.jar_words.specs.Asking.{request_of};
+ghost use Rattle.jar_words.specs.Refusing.{refused_of};
+ghost use Rattle.jar_words.specs.Reading as spec;
+ghost use Rattle.jar_words.specs.Left.{left, token_of};
+ghost use Rattle.jar_words.specs.Tokens.{words_of};
 
-use crate::asked::{Asked, Command, Format};
-use crate::building::cookie_jar;
-use crate::refusal::{Kind, Refusal, told};
-use clap::ArgMatches;
-use clap::error::ErrorKind;
-use std::alloc::Global;
+use crate::asked::{Asked, Format, Reader};
+use crate::commands::{command, form_of};
+use crate::names::{Name, Verb};
+use crate::refusal::{Kind, Refusal};
+use crate::tokens::{Token, Tokens};
 
 /// What the words behind the program's name ask for.
 ///
 /// # Errors
 ///
-/// `Help` where they ask for help, `Version` where they ask for the version, `Words` where they are wrong, `OutOfMemory` where memory was
-/// refused.
-pub fn read<'a>(alloc: Global, words: &'a [String]) -> Result<Asked<'a>, Refusal>
+/// `Help` where they ask for help, `Version` where they ask for the version, `Words` where they are wrong.
+#[tactic(auto, unfolding(crate::specs::Reading::read))]
+pub fn read<'a>(words: &'a [String]) -> Result<Asked<'a>, Refusal<'a>>
     ensures { spec.ReadsWords (map (λ word. string_bytes word) words.entry.now) result }
 {
-    let program = match cookie_jar(alloc) {
-        Ok(program) => program,
-        Err(_) => return Err(Refusal::OutOfMemory),
+    let tokens = Tokens::of(words);
+    if let Some(refusal) = first_wrong(tokens) {
+        return Err(refusal);
+    }
+    if let Some(refusal) = first_wrong_option(tokens) {
+        return Err(refusal);
+    }
+    asked(tokens)
+}
+
+// The first thing that is wrong where it is met.
+#[tactic(auto, unfolding(crate::specs::Reading::first_wrong))]
+fn first_wrong<'a>(tokens: Tokens<'a>) -> Option<Refusal<'a>>
+    ensures { option_map refused_of result ≡ spec.first_wrong [] (left tokens.entry) }
+{
+    let mut rest = tokens;
+    let mut before = 0;
+    while let Some(token) = rest.next() {
+        if let Some(refusal) = wrong_behind(tokens.first(before), token) {
+            return Some(refusal);
+        }
+        before += 1;
+    }
+    None
+}
+
+// Why the token may not stand behind those before it.
+fn wrong_behind<'a>(before: Tokens<'a>, token: Token<'a>) -> Option<Refusal<'a>>
+    ensures { option_map refused_of result ≡ spec.wrong_behind (left before.entry) (token_of token.entry) }
+{
+    match token {
+        Token::Wrong(kind, word) => Some(Refusal::Words(kind, word)),
+        Token::Given(Name::Help, _, _) => Some(Refusal::Help),
+        Token::Given(Name::Version, _, _) => Some(Refusal::Version),
+        Token::Given(option, word, _) if before.has(option) => {
+            Some(Refusal::Words(Kind::Repeated, word))
+        }
+        Token::Word(word) if !fits(before, word) => {
+            Some(Refusal::Words(Kind::UnknownWord, word))
+        }
+        _ => None,
+    }
+}
+
+// Whether a word may stand behind those before it: JAR, a command, or one of the command's.
+fn fits(before: Tokens<'_>, word: &str) -> bool
+    ensures { result ≡ spec.fits (words_of (left before.entry)) word.now }
+{
+    if before.word(0).is_none() {
+        return true;
+    }
+    match before.word(1) {
+        None => Verb::of(word).is_some(),
+        Some(name) => match Verb::of(name) {
+            Some((_, last)) => before.word(last).is_none(),
+            None => false,
+        },
+    }
+}
+
+// The first option that the command has not, or whose value is none of its names.
+#[tactic(auto, unfolding(crate::specs::Reading::first_wrong_option))]
+fn first_wrong_option<'a>(tokens: Tokens<'a>) -> Option<Refusal<'a>>
+    ensures { option_map refused_of result
+        ≡ spec.first_wrong_option (spec.verb_asked (left tokens.entry)) (left tokens.entry) }
+{
+    let command = verb_asked(tokens);
+    let mut rest = tokens;
+    while let Some(token) = rest.next() {
+        if let Some(refusal) = wrong_option(command, token) {
+            return Some(refusal);
+        }
+    }
+    None
+}
+
+// The command that is named, where one is.
+fn verb_asked(tokens: Tokens<'_>) -> Option<Verb>
+    ensures { result ≡ spec.verb_asked (left tokens.entry) }
+{
+    let (verb, _) = Verb::of(tokens.word(1)?)?;
+    Some(verb)
+}
+
+fn wrong_option<'a>(command: Option<Verb>, token: Token<'a>) -> Option<Refusal<'a>>
+    ensures { option_map refused_of result ≡ spec.wrong_option command (token_of token.entry) }
+{
+    match token {
+        Token::Given(option, word, value) => match command {
+            Some(command) if !command.has(option) => {
+                Some(Refusal::Words(Kind::UnknownWord, word))
+            }
+            _ => wrong_value(option, value),
+        },
+        _ => None,
+    }
+}
+
+// Where the value of the option is a name, why it is none.
+fn wrong_value<'a>(option: Name, value: &'a str) -> Option<Refusal<'a>>
+    ensures { option_map refused_of result ≡ spec.wrong_value option value.entry.now }
+{
+    match option {
+        Name::Format | Name::FileFormat if Format::of(value).is_none() => {
+            Some(Refusal::Words(Kind::Format, value))
+        }
+        Name::For if Reader::of(value).is_none() => Some(Refusal::Words(Kind::Reader, value)),
+        _ => None,
+    }
+}
+
+// What tokens ask for of which nothing that is there is wrong.
+fn asked<'a>(tokens: Tokens<'a>) -> Result<Asked<'a>, Refusal<'a>>
+    ensures { result_map_both request_of refused_of result ≡ spec.asked_of (left tokens.entry) }
+{
+    let Some(jar) = tokens.word(0) else {
+        return Err(Refusal::Words(Kind::MissingWord, "JAR"));
     };
-    match program.try_get_matches_from(words) {
-        Ok(matches) => match asked_by(&matches) {
-            Ok(asked) => Ok(asked),
-            Err(kind) => Err(Refusal::Words(kind)),
-        },
-        Err(error) => Err(refused(alloc, &error)),
-    }
-}
-
-// Why words are refused that clap refuses.
-fn refused(alloc: Global, error: &clap::Error) -> Refusal
-    ensures { spec.IsRefusal (kind_of error.now) result }
-{
-    match error.kind() {
-        ErrorKind::OutOfMemory => Refusal::OutOfMemory,
-        ErrorKind::DisplayHelp => match format!(in alloc; "{error}") {
-            Ok(text) => Refusal::Help(text),
-            Err(_) => Refusal::OutOfMemory,
-        },
-        ErrorKind::DisplayVersion => Refusal::Version,
-        kind => Refusal::Words(told(kind)),
-    }
-}
-
-// What the program's own matches ask for, with those of its command.
-fn asked_by<'a>(matches: &ArgMatches<'a>) -> Result<Asked<'a>, Kind>
-    ensures { result_map_both spec.request_of (λ kind. kind) result
-        ≡ spec.asked_by (rows_of (found_of matches.now)) (subcommand_rows_of matches.now) }
-{
-    let format = given_format(text(matches, "FORM"))?;
-    let jar = word(matches, "JAR")?;
-    let command = command_met(matches)?;
+    let Some(verb) = verb_asked(tokens) else {
+        return Err(Refusal::Words(Kind::MissingCommand, "COMMAND"));
+    };
+    let command = command(tokens, verb)?;
     Ok(Asked {
-        now: text(matches, "MOMENT"),
-        suffixes: text(matches, "FILE"),
-        format,
-        wait: text(matches, "SECONDS"),
-        rules: text(matches, "LIST"),
-        is_verbose: is_given(matches, "verbose"),
+        now: tokens.value(Name::Now),
+        suffixes: tokens.value(Name::Suffixes),
+        format: form_of(tokens, Name::Format),
+        wait: tokens.value(Name::Wait),
+        rules: tokens.value(Name::Rules),
+        is_verbose: tokens.has(Name::Verbose),
         jar,
         command,
     })
-}
-
-// The form that is given, if one is.
-fn given_format(name: Option<&str>) -> Result<Option<Format>, Kind>
-    ensures { result ≡ spec.given_format (option_map (λ text. text.now) name.entry) }
-{
-    match name {
-        None => Ok(None),
-        Some(name) => match Format::of(name) {
-            Some(format) => Ok(Some(format)),
-            None => Err(Kind::Format),
-        },
-    }
-}
-
-// The first value of `id`.
-fn text<'a>(matches: &ArgMatches<'a>, id: &str) -> Option<&'a str>
-    ensures { option_map (λ text. text.now) result
-        ≡ first_of id.now (rows_of (found_of matches.now)) }
-{
-    matches.get_str(id)
-}
-
-// Whether the flag was given.
-fn is_given(matches: &ArgMatches<'_>, id: &str) -> bool
-    ensures { result ≡ spec.is_given id.now (rows_of (found_of matches.now)) }
-{
-    match text(matches, id) {
-        Some(text) => text == "true",
-        None => false,
-    }
-}
-
-// The word that has to be there.
-fn word<'a>(matches: &ArgMatches<'a>, id: &str) -> Result<&'a str, Kind>
-    ensures { result_map_both (λ word. word.now) (λ kind. kind) result
-        ≡ ok_or (first_of id.now (rows_of (found_of matches.now))) Kind.MissingWord }
-{
-    match text(matches, id) {
-        Some(word) => Ok(word),
-        None => Err(Kind::MissingWord),
-    }
-}
-
-// The command that was met.
-fn command_met<'a>(matches: &ArgMatches<'a>) -> Result<Command<'a>, Kind>
-    ensures { result_map_both spec.order_of (λ kind. kind) result
-        ≡ spec.order_met (subcommand_rows_of matches.now) }
-{
-    match matches.subcommand() {
-        Some((name, matches)) => command_by(name, matches),
-        None => Err(Kind::MissingCommand),
-    }
-}
-
-// The command of this name, by the matches of its options and words.
-fn command_by<'a>(name: &str, matches: &ArgMatches<'a>) -> Result<Command<'a>, Kind>
-    ensures { result_map_both spec.order_of (λ kind. kind) result
-        ≡ spec.order_by name.now (rows_of (found_of matches.now)) }
-{
-    if name == "receive" {
-        Ok(Command::Receive(word(matches, "URL")?))
-    } else if name == "header" {
-        Ok(Command::Header(word(matches, "URL")?))
-    } else if name == "list" {
-        Ok(listing(matches))
-    } else if name == "explain" {
-        Ok(Command::Explain(word(matches, "URL")?, word(matches, "LINE")?))
-    } else if name == "remove" {
-        removal(matches)
-    } else if name == "clear" {
-        Ok(Command::Clear)
-    } else if name == "import" {
-        importing(matches)
-    } else if name == "export" {
-        Ok(Command::Export(word(matches, "FILE")?))
-    } else {
-        Err(Kind::MissingCommand)
-    }
-}
-
-// `list`, as JSON or not.
-fn listing<'a>(matches: &ArgMatches<'a>) -> Command<'a>
-    ensures { spec.order_of result ≡ spec.listing (rows_of (found_of matches.now)) }
-{
-    let url = text(matches, "URL");
-    if is_given(matches, "json") {
-        Command::ListJson(url)
-    } else {
-        Command::List(url)
-    }
-}
-
-// `import`, strict or not.
-fn importing<'a>(matches: &ArgMatches<'a>) -> Result<Command<'a>, Kind>
-    ensures { result_map_both spec.order_of (λ kind. kind) result
-        ≡ spec.importing (rows_of (found_of matches.now)) }
-{
-    let is_strict = is_given(matches, "strict");
-    let file = word(matches, "FILE")?;
-    Ok(Command::Import(file, is_strict))
-}
-
-// `remove`, by its three words.
-fn removal<'a>(matches: &ArgMatches<'a>) -> Result<Command<'a>, Kind>
-    ensures { result_map_both spec.order_of (λ kind. kind) result
-        ≡ spec.removal (rows_of (found_of matches.now)) }
-{
-    let domain = word(matches, "DOMAIN")?;
-    let path = word(matches, "PATH")?;
-    let name = word(matches, "NAME")?;
-    Ok(Command::Remove(domain, path, name))
 }

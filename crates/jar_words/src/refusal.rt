@@ -2,12 +2,10 @@
 ghost use Rattle.std.specs.Prelude.{◌≡◌};
 ghost use Rattle.jar_words.specs.Refusing as spec;
 
-use clap::error::ErrorKind;
-
 /// What is wrong with words that are refused.
 #[derive(Clone, Copy, Debug, PartialEq, Eq)]
 pub enum Kind {
-    /// An option that there isn't, a command that there isn't, or a word too many.
+    /// An option that there isn't or that the command has not, a command that there isn't, or a word too many.
     UnknownWord,
     /// An option without its value.
     NoValue,
@@ -19,8 +17,12 @@ pub enum Kind {
     MissingWord,
     /// No command.
     MissingCommand,
-    /// A `--format` that is none of `ron`, `json` and `txt`.
+    /// A form that is none of `ron`, `json` and `txt`.
     Format,
+    /// A reader that is none of `curl`, `wget` and `python`.
+    Reader,
+    /// A URL beside `--domain`.
+    Both,
 }
 
 impl Kind {
@@ -36,33 +38,20 @@ impl Kind {
             Kind::MissingWord => "a word is missing",
             Kind::MissingCommand => "a command is missing",
             Kind::Format => "a format that is none of ron, json and txt",
+            Kind::Reader => "a reader that is none of curl, wget and python",
+            Kind::Both => "a URL beside --domain",
         }
     }
 }
 
 /// Why words aren't read.
-#[derive(Debug, Drop)]
-pub enum Refusal {
-    /// The words ask for help: its text.
-    Help(String),
+#[derive(Clone, Copy, Debug, PartialEq, Eq)]
+pub enum Refusal<'a> {
+    /// The words ask for help.
+    Help,
     /// The words ask for the version.
     Version,
-    /// What is wrong with them.
-    Words(Kind),
-    /// Memory was refused.
-    OutOfMemory,
-}
-
-// What is wrong where clap refuses words in this way. The last are kinds that no words bring about.
-pub(crate) fn told(kind: ErrorKind) -> Kind
-    ensures { result ≡ spec.told kind }
-{
-    match kind {
-        ErrorKind::InvalidValue => Kind::NoValue,
-        ErrorKind::TooManyValues => Kind::UnneededValue,
-        ErrorKind::ArgumentConflict => Kind::Repeated,
-        ErrorKind::MissingRequiredArgument => Kind::MissingWord,
-        ErrorKind::MissingSubcommand => Kind::MissingCommand,
-        _ => Kind::UnknownWord,
-    }
+    /// What is wrong with them, and the word at which it shows: of a form or a reader the text that is none, and of
+    /// what is missing its name in the usage, as `JAR` or `URL`.
+    Words(Kind, &'a str),
 }
