@@ -1,8 +1,10 @@
+pub mod AskingLemmas
 pub mod ExplainLemmas
 pub mod ImportLemmas
 pub mod KeepLemmas
 pub mod KeyLemmas
 pub mod LawLemmas
+pub mod ListingLemmas
 pub mod RowLemmas
 pub mod SavingLemmas
 pub mod Shown

@@ -8,7 +8,7 @@ use Rattle.json.specs.Token.{key, string, number, boolean, null}
 use Rattle.cookie_text.specs.Printing.{is_set}
 use Rattle.cookie_store.specs.Rows.{Row, domain_text}
 use Rattle.cookies_txt.specs.Writing.{expiry_second, is_suffix}
-use Rattle.cookie_jar.specs.Terminal.{shown_json}
+use Rattle.cookie_jar.specs.Terminal.{shown_text}
 
 -- the second of an expiry, and `null` for 0, which is none
 abbrev pub second_token : ℕ → Token
@@ -39,4 +39,4 @@ rows_tokens rows = begin_array ∷ (flat_map row_tokens rows ++ end_array ∷ []
 
 -- its text without white space, and without characters on which a terminal acts, and a line feed
 abbrev pub rows_json : List Row → List ℕ
-rows_json rows = shown_json (print (rows_tokens rows)) ++ 10 ∷ []
+rows_json rows = shown_text (print (rows_tokens rows)) ++ 10 ∷ []

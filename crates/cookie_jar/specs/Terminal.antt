@@ -33,5 +33,5 @@ abbrev pub shown_char : ℕ → List ℕ
 shown_char c = if is_acted_on c then escape c else encode_utf8 c
 
 -- the text with such an escape for each of them
-abbrev pub shown_json : List ℕ → List ℕ
-shown_json text = flat_map shown_char (chars text)
+abbrev pub shown_text : List ℕ → List ℕ
+shown_text text = flat_map shown_char (chars text)

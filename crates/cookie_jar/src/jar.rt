@@ -1,6 +1,6 @@
 //! A jar: a store whose rows can be sent, saved and read again, with what the commands of a shell do to it.
 ghost use Rattle.std.specs.Prelude.{◌≡◌, ◌+◌, ◌++◌, [], false, true, IfOk, IfErr, OnErr, is_some, length, map, IsTrue};
-ghost use Rattle.std.specs.Prelude.{string_bytes};
+ghost use Rattle.std.specs.Prelude.{option_map, string_bytes};
 ghost use Rattle.std.specs.List.{list_all};
 ghost use Rattle.std.specs.Str.{IsUtf8};
 ghost use Rattle.jiff.specs.Words.{civil_nanos};
@@ -11,6 +11,7 @@ ghost use Rattle.cookie_store.specs.Rows.{Store, found, is_live, key, live, remo
 ghost use Rattle.cookie_run.specs.Header.{IsHeader};
 ghost use Rattle.cookies_txt.specs.Layout.{text_for};
 ghost use Rattle.cookies_txt.specs.Writing.{held, line_of_row};
+ghost use Rattle.cookie_jar.specs.Asking as asked;
 ghost use Rattle.cookie_jar.specs.Explaining.{IsExplained};
 ghost use Rattle.cookie_jar.specs.Importing as lines;
 ghost use Rattle.cookie_jar.specs.Json.{rows_json};
@@ -22,6 +23,7 @@ ghost use Rattle.cookie_jar.specs.Saving as text;
 ghost use Rattle.cookie_jar.specs.Taking as take;
 ghost use Rattle.cookie_jar.specs.Told as told;
 
+use crate::asking::{first_value, key_texts, meant, rows_under};
 use crate::error::{ReadError, SaveError};
 use crate::explaining::explained;
 use crate::form::Form;
@@ -299,20 +301,37 @@ impl Jar {
         take_all(self.alloc, &mut self.store, form, rules, url, lines, now)
     }
 
-    /// The table of its rows that aren't expired at `now`, a line for each in their order: domain with a dot in front
-    /// where the hosts below it count, path, name, value, expiry in whole seconds since 1970 or `0` for none, `Secure`
-    /// or `-`, `HttpOnly` or `-`, parted by tabs. Of the texts each byte that isn't printable ASCII, and `%`, stands as
-    /// `%` and two digits.
+    /// The value of the first cookie of this name that a request to this URL gets at `now`, with longer paths first, as
+    /// in [`Jar::header`].
+    ///
+    /// # Errors
+    ///
+    /// `AllocError`, for want of memory.
+    pub fn get(&self, url: &Url, name: &str, now: DateTime) -> Result<Option<String>, AllocError>
+        ensures { IfOk result (λ value. (rows : _)
+            × AreGivenLongest self.now.rows url.now (civil_nanos now) rows
+            × (option_map string_bytes value ≡ asked.first_value name.now rows)) }
+    {
+        let given = self.store.matches_longest(url, now)?;
+        first_value(self.alloc, given, name)
+    }
+
+    /// The table of its rows that aren't expired at `now`: a line of the columns' names, and a line for each row, in
+    /// their order. Its fields are parted by tabs: domain with a dot in front where the hosts below it count, path,
+    /// name, value, the moment of its expiry in UTC (`2027-01-01T00:00:00Z`) or `session`, in how long that is, in the
+    /// largest whole one of days, hours, minutes and seconds (`35d`, `12h`, `59m`, `7s`) or `-`, `Secure` or `-`,
+    /// `HttpOnly` or `-`. Of the texts each byte that isn't printable ASCII, and `%`, stands as `%` and two digits.
     ///
     /// # Errors
     ///
     /// `AllocError` where there is no memory for the text.
+    #[tactic(auto, using(crate::proofs::ListingLemmas::listed_live))]
     pub fn list(&self, now: DateTime) -> Result<String, AllocError>
-        ensures { IfOk result (λ list.
-            string_bytes list ≡ table.listing (live (civil_nanos now) self.now.rows)) }
+        ensures { IfOk result (λ list. table.IsListing (civil_nanos now)
+            (live (civil_nanos now) self.now.rows) (string_bytes list)) }
     {
         let rows = live_rows(self.alloc, &self.store, now)?;
-        listing(self.alloc, rows)
+        listing(self.alloc, rows, now)
     }
 
     /// The table of what a request to this URL gets at `now`, with longer paths first.
@@ -323,10 +342,26 @@ impl Jar {
     pub fn list_of(&self, url: &Url, now: DateTime) -> Result<String, AllocError>
         ensures { IfOk result (λ list. (rows : _)
             × AreGivenLongest self.now.rows url.now (civil_nanos now) rows
-            × (string_bytes list ≡ table.listing rows)) }
+            × table.IsListing (civil_nanos now) rows (string_bytes list)) }
     {
         let rows = self.store.matches_longest(url, now)?;
-        listing(self.alloc, rows)
+        listing(self.alloc, rows, now)
+    }
+
+    /// The table of its rows that aren't expired at `now` and whose domain domain-matches this one (RFC 6265, section
+    /// 5.1.3): it is the same, or ends in it behind a dot. The text is put into its IDNA form, without white space at
+    /// its ends and without one dot in front; one that has none lists no row.
+    ///
+    /// # Errors
+    ///
+    /// `AllocError` where there is no memory for the text.
+    pub fn list_under(&self, domain: &str, now: DateTime) -> Result<String, AllocError>
+        ensures { IfOk result (λ list. (rows : _)
+            × asked.AreUnder domain.now (live (civil_nanos now) self.now.rows) rows
+            × table.IsListing (civil_nanos now) rows (string_bytes list)) }
+    {
+        let rows = rows_under(self.alloc, &self.store, domain, now)?;
+        listing(self.alloc, rows, now)
     }
 
     /// Its rows that aren't expired at `now`, in their order, as an array of JSON in one line (RFC 8259), and a line
@@ -353,6 +388,22 @@ impl Jar {
             × AreGivenLongest self.now.rows url.now (civil_nanos now) rows × (string_bytes list ≡ rows_json rows)) }
     {
         rows_json(self.alloc, self.store.matches_longest(url, now)?)
+    }
+
+    /// The same of the rows that [`Jar::list_under`] lists.
+    ///
+    /// # Errors
+    ///
+    /// `AllocError` where there is no memory for the text.
+    pub fn list_json_under(&self, domain: &str, now: DateTime) -> Result<String, AllocError>
+        ensures { IfOk result (λ list. (rows : _)
+            × asked.AreUnder domain.now (live (civil_nanos now) self.now.rows) rows
+            × (string_bytes list ≡ rows_json rows)) }
+    {
+        rows_json(
+            self.alloc,
+            rows_under(self.alloc, &self.store, domain, now)?,
+        )
     }
 
     /// What a `Set-Cookie` line from this URL means: which of these rules change it, and what they leave of it; its
@@ -390,6 +441,31 @@ impl Jar {
         let was = self.store.contains_any(domain, path, name);
         let _ = self.store.remove(domain, path, name);
         was
+    }
+
+    /// Takes the row out that has this domain, path and name, as [`Jar::remove`] does. Where there is none, it takes
+    /// the first out whose domain, path and name stand so in the table of [`Jar::list`], the domain with its dot in
+    /// front or without. It says whether there was one. The others keep their order.
+    ///
+    /// # Errors
+    ///
+    /// `AllocError`, for want of memory. The jar is then as it was.
+    #[tactic(auto, using(crate::proofs::AskingLemmas::meant_out, crate::proofs::AskingLemmas::none_out))]
+    pub fn remove_named(&mut self, domain: &str, path: &str, name: &str) -> Result<bool, AllocError>
+        ensures found { IfOk result (λ was.
+            was ≡ is_some (asked.meant domain.now path.now name.now self.old.rows)) }
+        ensures rest { IfOk result (λ _. self.new ≡ record self.old {
+          rows = asked.without (asked.meant domain.now path.now name.now self.old.rows) self.old.rows;
+        }) }
+        ensures same { OnErr result (self.new ≡ self.old) }
+        ensures kept { AreKept self.new.rows }
+    {
+        let Some(cookie) = meant(self.alloc, &self.store, domain, path, name)? else {
+            return Ok(false);
+        };
+        let (domain, path, name) = key_texts(self.alloc, cookie)?;
+        let _ = self.remove(domain.as_str(), path.as_str(), name.as_str());
+        Ok(true)
     }
 
     /// Takes all rows out, and says how many there were. The list of public suffixes stays.

@@ -11,7 +11,7 @@ ghost use Rattle.cookie_jar.specs.Rows.{lent_rows};
 ghost use Rattle.cookie_jar.specs.Steps.{WritesMore};
 
 use crate::listing::is_suffix;
-use crate::terminal::shown_json;
+use crate::terminal::shown_text;
 use cookie_store::Cookie;
 use cookies_txt::expiry_second;
 use json::Writer;
@@ -31,7 +31,7 @@ pub(crate) fn rows_json(alloc: Global, cookies: Vec<&Cookie<'static>>) -> Result
         // What a writer of JSON writes is UTF-8.
         return Err(AllocError);
     };
-    let mut shown = shown_json(alloc, text.as_str())?;
+    let mut shown = shown_text(alloc, text.as_str())?;
     shown.push_str("\n")?;
     Ok(shown)
 }

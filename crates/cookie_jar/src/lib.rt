@@ -8,9 +8,11 @@
 //! ```
 #![tactic(auto)]
 
+mod asking;
 mod changing;
 mod dropping;
 mod error;
+mod expiry;
 mod explaining;
 mod form;
 mod importing;
@@ -34,4 +36,5 @@ pub use importing::{Cause, ImportedLines, RefusedLine, refused_text};
 pub use jar::{Imported, Jar};
 pub use saving::Exported;
 pub use taking::End;
+pub use terminal::shown_text;
 pub use told::{header_line, is_refused, told_lines};

@@ -4,15 +4,15 @@ ghost use Rattle.cookie_jar.specs.Terminal as spec;
 
 use std::alloc::{AllocError, Global};
 
-/// The same JSON (RFC 8259), with `\u` and four digits (section 7) for each character on which a terminal acts: control
-/// characters and marks of bidirectional text. In a text without white space they stand in strings alone, whose values
-/// stay.
+/// The text with `\u` and four digits for each character on which a terminal acts: control characters and marks of
+/// bidirectional text. JSON without white space is then the same JSON (RFC 8259, section 7): they stand in its strings
+/// alone, whose values stay.
 ///
 /// # Errors
 ///
 /// `AllocError`, for want of memory.
-pub(crate) fn shown_json(alloc: Global, text: &str) -> Result<String, AllocError>
-    ensures { IfOk result (λ shown. string_bytes shown ≡ spec.shown_json text.now) }
+pub fn shown_text(alloc: Global, text: &str) -> Result<String, AllocError>
+    ensures { IfOk result (λ shown. string_bytes shown ≡ spec.shown_text text.now) }
 {
     let mut shown = String::new(alloc);
     for c in text.chars() {

@@ -2,7 +2,7 @@ use Rattle.std.proofs.Common.{◌∙◌, ap, flat_map, map-id, sym}
 use Rattle.std.proofs.lemmas.Iterator.{YieldsList-from_chars}
 use Rattle.std.proofs.lemmas.Iterator.Consumers.{YieldsList-end}
 use Rattle.cookie_jar.specs.Terminal.{shown_char}
-use Rattle.cookie_jar.proofs.terminal.shown_json.Goals as goal
+use Rattle.cookie_jar.proofs.terminal.shown_text.Goals as goal
 
 pub returns : goal.returns
 returns c =
