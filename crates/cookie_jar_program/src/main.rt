@@ -66,11 +66,8 @@ fn tell(rt: &HostRuntime, ended: &Ended<'_>, is_closed: bool) {
     if let Some(path) = ended.list {
         let _ = eprintln!(rt; "cookie-jar: suffix list of {path}");
     }
-    if let Some(dropped) = &ended.dropped {
-        for line in dropped.as_str().lines() {
-            let _ = eprintln!(rt; "cookie-jar: {line}");
-        }
-    }
+    tell_lines(rt, &ended.dropped);
+    tell_lines(rt, &ended.counted);
     match ended.failure {
         Some("output") if is_closed => {}
         Some(words) => tell_failure(rt, words, ended),
@@ -78,18 +75,24 @@ fn tell(rt: &HostRuntime, ended: &Ended<'_>, is_closed: bool) {
     }
 }
 
+fn tell_lines(rt: &HostRuntime, text: &Option<String>) {
+    if let Some(text) = text {
+        for line in text.as_str().lines() {
+            let _ = eprintln!(rt; "cookie-jar: {line}");
+        }
+    }
+}
+
+// One line of the failure and of what is told behind it.
 fn tell_failure(rt: &HostRuntime, words: &str, ended: &Ended<'_>) {
     if let Some(plain) = &ended.instead {
         let _ = eprintln!(rt; "cookie-jar: {words}: ask {} instead", plain.as_str());
-        return;
-    }
-    match ended.line {
-        Some(line) => {
-            let _ = eprintln!(rt; "cookie-jar: {words}: line {line}");
-        }
-        None => {
-            let _ = eprintln!(rt; "cookie-jar: {words}");
-        }
+    } else if let Some(line) = ended.line {
+        let _ = eprintln!(rt; "cookie-jar: {words}: line {line}");
+    } else if let Some(about) = &ended.about {
+        let _ = eprintln!(rt; "cookie-jar: {words}: {}", about.as_str());
+    } else {
+        let _ = eprintln!(rt; "cookie-jar: {words}");
     }
 }
 

@@ -1,22 +1,25 @@
 -- What a command gives over the jar's file and its lock, put together of what its steps say.
 use Rattle.std.proofs.Common.{◌≡◌, ◌⊎◌, ◌∙◌, ℕ, ℤ, Bool, true, false, List, [], Option, Some, None, Result, Ok, Err}
 use Rattle.std.proofs.Common.{Bor, ap, inl, inr, refl, subst, sym}
-use Rattle.std.specs.Prelude.{IfOk, IfErr, OnErr, option_map}
+use Rattle.std.specs.Prelude.{IfOk, IfErr, OnErr, option_map, string_bytes}
 use Rattle.std.specs.Option.{option_copied}
+use Rattle.std.specs.Result.{result_map_both}
 use Rattle.kept_file.specs.Locks.{Held, Lock, bytes_of, given_back}
 use Rattle.jar_words.specs.declared.asked.Asked.{Asked}
 use Rattle.jar_commands.specs.KeptSteps.{GivesKept, IsBut, PerformsHeld, put_of}
-use Rattle.jar_commands.specs.Outcomes.{OutcomeText}
-use Rattle.jar_commands.specs.Performing.{AnswersTexts, Brings, BringsNothing, Reader, UnreadBut, reads}
+use Rattle.jar_commands.specs.Outcomes.{OutcomeText, outcome_text}
+use Rattle.jar_commands.specs.Performing.{AnswersTexts, Brings, BringsNothing, Reader, UnreadBut}
 use Rattle.jar_commands.specs.Plans.{PlanText, plan_of}
-use Rattle.jar_commands.specs.Program.{Fails, FilesGive, IsOfFiles, IsToldBy, IsUnwritten, Printed, Serves, Unprinted}
-use Rattle.jar_commands.specs.Program.{Writer}
+use Rattle.jar_commands.specs.Program.{Ends, Fails, FilesGive, IsOfFiles, IsUnwritten, Printed, Unprinted, Writer}
+use Rattle.jar_commands.specs.Program.{counted, counted_by, output, output_by, prints_text, reads_input, text_in}
 use Rattle.jar_commands.specs.ProgramKept.{KeepsJar, Leaves, changes, kept_so}
 use Rattle.jar_commands.specs.Waiting.{IsWait}
 use Rattle.jar_commands.specs.declared.failure.Failure.{Failure}
 use Rattle.jar_commands.specs.declared.failure.Failure.TheVariants.{Output}
-use Rattle.jar_commands.proofs.PlanLemmas.{planned}
-use Rattle.jar_commands.proofs.ServeLemmas.{files_give, finished}
+use Rattle.jar_commands.specs.declared.about.Stopped.{Stopped}
+use Rattle.jar_commands.specs.declared.outcome.Outcome.{Outcome}
+use Rattle.jar_commands.specs.declared.printing.Done.{Done}
+use Rattle.jar_commands.proofs.ServeLemmas.{files_give}
 
 -- ---- under the lock
 
@@ -25,6 +28,16 @@ put_back : (jar : Option (List ℕ)) (path : List ℕ) (stored : Option (List �
     ≡ kept_so path stored jar
 put_back None path stored = refl
 put_back (Some text) path stored = refl
+
+-- what was read under the lock gives a text, which is put in the jar's place
+pub replaced_gives : (plan : PlanText) (suffixes : List ℕ) (brought : Option (List ℕ)) (old new : Lock)
+    (whole : OutcomeText) (result : Result Outcome Stopped)
+    → AnswersTexts plan suffixes (bytes_of old) brought (Ok whole)
+    → IfOk result (λ done. IsBut whole (outcome_text done)) → IfErr result (λ stopped. IsUnwritten stopped.failure)
+    → new ≡ put_of whole.jar old
+    → PerformsHeld plan suffixes brought (old, new) (result_map_both outcome_text (λ stopped. stopped.failure) result)
+replaced_gives plan suffixes brought old new whole (Ok done) texts ok err lock = (whole, texts, ok, lock)
+replaced_gives plan suffixes brought old new whole (Err stopped) texts ok err lock = inr (whole, texts, err, lock)
 
 -- what was done under the lock, which is given back then
 pub held_gives : (plan : PlanText) (path suffixes : List ℕ) (brought stored : Option (List ℕ)) (old held mid new : Lock)
@@ -71,20 +84,14 @@ unlocked_gives plan path suffixes brought stored lock b result none texts =
 -- ---- the program
 
 -- what is given is brought where nothing is read
-pub brings_given : {V : Type 0} (Unread : Type 0) (reader : Reader) (b : Bool) (bytes_in : V → Option (List ℕ))
-    (result : Result V Failure) → b ≡ false → Unread
+pub brings_given : {V E : Type 0} (Unread : Type 0) (reader : Reader) (b : Bool) (bytes_in : V → Option (List ℕ))
+    (result : Result V E) → b ≡ false → Unread
     → IfOk result (λ brought. (given : Option (List ℕ)) × Brings Unread reader b given (bytes_in brought))
 brings_given Unread reader b bytes_in (Ok brought) none unread = (
   bytes_in brought,
   subst (λ b. Brings Unread reader b (bytes_in brought) (bytes_in brought)) (sym none) (refl, unread),
 )
 brings_given Unread reader b bytes_in (Err failure) none unread = tt
-
--- what is said of the status, and of 2
-pub told_keeps : (Keeps : ℕ → Type 0) (result : Result ℕ Failure) (status : ℕ) (said : Option (List ℕ))
-    → IsToldBy result status said → IfOk result Keeps → OnErr result (Keeps 2) → Keeps status
-told_keeps Keeps (Ok given) status said told ok err = subst Keeps (sym told.0) ok
-told_keeps Keeps (Err failure) status said told ok err = subst Keeps (sym told.0) err
 
 pub unread_but : (Unread : Type 0) (is_read : Bool) → Unread → UnreadBut Unread is_read
 unread_but Unread true unread = tt
@@ -98,16 +105,11 @@ brought_but Unread reader false given brought brings = brings.1
 -- nothing is brought, or the other file isn't read
 pub not_brought : (Unread Unwritten : Type 0) (reader : Reader) (writer : Writer) (asked : Asked) (clock : Option ℤ)
     (plan : PlanText) (failure : Failure) → plan_of asked clock ≡ Ok plan
-    → BringsNothing reader (reads plan.task) failure ⊎ (IsOfFiles failure × UnreadBut Unread (reads plan.task))
+    → BringsNothing reader (reads_input asked.command) failure
+    ⊎ (IsOfFiles failure × UnreadBut Unread (reads_input asked.command))
     → Unwritten → Fails Unread Unwritten reader writer asked clock failure
 not_brought Unread Unwritten reader writer asked clock plan failure is (inl nothing) unwritten = inl (
-  (
-    [],
-    None,
-    None,
-    planned Unread reader (plan_of asked clock) plan [] None None (Err failure) is
-        (inl (failure, refl, nothing)),
-  ),
+  files_give Unread reader asked clock plan [] None None (Err failure) is (inl (failure, refl, nothing)),
   unwritten,
 )
 not_brought Unread Unwritten reader writer asked clock plan failure is (inr of) unwritten =
@@ -122,31 +124,40 @@ unread_too Unread reader false failure (inr of) = of.1
 
 pub first_not_brought : (Unread Unwritten : Type 0) (reader : Reader) (writer : Writer) (asked : Asked)
     (clock : Option ℤ) (plan : PlanText) (failure first : Failure) → plan_of asked clock ≡ Ok plan
-    → BringsNothing reader (reads plan.task) failure ⊎ (IsOfFiles failure × UnreadBut Unread (reads plan.task))
+    → BringsNothing reader (reads_input asked.command) failure
+    ⊎ (IsOfFiles failure × UnreadBut Unread (reads_input asked.command))
     → (first ≡ failure) ⊎ IsOfFiles first → Unwritten → Fails Unread Unwritten reader writer asked clock first
 first_not_brought Unread Unwritten reader writer asked clock plan failure first is why (inl same) unwritten =
     subst (Fails Unread Unwritten reader writer asked clock) (sym same)
     (not_brought Unread Unwritten reader writer asked clock plan failure is why unwritten)
 first_not_brought Unread Unwritten reader writer asked clock plan failure first is why (inr of) unwritten =
-    inr (inl (plan, is, inr of, unread_too Unread reader (reads plan.task) failure why, unwritten))
+    inr (inl (plan, is, inr of, unread_too Unread reader (reads_input asked.command) failure why, unwritten))
 
 -- the list isn't read, whether something was brought or not
 pub list_not_read : {V : Type 0} (Unread Unwritten : Type 0) (reader : Reader) (writer : Writer) (asked : Asked)
-    (clock : Option ℤ) (plan : PlanText) (bytes_in : V → Option (List ℕ)) (brought : Result V Failure)
+    (clock : Option ℤ) (plan : PlanText) (bytes_in : V → Option (List ℕ)) (brought : Result V Stopped)
     (failure : Failure) → plan_of asked clock ≡ Ok plan
-    → IfOk brought (λ x. (given : Option (List ℕ)) × Brings Unread reader (reads plan.task) given (bytes_in x))
-    → IfErr brought (λ cause. BringsNothing reader (reads plan.task) cause
-    ⊎ (IsOfFiles cause × UnreadBut Unread (reads plan.task)))
+    → IfOk brought (λ x. (given : Option (List ℕ))
+    × Brings Unread reader (reads_input asked.command) given (bytes_in x))
+    → IfErr brought (λ stopped. BringsNothing reader (reads_input asked.command) stopped.failure
+    ⊎ (IsOfFiles stopped.failure × UnreadBut Unread (reads_input asked.command)))
     → IsOfFiles failure → Unwritten → Fails Unread Unwritten reader writer asked clock failure
-list_not_read Unread Unwritten reader writer asked clock plan bytes_in (Ok x) failure is ok err of unwritten = inr (inl (
-  plan,
-  is,
-  inr of,
-  brought_but Unread reader (reads plan.task) ok.0 (bytes_in x) ok.1,
-  unwritten,
-))
-list_not_read Unread Unwritten reader writer asked clock plan bytes_in (Err cause) failure is ok err of unwritten =
-    inr (inl (plan, is, inr of, unread_too Unread reader (reads plan.task) cause err, unwritten))
+list_not_read Unread Unwritten reader writer asked clock plan bytes_in (Ok x) failure is ok err of unwritten = inr
+    (inl (
+      plan,
+      is,
+      inr of,
+      brought_but Unread reader (reads_input asked.command) ok.0 (bytes_in x) ok.1,
+      unwritten,
+    ))
+list_not_read Unread Unwritten reader writer asked clock plan bytes_in (Err stopped) failure is ok err of unwritten =
+    inr (inl (
+      plan,
+      is,
+      inr of,
+      unread_too Unread reader (reads_input asked.command) stopped.failure err,
+      unwritten,
+    ))
 
 -- what is brought, lent
 pub brought_as : (Unread : Type 0) (reader : Reader) (b : Bool) (given : Option (List ℕ))
@@ -158,14 +169,14 @@ brought_as Unread reader b given lent brought is brings =
 -- a file isn't read behind what was brought
 pub not_read : (Unread Unwritten : Type 0) (reader : Reader) (writer : Writer) (asked : Asked) (clock : Option ℤ)
     (plan : PlanText) (given brought : Option (List ℕ)) (failure : Failure) → plan_of asked clock ≡ Ok plan
-    → Brings Unread reader (reads plan.task) given brought → IsOfFiles failure → Unwritten
+    → Brings Unread reader (reads_input asked.command) given brought → IsOfFiles failure → Unwritten
     → Fails Unread Unwritten reader writer asked clock failure
 not_read Unread Unwritten reader writer asked clock plan given brought failure is brings of unwritten =
-    inr (inl (plan, is, inr of, brought_but Unread reader (reads plan.task) given brought brings, unwritten))
+    inr (inl (plan, is, inr of, brought_but Unread reader (reads_input asked.command) given brought brings, unwritten))
 
 gives : (Unread : Type 0) (reader : Reader) (asked : Asked) (clock : Option ℤ) (plan : PlanText)
     (suffixes : List ℕ) (stored given brought : Option (List ℕ)) (result : Result OutcomeText Failure)
-    → plan_of asked clock ≡ Ok plan → Brings Unread reader (reads plan.task) given brought
+    → plan_of asked clock ≡ Ok plan → Brings Unread reader (reads_input asked.command) given brought
     → AnswersTexts plan suffixes stored brought result → FilesGive Unread reader asked clock result
 gives Unread reader asked clock plan suffixes stored given brought result is brings texts =
     files_give Unread reader asked clock plan suffixes stored given result is (inr (brought, brings, texts))
@@ -173,7 +184,7 @@ gives Unread reader asked clock plan suffixes stored given brought result is bri
 -- nothing is given over the jar's file
 pub serves_not : (Unread Unwritten : Type 0) (reader : Reader) (writer : Writer) (asked : Asked) (clock : Option ℤ)
     (plan : PlanText) (path suffixes : List ℕ) (given brought : Option (List ℕ)) (lock : Lock × Lock) (b : Bool)
-    (failure : Failure) → plan_of asked clock ≡ Ok plan → Brings Unread reader (reads plan.task) given brought
+    (failure : Failure) → plan_of asked clock ≡ Ok plan → Brings Unread reader (reads_input asked.command) given brought
     → GivesKept b plan path suffixes brought lock (Err failure) → Unwritten
     → Fails Unread Unwritten reader writer asked clock failure
 serves_not Unread Unwritten reader writer asked clock plan path suffixes given brought lock b failure is brings (inl of)
@@ -194,7 +205,7 @@ serves_not Unread Unwritten reader writer asked clock plan path suffixes given b
 pub keeps_not : (Unread : Type 0) (reader : Reader) (asked : Asked) (clock : Option ℤ) (plan : PlanText)
     (suffixes : List ℕ) (given brought : Option (List ℕ)) (lock : Lock × Lock) (seconds : ℕ) (failure : Failure)
     → plan_of asked clock ≡ Ok plan → IsWait (option_map (λ text. text.now) asked.wait) seconds
-    → Brings Unread reader (reads plan.task) given brought
+    → Brings Unread reader (reads_input asked.command) given brought
     → GivesKept (changes plan.task) plan asked.jar.now suffixes brought lock (Err failure)
     → KeepsJar Unread reader asked clock lock 2
 keeps_not Unread reader asked clock plan suffixes given brought lock seconds failure is wait brings (inl of) =
@@ -230,45 +241,77 @@ keeps_not Unread reader asked clock plan suffixes given brought lock seconds fai
 
 -- ---- all is given, and is printed or not
 
-same_ok : (writer : Writer) (whole outcome : OutcomeText) (result : Result ℕ Failure) → IsBut whole outcome
-    → IfOk result (λ status. (status ≡ outcome.status) × Printed writer outcome.printed)
-    → IfOk result (λ status. (status ≡ whole.status) × Printed writer whole.printed)
-same_ok writer whole outcome (Ok status) but ok =
-    (ok.0 ∙ but.1, subst (λ text. Printed writer text) but.0 ok.1)
-same_ok writer whole outcome (Err failure) but ok = tt
+-- what an outcome prints is what the whole one prints
+same_output : (b : Bool) (whole outcome : OutcomeText) → IsBut whole outcome
+    → output_by b outcome ≡ output_by b whole
+same_output true whole outcome but = ap text_in but.2
+same_output false whole outcome but = but.0
 
-same_err : (Unwritten : Type 0) (writer : Writer) (whole outcome : OutcomeText) (result : Result ℕ Failure)
-    → IsBut whole outcome
-    → IfErr result (λ failure. (IsUnwritten failure × Unwritten)
-    ⊎ ((failure ≡ Output) × Unprinted writer outcome.printed))
-    → IfErr result (λ failure. (IsUnwritten failure × Unwritten)
-    ⊎ ((failure ≡ Output) × Unprinted writer whole.printed))
-same_err Unwritten writer whole outcome (Ok status) but err = tt
-same_err Unwritten writer whole outcome (Err failure) but (inl kept) = inl kept
-same_err Unwritten writer whole outcome (Err failure) but (inr unprinted) =
-    inr (unprinted.0, subst (λ text. Unprinted writer text) but.0 unprinted.1)
+same_counted : (b : Bool) (whole outcome : OutcomeText) → IsBut whole outcome
+    → counted_by b outcome ≡ counted_by b whole
+same_counted true whole outcome but = ap Some but.0
+same_counted false whole outcome but = refl
 
-pub serves : (Unread Unwritten : Type 0) (reader : Reader) (writer : Writer) (asked : Asked) (clock : Option ℤ)
+pub serves_ok : (Unread : Type 0) (reader : Reader) (writer : Writer) (asked : Asked) (clock : Option ℤ)
     (plan : PlanText) (path suffixes : List ℕ) (given brought : Option (List ℕ)) (lock : Lock × Lock) (b : Bool)
-    (outcome : OutcomeText) (result : Result ℕ Failure) → plan_of asked clock ≡ Ok plan
-    → Brings Unread reader (reads plan.task) given brought
+    (outcome : OutcomeText) (result : Result Done Stopped) → plan_of asked clock ≡ Ok plan
+    → Brings Unread reader (reads_input asked.command) given brought
     → GivesKept b plan path suffixes brought lock (Ok outcome)
-    → IfOk result (λ status. (status ≡ outcome.status) × Printed writer outcome.printed)
-    → IfErr result (λ failure. (IsUnwritten failure × Unwritten)
-    ⊎ ((failure ≡ Output) × Unprinted writer outcome.printed))
-    → Serves Unread Unwritten reader writer asked clock result
-serves Unread Unwritten reader writer asked clock plan path suffixes given brought lock b outcome result is brings does
-    ok err = finished Unread Unwritten reader writer asked clock does.1 result
-    (gives Unread reader asked clock plan suffixes does.0 given brought (Ok does.1) is brings does.2)
-    (same_ok writer does.1 outcome result does.3 ok) (same_err Unwritten writer does.1 outcome result does.3 err)
+    → IfOk result (λ done. (done.status ≡ outcome.status) × Printed writer (output asked.command outcome)
+    × (option_map string_bytes done.counted ≡ counted asked.command outcome))
+    → IfOk result (λ done. Ends Unread reader writer asked clock done.status (option_map string_bytes done.counted))
+serves_ok Unread reader writer asked clock plan path suffixes given brought lock b outcome (Ok done) is brings does ok
+    = (
+      does.1,
+      gives Unread reader asked clock plan suffixes does.0 given brought (Ok does.1) is brings does.2,
+      ok.0 ∙ does.3.1,
+      subst (Printed writer) (same_output (prints_text asked.command) does.1 outcome does.3) ok.1,
+      ok.2 ∙ same_counted (prints_text asked.command) does.1 outcome does.3,
+    )
+serves_ok Unread reader writer asked clock plan path suffixes given brought lock b outcome (Err stopped) is brings does
+    ok =
+    tt
+
+-- a file isn't written, or the writer failed
+unfinished : (Unread Unwritten : Type 0) (reader : Reader) (writer : Writer) (asked : Asked) (clock : Option ℤ)
+    (whole outcome : OutcomeText) (failure : Failure) → FilesGive Unread reader asked clock (Ok whole)
+    → IsBut whole outcome
+    → (IsUnwritten failure × Unwritten)
+    ⊎ ((failure ≡ Output) × Unprinted writer (output asked.command outcome))
+    → Fails Unread Unwritten reader writer asked clock failure
+unfinished Unread Unwritten reader writer asked clock whole outcome failure files but (inl kept) =
+    inr (inr (inl (whole, files, kept.0, kept.1)))
+unfinished Unread Unwritten reader writer asked clock whole outcome failure files but (inr unprinted) =
+    inr (inr (inr (
+      whole,
+      files,
+      unprinted.0,
+      subst (Unprinted writer) (same_output (prints_text asked.command) whole outcome but) unprinted.1,
+    )))
+
+pub serves_err : (Unread Unwritten : Type 0) (reader : Reader) (writer : Writer) (asked : Asked) (clock : Option ℤ)
+    (plan : PlanText) (path suffixes : List ℕ) (given brought : Option (List ℕ)) (lock : Lock × Lock) (b : Bool)
+    (outcome : OutcomeText) (result : Result Done Stopped) → plan_of asked clock ≡ Ok plan
+    → Brings Unread reader (reads_input asked.command) given brought
+    → GivesKept b plan path suffixes brought lock (Ok outcome)
+    → IfErr result (λ stopped. (IsUnwritten stopped.failure × Unwritten)
+    ⊎ ((stopped.failure ≡ Output) × Unprinted writer (output asked.command outcome)))
+    → IfErr result (λ stopped. Fails Unread Unwritten reader writer asked clock stopped.failure)
+serves_err Unread Unwritten reader writer asked clock plan path suffixes given brought lock b outcome (Ok done) is
+    brings
+    does err = tt
+serves_err Unread Unwritten reader writer asked clock plan path suffixes given brought lock b outcome (Err stopped) is
+    brings does err = unfinished Unread Unwritten reader writer asked clock does.1 outcome stopped.failure
+    (gives Unread reader asked clock plan suffixes does.0 given brought (Ok does.1) is brings does.2) does.3 err
 
 keeps_at : (Unread : Type 0) (reader : Reader) (asked : Asked) (clock : Option ℤ) (plan : PlanText)
     (suffixes : List ℕ) (given brought : Option (List ℕ)) (lock : Lock × Lock) (seconds : ℕ) (outcome : OutcomeText)
     (status : ℕ) → plan_of asked clock ≡ Ok plan → IsWait (option_map (λ text. text.now) asked.wait) seconds
-    → Brings Unread reader (reads plan.task) given brought
+    → Brings Unread reader (reads_input asked.command) given brought
     → GivesKept (changes plan.task) plan asked.jar.now suffixes brought lock (Ok outcome)
     → (status ≡ outcome.status) ⊎ (status ≡ 2) → KeepsJar Unread reader asked clock lock status
-keeps_at Unread reader asked clock plan suffixes given brought lock seconds outcome status is wait brings does (inl ends) =
+keeps_at Unread reader asked clock plan suffixes given brought lock seconds outcome status is wait brings does
+    (inl ends) =
     inl (
       plan,
       suffixes,
@@ -282,7 +325,8 @@ keeps_at Unread reader asked clock plan suffixes given brought lock seconds outc
       inl (ends ∙ does.3.1),
       does.4,
     )
-keeps_at Unread reader asked clock plan suffixes given brought lock seconds outcome status is wait brings does (inr two) =
+keeps_at Unread reader asked clock plan suffixes given brought lock seconds outcome status is wait brings does
+    (inr two) =
     inl (
       plan,
       suffixes,
@@ -299,25 +343,26 @@ keeps_at Unread reader asked clock plan suffixes given brought lock seconds outc
 
 pub keeps_ok : (Unread : Type 0) (reader : Reader) (writer : Writer) (asked : Asked) (clock : Option ℤ)
     (plan : PlanText) (suffixes : List ℕ) (given brought : Option (List ℕ)) (lock : Lock × Lock) (seconds : ℕ)
-    (outcome : OutcomeText) (result : Result ℕ Failure) → plan_of asked clock ≡ Ok plan
+    (outcome : OutcomeText) (result : Result Done Stopped) → plan_of asked clock ≡ Ok plan
     → IsWait (option_map (λ text. text.now) asked.wait) seconds
-    → Brings Unread reader (reads plan.task) given brought
+    → Brings Unread reader (reads_input asked.command) given brought
     → GivesKept (changes plan.task) plan asked.jar.now suffixes brought lock (Ok outcome)
-    → IfOk result (λ status. (status ≡ outcome.status) × Printed writer outcome.printed)
-    → IfOk result (KeepsJar Unread reader asked clock lock)
-keeps_ok Unread reader writer asked clock plan suffixes given brought lock seconds outcome (Ok status) is wait brings does
-    ok = keeps_at Unread reader asked clock plan suffixes given brought lock seconds outcome status is wait brings does
-    (inl ok.0)
-keeps_ok Unread reader writer asked clock plan suffixes given brought lock seconds outcome (Err failure) is wait brings
+    → IfOk result (λ done. (done.status ≡ outcome.status) × Printed writer (output asked.command outcome)
+    × (option_map string_bytes done.counted ≡ counted asked.command outcome))
+    → IfOk result (λ done. KeepsJar Unread reader asked clock lock done.status)
+keeps_ok Unread reader writer asked clock plan suffixes given brought lock seconds outcome (Ok done) is wait brings does
+    ok = keeps_at Unread reader asked clock plan suffixes given brought lock seconds outcome done.status is wait brings
+    does (inl ok.0)
+keeps_ok Unread reader writer asked clock plan suffixes given brought lock seconds outcome (Err stopped) is wait brings
     does ok = tt
 
 pub keeps_err : (Unread : Type 0) (reader : Reader) (asked : Asked) (clock : Option ℤ) (plan : PlanText)
     (suffixes : List ℕ) (given brought : Option (List ℕ)) (lock : Lock × Lock) (seconds : ℕ) (outcome : OutcomeText)
-    (result : Result ℕ Failure) → plan_of asked clock ≡ Ok plan
+    (result : Result Done Stopped) → plan_of asked clock ≡ Ok plan
     → IsWait (option_map (λ text. text.now) asked.wait) seconds
-    → Brings Unread reader (reads plan.task) given brought
+    → Brings Unread reader (reads_input asked.command) given brought
     → GivesKept (changes plan.task) plan asked.jar.now suffixes brought lock (Ok outcome)
     → OnErr result (KeepsJar Unread reader asked clock lock 2)
-keeps_err Unread reader asked clock plan suffixes given brought lock seconds outcome (Ok status) is wait brings does = tt
-keeps_err Unread reader asked clock plan suffixes given brought lock seconds outcome (Err failure) is wait brings does =
+keeps_err Unread reader asked clock plan suffixes given brought lock seconds outcome (Ok done) is wait brings does = tt
+keeps_err Unread reader asked clock plan suffixes given brought lock seconds outcome (Err stopped) is wait brings does =
     keeps_at Unread reader asked clock plan suffixes given brought lock seconds outcome 2 is wait brings does (inr refl)

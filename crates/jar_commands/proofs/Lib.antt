@@ -1,8 +1,10 @@
 pub mod InsteadLemmas
 pub mod KeepLemmas
 mod KeptLemmas
+pub mod NameLemmas
 pub mod PlanLemmas
 pub mod PrintLemmas
 pub mod RuleLemmas
 pub mod ServeLemmas
+pub mod TellLemmas
 pub mod VisitLemmas

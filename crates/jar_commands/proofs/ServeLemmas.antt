@@ -1,45 +1,58 @@
 -- What a command gives, put together of what its steps say.
-use Rattle.std.proofs.Common.{◌≡◌, ◌⊎◌, ℕ, ℤ, List, [], Option, None, Result, Ok, Err, inl, inr}
-use Rattle.std.specs.Prelude.{IfOk, IfErr}
+use Rattle.std.proofs.Common.{◌≡◌, ◌⊎◌, ℕ, ℤ, Bool, true, false, List, [], Option, None, Result, Ok, Err, ap, inl, inr}
+use Rattle.std.proofs.Common.{refl, subst, sym}
 use Rattle.jar_words.specs.declared.asked.Asked.{Asked}
 use Rattle.jar_commands.specs.Outcomes.{OutcomeText}
-use Rattle.jar_commands.specs.Performing.{AnswersPlan, Reader}
+use Rattle.jar_commands.specs.Performing.{AnswersTexts, Brings, BringsNothing, Reader}
 use Rattle.jar_commands.specs.Plans.{PlanText, plan_of}
-use Rattle.jar_commands.specs.Program.{Fails, FilesGive, IsUnwritten, Printed, Serves, Unprinted, Writer}
+use Rattle.jar_commands.specs.Program.{Fails, FilesGive, GivesPlan, Writer, reads_input}
 use Rattle.jar_commands.specs.declared.failure.Failure.{Failure}
-use Rattle.jar_commands.specs.declared.failure.Failure.TheVariants.{Memory, Output}
-use Rattle.jar_commands.proofs.PlanLemmas.{planned, refused}
+use Rattle.jar_commands.specs.declared.failure.Failure.TheVariants.{Memory}
+
+not_both : (plan : PlanText) (failure : Failure) → Ok plan ≡ Err failure → ⊥
+not_both plan failure same = cc
+
+one_cause : (cause failure : Failure) → (let made : Result PlanText Failure = Err cause in made ≡ Err failure)
+    → failure ≡ cause
+one_cause cause failure same = cc
+
+-- memory was refused before anything was read
+at_memory : (Unread : Type 0) (reader : Reader) (is_read : Bool) (plan : PlanText) (suffixes : List ℕ)
+    (stored given : Option (List ℕ)) (failure : Failure) → failure ≡ Memory → Unread
+    → GivesPlan Unread reader is_read (Ok plan) suffixes stored given (Err failure)
+at_memory Unread reader true plan suffixes stored given failure memory unread = inl (failure, refl, inl memory)
+at_memory Unread reader false plan suffixes stored given failure memory unread =
+    inr (given, (refl, unread), inl (failure, refl, inl memory))
+
+refused : (Unread : Type 0) (reader : Reader) (is_read : Bool) (plan : Result PlanText Failure) (failure : Failure)
+    → (failure ≡ Memory) ⊎ (plan ≡ Err failure) → Unread
+    → GivesPlan Unread reader is_read plan [] None None (Err failure)
+refused Unread reader is_read (Err cause) failure (inl memory) unread = (inr (ap Err memory), unread)
+refused Unread reader is_read (Err cause) failure (inr same) unread =
+    (inl (ap Err (one_cause cause failure same)), unread)
+refused Unread reader is_read (Ok plan) failure (inl memory) unread =
+    at_memory Unread reader is_read plan [] None None failure memory unread
+refused Unread reader is_read (Ok plan) failure (inr same) unread = absurd (not_both plan failure same)
 
 -- what is asked is refused, before a file is read
 pub unplanned : (Unread Unwritten : Type 0) (reader : Reader) (writer : Writer) (asked : Asked) (clock : Option ℤ)
-    (failure : Failure) → (failure ≡ Memory) ⊎ (plan_of asked clock ≡ Err failure) → Unread → Unwritten
-    → Fails Unread Unwritten reader writer asked clock failure
-unplanned Unread Unwritten reader writer asked clock failure why unread unwritten = inl (
-  ([], None, None, refused Unread reader (plan_of asked clock) [] None None failure why unread),
-  unwritten,
-)
+    (cause failure : Failure) → failure ≡ cause → (cause ≡ Memory) ⊎ (plan_of asked clock ≡ Err cause) → Unread
+    → Unwritten → Fails Unread Unwritten reader writer asked clock failure
+unplanned Unread Unwritten reader writer asked clock cause failure is why unread unwritten =
+    subst (Fails Unread Unwritten reader writer asked clock) (sym is) (inl (
+      ([], None, None, refused Unread reader (reads_input asked.command) (plan_of asked clock) cause why unread),
+      unwritten,
+    ))
 
 -- what a plan gives for the bytes of the files
 pub files_give : (Unread : Type 0) (reader : Reader) (asked : Asked) (clock : Option ℤ) (plan : PlanText)
     (suffixes : List ℕ) (stored given : Option (List ℕ)) (result : Result OutcomeText Failure)
-    → plan_of asked clock ≡ Ok plan → AnswersPlan Unread reader (Ok plan) suffixes stored given result
+    → plan_of asked clock ≡ Ok plan
+    → GivesPlan Unread reader (reads_input asked.command) (Ok plan) suffixes stored given result
     → FilesGive Unread reader asked clock result
-files_give Unread reader asked clock plan suffixes stored given result same answers = (
+files_give Unread reader asked clock plan suffixes stored given result same gives = (
   suffixes,
   stored,
   given,
-  planned Unread reader (plan_of asked clock) plan suffixes stored given result same answers,
+  subst (λ p. GivesPlan Unread reader (reads_input asked.command) p suffixes stored given result) (sym same) gives,
 )
-
--- the files are written and all is printed, or it ends before
-pub finished : (Unread Unwritten : Type 0) (reader : Reader) (writer : Writer) (asked : Asked) (clock : Option ℤ)
-    (outcome : OutcomeText) (result : Result ℕ Failure) → FilesGive Unread reader asked clock (Ok outcome)
-    → IfOk result (λ status. (status ≡ outcome.status) × Printed writer outcome.printed)
-    → IfErr result (λ failure. (IsUnwritten failure × Unwritten)
-    ⊎ ((failure ≡ Output) × Unprinted writer outcome.printed))
-    → Serves Unread Unwritten reader writer asked clock result
-finished Unread Unwritten reader writer asked clock outcome (Ok status) files ok err = (outcome, files, ok.0, ok.1)
-finished Unread Unwritten reader writer asked clock outcome (Err failure) files ok (inl kept) =
-    inr (inr (inl (outcome, files, kept.0, kept.1)))
-finished Unread Unwritten reader writer asked clock outcome (Err failure) files ok (inr unprinted) =
-    inr (inr (inr (outcome, files, unprinted.0, unprinted.1)))

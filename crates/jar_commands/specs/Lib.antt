@@ -1,3 +1,4 @@
+pub mod About
 pub mod Dropped
 pub mod Failures
 pub mod Importing
@@ -12,5 +13,6 @@ pub mod Program
 pub mod ProgramKept
 pub mod Receiving
 pub mod RuleNames
+pub mod Setting
 pub mod Steps
 pub mod Waiting

@@ -1,21 +1,28 @@
 -- What each command gives, of the jar that it begins with (this repository's own).
 use Rattle.std.specs.Prelude.{◌≡◌, ◌++◌, ℕ, Bool, true, false, List, [], ◌∷◌, Option, Some, None, codes, is_some}
-use Rattle.std.specs.Prelude.{if◌then◌else◌, length, option_map, string_bytes}
+use Rattle.std.specs.Prelude.{if◌then◌else◌, length, map, option_map, string_bytes}
 use Rattle.std.specs.Fmt.{decimal}
 use Rattle.url.specs.Parts.{Parts}
 use Rattle.cookie_store.specs.Longest.{AreGivenLongest}
-use Rattle.cookie_store.specs.Rows.{Key, Row, Store, found, live, removed}
+use Rattle.cookie_store.specs.Rows.{Row, Store, live}
+use Rattle.cookies_txt.specs.Layout.{text_for}
+use Rattle.cookies_txt.specs.Writing.{held, line_of_row}
+use Rattle.cookies_txt.specs.declared.readers.Reader.{Reader}
 use Rattle.cookie_run.specs.Header.{IsHeader}
+use Rattle.cookie_jar.specs.Asking.{AreUnder, first_value, without}
 use Rattle.cookie_jar.specs.Explaining.{IsExplained}
 use Rattle.cookie_jar.specs.Json.{rows_json}
 use Rattle.cookie_jar.specs.Keeping.{has_control}
 use Rattle.cookie_jar.specs.LeftOut.{passed_lines}
-use Rattle.cookie_jar.specs.Listing.{listing}
+use Rattle.cookie_jar.specs.Listing.{IsListing}
 use Rattle.cookie_jar.specs.Saving.{IsText, fitting}
-use Rattle.cookie_jar.specs.Told.{header_line}
+use Rattle.cookie_jar.specs.Told.{header_line, told_lines}
 use Rattle.cookie_jar.specs.declared.form.Form.{Form}
+use Rattle.cookie_jar.specs.declared.form.Form.TheVariants.{Txt}
+use Rattle.cookie_jar.specs.declared.taking.End.{End}
 use Rattle.jar_commands.specs.Plans.{PlanText}
-use Rattle.jar_commands.specs.Receiving.{TakesHeads}
+use Rattle.jar_commands.specs.Receiving.{TakesHeads, is_any_refused}
+use Rattle.jar_commands.specs.Setting.{TakesSet}
 use Rattle.jar_commands.specs.declared.outcome.Outcome.{Outcome}
 
 -- what is printed, the exit status, and the texts that the jar and the other file are to hold, where they change
@@ -50,12 +57,30 @@ GivesHeader plan jar url outcome =
     (header : List ℕ) × IsHeader jar.rows url plan.now header × (has_control header ≡ false)
     × Prints (header_line header) outcome
 
+-- the value and a line feed, or nothing where there is none, as the status tells
+abbrev pub PrintsValue : Option (List ℕ) → OutcomeText → Type 0
+PrintsValue None outcome = outcome ≡ record { printed = []; status = 1; jar = None; file = None }
+PrintsValue (Some value) outcome = Prints (value ++ 10 ∷ []) outcome
+
+-- of this name, the first that a request gets
+abbrev pub GivesValue : PlanText → Store → Parts → List ℕ → OutcomeText → Type 0
+GivesValue plan jar url name outcome =
+    (rows : List Row) × AreGivenLongest jar.rows url plan.now rows × PrintsValue (first_value name rows) outcome
+
+-- the table of some rows
+abbrev pub PrintsTable : PlanText → List Row → OutcomeText → Type 0
+PrintsTable plan rows outcome = (text : List ℕ) × IsListing plan.now rows text × Prints text outcome
+
 abbrev pub GivesList : PlanText → Store → OutcomeText → Type 0
-GivesList plan jar outcome = Prints (listing (live plan.now jar.rows)) outcome
+GivesList plan jar outcome = PrintsTable plan (live plan.now jar.rows) outcome
 
 abbrev pub GivesListOf : PlanText → Store → Parts → OutcomeText → Type 0
 GivesListOf plan jar url outcome =
-    (rows : List Row) × AreGivenLongest jar.rows url plan.now rows × Prints (listing rows) outcome
+    (rows : List Row) × AreGivenLongest jar.rows url plan.now rows × PrintsTable plan rows outcome
+
+abbrev pub GivesListUnder : PlanText → Store → List ℕ → OutcomeText → Type 0
+GivesListUnder plan jar domain outcome =
+    (rows : List Row) × AreUnder domain (live plan.now jar.rows) rows × PrintsTable plan rows outcome
 
 abbrev pub GivesJson : PlanText → Store → OutcomeText → Type 0
 GivesJson plan jar outcome = Prints (rows_json (live plan.now jar.rows)) outcome
@@ -63,6 +88,10 @@ GivesJson plan jar outcome = Prints (rows_json (live plan.now jar.rows)) outcome
 abbrev pub GivesJsonOf : PlanText → Store → Parts → OutcomeText → Type 0
 GivesJsonOf plan jar url outcome =
     (rows : List Row) × AreGivenLongest jar.rows url plan.now rows × Prints (rows_json rows) outcome
+
+abbrev pub GivesJsonUnder : PlanText → Store → List ℕ → OutcomeText → Type 0
+GivesJsonUnder plan jar domain outcome =
+    (rows : List Row) × AreUnder domain (live plan.now jar.rows) rows × Prints (rows_json rows) outcome
 
 abbrev pub GivesExplained : PlanText → Store → Parts → List ℕ → OutcomeText → Type 0
 GivesExplained plan jar url line outcome =
@@ -81,15 +110,22 @@ GivesReceived plan jar url text outcome =
     × TakesHeads plan.is_verbose plan.form plan.rules jar plan.now url text told refused new
     × Keeps plan told (if refused then 1 else 0) new outcome
 
+-- the status tells that the line was refused
+abbrev pub GivesSet : PlanText → Store → Parts → List ℕ → OutcomeText → Type 0
+GivesSet plan jar url line outcome =
+    (ends : List End) × (new : List Row)
+    × TakesSet plan.form plan.rules jar.suffixes jar.rows url plan.now line ends new
+    × Keeps plan (told_lines (line ∷ []) ends) (if is_any_refused ends then 1 else 0) new outcome
+
 -- where there was a row to take out, these are left; else the status tells that there was none
 abbrev pub RemovesWhere : Bool → PlanText → List Row → OutcomeText → Type 0
 RemovesWhere true plan rest outcome = Keeps plan (rows_line 1) 0 rest outcome
 RemovesWhere false plan rest outcome =
     outcome ≡ record { printed = rows_line 0; status = 1; jar = None; file = None }
 
-abbrev pub GivesRemoved : PlanText → Store → Key → OutcomeText → Type 0
-GivesRemoved plan jar key outcome =
-    RemovesWhere (is_some (found key jar.rows)) plan (removed key jar.rows) outcome
+-- so with the row that a domain, a path and a name mean
+abbrev pub GivesRemoved : PlanText → Store → Option Row → OutcomeText → Type 0
+GivesRemoved plan jar row outcome = RemovesWhere (is_some row) plan (without row jar.rows) outcome
 
 abbrev pub GivesCleared : PlanText → Store → OutcomeText → Type 0
 GivesCleared plan jar outcome = Keeps plan (rows_line (length jar.rows)) 0 [] outcome
@@ -107,3 +143,14 @@ GivesExported plan jar form outcome =
       jar = None;
       file = Some text;
     })
+
+-- the same as `cookies.txt` for a reader
+abbrev pub GivesExportedFor : PlanText → Store → Reader → OutcomeText → Type 0
+GivesExportedFor plan jar reader outcome =
+    let rows = live plan.now jar.rows in
+    outcome ≡ record {
+      printed = rows_line (length (held rows)) ++ passed_lines Txt rows;
+      status = 0;
+      jar = None;
+      file = Some (text_for reader (map line_of_row (held rows)));
+    }

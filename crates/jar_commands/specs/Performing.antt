@@ -4,11 +4,13 @@ use Rattle.std.specs.Prelude.{Result, Ok, Err, IfSome, IsSomeAnd, is_some, ⊤}
 use Rattle.std.specs.Str.{IsUtf8}
 use Rattle.devices.specs.Device.{Rose}
 use Rattle.url.specs.Parts.{Parts}
-use Rattle.cookie_store.specs.Rows.{Row, Store, found, key, live, removed}
+use Rattle.cookie_store.specs.Rows.{Row, Store, live}
+use Rattle.cookie_jar.specs.Asking.{meant, without}
 use Rattle.cookie_jar.specs.Importing.{ImportsLines, LinesText}
 use Rattle.cookie_jar.specs.Reading.{Imports}
 use Rattle.cookie_jar.specs.declared.form.Form.{Form}
 use Rattle.cookie_jar.specs.declared.form.Form.TheVariants.{Ron, Json, Txt}
+use Rattle.cookie_jar.specs.declared.taking.End.{End}
 use Rattle.jar_words.specs.declared.asked.Asked.{Asked}
 use Rattle.jar_commands.specs.Importing.{AreLet, GivesImported, IsLet, IsToldOf}
 use Rattle.jar_commands.specs.Jars.{HaveNoText, IsJar, IsNoTextOf, MakesNoJar}
@@ -16,6 +18,7 @@ use Rattle.jar_commands.specs.Outcomes as gives
 use Rattle.jar_commands.specs.Outcomes.{OutcomeText}
 use Rattle.jar_commands.specs.Plans.{PlanText, plan_of}
 use Rattle.jar_commands.specs.Receiving.{IsNoHeads, TakesHeads}
+use Rattle.jar_commands.specs.Setting.{TakesSet}
 use Rattle.jar_commands.specs.declared.failure.Failure.{Failure}
 use Rattle.jar_commands.specs.declared.failure.Failure.TheVariants.{File, FileRow, FileText, Input, JarRow}
 use Rattle.jar_commands.specs.declared.failure.Failure.TheVariants.{Memory}
@@ -33,15 +36,20 @@ pub record Reader : Type 0 where
 abbrev pub reads : Task → Bool
 reads (task.Receive url) = true
 reads (task.Header url) = false
+reads (task.Get url name) = false
+reads (task.Set url line) = false
 reads task.List = false
 reads (task.ListOf url) = false
+reads (task.ListUnder domain) = false
 reads task.ListJson = false
 reads (task.ListJsonOf url) = false
+reads (task.ListJsonUnder domain) = false
 reads (task.Explain url line) = false
 reads (task.Remove domain path name) = false
 reads task.Clear = false
 reads (task.Import form is_strict) = false
 reads (task.Export form) = false
+reads (task.ExportFor reader) = false
 
 -- What is brought to a task: where it reads all that was left, where that is known; else what is given, and nothing is
 -- read.
@@ -68,17 +76,22 @@ abbrev pub Gives : PlanText → Store → Option (List ℕ) → Task → Outcome
 Gives plan jar brought (task.Receive url) outcome =
     IsSomeAnd brought (λ text. gives.GivesReceived plan jar url text outcome)
 Gives plan jar brought (task.Header url) outcome = gives.GivesHeader plan jar url outcome
+Gives plan jar brought (task.Get url name) outcome = gives.GivesValue plan jar url name.now outcome
+Gives plan jar brought (task.Set url line) outcome = gives.GivesSet plan jar url line.now outcome
 Gives plan jar brought task.List outcome = gives.GivesList plan jar outcome
 Gives plan jar brought (task.ListOf url) outcome = gives.GivesListOf plan jar url outcome
+Gives plan jar brought (task.ListUnder domain) outcome = gives.GivesListUnder plan jar domain.now outcome
 Gives plan jar brought task.ListJson outcome = gives.GivesJson plan jar outcome
 Gives plan jar brought (task.ListJsonOf url) outcome = gives.GivesJsonOf plan jar url outcome
+Gives plan jar brought (task.ListJsonUnder domain) outcome = gives.GivesJsonUnder plan jar domain.now outcome
 Gives plan jar brought (task.Explain url line) outcome = gives.GivesExplained plan jar url line.now outcome
 Gives plan jar brought (task.Remove domain path name) outcome =
-    gives.GivesRemoved plan jar (key domain.now path.now name.now) outcome
+    gives.GivesRemoved plan jar (meant domain.now path.now name.now jar.rows) outcome
 Gives plan jar brought task.Clear outcome = gives.GivesCleared plan jar outcome
 Gives plan jar brought (task.Import form is_strict) outcome =
     IsSomeAnd brought (λ text. GivesImported plan jar form is_strict text outcome)
 Gives plan jar brought (task.Export form) outcome = gives.GivesExported plan jar form outcome
+Gives plan jar brought (task.ExportFor reader) outcome = gives.GivesExportedFor plan jar reader outcome
 
 -- ---- why it gives nothing
 
@@ -95,9 +108,17 @@ FailsToReceive plan jar url (Some text) failure =
     ⊎ ((told : List ℕ) × (refused : Bool) × (new : List Row)
     × TakesHeads plan.is_verbose plan.form plan.rules jar plan.now url text told refused new × Unkept plan new failure))
 
--- `remove`
-abbrev pub FailsToRemove : PlanText → Bool → List Row → Failure → Type 0
-FailsToRemove plan is_found rest failure = (failure ≡ Memory) ⊎ ((is_found ≡ true) × Unkept plan rest failure)
+-- `set`
+abbrev pub FailsToSet : PlanText → Store → Parts → List ℕ → Failure → Type 0
+FailsToSet plan jar url line failure =
+    (failure ≡ Memory)
+    ⊎ ((ends : List End) × (new : List Row)
+    × TakesSet plan.form plan.rules jar.suffixes jar.rows url plan.now line ends new × Unkept plan new failure)
+
+-- `remove`, of the row that is meant, or none
+abbrev pub FailsToRemove : PlanText → Store → Option Row → Failure → Type 0
+FailsToRemove plan jar row failure =
+    (failure ≡ Memory) ⊎ ((is_some row ≡ true) × Unkept plan (without row jar.rows) failure)
 
 -- `import` of rows: a row is refused where none may be, or the others have no text
 abbrev pub FailsToImportRows : PlanText → Store → Form → Bool → List ℕ → Failure → Type 0
@@ -137,17 +158,21 @@ FailsToExport plan jar form failure =
 abbrev pub Fails : PlanText → Store → Option (List ℕ) → Task → Failure → Type 0
 Fails plan jar brought (task.Receive url) failure = FailsToReceive plan jar url brought failure
 Fails plan jar brought (task.Header url) failure = failure ≡ Memory
+Fails plan jar brought (task.Get url name) failure = failure ≡ Memory
+Fails plan jar brought (task.Set url line) failure = FailsToSet plan jar url line.now failure
 Fails plan jar brought task.List failure = failure ≡ Memory
 Fails plan jar brought (task.ListOf url) failure = failure ≡ Memory
+Fails plan jar brought (task.ListUnder domain) failure = failure ≡ Memory
 Fails plan jar brought task.ListJson failure = failure ≡ Memory
 Fails plan jar brought (task.ListJsonOf url) failure = failure ≡ Memory
+Fails plan jar brought (task.ListJsonUnder domain) failure = failure ≡ Memory
 Fails plan jar brought (task.Explain url line) failure = failure ≡ Memory
 Fails plan jar brought (task.Remove domain path name) failure =
-    FailsToRemove plan (is_some (found (key domain.now path.now name.now) jar.rows))
-    (removed (key domain.now path.now name.now) jar.rows) failure
+    FailsToRemove plan jar (meant domain.now path.now name.now jar.rows) failure
 Fails plan jar brought task.Clear failure = (failure ≡ Memory) ⊎ Unkept plan [] failure
 Fails plan jar brought (task.Import form is_strict) failure = FailsToImport plan jar form is_strict brought failure
 Fails plan jar brought (task.Export form) failure = FailsToExport plan jar form failure
+Fails plan jar brought (task.ExportFor reader) failure = failure ≡ Memory
 
 -- ---- all
 

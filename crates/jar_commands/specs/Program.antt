@@ -1,15 +1,19 @@
 -- What the program tells (this repository's own).
-use Rattle.std.specs.Prelude.{◌≡◌, ◌⊎◌, ℕ, ℤ, List, [], Option, Some, None, Result, Ok, Err, string_bytes}
-use Rattle.std.specs.Prelude.{Contains, IfSome, codes, is_some, option_map}
+use Rattle.std.specs.Prelude.{◌≡◌, ◌⊎◌, ℕ, ℤ, Bool, true, false, List, [], Option, Some, None, Result, Ok, Err}
+use Rattle.std.specs.Prelude.{Contains, IfSome, codes, is_some, option_map, string_bytes}
 use Rattle.std.specs.Io.KnownBytes.{Appends}
+use Rattle.std.specs.Str.{bytes_eq}
 use Rattle.devices.specs.Device.{AppendsFront, Rose}
 use Rattle.cookie_run.specs.Version.{version_line}
 use Rattle.jar_words.specs.declared.asked.Asked.{Asked}
+use Rattle.jar_words.specs.declared.asked.Command.{Command}
+use Rattle.jar_words.specs.declared.asked.Command.TheVariants as command
+use Rattle.jar_words.specs.declared.help.TheConstants.{HELP}
 use Rattle.jar_words.specs.declared.refusal.Refusal.{Refusal}
 use Rattle.jar_words.specs.declared.refusal.Refusal.TheVariants as refusal
 use Rattle.jar_commands.specs.Failures.{failure_text}
 use Rattle.jar_commands.specs.Outcomes.{OutcomeText}
-use Rattle.jar_commands.specs.Performing.{Answers, Reader, UnreadBut, reads}
+use Rattle.jar_commands.specs.Performing.{AnswersTexts, Brings, BringsNothing, Reader, UnreadBut}
 use Rattle.jar_commands.specs.Plans.{PlanText, plan_of}
 use Rattle.jar_commands.specs.Waiting.{IsNoWait}
 use Rattle.jar_commands.specs.declared.failure.Failure.{Failure}
@@ -30,11 +34,63 @@ abbrev pub Unprinted : Writer → List ℕ → Type 0
 Unprinted writer text =
     AppendsFront writer.written.0 writer.written.1 text × Rose writer.unwritten.0 writer.unwritten.1
 
+-- ---- what a command is brought, and what it gives
+
+-- a file of this name is the program's input or output
+abbrev pub is_dash : List ℕ → Bool
+is_dash name = bytes_eq name (codes "-")
+
+-- `receive` reads the program's input, and so does `import -`
+abbrev pub reads_input : Command → Bool
+reads_input (command.Receive url) = true
+reads_input (command.Import file form is_strict) = is_dash file.now
+reads_input other = false
+
+-- What a plan gives, brought the input or the bytes of the other file: as `answer` gives it, but that here an import
+-- may read too.
+abbrev pub GivesPlan : Type 0 → Reader → Bool → Result PlanText Failure → List ℕ → Option (List ℕ)
+    → Option (List ℕ) → Result OutcomeText Failure → Type 0
+GivesPlan Unread reader is_read (Err failure) suffixes stored given result =
+    ((result ≡ Err failure) ⊎ (result ≡ Err Memory)) × Unread
+GivesPlan Unread reader is_read (Ok plan) suffixes stored given result =
+    ((failure : Failure) × (result ≡ Err failure) × BringsNothing reader is_read failure)
+    ⊎ ((brought : Option (List ℕ)) × Brings Unread reader is_read given brought
+    × AnswersTexts plan suffixes stored brought result)
+
 -- what is asked gives this for some bytes of the files: what they hold, no contract sees
 abbrev pub FilesGive : Type 0 → Reader → Asked → Option ℤ → Result OutcomeText Failure → Type 0
 FilesGive Unread reader asked clock result =
     (suffixes : List ℕ) × (stored : Option (List ℕ)) × (given : Option (List ℕ))
-    × Answers Unread reader asked clock suffixes stored given result
+    × GivesPlan Unread reader (reads_input asked.command) (plan_of asked clock) suffixes stored given result
+
+-- ---- what is printed
+
+-- `export -` prints the text that another export writes to its file
+abbrev pub prints_text : Command → Bool
+prints_text (command.Export file form reader) = is_dash file.now
+prints_text other = false
+
+abbrev pub text_in : Option (List ℕ) → List ℕ
+text_in None = []
+text_in (Some text) = text
+
+-- what goes to the output: a text in the place of what would be printed of it
+abbrev pub output_by : Bool → OutcomeText → List ℕ
+output_by true outcome = text_in outcome.file
+output_by false outcome = outcome.printed
+
+abbrev pub output : Command → OutcomeText → List ℕ
+output command outcome = output_by (prints_text command) outcome
+
+-- what is told beside the output: where that is a text, what would be printed of it
+abbrev pub counted_by : Bool → OutcomeText → Option (List ℕ)
+counted_by true outcome = Some outcome.printed
+counted_by false outcome = None
+
+abbrev pub counted : Command → OutcomeText → Option (List ℕ)
+counted command outcome = counted_by (prints_text command) outcome
+
+-- ---- how a command ends
 
 -- a file isn't read, the jar's lock isn't to be had, or memory was refused for it
 abbrev pub IsOfFiles : Failure → Type 0
@@ -55,43 +111,47 @@ abbrev pub Fails : Type 0 → Type 0 → Reader → Writer → Asked → Option 
 Fails Unread Unwritten reader writer asked clock failure =
     (FilesGive Unread reader asked clock (Err failure) × Unwritten)
     ⊎ (((plan : PlanText) × (plan_of asked clock ≡ Ok plan) × IsBefore asked failure
-    × UnreadBut Unread (reads plan.task) × Unwritten)
+    × UnreadBut Unread (reads_input asked.command) × Unwritten)
     ⊎ (((outcome : OutcomeText) × FilesGive Unread reader asked clock (Ok outcome) × IsUnwritten failure × Unwritten)
     ⊎ ((outcome : OutcomeText) × FilesGive Unread reader asked clock (Ok outcome) × (failure ≡ Output)
-    × Unprinted writer outcome.printed)))
+    × Unprinted writer (output asked.command outcome))))
 
--- a command gives this status where the files are written and all is printed
-abbrev pub Ends : Type 0 → Reader → Writer → Asked → Option ℤ → ℕ → Type 0
-Ends Unread reader writer asked clock status =
+-- a command gives this status where the files are written and all is printed; what is told beside that
+abbrev pub Ends : Type 0 → Reader → Writer → Asked → Option ℤ → ℕ → Option (List ℕ) → Type 0
+Ends Unread reader writer asked clock status told =
     (outcome : OutcomeText) × FilesGive Unread reader asked clock (Ok outcome) × (status ≡ outcome.status)
-    × Printed writer outcome.printed
+    × Printed writer (output asked.command outcome) × (told ≡ counted asked.command outcome)
 
--- what a command gives
-abbrev pub Serves : Type 0 → Type 0 → Reader → Writer → Asked → Option ℤ → Result ℕ Failure → Type 0
-Serves Unread Unwritten reader writer asked clock (Ok status) = Ends Unread reader writer asked clock status
-Serves Unread Unwritten reader writer asked clock (Err failure) =
-    Fails Unread Unwritten reader writer asked clock failure
+-- what a command gives, and what is told beside its output
+abbrev pub Serves : Type 0 → Type 0 → Reader → Writer → Asked → Option ℤ → Option (List ℕ) → Result ℕ Failure → Type 0
+Serves Unread Unwritten reader writer asked clock told (Ok status) = Ends Unread reader writer asked clock status told
+Serves Unread Unwritten reader writer asked clock told (Err failure) =
+    Fails Unread Unwritten reader writer asked clock failure × (told ≡ None)
 
 -- `cookie-jar`, a space, the version and a line feed
 abbrev pub program_version : List ℕ
 program_version = version_line (codes "cookie-jar")
 
--- what the program gives for its words as they were read: what is asked, the help or the version that is printed, or a
--- refusal
-abbrev pub Runs : Type 0 → Type 0 → Reader → Writer → Option ℤ → Result Asked Refusal → Result ℕ Failure → Type 0
-Runs Unread Unwritten reader writer clock (Ok asked) result = Serves Unread Unwritten reader writer asked clock result
-Runs Unread Unwritten reader writer clock (Err (refusal.Help text)) (Ok status) =
-    (status ≡ 0) × Printed writer (string_bytes text) × Unread
-Runs Unread Unwritten reader writer clock (Err (refusal.Help text)) (Err failure) =
-    (failure ≡ Output) × Unprinted writer (string_bytes text) × Unread
-Runs Unread Unwritten reader writer clock (Err refusal.Version) (Ok status) =
-    (status ≡ 0) × Printed writer program_version × Unread
-Runs Unread Unwritten reader writer clock (Err refusal.Version) (Err failure) =
-    (((failure ≡ Output) × Unprinted writer program_version) ⊎ ((failure ≡ Memory) × Unwritten)) × Unread
-Runs Unread Unwritten reader writer clock (Err (refusal.Words kind)) result =
-    (result ≡ Err (Words kind)) × Unread × Unwritten
-Runs Unread Unwritten reader writer clock (Err refusal.OutOfMemory) result =
-    (result ≡ Err Memory) × Unread × Unwritten
+-- the text of `--help`
+abbrev pub help_text : List ℕ
+help_text = HELP.now
+
+-- what the program gives for words that ask for nothing: the help or the version, which is printed, or a refusal
+abbrev pub IsRefused : Type 0 → Writer → Refusal → Result ℕ Failure → Type 0
+IsRefused Unwritten writer refusal.Help (Ok status) = (status ≡ 0) × Printed writer help_text
+IsRefused Unwritten writer refusal.Help (Err failure) = (failure ≡ Output) × Unprinted writer help_text
+IsRefused Unwritten writer refusal.Version (Ok status) = (status ≡ 0) × Printed writer program_version
+IsRefused Unwritten writer refusal.Version (Err failure) =
+    ((failure ≡ Output) × Unprinted writer program_version) ⊎ ((failure ≡ Memory) × Unwritten)
+IsRefused Unwritten writer (refusal.Words kind word) result = (result ≡ Err (Words kind)) × Unwritten
+
+-- what the program gives for its words as they were read, and what is told beside its output
+abbrev pub Runs : Type 0 → Type 0 → Reader → Writer → Option ℤ → Result Asked Refusal → Option (List ℕ)
+    → Result ℕ Failure → Type 0
+Runs Unread Unwritten reader writer clock (Ok asked) told result =
+    Serves Unread Unwritten reader writer asked clock told result
+Runs Unread Unwritten reader writer clock (Err refused) told result =
+    IsRefused Unwritten writer refused result × Unread × (told ≡ None)
 
 -- the exit status, and what goes to standard error at 2
 abbrev pub IsToldBy : Result ℕ Failure → ℕ → Option (List ℕ) → Type 0

@@ -4,8 +4,9 @@ use Rattle.kept_file.specs.Locks.{Lock, Given}
 use Rattle.jar_words.specs.declared.asked.Asked.{Asked}
 use Rattle.jar_words.specs.declared.refusal.Refusal.{Refusal}
 use Rattle.jar_commands.specs.Outcomes.{OutcomeText}
-use Rattle.jar_commands.specs.Performing.{AnswersPlan, Reader}
+use Rattle.jar_commands.specs.Performing.{Reader}
 use Rattle.jar_commands.specs.Plans.{PlanText, plan_of}
+use Rattle.jar_commands.specs.Program.{GivesPlan, reads_input}
 use Rattle.jar_commands.specs.Waiting.{IsWait}
 use Rattle.jar_commands.specs.declared.failure.Failure.{Failure}
 use Rattle.jar_commands.specs.declared.plan.Task.{Task}
@@ -15,15 +16,20 @@ use Rattle.jar_commands.specs.declared.plan.Task.TheVariants as task
 abbrev pub changes : Task → Bool
 changes (task.Receive url) = true
 changes (task.Header url) = false
+changes (task.Get url name) = false
+changes (task.Set url line) = true
 changes task.List = false
 changes (task.ListOf url) = false
+changes (task.ListUnder domain) = false
 changes task.ListJson = false
 changes (task.ListJsonOf url) = false
+changes (task.ListJsonUnder domain) = false
 changes (task.Explain url line) = false
 changes (task.Remove domain path name) = true
 changes task.Clear = true
 changes (task.Import form is_strict) = true
 changes (task.Export form) = false
+changes (task.ExportFor reader) = false
 
 -- the text that the jar is to hold, or none
 abbrev pub jar_of : Result OutcomeText Failure → Option (List ℕ)
@@ -42,7 +48,8 @@ kept_so path stored put = Given (record { path = path; seen = Some stored; put =
 
 -- the file wasn't read under its lock, and nothing was to take its place
 abbrev pub IsUnread : Lock × Lock → Type 0
-IsUnread lock = (lock.1 ≡ lock.0) ⊎ ((path : List ℕ) × (lock.1 ≡ Given (record { path = path; seen = None; put = None })))
+IsUnread lock =
+    (lock.1 ≡ lock.0) ⊎ ((path : List ℕ) × (lock.1 ≡ Given (record { path = path; seen = None; put = None })))
 
 -- a command that changes the jar leaves its lock so, behind what was read and what is put; any other leaves it alone
 abbrev pub Leaves : Bool → List ℕ → Option (List ℕ) → Option (List ℕ) → Lock × Lock → Type 0
@@ -57,7 +64,8 @@ KeepsJar Unread reader asked clock lock status =
     ((plan : PlanText) × (suffixes : List ℕ) × (stored : Option (List ℕ)) × (given : Option (List ℕ))
     × (result : Result OutcomeText Failure) × (seconds : ℕ) × (plan_of asked clock ≡ Ok plan)
     × IsWait (option_map (λ text. text.now) asked.wait) seconds
-    × AnswersPlan Unread reader (Ok plan) suffixes stored given result × EndsWith result status
+    × GivesPlan Unread reader (reads_input asked.command) (Ok plan) suffixes stored given result
+    × EndsWith result status
     × Leaves (changes plan.task) asked.jar.now stored (jar_of result) lock)
     ⊎ ((status ≡ 2) × IsUnread lock)
 

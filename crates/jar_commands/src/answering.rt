@@ -10,12 +10,15 @@ ghost use Rattle.jar_commands.specs.Plans.{plan_text};
 use crate::failure::Failure;
 use crate::importing::import;
 use crate::jar_text::jar_of;
-use crate::moving::export;
+use crate::moving::{export, export_for};
 use crate::outcome::Outcome;
 use crate::plan::{Plan, Task, plan_of};
 use crate::receiving::receive;
 use crate::removing::{clear, remove};
-use crate::showing::{explain, header, list, list_json, list_json_of, list_of};
+use crate::setting::set;
+use crate::showing::{
+    explain, get, header, list, list_json, list_json_of, list_json_under, list_of, list_under,
+};
 use cookie_jar::Jar;
 use devices::Source;
 use devices::pour::{Stop, read_all};
@@ -27,12 +30,12 @@ use std::alloc::Global;
 /// and of the other file of an import. The moment is the clock's where none is asked. Only `receive`
 /// reads, to the reader's end and before all else but the plan.
 ///
-/// Status 1 is that a line was refused (`receive`), or that no row matched (`remove`), which changes no
-/// file.
+/// Status 1 is that a line was refused (`receive`, `set`), something of another file was (`import`), no cookie of the
+/// name goes with a request (`get`), or no row matched (`remove`). These two change no file then.
 ///
 /// # Errors
 ///
-/// The first of these that holds. Before anything is read: `Moment`, `Format`, and then `Url` or
+/// The first of these that holds. Before anything is read: `Moment`, `Format`, `Rules`, and then `Url` or
 /// `FileFormat`, as [`plan_of`] tells them. Of `receive` then `Input` where the reader failed. `SuffixList`
 /// where the first bytes are no suffix list, `JarText` where the others are no text of the jar's form. Of
 /// `receive` `Heads` where what was read aren't heads of responses, or one leads nowhere although a head
@@ -99,9 +102,11 @@ pub(crate) fn reads(task: &Task<'_>) -> bool
 {
     match task {
         Task::Receive(_) => true,
-        Task::Header(_) | Task::List | Task::ListOf(_) | Task::ListJson => false,
-        Task::ListJsonOf(_) | Task::Explain(_, _) | Task::Remove(_, _, _) => false,
-        Task::Clear | Task::Import(_, _) | Task::Export(_) => false,
+        Task::Header(_) | Task::Get(_, _) | Task::Set(_, _) => false,
+        Task::List | Task::ListOf(_) | Task::ListUnder(_) => false,
+        Task::ListJson | Task::ListJsonOf(_) | Task::ListJsonUnder(_) => false,
+        Task::Explain(_, _) | Task::Remove(_, _, _) | Task::Clear => false,
+        Task::Import(_, _) | Task::Export(_) | Task::ExportFor(_) => false,
     }
 }
 
@@ -154,14 +159,19 @@ fn perform(
     match &plan.task {
         Task::Receive(url) => receive(alloc, plan, jar, url, brought),
         Task::Header(url) => header(plan, jar, url),
+        Task::Get(url, name) => get(alloc, plan, jar, url, name),
+        Task::Set(url, line) => set(alloc, plan, jar, url, line),
         Task::List => list(plan, jar),
         Task::ListOf(url) => list_of(plan, jar, url),
+        Task::ListUnder(domain) => list_under(plan, jar, domain),
         Task::ListJson => list_json(plan, jar),
         Task::ListJsonOf(url) => list_json_of(plan, jar, url),
+        Task::ListJsonUnder(domain) => list_json_under(plan, jar, domain),
         Task::Explain(url, line) => explain(plan, jar, url, line),
         Task::Remove(domain, path, name) => remove(alloc, plan, jar, domain, path, name),
         Task::Clear => clear(alloc, plan, jar),
         Task::Import(form, is_strict) => import(alloc, plan, jar, *form, *is_strict, brought),
         Task::Export(form) => export(alloc, plan, jar, *form),
+        Task::ExportFor(reader) => export_for(alloc, plan, jar, *reader),
     }
 }

@@ -14,11 +14,11 @@ pub enum Failure {
     Words(Kind),
     /// The moment of `--now` isn't one, or there is no clock.
     Moment,
-    /// Neither `--format` nor the ending of the jar's name tells a form.
+    /// Neither `--format` nor the jar's name tells a form.
     Format,
     /// What `--rules` has isn't a list of rules.
     Rules,
-    /// The ending of the other file's name tells none.
+    /// Neither `--file-format` nor the other file's name tells a form, or it isn't `cookies.txt`, as a reader wants it.
     FileFormat,
     /// The text isn't a plain URL.
     Url,

@@ -5,9 +5,9 @@ ghost use Rattle.plain_url.specs.Plain.{HasNoPlain};
 ghost use Rattle.jar_commands.specs.Instead as spec;
 
 use crate::failure::Failure;
-use crate::program::print;
+use crate::printing::print;
 use devices::Sink;
-use jar_words::Command;
+use jar_words::{Command, Which};
 use plain_url::plain_for;
 use std::alloc::{AllocError, Global};
 
@@ -25,14 +25,25 @@ pub(crate) fn instead_of(alloc: Global, command: Command<'_>) -> Result<Option<S
     }
 }
 
-fn url_in(command: Command<'_>) -> Option<&str>
+pub(crate) fn url_in(command: Command<'_>) -> Option<&str>
     ensures { option_map (λ text. text.now) result ≡ spec.url_in command.entry }
 {
     match command {
-        Command::Receive(url) | Command::Header(url) | Command::Explain(url, _) => Some(url),
-        Command::List(url) | Command::ListJson(url) => url,
-        Command::Remove(_, _, _) | Command::Clear | Command::Import(_, _) | Command::Export(_) =>
-            None,
+        Command::Receive(url) | Command::Header(url) | Command::Get(url, _) => Some(url),
+        Command::Set(url, _) | Command::Explain(url, _) => Some(url),
+        Command::List(which) | Command::ListJson(which) => url_of(which),
+        Command::Remove(_, _, _) | Command::Clear => None,
+        Command::Import(_, _, _) | Command::Export(_, _, _) => None,
+    }
+}
+
+// The URL of those that are listed.
+fn url_of(which: Which<'_>) -> Option<&str>
+    ensures { option_map (λ text. text.now) result ≡ spec.url_of which.entry }
+{
+    match which {
+        Which::For(url) => Some(url),
+        Which::All | Which::Under(_) => None,
     }
 }
 

@@ -12,13 +12,14 @@ ghost use Rattle.jar_commands.specs.ProgramKept as spec;
 ghost use Rattle.jar_commands.specs.Waiting as waiting;
 ghost use Rattle.jar_commands.specs.declared.failure.Failure.{Failure};
 
+use crate::about::Stopped;
 use crate::answering::answer_texts;
 use crate::failure::Failure;
 use crate::outcome::Outcome;
 use crate::plan::{Plan, Task};
+use kept_file::Keeper;
 use kept_file::files::Unread;
 use kept_file::place::Place;
-use kept_file::{Keeper, Untaken, Unwritten};
 use std::alloc::Global;
 use std::fs::Files;
 use std::time::Duration;
@@ -48,9 +49,12 @@ pub(crate) fn changes(task: &Task<'_>) -> bool
     ensures { result ≡ spec.changes task.now }
 {
     match task {
-        Task::Receive(_) | Task::Remove(_, _, _) | Task::Clear | Task::Import(_, _) => true,
-        Task::Header(_) | Task::List | Task::ListOf(_) | Task::ListJson => false,
-        Task::ListJsonOf(_) | Task::Explain(_, _) | Task::Export(_) => false,
+        Task::Receive(_) | Task::Set(_, _) | Task::Remove(_, _, _) => true,
+        Task::Clear | Task::Import(_, _) => true,
+        Task::Header(_) | Task::Get(_, _) | Task::Explain(_, _) => false,
+        Task::List | Task::ListOf(_) | Task::ListUnder(_) => false,
+        Task::ListJson | Task::ListJsonOf(_) | Task::ListJsonUnder(_) => false,
+        Task::Export(_) | Task::ExportFor(_) => false,
     }
 }
 
@@ -63,16 +67,27 @@ pub(crate) fn outcome_of<H: Files + AllocGlobal, K: Keeper>(
     suffixes: &[u8],
     brought: Option<&[u8]>,
     kept: &mut K,
-) -> Result<Outcome, Failure>
+) -> Result<Outcome, Stopped>
     ensures { steps.GivesKept (spec.changes plan.now.task) (plan_text plan.now) jar.now suffixes.now
         (option_copied brought.entry) (K.lock kept.old, K.lock kept.new)
-        (result_map_both outcome_text (λ failure. failure) result) }
+        (result_map_both outcome_text (λ stopped. stopped.failure) result) }
 {
     if changes(&plan.task) {
         return held(rt.alloc(), plan, jar, wait, suffixes, brought, kept);
     }
     let stored = read_jar(rt, jar)?;
-    answer_texts(rt.alloc(), plan, suffixes, stored.as_deref(), brought)
+    without_cause(answer_texts(rt.alloc(), plan, suffixes, stored.as_deref(), brought))
+}
+
+// A failure of texts, which is none of the system's.
+fn without_cause(given: Result<Outcome, Failure>) -> Result<Outcome, Stopped>
+    ensures { result_map_both outcome_text (λ stopped. stopped.failure) result
+        ≡ result_map_both outcome_text (λ failure. failure) given }
+{
+    match given {
+        Ok(outcome) => Ok(outcome),
+        Err(failure) => Err(Stopped::of(failure)),
+    }
 }
 
 // The same under the jar's lock, which is given back in any case.
@@ -84,10 +99,10 @@ fn held<K: Keeper>(
     suffixes: &[u8],
     brought: Option<&[u8]>,
     kept: &mut K,
-) -> Result<Outcome, Failure>
+) -> Result<Outcome, Stopped>
     ensures { steps.GivesKept true (plan_text plan.now) jar.now suffixes.now
         (option_copied brought.entry) (K.lock kept.old, K.lock kept.new)
-        (result_map_both outcome_text (λ failure. failure) result) }
+        (result_map_both outcome_text (λ stopped. stopped.failure) result) }
 {
     begin(kept, jar, wait)?;
     let given = perform_held(alloc, plan, suffixes, brought, kept);
@@ -96,43 +111,21 @@ fn held<K: Keeper>(
 }
 
 // Takes the jar's lock, and reads it. Where it isn't read, the lock is given back.
-fn begin<K: Keeper>(kept: &mut K, path: &str, wait: u64) -> Result<(), Failure>
+fn begin<K: Keeper>(kept: &mut K, path: &str, wait: u64) -> Result<(), Stopped>
     ensures ok { OnOk result ((stored : Option (List ℕ))
         × (K.lock kept.new ≡ Held (record { path = path.now; seen = Some stored; put = None }))) }
-    ensures err { IfErr result (λ failure. IsOfFiles failure
+    ensures err { IfErr result (λ stopped. IsOfFiles stopped.failure
         × spec.IsUnread (K.lock kept.old, K.lock kept.new)) }
 {
     if let Err(untaken) = kept.take(path, Duration::from_secs(wait)) {
-        return Err(untaken_as(untaken));
+        return Err(Stopped::untaken(untaken));
     }
     match kept.read() {
         Ok(()) => Ok(()),
         Err(unread) => {
             kept.give();
-            Err(unread_as(unread))
+            Err(Stopped::unread(unread, Failure::JarFile))
         }
-    }
-}
-
-// What is told where the lock isn't taken.
-fn untaken_as(untaken: Untaken) -> Failure
-    ensures { IsOfFiles result }
-{
-    match untaken {
-        Untaken::InUse => Failure::JarInUse,
-        Untaken::NoLock(_) => Failure::LockFile,
-        Untaken::Failed(_) => Failure::JarFile,
-        Untaken::Memory => Failure::Memory,
-    }
-}
-
-// What is told where the jar isn't read.
-fn unread_as(unread: Unread) -> Failure
-    ensures { IsOfFiles result }
-{
-    match unread {
-        Unread::Memory => Failure::Memory,
-        Unread::Missing | Unread::Failed(_) => Failure::JarFile,
     }
 }
 
@@ -143,20 +136,20 @@ fn perform_held<K: Keeper>(
     suffixes: &[u8],
     brought: Option<&[u8]>,
     kept: &mut K,
-) -> Result<Outcome, Failure>
+) -> Result<Outcome, Stopped>
     ensures { steps.PerformsHeld (plan_text plan.now) suffixes.now (option_copied brought.entry)
-        (K.lock kept.old, K.lock kept.new) (result_map_both outcome_text (λ failure. failure) result) }
+        (K.lock kept.old, K.lock kept.new) (result_map_both outcome_text (λ stopped. stopped.failure) result) }
 {
     match answer_texts(alloc, plan, suffixes, kept.bytes(), brought) {
         Ok(outcome) => replaced(outcome, kept),
-        Err(failure) => Err(failure),
+        Err(failure) => Err(Stopped::of(failure)),
     }
 }
 
 // The outcome, whose text for the jar was put in the jar's place.
-fn replaced<K: Keeper>(outcome: Outcome, kept: &mut K) -> Result<Outcome, Failure>
+fn replaced<K: Keeper>(outcome: Outcome, kept: &mut K) -> Result<Outcome, Stopped>
     ensures ok { IfOk result (λ done. steps.IsBut (outcome_text outcome) (outcome_text done)) }
-    ensures err { IfErr result IsUnwritten }
+    ensures err { IfErr result (λ stopped. IsUnwritten stopped.failure) }
     ensures lock { K.lock kept.new ≡ steps.put_of (outcome_text outcome).jar (K.lock kept.old) }
 {
     let Outcome {
@@ -177,23 +170,13 @@ fn replaced<K: Keeper>(outcome: Outcome, kept: &mut K) -> Result<Outcome, Failur
 }
 
 // Puts the text in the jar's place.
-fn put<K: Keeper>(kept: &mut K, text: Vec<u8>) -> Result<(), Failure>
-    ensures err { IfErr result IsUnwritten }
+fn put<K: Keeper>(kept: &mut K, text: Vec<u8>) -> Result<(), Stopped>
+    ensures err { IfErr result (λ stopped. IsUnwritten stopped.failure) }
     ensures lock { K.lock kept.new ≡ with_put text.items (K.lock kept.old) }
 {
     match kept.replace(text) {
         Ok(()) => Ok(()),
-        Err(unwritten) => Err(unwritten_as(unwritten, Failure::JarFile)),
-    }
-}
-
-/// What is told where a file isn't written: want of memory, or that it was refused.
-pub(crate) fn unwritten_as(unwritten: Unwritten, refused: Failure) -> Failure
-    ensures { (result ≡ refused) ⊎ (result ≡ Failure.Memory) }
-{
-    match unwritten {
-        Unwritten::Memory => Failure::Memory,
-        Unwritten::Failed(_) => refused,
+        Err(unwritten) => Err(Stopped::unwritten(unwritten, Failure::JarFile)),
     }
 }
 
@@ -201,12 +184,12 @@ pub(crate) fn unwritten_as(unwritten: Unwritten, refused: Failure) -> Failure
 pub(crate) fn read_jar<H: Files + AllocGlobal>(
     rt: &H,
     path: &str,
-) -> Result<Option<Vec<u8>>, Failure>
-    ensures { IfErr result IsOfFiles }
+) -> Result<Option<Vec<u8>>, Stopped>
+    ensures { IfErr result (λ stopped. IsOfFiles stopped.failure) }
 {
     match Place::of(rt, path, NAME).read(rt) {
         Ok(text) => Ok(Some(text)),
         Err(Unread::Missing) => Ok(None),
-        Err(unread) => Err(unread_as(unread)),
+        Err(unread) => Err(Stopped::unread(unread, Failure::JarFile)),
     }
 }

@@ -7,8 +7,10 @@
 //! ```
 #![tactic(auto)]
 
+mod about;
 mod answering;
 mod dropped;
+mod ended;
 mod failure;
 mod importing;
 mod instead;
@@ -18,10 +20,12 @@ mod moving;
 mod outcome;
 mod passed_over;
 mod plan;
+mod printing;
 pub mod program;
 mod receiving;
 mod removing;
 mod rule_names;
+mod setting;
 mod showing;
 
 pub use answering::answer;

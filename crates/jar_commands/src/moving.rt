@@ -12,6 +12,7 @@ use crate::outcome::Outcome;
 use crate::plan::Plan;
 use crate::removing::count_line;
 use cookie_jar::{Exported, Form, Jar, SaveError};
+use cookies_txt::Reader;
 use std::alloc::{AllocError, Global};
 
 // How many rows were moved, and what is told of others behind that.
@@ -38,6 +39,23 @@ pub(crate) fn export(
         Ok(exported) => exported_outcome(alloc, exported),
         Err(SaveError::OutOfMemory) => Err(Failure::Memory),
         Err(_) => Err(Failure::FileRow),
+    }
+}
+
+/// `export --for READER FILE`.
+pub(crate) fn export_for(
+    alloc: Global,
+    plan: &Plan<'_>,
+    jar: &Jar,
+    reader: Reader,
+) -> Result<Outcome, Failure>
+    ensures ok { IfOk result (λ outcome.
+        spec.GivesExportedFor (plan_text plan.now) jar.now reader (spec.outcome_text outcome)) }
+    ensures err { IfErr result (λ failure. failure ≡ Failure.Memory) }
+{
+    match jar.export_for(reader, plan.at) {
+        Ok(exported) => exported_outcome(alloc, exported),
+        Err(_) => Err(Failure::Memory),
     }
 }
 

@@ -1,5 +1,6 @@
 //! What is asked, with its moment, its form and its URL read.
-ghost use Rattle.std.specs.Prelude.{◌≡◌, ◌⊎◌, IfOk, IfErr, option_map};
+ghost use Rattle.std.specs.Prelude.{◌≡◌, ◌==◌, ◌⊎◌, IfOk, IfErr, option_map};
+ghost use Rattle.std.specs.List.{after_last};
 ghost use Rattle.jiff.specs.Words.{civil_nanos};
 ghost use Rattle.jar_commands.specs.Plans as spec;
 
@@ -7,7 +8,8 @@ use crate::failure::Failure;
 use crate::rule_names::rules_of;
 use cookie_jar::Form;
 use cookie_run::script::moment::moment_of;
-use jar_words::{Asked, Command, Format};
+use cookies_txt::Reader;
+use jar_words::{Asked, Command, Format, Which};
 use jiff::civil::DateTime;
 use plain_url::is_plain_of;
 use std::alloc::Global;
@@ -21,14 +23,22 @@ pub enum Task<'a> {
     Receive(Url),
     /// Prints the header of a request to this URL.
     Header(Url),
+    /// Prints the value that a request to this URL gets of this name.
+    Get(Url, &'a str),
+    /// Takes a line as one that this URL answered.
+    Set(Url, &'a str),
     /// Prints the table of all rows.
     List,
     /// Prints the table of what a request to this URL gets.
     ListOf(Url),
+    /// Prints the table of the rows of this domain and of those below it.
+    ListUnder(&'a str),
     /// Prints all rows as JSON.
     ListJson,
     /// Prints what a request to this URL gets as JSON.
     ListJsonOf(Url),
+    /// Prints the rows of this domain and of those below it as JSON.
+    ListJsonUnder(&'a str),
     /// Prints what a line from this URL means.
     Explain(Url, &'a str),
     /// Takes the row of a domain, a path and a name out.
@@ -39,6 +49,8 @@ pub enum Task<'a> {
     Import(Form, bool),
     /// Gives the rows as a text of this form.
     Export(Form),
+    /// Gives the rows as `cookies.txt` for this reader.
+    ExportFor(Reader),
 }
 
 /// A task, with the moment at which it is done and the form of the jar's text.
@@ -105,15 +117,51 @@ fn moment(text: Option<&str>, clock: Option<DateTime>) -> Option<DateTime>
     }
 }
 
-// The form that is asked, or the one that the jar's name ends with.
+// The form that is asked, or the one that the jar's name tells.
 fn form_of(format: Option<Format>, jar: &str) -> Option<Form>
     ensures { result ≡ spec.form_asked format jar.now }
 {
     match format {
-        Some(Format::Ron) => Some(Form::Ron),
-        Some(Format::Json) => Some(Form::Json),
-        Some(Format::Txt) => Some(Form::Txt),
-        None => Form::of(jar),
+        Some(format) => Some(form_named(format)),
+        None => form_told(jar),
+    }
+}
+
+fn form_named(format: Format) -> Form
+    ensures { result ≡ spec.form_named format }
+{
+    match format {
+        Format::Ron => Form::Ron,
+        Format::Json => Form::Json,
+        Format::Txt => Form::Txt,
+    }
+}
+
+// The form that the jar's name ends with, and JSON where its last part has no dot.
+fn form_told(jar: &str) -> Option<Form>
+    ensures { result ≡ spec.form_told jar.now }
+{
+    match Form::of(jar) {
+        Some(form) => Some(form),
+        None if is_dotted(jar) => None,
+        None => Some(Form::Json),
+    }
+}
+
+// Whether a dot stands in the last part of a name.
+fn is_dotted(name: &str) -> bool
+    ensures { result ≡ spec.is_dotted name.now }
+{
+    last_part(name).iter().any(|b| *b == b'.')
+}
+
+// What stands behind the last slash of a name.
+fn last_part(name: &str) -> &[u8]
+    ensures { result.now ≡ spec.last_part name.now }
+{
+    match name.rfind('/') {
+        Some(at) => &name.as_bytes()[at + 1..],
+        None => name.as_bytes(),
     }
 }
 
@@ -126,15 +174,64 @@ fn task_of<'a>(alloc: Global, command: Command<'a>) -> Result<Task<'a>, Failure>
     match command {
         Command::Receive(url) => Ok(Task::Receive(url_of(alloc, url)?)),
         Command::Header(url) => Ok(Task::Header(url_of(alloc, url)?)),
-        Command::List(Some(url)) => Ok(Task::ListOf(url_of(alloc, url)?)),
-        Command::List(None) => Ok(Task::List),
-        Command::ListJson(Some(url)) => Ok(Task::ListJsonOf(url_of(alloc, url)?)),
-        Command::ListJson(None) => Ok(Task::ListJson),
+        Command::Get(url, name) => Ok(Task::Get(url_of(alloc, url)?, name)),
+        Command::Set(url, line) => Ok(Task::Set(url_of(alloc, url)?, line)),
+        Command::List(which) => list_task(alloc, which),
+        Command::ListJson(which) => json_task(alloc, which),
         Command::Explain(url, line) => Ok(Task::Explain(url_of(alloc, url)?, line)),
         Command::Remove(domain, path, name) => Ok(Task::Remove(domain, path, name)),
         Command::Clear => Ok(Task::Clear),
-        Command::Import(file, is_strict) => Ok(Task::Import(form_of_file(file)?, is_strict)),
-        Command::Export(file) => Ok(Task::Export(form_of_file(file)?)),
+        Command::Import(file, format, is_strict) => {
+            Ok(Task::Import(form_of_file(format, file)?, is_strict))
+        }
+        Command::Export(file, format, reader) => export_task(form_of_file(format, file)?, reader),
+    }
+}
+
+// The task of `list`.
+fn list_task<'a>(alloc: Global, which: Which<'a>) -> Result<Task<'a>, Failure>
+    ensures ok { IfOk result (λ task. spec.list_task which.entry ≡ Ok task) }
+    ensures err { IfErr result (λ failure.
+        (failure ≡ Failure.Memory) ⊎ (spec.list_task which.entry ≡ Err failure)) }
+{
+    match which {
+        Which::All => Ok(Task::List),
+        Which::For(url) => Ok(Task::ListOf(url_of(alloc, url)?)),
+        Which::Under(domain) => Ok(Task::ListUnder(domain)),
+    }
+}
+
+// The task of `list --json`.
+fn json_task<'a>(alloc: Global, which: Which<'a>) -> Result<Task<'a>, Failure>
+    ensures ok { IfOk result (λ task. spec.json_task which.entry ≡ Ok task) }
+    ensures err { IfErr result (λ failure.
+        (failure ≡ Failure.Memory) ⊎ (spec.json_task which.entry ≡ Err failure)) }
+{
+    match which {
+        Which::All => Ok(Task::ListJson),
+        Which::For(url) => Ok(Task::ListJsonOf(url_of(alloc, url)?)),
+        Which::Under(domain) => Ok(Task::ListJsonUnder(domain)),
+    }
+}
+
+// The task of `export`, in a form: only `cookies.txt` is written for a reader.
+fn export_task<'a>(form: Form, reader: Option<jar_words::Reader>) -> Result<Task<'a>, Failure>
+    ensures { result ≡ spec.export_task form reader }
+{
+    match (reader, form) {
+        (None, form) => Ok(Task::Export(form)),
+        (Some(reader), Form::Txt) => Ok(Task::ExportFor(reader_named(reader))),
+        (Some(_), Form::Ron | Form::Json) => Err(Failure::FileFormat),
+    }
+}
+
+fn reader_named(reader: jar_words::Reader) -> Reader
+    ensures { result ≡ spec.reader_named reader }
+{
+    match reader {
+        jar_words::Reader::Curl => Reader::Curl,
+        jar_words::Reader::Wget => Reader::Wget,
+        jar_words::Reader::Python => Reader::Python,
     }
 }
 
@@ -165,10 +262,16 @@ fn plain(url: Url, text: &str) -> Result<Url, Failure>
     }
 }
 
-// The form that the other file's name ends with.
-fn form_of_file(file: &str) -> Result<Form, Failure>
-    ensures { result ≡ spec.form_of_file file.now }
+// The form of the other file that is asked, or the one that its name ends with. `-` has that of `cookies.txt`.
+fn form_of_file(format: Option<Format>, file: &str) -> Result<Form, Failure>
+    ensures { result ≡ spec.form_of_file format file.now }
 {
+    if let Some(format) = format {
+        return Ok(form_named(format));
+    }
+    if file == "-" {
+        return Ok(Form::Txt);
+    }
     match Form::of(file) {
         Some(form) => Ok(form),
         None => Err(Failure::FileFormat),

@@ -1,59 +1,37 @@
 //! The program: a command over the files of a jar.
-ghost use Rattle.std.specs.Prelude.{◌≡◌, ◌⊎◌, ℕ, List, Option, Result, IfErr, IfSome, IsSomeAnd, OnErr, OnOk, IfOk};
-ghost use Rattle.std.specs.Prelude.{None, if◌then◌else◌, map, option_map, string_bytes};
-ghost use Rattle.std.specs.Io.KnownBytes.{Keeps};
-ghost use Rattle.std.specs.Option.{option_copied};
-ghost use Rattle.devices.specs.Device.{Rose};
+ghost use Rattle.std.specs.Prelude.{◌≡◌, ◌⊎◌, ℕ, List, Option, Result, IfErr, IfOk, IfSome, OnErr, None, map};
+ghost use Rattle.std.specs.Prelude.{option_map, string_bytes};
 ghost use Rattle.jiff.specs.Words.{civil_nanos};
-ghost use Rattle.jar_words.specs.Asking.{ReadsWords};
+ghost use Rattle.jar_words.specs.Reading.{ReadsWords};
 ghost use Rattle.jar_words.specs.UrlAsked.{url_asked};
 ghost use Rattle.jar_words.specs.declared.asked.Asked.{Asked};
 ghost use Rattle.jar_words.specs.declared.refusal.Refusal.{Refusal};
+ghost use Rattle.jar_commands.specs.About as abouts;
 ghost use Rattle.jar_commands.specs.Dropped as rows;
 ghost use Rattle.jar_commands.specs.Failures.{line_of};
 ghost use Rattle.jar_commands.specs.Instead as urls;
-ghost use Rattle.jar_commands.specs.Performing.{Brings, BringsNothing, UnreadBut, reads};
+ghost use Rattle.jar_commands.specs.Performing.{Brings, BringsNothing, UnreadBut};
 ghost use Rattle.jar_commands.specs.Program as spec;
 ghost use Rattle.jar_commands.specs.ProgramKept as kept_spec;
 ghost use Rattle.jar_commands.specs.declared.failure.Failure.{Failure};
 
-use crate::answering::{read_input, reads};
+use crate::about::Stopped;
+use crate::answering::read_input;
 use crate::dropped::dropped_of;
-use crate::failure::{Failure, line_of};
+pub use crate::ended::Ended;
+use crate::ended::{about_words, failed, told, url_told};
+use crate::failure::Failure;
 use crate::instead::{instead_of, print_plain};
-use crate::keeping::{NAME, outcome_of, read_jar, unwritten_as, wait_of};
-use crate::outcome::Outcome;
-use crate::plan::{Plan, plan_of};
-use cookie_run::version_line;
-use devices::pour::write_all;
+use crate::keeping::{NAME, outcome_of, read_jar, wait_of};
+use crate::plan::plan_of;
+use crate::printing::{DASH, Done, finish, print_help, print_version};
 use devices::{Sink, Source};
 use jar_words::{Asked, Command, Refusal, url_asked};
 use jiff::civil::DateTime;
-use kept_file::Keeper;
-use kept_file::files::{self, Unread};
-use kept_file::place::Place;
+use kept_file::{Keeper, files};
 use std::alloc::{AllocError, Global};
 use std::fs::{self, Files};
 use std::io::ErrorKind;
-
-/// How the program ended.
-#[derive(Debug, Drop)]
-pub struct Ended<'a> {
-    /// The exit status: 0, 1 or 2.
-    pub status: u8,
-    /// What goes to standard error at status 2.
-    pub failure: Option<&'static str>,
-    /// The plain text to ask for in the place of a URL that was refused, where there is one: it goes behind the
-    /// failure.
-    pub instead: Option<String>,
-    /// The number of the line, counted from 1, by which what was read aren't heads: it goes behind the failure.
-    pub line: Option<usize>,
-    /// The file of the suffix list that counts, where it is to be told.
-    pub list: Option<&'a str>,
-    /// A line of each row of the jar's file that the jar drops as it is loaded, as an import tells it, where that is to
-    /// be told.
-    pub dropped: Option<String>,
-}
 
 /// What `cookie-jar WORDS` does, at the clock's moment where the words name none. `lists` are files of
 /// suffix lists, of which the first that is there counts where the words name none, else the last.
@@ -64,8 +42,11 @@ pub struct Ended<'a> {
 /// isn't to be had (`jar in use`, `lock file`), or the jar isn't read (`jar file`), then where the reader
 /// failed (`input`) or the other file isn't read (`file`), then where [`crate::answer`] fails, then where a
 /// file isn't written (`jar file`, `file`), and last where the writer failed (`output`). Up to there each file
-/// is as it was. The file of the suffix list is told where the words ask for that (`-v`). Where a URL isn't
-/// plain, the plain text for it is told too.
+/// is as it was. What a failure is about is told with it; where a URL isn't plain, the plain text for it in the place
+/// of that. The file of the suffix list is told where the words ask for that (`-v`).
+///
+/// The other file is the reader's where it is `-`, or the writer's: then the text of the rows is printed, and what
+/// else an export prints is [`Ended::counted`].
 ///
 /// A command that changes the jar has `kept` take the jar's lock behind all that it reads elsewhere; then
 /// the jar is read, its new text is put in its place, and the lock is given back before anything is printed.
@@ -88,8 +69,9 @@ pub fn program<'a, H: Files + AllocGlobal, K: Keeper, R: Source, W: Sink>(
         })
         text given
         × spec.IsToldBy given result.status (option_map (λ said. said.now) result.failure)
+        × abouts.TellsUrl text given (option_map string_bytes result.about)
         × (result.line ≡ line_of given) × (reader.new ≡ reader.old) × (K.lock kept.new ≡ K.lock kept.old)
-        × (result.instead ≡ None) × (result.dropped ≡ None)
+        × (result.instead ≡ None) × (result.dropped ≡ None) × (result.counted ≡ None)
         × (option_map (λ path. path.now) result.list ≡ None)) }
     ensures tells { url_asked (map (λ word. string_bytes word) words.entry.now) ≡ None
         → (read : Result Asked Refusal) × ReadsWords (map (λ word. string_bytes word) words.entry.now) read
@@ -103,9 +85,11 @@ pub fn program<'a, H: Files + AllocGlobal, K: Keeper, R: Source, W: Sink>(
           written = (W.written writer.old, W.written writer.new);
           unwritten = (W.failures writer.old, W.failures writer.new);
         })
-        (option_map civil_nanos clock) read given
+        (option_map civil_nanos clock) read (option_map string_bytes result.counted) given
         × spec.IsToldBy given result.status (option_map (λ said. said.now) result.failure)
         × urls.TellsInstead read given (option_map string_bytes result.instead)
+        × abouts.TellsAbout read (map (λ path. path.now) lists.now) given
+        (option_map string_bytes result.instead) (option_map string_bytes result.about)
         × (result.line ≡ line_of given))
         × IfSome result.dropped (λ told. rows.TellsJar read (option_map civil_nanos clock) (string_bytes told))
         × spec.TellsList read (map (λ path. path.now) lists.now) (option_map (λ path. path.now) result.list)
@@ -118,36 +102,47 @@ pub fn program<'a, H: Files + AllocGlobal, K: Keeper, R: Source, W: Sink>(
         (option_map civil_nanos clock) (K.lock kept.old, K.lock kept.new) result.status read }
 {
     if let Some(text) = url_asked(words) {
-        return told(None, print_plain(rt.alloc(), text, writer), None, None);
+        return url_told(rt.alloc(), text, print_plain(rt.alloc(), text, writer));
     }
-    match jar_words::read(rt.alloc(), words) {
-        Ok(asked) => run(rt, &asked, clock, lists, kept, reader, writer),
-        Err(Refusal::Help(text)) => told(None, print(writer, text.as_bytes(), 0), None, None),
-        Err(Refusal::Version) => told(None, print_version(rt.alloc(), writer), None, None),
-        Err(Refusal::Words(kind)) => told(None, Err(Failure::Words(kind)), None, None),
-        Err(Refusal::OutOfMemory) => told(None, Err(Failure::Memory), None, None),
-    }
+    let asked = match jar_words::read(words) {
+        Ok(asked) => asked,
+        Err(refusal) => return answered(rt.alloc(), refusal, writer),
+    };
+    run(rt, &asked, clock, lists, kept, reader, writer)
 }
 
-// Prints the line of the version.
-fn print_version<W: Sink>(alloc: Global, writer: &mut W) -> Result<u8, Failure>
-    ensures ok { IfOk result (λ status. (status ≡ 0) × spec.Printed
+// Prints what is asked of the program itself, or tells why the words ask for nothing.
+fn answered<'a, W: Sink>(alloc: Global, refusal: Refusal<'_>, writer: &mut W) -> Ended<'a>
+    ensures tells { (given : Result ℕ Failure) × spec.IsRefused (writer.new ≡ writer.old)
         (record {
           written = (W.written writer.old, W.written writer.new);
           unwritten = (W.failures writer.old, W.failures writer.new);
         })
-        spec.program_version) }
-    ensures err { IfErr result (λ failure. ((failure ≡ Failure.Output) × spec.Unprinted
-        (record {
-          written = (W.written writer.old, W.written writer.new);
-          unwritten = (W.failures writer.old, W.failures writer.new);
-        })
-        spec.program_version)
-        ⊎ ((failure ≡ Failure.Memory) × (writer.new ≡ writer.old))) }
+        refusal.entry given
+        × spec.IsToldBy given result.status (option_map (λ said. said.now) result.failure)
+        × (result.line ≡ line_of given) }
+    ensures about { abouts.TellsRefusal refusal.entry (option_map string_bytes result.about) }
+    ensures list { option_map (λ path. path.now) result.list ≡ None }
+    ensures rest { (result.instead ≡ None) × (result.dropped ≡ None) × (result.counted ≡ None) }
 {
-    match version_line(alloc, NAME) {
-        Ok(line) => print(writer, line.as_bytes(), 0),
-        Err(_) => Err(Failure::Memory),
+    let mut ended = told(None, printed(alloc, refusal, writer));
+    ended.about = about_words(alloc, refusal);
+    ended
+}
+
+// Prints the help or the version, where that is asked.
+fn printed<W: Sink>(alloc: Global, refusal: Refusal<'_>, writer: &mut W) -> Result<u8, Failure>
+    ensures { spec.IsRefused (writer.new ≡ writer.old)
+        (record {
+          written = (W.written writer.old, W.written writer.new);
+          unwritten = (W.failures writer.old, W.failures writer.new);
+        })
+        refusal.entry result }
+{
+    match refusal {
+        Refusal::Help => print_help(writer),
+        Refusal::Version => print_version(alloc, writer),
+        Refusal::Words(kind, _) => Err(Failure::Words(kind)),
     }
 }
 
@@ -171,9 +166,11 @@ fn run<'a, H: Files + AllocGlobal, K: Keeper, R: Source, W: Sink>(
           written = (W.written writer.old, W.written writer.new);
           unwritten = (W.failures writer.old, W.failures writer.new);
         })
-        asked.entry.now (option_map civil_nanos clock) given
+        asked.entry.now (option_map civil_nanos clock) (option_map string_bytes result.counted) given
         × spec.IsToldBy given result.status (option_map (λ said. said.now) result.failure)
         × urls.TellsAskedInstead asked.entry.now given (option_map string_bytes result.instead)
+        × abouts.TellsAskedAbout asked.entry.now (map (λ path. path.now) lists.now) given
+        (option_map string_bytes result.instead) (option_map string_bytes result.about)
         × (result.line ≡ line_of given) }
     ensures dropped { IfSome result.dropped (λ told.
         rows.IsToldOfJar asked.entry.now (option_map civil_nanos clock) (string_bytes told)) }
@@ -191,11 +188,21 @@ fn run<'a, H: Files + AllocGlobal, K: Keeper, R: Source, W: Sink>(
     let list_told = if asked.is_verbose { Some(list) } else { None };
     let at = clock;
     match beside(rt, asked, at) {
-        Ok((instead, dropped)) => {
-            let given = serve(rt, asked, clock, list, kept, reader, writer);
-            told(list_told, given, instead, dropped)
-        }
-        Err(_) => told(list_told, Err(Failure::Memory), None, None),
+        Ok((instead, dropped)) => match serve(rt, asked, clock, list, kept, reader, writer) {
+            Ok(done) => {
+                let mut ended = told(list_told, Ok(done.status));
+                ended.counted = done.counted;
+                ended.dropped = dropped;
+                ended
+            }
+            Err(stopped) => {
+                let mut ended = failed(rt.alloc(), asked, list, stopped, instead);
+                ended.list = list_told;
+                ended.dropped = dropped;
+                ended
+            }
+        },
+        Err(_) => told(list_told, Err(Failure::Memory)),
     }
 }
 
@@ -213,45 +220,6 @@ fn beside<H: Files + AllocGlobal>(
     let instead = instead_of(rt.alloc(), asked.command)?;
     let dropped = dropped_of(rt, asked, clock, NAME)?;
     Ok((instead, dropped))
-}
-
-// How the program ended, of the status or the failure. What to ask instead is told where a URL was refused.
-fn told<'a>(
-    list: Option<&'a str>,
-    status: Result<u8, Failure>,
-    instead: Option<String>,
-    dropped: Option<String>,
-) -> Ended<'a>
-    ensures told { spec.IsToldBy status result.status (option_map (λ said. said.now) result.failure) }
-    ensures list { option_map (λ path. path.now) result.list ≡ option_map (λ path. path.now) list.entry }
-    ensures instead { result.instead ≡ (if urls.is_refused_url status then instead else None) }
-    ensures line { result.line ≡ line_of status }
-    ensures dropped { result.dropped ≡ dropped }
-{
-    let instead = if matches!(status, Err(Failure::Url)) {
-        instead
-    } else {
-        None
-    };
-    let line = line_of(status);
-    match status {
-        Ok(status) => Ended {
-            status,
-            failure: None,
-            instead,
-            line,
-            list,
-            dropped,
-        },
-        Err(failure) => Ended {
-            status: 2,
-            failure: Some(failure.words()),
-            instead,
-            line,
-            list,
-            dropped,
-        },
-    }
 }
 
 // The file of the suffix list that counts: the one that is asked, else the first of these that is
@@ -280,7 +248,7 @@ fn is_there<H: Files>(rt: &H, path: &str) -> bool {
     }
 }
 
-// Reads the files, answers for them, writes those that are to change, and prints. Gives the exit status.
+// Reads the files, answers for them, writes those that are to change, and prints.
 fn serve<H: Files + AllocGlobal, K: Keeper, R: Source, W: Sink>(
     rt: &H,
     asked: &Asked<'_>,
@@ -289,8 +257,8 @@ fn serve<H: Files + AllocGlobal, K: Keeper, R: Source, W: Sink>(
     kept: &mut K,
     reader: &mut R,
     writer: &mut W,
-) -> Result<u8, Failure>
-    ensures serves { spec.Serves (reader.new ≡ reader.old) (writer.new ≡ writer.old)
+) -> Result<Done, Stopped>
+    ensures serves_ok { IfOk result (λ done. spec.Ends (reader.new ≡ reader.old)
         (record {
           left = R.left reader.old;
           reads = R.reads reader.new;
@@ -300,14 +268,25 @@ fn serve<H: Files + AllocGlobal, K: Keeper, R: Source, W: Sink>(
           written = (W.written writer.old, W.written writer.new);
           unwritten = (W.failures writer.old, W.failures writer.new);
         })
-        asked.entry.now (option_map civil_nanos clock) result }
-    ensures keeps_ok { IfOk result (kept_spec.KeepsJar (reader.new ≡ reader.old)
+        asked.entry.now (option_map civil_nanos clock) done.status (option_map string_bytes done.counted)) }
+    ensures serves_err { IfErr result (λ stopped. spec.Fails (reader.new ≡ reader.old) (writer.new ≡ writer.old)
         (record {
           left = R.left reader.old;
           reads = R.reads reader.new;
           unread = (R.failures reader.old, R.failures reader.new);
         })
-        asked.entry.now (option_map civil_nanos clock) (K.lock kept.old, K.lock kept.new)) }
+        (record {
+          written = (W.written writer.old, W.written writer.new);
+          unwritten = (W.failures writer.old, W.failures writer.new);
+        })
+        asked.entry.now (option_map civil_nanos clock) stopped.failure) }
+    ensures keeps_ok { IfOk result (λ done. kept_spec.KeepsJar (reader.new ≡ reader.old)
+        (record {
+          left = R.left reader.old;
+          reads = R.reads reader.new;
+          unread = (R.failures reader.old, R.failures reader.new);
+        })
+        asked.entry.now (option_map civil_nanos clock) (K.lock kept.old, K.lock kept.new) done.status) }
     ensures keeps_err { OnErr result (kept_spec.KeepsJar (reader.new ≡ reader.old)
         (record {
           left = R.left reader.old;
@@ -318,20 +297,20 @@ fn serve<H: Files + AllocGlobal, K: Keeper, R: Source, W: Sink>(
 {
     let plan = match plan_of(rt.alloc(), asked, clock) {
         Ok(plan) => plan,
-        Err(failure) => return Err(failure),
+        Err(failure) => return Err(Stopped::of(failure)),
     };
     let wait = match wait_of(asked.wait) {
         Some(wait) => wait,
-        None => return Err(Failure::Wait),
+        None => return Err(Stopped::of(Failure::Wait)),
     };
-    let given = bring(rt, &plan, asked.command, reader);
+    let given = bring(rt, asked.command, reader);
     let suffixes = match read_suffixes(rt, list) {
         Ok(suffixes) => suffixes,
-        Err(failure) => return Err(failure),
+        Err(stopped) => return Err(stopped),
     };
     let brought = match given {
         Ok(brought) => brought,
-        Err(failure) => return Err(first_of(rt, asked.jar, failure)),
+        Err(stopped) => return Err(first_of(rt, asked.jar, stopped)),
     };
     match outcome_of(
         rt,
@@ -342,86 +321,70 @@ fn serve<H: Files + AllocGlobal, K: Keeper, R: Source, W: Sink>(
         brought.as_deref(),
         kept,
     ) {
-        Ok(outcome) => finish(rt, asked.command, &outcome, writer),
-        Err(failure) => Err(failure),
+        Ok(outcome) => finish(rt, asked.command, outcome, writer),
+        Err(stopped) => Err(stopped),
     }
 }
 
-// What is brought to the plan: all that the reader has, or the bytes of the other file of an import.
+// What is brought to a command: all that the reader has, or the bytes of the other file of an import.
 fn bring<H: Files + AllocGlobal, R: Source>(
     rt: &H,
-    plan: &Plan<'_>,
     command: Command<'_>,
     reader: &mut R,
-) -> Result<Option<Vec<u8>>, Failure>
+) -> Result<Option<Vec<u8>>, Stopped>
     ensures ok { IfOk result (λ brought. (given : Option (List ℕ)) × Brings (reader.new ≡ reader.old)
         (record {
           left = R.left reader.old;
           reads = R.reads reader.new;
           unread = (R.failures reader.old, R.failures reader.new);
         })
-        (reads plan.now.task) given (option_map (λ text. text.items) brought)) }
-    ensures err { IfErr result (λ failure. BringsNothing
+        (spec.reads_input command.entry) given (option_map (λ text. text.items) brought)) }
+    ensures err { IfErr result (λ stopped. BringsNothing
         (record {
           left = R.left reader.old;
           reads = R.reads reader.new;
           unread = (R.failures reader.old, R.failures reader.new);
         })
-        (reads plan.now.task) failure
-        ⊎ (spec.IsOfFiles failure × UnreadBut (reader.new ≡ reader.old) (reads plan.now.task))) }
+        (spec.reads_input command.entry) stopped.failure
+        ⊎ (spec.IsOfFiles stopped.failure × UnreadBut (reader.new ≡ reader.old) (spec.reads_input command.entry))) }
 {
-    if !reads(&plan.task) {
+    if !reads_input(command) {
         return read_given(rt, command);
     }
     match read_input(rt.alloc(), reader) {
         Ok(text) => Ok(Some(text)),
-        Err(failure) => Err(failure),
+        Err(failure) => Err(Stopped::of(failure)),
+    }
+}
+
+// Whether a command reads the program's input.
+fn reads_input(command: Command<'_>) -> bool
+    ensures { result ≡ spec.reads_input command.entry }
+{
+    match command {
+        Command::Receive(_) => true,
+        Command::Import(file, _, _) => file == DASH,
+        _ => false,
     }
 }
 
 // What stands first against a command to which nothing is brought: that the jar isn't read, or that failure.
-fn first_of<H: Files + AllocGlobal>(rt: &H, jar: &str, failure: Failure) -> Failure
-    ensures { (result ≡ failure) ⊎ spec.IsOfFiles result }
+fn first_of<H: Files + AllocGlobal>(rt: &H, jar: &str, stopped: Stopped) -> Stopped
+    ensures { (result.failure ≡ stopped.failure) ⊎ spec.IsOfFiles result.failure }
 {
     match read_jar(rt, jar) {
-        Ok(_) => failure,
+        Ok(_) => stopped,
         Err(earlier) => earlier,
     }
 }
 
-// Writes the other file of an export, and prints. Gives the exit status.
-fn finish<H: Files + AllocGlobal, W: Sink>(
-    rt: &H,
-    command: Command<'_>,
-    outcome: &Outcome,
-    writer: &mut W,
-) -> Result<u8, Failure>
-    ensures ok { IfOk result (λ status. (status ≡ outcome.now.status) × spec.Printed
-        (record {
-          written = (W.written writer.old, W.written writer.new);
-          unwritten = (W.failures writer.old, W.failures writer.new);
-        })
-        (string_bytes outcome.now.printed)) }
-    ensures err { IfErr result (λ failure. (spec.IsUnwritten failure × (writer.new ≡ writer.old))
-        ⊎ ((failure ≡ Failure.Output) × spec.Unprinted
-        (record {
-          written = (W.written writer.old, W.written writer.new);
-          unwritten = (W.failures writer.old, W.failures writer.new);
-        })
-        (string_bytes outcome.now.printed))) }
-{
-    keep(rt, command, outcome)?;
-    print(writer, outcome.printed.as_bytes(), outcome.status)
-}
-
 // All that the file of the suffix list holds.
-fn read_suffixes<H: Files + AllocGlobal>(rt: &H, path: &str) -> Result<Vec<u8>, Failure>
-    ensures { IfErr result spec.IsOfFiles }
+fn read_suffixes<H: Files + AllocGlobal>(rt: &H, path: &str) -> Result<Vec<u8>, Stopped>
+    ensures { IfErr result (λ stopped. spec.IsOfFiles stopped.failure) }
 {
     match files::read(rt, path) {
         Ok(text) => Ok(text),
-        Err(Unread::Memory) => Err(Failure::Memory),
-        Err(Unread::Missing | Unread::Failed(_)) => Err(Failure::SuffixFile),
+        Err(unread) => Err(Stopped::unread(unread, Failure::SuffixFile)),
     }
 }
 
@@ -429,71 +392,14 @@ fn read_suffixes<H: Files + AllocGlobal>(rt: &H, path: &str) -> Result<Vec<u8>, 
 fn read_given<H: Files + AllocGlobal>(
     rt: &H,
     command: Command<'_>,
-) -> Result<Option<Vec<u8>>, Failure>
-    ensures { IfErr result spec.IsOfFiles }
+) -> Result<Option<Vec<u8>>, Stopped>
+    ensures { IfErr result (λ stopped. spec.IsOfFiles stopped.failure) }
 {
-    let Command::Import(path, _) = command else {
+    let Command::Import(path, _, _) = command else {
         return Ok(None);
     };
     match files::read(rt, path) {
         Ok(text) => Ok(Some(text)),
-        Err(Unread::Memory) => Err(Failure::Memory),
-        Err(Unread::Missing | Unread::Failed(_)) => Err(Failure::File),
-    }
-}
-
-// Writes the other file of an export.
-fn keep<H: Files + AllocGlobal>(
-    rt: &H,
-    command: Command<'_>,
-    outcome: &Outcome,
-) -> Result<(), Failure>
-    ensures { IfErr result spec.IsUnwritten }
-{
-    let (Command::Export(path), Some(text)) = (command, &outcome.file) else {
-        return Ok(());
-    };
-    match Place::of(rt, path, NAME).replace(rt, text) {
-        Ok(()) => Ok(()),
-        Err(unwritten) => Err(unwritten_as(unwritten, Failure::File)),
-    }
-}
-
-// Prints the text whole. Gives the status then.
-#[tactic(auto, using(crate::proofs::PrintLemmas::appends_kept, crate::proofs::PrintLemmas::front_kept))]
-pub(crate) fn print<W: Sink>(writer: &mut W, text: &[u8], status: u8) -> Result<u8, Failure>
-    ensures ok { IfOk result (λ given. (given ≡ status) × spec.Printed
-        (record {
-          written = (W.written writer.old, W.written writer.new);
-          unwritten = (W.failures writer.old, W.failures writer.new);
-        })
-        text.now) }
-    ensures err { IfErr result (λ failure. (failure ≡ Failure.Output) × spec.Unprinted
-        (record {
-          written = (W.written writer.old, W.written writer.new);
-          unwritten = (W.failures writer.old, W.failures writer.new);
-        })
-        text.now) }
-    ensures failures { OnOk result (W.failures writer.new ≡ W.failures writer.old) }
-    ensures unflushed { OnOk result (W.unflushed writer.new ≡ 0) }
-{
-    match write_all(writer, text) {
-        Ok(()) => flushed(writer, status),
-        Err(_) => Err(Failure::Output),
-    }
-}
-
-// Flushes the writer. Gives the status then. What was written stays.
-fn flushed<W: Sink>(writer: &mut W, status: u8) -> Result<u8, Failure>
-    ensures ok { IfOk result (λ given. given ≡ status) }
-    ensures err { IfErr result (λ failure.
-        (failure ≡ Failure.Output) × Rose (W.failures writer.old) (W.failures writer.new)) }
-    ensures bytes { Keeps (W.written writer.old) (W.written writer.new) }
-    ensures failures { OnOk result (W.failures writer.new ≡ W.failures writer.old) }
-    ensures unflushed { OnOk result (W.unflushed writer.new ≡ 0) }
-{
-    match writer.flush() {
-        Ok(()) => Ok(status),
-        Err(_) => Err(Failure::Output),
+        Err(unread) => Err(Stopped::unread(unread, Failure::File)),
     }
 }

@@ -4,6 +4,7 @@ ghost use Rattle.std.specs.Prelude.{if◌then◌else◌};
 ghost use Rattle.std.specs.Option.{option_copied};
 ghost use Rattle.jiff.specs.Words.{civil_nanos};
 ghost use Rattle.response_heads.specs.Visits.{GivesVisits, set_cookie_lines, visit_text};
+ghost use Rattle.cookie_jar.specs.Taking.{TakesAll};
 ghost use Rattle.jar_commands.specs.Outcomes.{GivesReceived, outcome_text};
 ghost use Rattle.jar_commands.specs.Performing.{FailsToReceive};
 ghost use Rattle.jar_commands.specs.Plans.{plan_text};
@@ -69,7 +70,8 @@ fn receive_text(
     }
 }
 
-fn status_of(is_any_refused: bool) -> u8
+/// The status of lines, of which some were refused or none.
+pub(crate) fn status_of(is_any_refused: bool) -> u8
     ensures { result ≡ (if is_any_refused then 1 else 0) }
 {
     if is_any_refused { 1 } else { 0 }
@@ -160,13 +162,28 @@ fn receive_visit(
 {
     let read = visit.set_cookie_lines(alloc)?;
     let lines = slices_of(alloc, &read)?;
-    let Ok(ends) = jar.receive(plan.form, &plan.rules, &visit.url, &lines, plan.at) else {
-        return Err(AllocError);
-    };
+    let ends = take_lines(plan, jar, &visit.url, &lines)?;
     let told = visit_told(alloc, plan.is_verbose, visit, &lines, &ends)?;
     received.told.push_str(told.as_str())?;
     received.is_any_refused = received.is_any_refused || is_any_refused(&ends);
     Ok(())
+}
+
+/// Takes the lines of an answer from this URL, one after another.
+pub(crate) fn take_lines(
+    plan: &Plan<'_>,
+    jar: &mut Jar,
+    url: &Url,
+    lines: &[&[u8]],
+) -> Result<Vec<End>, AllocError>
+    ensures ok { IfOk result (λ ends. TakesAll plan.now.form plan.now.rules jar.old.suffixes jar.old.rows url.now
+        (civil_nanos plan.now.at) (map (λ line. line.now) lines.now) ends.items jar.new.rows) }
+    ensures list { jar.new.suffixes ≡ jar.old.suffixes }
+{
+    match jar.receive(plan.form, &plan.rules, url, lines, plan.at) {
+        Ok(ends) => Ok(ends),
+        Err(_) => Err(AllocError),
+    }
 }
 
 // The bytes of each line.
@@ -199,8 +216,8 @@ fn visit_told(
     Ok(told)
 }
 
-// Whether a line wasn't stored.
-fn is_any_refused(ends: &[End]) -> bool
+/// Whether a line wasn't stored.
+pub(crate) fn is_any_refused(ends: &[End]) -> bool
     ensures { result ≡ spec.is_any_refused ends.now }
 {
     ends.iter().any(|end| is_refused(*end))

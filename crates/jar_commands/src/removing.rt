@@ -1,6 +1,6 @@
 //! The commands that take rows out of a jar.
-ghost use Rattle.std.specs.Prelude.{◌≡◌, ◌⊎◌, [], IfOk, IfErr, is_some, string_bytes};
-ghost use Rattle.cookie_store.specs.Rows.{found, key, removed};
+ghost use Rattle.std.specs.Prelude.{◌≡◌, ◌⊎◌, [], IfOk, IfErr, string_bytes};
+ghost use Rattle.cookie_jar.specs.Asking.{meant};
 ghost use Rattle.jar_commands.specs.Outcomes as spec;
 ghost use Rattle.jar_commands.specs.Performing.{FailsToRemove, Unkept};
 ghost use Rattle.jar_commands.specs.Plans.{plan_text};
@@ -22,12 +22,11 @@ pub(crate) fn remove(
     name: &str,
 ) -> Result<Outcome, Failure>
     ensures ok { IfOk result (λ outcome. spec.GivesRemoved (plan_text plan.now) jar.old
-        (key domain.now path.now name.now) (spec.outcome_text outcome)) }
-    ensures err { IfErr result (FailsToRemove (plan_text plan.now)
-        (is_some (found (key domain.now path.now name.now) jar.old.rows))
-        (removed (key domain.now path.now name.now) jar.old.rows)) }
+        (meant domain.now path.now name.now jar.old.rows) (spec.outcome_text outcome)) }
+    ensures err { IfErr result (FailsToRemove (plan_text plan.now) jar.old
+        (meant domain.now path.now name.now jar.old.rows)) }
 {
-    if !jar.remove(domain, path, name) {
+    if !jar.remove_named(domain, path, name)? {
         return Ok(Outcome {
             printed: count_line(alloc, 0)?,
             status: 1,

@@ -1,5 +1,5 @@
 //! The commands that print what a jar holds.
-ghost use Rattle.std.specs.Prelude.{◌≡◌, IfOk, IfErr, string_bytes};
+ghost use Rattle.std.specs.Prelude.{◌≡◌, ◌++◌, ◌∷◌, [], IfOk, IfErr, string_bytes};
 ghost use Rattle.jar_commands.specs.Outcomes as spec;
 ghost use Rattle.jar_commands.specs.Plans.{plan_text};
 
@@ -7,6 +7,7 @@ use crate::failure::Failure;
 use crate::outcome::Outcome;
 use crate::plan::Plan;
 use cookie_jar::Jar;
+use std::alloc::{AllocError, Global};
 use url::Url;
 
 /// `header URL`.
@@ -16,6 +17,38 @@ pub(crate) fn header(plan: &Plan<'_>, jar: &Jar, url: &Url) -> Result<Outcome, F
     ensures err { IfErr result (λ failure. failure ≡ Failure.Memory) }
 {
     Ok(shown(jar.header(url, plan.at)?))
+}
+
+/// `get URL NAME`.
+pub(crate) fn get(
+    alloc: Global,
+    plan: &Plan<'_>,
+    jar: &Jar,
+    url: &Url,
+    name: &str,
+) -> Result<Outcome, Failure>
+    ensures ok { IfOk result (λ outcome.
+        spec.GivesValue (plan_text plan.now) jar.now url.now name.now (spec.outcome_text outcome)) }
+    ensures err { IfErr result (λ failure. failure ≡ Failure.Memory) }
+{
+    match jar.get(url, name, plan.at)? {
+        Some(value) => Ok(shown(line_of(value)?)),
+        None => Ok(Outcome {
+            printed: String::new(alloc),
+            status: 1,
+            jar: None,
+            file: None,
+        }),
+    }
+}
+
+// The text, and a line feed.
+fn line_of(text: String) -> Result<String, AllocError>
+    ensures { IfOk result (λ line. string_bytes line ≡ string_bytes text ++ 10 ∷ []) }
+{
+    let mut line = text;
+    line.push_str("\n")?;
+    Ok(line)
 }
 
 /// `list`.
@@ -36,6 +69,15 @@ pub(crate) fn list_of(plan: &Plan<'_>, jar: &Jar, url: &Url) -> Result<Outcome, 
     Ok(shown(jar.list_of(url, plan.at)?))
 }
 
+/// `list --domain DOMAIN`.
+pub(crate) fn list_under(plan: &Plan<'_>, jar: &Jar, domain: &str) -> Result<Outcome, Failure>
+    ensures ok { IfOk result (λ outcome.
+        spec.GivesListUnder (plan_text plan.now) jar.now domain.now (spec.outcome_text outcome)) }
+    ensures err { IfErr result (λ failure. failure ≡ Failure.Memory) }
+{
+    Ok(shown(jar.list_under(domain, plan.at)?))
+}
+
 /// `list --json`.
 pub(crate) fn list_json(plan: &Plan<'_>, jar: &Jar) -> Result<Outcome, Failure>
     ensures ok { IfOk result (λ outcome.
@@ -52,6 +94,15 @@ pub(crate) fn list_json_of(plan: &Plan<'_>, jar: &Jar, url: &Url) -> Result<Outc
     ensures err { IfErr result (λ failure. failure ≡ Failure.Memory) }
 {
     Ok(shown(jar.list_json_of(url, plan.at)?))
+}
+
+/// `list --json --domain DOMAIN`.
+pub(crate) fn list_json_under(plan: &Plan<'_>, jar: &Jar, domain: &str) -> Result<Outcome, Failure>
+    ensures ok { IfOk result (λ outcome.
+        spec.GivesJsonUnder (plan_text plan.now) jar.now domain.now (spec.outcome_text outcome)) }
+    ensures err { IfErr result (λ failure. failure ≡ Failure.Memory) }
+{
+    Ok(shown(jar.list_json_under(domain, plan.at)?))
 }
 
 /// `explain URL LINE`.

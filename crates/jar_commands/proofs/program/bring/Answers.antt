@@ -1,15 +1,16 @@
 use Rattle.std.proofs.Common.{◌≡◌, ◌∙◌, option_map, refl, sym}
-use Rattle.jar_commands.specs.Performing.{Reader, reads}
+use Rattle.jar_commands.specs.Performing.{Reader}
+use Rattle.jar_commands.specs.Program.{reads_input}
 use Rattle.jar_commands.proofs.KeptLemmas.{brings_given}
 use Rattle.jar_commands.proofs.program.bring.Goals as goal
 
-pub returns-then-not-reads-clause-ok : goal.returns-then-not-reads-clause-ok
-returns-then-not-reads-clause-ok g c =
+pub returns-then-not-reads_input-clause-ok : goal.returns-then-not-reads_input-clause-ok
+returns-then-not-reads_input-clause-ok g c =
     let reader : Reader = record {
       left = g.R.Source.left c.args.reader.now;
       reads = g.R.Source.reads c.args.reader.now;
       unread = (g.R.Failing.failures c.args.reader.now, g.R.Failing.failures c.args.reader.now);
     } in
-    brings_given (c.args.reader.now ≡ c.args.reader.now) reader (reads c.args.plan.now.task)
+    brings_given (c.args.reader.now ≡ c.args.reader.now) reader (reads_input c.args.command)
     (λ brought. option_map (λ text. text.items) brought) c.read_given.result
-    (sym c.reads.ensures ∙ c.if-not-reads.true) refl
+    (sym c.reads_input.ensures ∙ c.if-not-reads_input.true) refl

@@ -1,0 +1,26 @@
+-- What is told beside a failure.
+use Rattle.std.proofs.Common.{◌≡◌, ℕ, Bool, true, false, List, Option, Some, None, ap, option_map, subst, sym}
+use Rattle.std.specs.Prelude.{IfSome, if◌then◌else◌}
+use Rattle.std.specs.Bool.{MatchBool}
+use Rattle.jar_commands.specs.Instead.{IsInstead}
+
+-- a text to ask instead, where it is to be told
+pub tells_instead : {S : Type 0} (f : S → List ℕ) (b : Bool) (url : Option (List ℕ)) (instead told : Option S)
+    → IsInstead url (option_map f instead) → told ≡ (if b then instead else None)
+    → MatchBool b (IsInstead url (option_map f told)) (option_map f told ≡ None)
+tells_instead f true url instead told is same = subst (λ t. IsInstead url (option_map f t)) (sym same) is
+tells_instead f false url instead told is same = ap (option_map f) same
+
+-- what a failure is about, by the file of the suffix list that counts
+pub tells_about : {S : Type 0} (f : S → List ℕ) (instead about : Option S) (list : List ℕ) (Counts : List ℕ → Type 0)
+    (Is : List ℕ → List ℕ → Type 0) → Counts list → IfSome about (λ told. (instead ≡ None) × Is list (f told))
+    → IfSome (option_map f about)
+    (λ text. (option_map f instead ≡ None) × ((l : List ℕ) × Counts l × Is l text))
+tells_about f instead None list Counts Is counts about = tt
+tells_about f instead (Some told) list Counts Is counts about =
+    (ap (option_map f) about.0, (list, counts, about.1))
+
+-- nothing
+pub tells_none : {S : Type 0} (f : S → List ℕ) (about : Option S) (P : List ℕ → Type 0) → about ≡ None
+    → IfSome (option_map f about) P
+tells_none f about P same = subst (λ a. IfSome (option_map f a) P) (sym same) tt

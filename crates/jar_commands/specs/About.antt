@@ -1,0 +1,100 @@
+-- What a refusal is about, told behind its words (this repository's own).
+use Rattle.std.specs.Prelude.{◌≡◌, ◌⊎◌, ◌++◌, ℕ, Bool, true, false, List, [], Option, Some, None, Result, Ok, Err}
+use Rattle.std.specs.Prelude.{IfSome, codes, option_map}
+use Rattle.cookie_jar.specs.Terminal.{shown_text}
+use Rattle.jar_words.specs.declared.asked.Asked.{Asked}
+use Rattle.jar_words.specs.declared.asked.Command.{Command}
+use Rattle.jar_words.specs.declared.asked.Command.TheVariants as command
+use Rattle.jar_words.specs.declared.refusal.Refusal.{Refusal}
+use Rattle.jar_words.specs.declared.refusal.Refusal.TheVariants as refusal
+use Rattle.jar_commands.specs.Instead.{url_in}
+use Rattle.jar_commands.specs.Program.{IsListFile}
+use Rattle.jar_commands.specs.declared.failure.Failure.{Failure}
+use Rattle.jar_commands.specs.declared.failure.Failure.TheVariants as failure
+
+-- ---- what is asked
+
+-- the other file of a command, as it is written
+abbrev pub file_in : Command → Option (List ℕ)
+file_in (command.Import file form is_strict) = Some file.now
+file_in (command.Export file form reader) = Some file.now
+file_in other = None
+
+-- What a failure is about, where `list` is the file of the suffix list: a word of what is asked, or a file's name. With
+-- words that are refused stands their word, with heads and with a line of an import its number, and with the others
+-- nothing.
+abbrev pub subject : Asked → List ℕ → Failure → Option (List ℕ)
+subject asked list failure.Moment = option_map (λ text. text.now) asked.now
+subject asked list failure.Format = Some asked.jar.now
+subject asked list failure.Rules = option_map (λ text. text.now) asked.rules
+subject asked list failure.FileFormat = file_in asked.command
+subject asked list failure.Url = url_in asked.command
+subject asked list failure.Wait = option_map (λ text. text.now) asked.wait
+subject asked list failure.SuffixFile = Some list
+subject asked list failure.SuffixList = Some list
+subject asked list failure.JarInUse = Some asked.jar.now
+subject asked list failure.LockFile = Some asked.jar.now
+subject asked list failure.JarFile = Some asked.jar.now
+subject asked list failure.JarText = Some asked.jar.now
+subject asked list failure.JarRow = Some asked.jar.now
+subject asked list failure.File = file_in asked.command
+subject asked list failure.FileText = file_in asked.command
+subject asked list failure.FileRow = file_in asked.command
+subject asked list other = None
+
+-- ---- what is told of it
+
+-- the lock of a jar is named so behind the jar's name
+abbrev pub ending : Failure → List ℕ
+ending failure.LockFile = codes ".lock"
+ending other = []
+
+-- the system refused a file
+abbrev pub is_of_system : Failure → Bool
+is_of_system failure.SuffixFile = true
+is_of_system failure.LockFile = true
+is_of_system failure.JarFile = true
+is_of_system failure.File = true
+is_of_system other = false
+
+-- where the system refused a file, its cause may stand behind the name: which it is, no contract sees
+abbrev pub IsCause : Failure → List ℕ → Type 0
+IsCause failure cause =
+    (cause ≡ []) ⊎ ((is_of_system failure ≡ true) × ((words : List ℕ) × (cause ≡ codes ": " ++ words)))
+
+-- a name as a terminal may have it, and the system's cause
+abbrev pub IsOf : Failure → List ℕ → List ℕ → Type 0
+IsOf failure name told =
+    (cause : List ℕ) × IsCause failure cause × (told ≡ shown_text name ++ (ending failure ++ cause))
+
+-- of what is about nothing, nothing is told
+abbrev pub IsAbout : Failure → Option (List ℕ) → Option (List ℕ) → Type 0
+IsAbout failure None told = told ≡ None
+IsAbout failure (Some name) None = ⊥
+IsAbout failure (Some name) (Some told) = IsOf failure name told
+
+-- ---- of a run
+
+-- What is told is what the failure is about, by the file of the suffix list that counts, and only where no other text
+-- to ask for is told. Where memory is refused for it, nothing is told.
+abbrev pub TellsAskedAbout : Asked → List (List ℕ) → Result ℕ Failure → Option (List ℕ) → Option (List ℕ) → Type 0
+TellsAskedAbout asked lists (Ok status) instead told = told ≡ None
+TellsAskedAbout asked lists (Err failure) instead told = IfSome told (λ text. (instead ≡ None) × ((list : List ℕ)
+    × IsListFile (option_map (λ path. path.now) asked.suffixes) lists list
+    × IsAbout failure (subject asked list failure) (Some text)))
+
+-- of words that are refused it is the word at which that shows
+abbrev pub TellsRefusal : Refusal → Option (List ℕ) → Type 0
+TellsRefusal (refusal.Words kind word) told = IfSome told (λ text. text ≡ shown_text word.now)
+TellsRefusal other told = told ≡ None
+
+-- so of words as they were read
+abbrev pub TellsAbout : Result Asked Refusal → List (List ℕ) → Result ℕ Failure → Option (List ℕ) → Option (List ℕ)
+    → Type 0
+TellsAbout (Ok asked) lists given instead told = TellsAskedAbout asked lists given instead told
+TellsAbout (Err refused) lists given instead told = TellsRefusal refused told
+
+-- `url TEXT` is refused for its TEXT
+abbrev pub TellsUrl : List ℕ → Result ℕ Failure → Option (List ℕ) → Type 0
+TellsUrl text (Err failure.Url) told = IfSome told (λ shown. shown ≡ shown_text text)
+TellsUrl text other told = told ≡ None

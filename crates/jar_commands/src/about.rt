@@ -1,0 +1,162 @@
+//! What a refusal is about.
+ghost use Rattle.std.specs.Prelude.{◌≡◌, ◌⊎◌, IfOk, IfSome, option_map, string_bytes, true};
+ghost use Rattle.jar_commands.specs.About as spec;
+ghost use Rattle.jar_commands.specs.Program.{IsOfFiles};
+
+use crate::failure::Failure;
+use crate::instead::url_in;
+use cookie_jar::shown_text;
+use jar_words::{Asked, Command};
+use kept_file::files::Unread;
+use kept_file::{Untaken, Unwritten};
+use std::alloc::{AllocError, Global};
+
+// What is told where a file isn't there that has to be.
+const MISSING: &str = "No such file or directory";
+
+/// Why a command ends with status 2.
+#[derive(Clone, Copy, Debug, PartialEq, Eq)]
+pub(crate) struct Stopped {
+    /// The failure.
+    pub(crate) failure: Failure,
+    /// Where the system refused a file, for what cause in words.
+    pub(crate) cause: Option<&'static str>,
+}
+
+impl Stopped {
+    /// A failure that is none of the system's.
+    pub(crate) fn of(failure: Failure) -> Stopped
+        ensures { result.failure ≡ failure }
+    {
+        Stopped {
+            failure,
+            cause: None,
+        }
+    }
+
+    // The system refused a file.
+    fn by(failure: Failure, cause: &'static str) -> Stopped
+        ensures { result.failure ≡ failure }
+    {
+        Stopped {
+            failure,
+            cause: Some(cause),
+        }
+    }
+
+    /// Where a file isn't read: want of memory, or that it was refused.
+    pub(crate) fn unread(unread: Unread, refused: Failure) -> Stopped
+        ensures { (result.failure ≡ refused) ⊎ (result.failure ≡ Failure.Memory) }
+    {
+        match unread {
+            Unread::Memory => Stopped::of(Failure::Memory),
+            Unread::Missing => Stopped::by(refused, MISSING),
+            Unread::Failed(cause) => Stopped::by(refused, cause),
+        }
+    }
+
+    /// Where a file isn't written: want of memory, or that it was refused.
+    pub(crate) fn unwritten(unwritten: Unwritten, refused: Failure) -> Stopped
+        ensures { (result.failure ≡ refused) ⊎ (result.failure ≡ Failure.Memory) }
+    {
+        match unwritten {
+            Unwritten::Memory => Stopped::of(Failure::Memory),
+            Unwritten::Failed(cause) => Stopped::by(refused, cause),
+        }
+    }
+
+    /// Where the jar's lock isn't taken.
+    pub(crate) fn untaken(untaken: Untaken) -> Stopped
+        ensures { IsOfFiles result.failure }
+    {
+        match untaken {
+            Untaken::InUse => Stopped::of(Failure::JarInUse),
+            Untaken::NoLock(cause) => Stopped::by(Failure::LockFile, cause),
+            Untaken::Failed(cause) => Stopped::by(Failure::JarFile, cause),
+            Untaken::Memory => Stopped::of(Failure::Memory),
+        }
+    }
+}
+
+/// What a command's failure is about, as a terminal may have it; `list` is the file of the suffix list that counts.
+/// None where it is about nothing that was asked, or where a line's number is told.
+///
+/// # Errors
+///
+/// `AllocError`, for want of memory.
+pub(crate) fn about_of(
+    alloc: Global,
+    asked: &Asked<'_>,
+    list: &str,
+    stopped: Stopped,
+) -> Result<Option<String>, AllocError>
+    ensures { IfOk result (λ told. spec.IsAbout stopped.failure
+        (spec.subject asked.entry.now list.now stopped.failure) (option_map string_bytes told)) }
+{
+    match subject(asked, list, stopped.failure) {
+        Some(name) => Ok(Some(named(alloc, name, stopped)?)),
+        None => Ok(None),
+    }
+}
+
+// The word of what is asked, or the name of the file, that a failure is about.
+fn subject<'a>(asked: &Asked<'a>, list: &'a str, failure: Failure) -> Option<&'a str>
+    ensures { option_map (λ name. name.now) result ≡ spec.subject asked.entry.now list.now failure }
+{
+    match failure {
+        Failure::Moment => asked.now,
+        Failure::Rules => asked.rules,
+        Failure::Wait => asked.wait,
+        Failure::Url => url_in(asked.command),
+        Failure::SuffixFile | Failure::SuffixList => Some(list),
+        Failure::Format | Failure::JarInUse | Failure::LockFile => Some(asked.jar),
+        Failure::JarFile | Failure::JarText | Failure::JarRow => Some(asked.jar),
+        Failure::FileFormat | Failure::File => file_in(asked.command),
+        Failure::FileText | Failure::FileRow => file_in(asked.command),
+        Failure::Words(_) | Failure::Input | Failure::Heads(_) | Failure::FileLine(_, _) => None,
+        Failure::Output | Failure::Memory => None,
+    }
+}
+
+// The other file of a command.
+fn file_in(command: Command<'_>) -> Option<&str>
+    ensures { option_map (λ name. name.now) result ≡ spec.file_in command.entry }
+{
+    match command {
+        Command::Import(file, _, _) | Command::Export(file, _, _) => Some(file),
+        _ => None,
+    }
+}
+
+// A name, and the cause for which the system refused it.
+fn named(alloc: Global, name: &str, stopped: Stopped) -> Result<String, AllocError>
+    ensures { IfOk result (λ told. spec.IsOf stopped.failure name.now (string_bytes told)) }
+{
+    let mut told = shown_text(alloc, name)?;
+    told.push_str(ending(stopped.failure))?;
+    if let Some(cause) = cause_of(stopped) {
+        told.push_str(": ")?;
+        told.push_str(cause)?;
+    }
+    Ok(told)
+}
+
+// The end of the name of the jar's lock.
+fn ending(failure: Failure) -> &'static str
+    ensures { result.now ≡ spec.ending failure }
+{
+    match failure {
+        Failure::LockFile => ".lock",
+        _ => "",
+    }
+}
+
+// The cause for which the system refused a file.
+fn cause_of(stopped: Stopped) -> Option<&'static str>
+    ensures { IfSome result (λ _. spec.is_of_system stopped.failure ≡ true) }
+{
+    match stopped.failure {
+        Failure::SuffixFile | Failure::LockFile | Failure::JarFile | Failure::File => stopped.cause,
+        _ => None,
+    }
+}

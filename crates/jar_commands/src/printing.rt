@@ -1,0 +1,207 @@
+//! What the program prints, and the other file of an export, which it writes before.
+ghost use Rattle.std.specs.Prelude.{◌≡◌, ◌⊎◌, IfErr, IfOk, OnOk, option_map, string_bytes, true};
+ghost use Rattle.std.specs.Io.KnownBytes.{Keeps};
+ghost use Rattle.devices.specs.Device.{Rose};
+ghost use Rattle.jar_commands.specs.Outcomes.{outcome_text};
+ghost use Rattle.jar_commands.specs.Program as spec;
+ghost use Rattle.jar_commands.specs.declared.failure.Failure.{Failure};
+
+use crate::about::Stopped;
+use crate::failure::Failure;
+use crate::keeping::NAME;
+use crate::outcome::Outcome;
+use cookie_run::version_line;
+use devices::Sink;
+use devices::pour::write_all;
+use jar_words::{Command, HELP};
+use kept_file::place::Place;
+use std::alloc::Global;
+use std::fs::Files;
+
+/// The name of the program's output, or input, in the place of a file's.
+pub(crate) const DASH: &str = "-";
+
+/// What a command gave.
+#[derive(Drop)]
+pub(crate) struct Done {
+    /// The exit status, 0 or 1.
+    pub(crate) status: u8,
+    /// What an export tells of its rows, where it printed their text.
+    pub(crate) counted: Option<String>,
+}
+
+/// Writes the other file of an export, and prints; or prints the text of that file.
+pub(crate) fn finish<H: Files + AllocGlobal, W: Sink>(
+    rt: &H,
+    command: Command<'_>,
+    outcome: Outcome,
+    writer: &mut W,
+) -> Result<Done, Stopped>
+    ensures ok { IfOk result (λ done. (done.status ≡ outcome.status) × spec.Printed
+        (record {
+          written = (W.written writer.old, W.written writer.new);
+          unwritten = (W.failures writer.old, W.failures writer.new);
+        })
+        (spec.output command.entry (outcome_text outcome))
+        × (option_map string_bytes done.counted ≡ spec.counted command.entry (outcome_text outcome))) }
+    ensures err { IfErr result (λ stopped. (spec.IsUnwritten stopped.failure × (writer.new ≡ writer.old))
+        ⊎ ((stopped.failure ≡ Failure.Output) × spec.Unprinted
+        (record {
+          written = (W.written writer.old, W.written writer.new);
+          unwritten = (W.failures writer.old, W.failures writer.new);
+        })
+        (spec.output command.entry (outcome_text outcome)))) }
+{
+    if prints_text(command) {
+        return print_text(outcome, writer);
+    }
+    keep(rt, command, &outcome)?;
+    match print(writer, outcome.printed.as_bytes(), outcome.status) {
+        Ok(status) => Ok(Done {
+            status,
+            counted: None,
+        }),
+        Err(failure) => Err(Stopped::of(failure)),
+    }
+}
+
+// Whether a command prints the text of an export.
+fn prints_text(command: Command<'_>) -> bool
+    ensures { result ≡ spec.prints_text command.entry }
+{
+    match command {
+        Command::Export(file, _, _) => file == DASH,
+        _ => false,
+    }
+}
+
+// Prints the text of an export. What it tells of its rows is told beside it.
+fn print_text<W: Sink>(outcome: Outcome, writer: &mut W) -> Result<Done, Stopped>
+    ensures ok { IfOk result (λ done. (done.status ≡ outcome.status) × spec.Printed
+        (record {
+          written = (W.written writer.old, W.written writer.new);
+          unwritten = (W.failures writer.old, W.failures writer.new);
+        })
+        (spec.output_by true (outcome_text outcome))
+        × (option_map string_bytes done.counted ≡ spec.counted_by true (outcome_text outcome))) }
+    ensures err { IfErr result (λ stopped. (stopped.failure ≡ Failure.Output) × spec.Unprinted
+        (record {
+          written = (W.written writer.old, W.written writer.new);
+          unwritten = (W.failures writer.old, W.failures writer.new);
+        })
+        (spec.output_by true (outcome_text outcome))) }
+{
+    match print(writer, text_in(&outcome.file), outcome.status) {
+        Ok(status) => Ok(Done {
+            status,
+            counted: Some(outcome.printed),
+        }),
+        Err(failure) => Err(Stopped::of(failure)),
+    }
+}
+
+// The text of the other file.
+fn text_in(file: &Option<Vec<u8>>) -> &[u8]
+    ensures { result.now ≡ spec.text_in (option_map (λ text. text.items) file.now) }
+{
+    match file {
+        Some(text) => text.as_slice(),
+        None => b"",
+    }
+}
+
+/// Prints the help.
+pub(crate) fn print_help<W: Sink>(writer: &mut W) -> Result<u8, Failure>
+    ensures ok { IfOk result (λ status. (status ≡ 0) × spec.Printed
+        (record {
+          written = (W.written writer.old, W.written writer.new);
+          unwritten = (W.failures writer.old, W.failures writer.new);
+        })
+        spec.help_text) }
+    ensures err { IfErr result (λ failure. (failure ≡ Failure.Output) × spec.Unprinted
+        (record {
+          written = (W.written writer.old, W.written writer.new);
+          unwritten = (W.failures writer.old, W.failures writer.new);
+        })
+        spec.help_text) }
+{
+    print(writer, HELP.as_bytes(), 0)
+}
+
+/// Prints the line of the version.
+pub(crate) fn print_version<W: Sink>(alloc: Global, writer: &mut W) -> Result<u8, Failure>
+    ensures ok { IfOk result (λ status. (status ≡ 0) × spec.Printed
+        (record {
+          written = (W.written writer.old, W.written writer.new);
+          unwritten = (W.failures writer.old, W.failures writer.new);
+        })
+        spec.program_version) }
+    ensures err { IfErr result (λ failure. ((failure ≡ Failure.Output) × spec.Unprinted
+        (record {
+          written = (W.written writer.old, W.written writer.new);
+          unwritten = (W.failures writer.old, W.failures writer.new);
+        })
+        spec.program_version)
+        ⊎ ((failure ≡ Failure.Memory) × (writer.new ≡ writer.old))) }
+{
+    match version_line(alloc, NAME) {
+        Ok(line) => print(writer, line.as_bytes(), 0),
+        Err(_) => Err(Failure::Memory),
+    }
+}
+
+// Writes the other file of an export.
+fn keep<H: Files + AllocGlobal>(
+    rt: &H,
+    command: Command<'_>,
+    outcome: &Outcome,
+) -> Result<(), Stopped>
+    ensures { IfErr result (λ stopped. spec.IsUnwritten stopped.failure) }
+{
+    let (Command::Export(path, _, _), Some(text)) = (command, &outcome.file) else {
+        return Ok(());
+    };
+    match Place::of(rt, path, NAME).replace(rt, text) {
+        Ok(()) => Ok(()),
+        Err(unwritten) => Err(Stopped::unwritten(unwritten, Failure::File)),
+    }
+}
+
+/// Prints the text whole. Gives the status then.
+#[tactic(auto, using(crate::proofs::PrintLemmas::appends_kept, crate::proofs::PrintLemmas::front_kept))]
+pub(crate) fn print<W: Sink>(writer: &mut W, text: &[u8], status: u8) -> Result<u8, Failure>
+    ensures ok { IfOk result (λ given. (given ≡ status) × spec.Printed
+        (record {
+          written = (W.written writer.old, W.written writer.new);
+          unwritten = (W.failures writer.old, W.failures writer.new);
+        })
+        text.now) }
+    ensures err { IfErr result (λ failure. (failure ≡ Failure.Output) × spec.Unprinted
+        (record {
+          written = (W.written writer.old, W.written writer.new);
+          unwritten = (W.failures writer.old, W.failures writer.new);
+        })
+        text.now) }
+    ensures failures { OnOk result (W.failures writer.new ≡ W.failures writer.old) }
+    ensures unflushed { OnOk result (W.unflushed writer.new ≡ 0) }
+{
+    match write_all(writer, text) {
+        Ok(()) => flushed(writer, status),
+        Err(_) => Err(Failure::Output),
+    }
+}
+
+// Flushes the writer. Gives the status then. What was written stays.
+fn flushed<W: Sink>(writer: &mut W, status: u8) -> Result<u8, Failure>
+    ensures ok { IfOk result (λ given. given ≡ status) }
+    ensures err { IfErr result (λ failure.
+        (failure ≡ Failure.Output) × Rose (W.failures writer.old) (W.failures writer.new)) }
+    ensures bytes { Keeps (W.written writer.old) (W.written writer.new) }
+    ensures failures { OnOk result (W.failures writer.new ≡ W.failures writer.old) }
+    ensures unflushed { OnOk result (W.unflushed writer.new ≡ 0) }
+{
+    match writer.flush() {
+        Ok(()) => Ok(status),
+        Err(_) => Err(Failure::Output),
+    }
+}
