@@ -22,7 +22,8 @@ kept_so path stored put = Given (record { path = path; seen = Some stored; put =
 
 -- the store file wasn't read, and nothing was to take its place: its lock wasn't taken, or is given back
 abbrev pub IsUnread : Lock × Lock → Type 0
-IsUnread lock = (lock.1 ≡ lock.0) ⊎ ((path : List ℕ) × (lock.1 ≡ Given (record { path = path; seen = None; put = None })))
+IsUnread lock =
+    (lock.1 ≡ lock.0) ⊎ ((path : List ℕ) × (lock.1 ≡ Given (record { path = path; seen = None; put = None })))
 
 -- What is to take the store file's place is the whole text that the run gives for what was read of it while its lock
 -- was held, and nothing is where the run gives no text; then the lock is given back. Or the store file wasn't read.

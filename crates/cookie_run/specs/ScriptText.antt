@@ -316,7 +316,8 @@ IsDoneUpTo (Ok Whole) before after = after ≡ []
 IsDoneUpTo (Ok (Faulty n)) before after = n ≡ length before + 1
 IsDoneUpTo (Err error) before after = ⊤
 
--- the lines that are done leave those rows; or memory was refused in the next one, and its answer was taken up to a line
+-- the lines that are done leave those rows; or memory was refused in the next one, and its answer was taken up to a
+-- line
 abbrev pub LeavesRows : List Rule → List ℕ → List Row → Reached → List (List ℕ) → List Row → Type 0
 LeavesRows list key rows r [] new = (output : List ℕ) × Prints list key rows r output new
 LeavesRows list key rows r (line ∷ later) new =

@@ -6,7 +6,8 @@ use Rattle.std.specs.List.{find, list_any}
 use Rattle.std.specs.Str.{bytes_eq}
 use Rattle.std.proofs.lemmas.Bool.{cond-true, cond-false, or_parts, or_from, and_left, and_parts}
 use Rattle.std.proofs.lemmas.Option.{none-some, same_Some}
-use Rattle.cookie_store.specs.Rows.{Row, Key, HaveOwnKeys, key_of, has_key, has_key_of, has_place, has_domain, behind_last}
+use Rattle.cookie_store.specs.Rows.{Row, Key, HaveOwnKeys, key_of, has_key, has_key_of, has_place, has_domain}
+use Rattle.cookie_store.specs.Rows.{behind_last}
 use Rattle.cookie_store.specs.Rows.{put_in_place, found, found_live, is_live, is_live_at, is_live_of, expired, ended}
 use Rattle.cookie_store.specs.Rows.{put, has_place_of}
 use Rattle.cookie_store.proofs.PlaceLaws.{has_own_key}

@@ -316,7 +316,8 @@ module _ {A : Type 0} where
   filter_part test [] = tt
   filter_part test (x ∷ xs) = by (test x) (filter_part test xs)
     where
-      by : (b : Bool) → IsSublist (filter test xs) xs → IsSublist (cond b (x ∷ filter test xs) (filter test xs)) (x ∷ xs)
+      by : (b : Bool) → IsSublist (filter test xs) xs
+          → IsSublist (cond b (x ∷ filter test xs) (filter test xs)) (x ∷ xs)
       by true rest = inl (refl, rest)
       by false rest = part_of_more (filter test xs) xs x rest
 

@@ -17,7 +17,8 @@ use Rattle.place_index.specs.Putting.{IsReady, PutsAt, end_of, end_at}
 use Rattle.place_index.specs.Taking.{HasRow, TakesAt}
 use Rattle.place_index.proofs.EndLemmas.{any_at}
 use Rattle.cookie_store.specs.Indexed.{place_of, places_of, IsIndexed, StandsAt}
-use Rattle.cookie_store.specs.Rows.{Row, Key, HaveOwnKeys, domain_text, key_of, has_domain, has_key, has_key_of, has_place}
+use Rattle.cookie_store.specs.Rows.{Row, Key, HaveOwnKeys, domain_text, key_of, has_domain, has_key, has_key_of}
+use Rattle.cookie_store.specs.Rows.{has_place}
 use Rattle.cookie_store.specs.Rows.{has_place_of, has_domain_of, put_in_place, behind_last, inserted, put, found}
 use Rattle.cookie_store.specs.Rows.{removed}
 use Rattle.cookie_store.specs.StoredCookie.{stored_in}

@@ -1,6 +1,5 @@
 -- What the words of a call make of a client (own: docs/DEFINITIONS.md).
-use Rattle.std.specs.Prelude.{ℕ, ℤ, Bool, ◌≡◌, ◌≢◌, ◌⊎◌, ◌==◌, ◌&&◌, ◌||◌, not, List, [], Option, Some, None, map}
-use Rattle.std.specs.Prelude.{false, nat_lt, true}
+use Rattle.std.specs.Prelude.{ℕ, ℤ, Bool, ◌≡◌, ◌≢◌, ◌⊎◌, List, [], Option, Some, None, map, false, true}
 use Rattle.std.specs.List.{list_any}
 use Rattle.std.specs.Str.{IsUtf8}
 use Rattle.publicsuffix.specs.Rules.{Rule}
@@ -21,6 +20,7 @@ use Rattle.cookie_run.specs.HostPrefix.{IsHeldRightly}
 use Rattle.cookie_run.specs.Program.{IsSuffixList, IsNoSuffixList, IsNoSavedText}
 use Rattle.cookie_run.specs.declared.step.LineEnd.{LineEnd}
 use Rattle.user_agent.specs.Agent as agent
+use Rattle.user_agent.specs.Refusals.{is_control}
 use Rattle.user_agent.specs.SecureWins.{IsHeaderBehind}
 use Rattle.user_agent.specs.declared.rules.Outcome.{Outcome}
 use Rattle.user_agent.specs.declared.rules.Rules.{Rules}
@@ -82,10 +82,7 @@ abbrev pub Sends : Option Rules → List Row → Parts → ℤ → List ℕ → 
 Sends None rows url now header = IsHeader rows url now header
 Sends (Some rules) rows url now header = IsHeaderBehind rules rows url now header
 
--- a control character: a byte below 32 but the tab, or 127
-abbrev pub is_control : ℕ → Bool
-is_control b = (nat_lt b 32 && not (b == 9)) || b == 127
-
+-- the text has a control character: a byte below 32 but the tab, or 127
 abbrev pub has_control : List ℕ → Bool
 has_control text = list_any is_control text
 
