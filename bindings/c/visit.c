@@ -3,8 +3,7 @@
 #include "fonnalich.h"
 #include <stdio.h>
 int main(void) {
-    const char url[] = "https://shop.com/", line[] = "__Host-cart=3; Secure; Path=/";
-    char outcome, header[256];
+    char outcome, header[256], url[] = "https://shop.com/", line[] = "__Host-cart=3; Secure; Path=/";
     fonnalich client;
     fonnalich_begin(&client);
     ptrdiff_t got = fonnalich_list(&client, "com\n", 4);
