@@ -50,7 +50,7 @@ spelled url authority = rw authority (simp (append_assoc, append-nil))
 
 own : (url : Parts) → IsValid url → IsWeb url → url.username ≡ [] → url.password ≡ [] → IsOwnText (serialize url) url
 own url valid web user password =
-    let special : is_special (kind_of url) ≡ true = ap is_special (web_is_special url.scheme web) in
+    let special : is_special (kind_of url) ≡ true = ap is_special (web_is_special url.scheme web.0) in
     let parts = spelled url (special_has_authority url valid.head special) in
     let n = length (site url) in
     record {
@@ -63,11 +63,13 @@ own url valid web user password =
 -- the own text of a web URL without a user
 pub own_text_is_plain : (url : Parts) → IsValid url → IsWeb url → HasNoUser url → IsPlain (serialize url)
 own_text_is_plain url valid web user =
-    (url, (parse_url-serialize_special url None valid (web_is_special url.scheme web), own url valid web user.0 user.1))
+    let scheme = web_is_special url.scheme web.0 in
+    (url, (parse_url-serialize_special url None valid scheme, own url valid web user.0 user.1))
 
 pub without_user_is_plain : (url : Parts) → IsValid url → IsWeb url → IsPlain (without_user url)
 without_user_is_plain url valid web =
     let bare = plain_parts url in
     let whole = is_valid url valid in
+    let scheme = web_is_special url.scheme web.0 in
     subst IsPlain (text_is url)
-    (bare, (parse_url-serialize_special bare None whole (web_is_special url.scheme web), own bare whole web refl refl))
+    (bare, (parse_url-serialize_special bare None whole scheme, own bare whole web refl refl))

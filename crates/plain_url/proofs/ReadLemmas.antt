@@ -1,6 +1,7 @@
 -- What RFC 3986 reads in a URL's own text.
-use Rattle.std.proofs.Common.{◌≡◌, ◌+◌, ◌<◌, ◌≤◌, ◌∙◌, ◌⊎◌, ◌++◌, ◌∷◌, ℕ, zero, suc, true, false, List, [], All, ap, append-nil}
-use Rattle.std.proofs.Common.{append_assoc, arith, drop, drop_at, get_or, inl, inr, length, length-append, map, refl}
+use Rattle.std.proofs.Common.{◌≡◌, ◌+◌, ◌<◌, ◌≤◌, ◌∙◌, ◌⊎◌, ◌++◌, ◌∷◌, ℕ, zero, suc, true, false, List, [], All, ap}
+use Rattle.std.proofs.Common.{append-nil, append_assoc, arith, drop, drop_at, get_or}
+use Rattle.std.proofs.Common.{inl, inr, length, length-append, map, refl}
 use Rattle.std.proofs.Common.{subst, sym, take, take-append-drop, take_at, ⊎_elim}
 use Rattle.std.specs.Prelude.{codes, nat_lt}
 use Rattle.std.specs.Char.{to_ascii_lowercase}
@@ -136,7 +137,7 @@ site_is url authority user password = rw (authority, user, password) (simp (appe
 
 pub own_is_read : (text : List ℕ) (url : Parts) → IsValid url → IsOwnText text url → IsReadAlike text url
 own_is_read text url valid own =
-    let special : is_special (kind_of url) ≡ true = ap is_special (web_is_special url.scheme own.web) in
+    let special : is_special (kind_of url) ≡ true = ap is_special (web_is_special url.scheme own.web.0) in
     let authority = special_has_authority url valid.head special in
     let s = url.scheme ++ codes "://" in
     let n = length (site url) in

@@ -13,7 +13,9 @@ own_decides text url =
     let front = map to_ascii_lowercase (take (length (site url)) text) in
     let lower = map to_ascii_lowercase (site url) in
     let rest = drop (length (site url)) text in
-    let web = Decides-or _ _ (bytes_eq-Decides url.scheme (codes "http")) (bytes_eq-Decides url.scheme (codes "https")) in
+    let scheme =
+    Decides-or _ _ (bytes_eq-Decides url.scheme (codes "http")) (bytes_eq-Decides url.scheme (codes "https")) in
+    let web = Decides-and _ _ scheme (λ e. e, λ e. e) in
     let user = Decides-and _ _ (bytes_eq-Decides url.username []) (bytes_eq-Decides url.password []) in
     let bare = Decides-and _ _ (bytes_eq-Decides rest []) (bytes_eq-Decides (target url) (codes "/")) in
     let end = Decides-or _ _ (bytes_eq-Decides rest (target url)) bare in

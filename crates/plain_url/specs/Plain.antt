@@ -1,11 +1,13 @@
 -- Plain URLs: web addresses (the URL Standard, section 4) that each reader of URLs reads alike (this repository's own).
-use Rattle.std.specs.Prelude.{◌≡◌, ◌⊎◌, ◌++◌, ◌||◌, ◌&&◌, ℕ, Bool, List, [], None, Ok, codes, drop, length, map, take}
-use Rattle.std.specs.Char.{to_ascii_lowercase}
+use Rattle.std.specs.Prelude.{◌≡◌, ◌⊎◌, ◌++◌, ◌||◌, ◌&&◌, ◌==◌, ℕ, Bool, List, [], None, Ok, codes, drop, length, map}
+use Rattle.std.specs.Prelude.{take, true}
+use Rattle.std.specs.Char.{is_ascii_alphanumeric, to_ascii_lowercase}
+use Rattle.std.specs.List.{list_all}
 use Rattle.std.specs.Str.{bytes_eq}
 use Rattle.url.specs.Parser.{parse_url}
 use Rattle.url.specs.Parts.{Parts, serialize, text_between}
-use Rattle.url.specs.declared.slicing.Position.TheVariants.{BeforeScheme, BeforeUsername, BeforeHost, AfterPort}
-use Rattle.url.specs.declared.slicing.Position.TheVariants.{BeforePath, AfterFragment}
+use Rattle.url.specs.declared.slicing.Position.TheVariants.{BeforeScheme, BeforeUsername, BeforeHost, AfterHost}
+use Rattle.url.specs.declared.slicing.Position.TheVariants.{AfterPort, BeforePath, AfterFragment}
 
 -- the texts differ in the case of ASCII letters at most (RFC 3986, section 6.2.2.1)
 abbrev pub SameInAnyCase : List ℕ → List ℕ → Type 0
@@ -19,8 +21,22 @@ site url = text_between url BeforeScheme AfterPort
 abbrev pub target : Parts → List ℕ
 target url = text_between url BeforePath AfterFragment
 
+-- A byte that each reader takes for one of a host: unreserved (RFC 3986, section 2.3), or a bracket or colon of an IPv6
+-- address (section 3.2.2). The URL Standard has more, as braces, which curl takes for a set of URLs.
+abbrev pub is_host_byte : ℕ → Bool
+is_host_byte b =
+    is_ascii_alphanumeric b || (b == 45 || b == 46 || b == 95 || b == 126) || (b == 91 || b == 93 || b == 58)
+
+-- the host's text
+abbrev pub host : Parts → List ℕ
+host url = text_between url BeforeHost AfterHost
+
+abbrev pub HasPlainHost : Parts → Type 0
+HasPlainHost url = list_all is_host_byte (host url) ≡ true
+
+-- the scheme is one of the web, and each byte of the host one that each reader takes for one
 abbrev pub IsWeb : Parts → Type 0
-IsWeb url = (url.scheme ≡ codes "http") ⊎ (url.scheme ≡ codes "https")
+IsWeb url = ((url.scheme ≡ codes "http") ⊎ (url.scheme ≡ codes "https")) × HasPlainHost url
 
 -- no user name and no password
 abbrev pub HasNoUser : Parts → Type 0
@@ -43,7 +59,7 @@ abbrev pub is_own_text : List ℕ → Parts → Bool
 is_own_text text url =
     let front = take (length (site url)) text in
     let rest = drop (length (site url)) text in
-    (bytes_eq url.scheme (codes "http") || bytes_eq url.scheme (codes "https"))
+    ((bytes_eq url.scheme (codes "http") || bytes_eq url.scheme (codes "https")) && list_all is_host_byte (host url))
     && ((bytes_eq url.username [] && bytes_eq url.password [])
     && (bytes_eq (map to_ascii_lowercase front) (map to_ascii_lowercase (site url))
     && (bytes_eq rest (target url) || bytes_eq rest [] && bytes_eq (target url) (codes "/"))))

@@ -8,7 +8,7 @@ use std::alloc::{AllocError, Global};
 use url::{ParseError, Position, Url};
 
 /// The plain text of a web URL: its own, without user name and password. `None` where its scheme is another than `http`
-/// and `https`.
+/// and `https`, or its host has a byte that no plain URL's has.
 ///
 /// # Errors
 ///
@@ -28,7 +28,7 @@ pub fn plain_text(alloc: Global, url: &Url) -> Result<Option<String>, AllocError
 }
 
 /// What to ask for in the place of a text: the text itself where it is plain, and else the own text of its URL, where
-/// that is one of `http` or `https` and has no user name and no password.
+/// that is one of `http` or `https`, of a plain URL's host, and has no user name and no password.
 ///
 /// # Errors
 ///

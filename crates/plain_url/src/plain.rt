@@ -1,12 +1,14 @@
 //! Whether a text is plain.
 ghost use Rattle.std.specs.Prelude.{◌≡◌, ◌↔◌, ◌⊎◌, IfOk, IsTrue, codes, drop, take, length, []};
+ghost use Rattle.std.specs.List.{list_all};
 ghost use Rattle.plain_url.specs.Plain as spec;
 
 use std::alloc::{AllocError, Global};
 use url::{ParseError, Position, Url};
 
 /// Whether the text is a plain URL: one of `http` or `https`, with no user and no password, that is its URL's own text.
-/// The case of scheme and host doesn't count, and `https://shop.test` needs no `/` at its end.
+/// Its host has letters, digits and `-._~` alone, or is an address in brackets. The case of scheme and host doesn't
+/// count, and `https://shop.test` needs no `/` at its end.
 ///
 /// # Errors
 ///
@@ -47,7 +49,26 @@ pub fn is_plain_hop(page: &Url, hop: &Url, location: &str) -> bool
 pub(crate) fn is_web(url: &Url) -> bool
     ensures { IsTrue result ↔ spec.IsWeb url.now }
 {
-    url.scheme() == "http" || url.scheme() == "https"
+    (url.scheme() == "http" || url.scheme() == "https") && has_plain_host(url)
+}
+
+// Whether each reader takes each byte of the host for one.
+fn has_plain_host(url: &Url) -> bool
+    ensures { IsTrue result ↔ spec.HasPlainHost url.now }
+{
+    are_host_bytes(host(url).as_bytes())
+}
+
+fn are_host_bytes(text: &[u8]) -> bool
+    ensures { result ≡ list_all spec.is_host_byte text.now }
+{
+    text.iter().all(|b| is_host_byte(*b))
+}
+
+fn is_host_byte(byte: u8) -> bool
+    ensures { result ≡ spec.is_host_byte byte }
+{
+    byte.is_ascii_alphanumeric() || matches!(byte, b'-' | b'.' | b'_' | b'~' | b'[' | b']' | b':')
 }
 
 pub(crate) fn has_no_user(url: &Url) -> bool
@@ -73,6 +94,13 @@ fn is_target(text: &[u8], target: &str) -> bool
     ensures { IsTrue result ↔ ((text.now ≡ target.now) ⊎ ((text.now ≡ []) × (target.now ≡ codes "/"))) }
 {
     text == target.as_bytes() || (text.is_empty() && target == "/")
+}
+
+// The host, an IPv6 address with its brackets.
+fn host(url: &Url) -> &str
+    ensures { result.now ≡ spec.host url.now }
+{
+    url.slice(Position::BeforeHost, Position::AfterHost)
 }
 
 // The scheme, `://` and the authority.
