@@ -9,7 +9,8 @@ usage: cookie-jar [OPTION].. JAR COMMAND [WORD]..
 
 JAR is the file with the cookies; where there is none, the jar is empty. Its ending says its form:
 .ron and .json keep all of a cookie; .txt, Netscape's cookies.txt, which curl and wget read, drops
-SameSite and what has no text there, and keeps whole seconds. A name without an ending is of JSON.
+SameSite, Partitioned and what has no text there, and keeps an expiry in whole seconds, not Max-Age.
+A name without an ending is of JSON.
 
 commands:
   receive URL          Takes the Set-Cookie lines of answers' heads, from standard input, and tells
@@ -44,7 +45,7 @@ options, which may stand anywhere; behind a word -- no word is an option:
   --suffixes FILE      The list of public suffixes; Debian's or a small one where it isn't given.
   --now MOMENT         The moment, as 2024-01-01T00:00:00Z; the clock's where it isn't given.
   -v, --verbose        Says on standard error which list of public suffixes is used, and which rows
-                       JAR drops.
+                       JAR drops, and what receive passes over.
   -h, --help           Prints this text.
   -V, --version        Prints the version.
 
@@ -52,8 +53,8 @@ rules: long-attributes, dates, long-lives, control, too-long, secure-prefix, hos
 secure-from-http, secure-overlay
 
 examples:
-  curl -sLD - -o page https://shop.com/ | cookie-jar jar.json receive https://shop.com/
-  cookie-jar jar.json header https://shop.com/ | curl -H @- https://shop.com/
+  curl -gsLD - -o page https://shop.com/ | cookie-jar jar.json receive https://shop.com/
+  cookie-jar jar.json header https://shop.com/ | curl -gH @- https://shop.com/
   cookie-jar jar.json import cookies.txt
 
 A command that changes JAR locks JAR.lock, an empty file beside it that stays: never remove it.
