@@ -26,10 +26,12 @@
 //! ```
 
 mod cookie;
+mod list;
 mod rules;
 mod site;
 
 pub use cookie::{Cookie, CookieBuilder, Encoded, SameSite, SplitCookies};
+pub use list::{List, ListError};
 pub use rules::{Rule, Rules};
 pub use site::{is_plain_url, suffix, Key, Session, Way};
 
@@ -139,6 +141,8 @@ pub enum Error {
     OutOfMemory,
     /// The text is no public suffix list.
     List,
+    /// The text of a list has no rule of a top-level domain, as a path has none.
+    NoRule,
     /// The second is before the year -9999 or after 9999.
     Moment,
     /// The text is no URL.
@@ -204,6 +208,7 @@ impl fmt::Display for Error {
         match self {
             Error::OutOfMemory => to.write_str("memory was refused"),
             Error::List => to.write_str("the text is no public suffix list"),
+            Error::NoRule => to.write_str("the list has no rule of a top-level domain (a path is read by List::from_file)"),
             Error::Moment => to.write_str("the moment is out of the years -9999 to 9999"),
             Error::Url => to.write_str("the text is no URL"),
             Error::Saved => to.write_str("the text is no saved client"),
@@ -303,10 +308,11 @@ const _: () = {
 };
 
 impl Client {
-    /// A client without a cookie, by the text of a public suffix list.
+    /// A client without a cookie, by a public suffix list or its text.
     pub fn new(list: impl AsRef<[u8]>) -> Result<Client, Error> {
         let mut client = Client::begun();
         client.act(Word::List, 0, b"", list.as_ref())?;
+        list::demand_rule(list)?;
         Ok(client)
     }
 
@@ -327,6 +333,7 @@ impl Client {
     pub fn load(list: impl AsRef<[u8]>, saved: &[u8], now: i64) -> Result<Client, Error> {
         let mut client = Client::begun();
         client.act(Word::Load, now, saved, list.as_ref())?;
+        list::demand_rule(list)?;
         Ok(client)
     }
 
@@ -413,12 +420,12 @@ mod tests {
     const URL: &str = "https://example.com/";
     const NOW: i64 = 1_700_000_000;
 
-    // The lines and the header of RFC 6265, section 3.1.
     #[test]
     fn tells_the_version() {
         assert_eq!(super::version(), env!("CARGO_PKG_VERSION"));
     }
 
+    // The lines and the header of RFC 6265, section 3.1.
     #[test]
     fn gives_what_it_received() {
         let mut client = Client::new(LIST).unwrap();
@@ -567,11 +574,11 @@ mod tests {
     fn tells_refusals_in_words() {
         let numbers = [-1, -4, -5, -6, -7, -8, -10, -11, -12, -13, -14, -16, -17, -18, -21];
         let mut words: Vec<String> = numbers.iter().map(|number| Error::of(*number).to_string()).collect();
-        words.extend([Error::LineFeed, Error::Random].map(|error| error.to_string()));
+        words.extend([Error::LineFeed, Error::Random, Error::NoRule].map(|error| error.to_string()));
         assert!(words.iter().all(|words| words.contains(' ') && words.is_ascii()), "{words:?}");
         words.sort();
         words.dedup();
-        assert_eq!(words.len(), 17);
+        assert_eq!(words.len(), 18);
         assert_eq!(Error::of(-107).to_string(), "memory was refused at line 7");
         assert_eq!(Error::of(-9).to_string(), "the library answered -9");
     }
