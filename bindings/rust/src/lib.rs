@@ -208,7 +208,7 @@ impl fmt::Display for Error {
         match self {
             Error::OutOfMemory => to.write_str("memory was refused"),
             Error::List => to.write_str("the text is no public suffix list"),
-            Error::NoRule => to.write_str("the list has no rule of a top-level domain (a path is read by List::from_file)"),
+            Error::NoRule => to.write_str("the list has no rule of a top-level domain (List::from_file reads a path)"),
             Error::Moment => to.write_str("the moment is out of the years -9999 to 9999"),
             Error::Url => to.write_str("the text is no URL"),
             Error::Saved => to.write_str("the text is no saved client"),

@@ -1,0 +1,73 @@
+//! A session from and into `http::HeaderMap`.
+
+use fonnalich::{Cookie, Error, Key, Session, Way};
+use fonnalich_http::{now, HttpSession};
+use http::header::{HeaderMap, HeaderValue, COOKIE, SET_COOKIE};
+
+const NOW: i64 = 1_700_000_000;
+
+fn key() -> Key {
+    Key::from(&std::array::from_fn::<u8, 64, _>(|i| i as u8))
+}
+
+fn lines(headers: &HeaderMap) -> Vec<&[u8]> {
+    let mut lines: Vec<_> = headers.get_all(SET_COOKIE).iter().map(HeaderValue::as_bytes).collect();
+    lines.sort();
+    lines
+}
+
+// HTTP/2 may send each pair as a field of its own (RFC 9113, section 8.2.3).
+#[test]
+fn joins_all_fields() {
+    let mut headers = HeaderMap::new();
+    headers.insert("x-cookie", HeaderValue::from_static("e=5"));
+    for field in [&b"a=1"[..], b"b=2; c=3", b"d=\xc3\xa9"] {
+        headers.append(COOKIE, HeaderValue::from_bytes(field).unwrap());
+    }
+    let session = Session::from_headers(&headers, &key(), NOW);
+    let read = ["a", "b", "c", "d", "e"].map(|name| session.get(Way::Plain, name).unwrap());
+    assert_eq!(read.each_ref().map(Option::as_deref), [Some("1"), Some("2"), Some("3"), Some("é"), None]);
+    assert_eq!(format!("{session:?}"), "Session { header: \"a=1; b=2; c=3; d=é\", now: 1700000000, .. }");
+}
+
+#[test]
+fn reads_no_field() {
+    let session = Session::from_headers(&HeaderMap::new(), &key(), NOW);
+    assert_eq!(session.get(Way::Plain, "a"), Ok(None));
+}
+
+// The code is by Python's `hmac`, and the line stands as RFC 6265, section 3, has it: no two share a field.
+#[test]
+fn writes_a_field_for_each_line() {
+    let mut headers = HeaderMap::new();
+    headers.insert(COOKIE, HeaderValue::from_static("theme=dark"));
+    let mut session = Session::from_headers(&headers, &key(), NOW);
+    session.set(Way::Signed, ("user", "ann")).unwrap();
+    session.set(Way::Host, Cookie::build(("b;", "é\r\n")).path("/x").domain("a.com")).unwrap();
+    session.remove(Way::Plain, "theme").unwrap();
+    let mut response = HeaderMap::new();
+    response.insert(SET_COOKIE, HeaderValue::from_static("own=1"));
+    session.close_into(&mut response).unwrap();
+    let wanted: [&[u8]; 4] = [
+        b"__Host-b%3B=%C3%A9%0D%0A; Secure; Path=/",
+        b"own=1",
+        b"theme=; Secure; Path=/; Max-Age=0; Expires=Mon, 14 Nov 2022 22:13:20 GMT",
+        b"user=DR8SuBlsUrDbRKVCnIMjAjDAS1re9vpW+c9wxfBEMkI%3Dann; Secure; Path=/",
+    ];
+    assert_eq!(lines(&response), wanted);
+}
+
+#[test]
+fn adds_nothing_where_it_is_refused() {
+    let mut session = Session::from_headers(&HeaderMap::new(), &key(), i64::MAX);
+    let _ = session.set(Way::Plain, ("a", "1"));
+    let mut response = HeaderMap::new();
+    assert_eq!(session.close_into(&mut response), Err(Error::Moment));
+    assert!(response.is_empty());
+}
+
+// The beginnings of 2024 and 2200.
+#[test]
+fn knows_the_moment() {
+    assert!((1_704_067_200..7_258_118_400).contains(&now()));
+}
