@@ -141,7 +141,7 @@ pub enum Error {
     OutOfMemory,
     /// The text is no public suffix list.
     List,
-    /// The text of a list has no rule of a top-level domain, as a path has none.
+    /// The text of a list has no rule, as a path has none.
     NoRule,
     /// The second is before the year -9999 or after 9999.
     Moment,
@@ -208,7 +208,7 @@ impl fmt::Display for Error {
         match self {
             Error::OutOfMemory => to.write_str("memory was refused"),
             Error::List => to.write_str("the text is no public suffix list"),
-            Error::NoRule => to.write_str("the list has no rule of a top-level domain (List::from_file reads a path)"),
+            Error::NoRule => to.write_str("the text of the list has no rule: List::from_file reads a path"),
             Error::Moment => to.write_str("the moment is out of the years -9999 to 9999"),
             Error::Url => to.write_str("the text is no URL"),
             Error::Saved => to.write_str("the text is no saved client"),

@@ -26,11 +26,10 @@ pub struct List {
 }
 
 impl List {
-    /// The list of a text. `List` where it is none, `NoRule` where it has no rule of a top-level domain.
+    /// The list of a text. `List` where it is none, `NoRule` where it has no rule, as a path in its place.
     pub fn new(text: impl Into<Vec<u8>>) -> Result<List, Error> {
         let list = List { text: text.into() };
         suffix(&list, "com")?;
-        demand_rule(&list)?;
         Ok(list)
     }
 
@@ -81,22 +80,29 @@ impl fmt::Display for ListError {
 
 impl std::error::Error for ListError {}
 
-/// `NoRule` where no line is a rule of one label, as a list has for each top-level domain: by a text without one, as a
-/// path in the place of a list, a site might set cookies for all of `com`.
+/// `NoRule` where no line could be a rule, or the text is a file's name: by it a site might set cookies for all of
+/// `com`. That it has all rules isn't looked at.
 pub(crate) fn demand_rule(list: impl AsRef<[u8]>) -> Result<(), Error> {
     let text = list.as_ref();
-    let text = text.strip_prefix(BYTE_ORDER_MARK).unwrap_or(text);
-    let mut rules = text.split(|byte| *byte == b'\n').map(rule_of);
-    rules.any(is_label).then_some(()).ok_or(Error::NoRule)
+    let lines = text.strip_prefix(BYTE_ORDER_MARK).unwrap_or(text);
+    let has_rule = lines.split(|byte| *byte == b'\n').any(is_rule);
+    (has_rule && !is_file(text)).then_some(()).ok_or(Error::NoRule)
 }
 
-// What stands before the first white space of a line.
-fn rule_of(line: &[u8]) -> &[u8] {
-    line.split(u8::is_ascii_whitespace).next().unwrap_or(line)
+// Whether labels of a host stand before the first white space of a line.
+fn is_rule(line: &[u8]) -> bool {
+    let rule = line.split(u8::is_ascii_whitespace).next().unwrap_or(line);
+    rule.strip_prefix(b"!").unwrap_or(rule).split(|byte| *byte == b'.').all(is_label)
 }
 
 fn is_label(text: &[u8]) -> bool {
-    !text.is_empty() && text.iter().all(|byte| byte.is_ascii_alphanumeric() || b"-_*".contains(byte) || *byte >= 0x80)
+    let is_of_host = |byte: &u8| byte.is_ascii_alphanumeric() || *byte == b'-' || *byte >= 0x80;
+    text == b"*" || !text.is_empty() && text.iter().all(is_of_host)
+}
+
+// Whether a text of one line names a file, as `suffixes.dat`, which could be a rule.
+fn is_file(text: &[u8]) -> bool {
+    !text.contains(&b'\n') && std::str::from_utf8(text).is_ok_and(|name| Path::new(name).is_file())
 }
 
 #[cfg(test)]
@@ -107,12 +113,13 @@ mod tests {
     const URL: &str = "https://a.example.com/";
     const NOW: i64 = 1_700_000_000;
 
-    // A path, a file's name, a page in the place of the list, comments, white space, and rules of no top-level domain.
+    // A path, a file's name, a page in the place of the list, comments and white space.
     #[test]
     fn is_refused_without_a_rule() {
         for text in [
             SYSTEM,
             "public_suffix_list.dat",
+            "Cargo.toml",
             "C:\\lists\\list",
             "/list",
             "",
@@ -121,23 +128,24 @@ mod tests {
             "// com\n",
             " com\n",
             "<html>\n",
-            "github.io\n",
         ] {
             assert_eq!(List::new(text).err(), Some(Error::NoRule), "{text:?}");
             assert_eq!(Client::new(text).err(), Some(Error::NoRule), "{text:?}");
+            assert_eq!(suffix(text, "a.com"), Err(Error::NoRule), "{text:?}");
             assert_eq!(Client::with_rules(text, crate::Rules::browser()).err(), Some(Error::NoRule), "{text:?}");
         }
         assert_eq!(List::new("a..b\n").err(), Some(Error::List));
         let mut client = Client::new("com\n").unwrap();
         let saved = client.save(NOW).unwrap();
-        assert_eq!(Client::load("list.dat", &saved, NOW).err(), Some(Error::NoRule));
+        assert_eq!(Client::load("a/list.dat", &saved, NOW).err(), Some(Error::NoRule));
         client = Client::load("com\n", &saved, NOW).unwrap();
         assert_eq!(client.receive(URL, &["a=1; Domain=com"], NOW), Ok(vec![LineEnd::PublicSuffix]));
     }
 
     #[test]
     fn has_a_rule() {
-        for text in ["com", "\u{feff}com\r\n", "// x\n\n*\n", "a.b\ncom rest", "рф\n", "xn--p1ai\n"] {
+        let odd = ["\u{feff}com\r\n", "// x\n\n*\n", "a.b\ncom rest", "рф\n", "xn--p1ai\n", "a/b\n*.ck\n!www.ck\n"];
+        for text in ["com", "github.io", "Cargo.toml\n", "a.*.ck\n"].into_iter().chain(odd) {
             assert_eq!(List::new(text).unwrap().as_ref(), text.as_bytes());
             assert!(Client::new(text).is_ok(), "{text:?}");
         }
@@ -149,7 +157,7 @@ mod tests {
         fs::write(&path, "com\n").unwrap();
         let list = List::from_file(&path).unwrap();
         assert_eq!((list.as_ref(), format!("{list:?}")), (&b"com\n"[..], "List { bytes: 4 }".to_owned()));
-        fs::write(&path, "list.dat").unwrap();
+        fs::write(&path, "list/list").unwrap();
         let told = List::from_file(&path).unwrap_err().to_string();
         assert_eq!(told, format!("{}: {}", path.display(), Error::NoRule));
         fs::remove_file(&path).unwrap();

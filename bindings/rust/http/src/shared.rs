@@ -17,9 +17,9 @@ use std::sync::{Arc, Mutex, MutexGuard, PoisonError};
 /// - it has no refusal: where a call is refused, nothing is kept, or the request has no cookie;
 /// - it has no moment, so that is the clock's.
 ///
-/// At a redirect to the same host and port reqwest sends the last request's cookies again where the store has none. So
-/// a site that was sent a cookie gets an empty `Cookie` field from then on, where there is none for it. A `Cookie` field
-/// of a request's own goes out in the place of the client's, up to a redirect.
+/// At a redirect to the same host and port reqwest sends the cookies of the request before it again, where the store
+/// has none. So a site that was sent a cookie gets an empty `Cookie` field from then on where none is left for it.
+/// A `Cookie` field of a request's own goes out in the place of the client's, up to a redirect.
 #[derive(Clone)]
 pub struct SharedClient {
     kept: Arc<Mutex<Kept>>,

@@ -6,9 +6,9 @@ use http::{Request, Response};
 use std::sync::Arc;
 use tower::{ServiceBuilder, ServiceExt};
 
-fn cart(request: &Request<String>, key: &Key, response: &mut Response<String>) -> Result<(), Error> {
+fn cart(request: &Request<String>, key: Key, response: &mut Response<String>) -> Result<(), Error> {
     // README: bindings/README.md
-    let mut session = Session::from_headers(request.headers(), key, now());
+    let mut session = Session::from_headers(request.headers(), &key, now());
     session.set(Way::Sealed, Cookie::build(("__Host-cart", "3")).max_age(60))?;
     session.close_into(response.headers_mut())?;
     // README: end
@@ -18,7 +18,7 @@ fn cart(request: &Request<String>, key: &Key, response: &mut Response<String>) -
 #[test]
 fn fills_the_cart() {
     let (key, mut response) = (Key::generate(), Response::default());
-    cart(&Request::default(), &key, &mut response).unwrap();
+    cart(&Request::default(), key.clone(), &mut response).unwrap();
     let line = response.headers()["set-cookie"].to_str().unwrap();
     let session = Session::open(line.split(';').next().unwrap(), &key, now());
     assert_eq!(session.get(Way::Sealed, "__Host-cart").unwrap().as_deref(), Some("3"));
