@@ -1,9 +1,12 @@
 """Cookies of an HTTP client and of a site (RFC 6265), by the proved library fonnalich.
 
-`Session` is what a site reads and sets within one request, `Cookie` a cookie by itself. `Client` is a client; `Jar` is
-one for `urllib`, and `Adapter` one for `requests`. Set FONNALICH_LIB to the path of the shared library where it lies
-neither beside this module nor in out/.
+`Session` is what a site reads and sets within one request, `Cookie` a cookie by itself. `Client` is a client by a public
+suffix `List`; `Jar` is one for `urllib`, and `Adapter` one for `requests`. The modules `flask`, `django`, `wsgi`,
+`asgi`, `requests` and `httpx` of this package put them into what these names say. Set FONNALICH_LIB to the path of the
+shared library where it lies neither beside this module nor in out/.
 """
+from __future__ import annotations
+
 import ctypes
 import dataclasses
 import datetime
@@ -11,15 +14,16 @@ import enum
 import http.cookiejar
 import math
 import os
+import re
 import threading
 import time
 import urllib.parse
 import urllib.request
 import weakref
-from typing import Any, Callable, Iterable, List, NoReturn, Optional, Union
+from typing import Any, Callable, Iterable, NoReturn, Optional, Union
 
-__all__ = ["Adapter", "Client", "Cookie", "End", "Jar", "Refused", "Rules", "Session", "Stopped", "Way", "is_plain_url",
-           "suffix"]
+__all__ = ["Adapter", "Client", "Cookie", "End", "Jar", "List", "NoList", "NoRules", "Refused", "Rules", "Session",
+           "Stopped", "Way", "is_plain_url", "suffix"]
 
 _HERE = os.path.dirname(os.path.abspath(__file__))
 
@@ -37,7 +41,7 @@ def _lacks_sse() -> bool:
 def _path() -> str:
     """Where the shared library is: in a package beside this module, in the repository in out/."""
     beside = os.path.join(_HERE, "libfonnalich.so")
-    return beside if os.path.exists(beside) else os.path.join(_HERE, "..", "..", "out", "libfonnalich.so")
+    return beside if os.path.exists(beside) else os.path.join(_HERE, "..", "..", "..", "out", "libfonnalich.so")
 
 
 if _lacks_sse():
@@ -91,7 +95,7 @@ _ANSWER, _LIST, _LOAD, _RECEIVE, _HEADER, _SAVE, _RESTART, _RULES = range(8)
 _STOPPED = -100
 _ROOM = 4096
 _KEY_LENGTH, _NONCE_LENGTH = 64, 12
-_EXPIRY = -13
+_LIST_NUMBER, _EXPIRY = -4, -13
 _YEAR_100 = -59011459200
 _EPOCH = datetime.datetime(1970, 1, 1, tzinfo=datetime.timezone.utc)
 
@@ -157,6 +161,18 @@ class Refused(ValueError):
         self.number = number
 
 
+class NoRules(Refused):
+    """A text was refused that should be a public suffix list, and has no rule: by it no suffix would be public."""
+
+    def __init__(self) -> None:
+        super().__init__(_LIST_NUMBER)
+        self.args = ("the text of the list has no rule: hand in what the file holds, or List.from_file(path)",)
+
+
+class NoList(FileNotFoundError):
+    """The system has no public suffix list."""
+
+
 class Stopped(MemoryError):
     """Memory was refused at a line, counted from 1: those before it were taken. At 0 none was."""
 
@@ -209,7 +225,7 @@ def _second(now: Optional[Moment]) -> int:
     return _second_of(time.time() if now is None else now)
 
 
-def _lines(lines: Iterable[Text]) -> List[bytes]:
+def _lines(lines: Iterable[Text]) -> list[bytes]:
     """The bytes of each line. A single text is no list of lines, though each of its characters would be one."""
     if isinstance(lines, (str, bytes, bytearray, memoryview)):
         raise TypeError("lines are a list: hand in [line]")
@@ -241,7 +257,7 @@ def _answered(call: Callable[..., int], *words: Union[bytes, int, _Attributes]) 
             return ctypes.string_at(room, length)
 
 
-def _items(answer: bytes) -> List[Optional[str]]:
+def _items(answer: bytes) -> list[Optional[str]]:
     """The texts of an answer, each behind its length; one of the length -1 isn't there."""
     at, items = 0, []
     while at < len(answer):
@@ -253,10 +269,62 @@ def _items(answer: bytes) -> List[Optional[str]]:
 
 __version__ = _answered(_LIB.fonnalich_version).decode()
 
+# A line that could be a rule for hosts: labels of letters, digits and hyphens, or `*`, up to a white space.
+_RULE = re.compile(rb"^!?(?:\*|[a-zA-Z0-9\x80-\xff-]+)(?:\.(?:\*|[a-zA-Z0-9\x80-\xff-]+))*(?=\s|\Z)", re.M)
 
-def suffix(suffixes: Text, host: str) -> str:
-    """The public suffix of a host, which is in IDNA ASCII form and lower case, by the text of a list."""
-    return _answered(_LIB.fonnalich_suffix, _bytes(suffixes), _bytes(host)).decode()
+
+class List:
+    """A public suffix list, by its text as publicsuffix.org publishes it. `text` has it in bytes.
+
+    A text without any rule is refused as `NoRules`, the path of a file above all: by it a site could set cookies for
+    `Domain=com`. That it has all rules isn't looked at.
+    """
+
+    SYSTEM = "/usr/share/publicsuffix/public_suffix_list.dat"
+
+    def __init__(self, text: Text):
+        self.text = _bytes(text)
+        if _RULE.search(self.text) is None or _is_path(self.text):
+            # (which refuses what is no list at all)
+            _suffix(self.text, "com")
+            raise NoRules
+
+    @classmethod
+    def from_file(cls, path: Union[str, os.PathLike[str]]) -> List:
+        """The list of a file."""
+        with open(path, "rb") as file:
+            return cls(file.read())
+
+    @classmethod
+    def system(cls) -> List:
+        """The list that the system keeps up to date, as Debian's package `publicsuffix` does; `NoList` where there is
+        none."""
+        try:
+            return cls.from_file(cls.SYSTEM)
+        except FileNotFoundError as why:
+            told = "no public suffix list: install Debian's package publicsuffix, or hand in List.from_file(path)"
+            raise NoList(why.errno, told, cls.SYSTEM) from None
+
+
+def _is_path(text: bytes) -> bool:
+    """Whether a text of one line names a file, as `suffixes.dat`, which could be a rule."""
+    return b"\n" not in text and b"\0" not in text and os.path.isfile(text)
+
+
+Suffixes = Union[List, Text]
+
+
+def _list(suffixes: Suffixes) -> bytes:
+    return (suffixes if isinstance(suffixes, List) else List(suffixes)).text
+
+
+def suffix(suffixes: Suffixes, host: str) -> str:
+    """The public suffix of a host, which is in IDNA ASCII form and lower case, by a list or the text of one."""
+    return _suffix(_list(suffixes), host)
+
+
+def _suffix(text: bytes, host: str) -> str:
+    return _answered(_LIB.fonnalich_suffix, text, _bytes(host)).decode()
 
 
 def is_plain_url(url: Text) -> bool:
@@ -329,6 +397,10 @@ class Cookie:
         return _answered(_LIB.fonnalich_print, encode, attributes, *texts).decode()
 
 
+# How many names a session reads of a header one by one, before it reads all names of the header at once.
+_FEW = 4
+
+
 class Way(enum.Enum):
     """How a site keeps a cookie. Where a way is asked its name does too, as `"sealed"`."""
 
@@ -340,6 +412,7 @@ class Way(enum.Enum):
 
 
 WayOrName = Union[Way, str]
+_PREFIXES = {Way.HOST: b"__Host-", Way.SECURE: b"__Secure-"}
 
 
 def _way(way: WayOrName) -> Way:
@@ -353,6 +426,25 @@ def _way(way: WayOrName) -> Way:
 
 def _escaped(text: str) -> bytes:
     return urllib.parse.quote_from_bytes(_bytes(text), safe="").encode()
+
+
+def _whole(way: Way, name: str) -> bytes:
+    """The name of a cookie with the prefix of its way."""
+    return _PREFIXES.get(way, b"") + _bytes(name)
+
+
+def _guessed(header: bytes) -> set[bytes]:
+    """The names that a header seems to have, escaped."""
+    names = {urllib.parse.unquote_to_bytes(pair.partition(b"=")[0].strip()) for pair in header.split(b";")}
+    return {urllib.parse.quote_from_bytes(name, safe="").encode() for name in names if name and _is_utf8(name)}
+
+
+def _is_utf8(text: bytes) -> bool:
+    try:
+        text.decode()
+    except UnicodeDecodeError:
+        return False
+    return True
 
 
 def _date(second: int) -> bytes:
@@ -378,12 +470,44 @@ class Session:
         self._header, self._key, self._now = _bytes(header), _bytes(key), _second(now)
         if len(self._key) != _KEY_LENGTH:
             raise ValueError(f"a key of {len(self._key)} bytes")
-        self._commands: List[bytes] = []
+        self._commands: list[bytes] = []
         self._nonces = b""
+        # The last command of each cookie with its nonce; the header decoded, what was read of it, and the ways in which
+        # all was.
+        self._last: dict[bytes, tuple[bytes, bytes]] = {}
+        self._decoded: Optional[bytes] = None
+        self._read: dict[bytes, Optional[str]] = {}
+        self._ahead: set[Way] = set()
 
     def get(self, way: WayOrName, name: str) -> Optional[str]:
         """The value of a name, as it was set in this way: set last here, else in the header."""
-        return self._items([*self._commands, b"G" + _way(way).value + _escaped(name)], self._nonces)[0]
+        way = _way(way)
+        asked = b"G" + way.value + _escaped(name)
+        whole = _whole(way, name)
+        if whole in self._last:
+            # What a cookie was set to last decides, whatever the header has and other names were set to.
+            command, nonce = self._last[whole]
+            return _items(self._exchange(b"", [command, asked], nonce))[0]
+        if asked not in self._read:
+            self._read_header(way, whole, asked)
+        return self._read[asked]
+
+    def _read_header(self, way: Way, whole: bytes, asked: bytes) -> None:
+        """Keeps what the header has of this name, and of all its names in this way once many were asked."""
+        if self._decoded is None:
+            self._decoded = urllib.parse.unquote_to_bytes(self._header)
+        if whole not in self._header and whole not in self._decoded:
+            # (so it isn't read for a name that it can't have)
+            self._keep(b"", [asked])
+            return
+        if len(self._read) >= _FEW and way not in self._ahead:
+            self._ahead.add(way)
+            self._keep(self._header, [b"G" + way.value + name for name in _guessed(self._header)])
+        if asked not in self._read:
+            self._keep(self._header, [asked])
+
+    def _keep(self, header: bytes, asked: list[bytes]) -> None:
+        self._read.update(zip(asked, _items(self._exchange(header, asked, b""))))
 
     def set(self, way: WayOrName, name: str, value: str, max_age: Optional[Life] = None,
             expires: Optional[Moment] = None, http_only: bool = False, same_site: Optional[str] = None,
@@ -405,30 +529,30 @@ class Session:
         line += b"; Partitioned" if partitioned else b""
         line += b"; Max-Age=%d" % _seconds_of(max_age) if max_age is not None else b""
         line += b"; Expires=" + _date(_second_of(expires)) if expires is not None else b""
-        self._add(line, os.urandom(_NONCE_LENGTH) if way is Way.SEALED else b"")
+        self._add(_whole(way, name), line, os.urandom(_NONCE_LENGTH) if way is Way.SEALED else b"")
 
     def remove(self, way: WayOrName, name: str) -> None:
         """Removes the cookie of a name that was set in a way."""
-        self._add(b"R" + _way(way).value + _escaped(name), b"")
+        way = _way(way)
+        self._add(_whole(way, name), b"R" + way.value + _escaped(name), b"")
 
-    def close(self) -> List[str]:
+    def close(self) -> list[str]:
         """The `Set-Cookie` line of each cookie that was set or removed, in no promised order."""
-        return [line for line in self._items(self._commands, self._nonces) if line is not None]
+        items = _items(self._exchange(self._header, self._commands, self._nonces))
+        return [line for line in items if line is not None]
 
     def __reduce__(self) -> NoReturn:
         """Raises, since a nonce is used once, and a key is kept from files."""
         raise TypeError("a Session is neither copied nor pickled: open another on the header")
 
-    def _add(self, command: bytes, nonce: bytes) -> None:
+    def _add(self, whole: bytes, command: bytes, nonce: bytes) -> None:
         # What a command is refused for is in itself, and so is asked of it alone.
         self._exchange(b"", [command], nonce)
         self._commands.append(command)
         self._nonces += nonce
+        self._last[whole] = command, nonce
 
-    def _items(self, commands: List[bytes], nonces: bytes) -> List[Optional[str]]:
-        return _items(self._exchange(self._header, commands, nonces))
-
-    def _exchange(self, header: bytes, commands: List[bytes], nonces: bytes) -> bytes:
+    def _exchange(self, header: bytes, commands: list[bytes], nonces: bytes) -> bytes:
         return _answered(_LIB.fonnalich_exchange, self._key, header, self._now, b"\n".join(commands), nonces)
 
 
@@ -437,16 +561,17 @@ class Client:
 
     A line as `str` goes in as UTF-8, and a header comes out so. What has a character for each byte, as a header from
     `http.client`, goes in as `line.encode("latin-1")`, and out as `header.encode().decode("latin-1")`: `Jar` does so.
-    `suffixes` is the text of a public suffix list, as publicsuffix.org publishes it, in `str` or bytes. Where `saved`
-    is given, the client begins with the cookies of that text that aren't expired now. A moment is in seconds since
-    1970, of which the whole part counts, or a `datetime` with a zone; none is now. Lines come behind `rules`, which
-    judge none of the cookies that are there.
+    `suffixes` is a `List`, or the text of one, as publicsuffix.org publishes it, in `str` or bytes; one without a rule
+    is refused as `NoRules`. Where `saved` is given, the client begins with the cookies of that text that aren't expired
+    now. A moment is in seconds since 1970, of which the whole part counts, or a `datetime` with a zone; none is now.
+    Lines come behind `rules`, which judge none of the cookies that are there.
     Calls of one client wait for one another, so threads may share it. In a process that was forked while another thread
     was in a call of the client, each call of it raises `RuntimeError`.
     """
 
-    def __init__(self, suffixes: Text, saved: Optional[Bytes] = None, now: Optional[Moment] = None,
+    def __init__(self, suffixes: Suffixes, saved: Optional[Bytes] = None, now: Optional[Moment] = None,
                  rules: int = Rules.NONE):
+        text = _list(suffixes)
         self._lock = threading.Lock()
         self._is_torn = False
         self._room = ctypes.create_string_buffer(_ROOM)
@@ -455,9 +580,9 @@ class Client:
         _LIB.fonnalich_begin(self._place)
         _CLIENTS.add(self)
         if saved is None:
-            self._call(_LIST, 0, b"", _bytes(suffixes))
+            self._call(_LIST, 0, b"", text)
         else:
-            self._call(_LOAD, _second(now), _bytes(saved), _bytes(suffixes))
+            self._call(_LOAD, _second(now), _bytes(saved), text)
         self._put(rules)
 
     @property
@@ -487,7 +612,7 @@ class Client:
             _raise(length)
             return ctypes.string_at(self._room, length)
 
-    def receive(self, url: str, lines: Iterable[Text], now: Optional[Moment] = None) -> List[End]:
+    def receive(self, url: str, lines: Iterable[Text], now: Optional[Moment] = None) -> list[End]:
         """Takes the Set-Cookie lines of an answer from this URL, and says what became of each."""
         each = _lines(lines)
         if not each:

@@ -1,0 +1,32 @@
+"""What the modules for sites share: a session whose lines go out with a response's fields."""
+from __future__ import annotations
+
+from . import Bytes, Session
+
+NAME = "fonnalich.session"
+
+
+class Sent(RuntimeError):
+    """A cookie was set or removed behind the response's fields, which had gone out with the first byte of its body."""
+
+
+class ResponseSession(Session):
+    """A session that sets no cookie any more once the response's fields have gone out: that raises `Sent`."""
+
+    _is_sent = False
+
+    def send(self) -> list[str]:
+        """The `Set-Cookie` lines of the fields that go out now."""
+        self._is_sent = True
+        return self.close() if self._commands else []
+
+    def _add(self, whole: bytes, command: bytes, nonce: bytes) -> None:
+        if self._is_sent:
+            raise Sent("the response's fields have gone out: set cookies before the first byte of its body")
+        super()._add(whole, command, nonce)
+
+
+def checked(key: Bytes) -> bytes:
+    """A key, which is refused here and not at the first request."""
+    Session("", key)
+    return bytes(key)

@@ -1,0 +1,92 @@
+"""Django's session as a sealed cookie. In the settings:
+
+    SESSION_ENGINE = "fonnalich.django"
+    SESSION_COOKIE_NAME, SESSION_COOKIE_SECURE = "__Host-session", True
+    FONNALICH_KEY = Path("KEY_FILE").read_bytes()
+
+It is as `django.contrib.sessions.backends.signed_cookies`, but encrypted, so that its user can't read it; and no
+neighbour site can set, shadow or expire it. As there, a cookie that was stolen holds until `SESSION_COOKIE_AGE` is
+over, whatever was logged out since.
+"""
+from __future__ import annotations
+
+import time
+from typing import Any, Optional
+
+from django.conf import settings
+from django.contrib.sessions.backends.base import SessionBase
+from django.core.exceptions import ImproperlyConfigured
+
+from . import Session, Way
+
+__all__ = ["SessionStore"]
+
+
+def _key() -> bytes:
+    """The key of the settings, where these say what the prefix `__Host-` asks."""
+    wrong = []
+    if not settings.SESSION_COOKIE_NAME.startswith("__Host-"):
+        wrong.append("SESSION_COOKIE_NAME has to begin with __Host-")
+    if not settings.SESSION_COOKIE_SECURE or settings.SESSION_COOKIE_DOMAIN or settings.SESSION_COOKIE_PATH != "/":
+        wrong.append("SESSION_COOKIE_SECURE has to be True, SESSION_COOKIE_DOMAIN None and SESSION_COOKIE_PATH /")
+    key = getattr(settings, "FONNALICH_KEY", None)
+    if not isinstance(key, bytes) or len(key) != 64:
+        wrong.append("FONNALICH_KEY has to be 64 secret bytes")
+    if wrong:
+        raise ImproperlyConfigured("; ".join(wrong))
+    return bytes(key or b"")
+
+
+class SessionStore(SessionBase):
+    """A session whose key is the sealed text of all that it holds, so that nothing is kept at the site."""
+
+    def __init__(self, session_key: Optional[str] = None):
+        self._secret = _key()
+        super().__init__(session_key)
+
+    def load(self) -> dict[str, Any]:
+        """What the cookie holds; a new session where it holds nothing by this key, or is past its age."""
+        name = settings.SESSION_COOKIE_NAME
+        text = Session(f"{name}={self.session_key}", self._secret).get(Way.SEALED, name)
+        try:
+            second, _, content = (text or "").partition(" ")
+            if int(second) + self.get_session_cookie_age() >= time.time():
+                found: dict[str, Any] = self.serializer().loads(content.encode("latin-1"))
+                return found
+        except Exception:  # (whatever a serializer of the settings raises)
+            pass
+        self.create()
+        return {}
+
+    def create(self) -> None:
+        """Has a cookie be set."""
+        self.modified = True
+
+    def save(self, must_create: bool = False) -> None:
+        """Seals what the session holds."""
+        self._session_key = self._get_session_key()
+        self.modified = True
+
+    def exists(self, session_key: Optional[str] = None) -> bool:
+        """Tells that no session is kept at the site."""
+        return False
+
+    def delete(self, session_key: Optional[str] = None) -> None:
+        """Empties the session, so that the cookie is removed."""
+        self._session_key = ""
+        self._session_cache: dict[str, Any] = {}
+        self.modified = True
+
+    def cycle_key(self) -> None:
+        """Seals what the session holds anew."""
+        self.save()
+
+    def _get_session_key(self) -> str:
+        session = Session("", self._secret)
+        text = f"{int(time.time())} {self.serializer().dumps(self._session).decode('latin-1')}"
+        session.set(Way.SEALED, settings.SESSION_COOKIE_NAME, text)
+        return session.close()[0].partition(";")[0].partition("=")[2]
+
+    @classmethod
+    def clear_expired(cls) -> None:
+        """Does nothing, since no session is kept at the site."""

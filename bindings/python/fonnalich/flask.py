@@ -1,0 +1,95 @@
+"""Flask's session as a sealed cookie: `init_app(app, key)`.
+
+What `flask.session` holds is JSON, as Flask writes it, in the cookie `__Host-session`. It is encrypted, so that its
+user can't read it, and no neighbour site can set, shadow or expire it. A client takes it over https alone: for a trial
+by http at `localhost` name it `session`.
+"""
+from __future__ import annotations
+
+import time
+import warnings
+from typing import TYPE_CHECKING, Any, Optional
+
+from flask.sessions import SecureCookieSession, SessionInterface, session_json_serializer
+
+from . import Bytes, Session, Way
+from ._response import checked
+
+if TYPE_CHECKING:
+    from flask import Flask, Request, Response
+
+__all__ = ["SealedSession", "Sessions", "init_app"]
+
+# What a client has to keep of a name and a value (RFC 6265, section 6.1).
+_LONGEST = 4096
+# What a cookie under `__Host-` can't have.
+_OTHERS = ("SESSION_COOKIE_DOMAIN", "SESSION_COOKIE_PATH")
+
+
+def init_app(app: Flask, key: Bytes, name: str = "__Host-session") -> None:
+    """Has the sessions of an application be sealed by this key of 64 bytes.
+
+    `SESSION_COOKIE_HTTPONLY`, `SESSION_COOKIE_SAMESITE` (none is `Lax`), `SESSION_REFRESH_EACH_REQUEST` and
+    `PERMANENT_SESSION_LIFETIME` count as Flask says. A domain and a path are refused, since the cookie is its host's.
+    """
+    for it in _OTHERS:
+        if app.config.get(it) not in (None, False, "/"):
+            raise ValueError(f"{it}: the cookie is of its host and of all paths")
+    app.session_interface = Sessions(key, name)
+
+
+class SealedSession(SecureCookieSession):
+    """What `flask.session` is: a dict that keeps whether it was read and changed."""
+
+    def __init__(self, kept: Session, content: Any = None):
+        super().__init__(content)
+        self.kept = kept
+
+
+class Sessions(SessionInterface):
+    """Opens and saves the sessions of an application, under one name and by one key of 64 bytes."""
+
+    def __init__(self, key: Bytes, name: str = "__Host-session"):
+        self._key, self._name = checked(key), name
+
+    def open_session(self, app: Flask, request: Request) -> SealedSession:
+        """The session of a request, empty where it has none by this key, or one past its lifetime."""
+        # (a header has a character for each byte)
+        header: bytes = request.environ.get("HTTP_COOKIE", "").encode("latin-1")
+        kept = Session(header, self._key)
+        return SealedSession(kept, _content(app, kept.get(Way.SEALED, self._name)))
+
+    def save_session(self, app: Flask, session: Any, response: Response) -> None:
+        """Puts the line of the session's cookie into a response, where there is something to set or to remove."""
+        if session.accessed:
+            response.vary.add("Cookie")
+        if not session and session.modified:
+            session.kept.remove(Way.SEALED, self._name)
+        elif session and self.should_set_cookie(app, session):
+            self._seal(app, session)
+        else:
+            return
+        for line in session.kept.close():
+            response.headers.add("Set-Cookie", line)
+            if len(line.partition(";")[0]) > _LONGEST:
+                warnings.warn(f"the session is over {_LONGEST} bytes, which clients needn't keep", stacklevel=2)
+
+    def _seal(self, app: Flask, session: SealedSession) -> None:
+        text = session_json_serializer.dumps([int(time.time()), dict(session)])
+        session.kept.set(Way.SEALED, self._name, text,
+                         max_age=app.permanent_session_lifetime if session.permanent else None,
+                         http_only=self.get_cookie_httponly(app), same_site=self.get_cookie_samesite(app) or "Lax",
+                         partitioned=bool(app.config.get("SESSION_COOKIE_PARTITIONED")))
+
+
+def _content(app: Flask, text: Optional[str]) -> Optional[dict[str, Any]]:
+    """What a cookie holds, where it isn't past its lifetime, which Flask counts for a session of the browser too."""
+    if text is None:
+        return None
+    try:
+        second, content = session_json_serializer.loads(text)
+        is_over = second + int(app.permanent_session_lifetime.total_seconds()) < int(time.time())
+        return None if is_over else dict(content)
+    except (TypeError, ValueError):
+        # (another program's text under this key)
+        return None

@@ -1,0 +1,109 @@
+"""A client for `httpx`: what requests go out by, which puts a client's header and takes the lines of each answer.
+
+    httpx.Client(transport=Transport(client), cookies=EmptyJar())
+    httpx.AsyncClient(transport=AsyncTransport(client), cookies=EmptyJar())
+
+At a redirect it does so for each hop. The client's header takes the place of any other one, as that of `cookies=`. What
+a request gets goes by its URL, whatever its `Host` header says. Without an `EmptyJar` `httpx` keeps the cookies of the
+answers too, to no end, and fails by those that have other characters than ASCII.
+"""
+from __future__ import annotations
+
+import http.cookiejar
+from types import TracebackType
+from typing import Any, Optional, Type
+
+import httpx
+
+from . import Client, Refused, is_plain_url
+
+__all__ = ["AsyncTransport", "EmptyJar", "Transport"]
+
+_URL = -6
+
+
+class EmptyJar(http.cookiejar.CookieJar):
+    """A jar that takes nothing, so that `httpx` keeps no cookies beside the client's."""
+
+    def extract_cookies(self, *_: object) -> None:
+        """Takes nothing."""
+
+
+class Transport(httpx.BaseTransport):
+    """A transport by a client, over another one, else over an `HTTPTransport` of `httpx` that is made of the other
+    words."""
+
+    def __init__(self, client: Client, over: Optional[httpx.BaseTransport] = None, **how: Any):
+        self.client = client
+        self.over = httpx.HTTPTransport(**how) if over is None else over
+
+    def handle_request(self, request: httpx.Request) -> httpx.Response:
+        """Sends a request with the client's header, and has the client take the lines of the answer."""
+        url = _put(self.client, request)
+        response = self.over.handle_request(request)
+        _take(self.client, url, response)
+        return response
+
+    def close(self) -> None:
+        """Closes what requests go out by."""
+        self.over.close()
+
+    def __enter__(self) -> Transport:
+        self.over.__enter__()
+        return self
+
+    def __exit__(self, kind: Optional[Type[BaseException]] = None, why: Optional[BaseException] = None,
+                 trace: Optional[TracebackType] = None) -> None:
+        self.over.__exit__(kind, why, trace)
+
+
+class AsyncTransport(httpx.AsyncBaseTransport):
+    """The same for tasks, over an `AsyncHTTPTransport` where no other one is given."""
+
+    def __init__(self, client: Client, over: Optional[httpx.AsyncBaseTransport] = None, **how: Any):
+        self.client = client
+        self.over = httpx.AsyncHTTPTransport(**how) if over is None else over
+
+    async def handle_async_request(self, request: httpx.Request) -> httpx.Response:
+        """Sends a request with the client's header, and has the client take the lines of the answer."""
+        url = _put(self.client, request)
+        response = await self.over.handle_async_request(request)
+        _take(self.client, url, response)
+        return response
+
+    async def aclose(self) -> None:
+        """Closes what requests go out by."""
+        await self.over.aclose()
+
+    async def __aenter__(self) -> AsyncTransport:
+        await self.over.__aenter__()
+        return self
+
+    async def __aexit__(self, kind: Optional[Type[BaseException]] = None, why: Optional[BaseException] = None,
+                        trace: Optional[TracebackType] = None) -> None:
+        await self.over.__aexit__(kind, why, trace)
+
+
+def _asked(url: httpx.URL) -> str:
+    """The URL of what `httpx` connects to and asks there. It is refused where the client could read another site, as
+    of a path without a slash, behind which a text goes on with the host."""
+    host = url.raw_host.decode("ascii")
+    port = f":{url.port}" if url.port is not None else ""
+    site = f"{url.scheme}://{f'[{host}]' if ':' in host else host}{port}"
+    path: str = url.raw_path.decode("ascii")
+    if not is_plain_url(f"{site}/") or not path.startswith("/"):
+        raise Refused(_URL)
+    return site + path
+
+
+def _put(client: Client, request: httpx.Request) -> str:
+    """Puts the client's header into a request, byte for byte, and returns the URL."""
+    url = _asked(request.url)
+    header = client.header(url).encode("utf-8", "surrogateescape")
+    others = [(name, value) for name, value in request.headers.raw if name.lower() != b"cookie"]
+    request.headers = httpx.Headers([*others, *([(b"Cookie", header)] if header else [])])
+    return url
+
+
+def _take(client: Client, url: str, response: httpx.Response) -> None:
+    client.receive(url, [value for name, value in response.headers.raw if name.lower() == b"set-cookie"])

@@ -1,0 +1,164 @@
+"""Tests `fonnalich.django` by Django, beside its own backend of signed cookies."""
+import json
+import random
+import unittest
+import unittest.mock
+
+import django
+from django.conf import settings
+from django.core.exceptions import ImproperlyConfigured
+from django.core.handlers.wsgi import WSGIHandler
+from django.http import HttpResponse
+from django.test.utils import override_settings
+from django.urls import path
+
+from fonnalich import Cookie, Session, Way
+
+from frameworks.kit import KEY, NOW, Browser, blocks
+
+HOST, NEIGHBOUR = "https://shop.test/", "https://sub.shop.test/"
+NAMES = {"key": KEY}
+exec(blocks("Django")[0], NAMES)
+SETTINGS = {name: value for name, value in NAMES.items() if name.isupper()}
+OWN = {**SETTINGS, "SESSION_ENGINE": "django.contrib.sessions.backends.signed_cookies"}
+
+
+def told(request):
+    return HttpResponse(repr(sorted(request.session.items())))
+
+
+def put(request, name, value):
+    request.session[name] = value
+    return told(request)
+
+
+def pop(request, name):
+    request.session.pop(name, None)
+    return told(request)
+
+
+def flush(request):
+    request.session.flush()
+    return told(request)
+
+
+def cycle(request):
+    request.session.cycle_key()
+    return told(request)
+
+
+def browser_s(request):
+    request.session.set_expiry(0)
+    return told(request)
+
+
+def page(request):
+    return HttpResponse("page")
+
+
+urlpatterns = [path("", told), path("set/<name>/<value>", put), path("pop/<name>", pop), path("flush", flush),
+               path("cycle", cycle), path("browser", browser_s), path("static", page)]
+settings.configure(ALLOWED_HOSTS=["*"], ROOT_URLCONF=__name__, SECRET_KEY="a secret", USE_TZ=True,
+                   MIDDLEWARE=["django.contrib.sessions.middleware.SessionMiddleware"], **SETTINGS)
+django.setup()
+
+
+def browser(**changed):
+    """A browser of the site by these settings, which count for it as it is made."""
+    with override_settings(**changed):
+        return Browser(WSGIHandler())
+
+
+class Sessions(unittest.TestCase):
+    def setUp(self):
+        self.browser = browser()
+
+    def test_come_back(self):
+        self.browser.get("/set/user/ann")
+        self.assertEqual(self.browser.get("/").text, "[('user', 'ann')]")
+        self.browser.get("/cycle")
+        self.assertEqual(self.browser.get("/").text, "[('user', 'ann')]")
+
+    def test_are_sealed_json_of_the_host(self):
+        line, = self.browser.get("/set/user/ann").lines()
+        cookie = Cookie.parse(line)
+        self.assertEqual((cookie.name, cookie.path, cookie.domain, cookie.secure, cookie.http_only, cookie.same_site,
+                          cookie.max_age), ("__Host-session", "/", None, True, True, "Lax", 14 * 24 * 60 * 60))
+        self.assertNotIn("ann", line)
+        text = Session(line.partition(";")[0], KEY).get(Way.SEALED, "__Host-session")
+        self.assertEqual(json.loads(text.partition(" ")[2]), {"user": "ann"})
+
+    def test_end(self):
+        self.browser.get("/set/user/ann")
+        cookie = Cookie.parse(self.browser.get("/flush").lines()[0])
+        self.assertEqual((cookie.name, cookie.max_age), ("__Host-session", 0))
+        self.assertEqual(self.browser.client.header(HOST), "")
+
+    def test_of_another_hand_are_empty(self):
+        self.browser.get("/set/user/ann")
+        header = self.browser.client.header(HOST)
+        for text in ["hello", "[]", "1 {", f"{NOW} {{}}", ""]:
+            other = Session("", KEY)
+            other.set(Way.SEALED, "__Host-session", text)
+            self.assertEqual(self.browser.get("/", other.close()[0].partition(";")[0]).text, "[]", text)
+        for pair in [header[:-1], header[:30] + "x" + header[31:], header.replace("__Host-", ""), "__Host-session=",
+                     "__Host-session=\u65e5"]:
+            self.assertEqual(self.browser.get("/", pair).text, "[]", pair)
+        self.assertEqual(self.browser.get("/", header).text, "[('user', 'ann')]")
+
+    # The cookie that a neighbour plants is one that the site sealed for it.
+    def test_are_not_set_by_a_neighbour(self):
+        eve = browser()
+        eve.get("/set/user/eve")
+        pair = eve.client.header(HOST)
+        lines = [f"{pair}; Domain=shop.test; Path=/; Secure", f"{pair}; Secure; Path=/",
+                 "__Host-session=; Domain=shop.test; Max-Age=0; Path=/; Secure"]
+        self.browser.get("/set/user/ann")
+        for site in [NEIGHBOUR, "http://shop.test/"]:
+            self.browser.client.receive(site, lines)
+        self.assertEqual(self.browser.get("/").text, "[('user', 'ann')]")
+
+
+class Settings(unittest.TestCase):
+    def test_that_can_not_be_are_told(self):
+        for wrong in [{"SESSION_COOKIE_NAME": "sessionid"}, {"SESSION_COOKIE_SECURE": False},
+                      {"SESSION_COOKIE_DOMAIN": "shop.test"}, {"SESSION_COOKIE_PATH": "/shop"},
+                      {"FONNALICH_KEY": bytes(63)}, {"FONNALICH_KEY": "x" * 64}, {"FONNALICH_KEY": None}]:
+            with override_settings(**wrong), self.assertRaisesRegex(ImproperlyConfigured, [*wrong][0]):
+                from fonnalich.django import SessionStore
+                SessionStore()
+
+
+class BesideDjango(unittest.TestCase):
+    """What a site tells by a sealed session is what it tells by Django's signed one."""
+
+    def test_lives_as_long(self):
+        for paths in [["/set/user/ann"], ["/set/user/ann", "/browser"]]:
+            for last in [59, 60, 61]:
+                self.play([*((path, 0) for path in paths), ("/", last), ("/", 0)])
+
+    def test_in_drawn_plays(self):
+        drawn, acts = random.Random(3), ["/", "/", "/static", "/set/a/1", "/set/a/2", "/set/b/1", "/pop/a", "/pop/b",
+                                         "/flush", "/cycle", "/browser"]
+        for i in range(40):
+            asked = [(act, drawn.choice([0, 1, 20, 59, 61])) for act in drawn.choices(acts, k=12)]
+            self.play(asked, SESSION_SAVE_EVERY_REQUEST=i % 2 > 0)
+
+    def play(self, asked, **more):
+        browsers, now = [(browser(**each), each) for each in (OWN, SETTINGS)], NOW
+        for where, later in asked:
+            now += later
+            with unittest.mock.patch("time.time", lambda: now + 0.25):
+                own, other = (self.told(it, where, now, {**each, **more}) for it, each in browsers)
+            self.assertEqual(own, other, (asked, where))
+
+    def told(self, its, where, now, changed):
+        """The text of an answer, and of each line whether it sets a cookie, and for how long."""
+        its.now = now
+        with override_settings(SESSION_COOKIE_AGE=60, **changed):
+            answer = its.get(where)
+        return answer.text, [(bool(it.value), it.max_age) for it in map(Cookie.parse, answer.lines())]
+
+
+if __name__ == "__main__":
+    unittest.main()

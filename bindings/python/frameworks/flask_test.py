@@ -1,0 +1,219 @@
+"""Tests `fonnalich.flask` by Flask, beside Flask's own session."""
+import datetime
+import json
+import random
+import time
+import unittest
+import unittest.mock
+import warnings
+
+import flask
+from flask import Flask, session
+
+import fonnalich.flask
+from fonnalich import Cookie, Session, Way
+
+from frameworks.kit import KEY, NOW, Browser, blocks
+
+HOST, NEIGHBOUR = "https://shop.test/", "https://sub.shop.test/"
+
+
+def shop(**settings):
+    """An application that does to its session what is asked, and tells what it holds."""
+    app = Flask("shop")
+    app.config.update(SECRET_KEY="a secret", **settings)
+
+    @app.route("/set/<name>/<value>")
+    def put(name, value):
+        session[name] = value
+        return told()
+
+    @app.route("/pop/<name>")
+    def pop(name):
+        session.pop(name, None)
+        return told()
+
+    @app.route("/clear")
+    def clear():
+        session.clear()
+        return told()
+
+    @app.route("/permanent/<int:is_so>")
+    def permanent(is_so):
+        session.permanent = bool(is_so)
+        return told()
+
+    @app.route("/flash")
+    def put_flash():
+        flask.flash("seen", "info")
+        session["pair"] = (1, b"\xff")
+        return told()
+
+    @app.route("/flashed")
+    def flashed():
+        return repr((flask.get_flashed_messages(with_categories=True), session["pair"]))
+
+    @app.route("/")
+    def told():
+        return repr(sorted(session.items()))
+
+    @app.route("/static")
+    def static_page():
+        return "page"
+
+    return app
+
+
+def sealed(**settings):
+    app = shop(**settings)
+    fonnalich.flask.init_app(app, KEY)
+    return app
+
+
+class Sessions(unittest.TestCase):
+    def setUp(self):
+        self.browser = Browser(sealed())
+
+    def test_come_back(self):
+        self.browser.get("/set/user/ann")
+        self.assertEqual(self.browser.get("/").text, "[('user', 'ann')]")
+        self.browser.get("/flash")
+        self.assertEqual(self.browser.get("/flashed").text, repr(([("info", "seen")], (1, b"\xff"))))
+
+    def test_are_sealed_json_of_the_host(self):
+        line, = self.browser.get("/set/user/ann").lines()
+        cookie = Cookie.parse(line)
+        self.assertEqual((cookie.name, cookie.path, cookie.domain, cookie.secure, cookie.http_only, cookie.same_site,
+                          cookie.max_age, cookie.expires),
+                         ("__Host-session", "/", None, True, True, "Lax", None, None))
+        self.assertNotIn("ann", line)
+        second, content = json.loads(Session(line.partition(";")[0], KEY).get(Way.SEALED, "__Host-session"))
+        self.assertLess(abs(time.time() - second), 60)
+        self.assertEqual(content, {"user": "ann"})
+
+    def test_say_what_they_vary_by(self):
+        self.assertIn(("Vary", "Cookie"), self.browser.get("/set/user/ann").fields)
+        self.assertNotIn(("Vary", "Cookie"), self.browser.get("/static").fields)
+
+    def test_are_not_touched_without_a_change(self):
+        self.browser.get("/set/user/ann")
+        for path in ["/", "/static", "/pop/none"]:
+            self.assertEqual(self.browser.get(path).lines(), [])
+
+    def test_end(self):
+        for path in ["/clear", "/pop/user"]:
+            self.browser.get("/set/user/ann")
+            cookie = Cookie.parse(self.browser.get(path).lines()[0])
+            self.assertEqual((cookie.name, cookie.value, cookie.max_age), ("__Host-session", "", 0))
+            self.assertEqual(self.browser.client.header(HOST), "")
+            self.assertEqual(self.browser.get(path).lines(), [])
+
+    def test_of_another_hand_are_empty(self):
+        self.browser.get("/set/user/ann")
+        header = self.browser.client.header(HOST)
+        for text in ["hello", "[]", "[1]", '["a", {}]', "{}", "[1e999, 3]"]:
+            other = Session("", KEY)
+            other.set(Way.SEALED, "__Host-session", text)
+            self.assertEqual(self.browser.get("/", other.close()[0].partition(";")[0]).text, "[]", text)
+        for pair in [header[:-1], header[:30] + "x" + header[31:], header.replace("__Host-", ""), "__Host-session=",
+                     "__Host-session=\u65e5"]:
+            self.assertEqual(self.browser.get("/", pair).text, "[]", pair)
+        self.assertEqual(self.browser.get("/", header).text, "[('user', 'ann')]")
+
+    # The cookie that a neighbour plants is one that the site sealed for it.
+    def test_are_not_set_by_a_neighbour(self):
+        eve = Browser(sealed())
+        eve.get("/set/user/eve")
+        pair = eve.client.header(HOST)
+        lines = [f"{pair}; Domain=shop.test; Path=/; Secure", f"{pair}; Domain=shop.test; Path=/set; Secure",
+                 f"{pair}; Secure; Path=/", "__Host-session=; Domain=shop.test; Max-Age=0; Path=/; Secure",
+                 pair.replace("__Host-", "__HOST-") + "; Domain=shop.test; Path=/; Secure"]
+        for is_late in [False, True]:
+            if is_late:
+                self.browser.get("/set/user/ann")
+            for site in [NEIGHBOUR, "http://shop.test/", "http://sub.shop.test/"]:
+                self.browser.client.receive(site, lines)
+            self.assertEqual(self.browser.get("/").text, "[('user', 'ann')]" if is_late else "[]")
+
+    def test_are_long_with_a_warning(self):
+        with warnings.catch_warnings(record=True) as seen:
+            warnings.simplefilter("always")
+            self.browser.get(f"/set/user/{'x' * 2000}")
+            self.assertEqual(seen, [])
+            self.browser.get(f"/set/user/{'x' * 4000}")
+            self.assertIn("4096 bytes", str(seen[0].message))
+
+    def test_open_in_flask_s_own_client(self):
+        client = sealed().test_client()
+        with client.session_transaction(base_url=HOST) as opened:
+            opened["user"] = "ann"
+        self.assertEqual(client.get("/", base_url=HOST).text, "[('user', 'ann')]")
+
+
+class Settings(unittest.TestCase):
+    def test_count(self):
+        app = sealed(SESSION_COOKIE_HTTPONLY=False, SESSION_COOKIE_SAMESITE="Strict")
+        cookie = Cookie.parse(Browser(app).get("/set/user/ann").lines()[0])
+        self.assertEqual((cookie.http_only, cookie.same_site), (False, "Strict"))
+
+    def test_that_can_not_be_are_refused(self):
+        for wrong in [{"SESSION_COOKIE_DOMAIN": "shop.test"}, {"SESSION_COOKIE_PATH": "/shop"}]:
+            with self.assertRaisesRegex(ValueError, [*wrong][0]):
+                sealed(**wrong)
+        for key, error in [(bytes(63), ValueError), ("x" * 64, TypeError)]:
+            with self.assertRaises(error):
+                fonnalich.flask.init_app(Flask("shop"), key)
+
+    def test_of_the_page_run(self):
+        names = {"app": shop(), "key": KEY}
+        exec(blocks("Flask")[0], names)
+        browser = Browser(names["app"])
+        browser.get("/set/user/ann")
+        self.assertIn("__Host-session=", browser.client.header(HOST))
+
+
+class BesideFlask(unittest.TestCase):
+    """What an application tells by a sealed session is what it tells by Flask's own."""
+
+    def test_lives_as_long(self):
+        self.play(["/permanent/1", "/set/user/ann"], [0, 30, 59, 59, 61], None)
+        self.play(["/set/user/ann"], [59, 60, 61], None)
+        self.play(["/set/user/ann"], [60], None)
+        self.play(["/permanent/1", "/set/user/ann"], [30, 29, 2], False)
+
+    def test_in_drawn_plays(self):
+        drawn, acts = random.Random(2), ["/", "/", "/static", "/set/a/1", "/set/a/2", "/set/b/1", "/pop/a", "/pop/b",
+                                         "/clear", "/permanent/1", "/permanent/0"]
+        for _ in range(40):
+            self.play(drawn.choices(acts, k=12), [drawn.choice([0, 1, 20, 59, 61]) for _ in range(12)],
+                      drawn.choice([None, False]))
+
+    def play(self, paths, seconds, refresh):
+        settings = {"PERMANENT_SESSION_LIFETIME": 60}
+        if refresh is not None:
+            settings["SESSION_REFRESH_EACH_REQUEST"] = refresh
+        browsers = [Browser(it(**settings)) for it in (shop, sealed)]
+        now, asked = NOW, [*((path, 0) for path in paths), *(("/", at) for at in seconds)]
+        if len(paths) == len(seconds):
+            asked = [*zip(paths, seconds), ("/", 0)]
+        for path, later in asked:
+            now += later
+            with unittest.mock.patch("time.time", lambda: now + 0.25):
+                (text, lives), (other_text, others) = (self.told(it, path, now) for it in browsers)
+            self.assertEqual((text, lives), (other_text, [(it, life and life // 30) for it, life in others]), asked)
+
+    def told(self, browser, path, now):
+        """The text of an answer, and the lives of the cookies that it sets."""
+        browser.now = now
+        answer = browser.get(path)
+        # (Flask removes a cookie too that isn't there)
+        return answer.text, [it for it in map(self.life, answer.lines()) if it[0]]
+
+    def life(self, line):
+        """Whether a line sets a cookie, and for how long. Flask counts that from the true time, whatever is told."""
+        it, true = Cookie.parse(line), datetime.datetime.now().timestamp()
+        return bool(it.value), it.max_age if it.max_age is not None else it.expires and round((it.expires - true) / 30)
+
+
+if __name__ == "__main__":
+    unittest.main()

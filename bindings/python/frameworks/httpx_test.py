@@ -1,0 +1,184 @@
+"""Tests `fonnalich.httpx`, and what `fonnalich.requests` hands on where that is there, against a site on loopback."""
+import asyncio
+import importlib.util
+import unittest
+
+import httpx
+
+import fonnalich.httpx
+from fonnalich import Client, End, Refused
+from fonnalich.httpx import AsyncTransport, EmptyJar, Transport
+
+from frameworks.kit import Site, blocks
+
+
+class Told(Client):
+    """A client that keeps what became of lines."""
+
+    def receive(self, *words):
+        ends = super().receive(*words)
+        self.ends = [*getattr(self, "ends", []), *ends]
+        return ends
+
+
+class Loopback(unittest.TestCase):
+    def setUp(self):
+        site = Site()
+        self.site, self.client = site.__enter__(), Told("test\n")
+        self.addCleanup(site.__exit__)
+        self.addCleanup(self.client.close)
+
+    def getters(self):
+        """What gets the body of a path, each by a new client: with and without tasks."""
+        with httpx.Client(transport=Transport(self.client), cookies=EmptyJar(), follow_redirects=True) as asked:
+            yield lambda path, **how: asked.get(self.site.url + path, **how).content
+        self.client = Told("test\n")
+        yield lambda path, **how: asyncio.run(self.task(path, **how))
+
+    async def task(self, path, **how):
+        how_it_asks = {"transport": AsyncTransport(self.client), "cookies": EmptyJar(), "follow_redirects": True}
+        async with httpx.AsyncClient(**how_it_asks) as asked:
+            return (await asked.get(self.site.url + path, **how)).content
+
+
+class Bytes(Loopback):
+    def test_come_back_as_they_came(self):
+        for get in self.getters():
+            # The byte 0x85 of the first is a line's end among characters.
+            self.site.lines["/"] = ["k=\u6148\u65e5".encode(), b"b=\xff", b"\xc3\xa9=\xf0\x9f\x8d\xaa"]
+            self.assertEqual(get("/"), b"")
+            self.assertEqual(self.client.ends, [End.INSERTED, End.NOT_TEXT, End.INSERTED])
+            self.site.lines.clear()
+            self.assertEqual(get("/"), "k=\u6148\u65e5; \u00e9=\U0001f36a".encode())
+
+
+class Hops(Loopback):
+    def test_have_the_header_and_the_lines_of_each(self):
+        for get in self.getters():
+            self.site.lines = self.site.server.lines = {"/go": [b"a=1; Path=/"], "/": [b"a=; Path=/; Max-Age=0", b"b=2"]}
+            self.assertEqual(get("/go"), b"a=1")
+            self.assertEqual(self.client.header(self.site.url), "b=2")
+            self.site.lines.clear()
+            self.assertEqual(get("/go"), b"b=2")
+
+    def test_go_without_other_cookies(self):
+        for get in self.getters():
+            self.assertEqual(get("/", headers={"Cookie": "own=1"}), b"")
+            self.client.receive(self.site.url, ["a=1"])
+            self.assertEqual(get("/go", headers={"Cookie": "own=1"}), b"a=1")
+
+    # Its own table is filled too, from which it makes a header.
+    def test_of_a_client_with_a_table(self):
+        self.site.lines["/"] = [b"a=1; Path=/"]
+        with httpx.Client(transport=Transport(self.client), cookies={"own": "1"}) as asked:
+            asked.get(self.site.url)
+            self.site.lines.clear()
+            self.client.receive(self.site.url, ["a=2; Path=/"])
+            self.assertEqual(asked.cookies.get("a"), "1")
+            self.assertEqual(asked.get(self.site.url).content, b"a=2")
+
+    def test_leave_an_empty_jar(self):
+        self.site.lines["/"] = [b"a=1; Path=/"]
+        with httpx.Client(transport=Transport(self.client), cookies=EmptyJar()) as asked:
+            self.assertEqual(asked.get(self.site.url).cookies["a"], "1")
+            self.assertEqual([*asked.cookies.jar], [])
+
+    def test_go_by_the_url(self):
+        for get in self.getters():
+            self.client.receive(self.site.url, ["a=1"])
+            self.client.receive("http://shop.test/", ["b=2"])
+            self.assertEqual(get("/", headers={"Host": "shop.test"}), b"a=1")
+
+
+class Transports(unittest.TestCase):
+    def setUp(self):
+        self.client = Client("test\n")
+        self.addCleanup(self.client.close)
+
+    # Of the first `httpx` asks shop.test for a path without a slash, and a text of both would have the host evil.test.
+    def test_ask_no_odd_url(self):
+        asked = []
+
+        def answer(request):
+            asked.append(str(request.url))
+            return httpx.Response(200, headers=[("Set-Cookie", "b=2; Path=/")])
+
+        self.client.receive("https://shop.test/", ["a=1; Path=/"])
+        with httpx.Client(transport=Transport(self.client, over=httpx.MockTransport(answer))) as its:
+            for url in ["https://shop.test\\@evil.test/x", "https://127.1/", "https://shop.test.\\evil.test/"]:
+                with self.assertRaises((Refused, httpx.InvalidURL), msg=url):
+                    its.get(url)
+            self.assertEqual(asked, [])
+            for url in ["https://shop.test/a/../b", "https://u:p@shop.test/", "https://SHOP.test:443/?a=b#c",
+                        "https://shop.test/\u00e9"]:
+                self.assertEqual(its.get(url).request.headers["Cookie"][:3], "a=1", url)
+            its.get("http://[::1]:8000/")
+        self.assertEqual(len(asked), 5)
+        self.assertEqual(self.client.header("https://shop.test/"), "a=1; b=2")
+        self.assertEqual(self.client.header("http://[::1]/"), "b=2")
+
+    def test_close_what_they_go_over(self):
+        class Over(httpx.BaseTransport, httpx.AsyncBaseTransport):
+            closed = 0
+
+            def close(self):
+                self.closed += 1
+
+            async def aclose(self):
+                self.closed += 1
+
+        async def tasks(over):
+            async with httpx.AsyncClient(transport=AsyncTransport(self.client, over=over)):
+                pass
+
+        for run in [lambda over: httpx.Client(transport=Transport(self.client, over=over)).close(),
+                    lambda over: asyncio.run(tasks(over))]:
+            over = Over()
+            run(over)
+            self.assertEqual(over.closed, 1)
+
+    def test_are_made_of_other_words(self):
+        with self.assertRaises(TypeError):
+            Transport(self.client, none=1)
+        Transport(self.client, retries=1).close()
+
+
+class Tasks(Loopback):
+    def test_share_a_client(self):
+        self.site.server.lines = {f"/{i}": [b"n%d=%d; Path=/" % (i, i)] for i in range(40)}
+
+        async def main():
+            async with httpx.AsyncClient(transport=AsyncTransport(self.client)) as asked:
+                await asyncio.gather(*(asked.get(f"{self.site.url}/{i}") for i in range(40)))
+                return (await asked.get(self.site.url)).text
+
+        self.assertEqual({*asyncio.run(main()).split("; ")}, {f"n{i}={i}" for i in range(40)})
+
+
+class Page(Loopback):
+    @unittest.skipUnless(importlib.util.find_spec("requests"), "requests isn't there")
+    def test_of_requests_runs(self):
+        import requests
+        with requests.Session() as session:
+            session.trust_env = False
+            exec(blocks("requests and httpx")[0], {"session": session, "client": self.client})
+            self.site.lines["/"] = [b"a=1; Path=/"]
+            for wanted in [b"", b"a=1"]:
+                self.assertEqual(session.get(self.site.url, timeout=10).content, wanted)
+
+    def test_of_httpx_runs(self):
+        names = {"httpx": httpx, "client": self.client}
+        exec(blocks("requests and httpx")[1], names)
+        self.site.lines["/"] = [b"a=1; Path=/"]
+        with names["browser"] as browser:
+            browser.get(self.site.url)
+
+        async def again():
+            async with names["tasks"] as tasks:
+                return (await tasks.get(self.site.url)).content
+
+        self.assertEqual(asyncio.run(again()), b"a=1")
+
+
+if __name__ == "__main__":
+    unittest.main()

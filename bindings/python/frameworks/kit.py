@@ -1,0 +1,107 @@
+"""What the tests of frameworks share: a browser for applications of WSGI, a site on loopback and the blocks of the
+page."""
+import http.server
+import os
+import re
+import threading
+import urllib.parse
+import wsgiref.util
+from wsgiref.validate import validator
+
+from fonnalich import Client, Rules
+
+TOP = os.path.dirname(os.path.dirname(os.path.dirname(os.path.dirname(os.path.abspath(__file__)))))
+KEY = bytes(range(64))
+NOW = 1700000000
+
+
+def blocks(heading):
+    """The blocks in Python of a section of the page."""
+    with open(f"{TOP}/bindings/README.md", encoding="utf-8") as page:
+        section = re.split(r"^#+ ", page.read().partition(f"\n### {heading}\n")[2], flags=re.M)[0]
+    found = re.findall(r"^```python\n(.*?)^```", section, re.M | re.S)
+    if not found:
+        raise ValueError(f"the page has no block under {heading}")
+    return found
+
+
+class Answer:
+    """What an application answered: the status, the fields and the body."""
+
+    def __init__(self):
+        self.status, self.fields, self.body = "", [], b""
+
+    def start(self, status, fields, exc_info=None):
+        """The `start_response` of a server whose fields go out with the first byte of the body."""
+        if exc_info and self.body:
+            raise exc_info[1].with_traceback(exc_info[2])
+        self.status, self.fields = status, fields
+        return self.write
+
+    def write(self, part):
+        self.body += part
+
+    def lines(self):
+        return [value for name, value in self.fields if name.lower() == "set-cookie"]
+
+    @property
+    def text(self):
+        return self.body.decode()
+
+
+class Browser:
+    """A client that asks an application of WSGI, of which the standard library looks at each call."""
+
+    def __init__(self, app, site="https://shop.test"):
+        self.app, self.site, self.now = validator(app), site, None
+        self.client = Client("test\n", rules=Rules.BROWSER)
+
+    def get(self, path, header=None):
+        url = urllib.parse.urlsplit(f"{self.site}{path}")
+        sent = self.client.header(url.geturl(), self.now) if header is None else header
+        environ = {"REQUEST_METHOD": "GET", "SCRIPT_NAME": "", "PATH_INFO": url.path, "QUERY_STRING": url.query,
+                   "HTTP_HOST": url.netloc, "wsgi.url_scheme": url.scheme, "SERVER_PROTOCOL": "HTTP/1.1"}
+        if sent:
+            environ["HTTP_COOKIE"] = sent.encode().decode("latin-1")
+        wsgiref.util.setup_testing_defaults(environ)
+        answer = Answer()
+        parts = self.app(environ, answer.start)
+        try:
+            for part in parts:
+                answer.write(part)
+        finally:
+            parts.close()
+        self.client.receive(url.geturl(), [line.encode("latin-1") for line in answer.lines()], self.now)
+        return answer
+
+
+class Echo(http.server.BaseHTTPRequestHandler):
+    """Sends the lines of the server, and as the body the bytes of the request's Cookie header; /go redirects to /."""
+
+    protocol_version = "HTTP/1.1"
+
+    def do_GET(self):
+        body = b"; ".join(it.encode("latin-1") for it in self.headers.get_all("Cookie", []))
+        status = b"302 Found\r\nLocation: /" if self.path == "/go" else b"200 OK"
+        lines = b"".join(b"Set-Cookie: " + line + b"\r\n" for line in self.server.lines.get(self.path, ()))
+        length = b"Content-Length: %d\r\n\r\n" % len(body)
+        self.wfile.write(b"HTTP/1.1 " + status + b"\r\n" + lines + length + body)
+
+    def log_message(self, *_):
+        pass
+
+
+class Site:
+    """A site on loopback, which sends the lines of each path, for the length of a block."""
+
+    def __enter__(self):
+        self.server = http.server.ThreadingHTTPServer(("127.0.0.1", 0), Echo)
+        self.server.daemon_threads = True
+        self.server.lines = self.lines = {}
+        threading.Thread(target=self.server.serve_forever, args=(0.01,), daemon=True).start()
+        self.url = f"http://127.0.0.1:{self.server.server_port}"
+        return self
+
+    def __exit__(self, *_):
+        self.server.shutdown()
+        self.server.server_close()
