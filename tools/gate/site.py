@@ -94,10 +94,10 @@ def tunnel_to(port, answer):
     return proxy.getsockname()[1]
 
 
-def made_certificate(folder):
+def made_certificate(folder, hosts=HOSTS):
     path = f"{folder}/site.pem"
     words = ["req", "-x509", "-newkey", "ec", "-pkeyopt", "ec_paramgen_curve:prime256v1", "-nodes", "-days", "2"]
-    words += ["-subj", "/CN=loopback", "-addext", f"subjectAltName={','.join(f'DNS:{it}' for it in HOSTS)}"]
+    words += ["-subj", "/CN=loopback", "-addext", f"subjectAltName={','.join(f'DNS:{it}' for it in hosts)}"]
     subprocess.run(["openssl", *words, "-keyout", path, "-out", f"{path}.2"], check=True, capture_output=True)
     with open(path, "ab") as to:
         to.write(Path(f"{path}.2").read_bytes())

@@ -4,7 +4,8 @@
     SESSION_COOKIE_NAME, SESSION_COOKIE_SECURE = "__Host-session", True
     FONNALICH_KEY = Path("KEY_FILE").read_bytes()
 
-It is as `django.contrib.sessions.backends.signed_cookies`, but encrypted, so that its user can't read it; and no
+and in MIDDLEWARE "fonnalich.django.SessionMiddleware" in the place of Django's, which reads a neighbour's
+`\\u00a0__Host-session` as the site's. It is as `django.contrib.sessions.backends.signed_cookies`, but encrypted, so that its user can't read it; and no
 neighbour site can set, shadow or expire it. As there, a cookie that was stolen holds until `SESSION_COOKIE_AGE` is
 over, whatever was logged out since.
 """
@@ -14,12 +15,14 @@ import time
 from typing import Any, Optional
 
 from django.conf import settings
+from django.contrib.sessions import middleware
 from django.contrib.sessions.backends.base import SessionBase
 from django.core.exceptions import ImproperlyConfigured
 
 from . import Session, Way
+from ._response import as_browsers_read
 
-__all__ = ["SessionStore"]
+__all__ = ["SessionMiddleware", "SessionStore"]
 
 
 def _key() -> bytes:
@@ -90,3 +93,17 @@ class SessionStore(SessionBase):
     @classmethod
     def clear_expired(cls) -> None:
         """Does nothing, since no session is kept at the site."""
+
+
+class SessionMiddleware(middleware.SessionMiddleware):
+    """Django's, which first takes out of a request's cookies those whose names Django reads as under a prefix, and a
+    browser doesn't. So a neighbour may set them."""
+
+    def process_request(self, request: Any) -> None:
+        """Puts the session into a request."""
+        header = request.META.get("HTTP_COOKIE")
+        if header:
+            request.META["HTTP_COOKIE"] = as_browsers_read(header.encode("latin-1")).decode("latin-1")
+            # (where another middleware had Django read them)
+            vars(request).pop("COOKIES", None)
+        super().process_request(request)

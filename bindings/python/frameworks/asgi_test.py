@@ -10,7 +10,7 @@ from starlette.routing import Route, WebSocketRoute
 from fonnalich import Client, Rules, Session, Way
 from fonnalich.asgi import Middleware, Sent
 
-from frameworks.kit import KEY, blocks
+from frameworks.kit import KEY, blocks, forged
 
 SITE = "https://shop.test/"
 
@@ -123,6 +123,13 @@ class Requests(Asked):
     def test_have_the_cookies_of_all_fields(self):
         for fields in [[(b"cookie", b"a=1"), (b"cookie", b"b=2")], [(b"Cookie", b"a=1; b=2")]]:
             self.assertEqual(sent(self.app, "/read", fields)[1]["body"], b"'2'")
+
+    def test_have_the_names_that_browsers_know(self):
+        self.get("/")
+        pair = self.client.header(SITE)
+        for it in forged(pair):
+            self.assertEqual(sent(self.app, "/", [(b"cookie", it.encode())])[1]["body"], b"1", it)
+            self.assertEqual(sent(self.app, "/", [(b"cookie", f"{it}; {pair}".encode())])[1]["body"], b"2", it)
 
     def test_may_stream(self):
         body, told = self.get("/stream")

@@ -14,13 +14,14 @@ from django.urls import path
 
 from fonnalich import Cookie, Session, Way
 
-from frameworks.kit import KEY, NOW, Browser, blocks
+from frameworks.kit import KEY, NOW, Browser, blocks, forged
 
 HOST, NEIGHBOUR = "https://shop.test/", "https://sub.shop.test/"
 NAMES = {"key": KEY}
 exec(blocks("Django")[0], NAMES)
 SETTINGS = {name: value for name, value in NAMES.items() if name.isupper()}
-OWN = {**SETTINGS, "SESSION_ENGINE": "django.contrib.sessions.backends.signed_cookies"}
+OWN = {**SETTINGS, "SESSION_ENGINE": "django.contrib.sessions.backends.signed_cookies",
+       "MIDDLEWARE": ["django.contrib.sessions.middleware.SessionMiddleware"]}
 
 
 def told(request):
@@ -59,7 +60,7 @@ def page(request):
 urlpatterns = [path("", told), path("set/<name>/<value>", put), path("pop/<name>", pop), path("flush", flush),
                path("cycle", cycle), path("browser", browser_s), path("static", page)]
 settings.configure(ALLOWED_HOSTS=["*"], ROOT_URLCONF=__name__, SECRET_KEY="a secret", USE_TZ=True,
-                   MIDDLEWARE=["django.contrib.sessions.middleware.SessionMiddleware"], **SETTINGS)
+                   **SETTINGS)
 django.setup()
 
 
@@ -117,6 +118,19 @@ class Sessions(unittest.TestCase):
         for site in [NEIGHBOUR, "http://shop.test/"]:
             self.browser.client.receive(site, lines)
         self.assertEqual(self.browser.get("/").text, "[('user', 'ann')]")
+
+
+    def test_are_read_by_the_name_that_browsers_know(self):
+        eve = browser()
+        eve.get("/set/user/eve")
+        self.browser.get("/set/user/ann")
+        header = self.browser.client.header(HOST)
+        for pair in forged(eve.client.header(HOST)):
+            self.assertEqual(self.browser.get("/", pair).text, "[]", pair)
+            for both in [f"{header}; {pair}", f"{pair}; {header}"]:
+                self.assertEqual(self.browser.get("/", both).text, "[('user', 'ann')]", both)
+        # (so the middleware is for something: with Django's the first of these is read)
+        self.assertIn("eve", browser(MIDDLEWARE=OWN["MIDDLEWARE"]).get("/", eve.client.header(HOST)).text)
 
 
 class Settings(unittest.TestCase):

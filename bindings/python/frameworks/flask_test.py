@@ -13,7 +13,7 @@ from flask import Flask, session
 import fonnalich.flask
 from fonnalich import Cookie, Session, Way
 
-from frameworks.kit import KEY, NOW, Browser, blocks
+from frameworks.kit import KEY, NOW, Browser, blocks, forged
 
 HOST, NEIGHBOUR = "https://shop.test/", "https://sub.shop.test/"
 
@@ -134,6 +134,19 @@ class Sessions(unittest.TestCase):
             for site in [NEIGHBOUR, "http://shop.test/", "http://sub.shop.test/"]:
                 self.browser.client.receive(site, lines)
             self.assertEqual(self.browser.get("/").text, "[('user', 'ann')]" if is_late else "[]")
+
+    def test_are_read_by_the_name_that_browsers_know(self):
+        eve = Browser(sealed())
+        eve.get("/set/user/eve")
+        self.browser.get("/set/user/ann")
+        header, planted = self.browser.client.header(HOST), [*forged(eve.client.header(HOST))]
+        for pair in planted:
+            self.assertEqual(self.browser.get("/", pair).text, "[]", pair)
+            for both in [f"{header}; {pair}", f"{pair}; {header}", f"a=1;{pair};{header}"]:
+                self.assertEqual(self.browser.get("/", both).text, "[('user', 'ann')]", both)
+        # (so that these are such names)
+        read = [Session(pair, KEY).get(Way.SEALED, "__Host-session") for pair in planted]
+        self.assertGreater(len([*filter(None, read)]), 5)
 
     def test_are_long_with_a_warning(self):
         with warnings.catch_warnings(record=True) as seen:

@@ -25,6 +25,15 @@ def blocks(heading):
     return found
 
 
+def forged(pair):
+    """Names of a pair that a session reads as its name, and a browser doesn't: so it lets a neighbour set them."""
+    name, _, value = pair.partition("=")
+    escaped = "".join(f"%{ord(it):02x}" for it in name)
+    for it in [f"%5F{name[1:]}", f"_%5f{name[2:]}", f"__%{ord(name[2]):x}{name[3:]}", name.replace("-", "%2D"), escaped,
+               f"\u00a0{name}", f"\u3000{name}", f"\x0b{name}", f"\x1f{name}", f"\u0085%5f{name[1:]}"]:
+        yield f"{it}={value}"
+
+
 class Answer:
     """What an application answered: the status, the fields and the body."""
 

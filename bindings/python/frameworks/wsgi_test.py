@@ -7,7 +7,7 @@ import wsgiref.simple_server
 from fonnalich import Client, Jar, Session, Way
 from fonnalich.wsgi import Middleware, Sent
 
-from frameworks.kit import KEY, Answer, Browser, blocks, validator
+from frameworks.kit import KEY, Answer, Browser, blocks, forged, validator
 
 
 def over(app):
@@ -46,6 +46,17 @@ class Requests(unittest.TestCase):
         browser.get("/")
         header = browser.client.header("https://shop.test/")
         self.assertEqual(Browser(Middleware(counting, bytes(64))).get("/", header).text, "1")
+
+    def test_have_the_names_that_browsers_know(self):
+        def reading(environ, start_response):
+            start_response("200 OK", [("Content-Type", "text/plain")])
+            return [repr([environ["fonnalich.session"].get(*it) for it in
+                          [("plain", "__Host-a"), ("secure", "a"), ("plain", "b c")]]).encode()]
+
+        for pair in [*forged("__Host-a=7"), *forged("__Secure-a=7")]:
+            self.assertEqual(over(reading).get("/", f"__Host-a=1; {pair}; __Secure-a=2;{pair};b%20c=3").text,
+                             "['1', '2', '3']", pair)
+            self.assertEqual(over(reading).get("/", pair).text, "[None, None, None]", pair)
 
     def test_refuse_a_bad_key_at_once(self):
         for key, error in [(bytes(63), ValueError), ("x" * 64, TypeError)]:

@@ -1,0 +1,48 @@
+"""What the scripts need that run the library in other programs: the library, a Python with a framework, and commands.
+"""
+import fcntl
+import os
+import shutil
+import subprocess
+import sys
+
+from .kit import TOP
+
+OUT = f"{TOP}/out"
+# Seconds that a module may take to be imported.
+SECONDS = 60
+
+
+def python_with(*modules):
+    """A Python that has these modules: this one, the PATH's or the distribution's. None where none has."""
+    for it in dict.fromkeys([sys.executable, shutil.which("python3"), "/usr/bin/python3"]):
+        if it and os.path.exists(it) and has(it, modules):
+            return it
+    return None
+
+
+def has(python, modules):
+    how = {"stdout": subprocess.DEVNULL, "stderr": subprocess.DEVNULL, "timeout": SECONDS, "check": False}
+    return not modules or subprocess.run([python, "-c", f"import {', '.join(modules)}"], **how).returncode == 0
+
+
+def missing(modules, commands):
+    """What of these isn't there, in words, or nothing."""
+    left = [it for it in commands if not shutil.which(it)]
+    if modules and not python_with(*modules):
+        left += modules
+    return f"{' and '.join(left)} isn't there" if left else ""
+
+
+def environment():
+    """The environment of a command that uses the library of out/, from C, Rust, Python and others."""
+    return {**os.environ, "FONNALICH_DIR": OUT, "FONNALICH_LIB": f"{OUT}/libfonnalich.so", "PYTHONDONTWRITEBYTECODE": "1"}
+
+
+def put_library():
+    """Has the library compiled, with no proof, where it isn't there; once where several ask for it."""
+    os.makedirs(OUT, exist_ok=True)
+    with open(f"{OUT}/library.lock", "w", encoding="utf-8") as lock:
+        fcntl.flock(lock, fcntl.LOCK_EX)
+        if not all(os.path.exists(f"{OUT}/{it}") for it in ("libfonnalich.a", "libfonnalich.so", "fonnalich.h")):
+            subprocess.run([f"{TOP}/bindings/build"], stdout=subprocess.DEVNULL, check=True)
