@@ -1,0 +1,142 @@
+/** Cookies of an HTTP client (RFC 6265), by the proved library fonnalich: a jar of tough-cookie's shape. */
+
+/** What became of a line that was taken. */
+export type Taken = 'Inserted' | 'UpdatedExisting' | 'ExpiredExisting' | 'Expired';
+
+/** Why a line was refused: by the store, or, from `ByControl` on, by a rule. */
+export type LineEnd =
+    | 'NotText' | 'HostPrefix' | 'NonHttpScheme' | 'NonRelativeScheme' | 'DomainMismatch' | 'Parse' | 'PublicSuffix'
+    | 'ByControl' | 'ByTooLong' | 'BySecurePrefix' | 'ByHostPrefix' | 'BySecureFromHttp' | 'BySecureOverlay'
+    | 'ByLacksSecure';
+
+/** Why a call was refused: the name of its number in the header file. */
+export type Refusal = 'Word' | 'NoClient' | 'List' | 'Moment' | 'Url' | 'Saved' | 'Year' | 'Read' | 'Rules' | 'Line';
+
+/** A moment: a Date, or milliseconds since 1970, of which the whole seconds count. */
+export type Moment = Date | number;
+
+export type Callback<T> = (error: Error | null, value?: T) => void;
+
+/** The rules of browsers, of which a jar takes a sum. */
+export declare const Rules: Readonly<{
+    NONE: 0; CONTROL: 1; TOO_LONG: 2; SECURE_PREFIX: 4; HOST_PREFIX: 8; SECURE_FROM_HTTP: 16; SECURE_OVERLAY: 32;
+    LONG_ATTRIBUTES: 64; DATES: 128; LONG_LIVES: 256; BROWSER: 511; SECURE_WINS: 512;
+}>;
+
+export interface JarOptions {
+    /** The text of a public suffix list. */
+    suffixes: string | Uint8Array;
+    /** A sum of `Rules`, which lines come behind; none given is `Rules.BROWSER`. */
+    rules?: number;
+    /** As 'strict' a line that breaks its name's prefix is an error; else it is passed over. */
+    prefixSecurity?: 'silent' | 'strict';
+    allowSpecialUseDomain?: true;
+    looseMode?: false;
+    rejectPublicSuffixes?: true;
+}
+
+export interface CallOptions {
+    /** The moment of the call; none is now. */
+    now?: Moment;
+    /** Whether the caller is HTTP. What isn't, as a page's script, has neither HttpOnly cookies nor Secure ones. */
+    http?: boolean;
+    allPaths?: false;
+    expire?: true;
+    loose?: false;
+    sort?: true;
+}
+
+export interface SetOptions extends CallOptions {
+    /** Whether a line that is refused is passed over. */
+    ignoreError?: boolean;
+}
+
+export interface MomentOption {
+    now?: Moment;
+}
+
+/**
+ * A jar that keeps what sites set, and gives each request what it holds for it. `store` is null.
+ *
+ * A call without a callback answers a promise. It does its work at once: a promise and a callback tell it later.
+ */
+export declare class CookieJar {
+    constructor(store: null | undefined, options: JarOptions);
+
+    /** The jar of a saved text, without what is expired at `options.now`. */
+    static deserialize(saved: string | Uint8Array, store: null | undefined, options: JarOptions & MomentOption):
+        Promise<CookieJar>;
+    static deserialize(saved: string | Uint8Array, store: null | undefined, options: JarOptions & MomentOption,
+        callback: Callback<CookieJar>): void;
+    static deserializeSync(saved: string | Uint8Array, store: null | undefined, options: JarOptions & MomentOption):
+        CookieJar;
+    static fromJSON(saved: string | Uint8Array, store: null | undefined, options: JarOptions & MomentOption): CookieJar;
+
+    /**
+     * Takes a Set-Cookie line of an answer from a URL, and says what became of it. It raises `LineRefused` where the
+     * line is refused, or answers nothing where that is passed over.
+     */
+    setCookie(line: string, url: string | URL, options?: SetOptions): Promise<Taken | undefined>;
+    setCookie(line: string, url: string | URL, callback: Callback<Taken | undefined>): void;
+    setCookie(line: string, url: string | URL, options: SetOptions | undefined, callback: Callback<Taken | undefined>):
+        void;
+    setCookieSync(line: string, url: string | URL, options?: SetOptions): Taken | undefined;
+
+    /** The Cookie header of a request to a URL; '' where it has none. */
+    getCookieString(url: string | URL, options?: CallOptions): Promise<string>;
+    getCookieString(url: string | URL, callback: Callback<string>): void;
+    getCookieString(url: string | URL, options: CallOptions | undefined, callback: Callback<string>): void;
+    getCookieStringSync(url: string | URL, options?: CallOptions): string;
+
+    /** The saved text of the cookies that have an expiry and aren't expired: session cookies aren't in it. */
+    serialize(options?: MomentOption): Promise<string>;
+    serialize(callback: Callback<string>): void;
+    serialize(options: MomentOption | undefined, callback: Callback<string>): void;
+    serializeSync(options?: MomentOption): string;
+    toJSON(): string;
+
+    removeAllCookies(): Promise<void>;
+    removeAllCookies(callback: Callback<void>): void;
+    removeAllCookiesSync(): void;
+
+    /** Ends the session cookies, as saving and loading does. */
+    restart(options?: MomentOption): void;
+    /** Gives all memory back, which else waits for the collector. No other call may follow. */
+    close(): void;
+
+    /** These raise `NotThere`. */
+    getCookies(...words: unknown[]): never;
+    getCookiesSync(...words: unknown[]): never;
+    getSetCookieStrings(...words: unknown[]): never;
+    getSetCookieStringsSync(...words: unknown[]): never;
+    clone(...words: unknown[]): never;
+    cloneSync(...words: unknown[]): never;
+}
+
+export declare class FonnalichError extends Error {
+    code: string;
+}
+
+/** A call was refused; `number` is that of the header file. The jar is as it was. */
+export declare class Refused extends FonnalichError {
+    code: Refusal;
+    number: number;
+}
+
+/** A line was refused; `code` says why. The jar is as it was. */
+export declare class LineRefused extends FonnalichError {
+    code: LineEnd;
+}
+
+/** Memory was refused. The jar is as it was. */
+export declare class OutOfMemory extends FonnalichError {}
+
+/** tough-cookie has it, and this hasn't; `what` names it. */
+export declare class NotThere extends FonnalichError {
+    what: string;
+}
+
+/** The version of the library. */
+export declare const version: string;
+/** How many jars of this thread haven't ended. */
+export declare function living(): number;

@@ -1,0 +1,271 @@
+'use strict';
+/* Cookies of an HTTP client (RFC 6265), by the proved library fonnalich: a jar of tough-cookie's shape.
+
+   The addon is fonnalich.node beside this file, else that of out/, or the file FONNALICH_NODE. */
+const fs = require('node:fs');
+const path = require('node:path');
+
+const BESIDE = path.join(__dirname, 'fonnalich.node');
+const addon = require(process.env.FONNALICH_NODE ? path.resolve(process.env.FONNALICH_NODE)
+    : fs.existsSync(BESIDE) ? BESIDE : path.join(__dirname, '../../out/fonnalich.node'));
+
+if (!addon.processor()) throw new Error('fonnalich: this processor lacks SSE 4.2, which the library needs');
+
+const [LIST, LOAD, RECEIVE, HEADER, SAVE, RESTART, RULES] = [1, 2, 3, 4, 5, 6, 7];
+const [MEMORY, STOPPED] = [-1, -100];
+const NONE = Buffer.alloc(0);
+
+/* The rules of browsers, of which a jar takes a sum: those of the header file. */
+const Rules = Object.freeze({
+    NONE: 0, CONTROL: 1, TOO_LONG: 2, SECURE_PREFIX: 4, HOST_PREFIX: 8, SECURE_FROM_HTTP: 16, SECURE_OVERLAY: 32,
+    LONG_ATTRIBUTES: 64, DATES: 128, LONG_LIVES: 256, BROWSER: 511, SECURE_WINS: 512,
+});
+
+const REFUSALS = {
+    '-2': 'Word', '-3': 'NoClient', '-4': 'List', '-5': 'Moment', '-6': 'Url', '-7': 'Saved', '-8': 'Year',
+    '-9': 'Read', '-20': 'Rules', '-21': 'Line',
+};
+const ENDS = {
+    0: 'Inserted', 1: 'ExpiredExisting', 2: 'UpdatedExisting', 3: 'NotText', 4: 'HostPrefix', 10: 'NonHttpScheme',
+    11: 'NonRelativeScheme', 12: 'DomainMismatch', 13: 'Expired', 14: 'Parse', 15: 'PublicSuffix', 20: 'ByControl',
+    21: 'ByTooLong', 22: 'BySecurePrefix', 23: 'ByHostPrefix', 24: 'BySecureFromHttp', 25: 'BySecureOverlay',
+    26: 'ByLacksSecure',
+};
+const TAKEN = ['Inserted', 'ExpiredExisting', 'UpdatedExisting', 'Expired'];
+const OF_PREFIX = ['HostPrefix', 'BySecurePrefix', 'ByHostPrefix'];
+
+class FonnalichError extends Error {
+    constructor(code, message) {
+        super(message);
+        this.name = new.target.name;
+        this.code = code;
+    }
+}
+
+/* A call was refused; `number` is that of the header file, and `code` its name. The jar is as it was. */
+class Refused extends FonnalichError {
+    constructor(number) {
+        super(REFUSALS[number] ?? String(number), `refused: ${REFUSALS[number] ?? number}`);
+        this.number = number;
+    }
+}
+
+/* A line was refused; `code` says why. The jar is as it was. */
+class LineRefused extends FonnalichError {
+    constructor(end) {
+        super(end, `the line was refused: ${end}`);
+    }
+}
+
+/* Memory was refused. The jar is as it was. */
+class OutOfMemory extends FonnalichError {
+    constructor() {
+        super('Memory', 'memory was refused');
+    }
+}
+
+/* tough-cookie has it, and this hasn't. */
+class NotThere extends FonnalichError {
+    constructor(what, instead) {
+        super('NotThere', `${what} isn't there${instead ? `: ${instead}` : ''}`);
+        this.what = what;
+    }
+}
+
+/* What options of tough-cookie mean nothing here but by these values. */
+const OF_JAR = { allowSpecialUseDomain: [true], looseMode: [false], rejectPublicSuffixes: [true] };
+const OF_CALL = { allPaths: [false], expire: [true], loose: [false], sameSiteContext: [], secure: [], sort: [true] };
+
+function optionsOf(given, absent) {
+    for (const [name, meant] of Object.entries(absent)) {
+        if (given?.[name] !== undefined && !meant.includes(given[name])) {
+            throw new NotThere(`options.${name} = ${given[name]}`);
+        }
+    }
+    return given ?? {};
+}
+
+function bytesOf(text, what) {
+    if (typeof text === 'string') return Buffer.from(text);
+    if (text instanceof Uint8Array) return Buffer.from(text.buffer, text.byteOffset, text.byteLength);
+    throw new TypeError(`${what} is neither a string nor bytes`);
+}
+
+/* The whole second of a moment: a Date, or milliseconds since 1970; none is now. */
+function secondOf(moment) {
+    const second = Math.floor(Number(moment ?? Date.now()) / 1000);
+    if (!Number.isSafeInteger(second)) throw new TypeError('options.now is no moment');
+    return second;
+}
+
+/* The URL that the library is given. What isn't HTTP, as a page's script, asks by a scheme that isn't. */
+function urlOf(url, http) {
+    if (typeof url !== 'string' && !(url instanceof URL)) throw new TypeError('the URL is neither a string nor a URL');
+    const text = String(url);
+    if (http ?? true) return Buffer.from(text);
+    if (!/^https?:/i.test(text)) throw new Refused(-6);
+    return Buffer.from(text.replace(/^https?/i, 'ws'));
+}
+
+function callbackOf(options, callback) {
+    const called = typeof options === 'function' ? options : callback ?? undefined;
+    if (called !== undefined && typeof called !== 'function') throw new TypeError('the callback is no function');
+    return [typeof options === 'function' ? undefined : options, called];
+}
+
+/* Does the work now, and tells it to the callback later; a promise tells it where there is none. */
+function later(callback, work) {
+    const done = new Promise((resolve) => resolve(work()));
+    if (!callback) return done;
+    done.then((value) => process.nextTick(callback, null, value), (error) => process.nextTick(callback, error));
+    return undefined;
+}
+
+/* A jar that keeps what sites set, and gives each request what it holds for it.
+
+   `store` is null. `options.suffixes` is the text of a public suffix list, and `options.rules` a sum of Rules, by
+   default those of browsers. With `options.prefixSecurity` as 'strict' a line that breaks its name's prefix is an
+   error; else it is passed over. */
+class CookieJar {
+    #handle = new addon.Handle();
+    #suffixes;
+    #isStrict;
+
+    constructor(store, options) {
+        this.#put(store, options);
+        this.#act(LIST, 0, NONE, this.#suffixes);
+    }
+
+    /* The jar of a saved text, without what is expired at `options.now`. */
+    static deserializeSync(saved, store, options) {
+        const jar = new CookieJar(store, options);
+        jar.#act(LOAD, secondOf(options.now), bytesOf(saved, 'the saved text'), jar.#suffixes);
+        return jar;
+    }
+
+    static deserialize(saved, store, options, callback) {
+        return later(callbackOf(undefined, callback)[1], () => CookieJar.deserializeSync(saved, store, options));
+    }
+
+    static fromJSON(saved, store, options) {
+        return CookieJar.deserializeSync(saved, store, options);
+    }
+
+    /* Takes a Set-Cookie line of an answer from a URL, and says what became of it: 'Inserted', 'UpdatedExisting',
+       'ExpiredExisting' or 'Expired'; nothing where it was refused and that is passed over. */
+    setCookieSync(line, url, options) {
+        if (typeof line !== 'string') throw new NotThere('a Cookie', 'hand in its line');
+        const { http, ignoreError, now } = optionsOf(options, OF_CALL);
+        const end = this.#received(line, urlOf(url, http), secondOf(now));
+        if (TAKEN.includes(end)) return end;
+        if (ignoreError || (OF_PREFIX.includes(end) && !this.#isStrict)) return undefined;
+        throw new LineRefused(end);
+    }
+
+    setCookie(line, url, options, callback) {
+        const [given, called] = callbackOf(options, callback);
+        return later(called, () => this.setCookieSync(line, url, given));
+    }
+
+    /* The Cookie header of a request to a URL; '' where it has none. */
+    getCookieStringSync(url, options) {
+        const { http, now } = optionsOf(options, OF_CALL);
+        return this.#act(HEADER, secondOf(now), urlOf(url, http), NONE).toString();
+    }
+
+    getCookieString(url, options, callback) {
+        const [given, called] = callbackOf(options, callback);
+        return later(called, () => this.getCookieStringSync(url, given));
+    }
+
+    /* The saved text of the cookies that have an expiry and aren't expired at `options.now`. */
+    serializeSync(options) {
+        return this.#act(SAVE, secondOf(options?.now), NONE, NONE).toString();
+    }
+
+    serialize(options, callback) {
+        const [given, called] = callbackOf(options, callback);
+        return later(called, () => this.serializeSync(given));
+    }
+
+    toJSON() {
+        return this.serializeSync();
+    }
+
+    removeAllCookiesSync() {
+        this.#act(LIST, 0, NONE, this.#suffixes);
+    }
+
+    removeAllCookies(callback) {
+        return later(callbackOf(undefined, callback)[1], () => this.removeAllCookiesSync());
+    }
+
+    /* Ends the session cookies, as saving and loading does. */
+    restart(options) {
+        this.#act(RESTART, secondOf(options?.now), NONE, NONE);
+    }
+
+    /* Gives all memory back, which else waits for the collector. No other call may follow. */
+    close() {
+        this.#handle.close();
+    }
+
+    #put(store, options) {
+        if (store != null) throw new NotThere('a Store', 'hand in null, and keep what serialize() gives');
+        const { prefixSecurity, rules, suffixes } = optionsOf(options, OF_JAR);
+        if (![undefined, 'silent', 'strict'].includes(prefixSecurity)) {
+            throw new NotThere(`options.prefixSecurity = ${prefixSecurity}`, 'leave rules out of options.rules');
+        }
+        this.#isStrict = prefixSecurity === 'strict';
+        this.#suffixes = Buffer.from(bytesOf(suffixes, 'options.suffixes, the text of a public suffix list,'));
+        this.#act(RULES, rules ?? Rules.BROWSER, NONE, NONE);
+    }
+
+    #received(line, url, second) {
+        // (the library takes lines that line feeds join, and of an empty text none)
+        if (line.includes('\n')) return 'ByControl';
+        if (line === '') return 'Parse';
+        return ENDS[this.#act(RECEIVE, second, url, Buffer.from(line))[0]];
+    }
+
+    #act(word, number, subject, text) {
+        const answer = this.#handle.act(word, number, subject, text);
+        if (typeof answer !== 'number') return answer;
+        // (of one line, where memory is refused at it none was taken)
+        if (answer === MEMORY || answer <= STOPPED) throw new OutOfMemory();
+        throw new Refused(answer);
+    }
+}
+
+/* Has what tough-cookie has and this hasn't raise by its name. */
+function putAbsent(on, of, names, instead) {
+    for (const name of names) {
+        const value = () => { throw new NotThere(`${of}${name}`, instead); };
+        Object.defineProperty(on, name, { value, configurable: true, writable: true });
+    }
+}
+
+class Cookie {
+    constructor() {
+        throw new NotThere('Cookie');
+    }
+}
+
+class Store {
+    constructor() {
+        throw new NotThere('Store');
+    }
+}
+
+class MemoryCookieStore extends Store {}
+
+const COOKIES = ['getCookies', 'getCookiesSync', 'getSetCookieStrings', 'getSetCookieStringsSync'];
+putAbsent(CookieJar.prototype, 'CookieJar.', COOKIES, 'getCookieString has those of a URL');
+putAbsent(CookieJar.prototype, 'CookieJar.', ['clone', 'cloneSync'], 'serialize() and CookieJar.deserialize() do it');
+putAbsent(Cookie, 'Cookie.', ['parse', 'fromJSON', 'cookiesCreated']);
+module.exports = {
+    Cookie, CookieJar, FonnalichError, LineRefused, MemoryCookieStore, NotThere, OutOfMemory, Refused, Rules, Store,
+    living: addon.living, version: addon.version(),
+};
+putAbsent(module.exports, '', ['canonicalDomain', 'cookieCompare', 'defaultPath', 'domainMatch', 'formatDate',
+    'fromJSON', 'getPublicSuffix', 'parse', 'parseDate', 'pathMatch', 'permuteDomain', 'permutePath']);

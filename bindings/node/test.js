@@ -1,0 +1,256 @@
+'use strict';
+/* The tests of index.js, by `node --test test.js`, over the addon that `build` makes. */
+const assert = require('node:assert/strict');
+const { execFileSync } = require('node:child_process');
+const fs = require('node:fs');
+const http = require('node:http');
+const path = require('node:path');
+const { describe, test } = require('node:test');
+const { setFlagsFromString } = require('node:v8');
+const { runInNewContext } = require('node:vm');
+const { Worker } = require('node:worker_threads');
+
+const fonnalich = require('./index.js');
+const { CookieJar, LineRefused, NotThere, Refused, Rules } = fonnalich;
+const { RFC, TOUGH } = require('./rows.js');
+
+const SUFFIXES = 'com\norg\nco.uk\n';
+const THEN = new Date(Date.UTC(2024, 0, 1));
+const URL_ASKED = 'https://shop.com/';
+
+function jarOf(options) {
+    return new CookieJar(null, { suffixes: SUFFIXES, ...options });
+}
+
+/* The header that a row gets, and the codes of the lines that were refused. */
+function asked([, lines, url, , { of, options, now = 0 } = {}]) {
+    const jar = jarOf(of);
+    const codes = lines.flatMap(([from, line, own]) => {
+        try {
+            jar.setCookieSync(line, from, { now: THEN, ...options, ...own });
+            return [];
+        } catch (error) {
+            assert.ok(error instanceof LineRefused, error);
+            return [error.code];
+        }
+    });
+    return [jar.getCookieStringSync(url, { ...options, now: +THEN + 1000 * now }), codes];
+}
+
+function row(it) {
+    const [section, lines, url, wanted, { here, why, code } = {}] = it;
+    test(`${section}: ${lines.map(([, line]) => line).join(' | ')} for ${url}`, () => {
+        const [header, codes] = asked(it);
+        assert.equal(header, here ?? wanted);
+        assert.equal(why === undefined, here === undefined || here === wanted);
+        if (code) assert.deepEqual(codes, [code]);
+    });
+}
+
+describe('RFC 6265', () => RFC.forEach(row));
+describe("tough-cookie's README", () => TOUGH.forEach(row));
+
+test('what became of a line', () => {
+    const jar = jarOf();
+    assert.equal(jar.setCookieSync('a=1; Max-Age=9', URL_ASKED), 'Inserted');
+    assert.equal(jar.setCookieSync('a=2', URL_ASKED), 'UpdatedExisting');
+    assert.equal(jar.setCookieSync('a=; Max-Age=0', URL_ASKED), 'ExpiredExisting');
+    assert.equal(jar.setCookieSync('a=; Max-Age=0', URL_ASKED), 'Expired');
+    assert.equal(jar.setCookieSync('b=1; Domain=com', URL_ASKED, { ignoreError: true }), undefined);
+    assert.equal(jar.setCookieSync('__Host-b=1', URL_ASKED), undefined);
+});
+
+test('a promise where no callback is given', async () => {
+    const jar = jarOf();
+    assert.equal(await jar.setCookie('a=1; Max-Age=9', URL_ASKED), 'Inserted');
+    assert.equal(await jar.getCookieString(new URL(URL_ASKED)), 'a=1');
+    const again = await CookieJar.deserialize(await jar.serialize(), null, { suffixes: SUFFIXES });
+    assert.equal(again.getCookieStringSync(URL_ASKED), 'a=1');
+    await jar.removeAllCookies();
+    assert.equal(await jar.getCookieString(URL_ASKED, {}), '');
+    await assert.rejects(jar.setCookie('a=1; Domain=com', URL_ASKED), { name: 'LineRefused', code: 'PublicSuffix' });
+    await assert.rejects(jar.getCookieString('shop'), { name: 'Refused', code: 'Url', number: -6 });
+});
+
+/* What a call tells its callback, which it tells once and later. */
+function told(call) {
+    return new Promise((resolve) => {
+        let isBack = false;
+        const back = call((...words) => resolve([isBack, back, ...words]));
+        isBack = true;
+    });
+}
+
+test('a callback', async () => {
+    const jar = jarOf();
+    const set = await told((back) => jar.setCookie('a=1', URL_ASKED, back));
+    assert.deepEqual(set, [true, undefined, null, 'Inserted']);
+    const header = await told((back) => jar.getCookieString(URL_ASKED, { now: new Date() }, back));
+    assert.deepEqual(header, [true, undefined, null, 'a=1']);
+    const [, , error, ...more] = await told((back) => jar.setCookie('a', URL_ASKED, {}, back));
+    assert.deepEqual([error.name, error.code, more], ['LineRefused', 'Parse', []]);
+    assert.throws(() => jar.setCookie('a=1', URL_ASKED, {}, 'back'), TypeError);
+});
+
+test('errors by name', () => {
+    const jar = jarOf({ prefixSecurity: 'strict' });
+    const refused = (line, url, code) => {
+        assert.throws(() => jar.setCookieSync(line, url), { name: 'LineRefused', code });
+    };
+    refused('a=1\nb=2', URL_ASKED, 'ByControl');
+    refused('a=\u0001', URL_ASKED, 'ByControl');
+    refused(`a=${'x'.repeat(4096)}`, URL_ASKED, 'ByTooLong');
+    refused('__secure-a=1', URL_ASKED, 'BySecurePrefix');
+    refused('__host-a=1; Secure', `${URL_ASKED}x/y`, 'ByHostPrefix');
+    refused('a=1; Domain=com', URL_ASKED, 'PublicSuffix');
+    assert.throws(() => jar.setCookieSync('a=1', 'shop.com'), { name: 'Refused', code: 'Url' });
+    assert.throws(() => jar.getCookieStringSync(URL_ASKED, { now: 1e15 }), { name: 'Refused', code: 'Moment' });
+    assert.throws(() => jar.getCookieStringSync(URL_ASKED, { now: 'noon' }), TypeError);
+    assert.throws(() => jar.getCookieStringSync(undefined), TypeError);
+    assert.throws(() => jarOf({ rules: 1 << 20 }), { name: 'Refused', code: 'Rules' });
+    assert.throws(() => jarOf({ suffixes: undefined }), TypeError);
+    assert.throws(() => CookieJar.deserializeSync('no', null, { suffixes: SUFFIXES }), { code: 'Saved' });
+    assert.ok(new Refused(-6) instanceof fonnalich.FonnalichError);
+});
+
+test('what tough-cookie has and this has not raises by its name', () => {
+    const jar = jarOf();
+    const absent = (call, what) => assert.throws(call, (error) => error instanceof NotThere && error.what === what);
+    absent(() => jar.getCookies(URL_ASKED), 'CookieJar.getCookies');
+    absent(() => jar.getCookiesSync(URL_ASKED), 'CookieJar.getCookiesSync');
+    absent(() => jar.getSetCookieStringsSync(URL_ASKED), 'CookieJar.getSetCookieStringsSync');
+    absent(() => jar.cloneSync(), 'CookieJar.cloneSync');
+    absent(() => jar.setCookieSync({ key: 'a' }, URL_ASKED), 'a Cookie');
+    absent(() => jar.setCookieSync('a', URL_ASKED, { loose: true }), 'options.loose = true');
+    absent(() => jar.getCookieStringSync(URL_ASKED, { sameSiteContext: 'lax' }), 'options.sameSiteContext = lax');
+    absent(() => jar.getCookieStringSync(URL_ASKED, { expire: false }), 'options.expire = false');
+    absent(() => new CookieJar({}, { suffixes: SUFFIXES }), 'a Store');
+    absent(() => jarOf({ looseMode: true }), 'options.looseMode = true');
+    absent(() => jarOf({ rejectPublicSuffixes: false }), 'options.rejectPublicSuffixes = false');
+    absent(() => jarOf({ prefixSecurity: 'unsafe-disabled' }), 'options.prefixSecurity = unsafe-disabled');
+    absent(() => fonnalich.Cookie.parse('a=1'), 'Cookie.parse');
+    absent(() => fonnalich.parseDate(''), 'parseDate');
+    assert.equal(jar.setCookieSync('a=1', URL_ASKED, { loose: false, expire: true, secure: undefined }), 'Inserted');
+});
+
+test('a saved text has what lives on', () => {
+    const jar = jarOf();
+    jar.setCookieSync('a=1; Max-Age=60', URL_ASKED, { now: THEN });
+    jar.setCookieSync('b=2', URL_ASKED, { now: THEN });
+    const saved = jar.serializeSync({ now: THEN });
+    assert.equal(JSON.parse(JSON.stringify({ jar })).jar, jar.serializeSync());
+    for (const [later, wanted] of [[59, 'a=1'], [61, '']]) {
+        const now = +THEN + 1000 * later;
+        const loaded = CookieJar.fromJSON(Buffer.from(saved), null, { suffixes: Buffer.from(SUFFIXES), now });
+        assert.equal(loaded.getCookieStringSync(URL_ASKED, { now }), wanted);
+    }
+    jar.restart({ now: THEN });
+    assert.equal(jar.getCookieStringSync(URL_ASKED, { now: THEN }), 'a=1');
+});
+
+test('a header longer than the room of a call', () => {
+    const jar = jarOf();
+    const pairs = Array.from({ length: 9 }, (_, i) => `n${i}=${String(i).repeat(1000)}`);
+    pairs.forEach((pair) => jar.setCookieSync(pair, URL_ASKED));
+    assert.equal(jar.getCookieStringSync(URL_ASKED), pairs.join('; '));
+});
+
+test('rules', () => {
+    const jar = jarOf({ rules: Rules.BROWSER | Rules.SECURE_WINS });
+    assert.throws(() => jar.setCookieSync('a=1; SameSite=None', 'http://shop.com/'), { code: 'ByLacksSecure' });
+    assert.equal(jarOf({ rules: Rules.NONE }).setCookieSync('a=1; Secure', 'http://shop.com/'), 'Inserted');
+});
+
+test('a jar that is closed', () => {
+    const jar = jarOf();
+    jar.close();
+    assert.throws(() => jar.getCookieStringSync(URL_ASKED), TypeError);
+    assert.throws(() => jar.close(), TypeError);
+});
+
+test('a jar that nobody holds is ended', async () => {
+    setFlagsFromString('--expose-gc');
+    const collect = runInNewContext('gc');
+    collect();
+    await new Promise(setImmediate);
+    const before = fonnalich.living();
+    for (let i = 0; i < 50; i++) jarOf();
+    jarOf().close();
+    assert.ok(fonnalich.living() >= before + 1);
+    for (let i = 0; i < 20 && fonnalich.living() > before; i++) {
+        collect();
+        await new Promise(setImmediate);
+    }
+    assert.ok(fonnalich.living() <= before);
+});
+
+const WORKER = `
+const { parentPort, workerData } = require('node:worker_threads');
+const { CookieJar, living } = require(workerData.index);
+const jar = new CookieJar(null, { suffixes: 'com' });
+for (let i = 0; i < 2000; i++) jar.setCookieSync('a=' + workerData.name + i, 'https://shop.com/');
+parentPort.postMessage([living(), jar.getCookieStringSync('https://shop.com/')]);
+`;
+
+test('each worker has jars of its own, and ends them', async () => {
+    const jar = jarOf();
+    jar.setCookieSync('a=main', URL_ASKED);
+    const found = ['one', 'two', 'three'].map((name) => new Promise((resolve, reject) => {
+        const workerData = { name, index: path.join(__dirname, 'index.js') };
+        const worker = new Worker(WORKER, { eval: true, workerData });
+        const heard = [];
+        worker.on('message', (told) => heard.push(...told)).on('error', reject);
+        worker.on('exit', (status) => resolve([name, status, ...heard]));
+    }));
+    assert.deepEqual(await Promise.all(found), ['one', 'two', 'three'].map((name) => [name, 0, 1, `a=${name}1999`]));
+    assert.equal(jar.getCookieStringSync(URL_ASKED), 'a=main');
+});
+
+/* A site on loopback that sets a line at /, and answers with the bytes of the header at each other path. */
+function served(line) {
+    const site = http.createServer((request, response) => {
+        if (request.url === '/') response.setHeader('Set-Cookie', Buffer.from(line).toString('latin1'));
+        response.end(Buffer.from(request.headers.cookie ?? '', 'latin1'));
+    });
+    return new Promise((resolve) => site.listen(0, '127.0.0.1', () => resolve(site)));
+}
+
+function got(url, headers) {
+    return new Promise((resolve, reject) => {
+        http.get(url, { headers }, (response) => {
+            const chunks = [];
+            response.on('data', (chunk) => chunks.push(chunk));
+            response.on('end', () => resolve([response.headers['set-cookie'], Buffer.concat(chunks).toString()]));
+        }).on('error', reject);
+    });
+}
+
+test('a site gets the bytes that it set, by http and by fetch', async () => {
+    const site = await served('user=J\u00fcrgen \u20ac; HttpOnly');
+    const url = `http://127.0.0.1:${site.address().port}/`;
+    try {
+        const jar = jarOf();
+        const [lines] = await got(url, {});
+        await Promise.all(lines.map((line) => jar.setCookie(line, url)));
+        assert.equal((await got(`${url}x`, { Cookie: await jar.getCookieString(url) }))[1], 'user=J\u00fcrgen \u20ac');
+        const other = jarOf();
+        const answer = await fetch(url);
+        for (const line of answer.headers.getSetCookie()) await other.setCookie(line, url);
+        const back = await fetch(`${url}x`, { headers: { Cookie: await other.getCookieString(url) } });
+        assert.equal(await back.text(), 'user=J\u00fcrgen \u20ac');
+    } finally {
+        site.closeAllConnections();
+        site.close();
+    }
+});
+
+test('the version is that of the header file', () => {
+    const header = fs.readFileSync(path.join(__dirname, '../c/fonnalich.h'), 'utf8');
+    const [, version] = /FONNALICH_VERSION "([\d.]+)"/.exec(header);
+    assert.deepEqual([fonnalich.version, require('./package.json').version], [version, version]);
+});
+
+test("the page's block", () => {
+    const how = { cwd: path.join(__dirname, '../..'), encoding: 'utf8' };
+    assert.equal(execFileSync(process.execPath, ['bindings/node/visit.js'], how), 'cart=3 cart=3\n');
+});
