@@ -1,0 +1,3 @@
+module fonnalich
+
+go 1.19

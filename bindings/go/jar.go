@@ -1,0 +1,232 @@
+// Package fonnalich is a jar of cookies for net/http (RFC 6265), by the proved library fonnalich.
+//
+// The library is that of out/, which bindings/build makes, or of the folder that CGO_CFLAGS=-I.. and CGO_LDFLAGS=-L..
+// name. With the tag fonnalich_installed it is the one that pkg-config finds.
+package fonnalich
+
+// #include "fonnalich.h"
+import "C"
+
+import (
+	"net/http"
+	"net/url"
+	"runtime"
+	"strings"
+	"sync"
+	"time"
+)
+
+// Options are what a jar goes by. None given is the zero value.
+type Options struct {
+	// Rules are those that lines come behind; 0 is Browser.
+	Rules Rules
+	// Now tells the moment; nil is time.Now.
+	Now func() time.Time
+	// Refused hears of each line that SetCookies or a Transport hands in and that is refused, as a *LineError, and of
+	// each other refusal, with no line.
+	Refused func(u *url.URL, why error)
+}
+
+// A Jar keeps what sites set, and gives each request what it holds for it. It is an http.CookieJar, which goroutines
+// may share: one call waits for another.
+//
+// Its memory is C's. It goes with the jar, by a finalizer; Close gives it back at once.
+type Jar struct {
+	lock    sync.Mutex
+	at      handle
+	options Options
+}
+
+var _ http.CookieJar = (*Jar)(nil)
+
+// New begins a jar without a cookie, by the text of a public suffix list.
+func New(list []byte, options *Options) (*Jar, error) {
+	jar, err := begin(options)
+	if err != nil {
+		return nil, err
+	}
+	_, err = jar.act(C.FONNALICH_DO_LIST, 0, nil, list)
+	return jar.orNone(err)
+}
+
+// Load begins a jar with the cookies of a saved text that aren't expired.
+func Load(list, saved []byte, options *Options) (*Jar, error) {
+	jar, err := begin(options)
+	if err != nil {
+		return nil, err
+	}
+	_, err = jar.act(C.FONNALICH_DO_LOAD, jar.second(), saved, list)
+	return jar.orNone(err)
+}
+
+func begin(options *Options) (*Jar, error) {
+	at, err := newHandle()
+	if err != nil {
+		return nil, err
+	}
+	jar := &Jar{at: at}
+	runtime.SetFinalizer(jar, (*Jar).Close)
+	if options != nil {
+		jar.options = *options
+	}
+	rules := jar.options.Rules
+	switch rules {
+	case 0:
+		rules = Browser
+	case NoRules:
+		rules = 0
+	}
+	_, err = jar.act(C.FONNALICH_DO_RULES, int64(rules), nil, nil)
+	return jar.orNone(err)
+}
+
+func (jar *Jar) orNone(err error) (*Jar, error) {
+	if err != nil {
+		jar.Close()
+		return nil, err
+	}
+	return jar, nil
+}
+
+// Close gives all memory back. Each later call is refused as ErrClosed.
+func (jar *Jar) Close() {
+	jar.lock.Lock()
+	defer jar.lock.Unlock()
+	if jar.at != nil {
+		freeHandle(jar.at)
+		jar.at = nil
+	}
+	runtime.SetFinalizer(jar, nil)
+}
+
+// SetCookies takes the lines of an answer from a URL: of each cookie the line that it was read of, which is its Raw, or
+// its String where it has none. What is refused is told to the options' Refused alone.
+func (jar *Jar) SetCookies(u *url.URL, cookies []*http.Cookie) {
+	lines := make([]string, len(cookies))
+	for i, cookie := range cookies {
+		lines[i] = cookie.Raw
+		if lines[i] == "" {
+			lines[i] = cookie.String()
+		}
+	}
+	jar.take(u, lines)
+}
+
+// Cookies are those of the header of a request to a URL: names and values alone, without the quotes round a value,
+// which net/http takes off what it reads too. None where the header is refused, which the options' Refused hears.
+func (jar *Jar) Cookies(u *url.URL) []*http.Cookie {
+	header, err := jar.Header(u)
+	if err != nil {
+		jar.tell(u, err)
+	}
+	if header == "" {
+		return nil
+	}
+	pairs := strings.Split(header, "; ")
+	cookies := make([]*http.Cookie, len(pairs))
+	for i, pair := range pairs {
+		name, value, _ := strings.Cut(pair, "=")
+		if len(value) > 1 && strings.HasPrefix(value, `"`) && strings.HasSuffix(value, `"`) {
+			value = value[1 : len(value)-1]
+		}
+		cookies[i] = &http.Cookie{Name: name, Value: value}
+	}
+	return cookies
+}
+
+// Receive takes the Set-Cookie lines of an answer from a URL, byte for byte, and says what became of each. At an error
+// no later one is taken, and the ends are those of the lines before it.
+func (jar *Jar) Receive(u *url.URL, lines []string) ([]LineEnd, error) {
+	ends := []LineEnd{}
+	for _, line := range lines {
+		end, err := jar.receive(u, line)
+		if err != nil {
+			return ends, err
+		}
+		ends = append(ends, end)
+	}
+	return ends, nil
+}
+
+// receive takes a line. The library takes lines that line feeds join, and of an empty text none.
+func (jar *Jar) receive(u *url.URL, line string) (LineEnd, error) {
+	if strings.Contains(line, "\n") {
+		return ByControl, nil
+	}
+	if line == "" {
+		return NoCookie, nil
+	}
+	told, err := jar.act(C.FONNALICH_DO_RECEIVE, jar.second(), textOf(u), []byte(line))
+	if err != nil {
+		return NoCookie, err
+	}
+	return LineEnd(told[0]), nil
+}
+
+// Header is the Cookie header of a request to a URL, byte for byte; empty where it has none.
+func (jar *Jar) Header(u *url.URL) (string, error) {
+	if !isWeb(u) {
+		return "", nil
+	}
+	header, err := jar.act(C.FONNALICH_DO_HEADER, jar.second(), textOf(u), nil)
+	return string(header), err
+}
+
+// Save answers the saved text of the cookies that have an expiry and aren't expired.
+func (jar *Jar) Save() ([]byte, error) {
+	return jar.act(C.FONNALICH_DO_SAVE, jar.second(), nil, nil)
+}
+
+// Restart ends the session cookies, as saving and loading does.
+func (jar *Jar) Restart() error {
+	_, err := jar.act(C.FONNALICH_DO_RESTART, jar.second(), nil, nil)
+	return err
+}
+
+// take has a line after the other taken, and tells what is refused.
+func (jar *Jar) take(u *url.URL, lines []string) {
+	if !isWeb(u) {
+		return
+	}
+	for _, line := range lines {
+		end, err := jar.receive(u, line)
+		if err == nil && !end.IsTaken() {
+			err = &LineError{line, end}
+		}
+		if err != nil {
+			jar.tell(u, err)
+		}
+	}
+}
+
+func (jar *Jar) tell(u *url.URL, why error) {
+	if jar.options.Refused != nil {
+		jar.options.Refused(u, why)
+	}
+}
+
+func (jar *Jar) act(word C.uint32_t, number int64, subject, text []byte) ([]byte, error) {
+	jar.lock.Lock()
+	defer jar.lock.Unlock()
+	if jar.at == nil {
+		return nil, ErrClosed
+	}
+	return act(jar.at, word, number, subject, text)
+}
+
+func (jar *Jar) second() int64 {
+	if jar.options.Now == nil {
+		return time.Now().Unix()
+	}
+	return jar.options.Now().Unix()
+}
+
+func isWeb(u *url.URL) bool {
+	return u.Scheme == "http" || u.Scheme == "https"
+}
+
+// textOf is the URL of the host that net/http connects to: the String of one that has an Opaque may have another.
+func textOf(u *url.URL) []byte {
+	its := url.URL{Scheme: u.Scheme, Host: u.Host, Path: u.Path, RawPath: u.RawPath}
+	return []byte(its.String())
+}

@@ -1,0 +1,290 @@
+package fonnalich
+
+import (
+	"errors"
+	"fmt"
+	"io"
+	"net/http"
+	"net/http/httptest"
+	"net/url"
+	"os"
+	"runtime"
+	"strings"
+	"sync"
+	"sync/atomic"
+	"testing"
+	"time"
+)
+
+const list = "com\norg\nco.uk\n"
+
+var shop = parsed("https://shop.com/")
+
+func headerOf(t *testing.T, jar *Jar, u *url.URL) string {
+	t.Helper()
+	header, err := jar.Header(u)
+	if err != nil {
+		t.Fatal(err)
+	}
+	return header
+}
+
+func receive(t *testing.T, jar *Jar, u *url.URL, lines ...string) []LineEnd {
+	t.Helper()
+	ends, err := jar.Receive(u, lines)
+	if err != nil || len(ends) != len(lines) {
+		t.Fatal(ends, err)
+	}
+	return ends
+}
+
+func at(second int64) *Options {
+	return &Options{Now: func() time.Time { return time.Unix(second, 999) }}
+}
+
+// Rows of RFC 6265 and of the draft that follows it, by section: a line, what becomes of it, and the header.
+func TestEnds(t *testing.T) {
+	for _, it := range []struct {
+		section, from, line string
+		end                 LineEnd
+		header              string
+	}{
+		{"5.2", "https://shop.com/", "a=1", Inserted, "a=1"},
+		{"5.2, step 5", "https://shop.com/", "=1", NoCookie, ""},
+		{"5.2, step 2", "https://shop.com/", "a", NoCookie, ""},
+		{"5.2", "https://shop.com/", "", NoCookie, ""},
+		{"5.2", "https://shop.com/", "a=\xff", NotText, ""},
+		{"5.2.2", "https://shop.com/", "a=1; Max-Age=0", Expired, ""},
+		{"5.3, step 5", "https://shop.com/", "a=1; Domain=com", PublicSuffix, ""},
+		{"5.3, step 6", "https://shop.com/", "a=1; Domain=evil.com", DomainMismatch, ""},
+		{"6265bis, 5.6, step 1", "https://shop.com/", "a=1\nb=2", ByControl, ""},
+		{"6265bis, 5.6, step 1", "https://shop.com/", "a=\x01", ByControl, ""},
+		{"6265bis, 5.6, step 5", "https://shop.com/", "a=" + strings.Repeat("x", 4096), ByTooLong, ""},
+		{"6265bis, 4.1.3.1", "https://shop.com/", "__Secure-a=1", BySecurePrefix, ""},
+		{"6265bis, 4.1.3.2", "https://shop.com/", "__Host-a=1; Secure; Path=/x", ByHostPrefix, ""},
+		{"6265bis, 5.7", "http://shop.com/", "a=1; Secure", BySecureFromHTTP, ""},
+	} {
+		jar := made(t, list, nil)
+		ends := receive(t, jar, parsed(it.from), it.line)
+		if header := headerOf(t, jar, shop); ends[0] != it.end || header != it.header {
+			t.Errorf("%s: %q: %q, %q", it.section, it.line, ends[0], header)
+		}
+	}
+}
+
+func TestRulesAreThoseOfBrowsersUnlessOthersAreNamed(t *testing.T) {
+	plain := parsed("http://shop.com/")
+	for rules, wanted := range map[Rules]LineEnd{
+		0: BySecureFromHTTP, Browser: BySecureFromHTTP, NoRules: Inserted, Browser &^ SecureFromHTTP: Inserted,
+	} {
+		jar := made(t, list, &Options{Rules: rules})
+		if ends := receive(t, jar, plain, "a=1; Secure"); ends[0] != wanted {
+			t.Errorf("%d: %s", rules, ends[0])
+		}
+	}
+}
+
+func TestASavedTextHasWhatLivesOn(t *testing.T) {
+	jar := made(t, list, at(1000))
+	receive(t, jar, shop, "a=1; Max-Age=60", "b=2")
+	saved, err := jar.Save()
+	if err != nil {
+		t.Fatal(err)
+	}
+	for second, wanted := range map[int64]string{1059: "a=1", 1061: ""} {
+		loaded, err := Load([]byte(list), saved, at(second))
+		if err != nil {
+			t.Fatal(err)
+		}
+		if header := headerOf(t, loaded, shop); header != wanted {
+			t.Errorf("at %d: %q", second, header)
+		}
+	}
+	if err := jar.Restart(); err != nil || headerOf(t, jar, shop) != "a=1" {
+		t.Error(err, headerOf(t, jar, shop))
+	}
+}
+
+func TestRefusals(t *testing.T) {
+	_, noList := New([]byte("a..com"), nil)
+	_, noJar := Load([]byte(list), []byte("no"), nil)
+	_, noRules := New([]byte(list), &Options{Rules: 1 << 20})
+	_, noMoment := made(t, list, at(1<<50)).Header(shop)
+	_, noURL := made(t, list, nil).Header(&url.URL{Scheme: "http", Host: "a b"})
+	closed := made(t, list, nil)
+	closed.Close()
+	closed.Close()
+	_, isClosed := closed.Header(shop)
+	for _, it := range []struct{ found, wanted error }{
+		{noList, Refused(-4)}, {noMoment, Refused(-5)}, {noURL, Refused(-6)}, {noJar, Refused(-7)},
+		{noRules, Refused(-20)}, {isClosed, ErrClosed},
+	} {
+		if !errors.Is(it.found, it.wanted) {
+			t.Errorf("%v, and not %v", it.found, it.wanted)
+		}
+	}
+}
+
+func TestWhatIsRefusedIsTold(t *testing.T) {
+	told := []string{}
+	jar := made(t, list, &Options{Refused: func(u *url.URL, why error) {
+		told = append(told, u.Host+": "+why.Error())
+	}})
+	jar.SetCookies(shop, cookiesOf([]string{"a=1; Domain=com", "b=2"}))
+	jar.SetCookies(parsed("ftp://shop.com/"), cookiesOf([]string{"c=3"}))
+	if found := jar.Cookies(&url.URL{Scheme: "http", Host: "a b"}); found != nil {
+		t.Error(found)
+	}
+	wanted := "shop.com: fonnalich: a line is of a domain that is a public suffix, a b: fonnalich: the text is no URL"
+	if found := strings.Join(told, ", "); found != wanted || headerOf(t, jar, shop) != "b=2" {
+		t.Error(found)
+	}
+}
+
+// net/http connects to the Host, whatever the Opaque has it send.
+func TestAHostIsThatWhichIsConnectedTo(t *testing.T) {
+	jar := made(t, list, nil)
+	receive(t, jar, shop, "a=1")
+	if found := headerOf(t, jar, &url.URL{Scheme: "https", Host: "evil.com", Opaque: "//shop.com/"}); found != "" {
+		t.Error(found)
+	}
+}
+
+func TestACookieWithoutItsLineIsPrinted(t *testing.T) {
+	jar := made(t, list, nil)
+	jar.SetCookies(shop, []*http.Cookie{{Name: "a", Value: "1", Path: "/x"}, {Name: "b", Value: "2"}})
+	if found := headerOf(t, jar, shop); found != "b=2" {
+		t.Error(found)
+	}
+}
+
+func TestAHeaderLongerThanTheRoom(t *testing.T) {
+	jar, pairs := made(t, list, nil), []string{}
+	for i := 0; i < 9; i++ {
+		pairs = append(pairs, fmt.Sprintf("n%d=%s", i, strings.Repeat(fmt.Sprint(i), room/4)))
+	}
+	receive(t, jar, shop, pairs...)
+	if found := headerOf(t, jar, shop); found != strings.Join(pairs, "; ") {
+		t.Error(len(found))
+	}
+}
+
+func TestGoroutinesShareAJar(t *testing.T) {
+	jar := made(t, list, nil)
+	var all sync.WaitGroup
+	for i := 0; i < 8; i++ {
+		all.Add(1)
+		go func(i int) {
+			defer all.Done()
+			own := parsed(fmt.Sprintf("https://shop%d.com/", i))
+			for n := 0; n < 200; n++ {
+				pair := fmt.Sprintf("n=%d", n)
+				jar.SetCookies(own, []*http.Cookie{{Raw: pair}})
+				if found, err := jar.Header(own); err != nil || found != pair {
+					t.Error(found, err)
+				}
+			}
+		}(i)
+	}
+	all.Wait()
+}
+
+func TestAJarThatNobodyHoldsIsEnded(t *testing.T) {
+	runtime.GC()
+	before := atomic.LoadInt64(&living)
+	for i := 0; i < 50; i++ {
+		if _, err := New([]byte(list), nil); err != nil {
+			t.Fatal(err)
+		}
+	}
+	for i := 0; i < 100 && atomic.LoadInt64(&living) > before; i++ {
+		runtime.GC()
+		time.Sleep(10 * time.Millisecond)
+	}
+	if left := atomic.LoadInt64(&living); left > before {
+		t.Errorf("%d, and not %d", left, before)
+	}
+}
+
+// served is a site that sets a line at /, and answers with the header that it got.
+func served(t *testing.T, line string) string {
+	site := httptest.NewServer(http.HandlerFunc(func(to http.ResponseWriter, request *http.Request) {
+		if request.URL.Path == "/" {
+			to.Header()["Set-Cookie"] = []string{line}
+			http.Redirect(to, request, "/in", http.StatusSeeOther)
+			return
+		}
+		io.WriteString(to, strings.Join(request.Header["Cookie"], " | "))
+	}))
+	t.Cleanup(site.Close)
+	return site.URL + "/"
+}
+
+func got(t *testing.T, client *http.Client, u string) string {
+	t.Helper()
+	answer, err := client.Get(u)
+	if err != nil {
+		t.Fatal(err)
+	}
+	defer answer.Body.Close()
+	body, err := io.ReadAll(answer.Body)
+	if err != nil {
+		t.Fatal(err)
+	}
+	return string(body)
+}
+
+// A site gets back what it set: by a Transport each byte, and by net/http's own way what that lets through.
+func TestAClientOfTheStandardLibrary(t *testing.T) {
+	for _, it := range []struct{ line, byJar, byTransport string }{
+		{"user=ann; HttpOnly", "user=ann", "user=ann"},
+		{`user="ann"`, "user=ann", `user="ann"`},
+		{"user=ann b", `user="ann b"`, "user=ann b"},
+		{"user=J\u00fcrgen", "", "user=J\u00fcrgen"},
+		{"us er=ann", "", "us er=ann"},
+	} {
+		u := served(t, it.line)
+		byJar := got(t, &http.Client{Jar: made(t, list, nil)}, u)
+		byTransport := got(t, &http.Client{Transport: &Transport{Jar: made(t, list, nil)}}, u)
+		if byJar != it.byJar || byTransport != it.byTransport {
+			t.Errorf("%q: %q, %q", it.line, byJar, byTransport)
+		}
+	}
+}
+
+func TestARequestKeepsItsOwnHeader(t *testing.T) {
+	u := served(t, "user=ann")
+	client := &http.Client{Transport: &Transport{Jar: made(t, list, nil)}}
+	got(t, client, u)
+	request, err := http.NewRequest("GET", u+"in", nil)
+	if err != nil {
+		t.Fatal(err)
+	}
+	request.Header.Set("Cookie", "own=1")
+	answer, err := client.Do(request)
+	if err != nil {
+		t.Fatal(err)
+	}
+	defer answer.Body.Close()
+	if body, err := io.ReadAll(answer.Body); err != nil || string(body) != "own=1" {
+		t.Error(string(body), err)
+	}
+}
+
+func TestPlainURLs(t *testing.T) {
+	for text, wanted := range map[string]bool{"https://shop.com/": true, `https://shop.test\@evil.test/x`: false} {
+		if found, err := IsPlainURL(text); err != nil || found != wanted {
+			t.Error(text, found, err)
+		}
+	}
+}
+
+func TestTheVersionIsThatOfTheHeaderFile(t *testing.T) {
+	header, err := os.ReadFile("../c/fonnalich.h")
+	if err != nil {
+		t.Fatal(err)
+	}
+	if !strings.Contains(string(header), `FONNALICH_VERSION "`+Version()+`"`) {
+		t.Error(Version())
+	}
+}

@@ -1,0 +1,6 @@
+//go:build fonnalich_installed
+
+package fonnalich
+
+// #cgo pkg-config: fonnalich
+import "C"

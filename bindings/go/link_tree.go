@@ -1,0 +1,7 @@
+//go:build !fonnalich_installed
+
+package fonnalich
+
+// #cgo CFLAGS: -I${SRCDIR}/../../out
+// #cgo LDFLAGS: -L${SRCDIR}/../../out -l:libfonnalich.a
+import "C"
