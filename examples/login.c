@@ -15,6 +15,7 @@
 #include <unistd.h>
 
 #define COOKIE "__Host-visits"
+#define REMOVED FONNALICH_REMOVE FONNALICH_SEALED COOKIE
 #define TO_PAGE "303 See Other\r\nLocation: /"
 
 static char key[FONNALICH_KEY_LENGTH];
@@ -42,17 +43,16 @@ static bool exchange(const char *header, const char *command, char *item, size_t
 }
 
 static void answer(int to, const char *status, const char *line, const char *body) {
-    dprintf(to, "HTTP/1.1 %s\r\n%s%s%sContent-Type: text/plain\r\n", status, *line ? "Set-Cookie: " : "", line,
-            *line ? "\r\n" : "");
-    dprintf(to, "Content-Length: %zu\r\nConnection: close\r\n\r\n%s", strlen(body), body);
+    dprintf(to, "HTTP/1.1 %s\r\n%s%s%sContent-Type: text/plain\r\nContent-Length: %zu\r\nConnection: close\r\n\r\n%s",
+            status, *line ? "Set-Cookie: " : "", line, *line ? "\r\n" : "", strlen(body), body);
 }
 
 /* Seals who visited how often, and answers that. */
-static void seal(int to, const char *status, const char *user, unsigned visits) {
+static void seal(int to, const char *status, const char *user, int visits) {
     char command[256], line[1024], body[128];
-    snprintf(command, sizeof command, FONNALICH_SET FONNALICH_SEALED COOKIE "=%.63s.%u; HttpOnly; SameSite=Lax; "
+    snprintf(command, sizeof command, FONNALICH_SET FONNALICH_SEALED COOKIE "=%.63s.%d; HttpOnly; SameSite=Lax; "
              "Max-Age=3600", user, visits);
-    snprintf(body, sizeof body, "%.63s %u\n", user, visits);
+    snprintf(body, sizeof body, "%.63s %d\n", user, visits);
     if (exchange("", command, line, sizeof line))
         answer(to, status, line, body);
     else
@@ -61,32 +61,35 @@ static void seal(int to, const char *status, const char *user, unsigned visits) 
 
 static void serve(int to, const char *path, const char *header) {
     char value[1024], user[64];
-    unsigned visits;
-    int end;
+    int visits, end;
     if (sscanf(path, "/login?user=%63[a-zA-Z0-9]%n", user, &end) == 1 && path[end] == 0)
         seal(to, TO_PAGE, user, 0);
-    else if (strcmp(path, "/logout") == 0) {
-        /* (without a cookie there is no line) */
-        bool is_in = exchange(header, FONNALICH_REMOVE FONNALICH_SEALED COOKIE, value, sizeof value);
-        answer(to, TO_PAGE, is_in ? value : "", "");
-    } else if (strcmp(path, "/") != 0)
+    else if (strcmp(path, "/logout") == 0)
+        answer(to, TO_PAGE, exchange(header, REMOVED, value, sizeof value) ? value : "", "");
+    else if (strcmp(path, "/") != 0)
         answer(to, "404 Not Found", "", "no page\n");
     else if (exchange(header, FONNALICH_GET FONNALICH_SEALED COOKIE, value, sizeof value) &&
-             sscanf(value, "%63[^.].%u", user, &visits) == 2)
+             sscanf(value, "%63[^.].%d", user, &visits) == 2)
         seal(to, "200 OK", user, visits + 1);
     else
         answer(to, "200 OK", "", "nobody\n");
 }
 
-/* Reads the head of a request, and serves it. A longer head than there is room for is passed over. */
+/* Keeps the pair of the cookie's name as it stands. A session decodes names: so another spelling of it, which anybody
+   may set for all hosts of a domain, as %5F_Host-visits, would be read as the site's own. */
+static void keep(char *text, char *header, size_t room) {
+    for (char *pair = strtok(text, "; \t\r\n"); pair; pair = strtok(NULL, "; \t\r\n"))
+        if (strncmp(pair, COOKIE "=", strlen(COOKIE "=")) == 0)
+            snprintf(header, room, "%s", pair);
+}
+
 static void take(int one, FILE *from) {
-    char line[8192], path[1024] = "", header[16384] = "";
+    char line[8192], path[1024] = "", header[8192] = "";
     while (fgets(line, sizeof line, from) && strcmp(line, "\r\n") != 0) {
         if (!*path && sscanf(line, "GET %1023s HTTP/1.", path) != 1)
             return;
-        line[strcspn(line, "\r\n")] = 0;
-        if (strncasecmp(line, "Cookie:", 7) == 0 && strlen(header) + strlen(line) < sizeof header)
-            sprintf(header + strlen(header), "%s%s", *header ? ";" : "", line + 7);
+        if (strncasecmp(line, "Cookie:", 7) == 0)
+            keep(line + 7, header, sizeof header);
     }
     if (*path)
         serve(one, path, header);
