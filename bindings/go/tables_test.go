@@ -1,6 +1,7 @@
 package fonnalich
 
 import (
+	"fmt"
 	"go/ast"
 	"go/parser"
 	"go/token"
@@ -137,7 +138,8 @@ func tableOf(test *ast.FuncDecl, rows map[string][]row) table {
 func tables(t *testing.T) map[string]table {
 	path := filepath.Join(runtime.GOROOT(), "src/net/http/cookiejar/jar_test.go")
 	if _, err := os.Stat(path); err != nil {
-		t.Skip("skipped: the tables of net/http/cookiejar: " + err.Error())
+		fmt.Println("skipped: the tables of net/http/cookiejar: Go's sources aren't there")
+		t.SkipNow()
 	}
 	file, err := parser.ParseFile(token.NewFileSet(), path, nil, 0)
 	if err != nil {

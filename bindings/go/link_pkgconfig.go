@@ -1,4 +1,4 @@
-//go:build fonnalich_installed
+//go:build pkgconfig
 
 package fonnalich
 
