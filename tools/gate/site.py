@@ -14,28 +14,30 @@ HOSTS = ("shop.com", "*.shop.com")
 
 
 class Site(BaseHTTPRequestHandler):
-    """Answers each request with the next of what is to be said to its visit, and keeps the cookies that it has
-    and the host that it asks.
+    """Answers each request with the next of what is to be said to its visit, and keeps the cookies that it has,
+    the host that it asks, and the whole of it.
 
-    A visit is what the field X-Visit names; one without it is that of an example."""
+    A visit is what the field X-Visit names; one without it is that of an example. What is said are lines to set, a
+    Location or None, and a status line's words where they aren't the usual ones."""
 
     protocol_version = "HTTP/1.1"
-    said, heard, asked = {}, defaultdict(list), defaultdict(list)
+    said, heard, asked, had = {}, defaultdict(list), defaultdict(list), defaultdict(list)
 
     def do_GET(self):
         visit = self.headers["X-Visit"]
-        Site.asked[visit].append(self.headers["Host"].lower())
+        host, body = self.headers["Host"].lower(), self.rfile.read(int(self.headers["Content-Length"] or 0))
+        Site.asked[visit].append(host)
         Site.heard[visit].append(b"; ".join(it.encode("latin-1") for it in self.headers.get_all("Cookie", [])))
+        Site.had[visit].append((self.command, host, self.path, self.headers, body))
         nothing = ([] if visit else [EXAMPLE.encode()], None)
-        lines, location = Site.said[visit].pop(0) if Site.said.get(visit) else nothing
+        lines, location, *status = Site.said[visit].pop(0) if Site.said.get(visit) else nothing
         fields = [b"Set-Cookie: " + line for line in lines] + ([b"Location: " + location] if location else [])
         fields += [b"Content-Length: 3", b"Connection: close"]
-        status = b"HTTP/1.1 302 Found" if location else b"HTTP/1.1 200 OK"
-        self.wfile.write(b"\r\n".join([status, *fields, b"", b"ok\n"]))
+        status = status[0] if status else b"302 Found" if location else b"200 OK"
+        text = b"" if self.command == "HEAD" else b"ok\n"
+        self.wfile.write(b"\r\n".join([b"HTTP/1.1 " + status, *fields, b"", text]))
 
-    def do_POST(self):
-        self.rfile.read(int(self.headers["Content-Length"]))
-        self.do_GET()
+    do_HEAD = do_POST = do_PUT = do_GET
 
     def log_message(self, *_):
         pass
