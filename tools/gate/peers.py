@@ -36,7 +36,8 @@ def missing(modules, commands):
 
 def environment():
     """The environment of a command that uses the library of out/, from C, Rust, Python and others."""
-    return {**os.environ, "FONNALICH_DIR": OUT, "FONNALICH_LIB": f"{OUT}/libfonnalich.so", "PYTHONDONTWRITEBYTECODE": "1"}
+    library = {"FONNALICH_DIR": OUT, "FONNALICH_LIB": f"{OUT}/libfonnalich.so"}
+    return {**os.environ, **library, "PYTHONDONTWRITEBYTECODE": "1"}
 
 
 def put_library():

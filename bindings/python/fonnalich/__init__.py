@@ -1,9 +1,9 @@
 """Cookies of an HTTP client and of a site (RFC 6265), by the proved library fonnalich.
 
-`Session` is what a site reads and sets within one request, `Cookie` a cookie by itself. `Client` is a client by a public
-suffix `List`; `Jar` is one for `urllib`, and `Adapter` one for `requests`. The modules `flask`, `django`, `wsgi`,
-`asgi`, `requests` and `httpx` of this package put them into what these names say. Set FONNALICH_LIB to the path of the
-shared library where it lies neither beside this module nor in out/.
+`Session` is what a site reads and sets within one request, `Cookie` a cookie by itself. `Client` is a client, by a
+public suffix `List`; `Jar` is one for `urllib`, and `Adapter` one for `requests`. The modules `flask`, `django`,
+`wsgi`, `asgi`, `requests` and `httpx` of this package put them into what these names say. Set FONNALICH_LIB to the path
+of the shared library where it lies neither beside this module nor in out/.
 """
 from __future__ import annotations
 
@@ -494,9 +494,7 @@ class Session:
 
     def _read_header(self, way: Way, whole: bytes, asked: bytes) -> None:
         """Keeps what the header has of this name, and of all its names in this way once many were asked."""
-        if self._decoded is None:
-            self._decoded = urllib.parse.unquote_to_bytes(self._header)
-        if whole not in self._header and whole not in self._decoded:
+        if whole not in self._header and whole not in self._decoded_header():
             # (so it isn't read for a name that it can't have)
             self._keep(b"", [asked])
             return
@@ -505,6 +503,11 @@ class Session:
             self._keep(self._header, [b"G" + way.value + name for name in _guessed(self._header)])
         if asked not in self._read:
             self._keep(self._header, [asked])
+
+    def _decoded_header(self) -> bytes:
+        if self._decoded is None:
+            self._decoded = urllib.parse.unquote_to_bytes(self._header)
+        return self._decoded
 
     def _keep(self, header: bytes, asked: list[bytes]) -> None:
         self._read.update(zip(asked, _items(self._exchange(header, asked, b""))))

@@ -5,7 +5,9 @@
     FONNALICH_KEY = Path("KEY_FILE").read_bytes()
 
 and in MIDDLEWARE "fonnalich.django.SessionMiddleware" in the place of Django's, which reads a neighbour's
-`\\u00a0__Host-session` as the site's. It is as `django.contrib.sessions.backends.signed_cookies`, but encrypted, so that its user can't read it; and no
+`\\u00a0__Host-session` as the site's.
+
+It is as `django.contrib.sessions.backends.signed_cookies`, but encrypted, so that its user can't read it; and no
 neighbour site can set, shadow or expire it. As there, a cookie that was stolen holds until `SESSION_COOKIE_AGE` is
 over, whatever was logged out since.
 """

@@ -55,7 +55,7 @@ class Bytes(Loopback):
 class Hops(Loopback):
     def test_have_the_header_and_the_lines_of_each(self):
         for get in self.getters():
-            self.site.lines = self.site.server.lines = {"/go": [b"a=1; Path=/"], "/": [b"a=; Path=/; Max-Age=0", b"b=2"]}
+            self.site.lines.update({"/go": [b"a=1; Path=/"], "/": [b"a=; Path=/; Max-Age=0", b"b=2"]})
             self.assertEqual(get("/go"), b"a=1")
             self.assertEqual(self.client.header(self.site.url), "b=2")
             self.site.lines.clear()
