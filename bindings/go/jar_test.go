@@ -158,6 +158,18 @@ func TestACookieWithoutItsLineIsPrinted(t *testing.T) {
 	}
 }
 
+func TestCookiesHaveNoQuotes(t *testing.T) {
+	jar := made(t, list, nil)
+	receive(t, jar, shop, `a="1"`, `b="`, `c=1"`)
+	found := ""
+	for _, cookie := range jar.Cookies(shop) {
+		found += cookie.Name + "=" + cookie.Value + "\n"
+	}
+	if found != "a=1\nb=\"\nc=1\"\n" {
+		t.Error(found)
+	}
+}
+
 func TestAHeaderLongerThanTheRoom(t *testing.T) {
 	jar, pairs := made(t, list, nil), []string{}
 	for i := 0; i < 9; i++ {

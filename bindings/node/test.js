@@ -97,6 +97,7 @@ test('errors by name', () => {
     const refused = (line, url, code) => {
         assert.throws(() => jar.setCookieSync(line, url), { name: 'LineRefused', code });
     };
+    refused('', URL_ASKED, 'Parse');
     refused('a=1\nb=2', URL_ASKED, 'ByControl');
     refused('a=\u0001', URL_ASKED, 'ByControl');
     refused(`a=${'x'.repeat(4096)}`, URL_ASKED, 'ByTooLong');
