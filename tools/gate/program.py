@@ -25,8 +25,8 @@ BEGIN = "2024-01-01T00:00:00Z"
 # Seconds of a first compile, on four calm cores at 2.5 GHz.
 SECONDS = {"cookie-run": 55, "cookie-jar": 70, "cookie-import-firefox": 100}
 # Drops what the program doesn't reach, optimises the rest in little time, puts the checks of memory in, and makes code
-# in four parts at once. (The parts are of a shared object, since an executable's would be of what is called from outside
-# alone.)
+# in four parts at once. (The parts are of a shared object, since an executable's would be of what is called from
+# outside alone.)
 CLANG = """#!/bin/sh
 case " $* " in *" -fsanitize=address "*) ;; *) exec "{clang}" "$@" ;; esac
 steps='sroa,early-cse<memssa>,simplifycfg,instcombine<no-verify-fixpoint>,memcpyopt,dse,simplifycfg'
@@ -215,8 +215,8 @@ def say(command, text):
 
 
 def start(command, usage):
-    """Runs a program with this one's words in the place of this one; or proves and builds it by `--prove`, or prints the
-    usage, where there is one, by `--help`."""
+    """Runs a program with this one's words in the place of this one; or proves and builds it by `--prove`, or prints
+    the usage, where there is one, by `--help`."""
     if usage and sys.argv[1:] == ["--help"]:
         print(usage, end="")
         sys.exit()
