@@ -30,6 +30,34 @@ fn joins_all_fields() {
     assert_eq!(format!("{session:?}"), "Session { header: \"a=1; b=2; c=3; d=é\", now: 1700000000, .. }");
 }
 
+// A browser stores each of these for a neighbour's `Domain`, since none begins with the prefix as it stands.
+#[test]
+fn reads_no_forged_prefix() {
+    let forged: [&[u8]; 6] = [
+        b"%5F_Host-a=1",
+        b"__%48ost-a=1",
+        b"\xc2\xa0__Host-a=1",
+        b"%20__Host-a=1",
+        b"x=0; %5f%5fHost-a=1",
+        b"%5F_Secure-a=1",
+    ];
+    for field in forged {
+        let mut headers = HeaderMap::new();
+        headers.insert(COOKIE, HeaderValue::from_bytes(field).unwrap());
+        let session = Session::from_headers(&headers, &key(), NOW);
+        for way in [Way::Host, Way::Secure] {
+            assert_eq!(session.get(way, "a"), Ok(None), "{field:?}");
+        }
+        assert_eq!(session.get(Way::Plain, "__Host-a"), Ok(None), "{field:?}");
+    }
+    let mut headers = HeaderMap::new();
+    headers.insert(COOKIE, HeaderValue::from_static("a%20b=1;  __Host-a=2; __Host-b%3B=3; %zz=4"));
+    let session = Session::from_headers(&headers, &key(), NOW);
+    let read = [(Way::Plain, "a b"), (Way::Host, "a"), (Way::Host, "b;"), (Way::Plain, "%zz")]
+        .map(|(way, name)| session.get(way, name).unwrap());
+    assert_eq!(read.each_ref().map(Option::as_deref), [Some("1"), Some("2"), Some("3"), Some("4")]);
+}
+
 #[test]
 fn reads_no_field() {
     let session = Session::from_headers(&HeaderMap::new(), &key(), NOW);
