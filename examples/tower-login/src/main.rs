@@ -12,12 +12,11 @@ use tower::make::Shared;
 use tower::ServiceBuilder;
 
 // The browser takes such a name over https alone, of this host, for all its paths.
-const USER: &str = "__Host-user";
-const VISITS: &str = "__Host-visits";
+const LOGIN: &str = "__Host-login";
 const MONTH: i64 = 30 * 24 * 60 * 60;
 
-fn kept(name: &str, value: impl Into<String>) -> CookieBuilder {
-    Cookie::build((name, value)).max_age(MONTH).http_only(true).same_site(SameSite::Lax)
+fn kept(user: &str, visits: u64) -> CookieBuilder {
+    Cookie::build((LOGIN, format!("{user} {visits}"))).max_age(MONTH).http_only(true).same_site(SameSite::Lax)
 }
 
 /// The name that a query asks to log in: letters and digits.
@@ -28,21 +27,22 @@ fn asked(query: &str) -> Option<&str> {
 
 fn log_in(session: &SharedSession, query: &str) -> Result<Response<Body>, Error> {
     let Some(user) = asked(query) else { return Ok(answer(StatusCode::BAD_REQUEST, "no user")) };
-    session.set(Way::Signed, kept(USER, user))?;
-    session.set(Way::Sealed, kept(VISITS, "0"))?;
+    session.set(Way::Sealed, kept(user, 0))?;
     Ok(home())
 }
 
 fn log_out(session: &SharedSession) -> Result<Response<Body>, Error> {
-    session.remove(Way::Signed, USER)?;
-    session.remove(Way::Sealed, VISITS)?;
+    session.remove(Way::Sealed, LOGIN)?;
     Ok(home())
 }
 
 fn welcome(session: &SharedSession) -> Result<Response<Body>, Error> {
-    let Some(user) = session.get(Way::Signed, USER)? else { return Ok(answer(StatusCode::OK, "nobody")) };
-    let visits = session.get(Way::Sealed, VISITS)?.and_then(|visits| visits.parse().ok()).unwrap_or(0) + 1;
-    session.set(Way::Sealed, kept(VISITS, visits.to_string()))?;
+    let login = session.get(Way::Sealed, LOGIN)?;
+    let Some((user, visits)) = login.as_deref().and_then(|login| login.split_once(' ')) else {
+        return Ok(answer(StatusCode::OK, "nobody"));
+    };
+    let visits = visits.parse().unwrap_or(0) + 1;
+    session.set(Way::Sealed, kept(user, visits))?;
     Ok(answer(StatusCode::OK, &format!("{user} {visits}")))
 }
 
