@@ -1,11 +1,15 @@
 -- A text gives one list of heads.
-use Rattle.std.proofs.Common.{◌≡◌, ◌+◌, ℕ, Bool, true, false, List, [], ◌∷◌, ◌++◌, length}
-use Rattle.std.proofs.Common.{Some, None, inl, inr, refl, sym, ap, subst, ◌∙◌, append_assoc}
-use Rattle.std.specs.List.{AllByRecursion, flat_map}
+use Rattle.std.proofs.Common.{◌≡◌, ◌⊎◌, ◌+◌, ℕ, Bool, true, false, List, [], ◌∷◌, ◌++◌, length, Option, Some, None}
+use Rattle.std.proofs.Common.{inl, inr, refl, sym, ap, subst, ◌∙◌, append-nil}
+use Rattle.std.specs.Prelude.{if◌then◌else◌}
+use Rattle.std.specs.List.{AllByRecursion}
 use Rattle.std.proofs.lemmas.Bool.{false≢true}
-use Rattle.response_heads.specs.Heads.{AreFields, AreHeads, GivesHeads, HeadLines, HeadText, IsHead, IsPassedOver}
-use Rattle.response_heads.specs.Heads.{whole}
-use Rattle.response_heads.specs.Lines.{FieldText, GivesField, IsField, IsNoField, begins_head, fault_of}
+use Rattle.response_heads.specs.Heads.{AreFields, Begins, Ends, GivesFrom, GivesHeads, HeadText, IsPassedOver}
+use Rattle.response_heads.specs.Heads.{IsUnended, Stops, cut_fields}
+use Rattle.response_heads.specs.Lines.{FieldText, GivesField, IsField, IsNoField, begins_head, breaks_off, cut_end}
+use Rattle.response_heads.specs.Lines.{fault_of, status_of, whole_lines}
+use Rattle.response_heads.specs.declared.error.LineFault.{LineFault}
+use Rattle.response_heads.specs.declared.error.LineFault.TheVariants.{Status, Unended}
 
 clash : (b : Bool) → b ≡ true → b ≡ false → ⊥
 clash b is isnt = false≢true (sym isnt ∙ is)
@@ -41,15 +45,6 @@ one_fields (l ∷ ls) (f ∷ fs) (g ∷ gs) hf hg =
     let there = one_fields ls fs gs hf.1 hg.1 in
     cc
 
-one_head : (h : HeadLines) (a b : HeadText) → IsHead h a → IsHead h b → a.number ≡ b.number → a ≡ b
-one_head h a b ha hb number =
-    let fields : a.fields ≡ b.fields = one_fields h.fields a.fields b.fields ha.fields hb.fields in
-    let some : Some a.status ≡ Some b.status = sym ha.status ∙ hb.status in
-    let status : a.status ≡ b.status = cc in
-    let make : ℕ → ℕ → List FieldText → HeadText = λ at n fs. record { number = at; status = n; fields = fs } in
-    ap (λ at. make at a.status a.fields) number ∙ (ap (λ n. make b.number n a.fields) status
-    ∙ ap (make b.number b.status) fields)
-
 -- ---- where heads end
 
 empty_is_none : fault_of [] ≡ None → ⊥
@@ -66,21 +61,43 @@ line_first x y xs ys e = cc
 line_rest : (x y : List ℕ) (xs ys : List (List ℕ)) → x ∷ xs ≡ y ∷ ys → xs ≡ ys
 line_rest x y xs ys e = cc
 
+nil_cons : (x : List ℕ) (xs : List (List ℕ)) → [] ≡ x ∷ xs → ⊥
+nil_cons x xs e = cc
+
+none_some : (n : ℕ) → None ≡ Some n → ⊥
+none_some n e = cc
+
+one_some : (m n : ℕ) → Some m ≡ Some n → m ≡ n
+one_some m n e = cc
+
+-- with such lines no field goes on
+abbrev IsEnd : List (List ℕ) → Type 0
+IsEnd [] = Unit {0}
+IsEnd (line ∷ lines) = (field : FieldText) → GivesField line field → ⊥
+
+ends_so : (more : List (List ℕ)) → IsEnd ([] ∷ more)
+ends_so more = no_empty
+
+breaks_so : (line : List ℕ) (after : List (List ℕ)) → breaks_off line ≡ true → IsEnd (line ∷ after)
+breaks_so line after is = λ field given. clash (breaks_off line) is given.0
+
 same_fields : (ps qs : List (List ℕ)) (fs gs : List FieldText) (u v : List (List ℕ)) → AreFields ps fs
-    → AreFields qs gs → ps ++ [] ∷ u ≡ qs ++ [] ∷ v → (ps ≡ qs) × (u ≡ v)
-same_fields [] [] fs gs u v hp hq e = (refl, line_rest [] [] u v e)
-same_fields [] (q ∷ qs) fs [] u v hp hq e = absurd hq
-same_fields [] (q ∷ qs) fs (g ∷ gs) u v hp hq e =
-    absurd (no_empty g (subst (λ l. GivesField l g) (sym (line_first [] q u (qs ++ [] ∷ v) e)) hq.0))
-same_fields (p ∷ ps) [] [] gs u v hp hq e = absurd hp
-same_fields (p ∷ ps) [] (f ∷ fs) gs u v hp hq e =
-    absurd (no_empty f (subst (λ l. GivesField l f) (line_first p [] (ps ++ [] ∷ u) v e) hp.0))
-same_fields (p ∷ ps) (q ∷ qs) [] gs u v hp hq e = absurd hp
-same_fields (p ∷ ps) (q ∷ qs) (f ∷ fs) [] u v hp hq e = absurd hq
-same_fields (p ∷ ps) (q ∷ qs) (f ∷ fs) (g ∷ gs) u v hp hq e =
-    let here = line_first p q (ps ++ [] ∷ u) (qs ++ [] ∷ v) e in
-    let there = same_fields ps qs fs gs u v hp.1 hq.1 (line_rest p q (ps ++ [] ∷ u) (qs ++ [] ∷ v) e) in
+    → AreFields qs gs → IsEnd u → IsEnd v → ps ++ u ≡ qs ++ v → (ps ≡ qs) × (u ≡ v)
+same_fields [] [] fs gs u v hp hq hu hv e = (refl, e)
+same_fields [] (q ∷ qs) fs [] u v hp hq hu hv e = absurd hq
+same_fields [] (q ∷ qs) fs (g ∷ gs) u v hp hq hu hv e = absurd (subst IsEnd e hu g hq.0)
+same_fields (p ∷ ps) [] [] gs u v hp hq hu hv e = absurd hp
+same_fields (p ∷ ps) [] (f ∷ fs) gs u v hp hq hu hv e = absurd (subst IsEnd (sym e) hv f hp.0)
+same_fields (p ∷ ps) (q ∷ qs) [] gs u v hp hq hu hv e = absurd hp
+same_fields (p ∷ ps) (q ∷ qs) (f ∷ fs) [] u v hp hq hu hv e = absurd hq
+same_fields (p ∷ ps) (q ∷ qs) (f ∷ fs) (g ∷ gs) u v hp hq hu hv e =
+    let here = line_first p q (ps ++ u) (qs ++ v) e in
+    let there = same_fields ps qs fs gs u v hp.1 hq.1 hu hv (line_rest p q (ps ++ u) (qs ++ v) e) in
     (ap (λ x. x ∷ ps) here ∙ ap (λ xs. q ∷ xs) there.0, there.1)
+
+-- the fields of these lines
+fields_of : (ps qs : List (List ℕ)) (fs gs : List FieldText) → AreFields ps fs → AreFields qs gs → ps ≡ qs → fs ≡ gs
+fields_of ps qs fs gs hp hq e = one_fields qs fs gs (subst (λ ls. AreFields ls fs) e hp) hq
 
 same_begin : (f g : List (List ℕ)) (x y : List ℕ) (u v : List (List ℕ)) → AllByRecursion IsPassedOver f
     → AllByRecursion IsPassedOver g → begins_head x ≡ true → begins_head y ≡ true → f ++ x ∷ u ≡ g ++ y ∷ v
@@ -101,49 +118,144 @@ none_begins : (f : List (List ℕ)) (x : List ℕ) (u : List (List ℕ)) → All
 none_begins [] x u h begins = clash (begins_head x) begins h.0
 none_begins (m ∷ f) x u h begins = none_begins f x u h.1 begins
 
--- the lines of a head and what stands behind it
-opened : (h : HeadLines) (more : List (List ℕ)) → whole h ++ more ≡ h.front ++ h.status ∷ (h.fields ++ [] ∷ more)
-opened h more =
-    append_assoc (h.front ++ h.status ∷ h.fields) ([] ∷ []) more
-    ∙ append_assoc h.front (h.status ∷ h.fields) ([] ∷ more)
+-- ---- all heads
 
-behind : (h : HeadLines) (hs : List HeadLines) (rest : List (List ℕ))
-    → flat_map whole (h ∷ hs) ++ rest ≡ h.front ++ h.status ∷ (h.fields ++ [] ∷ (flat_map whole hs ++ rest))
-behind h hs rest = append_assoc (whole h) (flat_map whole hs) rest ∙ opened h (flat_map whole hs ++ rest)
+-- how a head goes on behind its status line
+abbrev GoesOn : HeadText → List (List ℕ) → List ℕ → List HeadText → Option (ℕ × LineFault) → Type 0
+GoesOn head behind cut heads stop =
+    ((number : ℕ) × (more : List (List ℕ)) × Ends head.number behind head.fields number more
+    × GivesFrom number more cut heads stop)
+    ⊎ ((heads ≡ []) × IsUnended head.number behind cut head.fields stop)
 
-same_heads : (before : ℕ) (ps qs : List HeadLines) (r s : List (List ℕ)) (hs ks : List HeadText) → AreHeads before ps hs
-    → AreHeads before qs ks
-    → AllByRecursion IsPassedOver r → AllByRecursion IsPassedOver s
-    → flat_map whole ps ++ r ≡ flat_map whole qs ++ s → hs ≡ ks
-same_heads before [] [] r s [] [] hp hq hr hs e = refl
-same_heads before [] [] r s [] (k ∷ ks) hp hq hr hs e = absurd hq
-same_heads before [] [] r s (h ∷ hs) ks hp hq hr hs2 e = absurd hp
-same_heads before [] (q ∷ qs) r s hs [] hp hq hr hs2 e = absurd hq
-same_heads before [] (q ∷ qs) r s hs (k ∷ ks) hp hq hr hs2 e =
-    absurd (none_begins q.front q.status _ (subst (AllByRecursion IsPassedOver) (e ∙ behind q qs s) hr) hq.0.begins)
-same_heads before (p ∷ ps) [] r s [] ks hp hq hr hs2 e = absurd hp
-same_heads before (p ∷ ps) [] r s (h ∷ hs) ks hp hq hr hs2 e =
-    let all = subst (AllByRecursion IsPassedOver) (sym e ∙ behind p ps r) hs2 in
-    absurd (none_begins p.front p.status _ all hp.0.begins)
-same_heads before (p ∷ ps) (q ∷ qs) r s [] ks hp hq hr hs2 e = absurd hp
-same_heads before (p ∷ ps) (q ∷ qs) r s (h ∷ hs) [] hp hq hr hs2 e = absurd hq
-same_heads before (p ∷ ps) (q ∷ qs) r s (h ∷ hs) (k ∷ ks) hp hq hr hs2 e =
-    let (front, status, more) = same_begin p.front q.front p.status q.status _ _ hp.0.front hq.0.front hp.0.begins
-    hq.0.begins (sym (behind p ps r) ∙ (e ∙ behind q qs s)) in
-    let (fields, left) = same_fields p.fields q.fields h.fields k.fields _ _ hp.0.fields hq.0.fields more in
-    let make : List (List ℕ) → List ℕ → List (List ℕ) → HeadLines =
-    λ f l ls. record { front = f; status = l; fields = ls } in
-    let same : p ≡ q =
-    ap (λ f. make f p.status p.fields) front ∙ ap (λ l. make q.front l p.fields) status
-    ∙ ap (make q.front q.status) fields in
-    let here : h ≡ k = one_head q h k (subst (λ x. IsHead x h) same hp.0) hq.0
-    (hp.1 ∙ (ap (λ x. before + length x.front + 1) same ∙ sym hq.1)) in
-    let there : hs ≡ ks =
-    same_heads (before + length (whole q)) ps qs r s hs ks
-    (subst (λ x. AreHeads (before + length (whole x)) ps hs) same hp.2) hq.2 hr hs2 left in
-    cc
+end_apart : (n : ℕ) (behind : List (List ℕ)) (cut : List ℕ) (fs gs : List FieldText) (number : ℕ)
+    (more : List (List ℕ)) (stop : Option (ℕ × LineFault)) → Ends n behind fs number more
+    → IsUnended n behind cut gs stop → ⊥
+end_apart n behind cut fs gs number more stop a (inl (b, is)) =
+    let same = same_fields a.read behind fs b.whole ([] ∷ more) [] a.are b.are (ends_so more) tt
+    (sym a.split ∙ sym (append-nil behind)) in
+    nil_cons [] more (sym same.1)
+end_apart n behind cut fs gs number more stop a (inr (m, b, is)) =
+    let same = same_fields a.read b.read fs gs ([] ∷ more) (b.line ∷ b.after) a.are b.are (ends_so more)
+    (breaks_so b.line b.after b.is) (sym a.split ∙ b.split) in
+    b.some (sym (line_first [] b.line more b.after same.1))
 
-pub one_list : (text : List ℕ) (heads others : List HeadText) → GivesHeads text heads → GivesHeads text others
-    → heads ≡ others
-one_list text heads others a b =
-    same_heads 0 a.parts b.parts a.rest b.rest heads others a.are b.are a.passed b.passed (sym a.split ∙ b.split)
+one_unended : (n : ℕ) (behind : List (List ℕ)) (cut : List ℕ) (fs gs : List FieldText)
+    (stop other : Option (ℕ × LineFault)) → IsUnended n behind cut fs stop → IsUnended n behind cut gs other
+    → (fs ≡ gs) × (stop ≡ other)
+one_unended n behind cut fs gs stop other (inl (a, is)) (inl (b, also)) =
+    let same = one_fields behind a.whole b.whole a.are b.are in
+    (a.all ∙ (ap (λ whole. whole ++ cut_fields cut) same ∙ sym b.all), is ∙ sym also)
+one_unended n behind cut fs gs stop other (inl (a, is)) (inr (m, b, also)) =
+    let same = same_fields behind b.read a.whole gs [] (b.line ∷ b.after) a.are b.are tt
+    (breaks_so b.line b.after b.is) (append-nil behind ∙ b.split) in
+    absurd (nil_cons b.line b.after same.1)
+one_unended n behind cut fs gs stop other (inr (m, a, is)) (inl (b, also)) =
+    let same = same_fields behind a.read b.whole fs [] (a.line ∷ a.after) b.are a.are tt
+    (breaks_so a.line a.after a.is) (append-nil behind ∙ a.split) in
+    absurd (nil_cons a.line a.after same.1)
+one_unended n behind cut fs gs stop other (inr (m, a, is)) (inr (k, b, also)) =
+    let same = same_fields a.read b.read fs gs (a.line ∷ a.after) (b.line ∷ b.after) a.are b.are
+    (breaks_so a.line a.after a.is) (breaks_so b.line b.after b.is) (sym a.split ∙ b.split) in
+    let number : m ≡ k = a.counted ∙ (ap (λ ls. n + length ls + 1) same.0 ∙ sym b.counted) in (
+      fields_of a.read b.read fs gs a.are b.are same.0,
+      is ∙ (ap (λ at. Some (at, Unended)) number ∙ sym also),
+    )
+
+one_head : (a b : HeadText) → a.number ≡ b.number → a.status ≡ b.status → a.fields ≡ b.fields → a ≡ b
+one_head a b number status fields =
+    let make : ℕ → ℕ → List FieldText → HeadText = λ at n fs. record { number = at; status = n; fields = fs } in
+    ap (λ at. make at a.status a.fields) number ∙ (ap (λ n. make b.number n a.fields) status
+    ∙ ap (make b.number b.status) fields)
+
+-- both say the same status line, with the same lines behind it
+pub record SameBeginning (a b : HeadText) (u v : List (List ℕ)) : Type 0 where
+  pub number : a.number ≡ b.number
+  pub status : a.status ≡ b.status
+  pub behind : u ≡ v
+
+one_beginning : (n : ℕ) (lines : List (List ℕ)) (a b : HeadText) (u v : List (List ℕ)) → Begins n lines a u
+    → Begins n lines b v → SameBeginning a b u v
+one_beginning n lines a b u v x y =
+    let (front, line, behind) = same_begin x.front y.front x.line y.line u v x.passed y.passed x.begins y.begins
+    (sym x.split ∙ y.split) in
+    let some : Some a.status ≡ Some b.status = sym x.status ∙ (ap status_of line ∙ y.status) in
+    record {
+      number = x.number ∙ (ap (λ ls. n + length ls + 1) front ∙ sym y.number);
+      status = one_some a.status b.status some;
+      behind = behind;
+    }
+
+none_apart : (n : ℕ) (lines : List (List ℕ)) (cut : List ℕ) (stop : Option (ℕ × LineFault)) (head : HeadText)
+    (behind left : List (List ℕ)) (front : List (List ℕ)) → AllByRecursion IsPassedOver front → lines ≡ front ++ left
+    → Stops (n + length front + 1) left cut stop → Begins n lines head behind → ⊥
+none_apart n lines cut stop head behind [] front passed split stops x =
+    let all = subst (AllByRecursion IsPassedOver) (sym (append-nil front) ∙ (sym split ∙ x.split)) passed in
+    none_begins x.front x.line behind all x.begins
+none_apart n lines cut stop head behind (line ∷ after) front passed split stops x =
+    let same = same_begin front x.front line x.line after behind passed x.passed stops.0 x.begins (sym split ∙ x.split) in
+    none_some head.status (sym stops.1 ∙ (ap status_of same.1 ∙ x.status))
+
+one_stop : (n : ℕ) (f g u v : List (List ℕ)) (cut : List ℕ) (stop other : Option (ℕ × LineFault))
+    → AllByRecursion IsPassedOver f → AllByRecursion IsPassedOver g → f ++ u ≡ g ++ v
+    → Stops (n + length f + 1) u cut stop → Stops (n + length g + 1) v cut other → stop ≡ other
+one_stop n f g [] [] cut stop other hf hg e a b =
+    let front : f ≡ g = sym (append-nil f) ∙ (e ∙ append-nil g) in
+    a ∙ (ap (λ ls. if begins_head cut then Some (n + length ls + 1, Status) else None) front ∙ sym b)
+one_stop n f g [] (y ∷ v) cut stop other hf hg e a b =
+    absurd (none_begins g y v (subst (AllByRecursion IsPassedOver) (sym (append-nil f) ∙ e) hf) b.0)
+one_stop n f g (x ∷ u) [] cut stop other hf hg e a b =
+    absurd (none_begins f x u (subst (AllByRecursion IsPassedOver) (sym (append-nil g) ∙ sym e) hg) a.0)
+one_stop n f g (x ∷ u) (y ∷ v) cut stop other hf hg e a b =
+    let front = (same_begin f g x y u v hf hg a.0 b.0 e).0 in
+    a.2 ∙ (ap (λ ls. Some (n + length ls + 1, Status)) front ∙ sym b.2)
+
+-- heads of one status line, where what is behind them gives one list
+same_rest : (h k : HeadText) (hs ks : List HeadText) (u : List (List ℕ)) (cut : List ℕ)
+    (stop other : Option (ℕ × LineFault)) → h.number ≡ k.number → h.status ≡ k.status → GoesOn h u cut hs stop
+    → GoesOn k u cut ks other
+    → ((n : ℕ) (more : List (List ℕ)) → GivesFrom n more cut hs stop → GivesFrom n more cut ks other
+    → (hs ≡ ks) × (stop ≡ other))
+    → (h ∷ hs ≡ k ∷ ks) × (stop ≡ other)
+same_rest h k hs ks u cut stop other number status (inl (m, more, a, far)) (inl (l, also, b, there)) one =
+    let same = same_fields a.read b.read h.fields k.fields ([] ∷ more) ([] ∷ also) a.are b.are (ends_so more)
+    (ends_so also) (sym a.split ∙ b.split) in
+    let at : m ≡ l =
+    a.counted ∙ (ap (λ n. n + length a.read + 1) number
+    ∙ (ap (λ ls. k.number + length ls + 1) same.0 ∙ sym b.counted)) in
+    let left : more ≡ also = line_rest [] [] more also same.1 in
+    let rest = one l also (subst (λ ls. GivesFrom l ls cut hs stop) left
+    (subst (λ n. GivesFrom n more cut hs stop) at far)) there in
+    let head = one_head h k number status (fields_of a.read b.read h.fields k.fields a.are b.are same.0) in
+    (ap (λ x. x ∷ hs) head ∙ ap (λ xs. k ∷ xs) rest.0, rest.1)
+same_rest h k hs ks u cut stop other number status (inl (m, more, a, far)) (inr (none, b)) one =
+    absurd (end_apart k.number u cut h.fields k.fields m more other (subst (λ n. Ends n u h.fields m more) number a) b)
+same_rest h k hs ks u cut stop other number status (inr (none, a)) (inl (l, also, b, there)) one =
+    absurd (end_apart k.number u cut k.fields h.fields l also stop b
+    (subst (λ n. IsUnended n u cut h.fields stop) number a))
+same_rest h k hs ks u cut stop other number status (inr (none, a)) (inr (nor, b)) one =
+    let same = one_unended k.number u cut h.fields k.fields stop other
+    (subst (λ n. IsUnended n u cut h.fields stop) number a) b in
+    let head = one_head h k number status same.0 in
+    (ap (λ x. x ∷ hs) head ∙ ap (λ xs. k ∷ xs) (none ∙ sym nor), same.1)
+
+one_list_from : (n : ℕ) (lines : List (List ℕ)) (cut : List ℕ) (hs ks : List HeadText)
+    (stop other : Option (ℕ × LineFault)) → GivesFrom n lines cut hs stop → GivesFrom n lines cut ks other
+    → (hs ≡ ks) × (stop ≡ other)
+one_list_from n lines cut [] [] stop other a b = (
+  refl,
+  one_stop n a.front b.front a.behind b.behind cut stop other a.passed b.passed (sym a.split ∙ b.split) a.stops b.stops,
+)
+one_list_from n lines cut [] (k ∷ ks) stop other a (v, y, on) =
+    absurd (none_apart n lines cut stop k v a.behind a.front a.passed a.split a.stops y)
+one_list_from n lines cut (h ∷ hs) [] stop other (u, x, on) b =
+    absurd (none_apart n lines cut other h u b.behind b.front b.passed b.split b.stops x)
+one_list_from n lines cut (h ∷ hs) (k ∷ ks) stop other (u, x, on) (v, y, too) =
+    let same = one_beginning n lines h k u v x y in
+    same_rest h k hs ks u cut stop other same.number same.status on
+    (subst (λ ls. GoesOn k ls cut ks other) (sym same.behind) too)
+    (λ m more a b. one_list_from m more cut hs ks stop other a b)
+
+pub one_list : (text : List ℕ) (heads others : List HeadText) (stop other : Option (ℕ × LineFault))
+    → GivesHeads text heads stop → GivesHeads text others other → (heads ≡ others) × (stop ≡ other)
+one_list text heads others stop other a b =
+    one_list_from 0 (whole_lines text) (cut_end text) heads others stop other a b

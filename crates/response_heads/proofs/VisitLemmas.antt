@@ -5,51 +5,54 @@ use Rattle.std.proofs.lemmas.List.{map-append}
 use Rattle.url.specs.Parts.{Parts}
 use Rattle.response_heads.specs.Heads.{HeadText}
 use Rattle.response_heads.specs.Read.{is_success}
-use Rattle.response_heads.specs.Visits.{LeadsTo, VisitText, Walks, is_tunnel, visit_text}
+use Rattle.response_heads.specs.Visits.{LeadsTo, VisitText, Walks, visit_of, visit_text}
+use Rattle.response_heads.specs.declared.error.LineFault.{LineFault}
 use Rattle.response_heads.specs.declared.redirects.Visit.{Visit}
 
 -- What the heads that are left give is what all give behind the visits so far.
-abbrev pub WalksOn : Parts → List HeadText → Result Parts ℕ → Bool → List HeadText → List VisitText → Type 0
-WalksOn url heads here is_behind_success left visits =
-    (rest : List VisitText) (lost : Option ℕ) → Walks here is_behind_success left rest lost
-    → Walks (Ok url) false heads (visits ++ rest) lost
+abbrev pub WalksOn : Parts → List HeadText → Option (ℕ × LineFault) → Result Parts ℕ → Bool → List HeadText
+    → List VisitText → Type 0
+WalksOn url heads stop here is_behind_success left visits =
+    (rest : List VisitText) (lost : Option ℕ) → Walks here is_behind_success left stop rest lost
+    → Walks (Ok url) false heads stop (visits ++ rest) lost
 
-pub begins : (url : Parts) (heads : List HeadText) → WalksOn url heads (Ok url) false heads []
-begins url heads = λ rest lost walks. walks
+pub begins : (url : Parts) (heads : List HeadText) (stop : Option (ℕ × LineFault))
+    → WalksOn url heads stop (Ok url) false heads []
+begins url heads stop = λ rest lost walks. walks
 
-pub goes_on : (url : Parts) (heads : List HeadText) (here : Parts) (is_behind_success : Bool) (head : HeadText)
-    (left : List HeadText) (next : Result Parts ℕ) (visits : List Visit) (visit : Visit) (pushed : List Visit)
-    → WalksOn url heads (Ok here) is_behind_success (head ∷ left) (map visit_text visits) → LeadsTo here head next
-    → visit_text visit
-    ≡ record { url = here; head = head; is_tunnel = is_tunnel here is_behind_success head left }
+pub goes_on : (url : Parts) (heads : List HeadText) (stop : Option (ℕ × LineFault)) (here : Parts)
+    (is_behind_success : Bool) (head : HeadText) (left : List HeadText) (next : Result Parts ℕ) (visits : List Visit)
+    (visit : Visit) (pushed : List Visit)
+    → WalksOn url heads stop (Ok here) is_behind_success (head ∷ left) (map visit_text visits)
+    → LeadsTo here head next → visit_text visit ≡ visit_of here is_behind_success head left stop
     → pushed ≡ visits ++ visit ∷ []
-    → WalksOn url heads next (is_success head.status) left (map visit_text pushed)
-goes_on url heads here is_behind_success head left next visits visit pushed far leads is new = λ rest lost walks.
-    let made : VisitText = record { url = here; head = head; is_tunnel = is_tunnel here is_behind_success head left } in
+    → WalksOn url heads stop next (is_success head.status) left (map visit_text pushed)
+goes_on url heads stop here is_behind_success head left next visits visit pushed far leads is new = λ rest lost walks.
+    let made = visit_of here is_behind_success head left stop in
     let texts : map visit_text pushed ++ rest ≡ map visit_text visits ++ made ∷ rest =
     ap (λ vs. map visit_text vs ++ rest) new ∙ (ap (λ vs. vs ++ rest) (map-append visit_text visits (visit ∷ []))
     ∙ (append_assoc (map visit_text visits) (visit_text visit ∷ []) rest
     ∙ ap (λ v. map visit_text visits ++ v ∷ rest) is)) in
-    subst (λ vs. Walks (Ok url) false heads vs lost) (sym texts)
+    subst (λ vs. Walks (Ok url) false heads stop vs lost) (sym texts)
     (far (made ∷ rest) lost (next, rest, leads, walks, refl))
 
 -- no head is left, or none knows where the next one was answered
-pub ends : (url : Parts) (heads : List HeadText) (here : Result Parts ℕ) (is_behind_success : Bool)
-    (visits : List VisitText) → WalksOn url heads here is_behind_success [] visits
-    → Walks (Ok url) false heads visits None
-ends url heads here is_behind_success visits far =
-    subst (λ vs. Walks (Ok url) false heads vs None) (append-nil visits) (far [] None (none here))
+pub ends : (url : Parts) (heads : List HeadText) (stop : Option (ℕ × LineFault)) (here : Result Parts ℕ)
+    (is_behind_success : Bool) (visits : List VisitText) → WalksOn url heads stop here is_behind_success [] visits
+    → Walks (Ok url) false heads stop visits None
+ends url heads stop here is_behind_success visits far =
+    subst (λ vs. Walks (Ok url) false heads stop vs None) (append-nil visits) (far [] None (none here))
   where
-    none : (here : Result Parts ℕ) → Walks here is_behind_success [] [] None
+    none : (here : Result Parts ℕ) → Walks here is_behind_success [] stop [] None
     none (Ok url) = (refl, refl)
     none (Err line) = (refl, refl)
 
-pub leaves_out : (url : Parts) (heads : List HeadText) (line : ℕ) (is_behind_success : Bool) (head : HeadText)
-    (left : List HeadText) (visits : List VisitText)
-    → WalksOn url heads (Err line) is_behind_success (head ∷ left) visits
-    → Walks (Ok url) false heads visits (Some line)
-leaves_out url heads line is_behind_success head left visits far =
-    subst (λ vs. Walks (Ok url) false heads vs (Some line)) (append-nil visits) (far [] (Some line) (refl, refl))
+pub leaves_out : (url : Parts) (heads : List HeadText) (stop : Option (ℕ × LineFault)) (line : ℕ)
+    (is_behind_success : Bool) (head : HeadText) (left : List HeadText) (visits : List VisitText)
+    → WalksOn url heads stop (Err line) is_behind_success (head ∷ left) visits
+    → Walks (Ok url) false heads stop visits (Some line)
+leaves_out url heads stop line is_behind_success head left visits far =
+    subst (λ vs. Walks (Ok url) false heads stop vs (Some line)) (append-nil visits) (far [] (Some line) (refl, refl))
 
 pub none_left : {A : Type 0} (xs : List A) → length xs ≡ 0 → xs ≡ []
 none_left [] none = refl

@@ -1,13 +1,13 @@
 -- The heads of a text, several one after another: each a status line, field lines and an empty line (RFC 9112, section
--- 2.1). What stands before them, between them and behind them is passed over.
-use Rattle.std.specs.Prelude.{◌≡◌, ◌≢◌, ◌⊎◌, ◌+◌, ◌++◌, ℕ, false, true, List, [], ◌∷◌, Some, None, length}
-use Rattle.std.specs.List.{AllByRecursion, flat_map}
-use Rattle.std.specs.Str.Lines.{lines}
-use Rattle.response_heads.specs.Lines.{FieldText, GivesField, begins_head, breaks_off, status_of}
+-- 2.1). What stands before them, between them and behind them is passed over. The last may be incomplete (section 8):
+-- its whole lines count. Nothing is read from a line on of which none can say whose it is.
+use Rattle.std.specs.Prelude.{◌≡◌, ◌≢◌, ◌⊎◌, ◌+◌, ◌++◌, ℕ, false, true, List, [], ◌∷◌, Option, Some, None, length}
+use Rattle.std.specs.Prelude.{if◌then◌else◌}
+use Rattle.std.specs.List.{AllByRecursion}
+use Rattle.url.specs.Input.{is_empty}
+use Rattle.response_heads.specs.Lines.{FieldText, GivesField, begins_head, breaks_off, cut_end, status_of, whole_lines}
 use Rattle.response_heads.specs.declared.error.LineFault.{LineFault}
 use Rattle.response_heads.specs.declared.error.LineFault.TheVariants.{Status, Unended}
-use Rattle.response_heads.specs.declared.error.ReadError.{ReadError}
-use Rattle.response_heads.specs.declared.error.ReadError.TheVariants.{Line, OutOfMemory}
 
 -- the head of a response: the number of its status line, counted from 1, its status, and its fields in their order
 pub record HeadText : Type 0 where
@@ -15,22 +15,37 @@ pub record HeadText : Type 0 where
   pub status : ℕ
   pub fields : List FieldText
 
--- the lines of a head: those that are passed over before it, its status line, its field lines
-pub record HeadLines : Type 0 where
-  pub front : List (List ℕ)
-  pub status : List ℕ
-  pub fields : List (List ℕ)
-
--- a head that has begun
-abbrev pub begun : HeadLines → List (List ℕ)
-begun h = h.front ++ h.status ∷ h.fields
-
--- a head that is whole: an empty line ends it
-abbrev pub whole : HeadLines → List (List ℕ)
-whole h = begun h ++ [] ∷ []
+-- ---- where a head begins
 
 abbrev pub IsPassedOver : List ℕ → Type 0
 IsPassedOver line = begins_head line ≡ false
+
+-- Lines, before which stand so many, are some that are passed over, the status line of this head, and these behind it.
+pub record Begins (before : ℕ) (lines : List (List ℕ)) (head : HeadText) (behind : List (List ℕ)) : Type 0 where
+  pub front : List (List ℕ)
+  pub line : List ℕ
+  pub split : lines ≡ front ++ line ∷ behind
+  pub passed : AllByRecursion IsPassedOver front
+  pub begins : begins_head line ≡ true
+  pub status : status_of line ≡ Some head.status
+  pub number : head.number ≡ before + length front + 1
+
+-- Behind lines that are passed over there is one of this number that begins a head and is no status line, which stops
+-- all reading, or none. Then a cut end stops it that begins a head.
+abbrev pub Stops : ℕ → List (List ℕ) → List ℕ → Option (ℕ × LineFault) → Type 0
+Stops number [] cut stop = stop ≡ (if begins_head cut then Some (number, Status) else None)
+Stops number (line ∷ after) cut stop =
+    (begins_head line ≡ true) × (status_of line ≡ None) × (stop ≡ Some (number, Status))
+
+-- no head begins in lines, before which stand so many
+pub record BeginsNone (before : ℕ) (lines : List (List ℕ)) (cut : List ℕ) (stop : Option (ℕ × LineFault)) : Type 0 where
+  pub front : List (List ℕ)
+  pub behind : List (List ℕ)
+  pub split : lines ≡ front ++ behind
+  pub passed : AllByRecursion IsPassedOver front
+  pub stops : Stops (before + length front + 1) behind cut stop
+
+-- ---- where it ends
 
 -- each line behind the status line gives its field
 abbrev pub AreFields : List (List ℕ) → List FieldText → Type 0
@@ -39,65 +54,54 @@ AreFields [] (field ∷ fields) = ⊥
 AreFields (line ∷ lines) [] = ⊥
 AreFields (line ∷ lines) (field ∷ fields) = GivesField line field × AreFields lines fields
 
--- lines that say this head
-pub record IsHead (h : HeadLines) (head : HeadText) : Type 0 where
-  pub front : AllByRecursion IsPassedOver h.front
-  pub begins : begins_head h.status ≡ true
-  pub status : status_of h.status ≡ Some head.status
-  pub fields : AreFields h.fields head.fields
+-- Lines behind so many are those of these fields, and an empty line, which ends the head and has this number; behind it
+-- stand more.
+pub record Ends (before : ℕ) (lines : List (List ℕ)) (fields : List FieldText) (number : ℕ) (more : List (List ℕ))
+    : Type 0 where
+  pub read : List (List ℕ)
+  pub are : AreFields read fields
+  pub split : lines ≡ read ++ [] ∷ more
+  pub counted : number ≡ before + length read + 1
 
--- the lines of these heads, before which stand so many
-abbrev pub AreHeads : ℕ → List HeadLines → List HeadText → Type 0
-AreHeads before [] [] = Unit {0}
-AreHeads before [] (head ∷ heads) = ⊥
-AreHeads before (h ∷ hs) [] = ⊥
-AreHeads before (h ∷ hs) (head ∷ heads) =
-    IsHead h head × (head.number ≡ before + length h.front + 1) × AreHeads (before + length (whole h)) hs heads
+-- a line that is cut off stands for a field of which neither name nor value is known
+abbrev pub cut_fields : List ℕ → List FieldText
+cut_fields cut = if is_empty cut then [] else (record { name = []; value = [] }) ∷ []
 
--- The lines of the text are those of these heads, all whole, and others that are passed over. A line ends at a line
--- feed, and a carriage return before that is no part of it; the last may lack its end.
-pub record GivesHeads (text : List ℕ) (heads : List HeadText) : Type 0 where
-  pub parts : List HeadLines
-  pub rest : List (List ℕ)
-  pub split : lines text ≡ flat_map whole parts ++ rest
-  pub are : AreHeads 0 parts heads
-  pub passed : AllByRecursion IsPassedOver rest
+-- the text ends within the head
+pub record IsCutOff (lines : List (List ℕ)) (cut : List ℕ) (fields : List FieldText) : Type 0 where
+  pub whole : List FieldText
+  pub are : AreFields lines whole
+  pub all : fields ≡ whole ++ cut_fields cut
 
--- ---- why a text isn't read
-
--- a fault of the line behind these, of which no head is whole: it begins one with no status line, or breaks one off
-abbrev pub IsFaultBehind : List (List ℕ) → List ℕ → LineFault → Type 0
-IsFaultBehind rest line fault =
-    (AllByRecursion IsPassedOver rest × (begins_head line ≡ true) × (status_of line ≡ None) × (fault ≡ Status))
-    ⊎ ((h : HeadLines) × (head : HeadText) × IsHead h head × (rest ≡ begun h) × (line ≢ [])
-    × (breaks_off line ≡ true) × (fault ≡ Unended))
-
--- the first line with a fault, and this; lines are counted from 1
-pub record IsFirstFault (text : List ℕ) (number : ℕ) (fault : LineFault) : Type 0 where
-  pub parts : List HeadLines
-  pub heads : List HeadText
-  pub are : AreHeads 0 parts heads
-  pub rest : List (List ℕ)
+-- a line of this number ends the head as no line may
+pub record IsBrokenOff (before : ℕ) (lines : List (List ℕ)) (fields : List FieldText) (number : ℕ) : Type 0 where
+  pub read : List (List ℕ)
+  pub are : AreFields read fields
   pub line : List ℕ
   pub after : List (List ℕ)
-  pub split : lines text ≡ (flat_map whole parts ++ rest) ++ line ∷ after
-  pub is : IsFaultBehind rest line fault
-  pub counted : number ≡ length (flat_map whole parts ++ rest) + 1
+  pub split : lines ≡ read ++ line ∷ after
+  pub some : line ≢ []
+  pub is : breaks_off line ≡ true
+  pub counted : number ≡ before + length read + 1
 
--- no line has a fault, but the text ends within a head; the number is that of its last line
-pub record IsUnended (text : List ℕ) (number : ℕ) : Type 0 where
-  pub parts : List HeadLines
-  pub heads : List HeadText
-  pub are : AreHeads 0 parts heads
-  pub h : HeadLines
-  pub head : HeadText
-  pub is : IsHead h head
-  pub split : lines text ≡ flat_map whole parts ++ begun h
-  pub counted : number ≡ length (lines text)
+-- no empty line ends the head
+abbrev pub IsUnended : ℕ → List (List ℕ) → List ℕ → List FieldText → Option (ℕ × LineFault) → Type 0
+IsUnended before lines cut fields stop =
+    (IsCutOff lines cut fields × (stop ≡ None))
+    ⊎ ((number : ℕ) × IsBrokenOff before lines fields number × (stop ≡ Some (number, Unended)))
 
--- why a text's heads aren't read
-abbrev pub IsRefusal : List ℕ → ReadError → Type 0
-IsRefusal text e =
-    (e ≡ OutOfMemory)
-    ⊎ ((number : ℕ) × (fault : LineFault) × IsFirstFault text number fault × (e ≡ Line number fault))
-    ⊎ ((number : ℕ) × IsUnended text number × (e ≡ Line number Unended))
+-- ---- all heads
+
+-- Lines, before which stand so many, and a cut end give these heads, and the line that stops all reading, if one does:
+-- its number, and its fault.
+abbrev pub GivesFrom : ℕ → List (List ℕ) → List ℕ → List HeadText → Option (ℕ × LineFault) → Type 0
+GivesFrom before lines cut [] stop = BeginsNone before lines cut stop
+GivesFrom before lines cut (head ∷ heads) stop =
+    (behind : List (List ℕ)) × Begins before lines head behind
+    × (((number : ℕ) × (more : List (List ℕ)) × Ends head.number behind head.fields number more
+    × GivesFrom number more cut heads stop)
+    ⊎ ((heads ≡ []) × IsUnended head.number behind cut head.fields stop))
+
+-- a text does
+abbrev pub GivesHeads : List ℕ → List HeadText → Option (ℕ × LineFault) → Type 0
+GivesHeads text heads stop = GivesFrom 0 (whole_lines text) (cut_end text) heads stop

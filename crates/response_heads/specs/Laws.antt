@@ -1,8 +1,10 @@
 -- What holds of every text (this repository's own).
-use Rattle.std.specs.Prelude.{◌≡◌, ℕ, List}
+use Rattle.std.specs.Prelude.{◌≡◌, ℕ, List, Option}
 use Rattle.response_heads.specs.Heads.{GivesHeads, HeadText}
+use Rattle.response_heads.specs.declared.error.LineFault.{LineFault}
 
--- it gives one list of heads
+-- it gives one list of heads, and reading stops at one line, or at none
 abbrev pub OneListOfHeads : Type 0
 OneListOfHeads =
-    (text : List ℕ) (heads others : List HeadText) → GivesHeads text heads → GivesHeads text others → heads ≡ others
+    (text : List ℕ) (heads others : List HeadText) (stop other : Option (ℕ × LineFault)) → GivesHeads text heads stop
+    → GivesHeads text others other → (heads ≡ others) × (stop ≡ other)

@@ -2,5 +2,4 @@ pub mod Heads
 pub mod Laws
 pub mod Lines
 pub mod Read
-pub mod Steps
 pub mod Visits

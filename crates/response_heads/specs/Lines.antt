@@ -1,13 +1,39 @@
--- The lines of a head: a status line (RFC 9112, section 4) and field lines (section 5).
+-- Lines, and those of a head: a status line (RFC 9112, section 4) and field lines (section 5).
 use Rattle.std.specs.Prelude.{◌≡◌, ◌≢◌, ◌⊎◌, ◌==◌, ◌||◌, ◌&&◌, ◌-◌, ℕ, Bool, false, not, List, [], ◌∷◌, length, drop}
 use Rattle.std.specs.Prelude.{take}
 use Rattle.std.specs.Prelude.{slice_index, Option, Some, None, codes, if◌then◌else◌}
 use Rattle.std.specs.Char.{is_ascii_alphanumeric, is_ascii_digit}
 use Rattle.std.specs.List.{after_first, before_first, list_all, list_any, prefix_len, slice_split, starts_with}
 use Rattle.std.specs.List.{suffix_len}
+use Rattle.std.specs.Str.Lines.{strip_carriage_return}
 use Rattle.std.specs.Str.Parse.{digits_value}
 use Rattle.response_heads.specs.declared.error.LineFault.{LineFault}
 use Rattle.response_heads.specs.declared.error.LineFault.TheVariants.{Folded, NoColon, Name, Control}
+
+-- ---- the lines of a text
+
+-- what line feeds part
+abbrev pub pieces : List ℕ → List (List ℕ)
+pieces text = slice_split (λ b. b == 10) text
+
+-- All pieces but the last are whole lines, which a line feed ends. A carriage return before that is no part of them (RFC
+-- 9112, section 2.2).
+abbrev pub whole_pieces : List (List ℕ) → List (List ℕ)
+whole_pieces [] = []
+whole_pieces (last ∷ []) = []
+whole_pieces (piece ∷ next ∷ more) = strip_carriage_return piece ∷ whole_pieces (next ∷ more)
+
+abbrev pub last_piece : List (List ℕ) → List ℕ
+last_piece [] = []
+last_piece (last ∷ []) = last
+last_piece (piece ∷ next ∷ more) = last_piece (next ∷ more)
+
+abbrev pub whole_lines : List ℕ → List (List ℕ)
+whole_lines text = whole_pieces (pieces text)
+
+-- what stands behind the last line feed: a line that the text's end cuts off, or nothing
+abbrev pub cut_end : List ℕ → List ℕ
+cut_end text = last_piece (pieces text)
 
 -- ---- status lines
 

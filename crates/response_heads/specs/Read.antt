@@ -1,5 +1,5 @@
 -- What a caller reads in a head: the fields of a name, and where it leads (RFC 9110, sections 5.1, 10.2.2 and 15.4).
-use Rattle.std.specs.Prelude.{◌&&◌, ◌||◌, ◌++◌, ℕ, Bool, not, List, [], ◌∷◌, Option, None, codes, filter, map, nat_le}
+use Rattle.std.specs.Prelude.{◌&&◌, ◌||◌, ◌==◌, ◌++◌, ℕ, Bool, not, List, [], ◌∷◌, Option, Some, None, codes, filter, map, nat_le}
 use Rattle.std.specs.Prelude.{nat_lt}
 use Rattle.std.specs.Prelude.{slice_index, take, if◌then◌else◌}
 use Rattle.url.specs.Input.{is_empty}
@@ -9,6 +9,7 @@ use Rattle.std.specs.Str.{bytes_eq}
 use Rattle.response_heads.specs.Heads.{HeadText}
 use Rattle.response_heads.specs.Lines.{FieldText, fault_of, is_control, is_white, trimmed}
 use Rattle.response_heads.specs.declared.error.LineFault.{LineFault}
+use Rattle.response_heads.specs.declared.error.LineFault.TheVariants.{Unended}
 use Rattle.response_heads.specs.declared.head.Field.{Field}
 use Rattle.response_heads.specs.declared.head.Head.{Head}
 
@@ -23,9 +24,10 @@ head_text head = record { number = head.number; status = head.status; fields = m
 abbrev pub is_named : List ℕ → FieldText → Bool
 is_named name field = bytes_eq (map to_ascii_lowercase field.name) name
 
--- why the field's line is no field line
+-- why the field's line is no field line; without a value it is one within which the text ends
 abbrev pub fault : FieldText → Option LineFault
-fault field = if is_empty field.name then fault_of field.value else None
+fault field =
+    if is_empty field.name then (if is_empty field.value then Some Unended else fault_of field.value) else None
 
 -- ---- folded lines
 
@@ -62,6 +64,10 @@ is_redirection status = nat_le 300 status && nat_lt status 400
 -- a success (section 15.3)
 abbrev pub is_success : ℕ → Bool
 is_success status = nat_le 200 status && nat_lt status 300
+
+-- a proxy wants to know who asks, and nothing else answers so (section 15.5.8)
+abbrev pub requires_proxy_authentication : ℕ → Bool
+requires_proxy_authentication status = status == 407
 
 -- the field says that content follows (RFC 9112, section 6.1)
 abbrev pub says_content : FieldText → Bool

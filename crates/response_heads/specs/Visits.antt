@@ -1,31 +1,40 @@
 -- Which URL answered each head: the first the given one, each further one that to which the head before it leads, where
 -- that is told by a plain URL or by a plain path.
-use Rattle.std.specs.Prelude.{◌≡◌, ◌⊎◌, ◌&&◌, ◌<◌, ℕ, Bool, false, not, List, [], ◌∷◌, Option, Some, None, Result, Ok, Err}
-use Rattle.std.specs.Prelude.{codes, if◌then◌else◌, length, nat_lt}
+use Rattle.std.specs.Prelude.{◌≡◌, ◌⊎◌, ◌&&◌, ◌||◌, ◌<◌, ℕ, Bool, false, not, List, [], ◌∷◌, Option, Some, None, Ok}
+use Rattle.std.specs.Prelude.{Result, Err, codes, if◌then◌else◌, is_some, length, nat_lt}
 use Rattle.std.specs.Str.{IsUtf8, bytes_eq}
 use Rattle.url.specs.Parser.{parse_url}
 use Rattle.url.specs.Parts.{Parts}
 use Rattle.plain_url.specs.Plain.{IsHop, IsPlainOf}
-use Rattle.response_heads.specs.Heads.{GivesHeads, HeadText, IsRefusal}
+use Rattle.response_heads.specs.Heads.{GivesHeads, HeadText}
 use Rattle.response_heads.specs.Read as head
 use Rattle.response_heads.specs.Read.{announces_content, head_text, is_success, locations}
+use Rattle.response_heads.specs.Read.{requires_proxy_authentication}
 use Rattle.response_heads.specs.declared.redirects.Visit.{Visit}
+use Rattle.response_heads.specs.declared.error.LineFault.{LineFault}
 use Rattle.response_heads.specs.declared.error.LineFault.TheVariants.{Status}
 use Rattle.response_heads.specs.declared.error.ReadError.{ReadError}
-use Rattle.response_heads.specs.declared.error.ReadError.TheVariants.{Line}
+use Rattle.response_heads.specs.declared.error.ReadError.TheVariants.{Line, OutOfMemory}
 
--- a head, the URL that answered it, and whether it is a proxy's, which opens a tunnel to that
+-- a head, the URL that answered it, whether it is a proxy's, which opens a tunnel to that, and, of the last one, the line
+-- behind it that stops all reading, if one does: its number and its fault
 pub record VisitText : Type 0 where
   pub url : Parts
   pub head : HeadText
   pub is_tunnel : Bool
+  pub stop : Option (ℕ × LineFault)
 
 abbrev pub visit_text : Visit → VisitText
-visit_text visit = record { url = visit.url; head = head_text visit.head; is_tunnel = visit.is_tunnel }
+visit_text visit =
+    record { url = visit.url; head = head_text visit.head; is_tunnel = visit.is_tunnel; stop = visit.stop }
+
+-- a proxy answered, and not the URL: it opened a tunnel, or wants to know who asks
+abbrev pub is_proxys : VisitText → Bool
+is_proxys visit = visit.is_tunnel || requires_proxy_authentication visit.head.status
 
 -- the Set-Cookie lines of the URL that answered, none where a proxy did
 abbrev pub set_cookie_lines : VisitText → List (List ℕ)
-set_cookie_lines visit = if visit.is_tunnel then [] else head.set_cookie_lines visit.head
+set_cookie_lines visit = if is_proxys visit then [] else head.set_cookie_lines visit.head
 
 -- ---- where a head leads
 
@@ -47,31 +56,51 @@ LeadsTo url head next = LeadsBy url head.number (locations head) next
 
 -- ---- all heads
 
--- The head is that of a proxy's answer to CONNECT (RFC 9110, section 9.3.6): a success that isn't the last head, from
+-- The head is that of a proxy's answer to CONNECT (RFC 9110, section 9.3.6): a success that another head follows, from
 -- the URL of a site that is asked through a tunnel. Such an answer has no content: so behind another success it is one
 -- only where it announces none, but the first is one whatever it announces.
-abbrev pub is_tunnel : Parts → Bool → HeadText → List HeadText → Bool
-is_tunnel url is_behind_success head heads =
+abbrev pub is_tunnel : Parts → Bool → HeadText → Bool → Bool
+is_tunnel url is_behind_success head is_followed =
     is_success head.status && (not (is_behind_success && announces_content head)
-    && (bytes_eq url.scheme (codes "https") && nat_lt 0 (length heads)))
+    && (bytes_eq url.scheme (codes "https") && is_followed))
+
+-- Behind a head, where so many are left, another follows, or a line that stops all reading, since that may be one's.
+abbrev pub is_followed : ℕ → Option (ℕ × LineFault) → Bool
+is_followed left stop = nat_lt 0 left || is_some stop
+
+-- the line that stops all reading stands behind the last head
+abbrev pub stop_behind : ℕ → Option (ℕ × LineFault) → Option (ℕ × LineFault)
+stop_behind left stop = if nat_lt 0 left then None else stop
+
+-- a head's visit, behind which these heads are left
+abbrev pub visit_of : Parts → Bool → HeadText → List HeadText → Option (ℕ × LineFault) → VisitText
+visit_of url is_behind_success head heads stop =
+    record {
+      url = url;
+      head = head;
+      is_tunnel = is_tunnel url is_behind_success head (is_followed (length heads) stop);
+      stop = stop_behind (length heads) stop;
+    }
 
 -- The visits of heads, the first of which was answered here, or none knows where for the head of this line, and the line
 -- for which heads are left out.
-abbrev pub Walks : Result Parts ℕ → Bool → List HeadText → List VisitText → Option ℕ → Type 0
-Walks here is_behind_success [] visits lost = (visits ≡ []) × (lost ≡ None)
-Walks (Err line) is_behind_success (head ∷ heads) visits lost = (visits ≡ []) × (lost ≡ Some line)
-Walks (Ok url) is_behind_success (head ∷ heads) visits lost =
+abbrev pub Walks : Result Parts ℕ → Bool → List HeadText → Option (ℕ × LineFault) → List VisitText → Option ℕ → Type 0
+Walks here is_behind_success [] stop visits lost = (visits ≡ []) × (lost ≡ None)
+Walks (Err line) is_behind_success (head ∷ heads) stop visits lost = (visits ≡ []) × (lost ≡ Some line)
+Walks (Ok url) is_behind_success (head ∷ heads) stop visits lost =
     (next : Result Parts ℕ) × (rest : List VisitText) × LeadsTo url head next
-    × Walks next (is_success head.status) heads rest lost
-    × (visits ≡ (record { url = url; head = head; is_tunnel = is_tunnel url is_behind_success head heads }) ∷ rest)
+    × Walks next (is_success head.status) heads stop rest lost
+    × (visits ≡ visit_of url is_behind_success head heads stop ∷ rest)
 
 -- the visits of a text's heads, of which there is one at least, and the line for which heads are left out
 pub record GivesVisits (url : Parts) (text : List ℕ) (visits : List VisitText) (lost : Option ℕ) : Type 0 where
   pub heads : List HeadText
-  pub gives : GivesHeads text heads
+  pub stop : Option (ℕ × LineFault)
+  pub gives : GivesHeads text heads stop
   pub some : 0 < length heads
-  pub walks : Walks (Ok url) false heads visits lost
+  pub walks : Walks (Ok url) false heads stop visits lost
 
--- why visits aren't told: why heads aren't, or the text has none, and its first line is no status line
+-- why visits aren't told: for want of memory, or the text has no head, and so its first line is no status line
 abbrev pub IsVisitRefusal : List ℕ → ReadError → Type 0
-IsVisitRefusal text e = IsRefusal text e ⊎ (GivesHeads text [] × (e ≡ Line 1 Status))
+IsVisitRefusal text e =
+    (e ≡ OutOfMemory) ⊎ ((stop : Option (ℕ × LineFault)) × GivesHeads text [] stop × (e ≡ Line 1 Status))

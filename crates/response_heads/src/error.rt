@@ -7,7 +7,7 @@ use thiserror::Error;
 /// What is wrong with a line of a head.
 #[derive(Clone, Copy, Debug, PartialEq, Eq, Error)]
 pub enum LineFault {
-    /// It begins with `HTTP/` where no head has begun, and is no status line (RFC 9112, section 4).
+    /// It begins with `HTTP/` where no head has begun, and is no status line (RFC 9112, section 4), or not a whole one.
     #[error("Status")]
     Status,
     /// It begins with white space: the obsolete way to go on with the field before it (section 5.2). It holds neither a
@@ -23,15 +23,16 @@ pub enum LineFault {
     /// It holds a carriage return that isn't at its end, or a zero byte (RFC 9110, section 5.5).
     #[error("Control")]
     Control,
-    /// No empty line ended the head before it: it begins a head, or with a carriage return, or it is the text's last.
+    /// No empty line ended the head before it: it begins with `HTTP/` or with a carriage return, or the text ends within
+    /// it.
     #[error("Unended")]
     Unended,
 }
 
-/// Why heads, or visits, aren't read.
+/// Why visits aren't told.
 #[derive(Clone, Copy, Debug, PartialEq, Eq, Error)]
 pub enum ReadError {
-    /// The line of this number, counted from 1, is faulty.
+    /// The text has no head: its first line is no status line. It is `Line(1, LineFault::Status)`.
     #[error("line {0}: {1}")]
     Line(usize, LineFault),
     /// Memory was refused, or a URL would have more than 4 GB.

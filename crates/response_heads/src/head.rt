@@ -1,6 +1,6 @@
 //! Heads, and the heads of a text.
-ghost use Rattle.std.specs.Prelude.{◌≡◌, ◌≤◌, ◌<◌, ◌⊎◌, ◌++◌, ◌∷◌, [], codes, filter, map, length, take, IfOk, IfErr};
-ghost use Rattle.std.specs.Prelude.{OnOk};
+ghost use Rattle.std.specs.Prelude.{◌≡◌, ◌≤◌, ◌<◌, ◌⊎◌, ◌+◌, ◌++◌, ◌∷◌, [], codes, filter, map, length, take, IfOk};
+ghost use Rattle.std.specs.Prelude.{None, OnOk, Some, false, if◌then◌else◌, true};
 ghost use Rattle.std.specs.List.{list_any};
 ghost use Rattle.std.specs.Str.{bytes_eq};
 ghost use Rattle.std.specs.Char.{to_ascii_lowercase};
@@ -8,10 +8,9 @@ ghost use Rattle.response_heads.specs.Heads as spec;
 ghost use Rattle.response_heads.specs.Lines as spec_lines;
 ghost use Rattle.response_heads.specs.Read.{announces_content, fault, field_text, head_text, is_location, is_named};
 ghost use Rattle.response_heads.specs.Read.{is_fold, is_redirection, is_value, locations, says_content};
-ghost use Rattle.response_heads.specs.Read.{set_cookie_lines};
-ghost use Rattle.response_heads.specs.Steps as steps;
+ghost use Rattle.response_heads.specs.Read.{requires_proxy_authentication, set_cookie_lines};
 
-use crate::error::{LineFault, ReadError};
+use crate::error::LineFault;
 use crate::field::{begins_white, fault_of, has_control, read_field};
 use crate::folds::unfolded;
 use crate::lines::Lines;
@@ -24,7 +23,8 @@ pub struct Field<'a> {
     /// As it stands: the case of its letters doesn't count. Empty where the line is no field line.
     pub name: &'a [u8],
     /// Of its line, without the spaces and tabs at both its ends; any bytes but carriage returns, line feeds and zeros.
-    /// The whole line where it is no field line, as a folded one isn't, which goes on with the field before it.
+    /// The whole line where it is no field line, as a folded one isn't, which goes on with the field before it. Empty
+    /// where it is one within which the text ends.
     pub value: &'a [u8],
 }
 
@@ -74,10 +74,12 @@ impl<'a> Field<'a> {
     pub fn fault(&self) -> Option<LineFault>
         ensures { result ≡ fault (field_text self.now) }
     {
-        if self.name.is_empty() {
-            fault_of(self.value)
-        } else {
+        if !self.name.is_empty() {
             None
+        } else if self.value.is_empty() {
+            Some(LineFault::Unended)
+        } else {
+            fault_of(self.value)
         }
     }
 }
@@ -162,41 +164,84 @@ fn say_content(fields: &[Field<'_>]) -> bool
     fields.iter().any(|field| field.says_content())
 }
 
+/// Whether a proxy wants to know who asks, and nothing else can have answered (RFC 9110, section 15.5.8).
+pub(crate) fn requires_proxy_authentication(status: u16) -> bool
+    ensures { result ≡ requires_proxy_authentication status }
+{
+    status == 407
+}
+
 fn is_redirection(status: u16) -> bool
     ensures { result ≡ is_redirection status }
 {
     300 <= status && status < 400
 }
 
-/// The heads of a text, in their order. A head begins at a line that begins with `HTTP/` and ends at an empty line;
-/// all else is passed over, as bodies are. A line ends at a line feed, and a carriage return before that is no part of
-/// it; the last may lack its end.
+/// What is found in a text.
+#[derive(Debug, Drop)]
+pub struct Found<'a> {
+    /// Its heads, in their order.
+    pub heads: Vec<Head<'a>>,
+    /// The line at which reading stopped, if one stopped it: its number, counted from 1, and what is wrong with it. It is
+    /// `Status` or `Unended`.
+    pub stop: Option<(usize, LineFault)>,
+}
+
+/// The heads of a text. A head begins at a status line and ends at an empty line; all else is passed over, as bodies are.
+/// A line ends at a line feed, and a carriage return before that is no part of it. Of a head that the text's end cuts
+/// off the whole lines count, and the line that has no end stands for a field without a name and without a value.
+///
+/// A line that begins with `HTTP/` where no head has begun, and is no status line, stops all reading, and so does one
+/// that begins with that or with a carriage return where a head has begun: none can say whose head would be behind it.
 ///
 /// # Errors
 ///
-/// `Line` with the number of the first line, counted from 1, that begins a head and is no status line (`Status`), or
-/// before which a head has no end (`Unended`); `OutOfMemory`.
-pub fn heads<'a>(alloc: Global, text: &'a [u8]) -> Result<Vec<Head<'a>>, ReadError>
-    ensures ok { IfOk result (λ heads. spec.GivesHeads text.now (map head_text heads.items)) }
-    ensures err { IfErr result (spec.IsRefusal text.now) }
+/// `AllocError`, for want of memory.
+pub fn heads<'a>(alloc: Global, text: &'a [u8]) -> Result<Found<'a>, AllocError>
+    ensures { IfOk result (λ found. spec.GivesHeads text.now (map head_text found.heads.items) found.stop) }
 {
     let mut heads = Vec::new(alloc);
     let mut lines = Lines::of(text);
     while let Some(line) = lines.next() {
         if begins_head(line) {
-            let Some(status) = status_of(line) else {
-                return Err(ReadError::Line(lines.taken, LineFault::Status));
-            };
             let number = lines.taken;
-            let fields = read_fields(alloc, &mut lines)?;
+            let Some(status) = status_of(line) else {
+                return Ok(Found {
+                    heads,
+                    stop: Some((number, LineFault::Status)),
+                });
+            };
+            let Fields {
+                fields,
+                is_ended,
+                stop,
+            } = read_fields(alloc, &mut lines)?;
             heads.push(Head {
                 number,
                 status,
                 fields,
             })?;
+            if !is_ended {
+                return Ok(Found { heads, stop });
+            }
         }
     }
-    Ok(heads)
+    Ok(Found {
+        heads,
+        stop: stop_at_end(&lines),
+    })
+}
+
+// Where reading stops at what is left of a text, which lacks a line end.
+fn stop_at_end(lines: &Lines<'_>) -> Option<(usize, LineFault)>
+    ensures { result ≡ (if spec_lines.begins_head lines.now.rest.now
+        then Some (lines.now.taken + 1, LineFault.Status) else None) }
+{
+    if begins_head(lines.rest) {
+        Some((lines.taken + 1, LineFault::Status))
+    } else {
+        None
+    }
 }
 
 // What a line of a head gives that isn't empty: its field, or one without a name.
@@ -220,22 +265,62 @@ fn breaks_off(line: &[u8]) -> bool
     begins_head(line) || matches!(line, [b'\r', ..])
 }
 
-// The fields up to the empty line that ends the head.
-fn read_fields<'a>(alloc: Global, lines: &mut Lines<'a>) -> Result<Vec<Field<'a>>, ReadError>
-    ensures ok { IfOk result (λ fields. steps.ReadsFields lines.old.rest.now lines.new.rest.now lines.old.taken
-        lines.new.taken (map field_text fields.items)) }
-    ensures err { IfErr result (steps.IsFieldsRefusal lines.old.rest.now lines.old.taken) }
+// The fields of a head, whether an empty line ends it, and where reading stops, if it does.
+#[derive(Drop)]
+struct Fields<'a> {
+    fields: Vec<Field<'a>>,
+    is_ended: bool,
+    stop: Option<(usize, LineFault)>,
+}
+
+// The fields of a head, whose status line was taken.
+fn read_fields<'a>(alloc: Global, lines: &mut Lines<'a>) -> Result<Fields<'a>, AllocError>
+    ensures ended { IfOk result (λ read. read.is_ended ≡ true → spec.Ends lines.old.taken
+        (spec_lines.whole_lines lines.old.rest.now) (map field_text read.fields.items) lines.new.taken
+        (spec_lines.whole_lines lines.new.rest.now)) }
+    ensures unended { IfOk result (λ read. read.is_ended ≡ false → spec.IsUnended lines.old.taken
+        (spec_lines.whole_lines lines.old.rest.now) (spec_lines.cut_end lines.old.rest.now)
+        (map field_text read.fields.items) read.stop) }
+    ensures cut { spec_lines.cut_end lines.new.rest.now ≡ spec_lines.cut_end lines.old.rest.now }
     ensures shorter { length lines.new.rest.now ≤ length lines.old.rest.now }
 {
     let mut fields = Vec::new(alloc);
     while let Some(line) = lines.next() {
         if line.is_empty() {
-            return Ok(fields);
+            return Ok(Fields {
+                fields,
+                is_ended: true,
+                stop: None,
+            });
         }
         if breaks_off(line) {
-            return Err(ReadError::Line(lines.taken, LineFault::Unended));
+            return Ok(Fields {
+                fields,
+                is_ended: false,
+                stop: Some((lines.taken, LineFault::Unended)),
+            });
         }
         fields.push(field_of(line))?;
     }
-    Err(ReadError::Line(lines.taken, LineFault::Unended))
+    push_cut(&mut fields, lines.rest)?;
+    Ok(Fields {
+        fields,
+        is_ended: false,
+        stop: None,
+    })
+}
+
+// Adds a field for a line that has no end, if there is one.
+fn push_cut<'a>(fields: &mut Vec<Field<'a>>, cut: &'a [u8]) -> Result<(), AllocError>
+    ensures { OnOk result (map field_text fields.new.items
+        ≡ map field_text fields.old.items ++ spec.cut_fields cut.now) }
+{
+    if cut.is_empty() {
+        return Ok(());
+    }
+    fields.push(Field {
+        name: b"",
+        value: b"",
+    })?;
+    Ok(())
 }

@@ -17,5 +17,5 @@ mod redirects;
 mod status;
 
 pub use error::{LineFault, ReadError};
-pub use head::{Field, Head, heads};
+pub use head::{Field, Found, Head, heads};
 pub use redirects::{Visit, Visited, visits};

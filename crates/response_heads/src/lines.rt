@@ -1,8 +1,9 @@
 //! The lines of a text.
 ghost use Rattle.std.specs.Prelude.{◌≡◌, ◌∷◌, ◌+◌, ◌<◌, ◌≤◌, ◌^◌, ◌==◌, [], length, position, MatchOption};
-ghost use Rattle.std.specs.Str.Lines.{lines, strip_carriage_return};
+ghost use Rattle.std.specs.Str.Lines.{strip_carriage_return};
+ghost use Rattle.response_heads.specs.Lines.{cut_end, whole_lines};
 
-/// What is left of a text, and how many of its lines were taken.
+/// What is left of a text, and how many of its whole lines were taken.
 #[derive(Drop)]
 pub(crate) struct Lines<'a> {
     pub rest: &'a [u8],
@@ -21,33 +22,30 @@ impl<'a> Lines<'a> {
         }
     }
 
-    /// Takes the next line, without its end: a line feed, and a carriage return before that. The last line may lack it.
+    /// Takes the next whole line, without its end: a line feed, and a carriage return before that. What lacks it stays.
     pub(crate) fn next(&mut self) -> Option<&'a [u8]>
-        ensures line { MatchOption result ((lines self.old.rest.now ≡ []) × (self.new ≡ self.old))
-            (λ line. (lines self.old.rest.now ≡ line.now ∷ lines self.new.rest.now)
+        ensures line { MatchOption result ((whole_lines self.old.rest.now ≡ [])
+            × (cut_end self.old.rest.now ≡ self.old.rest.now) × (self.new ≡ self.old))
+            (λ line. (whole_lines self.old.rest.now ≡ line.now ∷ whole_lines self.new.rest.now)
+            × (cut_end self.new.rest.now ≡ cut_end self.old.rest.now)
             × (self.new.taken ≡ self.old.taken + 1)
             × (length self.new.rest.now < length self.old.rest.now)) }
     {
-        if self.rest.is_empty() {
-            return None;
-        }
-        let (line, rest) = cut_line(self.rest);
+        let (line, rest) = first_line(self.rest)?;
         self.rest = rest;
         self.taken += 1;
         Some(line)
     }
 }
 
-// The first line of a text that isn't empty, and what follows it.
-fn cut_line(text: &[u8]) -> (&[u8], &[u8])
-    requires { 0 < length text.now }
-    ensures line { lines text.now ≡ result.0.now ∷ lines result.1.now }
-    ensures shorter { length result.1.now < length text.now }
+// The first whole line of a text, and what follows it.
+fn first_line(text: &[u8]) -> Option<(&[u8], &[u8])>
+    ensures { MatchOption result ((whole_lines text.now ≡ []) × (cut_end text.now ≡ text.now))
+        (λ cut. (whole_lines text.now ≡ cut.0.now ∷ whole_lines cut.1.now) × (cut_end cut.1.now ≡ cut_end text.now)
+        × (length cut.1.now < length text.now)) }
 {
-    match line_end(text) {
-        Some(i) => (without_return(&text[..i]), &text[i + 1..]),
-        None => (text, &text[text.len()..]),
-    }
+    let end = line_end(text)?;
+    Some((without_return(&text[..end]), &text[end + 1..]))
 }
 
 // Where the first line feed stands.

@@ -1,13 +1,12 @@
 //! Which URL answered each head.
-ghost use Rattle.std.specs.Prelude.{◌≡◌, ◌&&◌, Ok, map, IfOk, IfErr, MatchOption, codes, false, nat_lt, not};
-ghost use Rattle.std.specs.Str.{bytes_eq};
+ghost use Rattle.std.specs.Prelude.{◌≡◌, Ok, map, IfOk, IfErr, MatchOption, false};
 ghost use Rattle.url.specs.Parts.{Parts};
 ghost use Rattle.plain_url.specs.Plain.{IsPlainOf};
-ghost use Rattle.response_heads.specs.Read.{announces_content, head_text, is_success};
+ghost use Rattle.response_heads.specs.Read.{head_text, is_success};
 ghost use Rattle.response_heads.specs.Visits as spec;
 
 use crate::error::{LineFault, ReadError};
-use crate::head::{Head, heads};
+use crate::head::{Found, Head, heads, requires_proxy_authentication};
 use plain_url::{is_plain_hop, is_plain_of};
 use std::alloc::{AllocError, Global};
 use url::{ParseError, Url};
@@ -20,12 +19,21 @@ pub struct Visit<'a> {
     /// What it answered.
     pub head: Head<'a>,
     /// Whether a proxy answered, and opened a tunnel to that URL (RFC 9110, section 9.3.6): a success that isn't the
-    /// last head, where the URL is one of `https`. Behind another success it is one only without `Content-Length` and
-    /// `Transfer-Encoding`, since such an answer has no content.
+    /// last head, or behind which reading stopped, where the URL is one of `https`. Behind another success it is one only
+    /// without `Content-Length` and `Transfer-Encoding`, since such an answer has no content.
     pub is_tunnel: bool,
+    /// Of the last head, the line behind it at which reading stopped, as [`Found::stop`] tells it.
+    pub stop: Option<(usize, LineFault)>,
 }
 
 impl<'a> Visit<'a> {
+    /// Whether a proxy answered, and not the URL: it opened a tunnel, or wants to know who asks (407).
+    pub fn is_proxys(&self) -> bool
+        ensures { result ≡ spec.is_proxys (spec.visit_text self.now) }
+    {
+        self.is_tunnel || requires_proxy_authentication(self.head.status)
+    }
+
     /// The `Set-Cookie` lines of the URL that answered, as [`Head::set_cookie_lines`] gives them. Where a proxy
     /// answered there are none.
     ///
@@ -36,7 +44,7 @@ impl<'a> Visit<'a> {
         ensures { IfOk result (λ lines. map (λ line. line.items) lines.items
             ≡ spec.set_cookie_lines (spec.visit_text self.now)) }
     {
-        if self.is_tunnel {
+        if self.is_proxys() {
             return Ok(Vec::new(alloc));
         }
         self.head.set_cookie_lines(alloc)
@@ -60,22 +68,27 @@ pub struct Visited<'a> {
 ///
 /// # Errors
 ///
-/// `Line` and `OutOfMemory` as [`heads`] tells them; `Line` of the first line and `Status` where the text has no head.
+/// `Line` of the first line and `Status` where the text has no head, so that this is no status line; `OutOfMemory`.
 pub fn visits<'a>(alloc: Global, url: &Url, text: &'a [u8]) -> Result<Visited<'a>, ReadError>
     ensures ok { IfOk result (λ given. spec.GivesVisits url.now text.now (map spec.visit_text given.visits.items)
         given.lost) }
     ensures err { IfErr result (spec.IsVisitRefusal text.now) }
 {
-    let heads = heads(alloc, text)?;
+    let Found { heads, stop } = heads(alloc, text)?;
     if heads.is_empty() {
         return Err(ReadError::Line(1, LineFault::Status));
     }
-    Ok(walk(alloc, url, heads)?)
+    Ok(walk(alloc, url, heads, stop)?)
 }
 
-// The visits of heads, the first of which this URL answered.
-fn walk<'a>(alloc: Global, url: &Url, heads: Vec<Head<'a>>) -> Result<Visited<'a>, AllocError>
-    ensures { IfOk result (λ given. spec.Walks (Ok url.now) false (map head_text heads.entry.items)
+// The visits of heads, the first of which this URL answered, and behind which reading stopped, if it did.
+fn walk<'a>(
+    alloc: Global,
+    url: &Url,
+    heads: Vec<Head<'a>>,
+    stop: Option<(usize, LineFault)>,
+) -> Result<Visited<'a>, AllocError>
+    ensures { IfOk result (λ given. spec.Walks (Ok url.now) false (map head_text heads.entry.items) stop
         (map spec.visit_text given.visits.items) given.lost) }
 {
     let mut visits = Vec::new(alloc);
@@ -94,12 +107,13 @@ fn walk<'a>(alloc: Global, url: &Url, heads: Vec<Head<'a>>) -> Result<Visited<'a
             }
         };
         here = leads_to(alloc, &url, &head)?;
-        let is_tunnel = is_tunnel(&url, is_behind_success, &head, left);
+        let is_tunnel = is_tunnel(&url, is_behind_success, &head, is_followed(left, stop));
         is_behind_success = is_success(head.status);
         visits.push(Visit {
             url,
             head,
             is_tunnel,
+            stop: stop_behind(left, stop),
         })?;
     }
     Ok(Visited { visits, lost: None })
@@ -158,16 +172,28 @@ fn plain(alloc: Global, text: &str) -> Result<Option<Url>, AllocError>
     }
 }
 
-// Whether a head is a proxy's, behind which so many are left.
-fn is_tunnel(url: &Url, is_behind_success: bool, head: &Head<'_>, left: usize) -> bool
-    ensures { result ≡ (is_success head.now.status
-        && (not (is_behind_success && announces_content (head_text head.now))
-        && (bytes_eq url.now.scheme (codes "https") && nat_lt 0 left))) }
+// Whether another head follows one behind which so many are left, or a line that may be one's.
+fn is_followed(left: usize, stop: Option<(usize, LineFault)>) -> bool
+    ensures { result ≡ spec.is_followed left stop }
+{
+    left > 0 || stop.is_some()
+}
+
+// Where reading stopped behind a head, behind which so many are left.
+fn stop_behind(left: usize, stop: Option<(usize, LineFault)>) -> Option<(usize, LineFault)>
+    ensures { result ≡ spec.stop_behind left stop }
+{
+    if left > 0 { None } else { stop }
+}
+
+// Whether a head is that of a proxy's answer to CONNECT.
+fn is_tunnel(url: &Url, is_behind_success: bool, head: &Head<'_>, is_followed: bool) -> bool
+    ensures { result ≡ spec.is_tunnel url.now is_behind_success (head_text head.now) is_followed }
 {
     is_success(head.status)
         && !(is_behind_success && head.announces_content())
         && url.scheme() == "https"
-        && left > 0
+        && is_followed
 }
 
 fn is_success(status: u16) -> bool

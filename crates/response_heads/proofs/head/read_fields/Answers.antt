@@ -14,9 +14,9 @@ loop-line-preserved c =
     ∙ map-append field_text c.loop-line.fields.items (c.field_of.result ∷ []) in
     let more = fields_more old.rest.now old.taken c.loop-line.lines.rest.now c.loop-line.lines.taken
     (map field_text c.loop-line.fields.items) c.in-Some.line.now c.next.new.self.rest.now c.next.new.self.taken
-    (field_text c.field_of.result) c.loop-line.invariant.reads next.0 next.1
+    (field_text c.field_of.result) c.loop-line.invariant.reads next.0 next.1 next.2
     (sym c.breaks_off.ensures ∙ c.if-breaks_off.false, c.field_of.ensures) in
     record {
       reads = subst (FieldsSoFar old.rest.now old.taken c.next.new.self.rest.now c.next.new.self.taken) (sym new) more;
-      shorter = omega (arith, next.2);
+      shorter = omega (arith, next.3);
     }

@@ -1,10 +1,9 @@
-use Rattle.std.proofs.Common.{◌≡◌, ◌-◌, ◌∙◌, ◌∷◌, [], Bool, Ok, ap, arith, length, map, subst, sym}
-use Rattle.std.specs.Prelude.{◌&&◌, codes, nat_lt, not}
-use Rattle.std.specs.Str.{bytes_eq}
+use Rattle.std.proofs.Common.{◌≡◌, ◌-◌, ◌∙◌, ◌∷◌, [], Bool, Ok, Option, ap, arith, length, map, subst, sym, ℕ}
 use Rattle.std.specs.Vec.Iter.{into_iter_items}
 use Rattle.std.proofs.lemmas.List.{length-map}
-use Rattle.response_heads.specs.Read.{announces_content, head_text, is_success}
-use Rattle.response_heads.specs.Visits.{VisitText, is_tunnel, visit_text}
+use Rattle.response_heads.specs.Read.{head_text}
+use Rattle.response_heads.specs.Visits.{VisitText, is_followed, is_tunnel, stop_behind, visit_text}
+use Rattle.response_heads.specs.declared.error.LineFault.{LineFault}
 use Rattle.response_heads.proofs.VisitLemmas.{WalksOn, ends, goes_on, leaves_out, none_left}
 use Rattle.response_heads.proofs.redirects.walk.Goals as goal
 
@@ -14,11 +13,12 @@ returns-in-Err c =
     let heads = map head_text c.args.heads.items in
     let visits = map visit_text c.loop-head.visits.items in
     let rest = into_iter_items c.next.new.self in
+    let stop = c.args.stop in
     let flag = c.loop-head.is_behind_success in
-    leaves_out url heads c.in-Err.line flag (head_text c.in-Some.head) (map head_text rest) visits
-    (subst (λ here. WalksOn url heads here flag (map head_text (c.in-Some.head ∷ rest)) visits) c.in-Err.is
-    (subst (λ items. WalksOn url heads c.loop-head.here flag (map head_text items) visits) c.in-Some.ensures.steps.0
-    c.loop-head.invariant.walks))
+    leaves_out url heads stop c.in-Err.line flag (head_text c.in-Some.head) (map head_text rest) visits
+    (subst (λ here. WalksOn url heads stop here flag (map head_text (c.in-Some.head ∷ rest)) visits) c.in-Err.is
+    (subst (λ items. WalksOn url heads stop c.loop-head.here flag (map head_text items) visits)
+    c.in-Some.ensures.steps.0 c.loop-head.invariant.walks))
 
 pub loop-head-preserved : goal.loop-head-preserved
 loop-head-preserved c =
@@ -26,27 +26,36 @@ loop-head-preserved c =
     let heads = map head_text c.args.heads.items in
     let visits = c.loop-head.visits.items in
     let rest = into_iter_items c.next.new.self in
+    let stop = c.args.stop in
     let flag = c.loop-head.is_behind_success in
     let here = c.in-Ok.url in
     let head = c.in-Some.head in
-    let far : WalksOn url heads (Ok here) flag (map head_text (head ∷ rest)) (map visit_text visits) =
-    subst (λ at. WalksOn url heads at flag (map head_text (head ∷ rest)) (map visit_text visits)) c.in-Ok.is
-    (subst (λ items. WalksOn url heads c.loop-head.here flag (map head_text items) (map visit_text visits))
+    let far : WalksOn url heads stop (Ok here) flag (map head_text (head ∷ rest)) (map visit_text visits) =
+    subst (λ at. WalksOn url heads stop at flag (map head_text (head ∷ rest)) (map visit_text visits)) c.in-Ok.is
+    (subst (λ items. WalksOn url heads stop c.loop-head.here flag (map head_text items) (map visit_text visits))
     c.in-Some.ensures.steps.0 c.loop-head.invariant.walks) in
     let one_less : c.loop-head.left - 1 ≡ length rest =
     omega (arith, c.loop-head.invariant.left, ap length c.in-Some.ensures.steps.0) in
     let left : c.loop-head.left - 1 ≡ length (map head_text rest) = one_less ∙ sym (length-map rest head_text) in
-    let tunnel : c.is_tunnel-is_tunnel.result ≡ is_tunnel here flag (head_text head) (map head_text rest) =
-    c.is_tunnel-is_tunnel.ensures
-    ∙ ap (λ n. is_success head.status && (not (flag && announces_content (head_text head))
-    && (bytes_eq here.scheme (codes "https") && nat_lt 0 n))) left in
-    let make : Bool → VisitText = λ b. record { url = here; head = head_text head; is_tunnel = b } in
+    let tunnel =
+    c.is_tunnel-is_tunnel.ensures ∙ ap (is_tunnel here flag (head_text head))
+    (c.is_followed.ensures ∙ ap (λ n. is_followed n stop) left) in
+    let stops = c.stop_behind.ensures ∙ ap (λ n. stop_behind n stop) left in
+    let make : Bool → Option (ℕ × LineFault) → VisitText =
+    λ b at. record { url = here; head = head_text head; is_tunnel = b; stop = at } in
     record {
-      walks = subst (λ b. WalksOn url heads c.in_ok-here.here b (map head_text rest)
+      walks = subst (λ b. WalksOn url heads stop c.in_ok-here.here b (map head_text rest)
           (map visit_text c.push.new.self.items)) (sym c.is_success-is_behind_success.ensures)
-          (goes_on url heads here flag (head_text head) (map head_text rest) c.in_ok-here.here visits
-          (record { url = here; head = head; is_tunnel = c.is_tunnel-is_tunnel.result }) c.push.new.self.items far
-          c.in_ok-here.ensures (ap make tunnel) c.in_ok-push.ensures.items);
+          (goes_on url heads stop here flag (head_text head) (map head_text rest) c.in_ok-here.here visits
+          (record {
+            url = here;
+            head = head;
+            is_tunnel = c.is_tunnel-is_tunnel.result;
+            stop = c.stop_behind.result;
+          }) c.push.new.self.items far c.in_ok-here.ensures
+          (ap (λ b. make b c.stop_behind.result) tunnel
+          ∙ ap (make (is_tunnel here flag (head_text head) (is_followed (length (map head_text rest)) stop))) stops)
+          c.in_ok-push.ensures.items);
       left = one_less;
       counted = let short = ap length c.in-Some.ensures.steps.0 in let gone = c.in-Some.ensures.steps.1 in let was = c.loop-head.invariant.counted in
           omega arith;
@@ -60,6 +69,6 @@ returns c =
     let flag = c.loop-head.is_behind_success in
     let none : into_iter_items c.loop-head.head-iterator ≡ [] =
     none_left _ (c.loop-head.invariant.counted ∙ c.in-None.ensures.steps.0) in
-    ends url heads c.loop-head.here flag visits
-    (subst (λ items. WalksOn url heads c.loop-head.here flag (map head_text items) visits) none
+    ends url heads c.args.stop c.loop-head.here flag visits
+    (subst (λ items. WalksOn url heads c.args.stop c.loop-head.here flag (map head_text items) visits) none
     c.loop-head.invariant.walks)
