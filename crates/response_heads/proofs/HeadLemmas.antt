@@ -171,7 +171,8 @@ heads_passed text rest taken heads line more m far next cut counted passed = rec
   cut = cut ∙ far.cut;
   gives = λ all stop gives.
       at_next text rest line more taken m heads all stop far next (gives_passed taken line (whole_lines more)
-      (cut_end text) all stop passed (subst (λ n. GivesFrom n (whole_lines more) (cut_end text) all stop) counted gives));
+      (cut_end text) all stop passed
+      (subst (λ n. GivesFrom n (whole_lines more) (cut_end text) all stop) counted gives));
 }
 
 pub heads_none : (text rest : List ℕ) (taken : ℕ) (heads : List HeadText) (stop : Option (ℕ × LineFault))

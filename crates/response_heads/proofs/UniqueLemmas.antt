@@ -192,7 +192,8 @@ none_apart n lines cut stop head behind [] front passed split stops x =
     let all = subst (AllByRecursion IsPassedOver) (sym (append-nil front) ∙ (sym split ∙ x.split)) passed in
     none_begins x.front x.line behind all x.begins
 none_apart n lines cut stop head behind (line ∷ after) front passed split stops x =
-    let same = same_begin front x.front line x.line after behind passed x.passed stops.0 x.begins (sym split ∙ x.split) in
+    let same = same_begin front x.front line x.line after behind passed x.passed stops.0 x.begins
+    (sym split ∙ x.split) in
     none_some head.status (sym stops.1 ∙ (ap status_of same.1 ∙ x.status))
 
 one_stop : (n : ℕ) (f g u v : List (List ℕ)) (cut : List ℕ) (stop other : Option (ℕ × LineFault))

@@ -16,8 +16,8 @@ use Rattle.response_heads.specs.declared.error.LineFault.TheVariants.{Folded, No
 abbrev pub pieces : List ℕ → List (List ℕ)
 pieces text = slice_split (λ b. b == 10) text
 
--- All pieces but the last are whole lines, which a line feed ends. A carriage return before that is no part of them (RFC
--- 9112, section 2.2).
+-- All pieces but the last are whole lines, which a line feed ends. A carriage return before that is no part of them
+-- (RFC 9112, section 2.2).
 abbrev pub whole_pieces : List (List ℕ) → List (List ℕ)
 whole_pieces [] = []
 whole_pieces (last ∷ []) = []

@@ -16,8 +16,8 @@ use Rattle.response_heads.specs.declared.error.LineFault.TheVariants.{Status}
 use Rattle.response_heads.specs.declared.error.ReadError.{ReadError}
 use Rattle.response_heads.specs.declared.error.ReadError.TheVariants.{Line, OutOfMemory}
 
--- a head, the URL that answered it, whether it is a proxy's, which opens a tunnel to that, and, of the last one, the line
--- behind it that stops all reading, if one does: its number and its fault
+-- a head, the URL that answered it, whether it is a proxy's, which opens a tunnel to that, and, of the last head, the
+-- line behind it that stops all reading, if one does: its number and its fault
 pub record VisitText : Type 0 where
   pub url : Parts
   pub head : HeadText

@@ -23,8 +23,8 @@ pub enum LineFault {
     /// It holds a carriage return that isn't at its end, or a zero byte (RFC 9110, section 5.5).
     #[error("Control")]
     Control,
-    /// No empty line ended the head before it: it begins with `HTTP/` or with a carriage return, or the text ends within
-    /// it.
+    /// No empty line ended the head before it: it begins with `HTTP/` or with a carriage return, or the text ends
+    /// within it.
     #[error("Unended")]
     Unended,
 }

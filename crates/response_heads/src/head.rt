@@ -182,14 +182,14 @@ fn is_redirection(status: u16) -> bool
 pub struct Found<'a> {
     /// Its heads, in their order.
     pub heads: Vec<Head<'a>>,
-    /// The line at which reading stopped, if one stopped it: its number, counted from 1, and what is wrong with it. It is
+    /// The line at which reading stopped, if one stopped it: its number, counted from 1, and what is wrong with it,
     /// `Status` or `Unended`.
     pub stop: Option<(usize, LineFault)>,
 }
 
-/// The heads of a text. A head begins at a status line and ends at an empty line; all else is passed over, as bodies are.
-/// A line ends at a line feed, and a carriage return before that is no part of it. Of a head that the text's end cuts
-/// off the whole lines count, and the line that has no end stands for a field without a name and without a value.
+/// The heads of a text. A head begins at a status line and ends at an empty line; all else is passed over, as bodies
+/// are. A line ends at a line feed, and a carriage return before that is no part of it. Of a head that the text's end
+/// cuts off the whole lines count, and the line that has no end stands for a field without a name and without a value.
 ///
 /// A line that begins with `HTTP/` where no head has begun, and is no status line, stops all reading, and so does one
 /// that begins with that or with a carriage return where a head has begun: none can say whose head would be behind it.

@@ -19,8 +19,8 @@ pub struct Visit<'a> {
     /// What it answered.
     pub head: Head<'a>,
     /// Whether a proxy answered, and opened a tunnel to that URL (RFC 9110, section 9.3.6): a success that isn't the
-    /// last head, or behind which reading stopped, where the URL is one of `https`. Behind another success it is one only
-    /// without `Content-Length` and `Transfer-Encoding`, since such an answer has no content.
+    /// last head, or behind which reading stopped, where the URL is one of `https`. Behind another success it is one
+    /// only without `Content-Length` and `Transfer-Encoding`, since such an answer has no content.
     pub is_tunnel: bool,
     /// Of the last head, the line behind it at which reading stopped, as [`Found::stop`] tells it.
     pub stop: Option<(usize, LineFault)>,

@@ -5,7 +5,8 @@ use Rattle.response_heads.specs.Heads.{GivesHeads, HeadText}
 use Rattle.response_heads.specs.Lines.{begins_head, status_of}
 use Rattle.response_heads.specs.Read.{field_text, head_text}
 use Rattle.response_heads.specs.declared.error.LineFault.TheVariants.{Status}
-use Rattle.response_heads.proofs.HeadLemmas.{HeadsSoFar, heads_more, heads_none, heads_passed, heads_stop, heads_unended}
+use Rattle.response_heads.proofs.HeadLemmas.{HeadsSoFar, heads_more, heads_none, heads_passed, heads_stop}
+use Rattle.response_heads.proofs.HeadLemmas.{heads_unended}
 use Rattle.response_heads.proofs.head.heads.Goals as goal
 
 pub returns-in_default-status_of : goal.returns-in_default-status_of
@@ -32,8 +33,8 @@ returns-then-not-is_ended c =
     sym c.status_of.ensures ∙ c.in-Some-status_of.is in
     subst (λ all. GivesHeads c.args.text.now all c.in_ok-fields.field-0.stop) (sym new)
     (heads_unended c.args.text.now c.loop-line.lines.rest.now c.loop-line.lines.taken old c.in-Some.line.now
-    c.next.new.self.rest.now c.next.new.self.taken head c.in_ok-fields.field-0.stop c.loop-line.invariant next.0 next.1 next.2
-    (sym c.begins_head.ensures ∙ c.if-begins_head.true) is refl
+    c.next.new.self.rest.now c.next.new.self.taken head c.in_ok-fields.field-0.stop c.loop-line.invariant next.0 next.1
+    next.2 (sym c.begins_head.ensures ∙ c.if-begins_head.true) is refl
     (c.in_ok-fields.ensures.unended c.if-not-is_ended.true))
 
 pub loop-line-preserved-else-not-is_ended : goal.loop-line-preserved-else-not-is_ended
