@@ -5,6 +5,7 @@ pub mod KeepLemmas
 pub mod KeyLemmas
 pub mod LawLemmas
 pub mod ListingLemmas
+pub mod PlaceLemmas
 pub mod RowLemmas
 pub mod SavingLemmas
 pub mod Shown

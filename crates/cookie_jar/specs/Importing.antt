@@ -109,24 +109,26 @@ lines_text lines = record {
   refused = map refused_pair lines.refused.items;
 }
 
-abbrev pub fault_text : LineFault → List ℕ
-fault_text Fields = codes "refused: neither six nor seven fields"
-fault_text EmptyDomain = codes "refused: no domain"
-fault_text Flag = codes "refused: flag neither TRUE nor FALSE"
-fault_text NoSlash = codes "refused: path without /"
-fault_text Number = codes "refused: expiry is no number"
-fault_text EmptyName = codes "refused: empty name"
-fault_text Domain = codes "refused: domain without IDNA form"
+-- what is told of a line with this fault
+abbrev pub fault_words : LineFault → List ℕ
+fault_words Fields = codes "neither six nor seven fields"
+fault_words EmptyDomain = codes "no domain"
+fault_words Flag = codes "flag neither TRUE nor FALSE"
+fault_words NoSlash = codes "path without /"
+fault_words Number = codes "expiry is no number"
+fault_words EmptyName = codes "empty name"
+fault_words Domain = codes "domain without IDNA form"
 
-abbrev pub cause_text : Cause → List ℕ
-cause_text (Faulty fault) = fault_text fault
-cause_text Control = codes "refused: control character"
-cause_text Pair = codes "refused: name or value"
-cause_text HostPrefix = codes "refused: __Host-"
+abbrev pub cause_words : Cause → List ℕ
+cause_words (Faulty fault) = fault_words fault
+cause_words Control = codes "control character"
+cause_words Pair = codes "name or value"
+cause_words HostPrefix = codes "__Host-"
 
 -- the line that tells of a refused one
 abbrev pub refused_line : ℕ × Cause → List ℕ
-refused_line line = cause_text line.1 ++ (codes "\tline " ++ (decimal line.0 ++ 10 ∷ []))
+refused_line line =
+    codes "refused: " ++ (cause_words line.1 ++ (codes "\tline " ++ (decimal line.0 ++ 10 ∷ [])))
 
 -- one for each
 abbrev pub refused_lines : List (ℕ × Cause) → List ℕ

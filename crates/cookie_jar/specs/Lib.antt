@@ -8,6 +8,7 @@ pub mod Keeping
 pub mod Laws
 pub mod LeftOut
 pub mod Listing
+pub mod Places
 pub mod Reading
 pub mod Rows
 pub mod Saving

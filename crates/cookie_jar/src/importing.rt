@@ -230,31 +230,32 @@ fn push_refused(text: &mut String, line: RefusedLine) -> Result<(), AllocError>
         ≡ string_bytes text.old ++ spec.refused_line (spec.refused_pair line)) }
 {
     let number = line.number;
-    text.push_str(cause_text(line.cause))?;
-    write!(text, "\tline {number}\n")
+    let cause = cause_words(line.cause);
+    write!(text, "refused: {cause}\tline {number}\n")
 }
 
-fn cause_text(cause: Cause) -> &'static str
-    ensures { result.now ≡ spec.cause_text cause }
+fn cause_words(cause: Cause) -> &'static str
+    ensures { result.now ≡ spec.cause_words cause }
 {
     match cause {
-        Cause::Faulty(fault) => fault_text(fault),
-        Cause::Control => "refused: control character",
-        Cause::Pair => "refused: name or value",
-        Cause::HostPrefix => "refused: __Host-",
+        Cause::Faulty(fault) => fault_words(fault),
+        Cause::Control => "control character",
+        Cause::Pair => "name or value",
+        Cause::HostPrefix => "__Host-",
     }
 }
 
-fn fault_text(fault: LineFault) -> &'static str
-    ensures { result.now ≡ spec.fault_text fault }
+/// What is told of a line with this fault.
+pub(crate) fn fault_words(fault: LineFault) -> &'static str
+    ensures { result.now ≡ spec.fault_words fault }
 {
     match fault {
-        LineFault::Fields => "refused: neither six nor seven fields",
-        LineFault::EmptyDomain => "refused: no domain",
-        LineFault::Flag => "refused: flag neither TRUE nor FALSE",
-        LineFault::NoSlash => "refused: path without /",
-        LineFault::Number => "refused: expiry is no number",
-        LineFault::EmptyName => "refused: empty name",
-        LineFault::Domain => "refused: domain without IDNA form",
+        LineFault::Fields => "neither six nor seven fields",
+        LineFault::EmptyDomain => "no domain",
+        LineFault::Flag => "flag neither TRUE nor FALSE",
+        LineFault::NoSlash => "path without /",
+        LineFault::Number => "expiry is no number",
+        LineFault::EmptyName => "empty name",
+        LineFault::Domain => "domain without IDNA form",
     }
 }

@@ -1,7 +1,9 @@
 -- What a refusal is about, told behind its words (this repository's own).
 use Rattle.std.specs.Prelude.{◌≡◌, ◌⊎◌, ◌++◌, ℕ, Bool, true, false, List, [], Option, Some, None, Result, Ok, Err}
 use Rattle.std.specs.Prelude.{IfSome, codes, option_map}
+use Rattle.cookie_jar.specs.Places.{place_text}
 use Rattle.cookie_jar.specs.Terminal.{shown_text}
+use Rattle.cookie_jar.specs.declared.place.Place.{Place}
 use Rattle.jar_words.specs.declared.asked.Asked.{Asked}
 use Rattle.jar_words.specs.declared.asked.Command.{Command}
 use Rattle.jar_words.specs.declared.asked.Command.TheVariants as command
@@ -57,15 +59,24 @@ is_of_system failure.JarFile = true
 is_of_system failure.File = true
 is_of_system other = false
 
--- where the system refused a file, its cause may stand behind the name: which it is, no contract sees
-abbrev pub IsCause : Failure → List ℕ → Type 0
-IsCause failure cause =
-    (cause ≡ []) ⊎ ((is_of_system failure ≡ true) × ((words : List ℕ) × (cause ≡ codes ": " ++ words)))
+-- a file's text isn't one of its form
+abbrev pub is_of_text : Failure → Bool
+is_of_text failure.JarText = true
+is_of_text failure.FileText = true
+is_of_text other = false
 
--- a name as a terminal may have it, and the system's cause
+-- Behind the name may stand the system's cause, where it refused the file, or where the text stops to be read, where it
+-- isn't one of the form. Which these are, no public contract sees, as none sees what files hold.
+abbrev pub IsDetail : Failure → List ℕ → Type 0
+IsDetail failure detail =
+    (detail ≡ [])
+    ⊎ (((is_of_system failure ≡ true) × ((words : List ℕ) × (detail ≡ codes ": " ++ words)))
+    ⊎ ((is_of_text failure ≡ true) × ((place : Place) × (detail ≡ codes ": " ++ place_text place))))
+
+-- a name as a terminal may have it, and what is told behind it
 abbrev pub IsOf : Failure → List ℕ → List ℕ → Type 0
 IsOf failure name told =
-    (cause : List ℕ) × IsCause failure cause × (told ≡ shown_text name ++ (ending failure ++ cause))
+    (detail : List ℕ) × IsDetail failure detail × (told ≡ shown_text name ++ (ending failure ++ detail))
 
 -- of what is about nothing, nothing is told
 abbrev pub IsAbout : Failure → Option (List ℕ) → Option (List ℕ) → Type 0

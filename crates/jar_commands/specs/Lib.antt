@@ -8,6 +8,7 @@ pub mod KeptSteps
 pub mod Outcomes
 pub mod PassedOver
 pub mod Performing
+pub mod Places
 pub mod Plans
 pub mod Program
 pub mod ProgramKept

@@ -1,11 +1,16 @@
 //! What a refusal is about.
-ghost use Rattle.std.specs.Prelude.{◌≡◌, ◌⊎◌, IfOk, IfSome, option_map, string_bytes, true};
+ghost use Rattle.std.specs.Prelude.{◌≡◌, ◌⊎◌, ◌++◌, ℕ, List, IfOk, IfSome, OnOk, option_map, string_bytes};
+ghost use Rattle.std.specs.Option.{option_copied};
 ghost use Rattle.jar_commands.specs.About as spec;
+ghost use Rattle.jar_commands.specs.Places as places;
+ghost use Rattle.jar_commands.specs.Plans.{plan_text};
 ghost use Rattle.jar_commands.specs.Program.{IsOfFiles};
 
 use crate::failure::Failure;
 use crate::instead::url_in;
-use cookie_jar::shown_text;
+use crate::place::place_in;
+use crate::plan::Plan;
+use cookie_jar::{Place, shown_text};
 use jar_words::{Asked, Command};
 use kept_file::files::Unread;
 use kept_file::{Untaken, Unwritten};
@@ -19,18 +24,27 @@ const MISSING: &str = "No such file or directory";
 pub(crate) struct Stopped {
     /// The failure.
     pub(crate) failure: Failure,
-    /// Where the system refused a file, for what cause in words.
-    pub(crate) cause: Option<&'static str>,
+    /// What is told behind the name of the file that it is about.
+    pub(crate) detail: Option<Detail>,
+}
+
+/// What is told behind the name of a file.
+#[derive(Clone, Copy, Debug, PartialEq, Eq)]
+pub(crate) enum Detail {
+    /// For what cause the system refused it, in words.
+    Cause(&'static str),
+    /// Where its text stops to be read.
+    Place(Place),
 }
 
 impl Stopped {
-    /// A failure that is none of the system's.
+    /// A failure of which no more is told.
     pub(crate) fn of(failure: Failure) -> Stopped
         ensures { result.failure ≡ failure }
     {
         Stopped {
             failure,
-            cause: None,
+            detail: None,
         }
     }
 
@@ -40,7 +54,28 @@ impl Stopped {
     {
         Stopped {
             failure,
-            cause: Some(cause),
+            detail: Some(Detail::Cause(cause)),
+        }
+    }
+
+    /// Texts give nothing: with where the one that isn't read stops, unless memory is refused for that.
+    pub(crate) fn in_texts(
+        alloc: Global,
+        plan: &Plan<'_>,
+        stored: Option<&[u8]>,
+        brought: Option<&[u8]>,
+        failure: Failure,
+    ) -> Stopped
+        ensures failure { result.failure ≡ failure }
+        ensures detail { IfSome result.detail (places.IsDetailIn (plan_text plan.now) (option_copied stored.entry)
+            (option_copied brought.entry) failure) }
+    {
+        Stopped {
+            failure,
+            detail: match place_in(alloc, plan, stored, brought, failure) {
+                Ok(Some(place)) => Some(Detail::Place(place)),
+                Ok(None) | Err(_) => None,
+            },
         }
     }
 
@@ -128,16 +163,13 @@ fn file_in(command: Command<'_>) -> Option<&str>
     }
 }
 
-// A name, and the cause for which the system refused it.
+// A name, and what is known beside it.
 fn named(alloc: Global, name: &str, stopped: Stopped) -> Result<String, AllocError>
     ensures { IfOk result (λ told. spec.IsOf stopped.failure name.now (string_bytes told)) }
 {
     let mut told = shown_text(alloc, name)?;
     told.push_str(ending(stopped.failure))?;
-    if let Some(cause) = cause_of(stopped) {
-        told.push_str(": ")?;
-        told.push_str(cause)?;
-    }
+    push_detail(&mut told, stopped)?;
     Ok(told)
 }
 
@@ -151,12 +183,31 @@ fn ending(failure: Failure) -> &'static str
     }
 }
 
-// The cause for which the system refused a file.
-fn cause_of(stopped: Stopped) -> Option<&'static str>
-    ensures { IfSome result (λ _. spec.is_of_system stopped.failure ≡ true) }
+// The cause for which the system refused a file, or where its text stops to be read.
+fn push_detail(told: &mut String, stopped: Stopped) -> Result<(), AllocError>
+    ensures { OnOk result ((detail : List ℕ) × spec.IsDetail stopped.failure detail
+        × (string_bytes told.new ≡ string_bytes told.old ++ detail)) }
 {
-    match stopped.failure {
-        Failure::SuffixFile | Failure::LockFile | Failure::JarFile | Failure::File => stopped.cause,
-        _ => None,
+    match stopped.detail {
+        Some(Detail::Cause(cause)) if is_of_system(stopped.failure) => write!(told, ": {cause}"),
+        Some(Detail::Place(place)) if is_of_text(stopped.failure) => write!(told, ": {place}"),
+        _ => Ok(()),
     }
+}
+
+// The system refused a file.
+fn is_of_system(failure: Failure) -> bool
+    ensures { result ≡ spec.is_of_system failure }
+{
+    matches!(
+        failure,
+        Failure::SuffixFile | Failure::LockFile | Failure::JarFile | Failure::File
+    )
+}
+
+// A file's text isn't one of its form.
+fn is_of_text(failure: Failure) -> bool
+    ensures { result ≡ spec.is_of_text failure }
+{
+    matches!(failure, Failure::JarText | Failure::FileText)
 }

@@ -6,6 +6,7 @@ ghost use Rattle.std.specs.Result.{result_map_both};
 ghost use Rattle.kept_file.specs.Locks.{Held, with_put};
 ghost use Rattle.jar_commands.specs.KeptSteps as steps;
 ghost use Rattle.jar_commands.specs.Outcomes.{outcome_text};
+ghost use Rattle.jar_commands.specs.Performing.{AnswersTexts};
 ghost use Rattle.jar_commands.specs.Plans.{plan_text};
 ghost use Rattle.jar_commands.specs.Program.{IsOfFiles, IsUnwritten};
 ghost use Rattle.jar_commands.specs.ProgramKept as spec;
@@ -76,17 +77,23 @@ pub(crate) fn outcome_of<H: Files + AllocGlobal, K: Keeper>(
         return held(rt.alloc(), plan, jar, wait, suffixes, brought, kept);
     }
     let stored = read_jar(rt, jar)?;
-    without_cause(answer_texts(rt.alloc(), plan, suffixes, stored.as_deref(), brought))
+    answer_placed(rt.alloc(), plan, suffixes, stored.as_deref(), brought)
 }
 
-// A failure of texts, which is none of the system's.
-fn without_cause(given: Result<Outcome, Failure>) -> Result<Outcome, Stopped>
-    ensures { result_map_both outcome_text (λ stopped. stopped.failure) result
-        ≡ result_map_both outcome_text (λ failure. failure) given }
+// What a plan gives for texts; where one isn't read, with the place where it stops.
+fn answer_placed(
+    alloc: Global,
+    plan: &Plan<'_>,
+    suffixes: &[u8],
+    stored: Option<&[u8]>,
+    brought: Option<&[u8]>,
+) -> Result<Outcome, Stopped>
+    ensures { AnswersTexts (plan_text plan.now) suffixes.now (option_copied stored.entry)
+        (option_copied brought.entry) (result_map_both outcome_text (λ stopped. stopped.failure) result) }
 {
-    match given {
+    match answer_texts(alloc, plan, suffixes, stored, brought) {
         Ok(outcome) => Ok(outcome),
-        Err(failure) => Err(Stopped::of(failure)),
+        Err(failure) => Err(Stopped::in_texts(alloc, plan, stored, brought, failure)),
     }
 }
 
@@ -140,9 +147,9 @@ fn perform_held<K: Keeper>(
     ensures { steps.PerformsHeld (plan_text plan.now) suffixes.now (option_copied brought.entry)
         (K.lock kept.old, K.lock kept.new) (result_map_both outcome_text (λ stopped. stopped.failure) result) }
 {
-    match answer_texts(alloc, plan, suffixes, kept.bytes(), brought) {
+    match answer_placed(alloc, plan, suffixes, kept.bytes(), brought) {
         Ok(outcome) => replaced(outcome, kept),
-        Err(failure) => Err(Stopped::of(failure)),
+        Err(stopped) => Err(stopped),
     }
 }
 

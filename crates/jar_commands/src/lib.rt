@@ -19,6 +19,7 @@ mod keeping;
 mod moving;
 mod outcome;
 mod passed_over;
+mod place;
 mod plan;
 mod printing;
 pub mod program;

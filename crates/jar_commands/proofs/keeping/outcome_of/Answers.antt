@@ -1,6 +1,5 @@
-use Rattle.std.proofs.Common.{◌∙◌, subst, sym}
+use Rattle.std.proofs.Common.{◌∙◌, sym}
 use Rattle.std.specs.Option.{option_copied}
-use Rattle.jar_commands.specs.Performing.{AnswersTexts}
 use Rattle.jar_commands.specs.Plans.{plan_text}
 use Rattle.jar_commands.proofs.KeptLemmas.{unlocked_gives}
 use Rattle.jar_commands.proofs.keeping.outcome_of.Goals as goal
@@ -9,6 +8,4 @@ pub returns : goal.returns
 returns g c =
     unlocked_gives (plan_text c.args.plan.now) c.args.jar.now c.args.suffixes.now (option_copied c.args.brought)
     (option_copied c.as_deref.result) (g.K.Keeper.lock c.args.kept.now) _ _
-    (sym c.changes.ensures ∙ c.if-changes.false)
-    (subst (AnswersTexts (plan_text c.args.plan.now) c.args.suffixes.now (option_copied c.as_deref.result)
-    (option_copied c.args.brought)) (sym c.without_cause.ensures) c.answer_texts.ensures)
+    (sym c.changes.ensures ∙ c.if-changes.false) c.answer_placed.ensures

@@ -1,6 +1,5 @@
-use Rattle.std.proofs.Common.{Err, Ok, inl, refl, subst, sym}
+use Rattle.std.proofs.Common.{Err, Ok, inl, refl, subst}
 use Rattle.std.specs.Option.{option_copied}
-use Rattle.kept_file.specs.Locks.{bytes_of}
 use Rattle.jar_commands.specs.Outcomes.{outcome_text}
 use Rattle.jar_commands.specs.Performing.{AnswersTexts}
 use Rattle.jar_commands.specs.Plans.{plan_text}
@@ -18,9 +17,7 @@ returns-in-Ok g c =
 
 pub returns-in-Err : goal.returns-in-Err
 returns-in-Err g c = inl (
-  subst (λ failure. AnswersTexts (plan_text c.args.plan.now) c.args.suffixes.now
-      (bytes_of (g.K.Keeper.lock c.args.kept.now)) (option_copied c.args.brought) (Err failure)) (sym c.of.ensures)
-      (subst (λ stored. AnswersTexts (plan_text c.args.plan.now) c.args.suffixes.now stored
-      (option_copied c.args.brought) (Err c.in-Err.failure)) c.bytes.ensures c.in-Err.ensures),
+  subst (λ stored. AnswersTexts (plan_text c.args.plan.now) c.args.suffixes.now stored
+      (option_copied c.args.brought) (Err c.in-Err.stopped.failure)) c.bytes.ensures c.in-Err.ensures,
   refl,
 )
