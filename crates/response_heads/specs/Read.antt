@@ -1,5 +1,6 @@
 -- What a caller reads in a head: the fields of a name, and where it leads (RFC 9110, sections 5.1, 10.2.2 and 15.4).
-use Rattle.std.specs.Prelude.{◌&&◌, ◌||◌, ◌==◌, ◌++◌, ℕ, Bool, not, List, [], ◌∷◌, Option, Some, None, codes, filter, map}
+use Rattle.std.specs.Prelude.{◌&&◌, ◌||◌, ◌==◌, ◌++◌, ℕ, Bool, not, List, [], ◌∷◌, Option, Some, None, codes, filter}
+use Rattle.std.specs.Prelude.{map}
 use Rattle.std.specs.Prelude.{nat_le, nat_lt, slice_index, take, if◌then◌else◌}
 use Rattle.url.specs.Input.{is_empty}
 use Rattle.std.specs.Char.{to_ascii_lowercase}

@@ -43,8 +43,8 @@ abbrev pub LeadsPlainly : Parts → List ℕ → Parts → Type 0
 LeadsPlainly url text next =
     IsUtf8 text × (IsPlainOf text next ⊎ ((parse_url (Some url) text ≡ Ok next) × IsHop url next text))
 
--- Where a head with these Locations leads from a URL: where it has none nowhere else; to a URL, where it has one that is
--- plain; and else none can say where, for the head of this line.
+-- Where a head with these Locations leads from a URL: where it has none nowhere else; to a URL, where it has one that
+-- is plain; and else none can say where, for the head of this line.
 abbrev pub LeadsBy : Parts → ℕ → List (List ℕ) → Result Parts ℕ → Type 0
 LeadsBy url line [] next = next ≡ Ok url
 LeadsBy url line (text ∷ []) (Ok next) = LeadsPlainly url text next
@@ -82,8 +82,8 @@ visit_of url is_behind_success head heads stop =
       stop = stop_behind (length heads) stop;
     }
 
--- The visits of heads, the first of which was answered here, or none knows where for the head of this line, and the line
--- for which heads are left out.
+-- The visits of heads, the first of which was answered here, or none knows where for the head of this line, and the
+-- line for which heads are left out.
 abbrev pub Walks : Result Parts ℕ → Bool → List HeadText → Option (ℕ × LineFault) → List VisitText → Option ℕ → Type 0
 Walks here is_behind_success [] stop visits lost = (visits ≡ []) × (lost ≡ None)
 Walks (Err line) is_behind_success (head ∷ heads) stop visits lost = (visits ≡ []) × (lost ≡ Some line)

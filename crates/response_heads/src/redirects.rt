@@ -62,9 +62,9 @@ pub struct Visited<'a> {
 }
 
 /// The heads of a text, each with the URL that answered it: the first is answered by the given one. Behind a
-/// redirection the next is answered by the URL of its `Location`, which must be plain, or an absolute path that this URL
-/// has as it stands, and behind any other head by the same URL as that. Where a redirection has another `Location`, or
-/// several, the heads behind it are left out.
+/// redirection the next is answered by the URL of its `Location`, which must be plain, or an absolute path that this
+/// URL has as it stands, and behind any other head by the same URL as that. Where a redirection has another `Location`,
+/// or several, the heads behind it are left out.
 ///
 /// # Errors
 ///

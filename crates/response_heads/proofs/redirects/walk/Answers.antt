@@ -57,7 +57,10 @@ loop-head-preserved c =
           ∙ ap (make (is_tunnel here flag (head_text head) (is_followed (length (map head_text rest)) stop))) stops)
           c.in_ok-push.ensures.items);
       left = one_less;
-      counted = let short = ap length c.in-Some.ensures.steps.0 in let gone = c.in-Some.ensures.steps.1 in let was = c.loop-head.invariant.counted in
+      counted =
+          let short = ap length c.in-Some.ensures.steps.0 in
+          let gone = c.in-Some.ensures.steps.1 in
+          let was = c.loop-head.invariant.counted in
           omega arith;
     }
 
