@@ -4,7 +4,7 @@ use Rattle.std.specs.Prelude.{◌+◌, ◌++◌, ℕ, Bool, true, false, List, [
 use Rattle.std.specs.Fmt.{decimal}
 use Rattle.response_heads.specs.Lines.{FieldText}
 use Rattle.response_heads.specs.Read.{fault}
-use Rattle.response_heads.specs.Visits.{VisitText}
+use Rattle.response_heads.specs.Visits.{VisitText, is_proxys}
 use Rattle.response_heads.specs.declared.error.LineFault.{LineFault}
 use Rattle.response_heads.specs.declared.error.LineFault.TheVariants.{Status, Folded, NoColon, Name, Control, Unended}
 
@@ -43,13 +43,21 @@ odd_lines number is_behind_field (field ∷ fields) =
     odd_line number is_behind_field (fault field)
     ++ odd_lines (number + 1) (takes_folds is_behind_field (fault field)) fields
 
--- the head of a proxy's answer to CONNECT
+-- the head of a proxy
 abbrev pub proxys : ℕ → List ℕ
 proxys number = line_told (codes "passed over: answer of a proxy\tline ") number
+
+-- the line at which reading stopped, if one stopped it
+abbrev pub stop_told : Option (ℕ × LineFault) → List ℕ
+stop_told None = []
+stop_told (Some (number, fault)) = line_told (fault_words false fault) number
+
+-- the lines of its head that are no field lines, and the line at which reading stopped
+abbrev pub lines_told : VisitText → List ℕ
+lines_told visit = odd_lines (visit.head.number + 1) false visit.head.fields ++ stop_told visit.stop
 
 -- of a visit, where it is asked
 abbrev pub passed_over : Bool → VisitText → List ℕ
 passed_over false visit = []
 passed_over true visit =
-    (if visit.is_tunnel then proxys visit.head.number else [])
-    ++ odd_lines (visit.head.number + 1) false visit.head.fields
+    (if is_proxys visit then proxys visit.head.number else []) ++ lines_told visit

@@ -8,7 +8,8 @@ use response_heads::{Field, LineFault, Visit};
 use std::alloc::AllocError;
 
 /// Tells behind a text of a visit's head, where a proxy answered, and of its lines that are no field lines, each with
-/// its number: that it is passed over, or is a folded one that is joined to the field before it.
+/// its number: that it is passed over, or is a folded one that is joined to the field before it. So it tells of the line
+/// at which reading stopped behind it.
 ///
 /// # Errors
 ///
@@ -24,11 +25,30 @@ pub(crate) fn push_passed_over(
     if !is_verbose {
         return Ok(());
     }
-    let number = visit.head.number as u128;
-    if visit.is_tunnel {
+    if visit.is_proxys() {
+        let number = visit.head.number as u128;
         push_line(told, "passed over: answer of a proxy\tline ", number)?;
     }
-    push_odd_lines(told, number + 1, &visit.head.fields)
+    push_lines(told, visit)
+}
+
+// Tells of a head's lines that are no field lines, and of the line at which reading stopped.
+fn push_lines(told: &mut String, visit: &Visit<'_>) -> Result<(), AllocError>
+    ensures { OnOk result (string_bytes told.new
+        ≡ string_bytes told.old ++ spec.lines_told (visit_text visit.now)) }
+{
+    push_odd_lines(told, visit.head.number as u128 + 1, &visit.head.fields)?;
+    push_stop(told, visit.stop)
+}
+
+// Tells of the line at which reading stopped, if one stopped it.
+fn push_stop(told: &mut String, stop: Option<(usize, LineFault)>) -> Result<(), AllocError>
+    ensures { OnOk result (string_bytes told.new ≡ string_bytes told.old ++ spec.stop_told stop) }
+{
+    match stop {
+        Some((number, fault)) => push_line(told, fault_words(false, fault), number as u128),
+        None => Ok(()),
+    }
 }
 
 // Tells of the lines of a head that are no field lines, of which the first has this number.
