@@ -8,8 +8,8 @@ use response_heads::{Field, LineFault, Visit};
 use std::alloc::AllocError;
 
 /// Tells behind a text of a visit's head, where a proxy answered, and of its lines that are no field lines, each with
-/// its number: that it is passed over, or is a folded one that is joined to the field before it. So it tells of the line
-/// at which reading stopped behind it.
+/// its number: that it is passed over, or is a folded one that is joined to the field before it. So it tells of the
+/// line at which reading stopped behind it.
 ///
 /// # Errors
 ///
