@@ -14,7 +14,7 @@ from django.urls import path
 
 from fonnalich import Cookie, Session, Way
 
-from frameworks.kit import KEY, NOW, Browser, blocks, forged
+from frameworks.kit import KEY, NOW, Browser, blocks, expect_nothing_of_another_hand, forged
 
 HOST, NEIGHBOUR = "https://shop.test/", "https://sub.shop.test/"
 NAMES = {"key": KEY}
@@ -96,16 +96,7 @@ class Sessions(unittest.TestCase):
         self.assertEqual(self.browser.client.header(HOST), "")
 
     def test_of_another_hand_are_empty(self):
-        self.browser.get("/set/user/ann")
-        header = self.browser.client.header(HOST)
-        for text in ["hello", "[]", "1 {", f"{NOW} {{}}", ""]:
-            other = Session("", KEY)
-            other.set(Way.SEALED, "__Host-session", text)
-            self.assertEqual(self.browser.get("/", other.close()[0].partition(";")[0]).text, "[]", text)
-        for pair in [header[:-1], header[:30] + "x" + header[31:], header.replace("__Host-", ""), "__Host-session=",
-                     "__Host-session=\u65e5"]:
-            self.assertEqual(self.browser.get("/", pair).text, "[]", pair)
-        self.assertEqual(self.browser.get("/", header).text, "[('user', 'ann')]")
+        expect_nothing_of_another_hand(self, HOST, ["hello", "[]", "1 {", f"{NOW} {{}}", ""])
 
     # The cookie that a neighbour plants is one that the site sealed for it.
     def test_are_not_set_by_a_neighbour(self):

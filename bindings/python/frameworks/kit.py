@@ -8,7 +8,7 @@ import urllib.parse
 import wsgiref.util
 from wsgiref.validate import validator
 
-from fonnalich import Client, Rules
+from fonnalich import Client, Rules, Session, Way
 
 TOP = os.path.dirname(os.path.dirname(os.path.dirname(os.path.dirname(os.path.abspath(__file__)))))
 KEY = bytes(range(64))
@@ -32,6 +32,21 @@ def forged(pair):
     for it in [f"%5F{name[1:]}", f"_%5f{name[2:]}", f"__%{ord(name[2]):x}{name[3:]}", name.replace("-", "%2D"), escaped,
                f"\u00a0{name}", f"\u3000{name}", f"\x0b{name}", f"\x1f{name}", f"\u0085%5f{name[1:]}"]:
         yield f"{it}={value}"
+
+
+def expect_nothing_of_another_hand(test, site, texts):
+    """Has a session of `__Host-session` be empty for texts that the site didn't seal so, and for a cookie that was
+    changed."""
+    test.browser.get("/set/user/ann")
+    header = test.browser.client.header(site)
+    for text in texts:
+        other = Session("", KEY)
+        other.set(Way.SEALED, "__Host-session", text)
+        test.assertEqual(test.browser.get("/", other.close()[0].partition(";")[0]).text, "[]", text)
+    for pair in [header[:-1], header[:30] + "x" + header[31:], header.replace("__Host-", ""), "__Host-session=",
+                 "__Host-session=\u65e5"]:
+        test.assertEqual(test.browser.get("/", pair).text, "[]", pair)
+    test.assertEqual(test.browser.get("/", header).text, "[('user', 'ann')]")
 
 
 class Answer:
