@@ -6,7 +6,8 @@ use Rattle.std.specs.Str.Lines.{lines}
 use Rattle.cookie_text.specs.ReadingBack.{Pairwise}
 use Rattle.saved_text.specs.JsonReading.{IsJsonFault, IsNoRow}
 use Rattle.store_parts.specs.declared.error.Error.{Error}
-use Rattle.cookie_store.specs.LoadedLines.{Reader, Input, TakesLines, StopsAtLine, StopsLoadingLines, LoadsLines, MakesRow}
+use Rattle.cookie_store.specs.LoadedLines.{Reader, Input, TakesLines, StopsAtLine, StopsLoadingLines, LoadsLines}
+use Rattle.cookie_store.specs.LoadedLines.{MakesRow}
 use Rattle.cookie_store.specs.Rows.{Row, Store}
 use Rattle.cookie_store.specs.SavedTexts as form
 

@@ -183,7 +183,8 @@ comes_first one other = ltb (path_length (lent_row other)) (path_length (lent_ro
 
 pub comes_in_order : IsStrictWeakOrder comes_first
 comes_in_order =
-    IsStrictWeakOrder-flip (λ (x : Bor Cookie) (y : Bor Cookie). ltb (path_length (lent_row x)) (path_length (lent_row y)))
+    IsStrictWeakOrder-flip
+    (λ (x : Bor Cookie) (y : Bor Cookie). ltb (path_length (lent_row x)) (path_length (lent_row y)))
     (IsStrictWeakOrder-by_number (λ (c : Bor Cookie). path_length (lent_row c)))
 
 none_longer : (one : Bor Cookie) (items : List (Bor Cookie))
@@ -238,7 +239,8 @@ shown_of_length : (n : ℕ) (one : Bor Cookie) (items : List (Bor Cookie)) → p
     → filter (has_length n) (map lent_row items) ≡ map lent_row (filter (ties comes_first one) items)
 shown_of_length n one [] e = refl
 shown_of_length n one (c ∷ items) e =
-    ap (λ b. cond b (lent_row c ∷ filter (has_length n) (map lent_row items)) (filter (has_length n) (map lent_row items)))
+    ap
+    (λ b. cond b (lent_row c ∷ filter (has_length n) (map lent_row items)) (filter (has_length n) (map lent_row items)))
     (sym (ties_are n one c e)) ∙ by (ties comes_first one c) (shown_of_length n one items e)
   where
     by : (b : Bool)

@@ -8,7 +8,8 @@ use Rattle.std.specs.Str.Lines.{lines}
 use Rattle.std.proofs.KnownBytes.{Consumes-trans}
 use Rattle.devices.specs.Device.{Rose, one_more}
 use Rattle.store_parts.specs.declared.error.Error.{Error}
-use Rattle.cookie_store.specs.LoadedLines.{Cuts, Input, LoadsLines, Reader, StopsAtLine, StopsLoadingLines, StopsReading}
+use Rattle.cookie_store.specs.LoadedLines.{Cuts, Input, LoadsLines, Reader, StopsAtLine, StopsLoadingLines}
+use Rattle.cookie_store.specs.LoadedLines.{StopsReading}
 use Rattle.cookie_store.specs.LoadedLines.{TakesLines}
 use Rattle.cookie_store.specs.Rows.{Row, Store}
 use Rattle.cookie_store.specs.Steps.{TakesRest, TakesWhole}

@@ -33,7 +33,8 @@ pub record HoldsReread (with_expired : Bool) (now : ℤ) (rows : List Row) (stor
   pub reread : List Row
   pub pairs : Pairwise IsReread rows reread
   pub placed : store ≡ loaded_store with_expired now reread
-  pub stay : AreGrouped rows → HaveOwnKeys reread → store ≡ record { rows = chosen with_expired now reread; suffixes = [] }
+  pub stay : AreGrouped rows → HaveOwnKeys reread
+      → store ≡ record { rows = chosen with_expired now reread; suffixes = [] }
 
 -- what was saved in RON and is loaded of that is the rows as they are reread
 abbrev pub RonComesBack : Type 0

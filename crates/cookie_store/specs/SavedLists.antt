@@ -47,7 +47,8 @@ reader {F} {C} shows calls = record { Item = C; shows = shows; calls = calls }
 
 -- the closure answers this at a text
 abbrev pub ReadsList : {F : Type 0} (closures : Reader F) → F → List ℕ → Result (Vec closures.Item) Error → Type 0
-ReadsList {F} closures closure text answer = IsUtf8 text × ((last : F) × CalledAt closures.calls closure text answer last)
+ReadsList {F} closures closure text answer =
+    IsUtf8 text × ((last : F) × CalledAt closures.calls closure text answer last)
 
 -- a store that loaded what it makes of the text
 abbrev pub LoadsBy : {F : Type 0} → Reader F → F → Bool → ℤ → List ℕ → Store → Type 0

@@ -1,5 +1,6 @@
 -- What private functions answer. No public contract names a word of this file.
-use Rattle.std.specs.Prelude.{◌≡◌, ◌≢◌, ◌⊎◌, ◌↔◌, ◌≤◌, ℕ, ℤ, List, Option, Some, None, Ok, Err, Result, IfSome, IsSomeAnd}
+use Rattle.std.specs.Prelude.{◌≡◌, ◌≢◌, ◌⊎◌, ◌↔◌, ◌≤◌, ℕ, ℤ, List, Option, Some, None, Ok, Err, Result, IfSome}
+use Rattle.std.specs.Prelude.{IsSomeAnd}
 use Rattle.std.specs.Prelude.{MatchResult, if◌then◌else◌, Bool, true, [], ◌∷◌, ◌++◌, All, length, slice_range}
 use Rattle.std.specs.List.{flat_map, list_any}
 use Rattle.std.specs.Str.{IsUtf8}

@@ -55,7 +55,8 @@ returns-clause-given g c =
     (map lent_row given.items)
     (subst (λ those. AreGiven (rows_in those (map stored_in cookies)) url now (map lent_row given.items))
     c.as_slice-2.ensures.value
-    (subst (λ those. AreGiven (rows_in c.as_slice-2.result.now (map stored_in those)) url now (map lent_row given.items))
+    (subst
+    (λ those. AreGiven (rows_in c.as_slice-2.result.now (map stored_in those)) url now (map lent_row given.items))
     c.as_slice.ensures.value picks))))
     c.give_parts.ensures
 
