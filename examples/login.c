@@ -75,21 +75,13 @@ static void serve(int to, const char *path, const char *header) {
         answer(to, "200 OK", "", "nobody\n");
 }
 
-/* Keeps the pair of the cookie's name as it stands. A session decodes names: so another spelling of it, which anybody
-   may set for all hosts of a domain, as %5F_Host-visits, would be read as the site's own. */
-static void keep(char *text, char *header, size_t room) {
-    for (char *pair = strtok(text, "; \t\r\n"); pair; pair = strtok(NULL, "; \t\r\n"))
-        if (strncmp(pair, COOKIE "=", strlen(COOKIE "=")) == 0)
-            snprintf(header, room, "%s", pair);
-}
-
 static void take(int one, FILE *from) {
     char line[8192], path[1024] = "", header[8192] = "";
     while (fgets(line, sizeof line, from) && strcmp(line, "\r\n") != 0) {
         if (!*path && sscanf(line, "GET %1023s HTTP/1.", path) != 1)
             return;
         if (strncasecmp(line, "Cookie:", 7) == 0)
-            keep(line + 7, header, sizeof header);
+            snprintf(header, sizeof header, "%.*s", (int)strcspn(line + 7, "\r\n"), line + 7);
     }
     if (*path)
         serve(one, path, header);

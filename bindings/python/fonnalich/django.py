@@ -22,9 +22,10 @@ from django.contrib.sessions.backends.base import SessionBase
 from django.core.exceptions import ImproperlyConfigured
 
 from . import Session, Way
-from ._response import as_browsers_read
 
 __all__ = ["SessionMiddleware", "SessionStore"]
+
+_PREFIXES = ("__Host-", "__Secure-")
 
 
 def _key() -> bytes:
@@ -97,6 +98,12 @@ class SessionStore(SessionBase):
         """Does nothing, since no session is kept at the site."""
 
 
+def _hides_prefix(pair: str) -> bool:
+    """Whether Django, which strips all white space, reads a name under a prefix that a browser keeps otherwise."""
+    name = pair.partition("=")[0].strip(" \t")
+    return name.strip().startswith(_PREFIXES) and not name.startswith(_PREFIXES)
+
+
 class SessionMiddleware(middleware.SessionMiddleware):
     """Django's, which first takes out of a request's cookies those whose names Django reads as under a prefix, and a
     browser doesn't. So a neighbour may set them."""
@@ -105,7 +112,7 @@ class SessionMiddleware(middleware.SessionMiddleware):
         """Puts the session into a request."""
         header = request.META.get("HTTP_COOKIE")
         if header:
-            request.META["HTTP_COOKIE"] = as_browsers_read(header.encode("latin-1")).decode("latin-1")
+            request.META["HTTP_COOKIE"] = ";".join(it for it in header.split(";") if not _hides_prefix(it))
             # (where another middleware had Django read them)
             vars(request).pop("COOKIES", None)
         super().process_request(request)

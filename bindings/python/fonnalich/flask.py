@@ -13,7 +13,7 @@ from typing import TYPE_CHECKING, Any, Optional
 from flask.sessions import SecureCookieSession, SessionInterface, session_json_serializer
 
 from . import Bytes, Session, Way
-from ._response import as_browsers_read, checked
+from ._response import checked
 
 if TYPE_CHECKING:
     from flask import Flask, Request, Response
@@ -56,7 +56,7 @@ class Sessions(SessionInterface):
         """The session of a request, empty where it has none by this key, or one past its lifetime."""
         # (a header has a character for each byte)
         header: bytes = request.environ.get("HTTP_COOKIE", "").encode("latin-1")
-        kept = Session(as_browsers_read(header), self._key)
+        kept = Session(header, self._key)
         return SealedSession(kept, _content(app, kept.get(Way.SEALED, self._name)))
 
     def save_session(self, app: Flask, session: Any, response: Response) -> None:

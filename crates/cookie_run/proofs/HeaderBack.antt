@@ -15,7 +15,8 @@ use Rattle.cookie_text.specs.Printing.{escaped}
 use Rattle.cookie_text.specs.Record.{Record, bare}
 use Rattle.cookie_run.specs.Header.{header_of, pair_text}
 use Rattle.cookie_run.specs.Jar.{last_in}
-use Rattle.cookie_run.proofs.HeaderCookies.{cookie_of, cookies_of, pair_in}
+use Rattle.cookie_run.specs.Reading.{is_hidden_prefix}
+use Rattle.cookie_run.proofs.HeaderCookies.{cookie_of, cookies_of, pair_in, shown}
 use Rattle.cookie_run.proofs.ReadBack.{is_semicolon, is_equals, led, led_whole, led_uncut, led_pair, name_before}
 use Rattle.cookie_run.proofs.Showing.{or_none}
 
@@ -104,6 +105,15 @@ if_named : (b : Bool) (o : Option Record) (n : List ℕ) → IfSome o (λ c. c.n
 if_named true o n h = h
 if_named false o n h = tt
 
+-- what holds of the cookie of a pair holds where it is passed over for a prefix
+pub if_shown : (piece : List ℕ) (o : Option Record) (P : Record → Type 0) → IfSome o P → IfSome (shown piece o) P
+if_shown piece None P h = tt
+if_shown piece (Some c) P h = at (is_hidden_prefix piece c.name)
+  where
+    at : (b : Bool) → IfSome (cond b None (Some c)) P
+    at true = tt
+    at false = h
+
 pub cookie_named : (spaced : Bool) (p : List ℕ × List ℕ) → IsRead p
     → IfSome (cookie_of (led spaced (pair_text p))) (λ c. c.name ≡ percent_decode p.0)
 cookie_named spaced p h =
@@ -112,9 +122,9 @@ cookie_named spaced p h =
     ∙ (name_before (led spaced p.0) p.1 (led_uncut spaced p.0 (uncut p.0 h.name_uncut))
     ∙ (trim_led spaced p.0 ∙ h.name_trimmed)) in
     if_named (is_utf8 (led spaced (pair_text p))) _ _
-    (subst (λ n. IfSome (pair_in (name_of (led spaced (pair_text p)))
+    (if_shown (led spaced (pair_text p)) _ (λ c. c.name ≡ percent_decode p.0) (subst (λ n. IfSome (pair_in (name_of (led spaced (pair_text p)))
     (Rattle.cookie_text.specs.Pieces.value_of (led spaced (pair_text p)))) (λ c. c.name ≡ percent_decode n)) name
-    (pair_named (name_of (led spaced (pair_text p))) _))
+    (pair_named (name_of (led spaced (pair_text p))) _)))
 
 -- a cookie of another name is passed over
 pub passed_over : (q : List ℕ) (o : Option Record) (cs : List Record) → IfSome o (λ c. bytes_eq q c.name ≡ false)

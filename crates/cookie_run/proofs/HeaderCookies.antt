@@ -5,6 +5,7 @@ use Rattle.std.specs.Str.{is_utf8}
 use Rattle.percent_encoding.specs.Percent.{percent_decode}
 use Rattle.cookie_text.specs.Pieces.{pieces, name_of, value_of}
 use Rattle.cookie_text.specs.Record.{Record, bare}
+use Rattle.cookie_run.specs.Reading.{is_hidden_prefix}
 
 -- name and value percent-decoded, where both are texts then
 abbrev pub decoded : List ℕ → List ℕ → Option Record
@@ -19,9 +20,14 @@ pair_in name None = None
 pair_in [] (Some value) = None
 pair_in (b ∷ bs) (Some value) = decoded (b ∷ bs) value
 
+-- the cookie of a piece, where that hides no prefix
+abbrev pub shown : List ℕ → Option Record → Option Record
+shown piece None = None
+shown piece (Some cookie) = if is_hidden_prefix piece cookie.name then None else Some cookie
+
 -- a piece of a header, where it is a text and reads
 abbrev pub cookie_of : List ℕ → Option Record
-cookie_of piece = if is_utf8 piece then pair_in (name_of piece) (value_of piece) else None
+cookie_of piece = if is_utf8 piece then shown piece (pair_in (name_of piece) (value_of piece)) else None
 
 -- the cookies of a header
 abbrev pub cookies_of : List ℕ → List Record

@@ -29,6 +29,7 @@ pub mod Confined
 pub mod SentLines
 pub mod Receiving
 pub mod Refusals
+pub mod SeenPrefixes
 pub mod Runs
 pub mod DrawnRuns
 pub mod Headers

@@ -1,13 +1,14 @@
 -- An escaped pair is read back from a header.
 use Rattle.std.proofs.Common.{◌≡◌, ◌≢◌, ℕ, ◌<◌, ◌≤◌, Bool, true, false, ltb, List, [], ◌∷◌, ◌++◌, length, drop, IsAscii}
-use Rattle.std.proofs.Common.{All, sym, refl, ap, ◌∙◌, arith, Some, suc, add-one, length-append}
-use Rattle.std.specs.Prelude.{◌==◌}
-use Rattle.std.specs.List.{AllByRecursion, position_or_len}
+use Rattle.std.proofs.Common.{All, sym, refl, ap, ◌∙◌, arith, Some, suc, add-one, length-append, ⊎_elim}
+use Rattle.std.proofs.Common.{subst, true≢false}
+use Rattle.std.specs.Prelude.{◌==◌, ◌&&◌, ◌||◌, not}
+use Rattle.std.specs.List.{AllByRecursion, position_or_len, starts_with}
 use Rattle.std.specs.Str.{trim, trim_start, trim_end, skip_leading_whitespace, drop_trailing_whitespace, is_utf8}
 use Rattle.std.specs.Str.{IsUtf8}
 use Rattle.std.specs.Char.{is_whitespace}
 use Rattle.std.proofs.Math.Seq.{take-append_seam}
-use Rattle.std.proofs.lemmas.Bool.{cond-true, cond-false}
+use Rattle.std.proofs.lemmas.Bool.{cases_Bool, cond-true, cond-false}
 use Rattle.std.proofs.lemmas.Bool.Decides.{nat_tests}
 use Rattle.std.proofs.lemmas.Str.{chars-IsAscii, IsUtf8-from_ascii, is_utf8-from_IsUtf8}
 use Rattle.std.proofs.lemmas.Str.Ascii.{encodes-IsAscii, IsAscii-from_all}
@@ -15,10 +16,12 @@ use Rattle.std.proofs.lemmas.List.Elements.{All-from_recursion}
 use Rattle.percent_encoding.specs.Percent.{percent_decode}
 use Rattle.percent_encoding.proofs.PercentLemmas.{IsByte, percent_decode-nil}
 use Rattle.cookie_text.specs.Pieces.{name_of, text_after, value_of}
-use Rattle.cookie_text.specs.Printing.{encoded_pair, escaped, stripped}
+use Rattle.cookie.specs.Prefix.{host_text, secure_text}
+use Rattle.cookie_text.specs.Printing.{encoded_pair, escaped, is_escaped, stripped}
 use Rattle.cookie_text.specs.Record.{Record, bare}
 use Rattle.cookie_text.specs.Again.{Lacks, IsReadPair}
-use Rattle.cookie_run.proofs.HeaderCookies.{pair_in, decoded, cookie_of}
+use Rattle.cookie_run.specs.Reading.{behind_blanks, is_hidden, is_hidden_prefix}
+use Rattle.cookie_run.proofs.HeaderCookies.{pair_in, decoded, cookie_of, shown}
 use Rattle.cookie_run.proofs.Escaped.{IsPlain, escaped_plain, decoded_escaped}
 
 -- ---- trimming what has no white space
@@ -205,6 +208,75 @@ pub led_clean : (spaced : Bool) (c : Record) → All (λ b. is_semicolon b ≡ f
     (led spaced (stripped (encoded_pair c)))
 led_clean spaced c = All-from_recursion (λ b. is_semicolon b ≡ false) _ (led_whole spaced _ (whole_of c))
 
+-- ---- it hides no prefix
+
+-- bytes that stay where a text is escaped
+abbrev AreKept : List ℕ → Type 0
+AreKept text = AllByRecursion (λ b. is_escaped b ≡ false) text
+
+escaped_kept : (b : ℕ) (bs : List ℕ) → is_escaped b ≡ false → escaped (b ∷ bs) ≡ b ∷ escaped bs
+unfolding escaped
+escaped_kept b bs kept = rw kept refl
+
+and_first : (a b : Bool) → (a && b) ≡ true → a ≡ true
+and_first true b h = refl
+and_first false b h = h
+
+and_second : (a b : Bool) → (a && b) ≡ true → b ≡ true
+and_second true b h = h
+and_second false true h = refl
+and_second false false h = h
+
+and_both : (a b : Bool) → a ≡ true → b ≡ true → (a && b) ≡ true
+and_both true b h g = g
+and_both false b h g = h
+
+-- where a text begins so, it does escaped
+front_kept : (prefix text rest : List ℕ) → AreKept prefix → starts_with ◌==◌ text prefix ≡ true
+    → starts_with ◌==◌ (escaped text ++ rest) prefix ≡ true
+front_kept [] text rest kept h = refl
+front_kept (p ∷ ps) [] rest kept h = absurd (true≢false (sym h))
+front_kept (p ∷ ps) (b ∷ bs) rest kept h =
+    let same : (p == b) ≡ true = and_first (p == b) (starts_with ◌==◌ bs ps) h in
+    let later : starts_with ◌==◌ bs ps ≡ true = and_second (p == b) (starts_with ◌==◌ bs ps) h in
+    let is : b ≡ p = grind (arith, nat_tests, same) in
+    subst (λ text. starts_with ◌==◌ (text ++ rest) (p ∷ ps) ≡ true)
+    (sym (escaped_kept b bs (ap is_escaped is ∙ kept.0)))
+    (and_both (p == b) (starts_with ◌==◌ (escaped bs ++ rest) ps) same (front_kept ps bs rest kept.1 later))
+
+is_no_blank : (b : ℕ) → IsGraphic b → not (b == 32 || b == 9) ≡ true
+is_no_blank b h = grind (arith, nat_tests, h.low)
+
+-- no blank but the space stands before it
+unled : (spaced : Bool) (b : ℕ) (bs : List ℕ) → IsGraphic b → behind_blanks (led spaced (b ∷ bs)) ≡ b ∷ bs
+unled false b bs h = rw (is_no_blank b h) refl
+unled true b bs h = rw (is_no_blank b h) refl
+
+unled_pair : (spaced : Bool) (n v : List ℕ) → AllByRecursion IsPlain n
+    → behind_blanks (led spaced (n ++ 61 ∷ v)) ≡ n ++ 61 ∷ v
+unled_pair spaced [] v h = unled spaced 61 v (record { low = omega arith; high = omega arith })
+unled_pair spaced (b ∷ bs) v h = unled spaced b (bs ++ 61 ∷ v) (record { low = h.0.low; high = h.0.high })
+
+shows_one : (prefix name : List ℕ) (spaced : Bool) (v : List ℕ) → AreKept prefix
+    → is_hidden prefix (led spaced (escaped name ++ 61 ∷ v)) name ≡ false
+shows_one prefix name spaced v kept =
+    ⊎_elim
+    (λ (begins : starts_with ◌==◌ name prefix ≡ true).
+    rw (begins, unled_pair spaced (escaped name) v (escaped_plain name)) (rw (front_kept prefix name (61 ∷ v) kept begins) refl))
+    (λ (other : starts_with ◌==◌ name prefix ≡ false). rw other refl)
+    (cases_Bool (starts_with ◌==◌ name prefix))
+
+shows_prefix : (name : List ℕ) (spaced : Bool) (v : List ℕ)
+    → is_hidden_prefix (led spaced (escaped name ++ 61 ∷ v)) name ≡ false
+shows_prefix name spaced v =
+    rw (shows_one host_text name spaced v host_kept, shows_one secure_text name spaced v secure_kept) refl
+  where
+    host_kept : AreKept host_text
+    host_kept = (refl, (refl, (refl, (refl, (refl, (refl, (refl, tt)))))))
+
+    secure_kept : AreKept secure_text
+    secure_kept = (refl, (refl, (refl, (refl, (refl, (refl, (refl, (refl, (refl, tt)))))))))
+
 -- the pair decoded
 decodes_pair : (c : Record) → IsGood c → decoded (escaped c.name) (escaped c.value) ≡ Some (bare_of c)
 decodes_pair c good =
@@ -224,5 +296,6 @@ cookie_of_led spaced c good =
     let value : value_of (led spaced (n ++ 61 ∷ v)) ≡ Some v =
     ap value_of (led_pair spaced n v) ∙ value_behind (led spaced n) v uncut (plain_graphic v (escaped_plain c.value)) in
     cond-true _ _ _ (ascii_is_utf8 _ (led_ascii spaced _ (graphic_of c)))
-    ∙ ((λ i. pair_in (name i) (value i)) ∙ (pair_named n v (escaped_nonempty c.name good.named good.name_bytes)
-    ∙ decodes_pair c good))
+    ∙ (ap (shown (led spaced (n ++ 61 ∷ v)))
+    ((λ i. pair_in (name i) (value i)) ∙ (pair_named n v (escaped_nonempty c.name good.named good.name_bytes)
+    ∙ decodes_pair c good)) ∙ cond-false _ _ _ (shows_prefix c.name spaced v))

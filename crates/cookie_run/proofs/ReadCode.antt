@@ -2,7 +2,7 @@
 use Rattle.std.proofs.Common.{◌≡◌, ◌≢◌, ℕ, ◌<◌, Bool, true, false, ltb, List, [], ◌∷◌, ◌++◌, length, take, get_or, suc}
 use Rattle.std.proofs.Common.{sym, refl, ap, ◌∙◌, subst, ⊎_elim, arith, All, Option, Some, None, Ok, Err, append-nil}
 use Rattle.std.proofs.Common.{append_assoc}
-use Rattle.std.specs.Prelude.{◌==◌, ◌+◌, map, IsOkUnless}
+use Rattle.std.specs.Prelude.{◌==◌, ◌+◌, map, IsOkUnless, IsTrue}
 use Rattle.std.specs.Borrow.{Bor}
 use Rattle.std.specs.List.{AllByRecursion, filter_map, slice_split, onto_first, before_first, position_or_len}
 use Rattle.std.specs.Option.{option_to_list}
@@ -20,8 +20,8 @@ use Rattle.cookie_text.specs.Decoding.{ReadsEncoded, AreUtf8}
 use Rattle.cookie_text.specs.Pieces.{semicolon, equals, pieces, HasEquals, name_of, text_after, value_of}
 use Rattle.cookie_text.specs.Reading.{HasAttributes, HasLast, IsPair, first_piece}
 use Rattle.cookie_text.specs.Record.{Record, Seen, bare}
-use Rattle.cookie_run.specs.Reading.{Gives, Give, AreCookiesOf}
-use Rattle.cookie_run.proofs.HeaderCookies.{cookie_of, cookies_of, decoded, pair_in}
+use Rattle.cookie_run.specs.Reading.{Gives, Give, AreCookiesOf, Reads, is_hidden_prefix}
+use Rattle.cookie_run.proofs.HeaderCookies.{cookie_of, cookies_of, decoded, pair_in, shown}
 
 -- ---- a text without a semicolon
 
@@ -95,9 +95,9 @@ pair_some (b ∷ bs) v h = refl
 decoded_some : (n v : List ℕ) → AreUtf8 n v → decoded n v ≡ Some (bare (percent_decode n) (percent_decode v))
 decoded_some n v u = rw (is_utf8-from_IsUtf8 (percent_decode n) u.0, is_utf8-from_IsUtf8 (percent_decode v) u.1) refl
 
-piece_read : (text : List ℕ) (s : Seen) → IsClean text → IsUtf8 text → ReadsEncoded text (Ok s)
-    → Some s.cookie ≡ cookie_of text
-piece_read text s clean utf8 reads =
+piece_read : (text : List ℕ) (s : Seen) → IsClean text → ReadsEncoded text (Ok s)
+    → pair_in (name_of text) (value_of text) ≡ Some s.cookie
+piece_read text s clean reads =
     let first = first_is text clean in
     let fit = reads.accepted refl in
     let pair = subst IsPair first fit.0 in
@@ -110,9 +110,9 @@ piece_read text s clean utf8 reads =
     ∙ ap (λ t. percent_decode (name_of t)) first in
     let value : s.cookie.value ≡ percent_decode (text_after text) = reads.decoded.value
     ∙ ap (λ t. percent_decode (text_after t)) first in
-    ap Some (bare_is s.cookie attributes ∙ λ i. bare (name i) (value i))
-    ∙ sym (cond-true _ _ _ (is_utf8-from_IsUtf8 text utf8) ∙ (ap (pair_in (name_of text)) (value_there text pair.0)
-    ∙ (pair_some (name_of text) (text_after text) pair.1 ∙ decoded_some (name_of text) (text_after text) texts)))
+    ap (pair_in (name_of text)) (value_there text pair.0)
+    ∙ (pair_some (name_of text) (text_after text) pair.1 ∙ decoded_some (name_of text) (text_after text) texts)
+    ∙ sym (ap Some (bare_is s.cookie attributes ∙ λ i. bare (name i) (value i)))
 
 -- a piece that doesn't
 pair_none : (text : List ℕ) → ¬ (IsPair text × AreUtf8 (name_of text) (text_after text))
@@ -149,7 +149,7 @@ piece_unread text e other clean utf8 reads =
     let unfit : ¬ (IsPair text × AreUtf8 (name_of text) (text_after text)) = λ p.
     other (error_is e (reads.owed (subst IsPair (sym first) p.0)
     (subst (λ t. AreUtf8 (name_of t) (text_after t)) (sym first) p.1))) in
-    sym (cond-true _ _ _ (is_utf8-from_IsUtf8 text utf8) ∙ pair_none text unfit)
+    sym (cond-true _ _ _ (is_utf8-from_IsUtf8 text utf8) ∙ ap (shown text) (pair_none text unfit))
   where
     error_is : (e : ParseError) → IsOkUnless {T = Seen} (Err e) OutOfMemory → e ≡ OutOfMemory
     error_is e h = h
@@ -176,15 +176,26 @@ all_clean : (parts : List (List ℕ)) → AllByRecursion (λ t. AllByRecursion (
 all_clean [] h = tt
 all_clean (t ∷ ts) h = (All-from_recursion (λ b. (b == semicolon) ≡ false) t h.0, all_clean ts h.1)
 
+-- what is computed of a piece that reads
+piece_shown : (piece : List ℕ) (c : Record) → IsClean piece → IsUtf8 piece → Reads piece c
+    → cookie_of piece ≡ shown piece (Some c)
+piece_shown piece c clean utf8 r =
+    cond-true _ _ _ (is_utf8-from_IsUtf8 piece utf8)
+    ∙ ap (shown piece) (piece_read piece r.0 clean r.1 ∙ ap Some r.2)
+
 -- a piece that gives something gives what is computed
 gives_is : (piece : List ℕ) (o : Option Record) → IsClean piece → Gives piece o → o ≡ cookie_of piece
-gives_is piece (Some c) clean g = ap Some (sym g.1.2) ∙ piece_read piece g.1.0 clean g.0 g.1.1
+gives_is piece (Some c) clean g = sym (piece_shown piece c clean g.0 g.1 ∙ cond-false _ _ _ g.2)
 gives_is piece None clean g =
     ⊎_elim
     (λ (yes : is_utf8 piece ≡ true).
     let utf8 = IsUtf8-from_is_utf8 piece yes in
-    let refused = g utf8 in
+    ⊎_elim
+    (λ (refused : (e : ParseError) × (e ≢ OutOfMemory) × ReadsEncoded piece (Err e)).
     piece_unread piece refused.0 refused.1 clean utf8 refused.2)
+    (λ (hidden : (c : Record) × Reads piece c × IsTrue (is_hidden_prefix piece c.name)).
+    sym (piece_shown piece hidden.0 clean utf8 hidden.1 ∙ cond-true _ _ _ hidden.2))
+    (g utf8))
     (λ (no : is_utf8 piece ≡ false). sym (cond-false _ _ _ no))
     (cases_Bool (is_utf8 piece))
 

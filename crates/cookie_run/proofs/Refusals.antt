@@ -1,8 +1,8 @@
 -- What leaves the rows as they were.
 use Rattle.std.proofs.Common.{◌≡◌, ◌≢◌, ℕ, ℤ, List, sym, ap, ◌∙◌, subst, inl, inr, true, false, Option, None, Result}
-use Rattle.std.proofs.Common.{Ok}
-use Rattle.std.proofs.Common.{Err, ⊎_elim}
+use Rattle.std.proofs.Common.{Ok, Err, Some, ⊎_elim, refl}
 use Rattle.std.specs.Prelude.{IfOk, OnOk}
+use Rattle.std.specs.Str.{IsUtf8}
 use Rattle.std.specs.List.{list_any}
 use Rattle.std.proofs.lemmas.Bool.{cases_Bool, cond-true, cond-false}
 use Rattle.cookie_text.specs.Decoding.{ReadsEncoded}
@@ -19,7 +19,7 @@ use Rattle.cookie_store.specs.declared.action.StoreAction.{StoreAction}
 use Rattle.cookie_run.specs.Accept.{text_end}
 use Rattle.cookie_run.specs.Jar.{record_in}
 use Rattle.cookie_run.specs.Laws.{IsStored, RefusedLinesChangeNothing}
-use Rattle.cookie_run.specs.Reading.{Gives}
+use Rattle.cookie_run.specs.Reading.{Gives, is_hidden_prefix}
 
 -- ---- a line
 
@@ -103,5 +103,21 @@ pub gives_none : {E : Type 0} (r : Result (Option Seen) E) (piece text : List �
     → IfOk r (λ cookie. Gives piece (record_in cookie))
 gives_none (Ok cookie) piece text error same reads none other =
     subst (λ o. Gives piece (record_in o)) (sym none)
-    (λ utf8. (error, other, subst (λ t. ReadsEncoded t (Err error)) same reads))
+    (λ utf8. inl (error, other, subst (λ t. ReadsEncoded t (Err error)) same reads))
 gives_none (Err e) piece text error same reads none other = tt
+
+-- ---- a piece that reads
+
+pub gives_shown : {E : Type 0} (r : Result (Option Seen) E) (piece : List ℕ) (s : Seen) → IsUtf8 piece
+    → ReadsEncoded piece (Ok s)
+    → IfOk r (λ shown. is_hidden_prefix piece s.cookie.name ≡ true → shown ≡ None)
+    → IfOk r (λ shown. is_hidden_prefix piece s.cookie.name ≡ false → record_in shown ≡ Some s.cookie)
+    → IfOk r (λ cookie. Gives piece (record_in cookie))
+gives_shown (Err e) piece s utf8 reads hidden seen = tt
+gives_shown (Ok cookie) piece s utf8 reads hidden seen =
+    ⊎_elim
+    (λ (hides : is_hidden_prefix piece s.cookie.name ≡ true). subst (λ o. Gives piece (record_in o)) (sym (hidden hides))
+    (λ text. inr (s.cookie, (s, reads, refl), hides)))
+    (λ (shows : is_hidden_prefix piece s.cookie.name ≡ false). subst (Gives piece) (sym (seen shows))
+    (utf8, (s, reads, refl), shows))
+    (cases_Bool (is_hidden_prefix piece s.cookie.name))

@@ -9,6 +9,7 @@ pub mod Stops
 pub mod Errors
 pub mod Site
 pub mod Jar
+pub mod Prefixes
 pub mod Readings
 pub mod Play
 pub mod Drawn

@@ -1,17 +1,44 @@
 -- The cookies of a request's header (RFC 6265, section 4.2.1).
-use Rattle.std.specs.Prelude.{◌≡◌, ◌≢◌, ℕ, List, [], ◌∷◌, ◌++◌, Option, Some, None, Ok, Err}
+use Rattle.std.specs.Prelude.{◌≡◌, ◌≢◌, ◌⊎◌, ℕ, ◌==◌, List, [], ◌∷◌, ◌++◌, Option, Some, None, Ok, Err, drop}
+use Rattle.std.specs.Prelude.{Bool, false, not, ◌&&◌, ◌||◌, IsTrue}
+use Rattle.std.specs.List.{position_or_len, starts_with}
 use Rattle.std.specs.Option.{option_to_list}
 use Rattle.std.specs.Str.{IsUtf8}
+use Rattle.cookie.specs.Prefix.{host_text, secure_text}
 use Rattle.cookie_text.specs.declared.error.ParseError.{ParseError}
 use Rattle.cookie_text.specs.declared.error.ParseError.TheVariants.{OutOfMemory}
 use Rattle.cookie_text.specs.Decoding.{ReadsEncoded}
 use Rattle.cookie_text.specs.Pieces.{pieces}
 use Rattle.cookie_text.specs.Record.{Record, Seen}
 
--- what a piece of a header gives: the cookie as which it is read, or none where it is no text or is refused
+-- ---- prefixes of names that a client doesn't see (the draft that follows RFC 6265, 4.1.3)
+
+-- the text without the spaces and tabs in front of it
+abbrev pub behind_blanks : List ℕ → List ℕ
+behind_blanks text = drop (position_or_len (λ b. not (b == 32 || b == 9)) text) text
+
+-- the decoded name has the prefix, and the piece as it was sent hasn't: `%5F_Host-a=1` hides `__Host-`
+abbrev pub is_hidden : List ℕ → List ℕ → List ℕ → Bool
+is_hidden prefix piece name = starts_with ◌==◌ name prefix && not (starts_with ◌==◌ (behind_blanks piece) prefix)
+
+-- so it is with one of the two prefixes
+abbrev pub is_hidden_prefix : List ℕ → List ℕ → Bool
+is_hidden_prefix piece name = is_hidden host_text piece name || is_hidden secure_text piece name
+
+-- ---- the cookies
+
+-- the piece reads as this cookie, but for want of memory
+abbrev pub Reads : List ℕ → Record → Type 0
+Reads piece cookie = (s : Seen) × ReadsEncoded piece (Ok s) × (s.cookie ≡ cookie)
+
+-- what a piece of a header gives: the cookie as which it is read, or none where it is no text, is refused or hides a
+-- prefix
 abbrev pub Gives : List ℕ → Option Record → Type 0
-Gives piece (Some cookie) = IsUtf8 piece × ((s : Seen) × ReadsEncoded piece (Ok s) × (s.cookie ≡ cookie))
-Gives piece None = IsUtf8 piece → (error : ParseError) × (error ≢ OutOfMemory) × ReadsEncoded piece (Err error)
+Gives piece (Some cookie) = IsUtf8 piece × Reads piece cookie × (is_hidden_prefix piece cookie.name ≡ false)
+Gives piece None =
+    IsUtf8 piece
+    → ((error : ParseError) × (error ≢ OutOfMemory) × ReadsEncoded piece (Err error))
+    ⊎ ((cookie : Record) × Reads piece cookie × IsTrue (is_hidden_prefix piece cookie.name))
 
 -- the cookies that the pieces give, in order
 abbrev pub Give : List (List ℕ) → List Record → Type 0

@@ -4,6 +4,7 @@ ghost use Rattle.cookie_run.specs.KeepingLaws as kept;
 ghost use Rattle.cookie_run.specs.KeptKeys.{RestartsKeepKeys, SavesButForMemory};
 ghost use Rattle.cookie_run.specs.Laws as law;
 ghost use Rattle.cookie_run.specs.Once as once;
+ghost use Rattle.cookie_run.specs.Prefixes as prefix;
 ghost use Rattle.cookie_run.specs.ScriptLaws as script;
 ghost use Rattle.cookie_run.specs.Strangers as stranger;
 
@@ -68,6 +69,13 @@ pub fn answers_are_confined()
 {
     cookie_store::laws();
 }
+
+/// Under a name that begins with `__Host-` or `__Secure-` a header brings a session only the cookie of a
+/// piece that begins so as it stands, so that a client which kept it saw the prefix; `%5F_Host-a=1`
+/// brings none.
+pub fn prefixes_are_seen()
+    ensures { prefix.PrefixesAreSeen }
+{}
 
 /// A line that isn't stored changes nothing.
 pub fn refused_lines_change_nothing()

@@ -17,7 +17,7 @@ use Rattle.cookie_store.specs.Given.{pair_of}
 use Rattle.cookie_store.specs.Rows.{Row}
 use Rattle.cookie_run.specs.Header.{pair_text}
 use Rattle.cookie_run.specs.Keeping.{HasReadPair}
-use Rattle.cookie_run.proofs.HeaderBack.{IsRead, cookie_named, header_back, texts_of}
+use Rattle.cookie_run.proofs.HeaderBack.{IsRead, cookie_named, header_back, if_shown, texts_of}
 use Rattle.cookie_run.proofs.HeaderCookies.{cookie_of, cookies_of, pair_in}
 use Rattle.cookie_run.proofs.ReadBack.{led, led_pair}
 use Rattle.cookie_run.proofs.ReadCode.{cookies_are}
@@ -64,8 +64,9 @@ cookie_valued : (spaced : Bool) (p : List ℕ × List ℕ) → IsRead p
     → IfSome (cookie_of (led spaced (pair_text p))) (λ c. c.value ≡ percent_decode p.1)
 cookie_valued spaced p h =
     if_text (is_utf8 (led spaced (pair_text p))) _ (λ c. c.value ≡ percent_decode p.1)
+    (if_shown (led spaced (pair_text p)) _ (λ c. c.value ≡ percent_decode p.1)
     (pair_valued (name_of (led spaced (pair_text p))) (value_of (led spaced (pair_text p))) p.1
-    (pair_value spaced p h))
+    (pair_value spaced p h)))
 
 -- ---- the cookies of a header
 
