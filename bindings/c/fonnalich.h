@@ -113,7 +113,9 @@ enum {
     FONNALICH_DO_HEADER = 4,
     FONNALICH_DO_SAVE = 5,
     FONNALICH_DO_RESTART = 6,
-    FONNALICH_DO_RULES = 7
+    FONNALICH_DO_RULES = 7,
+    FONNALICH_DO_SAVE_ALL = 8,
+    FONNALICH_DO_RELOAD = 9
 };
 
 /* ---- the fronts of a command's line: what is done, and the way in which the cookie is kept */

@@ -1,5 +1,5 @@
 -- The rows of a client: names and values are as a text gives them, so what is kept of them stands as they do.
-use Rattle.std.proofs.Common.{◌≡◌, ℕ, ℤ, Bool, false, ◌&&◌, ◌||◌, List, [], ◌∷◌, take, sym, refl, ap, subst}
+use Rattle.std.proofs.Common.{◌≡◌, ℕ, ℤ, Bool, false, true, ◌&&◌, ◌||◌, List, [], ◌∷◌, take, sym, refl, ap, subst}
 use Rattle.std.proofs.Common.{◌∙◌, inl, inr, Ok, Err}
 use Rattle.std.specs.Prelude.{Result, IfOk, IfErr}
 use Rattle.std.specs.List.{list_any, AllByRecursion}
@@ -73,6 +73,12 @@ pub loaded_pairs : (now : ℤ) (all : List Shown) (store : Store) → HasLoaded 
 loaded_pairs now all store (rows, pairs, is) =
     subst (λ (s : Store). HaveReadPairs s.rows) (sym is)
     (put_each (live now rows) [] (filter_all HasReadPair (is_live now) rows (loaded_each all rows pairs)) tt)
+
+-- the same with expired ones
+pub all_loaded_pairs : (now : ℤ) (all : List Shown) (store : Store) → HasLoaded true now all store
+    → HaveReadPairs store.rows
+all_loaded_pairs now all store (rows, pairs, is) =
+    subst (λ (s : Store). HaveReadPairs s.rows) (sym is) (put_each rows [] (loaded_each all rows pairs) tt)
 
 -- ---- rows that are kept
 

@@ -12,7 +12,7 @@ use Rattle.fonnalich_c.specs.declared.refusal.Refusal.{Refusal}
 use Rattle.fonnalich_c.specs.declared.refusal.Refusal.TheVariants as refusal
 use Rattle.fonnalich_c.specs.declared.word.Word.{Word}
 use Rattle.fonnalich_c.specs.declared.word.Word.TheVariants.{List, Load, Rules, Ask}
-use Rattle.fonnalich_c.specs.declared.word.Task.TheVariants.{Receive, Header, Save, Restart}
+use Rattle.fonnalich_c.specs.declared.word.Task.TheVariants.{Receive, Header, Save, Restart, SaveAll, Reload}
 
 -- the word that hands out the answer that had no room
 abbrev pub answer_word : ℕ
@@ -28,6 +28,8 @@ word_of number =
     else if number == 5 then Some (Ask Save)
     else if number == 6 then Some (Ask Restart)
     else if number == 7 then Some Rules
+    else if number == 8 then Some (Ask SaveAll)
+    else if number == 9 then Some (Ask Reload)
     else None
 
 -- ---- what became of a line

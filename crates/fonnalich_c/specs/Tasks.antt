@@ -1,5 +1,5 @@
 -- What the words of a call make of a client (own: docs/DEFINITIONS.md).
-use Rattle.std.specs.Prelude.{ℕ, ℤ, Bool, ◌≡◌, ◌≢◌, ◌⊎◌, List, [], Option, Some, None, map, false, true}
+use Rattle.std.specs.Prelude.{ℕ, ℤ, pos, Bool, ◌≡◌, ◌≢◌, ◌⊎◌, List, [], Option, Some, None, map, false, true}
 use Rattle.std.specs.List.{list_any}
 use Rattle.std.specs.Str.{IsUtf8}
 use Rattle.publicsuffix.specs.Rules.{Rule}
@@ -109,6 +109,10 @@ IsHeaderFault rules second subject rows refused = ((refused ≡ refusal.Moment) 
 abbrev pub IsSavedText : ℤ → List Row → List ℕ → Type 0
 IsSavedText second rows answer = IsUtf8 answer × Saves ron_layout (saved (nanos_of second) rows) answer
 
+-- the answer is the saved text of all its rows
+abbrev pub IsWholeText : List Row → List ℕ → Type 0
+IsWholeText rows answer = IsUtf8 answer × Saves ron_layout rows answer
+
 -- it keeps what a saved text keeps
 abbrev pub Restarts : ℤ → Store → Store → Type 0
 Restarts second old new = (new.suffixes ≡ old.suffixes)
@@ -120,11 +124,28 @@ IsSavingFault second rows refused =
     ((refused ≡ refusal.Moment) × IsNoMoment second)
     ⊎ ((refused ≡ refusal.Year) × IsAnyBeforeYears (saved (nanos_of second) rows))
 
+-- all rows of a saved text stand in the place of its own, but for those that aren't held rightly
+abbrev pub Reloads : List ℕ → Store → Store → Type 0
+Reloads subject old new = (new.suffixes ≡ old.suffixes)
+    × ((loaded : Store) × Loads ShowsOnly true (pos 0) subject loaded
+    × ArePicked IsHeldRightly loaded.rows new.rows)
+
+-- why it doesn't; a failed read has no cause that is known
+abbrev pub IsNoReload : List ℕ → Refusal → Type 0
+IsNoReload subject refused =
+    (refused ≡ refusal.Read) ⊎ (refused ≡ refusal.Memory) ⊎ ((refused ≡ refusal.Saved) × IsNoSavedText subject)
+
+-- why there is none of all rows
+abbrev pub IsNoWholeText : List Row → Refusal → Type 0
+IsNoWholeText rows refused = (refused ≡ refusal.Memory) ⊎ ((refused ≡ refusal.Year) × IsAnyBeforeYears rows)
+
 abbrev pub Does : Task → Given → Option Rules → Store → List ℕ → Store → Type 0
 Does task.Receive given rules old answer new = Receives rules given.number given.subject given.text old answer new
 Does task.Header given rules old answer new = (new ≡ old) × Heads rules given.number given.subject old.rows answer
 Does task.Save given rules old answer new = (new ≡ old) × IsSavedText given.number old.rows answer
 Does task.Restart given rules old answer new = (answer ≡ []) × Restarts given.number old new
+Does task.SaveAll given rules old answer new = (new ≡ old) × IsWholeText old.rows answer
+Does task.Reload given rules old answer new = (answer ≡ []) × Reloads given.subject old new
 
 abbrev pub Refuses : Task → Given → Option Rules → Store → Refusal → Store → Type 0
 Refuses task.Receive given rules old refused new =
@@ -133,6 +154,8 @@ Refuses task.Header given rules old refused new =
     (new ≡ old) × IsTold (IsHeaderFault rules given.number given.subject old.rows) refused
 Refuses task.Save given rules old refused new = (new ≡ old) × IsTold (IsSavingFault given.number old.rows) refused
 Refuses task.Restart given rules old refused new = (new ≡ old) × IsTold (IsSavingFault given.number old.rows) refused
+Refuses task.SaveAll given rules old refused new = (new ≡ old) × IsNoWholeText old.rows refused
+Refuses task.Reload given rules old refused new = (new ≡ old) × IsNoReload given.subject refused
 
 -- ---- a client's beginning
 

@@ -15,6 +15,7 @@ use crate::refusal::{Refusal, end_number};
 use crate::rule::{outcome_number, rules_of};
 use crate::word::{Task, Word};
 use cookie_run::{Client, LineEnd};
+use cookie_store::serde::ron::save_incl_expired_and_nonpersistent;
 use cookie_store::{Counting, Error};
 use jiff::civil::DateTime;
 use std::alloc::{AllocError, Global};
@@ -128,6 +129,8 @@ fn ask(
         Task::Header => header(alloc, client, habits, second, subject),
         Task::Save => save(alloc, client, second),
         Task::Restart => restart(alloc, client, second),
+        Task::SaveAll => save_all(alloc, client),
+        Task::Reload => reload(alloc, client, subject),
     }
 }
 
@@ -261,6 +264,31 @@ fn save(alloc: Global, client: &Client, second: i64) -> Result<Vec<u8>, Refusal>
         Ok(()) => Ok(memory.text),
         Err(Error::Year) => Err(Refusal::Year),
         Err(_) => Err(Refusal::Memory),
+    }
+}
+
+// The saved text of all rows, those without an end and the expired ones too.
+fn save_all(alloc: Global, client: &Client) -> Result<Vec<u8>, Refusal>
+    ensures ok { IfOk result (λ answer. spec.IsWholeText client.now.rows answer.items) }
+    ensures err { IfErr result (spec.IsNoWholeText client.now.rows) }
+{
+    let mut memory = Memory::new(alloc);
+    match save_incl_expired_and_nonpersistent(client.store(), &mut memory) {
+        Ok(()) => Ok(memory.text),
+        Err(Error::Year) => Err(Refusal::Year),
+        Err(_) => Err(Refusal::Memory),
+    }
+}
+
+// Takes all rows of a saved text in the place of the client's.
+fn reload(alloc: Global, client: &mut Client, saved: &[u8]) -> Result<Vec<u8>, Refusal>
+    ensures ok { IfOk result (λ answer. (answer.items ≡ []) × spec.Reloads saved.now client.old client.new) }
+    ensures err { IfErr result (spec.IsNoReload saved.now) }
+    ensures same { OnErr result (client.new ≡ client.old) }
+{
+    match client.reload(&mut Counting::new(saved)) {
+        Ok(()) => Ok(Vec::new(alloc)),
+        Err(cause) => Err(unloaded(cause)),
     }
 }
 

@@ -16,6 +16,10 @@ pub enum Task {
     Save,
     /// To be saved and loaded again.
     Restart,
+    /// The saved text of all its rows.
+    SaveAll,
+    /// To take all rows of a saved text in the place of its own.
+    Reload,
 }
 
 /// What a word does.
@@ -44,6 +48,8 @@ impl Word {
             5 => Some(Word::Ask(Task::Save)),
             6 => Some(Word::Ask(Task::Restart)),
             7 => Some(Word::Rules),
+            8 => Some(Word::Ask(Task::SaveAll)),
+            9 => Some(Word::Ask(Task::Reload)),
             _ => None,
         }
     }
