@@ -122,7 +122,8 @@ cookie_named spaced p h =
     ∙ (name_before (led spaced p.0) p.1 (led_uncut spaced p.0 (uncut p.0 h.name_uncut))
     ∙ (trim_led spaced p.0 ∙ h.name_trimmed)) in
     if_named (is_utf8 (led spaced (pair_text p))) _ _
-    (if_shown (led spaced (pair_text p)) _ (λ c. c.name ≡ percent_decode p.0) (subst (λ n. IfSome (pair_in (name_of (led spaced (pair_text p)))
+    (if_shown (led spaced (pair_text p)) _ (λ c. c.name ≡ percent_decode p.0)
+    (subst (λ n. IfSome (pair_in (name_of (led spaced (pair_text p)))
     (Rattle.cookie_text.specs.Pieces.value_of (led spaced (pair_text p)))) (λ c. c.name ≡ percent_decode n)) name
     (pair_named (name_of (led spaced (pair_text p))) _)))
 

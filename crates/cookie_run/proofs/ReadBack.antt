@@ -262,7 +262,8 @@ shows_one : (prefix name : List ℕ) (spaced : Bool) (v : List ℕ) → AreKept 
 shows_one prefix name spaced v kept =
     ⊎_elim
     (λ (begins : starts_with ◌==◌ name prefix ≡ true).
-    rw (begins, unled_pair spaced (escaped name) v (escaped_plain name)) (rw (front_kept prefix name (61 ∷ v) kept begins) refl))
+    rw (begins, unled_pair spaced (escaped name) v (escaped_plain name))
+    (rw (front_kept prefix name (61 ∷ v) kept begins) refl))
     (λ (other : starts_with ◌==◌ name prefix ≡ false). rw other refl)
     (cases_Bool (starts_with ◌==◌ name prefix))
 

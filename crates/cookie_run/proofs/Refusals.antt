@@ -116,8 +116,8 @@ pub gives_shown : {E : Type 0} (r : Result (Option Seen) E) (piece : List ℕ) (
 gives_shown (Err e) piece s utf8 reads hidden seen = tt
 gives_shown (Ok cookie) piece s utf8 reads hidden seen =
     ⊎_elim
-    (λ (hides : is_hidden_prefix piece s.cookie.name ≡ true). subst (λ o. Gives piece (record_in o)) (sym (hidden hides))
-    (λ text. inr (s.cookie, (s, reads, refl), hides)))
+    (λ (hides : is_hidden_prefix piece s.cookie.name ≡ true).
+    subst (λ o. Gives piece (record_in o)) (sym (hidden hides)) (λ text. inr (s.cookie, (s, reads, refl), hides)))
     (λ (shows : is_hidden_prefix piece s.cookie.name ≡ false). subst (Gives piece) (sym (seen shows))
     (utf8, (s, reads, refl), shows))
     (cases_Bool (is_hidden_prefix piece s.cookie.name))
