@@ -1,0 +1,8 @@
+mod BehindLemmas
+mod WholeLemmas
+mod ReachLemmas
+mod ShardLemmas
+mod Sound
+mod RunLemmas
+mod ThereLemmas
+mod CutLemmas

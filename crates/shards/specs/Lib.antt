@@ -1,0 +1,3 @@
+pub mod Shard
+pub mod Related
+pub mod Cut

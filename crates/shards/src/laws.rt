@@ -1,0 +1,23 @@
+//! What holds of shards.
+ghost use Rattle.shards.specs.Cut.{ShardsAreTheClient};
+ghost use Rattle.shards.specs.Related as law;
+
+use cookie_text::laws::one_outcome;
+
+/// A host has one shard. Hosts that can share a cookie have the same, where none of them ends with an address behind a
+/// dot, as no host of a web URL does. Hosts of one shard can share a cookie, so no shard can be cut finer.
+pub fn related_hosts_have_one_shard()
+    ensures one { law.HostsHaveOneShard }
+    ensures related { law.RelatedHostsHaveOneShard }
+    ensures finest { law.OneShardIsRelated }
+{}
+
+/// A client is the clients of the shards: after any steps of hosts that end with no address behind a dot, the rows of a
+/// client that was given those of a shard alone, and the restarts, are the rows of that shard, in their order; and each
+/// header for a host of the shard is byte for byte the same. No session's exchange is among the steps of that shard.
+pub fn shards_are_the_client()
+    ensures { ShardsAreTheClient }
+{
+    one_outcome();
+    cookie_store::laws();
+}
