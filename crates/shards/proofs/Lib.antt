@@ -6,3 +6,4 @@ mod Sound
 mod RunLemmas
 mod ThereLemmas
 mod CutLemmas
+mod WebLemmas

@@ -1,9 +1,10 @@
 -- Hosts are related where they have one shard (own: docs/DEFINITIONS.md).
-use Rattle.std.specs.Prelude.{◌≡◌, ◌⊎◌, ℕ, List, Some}
+use Rattle.std.specs.Prelude.{◌≡◌, ◌⊎◌, ℕ, List, Some, true}
 use Rattle.publicsuffix.specs.Rules.{Rule}
 use Rattle.store_parts.specs.HostName.{IsHostName}
 use Rattle.store_parts.specs.Schemes.{host_of}
-use Rattle.url.specs.Parts.{Parts}
+use Rattle.url.specs.Parts.{Parts, kind_of, IsValid}
+use Rattle.url.specs.Scheme.{is_special}
 use Rattle.cookie_run.specs.Headline.{IsInReach, AreRelated}
 use Rattle.shards.specs.Shard.{IsShardOf}
 
@@ -34,3 +35,9 @@ abbrev pub OneShardIsRelated : Type 0
 OneShardIsRelated =
     (list : List Rule) (host other shard : List ℕ) → IsShardOf list host shard → IsShardOf list other shard
     → AreRelated list host other
+
+-- and of a URL that was parsed, of a special scheme (the URL Standard, section 4.2), as `http`, `https`, `ws`, `wss`
+-- and `ftp` are, the host ends in no address
+abbrev pub SpecialHostsEndInNoAddress : Type 0
+SpecialHostsEndInNoAddress =
+    (url : Parts) → IsValid url → is_special (kind_of url) ≡ true → HasNoAddressBehind url

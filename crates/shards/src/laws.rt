@@ -12,6 +12,11 @@ pub fn related_hosts_have_one_shard()
     ensures finest { law.OneShardIsRelated }
 {}
 
+/// No host of a URL of `http`, `https`, `ws`, `wss`, `ftp` or `file` ends with an address behind a dot.
+pub fn special_hosts_end_in_no_address()
+    ensures { law.SpecialHostsEndInNoAddress }
+{}
+
 /// A client is the clients of the shards: after any steps of hosts that end with no address behind a dot, the rows of a
 /// client that was given those of a shard alone, and the restarts, are the rows of that shard, in their order; and each
 /// header for a host of the shard is byte for byte the same. No session's exchange is among the steps of that shard.
