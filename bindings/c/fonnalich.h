@@ -50,7 +50,7 @@ enum {
     FONNALICH_EXPIRY = -13,   /* the expiry of a cookie is of a year below 100 */
     FONNALICH_TOO_LONG = -14, /* the value or the name of a cookie is too long to be sealed */
     FONNALICH_NONCES = -15,   /* a cookie is to be sealed, and fewer than twelve bytes of nonces are left */
-    FONNALICH_HOST = -16,     /* the host has no byte, or an empty label */
+    FONNALICH_HOST = -16,     /* the host has no byte, or, of fonnalich_suffix, an empty label; the URL has none */
     FONNALICH_TEXT = -17,     /* a text isn't UTF-8, as it stands or percent-decoded */
     FONNALICH_PAIR = -18,     /* the text before the first semicolon has no '=' */
     FONNALICH_SITE = -19,     /* the number is none of an attribute SameSite */
@@ -183,6 +183,18 @@ ptrdiff_t fonnalich_exchange(const char *key, size_t key_length, const char *hea
    in IDNA ASCII form and lower case. FONNALICH_HOST where it is no name. */
 ptrdiff_t fonnalich_suffix(const char *list, size_t list_length, const char *host, size_t host_length, char *out,
                            size_t out_length);
+
+/* Writes the shard of a host by the bytes of a public suffix list, which is read anew at each call: the shortest of the
+   host and the texts behind its dots that is no public suffix of the list; the whole host where each of them is one,
+   and for an address. Hosts that can share a cookie have one shard, so a client may be cut into one for each shard.
+   The host is that of a URL, in IDNA ASCII form and lower case. FONNALICH_HOST where it has no byte, FONNALICH_TEXT
+   where it isn't UTF-8. */
+ptrdiff_t fonnalich_shard(const char *list, size_t list_length, const char *host, size_t host_length, char *out,
+                          size_t out_length);
+
+/* The same of the host of a URL, as a handle reads it. FONNALICH_HOST where it has none. */
+ptrdiff_t fonnalich_shard_of_url(const char *list, size_t list_length, const char *url, size_t url_length, char *out,
+                                 size_t out_length);
 
 /* Answers 1 where a text is a plain URL, which each program reads as the same web address, and 0 where it isn't, or
    FONNALICH_MEMORY. Ask it of a URL before you hand it to another program, as curl, a browser or a proxy. Programs read

@@ -117,6 +117,11 @@ static void is_a_site(void) {
     most = held;
     ask(fonnalich_suffix(T(LIST), T("a.com"), out, sizeof out) == 3 && most > begun && held == begun, "a suffix");
     most = held;
+    ask(fonnalich_shard(T(LIST), T("a.com"), out, sizeof out) == 5 && most > begun && held == begun, "a shard");
+    most = held;
+    ask(fonnalich_shard_of_url(T(LIST), T("https://a.com/"), out, sizeof out) == 5 && most > begun && held == begun,
+        "a shard of a URL");
+    most = held;
     ask(fonnalich_parse(true, T("a%20b=3%204; Path=/"), &parts, out, sizeof out) > 0 && most > begun && held == begun,
         "a cookie's parts");
     most = held;

@@ -397,6 +397,27 @@ static void finds_suffixes(void) {
     ask(gives(fonnalich_suffix(T("a..b"), T("a.com"), out, sizeof out), FONNALICH_LIST), "no list");
 }
 
+static void finds_shards(void) {
+    char out[64];
+    ask(is(out, fonnalich_shard(T(LIST), T("a.www.example.com"), out, sizeof out), "example.com"), "a rule");
+    ask(is(out, fonnalich_shard(T(LIST), T("com"), out, sizeof out), "com"), "a suffix");
+    ask(is(out, fonnalich_shard(T(LIST), T("www.example.net"), out, sizeof out), "net"), "no rule");
+    ask(is(out, fonnalich_shard(T(LIST), T("127.0.0.1"), out, sizeof out), "127.0.0.1"), "an address");
+    ask(is(out, fonnalich_shard(T(LIST), T("a..com"), out, sizeof out), ".com"), "an empty label");
+    ask(gives(fonnalich_shard(T(LIST), T("www.example.com"), out, 2), 11), "no room");
+    ask(gives(fonnalich_shard(T(LIST), T(""), out, sizeof out), FONNALICH_HOST), "no host");
+    ask(gives(fonnalich_shard(T(LIST), T("a\xff.com"), out, sizeof out), FONNALICH_TEXT), "no UTF-8");
+    ask(gives(fonnalich_shard(T("a..b"), T("a\xff"), out, sizeof out), FONNALICH_LIST), "no list, no UTF-8");
+    ask(gives(fonnalich_shard(T("a..b"), T(""), out, sizeof out), FONNALICH_LIST), "no list, no host");
+    const char *url = "https://u@A.WWW.example.com:8080/b";
+    ask(is(out, fonnalich_shard_of_url(T(LIST), T(url), out, sizeof out), "example.com"), "of a URL");
+    ask(is(out, fonnalich_shard_of_url(T(LIST), T("http://0x7f.1/"), out, sizeof out), "127.0.0.1"), "of an address");
+    ask(gives(fonnalich_shard_of_url(T(LIST), T(url), out, 2), 11), "no room");
+    ask(gives(fonnalich_shard_of_url(T(LIST), T("mailto:a@b.com"), out, sizeof out), FONNALICH_HOST), "no host");
+    ask(gives(fonnalich_shard_of_url(T(LIST), T("a.com"), out, sizeof out), FONNALICH_URL), "no URL");
+    ask(gives(fonnalich_shard_of_url(T("a..b"), T("a.com"), out, sizeof out), FONNALICH_LIST), "no list, no URL");
+}
+
 /* ---- a cookie's parts */
 
 static fonnalich_attributes parts;
@@ -681,6 +702,12 @@ static void bears_a_refusal(long growth) {
     if (again(number = fonnalich_suffix(T(LIST), T("a.com"), out, sizeof out)))
         number = fonnalich_suffix(T(LIST), T("a.com"), out, sizeof out);
     ask(is(out, number, "com"), "a suffix");
+    if (again(number = fonnalich_shard(T(LIST), T("www.a.com"), out, sizeof out)))
+        number = fonnalich_shard(T(LIST), T("www.a.com"), out, sizeof out);
+    ask(is(out, number, "a.com"), "a shard");
+    if (again(number = fonnalich_shard_of_url(T(LIST), T("https://www.a.com/"), out, sizeof out)))
+        number = fonnalich_shard_of_url(T(LIST), T("https://www.a.com/"), out, sizeof out);
+    ask(is(out, number, "a.com"), "a shard of a URL");
     const char *line = "a%20b=%2B; Path=/; HttpOnly";
     if (again(number = fonnalich_parse(true, T(line), &parts, out, sizeof out)))
         number = fonnalich_parse(true, T(line), &parts, out, sizeof out);
@@ -720,6 +747,7 @@ int main(int count, char **words) {
     refuses_a_site();
     tells_the_first_cause_of_a_site();
     finds_suffixes();
+    finds_shards();
     takes_cookies_apart();
     puts_cookies_together();
     refuses_cookies();

@@ -23,7 +23,7 @@ import weakref
 from typing import Any, Callable, Iterable, NoReturn, Optional, Union
 
 __all__ = ["Adapter", "Client", "Cookie", "End", "Jar", "List", "NoList", "NoRules", "Refused", "Rules", "Session",
-           "Stopped", "Way", "is_plain_url", "suffix"]
+           "Stopped", "Way", "is_plain_url", "shard", "shard_of_url", "suffix"]
 
 _HERE = os.path.dirname(os.path.abspath(__file__))
 
@@ -69,7 +69,10 @@ _LIB.fonnalich_exchange.argtypes = [*_TEXT, *_TEXT, ctypes.c_int64, *_TEXT, *_TE
 _LIB.fonnalich_exchange.restype = ctypes.c_ssize_t
 _LIB.fonnalich_suffix.argtypes = [*_TEXT, *_TEXT, ctypes.c_void_p, ctypes.c_size_t]
 _LIB.fonnalich_suffix.restype = ctypes.c_ssize_t
-
+_LIB.fonnalich_shard.argtypes = [*_TEXT, *_TEXT, ctypes.c_void_p, ctypes.c_size_t]
+_LIB.fonnalich_shard.restype = ctypes.c_ssize_t
+_LIB.fonnalich_shard_of_url.argtypes = [*_TEXT, *_TEXT, ctypes.c_void_p, ctypes.c_size_t]
+_LIB.fonnalich_shard_of_url.restype = ctypes.c_ssize_t
 _LIB.fonnalich_is_plain_url.argtypes = _TEXT
 _LIB.fonnalich_is_plain_url.restype = ctypes.c_ssize_t
 
@@ -325,6 +328,18 @@ def suffix(suffixes: Suffixes, host: str) -> str:
 
 def _suffix(text: bytes, host: str) -> str:
     return _answered(_LIB.fonnalich_suffix, text, _bytes(host)).decode()
+
+
+def shard(suffixes: Suffixes, host: str) -> str:
+    """The shard of a host, which is in IDNA ASCII form and lower case, by a list or the text of one: the shortest of it
+    and the texts behind its dots that is no public suffix of the list; the whole host where each of them is one, and
+    for an address. Hosts that can share a cookie have one shard."""
+    return _answered(_LIB.fonnalich_shard, _list(suffixes), _bytes(host)).decode()
+
+
+def shard_of_url(suffixes: Suffixes, url: Text) -> str:
+    """The shard of the host of a URL, as a `Client` reads it."""
+    return _answered(_LIB.fonnalich_shard_of_url, _list(suffixes), _bytes(url)).decode()
 
 
 def is_plain_url(url: Text) -> bool:

@@ -33,7 +33,7 @@ mod site;
 pub use cookie::{Cookie, CookieBuilder, Encoded, SameSite, SplitCookies};
 pub use list::{List, ListError};
 pub use rules::{Rule, Rules};
-pub use site::{is_plain_url, suffix, Key, Session, Way};
+pub use site::{is_plain_url, shard, shard_of_url, suffix, Key, Session, Way};
 
 use std::fmt;
 
@@ -93,6 +93,22 @@ mod library {
             list_length: usize,
             host: *const u8,
             host_length: usize,
+            out: *mut u8,
+            out_length: usize,
+        ) -> isize;
+        pub fn fonnalich_shard(
+            list: *const u8,
+            list_length: usize,
+            host: *const u8,
+            host_length: usize,
+            out: *mut u8,
+            out_length: usize,
+        ) -> isize;
+        pub fn fonnalich_shard_of_url(
+            list: *const u8,
+            list_length: usize,
+            url: *const u8,
+            url_length: usize,
             out: *mut u8,
             out_length: usize,
         ) -> isize;

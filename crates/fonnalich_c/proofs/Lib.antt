@@ -5,3 +5,4 @@ pub mod Parting
 pub mod Receiving
 pub mod Refusals
 pub mod Steps
+mod Shards

@@ -9,5 +9,6 @@ pub mod Room
 pub mod Commands
 pub mod Exchange
 pub mod Suffix
+pub mod Shard
 pub mod Plain
 pub mod Parts

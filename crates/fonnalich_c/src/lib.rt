@@ -14,6 +14,7 @@ ghost use Rattle.fonnalich_c.specs.Plain.{TellsPlain};
 ghost use Rattle.fonnalich_c.specs.Parts.{GivesParts, IsPrinted, IsUnprinted};
 ghost use Rattle.cookie_run.specs.Version.{version};
 ghost use Rattle.fonnalich_c.specs.Room.{Gives, IsWritten};
+ghost use Rattle.fonnalich_c.specs.Shard.{IsShardBy, IsShardAtText, HasNoShard, HasNoShardAt};
 ghost use Rattle.fonnalich_c.specs.Suffix.{IsSuffixOf, HasNoSuffix};
 ghost use Rattle.fonnalich_c.specs.contracts.held.Held as held;
 
@@ -31,6 +32,7 @@ mod plain;
 mod refusal;
 mod room;
 mod rule;
+mod shard;
 mod suffix;
 mod task;
 mod together;
@@ -42,6 +44,7 @@ use crate::exchange::exchange;
 use crate::held::{Held, fresh, let_go, work};
 use crate::plain::plain_number;
 use crate::room::write;
+use crate::shard::{shard, shard_at};
 use crate::suffix::suffix;
 use crate::together::{Texts, together};
 use cookie_run::version;
@@ -153,6 +156,34 @@ pub extern "C" fn fonnalich_suffix(alloc: Global, list: &[u8], host: &[u8], out:
 {
     match suffix(alloc, list, host) {
         Ok(suffix) => write(suffix, out),
+        Err(refusal) => refusal.number(),
+    }
+}
+
+/// The shard of a host by the list of a text, which is read anew at each call: the shortest of the host and the texts
+/// behind its dots that isn't empty and is no public suffix of the list, and else the whole host.
+#[unsafe(no_mangle)]
+pub extern "C" fn fonnalich_shard(alloc: Global, list: &[u8], host: &[u8], out: &mut [u8]) -> isize
+    ensures { Gives (IsShardBy list.now host.now) (HasNoShard list.now host.now) out.old out.new result }
+{
+    match shard(alloc, list, host) {
+        Ok(shard) => write(shard, out),
+        Err(refusal) => refusal.number(),
+    }
+}
+
+/// The shard of a URL's host by the list of a text, which is read anew at each call.
+#[unsafe(no_mangle)]
+pub extern "C" fn fonnalich_shard_of_url(
+    alloc: Global,
+    list: &[u8],
+    url: &[u8],
+    out: &mut [u8],
+) -> isize
+    ensures { Gives (IsShardAtText list.now url.now) (HasNoShardAt list.now url.now) out.old out.new result }
+{
+    match shard_at(alloc, list, url) {
+        Ok(shard) => write(shard.as_bytes(), out),
         Err(refusal) => refusal.number(),
     }
 }
