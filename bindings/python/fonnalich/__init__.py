@@ -94,11 +94,11 @@ _LIB.fonnalich_print.argtypes = [ctypes.c_bool, ctypes.POINTER(_Attributes), *_T
                                  ctypes.c_void_p, ctypes.c_size_t]
 _LIB.fonnalich_print.restype = ctypes.c_ssize_t
 
-_ANSWER, _LIST, _LOAD, _RECEIVE, _HEADER, _SAVE, _RESTART, _RULES = range(8)
+_ANSWER, _LIST, _LOAD, _RECEIVE, _HEADER, _SAVE, _RESTART, _RULES, _SAVE_ALL = range(9)
 _STOPPED = -100
 _ROOM = 4096
 _KEY_LENGTH, _NONCE_LENGTH = 64, 12
-_LIST_NUMBER, _EXPIRY = -4, -13
+_LIST_NUMBER, _URL_NUMBER, _SAVED_NUMBER, _EXPIRY = -4, -6, -7, -13
 _YEAR_100 = -59011459200
 _EPOCH = datetime.datetime(1970, 1, 1, tzinfo=datetime.timezone.utc)
 

@@ -15,11 +15,9 @@ from typing import Any, Optional, Type
 
 import httpx
 
-from . import Client, Refused, is_plain_url
+from . import _URL_NUMBER, Client, Refused, is_plain_url
 
 __all__ = ["AsyncTransport", "EmptyJar", "Transport"]
-
-_URL = -6
 
 
 class EmptyJar(http.cookiejar.CookieJar):
@@ -92,7 +90,7 @@ def _asked(url: httpx.URL) -> str:
     site = f"{url.scheme}://{f'[{host}]' if ':' in host else host}{port}"
     path: str = url.raw_path.decode("ascii")
     if not is_plain_url(f"{site}/") or not path.startswith("/"):
-        raise Refused(_URL)
+        raise Refused(_URL_NUMBER)
     return site + path
 
 
