@@ -79,7 +79,6 @@ class Fleet:
     host has to be read alike by all. Threads may share a fleet where the store lets them.
 
     All cookies stay, expired ones too, as in a client that isn't restarted, so that each keeps its place in a header.
-    Where a line ends a shard's last cookie that isn't expired, the shard is let go.
     """
 
     def __init__(self, suffixes: Suffixes, store: Store, rules: int = Rules.NONE):
@@ -112,7 +111,7 @@ class Fleet:
             with self._loaded(key, text) as client:
                 ends = client.receive(url, each, second)
                 new = _text(client)
-            if self._is_put(key, version, text, new, second if End.EXPIRED_EXISTING in ends else None):
+            if self._is_put(key, version, text, new):
                 return ends
             time.sleep(random.uniform(0, min(_LONGEST, 0.001 * 2 ** tried)))
         raise Conflict(key)
@@ -124,18 +123,11 @@ class Fleet:
         with self._loaded(key, text) as client:
             return client.header(url, second)
 
-    def _is_put(self, key: str, version: Any, old: Optional[bytes], new: bytes, ended: Optional[int]) -> bool:
-        """Whether a shard lies in the store as it is now. One whose last cookie was `ended` at a second goes."""
+    def _is_put(self, key: str, version: Any, old: Optional[bytes], new: bytes) -> bool:
+        """Whether a shard lies in the store as it is now. One without a cookie doesn't."""
         if new == (self._empty if old is None else old):
             return True
-        if ended is not None and self._is_over(new, ended):
-            return self.store.expire(key, version)
-        return self.store.put_if(key, version, new)
-
-    def _is_over(self, text: bytes, second: int) -> bool:
-        """Whether all cookies of a shard are expired."""
-        with self._begun(text, second) as client:
-            return _text(client) == self._empty
+        return self.store.expire(key, version) if new == self._empty else self.store.put_if(key, version, new)
 
     def _key(self, url: str) -> str:
         """The key of a URL's shard."""
@@ -150,7 +142,7 @@ class Fleet:
     def _loaded(self, key: str, text: Optional[bytes]) -> Iterator[Client]:
         """A client with all cookies of a shard."""
         try:
-            client = self._begun(text)
+            client = Client(self._suffixes, text, _BEGINNING, self._rules)
         except Refused as why:
             if why.number == _SAVED_NUMBER:
                 raise BadShard(key) from None
@@ -158,8 +150,6 @@ class Fleet:
         with client:
             yield client
 
-    def _begun(self, text: Optional[bytes], second: int = _BEGINNING) -> Client:
-        return Client(self._suffixes, text, second, self._rules)
 
 
 def _text(client: Client) -> bytes:

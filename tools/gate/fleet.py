@@ -1,0 +1,312 @@
+"""The parts of a play of a fleet: what its exchanges are, its site, its workers, Redis, and the one client beside them.
+
+An exchange has a number, by which the site draws its lines. So what a fleet did is known from the order in which Redis
+was given its shards, which its append-only file tells, and from what the workers wrote down of each exchange.
+"""
+import glob
+import http.client
+import json
+import os
+import random
+import socket
+import socketserver
+import struct
+import subprocess
+import time
+from collections import defaultdict
+
+LIST, NOW = "test\nco.test\n", 1700000000
+PATHS = ("/", "/p", "/p/q")
+NAMES = ("a", "b", "c")
+# Of a server's start, in seconds on a calm machine.
+STARTING = 20
+
+
+# ---- exchanges
+
+class Exchange:
+    """What an exchange is, by its number: its host, which is one of a few in every second, its path and its moment."""
+
+    def __init__(self, number, hosts):
+        self.number, self.draw = number, random.Random(number * 2654435761)
+        host = self.draw.randrange(min(hosts, 8) if self.draw.random() < 0.5 else hosts)
+        self.site = f"s{host // 4}{'.co' if host % 8 < 4 else ''}.test"
+        self.host = f"h{host % 4}.{self.site}" if host % 4 else self.site
+        self.path, self.now = self.draw.choice(PATHS), NOW + number // 4
+        self.url = f"http://{self.host}{self.path}"
+        # The lines of its answer. The first sets a cookie anew at each exchange, so each changes the shard.
+        self.lines = [self.line("n", "/", False, self.draw.choice([None, 100000]))]
+        self.lines += [self.drawn() for _ in range(self.draw.randrange(4))]
+
+    def drawn(self):
+        age = self.draw.choice([None, None, -1, 0, 3, 50, 100000])
+        return self.line(self.draw.choice(NAMES), self.draw.choice(PATHS), self.draw.random() < 0.4, age)
+
+    def line(self, name, path, is_shared, age):
+        """A line whose value says where it may be sent, and until when."""
+        where, until = f".{self.site}" if is_shared else self.host, "" if age is None else self.now + age
+        attributes = [f"Path={path}", *([f"Domain={self.site}"] if is_shared else [])]
+        attributes += [f"Max-Age={age}"] if age is not None else []
+        return "; ".join([f"{name}={self.number}|{where}|{path}|{until}", *attributes])
+
+    def wrong(self, header):
+        """The pairs of its request's header that are no cookies of its host, path and moment."""
+        return [it for it in header.split("; ") if it and not self.is_right(it.partition("=")[2].split("|"))]
+
+    def is_right(self, parts):
+        if len(parts) != 4:
+            return False
+        _, where, path, until = parts
+        is_near = where == self.host or where[:1] == "." and f".{self.host}".endswith(where)
+        return is_near and (self.path + "/").startswith(path.rstrip("/") + "/") and (not until or self.now < int(until))
+
+
+# ---- the site
+
+class Site(socketserver.StreamRequestHandler):
+    """Answers each request of a connection with the lines of its exchange, by 400 where a cookie isn't its own."""
+
+    def handle(self):
+        while fields := dict(line.split(b": ", 1) for line in self.head()):
+            exchange = Exchange(int(fields[b"X-Exchange"]), self.server.hosts)
+            is_wrong = exchange.wrong(fields.get(b"Cookie", b"").decode()) or fields[b"Host"].decode() != exchange.host
+            lines = "".join(f"Set-Cookie: {it}\r\n" for it in exchange.lines)
+            status = "400 Bad Request" if is_wrong else "200 OK"
+            self.wfile.write(f"HTTP/1.1 {status}\r\n{lines}Content-Length: 0\r\n\r\n".encode())
+
+    def head(self):
+        """The fields of a request's head; none at the end."""
+        lines = list(iter(lambda: self.rfile.readline().rstrip(b"\r\n"), b""))
+        return lines[1:]
+
+
+class Server(socketserver.ThreadingTCPServer):
+    """The server of a site with so many hosts, on a free port of loopback."""
+
+    daemon_threads, request_queue_size = True, 64
+
+    def __init__(self, hosts):
+        super().__init__(("127.0.0.1", 0), Site)
+        self.hosts = hosts
+
+
+# ---- Redis
+
+class Redis:
+    """A server of Redis in a folder, which writes down each change before it tells of it."""
+
+    def __init__(self, folder, is_kept=True):
+        with socket.create_server(("127.0.0.1", 0)) as free:
+            self.port = free.getsockname()[1]
+        self.folder, self.process = folder, None
+        self.words = ["redis-server", "--port", str(self.port), "--bind", "127.0.0.1", "--dir", folder, "--save", "",
+                      "--appendonly", "yes" if is_kept else "no", "--appendfsync", "always",
+                      "--auto-aof-rewrite-percentage", "0"]
+
+    def start(self, patience):
+        self.process = subprocess.Popen(self.words, stdout=subprocess.DEVNULL)
+        until = time.monotonic() + patience(STARTING)
+        while not self.answers():
+            if time.monotonic() > until:
+                raise TimeoutError("redis-server doesn't answer")
+            time.sleep(0.02)
+
+    def answers(self):
+        """Whether it has read its file and answers."""
+        try:
+            with socket.create_connection(("127.0.0.1", self.port), 1) as asked:
+                asked.sendall(b"PING\r\n")
+                return asked.recv(16).startswith(b"+PONG")
+        except OSError:
+            return False
+
+    def kill(self):
+        self.process.kill()
+        self.process.wait()
+
+    def puts(self):
+        """The keys and values that were put, in their order, as its file has them."""
+        for path in sorted(glob.glob(f"{self.folder}/appendonlydir/*.incr.aof")):
+            with open(path, "rb") as file:
+                for words in iter(lambda file=file: command(file), None):
+                    if words[0].upper() == b"SET":
+                        yield words[1].decode(), words[2]
+
+
+def command(file):
+    """The words of the next command of an append-only file; None at its end, or where its last one was cut off."""
+    count = file.readline()
+    if count[:1] != b"*":
+        return None
+    words = []
+    for _ in range(int(count[1:])):
+        length = int(file.readline()[1:] or 0)
+        words.append(file.read(length + 2)[:-2])
+    return words if count.endswith(b"\n") and all(words) else None
+
+
+# ---- workers
+
+def work(mine, hosts, ports, log, plant):
+    """Makes these exchanges, and writes down the header of each and the version at which it was read, and what became
+    of its lines once it is told."""
+    import redis
+    from fonnalich import fleet
+
+    class Noted(fleet.RedisStore):
+        """A store that keeps the version of what was got last, and numbers what it puts."""
+
+        number, tries, got = 0, 0, b""
+
+        def get(self, key):
+            text, self.got = super().get(key)
+            return text, self.got
+
+        def fresh(self):
+            self.tries += 1
+            return struct.pack(">QQ", self.number, os.getpid() << 32 | self.tries)
+
+    store = Noted(redis.Redis(port=ports[0], socket_timeout=60))
+    shared, site = fleet.Fleet(LIST, store), http.client.HTTPConnection("127.0.0.1", ports[1])
+    PLANTS.get(plant, lambda *_: None)(fleet, store)
+
+    def note(**what):
+        os.write(log, json.dumps(what).encode() + b"\n")
+
+    def asked(exchange):
+        while True:
+            try:
+                return shared.header(exchange.url, exchange.now)
+            except redis.ConnectionError:
+                time.sleep(0.02)
+
+    for number in mine:
+        exchange, store.number, store.tries = Exchange(number, hosts), number, 0
+        header = asked(exchange)
+        note(number=number, version=store.got.hex(), header=header)
+        site.request("GET", exchange.path, headers={"Host": exchange.host, "X-Exchange": str(number),
+                                                    **({"Cookie": header} if header else {})})
+        with site.getresponse() as answer:
+            lines = answer.headers.get_all("Set-Cookie")
+            if answer.status != 200:
+                note(number=number, wrong=header)
+        try:
+            note(number=number, ends=shared.receive(exchange.url, lines, exchange.now))
+        except redis.ConnectionError:
+            pass  # (it may be put or not)
+
+
+# ---- planted faults
+
+def blind(module, store):
+    """A store that puts without a look at the version."""
+    store.PUT = "redis.call('SET', KEYS[1], ARGV[2]) return 1"
+
+
+def hasty(module, store):
+    """A fleet that takes what wasn't put for put."""
+    is_put = module.Fleet._is_put
+    module.Fleet._is_put = lambda *words: is_put(*words) or True
+
+
+def forgetful(module, store):
+    """A fleet that saves what a client's file has: no cookie without an expiry."""
+    module._text = lambda client: client.save(NOW)
+
+
+def dropping(module, store):
+    """A fleet that drops what is expired now and then, so that a cookie set anew loses its place."""
+    module._BEGINNING = NOW + 10
+
+
+def stale(module, store):
+    """A fleet whose headers are of what it read of a key at first."""
+    first, get, header = {}, store.get, module.Fleet.header
+
+    def read(self, *words):
+        store.get = lambda key: first.setdefault(key, get(key))
+        try:
+            return header(self, *words)
+        finally:
+            store.get = get
+    module.Fleet.header = read
+
+
+PLANTS = {it.__name__: it for it in (blind, hasty, forgetful, dropping, stale)}
+
+
+# ---- the one client
+
+class Judge:
+    """Tells what is wrong with a play, by one client that takes its exchanges in the order in which they were put.
+
+    `order` has the key and the version of each put, and `notes` those of each worker in their order. What is wrong
+    stands in `wrong`, in words."""
+
+    def __init__(self, order, notes, hosts):
+        self.order, self.hosts, self.wrong = order, hosts, []
+        self.place_of = {number_of(version): i for i, (_, version) in enumerate(order)}
+        # The numbers and headers that were read at each place, and what was told of each exchange's lines.
+        self.headers, self.ends = defaultdict(list), {}
+        for each in notes:
+            self.follow(each)
+        self.count()
+        self.replay()
+
+    def follow(self, notes):
+        """Keeps a worker's notes, which never reads of a site what was there before what it put or read there."""
+        last = {}
+        for note in notes:
+            number = note["number"]
+            site, place = Exchange(number, self.hosts).site, self.place_of.get(number, -1)
+            if "header" in note:
+                place = self.read_at(number, bytes.fromhex(note["version"]))
+                self.headers[place].append((number, note["header"]))
+                if place < last.get(site, -1):
+                    self.wrong.append(f"{number} read what was there before")
+            elif "wrong" in note:
+                self.wrong.append(f"the site refused the header of {number}: {note['wrong']!r}")
+            else:
+                self.ends[number] = note["ends"]
+            last[site] = max(last.get(site, -1), place)
+
+    def read_at(self, number, version):
+        """The place of the put that an exchange read, or -1 where it read that there is none."""
+        place = self.place_of.get(number_of(version), -1) if version else -1
+        if version and (place < 0 or self.order[place][1] != version):
+            self.wrong.append(f"{number} read what was never put")
+        return place
+
+    def count(self):
+        """Looks whether each exchange was put once, if it was told that it is."""
+        if len(self.place_of) < len(self.order):
+            self.wrong.append(f"{len(self.order) - len(self.place_of)} were put twice")
+        self.wrong += [f"{it} was told to be put, and isn't" for it in sorted(self.ends.keys() - self.place_of.keys())]
+
+    def replay(self):
+        """Has one client take all, and compares each header and what became of the lines."""
+        from fonnalich import Client
+        with Client(LIST) as client:
+            self.compare(client, -1)
+            for place, (_, version) in enumerate(self.order):
+                exchange = Exchange(number_of(version), self.hosts)
+                ends = client.receive(exchange.url, exchange.lines, exchange.now)
+                if self.ends.get(exchange.number, ends) != ends:
+                    self.wrong.append(f"{exchange.number} was told {self.ends[exchange.number]}, not {ends}")
+                self.compare(client, place)
+
+    def compare(self, client, place):
+        for number, header in self.headers[place]:
+            exchange = Exchange(number, self.hosts)
+            alone = client.header(exchange.url, exchange.now)
+            if header != alone:
+                self.wrong.append(f"{number} had {header!r}, one client {alone!r}")
+
+
+def number_of(version):
+    return struct.unpack(">QQ", version)[0]
+
+
+def tries_of(version):
+    """How often an exchange was tried until it put this."""
+    return struct.unpack(">QQ", version)[1] & 0xFFFFFFFF
