@@ -3,23 +3,18 @@
 An exchange has a number, by which the site draws its lines. So what a fleet did is known from the order in which Redis
 was given its shards, which its append-only file tells, and from what the workers wrote down of each exchange.
 """
-import glob
 import http.client
 import json
 import os
 import random
-import socket
 import socketserver
 import struct
-import subprocess
 import time
 from collections import defaultdict
 
 LIST, NOW = "test\nco.test\n", 1700000000
 PATHS = ("/", "/p", "/p/q")
 NAMES = ("a", "b", "c")
-# Of a server's start, in seconds on a calm machine.
-STARTING = 20
 
 
 # ---- exchanges
@@ -89,60 +84,8 @@ class Server(socketserver.ThreadingTCPServer):
         super().__init__(("127.0.0.1", 0), Site)
         self.hosts = hosts
 
-
-# ---- Redis
-
-class Redis:
-    """A server of Redis in a folder, which writes down each change before it tells of it."""
-
-    def __init__(self, folder, is_kept=True):
-        with socket.create_server(("127.0.0.1", 0)) as free:
-            self.port = free.getsockname()[1]
-        self.folder, self.process = folder, None
-        self.words = ["redis-server", "--port", str(self.port), "--bind", "127.0.0.1", "--dir", folder, "--save", "",
-                      "--appendonly", "yes" if is_kept else "no", "--appendfsync", "always",
-                      "--auto-aof-rewrite-percentage", "0"]
-
-    def start(self, patience):
-        self.process = subprocess.Popen(self.words, stdout=subprocess.DEVNULL)
-        until = time.monotonic() + patience(STARTING)
-        while not self.answers():
-            if time.monotonic() > until:
-                raise TimeoutError("redis-server doesn't answer")
-            time.sleep(0.02)
-
-    def answers(self):
-        """Whether it has read its file and answers."""
-        try:
-            with socket.create_connection(("127.0.0.1", self.port), 1) as asked:
-                asked.sendall(b"PING\r\n")
-                return asked.recv(16).startswith(b"+PONG")
-        except OSError:
-            return False
-
-    def kill(self):
-        self.process.kill()
-        self.process.wait()
-
-    def puts(self):
-        """The keys and values that were put, in their order, as its file has them."""
-        for path in sorted(glob.glob(f"{self.folder}/appendonlydir/*.incr.aof")):
-            with open(path, "rb") as file:
-                for words in iter(lambda file=file: command(file), None):
-                    if words[0].upper() == b"SET":
-                        yield words[1].decode(), words[2]
-
-
-def command(file):
-    """The words of the next command of an append-only file; None at its end, or where its last one was cut off."""
-    count = file.readline()
-    if count[:1] != b"*":
-        return None
-    words = []
-    for _ in range(int(count[1:])):
-        length = int(file.readline()[1:] or 0)
-        words.append(file.read(length + 2)[:-2])
-    return words if count.endswith(b"\n") and all(words) else None
+    def handle_error(self, *_):
+        """Says nothing of a worker that was killed."""
 
 
 # ---- workers
@@ -215,8 +158,14 @@ def forgetful(module, store):
 
 
 def dropping(module, store):
-    """A fleet that drops what is expired now and then, so that a cookie set anew loses its place."""
-    module._BEGINNING = NOW + 10
+    """A fleet that drops what is expired at a moment, so that a cookie set anew loses its place."""
+    text = module._text
+
+    def kept(client):
+        from fonnalich import Client
+        with Client(LIST, text(client), NOW + 10) as loaded:
+            return text(loaded)
+    module._text = kept
 
 
 def stale(module, store):

@@ -20,7 +20,10 @@ import time
 import urllib.parse
 import urllib.request
 import weakref
-from typing import Any, Callable, Iterable, NoReturn, Optional, Union
+from typing import TYPE_CHECKING, Any, Callable, Iterable, NoReturn, Optional, Union
+
+if TYPE_CHECKING:
+    from .fleet import Fleet
 
 __all__ = ["Adapter", "Client", "Cookie", "End", "Jar", "List", "NoList", "NoRules", "Refused", "Rules", "Session",
            "Stopped", "Way", "is_plain_url", "shard", "shard_of_url", "suffix"]
@@ -94,7 +97,7 @@ _LIB.fonnalich_print.argtypes = [ctypes.c_bool, ctypes.POINTER(_Attributes), *_T
                                  ctypes.c_void_p, ctypes.c_size_t]
 _LIB.fonnalich_print.restype = ctypes.c_ssize_t
 
-_ANSWER, _LIST, _LOAD, _RECEIVE, _HEADER, _SAVE, _RESTART, _RULES, _SAVE_ALL = range(9)
+_ANSWER, _LIST, _LOAD, _RECEIVE, _HEADER, _SAVE, _RESTART, _RULES, _SAVE_ALL, _RELOAD = range(10)
 _STOPPED = -100
 _ROOM = 4096
 _KEY_LENGTH, _NONCE_LENGTH = 64, 12
@@ -691,13 +694,15 @@ if hasattr(os, "register_at_fork"):
 
 
 class Jar(http.cookiejar.CookieJar):
-    """A jar for `urllib.request.HTTPCookieProcessor` over a client. Its own table stays empty, so it lists no cookie.
+    """A jar for `urllib.request.HTTPCookieProcessor` over a client, or over a `Fleet` of the module `fleet`. Its own
+    table stays empty, so it lists no cookie.
 
-    `clear_session_cookies` is done to the client. What isn't there raises `NotImplementedError`, which says what to do:
-    `get`, `set`, `update`, `set_cookie`, `clear`, `set_policy` and what a jar of `requests` has of a dict.
+    `clear_session_cookies` is done to the client; a fleet has no such call. What isn't there raises
+    `NotImplementedError`, which says what to do: `get`, `set`, `update`, `set_cookie`, `clear`, `set_policy` and what a
+    jar of `requests` has of a dict.
     """
 
-    def __init__(self, client: Client):
+    def __init__(self, client: Union[Client, Fleet]):
         super().__init__()
         self.client = client
 
@@ -714,6 +719,8 @@ class Jar(http.cookiejar.CookieJar):
 
     def clear_session_cookies(self) -> None:
         """Ends the client's session cookies."""
+        if not isinstance(self.client, Client):
+            raise NotImplementedError("a fleet's session cookies don't end together: begin with another store")
         self.client.restart()
 
     def copy(self) -> "Jar":
@@ -749,6 +756,7 @@ class Jar(http.cookiejar.CookieJar):
 
 class Adapter:
     """An adapter for `requests`: mount it for `http://` and `https://` of a session whose `cookies` are `Jar(client)`.
+    A `Fleet` may stand in the client's place.
 
     It puts the header of each request, at a redirect anew. A `Cookie` header of the caller's own goes out instead, up
     to a redirect. `cookies=` of a request is passed over, and so is an own header beside it. What a request gets goes
@@ -756,7 +764,7 @@ class Adapter:
     Requests go out by `over`, else by an `HTTPAdapter` of `requests` that is made of the other words.
     """
 
-    def __init__(self, client: Client, over: Any = None, **how: Any):
+    def __init__(self, client: Union[Client, Fleet], over: Any = None, **how: Any):
         # (nobody else loads `requests`)
         from requests.adapters import HTTPAdapter
         self.client = client

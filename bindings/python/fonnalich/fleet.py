@@ -23,13 +23,11 @@ import time
 import urllib.parse
 from typing import Any, Iterable, Iterator, Optional, Protocol, Tuple
 
-from . import (_SAVE_ALL, _SAVED_NUMBER, _URL_NUMBER, Client, End, Life, Moment, Refused, Rules, Suffixes, Text, _bytes, _counted,
-               _lines, _list, _second, _seconds_of, is_plain_url, shard)
+from . import (_RELOAD, _SAVE_ALL, _SAVED_NUMBER, _URL_NUMBER, Client, End, Life, Moment, Refused, Rules, Suffixes, Text,
+               _counted, _lines, _list, _second, _seconds_of, is_plain_url, shard)
 
 __all__ = ["BadShard", "Conflict", "Fleet", "MemoryStore", "PostgresStore", "RedisStore", "Store"]
 
-# The first second of the year -9999. No row of a saved text is expired then.
-_BEGINNING = -377705116800
 # How often a shard is put before `receive` gives up, and the longest wait before that, in seconds.
 _TRIES, _LONGEST = 40, 0.2
 # Of how many hosts a fleet keeps the shard's name.
@@ -85,6 +83,8 @@ class Fleet:
         self.store, self._suffixes = store, _list(suffixes)
         self._sum = hashlib.sha256(self._suffixes).hexdigest()[:16]
         self._key_of = functools.lru_cache(_HOSTS)(self._host_key)
+        # Clients that no call uses, which have read the list.
+        self._clients: list[Client] = []
         self.rules = Rules(_counted(rules))
 
     @property
@@ -140,15 +140,18 @@ class Fleet:
 
     @contextlib.contextmanager
     def _loaded(self, key: str, text: Optional[bytes]) -> Iterator[Client]:
-        """A client with all cookies of a shard."""
+        """A client with all cookies of a shard, which nobody else uses meanwhile."""
         try:
-            client = Client(self._suffixes, text, _BEGINNING, self._rules)
+            client = self._clients.pop()
+        except IndexError:
+            client = Client(self._suffixes)
+        try:
+            client.rules = self._rules
+            client._call(_RELOAD, 0, self._empty if text is None else text, b"")
         except Refused as why:
-            if why.number == _SAVED_NUMBER:
-                raise BadShard(key) from None
-            raise
-        with client:
-            yield client
+            raise BadShard(key) if why.number == _SAVED_NUMBER else why from None
+        yield client
+        self._clients.append(client)
 
 
 

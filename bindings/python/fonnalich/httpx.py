@@ -5,17 +5,21 @@
 
 At a redirect it does so for each hop. The client's header takes the place of any other one, as that of `cookies=`. What
 a request gets goes by its URL, whatever its `Host` header says. Without an `EmptyJar` `httpx` keeps the cookies of the
-answers too, to no end, and fails by those that have other characters than ASCII.
+answers too, to no end, and fails by those that have other characters than ASCII. A `Fleet` of the module `fleet` may
+stand in the client's place.
 """
 from __future__ import annotations
 
 import http.cookiejar
 from types import TracebackType
-from typing import Any, Optional, Type
+from typing import TYPE_CHECKING, Any, Optional, Type, Union
 
 import httpx
 
 from . import _URL_NUMBER, Client, Refused, is_plain_url
+
+if TYPE_CHECKING:
+    from .fleet import Fleet
 
 __all__ = ["AsyncTransport", "EmptyJar", "Transport"]
 
@@ -31,7 +35,7 @@ class Transport(httpx.BaseTransport):
     """A transport by a client, over another one, else over an `HTTPTransport` of `httpx` that is made of the other
     words."""
 
-    def __init__(self, client: Client, over: Optional[httpx.BaseTransport] = None, **how: Any):
+    def __init__(self, client: Union[Client, Fleet], over: Optional[httpx.BaseTransport] = None, **how: Any):
         self.client = client
         self.over = httpx.HTTPTransport(**how) if over is None else over
 
@@ -58,7 +62,7 @@ class Transport(httpx.BaseTransport):
 class AsyncTransport(httpx.AsyncBaseTransport):
     """The same for tasks, over an `AsyncHTTPTransport` where no other one is given."""
 
-    def __init__(self, client: Client, over: Optional[httpx.AsyncBaseTransport] = None, **how: Any):
+    def __init__(self, client: Union[Client, Fleet], over: Optional[httpx.AsyncBaseTransport] = None, **how: Any):
         self.client = client
         self.over = httpx.AsyncHTTPTransport(**how) if over is None else over
 
@@ -94,7 +98,7 @@ def _asked(url: httpx.URL) -> str:
     return site + path
 
 
-def _put(client: Client, request: httpx.Request) -> str:
+def _put(client: Union[Client, Fleet], request: httpx.Request) -> str:
     """Puts the client's header into a request, byte for byte, and returns the URL."""
     url = _asked(request.url)
     header = client.header(url).encode("utf-8", "surrogateescape")
@@ -103,5 +107,5 @@ def _put(client: Client, request: httpx.Request) -> str:
     return url
 
 
-def _take(client: Client, url: str, response: httpx.Response) -> None:
+def _take(client: Union[Client, Fleet], url: str, response: httpx.Response) -> None:
     client.receive(url, [value for name, value in response.headers.raw if name.lower() == b"set-cookie"])

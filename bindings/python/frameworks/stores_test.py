@@ -1,0 +1,189 @@
+"""Tests the stores of `fonnalich.fleet`, over servers of Redis and PostgreSQL where these are there."""
+import concurrent.futures
+import contextlib
+import importlib.util
+import os
+import shutil
+import sys
+import tempfile
+import unittest
+
+from fonnalich import Client
+from fonnalich.fleet import Fleet, MemoryStore, PostgresStore, RedisStore
+
+TOP = os.path.dirname(os.path.dirname(os.path.dirname(os.path.dirname(os.path.abspath(__file__)))))
+sys.path.append(f"{TOP}/tools")
+
+from gate import servers
+
+LIST, URL, NOW = "com\n", "https://example.com/", 1700000000
+KEY, BYTES = "fonnalich:00:example.com", bytes(range(256))
+
+
+class Contract:
+    """What each store has to do. `store` gives another one over the same texts."""
+
+    def setUp(self):
+        self.one, self.other = self.store(), self.store()
+
+    def test_tells_versions(self):
+        text, absent = self.one.get(KEY)
+        self.assertIsNone(text)
+        self.assertFalse(self.one.expire(KEY, absent))
+        self.assertTrue(self.one.put_if(KEY, absent, BYTES))
+        self.assertFalse(self.other.put_if(KEY, absent, b"2"))
+        text, first = self.other.get(KEY)
+        self.assertEqual(text, BYTES)
+        self.assertTrue(self.other.put_if(KEY, first, b"3"))
+        self.assertFalse(self.one.put_if(KEY, first, b"4"))
+        self.assertFalse(self.one.expire(KEY, first))
+        text, second = self.one.get(KEY)
+        self.assertEqual(text, b"3")
+        self.assertTrue(self.other.expire(KEY, second))
+        self.assertEqual(self.one.get(KEY), (None, absent))
+        # No text that was put later has the version of an earlier one.
+        self.assertFalse(self.one.put_if(KEY, second, b"5"))
+        self.assertTrue(self.one.put_if(KEY, absent, BYTES))
+        for version in [absent, first, second]:
+            self.assertFalse(self.one.put_if(KEY, version, b"6"))
+            self.assertFalse(self.one.expire(KEY, version))
+        self.assertEqual(self.other.get(KEY)[0], BYTES)
+
+    def test_keeps_keys_apart(self):
+        absent = self.one.get(KEY)[1]
+        self.assertTrue(self.one.put_if(KEY, absent, b"1"))
+        self.assertEqual(self.one.get(f"{KEY}2")[0], None)
+        self.assertTrue(self.one.put_if(f"{KEY}2", absent, b"2"))
+        self.assertEqual([self.other.get(it)[0] for it in (KEY, f"{KEY}2")], [b"1", b"2"])
+
+    def test_puts_one_of_many(self):
+        stores = [self.store() for _ in range(6)]
+        with concurrent.futures.ThreadPoolExecutor(len(stores)) as threads:
+            for i in range(15):
+                version = self.one.get(KEY)[1]
+                texts = [b"%d %d" % (i, j) for j in range(len(stores))]
+                is_put = [*threads.map(lambda store, text: store.put_if(KEY, version, text), stores, texts)]
+                self.assertEqual(is_put.count(True), 1)
+                self.assertEqual(self.one.get(KEY)[0], texts[is_put.index(True)])
+
+    def test_is_a_fleets(self):
+        fleets = [Fleet(LIST, self.store()) for _ in range(4)]
+        names = [[f"{name}{i}" for i in range(15)] for name in "abcd"]
+        with concurrent.futures.ThreadPoolExecutor(len(fleets)) as threads:
+            list(threads.map(lambda fleet, them: [fleet.receive(URL, [f"{it}=1"], NOW) for it in them], fleets, names))
+        had = fleets[0].header(URL, NOW)
+        with Client(LIST) as client:
+            client.receive(URL, had.split("; "), NOW)
+            self.assertEqual(client.header(URL, NOW), had)
+        self.assertEqual(sorted(had.split("; ")), sorted(f"{it}=1" for them in names for it in them))
+
+
+class Memory(Contract, unittest.TestCase):
+    def store(self):
+        self.whole = getattr(self, "whole", None) or MemoryStore()
+        return self.whole
+
+
+class Served(Contract):
+    """A store of a server, which is begun once."""
+
+    @classmethod
+    def setUpClass(cls):
+        cls.room = contextlib.ExitStack()
+        cls.addClassCleanup(cls.room.close)
+        cls.server = cls.kind(cls.room.enter_context(tempfile.TemporaryDirectory(prefix="stores-")))
+        cls.server.start()
+        cls.room.callback(lambda: cls.server.kill())
+
+
+@unittest.skipUnless(importlib.util.find_spec("redis") and shutil.which("redis-server"), "Redis isn't there")
+class Redis(Served, unittest.TestCase):
+    kind = servers.Redis
+
+    def store(self, **how):
+        return RedisStore(self.redis(), **how)
+
+    def redis(self, **how):
+        import redis
+        asked = redis.Redis(port=self.server.port, **how)
+        self.addCleanup(asked.close)
+        self.addCleanup(asked.flushall)
+        return asked
+
+    def test_counts_what_it_put_itself(self):
+        """A put whose reply is lost, and that is made again by whoever sends it."""
+        for call in [self.one.redis.eval, lambda *words: self.one.redis.execute_command("EVAL", *words)]:
+            absent = self.one.get(KEY)[1]
+            once, fresh = RedisStore(self.one.redis), os.urandom(16)
+            once.fresh = lambda: fresh
+            self.assertEqual(call(once.PUT, 1, KEY, absent, fresh + b"1"), 1)
+            self.assertTrue(once.put_if(KEY, absent, b"1"))
+            self.assertEqual(self.other.get(KEY), (b"1", fresh))
+            self.assertTrue(self.other.expire(KEY, fresh))
+
+    def test_drops_after_a_life(self):
+        store, absent = self.store(life=90.5), self.one.get(KEY)[1]
+        self.assertTrue(store.put_if(KEY, absent, b"1"))
+        self.assertIn(self.one.redis.ttl(KEY), [89, 90])
+        self.assertTrue(self.one.put_if(KEY, self.one.get(KEY)[1], b"2"))
+        self.assertEqual(self.one.redis.ttl(KEY), -1)
+
+    def test_refuses_what_decodes(self):
+        self.one.put_if(KEY, b"", b"1")
+        self.assertRaisesRegex((TypeError, UnicodeDecodeError), "decode",
+                               RedisStore(self.redis(decode_responses=True)).get, KEY)
+
+    def test_tells_that_it_is_away(self):
+        import redis
+        fleet = Fleet(LIST, self.one)
+        fleet.receive(URL, ["a=1"], NOW)
+        self.server.kill()
+        self.assertRaises(redis.ConnectionError, fleet.header, URL, NOW)
+        self.assertRaises(redis.ConnectionError, fleet.receive, URL, ["a=2"], NOW)
+        self.server.start()
+        self.assertEqual(fleet.header(URL, NOW), "a=1")
+
+
+@unittest.skipUnless(importlib.util.find_spec("psycopg2") and not servers.Postgres.missing(), "PostgreSQL isn't there")
+class Postgres(Served, unittest.TestCase):
+    kind = servers.Postgres
+
+    def setUp(self):
+        self.store().create()
+        self.ask("DELETE FROM fonnalich")
+        super().setUp()
+
+    def store(self):
+        import psycopg2
+        connection = psycopg2.connect(self.server.name)
+        self.addCleanup(connection.close)
+        return PostgresStore(connection)
+
+    def ask(self, words):
+        connection = self.store().connection
+        with connection, connection.cursor() as cursor:
+            cursor.execute(words)
+            return cursor.fetchall() if cursor.description else None
+
+    def test_is_made_once(self):
+        self.one.put_if(KEY, 0, b"1")
+        self.other.create()
+        self.assertEqual(self.one.get(KEY)[0], b"1")
+
+    def test_holds_no_transaction(self):
+        self.one.put_if(KEY, 0, b"1")
+        self.one.put_if(KEY, 0, b"2")
+        self.one.get(KEY)
+        self.assertEqual(self.ask("SELECT count(*) FROM pg_stat_activity WHERE state LIKE 'idle in%'"), [(0,)])
+
+    def test_goes_on_behind_an_error(self):
+        import psycopg2
+        self.ask("ALTER TABLE fonnalich RENAME TO elsewhere")
+        self.assertRaises(psycopg2.Error, self.one.get, KEY)
+        self.assertRaises(psycopg2.Error, self.one.put_if, KEY, 0, b"1")
+        self.ask("ALTER TABLE elsewhere RENAME TO fonnalich")
+        self.assertTrue(self.one.put_if(KEY, 0, b"1"))
+
+
+if __name__ == "__main__":
+    unittest.main()

@@ -1,0 +1,138 @@
+"""A play of a fleet: workers make exchanges, and some of them end, and Redis does, at drawn moments."""
+import contextlib
+import json
+import os
+import random
+import signal
+import sys
+import tempfile
+import time
+
+from . import fleet, servers
+from .bounded import patience
+
+WORKERS = 8
+# Of a play of a thousand exchanges, in seconds on a calm machine.
+SECONDS = 60
+
+
+class Play:
+    """A play: its Redis, its site and its workers, each with the exchanges that it has to make."""
+
+    def __init__(self, room, exchanges, hosts, plant=None):
+        self.room, self.exchanges, self.hosts, self.plant = room, exchanges, hosts, plant
+        self.redis, self.pids, self.logs = servers.Redis(room), {}, []
+        self.killed, self.restarts, self.failed = 0, 0, []
+        server = fleet.Server(hosts)
+        self.port = server.server_address[1]
+        self.site = forked(server.serve_forever)
+        server.socket.close()
+        self.redis.start()
+
+    def begin(self, mine):
+        """Has a worker make these exchanges."""
+        path = f"{self.room}/{len(self.logs)}.log"
+        log = os.open(path, os.O_WRONLY | os.O_CREAT | os.O_APPEND, 0o600)
+        self.logs.append(path)
+        ports = (self.redis.port, self.port)
+        self.pids[forked(lambda: fleet.work(mine, self.hosts, ports, log, self.plant))] = mine, path
+        os.close(log)
+
+    def run(self, events):
+        """Has all workers make their exchanges. `events` are the counts of exchanges at which something ends: a worker,
+        or Redis."""
+        for number in range(WORKERS):
+            self.begin(range(number, self.exchanges, WORKERS))
+        until = time.monotonic() + patience(SECONDS * max(1, self.exchanges / 1000))
+        while self.pids:
+            time.sleep(0.01)
+            if time.monotonic() > until:
+                raise TimeoutError("the workers have not ended")
+            self.reap()
+            if events and self.pids and self.progress() >= events[0][0]:
+                self.strike(*events.pop(0)[1:])
+
+    def reap(self):
+        """Looks which workers have ended."""
+        for pid in [*self.pids]:
+            ended, status = os.waitpid(pid, os.WNOHANG)
+            if ended and status:
+                self.failed.append(f"a worker ended by {os.waitstatus_to_exitcode(status)}")
+            if ended:
+                del self.pids[pid]
+
+    def progress(self):
+        """How many exchanges were begun, of those workers that are there, as far as the slowest."""
+        return min(last_of(path) for _, path in self.pids.values())
+
+    def strike(self, what):
+        if what == "redis":
+            self.redis.kill()
+            self.redis.start()
+            self.restarts += 1
+            return
+        pid = random.choice([*self.pids])
+        mine, path = self.pids.pop(pid)
+        os.kill(pid, signal.SIGKILL)
+        if os.waitpid(pid, 0)[1] == signal.SIGKILL:
+            self.killed += 1
+            self.begin(range(max(last_of(path) + WORKERS, mine.start), mine.stop, WORKERS))
+
+    def verdict(self):
+        """What is wrong, and in how many tries an exchange came behind another one."""
+        puts = [*self.redis.puts()]
+        order = [(key, value[:16]) for key, value in puts]
+        wrong = fleet.Judge(order, [*map(notes_of, self.logs)], self.hosts).wrong
+        return self.failed + wrong, sum(fleet.tries_of(it) - 1 for _, it in order), len(order)
+
+    def end(self):
+        for pid in [*self.pids, self.site]:
+            os.kill(pid, signal.SIGKILL)
+            os.waitpid(pid, 0)
+        self.redis.kill()
+
+
+def forked(call):
+    """The process of a child that makes this call, and ends."""
+    pid = os.fork()
+    if pid:
+        return pid
+    status = 1
+    try:
+        call()
+        status = 0
+    except BaseException:
+        sys.excepthook(*sys.exc_info())
+    finally:
+        os._exit(status)
+
+
+def notes_of(path):
+    """What a worker wrote down."""
+    with open(path, "rb") as log:
+        return [json.loads(line) for line in log if line.endswith(b"\n")]
+
+
+def last_of(path):
+    """The exchange of which a worker wrote last, or -1."""
+    with open(path, "rb") as log:
+        log.seek(max(0, os.fstat(log.fileno()).st_size - 20000))
+        lines = [it for it in log.read().splitlines(True) if it.startswith(b"{") and it.endswith(b"\n")]
+    return json.loads(lines[-1])["number"] if lines else -1
+
+
+def drawn_events(exchanges):
+    """At which exchange what ends: workers, and Redis."""
+    kills = [(random.randrange(exchanges), "worker") for _ in range(5 + exchanges // 500)]
+    return sorted([*kills, *((random.randrange(exchanges), "redis") for _ in range(1 + exchanges // 10000))])
+
+
+@contextlib.contextmanager
+def begun(*words):
+    """A play, whose Redis, site and workers end with the block."""
+    with tempfile.TemporaryDirectory(prefix="fleet-") as room:
+        play = Play(room, *words)
+        try:
+            yield play
+        finally:
+            play.end()

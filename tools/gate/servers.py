@@ -1,0 +1,116 @@
+"""Servers of Redis and of PostgreSQL in a folder of their own, for tests."""
+import contextlib
+import glob
+import os
+import pwd
+import shutil
+import socket
+import subprocess
+import time
+
+from .bounded import patience
+
+# Of a server's start, in seconds on a calm machine.
+STARTING = 20
+DEBIANS = "/usr/lib/postgresql/*/bin"
+
+
+def is_awaited(is_there):
+    """Whether it is there in the time of a start."""
+    until = time.monotonic() + patience(STARTING)
+    while not is_there():
+        if time.monotonic() > until:
+            return False
+        time.sleep(0.02)
+    return True
+
+
+class Redis:
+    """A server of Redis on a free port of loopback, which writes down each change before it tells of it."""
+
+    def __init__(self, folder):
+        with socket.create_server(("127.0.0.1", 0)) as free:
+            self.port = free.getsockname()[1]
+        self.folder, self.process = folder, None
+        self.words = ["redis-server", "--port", str(self.port), "--bind", "127.0.0.1", "--dir", folder, "--save", "",
+                      "--appendonly", "yes", "--appendfsync", "always", "--auto-aof-rewrite-percentage", "0"]
+
+    def start(self):
+        self.process = subprocess.Popen(self.words, stdout=subprocess.DEVNULL)
+        if not is_awaited(self.answers):
+            self.kill()
+            raise TimeoutError("redis-server doesn't answer")
+
+    def answers(self):
+        """Whether it has read its file and answers."""
+        try:
+            with socket.create_connection(("127.0.0.1", self.port), 1) as asked:
+                asked.sendall(b"PING\r\n")
+                return asked.recv(16).startswith(b"+PONG")
+        except OSError:
+            return False
+
+    def kill(self):
+        self.process.kill()
+        self.process.wait()
+
+    def puts(self):
+        """The keys and values that were put, in their order, as its file has them."""
+        for path in sorted(glob.glob(f"{self.folder}/appendonlydir/*.incr.aof")):
+            with open(path, "rb") as file:
+                for words in iter(lambda file=file: command(file), None):
+                    if words[0].upper() == b"SET":
+                        yield words[1].decode(), words[2]
+
+
+def command(file):
+    """The words of the next command of an append-only file; None at its end, or where its last one was cut off."""
+    count = file.readline()
+    if count[:1] != b"*":
+        return None
+    words = []
+    for _ in range(int(count[1:])):
+        length = int(file.readline()[1:] or 0)
+        words.append(file.read(length + 2)[:-2])
+    return words if all(words) else None
+
+
+class Postgres:
+    """A server of PostgreSQL on a socket in its folder. It isn't run by root, but in root's name by `postgres`."""
+
+    def __init__(self, folder):
+        self.folder, self.process = folder, None
+        self.how = {"stdout": subprocess.DEVNULL, "stderr": subprocess.DEVNULL, "cwd": folder}
+        if os.geteuid() == 0:
+            user = pwd.getpwnam("postgres")
+            os.chown(folder, user.pw_uid, user.pw_gid)
+            self.how |= {"user": user.pw_uid, "group": user.pw_gid, "extra_groups": []}
+        self.data, self.name = f"{folder}/data", f"host={folder} user=test dbname=postgres"
+
+    @staticmethod
+    def program(name):
+        """The path of one of its programs, on the PATH or where Debian has it; None where it isn't there."""
+        return shutil.which(name) or next(iter(sorted(glob.glob(f"{DEBIANS}/{name}"), reverse=True)), None)
+
+    @classmethod
+    def missing(cls):
+        """What isn't there, in words, or nothing."""
+        if not cls.program("initdb") or not cls.program("postgres"):
+            return "initdb isn't there"
+        with contextlib.suppress(KeyError):
+            return "" if os.geteuid() or pwd.getpwnam("postgres") else ""
+        return "no user is called postgres, and it isn't run by root"
+
+    def start(self):
+        words = [self.program("initdb"), "--auth=trust", "--username=test", "--no-sync", "-D", self.data]
+        subprocess.run(words, check=True, **self.how)
+        words = [self.program("postgres"), "-D", self.data, "-k", self.folder, "-c", "listen_addresses="]
+        self.process = subprocess.Popen(words, **self.how)
+        if not is_awaited(lambda: subprocess.run([self.program("pg_isready"), "-h", self.folder, "-q"],
+                                                 check=False).returncode == 0):
+            self.kill()
+            raise TimeoutError("postgres doesn't answer")
+
+    def kill(self):
+        self.process.terminate()
+        self.process.wait()
