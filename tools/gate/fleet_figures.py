@@ -9,8 +9,10 @@ from .fleet_play import forked
 
 NOW = 1700000000
 # Exchanges of each worker, hosts, and the cookies that a host sets.
-EXCHANGES, HOSTS, COOKIES = 1500, 10000, 3
+EXCHANGES, HOSTS, COOKIES = 300, 1000, 3
 ROUNDS = 5
+# (a look-up of a new host's shard reads the whole list, which has a line of its own)
+LIST = "com\n"
 
 
 def main():
@@ -20,13 +22,13 @@ def main():
         server.start()
         try:
             for workers in (1, 2, 4, 8):
-                tell(f"{workers} workers", f"{rate(server, workers):.0f} exchanges a second")
+                tell(f"{workers} workers", rate(server, workers))
             sizes(server)
         finally:
             server.kill()
         parts()
         for rows in (100, 1000, 10000):
-            tell(f"one process, a file of {rows} cookies", f"{in_file(room, rows):.0f} exchanges a second")
+            tell(f"one process, a file of {rows} cookies", in_file(room, rows))
         for rows in (10, 100, 1000, 10000):
             long_shard(rows)
     return 0
@@ -38,9 +40,8 @@ def tell(what, figure):
 
 def fleet_over(server):
     import redis
-    from fonnalich import List
     from fonnalich.fleet import Fleet, RedisStore
-    return Fleet(List.system(), RedisStore(redis.Redis(port=server.port)))
+    return Fleet(LIST, RedisStore(redis.Redis(port=server.port)))
 
 
 def lines_of(number):
@@ -54,25 +55,28 @@ def exchange(client, number):
 
 
 def rate(server, workers):
-    """How many exchanges all workers make in a second: each reads a header and puts three cookies of a host."""
+    """How many exchanges all workers make in a second: each reads a header and puts three cookies of a host. And the
+    processor time that an exchange takes of a worker."""
     def work(first):
         fleet = fleet_over(server)
         exchange(fleet, first)
         os.read(begin[0], 1)
         for i in range(EXCHANGES):
             exchange(fleet, first + i * workers)
+
     begin = os.pipe()
     pids = [forked(lambda first=first: work(first)) for first in range(workers)]
     time.sleep(1)
     began = time.monotonic()
     os.write(begin[1], bytes(workers))
-    ended = [os.waitpid(pid, 0)[1] for pid in pids]
+    ended, used = zip(*(os.wait4(pid, 0)[1:] for pid in pids))
     seconds = time.monotonic() - began
     for it in begin:
         os.close(it)
     if any(ended):
         raise RuntimeError(f"workers ended by {ended}")
-    return workers * EXCHANGES / seconds
+    used = sum(it.ru_utime + it.ru_stime for it in used) / workers / EXCHANGES
+    return f"{workers * EXCHANGES / seconds:.0f} exchanges a second, {used * 1000:.2f} ms of a worker's processor each"
 
 
 def sizes(server):
@@ -87,13 +91,13 @@ def sizes(server):
 
 
 def least(call, times):
-    """The least time of a call among rounds, in microseconds."""
+    """The least processor time of a call among rounds, in microseconds."""
     rounds = []
     for _ in range(ROUNDS):
-        began = time.perf_counter()
+        began = time.process_time()
         for i in range(times):
             call(i)
-        rounds.append((time.perf_counter() - began) / times * 1e6)
+        rounds.append((time.process_time() - began) / times * 1e6)
     return min(rounds)
 
 
@@ -112,13 +116,17 @@ def parts():
 
 
 def in_file(room, rows):
-    """How many exchanges one process makes in a second, which saves its file at each."""
-    from fonnalich import Client, List
-    with Client(List.system()) as client:
+    """How many exchanges one process makes in a second, which saves its file at each, and its processor time."""
+    from fonnalich import Client
+    with Client(LIST) as client:
         for number in range(rows // COOKIES + 1):
             exchange(client, number)
-        times = max(5, 20000 // rows)
-        return 1e6 / least(lambda i: (exchange(client, i), put(f"{room}/jar", client.save(NOW))), times)
+        times, began, used = 100, time.monotonic(), time.process_time()
+        for number in range(times):
+            exchange(client, number)
+            put(f"{room}/jar", client.save(NOW))
+        rate, used = times / (time.monotonic() - began), (time.process_time() - used) / times
+        return f"{rate:.0f} exchanges a second, {used * 1000:.2f} ms of its processor each"
 
 
 def put(path, text):
