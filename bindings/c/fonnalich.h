@@ -293,6 +293,18 @@ static inline ptrdiff_t fonnalich_save(fonnalich *at, int64_t second, char *out,
     return fonnalich_act(at, FONNALICH_DO_SAVE, second, "", 0, "", 0, out, out_length);
 }
 
+/* Writes the saved text of all cookies, expired ones and those without an expiry too. */
+static inline ptrdiff_t fonnalich_save_all(fonnalich *at, char *out, size_t out_length) {
+    return fonnalich_act(at, FONNALICH_DO_SAVE_ALL, 0, "", 0, "", 0, out, out_length);
+}
+
+/* Puts all cookies of a saved text in the place of those that are there, expired ones too. The list and the rules stay,
+   and nothing is read but the text: so it is quick beside fonnalich_load. Answers 0. */
+static inline ptrdiff_t fonnalich_reload(fonnalich *at, const char *saved, size_t saved_length) {
+    char none;
+    return fonnalich_act(at, FONNALICH_DO_RELOAD, 0, saved, saved_length, "", 0, &none, 0);
+}
+
 /* Keeps what saving and loading at this second keeps: it ends the session cookies. Answers 0. */
 static inline ptrdiff_t fonnalich_restart(fonnalich *at, int64_t second) {
     char none;

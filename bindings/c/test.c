@@ -60,7 +60,7 @@ static void tells_refusals(void) {
     fonnalich_begin(&at);
     ask(gives(fonnalich_header(&at, NOW, T(URL), out, sizeof out), FONNALICH_NO_CLIENT), "no client");
     ask(gives(fonnalich_list(&at, "a..b\n", 5), FONNALICH_LIST), "no list");
-    ask(gives(fonnalich_act(&at, 8, NOW, "", 0, "", 0, out, sizeof out), FONNALICH_WORD), "no word");
+    ask(gives(fonnalich_act(&at, 10, NOW, "", 0, "", 0, out, sizeof out), FONNALICH_WORD), "no word");
     ask(gives(fonnalich_list(&at, T(LIST)), 0), "a list");
     ask(gives(fonnalich_header(&at, NOW, T("no url"), out, sizeof out), FONNALICH_URL), "no URL");
     ask(gives(fonnalich_header(&at, NOW, "\xff", 1, out, sizeof out), FONNALICH_URL), "no text");
@@ -86,7 +86,7 @@ static void tells_the_first_cause(void) {
     char out[256];
     fonnalich at;
     fonnalich_begin(&at);
-    ask(gives(fonnalich_act(&at, 8, INT64_MAX, T(none), "", 0, out, 0), FONNALICH_WORD), "word, client, second, URL");
+    ask(gives(fonnalich_act(&at, 10, INT64_MAX, T(none), "", 0, out, 0), FONNALICH_WORD), "word, client, second, URL");
     ask(gives(fonnalich_header(&at, INT64_MAX, T(none), out, sizeof out), FONNALICH_NO_CLIENT), "client, second, URL");
     ask(gives(fonnalich_save(&at, INT64_MAX, out, sizeof out), FONNALICH_NO_CLIENT), "client, second");
     ask(gives(fonnalich_load(&at, INT64_MAX, T(no_client), T(no_list)), FONNALICH_LIST), "list, second, saved text");
@@ -281,6 +281,43 @@ static void comes_back(void) {
     ask(gives(fonnalich_header(&other, NOW + 61, T(URL), out, sizeof out), 0), "and that one has come to its end");
     ask(gives(fonnalich_restart(&at, NOW), 0), "a restart");
     ask(is(out, fonnalich_header(&at, NOW, T(URL), out, sizeof out), "a=1"), "keeps the same");
+    fonnalich_free(&other);
+    fonnalich_free(&at);
+}
+
+/* All cookies go into another client, which keeps its list and its rules: one that is expired keeps its place too. */
+static void hands_all_over(void) {
+    char saved[2048], again[2048], out[256];
+    fonnalich at, other;
+    fonnalich_begin(&at);
+    fonnalich_begin(&other);
+    ask(gives(fonnalich_save_all(&at, saved, sizeof saved), FONNALICH_NO_CLIENT), "no client");
+    ask(gives(fonnalich_reload(&at, T("[]")), FONNALICH_NO_CLIENT), "nor is one made");
+    fonnalich_list(&at, T(LIST));
+    fonnalich_list(&other, T(LIST));
+    fonnalich_rules(&other, FONNALICH_RULE_CONTROL);
+    fonnalich_receive(&other, NOW, T(URL), T("other=1"), out, sizeof out);
+    fonnalich_receive(&at, NOW, T(URL), T("a=1; Max-Age=60
+b=2
+c=3"), out, sizeof out);
+    fonnalich_receive(&at, NOW, T(URL), T("b=; Max-Age=0"), out, sizeof out);
+    ptrdiff_t length = fonnalich_save_all(&at, saved, sizeof saved);
+    ask(length > 0 && length <= (ptrdiff_t)sizeof saved, "a saved text");
+    ask(gives(fonnalich_reload(&other, saved, length), 0), "it is taken");
+    ask(is(out, fonnalich_header(&other, NOW, T(URL), out, sizeof out), "a=1; c=3"), "in the place of what was there");
+    ask(gives(fonnalich_save_all(&other, again, sizeof again), length) && !memcmp(saved, again, length), "as a whole");
+    ask(gives(fonnalich_reload(&other, T("[(")), FONNALICH_SAVED), "no saved text");
+    ask(gives(fonnalich_reload(&other, T("")), FONNALICH_SAVED), "nor is none");
+    fonnalich_receive(&other, NOW + 90, T(URL), T("b=
+b=4; Domain=com
+b=4
+a=5"), out, sizeof out);
+    ask(out[0] == FONNALICH_BY_CONTROL && out[1] == FONNALICH_PUBLIC_SUFFIX, "the rules and the list stay");
+    ask(is(out, fonnalich_header(&other, NOW + 90, T(URL), out, sizeof out), "a=5; b=4; c=3"), "and the places");
+    ask(gives(fonnalich_reload(&other, T("[]")), 0), "no cookie");
+    ask(gives(fonnalich_header(&other, NOW, T(URL), out, sizeof out), 0), "leaves none");
+    fonnalich_receive(&at, -62167219261, T(URL), T("d=1; Max-Age=60"), out, sizeof out);
+    ask(gives(fonnalich_save_all(&at, out, sizeof out), FONNALICH_YEAR), "a year below 0");
     fonnalich_free(&other);
     fonnalich_free(&at);
 }
@@ -693,6 +730,13 @@ static void bears_a_refusal(long growth) {
     if (again(number = fonnalich_header(&at, NOW, T(URL), out, sizeof out)))
         number = fonnalich_header(&at, NOW, T(URL), out, sizeof out);
     ask(is(out, number, "id=1"), "the header of what was saved");
+    if (again(number = fonnalich_save_all(&at, saved, sizeof saved)))
+        number = fonnalich_save_all(&at, saved, sizeof saved);
+    ask(number > 0, "the saved text of all");
+    length = number;
+    if (again(number = fonnalich_reload(&at, saved, length)))
+        number = fonnalich_reload(&at, saved, length);
+    ask(gives(number, 0), "loaded again");
     bears_a_refusal_behind_rules(&at);
     fonnalich_free(&at);
     const char *commands = "G3user\nS4a%20b=%2B; Max-Age=60\nG4a%20b\nR3user", *header = "x=1; " SIGNED_PAIR;
@@ -735,6 +779,7 @@ int main(int count, char **words) {
     goes_from_page_to_page();
     keeps_an_answer();
     comes_back();
+    hands_all_over();
     is_one_line("1\\r\\n2", FONNALICH_LINE);
     is_one_line("\\u{7f}", FONNALICH_LINE);
     for (int i = 0; i < FONNALICH_KEY_LENGTH; i++)

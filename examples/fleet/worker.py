@@ -42,7 +42,7 @@ def visited(opener, url):
     except urllib.error.HTTPError as why:
         return f"{why.code} {why.reason}"
     except (OSError, ValueError, Conflict) as why:
-        # (a URL that isn't plain is a ValueError)
+        # (what is no URL is a ValueError)
         return f"failed: {why}"
 
 

@@ -1,4 +1,4 @@
-"""Visits a site by workers of examples/fleet, where the cookie that one got is asked of all."""
+"""Visits a site by workers of examples/fleet, where the cookie that one got is asked of all, and runs README's block."""
 import http.server
 import os
 import subprocess
@@ -57,12 +57,13 @@ def visits(server, words):
     steps = [(1, ["http://shop.test/a"], ["http://shop.test/a 403 Forbidden"]),
              (1, ["http://shop.test/login"], ["http://shop.test/login 200 2"]),
              (2, *both(*(f"http://{host}/{i}" for i in PATHS for host in ("shop.test", "www.shop.test", "b.test")))),
-             (1, ["http://shop.test/a/../b"], ["http://shop.test/a/../b failed: Url"])]
+             (1, ["shop"], ["shop failed: unknown url type: 'shop'"])]
     for workers, urls, wanted in steps:
         said = visited(server, workers, urls, env)
         if sorted(said) != sorted(wanted):
             return [f"of {urls} was said {said}"]
-    return []
+    said = bounded.run([sys.executable, "-B", f"{TOP}/bindings/python/share.py"], SECONDS, env=env)
+    return [] if said == (0, b"cart=3\n", b"") else [f"README's block said {said}"]
 
 
 def both(*urls):

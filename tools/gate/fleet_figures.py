@@ -17,6 +17,7 @@ LIST = "com\n"
 
 def main():
     """Prints the figures, each with the machine's load at its end."""
+    import redis  # noqa: F401 (so that no worker's time is that of loading it)
     with tempfile.TemporaryDirectory(prefix="figures-") as room:
         server = servers.Redis(room)
         server.start()
@@ -103,7 +104,7 @@ def least(call, times):
 
 def parts():
     """What an exchange takes over a store in memory."""
-    from fonnalich import List, is_plain_url, shard
+    from fonnalich import List, is_plain_url, shard_of_url
     from fonnalich.fleet import Fleet, MemoryStore
     suffixes = List.system()
     fleet = Fleet(suffixes, MemoryStore())
@@ -112,7 +113,7 @@ def parts():
     tell("lines, in memory",
          f"{least(lambda i: fleet.receive('https://shop.com/', lines_of(i), NOW), 300):.0f} us")
     tell("whether a URL is plain", f"{least(lambda i: is_plain_url('https://shop.com/'), 300):.1f} us")
-    tell("the shard of a new host", f"{least(lambda i: shard(suffixes, 'www.shop.com'), 5):.0f} us")
+    tell("the shard of a new host", f"{least(lambda i: shard_of_url(suffixes, 'https://shop.com/'), 5):.0f} us")
 
 
 def in_file(room, rows):

@@ -5,7 +5,7 @@
     header = fleet.header("https://shop.com/cart")
 
 A shard has the cookies of all hosts that can share one, as a saved text. It lies under `fonnalich:SUM:SHARD`: sixteen
-digits of the SHA-256 of the suffix list's text, and what `fonnalich.shard` says of the host. A call reads one shard;
+digits of the SHA-256 of the suffix list's text, and what `fonnalich.shard_of_url` says of the URL. A call reads one shard;
 `receive` puts it back where nobody changed it meanwhile, and else begins anew. So the lines of each answer are put as a
 whole, one after another, and a header is that of a moment between two. `RedisStore` and `PostgresStore` are two stores,
 `MemoryStore` is one for tests, and any with the three calls of `Store` will do.
@@ -20,11 +20,10 @@ import os
 import random
 import threading
 import time
-import urllib.parse
 from typing import Any, Iterable, Iterator, Optional, Protocol, Tuple
 
-from . import (_RELOAD, _SAVE_ALL, _SAVED_NUMBER, _URL_NUMBER, Client, End, Life, Moment, Refused, Rules, Suffixes, Text,
-               _counted, _lines, _list, _second, _seconds_of, is_plain_url, shard)
+from . import (_RELOAD, _SAVE_ALL, _SAVED_NUMBER, Client, End, Life, Moment, Refused, Rules, Suffixes, Text, _counted,
+               _lines, _list, _second, _seconds_of, is_plain_url, shard_of_url)
 
 __all__ = ["BadShard", "Conflict", "Fleet", "MemoryStore", "PostgresStore", "RedisStore", "Store"]
 
@@ -73,8 +72,8 @@ class Fleet:
     """A client whose cookies lie in a store. Each worker has a fleet of its own over the same list and store.
 
     Its calls are those of a `Client`, with the same words, outcomes and errors, and `BadShard` and `Conflict` beside
-    them. Lines come behind `rules`, which each worker has of its own. A URL that isn't plain is refused as `Url`: the
-    host has to be read alike by all. Threads may share a fleet where the store lets them.
+    them. A URL without a host is refused as `Host`. Lines come behind `rules`, which each worker has of its own.
+    Threads may share a fleet where the store lets them.
 
     All cookies stay, expired ones too, as in a client that isn't restarted, so that each keeps its place in a header.
     """
@@ -82,7 +81,7 @@ class Fleet:
     def __init__(self, suffixes: Suffixes, store: Store, rules: int = Rules.NONE):
         self.store, self._suffixes = store, _list(suffixes)
         self._sum = hashlib.sha256(self._suffixes).hexdigest()[:16]
-        self._key_of = functools.lru_cache(_HOSTS)(self._host_key)
+        self._key_of = functools.lru_cache(_HOSTS)(self._read_key)
         # Clients that no call uses, which have read the list.
         self._clients: list[Client] = []
         self.rules = Rules(_counted(rules))
@@ -130,13 +129,11 @@ class Fleet:
         return self.store.expire(key, version) if new == self._empty else self.store.put_if(key, version, new)
 
     def _key(self, url: str) -> str:
-        """The key of a URL's shard."""
-        if not is_plain_url(url):
-            raise Refused(_URL_NUMBER)
-        return self._key_of(urllib.parse.urlsplit(url).hostname or "")
+        """The key of a URL's shard. That of the front of a plain URL, up to its path, is kept, since the list is long."""
+        return self._key_of("/".join(url.split("/", 3)[:3]) if is_plain_url(url) else url)
 
-    def _host_key(self, host: str) -> str:
-        return f"fonnalich:{self._sum}:{shard(self._suffixes, host)}"
+    def _read_key(self, url: str) -> str:
+        return f"fonnalich:{self._sum}:{shard_of_url(self._suffixes, url)}"
 
     @contextlib.contextmanager
     def _loaded(self, key: str, text: Optional[bytes]) -> Iterator[Client]:
