@@ -297,9 +297,7 @@ static void hands_all_over(void) {
     fonnalich_list(&other, T(LIST));
     fonnalich_rules(&other, FONNALICH_RULE_CONTROL);
     fonnalich_receive(&other, NOW, T(URL), T("other=1"), out, sizeof out);
-    fonnalich_receive(&at, NOW, T(URL), T("a=1; Max-Age=60
-b=2
-c=3"), out, sizeof out);
+    fonnalich_receive(&at, NOW, T(URL), T("a=1; Max-Age=60\nb=2\nc=3"), out, sizeof out);
     fonnalich_receive(&at, NOW, T(URL), T("b=; Max-Age=0"), out, sizeof out);
     ptrdiff_t length = fonnalich_save_all(&at, saved, sizeof saved);
     ask(length > 0 && length <= (ptrdiff_t)sizeof saved, "a saved text");
@@ -308,10 +306,7 @@ c=3"), out, sizeof out);
     ask(gives(fonnalich_save_all(&other, again, sizeof again), length) && !memcmp(saved, again, length), "as a whole");
     ask(gives(fonnalich_reload(&other, T("[(")), FONNALICH_SAVED), "no saved text");
     ask(gives(fonnalich_reload(&other, T("")), FONNALICH_SAVED), "nor is none");
-    fonnalich_receive(&other, NOW + 90, T(URL), T("b=
-b=4; Domain=com
-b=4
-a=5"), out, sizeof out);
+    fonnalich_receive(&other, NOW + 90, T(URL), T("b=\x01\nb=4; Domain=com\nb=4\na=5"), out, sizeof out);
     ask(out[0] == FONNALICH_BY_CONTROL && out[1] == FONNALICH_PUBLIC_SUFFIX, "the rules and the list stay");
     ask(is(out, fonnalich_header(&other, NOW + 90, T(URL), out, sizeof out), "a=5; b=4; c=3"), "and the places");
     ask(gives(fonnalich_reload(&other, T("[]")), 0), "no cookie");
