@@ -5,10 +5,10 @@
     header = fleet.header("https://shop.com/cart")
 
 A shard has the cookies of all hosts that can share one, as a saved text. It lies under `fonnalich:SUM:SHARD`: sixteen
-digits of the SHA-256 of the suffix list's text, and what `fonnalich.shard_of_url` says of the URL. A call reads one shard;
-`receive` puts it back where nobody changed it meanwhile, and else begins anew. So the lines of each answer are put as a
-whole, one after another, and a header is that of a moment between two. `RedisStore` and `PostgresStore` are two stores,
-`MemoryStore` is one for tests, and any with the three calls of `Store` will do.
+digits of the SHA-256 of the suffix list's text, and what `fonnalich.shard_of_url` says of the URL. A call reads one
+shard; `receive` puts it back where nobody changed it meanwhile, and else begins anew. So the lines of each answer are
+put as a whole, one after another, and a header is that of a moment between two. `RedisStore` and `PostgresStore` are
+two stores, `MemoryStore` is one for tests, and any with the three calls of `Store` will do.
 """
 from __future__ import annotations
 
@@ -20,7 +20,7 @@ import os
 import random
 import threading
 import time
-from typing import Any, Iterable, Iterator, Optional, Protocol, Tuple
+from typing import Any, Iterable, Iterator, Optional, Protocol
 
 from . import (_RELOAD, _SAVE_ALL, _SAVED_NUMBER, Client, End, Life, Moment, Refused, Rules, Suffixes, Text, _counted,
                _lines, _list, _second, _seconds_of, is_plain_url, shard_of_url)
@@ -58,7 +58,7 @@ class Store(Protocol):
     What it raises comes out of the fleet's call; where that was `put_if`, the text may have been put or not.
     """
 
-    def get(self, key: str) -> Tuple[Optional[bytes], Any]:
+    def get(self, key: str) -> tuple[Optional[bytes], Any]:
         """The text under a key, if there is one, and the version."""
 
     def put_if(self, key: str, version: Any, text: bytes) -> bool:
@@ -129,7 +129,7 @@ class Fleet:
         return self.store.expire(key, version) if new == self._empty else self.store.put_if(key, version, new)
 
     def _key(self, url: str) -> str:
-        """The key of a URL's shard. That of the front of a plain URL, up to its path, is kept, since the list is long."""
+        """The key of a URL's shard. That of a plain URL up to its path is kept, since the list is long."""
         return self._key_of("/".join(url.split("/", 3)[:3]) if is_plain_url(url) else url)
 
     def _read_key(self, url: str) -> str:
@@ -149,7 +149,6 @@ class Fleet:
             raise BadShard(key) if why.number == _SAVED_NUMBER else why from None
         yield client
         self._clients.append(client)
-
 
 
 def _text(client: Client) -> bytes:
