@@ -1,4 +1,4 @@
-"""Visits a site by workers of examples/fleet, where the cookie that one got is asked of all, and runs README's block."""
+"""Visits a site by workers of examples/fleet, which asks all for the cookie that one got, and runs README's block."""
 import http.server
 import os
 import subprocess
@@ -18,7 +18,7 @@ PATHS = range(20)
 
 
 class Shop(http.server.BaseHTTPRequestHandler):
-    """A proxy behind which shop.test sets a cookie at /login and asks for it elsewhere, and other hosts ask for none."""
+    """A proxy, behind which shop.test sets a cookie at /login and asks for it elsewhere; other hosts ask for none."""
 
     def do_GET(self):
         url, had = urlsplit(self.path), self.headers.get("Cookie")

@@ -87,8 +87,8 @@ def sizes(server):
         keys = asked.keys("fonnalich:*")
         texts = [len(asked.get(it)) - 16 for it in keys[:500]]
         taken = [asked.memory_usage(it) for it in keys[:500]]
-        tell(f"a shard of {COOKIES} cookies", f"{statistics.mean(texts):.0f} bytes of text, {statistics.mean(taken):.0f} in "
-             f"Redis, of {len(keys)} keys of {len(keys[0])} bytes")
+        tell(f"a shard of {COOKIES} cookies", f"{statistics.mean(texts):.0f} bytes of text, "
+             f"{statistics.mean(taken):.0f} in Redis, of {len(keys)} keys of {len(keys[0])} bytes")
 
 
 def least(call, times):
