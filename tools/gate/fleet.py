@@ -141,13 +141,26 @@ def work(mine, hosts, ports, log, plant):
 
 # ---- planted faults
 
+def slow(store):
+    """Has others come between reading a shard and putting it."""
+    get = store.get
+
+    def read(key):
+        got = get(key)
+        time.sleep(0.002)
+        return got
+    store.get = read
+
+
 def blind(module, store):
     """A store that puts without a look at the version."""
+    slow(store)
     store.PUT = "redis.call('SET', KEYS[1], ARGV[2]) return 1"
 
 
 def hasty(module, store):
     """A fleet that takes what wasn't put for put."""
+    slow(store)
     is_put = module.Fleet._is_put
     module.Fleet._is_put = lambda *words: is_put(*words) or True
 

@@ -45,7 +45,7 @@ class Play:
             self.begin(range(number, self.exchanges, WORKERS))
         until = time.monotonic() + patience(SECONDS * max(1, self.exchanges / 1000))
         while self.pids:
-            time.sleep(0.01)
+            time.sleep(0.03)
             if time.monotonic() > until:
                 raise TimeoutError("the workers have not ended")
             self.reap()
@@ -116,15 +116,15 @@ def notes_of(path):
 def last_of(path):
     """The exchange of which a worker wrote last, or -1."""
     with open(path, "rb") as log:
-        log.seek(max(0, os.fstat(log.fileno()).st_size - 20000))
+        log.seek(max(0, os.fstat(log.fileno()).st_size - 8000))
         lines = [it for it in log.read().splitlines(True) if it.startswith(b"{") and it.endswith(b"\n")]
     return json.loads(lines[-1])["number"] if lines else -1
 
 
 def drawn_events(exchanges):
-    """At which exchange what ends: workers, and Redis."""
-    kills = [(random.randrange(exchanges), "worker") for _ in range(5 + exchanges // 500)]
-    return sorted([*kills, *((random.randrange(exchanges), "redis") for _ in range(1 + exchanges // 10000))])
+    """At which exchange what ends: workers, and Redis. None comes so late that all have ended before."""
+    each = [*["worker"] * (5 + exchanges // 500), *["redis"] * (1 + exchanges // 10000)]
+    return sorted((random.randrange(exchanges * 3 // 4), it) for it in each)
 
 
 @contextlib.contextmanager
