@@ -14,7 +14,7 @@ use Rattle.cookie_text.specs.ReadingBack.{Pairwise}
 use Rattle.place_index.specs.Entries.{value_at}
 use Rattle.place_index.specs.Index.{Index, DomainPart, IsNowhere, DomainAgrees, PathAgrees, IsPart as IsPartAt}
 use Rattle.place_index.specs.Places.{is_of, is_at}
-use Rattle.place_index.specs.declared.part.Part.{Part}
+use Rattle.place_index.specs.Parts.{Part}
 use Rattle.place_index.proofs.EndLemmas.{none_any}
 use Rattle.store_parts.specs.DomainMatch.{text_or_empty}
 use Rattle.cookie_store.specs.Grouped.{StandTogether, AreGrouped, IsSublist, PartsStay}

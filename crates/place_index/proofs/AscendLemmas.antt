@@ -1,8 +1,8 @@
--- Starts that ascend, each of a domain of its own.
+-- Starts that ascend, each of a text of its own.
 use Rattle.std.proofs.Common.{◌≡◌, ◌+◌, ◌-◌, ◌&&◌, ◌++◌, ◌<◌, ◌≤◌, ℕ, zero, suc, Bool, true, false, cond, List, [], ◌∷◌, length}
 use Rattle.std.proofs.Common.{map, get_or, length-append, refl, sym, ap, subst, ◌∙◌, ◌⊎◌, inl, inr, arith, true≢false, leb, ltb}
 use Rattle.std.proofs.Common.{leb-false, leb-true, ltb-false, ltb-true}
-use Rattle.std.specs.Prelude.{All, Some, None, nat_le, nat_lt, option_map}
+use Rattle.std.specs.Prelude.{All, Err, IfSome, Ok, OnErr, OnOk, Result, Some, None, nat_le, nat_lt, option_map}
 use Rattle.std.specs.List.{remove}
 use Rattle.std.specs.List.Sorted.{IsNonDecreasing, IsPartitionPoint}
 use Rattle.std.specs.Str.{bytes_eq}
@@ -16,16 +16,18 @@ use Rattle.std.proofs.lemmas.Option.{none-some}
 use Rattle.indexmap.specs.IndexMap.{set_value_at}
 use Rattle.indexmap.specs.Layout.{length-set_value_at}
 use Rattle.place_index.specs.Entries.{HaveOwnTexts, place_of, value_at, with_value, without}
-use Rattle.place_index.specs.Index.{DomainAgrees, Index, PartsAgree, last, moved}
+use Rattle.place_index.specs.Index.{DomainAgrees, Index, PartsAgree, last, moved, part_at}
 use Rattle.place_index.specs.Places.{Place}
 use Rattle.place_index.specs.Putting.{IsReady}
-use Rattle.place_index.specs.Starts.{AreInOrder, part_at, with_starts}
+use Rattle.place_index.specs.Starts.{AreInOrder, with_starts}
 use Rattle.place_index.specs.Taking.{moved_back}
 use Rattle.place_index.specs.declared.part.DomainRows.{DomainRows}
+use Rattle.place_index.specs.declared.part.PathRows.{PathRows}
+use Rattle.place_index.specs.PathParts.{BeginBefore, path_at}
 use Rattle.place_index.proofs.EntryLemmas.{same_text, text_is}
 use Rattle.place_index.proofs.IndexLemmas.{moved_up, not_moved, value_at-with_other}
 use Rattle.place_index.proofs.IndexOutLemmas.{not_back, one_back}
-use Rattle.place_index.proofs.StartLemmas.{first_mapped, none_found, place_within, remove-length, still_none}
+use Rattle.place_index.proofs.StartLemmas.{first_mapped, none_found, part_added, place_within, remove-length, still_none}
 use Rattle.place_index.proofs.StartLemmas.{with_value-length, without-length}
 
 -- ---- entries, each of a text of its own
@@ -88,37 +90,50 @@ module _ {V : Type 0} where
             (λ t. true≢false (sym (text_is key e.0 (sym (same_text e.0 key t))) ∙ is)) in
             (value_at-with_other key e.0 es v other ∙ own.0, rest (still_none (place_of key es) n))
 
--- ---- a start's domain, by its text
+-- ---- a start's part, by its text
 
-pub seen_by_text : (starts : List ℕ) (domains : List (List ℕ × DomainRows)) (i : ℕ) → length starts ≡ length domains
-    → HaveOwnTexts domains → i < length starts
-    → (text : List ℕ) × (own : DomainRows)
-    × (value_at text (with_starts starts domains) ≡ Some (part_at (get_or starts i 0) own))
-seen_by_text [] ds i same own less = absurd (omega (arith, less))
-seen_by_text (s ∷ ss) [] i same own less = absurd (omega (arith, same))
-seen_by_text (s ∷ ss) (e ∷ es) zero same own less = (e.0, e.1, cond-true (bytes_eq e.0 e.0) _ _ (text_is e.0 e.0 refl))
-seen_by_text (s ∷ ss) (e ∷ es) (suc i) same own less =
-    let later = seen_by_text ss es i (omega (arith, same)) own.1 (omega (arith, less)) in
-    let apart : bytes_eq later.0 e.0 ≡ false = false_from_ne_true (bytes_eq later.0 e.0)
-    (λ t. none-some _ (sym (none_found e.0 ss es own.0)
-    ∙ ap (λ text. value_at text (with_starts ss es)) (sym (same_text later.0 e.0 t)) ∙ later.2)) in
-    (later.0, later.1, cond-false (bytes_eq later.0 e.0) _ _ apart ∙ later.2)
+module _ {R P : Type 0} (part : ℕ → R → P) where
+  pub seen_by_text : (starts : List ℕ) (rows : List (List ℕ × R)) (i : ℕ) → length starts ≡ length rows
+      → HaveOwnTexts rows → i < length starts
+      → (text : List ℕ) × (own : R) × (value_at text (with_starts part starts rows) ≡ Some (part (get_or starts i 0) own))
+  seen_by_text [] rs i same own less = absurd (omega (arith, less))
+  seen_by_text (s ∷ ss) [] i same own less = absurd (omega (arith, same))
+  seen_by_text (s ∷ ss) (e ∷ es) zero same own less =
+      (e.0, e.1, cond-true (bytes_eq e.0 e.0) _ _ (text_is e.0 e.0 refl))
+  seen_by_text (s ∷ ss) (e ∷ es) (suc i) same own less =
+      let later = seen_by_text ss es i (omega (arith, same)) own.1 (omega (arith, less)) in
+      let apart : bytes_eq later.0 e.0 ≡ false = false_from_ne_true (bytes_eq later.0 e.0)
+      (λ t. none-some _ (sym (none_found part e.0 ss es own.0)
+      ∙ ap (λ text. value_at text (with_starts part ss es)) (sym (same_text later.0 e.0 t)) ∙ later.2)) in
+      (later.0, later.1, cond-false (bytes_eq later.0 e.0) _ _ apart ∙ later.2)
 
 -- each domain begins at a row
 pub starts_within : (places : List Place) (starts : List ℕ) (domains : List (List ℕ × DomainRows))
-    → length starts ≡ length domains → HaveOwnTexts domains → PartsAgree places (with_starts starts domains)
+    → length starts ≡ length domains → HaveOwnTexts domains → PartsAgree places (with_starts part_at starts domains)
     → All (λ start. start < length places) starts
 starts_within places starts domains same own agrees = All-from_get_or (λ start. start < length places) starts 0
-    (λ i less. by i (seen_by_text starts domains i same own less))
+    (λ i less. by i (seen_by_text part_at starts domains i same own less))
   where
     by : (i : ℕ) → ((text : List ℕ) × (own : DomainRows)
-        × (value_at text (with_starts starts domains) ≡ Some (part_at (get_or starts i 0) own)))
+        × (value_at text (with_starts part_at starts domains) ≡ Some (part_at (get_or starts i 0) own)))
         → get_or starts i 0 < length places
     by i (text, own, is) =
         let part = (subst (DomainAgrees places text) is (agrees text)).0 in
         let some = part.some in
         let within = part.within in
         omega (arith, some, within)
+
+-- each path begins before a place before which all its domain's paths begin
+pub paths_begin_before : (place : ℕ) (starts : List ℕ) (paths : List (List ℕ × PathRows))
+    → length starts ≡ length paths → HaveOwnTexts paths → BeginBefore place (with_starts path_at starts paths)
+    → All (λ start. start < place) starts
+paths_begin_before place starts paths same own low = All-from_get_or (λ start. start < place) starts 0
+    (λ i less. by i (seen_by_text path_at starts paths i same own less))
+  where
+    by : (i : ℕ) → ((text : List ℕ) × (own : PathRows)
+        × (value_at text (with_starts path_at starts paths) ≡ Some (path_at (get_or starts i 0) own)))
+        → get_or starts i 0 < place
+    by i (text, own, is) = subst (λ o. IfSome o (λ part. part.start < place)) is (low text)
 
 -- ---- ascending
 
@@ -266,58 +281,84 @@ module _ (starts : List ℕ) (at n : ℕ) where
       let past = leb-false _ _ (part.1 i 0 le less) in
       (omega (arith, same, past), sym (one_back at (get_or now i 0) (omega (arith, same, past))))
 
--- ---- starts and domains, after a change of both
+-- ---- starts and rows, after a change of both
 
-pub in_order-same : (starts ss : List ℕ) (domains ds : List (List ℕ × DomainRows)) → ss ≡ starts → ds ≡ domains
-    → AreInOrder starts domains → AreInOrder ss ds
-in_order-same starts ss domains ds a b order =
-    subst (λ l. AreInOrder l ds) (sym a) (subst (AreInOrder starts) (sym b) order)
+module _ {R : Type 0} where
+  pub in_order-same : (starts ss : List ℕ) (rows rs : List (List ℕ × R)) → ss ≡ starts → rs ≡ rows
+      → AreInOrder starts rows → AreInOrder ss rs
+  in_order-same starts ss rows rs a b order =
+      subst (λ l. AreInOrder l rs) (sym a) (subst (AreInOrder starts) (sym b) order)
 
-module _ (starts : List ℕ) (domains : List (List ℕ × DomainRows)) (order : AreInOrder starts domains) where
-  pub in_order-set : (i : ℕ) (w : DomainRows) → AreInOrder starts (set_value_at domains i w)
-  in_order-set i w = record {
-    each = order.each ∙ sym (length-set_value_at domains i w);
-    apart = own_texts-set domains i w order.apart;
-    ascend = order.ascend;
-  }
+  module _ (starts : List ℕ) (rows : List (List ℕ × R)) (order : AreInOrder starts rows) where
+    pub in_order-set : (i : ℕ) (w : R) → AreInOrder starts (set_value_at rows i w)
+    in_order-set i w = record {
+      each = order.each ∙ sym (length-set_value_at rows i w);
+      apart = own_texts-set rows i w order.apart;
+      ascend = order.ascend;
+    }
 
-  pub in_order-map : (f : ℕ → ℕ) → ((a b : ℕ) → a ≤ b → f a ≤ f b) → AreInOrder (map f starts) domains
-  in_order-map f rises = record {
-    each = length-map starts f ∙ order.each;
-    apart = order.apart;
-    ascend = ascend-map starts order.ascend f rises;
-  }
+    pub in_order-map : (f : ℕ → ℕ) → ((a b : ℕ) → a ≤ b → f a ≤ f b) → AreInOrder (map f starts) rows
+    in_order-map f rises = record {
+      each = length-map starts f ∙ order.each;
+      apart = order.apart;
+      ascend = ascend-map starts order.ascend f rises;
+    }
 
-  module _ (text : List ℕ) where
-    pub in_order-without : (place : ℕ) → place_of text domains ≡ Some place
-        → AreInOrder (remove starts place) (without text domains)
-    in_order-without place at =
-        let within = place_within text domains place at in
-        let each = order.each in
-        let there : place < length starts = omega (arith, within, each) in
-        let one = remove-length starts place there in
-        let other = without-length text domains place at in
-        record {
-          each = omega (arith, each, one, other);
-          apart = own_texts-without text domains order.apart;
-          ascend = ascend-remove starts order.ascend place there;
-        }
-
-    module _ (index : Index) (is : with_starts starts domains ≡ index) (row : Place) (rows : ℕ)
-        (ready : IsReady row rows index) where
-      pub all_low : All (λ start. start < rows) starts
-      all_low = subst (λ n. All (λ start. start < n) starts) ready.counted
-          (starts_within ready.places starts domains order.each order.apart
-          (subst (PartsAgree ready.places) (sym is) ready.agrees.parts))
-
-      pub in_order-begun : (own : DomainRows) → place_of text domains ≡ None
-          → AreInOrder (starts ++ rows ∷ []) (with_value domains text own)
-      in_order-begun own none =
+    module _ (text : List ℕ) where
+      pub in_order-without : (place : ℕ) → place_of text rows ≡ Some place
+          → AreInOrder (remove starts place) (without text rows)
+      in_order-without place at =
+          let within = place_within text rows place at in
           let each = order.each in
-          let one = length-append starts (rows ∷ []) in
-          let other = with_value-length text domains own none in
+          let there : place < length starts = omega (arith, within, each) in
+          let one = remove-length starts place there in
+          let other = without-length text rows place at in
           record {
             each = omega (arith, each, one, other);
-            apart = own_texts-with_value text domains own none order.apart;
-            ascend = ascend-push starts order.ascend rows all_low;
+            apart = own_texts-without text rows order.apart;
+            ascend = ascend-remove starts order.ascend place there;
           }
+
+      pub in_order-begun : (start : ℕ) → All (λ s. s < start) starts → (own : R) → place_of text rows ≡ None
+          → AreInOrder (starts ++ start ∷ []) (with_value rows text own)
+      in_order-begun start low own none =
+          let each = order.each in
+          let one = length-append starts (start ∷ []) in
+          let other = with_value-length text rows own none in
+          record {
+            each = omega (arith, each, one, other);
+            apart = own_texts-with_value text rows own none order.apart;
+            ascend = ascend-push starts order.ascend start low;
+          }
+
+-- a part more, or none where that was refused
+module _ {R T E : Type 0} (starts ss : List ℕ) (rows rs : List (List ℕ × R)) (order : AreInOrder starts rows)
+    (text : List ℕ) (start : ℕ) (own : R) (r : Result T E) (starts_ok : OnOk r (ss ≡ starts ++ start ∷ []))
+    (rows_ok : OnOk r (rs ≡ with_value rows text own)) (starts_err : OnErr r (ss ≡ starts))
+    (rows_err : OnErr r (rs ≡ rows)) (none : place_of text rows ≡ None) where
+  pub in_order-after : All (λ s. s < start) starts → AreInOrder ss rs
+  in_order-after low = by r starts_ok rows_ok starts_err rows_err
+    where
+      by : (q : Result T E) → OnOk q (ss ≡ starts ++ start ∷ []) → OnOk q (rs ≡ with_value rows text own)
+          → OnErr q (ss ≡ starts) → OnErr q (rs ≡ rows) → AreInOrder ss rs
+      by (Ok _) a b _ _ = in_order-same _ _ _ _ a b (in_order-begun starts rows order text start low own none)
+      by (Err _) _ _ a b = in_order-same _ _ _ _ a b order
+
+  pub part_after : {P : Type 0} (part : ℕ → R → P) (index : List (List ℕ × P)) → with_starts part starts rows ≡ index
+      → OnOk r (with_starts part ss rs ≡ with_value index text (part start own))
+  part_after part index is = by r starts_ok rows_ok
+    where
+      by : (q : Result T E) → OnOk q (ss ≡ starts ++ start ∷ []) → OnOk q (rs ≡ with_value rows text own)
+          → OnOk q (with_starts part ss rs ≡ with_value index text (part start own))
+      by (Ok _) a b =
+          (λ i. with_starts part (a i) (b i)) ∙ part_added part text starts rows start own order.each none
+          ∙ ap (λ es. with_value es text (part start own)) is
+      by (Err _) _ _ = tt
+
+pub all_low : (starts : List ℕ) (domains : List (List ℕ × DomainRows)) → AreInOrder starts domains → (index : Index)
+    → with_starts part_at starts domains ≡ index → (row : Place) (rows : ℕ) → IsReady row rows index
+    → All (λ start. start < rows) starts
+all_low starts domains order index is row rows ready =
+    subst (λ n. All (λ start. start < n) starts) ready.counted
+    (starts_within ready.places starts domains order.each order.apart
+    (subst (PartsAgree ready.places) (sym is) ready.agrees.parts))

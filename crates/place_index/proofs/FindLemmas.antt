@@ -14,7 +14,7 @@ use Rattle.place_index.specs.Found.{AscendFrom, Finds, found_domain, found_domai
 use Rattle.place_index.specs.Found.{looks_for, span_of, spans, spans_of}
 use Rattle.place_index.specs.Index.{Agrees, PartsAgree, DomainAgrees, Index, IsNowhere, IsPart, PathAgrees, Span}
 use Rattle.place_index.specs.Index.{DomainPart}
-use Rattle.place_index.specs.declared.part.Part.{Part}
+use Rattle.place_index.specs.Parts.{Part}
 use Rattle.place_index.proofs.FoundLemmas.{finds_exactly, in_span, looks_are_few, some_of}
 use Rattle.place_index.proofs.OrderLemmas.{inside}
 use Rattle.place_index.proofs.PartLemmas.{is_there}

@@ -15,7 +15,7 @@ use Rattle.place_index.specs.Candidates.{is_among, domains_of, paths_of, count_o
 use Rattle.place_index.specs.Found.{FindsExactly, LooksAreFew, is_in, span_of, spans_of, spans, looks_for, path_looks}
 use Rattle.place_index.specs.Found.{found_domain, found_domains}
 use Rattle.place_index.specs.Index.{DomainPart}
-use Rattle.place_index.specs.declared.part.Part.{Part}
+use Rattle.place_index.specs.Parts.{Part}
 use Rattle.place_index.specs.Index.{Index, IsPart, PathAgrees, DomainAgrees, PartsAgree, Span}
 use Rattle.place_index.proofs.CandidateLemmas.{among_case, among_head, among_tail, or_split, domains_of-count}
 use Rattle.place_index.proofs.CandidateLemmas.{paths_of-count}

@@ -10,7 +10,7 @@ use Rattle.place_index.specs.Entries.{value_at, with_value}
 use Rattle.place_index.specs.Places.{Place, is_of, is_at}
 use Rattle.place_index.proofs.EntryLemmas.{same_text, text_is}
 use Rattle.place_index.specs.Index.{DomainPart}
-use Rattle.place_index.specs.declared.part.Part.{Part}
+use Rattle.place_index.specs.Parts.{Part}
 use Rattle.place_index.specs.Index.{Index, IsPart, IsNowhere, PathAgrees, PathsAgree, DomainAgrees, PartsAgree, last}
 use Rattle.place_index.specs.Index.{PathsInside}
 use Rattle.place_index.specs.Index.{moved, moved_domain, moved_path, BeginsDomain, BeginsPath, GrowsPath}

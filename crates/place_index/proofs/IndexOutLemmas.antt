@@ -9,7 +9,7 @@ use Rattle.std.proofs.lemmas.Option.{slice_get_within}
 use Rattle.place_index.specs.Entries.{value_at}
 use Rattle.place_index.specs.Places.{Place, is_of, is_at}
 use Rattle.place_index.specs.Index.{DomainPart}
-use Rattle.place_index.specs.declared.part.Part.{Part}
+use Rattle.place_index.specs.Parts.{Part}
 use Rattle.place_index.specs.Index.{Index, IsPart, IsNowhere, PathAgrees, PathsAgree, DomainAgrees, PartsAgree}
 use Rattle.place_index.specs.Taking.{moved_back, domain_back, path_back, OthersMoveBack, OtherPathsMoveBack}
 use Rattle.place_index.specs.Taking.{EndsDomain, EndsPath, ShrinksPath}

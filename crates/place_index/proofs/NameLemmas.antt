@@ -18,7 +18,7 @@ use Rattle.place_index.specs.Index.{moved_path, names_at}
 use Rattle.place_index.specs.Index.{names_in, names_of}
 use Rattle.place_index.specs.Places.{Place, is_at, is_of, is_same}
 use Rattle.place_index.specs.Taking.{EndsDomain, EndsPath, OthersMoveBack, ShrinksPath, domain_back, path_back}
-use Rattle.place_index.specs.declared.part.Part.{Part}
+use Rattle.place_index.specs.Parts.{Part}
 use Rattle.place_index.proofs.EntryLemmas.{position-step, same_text}
 use Rattle.place_index.proofs.IndexLemmas.{begins_domain, begins_path, domain_no_path, foreign, foreign_path}
 use Rattle.place_index.proofs.IndexLemmas.{grows_path}

@@ -12,7 +12,7 @@ use Rattle.place_index.specs.Index.{Agrees, DomainAgrees, DomainPart, Index, IsI
 use Rattle.place_index.specs.Index.{last}
 use Rattle.place_index.specs.Index.{names_in, names_of}
 use Rattle.place_index.specs.Places.{Place, is_at, is_of, is_same}
-use Rattle.place_index.specs.declared.part.Part.{Part}
+use Rattle.place_index.specs.Parts.{Part}
 use Rattle.place_index.proofs.EndLemmas.{any_of_part, none_any}
 use Rattle.place_index.proofs.EntryLemmas.{same_text}
 use Rattle.place_index.proofs.NameLemmas.{any_named, filter-passes, filter_at, position-found, position-none}

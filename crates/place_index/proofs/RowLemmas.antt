@@ -10,9 +10,9 @@ use Rattle.place_index.specs.Index.{Index, Agrees, DomainPart, DomainAgrees, Oth
 use Rattle.place_index.specs.Index.{BeginsPath, GrowsPath, last, names_in, names_of}
 use Rattle.place_index.specs.Places.{Place}
 use Rattle.place_index.specs.Putting.{HasRoom, Puts, PutsAt, IsReady}
-use Rattle.place_index.specs.Starts.{part_at}
+use Rattle.place_index.specs.Index.{part_at}
 use Rattle.place_index.specs.declared.part.DomainRows.{DomainRows}
-use Rattle.place_index.specs.declared.part.Part.{Part}
+use Rattle.place_index.specs.Parts.{Part}
 use Rattle.place_index.proofs.EntryLemmas.{same_text, value_at-with_values}
 use Rattle.place_index.proofs.EndLemmas.{end_new, end_path, end_row}
 use Rattle.place_index.proofs.IndexLemmas.{not_moved, value_at-with_value, value_at-with_other, paths_inside}

@@ -7,11 +7,11 @@ use Rattle.std.proofs.lemmas.Bool.{cases_lt}
 use Rattle.place_index.specs.Entries.{value_at, set_at, without, with_values}
 use Rattle.place_index.specs.Index.{Index, DomainPart, DomainAgrees, PathAgrees, PathsInside, Agrees}
 use Rattle.place_index.specs.Places.{Place, is_of, is_at}
-use Rattle.place_index.specs.Starts.{part_at}
+use Rattle.place_index.specs.Index.{part_at}
 use Rattle.place_index.specs.Taking.{BeginsBy, HasRow, TakesPlace, OthersMoveBack, domain_back, path_back, shorter}
 use Rattle.place_index.specs.Taking.{Takes}
 use Rattle.place_index.specs.declared.part.DomainRows.{DomainRows}
-use Rattle.place_index.specs.declared.part.Part.{Part}
+use Rattle.place_index.specs.Parts.{Part}
 use Rattle.place_index.proofs.EntryLemmas.{value_at-with_values}
 use Rattle.place_index.proofs.IndexLemmas.{own_domain, own_path, paths_inside}
 use Rattle.place_index.proofs.IndexOutLemmas.{in_part, not_back}

@@ -1,4 +1,4 @@
--- The parts of domains whose starts stand in a list of their own.
+-- Parts whose starts stand in a list of their own.
 use Rattle.std.proofs.Common.{◌≡◌, ◌+◌, ◌++◌, ◌<◌, ◌≤◌, ℕ, zero, suc, Bool, true, false, cond, List, [], ◌∷◌, length}
 use Rattle.std.proofs.Common.{map, get_or, set, refl, sym, ap, ◌∙◌, arith}
 use Rattle.std.specs.Prelude.{Option, Some, None, Vec, slice_get, option_map}
@@ -9,9 +9,7 @@ use Rattle.std.proofs.lemmas.List.{length-map, with_items_is}
 use Rattle.std.proofs.lemmas.Option.{none-some, same_Some}
 use Rattle.indexmap.specs.IndexMap.{set_value_at}
 use Rattle.place_index.specs.Entries.{place_of, value_at, set_at, with_value, without, with_values}
-use Rattle.place_index.specs.Index.{Index, DomainPart}
-use Rattle.place_index.specs.Starts.{part_at, with_starts}
-use Rattle.place_index.specs.declared.part.DomainRows.{DomainRows}
+use Rattle.place_index.specs.Starts.{with_starts}
 
 -- ---- places
 
@@ -101,10 +99,10 @@ remove-length (x ∷ xs) (suc i) less = ap suc (remove-length xs i (omega (arith
 
 -- ---- starts and rows
 
-module _ (text : List ℕ) where
-  pub part_found : (starts : List ℕ) (rows : List (List ℕ × DomainRows)) (i d : ℕ) (r : DomainRows)
+module _ {R P : Type 0} (part : ℕ → R → P) (text : List ℕ) where
+  pub part_found : (starts : List ℕ) (rows : List (List ℕ × R)) (i d : ℕ) (r : R)
       → length starts ≡ length rows → place_of text rows ≡ Some i → value_at text rows ≡ Some r
-      → value_at text (with_starts starts rows) ≡ Some (part_at (get_or starts i d) r)
+      → value_at text (with_starts part starts rows) ≡ Some (part (get_or starts i d) r)
   part_found starts [] i d r same is there = absurd (none-some i is)
   part_found [] (e ∷ es) i d r same is there = absurd (omega (arith, same))
   part_found (s ∷ ss) (e ∷ es) i d r same is there =
@@ -113,70 +111,70 @@ module _ (text : List ℕ) where
       by : (b : Bool) → cond b (Some 0) (option_map suc (place_of text es)) ≡ Some i
           → cond b (Some e.1) (value_at text es) ≡ Some r
           → ((j : ℕ) → place_of text es ≡ Some j → value_at text es ≡ Some r
-          → value_at text (with_starts ss es) ≡ Some (part_at (get_or ss j d) r))
-          → cond b (Some (part_at s e.1)) (value_at text (with_starts ss es))
-          ≡ Some (part_at (get_or (s ∷ ss) i d) r)
+          → value_at text (with_starts part ss es) ≡ Some (part (get_or ss j d) r))
+          → cond b (Some (part s e.1)) (value_at text (with_starts part ss es))
+          ≡ Some (part (get_or (s ∷ ss) i d) r)
       by true p v rest =
           let first = same_Some 0 i p in
           let own = same_Some e.1 r v in
-          (λ k. Some (part_at (get_or (s ∷ ss) (first k) d) (own k)))
+          (λ k. Some (part (get_or (s ∷ ss) (first k) d) (own k)))
       by false p v rest =
           let before = one_less (place_of text es) i p in
           let next = before.2 in
-          rest before.0 before.1 v ∙ (λ k. Some (part_at (get_or (s ∷ ss) (next k) d) r))
+          rest before.0 before.1 v ∙ (λ k. Some (part (get_or (s ∷ ss) (next k) d) r))
 
-  pub none_found : (starts : List ℕ) (rows : List (List ℕ × DomainRows)) → value_at text rows ≡ None
-      → value_at text (with_starts starts rows) ≡ None
+  pub none_found : (starts : List ℕ) (rows : List (List ℕ × R)) → value_at text rows ≡ None
+      → value_at text (with_starts part starts rows) ≡ None
   none_found [] rows none = refl
   none_found (s ∷ ss) [] none = refl
   none_found (s ∷ ss) (e ∷ es) none = by (bytes_eq text e.0) none (λ v. none_found ss es v)
     where
       by : (b : Bool) → cond b (Some e.1) (value_at text es) ≡ None
-          → (value_at text es ≡ None → value_at text (with_starts ss es) ≡ None)
-          → cond b (Some (part_at s e.1)) (value_at text (with_starts ss es)) ≡ None
+          → (value_at text es ≡ None → value_at text (with_starts part ss es) ≡ None)
+          → cond b (Some (part s e.1)) (value_at text (with_starts part ss es)) ≡ None
       by true v rest = absurd (none-some e.1 (sym v))
       by false v rest = rest v
 
-  pub no_place : (starts : List ℕ) (rows : List (List ℕ × DomainRows)) → length starts ≡ length rows
-      → value_at text (with_starts starts rows) ≡ None → place_of text rows ≡ None
+  pub no_place : (starts : List ℕ) (rows : List (List ℕ × R)) → length starts ≡ length rows
+      → value_at text (with_starts part starts rows) ≡ None → place_of text rows ≡ None
   no_place starts [] same none = refl
   no_place [] (e ∷ es) same none = absurd (omega (arith, same))
   no_place (s ∷ ss) (e ∷ es) same none =
       by (bytes_eq text e.0) none (λ v. no_place ss es (omega (arith, same)) v)
     where
-      by : (b : Bool) → cond b (Some (part_at s e.1)) (value_at text (with_starts ss es)) ≡ None
-          → (value_at text (with_starts ss es) ≡ None → place_of text es ≡ None)
+      by : (b : Bool) → cond b (Some (part s e.1)) (value_at text (with_starts part ss es)) ≡ None
+          → (value_at text (with_starts part ss es) ≡ None → place_of text es ≡ None)
           → cond b (Some 0) (option_map suc (place_of text es)) ≡ None
-      by true v rest = absurd (none-some (part_at s e.1) (sym v))
+      by true v rest = absurd (none-some (part s e.1) (sym v))
       by false v rest = ap (option_map suc) (rest v)
 
-  pub rows_set : (starts : List ℕ) (rows : List (List ℕ × DomainRows)) (i d : ℕ) (w : DomainRows)
+  pub rows_set : (starts : List ℕ) (rows : List (List ℕ × R)) (i d : ℕ) (w : R)
       → place_of text rows ≡ Some i
-      → with_starts starts (set_value_at rows i w)
-      ≡ set_at text (with_starts starts rows) (part_at (get_or starts i d) w)
+      → with_starts part starts (set_value_at rows i w)
+      ≡ set_at text (with_starts part starts rows) (part (get_or starts i d) w)
   rows_set starts [] i d w is = absurd (none-some i is)
   rows_set [] (e ∷ es) i d w is = refl
   rows_set (s ∷ ss) (e ∷ es) i d w is = by (bytes_eq text e.0) is (λ j p. rows_set ss es j d w p)
     where
       by : (b : Bool) → cond b (Some 0) (option_map suc (place_of text es)) ≡ Some i
-          → ((j : ℕ) → place_of text es ≡ Some j → with_starts ss (set_value_at es j w)
-          ≡ set_at text (with_starts ss es) (part_at (get_or ss j d) w))
-          → with_starts (s ∷ ss) (set_value_at (e ∷ es) i w)
-          ≡ cond b ((e.0, part_at (get_or (s ∷ ss) i d) w) ∷ with_starts ss es)
-          ((e.0, part_at s e.1) ∷ set_at text (with_starts ss es) (part_at (get_or (s ∷ ss) i d) w))
+          → ((j : ℕ) → place_of text es ≡ Some j → with_starts part ss (set_value_at es j w)
+          ≡ set_at text (with_starts part ss es) (part (get_or ss j d) w))
+          → with_starts part (s ∷ ss) (set_value_at (e ∷ es) i w)
+          ≡ cond b ((e.0, part (get_or (s ∷ ss) i d) w) ∷ with_starts part ss es)
+          ((e.0, part s e.1) ∷ set_at text (with_starts part ss es) (part (get_or (s ∷ ss) i d) w))
       by true p rest =
-          ap (λ n. with_starts (s ∷ ss) (set_value_at (e ∷ es) n w)) (sym (same_Some 0 i p))
-          ∙ ap (λ n. (e.0, part_at (get_or (s ∷ ss) n d) w) ∷ with_starts ss es) (same_Some 0 i p)
+          ap (λ n. with_starts part (s ∷ ss) (set_value_at (e ∷ es) n w)) (sym (same_Some 0 i p))
+          ∙ ap (λ n. (e.0, part (get_or (s ∷ ss) n d) w) ∷ with_starts part ss es) (same_Some 0 i p)
       by false p rest =
           let before = one_less (place_of text es) i p in
-          ap (λ n. with_starts (s ∷ ss) (set_value_at (e ∷ es) n w)) (sym before.2)
-          ∙ ap (λ es. (e.0, part_at s e.1) ∷ es) (rest before.0 before.1)
-          ∙ ap (λ n. (e.0, part_at s e.1) ∷ set_at text (with_starts ss es) (part_at (get_or (s ∷ ss) n d) w))
+          ap (λ n. with_starts part (s ∷ ss) (set_value_at (e ∷ es) n w)) (sym before.2)
+          ∙ ap (λ es. (e.0, part s e.1) ∷ es) (rest before.0 before.1)
+          ∙ ap (λ n. (e.0, part s e.1) ∷ set_at text (with_starts part ss es) (part (get_or (s ∷ ss) n d) w))
           before.2
 
-  pub part_removed : (starts : List ℕ) (rows : List (List ℕ × DomainRows)) (i : ℕ)
+  pub part_removed : (starts : List ℕ) (rows : List (List ℕ × R)) (i : ℕ)
       → length starts ≡ length rows → place_of text rows ≡ Some i
-      → with_starts (remove starts i) (without text rows) ≡ without text (with_starts starts rows)
+      → with_starts part (remove starts i) (without text rows) ≡ without text (with_starts part starts rows)
   part_removed starts [] i same is = absurd (none-some i is)
   part_removed [] (e ∷ es) i same is = absurd (omega (arith, same))
   part_removed (s ∷ ss) (e ∷ es) i same is =
@@ -184,19 +182,19 @@ module _ (text : List ℕ) where
     where
       by : (b : Bool) → cond b (Some 0) (option_map suc (place_of text es)) ≡ Some i
           → ((j : ℕ) → place_of text es ≡ Some j
-          → with_starts (remove ss j) (without text es) ≡ without text (with_starts ss es))
-          → with_starts (remove (s ∷ ss) i) (cond b es (e ∷ without text es))
-          ≡ cond b (with_starts ss es) ((e.0, part_at s e.1) ∷ without text (with_starts ss es))
-      by true p rest = ap (λ n. with_starts (remove (s ∷ ss) n) es) (sym (same_Some 0 i p))
+          → with_starts part (remove ss j) (without text es) ≡ without text (with_starts part ss es))
+          → with_starts part (remove (s ∷ ss) i) (cond b es (e ∷ without text es))
+          ≡ cond b (with_starts part ss es) ((e.0, part s e.1) ∷ without text (with_starts part ss es))
+      by true p rest = ap (λ n. with_starts part (remove (s ∷ ss) n) es) (sym (same_Some 0 i p))
       by false p rest =
           let before = one_less (place_of text es) i p in
-          ap (λ n. with_starts (remove (s ∷ ss) n) (e ∷ without text es)) (sym before.2)
-          ∙ ap (λ es. (e.0, part_at s e.1) ∷ es) (rest before.0 before.1)
+          ap (λ n. with_starts part (remove (s ∷ ss) n) (e ∷ without text es)) (sym before.2)
+          ∙ ap (λ es. (e.0, part s e.1) ∷ es) (rest before.0 before.1)
 
-  pub part_added : (starts : List ℕ) (rows : List (List ℕ × DomainRows)) (start : ℕ) (r : DomainRows)
+  pub part_added : (starts : List ℕ) (rows : List (List ℕ × R)) (start : ℕ) (r : R)
       → length starts ≡ length rows → place_of text rows ≡ None
-      → with_starts (starts ++ start ∷ []) (with_value rows text r)
-      ≡ with_value (with_starts starts rows) text (part_at start r)
+      → with_starts part (starts ++ start ∷ []) (with_value rows text r)
+      ≡ with_value (with_starts part starts rows) text (part start r)
   part_added [] [] start r same none = refl
   part_added (s ∷ ss) [] start r same none = absurd (omega (arith, same))
   part_added [] (e ∷ es) start r same none = absurd (omega (arith, same))
@@ -204,43 +202,36 @@ module _ (text : List ℕ) where
       by (bytes_eq text e.0) none (λ p. part_added ss es start r (omega (arith, same)) p)
     where
       by : (b : Bool) → cond b (Some 0) (option_map suc (place_of text es)) ≡ None
-          → (place_of text es ≡ None → with_starts (ss ++ start ∷ []) (with_value es text r)
-          ≡ with_value (with_starts ss es) text (part_at start r))
-          → with_starts (s ∷ (ss ++ start ∷ [])) (cond b ((e.0, r) ∷ es) (e ∷ with_value es text r))
-          ≡ cond b ((e.0, part_at start r) ∷ with_starts ss es)
-          ((e.0, part_at s e.1) ∷ with_value (with_starts ss es) text (part_at start r))
+          → (place_of text es ≡ None → with_starts part (ss ++ start ∷ []) (with_value es text r)
+          ≡ with_value (with_starts part ss es) text (part start r))
+          → with_starts part (s ∷ (ss ++ start ∷ [])) (cond b ((e.0, r) ∷ es) (e ∷ with_value es text r))
+          ≡ cond b ((e.0, part start r) ∷ with_starts part ss es)
+          ((e.0, part s e.1) ∷ with_value (with_starts part ss es) text (part start r))
       by true p rest = absurd (none-some 0 (sym p))
-      by false p rest = ap (λ es. (e.0, part_at s e.1) ∷ es) (rest (still_none (place_of text es) p))
+      by false p rest = ap (λ es. (e.0, part s e.1) ∷ es) (rest (still_none (place_of text es) p))
 
 -- ---- the entry of a text in an index that is kept so
 
-module _ (text : List ℕ) (starts : List ℕ) (rows : List (List ℕ × DomainRows)) (index : Index)
-    (is : with_starts starts rows ≡ index) (same : length starts ≡ length rows) (place : ℕ)
-    (at : place_of text rows ≡ Some place) (own : DomainRows) (value : slice_get (map (λ e. e.1) rows) place ≡ Some own)
+module _ {R P : Type 0} (part : ℕ → R → P) (text : List ℕ) (starts : List ℕ) (rows : List (List ℕ × R))
+    (index : List (List ℕ × P)) (is : with_starts part starts rows ≡ index) (same : length starts ≡ length rows) (place : ℕ)
+    (at : place_of text rows ≡ Some place) (own : R) (value : slice_get (map (λ e. e.1) rows) place ≡ Some own)
     (start d : ℕ) (begins : start ≡ get_or starts place d) where
-  pub part_there : value_at text index ≡ Some (part_at start own)
+  pub part_there : value_at text index ≡ Some (part start own)
   part_there =
       ap (value_at text) (sym is)
-      ∙ part_found text starts rows place d own same at (sym (value_at-place text rows place at) ∙ value)
-      ∙ ap (λ n. Some (part_at n own)) (sym begins)
+      ∙ part_found part text starts rows place d own same at (sym (value_at-place text rows place at) ∙ value)
+      ∙ ap (λ n. Some (part n own)) (sym begins)
 
-  pub part_set : (w : DomainRows)
-      → with_starts starts (set_value_at rows place w) ≡ set_at text index (part_at start w)
+  pub part_set : (w : R)
+      → with_starts part starts (set_value_at rows place w) ≡ set_at text index (part start w)
   part_set w =
-      rows_set text starts rows place d w at
-      ∙ ap (λ n. set_at text (with_starts starts rows) (part_at n w)) (sym begins)
-      ∙ ap (λ es. set_at text es (part_at start w)) is
+      rows_set part text starts rows place d w at
+      ∙ ap (λ n. set_at text (with_starts part starts rows) (part n w)) (sym begins)
+      ∙ ap (λ es. set_at text es (part start w)) is
 
 -- ---- one start after another
 
 module _ (f : ℕ → ℕ) where
-  pub starts_moved : (starts : List ℕ) (rows : List (List ℕ × DomainRows))
-      → with_starts (map f starts) rows
-      ≡ with_values (λ (part : DomainPart). record part { start = f part.start }) (with_starts starts rows)
-  starts_moved [] rows = refl
-  starts_moved (s ∷ ss) [] = refl
-  starts_moved (s ∷ ss) (e ∷ es) = ap (λ ps. (e.0, part_at (f s) e.1) ∷ ps) (starts_moved ss es)
-
   -- a vector whose slice was moved
   pub all_moved : {Z : Type 0} (v : Vec ℕ Z) (slice now : List ℕ) → slice ≡ v.items → now ≡ map f slice
       → (with_items v now).items ≡ map f v.items
@@ -278,3 +269,12 @@ module _ (f : ℕ → ℕ) where
   first_mapped-length zero xs = refl
   first_mapped-length (suc n) [] = refl
   first_mapped-length (suc n) (x ∷ xs) = ap suc (first_mapped-length n xs)
+
+module _ {R P : Type 0} (part : ℕ → R → P) (f : ℕ → ℕ) (g : P → P)
+    (moves : (start : ℕ) (r : R) → part (f start) r ≡ g (part start r)) where
+  -- each part is moved with its start
+  pub starts_moved : (starts : List ℕ) (rows : List (List ℕ × R))
+      → with_starts part (map f starts) rows ≡ with_values g (with_starts part starts rows)
+  starts_moved [] rows = refl
+  starts_moved (s ∷ ss) [] = refl
+  starts_moved (s ∷ ss) (e ∷ es) = (λ i. (e.0, moves s e.1 i) ∷ starts_moved ss es i)

@@ -10,7 +10,7 @@ use Rattle.place_index.specs.Entries.{value_at, set_at, without, with_values}
 use Rattle.place_index.specs.Index.{PathsInside}
 use Rattle.place_index.specs.Taking.{path_back, shorter, OtherPathsMoveBack, Shortens, Takes}
 use Rattle.place_index.specs.declared.part.DomainRows.{DomainRows}
-use Rattle.place_index.specs.declared.part.Part.{Part}
+use Rattle.place_index.specs.Parts.{Part}
 use Rattle.place_index.proofs.EntryLemmas.{same_text, set_at-present, value_at-with_values}
 use Rattle.place_index.proofs.IndexLemmas.{value_at-with_value, value_at-with_other}
 use Rattle.place_index.proofs.IndexOutLemmas.{not_back}
@@ -69,6 +69,9 @@ module _ (path : List ℕ) (at : ℕ) (old : List (List ℕ × Part)) where
     own = gone ∙ sym only;
     others = λ text d. ap (value_at text) is ∙ value_at-without_other path text mid d ∙ ap (value_at text) same;
   }
+
+  pub shortens_none : value_at path old ≡ None → Shortens path at old old
+  shortens_none none = record { own = none ∙ sym (ap (shorter at) none); others = λ text d. refl }
 
 -- ---- a domain's part
 

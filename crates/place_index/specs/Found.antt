@@ -7,7 +7,7 @@ use Rattle.place_index.specs.Paths.{dot, slash}
 use Rattle.place_index.specs.Places.{Place, is_at, is_of}
 use Rattle.place_index.specs.Entries.{value_at}
 use Rattle.place_index.specs.Candidates.{is_among, domains_of, paths_of, count_of}
-use Rattle.place_index.specs.declared.part.Part.{Part}
+use Rattle.place_index.specs.Parts.{Part}
 use Rattle.place_index.specs.Index.{Index, DomainPart, Agrees, Span}
 
 abbrev pub is_in : ℕ → Span → Bool

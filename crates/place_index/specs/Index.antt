@@ -6,7 +6,7 @@ use Rattle.std.specs.Prelude.{if◌then◌else◌}
 use Rattle.std.specs.List.{list_any}
 use Rattle.place_index.specs.Entries.{value_at, with_value}
 use Rattle.place_index.specs.declared.part.DomainRows.{DomainRows}
-use Rattle.place_index.specs.declared.part.Part.{Part}
+use Rattle.place_index.specs.Parts.{Part}
 use Rattle.place_index.specs.Places.{Place, is_of, is_at, is_same}
 
 -- a domain's part: where it begins, how many rows it has, and its paths' parts, which count from where it begins
@@ -14,6 +14,10 @@ pub record DomainPart : Type 0 where
   pub start : ℕ
   pub len : ℕ
   pub paths : List (List ℕ × Part)
+
+-- the part that begins at `start`
+abbrev pub part_at : ℕ → DomainRows → DomainPart
+part_at start rows = record { start = start; len = rows.len; paths = rows.paths }
 
 abbrev pub Index : Type 0
 Index = List (List ℕ × DomainPart)

@@ -4,6 +4,8 @@ pub mod Found
 pub mod Index
 pub mod Inserting
 pub mod Lending
+pub mod Parts
+pub mod PathParts
 pub mod Paths
 pub mod Places
 pub mod Putting

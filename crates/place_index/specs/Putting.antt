@@ -4,7 +4,7 @@ use Rattle.std.specs.Prelude.{false, Some, None, IfSome}
 use Rattle.std.specs.Prelude.{not, if◌then◌else◌}
 use Rattle.place_index.specs.Entries.{value_at, with_value}
 use Rattle.place_index.specs.declared.part.DomainRows.{DomainRows}
-use Rattle.place_index.specs.declared.part.Part.{Part}
+use Rattle.place_index.specs.Parts.{Part}
 use Rattle.std.specs.List.{insert, list_any}
 use Rattle.std.specs.Str.{bytes_eq}
 use Rattle.place_index.specs.Index.{Index, Agrees, PathsInside, OtherPathsMove, last}

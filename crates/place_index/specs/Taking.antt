@@ -7,7 +7,7 @@ use Rattle.place_index.specs.Entries.{value_at}
 use Rattle.place_index.specs.Index.{Index, DomainPart, Agrees, last}
 use Rattle.place_index.specs.Places.{Place}
 use Rattle.place_index.specs.declared.part.DomainRows.{DomainRows}
-use Rattle.place_index.specs.declared.part.Part.{Part}
+use Rattle.place_index.specs.Parts.{Part}
 
 -- the index is that of some rows, of which the one at `at` is of the domain and the path
 pub record HasRow (domain path : List ℕ) (at : ℕ) (index : Index) : Type 0 where

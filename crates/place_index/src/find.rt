@@ -3,7 +3,7 @@
 ghost use Rattle.std.specs.Prelude.{◌≡◌, ◌+◌, ◌++◌, ◌≤◌, OnOk, Some, length};
 ghost use Rattle.place_index.specs.Entries.{value_at};
 ghost use Rattle.place_index.specs.Candidates.{domains_of, paths_of};
-ghost use Rattle.place_index.specs.Starts.{part_at};
+ghost use Rattle.place_index.specs.Index.{part_at};
 ghost use Rattle.place_index.specs.Found.{span_of, spans_of, spans, path_looks, looks_for, Fits, AllFit};
 
 use crate::index::Domains;
@@ -25,9 +25,9 @@ fn ask_path<L: Ledger>(
         ≡ found.old.items ++ span_of (part_at start domain.now) (value_at path.now domain.now.paths)) }
     ensures look { looks.new ≡ looks.old + 1 }
 {
-    if let Some(part) = domain.ask(path, looks) {
-        let start = start + part.start;
-        found.push((start, start + part.len))?;
+    if let Some((inner, rows)) = domain.ask(path, looks) {
+        let start = start + inner;
+        found.push((start, start + rows.len))?;
     }
     Ok(())
 }

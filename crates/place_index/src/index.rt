@@ -1,21 +1,23 @@
 //! From domain text to its part of a vector of rows, in it from path text to a part of that, and there from name to
 //! row.
 
-ghost use Rattle.std.specs.Prelude.{◌≡◌, ◌+◌, ◌≤◌, [], List, IfOk, OnErr, length, option_copied, option_map, position};
+ghost use Rattle.std.specs.Prelude.{◌≡◌, ◌+◌, ◌≤◌, [], List, IfOk, OnErr, option_map, position};
 ghost use Rattle.std.specs.Str.{bytes_eq};
 ghost use Rattle.place_index.specs.Entries.{value_at};
 ghost use Rattle.place_index.specs.Found.{Finds, looks_at, looks_up};
-ghost use Rattle.place_index.specs.Index.{Agrees, IsIndex, StandsAt};
+ghost use Rattle.place_index.specs.Index.{Agrees, IsIndex, StandsAt, part_at};
 ghost use Rattle.place_index.specs.Places.{Place};
 ghost use Rattle.place_index.specs.Putting.{IsReady, PutsAt};
-ghost use Rattle.place_index.specs.Starts.{AreInOrder, part_at, with_starts};
+ghost use Rattle.place_index.specs.PathParts.{path_at};
+ghost use Rattle.place_index.specs.Starts.{AreInOrder, with_starts};
 ghost use Rattle.place_index.specs.Taking.{HasRow, TakesAt};
 
 use crate::find::ask_domains;
 use crate::looks::Looks;
 use crate::order::put_in_order;
-use crate::part::{DomainRows, Part};
+use crate::part::{DomainRows, PathRows};
 use crate::putting::put_row;
+use crate::starts::Starts;
 use crate::taking::take_row;
 use crate::text_map::TextMap;
 use std::alloc::{AllocError, Global};
@@ -60,9 +62,9 @@ impl Index {
             ≡ looks.old + looks_up (record { domain = domain.now; path = path.now; name = name.now }) places }
     {
         let (start, rows) = self.domains.ask(domain, looks)?;
-        let part = rows.ask(path, looks)?;
-        let place = part.ask(name, looks)?;
-        Some(start + part.start + place)
+        let (inner, rows) = rows.ask(path, looks)?;
+        let place = rows.ask(name, looks)?;
+        Some(start + inner + place)
     }
 
     /// Has one row more of the domain, the path and the name, which has none: behind the last of domain and path, else
@@ -125,16 +127,16 @@ impl Index {
 /// insertion or a removal goes over the later starts.
 #[derive(Debug, Drop)]
 pub(crate) struct Domains {
-    pub(crate) starts: Vec<usize>,
+    pub(crate) starts: Starts,
     pub(crate) rows: TextMap<DomainRows>,
 }
 
 impl Model for Domains {
     ghost Value = { Rattle.place_index.specs.Index.Index };
 
-    ghost view = { λ d. with_starts d.starts.items d.rows };
+    ghost view = { λ d. with_starts part_at d.starts d.rows };
 
-    ghost invariant = { λ d. AreInOrder d.starts.items d.rows };
+    ghost invariant = { λ d. AreInOrder d.starts d.rows };
 }
 
 impl Domains {
@@ -143,7 +145,7 @@ impl Domains {
         ensures { result ≡ [] }
     {
         Domains {
-            starts: Vec::new(alloc),
+            starts: Starts::new(alloc),
             rows: TextMap::new(alloc),
         }
     }
@@ -153,7 +155,7 @@ impl Domains {
         ensures { option_map (λ found. part_at found.0 found.1.now) result ≡ value_at text.now self.now }
     {
         let (place, rows) = self.rows.get_full(text)?;
-        Some((self.starts[place], rows))
+        Some((self.starts.get(place), rows))
     }
 
     /// Asks for a domain: where it begins, and its rows.
@@ -171,9 +173,13 @@ impl Domains {
 }
 
 impl DomainRows {
-    /// Asks for a path.
-    pub(crate) fn ask<L: Ledger>(&self, text: &str, looks: &mut Looks<L>) -> Option<&Part>
-        ensures part { option_copied result ≡ value_at text.now self.now.paths }
+    /// Asks for a path: where it begins, and its rows.
+    pub(crate) fn ask<L: Ledger>(
+        &self,
+        text: &str,
+        looks: &mut Looks<L>,
+    ) -> Option<(usize, &PathRows)>
+        ensures part { option_map (λ found. path_at found.0 found.1.now) result ≡ value_at text.now self.now.paths }
         ensures look { looks.new ≡ looks.old + 1 }
     {
         looks.raise();
@@ -181,8 +187,8 @@ impl DomainRows {
     }
 }
 
-impl Part {
-    /// Asks for a name: which of the part's rows has it.
+impl PathRows {
+    /// Asks for a name: which of the path's rows has it.
     pub(crate) fn ask<L: Ledger>(&self, name: &str, looks: &mut Looks<L>) -> Option<usize>
         ensures place { result ≡ position (bytes_eq name.now) self.now.names }
         ensures look { looks.new ≡ looks.old + 1 }

@@ -10,6 +10,7 @@ mod names;
 mod order;
 mod part;
 mod putting;
+mod starts;
 mod taking;
 mod text_map;
 

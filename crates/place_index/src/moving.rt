@@ -1,24 +1,9 @@
-//! Parts that move by a row.
+//! Starts that move by a row.
 
 ghost use Rattle.std.specs.Prelude.{◌≡◌, ◌<◌, All, map};
 ghost use Rattle.std.specs.List.Sorted.{IsNonDecreasing};
-ghost use Rattle.place_index.specs.Entries.{with_values};
-ghost use Rattle.place_index.specs.Index.{last, moved, moved_path};
-ghost use Rattle.place_index.specs.Taking.{moved_back, path_back};
-
-use crate::part::Part;
-use crate::text_map::TextMap;
-
-/// Has each path that begins at `at` or later begin one later.
-pub(crate) fn move_paths(paths: &mut TextMap<Part>, at: usize)
-    ensures { paths.new ≡ with_values (moved_path at) paths.old }
-{
-    for i in 0..paths.entries.len() {
-        if let Some(part) = paths.entries.get_index_mut(i) {
-            part.move_from(at);
-        }
-    }
-}
+ghost use Rattle.place_index.specs.Index.{last, moved};
+ghost use Rattle.place_index.specs.Taking.{moved_back};
 
 /// Has each start at `at` or later be one later. The starts ascend, so those are the last ones, and no other is touched.
 pub(crate) fn move_starts(starts: &mut [usize], at: usize)
@@ -29,17 +14,6 @@ pub(crate) fn move_starts(starts: &mut [usize], at: usize)
     let behind = starts.partition_point(|start| *start < at);
     for i in behind..starts.len() {
         starts[i] += 1;
-    }
-}
-
-/// Has each path that begins behind `at` begin one earlier.
-pub(crate) fn move_paths_back(paths: &mut TextMap<Part>, at: usize)
-    ensures { paths.new ≡ with_values (path_back at) paths.old }
-{
-    for index in 0..paths.entries.len() {
-        if let Some(part) = paths.entries.get_index_mut(index) {
-            part.move_back(at);
-        }
     }
 }
 

@@ -1,55 +1,86 @@
 //! The rows of a domain, and the parts of them that its paths' rows are.
 
-ghost use Rattle.std.specs.Prelude.{◌≡◌};
-ghost use Rattle.place_index.specs.Index.{moved, moved_path};
-ghost use Rattle.place_index.specs.Taking.{moved_back, path_back};
+ghost use Rattle.std.specs.Prelude.{◌≡◌, [], option_map};
+ghost use Rattle.place_index.specs.Entries.{value_at, with_values};
+ghost use Rattle.place_index.specs.Index.{last, moved_path};
+ghost use Rattle.place_index.specs.PathParts.{BeginBefore, path_at};
+ghost use Rattle.place_index.specs.Taking.{path_back};
 
 use crate::names::Names;
+use crate::starts::Starts;
 use crate::text_map::TextMap;
+use std::alloc::Global;
+use std::marker::Model;
 
-/// Where a part begins, how many rows it has, and their names.
+/// How many rows a path has, and their names.
 #[derive(Debug, Drop)]
-pub(crate) struct Part {
-    pub(crate) start: usize,
+pub(crate) struct PathRows {
     pub(crate) len: usize,
     pub(crate) names: Names,
 }
 
-/// How many rows a domain has, and its paths' parts, which count from where the domain begins.
+/// The parts of a domain's paths, in their order, which count from where the domain begins. Where they begin stands
+/// apart from their rows, for an insertion or a removal moves the later ones.
+#[derive(Debug, Drop)]
+pub(crate) struct Paths {
+    pub(crate) starts: Starts,
+    pub(crate) rows: TextMap<PathRows>,
+}
+
+impl Model for Paths {
+    ghost use Rattle.std.specs.Prelude.{List, ℕ};
+    ghost use Rattle.std.specs.Coded.{coded×, coded_list, coded_ℕ};
+    ghost use Rattle.place_index.specs.Parts.{Part, part_code};
+    ghost use Rattle.place_index.specs.PathParts.{path_at};
+    ghost use Rattle.place_index.specs.Starts.{AreInOrder, with_starts};
+
+    ghost Value = { List (List ℕ × Part) };
+
+    ghost coded = { coded_list (coded× (coded_list coded_ℕ) part_code) };
+
+    ghost view = { λ p. with_starts path_at p.starts p.rows };
+
+    ghost invariant = { λ p. AreInOrder p.starts p.rows };
+}
+
+/// How many rows a domain has, and its paths' parts.
 #[derive(Debug, Drop)]
 pub(crate) struct DomainRows {
     pub(crate) len: usize,
-    pub(crate) paths: TextMap<Part>,
+    pub(crate) paths: Paths,
 }
 
-impl Part {
-    /// Begins one later, where it begins at `at` or later.
+impl Paths {
+    /// No part.
+    pub(crate) fn new(alloc: Global) -> Paths
+        ensures { result ≡ [] }
+    {
+        Paths {
+            starts: Starts::new(alloc),
+            rows: TextMap::new(alloc),
+        }
+    }
+
+    /// Where the path begins, and its rows.
+    pub(crate) fn get(&self, text: &str) -> Option<(usize, &PathRows)>
+        ensures { option_map (λ found. path_at found.0 found.1.now) result ≡ value_at text.now self.now }
+    {
+        let (place, rows) = self.rows.get_full(text)?;
+        Some((self.starts.get(place), rows))
+    }
+
+    /// Has each path that begins at `at` or later begin one later.
     pub(crate) fn move_from(&mut self, at: usize)
-        ensures { self.new ≡ moved_path at self.old }
+        requires { BeginBefore last self.old }
+        ensures { self.new ≡ with_values (moved_path at) self.old }
     {
-        self.start = one_later(self.start, at);
+        self.starts.move_from(at);
     }
 
-    /// Begins one earlier, where it begins behind `at`.
+    /// Has each path that begins behind `at` begin one earlier.
     pub(crate) fn move_back(&mut self, at: usize)
-        ensures { self.new ≡ path_back at self.old }
+        ensures { self.new ≡ with_values (path_back at) self.old }
     {
-        self.start = one_earlier(self.start, at);
+        self.starts.move_back(at);
     }
-}
-
-/// Where a part begins that began at `start`, once a row was put in at `at`.
-pub(crate) fn one_later(start: usize, at: usize) -> usize
-    ensures { result ≡ moved at start }
-{
-    // 0 behind the last number, which stays
-    let next = start.wrapping_add(1);
-    if at < next { next } else { start }
-}
-
-/// Where a part begins that began at `start`, once the row at `at` was taken out.
-pub(crate) fn one_earlier(start: usize, at: usize) -> usize
-    ensures { result ≡ moved_back at start }
-{
-    if at < start { start - 1 } else { start }
 }

@@ -1,13 +1,17 @@
 //! A row more in a domain's part.
 
-ghost use Rattle.std.specs.Prelude.{◌≡◌, [], ◌∷◌, IfOk, OnOk, OnErr, None};
+ghost use Rattle.std.specs.Prelude.{◌≡◌, ◌++◌, [], ◌∷◌, IfOk, IfSome, OnOk, OnErr, None, false, string_bytes};
+ghost use Rattle.std.specs.List.{list_any};
+ghost use Rattle.std.specs.Str.{bytes_eq};
 ghost use Rattle.place_index.specs.Entries.{value_at, with_value};
+ghost use Rattle.place_index.specs.Index.{last};
+ghost use Rattle.place_index.specs.PathParts.{BeginBefore, EndBefore, LengthensAny};
 ghost use Rattle.place_index.specs.Putting.{HasRoom, IsReady, Puts, PutsAt};
 
 use crate::index::Domains;
-use crate::moving::{move_paths, move_starts};
 use crate::names::Names;
-use crate::part::{DomainRows, Part};
+use crate::part::{DomainRows, PathRows, Paths};
+use crate::starts::Starts;
 use crate::text_map::TextMap;
 use std::alloc::{AllocError, Global};
 
@@ -22,48 +26,97 @@ pub(crate) fn put(
     ensures ok { IfOk result (λ at. Puts path.now name.now domain.old domain.new at) }
     ensures err { OnErr result (domain.new ≡ domain.old) }
 {
-    match domain.paths.get_mut(path) {
-        Some(part) => {
-            let at = part.start + part.len;
-            part.names.push(alloc, name)?;
-            part.len += 1;
+    match lengthen(alloc, &mut domain.paths, path, name)? {
+        Some(at) => {
             if at < domain.len {
-                move_paths(&mut domain.paths, at);
+                domain.paths.move_from(at);
             }
             domain.len += 1;
             Ok(at)
         }
         None => {
             let at = domain.len;
-            let part = first_row(alloc, at, name)?;
-            domain.paths.insert(String::from_str(alloc, path)?, part)?;
+            begin_path(alloc, &mut domain.paths, at, path, name)?;
             domain.len += 1;
             Ok(at)
         }
     }
 }
 
-// The part of one row.
-fn first_row(alloc: Global, start: usize, name: &str) -> Result<Part, AllocError>
-    ensures { IfOk result (λ part. part ≡ record { start = start; len = 1; names = name.now ∷ [] }) }
+// Has one row more of the path, where it has some. Answers where these ended.
+fn lengthen(
+    alloc: Global,
+    paths: &mut Paths,
+    path: &str,
+    name: &str,
+) -> Result<Option<usize>, AllocError>
+    requires absent { IfSome (value_at path.now paths.old) (λ part. list_any (bytes_eq name.now) part.names ≡ false) }
+    requires room { EndBefore last paths.old }
+    ensures ok { IfOk result (λ at. LengthensAny path.now name.now paths.old paths.new at) }
+    ensures err { OnErr result (paths.new ≡ paths.old) }
+{
+    let Some(place) = paths.rows.place(path) else {
+        return Ok(None);
+    };
+    let rows = paths.rows.value_mut(place);
+    rows.names.push(alloc, name)?;
+    let at = paths.starts.get(place) + rows.len;
+    rows.len += 1;
+    Ok(Some(at))
+}
+
+// Has a path more, which begins at `start` with the one row of the name.
+fn begin_path(
+    alloc: Global,
+    paths: &mut Paths,
+    start: usize,
+    path: &str,
+    name: &str,
+) -> Result<(), AllocError>
+    requires absent { value_at path.now paths.old ≡ None }
+    requires last { BeginBefore start paths.old }
+    ensures ok { OnOk result (paths.new
+        ≡ with_value paths.old path.now (record { start = start; len = 1; names = name.now ∷ [] })) }
+    ensures err { OnErr result (paths.new ≡ paths.old) }
 {
     let mut names = Names::new(alloc);
     names.push(alloc, name)?;
-    Ok(Part {
-        start,
-        len: 1,
-        names,
-    })
+    let text = String::from_str(alloc, path)?;
+    let rows = PathRows { len: 1, names };
+    begin_part(&mut paths.starts, &mut paths.rows, text, start, rows)
+}
+
+// Has a part more, of a text that has none.
+fn begin_part<V: Drop>(
+    starts: &mut Starts,
+    rows: &mut TextMap<V>,
+    text: String,
+    start: usize,
+    value: V,
+) -> Result<(), AllocError>
+    ensures starts_ok { OnOk result (starts.new ≡ starts.old ++ start ∷ []) }
+    ensures rows_ok { OnOk result (rows.new ≡ with_value rows.old (string_bytes text) value) }
+    ensures starts_err { OnErr result (starts.new ≡ starts.old) }
+    ensures rows_err { OnErr result (rows.new ≡ rows.old) }
+{
+    let place = starts.len();
+    starts.push(start)?;
+    match rows.insert(text, value) {
+        Ok(_) => Ok(()),
+        Err(e) => {
+            starts.remove(place);
+            Err(e)
+        }
+    }
 }
 
 // The parts of one path, which has the domain's one row.
-fn one_path(alloc: Global, path: &str, name: &str) -> Result<TextMap<Part>, AllocError>
+fn one_path(alloc: Global, path: &str, name: &str) -> Result<Paths, AllocError>
     ensures { IfOk result (λ paths.
         paths ≡ (path.now, record { start = 0; len = 1; names = name.now ∷ [] }) ∷ []) }
 {
-    let mut paths = TextMap::new(alloc);
-    let part = first_row(alloc, 0, name)?;
-    paths.insert(String::from_str(alloc, path)?, part)?;
+    let mut paths = Paths::new(alloc);
+    begin_path(alloc, &mut paths, 0, path, name)?;
     Ok(paths)
 }
 
@@ -84,9 +137,9 @@ pub(crate) fn put_row(
     match domains.rows.place(domain) {
         Some(place) => {
             let inner = put(alloc, domains.rows.value_mut(place), path, name)?;
-            let at = domains.starts[place] + inner;
+            let at = domains.starts.get(place) + inner;
             if at < rows {
-                move_starts(&mut domains.starts, at);
+                domains.starts.move_from(at);
             }
             Ok(at)
         }
@@ -117,8 +170,6 @@ fn begin(
 {
     let paths = one_path(alloc, path, name)?;
     let text = String::from_str(alloc, domain)?;
-    domains.starts.reserve(1)?;
-    domains.rows.insert(text, DomainRows { len: 1, paths })?;
-    domains.starts.push(start)?;
-    Ok(())
+    let rows = DomainRows { len: 1, paths };
+    begin_part(&mut domains.starts, &mut domains.rows, text, start, rows)
 }

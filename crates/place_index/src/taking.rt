@@ -6,23 +6,25 @@ ghost use Rattle.place_index.specs.Entries.{value_at};
 ghost use Rattle.place_index.specs.Taking.{BeginsBy, HasRow, Shortens, Takes, TakesAt};
 
 use crate::index::Domains;
-use crate::moving::{move_paths_back, move_starts_back};
-use crate::part::{DomainRows, Part};
-use crate::text_map::TextMap;
+use crate::part::{DomainRows, Paths};
 
 // Has one row fewer of the path, the one at `at`, counted from where the domain begins, and no part where that was the
 // only one.
-fn shorten(paths: &mut TextMap<Part>, at: usize, path: &str)
+fn shorten(paths: &mut Paths, at: usize, path: &str)
     requires { BeginsBy at (value_at path.now paths.old) }
     ensures { Shortens path.now at paths.old paths.new }
 {
-    match paths.get_mut(path) {
-        Some(part) if part.len > 1 => {
-            part.len -= 1;
-            part.names.take(at - part.start);
-        }
-        Some(_) => paths.remove(path),
-        None => {}
+    let Some(place) = paths.rows.place(path) else {
+        return;
+    };
+    let inner = at - paths.starts.get(place);
+    let rows = paths.rows.value_mut(place);
+    if rows.len > 1 {
+        rows.len -= 1;
+        rows.names.take(inner);
+    } else {
+        paths.rows.remove(path);
+        paths.starts.remove(place);
     }
 }
 
@@ -36,7 +38,7 @@ fn take(domain: &mut DomainRows, at: usize, path: &str)
     domain.len -= 1;
     shorten(&mut domain.paths, at, path);
     if at < domain.len {
-        move_paths_back(&mut domain.paths, at);
+        domain.paths.move_back(at);
     }
 }
 
@@ -46,7 +48,7 @@ pub(crate) fn take_row(domains: &mut Domains, at: usize, domain: &str, path: &st
     ensures { TakesAt domain.now path.now at domains.old domains.new }
 {
     if let Some(place) = domains.rows.place(domain) {
-        let inner = at - domains.starts[place];
+        let inner = at - domains.starts.get(place);
         let rows = domains.rows.value_mut(place);
         if rows.len > 1 {
             take(rows, inner, path);
@@ -55,5 +57,5 @@ pub(crate) fn take_row(domains: &mut Domains, at: usize, domain: &str, path: &st
             domains.starts.remove(place);
         }
     }
-    move_starts_back(&mut domains.starts, at);
+    domains.starts.move_back(at);
 }

@@ -3,7 +3,7 @@ use Rattle.std.specs.Prelude.{Some}
 use Rattle.std.specs.Str.{IsCharBoundary}
 use Rattle.place_index.specs.Candidates.{beginnings, paths_of}
 use Rattle.place_index.specs.Found.{spans_of}
-use Rattle.place_index.specs.Starts.{part_at}
+use Rattle.place_index.specs.Index.{part_at}
 use Rattle.place_index.proofs.StepLemmas.{left}
 use Rattle.place_index.proofs.find.ask_paths.Given as goal
 
