@@ -11,6 +11,7 @@ mod MatchLemmas
 mod NestedLemmas
 mod PairLemmas
 mod PieceLemmas
+mod PlaceLemmas
 mod RelateLemmas
 mod SecureReadLemmas
 mod SecureRunLemmas

@@ -6,6 +6,7 @@ pub mod Integrity
 pub mod KnownDates
 pub mod LongAttributes
 pub mod Refusals
+pub mod SecurePlaces
 pub mod SecureRuns
 pub mod SecureWins
 pub mod SessionLines

@@ -1,11 +1,13 @@
-//! One line into a store behind rules.
+//! Lines into a store behind rules, one by one.
 ghost use Rattle.std.specs.Prelude.{◌≡◌, IfOk, OnErr};
 ghost use Rattle.jiff.specs.Words.{civil_nanos};
 ghost use Rattle.user_agent.specs.Agent as spec;
+ghost use Rattle.user_agent.specs.SecurePlaces.{ArePlacesOf, ShowPlaces};
 
 use crate::agent::{is_stopped, rewritten};
 use crate::judging::refusal;
 use crate::rules::{Outcome, Refusal, Rules};
+use crate::secure_places::SecurePlaces;
 use cookie_run::client::accept_line as accept_client_line;
 use cookie_store::CookieStore;
 use jiff::civil::DateTime;
@@ -13,12 +15,12 @@ use std::alloc::{AllocError, Global};
 use url::Url;
 
 /// Takes one `Set-Cookie` line of an answer from this URL at `now` into a store behind these rules, as
-/// [`crate::UserAgent::receive`] takes each into its client: for a store that is no client's.
+/// [`crate::UserAgent::receive`] takes each into its client: for a store that is no client's. Of many lines of one
+/// answer, take each by [`accept_line_beside`].
 ///
 /// # Errors
 ///
 /// `AllocError` where memory was refused. The rows are then as they were.
-#[tactic(auto, using(crate::proofs::AgentLemmas::rewritten_so, crate::proofs::AgentLemmas::rewritten_asks, crate::proofs::AgentLemmas::handed_so, crate::proofs::AgentLemmas::handed_asks,))]
 pub fn accept_line(
     alloc: Global,
     store: &mut CookieStore,
@@ -33,12 +35,59 @@ pub fn accept_line(
         × spec.AsksForMemory rules.now url.now line.now) }
     ensures list { store.new.suffixes ≡ store.old.suffixes }
 {
+    accept_text(alloc, store, rules, &SecurePlaces::none(), url, line, now)
+}
+
+/// The same of one of many lines of an answer, where the Secure rows stand at these places: those of the store as the
+/// answer's lines began ([`SecurePlaces::of`]).
+///
+/// # Errors
+///
+/// Those of [`accept_line`].
+pub fn accept_line_beside(
+    alloc: Global,
+    store: &mut CookieStore,
+    rules: &Rules,
+    secure: &SecurePlaces,
+    url: &Url,
+    line: &[u8],
+    now: DateTime,
+) -> Result<Outcome, AllocError>
+    requires { ArePlacesOf secure.now rules.now url.now (civil_nanos now) store.old.rows }
+    ensures ok { IfOk result (λ outcome. spec.TakesLine rules.now store.old.suffixes store.old.rows url.now
+        (civil_nanos now) line.now outcome store.new.rows) }
+    ensures err { OnErr result ((store.new.rows ≡ store.old.rows)
+        × spec.AsksForMemory rules.now url.now line.now) }
+    ensures list { store.new.suffixes ≡ store.old.suffixes }
+    ensures places { ArePlacesOf secure.now rules.now url.now (civil_nanos now) store.new.rows }
+{
+    accept_text(alloc, store, rules, secure, url, line, now)
+}
+
+// Takes one line.
+#[tactic(auto, using(crate::proofs::AgentLemmas::rewritten_so, crate::proofs::AgentLemmas::rewritten_asks, crate::proofs::AgentLemmas::handed_so, crate::proofs::AgentLemmas::handed_asks,))]
+fn accept_text(
+    alloc: Global,
+    store: &mut CookieStore,
+    rules: &Rules,
+    secure: &SecurePlaces,
+    url: &Url,
+    line: &[u8],
+    now: DateTime,
+) -> Result<Outcome, AllocError>
+    requires { ShowPlaces secure.now (civil_nanos now) store.old.rows }
+    ensures ok { IfOk result (λ outcome. spec.TakesLine rules.now store.old.suffixes store.old.rows url.now
+        (civil_nanos now) line.now outcome store.new.rows) }
+    ensures err { OnErr result ((store.new.rows ≡ store.old.rows)
+        × spec.AsksForMemory rules.now url.now line.now) }
+    ensures list { store.new.suffixes ≡ store.old.suffixes }
+{
     if is_stopped(rules, line) {
         return Ok(Outcome::Refused(Refusal::Control));
     }
     match rewritten(alloc, rules, line, now)? {
-        Some(handed) => accept_handed(alloc, store, rules, url, handed.as_bytes(), now),
-        None => accept_handed(alloc, store, rules, url, line, now),
+        Some(handed) => accept_handed(alloc, store, rules, secure, url, handed.as_bytes(), now),
+        None => accept_handed(alloc, store, rules, secure, url, line, now),
     }
 }
 
@@ -47,16 +96,18 @@ fn accept_handed(
     alloc: Global,
     store: &mut CookieStore,
     rules: &Rules,
+    secure: &SecurePlaces,
     url: &Url,
     line: &[u8],
     now: DateTime,
 ) -> Result<Outcome, AllocError>
+    requires { ShowPlaces secure.now (civil_nanos now) store.old.rows }
     ensures ok { IfOk result (λ outcome. spec.TakesHanded rules.now store.old.suffixes store.old.rows url.now
         (civil_nanos now) line.now outcome store.new.rows) }
     ensures err { OnErr result ((store.new.rows ≡ store.old.rows) × spec.HandedAsks rules.now url.now line.now) }
     ensures list { store.new.suffixes ≡ store.old.suffixes }
 {
-    if let Some(rule) = refusal(alloc, rules, store, url, line, now)? {
+    if let Some(rule) = refusal(alloc, rules, store, secure, url, line, now)? {
         return Ok(Outcome::Refused(rule));
     }
     let end = accept_client_line(store, url, line, now)?;

@@ -22,6 +22,7 @@ ghost use Rattle.user_agent.specs.Integrity.{ProtectedRowsStay};
 ghost use Rattle.user_agent.specs.KnownDates.{IsKnownLine};
 ghost use Rattle.user_agent.specs.LongAttributes.{IsShortLine};
 ghost use Rattle.user_agent.specs.Refusals.{IsStoppedByControl};
+ghost use Rattle.user_agent.specs.SecurePlaces.{ArePlacesOf, ShowPlaces};
 ghost use Rattle.user_agent.specs.SecureWins.{IsHeaderBehind, IsWinnersHeader};
 
 use crate::cut_life::with_cut_life;
@@ -29,6 +30,7 @@ use crate::judging::{has_control, refusal};
 use crate::known_date::with_known_date;
 use crate::long_attributes::without_long_attributes;
 use crate::rules::{Outcome, Refusal, Rules};
+use crate::secure_places::SecurePlaces;
 use crate::secure_wins::winners;
 use cookie_run::client::header_of as header_text;
 use cookie_run::{Client, Stopped};
@@ -253,11 +255,34 @@ pub fn receive_all(
         (civil_nanos now) (map (λ line. line.now) lines.now) stopped.0 client.new.rows) }
     ensures list { client.new.suffixes ≡ client.old.suffixes }
 {
+    let (alloc, store) = (client.alloc(), client.store());
+    let Ok(secure) = SecurePlaces::of(alloc, store, rules, url, lines.len(), now) else {
+        return Err(Stopped(0));
+    };
+    receive_beside(client, rules, &secure, url, lines, now)
+}
+
+// The same where the Secure rows stand at these places.
+fn receive_beside(
+    client: &mut Client,
+    rules: &Rules,
+    secure: &SecurePlaces,
+    url: &Url,
+    lines: &[&[u8]],
+    now: DateTime,
+) -> Result<Vec<Outcome>, Stopped>
+    requires { ArePlacesOf secure.now rules.now url.now (civil_nanos now) client.old.rows }
+    ensures all { IfOk result (λ outcomes. spec.TakesLines rules.now client.old.suffixes client.old.rows url.now
+        (civil_nanos now) (map (λ line. line.now) lines.now) outcomes.items client.new.rows) }
+    ensures stopped { IfErr result (λ stopped. spec.IsStopped rules.now client.old.suffixes client.old.rows url.now
+        (civil_nanos now) (map (λ line. line.now) lines.now) stopped.0 client.new.rows) }
+    ensures list { client.new.suffixes ≡ client.old.suffixes }
+{
     let Ok(mut outcomes) = Vec::with_capacity(client.alloc(), lines.len()) else {
         return Err(Stopped(0));
     };
     for (i, line) in lines.iter().enumerate() {
-        match take_line(client, rules, url, line, now) {
+        match take_line(client, rules, secure, url, line, now) {
             // There is room for one outcome a line, so this push is not refused.
             Ok(outcome) => match outcomes.push(outcome) {
                 Ok(()) => {}
@@ -274,10 +299,12 @@ pub fn receive_all(
 fn take_line(
     client: &mut Client,
     rules: &Rules,
+    secure: &SecurePlaces,
     url: &Url,
     line: &[u8],
     now: DateTime,
 ) -> Result<Outcome, AllocError>
+    requires { ShowPlaces secure.now (civil_nanos now) client.old.rows }
     ensures ok { IfOk result (λ outcome. spec.TakesLine rules.now client.old.suffixes client.old.rows url.now
         (civil_nanos now) line.now outcome client.new.rows) }
     ensures err { OnErr result ((client.new.rows ≡ client.old.rows)
@@ -288,8 +315,8 @@ fn take_line(
         return Ok(Outcome::Refused(Refusal::Control));
     }
     match rewritten(client.alloc(), rules, line, now)? {
-        Some(handed) => take_handed(client, rules, url, handed.as_bytes(), now),
-        None => take_handed(client, rules, url, line, now),
+        Some(handed) => take_handed(client, rules, secure, url, handed.as_bytes(), now),
+        None => take_handed(client, rules, secure, url, line, now),
     }
 }
 
@@ -383,16 +410,19 @@ fn cut(alloc: Global, rules: &Rules, line: String, now: DateTime) -> Result<Stri
 fn take_handed(
     client: &mut Client,
     rules: &Rules,
+    secure: &SecurePlaces,
     url: &Url,
     line: &[u8],
     now: DateTime,
 ) -> Result<Outcome, AllocError>
+    requires { ShowPlaces secure.now (civil_nanos now) client.old.rows }
     ensures ok { IfOk result (λ outcome. spec.TakesHanded rules.now client.old.suffixes client.old.rows url.now
         (civil_nanos now) line.now outcome client.new.rows) }
     ensures err { OnErr result ((client.new.rows ≡ client.old.rows) × spec.HandedAsks rules.now url.now line.now) }
     ensures list { client.new.suffixes ≡ client.old.suffixes }
 {
-    if let Some(rule) = refusal(client.alloc(), rules, client.store(), url, line, now)? {
+    let alloc = client.alloc();
+    if let Some(rule) = refusal(alloc, rules, client.store(), secure, url, line, now)? {
         return Ok(Outcome::Refused(rule));
     }
     let end = client.receive_line(url, line, now)?;

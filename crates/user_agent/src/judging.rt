@@ -12,8 +12,10 @@ ghost use Rattle.store_parts.specs.Expiry.{is_dead};
 ghost use Rattle.cookie_store.specs.Rows.{domain_text};
 ghost use Rattle.cookie_store.specs.StoredCookie.{stored_of};
 ghost use Rattle.user_agent.specs.Refusals as spec;
+ghost use Rattle.user_agent.specs.SecurePlaces.{ShowPlaces};
 
 use crate::rules::{Refusal, Rules};
+use crate::secure_places::SecurePlaces;
 use cookie::{Cookie as RawCookie, Host, Prefix, SameSite};
 use cookie_store::utils::{is_host_name, is_secure};
 use cookie_store::{Cookie, CookieDomain, CookiePath, CookieStore, Error};
@@ -24,7 +26,7 @@ use std::alloc::{AllocError, Global};
 use url::Url;
 
 /// The first rule that is on and refuses what the line reads as, received from the URL at `now` by a user agent with
-/// this store. Control characters are another's to find.
+/// this store, whose Secure rows stand at these places. Control characters are another's to find.
 ///
 /// # Errors
 ///
@@ -33,10 +35,12 @@ pub fn refusal(
     alloc: Global,
     rules: &Rules,
     store: &CookieStore,
+    secure: &SecurePlaces,
     url: &Url,
     line: &[u8],
     now: DateTime,
 ) -> Result<Option<Refusal>, AllocError>
+    requires { ShowPlaces secure.now (civil_nanos now) store.now.rows }
     ensures found { IfOk result (λ found. MatchOption found
         (spec.IsLetIn rules.now store.now.rows url.now (civil_nanos now) line.now)
         (spec.IsRefusedBy rules.now store.now.rows url.now (civil_nanos now) line.now)) }
@@ -47,7 +51,7 @@ pub fn refusal(
         return Ok(None);
     };
     match RawCookie::parse(text) {
-        Ok(cookie) => cookie_refusal(alloc, rules, store, url, &cookie, now),
+        Ok(cookie) => cookie_refusal(alloc, rules, store, secure, url, &cookie, now),
         Err(_) => Ok(None),
     }
 }
@@ -57,10 +61,12 @@ fn cookie_refusal(
     alloc: Global,
     rules: &Rules,
     store: &CookieStore,
+    secure: &SecurePlaces,
     url: &Url,
     cookie: &RawCookie<'_>,
     now: DateTime,
 ) -> Result<Option<Refusal>, AllocError>
+    requires { ShowPlaces secure.now (civil_nanos now) store.now.rows }
     ensures found { IfOk result (λ found. MatchOption found
         (spec.NoneOf rules.now (spec.RefusesCookie store.now.rows url.now (civil_nanos now) cookie.now))
         (spec.IsFirstOf rules.now (spec.RefusesCookie store.now.rows url.now (civil_nanos now) cookie.now))) }
@@ -78,7 +84,7 @@ fn cookie_refusal(
     if rules.secure_from_http && is_secure_from_http(cookie, url) {
         return Ok(Some(Refusal::SecureFromHttp));
     }
-    if rules.secure_overlay && is_overlay(alloc, store, cookie, url, now)? {
+    if rules.secure_overlay && is_overlay(alloc, store, secure, cookie, url, now)? {
         return Ok(Some(Refusal::SecureOverlay));
     }
     if rules.secure_wins && is_without_secure(cookie, url) {
@@ -170,10 +176,12 @@ fn begins_in_any_case(name: &str, text: &[u8]) -> bool
 fn is_overlay(
     alloc: Global,
     store: &CookieStore,
+    secure: &SecurePlaces,
     cookie: &RawCookie<'_>,
     url: &Url,
     now: DateTime,
 ) -> Result<bool, AllocError>
+    requires { ShowPlaces secure.now (civil_nanos now) store.now.rows }
     ensures is { IfOk result (λ is. IsTrue is
         ↔ spec.IsOverlay store.now.rows url.now (civil_nanos now) cookie.now.cookie) }
     ensures err { OnErr result (spec.MayOverlay url.now cookie.now.cookie) }
@@ -185,7 +193,14 @@ fn is_overlay(
         return Ok(false);
     };
     let path = new_path(alloc, cookie, url)?;
-    Ok(overlies_one(store, cookie.name(), domain.as_str(), path.as_str(), now))
+    secure.overlies(
+        alloc,
+        store,
+        cookie.name(),
+        domain.as_str(),
+        path.as_str(),
+        now,
+    )
 }
 
 // The text of the domain that the cookie asks for.
@@ -217,8 +232,14 @@ fn new_path(alloc: Global, cookie: &RawCookie<'_>, url: &Url) -> Result<CookiePa
     }
 }
 
-// Whether one of the rows is overlaid by a cookie of this name, domain and path.
-fn overlies_one(store: &CookieStore, name: &str, domain: &str, path: &str, now: DateTime) -> bool
+/// Whether one of the rows is overlaid by a cookie of this name, domain and path.
+pub fn overlies_one(
+    store: &CookieStore,
+    name: &str,
+    domain: &str,
+    path: &str,
+    now: DateTime,
+) -> bool
     ensures { IsTrue result ↔ spec.HasOne (spec.IsOverlaid name.now domain.now path.now (civil_nanos now))
         store.now.rows }
 {
@@ -238,8 +259,8 @@ fn is_overlaid(row: &Cookie<'static>, name: &str, domain: &str, path: &str, now:
     is_secure_and_live(row, now) && lies_under(row, name, domain, path)
 }
 
-// Whether the row is Secure and isn't expired.
-fn is_secure_and_live(row: &Cookie<'static>, now: DateTime) -> bool
+/// Whether the row is Secure and isn't expired.
+pub fn is_secure_and_live(row: &Cookie<'static>, now: DateTime) -> bool
     ensures { IsTrue result ↔ (((stored_of row.now).raw.cookie.secure ≡ Some true)
         × (is_dead (civil_nanos now) (stored_of row.now).death ≡ false)) }
 {
@@ -263,8 +284,8 @@ fn is_reached(row: &Cookie<'static>, domain: &str, path: &str) -> bool
     are_nested(domain, row_domain(row)) && path_matches(row.path.as_str(), path)
 }
 
-// The text of the row's domain.
-fn row_domain<'a>(row: &'a Cookie<'static>) -> &'a str
+/// The text of the row's domain.
+pub fn row_domain<'a>(row: &'a Cookie<'static>) -> &'a str
     ensures { result.now ≡ domain_text (stored_of row.now) }
 {
     row.domain.as_cow().unwrap_or("")
@@ -283,8 +304,8 @@ fn are_same_decoded(a: &str, b: &str) -> bool
     other.next().is_none()
 }
 
-// Whether one of the texts domain-matches the other.
-fn are_nested(a: &str, b: &str) -> bool
+/// Whether one of the texts domain-matches the other.
+pub fn are_nested(a: &str, b: &str) -> bool
     ensures { IsTrue result ↔ spec.AreNested a.now b.now }
 {
     domain_matches(a, b) || domain_matches(b, a)
@@ -307,8 +328,8 @@ fn ends_after_dot(host: &str, domain: &str) -> bool
     }
 }
 
-// Whether the request-path path-matches the cookie-path (RFC 6265, section 5.1.4).
-fn path_matches(cookie_path: &str, request_path: &str) -> bool
+/// Whether the request-path path-matches the cookie-path (RFC 6265, section 5.1.4).
+pub fn path_matches(cookie_path: &str, request_path: &str) -> bool
     ensures { IsTrue result ↔ PathMatches cookie_path.now request_path.now }
 {
     let cookie_path = cookie_path.as_bytes();

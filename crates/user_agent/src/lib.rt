@@ -17,13 +17,15 @@ pub mod laws;
 pub mod long_attributes;
 mod plain;
 pub mod rules;
+mod secure_places;
 mod secure_wins;
 mod token;
 
-pub use accepting::accept_line;
+pub use accepting::{accept_line, accept_line_beside};
 pub use agent::UserAgent;
 pub use cut_life::with_cut_life;
 pub use known_date::with_known_date;
 pub use long_attributes::without_long_attributes;
 pub use plain::is_plain_url;
 pub use rules::{Outcome, Refusal, Rules};
+pub use secure_places::SecurePlaces;

@@ -63,8 +63,8 @@ fn wins(
     Ok(!names.contains(name.as_slice()))
 }
 
-// The text, percent-decoded.
-fn decoded(alloc: Global, text: &str) -> Result<Vec<u8>, AllocError>
+/// The text, percent-decoded.
+pub fn decoded(alloc: Global, text: &str) -> Result<Vec<u8>, AllocError>
     ensures { IfOk result (λ bytes. bytes.items ≡ percent_decode text.now) }
 {
     let mut bytes = Vec::new(alloc);

@@ -2,12 +2,14 @@ use Rattle.std.proofs.Common.{◌≡◌, ◌≤◌, take, length, vec_len}
 use Rattle.std.specs.Prelude.{map, vec_capacity}
 use Rattle.jiff.specs.Words.{civil_nanos}
 use Rattle.user_agent.specs.Agent.{TakesLines}
-use Rattle.user_agent.proofs.agent.receive_all.Given as goal
+use Rattle.user_agent.specs.SecurePlaces.{ArePlacesOf}
+use Rattle.user_agent.proofs.agent.receive_beside.Given as goal
 
 abbrev pub invariant-loop-i : goal.invariant-loop-i
 invariant-loop-i l = record {
   all : TakesLines l.rules l.fn.client.suffixes l.fn.client.rows l.url (civil_nanos l.now)
       (take l.i (map (λ line. line.now) l.lines)) l.outcomes.items l.client.rows;
+  places : ArePlacesOf l.secure l.rules l.url (civil_nanos l.now) l.client.rows;
   list : l.client.suffixes ≡ l.fn.client.suffixes;
   count : vec_len l.outcomes ≡ l.i;
   room : length l.lines ≤ vec_capacity l.outcomes;

@@ -1,7 +1,8 @@
 use Rattle.std.proofs.Common.{rules, inr}
 use Rattle.jiff.specs.Words.{civil_nanos}
 use Rattle.user_agent.proofs.AgentLemmas.{next_line, stopped_line}
-use Rattle.user_agent.proofs.agent.receive_all.Goals as goal
+use Rattle.user_agent.proofs.PlaceLemmas.{places_stay}
+use Rattle.user_agent.proofs.agent.receive_beside.Goals as goal
 
 pub loop-i-preserved : goal.loop-i-preserved
 loop-i-preserved c = record {
@@ -10,6 +11,9 @@ loop-i-preserved c = record {
       c.in-Ok-take_line.outcome c.args.url.now (civil_nanos c.args.now) c.args.lines.now c.loop-i.i _
       c.loop-i-test.true c.loop-i.invariant.all c.loop-i.client.suffixes c.loop-i.invariant.list
       c.in-Ok-take_line.ensures.ok c.in-Ok-push.ensures.items;
+  places = places_stay c.args.secure.now c.args.rules.now c.loop-i.client.suffixes c.loop-i.client.rows
+      c.take_line.new.client.rows c.args.url.now (civil_nanos c.args.now) _ c.in-Ok-take_line.outcome
+      c.loop-i.invariant.places c.in-Ok-take_line.ensures.ok;
   list = search rules;
   count = search rules;
   room = search rules;
