@@ -346,8 +346,8 @@ in_one piece [] p after e = cc
 in_one piece (b ∷ bs) p after e = absurd (nothing_is bs p after (tails (pos 0) _ _ _ _ e))
 
 -- what a lone piece gives is the last
-last_given : {A : Type 0} (gives : List ℕ → A → Type 0) (piece : List ℕ) (a : A) → HasLast gives (piece ∷ []) (Some a)
-    → gives piece a
+pub last_given : {A : Type 0} (gives : List ℕ → A → Type 0) (piece : List ℕ) (a : A)
+    → HasLast gives (piece ∷ []) (Some a) → gives piece a
 last_given gives piece a h = subst (λ p. gives p a) (in_one piece h.before h.piece h.after h.split) h.given
 
 last_there : {A : Type 0} (gives : List ℕ → A → Type 0) (piece : List ℕ) (a : A) (o : Option A)

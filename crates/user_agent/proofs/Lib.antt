@@ -6,6 +6,7 @@ mod FlagLemmas
 mod IntegrityLemmas
 mod JudgingLemmas
 mod KnownLemmas
+mod LeftLemmas
 mod LongLemmas
 mod MatchLemmas
 mod NestedLemmas

@@ -4,6 +4,7 @@ pub mod Dates
 pub mod Fields
 pub mod Integrity
 pub mod KnownDates
+pub mod LeftAlone
 pub mod LongAttributes
 pub mod Refusals
 pub mod SecurePlaces

@@ -28,6 +28,7 @@ ghost use Rattle.user_agent.specs.SecureWins.{IsHeaderBehind, IsWinnersHeader};
 use crate::cut_life::with_cut_life;
 use crate::judging::{has_control, refusal};
 use crate::known_date::with_known_date;
+use crate::left_alone::left_alone;
 use crate::long_attributes::without_long_attributes;
 use crate::rules::{Outcome, Refusal, Rules};
 use crate::secure_places::SecurePlaces;
@@ -336,8 +337,47 @@ pub(crate) fn rewritten(
         return Ok(None);
     }
     match str::from_utf8(line) {
-        Ok(text) => Ok(Some(handed_text(alloc, rules, text, now)?)),
+        Ok(text) => rewritten_text(alloc, rules, text, now),
         Err(_) => Ok(None),
+    }
+}
+
+// The same of a line that is a text.
+fn rewritten_text(
+    alloc: Global,
+    rules: &Rules,
+    line: &str,
+    now: DateTime,
+) -> Result<Option<String>, AllocError>
+    ensures { IfOk result (λ handed. MatchOption handed
+        (spec.IsHandedText rules.now (civil_nanos now) line.now line.now)
+        (λ text. spec.IsHandedText rules.now (civil_nanos now) line.now (string_bytes text))) }
+{
+    let Some(brief) = left_alone(alloc, line, now)? else {
+        return Ok(Some(handed_text(alloc, rules, line, now)?));
+    };
+    if brief {
+        Ok(None)
+    } else {
+        cut_alone(alloc, rules, line, now)
+    }
+}
+
+// The line with its life cut, where that rule is on.
+fn cut_alone(
+    alloc: Global,
+    rules: &Rules,
+    line: &str,
+    now: DateTime,
+) -> Result<Option<String>, AllocError>
+    ensures { IfOk result (λ cut. MatchOption cut
+        (spec.IsDoneIf rules.now.long_lives (IsCutLine (civil_nanos now)) line.now line.now)
+        (λ text. spec.IsDoneIf rules.now.long_lives (IsCutLine (civil_nanos now)) line.now (string_bytes text))) }
+{
+    if rules.long_lives {
+        Ok(Some(with_cut_life(alloc, line, now)?))
+    } else {
+        Ok(None)
     }
 }
 

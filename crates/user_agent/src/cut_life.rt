@@ -8,6 +8,7 @@ ghost use Rattle.store_parts.specs.Expiry.{seconds};
 ghost use Rattle.user_agent.specs.CutLives as spec;
 
 use crate::known_date::dated_piece;
+use crate::left_alone::says_no_life;
 use cookie_text::Cookie;
 use cookie_text::laws::one_outcome;
 use jiff::SignedDuration;
@@ -76,6 +77,9 @@ fn briefer(alloc: Global, piece: &str, now: DateTime) -> Result<Option<String>, 
     ensures { IfOk result (λ found. MatchOption found (spec.IsBrief (civil_nanos now) piece.now)
         (λ brief. spec.IsBriefer (civil_nanos now) piece.now (string_bytes brief))) }
 {
+    if says_no_life(piece) {
+        return Ok(None);
+    }
     let mut text = String::from_str(alloc, "a=;")?;
     text.push_str(piece)?;
     match Cookie::parse(text.as_str()) {
@@ -100,6 +104,13 @@ fn briefer_for(
         Some(limit) => Ok(Some(dated_piece(alloc, limit)?)),
         None => Ok(None),
     }
+}
+
+/// Whether the cookie lives 400 days at most from `now` on.
+pub(crate) fn is_brief(cookie: &Cookie<'_>, now: DateTime) -> bool
+    ensures { IsTrue result → spec.IsBriefCookie (civil_nanos now) cookie.now.cookie }
+{
+    !is_long(cookie) && limit_passed(cookie, now).is_none()
 }
 
 // Whether the cookie has a Max-Age over 400 days.

@@ -14,6 +14,7 @@ pub mod integrity;
 mod judging;
 pub mod known_date;
 pub mod laws;
+mod left_alone;
 pub mod long_attributes;
 mod plain;
 pub mod rules;

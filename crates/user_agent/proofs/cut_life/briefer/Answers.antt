@@ -2,7 +2,12 @@ use Rattle.std.proofs.Common.{◌≡◌, ◌∙◌, ◌++◌, ap, codes, string_
 use Rattle.jiff.specs.Words.{civil_nanos}
 use Rattle.user_agent.proofs.CutLemmas.{briefed}
 use Rattle.user_agent.proofs.KnownLemmas.{lone_piece, lone_reads}
+use Rattle.user_agent.proofs.LeftLemmas.{no_life}
 use Rattle.user_agent.proofs.cut_life.briefer.Goals as goal
+
+pub returns-then-says_no_life : goal.returns-then-says_no_life
+returns-then-says_no_life c =
+    no_life (civil_nanos c.args.now) c.args.piece.now (c.says_no_life.ensures c.if-says_no_life.true)
 
 pub returns-in-Ok : goal.returns-in-Ok
 returns-in-Ok c =
