@@ -1,5 +1,6 @@
 //! Lines that no rule changes, so that they needn't be copied.
-ghost use Rattle.std.specs.Prelude.{◌≡◌, ◌==◌, ◌&&◌, ◌⊎◌, ◌↔◌, IfOk, IfSome, IsSome, IsTrue, false, length, nat_le, true};
+ghost use Rattle.std.specs.Prelude.{◌≡◌, ◌==◌, ◌&&◌, ◌⊎◌, ◌↔◌, IfOk, IfSome, IsSome, IsTrue, false, length, nat_le};
+ghost use Rattle.std.specs.Prelude.{true};
 ghost use Rattle.std.specs.Str.{trim};
 ghost use Rattle.std.specs.List.{All, AllByRecursion};
 ghost use Rattle.jiff.specs.Words.{civil_nanos};
