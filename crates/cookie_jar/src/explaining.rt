@@ -23,7 +23,7 @@ use jiff::civil::DateTime;
 use line_report::{Judgement, PairFault, Piece, pair, pieces};
 use std::alloc::{AllocError, Global};
 use url::Url;
-use user_agent::{Outcome, Refusal, Rules};
+use user_agent::{Outcome, Refusal, Rules, SecurePlaces};
 
 /// Which rules change the line, what it says then, what would become of it at `now` in the store of a jar of this form
 /// behind these rules and by which rule, and which requests would get it.
@@ -46,7 +46,8 @@ pub(crate) fn explained(
     let mut text = String::new(alloc);
     let handed = push_said(alloc, &mut text, rules, line, now)?;
     let mut copy = store.clone()?;
-    let end = take_line(alloc, &mut copy, form, rules, url, line, now)?;
+    let secure = SecurePlaces::none();
+    let end = take_line(alloc, &mut copy, form, rules, &secure, url, line, now)?;
     push_end(&mut text, end)?;
     let left = left_of(&handed, line);
     push_sent(alloc, &mut text, &copy, url, left, end, now)?;

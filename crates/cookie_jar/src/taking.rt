@@ -3,6 +3,7 @@ ghost use Rattle.std.specs.Prelude.{◌≡◌, ◌↔◌, ◌||◌, IfOk, IfErr,
 ghost use Rattle.jiff.specs.Words.{civil_nanos};
 ghost use Rattle.line_report.specs.Pair.{IsPairOf};
 ghost use Rattle.user_agent.specs.Agent.{AsksForMemory};
+ghost use Rattle.user_agent.specs.SecurePlaces.{ArePlacesOf};
 ghost use Rattle.cookie_jar.specs.Keeping as kept;
 ghost use Rattle.cookie_jar.specs.Taking as spec;
 
@@ -14,7 +15,7 @@ use jiff::civil::DateTime;
 use line_report::pair;
 use std::alloc::{AllocError, Global};
 use url::Url;
-use user_agent::{Outcome, Rules, accept_line};
+use user_agent::{Outcome, Rules, SecurePlaces, accept_line_beside};
 
 /// What became of a line in a jar.
 #[derive(Clone, Copy, Debug, PartialEq, Eq)]
@@ -51,11 +52,35 @@ pub(crate) fn take_all(
         (civil_nanos now) (map (λ line. line.now) lines.now) stopped.0 store.new.rows) }
     ensures list { store.new.suffixes ≡ store.old.suffixes }
 {
+    let Ok(secure) = SecurePlaces::of(alloc, store, rules, url, lines.len(), now) else {
+        return Err(Stopped(0));
+    };
+    take_beside(alloc, store, form, rules, &secure, url, lines, now)
+}
+
+// The same where the Secure rows stand at these places.
+fn take_beside(
+    alloc: Global,
+    store: &mut CookieStore,
+    form: Form,
+    rules: &Rules,
+    secure: &SecurePlaces,
+    url: &Url,
+    lines: &[&[u8]],
+    now: DateTime,
+) -> Result<Vec<End>, Stopped>
+    requires { ArePlacesOf secure.now rules.now url.now (civil_nanos now) store.old.rows }
+    ensures all { IfOk result (λ ends. spec.TakesAll form rules.now store.old.suffixes store.old.rows url.now
+        (civil_nanos now) (map (λ line. line.now) lines.now) ends.items store.new.rows) }
+    ensures stopped { IfErr result (λ stopped. spec.IsStopped form rules.now store.old.suffixes store.old.rows url.now
+        (civil_nanos now) (map (λ line. line.now) lines.now) stopped.0 store.new.rows) }
+    ensures list { store.new.suffixes ≡ store.old.suffixes }
+{
     let Ok(mut ends) = Vec::with_capacity(alloc, lines.len()) else {
         return Err(Stopped(0));
     };
     for (i, line) in lines.iter().enumerate() {
-        match take_line(alloc, store, form, rules, url, line, now) {
+        match take_line(alloc, store, form, rules, secure, url, line, now) {
             // There is room for one end a line, so this push is not refused.
             Ok(end) => match ends.push(end) {
                 Ok(()) => {}
@@ -67,7 +92,7 @@ pub(crate) fn take_all(
     Ok(ends)
 }
 
-/// Takes one line.
+/// Takes one line, where the Secure rows stand at these places.
 ///
 /// # Errors
 ///
@@ -77,14 +102,17 @@ pub(crate) fn take_line(
     store: &mut CookieStore,
     form: Form,
     rules: &Rules,
+    secure: &SecurePlaces,
     url: &Url,
     line: &[u8],
     now: DateTime,
 ) -> Result<End, AllocError>
+    requires { ArePlacesOf secure.now rules.now url.now (civil_nanos now) store.old.rows }
     ensures ok { IfOk result (λ end. spec.TakesLine form rules.now store.old.suffixes store.old.rows url.now
         (civil_nanos now) line.now end store.new.rows) }
     ensures err { OnErr result ((store.new.rows ≡ store.old.rows) × AsksForMemory rules.now url.now line.now) }
     ensures list { store.new.suffixes ≡ store.old.suffixes }
+    ensures places { ArePlacesOf secure.now rules.now url.now (civil_nanos now) store.new.rows }
 {
     if has_control_pair(line) {
         return Ok(End::Control);
@@ -92,7 +120,7 @@ pub(crate) fn take_line(
     if parts_by_tabs(form) && has_tab(line) {
         return Ok(End::Tab);
     }
-    match accept_line(alloc, store, rules, url, line, now) {
+    match accept_line_beside(alloc, store, rules, secure, url, line, now) {
         Ok(outcome) => Ok(End::Line(outcome)),
         Err(refused) => Err(refused),
     }

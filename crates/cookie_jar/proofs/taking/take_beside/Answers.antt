@@ -1,7 +1,7 @@
 use Rattle.std.proofs.Common.{rules, inr}
 use Rattle.jiff.specs.Words.{civil_nanos}
 use Rattle.cookie_jar.proofs.TakeLemmas.{next_line, stopped_line}
-use Rattle.cookie_jar.proofs.taking.take_all.Goals as goal
+use Rattle.cookie_jar.proofs.taking.take_beside.Goals as goal
 
 pub loop-i-preserved : goal.loop-i-preserved
 loop-i-preserved c = record {
@@ -10,6 +10,7 @@ loop-i-preserved c = record {
       c.args.url.now (civil_nanos c.args.now) c.args.lines.now c.loop-i.i _ c.loop-i-test.true c.loop-i.invariant.all
       c.loop-i.store.suffixes c.loop-i.invariant.list c.in-Ok-take_line.ensures.ok
       c.in-Ok-push.ensures.items;
+  places = c.in-Ok-take_line.ensures.places;
   list = search rules;
   count = search rules;
   room = search rules;
