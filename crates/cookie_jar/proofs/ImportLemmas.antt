@@ -273,6 +273,6 @@ lines_kept now entries old told new kept done =
 pub lines_held : {E : Type 0} (r : Result ImportedLines E) (now : ℤ) (text : List ℕ) (before after : Store)
     → AreKept before.rows → IfOk r (λ lines. ImportsLines now text before.rows (lines_text lines) after.rows)
     → OnErr r (after ≡ before) → AreKept after.rows
-lines_held (Ok lines) now text before after kept (utf8, (entries, gives, done)) same =
+lines_held (Ok lines) now text before after kept (entries, gives, done) same =
     lines_kept now entries before.rows (lines_text lines) after.rows kept done
 lines_held (Err e) now text before after kept ok same = subst (λ (s : Store). AreKept s.rows) (sym same) kept

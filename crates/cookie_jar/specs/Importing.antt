@@ -1,22 +1,18 @@
 -- What an import takes of the lines of a `cookies.txt`, each read by itself (this repository's own).
-use Rattle.std.specs.Prelude.{◌≡◌, ◌⊎◌, ◌||◌, ◌+◌, ◌++◌, ℕ, ℤ, Bool, true, false, not, List, [], ◌∷◌, length, map}
+use Rattle.std.specs.Prelude.{◌≡◌, ◌||◌, ◌+◌, ◌++◌, ℕ, ℤ, Bool, true, false, not, List, [], ◌∷◌, length, map}
 use Rattle.std.specs.Prelude.{Option, Some, None, Result, Ok, Err, ⊤, codes, filter}
 use Rattle.std.specs.Prelude.{if◌then◌else◌}
 use Rattle.std.specs.Fmt.{decimal}
 use Rattle.std.specs.List.{flat_map}
-use Rattle.std.specs.Str.{IsUtf8}
 use Rattle.cookie_store.specs.Given.{ArePicked}
 use Rattle.cookie_store.specs.Placing.{loaded}
 use Rattle.cookie_store.specs.Rows.{Row, is_live, live}
 use Rattle.cookies_txt.specs.Entries.{GivesEntries}
 use Rattle.cookies_txt.specs.declared.error.LineFault.{LineFault}
-use Rattle.cookies_txt.specs.declared.error.LineFault.TheVariants.{Fields, EmptyDomain, Flag, NoSlash}
+use Rattle.cookies_txt.specs.declared.error.LineFault.TheVariants.{NotText, Fields, EmptyDomain, Flag, NoSlash}
 use Rattle.cookies_txt.specs.declared.error.LineFault.TheVariants.{Number, EmptyName, Domain}
-use Rattle.cookies_txt.specs.declared.error.ReadError.TheVariants.{NotText}
 use Rattle.cookie_jar.specs.Keeping.{IsKept, has_control, is_read_pair}
 use Rattle.cookie_jar.specs.LeftOut.{IsRefused}
-use Rattle.cookie_jar.specs.declared.error.ReadError.{ReadError}
-use Rattle.cookie_jar.specs.declared.error.ReadError.TheVariants.{Lines, OutOfMemory}
 use Rattle.cookie_jar.specs.declared.importing.Cause.{Cause}
 use Rattle.cookie_jar.specs.declared.importing.Cause.TheVariants.{Faulty, Control, Pair, HostPrefix}
 use Rattle.cookie_jar.specs.declared.importing.ImportedLines.{ImportedLines}
@@ -90,11 +86,7 @@ pub record ImportsEntries (now : ℤ) (entries : List Entry) (old : List Row) (t
 -- so with the lines of a text
 abbrev pub ImportsLines : ℤ → List ℕ → List Row → LinesText → List Row → Type 0
 ImportsLines now text old told new =
-    IsUtf8 text × ((entries : List Entry) × GivesEntries text entries × ImportsEntries now entries old told new)
-
--- why a text has no lines
-abbrev pub HasNoLines : List ℕ → ReadError → Type 0
-HasNoLines text e = (e ≡ OutOfMemory) ⊎ ((e ≡ Lines NotText) × (¬ IsUtf8 text))
+    (entries : List Entry) × GivesEntries text entries × ImportsEntries now entries old told new
 
 -- ---- what is told
 
@@ -111,6 +103,7 @@ lines_text lines = record {
 
 -- what is told of a line with this fault
 abbrev pub fault_words : LineFault → List ℕ
+fault_words NotText = codes "not UTF-8"
 fault_words Fields = codes "neither six nor seven fields"
 fault_words EmptyDomain = codes "no domain"
 fault_words Flag = codes "flag neither TRUE nor FALSE"

@@ -1,5 +1,5 @@
 //! What an import takes of the lines of a `cookies.txt`, each read by itself.
-ghost use Rattle.std.specs.Prelude.{◌≡◌, ◌++◌, ◌∷◌, [], IfErr, IfOk, IfSome, IsNone, Ok, OnErr, OnOk, map, option_map};
+ghost use Rattle.std.specs.Prelude.{◌≡◌, ◌++◌, ◌∷◌, [], IfOk, IfSome, IsNone, Ok, OnErr, OnOk, map, option_map};
 ghost use Rattle.std.specs.Prelude.{string_bytes};
 ghost use Rattle.std.specs.Result.{result_map_both};
 ghost use Rattle.jiff.specs.Words.{civil_nanos};
@@ -10,10 +10,9 @@ ghost use Rattle.cookies_txt.specs.Entries.{entry_text};
 ghost use Rattle.cookie_jar.specs.Importing as spec;
 ghost use Rattle.cookie_jar.specs.Keeping.{IsKept};
 
-use crate::error::ReadError;
 use crate::jar::with_rows;
 use crate::keeping::{has_control, is_kept, is_read_pair};
-use crate::reading::{placed, unread_lines};
+use crate::reading::placed;
 use cookie_store::{Cookie, CookieStore};
 use cookies_txt::{Entry, LineFault, read_entries};
 use jiff::civil::DateTime;
@@ -59,23 +58,20 @@ pub struct ImportedLines {
 ///
 /// # Errors
 ///
-/// `Lines` with `NotText` where the bytes aren't UTF-8; `OutOfMemory`. The store is then as it was.
+/// `AllocError`, for want of memory. The store is then as it was.
 pub(crate) fn import_lines(
     alloc: Global,
     store: &mut CookieStore,
     text: &[u8],
     now: DateTime,
-) -> Result<ImportedLines, ReadError>
+) -> Result<ImportedLines, AllocError>
     ensures ok { IfOk result (λ lines. spec.ImportsLines (civil_nanos now) text.now store.old.rows
         (spec.lines_text lines) store.new.rows) }
-    ensures err { IfErr result (spec.HasNoLines text.now) }
     ensures same { OnErr result (store.new ≡ store.old) }
     ensures list { store.new.suffixes ≡ store.old.suffixes }
 {
-    match read_entries(alloc, text) {
-        Ok(entries) => Ok(import_entries(alloc, store, entries, now)?),
-        Err(cause) => Err(unread_lines(cause)),
-    }
+    let entries = read_entries(alloc, text)?;
+    import_entries(alloc, store, entries, now)
 }
 
 fn import_entries(
@@ -250,6 +246,7 @@ pub(crate) fn fault_words(fault: LineFault) -> &'static str
     ensures { result.now ≡ spec.fault_words fault }
 {
     match fault {
+        LineFault::NotText => "not UTF-8",
         LineFault::Fields => "neither six nor seven fields",
         LineFault::EmptyDomain => "no domain",
         LineFault::Flag => "flag neither TRUE nor FALSE",

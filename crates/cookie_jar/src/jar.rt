@@ -246,11 +246,10 @@ impl Jar {
     ///
     /// # Errors
     ///
-    /// `Lines` with `NotText` where the bytes aren't UTF-8; `OutOfMemory`. The jar is then as it was.
-    pub fn import_lines(&mut self, text: &[u8], now: DateTime) -> Result<ImportedLines, ReadError>
+    /// `AllocError`, for want of memory. The jar is then as it was.
+    pub fn import_lines(&mut self, text: &[u8], now: DateTime) -> Result<ImportedLines, AllocError>
         ensures ok { IfOk result (λ done. lines.ImportsLines (civil_nanos now) text.now self.old.rows
             (lines.lines_text done) self.new.rows) }
-        ensures err { IfErr result (lines.HasNoLines text.now) }
         ensures same { OnErr result (self.new ≡ self.old) }
         ensures list { self.new.suffixes ≡ self.old.suffixes }
         ensures kept { AreKept self.new.rows }

@@ -72,7 +72,7 @@ fn read_txt(alloc: Global, text: &[u8], now: DateTime) -> Result<CookieStore, Re
 }
 
 // What a refusal to read lines is told as.
-pub(crate) fn unread_lines(cause: cookies_txt::ReadError) -> ReadError
+fn unread_lines(cause: cookies_txt::ReadError) -> ReadError
     ensures { ((result ≡ ReadError.OutOfMemory) × (cause ≡ lines.OutOfMemory))
         ⊎ ((result ≡ ReadError.Lines cause) × (cause ≢ lines.OutOfMemory)) }
 {

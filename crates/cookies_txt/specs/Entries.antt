@@ -1,10 +1,10 @@
 -- What the lines of a text give where each is read by itself: a row, its domain in IDNA form (RFC 6265, 5.1.2), or a
 -- fault (this repository's own).
-use Rattle.std.specs.Prelude.{◌≡◌, ◌==◌, ◌⊎◌, ◌+◌, ◌++◌, ℕ, List, [], ◌∷◌, drop, map, Option, Some, None}
+use Rattle.std.specs.Prelude.{◌≡◌, ◌==◌, ◌+◌, ◌++◌, ℕ, List, [], ◌∷◌, drop, map, Option, Some, None}
 use Rattle.std.specs.Prelude.{Result, Ok, Err, MatchOption, MatchResult, if◌then◌else◌}
 use Rattle.std.specs.List.{starts_with}
 use Rattle.std.specs.Result.{result_map_both}
-use Rattle.std.specs.Str.{IsUtf8}
+use Rattle.std.specs.Str.{is_utf8}
 use Rattle.std.specs.Str.Lines.{lines}
 use Rattle.cookie_text.specs.ReadingBack.{Pairwise}
 use Rattle.store_parts.specs.DomainMatch.{Domain, host_only, suffix, not_present, empty}
@@ -12,13 +12,11 @@ use Rattle.store_parts.specs.DomainText.{read_domain}
 use Rattle.cookie_store.specs.Rows.{Row}
 use Rattle.cookie_store.specs.StoredCookie.{stored_of}
 use Rattle.cookies_txt.specs.Layout.{CookieLine}
-use Rattle.cookies_txt.specs.Reading.{read_line}
+use Rattle.cookies_txt.specs.Reading.{is_passed_over, read_line}
 use Rattle.cookies_txt.specs.Writing.{IsRowOf}
 use Rattle.cookies_txt.specs.declared.entries.Entry.{Entry}
 use Rattle.cookies_txt.specs.declared.error.LineFault.{LineFault}
-use Rattle.cookies_txt.specs.declared.error.LineFault.TheVariants.{Domain as NoDomain}
-use Rattle.cookies_txt.specs.declared.error.ReadError.{ReadError}
-use Rattle.cookies_txt.specs.declared.error.ReadError.TheVariants.{NotText, OutOfMemory}
+use Rattle.cookies_txt.specs.declared.error.LineFault.TheVariants.{Domain as NoDomain, NotText}
 
 -- ---- a line
 
@@ -35,9 +33,11 @@ with_idna (Ok (Some line)) = in_idna line (read_domain line.domain)
 with_idna (Ok None) = Ok None
 with_idna (Err fault) = Err fault
 
--- what a line gives: a cookie, nothing where it is passed over, or its first fault
+-- What a line gives: a cookie, nothing where it is passed over, or its first fault. One that isn't UTF-8 is faulty,
+-- unless it is passed over.
 unfoldable pub given_by : List ℕ → Result (Option CookieLine) LineFault
-given_by line = with_idna (read_line line)
+given_by line =
+    if is_utf8 line then with_idna (read_line line) else if is_passed_over line then Ok None else Err NotText
 
 -- ---- a text
 
@@ -83,15 +83,15 @@ IsEntry given answered = (answered.0 ≡ given.0) × IsAnswer given.1 answered.1
 abbrev pub GivesEntries : List ℕ → List (ℕ × Result Row LineFault) → Type 0
 GivesEntries text answered = Pairwise IsEntry (entries_of text) answered
 
--- why there are none
-abbrev pub IsNoText : List ℕ → ReadError → Type 0
-IsNoText bytes e = (e ≡ OutOfMemory) ⊎ ((e ≡ NotText) × (¬ IsUtf8 bytes))
+-- a step of the code, for a private contract alone: what is answered where a line gives this
+abbrev pub AnswersGiven : Result (Option CookieLine) LineFault → Option (Result Row LineFault) → Type 0
+AnswersGiven given answered = MatchOption answered (given ≡ Ok None) (λ answer.
+    MatchResult answer (λ row. (said : CookieLine) × (given ≡ Ok (Some said)) × IsRowOf said row)
+    (λ fault. given ≡ Err fault))
 
--- a step of the code, for a private contract alone: what is answered for a line
+-- so of a line
 abbrev pub AnswersLine : List ℕ → Option (Result Row LineFault) → Type 0
-AnswersLine line answered = MatchOption answered (given_by line ≡ Ok None) (λ answer.
-    MatchResult answer (λ row. (said : CookieLine) × (given_by line ≡ Ok (Some said)) × IsRowOf said row)
-    (λ fault. given_by line ≡ Err fault))
+AnswersLine line answered = AnswersGiven (given_by line) answered
 
 -- so, where the line says this
 abbrev pub AnswersSaid : CookieLine → Result Row LineFault → Type 0

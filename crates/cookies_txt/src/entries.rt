@@ -1,19 +1,21 @@
 //! The lines of a `cookies.txt`, each read by itself.
-ghost use Rattle.std.specs.Prelude.{◌≡◌, ◌≤◌, map, IfOk, IfErr, option_map};
+ghost use Rattle.std.specs.Prelude.{◌≡◌, ◌≤◌, map, IfOk, option_map};
 ghost use Rattle.std.specs.Result.{result_map_both};
-ghost use Rattle.std.specs.Str.{IsUtf8};
 ghost use Rattle.cookie_store.specs.StoredCookie.{stored_of};
 ghost use Rattle.cookies_txt.specs.Entries as spec;
+ghost use Rattle.cookies_txt.specs.Reading.{read_line};
 ghost use Rattle.cookies_txt.specs.Steps.{said_of};
 ghost use Rattle.cookies_txt.specs.Writing.{latest_second};
 
-use crate::error::{LineFault, ReadError};
+use crate::error::LineFault;
+use crate::fields::is_passed_over;
 use crate::line::Line;
+use crate::lines::first_line;
 use cookie_store::{Cookie, CookieDomain, Error};
 use std::alloc::{AllocError, Global};
 
 // What some editors put in front of a text.
-const BYTE_ORDER_MARK: &str = "\u{feff}";
+const BYTE_ORDER_MARK: &[u8] = b"\xef\xbb\xbf";
 
 /// A line that isn't passed over.
 #[derive(Debug, Drop)]
@@ -25,29 +27,21 @@ pub struct Entry {
 }
 
 /// Reads each line of a text by itself, as [`crate::read`] does: one entry for each that isn't passed over, in their
-/// order. A row's domain is put into its IDNA form (RFC 6265, section 5.1.2): in small letters, and without white space
-/// at its ends. A byte order mark in front of the text is left out.
+/// order. A line that isn't UTF-8 is faulty, unless it is passed over. A row's domain is put into its IDNA form (RFC
+/// 6265, section 5.1.2): in small letters, and without white space at its ends. A byte order mark in front of the text
+/// is left out.
 ///
 /// # Errors
 ///
-/// `NotText` where the bytes aren't UTF-8; `OutOfMemory`. A faulty line is an entry, and no error.
-pub fn read_entries(alloc: Global, text: &[u8]) -> Result<Vec<Entry>, ReadError>
-    ensures ok { IfOk result (λ entries. spec.GivesEntries text.now (map spec.entry_text entries.items)) }
-    ensures utf8 { IfOk result (λ _. IsUtf8 text.now) }
-    ensures err { IfErr result (spec.IsNoText text.now) }
-{
-    match str::from_utf8(text) {
-        Ok(text) => Ok(entries_of(alloc, text)?),
-        Err(_) => Err(ReadError::NotText),
-    }
-}
-
-fn entries_of(alloc: Global, text: &str) -> Result<Vec<Entry>, AllocError>
+/// `AllocError`, for want of memory. A faulty line is an entry, and no error.
+pub fn read_entries(alloc: Global, text: &[u8]) -> Result<Vec<Entry>, AllocError>
     ensures { IfOk result (λ entries. spec.GivesEntries text.now (map spec.entry_text entries.items)) }
 {
     let mut entries = Vec::new(alloc);
     let mut number = 0;
-    for line in without_mark(text).lines() {
+    let mut rest = without_mark(text);
+    while let Some((line, behind)) = first_line(rest) {
+        rest = behind;
         number += 1;
         match row_of(alloc, line)? {
             Some(row) => entries.push(Entry { number, row })?,
@@ -57,19 +51,32 @@ fn entries_of(alloc: Global, text: &str) -> Result<Vec<Entry>, AllocError>
     Ok(entries)
 }
 
-fn without_mark(text: &str) -> &str
+fn without_mark(text: &[u8]) -> &[u8]
     ensures { result.now ≡ spec.without_mark text.now }
 {
     text.strip_prefix(BYTE_ORDER_MARK).unwrap_or(text)
 }
 
 // The row of a line or its first fault, nothing where the line is passed over.
-#[tactic(auto, unfolding(crate::specs::Entries::given_by))]
 fn row_of(
+    alloc: Global,
+    line: &[u8],
+) -> Result<Option<Result<Cookie<'static>, LineFault>>, AllocError>
+    ensures { IfOk result (λ answer. spec.AnswersLine line.now
+        (option_map (λ row. result_map_both stored_of (λ fault. fault) row) answer)) }
+{
+    match str::from_utf8(line) {
+        Ok(text) => row_of_text(alloc, text),
+        Err(_) if is_passed_over(line) => Ok(None),
+        Err(_) => Ok(Some(Err(LineFault::NotText))),
+    }
+}
+
+fn row_of_text(
     alloc: Global,
     line: &str,
 ) -> Result<Option<Result<Cookie<'static>, LineFault>>, AllocError>
-    ensures { IfOk result (λ answer. spec.AnswersLine line.now
+    ensures { IfOk result (λ answer. spec.AnswersGiven (spec.with_idna (read_line line.now))
         (option_map (λ row. result_map_both stored_of (λ fault. fault) row) answer)) }
 {
     match Line::parse(line) {

@@ -41,6 +41,9 @@ pub enum WriteError {
 /// What is wrong with a line, in the order in which it is told.
 #[derive(Clone, Copy, Debug, PartialEq, Eq, Error)]
 pub enum LineFault {
+    /// It isn't UTF-8. Only [`crate::read_entries`] tells it.
+    #[error("NotText")]
+    NotText,
     /// There are neither seven fields nor six.
     #[error("Fields")]
     Fields,

@@ -19,7 +19,7 @@ impl<'a> Line<'a> {
             (λ fault. spec.read_line line.now ≡ Err fault) }
         ensures bound { IfOk result (λ said. IfSome said (λ line. line.expires ≤ latest_second)) }
     {
-        if is_passed_over(line) {
+        if is_passed_over(line.as_bytes()) {
             return Ok(None);
         }
         let (http_only, rest) = unmarked(line);
@@ -37,18 +37,25 @@ fn unindented(line: &str) -> &str
     line.trim_ascii_start()
 }
 
-// Whether the line is blank, or a comment.
-fn is_passed_over(line: &str) -> bool
-    ensures { result ≡ spec.is_passed_over line.now }
+// The same of bytes.
+fn unindented_bytes(line: &[u8]) -> &[u8]
+    ensures { result.now ≡ spec.unindented line.now }
 {
-    let text = unindented(line);
-    text.is_empty() || (begins_with_sign(text) && !unmarked(line).0)
+    line.trim_ascii_start()
 }
 
-fn begins_with_sign(line: &str) -> bool
+/// Whether the line is blank, or a comment.
+pub(crate) fn is_passed_over(line: &[u8]) -> bool
+    ensures { result ≡ spec.is_passed_over line.now }
+{
+    let text = unindented_bytes(line);
+    text.is_empty() || (begins_with_sign(text) && !text.starts_with(HTTP_ONLY_MARK.as_bytes()))
+}
+
+fn begins_with_sign(line: &[u8]) -> bool
     ensures { result ≡ spec.begins_with_sign line.now }
 {
-    matches!(line.as_bytes(), [b'#', ..])
+    matches!(line, [b'#', ..])
 }
 
 // Whether the line is marked as HttpOnly, and what stands behind this mark, or else the line.

@@ -12,6 +12,7 @@ mod error;
 mod fields;
 pub mod laws;
 mod line;
+mod lines;
 mod readers;
 mod reading;
 mod row;

@@ -37,4 +37,4 @@ pub lines_unkept : (plan : PlanText) (jar : Store) (is_strict : Bool) (text : Li
     → FailsToImportLines plan jar is_strict text failure
 lines_unkept plan jar is_strict text lines new failure imports lets (inl memory) = inl memory
 lines_unkept plan jar is_strict text lines new failure imports lets (inr unkept) =
-    inr (inr (lines, new, imports, inr (lets, unkept)))
+    inr (lines, new, imports, inr (lets, unkept))

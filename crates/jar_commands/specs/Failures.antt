@@ -1,7 +1,7 @@
 -- What goes to standard error (this repository's own).
 use Rattle.std.specs.Prelude.{ℕ, List, Option, Some, None, Result, Ok, Err, codes}
 use Rattle.cookies_txt.specs.declared.error.LineFault.{LineFault}
-use Rattle.cookies_txt.specs.declared.error.LineFault.TheVariants.{Fields, EmptyDomain, Flag, NoSlash}
+use Rattle.cookies_txt.specs.declared.error.LineFault.TheVariants.{NotText, Fields, EmptyDomain, Flag, NoSlash}
 use Rattle.cookies_txt.specs.declared.error.LineFault.TheVariants.{Number, EmptyName, Domain}
 use Rattle.cookie_jar.specs.declared.importing.Cause.{Cause}
 use Rattle.cookie_jar.specs.declared.importing.Cause.TheVariants.{Faulty, Control, Pair, HostPrefix}
@@ -14,6 +14,7 @@ use Rattle.jar_commands.specs.declared.failure.Failure.TheVariants.{Wait, JarInU
 
 -- the words of a line that is refused
 abbrev pub fault_text : LineFault → List ℕ
+fault_text NotText = codes "file text: not UTF-8"
 fault_text Fields = codes "file text: neither six nor seven fields"
 fault_text EmptyDomain = codes "file text: no domain"
 fault_text Flag = codes "file text: flag neither TRUE nor FALSE"

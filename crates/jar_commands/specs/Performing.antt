@@ -1,7 +1,6 @@
 -- What a command gives for the texts of the files, and why it gives nothing (this repository's own).
 use Rattle.std.specs.Prelude.{◌≡◌, ◌⊎◌, ◌<◌, ◌^◌, ◌-◌, ℕ, ℤ, Bool, true, false, List, [], Option, Some, None}
 use Rattle.std.specs.Prelude.{Result, Ok, Err, IfSome, IsSomeAnd, is_some, ⊤}
-use Rattle.std.specs.Str.{IsUtf8}
 use Rattle.devices.specs.Device.{Rose}
 use Rattle.url.specs.Parts.{Parts}
 use Rattle.cookie_store.specs.Rows.{Row, Store, live}
@@ -130,14 +129,13 @@ FailsToImportRows plan jar form is_strict text failure =
     × (((failure ≡ FileText) × (is_strict ≡ true) × (0 < refused))
     ⊎ (IsLet is_strict refused × Unkept plan new failure))))
 
--- `import` of lines: they are no text, or one of them is refused where none may be, or their rows have no text
+-- `import` of lines: one of them is refused where none may be, or their rows have no text
 abbrev pub FailsToImportLines : PlanText → Store → Bool → List ℕ → Failure → Type 0
 FailsToImportLines plan jar is_strict text failure =
     (failure ≡ Memory)
-    ⊎ (((failure ≡ FileText) × (¬ IsUtf8 text))
     ⊎ ((lines : LinesText) × (new : List Row) × ImportsLines plan.now text jar.rows lines new
     × (((is_strict ≡ true) × IsToldOf lines.refused failure)
-    ⊎ (AreLet is_strict lines.refused × Unkept plan new failure))))
+    ⊎ (AreLet is_strict lines.refused × Unkept plan new failure)))
 
 abbrev pub FailsToImportText : PlanText → Store → Form → Bool → List ℕ → Failure → Type 0
 FailsToImportText plan jar Ron is_strict text failure = FailsToImportRows plan jar Ron is_strict text failure

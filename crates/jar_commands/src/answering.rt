@@ -39,8 +39,8 @@ use std::alloc::Global;
 /// `FileFormat`, as [`plan_of`] tells them. Of `receive` then `Input` where the reader failed. `SuffixList`
 /// where the first bytes are no suffix list, `JarText` where the others are no text of the jar's form. Of
 /// `receive` `Heads` where what was read aren't heads of responses, or one leads nowhere although a head
-/// follows. Of `import` `File` where there are no bytes, and `FileText` where they aren't a text of
-/// the form. `JarRow` where a row that is to be kept has no text in the jar's form; of `export`
+/// follows. Of `import` `File` where there are no bytes, and `FileText` where they are to be RON or JSON
+/// and aren't. `JarRow` where a row that is to be kept has no text in the jar's form; of `export`
 /// `FileRow` where one ends in a year below 0. `Memory` stands in their place where memory was refused.
 #[tactic(auto, using(crate::proofs::PlanLemmas::refused, crate::proofs::PlanLemmas::planned))]
 pub fn answer<R: Source>(

@@ -104,6 +104,7 @@ fn fault_words(fault: LineFault) -> &'static str
     ensures { result.now ≡ fault_text fault }
 {
     match fault {
+        LineFault::NotText => "file text: not UTF-8",
         LineFault::Fields => "file text: neither six nor seven fields",
         LineFault::EmptyDomain => "file text: no domain",
         LineFault::Flag => "file text: flag neither TRUE nor FALSE",

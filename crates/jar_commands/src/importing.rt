@@ -2,9 +2,8 @@
 ghost use Rattle.std.specs.Prelude.{◌≡◌, ◌⊎◌, ◌<◌, ◌++◌, IfErr, IfOk, IfSome, IsNone, IsSomeAnd, IsTrue, OnOk, Some, false};
 ghost use Rattle.std.specs.Prelude.{map, string_bytes, true};
 ghost use Rattle.std.specs.Option.{option_copied};
-ghost use Rattle.std.specs.Str.{IsUtf8};
 ghost use Rattle.jiff.specs.Words.{civil_nanos};
-ghost use Rattle.cookie_jar.specs.Importing.{ImportsLines, lines_text, refused_pair};
+ghost use Rattle.cookie_jar.specs.Importing.{lines_text, refused_pair};
 ghost use Rattle.cookie_jar.specs.Reading.{Imports};
 ghost use Rattle.jar_commands.specs.Importing as spec;
 ghost use Rattle.jar_commands.specs.Jars.{IsNoTextOf};
@@ -128,7 +127,7 @@ fn import_lines(
     ensures err { IfErr result
         (performing.FailsToImportLines (plan_text plan.now) jar.old is_strict text.now) }
 {
-    let lines = taken_lines(plan, jar, text)?;
+    let lines = jar.import_lines(text, plan.at)?;
     if let Some(failure) = first_refused(is_strict, &lines.refused) {
         return Err(failure);
     }
@@ -136,20 +135,6 @@ fn import_lines(
     match saved(plan, jar) {
         Ok(text) => Ok(Outcome::kept(printed, lines_status(&lines.refused), text)),
         Err(failure) => Err(failure),
-    }
-}
-
-// The lines of a text, taken in.
-fn taken_lines(plan: &Plan<'_>, jar: &mut Jar, text: &[u8]) -> Result<ImportedLines, Failure>
-    ensures ok { IfOk result (λ lines. ImportsLines (civil_nanos plan.now.at) text.now jar.old.rows
-        (lines_text lines) jar.new.rows) }
-    ensures err { IfErr result (λ failure.
-        (failure ≡ Failure.Memory) ⊎ ((failure ≡ Failure.FileText) × (¬ IsUtf8 text.now))) }
-{
-    match jar.import_lines(text, plan.at) {
-        Ok(lines) => Ok(lines),
-        Err(ReadError::OutOfMemory) => Err(Failure::Memory),
-        Err(_) => Err(Failure::FileText),
     }
 }
 
