@@ -18,11 +18,12 @@ use Rattle.cookies_txt.specs.declared.entries.Entry.{Entry as LineEntry}
 use Rattle.cookies_txt.specs.declared.error.LineFault.{LineFault}
 use Rattle.cookie_jar.specs.Importing.{AreRefused, Entry, ImportsEntries, ImportsLines, IsUntaken, LinesText, cause_of}
 use Rattle.cookie_jar.specs.Importing.{expired_of, lines_text, lone, refused_pair, row_in, rows_in}
-use Rattle.cookie_jar.specs.Keeping.{AreKept, IsKept}
+use Rattle.cookie_jar.specs.Keeping.{AreKept, IsKept, IsTaken}
+use Rattle.cookie_jar.specs.declared.form.Form.{Form}
 use Rattle.cookie_jar.specs.declared.importing.Cause.{Cause}
 use Rattle.cookie_jar.specs.declared.importing.ImportedLines.{ImportedLines}
 use Rattle.cookie_jar.specs.declared.importing.RefusedLine.{RefusedLine}
-use Rattle.cookie_jar.proofs.RowLemmas.{picked_all, placed_kept}
+use Rattle.cookie_jar.proofs.RowLemmas.{picked_all, placed_all, taken_kept}
 
 -- ---- picked
 
@@ -56,29 +57,30 @@ picked_whole Is (x ∷ xs) picked all (later, rest, inr h) = absurd (h.0 all.0)
 
 -- ---- refused lines
 
-pub refused_none : (now : ℤ) → AreRefused now [] []
-refused_none now = ([], refl, refl)
+pub refused_none : (form : Form) (now : ℤ) → AreRefused form now [] []
+refused_none form now = ([], refl, refl)
 
 -- one more that is refused
-pub refused_more : (now : ℤ) (entries : List Entry) (refused : List (ℕ × Cause)) (entry : Entry)
-    → AreRefused now entries refused → IsUntaken now entry.1
-    → AreRefused now (entries ++ entry ∷ []) (refused ++ (entry.0, cause_of entry.1) ∷ [])
-refused_more now entries refused entry (left, picked, is) untaken = (
+pub refused_more : (form : Form) (now : ℤ) (entries : List Entry) (refused : List (ℕ × Cause)) (entry : Entry)
+    → AreRefused form now entries refused → IsUntaken form now entry.1
+    → AreRefused form now (entries ++ entry ∷ []) (refused ++ (entry.0, cause_of form entry.1) ∷ [])
+refused_more form now entries refused entry (left, picked, is) untaken = (
   left ++ entry ∷ [],
-  picked_append (λ e. IsUntaken now e.1) entries (entry ∷ []) left (entry ∷ []) picked
-      (picked_one (λ e. IsUntaken now e.1) entry untaken),
-  ap (λ l. l ++ (entry.0, cause_of entry.1) ∷ []) is
-      ∙ sym (map-append (λ e. (e.0, cause_of e.1)) left (entry ∷ [])),
+  picked_append (λ e. IsUntaken form now e.1) entries (entry ∷ []) left (entry ∷ []) picked
+      (picked_one (λ e. IsUntaken form now e.1) entry untaken),
+  ap (λ l. l ++ (entry.0, cause_of form entry.1) ∷ []) is
+      ∙ sym (map-append (λ e. (e.0, cause_of form e.1)) left (entry ∷ [])),
 )
 
 -- one more that isn't
-pub refused_same : (now : ℤ) (entries : List Entry) (refused : List (ℕ × Cause)) (entry : Entry)
-    → AreRefused now entries refused → ¬ (IsUntaken now entry.1) → AreRefused now (entries ++ entry ∷ []) refused
-refused_same now entries refused entry (left, picked, is) taken = (
+pub refused_same : (form : Form) (now : ℤ) (entries : List Entry) (refused : List (ℕ × Cause)) (entry : Entry)
+    → AreRefused form now entries refused → ¬ (IsUntaken form now entry.1)
+    → AreRefused form now (entries ++ entry ∷ []) refused
+refused_same form now entries refused entry (left, picked, is) taken = (
   left,
-  subst (ArePicked (λ e. IsUntaken now e.1) (entries ++ entry ∷ [])) (append-nil left)
-      (picked_append (λ e. IsUntaken now e.1) entries (entry ∷ []) left [] picked
-      (picked_none (λ e. IsUntaken now e.1) entry taken)),
+  subst (ArePicked (λ e. IsUntaken form now e.1) (entries ++ entry ∷ [])) (append-nil left)
+      (picked_append (λ e. IsUntaken form now e.1) entries (entry ∷ []) left [] picked
+      (picked_none (λ e. IsUntaken form now e.1) entry taken)),
   is,
 )
 
@@ -89,31 +91,32 @@ entries_next xs i entry within is =
     ∙ map-append entry_text (take i xs) (entry ∷ [])
 
 -- one line more that was looked at, of those that are refused
-pub next_refused : (now : ℤ) (xs : List LineEntry) (i : ℕ) (entry : LineEntry) (old new : List RefusedLine)
-    (found : Option Cause) (cause : Cause) → i < length xs → entry ≡ get_or xs i entry
-    → AreRefused now (map entry_text (take i xs)) (map refused_pair old)
-    → IfSome found (λ cause. IsUntaken now (entry_text entry).1 × (cause ≡ cause_of (entry_text entry).1))
+pub next_refused : (form : Form) (now : ℤ) (xs : List LineEntry) (i : ℕ) (entry : LineEntry)
+    (old new : List RefusedLine) (found : Option Cause) (cause : Cause) → i < length xs → entry ≡ get_or xs i entry
+    → AreRefused form now (map entry_text (take i xs)) (map refused_pair old)
+    → IfSome found (λ cause. IsUntaken form now (entry_text entry).1 × (cause ≡ cause_of form (entry_text entry).1))
     → found ≡ Some cause → new ≡ old ++ record { number = entry.number; cause = cause } ∷ []
-    → AreRefused now (map entry_text (take (i + 1) xs)) (map refused_pair new)
-next_refused now xs i entry old new found cause within is far why some pushed =
-    let here : IsUntaken now (entry_text entry).1 × (cause ≡ cause_of (entry_text entry).1) =
-    subst (λ o. IfSome o (λ c. IsUntaken now (entry_text entry).1 × (c ≡ cause_of (entry_text entry).1))) some why in
+    → AreRefused form now (map entry_text (take (i + 1) xs)) (map refused_pair new)
+next_refused form now xs i entry old new found cause within is far why some pushed =
+    let here : IsUntaken form now (entry_text entry).1 × (cause ≡ cause_of form (entry_text entry).1) =
+    subst (λ o. IfSome o (λ c. IsUntaken form now (entry_text entry).1 × (c ≡ cause_of form (entry_text entry).1))) some
+    why in
     let line : RefusedLine = record { number = entry.number; cause = cause } in
-    let told : map refused_pair new ≡ map refused_pair old ++ (entry.number, cause_of (entry_text entry).1) ∷ [] =
+    let told : map refused_pair new ≡ map refused_pair old ++ (entry.number, cause_of form (entry_text entry).1) ∷ [] =
     ap (map refused_pair) pushed ∙ (map-append refused_pair old (line ∷ [])
     ∙ ap (λ c. map refused_pair old ++ (entry.number, c) ∷ []) here.1) in
-    subst (λ es. AreRefused now es (map refused_pair new)) (sym (entries_next xs i entry within is))
-    (subst (AreRefused now (map entry_text (take i xs) ++ entry_text entry ∷ [])) (sym told)
-    (refused_more now (map entry_text (take i xs)) (map refused_pair old) (entry_text entry) far here.0))
+    subst (λ es. AreRefused form now es (map refused_pair new)) (sym (entries_next xs i entry within is))
+    (subst (AreRefused form now (map entry_text (take i xs) ++ entry_text entry ∷ [])) (sym told)
+    (refused_more form now (map entry_text (take i xs)) (map refused_pair old) (entry_text entry) far here.0))
 
-pub next_taken : (now : ℤ) (xs : List LineEntry) (i : ℕ) (entry : LineEntry) (refused : List RefusedLine)
-    → i < length xs → entry ≡ get_or xs i entry
-    → AreRefused now (map entry_text (take i xs)) (map refused_pair refused)
-    → ¬ (IsUntaken now (entry_text entry).1)
-    → AreRefused now (map entry_text (take (i + 1) xs)) (map refused_pair refused)
-next_taken now xs i entry refused within is far taken =
-    subst (λ es. AreRefused now es (map refused_pair refused)) (sym (entries_next xs i entry within is))
-    (refused_same now (map entry_text (take i xs)) (map refused_pair refused) (entry_text entry) far taken)
+pub next_taken : (form : Form) (now : ℤ) (xs : List LineEntry) (i : ℕ) (entry : LineEntry)
+    (refused : List RefusedLine) → i < length xs → entry ≡ get_or xs i entry
+    → AreRefused form now (map entry_text (take i xs)) (map refused_pair refused)
+    → ¬ (IsUntaken form now (entry_text entry).1)
+    → AreRefused form now (map entry_text (take (i + 1) xs)) (map refused_pair refused)
+next_taken form now xs i entry refused within is far taken =
+    subst (λ es. AreRefused form now es (map refused_pair refused)) (sym (entries_next xs i entry within is))
+    (refused_same form now (map entry_text (take i xs)) (map refused_pair refused) (entry_text entry) far taken)
 
 -- ---- kept rows
 
@@ -125,59 +128,46 @@ rows_more now entries entry =
     ∙ ap (λ l. rows_in entries ++ l) (append-nil (row_in entry.1)))
     ∙ filter-append (is_live now) (rows_in entries) (row_in entry.1)
 
-pub kept_more : (now : ℤ) (entries : List Entry) (kept more : List Row) (entry : Entry)
-    → ArePicked IsKept (live now (rows_in entries)) kept → ArePicked IsKept (live now (row_in entry.1)) more
-    → ArePicked IsKept (live now (rows_in (entries ++ entry ∷ []))) (kept ++ more)
-kept_more now entries kept more entry far one =
-    subst (λ rows. ArePicked IsKept rows (kept ++ more)) (sym (rows_more now entries entry))
-    (picked_append IsKept (live now (rows_in entries)) (live now (row_in entry.1)) kept more far one)
-
--- the row of a line alone, live and kept, or not
-pub kept_row : (now : ℤ) (row : Row) → is_live now row ≡ true → IsKept row
-    → ArePicked IsKept (live now (row ∷ [])) (row ∷ [])
-kept_row now row lives kept =
-    subst (λ b. ArePicked IsKept (if b then row ∷ [] else []) (row ∷ [])) (sym lives) (picked_one IsKept row kept)
-
-pub unkept_row : (now : ℤ) (row : Row) → ¬ ((is_live now row ≡ true) × IsKept row)
-    → ArePicked IsKept (live now (row ∷ [])) []
-unkept_row now row not_both = by (is_live now row) (λ lives kept. not_both (lives, kept))
-  where
-    by : (b : Bool) → (b ≡ true → ¬ (IsKept row)) → ArePicked IsKept (if b then row ∷ [] else []) []
-    by true other = picked_none IsKept row (other refl)
-    by false other = refl
+pub kept_more : (form : Form) (now : ℤ) (entries : List Entry) (kept more : List Row) (entry : Entry)
+    → ArePicked (IsTaken form) (live now (rows_in entries)) kept
+    → ArePicked (IsTaken form) (live now (row_in entry.1)) more
+    → ArePicked (IsTaken form) (live now (rows_in (entries ++ entry ∷ []))) (kept ++ more)
+kept_more form now entries kept more entry far one =
+    subst (λ rows. ArePicked (IsTaken form) rows (kept ++ more)) (sym (rows_more now entries entry))
+    (picked_append (IsTaken form) (live now (rows_in entries)) (live now (row_in entry.1)) kept more far one)
 
 -- one line more that was looked at, of those that are kept
-pub kept_next : (now : ℤ) (xs : List LineEntry) (entry : LineEntry) (old new : List Cookie) (found : Option Cookie)
-    → ArePicked IsKept (live now (rows_in (map entry_text xs))) (map stored_of old)
-    → ArePicked IsKept (live now (row_in (entry_text entry).1)) (lone (option_map stored_of found))
+pub kept_next : (form : Form) (now : ℤ) (xs : List LineEntry) (entry : LineEntry) (old new : List Cookie)
+    (found : Option Cookie) → ArePicked (IsTaken form) (live now (rows_in (map entry_text xs))) (map stored_of old)
+    → ArePicked (IsTaken form) (live now (row_in (entry_text entry).1)) (lone (option_map stored_of found))
     → map stored_of new ≡ map stored_of old ++ lone (option_map stored_of found)
-    → ArePicked IsKept (live now (rows_in (map entry_text (xs ++ entry ∷ [])))) (map stored_of new)
-kept_next now xs entry old new found far one pushed =
-    subst (λ es. ArePicked IsKept (live now (rows_in es)) (map stored_of new))
+    → ArePicked (IsTaken form) (live now (rows_in (map entry_text (xs ++ entry ∷ [])))) (map stored_of new)
+kept_next form now xs entry old new found far one pushed =
+    subst (λ es. ArePicked (IsTaken form) (live now (rows_in es)) (map stored_of new))
     (sym (map-append entry_text xs (entry ∷ [])))
-    (subst (ArePicked IsKept (live now (rows_in (map entry_text xs ++ entry_text entry ∷ [])))) (sym pushed)
-    (kept_more now (map entry_text xs) (map stored_of old) (lone (option_map stored_of found)) (entry_text entry) far
-    one))
+    (subst (ArePicked (IsTaken form) (live now (rows_in (map entry_text xs ++ entry_text entry ∷ [])))) (sym pushed)
+    (kept_more form now (map entry_text xs) (map stored_of old) (lone (option_map stored_of found)) (entry_text entry)
+    far one))
 
 -- ---- how many
 
 -- a line is refused, or its row is expired, or kept
-counts : (now : ℤ) (entries left : List Entry) (kept : List Row) → ArePicked (λ e. IsUntaken now e.1) entries left
-    → ArePicked IsKept (live now (rows_in entries)) kept
+counts : (form : Form) (now : ℤ) (entries left : List Entry) (kept : List Row)
+    → ArePicked (λ e. IsUntaken form now e.1) entries left → ArePicked (IsTaken form) (live now (rows_in entries)) kept
     → length left + length kept + length (expired_of now (rows_in entries)) ≡ length entries
-counts now [] left kept untaken picked = omega (arith, ap length untaken, ap length picked)
-counts now ((n, Err fault) ∷ entries) left kept (later, rest, inl h) picked =
-    omega (arith, counts now entries later kept rest picked, ap length h.1)
-counts now ((n, Err fault) ∷ entries) left kept (later, rest, inr h) picked = absurd (h.0 tt)
-counts now ((n, Ok row) ∷ entries) left kept untaken picked =
-    by (is_live now row) refl (counts now entries) untaken picked
+counts form now [] left kept untaken picked = omega (arith, ap length untaken, ap length picked)
+counts form now ((n, Err fault) ∷ entries) left kept (later, rest, inl h) picked =
+    omega (arith, counts form now entries later kept rest picked, ap length h.1)
+counts form now ((n, Err fault) ∷ entries) left kept (later, rest, inr h) picked = absurd (h.0 tt)
+counts form now ((n, Ok row) ∷ entries) left kept untaken picked =
+    by (is_live now row) refl (counts form now entries) untaken picked
   where
     by : (b : Bool) → is_live now row ≡ b
-        → ((later : List Entry) (more : List Row) → ArePicked (λ e. IsUntaken now e.1) entries later
-        → ArePicked IsKept (live now (rows_in entries)) more
+        → ((later : List Entry) (more : List Row) → ArePicked (λ e. IsUntaken form now e.1) entries later
+        → ArePicked (IsTaken form) (live now (rows_in entries)) more
         → length later + length more + length (expired_of now (rows_in entries)) ≡ length entries)
-        → ArePicked (λ e. IsUntaken now e.1) ((n, Ok row) ∷ entries) left
-        → ArePicked IsKept (if b then row ∷ live now (rows_in entries) else live now (rows_in entries)) kept
+        → ArePicked (λ e. IsUntaken form now e.1) ((n, Ok row) ∷ entries) left
+        → ArePicked (IsTaken form) (if b then row ∷ live now (rows_in entries) else live now (rows_in entries)) kept
         → length left + length kept
         + length (if not b then row ∷ expired_of now (rows_in entries) else expired_of now (rows_in entries))
         ≡ suc (length entries)
@@ -192,25 +182,25 @@ counts now ((n, Ok row) ∷ entries) left kept untaken picked =
     by false dead deeper (later, rest, inr h) behind =
         omega (arith, deeper later kept rest behind, ap length h.1)
 
-pub all_counted : (now : ℤ) (entries : List Entry) (refused : List (ℕ × Cause)) (kept : List Row)
-    → AreRefused now entries refused → ArePicked IsKept (live now (rows_in entries)) kept
+pub all_counted : (form : Form) (now : ℤ) (entries : List Entry) (refused : List (ℕ × Cause)) (kept : List Row)
+    → AreRefused form now entries refused → ArePicked (IsTaken form) (live now (rows_in entries)) kept
     → length refused + length kept + length (expired_of now (rows_in entries)) ≡ length entries
-all_counted now entries refused kept (left, picked, is) are_kept =
+all_counted form now entries refused kept (left, picked, is) are_kept =
     omega (
       arith,
-      counts now entries left kept picked are_kept,
+      counts form now entries left kept picked are_kept,
       ap length is,
-      length-map {B = ℕ × Cause} left (λ e. (e.0, cause_of e.1)),
+      length-map {B = ℕ × Cause} left (λ e. (e.0, cause_of form e.1)),
     )
 
-pub entries_counted : (now : ℤ) (xs : List LineEntry) (refused : List RefusedLine) (kept : List Cookie)
-    → AreRefused now (map entry_text xs) (map refused_pair refused)
-    → ArePicked IsKept (live now (rows_in (map entry_text xs))) (map stored_of kept)
+pub entries_counted : (form : Form) (now : ℤ) (xs : List LineEntry) (refused : List RefusedLine) (kept : List Cookie)
+    → AreRefused form now (map entry_text xs) (map refused_pair refused)
+    → ArePicked (IsTaken form) (live now (rows_in (map entry_text xs))) (map stored_of kept)
     → length refused + length kept + length (expired_of now (rows_in (map entry_text xs))) ≡ length xs
-entries_counted now xs refused kept are_refused are_kept =
+entries_counted form now xs refused kept are_refused are_kept =
     omega (
       arith,
-      all_counted now (map entry_text xs) (map refused_pair refused) (map stored_of kept) are_refused are_kept,
+      all_counted form now (map entry_text xs) (map refused_pair refused) (map stored_of kept) are_refused are_kept,
       length-map refused refused_pair,
       length-map kept stored_of,
       length-map xs entry_text,
@@ -252,27 +242,33 @@ loaded_fewer now rows =
     let placed : length (put_all (live now rows) []) ≤ length (live now rows) + 0 = put_all_length (live now rows) [] in
     omega (arith, placed, live_length now rows)
 
--- kept rows that are placed are kept
-pub loaded_kept : (now : ℤ) (rows : List Row) → AreKept rows → AreKept (loaded false now rows)
-loaded_kept now rows kept = placed_kept now [] rows tt kept
+-- what holds of rows that are placed alone
+loaded_all : (P : Row → Type 0) (now : ℤ) (rows : List Row) → AllByRecursion P rows
+    → AllByRecursion P (loaded false now rows)
+loaded_all P now rows all = placed_all P now [] rows tt all
 
 -- what is taken of them is all
-pub taken_all : (now : ℤ) (rows kept others taken : List Row) → ArePicked IsKept (live now rows) kept
-    → others ≡ loaded false now kept → ArePicked IsKept others taken → taken ≡ loaded false now kept
-taken_all now rows kept others taken are_kept same picked =
-    picked_whole IsKept others taken
-    (subst AreKept (sym same) (loaded_kept now kept (picked_all IsKept (live now rows) kept are_kept))) picked ∙ same
+pub taken_all : (form : Form) (now : ℤ) (rows kept others taken : List Row)
+    → ArePicked (IsTaken form) (live now rows) kept → others ≡ loaded false now kept
+    → ArePicked (IsTaken form) others taken → taken ≡ loaded false now kept
+taken_all form now rows kept others taken are_kept same picked =
+    picked_whole (IsTaken form) others taken
+    (subst (AllByRecursion (IsTaken form)) (sym same)
+    (loaded_all (IsTaken form) now kept (picked_all (IsTaken form) (live now rows) kept are_kept)))
+    picked ∙ same
 
 -- what an import leaves
-pub lines_kept : (now : ℤ) (entries : List Entry) (old : List Row) (told : LinesText) (new : List Row) → AreKept old
-    → ImportsEntries now entries old told new → AreKept new
-lines_kept now entries old told new kept done =
-    subst AreKept (sym done.new_rows) (placed_kept now old (loaded false now done.kept) kept
-    (loaded_kept now done.kept (picked_all IsKept (live now (rows_in entries)) done.kept done.are_kept)))
+pub lines_kept : (form : Form) (now : ℤ) (entries : List Entry) (old : List Row) (told : LinesText) (new : List Row)
+    → AreKept old → ImportsEntries form now entries old told new → AreKept new
+lines_kept form now entries old told new kept done =
+    subst AreKept (sym done.new_rows) (placed_all IsKept now old (loaded false now done.kept) kept
+    (loaded_all IsKept now done.kept (taken_kept form done.kept
+    (picked_all (IsTaken form) (live now (rows_in entries)) done.kept done.are_kept))))
 
-pub lines_held : {E : Type 0} (r : Result ImportedLines E) (now : ℤ) (text : List ℕ) (before after : Store)
-    → AreKept before.rows → IfOk r (λ lines. ImportsLines now text before.rows (lines_text lines) after.rows)
+pub lines_held : {E : Type 0} (r : Result ImportedLines E) (form : Form) (now : ℤ) (text : List ℕ)
+    (before after : Store) → AreKept before.rows
+    → IfOk r (λ lines. ImportsLines form now text before.rows (lines_text lines) after.rows)
     → OnErr r (after ≡ before) → AreKept after.rows
-lines_held (Ok lines) now text before after kept (entries, gives, done) same =
-    lines_kept now entries before.rows (lines_text lines) after.rows kept done
-lines_held (Err e) now text before after kept ok same = subst (λ (s : Store). AreKept s.rows) (sym same) kept
+lines_held (Ok lines) form now text before after kept (entries, gives, done) same =
+    lines_kept form now entries before.rows (lines_text lines) after.rows kept done
+lines_held (Err e) form now text before after kept ok same = subst (λ (s : Store). AreKept s.rows) (sym same) kept

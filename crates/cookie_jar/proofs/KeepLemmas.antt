@@ -1,10 +1,10 @@
 -- Rows that a jar keeps.
 use Rattle.std.proofs.Common.{◌≡◌, ◌≢◌, ◌<◌, ◌∷◌, [], ◌++◌, ◌∙◌, ℕ, ℤ, Bool, true, false, List, length, map, ap, sym}
 use Rattle.std.proofs.Common.{subst, refl, arith}
-use Rattle.std.specs.Prelude.{◌==◌, ◌&&◌, ◌||◌, not, IfOk, Result, Ok, Err}
+use Rattle.std.specs.Prelude.{◌==◌, ◌&&◌, ◌||◌, ◌↔◌, not, IfOk, IsTrue, Result, Ok, Err, Option, Some, None}
 use Rattle.std.specs.List.{AllByRecursion, list_any}
 use Rattle.std.specs.Str.{bytes_eq, trim}
-use Rattle.std.proofs.lemmas.Bool.{and_from, and_parts, not_from_false, or_from, or_parts}
+use Rattle.std.proofs.lemmas.Bool.{and_from, and_parts, both_ways, not_from_false, or_from, or_parts}
 use Rattle.std.proofs.lemmas.Bool.Decides.{nat_tests}
 use Rattle.std.proofs.lemmas.Slice.Eq.{bytes_eq-Decides}
 use Rattle.cookie_text.specs.Again.{IsReadPair, Lacks}
@@ -16,8 +16,11 @@ use Rattle.cookie_run.specs.HostPrefix.{AreHeldRightly}
 use Rattle.cookie_run.specs.Keeping.{HaveReadPairs}
 use Rattle.cookie_run.proofs.HostRows.{picked_keeps}
 use Rattle.cookie_run.proofs.Longest.{all_longest}
-use Rattle.cookie_jar.specs.Keeping.{AreKept, IsClean, IsKept, has_control, is_control, is_read_pair, is_whole}
+use Rattle.cookies_txt.specs.declared.error.RowFault.{RowFault}
+use Rattle.cookie_jar.specs.Keeping.{AreKept, IsClean, IsKept, IsTaken, fault_in, has_control, is_control}
+use Rattle.cookie_jar.specs.Keeping.{is_read_pair, is_whole}
 use Rattle.cookie_jar.specs.Told.{header_line}
+use Rattle.cookie_jar.specs.declared.form.Form.{Form}
 
 -- ---- a pair that a text gives
 
@@ -91,6 +94,27 @@ pub kept_from : (rows : List Row) → AllByRecursion IsClean rows → HaveReadPa
 kept_from [] clean pairs held = tt
 kept_from (r ∷ rs) clean pairs held =
     (record { clean = clean.0; pair = pairs.0; held = held.0 }, kept_from rs clean.1 pairs.1 held.1)
+
+-- ---- a row that is taken
+
+-- a form that can hold it
+pub taken_fit : (form : Form) (row : Row) (found : Option RowFault) (b : Bool) → found ≡ fault_in form row
+    → found ≡ None → (IsTrue b ↔ IsKept row) → IsTrue b ↔ IsTaken form row
+taken_fit form row found b is none both = (
+  λ t. record { kept = both.0 t; fits = sym is ∙ none },
+  λ (taken : IsTaken form row). both.1 taken.kept,
+)
+
+-- one that can't
+pub taken_unfit : (form : Form) (row : Row) (found : Option RowFault) (fault : RowFault) → found ≡ fault_in form row
+    → found ≡ Some fault → IsTrue false ↔ IsTaken form row
+taken_unfit form row found fault is some = (
+  λ t. absurd (both_ways false refl t),
+  λ (taken : IsTaken form row). absurd (some_none fault (sym some ∙ (is ∙ taken.fits))),
+)
+  where
+    some_none : (fault : RowFault) → Some fault ≡ None → ⊥
+    some_none fault e = cc
 
 -- ---- a header
 

@@ -15,9 +15,10 @@ use Rattle.cookie_store.specs.Rows.{Row, Store, behind_last, has_domain_of, has_
 use Rattle.cookie_store.specs.Rows.{live, put, put_in_place, replaced}
 use Rattle.cookie_store.specs.StoredCookie.{stored_of}
 use Rattle.cookie_store.specs.declared.stored_cookie.Cookie.{Cookie}
-use Rattle.cookie_jar.specs.Keeping.{AreKept, IsKept}
+use Rattle.cookie_jar.specs.Keeping.{AreKept, IsKept, IsTaken}
 use Rattle.cookie_jar.specs.Reading.{ImportsRows}
 use Rattle.cookie_jar.specs.Rows.{AreCopies, lent_rows}
+use Rattle.cookie_jar.specs.declared.form.Form.{Form}
 
 -- ---- lent rows
 
@@ -209,17 +210,23 @@ both_all : (P : Row → Type 0) (xs ys : List Row) → AllByRecursion P xs → A
 both_all P [] ys px py = py
 both_all P (x ∷ xs) ys px py = (px.0, both_all P xs ys px.1 py)
 
--- what is placed of rows that a jar keeps is kept
-pub placed_kept : (now : ℤ) (xs ys : List Row) → AreKept xs → AreKept ys → AreKept (loaded false now (xs ++ ys))
-placed_kept now xs ys hx hy =
-    put_all_keeps IsKept (live now (xs ++ ys)) []
-    (filter_all IsKept (is_live now) (xs ++ ys) (both_all IsKept xs ys hx hy)) tt
+-- what holds of rows holds of them placed
+pub placed_all : (P : Row → Type 0) (now : ℤ) (xs ys : List Row) → AllByRecursion P xs → AllByRecursion P ys
+    → AllByRecursion P (loaded false now (xs ++ ys))
+placed_all P now xs ys hx hy =
+    put_all_keeps P (live now (xs ++ ys)) [] (filter_all P (is_live now) (xs ++ ys) (both_all P xs ys hx hy)) tt
+
+-- rows that are taken are kept
+pub taken_kept : (form : Form) (rows : List Row) → AllByRecursion (IsTaken form) rows → AreKept rows
+taken_kept form [] all = tt
+taken_kept form (r ∷ rs) all = (all.0.kept, taken_kept form rs all.1)
 
 -- and so is what an import leaves
-pub imported_kept : (now : ℤ) (others old : List Row) (count refused : ℕ) (told : List ℕ) (new : List Row)
-    → AreKept old → ImportsRows now others old count refused told new → AreKept new
-imported_kept now others old count refused told new kept (taken, picked, is, counted, whole, tells) =
-    subst AreKept (sym is) (placed_kept now old taken kept (picked_all IsKept others taken picked))
+pub imported_kept : (form : Form) (now : ℤ) (others old : List Row) (count refused : ℕ) (told : List ℕ)
+    (new : List Row) → AreKept old → ImportsRows form now others old count refused told new → AreKept new
+imported_kept form now others old count refused told new kept (taken, picked, is, counted, whole, tells) =
+    subst AreKept (sym is) (placed_all IsKept now old taken kept
+    (taken_kept form taken (picked_all (IsTaken form) others taken picked)))
 
 -- ---- live rows
 

@@ -11,10 +11,12 @@ use Rattle.cookies_txt.specs.Entries.{GivesEntries}
 use Rattle.cookies_txt.specs.declared.error.LineFault.{LineFault}
 use Rattle.cookies_txt.specs.declared.error.LineFault.TheVariants.{NotText, Fields, EmptyDomain, Flag, NoSlash}
 use Rattle.cookies_txt.specs.declared.error.LineFault.TheVariants.{Number, EmptyName, Domain}
-use Rattle.cookie_jar.specs.Keeping.{IsKept, has_control, is_read_pair}
-use Rattle.cookie_jar.specs.LeftOut.{IsRefused}
+use Rattle.cookies_txt.specs.declared.error.RowFault.{RowFault}
+use Rattle.cookies_txt.specs.declared.error.RowFault.TheVariants as row
+use Rattle.cookie_jar.specs.Keeping.{IsTaken, fault_in, has_control, is_read_pair}
+use Rattle.cookie_jar.specs.declared.form.Form.{Form}
 use Rattle.cookie_jar.specs.declared.importing.Cause.{Cause}
-use Rattle.cookie_jar.specs.declared.importing.Cause.TheVariants.{Faulty, Control, Pair, HostPrefix}
+use Rattle.cookie_jar.specs.declared.importing.Cause.TheVariants.{Faulty, Control, Pair, Unfit, HostPrefix}
 use Rattle.cookie_jar.specs.declared.importing.ImportedLines.{ImportedLines}
 use Rattle.cookie_jar.specs.declared.importing.RefusedLine.{RefusedLine}
 
@@ -38,28 +40,34 @@ expired_of now rows = filter (λ row. not (is_live now row)) rows
 
 -- ---- the lines that are refused
 
--- the line has a fault, or a row that isn't expired at the moment and that a jar doesn't keep
-abbrev pub IsUntaken : ℤ → Result Row LineFault → Type 0
-IsUntaken now (Ok row) = (is_live now row ≡ true) × IsRefused row
-IsUntaken now (Err fault) = ⊤
+-- The line has a fault, or a row that isn't expired at the moment and that isn't taken into a jar that is saved in this
+-- form.
+abbrev pub IsUntaken : Form → ℤ → Result Row LineFault → Type 0
+IsUntaken form now (Ok row) = (is_live now row ≡ true) × (¬ (IsTaken form row))
+IsUntaken form now (Err fault) = ⊤
 
--- why a jar doesn't keep the row: the first of these
-abbrev pub refusal_of : Row → Cause
-refusal_of row =
+-- why a row that a text gives isn't taken, by the form's fault
+abbrev pub unfit_or_host : Option RowFault → Cause
+unfit_or_host None = HostPrefix
+unfit_or_host (Some fault) = Unfit fault
+
+-- why a row isn't taken into a jar that is saved in this form: the first of these
+abbrev pub refusal_of : Form → Row → Cause
+refusal_of form row =
     if has_control row.raw.cookie.name || has_control row.raw.cookie.value then Control
-    else if is_read_pair row.raw.cookie.name row.raw.cookie.value then HostPrefix
+    else if is_read_pair row.raw.cookie.name row.raw.cookie.value then unfit_or_host (fault_in form row)
     else Pair
 
 -- why the line is refused
-abbrev pub cause_of : Result Row LineFault → Cause
-cause_of (Ok row) = refusal_of row
-cause_of (Err fault) = Faulty fault
+abbrev pub cause_of : Form → Result Row LineFault → Cause
+cause_of form (Ok row) = refusal_of form row
+cause_of form (Err fault) = Faulty fault
 
 -- the numbers of the lines that are refused, and why each is, in their order
-abbrev pub AreRefused : ℤ → List Entry → List (ℕ × Cause) → Type 0
-AreRefused now entries refused =
-    (left : List Entry) × ArePicked (λ entry. IsUntaken now entry.1) entries left
-    × (refused ≡ map (λ entry. (entry.0, cause_of entry.1)) left)
+abbrev pub AreRefused : Form → ℤ → List Entry → List (ℕ × Cause) → Type 0
+AreRefused form now entries refused =
+    (left : List Entry) × ArePicked (λ entry. IsUntaken form now entry.1) entries left
+    × (refused ≡ map (λ entry. (entry.0, cause_of form entry.1)) left)
 
 -- ---- what an import does
 
@@ -71,22 +79,23 @@ pub record LinesText : Type 0 where
   pub replaced : ℕ
   pub refused : List (ℕ × Cause)
 
--- Rows, and behind them those of lines that a jar keeps, placed by their keys, without those that are expired at the
--- moment. Of the lines' rows of one key the last counts as taken, and the others as replaced.
-pub record ImportsEntries (now : ℤ) (entries : List Entry) (old : List Row) (told : LinesText) (new : List Row)
-    : Type 0 where
+-- Rows, and behind them those of lines that are taken into a jar that is saved in this form, placed by their keys,
+-- without those that are expired at the moment. Of the lines' rows of one key the last counts as taken, and the others
+-- as replaced.
+pub record ImportsEntries (form : Form) (now : ℤ) (entries : List Entry) (old : List Row) (told : LinesText)
+    (new : List Row) : Type 0 where
   pub kept : List Row
-  pub are_kept : ArePicked IsKept (live now (rows_in entries)) kept
+  pub are_kept : ArePicked (IsTaken form) (live now (rows_in entries)) kept
   pub new_rows : new ≡ loaded false now (old ++ loaded false now kept)
   pub taken : told.rows ≡ length (loaded false now kept)
   pub replaced : told.rows + told.replaced ≡ length kept
   pub expired : told.expired ≡ length (expired_of now (rows_in entries))
-  pub refused : AreRefused now entries told.refused
+  pub refused : AreRefused form now entries told.refused
 
 -- so with the lines of a text
-abbrev pub ImportsLines : ℤ → List ℕ → List Row → LinesText → List Row → Type 0
-ImportsLines now text old told new =
-    (entries : List Entry) × GivesEntries text entries × ImportsEntries now entries old told new
+abbrev pub ImportsLines : Form → ℤ → List ℕ → List Row → LinesText → List Row → Type 0
+ImportsLines form now text old told new =
+    (entries : List Entry) × GivesEntries text entries × ImportsEntries form now entries old told new
 
 -- ---- what is told
 
@@ -112,10 +121,20 @@ fault_words Number = codes "expiry is no number"
 fault_words EmptyName = codes "empty name"
 fault_words Domain = codes "domain without IDNA form"
 
+-- what is told of a row that a line of `cookies.txt` can't hold
+abbrev pub unfit_words : RowFault → List ℕ
+unfit_words row.NoDomain = codes "no domain"
+unfit_words row.HostSign = codes "host begins with #, a dot or white space"
+unfit_words row.NoSlash = codes "path without /"
+unfit_words row.EmptyName = codes "empty name"
+unfit_words row.Separator = codes "tab or line feed"
+unfit_words row.CarriageReturn = codes "value ends in a carriage return"
+
 abbrev pub cause_words : Cause → List ℕ
 cause_words (Faulty fault) = fault_words fault
 cause_words Control = codes "control character"
 cause_words Pair = codes "name or value"
+cause_words (Unfit fault) = unfit_words fault
 cause_words HostPrefix = codes "__Host-"
 
 -- the line that tells of a refused one

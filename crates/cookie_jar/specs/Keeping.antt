@@ -1,6 +1,5 @@
 -- Which rows a jar keeps (RFC 6265, 5.2; draft-ietf-httpbis-rfc6265bis, 4.1.3.2 and 5.6).
-use Rattle.std.specs.Prelude.{◌≡◌, ◌==◌, ◌||◌, ◌&&◌, ℕ, Bool, true, false, not, List, length, codes, nat_lt}
-use Rattle.std.specs.Prelude.{if◌then◌else◌}
+use Rattle.std.specs.Prelude.{◌≡◌, ◌==◌, ◌||◌, ◌&&◌, ℕ, Bool, true, false, not, List, length, nat_lt, Option, None}
 use Rattle.std.specs.List.{AllByRecursion, list_any}
 use Rattle.std.specs.Str.{bytes_eq, trim}
 use Rattle.cookie_text.specs.Pieces.{equals, semicolon}
@@ -8,6 +7,10 @@ use Rattle.cookie_store.specs.Rows.{Row}
 use Rattle.cookie_run.specs.HostPrefix.{IsHeldRightly}
 use Rattle.cookie_run.specs.Keeping.{HasReadPair}
 use Rattle.cookies_txt.specs.Layout.{tab}
+use Rattle.cookies_txt.specs.Writing.{row_fault}
+use Rattle.cookies_txt.specs.declared.error.RowFault.{RowFault}
+use Rattle.cookie_jar.specs.declared.form.Form.{Form}
+use Rattle.cookie_jar.specs.declared.form.Form.TheVariants.{Ron, Json, Txt}
 
 -- ---- control characters
 
@@ -54,10 +57,15 @@ pub record IsKept (row : Row) : Type 0 where
 abbrev pub AreKept : List Row → Type 0
 AreKept rows = AllByRecursion IsKept rows
 
--- why a row that isn't kept is refused: the first of these
-abbrev pub refusal_text : Row → List ℕ
-refusal_text row =
-    if has_control row.raw.cookie.name || has_control row.raw.cookie.value
-    then codes "refused: control character"
-    else if is_read_pair row.raw.cookie.name row.raw.cookie.value then codes "refused: __Host-"
-    else codes "refused: name or value"
+-- ---- rows that an import takes
+
+-- why a text of the form can't hold the row, where that is so: RON and JSON hold every row
+abbrev pub fault_in : Form → Row → Option RowFault
+fault_in Ron row = None
+fault_in Json row = None
+fault_in Txt row = row_fault row
+
+-- a jar keeps it, and the form in which it is saved can hold it
+pub record IsTaken (form : Form) (row : Row) : Type 0 where
+  pub kept : IsKept row
+  pub fits : fault_in form row ≡ None

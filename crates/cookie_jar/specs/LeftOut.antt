@@ -5,9 +5,8 @@ use Rattle.cookie_store.specs.Given.{ArePicked}
 use Rattle.cookie_store.specs.Rows.{Row}
 use Rattle.cookies_txt.specs.Writing.{row_fault}
 use Rattle.cookies_txt.specs.declared.error.RowFault.{RowFault}
-use Rattle.cookies_txt.specs.declared.error.RowFault.TheVariants.{NoDomain, HostSign, NoSlash, EmptyName}
-use Rattle.cookies_txt.specs.declared.error.RowFault.TheVariants.{Separator, CarriageReturn}
-use Rattle.cookie_jar.specs.Keeping.{IsKept, refusal_text}
+use Rattle.cookie_jar.specs.Importing.{cause_words, refusal_of, unfit_words}
+use Rattle.cookie_jar.specs.Keeping.{IsKept, IsTaken}
 use Rattle.cookie_jar.specs.Listing.{domain_field}
 use Rattle.cookie_jar.specs.Told.{shown}
 use Rattle.cookie_jar.specs.declared.form.Form.{Form}
@@ -23,26 +22,25 @@ left_out_line why row =
 abbrev pub IsRefused : Row → Type 0
 IsRefused row = ¬ (IsKept row)
 
-unfoldable pub refused_line : Row → List ℕ
-refused_line row = left_out_line (refusal_text row) row
+-- why a row isn't taken into a jar that is saved in this form, and which it is
+unfoldable pub refused_line : Form → Row → List ℕ
+refused_line form row = codes "refused: " ++ left_out_line (cause_words (refusal_of form row)) row
 
 -- a line of each of them, in their order
-abbrev pub TellsRefused : List Row → List ℕ → Type 0
-TellsRefused rows told = (left : List Row) × ArePicked IsRefused rows left × (told ≡ flat_map refused_line left)
+abbrev pub TellsRefused : Form → List Row → List ℕ → Type 0
+TellsRefused form rows told =
+    (left : List Row) × ArePicked IsRefused rows left × (told ≡ flat_map (refused_line form) left)
+
+-- a line of each of those that an import into a jar of this form doesn't take
+abbrev pub TellsUntaken : Form → List Row → List ℕ → Type 0
+TellsUntaken form rows told =
+    (left : List Row) × ArePicked (λ row. ¬ (IsTaken form row)) rows left × (told ≡ flat_map (refused_line form) left)
 
 -- ---- rows that a line of `cookies.txt` can't hold
 
-abbrev pub fault_text : RowFault → List ℕ
-fault_text NoDomain = codes "passed over: no domain"
-fault_text HostSign = codes "passed over: host begins with #, a dot or white space"
-fault_text NoSlash = codes "passed over: path without /"
-fault_text EmptyName = codes "passed over: empty name"
-fault_text Separator = codes "passed over: tab or line feed"
-fault_text CarriageReturn = codes "passed over: value ends in a carriage return"
-
 abbrev pub line_for : Option RowFault → Row → List ℕ
 line_for None row = []
-line_for (Some fault) row = left_out_line (fault_text fault) row
+line_for (Some fault) row = codes "passed over: " ++ left_out_line (unfit_words fault) row
 
 abbrev pub passed_line : Row → List ℕ
 passed_line row = line_for (row_fault row) row

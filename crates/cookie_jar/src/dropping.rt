@@ -29,7 +29,7 @@ pub fn dropped_lines(
 {
     match read(alloc, form, text, now) {
         Ok(store) => match refused_rows(alloc, &store) {
-            Ok(rows) => match refused_lines(alloc, rows) {
+            Ok(rows) => match refused_lines(alloc, form, rows) {
                 Ok(told) => Ok(told),
                 Err(_) => Err(ReadError::OutOfMemory),
             },

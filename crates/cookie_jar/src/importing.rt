@@ -8,13 +8,14 @@ ghost use Rattle.cookie_store.specs.Rows.{live};
 ghost use Rattle.cookie_store.specs.StoredCookie.{stored_of};
 ghost use Rattle.cookies_txt.specs.Entries.{entry_text};
 ghost use Rattle.cookie_jar.specs.Importing as spec;
-ghost use Rattle.cookie_jar.specs.Keeping.{IsKept};
+ghost use Rattle.cookie_jar.specs.Keeping.{IsTaken};
 
+use crate::form::Form;
 use crate::jar::with_rows;
-use crate::keeping::{has_control, is_kept, is_read_pair};
+use crate::keeping::{fault_in, has_control, is_read_pair, is_taken};
 use crate::reading::placed;
 use cookie_store::{Cookie, CookieStore};
-use cookies_txt::{Entry, LineFault, read_entries};
+use cookies_txt::{Entry, LineFault, RowFault, read_entries};
 use jiff::civil::DateTime;
 use std::alloc::{AllocError, Global};
 
@@ -27,6 +28,8 @@ pub enum Cause {
     Control,
     /// No text gives a cookie of this name and this value.
     Pair,
+    /// The form in which the jar is saved can't hold the row, for this fault.
+    Unfit(RowFault),
     /// The row is against the prefix `__Host-`.
     HostPrefix,
 }
@@ -53,8 +56,9 @@ pub struct ImportedLines {
     pub refused: Vec<RefusedLine>,
 }
 
-/// Puts the rows of the lines of a text behind those of a store: without those that are expired at `now` and those that
-/// a jar doesn't keep, and of two with one key the later in the place of the earlier.
+/// Puts the rows of the lines of a text behind those of the store of a jar that is saved in this form: without those
+/// that are expired at `now` and those that it doesn't keep or that the form can't hold, and of two with one key the
+/// later in the place of the earlier.
 ///
 /// # Errors
 ///
@@ -62,36 +66,38 @@ pub struct ImportedLines {
 pub(crate) fn import_lines(
     alloc: Global,
     store: &mut CookieStore,
+    form: Form,
     text: &[u8],
     now: DateTime,
 ) -> Result<ImportedLines, AllocError>
-    ensures ok { IfOk result (λ lines. spec.ImportsLines (civil_nanos now) text.now store.old.rows
+    ensures ok { IfOk result (λ lines. spec.ImportsLines form (civil_nanos now) text.now store.old.rows
         (spec.lines_text lines) store.new.rows) }
     ensures same { OnErr result (store.new ≡ store.old) }
     ensures list { store.new.suffixes ≡ store.old.suffixes }
 {
     let entries = read_entries(alloc, text)?;
-    import_entries(alloc, store, entries, now)
+    import_entries(alloc, store, form, entries, now)
 }
 
 fn import_entries(
     alloc: Global,
     store: &mut CookieStore,
+    form: Form,
     entries: Vec<Entry>,
     now: DateTime,
 ) -> Result<ImportedLines, AllocError>
-    ensures ok { IfOk result (λ lines. spec.ImportsEntries (civil_nanos now)
+    ensures ok { IfOk result (λ lines. spec.ImportsEntries form (civil_nanos now)
         (map entry_text entries.items) store.old.rows (spec.lines_text lines) store.new.rows) }
     ensures same { OnErr result (store.new ≡ store.old) }
     ensures list { store.new.suffixes ≡ store.old.suffixes }
 {
     let count = entries.len();
-    let refused = refused_of(alloc, &entries, now)?;
-    let kept = kept_of(alloc, entries, now)?;
+    let refused = refused_of(alloc, form, &entries, now)?;
+    let kept = kept_of(alloc, form, entries, now)?;
     let expired = count - refused.len() - kept.len();
     let of_keys = kept.len();
     let others = placed(alloc, kept, now)?;
-    let (rows, whole) = with_rows(alloc, store, &others, now)?;
+    let (rows, whole) = with_rows(alloc, store, &others, form, now)?;
     store.replace_rows(whole);
     Ok(ImportedLines {
         rows,
@@ -104,16 +110,17 @@ fn import_entries(
 // The lines that are refused, in their order.
 fn refused_of(
     alloc: Global,
+    form: Form,
     entries: &[Entry],
     now: DateTime,
 ) -> Result<Vec<RefusedLine>, AllocError>
-    ensures { IfOk result (λ refused. spec.AreRefused (civil_nanos now) (map entry_text entries.now)
+    ensures { IfOk result (λ refused. spec.AreRefused form (civil_nanos now) (map entry_text entries.now)
         (map spec.refused_pair refused.items)) }
 {
     let mut refused = Vec::new(alloc);
     for entry in entries {
         let number = entry.number;
-        match cause_of(&entry.row, now) {
+        match cause_of(form, &entry.row, now) {
             Some(cause) => refused.push(RefusedLine { number, cause })?,
             None => {}
         }
@@ -122,59 +129,69 @@ fn refused_of(
 }
 
 // Why a line is refused, where it is.
-fn cause_of(row: &Result<Cookie<'static>, LineFault>, now: DateTime) -> Option<Cause>
+fn cause_of(form: Form, row: &Result<Cookie<'static>, LineFault>, now: DateTime) -> Option<Cause>
     ensures some { IfSome result (λ cause.
-        spec.IsUntaken (civil_nanos now) (result_map_both stored_of (λ fault. fault) row.now)
-        × (cause ≡ spec.cause_of (result_map_both stored_of (λ fault. fault) row.now))) }
+        spec.IsUntaken form (civil_nanos now) (result_map_both stored_of (λ fault. fault) row.now)
+        × (cause ≡ spec.cause_of form (result_map_both stored_of (λ fault. fault) row.now))) }
     ensures none { IsNone result
-        → ¬ (spec.IsUntaken (civil_nanos now) (result_map_both stored_of (λ fault. fault) row.now)) }
+        → ¬ (spec.IsUntaken form (civil_nanos now) (result_map_both stored_of (λ fault. fault) row.now)) }
 {
     match row {
-        Ok(cookie) => refusal(cookie, now),
+        Ok(cookie) => refusal(form, cookie, now),
         Err(fault) => Some(Cause::Faulty(*fault)),
     }
 }
 
-// Why a jar doesn't keep a cookie that isn't expired, where that is so.
-fn refusal(cookie: &Cookie<'static>, now: DateTime) -> Option<Cause>
-    ensures some { IfSome result (λ cause. spec.IsUntaken (civil_nanos now) (Ok (stored_of cookie.now))
-        × (cause ≡ spec.refusal_of (stored_of cookie.now))) }
-    ensures none { IsNone result → ¬ (spec.IsUntaken (civil_nanos now) (Ok (stored_of cookie.now))) }
+// Why a cookie that isn't expired isn't taken, where that is so.
+fn refusal(form: Form, cookie: &Cookie<'static>, now: DateTime) -> Option<Cause>
+    ensures some { IfSome result (λ cause. spec.IsUntaken form (civil_nanos now) (Ok (stored_of cookie.now))
+        × (cause ≡ spec.refusal_of form (stored_of cookie.now))) }
+    ensures none { IsNone result → ¬ (spec.IsUntaken form (civil_nanos now) (Ok (stored_of cookie.now))) }
 {
-    if cookie.is_expired(now) || is_kept(cookie) {
+    if cookie.is_expired(now) || is_taken(form, cookie) {
         None
     } else {
-        Some(refusal_of(cookie))
+        Some(refusal_of(form, cookie))
     }
 }
 
-// Why a jar doesn't keep the cookie.
-fn refusal_of(cookie: &Cookie<'static>) -> Cause
-    ensures { result ≡ spec.refusal_of (stored_of cookie.now) }
+/// Why the cookie isn't taken into a jar that is saved in this form.
+pub(crate) fn refusal_of(form: Form, cookie: &Cookie<'static>) -> Cause
+    ensures { result ≡ spec.refusal_of form (stored_of cookie.now) }
 {
     let (name, value) = cookie.raw().name_value();
     if has_control(name) || has_control(value) {
         Cause::Control
     } else if is_read_pair(name, value) {
-        Cause::HostPrefix
+        unfit_or_host(fault_in(form, cookie))
     } else {
         Cause::Pair
     }
 }
 
-// The cookies of lines that aren't expired and that a jar keeps, in their order.
+fn unfit_or_host(fault: Option<RowFault>) -> Cause
+    ensures { result ≡ spec.unfit_or_host fault }
+{
+    match fault {
+        Some(fault) => Cause::Unfit(fault),
+        None => Cause::HostPrefix,
+    }
+}
+
+// The cookies of lines that aren't expired and that are taken, in their order.
 fn kept_of(
     alloc: Global,
+    form: Form,
     entries: Vec<Entry>,
     now: DateTime,
 ) -> Result<Vec<Cookie<'static>>, AllocError>
-    ensures { IfOk result (λ kept. ArePicked IsKept
+    ensures { IfOk result (λ kept. ArePicked (IsTaken form)
         (live (civil_nanos now) (spec.rows_in (map entry_text entries.items)))
         (map stored_of kept.items)) }
 {
     let mut kept = Vec::new(alloc);
     for entry in entries {
-        match kept_cookie(entry.row, now) {
+        match kept_cookie(form, entry.row, now) {
             Some(cookie) => kept.push(cookie)?,
             None => {}
         }
@@ -182,23 +199,27 @@ fn kept_of(
     Ok(kept)
 }
 
-// The cookie of a line, where it isn't expired and a jar keeps it.
-fn kept_cookie(row: Result<Cookie<'static>, LineFault>, now: DateTime) -> Option<Cookie<'static>>
-    ensures { ArePicked IsKept
+// The cookie of a line, where it isn't expired and is taken.
+fn kept_cookie(
+    form: Form,
+    row: Result<Cookie<'static>, LineFault>,
+    now: DateTime,
+) -> Option<Cookie<'static>>
+    ensures { ArePicked (IsTaken form)
         (live (civil_nanos now) (spec.row_in (result_map_both stored_of (λ fault. fault) row.entry)))
         (spec.lone (option_map stored_of result)) }
 {
     match row {
-        Ok(cookie) => only_kept(cookie, now),
+        Ok(cookie) => only_taken(form, cookie, now),
         Err(_) => None,
     }
 }
 
-fn only_kept(cookie: Cookie<'static>, now: DateTime) -> Option<Cookie<'static>>
-    ensures { ArePicked IsKept (live (civil_nanos now) (stored_of cookie.entry ∷ []))
+fn only_taken(form: Form, cookie: Cookie<'static>, now: DateTime) -> Option<Cookie<'static>>
+    ensures { ArePicked (IsTaken form) (live (civil_nanos now) (stored_of cookie.entry ∷ []))
         (spec.lone (option_map stored_of result)) }
 {
-    if !cookie.is_expired(now) && is_kept(&cookie) {
+    if !cookie.is_expired(now) && is_taken(form, &cookie) {
         Some(cookie)
     } else {
         None
@@ -230,14 +251,30 @@ fn push_refused(text: &mut String, line: RefusedLine) -> Result<(), AllocError>
     write!(text, "refused: {cause}\tline {number}\n")
 }
 
-fn cause_words(cause: Cause) -> &'static str
+/// What is told of a line or a row that isn't taken for this cause.
+pub(crate) fn cause_words(cause: Cause) -> &'static str
     ensures { result.now ≡ spec.cause_words cause }
 {
     match cause {
         Cause::Faulty(fault) => fault_words(fault),
         Cause::Control => "control character",
         Cause::Pair => "name or value",
+        Cause::Unfit(fault) => unfit_words(fault),
         Cause::HostPrefix => "__Host-",
+    }
+}
+
+/// What is told of a row that a line of `cookies.txt` can't hold for this fault.
+pub(crate) fn unfit_words(fault: RowFault) -> &'static str
+    ensures { result.now ≡ spec.unfit_words fault }
+{
+    match fault {
+        RowFault::NoDomain => "no domain",
+        RowFault::HostSign => "host begins with #, a dot or white space",
+        RowFault::NoSlash => "path without /",
+        RowFault::EmptyName => "empty name",
+        RowFault::Separator => "tab or line feed",
+        RowFault::CarriageReturn => "value ends in a carriage return",
     }
 }
 

@@ -15,7 +15,7 @@ ghost use Rattle.cookie_jar.specs.Asking as asked;
 ghost use Rattle.cookie_jar.specs.Explaining.{IsExplained};
 ghost use Rattle.cookie_jar.specs.Importing as lines;
 ghost use Rattle.cookie_jar.specs.Json.{rows_json};
-ghost use Rattle.cookie_jar.specs.Keeping.{AreKept, IsKept, has_control};
+ghost use Rattle.cookie_jar.specs.Keeping.{AreKept, IsKept, IsTaken, has_control};
 ghost use Rattle.cookie_jar.specs.LeftOut.{passed_lines};
 ghost use Rattle.cookie_jar.specs.Listing as table;
 ghost use Rattle.cookie_jar.specs.Reading as spec;
@@ -33,7 +33,7 @@ use crate::keeping::only_kept;
 use crate::left_out::{passed_over_lines, refused_lines};
 use crate::listing::listing;
 use crate::reading::read;
-use crate::rows::{live_rows, placed, refused_rows, rows_of, rows_with};
+use crate::rows::{live_rows, placed, rows_of, rows_with, untaken_rows};
 use crate::saving::{Exported, lines_for, text_of};
 use crate::taking::{End, take_all};
 use crate::told::header_line;
@@ -218,16 +218,23 @@ impl Jar {
         text_of(self.alloc, &store, form, passing_over)
     }
 
-    /// Puts the rows of a text behind its own, as if all were of one text: without those that are expired at `now`, and
-    /// of two with one key the later in the place of the earlier. Those that a jar doesn't keep are left out before,
-    /// and told: of a name or a value with a control character, or that no text gives, or against the prefix `__Host-`.
-    /// No row is judged by the list of public suffixes.
+    /// Puts the rows of a text of this form behind its own, as if all were of one text: without those that are expired
+    /// at `now`, and of two with one key the later in the place of the earlier. Those that a jar doesn't keep are left
+    /// out before, and told: of a name or a value with a control character, or that no text gives, or against the
+    /// prefix `__Host-`. So are those that `held`, the form in which the jar is to be saved, can't hold. No row is
+    /// judged by the list of public suffixes.
     ///
     /// # Errors
     ///
     /// As `load`. The jar is then as it was.
-    pub fn import(&mut self, form: Form, text: &[u8], now: DateTime) -> Result<Imported, ReadError>
-        ensures ok { IfOk result (λ imported. spec.Imports form (civil_nanos now) text.now self.old.rows
+    pub fn import(
+        &mut self,
+        form: Form,
+        held: Form,
+        text: &[u8],
+        now: DateTime,
+    ) -> Result<Imported, ReadError>
+        ensures ok { IfOk result (λ imported. spec.Imports form held (civil_nanos now) text.now self.old.rows
             imported.rows imported.refused (string_bytes imported.told) self.new.rows) }
         ensures err { IfErr result (spec.IsUnread form text.now) }
         ensures same { OnErr result (self.new ≡ self.old) }
@@ -235,26 +242,31 @@ impl Jar {
         ensures kept { AreKept self.new.rows }
     {
         match read(self.alloc, form, text, now) {
-            Ok(store) => Ok(import_rows(self.alloc, &mut self.store, &store, now)?),
+            Ok(store) => Ok(import_rows(self.alloc, &mut self.store, &store, held, now)?),
             Err(cause) => Err(cause),
         }
     }
 
     /// The same of the lines of a `cookies.txt`, each read by itself ([`cookies_txt::read_entries`]): a line with a
-    /// fault, and one with a row that a jar doesn't keep, is refused alone. One whose row is expired at `now` is passed
-    /// over before.
+    /// fault, and one with a row that the jar doesn't keep or that `held`, the form in which it is to be saved, can't
+    /// hold, is refused alone. One whose row is expired at `now` is passed over before.
     ///
     /// # Errors
     ///
     /// `AllocError`, for want of memory. The jar is then as it was.
-    pub fn import_lines(&mut self, text: &[u8], now: DateTime) -> Result<ImportedLines, AllocError>
-        ensures ok { IfOk result (λ done. lines.ImportsLines (civil_nanos now) text.now self.old.rows
+    pub fn import_lines(
+        &mut self,
+        held: Form,
+        text: &[u8],
+        now: DateTime,
+    ) -> Result<ImportedLines, AllocError>
+        ensures ok { IfOk result (λ done. lines.ImportsLines held (civil_nanos now) text.now self.old.rows
             (lines.lines_text done) self.new.rows) }
         ensures same { OnErr result (self.new ≡ self.old) }
         ensures list { self.new.suffixes ≡ self.old.suffixes }
         ensures kept { AreKept self.new.rows }
     {
-        import_lines(self.alloc, &mut self.store, text, now)
+        import_lines(self.alloc, &mut self.store, held, text, now)
     }
 
     /// The line `Cookie: ..` of a request to this URL at `now` (RFC 6265, section 5.4), with longer paths first, or
@@ -531,21 +543,22 @@ fn unexpired(alloc: Global, store: &CookieStore, now: DateTime) -> Result<Cookie
     Ok(placed(alloc, rows, false, now)?)
 }
 
-// Puts the rows of another store behind those of the first.
+// Puts the rows of another store behind those of the store of a jar that is saved in this form.
 fn import_rows(
     alloc: Global,
     store: &mut CookieStore,
     other: &CookieStore,
+    form: Form,
     now: DateTime,
 ) -> Result<Imported, AllocError>
-    ensures ok { IfOk result (λ imported. spec.ImportsRows (civil_nanos now) other.now.rows store.old.rows
+    ensures ok { IfOk result (λ imported. spec.ImportsRows form (civil_nanos now) other.now.rows store.old.rows
         imported.rows imported.refused (string_bytes imported.told) store.new.rows) }
     ensures same { OnErr result (store.new ≡ store.old) }
     ensures list { store.new.suffixes ≡ store.old.suffixes }
 {
     let all = rows_of(alloc, other)?.len();
-    let told = refused_lines(alloc, refused_rows(alloc, other)?)?;
-    let (taken, whole) = with_rows(alloc, store, other, now)?;
+    let told = refused_lines(alloc, form, untaken_rows(alloc, other, form)?)?;
+    let (taken, whole) = with_rows(alloc, store, other, form, now)?;
     store.replace_rows(whole);
     Ok(Imported {
         rows: taken,
@@ -554,18 +567,19 @@ fn import_rows(
     })
 }
 
-// How many rows of another store a jar keeps, and the store of its own rows and then these.
+// How many rows of another store a jar that is saved in this form takes, and the store of its own rows and then these.
 pub(crate) fn with_rows(
     alloc: Global,
     store: &CookieStore,
     other: &CookieStore,
+    form: Form,
     now: DateTime,
 ) -> Result<(usize, CookieStore), AllocError>
-    ensures { IfOk result (λ whole. (taken : _) × ArePicked IsKept other.now.rows taken
+    ensures { IfOk result (λ whole. (taken : _) × ArePicked (IsTaken form) other.now.rows taken
         × (whole.0 ≡ length taken) × (whole.1.rows ≡ loaded false (civil_nanos now) (store.now.rows ++ taken))) }
 {
     let own = rows_of(alloc, store)?.len();
-    let rows = rows_with(alloc, store, other)?;
+    let rows = rows_with(alloc, store, other, form)?;
     let taken = rows.len() - own;
     Ok((taken, placed(alloc, rows, false, now)?))
 }

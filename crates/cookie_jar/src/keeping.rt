@@ -6,9 +6,11 @@ ghost use Rattle.cookie_store.specs.StoredCookie.{stored_of};
 ghost use Rattle.cookie_text.specs.Again.{IsReadPair};
 ghost use Rattle.cookie_jar.specs.Keeping as spec;
 
+use crate::form::Form;
 use crate::rows::{kept_rows, placed};
 use cookie_run::client::is_held;
 use cookie_store::{Cookie, CookieStore};
+use cookies_txt::{RowFault, row_fault};
 use jiff::civil::DateTime;
 use std::alloc::{AllocError, Global};
 
@@ -21,17 +23,24 @@ pub(crate) fn is_kept(cookie: &Cookie<'static>) -> bool
     !(has_control(name) || has_control(value)) && is_read_pair(name, value) && is_held(cookie)
 }
 
-/// Why a jar doesn't keep the cookie, as it is told.
-pub(crate) fn refusal_text(cookie: &Cookie<'static>) -> &'static str
-    ensures { result.now ≡ spec.refusal_text (stored_of cookie.now) }
+/// Whether an import takes the cookie into a jar that is saved in this form: the jar keeps it, and the form can hold
+/// it.
+pub(crate) fn is_taken(form: Form, cookie: &Cookie<'static>) -> bool
+    ensures { IsTrue result ↔ spec.IsTaken form (stored_of cookie.now) }
 {
-    let (name, value) = cookie.raw().name_value();
-    if has_control(name) || has_control(value) {
-        "refused: control character"
-    } else if is_read_pair(name, value) {
-        "refused: __Host-"
-    } else {
-        "refused: name or value"
+    match fault_in(form, cookie) {
+        Some(_) => false,
+        None => is_kept(cookie),
+    }
+}
+
+/// Why a text of this form can't hold the cookie, where that is so.
+pub(crate) fn fault_in(form: Form, cookie: &Cookie<'static>) -> Option<RowFault>
+    ensures { result ≡ spec.fault_in form (stored_of cookie.now) }
+{
+    match form {
+        Form::Ron | Form::Json => None,
+        Form::Txt => row_fault(cookie),
     }
 }
 

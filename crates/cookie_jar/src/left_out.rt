@@ -5,27 +5,29 @@ ghost use Rattle.cookie_store.specs.StoredCookie.{stored_of};
 ghost use Rattle.cookie_jar.specs.LeftOut as spec;
 ghost use Rattle.cookie_jar.specs.Rows.{lent_rows};
 
-use crate::keeping::refusal_text;
+use crate::form::Form;
+use crate::importing::{cause_words, refusal_of, unfit_words};
 use crate::listing::{push_domain, push_field};
 use cookie_store::Cookie;
-use cookies_txt::{RowFault, row_fault};
+use cookies_txt::row_fault;
 use std::alloc::{AllocError, Global};
 
-/// A line of each cookie, which a jar doesn't keep.
+/// A line of each cookie, which isn't taken into a jar that is saved in this form.
 ///
 /// # Errors
 ///
 /// `AllocError` where there is no memory for the text.
 pub(crate) fn refused_lines(
     alloc: Global,
+    form: Form,
     cookies: Vec<&Cookie<'static>>,
 ) -> Result<String, AllocError>
     ensures { IfOk result (λ text. string_bytes text
-        ≡ flat_map spec.refused_line (lent_rows cookies.entry.items)) }
+        ≡ flat_map (spec.refused_line form) (lent_rows cookies.entry.items)) }
 {
     let mut text = String::new(alloc);
     for cookie in cookies {
-        push_refused(&mut text, cookie)?;
+        push_refused(&mut text, form, cookie)?;
     }
     Ok(text)
 }
@@ -50,11 +52,16 @@ pub(crate) fn passed_over_lines(
 }
 
 #[tactic(auto, unfolding(crate::specs::LeftOut::refused_line))]
-fn push_refused(text: &mut String, cookie: &Cookie<'static>) -> Result<(), AllocError>
+fn push_refused(text: &mut String, form: Form, cookie: &Cookie<'static>) -> Result<(), AllocError>
     ensures { OnOk result (string_bytes text.new
-        ≡ string_bytes text.old ++ spec.refused_line (stored_of cookie.now)) }
+        ≡ string_bytes text.old ++ spec.refused_line form (stored_of cookie.now)) }
 {
-    push_left_out(text, refusal_text(cookie), cookie)
+    push_marked(
+        text,
+        "refused: ",
+        cause_words(refusal_of(form, cookie)),
+        cookie,
+    )
 }
 
 fn push_passed(text: &mut String, cookie: &Cookie<'static>) -> Result<(), AllocError>
@@ -62,9 +69,23 @@ fn push_passed(text: &mut String, cookie: &Cookie<'static>) -> Result<(), AllocE
         ≡ string_bytes text.old ++ spec.passed_line (stored_of cookie.now)) }
 {
     match row_fault(cookie) {
-        Some(fault) => push_left_out(text, fault_text(fault), cookie),
+        Some(fault) => push_marked(text, "passed over: ", unfit_words(fault), cookie),
         None => Ok(()),
     }
+}
+
+// A line of the cookie behind a mark.
+fn push_marked(
+    text: &mut String,
+    mark: &str,
+    why: &str,
+    cookie: &Cookie<'static>,
+) -> Result<(), AllocError>
+    ensures { OnOk result (string_bytes text.new
+        ≡ string_bytes text.old ++ (mark.now ++ spec.left_out_line why.now (stored_of cookie.now))) }
+{
+    text.push_str(mark)?;
+    push_left_out(text, why, cookie)
 }
 
 // A line of the cookie: why it is left out, its domain, its path and its name.
@@ -78,17 +99,4 @@ fn push_left_out(text: &mut String, why: &str, cookie: &Cookie<'static>) -> Resu
     push_field(text, cookie.path.as_str())?;
     push_field(text, cookie.raw().name())?;
     text.push_str("\n")
-}
-
-fn fault_text(fault: RowFault) -> &'static str
-    ensures { result.now ≡ spec.fault_text fault }
-{
-    match fault {
-        RowFault::NoDomain => "passed over: no domain",
-        RowFault::HostSign => "passed over: host begins with #, a dot or white space",
-        RowFault::NoSlash => "passed over: path without /",
-        RowFault::EmptyName => "passed over: empty name",
-        RowFault::Separator => "passed over: tab or line feed",
-        RowFault::CarriageReturn => "passed over: value ends in a carriage return",
-    }
 }

@@ -4,11 +4,12 @@ ghost use Rattle.jiff.specs.Words.{civil_nanos};
 ghost use Rattle.cookie_store.specs.Given.{ArePicked};
 ghost use Rattle.cookie_store.specs.Placing.{loaded_store};
 ghost use Rattle.cookie_store.specs.Rows.{Row, live};
-ghost use Rattle.cookie_jar.specs.Keeping.{IsKept};
+ghost use Rattle.cookie_jar.specs.Keeping.{IsKept, IsTaken};
 ghost use Rattle.cookie_jar.specs.LeftOut.{IsRefused};
 ghost use Rattle.cookie_jar.specs.Rows.{AreCopies, lent_rows};
 
-use crate::keeping::is_kept;
+use crate::form::Form;
+use crate::keeping::{is_kept, is_taken};
 use cookie_store::{Cookie, CookieStore, Error};
 use jiff::civil::DateTime;
 use std::alloc::{AllocError, Global};
@@ -42,18 +43,19 @@ pub(crate) fn live_rows(
     Ok(rows)
 }
 
-/// The rows of a store and then those of another that a jar keeps, in their order.
+/// The rows of the store of a jar that is saved in this form, and then those of another that it takes, in their order.
 pub(crate) fn rows_with<'a>(
     alloc: Global,
     store: &'a CookieStore,
     other: &'a CookieStore,
+    form: Form,
 ) -> Result<Vec<&'a Cookie<'static>>, AllocError>
-    ensures { IfOk result (λ rows. (taken : List Row) × ArePicked IsKept other.now.rows taken
+    ensures { IfOk result (λ rows. (taken : List Row) × ArePicked (IsTaken form) other.now.rows taken
         × (lent_rows rows.items ≡ store.now.rows ++ taken)) }
 {
     let mut rows = rows_of(alloc, store)?;
     for cookie in other.iter_any() {
-        if is_kept(cookie) {
+        if is_taken(form, cookie) {
             rows.push(cookie)?;
         }
     }
@@ -86,6 +88,24 @@ pub(crate) fn refused_rows(
     let mut rows = Vec::new(alloc);
     for cookie in store.iter_any() {
         if !is_kept(cookie) {
+            rows.push(cookie)?;
+        }
+    }
+    Ok(rows)
+}
+
+/// The rows of a store that aren't taken into a jar that is saved in this form, in their order.
+pub(crate) fn untaken_rows(
+    alloc: Global,
+    store: &CookieStore,
+    form: Form,
+) -> Result<Vec<&Cookie<'static>>, AllocError>
+    ensures { IfOk result (λ rows.
+        ArePicked (λ row. ¬ (IsTaken form row)) store.now.rows (lent_rows rows.items)) }
+{
+    let mut rows = Vec::new(alloc);
+    for cookie in store.iter_any() {
+        if !is_taken(form, cookie) {
             rows.push(cookie)?;
         }
     }

@@ -23,7 +23,8 @@ heads_unkept plan jar url text told refused new failure takes (inr unkept) =
 
 -- behind an import of rows
 pub rows_unkept : (plan : PlanText) (jar : Store) (form : Form) (is_strict : Bool) (text : List ℕ) (count refused : ℕ)
-    (told : List ℕ) (new : List Row) (failure : Failure) → Imports form plan.now text jar.rows count refused told new
+    (told : List ℕ) (new : List Row) (failure : Failure)
+    → Imports form plan.form plan.now text jar.rows count refused told new
     → IsLet is_strict refused → (failure ≡ Memory) ⊎ Unkept plan new failure
     → FailsToImportRows plan jar form is_strict text failure
 rows_unkept plan jar form is_strict text count refused told new failure imports lets (inl memory) = inl memory
@@ -32,7 +33,7 @@ rows_unkept plan jar form is_strict text count refused told new failure imports 
 
 -- behind an import of lines
 pub lines_unkept : (plan : PlanText) (jar : Store) (is_strict : Bool) (text : List ℕ) (lines : LinesText)
-    (new : List Row) (failure : Failure) → ImportsLines plan.now text jar.rows lines new
+    (new : List Row) (failure : Failure) → ImportsLines plan.form plan.now text jar.rows lines new
     → AreLet is_strict lines.refused → (failure ≡ Memory) ⊎ Unkept plan new failure
     → FailsToImportLines plan jar is_strict text failure
 lines_unkept plan jar is_strict text lines new failure imports lets (inl memory) = inl memory

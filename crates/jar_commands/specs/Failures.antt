@@ -3,8 +3,10 @@ use Rattle.std.specs.Prelude.{ℕ, List, Option, Some, None, Result, Ok, Err, co
 use Rattle.cookies_txt.specs.declared.error.LineFault.{LineFault}
 use Rattle.cookies_txt.specs.declared.error.LineFault.TheVariants.{NotText, Fields, EmptyDomain, Flag, NoSlash}
 use Rattle.cookies_txt.specs.declared.error.LineFault.TheVariants.{Number, EmptyName, Domain}
+use Rattle.cookies_txt.specs.declared.error.RowFault.{RowFault}
+use Rattle.cookies_txt.specs.declared.error.RowFault.TheVariants as row
 use Rattle.cookie_jar.specs.declared.importing.Cause.{Cause}
-use Rattle.cookie_jar.specs.declared.importing.Cause.TheVariants.{Faulty, Control, Pair, HostPrefix}
+use Rattle.cookie_jar.specs.declared.importing.Cause.TheVariants.{Faulty, Control, Pair, Unfit, HostPrefix}
 use Rattle.jar_words.specs.Refusing.{kind_text}
 use Rattle.jar_commands.specs.declared.failure.Failure.{Failure}
 use Rattle.jar_commands.specs.declared.failure.Failure.TheVariants.{Words, Moment, Format, FileFormat, Url, SuffixFile}
@@ -23,10 +25,19 @@ fault_text Number = codes "file text: expiry is no number"
 fault_text EmptyName = codes "file text: empty name"
 fault_text Domain = codes "file text: domain without IDNA form"
 
+abbrev pub unfit_text : RowFault → List ℕ
+unfit_text row.NoDomain = codes "file text: no domain"
+unfit_text row.HostSign = codes "file text: host begins with #, a dot or white space"
+unfit_text row.NoSlash = codes "file text: path without /"
+unfit_text row.EmptyName = codes "file text: empty name"
+unfit_text row.Separator = codes "file text: tab or line feed"
+unfit_text row.CarriageReturn = codes "file text: value ends in a carriage return"
+
 abbrev pub line_text : Cause → List ℕ
 line_text (Faulty fault) = fault_text fault
 line_text Control = codes "file text: control character"
 line_text Pair = codes "file text: name or value"
+line_text (Unfit fault) = unfit_text fault
 line_text HostPrefix = codes "file text: __Host-"
 
 -- the words of each cause

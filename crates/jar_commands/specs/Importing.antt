@@ -26,7 +26,7 @@ IsLet is_strict refused = is_strict ≡ true → refused ≡ 0
 abbrev pub GivesRows : PlanText → Store → Form → Bool → List ℕ → OutcomeText → Type 0
 GivesRows plan jar form is_strict given outcome =
     (count : ℕ) × (refused : ℕ) × (told : List ℕ) × (new : List Row)
-    × Imports form plan.now given jar.rows count refused told new × IsLet is_strict refused
+    × Imports form plan.form plan.now given jar.rows count refused told new × IsLet is_strict refused
     × Keeps plan (rows_line count ++ told) (status_by refused) new outcome
 
 -- ---- the lines of a `cookies.txt`
@@ -52,7 +52,7 @@ AreLet is_strict refused = is_strict ≡ true → refused ≡ []
 -- each line is taken in, or passed over, or told
 abbrev pub GivesLines : PlanText → Store → Bool → List ℕ → OutcomeText → Type 0
 GivesLines plan jar is_strict given outcome =
-    (lines : LinesText) × (new : List Row) × ImportsLines plan.now given jar.rows lines new
+    (lines : LinesText) × (new : List Row) × ImportsLines plan.form plan.now given jar.rows lines new
     × AreLet is_strict lines.refused × Keeps plan (lines_told lines) (lines_status lines.refused) new outcome
 
 -- the failure tells the first of the lines that are refused

@@ -125,7 +125,7 @@ FailsToImportRows plan jar form is_strict text failure =
     (failure ≡ Memory)
     ⊎ (((failure ≡ FileText) × IsNoTextOf form text)
     ⊎ ((count : ℕ) × (refused : ℕ) × (told : List ℕ) × (new : List Row)
-    × Imports form plan.now text jar.rows count refused told new
+    × Imports form plan.form plan.now text jar.rows count refused told new
     × (((failure ≡ FileText) × (is_strict ≡ true) × (0 < refused))
     ⊎ (IsLet is_strict refused × Unkept plan new failure))))
 
@@ -133,7 +133,7 @@ FailsToImportRows plan jar form is_strict text failure =
 abbrev pub FailsToImportLines : PlanText → Store → Bool → List ℕ → Failure → Type 0
 FailsToImportLines plan jar is_strict text failure =
     (failure ≡ Memory)
-    ⊎ ((lines : LinesText) × (new : List Row) × ImportsLines plan.now text jar.rows lines new
+    ⊎ ((lines : LinesText) × (new : List Row) × ImportsLines plan.form plan.now text jar.rows lines new
     × (((is_strict ≡ true) × IsToldOf lines.refused failure)
     ⊎ (AreLet is_strict lines.refused × Unkept plan new failure)))
 

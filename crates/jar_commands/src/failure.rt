@@ -1,9 +1,9 @@
 //! Why the program ends with status 2.
 ghost use Rattle.std.specs.Prelude.{◌≡◌};
-ghost use Rattle.jar_commands.specs.Failures.{failure_text, fault_text, line_of, line_text};
+ghost use Rattle.jar_commands.specs.Failures.{failure_text, fault_text, line_of, line_text, unfit_text};
 
 use cookie_jar::Cause;
-use cookies_txt::LineFault;
+use cookies_txt::{LineFault, RowFault};
 use jar_words::Kind;
 use std::alloc::AllocError;
 
@@ -96,6 +96,7 @@ fn line_words(cause: Cause) -> &'static str
         Cause::Faulty(fault) => fault_words(fault),
         Cause::Control => "file text: control character",
         Cause::Pair => "file text: name or value",
+        Cause::Unfit(fault) => unfit_words(fault),
         Cause::HostPrefix => "file text: __Host-",
     }
 }
@@ -112,6 +113,19 @@ fn fault_words(fault: LineFault) -> &'static str
         LineFault::Number => "file text: expiry is no number",
         LineFault::EmptyName => "file text: empty name",
         LineFault::Domain => "file text: domain without IDNA form",
+    }
+}
+
+fn unfit_words(fault: RowFault) -> &'static str
+    ensures { result.now ≡ unfit_text fault }
+{
+    match fault {
+        RowFault::NoDomain => "file text: no domain",
+        RowFault::HostSign => "file text: host begins with #, a dot or white space",
+        RowFault::NoSlash => "file text: path without /",
+        RowFault::EmptyName => "file text: empty name",
+        RowFault::Separator => "file text: tab or line feed",
+        RowFault::CarriageReturn => "file text: value ends in a carriage return",
     }
 }
 

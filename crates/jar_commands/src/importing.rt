@@ -1,6 +1,6 @@
 //! The command that takes rows of another file in.
-ghost use Rattle.std.specs.Prelude.{◌≡◌, ◌⊎◌, ◌<◌, ◌++◌, IfErr, IfOk, IfSome, IsNone, IsSomeAnd, IsTrue, OnOk, Some, false};
-ghost use Rattle.std.specs.Prelude.{map, string_bytes, true};
+ghost use Rattle.std.specs.Prelude.{◌≡◌, ◌⊎◌, ◌<◌, ◌++◌, IfErr, IfOk, IfSome, IsNone, IsSomeAnd, IsTrue, OnOk, Some};
+ghost use Rattle.std.specs.Prelude.{false, map, string_bytes, true};
 ghost use Rattle.std.specs.Option.{option_copied};
 ghost use Rattle.jiff.specs.Words.{civil_nanos};
 ghost use Rattle.cookie_jar.specs.Importing.{lines_text, refused_pair};
@@ -88,12 +88,12 @@ fn import_rows(
 
 // The rows of a text, taken in.
 fn taken(plan: &Plan<'_>, jar: &mut Jar, form: Form, text: &[u8]) -> Result<Imported, Failure>
-    ensures ok { IfOk result (λ imported. Imports form (civil_nanos plan.now.at) text.now jar.old.rows
+    ensures ok { IfOk result (λ imported. Imports form plan.now.form (civil_nanos plan.now.at) text.now jar.old.rows
         imported.rows imported.refused (string_bytes imported.told) jar.new.rows) }
     ensures err { IfErr result (λ failure.
         (failure ≡ Failure.Memory) ⊎ ((failure ≡ Failure.FileText) × IsNoTextOf form text.now)) }
 {
-    match jar.import(form, text, plan.at) {
+    match jar.import(form, plan.form, text, plan.at) {
         Ok(imported) => Ok(imported),
         Err(ReadError::OutOfMemory) => Err(Failure::Memory),
         Err(_) => Err(Failure::FileText),
@@ -127,7 +127,7 @@ fn import_lines(
     ensures err { IfErr result
         (performing.FailsToImportLines (plan_text plan.now) jar.old is_strict text.now) }
 {
-    let lines = jar.import_lines(text, plan.at)?;
+    let lines = jar.import_lines(plan.form, text, plan.at)?;
     if let Some(failure) = first_refused(is_strict, &lines.refused) {
         return Err(failure);
     }

@@ -10,7 +10,7 @@ pub loop-entry-preserved-in-Continue-1 : goal.loop-entry-preserved-in-Continue-1
 loop-entry-preserved-in-Continue-1 c =
     let old = c.loop-entry.kept.items in
     let cookie = c.in-Some-kept_cookie.cookie in
-    kept_next (civil_nanos c.args.now) c.loop-entry.yielded c.in-Some.entry old c.push.new.self.items
+    kept_next c.args.form (civil_nanos c.args.now) c.loop-entry.yielded c.in-Some.entry old c.push.new.self.items
     c.kept_cookie.result c.loop-entry.invariant c.kept_cookie.ensures
     (ap (map stored_of) c.in_ok-push-in-Some-kept_cookie.ensures.items
     ∙ (map-append stored_of old (cookie ∷ [])
@@ -19,7 +19,7 @@ loop-entry-preserved-in-Continue-1 c =
 pub loop-entry-preserved : goal.loop-entry-preserved
 loop-entry-preserved c =
     let old = c.loop-entry.kept.items in
-    kept_next (civil_nanos c.args.now) c.loop-entry.yielded c.in-Some.entry old old c.kept_cookie.result
+    kept_next c.args.form (civil_nanos c.args.now) c.loop-entry.yielded c.in-Some.entry old old c.kept_cookie.result
     c.loop-entry.invariant c.kept_cookie.ensures
     (sym (append-nil (map stored_of old))
     ∙ ap (λ o. map stored_of old ++ lone (option_map stored_of o)) (sym c.in-None-kept_cookie.is))

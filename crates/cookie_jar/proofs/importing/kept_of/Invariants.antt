@@ -5,9 +5,10 @@ use Rattle.cookie_store.specs.Rows.{live}
 use Rattle.cookie_store.specs.StoredCookie.{stored_of}
 use Rattle.cookies_txt.specs.Entries.{entry_text}
 use Rattle.cookie_jar.specs.Importing.{rows_in}
-use Rattle.cookie_jar.specs.Keeping.{IsKept}
+use Rattle.cookie_jar.specs.Keeping.{IsTaken}
 use Rattle.cookie_jar.proofs.importing.kept_of.Given as goal
 
 abbrev pub invariant-loop-entry : goal.invariant-loop-entry
 invariant-loop-entry l =
-    ArePicked IsKept (live (civil_nanos l.now) (rows_in (map entry_text l.yielded))) (map stored_of l.kept.items)
+    ArePicked (IsTaken l.form) (live (civil_nanos l.now) (rows_in (map entry_text l.yielded)))
+    (map stored_of l.kept.items)

@@ -15,13 +15,14 @@ loop-entry-preserved c =
     let entry = c.entry-item.result in
     let old = c.loop-entry.refused.items in
     elim c.match-cause_of.branch [
-      | in-Some+in_ok-push-in-Some w ↦ subst (λ v. AreRefused now (map entry_text (take (i + 1) xs))
+      | in-Some+in_ok-push-in-Some w ↦ subst (λ v. AreRefused c.args.form now (map entry_text (take (i + 1) xs))
           (map refused_pair v.items)) (sym w.refused-is)
-          (next_refused now xs i entry old w.push.new.self.items c.cause_of.result w.in-Some.cause
+          (next_refused c.args.form now xs i entry old w.push.new.self.items c.cause_of.result w.in-Some.cause
           c.loop-entry-test.true c.entry-item.is c.loop-entry.invariant c.cause_of.ensures.some w.in-Some.is
           w.in_ok-push-in-Some.ensures.items)
-      | in-None w ↦ subst (λ v. AreRefused now (map entry_text (take (i + 1) xs)) (map refused_pair v.items))
+      | in-None w ↦ subst
+          (λ v. AreRefused c.args.form now (map entry_text (take (i + 1) xs)) (map refused_pair v.items))
           (sym w.refused-is)
-          (next_taken now xs i entry old c.loop-entry-test.true c.entry-item.is c.loop-entry.invariant
+          (next_taken c.args.form now xs i entry old c.loop-entry-test.true c.entry-item.is c.loop-entry.invariant
           (c.cause_of.ensures.none (ap is_some w.in-None.is)))
     ]

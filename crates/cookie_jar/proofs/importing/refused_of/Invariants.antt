@@ -6,4 +6,5 @@ use Rattle.cookie_jar.proofs.importing.refused_of.Given as goal
 
 abbrev pub invariant-loop-entry : goal.invariant-loop-entry
 invariant-loop-entry l =
-    AreRefused (civil_nanos l.now) (map entry_text (take l.entry-index l.entries)) (map refused_pair l.refused.items)
+    AreRefused l.form (civil_nanos l.now) (map entry_text (take l.entry-index l.entries))
+    (map refused_pair l.refused.items)

@@ -2,7 +2,7 @@ use Rattle.std.proofs.Common.{◌≡◌, ◌-◌, ◌+◌, length, ap, ◌∙◌
 use Rattle.std.proofs.lemmas.List.{length-map}
 use Rattle.cookie_store.specs.Given.{lent_row}
 use Rattle.cookie_store.specs.Rows.{Store}
-use Rattle.cookie_jar.specs.Keeping.{IsKept}
+use Rattle.cookie_jar.specs.Keeping.{IsTaken}
 use Rattle.cookie_jar.specs.Rows.{lent_rows}
 use Rattle.cookie_jar.proofs.RowLemmas.{picked_fewer}
 use Rattle.cookie_jar.proofs.jar.import_rows.Goals as goal
@@ -13,7 +13,7 @@ overflow_sub-result c =
     omega (
       arith,
       count,
-      picked_fewer IsKept c.args.other.now.rows taken picked,
+      picked_fewer (IsTaken c.args.form) c.args.other.now.rows taken picked,
       c.len-all.ensures,
       c.in_ok-rows_of.field-0.ok.0,
       ap length c.in_ok-rows_of.ensures,
@@ -26,7 +26,7 @@ returns-clause-ok c =
     let whole : c.in_ok-taken.taken + (c.len-all.result - c.in_ok-taken.taken) ≡ length c.args.other.now.rows = omega (
       arith,
       count,
-      picked_fewer IsKept c.args.other.now.rows taken picked,
+      picked_fewer (IsTaken c.args.form) c.args.other.now.rows taken picked,
       c.len-all.ensures,
       c.in_ok-rows_of.field-0.ok.0,
       ap length c.in_ok-rows_of.ensures,
@@ -37,5 +37,5 @@ returns-clause-ok c =
       ap (λ (s : Store). s.rows) c.replace_rows.ensures ∙ rows,
       count,
       whole,
-      (lent_rows c.in_ok-refused_rows.field-0.items, c.in_ok-refused_rows.ensures, c.in_ok-told.ensures),
+      (lent_rows c.in_ok-untaken_rows.field-0.items, c.in_ok-untaken_rows.ensures, c.in_ok-told.ensures),
     )

@@ -5,4 +5,4 @@ use Rattle.cookie_jar.specs.Rows.{lent_rows}
 use Rattle.cookie_jar.proofs.left_out.refused_lines.Given as goal
 
 abbrev pub invariant-loop-cookie : goal.invariant-loop-cookie
-invariant-loop-cookie l = string_bytes l.text ≡ flat_map refused_line (lent_rows l.yielded)
+invariant-loop-cookie l = string_bytes l.text ≡ flat_map (refused_line l.form) (lent_rows l.yielded)
