@@ -46,9 +46,14 @@ subject asked list other = None
 
 -- ---- what is told of it
 
--- the lock of a jar is named so behind the jar's name
+-- what stands behind a name in any case: the end of the name of a jar's lock; of a word, what it has to be and isn't
 abbrev pub ending : Failure → List ℕ
 ending failure.LockFile = codes ".lock"
+ending failure.Moment = codes ": no date and time of 1971 to 9998, as 2027-01-01T00:00:00Z"
+ending failure.Format = codes ": ends in neither .json, .ron nor .txt"
+ending failure.FileFormat = codes ": ends in neither .json, .ron nor .txt, or beside --for it isn't .txt"
+ending failure.Wait = codes ": no whole number of seconds"
+ending failure.Rules = codes ": neither browser, none nor names of rules between commas"
 ending other = []
 
 -- the system refused a file

@@ -173,12 +173,18 @@ fn named(alloc: Global, name: &str, stopped: Stopped) -> Result<String, AllocErr
     Ok(told)
 }
 
-// The end of the name of the jar's lock.
+// What stands behind a name in any case: the end of the name of the jar's lock; of a word, what it has to be and isn't.
 fn ending(failure: Failure) -> &'static str
     ensures { result.now ≡ spec.ending failure }
 {
     match failure {
         Failure::LockFile => ".lock",
+        Failure::Moment => ": no date and time of 1971 to 9998, as 2027-01-01T00:00:00Z",
+        Failure::Format => ": ends in neither .json, .ron nor .txt",
+        Failure::FileFormat =>
+            ": ends in neither .json, .ron nor .txt, or beside --for it isn't .txt",
+        Failure::Wait => ": no whole number of seconds",
+        Failure::Rules => ": neither browser, none nor names of rules between commas",
         _ => "",
     }
 }
