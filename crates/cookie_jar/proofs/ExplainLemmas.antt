@@ -9,6 +9,9 @@ use Rattle.std.proofs.lemmas.List.{append-nil}
 use Rattle.json.specs.Token.{Token}
 use Rattle.json.specs.Written.{Writes, Written}
 use Rattle.url.specs.Parts.{Parts}
+use Rattle.store_parts.specs.Expiry.{death_of}
+use Rattle.store_parts.specs.declared.cookie_expiration.CookieExpiration.{CookieExpiration}
+use Rattle.store_parts.specs.declared.cookie_expiration.CookieExpiration.TheVariants.{AtUtc, SessionEnd}
 use Rattle.cookie_store.specs.Making.{ReadsStored}
 use Rattle.cookie_store.specs.Rows.{Row, Store, found, key_of}
 use Rattle.line_report.specs.Pair.{HasNoPair, IsPairOf}
@@ -21,8 +24,10 @@ use Rattle.user_agent.specs.LongAttributes.{IsShortLine}
 use Rattle.user_agent.specs.declared.rules.Rules.{Rules}
 use Rattle.cookie_jar.specs.Changing.{TellsChanges, change_line}
 use Rattle.cookie_jar.specs.declared.changing.Change.TheVariants.{LongAttributes, Dates, LongLives}
-use Rattle.cookie_jar.specs.Explaining.{IsExplained, IsSent, Says, SaysHanded, SaysText, SentAs}
-use Rattle.cookie_jar.specs.Explaining.{pair_lines, piece_lines, row_lines, rule_text}
+use Rattle.cookie_jar.specs.Explaining.{IsExplained, IsSent, IsUntil, Says, SaysHanded, SaysText, SentAs}
+use Rattle.cookie_jar.specs.Explaining.{TellsRequests, TellsRow, pair_lines, piece_lines, request_lines, rule_text}
+use Rattle.cookie_jar.specs.Listing.{moment_text}
+use Rattle.cookie_jar.specs.Rows.{until_line}
 use Rattle.cookie_jar.specs.Steps.{Appends, SaysLeft, WritesMore, left_of, pair_of}
 use Rattle.cookie_jar.specs.Taking.{TakesLine}
 use Rattle.cookie_jar.specs.Told.{end_text}
@@ -122,11 +127,40 @@ says_left rules now line (Some handed) text says = inr says
 
 pub is_sent : {A E : Type 0} (r : Result A E) (url : Parts) (now : ℤ) (line text : List ℕ) (made : Row)
     (rows : List Row) (row : Option Row) (old new : List ℕ) → text ≡ line → ReadsStored text url now (Ok made)
-    → row ≡ found (key_of made) rows → OnOk r (new ≡ old ++ row_lines row)
+    → row ≡ found (key_of made) rows → OnOk r (Appends (TellsRow now row) old new)
     → OnOk r (Appends (IsSent url now line rows) old new)
-is_sent (Ok x) url now line text made rows row old new same reads is told =
-    (row_lines row, (made, subst (λ t. ReadsStored t url now (Ok made)) same reads, ap row_lines is), told)
+is_sent (Ok x) url now line text made rows row old new same reads is (more, tells, told) = (
+  more,
+  (made, subst (λ t. ReadsStored t url now (Ok made)) same reads, subst (λ r. TellsRow now r more) is tells),
+  told,
+)
 is_sent (Err x) url now line text made rows row old new same reads is told = tt
+
+-- until when a row is sent
+until_is : (now : ℤ) (expires : CookieExpiration) → IsUntil now (death_of expires) (until_line now expires)
+until_is now (AtUtc moment) = (moment_text moment, (moment, refl, refl), refl)
+until_is now SessionEnd = refl
+
+-- which requests get it
+pub tells_requests : {A E : Type 0} (r : Result A E) (now : ℤ) (row : Row) (expires : CookieExpiration)
+    (old new : List ℕ) → row.death ≡ death_of expires
+    → OnOk r (new ≡ old ++ request_lines row (until_line now expires))
+    → OnOk r (Appends (TellsRequests now row) old new)
+tells_requests (Ok x) now row expires old new death told = (
+  request_lines row (until_line now expires),
+  (
+    until_line now expires,
+    subst (λ d. IsUntil now d (until_line now expires)) (sym death) (until_is now expires),
+    refl,
+  ),
+  told,
+)
+tells_requests (Err x) now row expires old new death told = tt
+
+-- nothing, where there is no row
+pub tells_none : (now : ℤ) (row : Option Row) (old : List ℕ) → row ≡ None → Appends (TellsRow now row) old old
+tells_none now row old none =
+    subst (λ r. Appends (TellsRow now r) old old) (sym none) ([], refl, sym (append-nil old))
 
 -- ---- all
 

@@ -1,7 +1,6 @@
 -- What is told of a `Set-Cookie` line at a URL (this repository's own; the sections are those of RFC 6265).
-use Rattle.std.specs.Prelude.{◌≡◌, ◌⊎◌, ◌==◌, ◌++◌, ℕ, ℤ, Bool, List, [], ◌∷◌, Option, Some, None}
+use Rattle.std.specs.Prelude.{◌≡◌, ◌⊎◌, ◌++◌, ℕ, ℤ, Bool, List, [], ◌∷◌, Option, Some, None}
 use Rattle.std.specs.Prelude.{Result, Ok, Err, MatchResult, codes, if◌then◌else◌}
-use Rattle.std.specs.Fmt.{decimal}
 use Rattle.std.specs.Str.{IsUtf8}
 use Rattle.cookie_text.specs.Printing.{is_set}
 use Rattle.url.specs.Parts.{Parts}
@@ -19,7 +18,7 @@ use Rattle.line_report.specs.declared.judging.Judgement.TheVariants.{Valid, Inva
 use Rattle.line_report.specs.declared.pairing.PairFault.{PairFault}
 use Rattle.line_report.specs.declared.pairing.PairFault.TheVariants.{NoEquals, EmptyName}
 use Rattle.cookies_txt.specs.Layout.{when}
-use Rattle.cookies_txt.specs.Writing.{expiry_second, is_suffix}
+use Rattle.cookies_txt.specs.Writing.{is_suffix}
 use Rattle.cookie_run.specs.declared.step.LineEnd.{LineEnd}
 use Rattle.cookie_run.specs.declared.step.LineEnd.TheVariants.{Stored, Refused, NotText, HostPrefix}
 use Rattle.user_agent.specs.declared.rules.Outcome.{Outcome}
@@ -28,6 +27,7 @@ use Rattle.user_agent.specs.declared.rules.Refusal.{Refusal}
 use Rattle.user_agent.specs.declared.rules.Refusal.TheVariants as rule
 use Rattle.user_agent.specs.declared.rules.Rules.{Rules}
 use Rattle.cookie_jar.specs.Changing.{TellsChanges}
+use Rattle.cookie_jar.specs.Listing.{IsExpiresField, left_field}
 use Rattle.cookie_jar.specs.Taking.{TakesLine}
 use Rattle.cookie_jar.specs.Told.{end_text, shown}
 use Rattle.cookie_jar.specs.declared.form.Form.{Form}
@@ -129,11 +129,12 @@ abbrev pub path_text : Bool → List ℕ
 path_text from_attribute =
     if from_attribute then codes " and below\n" else codes " and below, the default-path (RFC 6265, section 5.1.4)\n"
 
--- the second of an expiry, 0 for none
-abbrev pub until_text : ℕ → List ℕ
-until_text second =
-    if second == 0 then codes "until: the end of the session\n"
-    else codes "until: second " ++ (decimal second ++ codes " since 1970\n")
+-- until when a row of this death is sent: its moment, and in how long that is
+abbrev pub IsUntil : ℤ → Option ℤ → List ℕ → Type 0
+IsUntil now None line = line ≡ codes "until: the end of the session\n"
+IsUntil now (Some death) line =
+    (expires : List ℕ) × IsExpiresField (Some death) expires
+    × (line ≡ codes "until: " ++ (expires ++ (codes ", in " ++ (left_field now (Some death) ++ codes "\n"))))
 
 unfoldable pub host_line : Row → List ℕ
 host_line row = codes "host: " ++ (shown (domain_text row) ++ hosts_text (is_suffix row.domain))
@@ -147,20 +148,23 @@ secure_line = codes "Secure: by https alone, or to this computer\n"
 unfoldable pub http_only_line : List ℕ
 http_only_line = codes "HttpOnly: by http and https alone\n"
 
--- the hosts, the paths, the schemes and the end of a row (5.4)
-abbrev pub request_lines : Row → List ℕ
-request_lines row =
+-- the hosts, the paths, the schemes and the end of a row (5.4), of which this is the last line
+abbrev pub request_lines : Row → List ℕ → List ℕ
+request_lines row until =
     host_line row ++ (path_line row ++ (when (is_set row.raw.cookie.secure) secure_line ++
-    (when (is_set row.raw.cookie.http_only) http_only_line ++ until_text (expiry_second row.death))))
+    (when (is_set row.raw.cookie.http_only) http_only_line ++ until)))
 
-abbrev pub row_lines : Option Row → List ℕ
-row_lines None = []
-row_lines (Some row) = request_lines row
+abbrev pub TellsRequests : ℤ → Row → List ℕ → Type 0
+TellsRequests now row text = (until : List ℕ) × IsUntil now row.death until × (text ≡ request_lines row until)
+
+abbrev pub TellsRow : ℤ → Option Row → List ℕ → Type 0
+TellsRow now None text = text ≡ []
+TellsRow now (Some row) text = TellsRequests now row text
 
 -- the lines on the row of the cookie that the line gives
 abbrev pub IsSent : Parts → ℤ → List ℕ → List Row → List ℕ → Type 0
 IsSent url now line rows text =
-    (made : Row) × ReadsStored line url now (Ok made) × (text ≡ row_lines (found (key_of made) rows))
+    (made : Row) × ReadsStored line url now (Ok made) × TellsRow now (found (key_of made) rows) text
 
 -- where it is put among the rows, they are these
 abbrev pub SentAs : Parts → ℤ → List ℕ → End → List Row → List ℕ → Type 0

@@ -1,5 +1,5 @@
 -- What private functions answer. No public contract names a word of this file.
-use Rattle.std.specs.Prelude.{◌≡◌, ◌++◌, ℕ, ℤ, List, [], ◌∷◌, Ok, Result, codes, map}
+use Rattle.std.specs.Prelude.{◌≡◌, ◌++◌, ◌-ℤ◌, ℕ, ℤ, List, [], ◌∷◌, Ok, Result, codes, map}
 use Rattle.std.specs.Borrow.{Bor}
 use Rattle.cookie_text.specs.Printing.{is_set}
 use Rattle.store_parts.specs.declared.cookie_expiration.CookieExpiration.{CookieExpiration}
@@ -10,7 +10,8 @@ use Rattle.cookie_store.specs.Rows.{Row}
 use Rattle.cookie_store.specs.StoredCookie.{stored_of}
 use Rattle.cookie_store.specs.declared.stored_cookie.Cookie.{Cookie}
 use Rattle.cookies_txt.specs.Layout.{tab}
-use Rattle.cookie_jar.specs.Listing.{domain_field, flag_text, left_field, moment_text}
+use Rattle.jiff.specs.Words.{civil_nanos}
+use Rattle.cookie_jar.specs.Listing.{domain_field, flag_text, left_field, length_text, moment_text, whole_seconds}
 use Rattle.cookie_jar.specs.Told.{shown}
 
 -- the rows of cookies that a store lends
@@ -25,6 +26,13 @@ AreCopies rows items = (copies : List Cookie) × (items ≡ map Ok copies) × (m
 abbrev pub expires_text : CookieExpiration → List ℕ
 expires_text (AtUtc moment) = moment_text moment
 expires_text SessionEnd = codes "session"
+
+-- until when it is sent, as a line of an explanation has it
+abbrev pub until_line : ℤ → CookieExpiration → List ℕ
+until_line now (AtUtc moment) =
+    codes "until: " ++ (moment_text moment
+    ++ (codes ", in " ++ (length_text (whole_seconds (civil_nanos moment -ℤ now)) ++ codes "\n")))
+until_line now SessionEnd = codes "until: the end of the session\n"
 
 -- the first four fields of a row's line, and what stands behind them
 abbrev pub row_texts : Row → List ℕ

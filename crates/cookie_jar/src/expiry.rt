@@ -4,7 +4,7 @@ ghost use Rattle.cookies_txt.specs.Layout.{tab};
 ghost use Rattle.jiff.specs.Words.{civil_nanos};
 ghost use Rattle.store_parts.specs.Expiry.{death_of};
 ghost use Rattle.cookie_jar.specs.Listing as spec;
-ghost use Rattle.cookie_jar.specs.Rows.{expires_text};
+ghost use Rattle.cookie_jar.specs.Rows.{expires_text, until_line};
 
 use cookie_store::CookieExpiration;
 use jiff::civil::DateTime;
@@ -52,6 +52,27 @@ pub(crate) fn push_left(
     match expires {
         CookieExpiration::AtUtc(moment) => push_length(text, seconds_until(now, moment)),
         CookieExpiration::SessionEnd => text.push_str("-"),
+    }
+}
+
+/// A line of the moment in UTC and of how long it is until then, or of the end of the session.
+pub(crate) fn push_until(
+    text: &mut String,
+    expires: CookieExpiration,
+    now: DateTime,
+) -> Result<(), AllocError>
+    ensures { OnOk result (string_bytes text.new
+        ≡ string_bytes text.old ++ until_line (civil_nanos now) expires) }
+{
+    match expires {
+        CookieExpiration::AtUtc(moment) => {
+            text.push_str("until: ")?;
+            push_moment(text, moment)?;
+            text.push_str(", in ")?;
+            push_length(text, seconds_until(now, moment))?;
+            text.push_str("\n")
+        }
+        CookieExpiration::SessionEnd => text.push_str("until: the end of the session\n"),
     }
 }
 

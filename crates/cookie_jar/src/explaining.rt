@@ -12,13 +12,13 @@ ghost use Rattle.cookie_jar.specs.Explaining as spec;
 ghost use Rattle.cookie_jar.specs.Steps as steps;
 
 use crate::changing::push_changes;
+use crate::expiry::push_until;
 use crate::form::Form;
 use crate::listing::is_suffix;
 use crate::taking::{End, take_line};
 use crate::told::{end_text, push_shown};
 use cookie_run::LineEnd;
 use cookie_store::{Cookie, CookieError, CookieStore, StoreAction};
-use cookies_txt::expiry_second;
 use jiff::civil::DateTime;
 use line_report::{Judgement, PairFault, Piece, pair, pieces};
 use std::alloc::{AllocError, Global};
@@ -281,7 +281,7 @@ fn push_row(
     let Ok(made) = Cookie::parse(alloc, line, url, now) else {
         return Err(AllocError);
     };
-    push_found(text, sought(store, &made))
+    push_found(text, sought(store, &made), now)
 }
 
 // The row with the domain, the path and the name of the cookie.
@@ -292,26 +292,31 @@ fn sought<'s>(store: &'s CookieStore, made: &Cookie<'_>) -> Option<&'s Cookie<'s
     store.get_any(domain, made.path.as_str(), made.raw().name())
 }
 
-fn push_found(text: &mut String, row: Option<&Cookie<'static>>) -> Result<(), AllocError>
-    ensures { OnOk result (string_bytes text.new
-        ≡ string_bytes text.old ++ spec.row_lines (option_map stored_of (option_copied row.entry))) }
+fn push_found(
+    text: &mut String,
+    row: Option<&Cookie<'static>>,
+    now: DateTime,
+) -> Result<(), AllocError>
+    ensures { OnOk result (steps.Appends
+        (spec.TellsRow (civil_nanos now) (option_map stored_of (option_copied row.entry)))
+        (string_bytes text.old) (string_bytes text.new)) }
 {
     match row {
-        Some(row) => push_requests(text, row),
+        Some(row) => push_requests(text, row, now),
         None => Ok(()),
     }
 }
 
 // The hosts, the paths, the schemes and the end of a row.
-fn push_requests(text: &mut String, row: &Cookie<'static>) -> Result<(), AllocError>
-    ensures { OnOk result (string_bytes text.new
-        ≡ string_bytes text.old ++ spec.request_lines (stored_of row.now)) }
+fn push_requests(text: &mut String, row: &Cookie<'static>, now: DateTime) -> Result<(), AllocError>
+    ensures { OnOk result (steps.Appends (spec.TellsRequests (civil_nanos now) (stored_of row.now))
+        (string_bytes text.old) (string_bytes text.new)) }
 {
     push_host(text, row)?;
     push_path(text, row)?;
     push_secure(text, row)?;
     push_http_only(text, row)?;
-    push_until(text, expiry_second(row.expires))
+    push_until(text, row.expires, now)
 }
 
 #[tactic(auto, unfolding(crate::specs::Explaining::host_line))]
@@ -385,14 +390,4 @@ fn when(is_so: bool, text: &'static str) -> &'static str
     ensures { result.now ≡ when is_so text.now }
 {
     if is_so { text } else { "" }
-}
-
-fn push_until(text: &mut String, second: u64) -> Result<(), AllocError>
-    ensures { OnOk result (string_bytes text.new ≡ string_bytes text.old ++ spec.until_text second) }
-{
-    if second == 0 {
-        text.push_str("until: the end of the session\n")
-    } else {
-        write!(text, "until: second {second} since 1970\n")
-    }
 }
