@@ -6,7 +6,7 @@ import re
 import shutil
 import sys
 
-# What the toolchain has LLVM compile of code with no proof: a fill of each local, and what checks and what it does.
+# What code with no proof has: a fill of each local, and functions that check what a proof would show.
 FILL = re.compile(r"^  call void @llvm\.memset\.p0\.i64\(ptr %\w+, i8 -86, i64 \d+, i1 false\)\n", re.M)
 CHECK = re.compile(r'^(define internal void @"rattle-(?:llvm-checks|try)::[\w-]+"\([^)]*\) )#\d+ \{\n.*?^\}\n',
                    re.M | re.S)
