@@ -1,11 +1,10 @@
 //! Values by text, in the order in which their texts came.
 
 ghost use Rattle.std.specs.Prelude.{◌≡◌, ◌<◌, [], IsTrue, IfOk, OnOk, OnErr, Some, None, length, map, slice_get};
-ghost use Rattle.std.specs.Prelude.{string_bytes, option_copied, option_map};
-ghost use Rattle.std.specs.Option.{option_copied_mut};
+ghost use Rattle.std.specs.Prelude.{string_bytes, option_map};
 ghost use Rattle.std.specs.Borrow.{sem};
 ghost use Rattle.place_index.specs.Entries.{place_of, value_at, with_value, without};
-ghost use Rattle.place_index.specs.Lending.{LendsValue, LendsAt};
+ghost use Rattle.place_index.specs.Lending.{LendsAt};
 
 use indexmap::IndexMap;
 use std::alloc::{AllocError, Global};
@@ -49,24 +48,6 @@ impl<V> TextMap<V> {
         ensures { IsTrue result → place_of key.now self.now ≡ None }
     {
         key.len() > self.longest
-    }
-
-    /// The value of a text.
-    pub(crate) fn get(&self, key: &str) -> Option<&V>
-        ensures { option_copied result ≡ value_at key.now self.now }
-    {
-        if self.is_longer(key) {
-            return None;
-        }
-        self.entries.get(key)
-    }
-
-    /// The value of a text, to be changed.
-    pub(crate) fn get_mut(&mut self, key: &str) -> Option<&mut V>
-        ensures* writes_back { sem 𝓛 (LendsValue V.row self.entry key.now result) }
-        ensures value { option_copied_mut result ≡ value_at key.now self.old }
-    {
-        self.entries.get_mut(key)
     }
 
     /// Which value is the text's, counted from 0.
