@@ -6,4 +6,5 @@ mod Sound
 mod RunLemmas
 mod ThereLemmas
 mod CutLemmas
+mod MadeLemmas
 mod WebLemmas

@@ -1,3 +1,4 @@
 pub mod Shard
 pub mod Related
 pub mod Cut
+pub mod Exchanges

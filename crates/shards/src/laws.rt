@@ -1,5 +1,6 @@
 //! What holds of shards.
 ghost use Rattle.shards.specs.Cut.{ShardsAreTheClient};
+ghost use Rattle.shards.specs.Exchanges.{ShardsServeSessions};
 ghost use Rattle.shards.specs.Related as law;
 
 use cookie_text::laws::one_outcome;
@@ -22,6 +23,16 @@ pub fn special_hosts_end_in_no_address()
 /// header for a host of the shard is byte for byte the same. No session's exchange is among the steps of that shard.
 pub fn shards_are_the_client()
     ensures { ShardsAreTheClient }
+{
+    one_outcome();
+    cookie_store::laws();
+}
+
+/// So it is with sessions too, whose lines are handed in, nonces and all: any play leaves the rows that it leaves where
+/// each of its exchanges is made as a look at the header on which its session is opened, and an answer of the lines that
+/// the session closes with. Of that each shard's client is given its own.
+pub fn shards_serve_sessions()
+    ensures { ShardsServeSessions }
 {
     one_outcome();
     cookie_store::laws();
