@@ -4,14 +4,15 @@ import glob
 import os
 import pwd
 import shutil
+import signal
 import socket
 import subprocess
 import time
 
 from .bounded import patience
 
-# Of a server's start, in seconds on a calm machine.
-STARTING = 20
+# Of a server's start, and of its end, in seconds on a calm machine.
+STARTING, ENDING = 20, 5
 DEBIANS = "/usr/lib/postgresql/*/bin"
 
 
@@ -112,5 +113,10 @@ class Postgres:
             raise TimeoutError("postgres doesn't answer")
 
     def kill(self):
-        self.process.terminate()
-        self.process.wait()
+        """Has it end, with what its connections do, and kills it where it doesn't."""
+        self.process.send_signal(signal.SIGINT)
+        try:
+            self.process.wait(patience(ENDING))
+        except subprocess.TimeoutExpired:
+            self.process.kill()
+            self.process.wait()

@@ -5,10 +5,11 @@
     header = fleet.header("https://shop.com/cart")
 
 A shard has the cookies of all hosts that can share one, as a saved text. It lies under `fonnalich:SUM:SHARD`: sixteen
-digits of the SHA-256 of the suffix list's text, and what `fonnalich.shard_of_url` says of the URL. A call reads one
-shard; `receive` puts it back where nobody changed it meanwhile, and else begins anew. So the lines of each answer are
-put as a whole, one after another, and a header is that of a moment between two. `RedisStore` and `PostgresStore` are
-two stores, `MemoryStore` is one for tests, and any with the three calls of `Store` will do.
+digits of the SHA-256 of the suffix list's text, and what `fonnalich.shard_of_url` says of the URL, or where that has
+over 200 bytes `sha256:` and the digits of its SHA-256. A call reads one shard; `receive` puts it back where nobody
+changed it meanwhile, and else begins anew. So the lines of each answer are put as a whole, one after another, and a
+header is that of a moment between two. `RedisStore` and `PostgresStore` are two stores, `MemoryStore` is one for tests,
+and any with the three calls of `Store` will do.
 """
 from __future__ import annotations
 
@@ -20,17 +21,23 @@ import os
 import random
 import threading
 import time
-from typing import Any, Iterable, Iterator, Optional, Protocol
+from typing import Any, Callable, Iterable, Iterator, Optional, Protocol, TypeVar
 
-from . import (_RELOAD, _SAVE_ALL, _SAVED_NUMBER, Client, End, Life, Moment, Refused, Rules, Suffixes, Text, _counted,
-               _lines, _list, _second, _seconds_of, is_plain_url, shard_of_url)
+from . import (_HOST_NUMBER, _LOAD, _RELOAD, _SAVE_ALL, _SAVED_NUMBER, Client, End, Life, Moment, Refused, Rules,
+               Suffixes, Text, _bytes, _counted, _lines, _list, _second, _seconds_of, is_plain_url, shard_of_url)
 
 __all__ = ["BadShard", "Conflict", "Fleet", "MemoryStore", "PostgresStore", "RedisStore", "Store"]
 
 # How often a shard is put before `receive` gives up, and the longest wait before that, in seconds.
 _TRIES, _LONGEST = 40, 0.2
-# Of how many hosts a fleet keeps the shard's name.
-_HOSTS = 10000
+# Of how many URLs a fleet keeps the key, and of how many bytes such a URL has at most.
+_URLS, _LONGEST_URL = 10000, 300
+# How many bytes a shard's name in a key has at most: an index of PostgreSQL takes no longer key than 2,704 bytes.
+_LONGEST_SHARD = 200
+# The schemes of URLs whose hosts are as the theorem on shards asks.
+_SCHEMES = {b"http", b"https", b"ws", b"wss", b"ftp"}
+
+_Told = TypeVar("_Told")
 
 
 class Conflict(RuntimeError):
@@ -72,16 +79,25 @@ class Fleet:
     """A client whose cookies lie in a store. Each worker has a fleet of its own over the same list and store.
 
     Its calls are those of a `Client`, with the same words, outcomes and errors, and `BadShard` and `Conflict` beside
-    them. A URL without a host is refused as `Host`. Lines come behind `rules`, which each worker has of its own.
-    Threads may share a fleet where the store lets them.
+    them. A URL without a host is refused as `Host`, and so is one whose scheme isn't http, https, ws, wss or ftp. Lines
+    come behind `rules`, which each worker has of its own. Threads may share a fleet where the store lets them.
+
+    It differs from a `Client` in three things, which come of the saved text that a shard is between two calls, and of
+    the cut:
+
+    - A cookie with `SameSite=None` or `Partitioned` that lacks `Secure` is Secure from then on, so http doesn't get it.
+    - `Rules.SECURE_OVERLAY` sees the cookies of the shard alone: not those of `https://github.io/` for a line of
+      `http://a.github.io/`, where `github.io` is a public suffix.
+    - A cookie with an expiry before the year 0, as a `now` of that time gives it, is refused as `Year`.
 
     All cookies stay, expired ones too, as in a client that isn't restarted, so that each keeps its place in a header.
+    `drop_expired` is for a site whose shard grows by them.
     """
 
     def __init__(self, suffixes: Suffixes, store: Store, rules: int = Rules.NONE):
         self.store, self._suffixes = store, _list(suffixes)
         self._sum = hashlib.sha256(self._suffixes).hexdigest()[:16]
-        self._key_of = functools.lru_cache(_HOSTS)(self._read_key)
+        self._key_of = functools.lru_cache(_URLS)(self._read_key)
         # Clients that no call uses, which have read the list.
         self._clients: list[Client] = []
         self.rules = Rules(_counted(rules))
@@ -102,18 +118,7 @@ class Fleet:
         They are in the store once it returns. It raises `Conflict` where others came between too often; nothing is put
         then, nor where it raises `Refused` or `Stopped`."""
         each, second = _lines(lines), _second(now)
-        if not each:
-            return []
-        key = self._key(url)
-        for tried in range(_TRIES):
-            text, version = self.store.get(key)
-            with self._loaded(key, text) as client:
-                ends = client.receive(url, each, second)
-                new = _text(client)
-            if self._is_put(key, version, text, new):
-                return ends
-            time.sleep(random.uniform(0, min(_LONGEST, 0.001 * 2 ** tried)))
-        raise Conflict(key)
+        return self._change(url, lambda client: client.receive(url, each, second)) if each else []
 
     def header(self, url: str, now: Optional[Moment] = None) -> str:
         """The Cookie header of a request to this URL; empty where it gets none. Nothing is put into the store."""
@@ -121,6 +126,27 @@ class Fleet:
         text, _ = self.store.get(key)
         with self._loaded(key, text) as client:
             return client.header(url, second)
+
+    def drop_expired(self, url: str, now: Optional[Moment] = None) -> None:
+        """Drops the cookies of the URL's shard that are expired, and keeps all others, those without an expiry too.
+
+        No `Client` has such a call: a cookie that is set anew behind it comes last among its like in a header, where
+        one client would give it the place of the expired one. It raises as `receive` does."""
+        second = _second(now)
+        self._change(url, lambda client: client._call(_LOAD, second, _text(client), self._suffixes))
+
+    def _change(self, url: str, change: Callable[[Client], _Told]) -> _Told:
+        """What a change of the shard of a URL tells, once it is in the store."""
+        key = self._key(url)
+        for tried in range(_TRIES):
+            text, version = self.store.get(key)
+            with self._loaded(key, text) as client:
+                told = change(client)
+                new = _text(client)
+            if self._is_put(key, version, text, new):
+                return told
+            time.sleep(random.uniform(0, min(_LONGEST, 0.001 * 2 ** tried)))
+        raise Conflict(key)
 
     def _is_put(self, key: str, version: Any, old: Optional[bytes], new: bytes) -> bool:
         """Whether a shard lies in the store as it is now. One without a cookie doesn't."""
@@ -130,10 +156,17 @@ class Fleet:
 
     def _key(self, url: str) -> str:
         """The key of a URL's shard. That of a plain URL up to its path is kept, since the list is long."""
-        return self._key_of("/".join(url.split("/", 3)[:3]) if is_plain_url(url) else url)
+        text = _bytes(url)
+        text = b"/".join(text.split(b"/", 3)[:3]) if is_plain_url(text) else text
+        return self._key_of(text) if len(text) <= _LONGEST_URL else self._read_key(text)
 
-    def _read_key(self, url: str) -> str:
-        return f"fonnalich:{self._sum}:{shard_of_url(self._suffixes, url)}"
+    def _read_key(self, url: bytes) -> str:
+        name = shard_of_url(self._suffixes, url)
+        if not _is_web(url):
+            raise Refused(_HOST_NUMBER)
+        # (the host of such a URL has no colon but between brackets)
+        digits = hashlib.sha256(name.encode()).hexdigest() if len(name.encode()) > _LONGEST_SHARD else None
+        return f"fonnalich:{self._sum}:{f'sha256:{digits}' if digits else name}"
 
     @contextlib.contextmanager
     def _loaded(self, key: str, text: Optional[bytes]) -> Iterator[Client]:
@@ -149,6 +182,12 @@ class Fleet:
             raise BadShard(key) if why.number == _SAVED_NUMBER else why from None
         yield client
         self._clients.append(client)
+
+
+def _is_web(url: bytes) -> bool:
+    """Whether a URL that can be read has one of `_SCHEMES`. A reader passes over spaces and controls before it, and
+    over tabs and line breaks within (the URL Standard, section 4.4)."""
+    return url.lstrip(bytes(range(33))).translate(None, b"\t\n\r").partition(b":")[0].lower() in _SCHEMES
 
 
 def _text(client: Client) -> bytes:
@@ -182,12 +221,17 @@ class MemoryStore:
 
 
 class RedisStore:
-    """Shards in Redis, by a `Redis` of the package `redis` that hands out bytes.
+    """Shards in Redis, by a `Redis` of the package `redis`, from version 4 on, that hands out bytes.
 
-    A value is a version, sixteen random bytes, and the text. Each change is one script of one key. Where a reply was
-    lost and the call is made again, as `redis` does where it is told to retry, what it put itself counts as put.
-    With `life` a shard that nobody changed for so long, in seconds or as a `timedelta`, is dropped. What was put
-    outlives Redis only where that keeps a file: set `appendonly yes` and `appendfsync always`.
+    A value is a version, sixteen random bytes, and the text. Each change is one script of one key. A `Redis` that sends
+    again what it got no reply to is refused as `ValueError`: where a reply was lost, and another worker put meanwhile,
+    the script that comes again would be told of a change of others, and the lines would be put twice, the second time
+    over the other's. Versions 4 and 5 send nothing again unless `retry`, `retry_on_error` or `retry_on_timeout` say so,
+    and none does by `retry=Retry(NoBackoff(), 0)`. A `RedisCluster` isn't asked: that of version 4 always sends again.
+    Where only the reply was lost, and nobody came between, what a script put itself counts as put.
+
+    With `life`, of a second or more, a shard that nobody changed for so long, in seconds or as a `timedelta`, is
+    dropped. What was put outlives Redis only where that keeps a file: set `appendonly yes` and `appendfsync always`.
     """
 
     PUT = """local old = redis.call('GETRANGE', KEYS[1], 0, 15)
@@ -199,14 +243,19 @@ class RedisStore:
         return redis.call('DEL', KEYS[1])"""
 
     def __init__(self, redis: Any, life: Optional[Life] = None):
+        if redis.get_encoder().decode_responses:
+            raise TypeError("this Redis hands out str: make it without decode_responses")
+        if _is_sent_again(redis):
+            raise ValueError("this Redis sends again what it got no reply to, so lines may be put twice: make it with "
+                             "retry=Retry(NoBackoff(), 0), without retry_on_error and retry_on_timeout")
+        if life is not None and _seconds_of(life) < 1:
+            raise ValueError(f"a life of {life} is under a second")
         self.redis = redis
         self._life: list[Any] = [] if life is None else ["EX", _seconds_of(life)]
 
     def get(self, key: str) -> tuple[Optional[bytes], bytes]:
         """The text under a key, and its version: no byte where there is none."""
         value = self.redis.get(key)
-        if isinstance(value, str):
-            raise TypeError("this Redis hands out str: make it without decode_responses")
         return (None, b"") if value is None else (value[16:], value[:16])
 
     def put_if(self, key: str, version: bytes, text: bytes) -> bool:
@@ -222,70 +271,75 @@ class RedisStore:
         return os.urandom(16)
 
 
+def _is_sent_again(redis: Any) -> bool:
+    """Whether a connection of this `Redis` sends again what it got no reply to. (A `RedisCluster` has no pool.)"""
+    pool = getattr(redis, "connection_pool", None)
+    return pool is not None and pool.connection_class(**pool.connection_kwargs).retry._retries != 0
+
+
 class PostgresStore:
     """Shards in PostgreSQL, by a connection of `psycopg2`, in the table `fonnalich`, which `create` makes.
 
-    The connection is the store's alone: each call is a transaction of it. A row's `changed` is when it was put, so
-    `DELETE FROM fonnalich WHERE changed < now() - interval '90 days'` drops what nobody changed since then.
+    The connection is the store's alone, at any level of isolation, with `autocommit` or without: each call is one
+    statement, and a transaction of it. One that PostgreSQL refuses since others came between (`pgcode` 40001) did
+    nothing, and is made again. Where the connection is lost each call raises: make a new store then.
+    A row's `changed` is when it was put, so `DELETE FROM fonnalich WHERE changed < now() - interval '90 days'` drops
+    what nobody changed since then.
     """
 
     TABLE = """CREATE TABLE IF NOT EXISTS fonnalich (key text PRIMARY KEY, version bigserial NOT NULL,
         text bytea NOT NULL, changed timestamptz NOT NULL DEFAULT now())"""
     READ = "SELECT text, version FROM fonnalich WHERE key = %s"
-    LOCKED = "SELECT version FROM fonnalich WHERE key = %s FOR UPDATE"
     INSERT = "INSERT INTO fonnalich (key, text) VALUES (%s, %s) ON CONFLICT DO NOTHING"
-    UPDATE = "UPDATE fonnalich SET text = %s, version = DEFAULT, changed = now() WHERE key = %s"
-    DELETE = "DELETE FROM fonnalich WHERE key = %s"
+    # (either locks the row before it looks at the version, as SELECT .. FOR UPDATE does)
+    UPDATE = "UPDATE fonnalich SET text = %s, version = DEFAULT, changed = now() WHERE key = %s AND version = %s"
+    DELETE = "DELETE FROM fonnalich WHERE key = %s AND version = %s"
+    # What PostgreSQL says of a transaction that it can't put into an order with others.
+    SERIALIZATION_FAILURE = "40001"
 
     def __init__(self, connection: Any):
         self.connection, self._lock = connection, threading.Lock()
 
     def create(self) -> None:
         """Makes the table where it isn't there."""
-        with self._asked() as cursor:
-            cursor.execute(self.TABLE)
+        self._asked(self.TABLE)
 
     def get(self, key: str) -> tuple[Optional[bytes], int]:
         """The text under a key, and its version: 0 where there is none."""
-        with self._asked() as cursor:
-            cursor.execute(self.READ, (key,))
-            row = cursor.fetchone()
+        _, row = self._asked(self.READ, key)
         return (None, 0) if row is None else (bytes(row[0]), row[1])
 
     def put_if(self, key: str, version: int, text: bytes) -> bool:
         """Puts a text where the version still is this one."""
-        with self._asked() as cursor:
-            if version == 0:
-                cursor.execute(self.INSERT, (key, text))
-            elif self._is_still(cursor, key, version):
-                cursor.execute(self.UPDATE, (text, key))
-            else:
-                return False
-            return bool(cursor.rowcount == 1)
+        count, _ = self._asked(self.INSERT, key, text) if version == 0 else self._asked(self.UPDATE, text, key, version)
+        return count == 1
 
     def expire(self, key: str, version: int) -> bool:
         """Lets go of a text where the version still is this one."""
-        with self._asked() as cursor:
-            is_still = self._is_still(cursor, key, version)
-            if is_still:
-                cursor.execute(self.DELETE, (key,))
-            return is_still
+        return self._asked(self.DELETE, key, version)[0] == 1
 
-    def _is_still(self, cursor: Any, key: str, version: int) -> bool:
-        """Whether the version is this one, which it then stays up to the end of the transaction."""
-        cursor.execute(self.LOCKED, (key,))
-        return bool(cursor.fetchone() == (version,))
-
-    @contextlib.contextmanager
-    def _asked(self) -> Iterator[Any]:
-        """A cursor of a transaction."""
+    def _asked(self, words: str, *values: Any) -> tuple[int, Any]:
+        """How many rows a statement found, and the first one that it selects."""
         with self._lock:
-            try:
-                with self.connection.cursor() as cursor:
-                    yield cursor
-                self.connection.commit()
-            except BaseException:
-                # (a connection that is lost has nothing to take back)
-                with contextlib.suppress(Exception):
-                    self.connection.rollback()
-                raise
+            for _ in range(_TRIES):
+                try:
+                    return self._run(words, values)
+                except Exception as why:
+                    told = why
+                    if getattr(why, "pgcode", None) != self.SERIALIZATION_FAILURE:
+                        raise
+            raise told
+
+    def _run(self, words: str, values: tuple[Any, ...]) -> tuple[int, Any]:
+        """The same by one transaction."""
+        try:
+            with self.connection.cursor() as cursor:
+                cursor.execute(words, values)
+                found = cursor.rowcount, cursor.fetchone() if cursor.description else None
+            self.connection.commit()
+            return found
+        except BaseException:
+            # (a connection that is lost has nothing to take back)
+            with contextlib.suppress(Exception):
+                self.connection.rollback()
+            raise

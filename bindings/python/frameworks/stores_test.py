@@ -1,6 +1,7 @@
 """Tests the stores of `fonnalich.fleet`, over servers of Redis and PostgreSQL where these are there."""
 import concurrent.futures
 import contextlib
+import datetime
 import importlib.util
 import os
 import shutil
@@ -129,9 +130,26 @@ class Redis(Served, unittest.TestCase):
         self.assertEqual(self.one.redis.ttl(KEY), -1)
 
     def test_refuses_what_decodes(self):
-        self.one.put_if(KEY, b"", b"1")
-        self.assertRaisesRegex((TypeError, UnicodeDecodeError), "decode",
-                               RedisStore(self.redis(decode_responses=True)).get, KEY)
+        self.assertRaisesRegex(TypeError, "decode", RedisStore, self.redis(decode_responses=True))
+
+    def test_refuses_what_sends_again(self):
+        import redis
+        from redis.backoff import NoBackoff
+        from redis.retry import Retry
+        lost = [redis.ConnectionError]
+        for how in [{"retry_on_timeout": True}, {"retry_on_error": lost},
+                    {"retry_on_error": lost, "retry": Retry(NoBackoff(), 3)},
+                    {"retry_on_error": lost, "retry": Retry(NoBackoff(), -1)}]:
+            self.assertRaisesRegex(ValueError, "sends again", RedisStore, self.redis(**how))
+        url = f"redis://127.0.0.1:{self.server.port}?retry_on_timeout=true"
+        self.assertRaisesRegex(ValueError, "sends again", RedisStore, redis.Redis.from_url(url))
+        for how in [{}, {"retry": Retry(NoBackoff(), 0)}, {"retry_on_error": [], "retry_on_timeout": False}]:
+            self.assertTrue(RedisStore(self.redis(**how)).put_if(f"{KEY}{how}", b"", b"1"))
+
+    def test_refuses_a_life_under_a_second(self):
+        for life in [0, 0.5, -1, datetime.timedelta(milliseconds=999)]:
+            self.assertRaisesRegex(ValueError, "under a second", self.store, life=life)
+        self.assertTrue(self.store(life=1).put_if(KEY, b"", b"1"))
 
     def test_tells_that_it_is_away(self):
         import redis
@@ -144,18 +162,42 @@ class Redis(Served, unittest.TestCase):
         self.assertEqual(fleet.header(URL, NOW), "a=1")
 
 
+def interrupt(connection, call):
+    """Has a call be made before the connection's next change of a row, and behind a look of its own."""
+    import psycopg2.extensions
+    calls = [call]
+
+    class Cursor(psycopg2.extensions.cursor):
+        def execute(self, words, values=None):
+            if calls and not words.startswith("SELECT"):
+                super().execute("SELECT * FROM fonnalich")
+                calls.pop()()
+            super().execute(words, values)
+    connection.cursor_factory = Cursor
+
+
 @unittest.skipUnless(importlib.util.find_spec("psycopg2") and not servers.Postgres.missing(), "PostgreSQL isn't there")
 class Postgres(Served, unittest.TestCase):
     kind = servers.Postgres
+    MODES = [{}, {"autocommit": True}, {"isolation_level": "REPEATABLE READ"}, {"isolation_level": "SERIALIZABLE"}]
+
+    @classmethod
+    def setUpClass(cls):
+        import psycopg2
+        # A connection that is still open as the server has to end.
+        cls.addClassCleanup(lambda: cls.held.close())
+        super().setUpClass()
+        cls.held = psycopg2.connect(cls.server.name)
 
     def setUp(self):
         self.store().create()
         self.ask("DELETE FROM fonnalich")
         super().setUp()
 
-    def store(self):
+    def store(self, **how):
         import psycopg2
         connection = psycopg2.connect(self.server.name)
+        connection.set_session(**how)
         self.addCleanup(connection.close)
         return PostgresStore(connection)
 
@@ -175,6 +217,30 @@ class Postgres(Served, unittest.TestCase):
         self.one.put_if(KEY, 0, b"2")
         self.one.get(KEY)
         self.assertEqual(self.ask("SELECT count(*) FROM pg_stat_activity WHERE state LIKE 'idle in%'"), [(0,)])
+
+    def test_puts_nothing_over_anothers(self):
+        """Where another store puts between a call's look at the row and its own change, in each mode."""
+        for how in self.MODES:
+            for key, is_there, change in [("a", True, "put_if"), ("b", True, "expire"), ("c", False, "put_if")]:
+                with self.subTest(key, how=how):
+                    one, version = self.store(**how), 0
+                    if is_there:
+                        one.put_if(key, 0, b"1")
+                        version = one.get(key)[1]
+                    interrupt(one.connection, lambda: self.other.put_if(key, version, b"other"))
+                    self.assertFalse(getattr(one, change)(key, version, *[b"2"] * (change == "put_if")))
+                    self.assertEqual(self.one.get(key)[0], b"other")
+                    self.assertTrue(one.put_if(key, one.get(key)[1], b"3"))
+                    self.assertEqual(self.one.get(key)[0], b"3")
+            self.ask("DELETE FROM fonnalich")
+
+    def test_tells_that_a_connection_is_lost(self):
+        import psycopg2
+        self.one.put_if(KEY, 0, b"1")
+        self.ask(f"SELECT pg_terminate_backend({self.one.connection.get_backend_pid()})")
+        for _ in range(2):
+            self.assertRaises(psycopg2.Error, self.one.get, KEY)
+        self.assertEqual(self.store().get(KEY)[0], b"1")
 
     def test_goes_on_behind_an_error(self):
         import psycopg2
