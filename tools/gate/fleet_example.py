@@ -1,27 +1,49 @@
-"""Visits a site by workers of examples/fleet, which asks all for the cookie that one got, and runs README's block."""
+"""Visits a site by workers of examples/fleet, which asks all for the cookie that one got, and runs README's block.
+
+Other visits are to a site that sends what is no answer, and while Redis is away: neither may end a worker.
+"""
 import http.server
 import os
 import subprocess
 import sys
 import tempfile
 import threading
+import time
 from urllib.parse import urlsplit
 
 from . import bounded, servers, site
 from .kit import TOP
 from .peers import environment
 
-# Of a worker, in seconds on a calm machine.
-SECONDS = 30
+# Of a worker on a calm machine, and how long Redis is away, in seconds.
+SECONDS, AWAY = 30, 1
 LIST, COOKIE = b"test\n", "sid=a3f"
 PATHS = range(20)
+# What a site may send that isn't an answer, and a part of what a worker says of it.
+MANGLED = {
+    "nothing": (b"", "RemoteDisconnected"),
+    "junk": (b"junk\n200 2\r\n\r\n", "BadStatusLine"),
+    "cut": (b"HTTP/1.1 200 OK\r\nContent-Length: 9\r\n\r\nok", "IncompleteRead"),
+    "long": (b"HTTP/1.1 200 OK\r\nContent-Length: 1" + b"0" * 30 + b"\r\n\r\nok", "OverflowError"),
+    "chunk": (b"HTTP/1.1 200 OK\r\nTransfer-Encoding: chunked\r\n\r\nx\r\n", "IncompleteRead"),
+    "line": (b"HTTP/1.1 200 OK\r\nSet-Cookie: " + b"a" * 70000 + b"\r\n\r\n", "LineTooLong"),
+    "port": (b"HTTP/1.1 302 Found\r\nLocation: http://a:b/\r\n\r\n", "Url"),
+    "body": (b"HTTP/1.1 302 Found\r\nLocation: /\r\nContent-Length: 1" + b"0" * 17 + b"\r\n\r\n", "MemoryError"),
+}
 
 
 class Shop(http.server.BaseHTTPRequestHandler):
-    """A proxy, behind which shop.test sets a cookie at /login and asks for it elsewhere; other hosts ask for none."""
+    """A proxy, behind which shop.test sets a cookie at /login and asks for it elsewhere; other hosts ask for none. At
+    `?away` Redis goes away."""
 
     def do_GET(self):
         url, had = urlsplit(self.path), self.headers.get("Cookie")
+        if url.hostname == "mangled.test" and url.path[1:] in MANGLED:
+            self.close_connection = True
+            self.wfile.write(MANGLED[url.path[1:]][0])
+            return
+        if url.query == "away":
+            self.server.redis.kill()
         is_login = url.path == "/login"
         is_right = is_login or had == (COOKIE if url.hostname.endswith("shop.test") else None)
         self.send_response(200 if is_right else 403)
@@ -43,21 +65,21 @@ def wrong():
         with open(f"{room}/list", "wb") as file:
             file.write(LIST)
         server.start()
+        shop.redis = server
+        env = {**environment(), "REDIS": f"redis://127.0.0.1:{server.port}", "LIST": f"{room}/list", "no_proxy": "",
+               "http_proxy": f"http://127.0.0.1:{shop.server_port}", "PYTHONPATH": f"{TOP}/bindings/python"}
         try:
-            return visits(server, {"REDIS": f"redis://127.0.0.1:{server.port}", "LIST": f"{room}/list",
-                                   "http_proxy": f"http://127.0.0.1:{shop.server_port}", "no_proxy": ""})
+            return visits(server, env) + mangled_visits(server, env) + visits_without_redis(server, env)
         finally:
             server.kill()
             shop.shutdown()
 
 
-def visits(server, words):
+def visits(server, env):
     """What is wrong with visits before a log-in, the log-in, and visits of two workers behind it."""
-    env = {**environment(), **words, "PYTHONPATH": f"{TOP}/bindings/python"}
-    steps = [(1, ["http://shop.test/a"], ["http://shop.test/a 403 Forbidden"]),
+    steps = [(1, ["http://shop.test/a"], ["http://shop.test/a 403"]),
              (1, ["http://shop.test/login"], ["http://shop.test/login 200 2"]),
-             (2, *both(*(f"http://{host}/{i}" for i in PATHS for host in ("shop.test", "www.shop.test", "b.test")))),
-             (1, ["shop"], ["shop failed: unknown url type: 'shop'"])]
+             (2, *both(*(f"http://{host}/{i}" for i in PATHS for host in ("shop.test", "www.shop.test", "b.test"))))]
     for workers, urls, wanted in steps:
         said = visited(server, workers, urls, env)
         if sorted(said) != sorted(wanted):
@@ -66,20 +88,60 @@ def visits(server, words):
     return [] if said == (0, b"cart=3\n", b"") else [f"README's block said {said}"]
 
 
+def mangled_visits(server, env):
+    """What is wrong with visits of one worker to what isn't an answer, and to what is no URL."""
+    no_urls = ["shop", "", b"http://\xff.test/", "http://a b/", "http://[/", "ftp://[::1]:1/"]
+    last = "http://b.test/last"
+    wanted = {f"http://mangled.test/{name}": words for name, (_, words) in MANGLED.items()}
+    said = visited(server, 1, [*wanted, *no_urls, last], env)
+    wrong = [f"of {url} was said {line}" for (url, words), line in zip(wanted.items(), said)
+             if not line.startswith(f"{url} failed") or words not in line]
+    is_whole = len(said) == len(wanted) + len(no_urls) + 1 and said[-1] == f"{last} 200 2"
+    wrong += [it for it in said[len(wanted):-1] if " failed: " not in it]
+    return wrong + ([] if is_whole else [f"a worker said {said}"])
+
+
+def visits_without_redis(server, env):
+    """What is wrong with a worker from which Redis goes away in a visit, and for a while."""
+    put(server, ["http://b.test/login?away", "http://b.test/1"])
+    worker = begun_worker(env)
+    is_away = servers.is_awaited(lambda: server.process.poll() is not None)
+    time.sleep(AWAY)
+    server.start()
+    said = said_by([worker])
+    is_right = len(said) == 2 and " failed: ConnectionError" in said[0] and said[1] == "http://b.test/1 200 2"
+    return [] if is_away and is_right else [f"a worker without Redis said {said}"]
+
+
 def both(*urls):
     return [*urls], [f"{url} 200 2" for url in urls]
 
 
 def visited(server, workers, urls, env):
     """The lines of workers that visit these URLs together."""
+    put(server, urls)
+    return said_by([begun_worker(env) for _ in range(workers)])
+
+
+def put(server, urls):
+    """Has the workers to come visit these URLs."""
     import redis
     with redis.Redis(port=server.port) as asked:
         asked.rpush("urls", *urls)
+
+
+def begun_worker(env):
+    """The process of a worker."""
     words = [sys.executable, "-B", f"{TOP}/examples/fleet/worker.py"]
-    begun = [subprocess.Popen(words, env=env, stdout=subprocess.PIPE, text=True) for _ in range(workers)]
+    return subprocess.Popen(words, env=env, stdout=subprocess.PIPE, text=True)
+
+
+def said_by(workers):
+    """The lines of workers once they have ended, and how one did where it didn't end well."""
     try:
-        return [line for it in begun for line in it.communicate(timeout=bounded.patience(SECONDS))[0].splitlines()]
+        said = [line for it in workers for line in it.communicate(timeout=bounded.patience(SECONDS))[0].splitlines()]
+        return said + [f"status {it.returncode}" for it in workers if it.returncode]
     finally:
-        for it in begun:
+        for it in workers:
             it.kill()
             it.wait()
