@@ -7,6 +7,7 @@ import http.client
 import json
 import os
 import random
+import re
 import socketserver
 import struct
 import time
@@ -15,6 +16,8 @@ from collections import defaultdict
 LIST, NOW = "test\nco.test\n", 1700000000
 PATHS = ("/", "/p", "/p/q")
 NAMES = ("a", "b", "c")
+# A row of a saved text, and the host of its domain.
+ROW = re.compile(rb'(^    \(\n.*?^        domain: \w+\("([^"]*)"\),\n.*?^    \),\n)', re.M | re.S)
 
 
 # ---- exchanges
@@ -35,7 +38,8 @@ class Exchange:
 
     def drawn(self):
         age = self.draw.choice([None, None, -1, 0, 3, 50, 100000])
-        return self.line(self.draw.choice(NAMES), self.draw.choice(PATHS), self.draw.random() < 0.4, age)
+        line = self.line(self.draw.choice(NAMES), self.draw.choice(PATHS), self.draw.random() < 0.4, age)
+        return line + self.draw.choice(["", "; HttpOnly"])
 
     def line(self, name, path, is_shared, age):
         """A line whose value says where it may be sent, and until when."""
@@ -92,14 +96,14 @@ class Server(socketserver.ThreadingTCPServer):
 
 def work(mine, hosts, ports, log, plant):
     """Makes these exchanges, and writes down the header of each and the version at which it was read, and what became
-    of its lines once it is told."""
+    of its lines once it is told. Each note has the moments at which the call began and ended."""
     import redis
     from fonnalich import fleet
 
     class Noted(fleet.RedisStore):
         """A store that keeps the version of what was got last, and numbers what it puts."""
 
-        number, tries, got = 0, 0, b""
+        number, tries, got, made = 0, 0, b"", b""
 
         def get(self, key):
             text, self.got = super().get(key)
@@ -107,7 +111,8 @@ def work(mine, hosts, ports, log, plant):
 
         def fresh(self):
             self.tries += 1
-            return struct.pack(">QQ", self.number, os.getpid() << 32 | self.tries)
+            self.made = struct.pack(">QQ", self.number, os.getpid() << 32 | self.tries)
+            return self.made
 
     store = Noted(redis.Redis(port=ports[0], socket_timeout=60))
     shared, site = fleet.Fleet(LIST, store), http.client.HTTPConnection("127.0.0.1", ports[1])
@@ -116,17 +121,22 @@ def work(mine, hosts, ports, log, plant):
     def note(**what):
         os.write(log, json.dumps(what).encode() + b"\n")
 
+    def timed(call, exchange, *words):
+        began = time.monotonic()
+        told = call(exchange.url, *words, exchange.now)
+        return told, (began, time.monotonic())
+
     def asked(exchange):
         while True:
             try:
-                return shared.header(exchange.url, exchange.now)
+                return timed(shared.header, exchange)
             except redis.ConnectionError:
                 time.sleep(0.02)
 
     for number in mine:
         exchange, store.number, store.tries = Exchange(number, hosts), number, 0
-        header = asked(exchange)
-        note(number=number, version=store.got.hex(), header=header)
+        header, times = asked(exchange)
+        note(number=number, version=store.got.hex(), header=header, times=times)
         site.request("GET", exchange.path, headers={"Host": exchange.host, "X-Exchange": str(number),
                                                     **({"Cookie": header} if header else {})})
         with site.getresponse() as answer:
@@ -134,7 +144,8 @@ def work(mine, hosts, ports, log, plant):
             if answer.status != 200:
                 note(number=number, wrong=header)
         try:
-            note(number=number, ends=shared.receive(exchange.url, lines, exchange.now))
+            ends, times = timed(shared.receive, exchange, lines)
+            note(number=number, ends=ends, times=times)
         except redis.ConnectionError:
             pass  # (it may be put or not)
 
@@ -194,7 +205,43 @@ def stale(module, store):
     module.Fleet.header = read
 
 
-PLANTS = {it.__name__: it for it in (blind, hasty, forgetful, dropping, stale)}
+def caching(module, store):
+    """A fleet whose headers are of what it put of a key last itself, or read at first."""
+    kept, get, put_if, header = {}, store.get, store.put_if, module.Fleet.header
+
+    def cached(key):
+        kept[key] = kept[key] if key in kept else get(key)
+        store.got = kept[key][1]
+        return kept[key]
+
+    def read(self, *words):
+        store.get = cached
+        try:
+            return header(self, *words)
+        finally:
+            store.get = get
+
+    def put(key, version, text):
+        is_put = put_if(key, version, text)
+        if is_put:
+            kept[key] = text, store.made
+        return is_put
+    store.put_if, module.Fleet.header = put, read
+
+
+def idle(module, store):
+    """A fleet that puts nothing, and tells of nothing."""
+    import redis
+    module.Fleet.receive = lambda *_: (_ for _ in ()).throw(redis.ConnectionError)
+
+
+def bare(module, store):
+    """A fleet that loses of its cookies what no header has."""
+    text = module._text
+    module._text = lambda client: text(client).replace(b"; HttpOnly", b"")
+
+
+PLANTS = {it.__name__: it for it in (blind, hasty, forgetful, dropping, stale, caching, idle, bare)}
 
 
 # ---- the one client
@@ -202,35 +249,48 @@ PLANTS = {it.__name__: it for it in (blind, hasty, forgetful, dropping, stale)}
 class Judge:
     """Tells what is wrong with a play, by one client that takes its exchanges in the order in which they were put.
 
-    `order` has the key and the version of each put, and `notes` those of each worker in their order. What is wrong
-    stands in `wrong`, in words."""
+    `order` has the key and the version of each put, `texts` the last text of each key, and `notes` those of each worker
+    in their order. All of the exchanges have to be told of but for `lost` ones. What is wrong stands in `wrong`, in
+    words."""
 
-    def __init__(self, order, notes, hosts):
-        self.order, self.hosts, self.wrong = order, hosts, []
+    def __init__(self, order, texts, notes, exchanges, hosts, lost):
+        self.order, self.texts, self.hosts, self.wrong = order, texts, hosts, []
         self.place_of = {number_of(version): i for i, (_, version) in enumerate(order)}
         # The numbers and headers that were read at each place, and what was told of each exchange's lines.
         self.headers, self.ends = defaultdict(list), {}
+        # When a call began or ended, which site it was of, and the place that it read or put.
+        self.moments = []
         for each in notes:
             self.follow(each)
-        self.count()
+        self.look_back()
+        self.count(exchanges - lost)
         self.replay()
 
     def follow(self, notes):
-        """Keeps a worker's notes, which never reads of a site what was there before what it put or read there."""
-        last = {}
+        """Keeps a worker's notes."""
         for note in notes:
             number = note["number"]
             site, place = Exchange(number, self.hosts).site, self.place_of.get(number, -1)
             if "header" in note:
                 place = self.read_at(number, bytes.fromhex(note["version"]))
                 self.headers[place].append((number, note["header"]))
-                if place < last.get(site, -1):
-                    self.wrong.append(f"{number} read what was there before")
+                self.moments.append((note["times"][0], 0, site, place, number))
             elif "wrong" in note:
                 self.wrong.append(f"the site refused the header of {number}: {note['wrong']!r}")
+                continue
             else:
                 self.ends[number] = note["ends"]
-            last[site] = max(last.get(site, -1), place)
+            self.moments.append((note["times"][1], 1, site, place, number))
+
+    def look_back(self):
+        """Looks whether each header is of what was put or read before it was asked for, by any worker, or came later.
+        All workers have one clock."""
+        last = {}
+        for _, has_ended, site, place, number in sorted(self.moments):
+            if has_ended:
+                last[site] = max(last.get(site, -1), place)
+            elif place < last.get(site, -1):
+                self.wrong.append(f"{number} read what was there before")
 
     def read_at(self, number, version):
         """The place of the put that an exchange read, or -1 where it read that there is none."""
@@ -239,11 +299,13 @@ class Judge:
             self.wrong.append(f"{number} read what was never put")
         return place
 
-    def count(self):
-        """Looks whether each exchange was put once, if it was told that it is."""
+    def count(self, least):
+        """Looks whether each exchange was put once, if it was told that it is, and whether so many were."""
         if len(self.place_of) < len(self.order):
             self.wrong.append(f"{len(self.order) - len(self.place_of)} were put twice")
         self.wrong += [f"{it} was told to be put, and isn't" for it in sorted(self.ends.keys() - self.place_of.keys())]
+        if len(self.ends) < least:
+            self.wrong.append(f"{len(self.ends)} were told to be put, and not {least}")
 
     def replay(self):
         """Has one client take all, and compares each header and what became of the lines."""
@@ -256,6 +318,18 @@ class Judge:
                 if self.ends.get(exchange.number, ends) != ends:
                     self.wrong.append(f"{exchange.number} was told {self.ends[exchange.number]}, not {ends}")
                 self.compare(client, place)
+            self.compare_texts(client)
+
+    def compare_texts(self, client):
+        """Looks whether the last text of each shard has the client's rows of that shard, in their order."""
+        from fonnalich import fleet, shard
+        rows = defaultdict(bytes)
+        for row, host in ROW.findall(fleet._text(client)):
+            rows[shard(LIST, host)] += row
+        texts = {key.rpartition(":")[2]: text for key, text in self.texts.items()}
+        for name in sorted(rows.keys() | texts.keys()):
+            if texts.get(name) != (alone := b"[\n%s]\n" % rows[name]):
+                self.wrong.append(f"{name} is {texts.get(name)!r}, of one client {alone!r}")
 
     def compare(self, client, place):
         for number, header in self.headers[place]:

@@ -13,14 +13,17 @@ from .bounded import patience
 
 WORKERS = 8
 # Of a play of a thousand exchanges, in seconds on a calm machine.
-SECONDS = 60
+SECONDS = 10
 
 
 class Play:
-    """A play: its Redis, its site and its workers, each with the exchanges that it has to make."""
+    """A play: its Redis, its site and its workers, each with the exchanges that it has to make.
 
-    def __init__(self, room, exchanges, hosts, plant=None):
+    What ends in it, and when, is drawn by `seed`. `plant` names a fault of its workers."""
+
+    def __init__(self, room, exchanges, hosts, seed, plant=None):
         self.room, self.exchanges, self.hosts, self.plant = room, exchanges, hosts, plant
+        self.draw = random.Random(seed)
         self.redis, self.pids, self.logs = servers.Redis(room), {}, []
         self.killed, self.restarts, self.failed = 0, 0, []
         server = fleet.Server(hosts)
@@ -37,6 +40,11 @@ class Play:
         ports = (self.redis.port, self.port)
         self.pids[forked(lambda: fleet.work(mine, self.hosts, ports, log, self.plant))] = mine, path
         os.close(log)
+
+    def drawn_events(self):
+        """At which exchange what ends: workers, and Redis. None comes so late that all have ended before."""
+        each = [*["worker"] * (5 + self.exchanges // 500), *["redis"] * (1 + self.exchanges // 10000)]
+        return sorted((self.draw.randrange(self.exchanges * 3 // 4), it) for it in each)
 
     def run(self, events):
         """Has all workers make their exchanges. `events` are the counts of exchanges at which something ends: a worker,
@@ -56,10 +64,14 @@ class Play:
         """Looks which workers have ended."""
         for pid in [*self.pids]:
             ended, status = os.waitpid(pid, os.WNOHANG)
-            if ended and status:
-                self.failed.append(f"a worker ended by {os.waitstatus_to_exitcode(status)}")
             if ended:
                 del self.pids[pid]
+                self.look(status)
+
+    def look(self, status):
+        """Keeps how a worker ended by itself, if it didn't end well."""
+        if status:
+            self.failed.append(f"a worker ended by {os.waitstatus_to_exitcode(status)}")
 
     def progress(self):
         """How many exchanges were begun, of those workers that are there, as far as the slowest."""
@@ -71,19 +83,28 @@ class Play:
             self.redis.start()
             self.restarts += 1
             return
-        pid = random.choice([*self.pids])
+        pid = self.draw.choice([*self.pids])
         mine, path = self.pids.pop(pid)
         os.kill(pid, signal.SIGKILL)
-        if os.waitpid(pid, 0)[1] == signal.SIGKILL:
-            self.killed += 1
-            self.begin(range(max(last_of(path) + WORKERS, mine.start), mine.stop, WORKERS))
+        status = os.waitpid(pid, 0)[1]
+        if status != signal.SIGKILL:
+            self.look(status)
+            return
+        self.killed += 1
+        self.begin(range(max(last_of(path) + WORKERS, mine.start), mine.stop, WORKERS))
 
     def verdict(self):
-        """What is wrong, and in how many tries an exchange came behind another one."""
-        puts = [*self.redis.puts()]
-        order = [(key, value[:16]) for key, value in puts]
-        wrong = fleet.Judge(order, [*map(notes_of, self.logs)], self.hosts).wrong
-        return self.failed + wrong, sum(fleet.tries_of(it) - 1 for _, it in order), len(order)
+        """What is wrong, in how many tries an exchange came behind another one, and how many were put.
+
+        A worker that is killed may not be told of one exchange, and each of them of one where Redis is."""
+        order, texts = [], {}
+        for key, value in self.redis.puts():
+            order.append((key, value[:16]))
+            texts[key] = value[16:]
+        lost = self.killed + WORKERS * self.restarts
+        notes = [notes_of(it) for it in self.logs]
+        wrong = fleet.Judge(order, texts, notes, self.exchanges, self.hosts, lost).wrong
+        return wrong, sum(fleet.tries_of(it) - 1 for _, it in order), len(order)
 
     def end(self):
         for pid in [*self.pids, self.site]:
@@ -119,12 +140,6 @@ def last_of(path):
         log.seek(max(0, os.fstat(log.fileno()).st_size - 8000))
         lines = [it for it in log.read().splitlines(True) if it.startswith(b"{") and it.endswith(b"\n")]
     return json.loads(lines[-1])["number"] if lines else -1
-
-
-def drawn_events(exchanges):
-    """At which exchange what ends: workers, and Redis. None comes so late that all have ended before."""
-    each = [*["worker"] * (5 + exchanges // 500), *["redis"] * (1 + exchanges // 10000)]
-    return sorted((random.randrange(exchanges * 3 // 4), it) for it in each)
 
 
 @contextlib.contextmanager
