@@ -51,10 +51,10 @@ class Play:
         or Redis."""
         for number in range(WORKERS):
             self.begin(range(number, self.exchanges, WORKERS))
-        until = time.monotonic() + patience(SECONDS * max(1, self.exchanges / 1000))
+        began = time.monotonic()
         while self.pids:
             time.sleep(0.03)
-            if time.monotonic() > until:
+            if time.monotonic() - began > patience(SECONDS * max(1, self.exchanges / 1000)):
                 raise TimeoutError("the workers have not ended")
             self.reap()
             if events and self.pids and self.progress() >= events[0][0]:
