@@ -45,7 +45,7 @@ options, which may stand anywhere; behind a word -- no word is an option:
   --suffixes FILE      The list of public suffixes; Debian's or a small one where it isn't given.
   --now MOMENT         The moment, as 2024-01-01T00:00:00Z; the clock's where it isn't given.
   -v, --verbose        Says on standard error which list of public suffixes is used, and which rows
-                       JAR drops, and what receive passes over.
+                       JAR drops. receive prints what it passes over, too.
   -h, --help           Prints this text.
   -V, --version        Prints the version.
 
