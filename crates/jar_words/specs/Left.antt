@@ -2,7 +2,7 @@
 use Rattle.std.specs.Prelude.{Bool, true, false, List, [], ◌∷◌, Option, Some, None, if◌then◌else◌, map}
 use Rattle.std.specs.Prelude.{string_bytes, take}
 use Rattle.jar_words.specs.Names.{Text}
-use Rattle.jar_words.specs.Tokens.{Token, given, plain, wrong, is_dashes, is_option, takes, tokens}
+use Rattle.jar_words.specs.Tokens.{Token, given, plain, wrong, is_dashes, is_value, takes, tokens}
 use Rattle.jar_words.specs.declared.tokens.Token.{Token as CodeToken}
 use Rattle.jar_words.specs.declared.tokens.Token.TheVariants as of
 use Rattle.jar_words.specs.declared.tokens.Tokens.{Tokens}
@@ -19,7 +19,7 @@ next_of (next ∷ words) = Some next
 -- the words behind a value, where the next word may be one
 abbrev pub behind_value : List Text → List Text
 behind_value [] = []
-behind_value (next ∷ words) = if is_option next then next ∷ words else words
+behind_value (next ∷ words) = if is_value next then words else next ∷ words
 
 -- the words behind a token
 abbrev pub behind : Text → List Text → List Text

@@ -1,7 +1,8 @@
 -- Words as options, their values, and words that are neither (own: docs/DEFINITIONS.md).
-use Rattle.std.specs.Prelude.{ℕ, ◌==◌, ◌&&◌, Bool, true, false, not, List, [], ◌∷◌, Option, Some, None, codes, length}
+use Rattle.std.specs.Prelude.{ℕ, ◌==◌, ◌&&◌, ◌||◌, Bool, true, false, not, List, [], ◌∷◌, Option, Some, None, codes, length}
 use Rattle.std.specs.Prelude.{if◌then◌else◌, is_some, map, nat_lt}
 use Rattle.std.specs.Option.{option_or}
+use Rattle.std.specs.Char.{is_ascii_digit}
 use Rattle.std.specs.List.{before_first, after_first, position_or_len}
 use Rattle.std.specs.Str.{bytes_eq}
 use Rattle.jar_words.specs.Names.{Text, is, option_of}
@@ -31,6 +32,12 @@ is_option [] = false
 is_option (c ∷ []) = false
 is_option (c ∷ d ∷ cs) = c == dash
 
+-- the word may be an option's value: it is no option, or a number below 0
+unfoldable pub is_value : Text → Bool
+is_value [] = true
+is_value (c ∷ []) = true
+is_value (c ∷ d ∷ cs) = not (c == dash) || is_ascii_digit d
+
 -- what stands before the first `=`, or all of it
 unfoldable pub name_in : Text → Text
 name_in word = before_first (λ c. c == equals) word
@@ -41,10 +48,10 @@ behind_equals word =
     if nat_lt (position_or_len (λ c. c == equals) word) (length word)
     then Some (after_first (λ c. c == equals) word) else None
 
--- an option with the next word as its value, which has to be no option
+-- an option with the next word as its value, which has to be one that may
 abbrev pub with_next : Name → Text → Option Text → Token
 with_next name word None = wrong kind.NoValue word
-with_next name word (Some next) = if is_option next then wrong kind.NoValue word else given name word next
+with_next name word (Some next) = if is_value next then given name word next else wrong kind.NoValue word
 
 -- the token of a word that is an option, by the row of its name, what stands behind `=`, and the next word
 abbrev pub option_token : Text → Option (Name × Bool) → Option Text → Option Text → Token
@@ -66,7 +73,7 @@ wants other value = false
 
 -- the word takes the next one as its value
 abbrev pub takes : Text → Text → Bool
-takes word next = is_option word && wants (option_of (name_in word)) (behind_equals word) && not (is_option next)
+takes word next = is_option word && wants (option_of (name_in word)) (behind_equals word) && is_value next
 
 -- it is `--`
 abbrev pub is_dashes : Text → Bool

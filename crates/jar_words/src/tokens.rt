@@ -171,14 +171,14 @@ fn first_token<'a>(word: &'a str, rest: &'a [String]) -> (Token<'a>, &'a [String
     }
 }
 
-// The option with the next word as its value, which has to be no option.
+// The option with the next word as its value, which has to be one that may.
 fn with_next<'a>(option: Name, word: &'a str, rest: &'a [String]) -> (Token<'a>, &'a [String])
     ensures token { code.token_of result.0
         ≡ spec.with_next option word.entry.now (code.next_of (map string_bytes rest.entry.now)) }
     ensures rest { map string_bytes result.1.now ≡ code.behind_value (map string_bytes rest.entry.now) }
 {
     match rest {
-        [value, rest @ ..] if !is_option(value.as_str()) => {
+        [value, rest @ ..] if is_value(value.as_str()) => {
             (Token::Given(option, word, value.as_str()), rest)
         }
         _ => (Token::Wrong(Kind::NoValue, word), rest),
@@ -191,6 +191,17 @@ fn is_option(word: &str) -> bool
     ensures { result ≡ spec.is_option word.now }
 {
     matches!(word.as_bytes(), [b'-', _, ..])
+}
+
+// Whether the word may be an option's value: it is no option, or a number below 0.
+#[tactic(auto, unfolding(crate::specs::Tokens::is_value))]
+fn is_value(word: &str) -> bool
+    ensures { result ≡ spec.is_value word.now }
+{
+    match word.as_bytes() {
+        [b'-', next, ..] => next.is_ascii_digit(),
+        _ => true,
+    }
 }
 
 // What stands before the first `=`, and what stands behind it.
