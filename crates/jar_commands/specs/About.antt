@@ -1,6 +1,6 @@
 -- What a refusal is about, told behind its words (this repository's own).
 use Rattle.std.specs.Prelude.{◌≡◌, ◌⊎◌, ◌++◌, ℕ, Bool, true, false, List, [], Option, Some, None, Result, Ok, Err}
-use Rattle.std.specs.Prelude.{IfSome, codes, option_map}
+use Rattle.std.specs.Prelude.{IfSome, codes, if◌then◌else◌, option_map}
 use Rattle.cookie_jar.specs.Places.{place_text}
 use Rattle.cookie_jar.specs.Terminal.{shown_text}
 use Rattle.cookie_jar.specs.declared.place.Place.{Place}
@@ -9,8 +9,10 @@ use Rattle.jar_words.specs.declared.asked.Command.{Command}
 use Rattle.jar_words.specs.declared.asked.Command.TheVariants as command
 use Rattle.jar_words.specs.declared.refusal.Refusal.{Refusal}
 use Rattle.jar_words.specs.declared.refusal.Refusal.TheVariants as refusal
+use Rattle.url.specs.Input.{is_empty}
 use Rattle.jar_commands.specs.Instead.{url_in}
 use Rattle.jar_commands.specs.Program.{IsListFile}
+use Rattle.jar_commands.specs.UrlCauses.{url_cause}
 use Rattle.jar_commands.specs.declared.failure.Failure.{Failure}
 use Rattle.jar_commands.specs.declared.failure.Failure.TheVariants as failure
 
@@ -46,15 +48,38 @@ subject asked list other = None
 
 -- ---- what is told of it
 
--- what stands behind a name in any case: the end of the name of a jar's lock; of a word, what it has to be and isn't
-abbrev pub ending : Failure → List ℕ
-ending failure.LockFile = codes ".lock"
-ending failure.Moment = codes ": no date and time of 1971 to 9998, as 2027-01-01T00:00:00Z"
-ending failure.Format = codes ": ends in neither .json, .ron nor .txt"
-ending failure.FileFormat = codes ": ends in neither .json, .ron nor .txt, or beside --for it isn't .txt"
-ending failure.Wait = codes ": no whole number of seconds"
-ending failure.Rules = codes ": neither browser, none nor names of rules between commas"
-ending other = []
+-- a name as a terminal may have it, and of an empty one that it is so
+abbrev pub name_text : List ℕ → List ℕ
+name_text name = if is_empty name then codes "an empty word" else shown_text name
+
+-- a file is to be written for a reader, which has it as `cookies.txt`
+abbrev pub is_for_reader : Command → Bool
+is_for_reader (command.Export file form (Some reader)) = true
+is_for_reader other = false
+
+abbrev pub file_ending : Bool → List ℕ
+file_ending true = codes ": its form isn't txt, as --for has it"
+file_ending false = codes ": ends in neither .json, .ron nor .txt"
+
+-- what stands behind the name that a command's failure is about, in any case: the end of the name of a jar's lock; of a
+-- word, what it has to be and isn't
+abbrev pub ending : Command → Failure → List ℕ
+ending asked failure.LockFile = codes ".lock"
+ending asked failure.Moment = codes ": no date and time of 1971 to 9998, as 2027-01-01T00:00:00Z"
+ending asked failure.Format = codes ": ends in neither .json, .ron nor .txt"
+ending asked failure.FileFormat = file_ending (is_for_reader asked)
+ending asked failure.Wait = codes ": no whole number of seconds"
+ending asked failure.Rules = codes ": neither browser, none nor names of rules between commas"
+ending asked other = []
+
+-- a URL, and why it isn't one to ask for
+abbrev pub url_text : List ℕ → List ℕ
+url_text url = name_text url ++ (codes ": " ++ url_cause url)
+
+-- the name that a command's failure is about, and what stands behind it in any case
+abbrev pub named : Command → Failure → List ℕ → List ℕ
+named asked failure.Url name = url_text name
+named asked failure name = name_text name ++ ending asked failure
 
 -- the system refused a file
 abbrev pub is_of_system : Failure → Bool
@@ -78,16 +103,15 @@ IsDetail failure detail =
     ⊎ (((is_of_system failure ≡ true) × ((words : List ℕ) × (detail ≡ codes ": " ++ words)))
     ⊎ ((is_of_text failure ≡ true) × ((place : Place) × (detail ≡ codes ": " ++ place_text place))))
 
--- a name as a terminal may have it, and what is told behind it
-abbrev pub IsOf : Failure → List ℕ → List ℕ → Type 0
-IsOf failure name told =
-    (detail : List ℕ) × IsDetail failure detail × (told ≡ shown_text name ++ (ending failure ++ detail))
+-- so, and the detail behind it
+abbrev pub IsOf : Command → Failure → List ℕ → List ℕ → Type 0
+IsOf asked failure name told = (detail : List ℕ) × IsDetail failure detail × (told ≡ named asked failure name ++ detail)
 
 -- of what is about nothing, nothing is told
-abbrev pub IsAbout : Failure → Option (List ℕ) → Option (List ℕ) → Type 0
-IsAbout failure None told = told ≡ None
-IsAbout failure (Some name) None = ⊥
-IsAbout failure (Some name) (Some told) = IsOf failure name told
+abbrev pub IsAbout : Command → Failure → Option (List ℕ) → Option (List ℕ) → Type 0
+IsAbout asked failure None told = told ≡ None
+IsAbout asked failure (Some name) None = ⊥
+IsAbout asked failure (Some name) (Some told) = IsOf asked failure name told
 
 -- ---- of a run
 
@@ -97,11 +121,11 @@ abbrev pub TellsAskedAbout : Asked → List (List ℕ) → Result ℕ Failure �
 TellsAskedAbout asked lists (Ok status) instead told = told ≡ None
 TellsAskedAbout asked lists (Err failure) instead told = IfSome told (λ text. (instead ≡ None) × ((list : List ℕ)
     × IsListFile (option_map (λ path. path.now) asked.suffixes) lists list
-    × IsAbout failure (subject asked list failure) (Some text)))
+    × IsAbout asked.command failure (subject asked list failure) (Some text)))
 
 -- of words that are refused it is the word at which that shows
 abbrev pub TellsRefusal : Refusal → Option (List ℕ) → Type 0
-TellsRefusal (refusal.Words kind word) told = IfSome told (λ text. text ≡ shown_text word.now)
+TellsRefusal (refusal.Words kind word) told = IfSome told (λ text. text ≡ name_text word.now)
 TellsRefusal other told = told ≡ None
 
 -- so of words as they were read
@@ -110,7 +134,7 @@ abbrev pub TellsAbout : Result Asked Refusal → List (List ℕ) → Result ℕ 
 TellsAbout (Ok asked) lists given instead told = TellsAskedAbout asked lists given instead told
 TellsAbout (Err refused) lists given instead told = TellsRefusal refused told
 
--- `url TEXT` is refused for its TEXT
+-- `url TEXT` is refused for its TEXT, and why it isn't one is told
 abbrev pub TellsUrl : List ℕ → Result ℕ Failure → Option (List ℕ) → Type 0
-TellsUrl text (Err failure.Url) told = IfSome told (λ shown. shown ≡ shown_text text)
+TellsUrl text (Err failure.Url) told = IfSome told (λ shown. shown ≡ url_text text)
 TellsUrl text other told = told ≡ None

@@ -16,4 +16,5 @@ pub mod Receiving
 pub mod RuleNames
 pub mod Setting
 pub mod Steps
+pub mod UrlCauses
 pub mod Waiting

@@ -10,6 +10,7 @@ use crate::failure::Failure;
 use crate::instead::url_in;
 use crate::place::place_in;
 use crate::plan::Plan;
+use crate::url_cause::url_cause;
 use cookie_jar::{Place, shown_text};
 use jar_words::{Asked, Command};
 use kept_file::files::Unread;
@@ -125,11 +126,11 @@ pub(crate) fn about_of(
     list: &str,
     stopped: Stopped,
 ) -> Result<Option<String>, AllocError>
-    ensures { IfOk result (λ told. spec.IsAbout stopped.failure
+    ensures { IfOk result (λ told. spec.IsAbout asked.entry.now.command stopped.failure
         (spec.subject asked.entry.now list.now stopped.failure) (option_map string_bytes told)) }
 {
     match subject(asked, list, stopped.failure) {
-        Some(name) => Ok(Some(named(alloc, name, stopped)?)),
+        Some(name) => Ok(Some(named_with(alloc, asked.command, name, stopped)?)),
         None => Ok(None),
     }
 }
@@ -164,28 +165,94 @@ fn file_in(command: Command<'_>) -> Option<&str>
 }
 
 // A name, and what is known beside it.
-fn named(alloc: Global, name: &str, stopped: Stopped) -> Result<String, AllocError>
-    ensures { IfOk result (λ told. spec.IsOf stopped.failure name.now (string_bytes told)) }
+fn named_with(
+    alloc: Global,
+    command: Command<'_>,
+    name: &str,
+    stopped: Stopped,
+) -> Result<String, AllocError>
+    ensures { IfOk result (λ told. spec.IsOf command.entry stopped.failure name.now (string_bytes told)) }
 {
-    let mut told = shown_text(alloc, name)?;
-    told.push_str(ending(stopped.failure))?;
+    let mut told = named(alloc, command, name, stopped.failure)?;
     push_detail(&mut told, stopped)?;
     Ok(told)
 }
 
+// A name, and what stands behind it in any case.
+fn named(
+    alloc: Global,
+    command: Command<'_>,
+    name: &str,
+    failure: Failure,
+) -> Result<String, AllocError>
+    ensures { IfOk result (λ told. string_bytes told ≡ spec.named command.entry failure name.now) }
+{
+    if let Failure::Url = failure {
+        return url_text(alloc, name);
+    }
+    let mut told = name_text(alloc, name)?;
+    told.push_str(ending(command, failure))?;
+    Ok(told)
+}
+
+/// A name as a terminal may have it, and of an empty one that it is so.
+///
+/// # Errors
+///
+/// `AllocError`, for want of memory.
+pub(crate) fn name_text(alloc: Global, name: &str) -> Result<String, AllocError>
+    ensures { IfOk result (λ told. string_bytes told ≡ spec.name_text name.now) }
+{
+    if name.is_empty() {
+        String::from_str(alloc, "an empty word")
+    } else {
+        shown_text(alloc, name)
+    }
+}
+
+/// A URL, and why it isn't one to ask for.
+///
+/// # Errors
+///
+/// `AllocError`, for want of memory.
+pub(crate) fn url_text(alloc: Global, url: &str) -> Result<String, AllocError>
+    ensures { IfOk result (λ told. string_bytes told ≡ spec.url_text url.now) }
+{
+    let mut told = name_text(alloc, url)?;
+    told.push_str(": ")?;
+    told.push_str(url_cause(alloc, url)?)?;
+    Ok(told)
+}
+
 // What stands behind a name in any case: the end of the name of the jar's lock; of a word, what it has to be and isn't.
-fn ending(failure: Failure) -> &'static str
-    ensures { result.now ≡ spec.ending failure }
+fn ending(command: Command<'_>, failure: Failure) -> &'static str
+    ensures { result.now ≡ spec.ending command.entry failure }
 {
     match failure {
         Failure::LockFile => ".lock",
         Failure::Moment => ": no date and time of 1971 to 9998, as 2027-01-01T00:00:00Z",
         Failure::Format => ": ends in neither .json, .ron nor .txt",
-        Failure::FileFormat =>
-            ": ends in neither .json, .ron nor .txt, or beside --for it isn't .txt",
+        Failure::FileFormat => file_ending(is_for_reader(command)),
         Failure::Wait => ": no whole number of seconds",
         Failure::Rules => ": neither browser, none nor names of rules between commas",
         _ => "",
+    }
+}
+
+// Whether a file is to be written for a reader, which has it as `cookies.txt`.
+fn is_for_reader(command: Command<'_>) -> bool
+    ensures { result ≡ spec.is_for_reader command.entry }
+{
+    matches!(command, Command::Export(_, _, Some(_)))
+}
+
+fn file_ending(is_for_reader: bool) -> &'static str
+    ensures { result.now ≡ spec.file_ending is_for_reader }
+{
+    if is_for_reader {
+        ": its form isn't txt, as --for has it"
+    } else {
+        ": ends in neither .json, .ron nor .txt"
     }
 }
 

@@ -6,9 +6,8 @@ ghost use Rattle.jar_commands.specs.Instead as urls;
 ghost use Rattle.jar_commands.specs.Program as spec;
 ghost use Rattle.jar_commands.specs.declared.failure.Failure.{Failure};
 
-use crate::about::{Stopped, about_of};
+use crate::about::{Stopped, about_of, name_text, url_text};
 use crate::failure::{Failure, line_of};
-use cookie_jar::shown_text;
 use jar_words::{Asked, Refusal};
 use std::alloc::Global;
 
@@ -47,7 +46,7 @@ pub(crate) fn url_told<'a>(alloc: Global, text: &str, status: Result<u8, Failure
 {
     let mut ended = told(None, status);
     if let Err(Failure::Url) = status {
-        ended.about = shown_text(alloc, text).ok();
+        ended.about = url_text(alloc, text).ok();
     }
     ended
 }
@@ -57,7 +56,7 @@ pub(crate) fn about_words(alloc: Global, refusal: Refusal<'_>) -> Option<String>
     ensures { abouts.TellsRefusal refusal.entry (option_map string_bytes result) }
 {
     match refusal {
-        Refusal::Words(_, word) => shown_text(alloc, word).ok(),
+        Refusal::Words(_, word) => name_text(alloc, word).ok(),
         Refusal::Help | Refusal::Version => None,
     }
 }
@@ -73,7 +72,7 @@ pub(crate) fn failed<'a>(
 ) -> Ended<'a>
     ensures told { spec.IsToldBy (Err stopped.failure) result.status (option_map (λ said. said.now) result.failure) }
     ensures instead { result.instead ≡ (if urls.is_refused_url (Err stopped.failure) then instead else None) }
-    ensures about { IfSome result.about (λ told. (result.instead ≡ None) × abouts.IsAbout stopped.failure
+    ensures about { IfSome result.about (λ told. (result.instead ≡ None) × abouts.IsAbout asked.entry.now.command stopped.failure
         (abouts.subject asked.entry.now list.now stopped.failure) (Some (string_bytes told))) }
     ensures line { result.line ≡ line_of (Err stopped.failure) }
     ensures rest { result.counted ≡ None }

@@ -28,6 +28,7 @@ mod removing;
 mod rule_names;
 mod setting;
 mod showing;
+mod url_cause;
 
 pub use answering::answer;
 pub use failure::Failure;

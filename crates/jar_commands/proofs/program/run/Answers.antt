@@ -44,7 +44,8 @@ returns-in-Err-serve-clause-tells g c =
       tells_about string_bytes c.failed-ended.result.instead c.failed-ended.result.about c.list_file-list.result.now
           (IsListFile (option_map (λ path. path.now) c.args.asked.now.suffixes)
           (map (λ path. path.now) c.args.lists.now))
-          (λ list text. IsAbout failure (subject c.args.asked.now list failure) (Some text)) c.list_file-list.ensures
+          (λ list text. IsAbout c.args.asked.now.command failure (subject c.args.asked.now list failure)
+          (Some text)) c.list_file-list.ensures
           c.failed-ended.ensures.about,
       c.failed-ended.ensures.line,
     )
