@@ -5,6 +5,7 @@ pub mod EntryLemmas
 pub mod FindLemmas
 pub mod FoundLemmas
 pub mod IndexLemmas
+pub mod ListLemmas
 pub mod NameLemmas
 pub mod OrderLemmas
 pub mod PartLemmas

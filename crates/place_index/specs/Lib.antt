@@ -11,3 +11,4 @@ pub mod Places
 pub mod Putting
 pub mod Starts
 pub mod Taking
+pub mod Texts

@@ -6,12 +6,13 @@ ghost use Rattle.std.specs.Borrow.{sem};
 ghost use Rattle.place_index.specs.Entries.{place_of, value_at, with_value, without};
 ghost use Rattle.place_index.specs.Lending.{LendsAt};
 
+use crate::names::FEW;
 use indexmap::IndexMap;
 use std::alloc::{AllocError, Global};
 use std::marker::Model;
 
 /// Values by text, in the order in which their texts came, and how long a text can be that has one: so one that is
-/// longer is told without its hash.
+/// longer is told without its hash. A few have no room for more.
 #[derive(Debug, Drop)]
 pub(crate) struct TextMap<V> {
     pub(crate) entries: IndexMap<String, V>,
@@ -91,6 +92,7 @@ impl<V: Drop> TextMap<V> {
         match self.entries.insert(key, value) {
             Ok(before) => {
                 self.longest = longest;
+                trim(&mut self.entries);
                 Ok(before)
             }
             Err(_) => Err(AllocError),
@@ -103,5 +105,14 @@ impl<V: Drop> TextMap<V> {
         ensures gone { value_at key.now self.new ≡ None }
     {
         self.entries.shift_remove(key);
+    }
+}
+
+// Gives back the room of a map of few entries.
+fn trim<V>(entries: &mut IndexMap<String, V>)
+    ensures { entries.new.entries ≡ entries.old.entries }
+{
+    if entries.len() <= FEW {
+        entries.shrink_to_fit();
     }
 }

@@ -9,7 +9,7 @@ pub invariant_of-self : goal.invariant_of-self
 invariant_of-self g c =
     let most = c.max-longest.ensures in
     let len = c.len.ensures in
-    subst (λ es. AreUpTo c.max-longest.result (by_bytes es)) (sym c.in-Ok.ensures.entries)
+    subst (λ es. AreUpTo c.max-longest.result (by_bytes es)) (sym (c.trim.ensures ∙ c.in-Ok.ensures.entries))
     (subst (AreUpTo c.max-longest.result)
     (sym (with_value-by_bytes c.self.inside.entries.entries c.args.key c.args.value))
     (up_to-with_value c.self.inside.longest c.max-longest.result _ (string_bytes c.args.key) c.args.value
@@ -17,7 +17,7 @@ invariant_of-self g c =
 
 pub returns-in-Ok-clause-ok : goal.returns-in-Ok-clause-ok
 returns-in-Ok-clause-ok g c =
-    ap by_bytes c.in-Ok.ensures.entries
+    ap by_bytes (c.trim.ensures ∙ c.in-Ok.ensures.entries)
     ∙ with_value-by_bytes c.self.inside.entries.entries c.args.key c.args.value
     ∙ ap (λ es. with_value es (string_bytes c.args.key) c.args.value) c.self.view_is
 
