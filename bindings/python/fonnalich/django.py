@@ -99,8 +99,9 @@ class SessionStore(SessionBase):
 
 
 def _hides_prefix(pair: str) -> bool:
-    """Whether Django, which strips all white space, reads a name under a prefix that a browser keeps otherwise."""
-    name = pair.partition("=")[0].strip(" \t")
+    """Whether Django, which reads UTF-8 and strips all white space, reads a name under a prefix that a browser keeps
+    otherwise. A header has a character for each byte."""
+    name = pair.encode("latin-1").decode(errors="replace").partition("=")[0].strip(" \t")
     return name.strip().startswith(_PREFIXES) and not name.startswith(_PREFIXES)
 
 

@@ -26,7 +26,8 @@ def blocks(heading):
 
 
 def forged(pair):
-    """Names of a pair that a session reads as its name, and a browser doesn't: so it lets a neighbour set them."""
+    """Names of a pair that decode or trim to its name, and that a browser keeps as they are: so it lets a neighbour set
+    them."""
     name, _, value = pair.partition("=")
     escaped = "".join(f"%{ord(it):02x}" for it in name)
     for it in [f"%5F{name[1:]}", f"_%5f{name[2:]}", f"__%{ord(name[2]):x}{name[3:]}", name.replace("-", "%2D"), escaped,
