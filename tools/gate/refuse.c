@@ -1,6 +1,6 @@
 /* Stands before the allocator of a test program: refuses one growth of memory, the call of malloc or realloc whose
- * number, from 1 on, is in REFUSED_GROWTH, and tells of that by the line TOLD. It links the program to the path KEPT
- * where its folder is the current one. */
+ * number, from 1 on, is in REFUSED_GROWTH, of those that ask for more, and tells of that by the line TOLD. It links the
+ * program to the path KEPT where its folder is the current one. */
 #include <fcntl.h>
 #include <stddef.h>
 #include <stdlib.h>
@@ -9,6 +9,7 @@
 /* Those of the run's checks of memory. */
 extern void *__interceptor_malloc(size_t);
 extern void *__interceptor_realloc(void *, size_t);
+extern size_t __sanitizer_get_allocated_size(const volatile void *);
 
 static const char told[] = "\n" TOLD "\n";
 static long refused, calls;
@@ -37,5 +38,8 @@ void *malloc(size_t size)
 
 void *realloc(void *block, size_t size)
 {
+    /* Room that is given back is no growth. */
+    if (block && size < __sanitizer_get_allocated_size(block))
+        return __interceptor_realloc(block, size);
     return is_refused() ? NULL : __interceptor_realloc(block, size);
 }
