@@ -150,6 +150,13 @@ impl CookieStore {
         }
     }
 
+    /// Its list of public suffixes, where it has one.
+    pub fn public_suffix_list(&self) -> Option<&List>
+        ensures { MatchOption result (self.now.suffixes ≡ []) (λ list. list.now ≡ self.now.suffixes) }
+    {
+        self.public_suffix_list.as_ref()
+    }
+
     /// Whether `get` gives a cookie.
     pub fn contains(&self, domain: &str, path: &str, name: &str, now: DateTime) -> bool
         ensures { result ≡ is_some (spec.found_live (civil_nanos now)

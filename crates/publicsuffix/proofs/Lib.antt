@@ -4,6 +4,7 @@ mod NameLemmas
 mod NodeLemmas
 mod PrevailingLemmas
 mod ReadingLemmas
+mod RegistrableLemmas
 mod SplitLemmas
 mod StandardFacts
 mod TableLemmas

@@ -12,6 +12,7 @@
 
 mod error;
 mod label;
+pub mod laws;
 mod line;
 mod list;
 mod name;
@@ -21,5 +22,5 @@ mod tree;
 mod walk;
 
 pub use error::ListError;
-pub use list::List;
+pub use list::{List, registrable_without_list};
 pub use suffix::Suffix;
