@@ -5,3 +5,6 @@ pub mod NameMaps
 pub mod JarLemmas
 pub mod ReadingLemmas
 pub mod LawLemmas
+pub mod RingLemmas
+pub mod TrialLemmas
+pub mod RingLawLemmas

@@ -7,7 +7,12 @@ pub mod Base64Steps
 pub mod Signing
 pub mod Sealing
 pub mod Reading
+pub mod KeyRing
+pub mod Trials
 pub mod Laws
 pub mod PrefixedJars
 pub mod SignedJars
 pub mod PrivateJars
+pub mod SignedRingJars
+pub mod PrivateRingJars
+pub mod RingLaws

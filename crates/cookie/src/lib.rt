@@ -23,4 +23,7 @@ pub use cookie_text::{
 pub use jar::{CookieJar, Delta, Iter};
 pub use prefix::{Host, Prefix, Secure};
 pub use prefixed_jar::{PrefixedJar, PrefixedJarMut};
-pub use secure::{Key, KeyError, PrivateError, PrivateJar, PrivateJarMut, SignedJar, SignedJarMut};
+pub use secure::{
+    EarlierKey, Key, KeyError, KeyRing, KeyRingError, PrivateError, PrivateJar, PrivateJarMut,
+    PrivateRingJar, PrivateRingJarMut, SignedJar, SignedJarMut, SignedRingJar, SignedRingJarMut,
+};

@@ -32,4 +32,4 @@ pub use ghash::Multiples;
 pub use hash_subkey::HashSubkey;
 pub use mac::{MacKey, hmac};
 pub use powers::Turns;
-pub use register_gcm::{open_in_registers, seal_in_registers};
+pub use register_gcm::{is_opened_in_registers, open_in_registers, seal_in_registers};

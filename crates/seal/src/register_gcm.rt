@@ -131,3 +131,21 @@ pub fn open_in_registers(
     cipher(&w, nonce, text);
     Ok(())
 }
+
+/// Whether [`open_in_registers`] opens the text: whether `tag` is its tag. The tag is compared whole, and nothing is
+/// deciphered.
+pub fn is_opened_in_registers(
+    key: &[u8; 32],
+    nonce: &[u8; 12],
+    aad: &[u8],
+    text: &[u8],
+    tag: &[u8; 16],
+) -> bool
+    ensures { IsTrue result
+        ↔ ((plain : List ℕ) × spec.Opens key.now nonce.now aad.now text.now tag.now plain) }
+{
+    if !is_sealable(aad, text) {
+        return false;
+    }
+    has_tag(&schedule(key), nonce, aad, text, tag)
+}

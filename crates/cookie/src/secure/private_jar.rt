@@ -191,8 +191,8 @@ impl<'a> PrivateJarMut<'a> {
     }
 }
 
-// The cookie with a sealing of its value.
-fn sealed<R: TryRng>(
+/// The cookie with a sealing of its value.
+pub(super) fn sealed<R: TryRng>(
     alloc: Global,
     key: &Key,
     cookie: Cookie<'static>,

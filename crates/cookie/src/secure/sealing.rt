@@ -8,12 +8,13 @@ ghost use Rattle.std.specs.Str.{IsUtf8};
 ghost use Rattle.std.specs.String.{string_bytes};
 ghost use Rattle.seal.specs.Gcm.{IsSealable};
 ghost use Rattle.cookie.specs.Sealing as spec;
+ghost use Rattle.cookie.specs.Trials.{AreSealed};
 
 use super::encoding::{decoded, encoded};
 use super::key::Key;
 use super::private_error::PrivateError;
 use rand_core::TryRng;
-use seal::{open_in_registers, seal_in_registers};
+use seal::{is_opened_in_registers, open_in_registers, seal_in_registers};
 use std::alloc::{AllocError, Global};
 
 const NONCE_LEN: usize = 12;
@@ -206,4 +207,19 @@ pub fn opened_value(
         Some(bytes) => Ok(opened_text(key, name, bytes)),
         None => Ok(None),
     }
+}
+
+/// Whether nonce, ciphertext and tag are sealed from some value under this key and name. Nothing is deciphered.
+pub(super) fn is_sealed_under(key: &Key, name: &str, bytes: &[u8]) -> bool
+    ensures { IsTrue result ↔ AreSealed name.now bytes.now key.now }
+{
+    seal::laws::lengths();
+    let encryption = key.encryption();
+    if bytes.len() < NONCE_LEN + TAG_LEN {
+        return false;
+    }
+    let nonce = nonce_of(bytes);
+    let tag = tag_of(bytes);
+    let text = &bytes[NONCE_LEN..bytes.len() - TAG_LEN];
+    is_opened_in_registers(encryption, &nonce, name.as_bytes(), text, &tag)
 }

@@ -157,8 +157,12 @@ impl<'a> SignedJarMut<'a> {
     }
 }
 
-// The cookie with the signing of its value.
-fn signed(alloc: Global, key: &Key, cookie: Cookie<'static>) -> Result<Cookie<'static>, AllocError>
+/// The cookie with the signing of its value.
+pub(super) fn signed(
+    alloc: Global,
+    key: &Key,
+    cookie: Cookie<'static>,
+) -> Result<Cookie<'static>, AllocError>
     ensures { IfOk result
         (λ signed. signed ≡ with_value cookie.entry (signing key.now cookie.entry.cookie.value)) }
 {

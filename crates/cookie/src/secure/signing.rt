@@ -1,9 +1,10 @@
 //! The texts of signed values.
 
-ghost use Rattle.std.specs.Prelude.{◌≡◌, ◌↔◌, ℕ, List, IfOk, Some};
+ghost use Rattle.std.specs.Prelude.{◌≡◌, ◌↔◌, ℕ, List, IfOk, IsTrue, Some};
 ghost use Rattle.std.specs.Option.{option_copied};
 ghost use Rattle.std.specs.String.{string_bytes};
 ghost use Rattle.cookie.specs.Signing as spec;
+ghost use Rattle.cookie.specs.Trials.{IsCode};
 
 use super::key::Key;
 use super::printing::code_text;
@@ -12,7 +13,7 @@ use seal::equal_bytes;
 use std::alloc::{AllocError, Global};
 
 // The base64 of 32 bytes.
-const CODE_LEN: usize = 44;
+pub(super) const CODE_LEN: usize = 44;
 
 /// The signing of `value`: its code under the key's signing half (HMAC with SHA-256, RFC 2104) in
 /// base64, which has 44 characters, and then the value.
@@ -45,4 +46,11 @@ pub fn verified_value<'t>(key: &Key, text: &'t str) -> Option<&'t str>
     } else {
         None
     }
+}
+
+/// Whether a text is the code of the value in base64, as a signing begins with it.
+pub(super) fn is_code(key: &Key, code: &[u8], value: &[u8]) -> bool
+    ensures { IsTrue result ↔ IsCode code.now value.now key.now }
+{
+    equal_bytes(code, &code_text(&key.code(value)))
 }
