@@ -79,11 +79,11 @@ stopped_line f rules list start mid new old url now xs i d h all same asks = rec
 -- ---- one line
 
 -- where no rule changes lines, each goes on as it came
-or_false : (a b : Bool) → false ≡ (a || b) → (a ≡ false) × (b ≡ false)
+pub or_false : (a b : Bool) → false ≡ (a || b) → (a ≡ false) × (b ≡ false)
 or_false true b e = absurd (true≢false (sym e))
 or_false false b e = (refl, sym e)
 
-not_done : (b : Bool) (Step : List ℕ → List ℕ → Type 0) (line : List ℕ) → b ≡ false → IsDoneIf b Step line line
+pub not_done : (b : Bool) (Step : List ℕ → List ℕ → Type 0) (line : List ℕ) → b ≡ false → IsDoneIf b Step line line
 not_done b Step line e = subst (λ x. IsDoneIf x Step line line) (sym e) refl
 
 unchanged : (rules : Rules) (now : ℤ) (line : List ℕ) → false ≡ rewrites rules → IsHandedText rules now line line

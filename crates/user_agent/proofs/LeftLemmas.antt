@@ -93,39 +93,52 @@ done : (on : Bool) (Step : List ℕ → List ℕ → Type 0) (line : List ℕ) �
 done true Step line h = h
 done false Step line h = refl
 
-pub left_cut : (rules : Rules) (now : ℤ) (brief : Bool) (line handed : List ℕ) → AreLeftAlone now brief line
-    → IsDoneIf rules.long_lives (IsCutLine now) line handed → IsHandedText rules now line handed
-left_cut rules now brief line handed k is_cut =
+pub left_long : (on : Bool) (now : ℤ) (brief : Bool) (line : List ℕ) → AreLeftAlone now brief line
+    → IsDoneIf on IsShortLine line line
+left_long on now brief line k =
     let joined = joined_again line (first_piece line) k.rest k.cut in
-    record {
-      short = line;
-      known = line;
-      shortened = done rules.long_attributes IsShortLine line (record {
-        rest = k.rest;
-        cut = k.cut;
-        joined = sym (ap (joined_behind (first_piece line)) (all_short now brief k.rest k.each) ∙ joined);
-      });
-      dated = done rules.dates IsKnownLine line (record {
-        rest = k.rest;
-        others = k.rest;
-        cut = k.cut;
-        each = all_known now brief k.rest k.each;
-        joined = sym joined;
-      });
-      cut = is_cut;
-    }
+    done on IsShortLine line (record {
+      rest = k.rest;
+      cut = k.cut;
+      joined = sym (ap (joined_behind (first_piece line)) (all_short now brief k.rest k.each) ∙ joined);
+    })
 
-pub left_handed : (rules : Rules) (now : ℤ) (line : List ℕ) → AreLeftAlone now true line
-    → IsHandedText rules now line line
-left_handed rules now line k =
-    left_cut rules now true line line k
-    (done rules.long_lives (IsCutLine now) line (record {
+pub left_dated : (on : Bool) (now : ℤ) (brief : Bool) (line : List ℕ) → AreLeftAlone now brief line
+    → IsDoneIf on IsKnownLine line line
+left_dated on now brief line k =
+    done on IsKnownLine line (record {
+      rest = k.rest;
+      others = k.rest;
+      cut = k.cut;
+      each = all_known now brief k.rest k.each;
+      joined = sym (joined_again line (first_piece line) k.rest k.cut);
+    })
+
+pub left_brief : (on : Bool) (now : ℤ) (line : List ℕ) → AreLeftAlone now true line
+    → IsDoneIf on (IsCutLine now) line line
+left_brief on now line k =
+    done on (IsCutLine now) line (record {
       rest = k.rest;
       others = k.rest;
       parts = k.cut;
       each = all_cut now true refl k.rest k.each;
       joined = sym (joined_again line (first_piece line) k.rest k.cut);
-    }))
+    })
+
+pub left_cut : (rules : Rules) (now : ℤ) (brief : Bool) (line handed : List ℕ) → AreLeftAlone now brief line
+    → IsDoneIf rules.long_lives (IsCutLine now) line handed → IsHandedText rules now line handed
+left_cut rules now brief line handed k is_cut = record {
+  short = line;
+  known = line;
+  shortened = left_long rules.long_attributes now brief line k;
+  dated = left_dated rules.dates now brief line k;
+  cut = is_cut;
+}
+
+pub left_handed : (rules : Rules) (now : ℤ) (line : List ℕ) → AreLeftAlone now true line
+    → IsHandedText rules now line line
+left_handed rules now line k =
+    left_cut rules now true line line k (left_brief rules.long_lives now line k)
 
 pub cut_handed : {S E : Type 0} (bytes : S → List ℕ) (r : Result (Option S) E) (rules : Rules) (now : ℤ)
     (brief : Bool) (line : List ℕ) → AreLeftAlone now brief line

@@ -1,4 +1,7 @@
 mod AgentLemmas
+mod ControlLemmas
+mod ChangeLemmas
+mod CrossLemmas
 mod CutLemmas
 mod DatedLemmas
 mod FindingLemmas
@@ -16,7 +19,9 @@ mod PlaceLemmas
 mod RelateLemmas
 mod SecureReadLemmas
 mod SecureRunLemmas
+mod SentLemmas
 mod SessionLemmas
+mod SiteLemmas
 mod StandingLemmas
 mod StrictLemmas
 mod TokenLemmas

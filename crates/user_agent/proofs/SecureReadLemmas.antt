@@ -82,7 +82,7 @@ module _ (P : Record → Type 0) where
   of_named (Some c) n v named valued each = each c named valued
 
   -- what holds of a cookie of each row's decoded pair holds of all of them
-  of_rows : (spaced : Bool) (rows : List Row) → AllByRecursion HasReadPair rows
+  pub of_rows : (spaced : Bool) (rows : List Row) → AllByRecursion HasReadPair rows
       → AllByRecursion (λ row. (c : Record) → c.name ≡ decoded_name row
       → c.value ≡ percent_decode row.raw.cookie.value → P c) rows
       → AllByRecursion P (filter_map cookie_of (texts_of spaced (map pair_of rows)))
@@ -94,11 +94,11 @@ module _ (P : Record → Type 0) where
       (cookie_valued spaced (pair_of row) read.0) each.0)
       (of_rows true rows read.1 each.1)
 
-read_pairs : (rows : List Row) → AllByRecursion HasReadPair rows → AllByRecursion IsRead (map pair_of rows)
+pub read_pairs : (rows : List Row) → AllByRecursion HasReadPair rows → AllByRecursion IsRead (map pair_of rows)
 read_pairs [] h = tt
 read_pairs (row ∷ rows) h = (h.0, read_pairs rows h.1)
 
-some_left : (test : Row → Bool) (P : Row → Type 0) (rows : List Row) → AllByRecursion P rows
+pub some_left : (test : Row → Bool) (P : Row → Type 0) (rows : List Row) → AllByRecursion P rows
     → AllByRecursion P (filter test rows)
 some_left test P [] h = tt
 some_left test P (row ∷ rows) h = by (test row) (some_left test P rows h.1)
@@ -108,7 +108,7 @@ some_left test P (row ∷ rows) h = by (test row) (some_left test P rows h.1)
     by true later = (h.0, later)
     by false later = later
 
-each_of : (M A B : Row → Type 0) → ((row : Row) → M row → A row → B row) → (rows : List Row) → AllByRecursion M rows
+pub each_of : (M A B : Row → Type 0) → ((row : Row) → M row → A row → B row) → (rows : List Row) → AllByRecursion M rows
     → AllByRecursion A rows → AllByRecursion B rows
 each_of M A B f [] m h = tt
 each_of M A B f (row ∷ rows) m h = (f row m.0 h.0, each_of M A B f rows m.1 h.1)

@@ -63,6 +63,7 @@ use Rattle.cookie_run.specs.Jar.{IsSent, lines_of}
 use Rattle.cookie_run.specs.declared.step.LineEnd.{LineEnd}
 use Rattle.store_parts.specs.Expiry.{seconds}
 use Rattle.user_agent.specs.Agent.{IsDoneIf, IsHandedOn, TakesLine, TakesLines}
+use Rattle.user_agent.specs.Controls.{IsFree}
 use Rattle.user_agent.specs.CutLives.{IsBrief, IsCut, IsCutLine, longest}
 use Rattle.user_agent.specs.KnownDates.{HasLooseDate, IsKnown, IsKnownLine, joined_behind}
 use Rattle.user_agent.specs.LongAttributes.{IsShortLine, is_short}
@@ -80,11 +81,7 @@ use Rattle.user_agent.proofs.KnownLemmas.{first_is}
 
 -- ---- no control character
 
--- none in the text
-abbrev IsFree : List ℕ → Type 0
-IsFree text = list_any is_control text ≡ false
-
-free_join : (a b : List ℕ) → IsFree a → IsFree b → IsFree (a ++ b)
+pub free_join : (a b : List ℕ) → IsFree a → IsFree b → IsFree (a ++ b)
 free_join a b ha hb = list_any-append is_control a b ∙ rw (ha, hb) refl
 
 free_plain : (bs : List ℕ) → All IsPlain bs → IsFree bs
@@ -164,7 +161,7 @@ module _ (d : DateTime) (y : ℕ) (year : d.date.year ≡ pos y) where
       (free_join houred (two_digits d.time.minute) (free_join (two_digits d.time.hour) (codes ":") hour refl) minute)
       refl) second
 
-  date_free : IsFree (date_text d)
+  pub date_free : IsFree (date_text d)
   date_free =
       let timed = front ++ codes " " ++ time_text d in
       subst IsFree (sym date_is)

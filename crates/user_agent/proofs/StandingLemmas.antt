@@ -398,7 +398,7 @@ module _ (test : Row → Bool) where
       by true rest = (all.0, rest)
       by false rest = rest
 
-  filter_falls : (rows : List Row) → LengthsFall rows → LengthsFall (filter test rows)
+  pub filter_falls : (rows : List Row) → LengthsFall rows → LengthsFall (filter test rows)
   filter_falls [] fall = tt
   filter_falls (y ∷ ys) fall = by (test y) (filter_falls ys fall.1)
     where
@@ -406,7 +406,7 @@ module _ (test : Row → Bool) where
       by true rest = (filter_all (λ later. path_length later ≤ path_length y) ys fall.0, rest)
       by false rest = rest
 
-  filter_swap : (other : Row → Bool) (rows : List Row)
+  pub filter_swap : (other : Row → Bool) (rows : List Row)
       → filter other (filter test rows) ≡ filter test (filter other rows)
   filter_swap other [] = refl
   filter_swap other (y ∷ ys) = by (test y) (other y) refl refl (filter_swap other ys)

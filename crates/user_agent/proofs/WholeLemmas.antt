@@ -23,7 +23,7 @@ IsOther c = (scalar c ≡ true) × (c ≢ semicolon)
 abbrev pub IsWhole : List ℕ → Type 0
 IsWhole text = (cs : List ℕ) × AllByRecursion IsOther cs × (encodes cs ≡ text)
 
-are_scalars : (cs : List ℕ) → AllByRecursion IsOther cs → scalars cs ≡ true
+pub are_scalars : (cs : List ℕ) → AllByRecursion IsOther cs → scalars cs ≡ true
 are_scalars [] h = refl
 are_scalars (c ∷ cs) h = λ i. h.0.0 i && are_scalars cs h.1 i
 
@@ -171,12 +171,12 @@ after_whole text (cs, all, e) = subst (λ t. IsWhole (after_first (λ b. b == eq
 
 -- ---- what is trimmed
 
-skip_all : (P : ℕ → Type 0) (cs : List ℕ) → AllByRecursion P cs → AllByRecursion P (skip_leading_whitespace cs)
+pub skip_all : (P : ℕ → Type 0) (cs : List ℕ) → AllByRecursion P cs → AllByRecursion P (skip_leading_whitespace cs)
 skip_all P [] h = tt
 skip_all P (c ∷ cs) h =
     cond_both (is_whitespace c) _ _ (AllByRecursion P) (λ e. skip_all P cs h.1) (λ e. h)
 
-drop_all : (P : ℕ → Type 0) (cs : List ℕ) → AllByRecursion P cs → AllByRecursion P (drop_trailing_whitespace cs)
+pub drop_all : (P : ℕ → Type 0) (cs : List ℕ) → AllByRecursion P cs → AllByRecursion P (drop_trailing_whitespace cs)
 drop_all P [] h = tt
 drop_all P (c ∷ cs) h =
     cond_both (is_whitespace c && length (drop_trailing_whitespace cs) == 0) _ _ (AllByRecursion P) (λ e. tt)

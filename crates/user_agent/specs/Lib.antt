@@ -1,4 +1,7 @@
 pub mod Agent
+pub mod Controls
+pub mod Changes
+pub mod CrossSite
 pub mod CutLives
 pub mod Dates
 pub mod Fields
@@ -11,4 +14,5 @@ pub mod SecurePlaces
 pub mod SecureRuns
 pub mod SecureWins
 pub mod SessionLines
+pub mod Sites
 pub mod StrictDates

@@ -134,7 +134,7 @@ is_on rules SecureFromHttp = rules.secure_from_http
 is_on rules SecureOverlay = rules.secure_overlay
 is_on rules LacksSecure = rules.secure_wins
 
--- those of user agents, which have no `secure_wins`
+-- those of user agents, which have no `secure_wins`, and of which some have no `lax_by_default`
 abbrev pub browser_rules : Rules
 browser_rules = record {
   long_attributes = true;
@@ -147,6 +147,7 @@ browser_rules = record {
   secure_from_http = true;
   secure_overlay = true;
   secure_wins = false;
+  lax_by_default = false;
 }
 
 abbrev pub no_rules : Rules
@@ -161,6 +162,7 @@ no_rules = record {
   secure_from_http = false;
   secure_overlay = false;
   secure_wins = false;
+  lax_by_default = false;
 }
 
 -- the place of a rule in their order

@@ -1,9 +1,10 @@
 //! A user agent: a client behind rules.
 ghost use Rattle.std.specs.Prelude.{◌≡◌, ◌⊎◌, ◌≤ℤ◌, false, map, pos, IfErr, IfOk, IsTrue, MatchOption};
-ghost use Rattle.std.specs.Prelude.{◌↔◌, OnErr, OnOk, string_bytes};
+ghost use Rattle.std.specs.Prelude.{◌↔◌, Ok, OnErr, OnOk, string_bytes};
 ghost use Rattle.std.specs.Io.KnownBytes.{Appends};
 ghost use Rattle.std.specs.List.{AllByRecursion};
 ghost use Rattle.std.specs.Str.{IsUtf8};
+ghost use Rattle.cookie_text.specs.Reading.{ReadsPlain};
 ghost use Rattle.jiff.specs.Words.{civil_nanos};
 ghost use Rattle.saved_text.specs.RonLayout.{ron_layout};
 ghost use Rattle.saved_text.specs.RonReading.{ShowsOnly};
@@ -21,7 +22,7 @@ ghost use Rattle.user_agent.specs.CutLives.{IsCutLine};
 ghost use Rattle.user_agent.specs.Integrity.{ProtectedRowsStay};
 ghost use Rattle.user_agent.specs.KnownDates.{IsKnownLine};
 ghost use Rattle.user_agent.specs.LongAttributes.{IsShortLine};
-ghost use Rattle.user_agent.specs.Refusals.{IsStoppedByControl};
+ghost use Rattle.user_agent.specs.Refusals.{IsLetIn, IsStoppedByControl};
 ghost use Rattle.user_agent.specs.SecurePlaces.{ArePlacesOf, ShowPlaces};
 ghost use Rattle.user_agent.specs.SecureWins.{IsHeaderBehind, IsWinnersHeader};
 
@@ -33,9 +34,11 @@ use crate::long_attributes::without_long_attributes;
 use crate::rules::{Outcome, Refusal, Rules};
 use crate::secure_places::SecurePlaces;
 use crate::secure_wins::winners;
+use cookie::Cookie as RawCookie;
 use cookie_run::client::header_of as header_text;
 use cookie_run::{Client, Stopped};
 use cookie_store::{Error, Sink, Source};
+use cookie_text::laws::one_outcome;
 use jiff::civil::DateTime;
 use publicsuffix::List;
 use std::alloc::{AllocError, Global};
@@ -389,7 +392,7 @@ pub(crate) fn is_stopped(rules: &Rules, line: &[u8]) -> bool
 }
 
 // Whether a rule is on that changes lines.
-fn rewrites(rules: &Rules) -> bool
+pub(crate) fn rewrites(rules: &Rules) -> bool
     ensures { result ≡ spec.rewrites rules.now }
 {
     rules.long_attributes || rules.dates || rules.long_lives
@@ -461,11 +464,56 @@ fn take_handed(
     ensures err { OnErr result ((client.new.rows ≡ client.old.rows) × spec.HandedAsks rules.now url.now line.now) }
     ensures list { client.new.suffixes ≡ client.old.suffixes }
 {
-    let alloc = client.alloc();
-    if let Some(rule) = refusal(alloc, rules, client.store(), secure, url, line, now)? {
+    one_outcome();
+    let Ok(text) = str::from_utf8(line) else {
+        return take_unread(client, rules, url, line, now);
+    };
+    match RawCookie::parse(text) {
+        Ok(cookie) => take_read(client, rules, secure, url, text, &cookie, now),
+        Err(_) => take_unread(client, rules, url, line, now),
+    }
+}
+
+// The same of a line that is no text, or reads as no cookie: no rule refuses it.
+fn take_unread(
+    client: &mut Client,
+    rules: &Rules,
+    url: &Url,
+    line: &[u8],
+    now: DateTime,
+) -> Result<Outcome, AllocError>
+    requires { IsLetIn rules.now client.old.rows url.now (civil_nanos now) line.now }
+    ensures ok { IfOk result (λ outcome. spec.TakesHanded rules.now client.old.suffixes client.old.rows url.now
+        (civil_nanos now) line.now outcome client.new.rows) }
+    ensures err { OnErr result ((client.new.rows ≡ client.old.rows) × spec.HandedAsks rules.now url.now line.now) }
+    ensures list { client.new.suffixes ≡ client.old.suffixes }
+{
+    let end = client.receive_line(url, line, now)?;
+    Ok(Outcome::Taken(end))
+}
+
+// The same of a line of which the cookie was read.
+fn take_read(
+    client: &mut Client,
+    rules: &Rules,
+    secure: &SecurePlaces,
+    url: &Url,
+    line: &str,
+    cookie: &RawCookie<'_>,
+    now: DateTime,
+) -> Result<Outcome, AllocError>
+    requires shown { ShowPlaces secure.now (civil_nanos now) client.old.rows }
+    requires read { ReadsPlain line.now (Ok cookie.now) }
+    ensures ok { IfOk result (λ outcome. spec.TakesHanded rules.now client.old.suffixes client.old.rows url.now
+        (civil_nanos now) line.now outcome client.new.rows) }
+    ensures err { OnErr result ((client.new.rows ≡ client.old.rows) × spec.HandedAsks rules.now url.now line.now) }
+    ensures list { client.new.suffixes ≡ client.old.suffixes }
+{
+    let (alloc, store) = (client.alloc(), client.store());
+    if let Some(rule) = refusal(alloc, rules, store, secure, url, line, cookie, now)? {
         return Ok(Outcome::Refused(rule));
     }
-    let end = client.receive_line(url, line, now)?;
+    let end = client.receive_read(url, line, cookie, now)?;
     Ok(Outcome::Taken(end))
 }
 

@@ -1,9 +1,10 @@
 //! Which rule refuses a line.
-ghost use Rattle.std.specs.Prelude.{◌≡◌, ◌↔◌, ◌++◌, ℕ, List, IfOk, IsTrue, MatchOption, OnErr, Some, false, map, true};
-ghost use Rattle.std.specs.Prelude.{option_map, string_bytes, codes};
+ghost use Rattle.std.specs.Prelude.{◌≡◌, ◌↔◌, ◌++◌, ℕ, List, IfOk, IsTrue, MatchOption, Ok, OnErr, Some, false, map};
+ghost use Rattle.std.specs.Prelude.{true, option_map, string_bytes, codes};
 ghost use Rattle.std.specs.Char.{to_ascii_lowercase};
 ghost use Rattle.std.specs.List.{list_any};
 ghost use Rattle.percent_encoding.specs.Percent.{percent_decode};
+ghost use Rattle.cookie_text.specs.Reading.{ReadsPlain};
 ghost use Rattle.jiff.specs.Words.{civil_nanos};
 ghost use Rattle.store_parts.specs.DomainMatch.{DomainMatches, EndsAfterDot, domain_of};
 ghost use Rattle.store_parts.specs.PathMatch.{MeetAtSlash, PathMatches, path_of};
@@ -25,8 +26,8 @@ use percent_encoding::percent_decode;
 use std::alloc::{AllocError, Global};
 use url::Url;
 
-/// The first rule that is on and refuses what the line reads as, received from the URL at `now` by a user agent with
-/// this store, whose Secure rows stand at these places. Control characters are another's to find.
+/// The first rule that is on and refuses a line of which the cookie was read, received from the URL at `now` by a user
+/// agent with this store, whose Secure rows stand at these places. Control characters are another's to find.
 ///
 /// # Errors
 ///
@@ -37,23 +38,19 @@ pub fn refusal(
     store: &CookieStore,
     secure: &SecurePlaces,
     url: &Url,
-    line: &[u8],
+    line: &str,
+    cookie: &RawCookie<'_>,
     now: DateTime,
 ) -> Result<Option<Refusal>, AllocError>
-    requires { ShowPlaces secure.now (civil_nanos now) store.now.rows }
+    requires shown { ShowPlaces secure.now (civil_nanos now) store.now.rows }
+    requires read { ReadsPlain line.now (Ok cookie.now) }
     ensures found { IfOk result (λ found. MatchOption found
         (spec.IsLetIn rules.now store.now.rows url.now (civil_nanos now) line.now)
         (spec.IsRefusedBy rules.now store.now.rows url.now (civil_nanos now) line.now)) }
     ensures err { OnErr result (IsTrue rules.now.secure_overlay × spec.AsksForOverlay url.now line.now) }
 {
     one_outcome();
-    let Ok(text) = str::from_utf8(line) else {
-        return Ok(None);
-    };
-    match RawCookie::parse(text) {
-        Ok(cookie) => cookie_refusal(alloc, rules, store, secure, url, &cookie, now),
-        Err(_) => Ok(None),
-    }
+    cookie_refusal(alloc, rules, store, secure, url, cookie, now)
 }
 
 // The first rule that is on and refuses the cookie.

@@ -1,5 +1,6 @@
 //! Laws of answers that a user agent takes. Each function changes nothing: its contract is the law.
 ghost use Rattle.user_agent.specs.Agent.{ClientsTakeTheirs, PairsStay};
+ghost use Rattle.user_agent.specs.Controls.{FreeLinesRead, FreeLinesStay};
 ghost use Rattle.user_agent.specs.SessionLines as spec;
 
 /// Whatever lines come, the rows are those after the client took the lines that it gets: of those that no rule refused,
@@ -12,6 +13,13 @@ pub fn clients_take_theirs()
 /// stay as they came.
 pub fn pairs_stay()
     ensures { PairsStay }
+{}
+
+/// Where no control character stands in a line, none does in what the client gets of it, whatever rules are on, and
+/// none in the name, the value and the path of the cookie that a line reads as.
+pub fn no_control_comes()
+    ensures stay { FreeLinesStay }
+    ensures read { FreeLinesRead }
 {}
 
 /// The line of a session's cookie from an https URL is refused by no rule, whatever rows there are, and the client gets

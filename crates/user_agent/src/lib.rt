@@ -7,6 +7,8 @@
 
 mod accepting;
 pub mod agent;
+mod changes;
+pub mod cross_site;
 pub mod cut_life;
 mod date_text;
 pub mod dates;
@@ -20,13 +22,16 @@ mod plain;
 pub mod rules;
 mod secure_places;
 mod secure_wins;
+pub mod sites;
 mod token;
 
 pub use accepting::{accept_line, accept_line_beside};
 pub use agent::UserAgent;
+pub use changes::{Changes, accept_line_told};
 pub use cut_life::with_cut_life;
 pub use known_date::with_known_date;
 pub use long_attributes::without_long_attributes;
 pub use plain::is_plain_url;
 pub use rules::{Outcome, Refusal, Rules};
 pub use secure_places::SecurePlaces;
+pub use sites::Initiator;

@@ -47,10 +47,14 @@ pub struct Rules {
     /// percent-decoded, is that of a `Secure` one among them; and [`Refusal::LacksSecure`] is a rule. No user agent has
     /// it. It rests on `secure_from_http`: without that a `Secure` row may come from anyone.
     pub secure_wins: bool,
+    /// To a request that a page of another site starts a cookie without `SameSite` is as one with `SameSite=Lax`
+    /// (sections 5.2 and 5.8.3). Some user agents have it. It shows where it is said what starts a request
+    /// ([`UserAgent::header_for`](crate::UserAgent::header_for)).
+    pub lax_by_default: bool,
 }
 
 impl Rules {
-    /// All rules of user agents, and so all but `secure_wins`.
+    /// The rules that all user agents have, and so all but `secure_wins` and `lax_by_default`.
     pub fn browser() -> Rules
         ensures { result ≡ spec.browser_rules }
     {
@@ -65,6 +69,7 @@ impl Rules {
             secure_from_http: true,
             secure_overlay: true,
             secure_wins: false,
+            lax_by_default: false,
         }
     }
 
@@ -83,6 +88,7 @@ impl Rules {
             secure_from_http: false,
             secure_overlay: false,
             secure_wins: false,
+            lax_by_default: false,
         }
     }
 

@@ -69,7 +69,7 @@ impl SecurePlaces {
             spec.ArePlacesOf places rules.now url.now (civil_nanos now) store.now.rows) }
     {
         // Fewer lines look at each row in less time than its name and its place are copied.
-        if lines < 8 || !rules.secure_from_http || !rules.secure_overlay || is_secure(url) {
+        if lines < 24 || !rules.secure_from_http || !rules.secure_overlay || is_secure(url) {
             return Ok(SecurePlaces::none());
         }
         let places = places_by_name(alloc, store, now)?;

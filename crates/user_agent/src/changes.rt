@@ -1,0 +1,219 @@
+//! Which rules change a line.
+ghost use Rattle.std.specs.Prelude.{◌≡◌, IfOk, IsTrue, None, OnErr, option_map, string_bytes};
+ghost use Rattle.std.specs.Str.{IsUtf8};
+ghost use Rattle.jiff.specs.Words.{civil_nanos};
+ghost use Rattle.user_agent.specs.Agent.{AsksForMemory, IsDoneIf, TakesLine, rewrites};
+ghost use Rattle.user_agent.specs.Changes as spec;
+ghost use Rattle.user_agent.specs.CutLives.{IsCutLine};
+ghost use Rattle.user_agent.specs.KnownDates.{IsKnownLine};
+ghost use Rattle.user_agent.specs.LongAttributes.{IsShortLine};
+ghost use Rattle.user_agent.specs.SecurePlaces.{ArePlacesOf};
+
+use crate::accepting::accept_handed;
+use crate::agent::{is_stopped, rewrites};
+use crate::cut_life::with_cut_life;
+use crate::known_date::with_known_date;
+use crate::left_alone::left_alone;
+use crate::long_attributes::without_long_attributes;
+use crate::rules::{Outcome, Refusal, Rules};
+use crate::secure_places::SecurePlaces;
+use cookie_store::CookieStore;
+use jiff::civil::DateTime;
+use std::alloc::{AllocError, Global};
+use url::Url;
+
+/// Which rules changed a line: those that made another text of the one that they were handed.
+#[derive(Clone, Copy, Debug, PartialEq, Eq)]
+pub struct Changes {
+    pub long_attributes: bool,
+    pub dates: bool,
+    pub long_lives: bool,
+}
+
+// What is made of a line.
+#[derive(Drop)]
+struct Made {
+    // Another text, or none where the line goes on as it came.
+    text: Option<String>,
+    changes: Changes,
+}
+
+impl Changes {
+    /// No rule.
+    pub fn none() -> Changes
+        ensures { result ≡ spec.no_changes }
+    {
+        Changes {
+            long_attributes: false,
+            dates: false,
+            long_lives: false,
+        }
+    }
+}
+
+/// The same as [`crate::accept_line_beside`], and which rules changed the line: none where a control character stops it
+/// first of all.
+///
+/// # Errors
+///
+/// Those of [`crate::accept_line`].
+pub fn accept_line_told(
+    alloc: Global,
+    store: &mut CookieStore,
+    rules: &Rules,
+    secure: &SecurePlaces,
+    url: &Url,
+    line: &[u8],
+    now: DateTime,
+) -> Result<(Outcome, Changes), AllocError>
+    requires { ArePlacesOf secure.now rules.now url.now (civil_nanos now) store.old.rows }
+    ensures ok { IfOk result (λ told. TakesLine rules.now store.old.suffixes store.old.rows url.now
+        (civil_nanos now) line.now told.0 store.new.rows) }
+    ensures changes { IfOk result (λ told. spec.AreChanges rules.now (civil_nanos now) line.now told.1) }
+    ensures err { OnErr result ((store.new.rows ≡ store.old.rows)
+        × AsksForMemory rules.now url.now line.now) }
+    ensures list { store.new.suffixes ≡ store.old.suffixes }
+    ensures places { ArePlacesOf secure.now rules.now url.now (civil_nanos now) store.new.rows }
+{
+    if is_stopped(rules, line) {
+        return Ok((Outcome::Refused(Refusal::Control), Changes::none()));
+    }
+    let made = made_of(alloc, rules, line, now)?;
+    let handed = left_of(&made.text, line);
+    let outcome = accept_handed(alloc, store, rules, secure, url, handed, now)?;
+    Ok((outcome, made.changes))
+}
+
+// What is made of a line that no control character stops.
+fn made_of(alloc: Global, rules: &Rules, line: &[u8], now: DateTime) -> Result<Made, AllocError>
+    ensures made { IfOk result (λ made. spec.IsMadeOf rules.now (civil_nanos now) line.now
+        (option_map string_bytes made.text) made.changes) }
+    ensures err { OnErr result (IsUtf8 line.now × IsTrue (rewrites rules.now)) }
+{
+    if !rewrites(rules) {
+        return Ok(as_it_came());
+    }
+    match str::from_utf8(line) {
+        Ok(text) => made_of_text(alloc, rules, text, now),
+        Err(_) => Ok(as_it_came()),
+    }
+}
+
+// The same of a text.
+fn made_of_text(alloc: Global, rules: &Rules, line: &str, now: DateTime) -> Result<Made, AllocError>
+    ensures { IfOk result (λ made. spec.AreChangesTo rules.now (civil_nanos now) line.now
+        (spec.left_of (option_map string_bytes made.text) line.now) made.changes) }
+{
+    let Some(brief) = left_alone(alloc, line, now)? else {
+        return made_by_all(alloc, rules, line, now);
+    };
+    if brief {
+        Ok(as_it_came())
+    } else {
+        made_by_the_last(alloc, rules, line, now)
+    }
+}
+
+// A line that no rule changes.
+fn as_it_came() -> Made
+    ensures { (option_map string_bytes result.text ≡ None) × (result.changes ≡ spec.no_changes) }
+{
+    Made {
+        text: None,
+        changes: Changes::none(),
+    }
+}
+
+// What the rules make of a text, one behind another.
+fn made_by_all(alloc: Global, rules: &Rules, line: &str, now: DateTime) -> Result<Made, AllocError>
+    ensures { IfOk result (λ made. spec.AreChangesTo rules.now (civil_nanos now) line.now
+        (spec.left_of (option_map string_bytes made.text) line.now) made.changes) }
+{
+    let short = shortened(alloc, rules, line)?;
+    let known = dated(alloc, rules, short.as_str())?;
+    let handed = cut(alloc, rules, known.as_str(), now)?;
+    Ok(Made {
+        changes: changes_in(line, short.as_str(), known.as_str(), handed.as_str()),
+        text: Some(handed),
+    })
+}
+
+// The rules that made another text, of the text as it came, short, known and cut.
+fn changes_in(line: &str, short: &str, known: &str, handed: &str) -> Changes
+    ensures { result ≡ spec.changes_in line.now short.now known.now handed.now }
+{
+    Changes {
+        long_attributes: line != short,
+        dates: short != known,
+        long_lives: known != handed,
+    }
+}
+
+// The same of a text that the first two leave as it is.
+fn made_by_the_last(
+    alloc: Global,
+    rules: &Rules,
+    line: &str,
+    now: DateTime,
+) -> Result<Made, AllocError>
+    ensures { IfOk result (λ made. IsDoneIf rules.now.long_lives (IsCutLine (civil_nanos now)) line.now
+        (spec.left_of (option_map string_bytes made.text) line.now)
+        × (made.changes ≡ spec.changes_in line.now line.now line.now
+        (spec.left_of (option_map string_bytes made.text) line.now))) }
+{
+    let handed = cut(alloc, rules, line, now)?;
+    let changes = Changes {
+        long_attributes: false,
+        dates: false,
+        long_lives: line != handed.as_str(),
+    };
+    Ok(Made {
+        text: Some(handed),
+        changes,
+    })
+}
+
+// The text that was made of the line, or the line.
+fn left_of<'a>(text: &'a Option<String>, line: &'a [u8]) -> &'a [u8]
+    ensures { result.now ≡ spec.left_of (option_map string_bytes text.now) line.now }
+{
+    match text {
+        Some(text) => text.as_bytes(),
+        None => line,
+    }
+}
+
+// The line without its long attributes, where that rule is on.
+fn shortened(alloc: Global, rules: &Rules, line: &str) -> Result<String, AllocError>
+    ensures { IfOk result (λ short.
+        IsDoneIf rules.now.long_attributes IsShortLine line.now (string_bytes short)) }
+{
+    if rules.long_attributes {
+        without_long_attributes(alloc, line)
+    } else {
+        String::from_str(alloc, line)
+    }
+}
+
+// The line with its dates known, where that rule is on.
+fn dated(alloc: Global, rules: &Rules, line: &str) -> Result<String, AllocError>
+    ensures { IfOk result (λ known. IsDoneIf rules.now.dates IsKnownLine line.now (string_bytes known)) }
+{
+    if rules.dates {
+        with_known_date(alloc, line)
+    } else {
+        String::from_str(alloc, line)
+    }
+}
+
+// The line with its life cut, where that rule is on.
+fn cut(alloc: Global, rules: &Rules, line: &str, now: DateTime) -> Result<String, AllocError>
+    ensures { IfOk result (λ cut.
+        IsDoneIf rules.now.long_lives (IsCutLine (civil_nanos now)) line.now (string_bytes cut)) }
+{
+    if rules.long_lives {
+        with_cut_life(alloc, line, now)
+    } else {
+        String::from_str(alloc, line)
+    }
+}

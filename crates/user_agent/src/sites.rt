@@ -1,0 +1,82 @@
+//! Sites, and which requests are cross-site (the draft that follows RFC 6265, version 15, section 5.2).
+ghost use Rattle.std.specs.Prelude.{◌≡◌, ◌↔◌, IsTrue};
+ghost use Rattle.publicsuffix.specs.Registrable.{GivesRegistrable};
+ghost use Rattle.user_agent.specs.Sites as spec;
+
+use cookie_store::CookieStore;
+use cookie_store::utils::is_host_name;
+use publicsuffix::laws::one_registrable_domain;
+use publicsuffix::registrable_without_list;
+use url::Url;
+
+/// Who starts a request, and how.
+///
+/// A redirect is of the request that it answers: what starts that starts each hop.
+#[derive(Clone, Copy, Debug)]
+pub struct Initiator<'p> {
+    /// The page that starts it, by the URL of the document at the top of its frames; `None` where the user does, as by
+    /// a typed URL or a bookmark. Where the frames above the one that starts it are not all of one site, any URL
+    /// without a host, as `data:,`: it is of no site.
+    pub page: Option<&'p Url>,
+    /// Whether it navigates the top level: what the user then looks at is what it gives.
+    pub is_navigation: bool,
+    /// Whether its method is safe, as `GET` and `HEAD` are (RFC 9110, section 9.2.1).
+    pub is_safe: bool,
+}
+
+/// Whether a page starts the request, and isn't of the site of its URL.
+///
+/// A site is a scheme and a registrable domain by the store's list of public suffixes; a host that is an address or a
+/// public suffix itself is its own. A URL without a host is of no site. It takes no memory.
+pub fn is_cross_site(store: &CookieStore, url: &Url, initiator: &Initiator<'_>) -> bool
+    ensures { IsTrue result ↔ spec.IsCrossSite store.now.suffixes url.now initiator.now }
+{
+    match initiator.page {
+        Some(page) => !are_same_site(store, page, url),
+        None => false,
+    }
+}
+
+// Whether the request navigates the top level by a safe method.
+pub(crate) fn is_safe_navigation(initiator: &Initiator<'_>) -> bool
+    ensures { result ≡ spec.is_safe_navigation initiator.now }
+{
+    initiator.is_navigation && initiator.is_safe
+}
+
+/// Whether both URLs are of one site.
+pub fn are_same_site(store: &CookieStore, one: &Url, other: &Url) -> bool
+    ensures { IsTrue result ↔ spec.AreSameSite store.now.suffixes one.now other.now }
+{
+    one_registrable_domain();
+    match (one.host_str(), other.host_str()) {
+        (Some(a), Some(b)) => {
+            one.scheme() == other.scheme() && site_domain(store, a) == site_domain(store, b)
+        }
+        _ => false,
+    }
+}
+
+// The domain of the host's site.
+fn site_domain<'h>(store: &CookieStore, host: &'h str) -> &'h [u8]
+    ensures { spec.IsSiteDomain store.now.suffixes host.now result.now }
+{
+    one_registrable_domain();
+    if !is_host_name(host) {
+        return host.as_bytes();
+    }
+    match registrable(store, host) {
+        Some(domain) => domain,
+        None => host.as_bytes(),
+    }
+}
+
+// The registrable domain of the host by the store's list.
+fn registrable<'h>(store: &CookieStore, host: &'h str) -> Option<&'h [u8]>
+    ensures { GivesRegistrable store.now.suffixes host.now result }
+{
+    match store.public_suffix_list() {
+        Some(list) => list.registrable(host.as_bytes()),
+        None => registrable_without_list(host.as_bytes()),
+    }
+}
