@@ -10,7 +10,7 @@ use Rattle.std.proofs.lemmas.Slice.Eq.{bytes_eq-Decides}
 use Rattle.cookie_text.specs.Again.{IsReadPair, Lacks}
 use Rattle.url.specs.Parts.{Parts}
 use Rattle.cookie_store.specs.Given.{IsGiven, pair_of}
-use Rattle.cookie_store.specs.Rows.{Row, Store}
+use Rattle.cookie_store.specs.Rows.{Row, Store, domain_text}
 use Rattle.cookie_run.specs.Header.{IsHeader, header_of}
 use Rattle.cookie_run.specs.HostPrefix.{AreHeldRightly}
 use Rattle.cookie_run.specs.Keeping.{HaveReadPairs}
@@ -126,7 +126,9 @@ join_clean (x ∷ xs) ys hx hy =
 
 pair_clean : (row : Row) → IsClean row → has_control (row.raw.cookie.name ++ 61 ∷ row.raw.cookie.value) ≡ false
 pair_clean row clean =
-    let both = or_parts (has_control row.raw.cookie.name) (has_control row.raw.cookie.value) clean in
+    let texts = or_parts (has_control row.raw.cookie.name || has_control row.raw.cookie.value)
+    (has_control (domain_text row) || has_control row.path.text) clean in
+    let both = or_parts (has_control row.raw.cookie.name) (has_control row.raw.cookie.value) texts.0 in
     join_clean row.raw.cookie.name (61 ∷ row.raw.cookie.value) both.0 both.1
 
 all_clean : (rows : List Row) → AllByRecursion IsClean rows → has_control (header_of (map pair_of rows)) ≡ false

@@ -12,7 +12,7 @@ use Rattle.store_parts.specs.PathMatch.{Path}
 use Rattle.cookie_store.specs.Given.{ArePicked}
 use Rattle.cookie_store.specs.Grouped.{AreGrouped, PartsStay}
 use Rattle.cookie_store.specs.Placing.{loaded_store}
-use Rattle.cookie_store.specs.Rows.{Row, Store, is_live, key_of, live}
+use Rattle.cookie_store.specs.Rows.{Key, Row, Store, domain_text, is_live, key_of, live}
 use Rattle.cookie_store.specs.SavedLaws.{JsonComesBack, JsonIsRead, RonComesBack, RonIsRead}
 use Rattle.cookie_store.specs.SavedRows.{IsReread}
 use Rattle.cookies_txt.specs.Laws.{WrittenRowsAreSaid, WrittenRowsComeBack}
@@ -61,15 +61,20 @@ same_in Txt r o h = record_of
     record_of : key_of o ≡ key_of r
     record_of = λ i. record { domain = domained i; path = pathed i; name = named i }
 
--- name and value are the same, so no control character and a pair that a text gives
-kept_by : (r o : Row) → o.raw.cookie.name ≡ r.raw.cookie.name → o.raw.cookie.value ≡ r.raw.cookie.value → IsKept r
-    → IsHeldRightly o → IsKept o
-kept_by r o name value kept held = record {
-  clean = (λ i. has_control (name i) || has_control (value i)) ∙ kept.clean;
-  pair = subst (λ n. IsReadPair n o.raw.cookie.value) (sym name)
-      (subst (IsReadPair r.raw.cookie.name) (sym value) kept.pair);
-  held = held;
-}
+-- key and value are the same, so no control character and a pair that a text gives
+kept_by : (r o : Row) → key_of o ≡ key_of r → o.raw.cookie.value ≡ r.raw.cookie.value → IsKept r → IsHeldRightly o
+    → IsKept o
+kept_by r o key value kept held =
+    let name : o.raw.cookie.name ≡ r.raw.cookie.name = ap (λ (k : Key). k.name) key in
+    let domain : domain_text o ≡ domain_text r = ap (λ (k : Key). k.domain) key in
+    let path : o.path.text ≡ r.path.text = ap (λ (k : Key). k.path) key in
+    record {
+      clean = (λ i. (has_control (name i) || has_control (value i)) || (has_control (domain i) || has_control (path i)))
+          ∙ kept.clean;
+      pair = subst (λ n. IsReadPair n o.raw.cookie.value) (sym name)
+          (subst (IsReadPair r.raw.cookie.name) (sym value) kept.pair);
+      held = held;
+    }
 
 module _ (law : PairsReadAgain) (bound : BoundReadAgain) where
   same_row : (r o : Row) → IsKept r → IsReread r o → IsRowKept r o
@@ -86,7 +91,7 @@ module _ (law : PairsReadAgain) (bound : BoundReadAgain) where
   reread_kept : (r o : Row) → IsKept r → IsReread r o → IsKept o
   reread_kept r o kept h =
       let same = same_row r o kept h in
-      kept_by r o same.name same.value kept (reread_held law bound r o kept.pair kept.held h)
+      kept_by r o (same_in Ron r o same) same.value kept (reread_held law bound r o kept.pair kept.held h)
 
   rereads_same : (rows others : List Row) → AreKept rows → Pairwise IsReread rows others
       → Pairwise IsRowKept rows others × AreKept others
@@ -122,7 +127,7 @@ through_kept : (r o : Row) → IsKept r → IsThroughCookiesTxt r o → IsKept o
 through_kept r o kept h =
     let name : o.raw.cookie.name ≡ r.raw.cookie.name = ap (λ (s : Seen). s.cookie.name) h.raw in
     let value : o.raw.cookie.value ≡ r.raw.cookie.value = ap (λ (s : Seen). s.cookie.value) h.raw in
-    kept_by r o name value kept
+    kept_by r o (same_in Txt r o h) value kept
     (λ begins. through_host r o (kept.held (subst BeginsHost name begins)) h)
 
 throughs_kept : (rows others : List Row) → AreKept rows → Pairwise IsThroughCookiesTxt rows others → AreKept others

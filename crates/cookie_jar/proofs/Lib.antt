@@ -1,4 +1,5 @@
 pub mod AskingLemmas
+mod ControlLemmas
 pub mod ExplainLemmas
 pub mod ImportLemmas
 pub mod KeepLemmas

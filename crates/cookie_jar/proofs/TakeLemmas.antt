@@ -1,28 +1,27 @@
 -- What a jar does with lines one after another.
-use Rattle.std.proofs.Common.{◌≡◌, ◌∙◌, ◌+◌, ◌<◌, ◌∷◌, [], ◌++◌, ℕ, ℤ, Bool, true, false, zero, suc, List, length}
+use Rattle.std.proofs.Common.{◌≡◌, ◌∙◌, ◌+◌, ◌<◌, ◌∷◌, [], ◌++◌, ℕ, ℤ, true, false, zero, suc, List, length}
 use Rattle.std.proofs.Common.{take, get_or, sym, refl, ap, subst, inl, inr, Result, Ok, Err, ⊎_elim, arith}
-use Rattle.std.specs.Prelude.{◌||◌, map, IfOk, IfErr}
+use Rattle.std.specs.Prelude.{map, IfOk, IfErr}
 use Rattle.std.specs.List.{AllByRecursion}
 use Rattle.std.specs.Str.{IsUtf8}
 use Rattle.std.proofs.lemmas.Bool.{cases_Bool}
 use Rattle.std.proofs.lemmas.List.{take_more, take-map, map-append, length-map}
 use Rattle.cookie_text.specs.Reading.{ReadsPlain}
-use Rattle.cookie_text.specs.Record.{Seen, unsliced}
+use Rattle.cookie_text.specs.Record.{Seen}
 use Rattle.cookie_text.specs.declared.error.ParseError.{ParseError}
 use Rattle.publicsuffix.specs.Rules.{Rule}
 use Rattle.store_parts.specs.declared.error.CookieError.{CookieError}
-use Rattle.url.specs.Parts.{Parts}
+use Rattle.url.specs.Parts.{IsValid, Parts}
 use Rattle.cookie_store.specs.Insertion.{InsertsRead}
-use Rattle.cookie_store.specs.Making.{IsMade}
 use Rattle.cookie_store.specs.Rows.{Row}
 use Rattle.cookie_store.specs.declared.action.StoreAction.{StoreAction}
-use Rattle.line_report.specs.Pair.{IsPairIn, IsPairOf}
 use Rattle.cookie_run.specs.Accept.{Accepts, AcceptsAll}
 use Rattle.cookie_run.specs.HostRows.{AnswersHoldRightly}
 use Rattle.cookie_run.specs.declared.step.LineEnd.{LineEnd}
 use Rattle.cookie_run.proofs.ClientRows.{received_pairs}
 use Rattle.cookie_run.proofs.FromLines.{inserts_from}
-use Rattle.user_agent.specs.Agent.{AsksForMemory, IsHandedOn, NoRulesAreTheClient, PairsStay, TakesLine as AgentTakes}
+use Rattle.user_agent.specs.Agent.{AsksForMemory, NoRulesAreTheClient, TakesLine as AgentTakes}
+use Rattle.user_agent.specs.Controls.{FreeLinesRead, FreeLinesStay}
 use Rattle.user_agent.specs.declared.rules.Outcome.{Outcome}
 use Rattle.user_agent.specs.declared.rules.Outcome.TheVariants.{Taken}
 use Rattle.user_agent.specs.declared.rules.Rules.{Rules}
@@ -32,6 +31,7 @@ use Rattle.cookie_jar.specs.Taking.{HasControl, IsStopped, StopsAt, TakesAll, Ta
 use Rattle.cookie_jar.specs.declared.form.Form.{Form}
 use Rattle.cookie_jar.specs.declared.taking.End.{End}
 use Rattle.cookie_jar.specs.declared.taking.End.TheVariants.{Line, Control, Tab}
+use Rattle.cookie_jar.proofs.ControlLemmas.{made_clean}
 use Rattle.cookie_jar.proofs.KeepLemmas.{clean_of, held_of, kept_from, pairs_of}
 
 -- ---- line by line
@@ -91,81 +91,57 @@ stopped_line f form rules list start mid new old url now xs i d h all same asks 
 
 -- ---- no row of a line has a control character
 
-clean_made : (line : List ℕ) (s : Seen) (url : Parts) (now : ℤ) (made : Row) → IsUtf8 line → ReadsPlain line (Ok s)
-    → (¬ (HasControl line)) → IsMade (unsliced s.cookie) url now made → IsClean made
-clean_made line s url now made utf8 reads free h =
-    let n = s.cookie.name in
-    let v = s.cookie.value in
-    let pair : IsPairOf line n v =
-    record {
-      is = (reads.name.0, subst (λ x. 0 < length x) reads.name.1 reads.name.2);
-      name_is = reads.name.1;
-      value_is = reads.value;
-    } in
-    subst (λ (raw : Seen). (has_control raw.cookie.name || has_control raw.cookie.value) ≡ false) (sym h.raw)
-    (⊎_elim
-    (λ (e : (has_control n || has_control v) ≡ true). absurd (free (utf8, (n, v, pair, e))))
-    (λ (e : (has_control n || has_control v) ≡ false). e)
-    (cases_Bool (has_control n || has_control v)))
+free_of : (line : List ℕ) → ¬ (HasControl line) → has_control line ≡ false
+free_of line none =
+    ⊎_elim (λ (e : has_control line ≡ true). absurd (none e)) (λ (e : has_control line ≡ false). e)
+    (cases_Bool (has_control line))
 
 same_clean : (rows new : List Row) → new ≡ rows → AllByRecursion IsClean rows → AllByRecursion IsClean new
 same_clean rows new is all = subst (AllByRecursion IsClean) (sym is) all
 
-read_clean : (list : List Rule) (url : Parts) (now : ℤ) (line : List ℕ) (rows : List Row)
-    (end : Result StoreAction CookieError) (new : List Row) (o : Result Seen ParseError) → IsUtf8 line
-    → ReadsPlain line o → (¬ (HasControl line)) → AllByRecursion IsClean rows
-    → InsertsRead list rows url now o (end, new) → AllByRecursion IsClean new
-read_clean list url now line rows end new (Err e) utf8 reads free all h = same_clean rows new (ap (λ p. p.1) h) all
-read_clean list url now line rows end new (Ok s) utf8 reads free all (inl wrong) =
-    same_clean rows new (ap (λ p. p.1) wrong.3) all
-read_clean list url now line rows end new (Ok s) utf8 reads free all (inr made) =
-    inserts_from IsClean (λ r h. h) (λ r h. h) list url now made.0 rows end new
-    (clean_made line s url now made.0 utf8 reads free made.1) all made.2
+module _ (read : FreeLinesRead) (list : List Rule) (url : Parts) (valid : IsValid url) (now : ℤ) (line : List ℕ)
+    (free : has_control line ≡ false) where
+  read_clean : (rows : List Row) (end : Result StoreAction CookieError) (new : List Row) (o : Result Seen ParseError)
+      → IsUtf8 line → ReadsPlain line o → AllByRecursion IsClean rows → InsertsRead list rows url now o (end, new)
+      → AllByRecursion IsClean new
+  read_clean rows end new (Err e) utf8 reads all h = same_clean rows new (ap (λ p. p.1) h) all
+  read_clean rows end new (Ok s) utf8 reads all (inl wrong) = same_clean rows new (ap (λ p. p.1) wrong.3) all
+  read_clean rows end new (Ok s) utf8 reads all (inr made) =
+      inserts_from IsClean (λ r h. h) (λ r h. h) list url now made.0 rows end new
+      (made_clean s url now made.0 valid (read line s free utf8 reads) made.1) all made.2
 
-accepts_clean : (list : List Rule) (url : Parts) (now : ℤ) (line : List ℕ) (rows : List Row) (end : LineEnd)
-    (new : List Row) → (¬ (HasControl line)) → AllByRecursion IsClean rows → Accepts list rows url now line end new
-    → AllByRecursion IsClean new
-accepts_clean list url now line rows end new free all (inl against) = same_clean rows new against.2 all
-accepts_clean list url now line rows end new free all (inr (other, inl wrong)) = same_clean rows new wrong.2 all
-accepts_clean list url now line rows end new free all (inr (other, inr right)) =
-    read_clean list url now line rows right.1.2.0 new right.1.0 right.0 right.1.1 free all right.1.2.1
-
--- ---- what a rule leaves of a line
-
--- a control character in the pair that is left stood in the pair that came
-control_came : (stay : PairsStay) (rules : Rules) (now : ℤ) (line handed : List ℕ) → IsHandedOn rules now line handed
-    → HasControl handed → HasControl line
-control_came stay rules now line handed (inl (utf8, text)) (left, (name, value, pair, has)) =
-    let same = stay rules now line handed (inl (utf8, text)) in
-    (utf8, (name, value, subst (λ piece. IsPairIn piece name value) same pair, has))
-control_came stay rules now line handed (inr (other, same)) has = subst HasControl same has
+  accepts_clean : (rows : List Row) (end : LineEnd) (new : List Row) → AllByRecursion IsClean rows
+      → Accepts list rows url now line end new → AllByRecursion IsClean new
+  accepts_clean rows end new all (inl against) = same_clean rows new against.2 all
+  accepts_clean rows end new all (inr (other, inl wrong)) = same_clean rows new wrong.2 all
+  accepts_clean rows end new all (inr (other, inr right)) =
+      read_clean rows right.1.2.0 new right.1.0 right.0 right.1.1 all right.1.2.1
 
 -- ---- the rows behind lines are kept
 
-accepts_kept : (law : AnswersHoldRightly) (list : List Rule) (url : Parts) (now : ℤ) (line : List ℕ) (rows : List Row)
-    (end : LineEnd) (new : List Row) → (¬ (HasControl line)) → AreKept rows → Accepts list rows url now line end new
-    → AreKept new
-accepts_kept law list url now line rows end new free kept accepts = kept_from new
-    (accepts_clean list url now line rows end new free (clean_of rows kept) accepts)
-    (received_pairs list url now (line ∷ []) rows (end ∷ []) new (pairs_of rows kept) (new, accepts, (refl, refl)))
-    (law list rows url now (line ∷ []) new (end ∷ [], (new, accepts, (refl, refl))) (held_of rows kept))
+module _ (law : AnswersHoldRightly) (stay : FreeLinesStay) (read : FreeLinesRead) (form : Form) (rules : Rules)
+    (list : List Rule) (url : Parts) (valid : IsValid url) (now : ℤ) where
+  accepts_kept : (line : List ℕ) (rows : List Row) (end : LineEnd) (new : List Row) → has_control line ≡ false
+      → AreKept rows → Accepts list rows url now line end new → AreKept new
+  accepts_kept line rows end new free kept accepts = kept_from new
+      (accepts_clean read list url valid now line free rows end new (clean_of rows kept) accepts)
+      (received_pairs list url now (line ∷ []) rows (end ∷ []) new (pairs_of rows kept) (new, accepts, (refl, refl)))
+      (law list rows url now (line ∷ []) new (end ∷ [], (new, accepts, (refl, refl))) (held_of rows kept))
 
-module _ (law : AnswersHoldRightly) (stay : PairsStay) (form : Form) (rules : Rules) (list : List Rule) (url : Parts)
-    (now : ℤ) where
-  agent_kept : (line : List ℕ) (rows : List Row) (outcome : Outcome) (new : List Row) → (¬ (HasControl line))
+  agent_kept : (line : List ℕ) (rows : List Row) (outcome : Outcome) (new : List Row) → has_control line ≡ false
       → AreKept rows → AgentTakes rules list rows url now line outcome new → AreKept new
   agent_kept line rows outcome new free kept (inl (stopped, is, same)) = subst AreKept (sym same) kept
   agent_kept line rows outcome new free kept (inr (passed, (handed, is, inl (rule, refused, told, same)))) =
       subst AreKept (sym same) kept
   agent_kept line rows outcome new free kept (inr (passed, (handed, is, inr (let_in, (end, accepts, told))))) =
-      accepts_kept law list url now handed rows end new
-      (λ has. free (control_came stay rules now line handed is has)) kept accepts
+      accepts_kept handed rows end new (stay rules now line handed free is) kept accepts
 
   line_kept : (line : List ℕ) (rows : List Row) (end : End) (new : List Row) → AreKept rows
       → TakesLine form rules list rows url now line end new → AreKept new
   line_kept line rows Control new kept takes = subst AreKept (sym takes.1) kept
   line_kept line rows Tab new kept takes = subst AreKept (sym takes.2) kept
-  line_kept line rows (Line outcome) new kept takes = agent_kept line rows outcome new takes.0 kept takes.2
+  line_kept line rows (Line outcome changes) new kept takes =
+      agent_kept line rows outcome new (free_of line takes.0) kept takes.2
 
   all_kept : (lines : List (List ℕ)) (rows : List Row) (ends : List End) (new : List Row) → AreKept rows
       → TakesAll form rules list rows url now lines ends new → AreKept new
@@ -195,6 +171,6 @@ one_end list rows new url now line outcome (end ∷ ends) same (mid, accepts, re
     (end, first, subst (Accepts list rows url now line end) (sym rest.1) accepts)
 
 pub without_rules : NoRulesAreTheClient → WithoutRules
-without_rules law form list rows url now line outcome new takes =
+without_rules law form list rows url now line outcome changes new takes =
     let (ends, same, all) = law list rows url now (line ∷ []) (outcome ∷ []) new (new, takes.2, (refl, refl)) in
     one_end list rows new url now line outcome ends same all

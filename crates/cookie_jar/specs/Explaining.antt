@@ -116,7 +116,7 @@ outcome_rule (outcome.Refused rule) = refusal_rule rule
 
 -- by which rule it became so
 abbrev pub rule_text : End → List ℕ
-rule_text (Line outcome) = outcome_rule outcome
+rule_text (Line outcome changes) = outcome_rule outcome
 rule_text Control = codes " (draft-ietf-httpbis-rfc6265bis, section 5.6, step 1)\n"
 rule_text Tab = codes " (a rule of this jar: cookies.txt parts its fields by tabs)\n"
 
@@ -168,13 +168,13 @@ IsSent url now line rows text =
 
 -- where it is put among the rows, they are these
 abbrev pub SentAs : Parts → ℤ → List ℕ → End → List Row → List ℕ → Type 0
-SentAs url now line (Line (outcome.Taken (Stored Inserted))) rows text = IsSent url now line rows text
-SentAs url now line (Line (outcome.Taken (Stored UpdatedExisting))) rows text = IsSent url now line rows text
-SentAs url now line (Line (outcome.Taken (Stored ExpiredExisting))) rows text = text ≡ []
-SentAs url now line (Line (outcome.Taken (Refused cause))) rows text = text ≡ []
-SentAs url now line (Line (outcome.Taken NotText)) rows text = text ≡ []
-SentAs url now line (Line (outcome.Taken HostPrefix)) rows text = text ≡ []
-SentAs url now line (Line (outcome.Refused rule)) rows text = text ≡ []
+SentAs url now line (Line (outcome.Taken (Stored Inserted)) changes) rows text = IsSent url now line rows text
+SentAs url now line (Line (outcome.Taken (Stored UpdatedExisting)) changes) rows text = IsSent url now line rows text
+SentAs url now line (Line (outcome.Taken (Stored ExpiredExisting)) changes) rows text = text ≡ []
+SentAs url now line (Line (outcome.Taken (Refused cause)) changes) rows text = text ≡ []
+SentAs url now line (Line (outcome.Taken NotText) changes) rows text = text ≡ []
+SentAs url now line (Line (outcome.Taken HostPrefix) changes) rows text = text ≡ []
+SentAs url now line (Line (outcome.Refused rule) changes) rows text = text ≡ []
 SentAs url now line Control rows text = text ≡ []
 SentAs url now line Tab rows text = text ≡ []
 

@@ -1,5 +1,5 @@
 -- What an import takes of the lines of a `cookies.txt`, each read by itself (this repository's own).
-use Rattle.std.specs.Prelude.{◌≡◌, ◌||◌, ◌+◌, ◌++◌, ℕ, ℤ, Bool, true, false, not, List, [], ◌∷◌, length, map}
+use Rattle.std.specs.Prelude.{◌≡◌, ◌+◌, ◌++◌, ℕ, ℤ, Bool, true, false, not, List, [], ◌∷◌, length, map}
 use Rattle.std.specs.Prelude.{Option, Some, None, Result, Ok, Err, ⊤, codes, filter}
 use Rattle.std.specs.Prelude.{if◌then◌else◌}
 use Rattle.std.specs.Fmt.{decimal}
@@ -13,7 +13,7 @@ use Rattle.cookies_txt.specs.declared.error.LineFault.TheVariants.{NotText, Fiel
 use Rattle.cookies_txt.specs.declared.error.LineFault.TheVariants.{Number, EmptyName, Domain}
 use Rattle.cookies_txt.specs.declared.error.RowFault.{RowFault}
 use Rattle.cookies_txt.specs.declared.error.RowFault.TheVariants as row
-use Rattle.cookie_jar.specs.Keeping.{IsTaken, fault_in, has_control, is_read_pair}
+use Rattle.cookie_jar.specs.Keeping.{IsTaken, fault_in, have_control, is_read_pair}
 use Rattle.cookie_jar.specs.declared.form.Form.{Form}
 use Rattle.cookie_jar.specs.declared.importing.Cause.{Cause}
 use Rattle.cookie_jar.specs.declared.importing.Cause.TheVariants.{Faulty, Control, Pair, Unfit, HostPrefix}
@@ -54,7 +54,7 @@ unfit_or_host (Some fault) = Unfit fault
 -- why a row isn't taken into a jar that is saved in this form: the first of these
 abbrev pub refusal_of : Form → Row → Cause
 refusal_of form row =
-    if has_control row.raw.cookie.name || has_control row.raw.cookie.value then Control
+    if have_control row then Control
     else if is_read_pair row.raw.cookie.name row.raw.cookie.value then unfit_or_host (fault_in form row)
     else Pair
 

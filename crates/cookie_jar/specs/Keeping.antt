@@ -3,7 +3,7 @@ use Rattle.std.specs.Prelude.{◌≡◌, ◌==◌, ◌||◌, ◌&&◌, ℕ, Bool
 use Rattle.std.specs.List.{AllByRecursion, list_any}
 use Rattle.std.specs.Str.{bytes_eq, trim}
 use Rattle.cookie_text.specs.Pieces.{equals, semicolon}
-use Rattle.cookie_store.specs.Rows.{Row}
+use Rattle.cookie_store.specs.Rows.{Row, domain_text}
 use Rattle.cookie_run.specs.HostPrefix.{IsHeldRightly}
 use Rattle.cookie_run.specs.Keeping.{HasReadPair}
 use Rattle.cookies_txt.specs.Layout.{tab}
@@ -21,9 +21,15 @@ is_control b = (nat_lt b 32 && not (b == tab)) || b == 127
 abbrev pub has_control : List ℕ → Bool
 has_control text = list_any is_control text
 
--- neither the name nor the value has one
+-- one of the row's texts has one: its name, its value, its domain or its path
+abbrev pub have_control : Row → Bool
+have_control row =
+    (has_control row.raw.cookie.name || has_control row.raw.cookie.value)
+    || (has_control (domain_text row) || has_control row.path.text)
+
+-- none of them has one
 abbrev pub IsClean : Row → Type 0
-IsClean row = (has_control row.raw.cookie.name || has_control row.raw.cookie.value) ≡ false
+IsClean row = have_control row ≡ false
 
 -- ---- names and values that a text gives
 
@@ -47,8 +53,8 @@ is_read_pair name value = is_name name && is_whole value
 
 -- ---- the rows of a jar
 
--- no control character in name or value, both as the printed text of the cookie gives them again, and the prefix
--- `__Host-` obeyed
+-- no control character in name, value, domain or path; name and value as the printed text of the cookie gives them
+-- again; and the prefix `__Host-` obeyed
 pub record IsKept (row : Row) : Type 0 where
   pub clean : IsClean row
   pub pair : HasReadPair row

@@ -12,6 +12,7 @@ use Rattle.cookie_run.specs.Accept.{Accepts}
 use Rattle.cookie_run.specs.KeptKeys.{IsRowKept}
 use Rattle.cookie_run.specs.declared.step.LineEnd.{LineEnd}
 use Rattle.user_agent.specs.Refusals.{no_rules}
+use Rattle.user_agent.specs.declared.changes.Changes.{Changes}
 use Rattle.user_agent.specs.declared.rules.Outcome.{Outcome}
 use Rattle.user_agent.specs.declared.rules.Outcome.TheVariants.{Taken}
 use Rattle.cookie_jar.specs.Keeping.{AreKept, IsKept}
@@ -52,5 +53,5 @@ SavedTextsAreRead =
 abbrev pub WithoutRules : Type 0
 WithoutRules =
     (form : Form) (list : List Rule) (rows : List Row) (url : Parts) (now : ℤ) (line : List ℕ) (outcome : Outcome)
-    (new : List Row) → TakesLine form no_rules list rows url now line (Line outcome) new
+    (changes : Changes) (new : List Row) → TakesLine form no_rules list rows url now line (Line outcome changes) new
     → (end : LineEnd) × (outcome ≡ Taken end) × Accepts list rows url now line end new

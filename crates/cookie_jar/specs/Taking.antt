@@ -2,13 +2,12 @@
 use Rattle.std.specs.Prelude.{◌≡◌, ◌==◌, ◌⊎◌, ◌+◌, ◌<◌, ◌||◌, ◌&&◌, ℕ, ℤ, Bool, true, false, List, [], ◌∷◌}
 use Rattle.std.specs.Prelude.{length, take, get_or}
 use Rattle.std.specs.List.{list_any}
-use Rattle.std.specs.Str.{IsUtf8}
 use Rattle.publicsuffix.specs.Rules.{Rule}
 use Rattle.url.specs.Parts.{Parts}
 use Rattle.cookie_store.specs.Rows.{Row}
 use Rattle.cookies_txt.specs.Layout.{tab}
-use Rattle.line_report.specs.Pair.{IsPairOf}
 use Rattle.user_agent.specs.Agent.{AsksForMemory, TakesLine as AgentTakes}
+use Rattle.user_agent.specs.Changes.{AreChanges}
 use Rattle.user_agent.specs.declared.rules.Rules.{Rules}
 use Rattle.cookie_jar.specs.Keeping.{has_control}
 use Rattle.cookie_jar.specs.declared.form.Form.{Form}
@@ -16,11 +15,9 @@ use Rattle.cookie_jar.specs.declared.form.Form.TheVariants.{Ron, Json, Txt}
 use Rattle.cookie_jar.specs.declared.taking.End.{End}
 use Rattle.cookie_jar.specs.declared.taking.End.TheVariants.{Line, Control, Tab}
 
--- the line is a text that begins with a pair, of which the name or the value has a control character
+-- a control character stands in the line, wherever that is
 abbrev pub HasControl : List ℕ → Type 0
-HasControl line =
-    IsUtf8 line
-    × ((name value : List ℕ) × IsPairOf line name value × ((has_control name || has_control value) ≡ true))
+HasControl line = has_control line ≡ true
 
 -- a line of `cookies.txt` parts its fields by tabs
 abbrev pub parts_by_tabs : Form → Bool
@@ -31,16 +28,16 @@ parts_by_tabs Txt = true
 abbrev pub has_tab : List ℕ → Bool
 has_tab line = list_any (λ b. b == tab) line
 
--- What becomes of a line from the URL at the moment in a jar of this form: a control character in name or value, and
--- then a tab where the form's lines are parted by tabs, has it refused, and nothing changes; any other goes as a user
--- agent of these rules takes it.
+-- What becomes of a line from the URL at the moment in a jar of this form: a control character, and then a tab where
+-- the form's lines are parted by tabs, has it refused, and nothing changes; any other goes as a user agent of these
+-- rules takes it, and those of them that change it are told.
 abbrev pub TakesLine : Form → Rules → List Rule → List Row → Parts → ℤ → List ℕ → End → List Row → Type 0
 TakesLine form rules list rows url now line Control new = HasControl line × (new ≡ rows)
 TakesLine form rules list rows url now line Tab new =
     (¬ (HasControl line)) × ((parts_by_tabs form && has_tab line) ≡ true) × (new ≡ rows)
-TakesLine form rules list rows url now line (Line outcome) new =
+TakesLine form rules list rows url now line (Line outcome changes) new =
     (¬ (HasControl line)) × ((parts_by_tabs form && has_tab line) ≡ false)
-    × AgentTakes rules list rows url now line outcome new
+    × AgentTakes rules list rows url now line outcome new × AreChanges rules now line changes
 
 -- what becomes of each of the lines, and the rows after them
 abbrev pub TakesAll : Form → Rules → List Rule → List Row → Parts → ℤ → List (List ℕ) → List End → List Row → Type 0

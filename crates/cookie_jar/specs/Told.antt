@@ -1,5 +1,6 @@
 -- What is printed of a header and of lines that were received (this repository's own).
-use Rattle.std.specs.Prelude.{◌==◌, ◌||◌, ◌++◌, ℕ, Bool, List, [], ◌∷◌, codes, length, nat_lt, if◌then◌else◌}
+use Rattle.std.specs.Prelude.{◌==◌, ◌||◌, ◌++◌, ℕ, Bool, true, false, List, [], ◌∷◌, codes, length, nat_lt}
+use Rattle.std.specs.Prelude.{if◌then◌else◌}
 use Rattle.std.specs.List.{flat_map}
 use Rattle.percent_encoding.specs.Percent.{percent_encode_byte}
 use Rattle.cookie_store.specs.declared.action.StoreAction.{StoreAction}
@@ -8,6 +9,7 @@ use Rattle.store_parts.specs.declared.error.CookieError.{CookieError}
 use Rattle.store_parts.specs.declared.error.CookieError.TheVariants as cause
 use Rattle.cookie_run.specs.declared.step.LineEnd.{LineEnd}
 use Rattle.cookie_run.specs.declared.step.LineEnd.TheVariants.{Stored, Refused, NotText, HostPrefix}
+use Rattle.user_agent.specs.declared.changes.Changes.{Changes}
 use Rattle.user_agent.specs.declared.rules.Outcome.{Outcome}
 use Rattle.user_agent.specs.declared.rules.Outcome.TheVariants as outcome
 use Rattle.user_agent.specs.declared.rules.Refusal.{Refusal}
@@ -70,13 +72,32 @@ outcome_text (outcome.Refused rule) = refusal_text rule
 
 -- what became of a line
 abbrev pub end_text : End → List ℕ
-end_text (Line outcome) = outcome_text outcome
+end_text (Line outcome changes) = outcome_text outcome
 end_text Control = codes "refused: control character"
 end_text Tab = codes "refused: tab"
 
--- what became of it and the line, parted by a tab
+-- the rules that changed a line, by their names: that on long attributes, that on dates, and that on long lives
+abbrev pub names_text : Bool → Bool → Bool → List ℕ
+names_text false false false = []
+names_text true false false = codes " (long-attributes)"
+names_text false true false = codes " (dates)"
+names_text false false true = codes " (long-lives)"
+names_text true true false = codes " (long-attributes, dates)"
+names_text true false true = codes " (long-attributes, long-lives)"
+names_text false true true = codes " (dates, long-lives)"
+names_text true true true = codes " (long-attributes, dates, long-lives)"
+
+abbrev pub changes_text : Changes → List ℕ
+changes_text changes = names_text changes.long_attributes changes.dates changes.long_lives
+
+abbrev pub rules_text : End → List ℕ
+rules_text (Line outcome changes) = changes_text changes
+rules_text Control = []
+rules_text Tab = []
+
+-- what became of it, the rules that changed it, and the line as it came, behind a tab
 abbrev pub told_line : List ℕ → End → List ℕ
-told_line line end = end_text end ++ (9 ∷ [] ++ (shown line ++ 10 ∷ []))
+told_line line end = end_text end ++ (rules_text end ++ (9 ∷ [] ++ (shown line ++ 10 ∷ [])))
 
 -- each line so
 abbrev pub told_lines : List (List ℕ) → List End → List ℕ
@@ -86,10 +107,10 @@ told_lines (line ∷ lines) (end ∷ ends) = told_line line end ++ told_lines li
 
 -- the line wasn't stored
 abbrev pub is_refused : End → Bool
-is_refused (Line (outcome.Taken (Stored action))) = Rattle.std.specs.Prelude.false
-is_refused (Line (outcome.Taken (Refused cause))) = Rattle.std.specs.Prelude.true
-is_refused (Line (outcome.Taken NotText)) = Rattle.std.specs.Prelude.true
-is_refused (Line (outcome.Taken HostPrefix)) = Rattle.std.specs.Prelude.true
-is_refused (Line (outcome.Refused rule)) = Rattle.std.specs.Prelude.true
-is_refused Control = Rattle.std.specs.Prelude.true
-is_refused Tab = Rattle.std.specs.Prelude.true
+is_refused (Line (outcome.Taken (Stored action)) changes) = false
+is_refused (Line (outcome.Taken (Refused cause)) changes) = true
+is_refused (Line (outcome.Taken NotText) changes) = true
+is_refused (Line (outcome.Taken HostPrefix) changes) = true
+is_refused (Line (outcome.Refused rule) changes) = true
+is_refused Control = true
+is_refused Tab = true

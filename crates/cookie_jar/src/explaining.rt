@@ -172,7 +172,7 @@ fn rule_text(end: End) -> &'static str
     ensures { result.now ≡ spec.rule_text end }
 {
     match end {
-        End::Line(outcome) => outcome_rule(outcome),
+        End::Line(outcome, _) => outcome_rule(outcome),
         End::Control => " (draft-ietf-httpbis-rfc6265bis, section 5.6, step 1)\n",
         End::Tab => " (a rule of this jar: cookies.txt parts its fields by tabs)\n",
     }
@@ -258,6 +258,7 @@ fn push_sent(
     match end {
         End::Line(
             Outcome::Taken(LineEnd::Stored(StoreAction::Inserted | StoreAction::UpdatedExisting)),
+            _,
         ) => push_row(alloc, text, store, url, line, now),
         _ => Ok(()),
     }

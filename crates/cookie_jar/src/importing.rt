@@ -12,7 +12,7 @@ ghost use Rattle.cookie_jar.specs.Keeping.{IsTaken};
 
 use crate::form::Form;
 use crate::jar::with_rows;
-use crate::keeping::{fault_in, has_control, is_read_pair, is_taken};
+use crate::keeping::{fault_in, have_control, is_read_pair, is_taken};
 use crate::reading::placed;
 use cookie_store::{Cookie, CookieStore};
 use cookies_txt::{Entry, LineFault, RowFault, read_entries};
@@ -24,7 +24,8 @@ use std::alloc::{AllocError, Global};
 pub enum Cause {
     /// It has this fault.
     Faulty(LineFault),
-    /// A control character, which is a byte below 32 but the tab, or 127, stands in the name or the value.
+    /// A control character, which is a byte below 32 but the tab, or 127, stands in the name, the value, the domain or
+    /// the path.
     Control,
     /// No text gives a cookie of this name and this value.
     Pair,
@@ -160,7 +161,7 @@ pub(crate) fn refusal_of(form: Form, cookie: &Cookie<'static>) -> Cause
     ensures { result ≡ spec.refusal_of form (stored_of cookie.now) }
 {
     let (name, value) = cookie.raw().name_value();
-    if has_control(name) || has_control(value) {
+    if have_control(cookie) {
         Cause::Control
     } else if is_read_pair(name, value) {
         unfit_or_host(fault_in(form, cookie))

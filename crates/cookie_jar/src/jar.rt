@@ -48,14 +48,14 @@ use std::alloc::{AllocError, Global};
 use std::marker::Model;
 use url::Url;
 use user_agent::Rules;
-use user_agent::laws::pairs_stay;
+use user_agent::laws::no_control_comes;
 
 /// A jar, which contracts see as its store: the rows in their order, and the list of public suffixes.
 ///
-/// It enforces the prefix `__Host-` as a [`cookie_run::Client`] does. Names and values of its rows have no control
-/// character, and are as a text gives them: so its texts are read again as these rows
-/// ([`crate::laws::saved_rows_are_loaded`]). Unlike a client, it keeps cookies without an expiry where it is saved and
-/// loaded again, as curl does.
+/// It enforces the prefix `__Host-` as a [`cookie_run::Client`] does. No control character stands in the names, values,
+/// domains and paths of its rows, and names and values are as a text gives them: so its texts are read again as these
+/// rows ([`crate::laws::saved_rows_are_loaded`]). Unlike a client, it keeps cookies without an expiry where it is saved
+/// and loaded again, as curl does.
 #[derive(Drop, Debug)]
 pub struct Jar {
     alloc: Global,
@@ -97,8 +97,9 @@ impl Jar {
     }
 
     /// The jar of a text, without the rows that are expired at `now`, and then without those that a jar doesn't keep:
-    /// of a name or a value with a control character, or that no text gives, or against the prefix `__Host-`. Of two
-    /// rows with one key the later replaces the earlier in its place. No row is judged by the list of public suffixes.
+    /// with a control character in name, value, domain or path, of a name or a value that no text gives, or against the
+    /// prefix `__Host-`. Of two rows with one key the later replaces the earlier in its place. No row is judged by the
+    /// list of public suffixes.
     ///
     /// # Errors
     ///
@@ -220,9 +221,9 @@ impl Jar {
 
     /// Puts the rows of a text of this form behind its own, as if all were of one text: without those that are expired
     /// at `now`, and of two with one key the later in the place of the earlier. Those that a jar doesn't keep are left
-    /// out before, and told: of a name or a value with a control character, or that no text gives, or against the
-    /// prefix `__Host-`. So are those that `held`, the form in which the jar is to be saved, can't hold. No row is
-    /// judged by the list of public suffixes.
+    /// out before, and told: with a control character in name, value, domain or path, of a name or a value that no
+    /// text gives, or against the prefix `__Host-`. So are those that `held`, the form in which the jar is to be saved,
+    /// can't hold. No row is judged by the list of public suffixes.
     ///
     /// # Errors
     ///
@@ -285,8 +286,8 @@ impl Jar {
 
     /// Takes the `Set-Cookie` lines of an answer from this URL at `now`, one after another, and says what became of
     /// each, as [`user_agent::UserAgent::receive`] does behind these rules. Before them a line with a control character
-    /// in its name or its value is refused, and one with a tab where the jar is to be saved as `cookies.txt`. Without a
-    /// rule any other line is taken as a client takes it ([`crate::laws::no_rules_are_a_client`]).
+    /// is refused, and one with a tab where the jar is to be saved as `cookies.txt`. Without a rule any other line is
+    /// taken as a client takes it ([`crate::laws::no_rules_are_a_client`]).
     ///
     /// # Errors
     ///
@@ -308,7 +309,9 @@ impl Jar {
         ensures kept { AreKept self.new.rows }
     {
         host_rows_are_held_rightly();
-        pairs_stay();
+        no_control_comes();
+        // A URL that was parsed is valid, whatever is done with it.
+        let _path = url.path();
         take_all(self.alloc, &mut self.store, form, rules, url, lines, now)
     }
 

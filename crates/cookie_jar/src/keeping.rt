@@ -14,13 +14,13 @@ use cookies_txt::{RowFault, row_fault};
 use jiff::civil::DateTime;
 use std::alloc::{AllocError, Global};
 
-/// Whether a jar keeps the cookie: no control character stands in its name or its value, both are as the printed text
-/// of the cookie gives them again, and it obeys the prefix `__Host-`.
+/// Whether a jar keeps the cookie: no control character stands in its name, its value, its domain or its path, name and
+/// value are as the printed text of the cookie gives them again, and it obeys the prefix `__Host-`.
 pub(crate) fn is_kept(cookie: &Cookie<'static>) -> bool
     ensures { IsTrue result ↔ spec.IsKept (stored_of cookie.now) }
 {
     let (name, value) = cookie.raw().name_value();
-    !(has_control(name) || has_control(value)) && is_read_pair(name, value) && is_held(cookie)
+    !have_control(cookie) && is_read_pair(name, value) && is_held(cookie)
 }
 
 /// Whether an import takes the cookie into a jar that is saved in this form: the jar keeps it, and the form can hold
@@ -44,13 +44,21 @@ pub(crate) fn fault_in(form: Form, cookie: &Cookie<'static>) -> Option<RowFault>
     }
 }
 
+/// Whether a control character stands in one of the cookie's texts: its name, its value, its domain or its path.
+pub(crate) fn have_control(cookie: &Cookie<'static>) -> bool
+    ensures { result ≡ spec.have_control (stored_of cookie.now) }
+{
+    let (name, value) = cookie.raw().name_value();
+    let domain = cookie.domain.as_cow().unwrap_or("");
+    (has_control(name.as_bytes()) || has_control(value.as_bytes()))
+        || (has_control(domain.as_bytes()) || has_control(cookie.path.as_str().as_bytes()))
+}
+
 /// Whether a control character stands in the text: a byte below 32 but the tab, or 127.
-pub(crate) fn has_control(text: &str) -> bool
+pub(crate) fn has_control(text: &[u8]) -> bool
     ensures { result ≡ spec.has_control text.now }
 {
-    text.as_bytes()
-        .iter()
-        .any(|b| (*b < 32 && *b != b'\t') || *b == 127)
+    text.iter().any(|b| (*b < 32 && *b != b'\t') || *b == 127)
 }
 
 // Whether what is printed of the name and the value reads as these again.

@@ -1,10 +1,8 @@
 //! The `Set-Cookie` lines of an answer, taken into the rows of a jar.
-ghost use Rattle.std.specs.Prelude.{◌≡◌, ◌↔◌, ◌||◌, IfOk, IfErr, OnErr, IsTrue, map, true};
+ghost use Rattle.std.specs.Prelude.{◌≡◌, IfOk, IfErr, OnErr, map};
 ghost use Rattle.jiff.specs.Words.{civil_nanos};
-ghost use Rattle.line_report.specs.Pair.{IsPairOf};
 ghost use Rattle.user_agent.specs.Agent.{AsksForMemory};
 ghost use Rattle.user_agent.specs.SecurePlaces.{ArePlacesOf};
-ghost use Rattle.cookie_jar.specs.Keeping as kept;
 ghost use Rattle.cookie_jar.specs.Taking as spec;
 
 use crate::form::Form;
@@ -12,18 +10,16 @@ use crate::keeping::has_control;
 use cookie_run::Stopped;
 use cookie_store::CookieStore;
 use jiff::civil::DateTime;
-use line_report::pair;
 use std::alloc::{AllocError, Global};
 use url::Url;
-use user_agent::{Outcome, Rules, SecurePlaces, accept_line_beside};
+use user_agent::{Changes, Outcome, Rules, SecurePlaces, accept_line_told};
 
 /// What became of a line in a jar.
 #[derive(Clone, Copy, Debug, PartialEq, Eq)]
 pub enum End {
-    /// It went as a user agent takes it.
-    Line(Outcome),
-    /// A control character, which is a byte below 32 but the tab, or 127, stands in its name or its value. Nothing
-    /// changed.
+    /// It went as a user agent takes it, behind the changes of these rules.
+    Line(Outcome, Changes),
+    /// A control character, which is a byte below 32 but the tab, or 127, stands in it. Nothing changed.
     Control,
     /// A tab stands in it, and the jar is to be saved as `cookies.txt`, which parts its fields by tabs. Nothing
     /// changed.
@@ -114,35 +110,15 @@ pub(crate) fn take_line(
     ensures list { store.new.suffixes ≡ store.old.suffixes }
     ensures places { ArePlacesOf secure.now rules.now url.now (civil_nanos now) store.new.rows }
 {
-    if has_control_pair(line) {
+    if has_control(line) {
         return Ok(End::Control);
     }
     if parts_by_tabs(form) && has_tab(line) {
         return Ok(End::Tab);
     }
-    match accept_line_beside(alloc, store, rules, secure, url, line, now) {
-        Ok(outcome) => Ok(End::Line(outcome)),
+    match accept_line_told(alloc, store, rules, secure, url, line, now) {
+        Ok((outcome, changes)) => Ok(End::Line(outcome, changes)),
         Err(refused) => Err(refused),
-    }
-}
-
-// Whether a control character stands in the name or the value of the line.
-fn has_control_pair(line: &[u8]) -> bool
-    ensures { IsTrue result ↔ spec.HasControl line.now }
-{
-    match str::from_utf8(line) {
-        Ok(text) => has_control_text(text),
-        Err(_) => false,
-    }
-}
-
-fn has_control_text(line: &str) -> bool
-    ensures { IsTrue result ↔ ((name : _) × (value : _) × IsPairOf line.now name value
-        × ((kept.has_control name || kept.has_control value) ≡ true)) }
-{
-    match pair(line) {
-        Ok((name, value)) => has_control(name) || has_control(value),
-        Err(_) => false,
     }
 }
 

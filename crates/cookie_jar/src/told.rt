@@ -7,7 +7,7 @@ use cookie_run::LineEnd;
 use cookie_store::{CookieError, StoreAction};
 use percent_encoding::{AsciiSet, CONTROLS, ascii_set, percent_encode};
 use std::alloc::{AllocError, Global};
-use user_agent::{Outcome, Refusal};
+use user_agent::{Changes, Outcome, Refusal};
 
 /// The bytes that are escaped in what is printed: all but printable ASCII, and `%`.
 pub(crate) const HIDDEN: AsciiSet = ascii_set!(CONTROLS.add(b'%'));
@@ -29,8 +29,9 @@ pub fn header_line(alloc: Global, header: &str) -> Result<String, AllocError>
     Ok(line)
 }
 
-/// A line for each of the lines that were received, as long as there are ends: what became of it, a tab, and the line,
-/// of which each byte that isn't printable ASCII, and `%`, stands as `%` and two digits.
+/// A line for each of the lines that were received, as long as there are ends: what became of it, the rules that
+/// changed it, a tab, and the line as it came, of which each byte that isn't printable ASCII, and `%`, stands as `%`
+/// and two digits.
 ///
 /// # Errors
 ///
@@ -55,7 +56,7 @@ pub fn told_lines(alloc: Global, lines: &[&[u8]], ends: &[End]) -> Result<String
 pub fn is_refused(end: End) -> bool
     ensures { result ≡ spec.is_refused end }
 {
-    !matches!(end, End::Line(Outcome::Taken(LineEnd::Stored(_))))
+    !matches!(end, End::Line(Outcome::Taken(LineEnd::Stored(_)), _))
 }
 
 fn push_told(text: &mut String, line: &[u8], end: End) -> Result<(), AllocError>
@@ -63,6 +64,7 @@ fn push_told(text: &mut String, line: &[u8], end: End) -> Result<(), AllocError>
         ≡ string_bytes text.old ++ spec.told_line line.now end) }
 {
     text.push_str(end_text(end))?;
+    text.push_str(rules_text(end))?;
     text.push_str("\t")?;
     push_shown(text, line)?;
     text.push_str("\n")
@@ -78,9 +80,34 @@ pub(crate) fn end_text(end: End) -> &'static str
     ensures { result.now ≡ spec.end_text end }
 {
     match end {
-        End::Line(outcome) => outcome_text(outcome),
+        End::Line(outcome, _) => outcome_text(outcome),
         End::Control => "refused: control character",
         End::Tab => "refused: tab",
+    }
+}
+
+// The rules that changed a line of this end.
+fn rules_text(end: End) -> &'static str
+    ensures { result.now ≡ spec.rules_text end }
+{
+    match end {
+        End::Line(_, changes) => changes_text(changes),
+        End::Control | End::Tab => "",
+    }
+}
+
+fn changes_text(changes: Changes) -> &'static str
+    ensures { result.now ≡ spec.changes_text changes }
+{
+    match (changes.long_attributes, changes.dates, changes.long_lives) {
+        (false, false, false) => "",
+        (true, false, false) => " (long-attributes)",
+        (false, true, false) => " (dates)",
+        (false, false, true) => " (long-lives)",
+        (true, true, false) => " (long-attributes, dates)",
+        (true, false, true) => " (long-attributes, long-lives)",
+        (false, true, true) => " (dates, long-lives)",
+        (true, true, true) => " (long-attributes, dates, long-lives)",
     }
 }
 

@@ -1,13 +1,13 @@
 -- What the lines of a text give where each is read by itself: a row, its domain in IDNA form (RFC 6265, 5.1.2), or a
 -- fault (this repository's own).
-use Rattle.std.specs.Prelude.{◌≡◌, ◌==◌, ◌+◌, ◌++◌, ℕ, List, [], ◌∷◌, drop, map, Option, Some, None}
-use Rattle.std.specs.Prelude.{Result, Ok, Err, MatchOption, MatchResult, if◌then◌else◌}
+use Rattle.std.specs.Prelude.{◌≡◌, ◌==◌, ◌+◌, ◌++◌, ℕ, Bool, List, [], ◌∷◌, drop, map, Option, Some, None}
+use Rattle.std.specs.Prelude.{Result, Ok, Err, MatchOption, MatchResult, if◌then◌else◌, slice_index}
 use Rattle.std.specs.List.{starts_with}
 use Rattle.std.specs.Result.{result_map_both}
 use Rattle.std.specs.Str.{is_utf8}
 use Rattle.std.specs.Str.Lines.{lines}
 use Rattle.cookie_text.specs.ReadingBack.{Pairwise}
-use Rattle.store_parts.specs.DomainMatch.{Domain, host_only, suffix, not_present, empty}
+use Rattle.store_parts.specs.DomainMatch.{Domain, dot, host_only, suffix, not_present, empty}
 use Rattle.store_parts.specs.DomainText.{read_domain}
 use Rattle.cookie_store.specs.Rows.{Row}
 use Rattle.cookie_store.specs.StoredCookie.{stored_of}
@@ -28,8 +28,15 @@ in_idna line (Some (host_only text)) = Err NoDomain
 in_idna line (Some not_present) = Err NoDomain
 in_idna line (Some empty) = Err NoDomain
 
+abbrev pub begins_with_dot : List ℕ → Bool
+begins_with_dot text = slice_index text 0 == dot
+
+-- so; a domain that still begins with a dot, where one was left out in front, has no such form
+abbrev pub said_in_idna : CookieLine → Result (Option CookieLine) LineFault
+said_in_idna line = if begins_with_dot line.domain then Err NoDomain else in_idna line (read_domain line.domain)
+
 abbrev pub with_idna : Result (Option CookieLine) LineFault → Result (Option CookieLine) LineFault
-with_idna (Ok (Some line)) = in_idna line (read_domain line.domain)
+with_idna (Ok (Some line)) = said_in_idna line
 with_idna (Ok None) = Ok None
 with_idna (Err fault) = Err fault
 
@@ -97,5 +104,5 @@ AnswersLine line answered = AnswersGiven (given_by line) answered
 abbrev pub AnswersSaid : CookieLine → Result Row LineFault → Type 0
 AnswersSaid said answer =
     MatchResult answer
-    (λ row. (whole : CookieLine) × (in_idna said (read_domain said.domain) ≡ Ok (Some whole)) × IsRowOf whole row)
-    (λ fault. in_idna said (read_domain said.domain) ≡ Err fault)
+    (λ row. (whole : CookieLine) × (said_in_idna said ≡ Ok (Some whole)) × IsRowOf whole row)
+    (λ fault. said_in_idna said ≡ Err fault)

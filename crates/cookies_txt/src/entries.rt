@@ -28,8 +28,8 @@ pub struct Entry {
 
 /// Reads each line of a text by itself, as [`crate::read`] does: one entry for each that isn't passed over, in their
 /// order. A line that isn't UTF-8 is faulty, unless it is passed over. A row's domain is put into its IDNA form (RFC
-/// 6265, section 5.1.2): in small letters, and without white space at its ends. A byte order mark in front of the text
-/// is left out.
+/// 6265, section 5.1.2): in small letters, and without white space at its ends; one that has a dot in front besides the
+/// one that is left out has none. A byte order mark in front of the text is left out.
 ///
 /// # Errors
 ///
@@ -95,6 +95,9 @@ fn row_in_idna(
     ensures { IfOk result (λ answer. spec.AnswersSaid (said_of line.entry)
         (result_map_both stored_of (λ fault. fault) answer)) }
 {
+    if begins_with_dot(line.domain) {
+        return Ok(Err(LineFault::Domain));
+    }
     match CookieDomain::from_text(alloc, line.domain) {
         Ok(CookieDomain::Suffix(domain)) => {
             let domain = domain.as_str();
@@ -103,4 +106,10 @@ fn row_in_idna(
         Err(Error::OutOfMemory) => Err(AllocError),
         Ok(_) | Err(_) => Ok(Err(LineFault::Domain)),
     }
+}
+
+fn begins_with_dot(text: &str) -> bool
+    ensures { result ≡ spec.begins_with_dot text.now }
+{
+    matches!(text.as_bytes(), [b'.', ..])
 }

@@ -62,7 +62,7 @@ pub enum LineFault {
     /// The name is empty.
     #[error("EmptyName")]
     EmptyName,
-    /// The domain has no IDNA form. Only [`crate::read_entries`] tells it.
+    /// The domain has no IDNA form, or a second dot in front. Only [`crate::read_entries`] tells it.
     #[error("Domain")]
     Domain,
 }

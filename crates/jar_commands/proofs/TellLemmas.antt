@@ -3,6 +3,12 @@ use Rattle.std.proofs.Common.{◌≡◌, ℕ, Bool, true, false, List, Option, S
 use Rattle.std.specs.Prelude.{IfSome, if◌then◌else◌}
 use Rattle.std.specs.Bool.{MatchBool}
 use Rattle.jar_commands.specs.Instead.{IsInstead}
+use Rattle.jar_commands.specs.Places.{IsDetailIn, IsDetailOfList}
+use Rattle.jar_commands.specs.Plans.{PlanText}
+use Rattle.jar_commands.specs.declared.about.Detail.{Detail}
+use Rattle.jar_commands.specs.declared.about.Detail.TheVariants.{Cause, NotText, Place, Rule}
+use Rattle.jar_commands.specs.declared.failure.Failure.{Failure}
+use Rattle.jar_commands.specs.declared.failure.Failure.TheVariants.{SuffixList}
 
 -- a text to ask instead, where it is to be told
 pub tells_instead : {S : Type 0} (f : S → List ℕ) (b : Bool) (url : Option (List ℕ)) (instead told : Option S)
@@ -24,3 +30,13 @@ tells_about f instead (Some told) list Counts Is counts about =
 pub tells_none : {S : Type 0} (f : S → List ℕ) (about : Option S) (P : List ℕ → Type 0) → about ≡ None
     → IfSome (option_map f about) P
 tells_none f about P same = subst (λ a. IfSome (option_map f a) P) (sym same) tt
+
+-- why a text is no suffix list, where that is the failure
+pub tells_list : (told : Option Detail) (plan : PlanText) (suffixes : List ℕ) (stored brought : Option (List ℕ))
+    (failure : Failure) → failure ≡ SuffixList → IfSome told (IsDetailOfList suffixes)
+    → IfSome told (IsDetailIn plan suffixes stored brought failure)
+tells_list None plan suffixes stored brought failure is h = tt
+tells_list (Some (Rule number)) plan suffixes stored brought failure is h = (is, h)
+tells_list (Some NotText) plan suffixes stored brought failure is h = (is, h)
+tells_list (Some (Place place)) plan suffixes stored brought failure is h = absurd h
+tells_list (Some (Cause cause)) plan suffixes stored brought failure is h = absurd h

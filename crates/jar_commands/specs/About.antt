@@ -1,6 +1,7 @@
 -- What a refusal is about, told behind its words (this repository's own).
 use Rattle.std.specs.Prelude.{◌≡◌, ◌⊎◌, ◌++◌, ℕ, Bool, true, false, List, [], Option, Some, None, Result, Ok, Err}
 use Rattle.std.specs.Prelude.{IfSome, codes, if◌then◌else◌, option_map}
+use Rattle.std.specs.Fmt.{decimal}
 use Rattle.cookie_jar.specs.Places.{place_text}
 use Rattle.cookie_jar.specs.Terminal.{shown_text}
 use Rattle.cookie_jar.specs.declared.place.Place.{Place}
@@ -95,13 +96,30 @@ is_of_text failure.JarText = true
 is_of_text failure.FileText = true
 is_of_text other = false
 
--- Behind the name may stand the system's cause, where it refused the file, or where the text stops to be read, where it
--- isn't one of the form. Which these are, no public contract sees, as none sees what files hold.
+-- a text is no suffix list
+abbrev pub is_of_list : Failure → Bool
+is_of_list failure.SuffixList = true
+is_of_list other = false
+
+-- by this line, which is no rule, or since it isn't UTF-8
+abbrev pub IsListDetail : List ℕ → Type 0
+IsListDetail detail =
+    ((number : ℕ) × (detail ≡ codes ": line " ++ (decimal number ++ codes ": no rule")))
+    ⊎ (detail ≡ codes ": not UTF-8")
+
+-- Behind the name may stand the system's cause, where it refused the file, where the text stops to be read, where it
+-- isn't one of the form, or why it is no suffix list. Which these are, no public contract sees, as none sees what files
+-- hold.
 abbrev pub IsDetail : Failure → List ℕ → Type 0
 IsDetail failure detail =
     (detail ≡ [])
     ⊎ (((is_of_system failure ≡ true) × ((words : List ℕ) × (detail ≡ codes ": " ++ words)))
-    ⊎ ((is_of_text failure ≡ true) × ((place : Place) × (detail ≡ codes ": " ++ place_text place))))
+    ⊎ (((is_of_text failure ≡ true) × ((place : Place) × (detail ≡ codes ": " ++ place_text place)))
+    ⊎ ((is_of_list failure ≡ true) × IsListDetail detail)))
+
+-- a text with it behind
+abbrev pub TellsDetail : Failure → List ℕ → List ℕ → Type 0
+TellsDetail failure old new = (detail : List ℕ) × IsDetail failure detail × (new ≡ old ++ detail)
 
 -- so, and the detail behind it
 abbrev pub IsOf : Command → Failure → List ℕ → List ℕ → Type 0

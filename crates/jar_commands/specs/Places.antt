@@ -1,5 +1,7 @@
 -- Where the text stops that a failure tells of. No public contract names a word of this file.
-use Rattle.std.specs.Prelude.{ℕ, List, Option, Some, IsSomeAnd}
+use Rattle.std.specs.Prelude.{◌≡◌, ℕ, List, Option, Some, IsSomeAnd}
+use Rattle.std.specs.Str.{IsUtf8}
+use Rattle.publicsuffix.specs.Rules.{HasFirstFault}
 use Rattle.cookie_jar.specs.Places.{StopsAt}
 use Rattle.cookie_jar.specs.declared.form.Form.{Form}
 use Rattle.cookie_jar.specs.declared.place.Place.{Place}
@@ -7,7 +9,7 @@ use Rattle.jar_commands.specs.Plans.{PlanText}
 use Rattle.jar_commands.specs.declared.about.Detail.{Detail}
 use Rattle.jar_commands.specs.declared.about.Detail.TheVariants as detail
 use Rattle.jar_commands.specs.declared.failure.Failure.{Failure}
-use Rattle.jar_commands.specs.declared.failure.Failure.TheVariants.{FileText, JarText}
+use Rattle.jar_commands.specs.declared.failure.Failure.TheVariants.{FileText, JarText, SuffixList}
 use Rattle.jar_commands.specs.declared.plan.Task.{Task}
 use Rattle.jar_commands.specs.declared.plan.Task.TheVariants.{Import}
 
@@ -26,7 +28,18 @@ IsPlaceIn plan stored brought JarText place = IsPlaceOf plan.form stored place
 IsPlaceIn plan stored brought FileText place = IsPlaceOfTask plan.task brought place
 IsPlaceIn plan stored brought other place = ⊥
 
--- this is what is told of the texts
-abbrev pub IsDetailIn : PlanText → Option (List ℕ) → Option (List ℕ) → Failure → Detail → Type 0
-IsDetailIn plan stored brought failure (detail.Place place) = IsPlaceIn plan stored brought failure place
-IsDetailIn plan stored brought failure (detail.Cause cause) = ⊥
+-- why a text is no suffix list: its first line that is no rule, or it isn't UTF-8
+abbrev pub IsDetailOfList : List ℕ → Detail → Type 0
+IsDetailOfList suffixes (detail.Rule number) = HasFirstFault suffixes number
+IsDetailOfList suffixes detail.NotText = ¬ (IsUtf8 suffixes)
+IsDetailOfList suffixes (detail.Place place) = ⊥
+IsDetailOfList suffixes (detail.Cause cause) = ⊥
+
+-- this is what is told of the texts, of which the first is no suffix list, or another stops to be read
+abbrev pub IsDetailIn : PlanText → List ℕ → Option (List ℕ) → Option (List ℕ) → Failure → Detail → Type 0
+IsDetailIn plan suffixes stored brought failure (detail.Place place) = IsPlaceIn plan stored brought failure place
+IsDetailIn plan suffixes stored brought failure (detail.Rule number) =
+    (failure ≡ SuffixList) × IsDetailOfList suffixes (detail.Rule number)
+IsDetailIn plan suffixes stored brought failure detail.NotText =
+    (failure ≡ SuffixList) × IsDetailOfList suffixes detail.NotText
+IsDetailIn plan suffixes stored brought failure (detail.Cause cause) = ⊥

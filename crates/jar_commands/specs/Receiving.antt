@@ -5,7 +5,10 @@ use Rattle.std.specs.List.{list_any}
 use Rattle.publicsuffix.specs.Rules.{Rule}
 use Rattle.response_heads.specs.Visits.{GivesVisits, IsVisitRefusal, VisitText, set_cookie_lines}
 use Rattle.response_heads.specs.declared.error.LineFault.{LineFault}
+use Rattle.response_heads.specs.declared.error.LocationFault.{LocationFault}
+use Rattle.response_heads.specs.declared.error.LocationFault.TheVariants.{NotPlain, Several, Empty, Folded, NoField}
 use Rattle.response_heads.specs.declared.error.ReadError.TheVariants.{Line}
+use Rattle.response_heads.specs.declared.redirects.Lost.{Lost}
 use Rattle.url.specs.Parts.{Parts}
 use Rattle.cookie_store.specs.Rows.{Row, Store}
 use Rattle.cookie_jar.specs.Taking.{TakesAll}
@@ -37,15 +40,23 @@ TakesVisits is_verbose form rules list rows now (visit ∷ visits) told refused 
     × (told ≡ visit_told is_verbose visit ends ++ rest)
     × (refused ≡ (is_any_refused ends || others))
 
--- what is told of the heads that are left out, behind the head of this line
-abbrev pub lost_line : Option ℕ → List ℕ
+-- why a line leads to no URL, and what is left out for that
+abbrev pub location_words : LocationFault → List ℕ
+location_words NotPlain = codes "refused: no plain Location\theads behind line "
+location_words Several = codes "refused: more than one Location\theads behind line "
+location_words Empty = codes "refused: empty Location\theads behind line "
+location_words Folded = codes "refused: folded line of a redirection\theads behind line "
+location_words NoField = codes "refused: Location that is no field line\theads behind line "
+
+-- what is told of the heads that are left out, behind this line
+abbrev pub lost_line : Option Lost → List ℕ
 lost_line None = []
-lost_line (Some line) = codes "refused: no plain Location\theads behind that of line " ++ (decimal line ++ 10 ∷ [])
+lost_line (Some lost) = location_words lost.fault ++ (decimal lost.line ++ 10 ∷ [])
 
 -- So it is with the heads of a text, the first of which this URL answered; to leave heads out is to refuse lines.
 abbrev pub TakesHeads : Bool → Form → Rules → Store → ℤ → Parts → List ℕ → List ℕ → Bool → List Row → Type 0
 TakesHeads is_verbose form rules jar now url text told refused new =
-    (visits : List VisitText) × (lost : Option ℕ) × (front : List ℕ) × (others : Bool)
+    (visits : List VisitText) × (lost : Option Lost) × (front : List ℕ) × (others : Bool)
     × GivesVisits url text visits lost
     × TakesVisits is_verbose form rules jar.suffixes jar.rows now visits front others new
     × (told ≡ front ++ lost_line lost) × (refused ≡ (others || is_some lost))

@@ -1,5 +1,5 @@
 //! What a refusal is about.
-ghost use Rattle.std.specs.Prelude.{◌≡◌, ◌⊎◌, ◌++◌, ℕ, List, IfOk, IfSome, OnOk, option_map, string_bytes};
+ghost use Rattle.std.specs.Prelude.{◌≡◌, ◌⊎◌, IfOk, IfSome, OnOk, option_map, string_bytes};
 ghost use Rattle.std.specs.Option.{option_copied};
 ghost use Rattle.jar_commands.specs.About as spec;
 ghost use Rattle.jar_commands.specs.Places as places;
@@ -15,6 +15,7 @@ use cookie_jar::{Place, shown_text};
 use jar_words::{Asked, Command};
 use kept_file::files::Unread;
 use kept_file::{Untaken, Unwritten};
+use publicsuffix::{List, ListError};
 use std::alloc::{AllocError, Global};
 
 // What is told where a file isn't there that has to be.
@@ -36,6 +37,10 @@ pub(crate) enum Detail {
     Cause(&'static str),
     /// Where its text stops to be read.
     Place(Place),
+    /// The number of the line, counted from 1, by which its text is no suffix list.
+    Rule(usize),
+    /// Its bytes aren't UTF-8, and so no suffix list.
+    NotText,
 }
 
 impl Stopped {
@@ -59,18 +64,27 @@ impl Stopped {
         }
     }
 
-    /// Texts give nothing: with where the one that isn't read stops, unless memory is refused for that.
+    /// Texts give nothing: with why the first is no suffix list, or where the one that isn't read stops, unless memory
+    /// is refused for that.
+    #[tactic(auto, using(crate::proofs::TellLemmas::tells_list))]
     pub(crate) fn in_texts(
         alloc: Global,
         plan: &Plan<'_>,
+        suffixes: &[u8],
         stored: Option<&[u8]>,
         brought: Option<&[u8]>,
         failure: Failure,
     ) -> Stopped
         ensures failure { result.failure ≡ failure }
-        ensures detail { IfSome result.detail (places.IsDetailIn (plan_text plan.now) (option_copied stored.entry)
-            (option_copied brought.entry) failure) }
+        ensures detail { IfSome result.detail (places.IsDetailIn (plan_text plan.now) suffixes.now
+            (option_copied stored.entry) (option_copied brought.entry) failure) }
     {
+        if let Failure::SuffixList = failure {
+            return Stopped {
+                failure,
+                detail: list_detail(alloc, suffixes),
+            };
+        }
         Stopped {
             failure,
             detail: match place_in(alloc, plan, stored, brought, failure) {
@@ -111,6 +125,17 @@ impl Stopped {
             Untaken::Failed(cause) => Stopped::by(Failure::JarFile, cause),
             Untaken::Memory => Stopped::of(Failure::Memory),
         }
+    }
+}
+
+// Why a text is no suffix list.
+fn list_detail(alloc: Global, text: &[u8]) -> Option<Detail>
+    ensures { IfSome result (places.IsDetailOfList text.now) }
+{
+    match List::parse(alloc, text) {
+        Err(ListError::Rule(number)) => Some(Detail::Rule(number)),
+        Err(ListError::NotText) => Some(Detail::NotText),
+        Ok(_) | Err(ListError::OutOfMemory) => None,
     }
 }
 
@@ -258,12 +283,15 @@ fn file_ending(is_for_reader: bool) -> &'static str
 
 // The cause for which the system refused a file, or where its text stops to be read.
 fn push_detail(told: &mut String, stopped: Stopped) -> Result<(), AllocError>
-    ensures { OnOk result ((detail : List ℕ) × spec.IsDetail stopped.failure detail
-        × (string_bytes told.new ≡ string_bytes told.old ++ detail)) }
+    ensures { OnOk result (spec.TellsDetail stopped.failure (string_bytes told.old) (string_bytes told.new)) }
 {
     match stopped.detail {
         Some(Detail::Cause(cause)) if is_of_system(stopped.failure) => write!(told, ": {cause}"),
         Some(Detail::Place(place)) if is_of_text(stopped.failure) => write!(told, ": {place}"),
+        Some(Detail::Rule(number)) if is_of_list(stopped.failure) => {
+            write!(told, ": line {number}: no rule")
+        }
+        Some(Detail::NotText) if is_of_list(stopped.failure) => told.push_str(": not UTF-8"),
         _ => Ok(()),
     }
 }
@@ -283,4 +311,11 @@ fn is_of_text(failure: Failure) -> bool
     ensures { result ≡ spec.is_of_text failure }
 {
     matches!(failure, Failure::JarText | Failure::FileText)
+}
+
+// The text is no suffix list.
+fn is_of_list(failure: Failure) -> bool
+    ensures { result ≡ spec.is_of_list failure }
+{
+    matches!(failure, Failure::SuffixList)
 }

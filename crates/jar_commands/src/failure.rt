@@ -77,7 +77,7 @@ impl Failure {
             Failure::SuffixList => "suffix list",
             Failure::JarText => "jar text",
             Failure::Input => "input",
-            Failure::Heads(_) => "heads",
+            Failure::Heads(_) => "heads: no status line",
             Failure::FileText => "file text",
             Failure::FileLine(_, cause) => line_words(cause),
             Failure::JarRow => "jar row",

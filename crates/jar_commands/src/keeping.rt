@@ -93,7 +93,7 @@ fn answer_placed(
 {
     match answer_texts(alloc, plan, suffixes, stored, brought) {
         Ok(outcome) => Ok(outcome),
-        Err(failure) => Err(Stopped::in_texts(alloc, plan, stored, brought, failure)),
+        Err(failure) => Err(Stopped::in_texts(alloc, plan, suffixes, stored, brought, failure)),
     }
 }
 

@@ -18,7 +18,7 @@ use crate::passed_over::push_passed_over;
 use crate::plan::Plan;
 use cookie_jar::{End, Form, Jar, is_refused, told_lines};
 use jiff::civil::DateTime;
-use response_heads::{ReadError, Visit, Visited, visits};
+use response_heads::{LocationFault, Lost, ReadError, Visit, Visited, visits};
 use std::alloc::{AllocError, Global};
 use url::Url;
 
@@ -109,21 +109,35 @@ fn visits_of<'a>(alloc: Global, url: &Url, text: &'a [u8]) -> Result<Visited<'a>
 }
 
 // What is told where heads are left out, behind what was told.
-fn with_lost(alloc: Global, received: Received, lost: Option<usize>) -> Result<Received, AllocError>
+fn with_lost(alloc: Global, received: Received, lost: Option<Lost>) -> Result<Received, AllocError>
     ensures { IfOk result (λ more.
         (string_bytes more.told ≡ string_bytes received.told ++ spec.lost_line lost)
         × (more.is_any_refused ≡ (received.is_any_refused || is_some lost))) }
 {
-    let Some(line) = lost else {
+    let Some(Lost { line, fault }) = lost else {
         return Ok(received);
     };
     let mut told = received.told;
-    let more = format!(in alloc; "refused: no plain Location\theads behind that of line {line}\n")?;
+    let words = location_words(fault);
+    let more = format!(in alloc; "{words}{line}\n")?;
     told.push_str(more.as_str())?;
     Ok(Received {
         told,
         is_any_refused: true,
     })
+}
+
+// Why a line leads to no URL, and what is left out for that.
+fn location_words(fault: LocationFault) -> &'static str
+    ensures { result.now ≡ spec.location_words fault }
+{
+    match fault {
+        LocationFault::NotPlain => "refused: no plain Location\theads behind line ",
+        LocationFault::Several => "refused: more than one Location\theads behind line ",
+        LocationFault::Empty => "refused: empty Location\theads behind line ",
+        LocationFault::Folded => "refused: folded line of a redirection\theads behind line ",
+        LocationFault::NoField => "refused: Location that is no field line\theads behind line ",
+    }
 }
 
 // Takes the lines of each visit, one after another.

@@ -83,6 +83,7 @@ fn rules_with(names: &[&[u8]]) -> Rules
         secure_from_http: has(names, "secure-from-http"),
         secure_overlay: has(names, "secure-overlay"),
         secure_wins: false,
+        lax_by_default: false,
     }
 }
 

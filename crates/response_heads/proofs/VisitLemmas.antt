@@ -7,13 +7,14 @@ use Rattle.response_heads.specs.Heads.{HeadText}
 use Rattle.response_heads.specs.Read.{is_success}
 use Rattle.response_heads.specs.Visits.{LeadsTo, VisitText, Walks, visit_of, visit_text}
 use Rattle.response_heads.specs.declared.error.LineFault.{LineFault}
+use Rattle.response_heads.specs.declared.redirects.Lost.{Lost}
 use Rattle.response_heads.specs.declared.redirects.Visit.{Visit}
 
 -- What the heads that are left give is what all give behind the visits so far.
-abbrev pub WalksOn : Parts → List HeadText → Option (ℕ × LineFault) → Result Parts ℕ → Bool → List HeadText
+abbrev pub WalksOn : Parts → List HeadText → Option (ℕ × LineFault) → Result Parts Lost → Bool → List HeadText
     → List VisitText → Type 0
 WalksOn url heads stop here is_behind_success left visits =
-    (rest : List VisitText) (lost : Option ℕ) → Walks here is_behind_success left stop rest lost
+    (rest : List VisitText) (lost : Option Lost) → Walks here is_behind_success left stop rest lost
     → Walks (Ok url) false heads stop (visits ++ rest) lost
 
 pub begins : (url : Parts) (heads : List HeadText) (stop : Option (ℕ × LineFault))
@@ -21,7 +22,7 @@ pub begins : (url : Parts) (heads : List HeadText) (stop : Option (ℕ × LineFa
 begins url heads stop = λ rest lost walks. walks
 
 pub goes_on : (url : Parts) (heads : List HeadText) (stop : Option (ℕ × LineFault)) (here : Parts)
-    (is_behind_success : Bool) (head : HeadText) (left : List HeadText) (next : Result Parts ℕ) (visits : List Visit)
+    (is_behind_success : Bool) (head : HeadText) (left : List HeadText) (next : Result Parts Lost) (visits : List Visit)
     (visit : Visit) (pushed : List Visit)
     → WalksOn url heads stop (Ok here) is_behind_success (head ∷ left) (map visit_text visits)
     → LeadsTo here head next → visit_text visit ≡ visit_of here is_behind_success head left stop
@@ -37,22 +38,22 @@ goes_on url heads stop here is_behind_success head left next visits visit pushed
     (far (made ∷ rest) lost (next, rest, leads, walks, refl))
 
 -- no head is left, or none knows where the next one was answered
-pub ends : (url : Parts) (heads : List HeadText) (stop : Option (ℕ × LineFault)) (here : Result Parts ℕ)
+pub ends : (url : Parts) (heads : List HeadText) (stop : Option (ℕ × LineFault)) (here : Result Parts Lost)
     (is_behind_success : Bool) (visits : List VisitText) → WalksOn url heads stop here is_behind_success [] visits
     → Walks (Ok url) false heads stop visits None
 ends url heads stop here is_behind_success visits far =
     subst (λ vs. Walks (Ok url) false heads stop vs None) (append-nil visits) (far [] None (none here))
   where
-    none : (here : Result Parts ℕ) → Walks here is_behind_success [] stop [] None
+    none : (here : Result Parts Lost) → Walks here is_behind_success [] stop [] None
     none (Ok url) = (refl, refl)
-    none (Err line) = (refl, refl)
+    none (Err by) = (refl, refl)
 
-pub leaves_out : (url : Parts) (heads : List HeadText) (stop : Option (ℕ × LineFault)) (line : ℕ)
+pub leaves_out : (url : Parts) (heads : List HeadText) (stop : Option (ℕ × LineFault)) (by : Lost)
     (is_behind_success : Bool) (head : HeadText) (left : List HeadText) (visits : List VisitText)
-    → WalksOn url heads stop (Err line) is_behind_success (head ∷ left) visits
-    → Walks (Ok url) false heads stop visits (Some line)
-leaves_out url heads stop line is_behind_success head left visits far =
-    subst (λ vs. Walks (Ok url) false heads stop vs (Some line)) (append-nil visits) (far [] (Some line) (refl, refl))
+    → WalksOn url heads stop (Err by) is_behind_success (head ∷ left) visits
+    → Walks (Ok url) false heads stop visits (Some by)
+leaves_out url heads stop by is_behind_success head left visits far =
+    subst (λ vs. Walks (Ok url) false heads stop vs (Some by)) (append-nil visits) (far [] (Some by) (refl, refl))
 
 pub none_left : {A : Type 0} (xs : List A) → length xs ≡ 0 → xs ≡ []
 none_left [] none = refl

@@ -1,6 +1,6 @@
 -- What a caller reads in a head: the fields of a name, and where it leads (RFC 9110, sections 5.1, 10.2.2 and 15.4).
-use Rattle.std.specs.Prelude.{◌&&◌, ◌||◌, ◌==◌, ◌++◌, ℕ, Bool, not, List, [], ◌∷◌, Option, Some, None, codes, filter}
-use Rattle.std.specs.Prelude.{map}
+use Rattle.std.specs.Prelude.{◌&&◌, ◌||◌, ◌==◌, ◌+◌, ◌++◌, ℕ, Bool, not, List, [], ◌∷◌, Option, Some, None, codes}
+use Rattle.std.specs.Prelude.{filter, map}
 use Rattle.std.specs.Prelude.{nat_le, nat_lt, slice_index, take, if◌then◌else◌}
 use Rattle.url.specs.Input.{is_empty}
 use Rattle.std.specs.Char.{to_ascii_lowercase}
@@ -12,6 +12,7 @@ use Rattle.response_heads.specs.declared.error.LineFault.{LineFault}
 use Rattle.response_heads.specs.declared.error.LineFault.TheVariants.{Unended}
 use Rattle.response_heads.specs.declared.head.Field.{Field}
 use Rattle.response_heads.specs.declared.head.Head.{Head}
+use Rattle.response_heads.specs.declared.head.Location.{Location}
 
 -- a field and a head as texts
 abbrev pub field_text : Field → FieldText
@@ -85,7 +86,21 @@ is_location field =
     || is_empty field.name && (is_white (slice_index field.value 0)
     || bytes_eq (map to_ascii_lowercase (take 8 field.value)) (codes "location"))
 
--- the values of the Location fields of a redirection (RFC 9110, section 10.2.2)
-unfoldable pub locations : HeadText → List (List ℕ)
-locations head =
-    if is_redirection head.status then map (λ field. field.value) (filter is_location head.fields) else []
+-- such a field, and the number of its line
+pub record LocationText : Type 0 where
+  pub line : ℕ
+  pub field : FieldText
+
+abbrev pub location_text : Location → LocationText
+location_text location = record { line = location.line; field = field_text location.field }
+
+-- those among the fields of lines of which the first has this number
+abbrev pub located : ℕ → List FieldText → List LocationText
+located line [] = []
+located line (field ∷ fields) =
+    if is_location field then record { line = line; field = field } ∷ located (line + 1) fields
+    else located (line + 1) fields
+
+-- those of a redirection (RFC 9110, section 10.2.2)
+unfoldable pub locations : HeadText → List LocationText
+locations head = if is_redirection head.status then located (head.number + 1) head.fields else []

@@ -3,16 +3,21 @@
 use Rattle.std.specs.Prelude.{◌≡◌, ◌⊎◌, ◌&&◌, ◌||◌, ◌<◌, ℕ, Bool, false, not, List, [], ◌∷◌, Option, Some, None, Ok}
 use Rattle.std.specs.Prelude.{Result, Err, codes, if◌then◌else◌, is_some, length, nat_lt}
 use Rattle.std.specs.Str.{IsUtf8, bytes_eq}
+use Rattle.url.specs.Input.{is_empty}
 use Rattle.url.specs.Parser.{parse_url}
 use Rattle.url.specs.Parts.{Parts}
 use Rattle.plain_url.specs.Plain.{IsHop, IsPlainOf}
 use Rattle.response_heads.specs.Heads.{GivesHeads, HeadText}
 use Rattle.response_heads.specs.Read as head
-use Rattle.response_heads.specs.Read.{announces_content, head_text, is_success, locations}
+use Rattle.response_heads.specs.Lines.{FieldText}
+use Rattle.response_heads.specs.Read.{LocationText, announces_content, head_text, is_fold, is_success, locations}
 use Rattle.response_heads.specs.Read.{requires_proxy_authentication}
+use Rattle.response_heads.specs.declared.redirects.Lost.{Lost}
 use Rattle.response_heads.specs.declared.redirects.Visit.{Visit}
 use Rattle.response_heads.specs.declared.error.LineFault.{LineFault}
 use Rattle.response_heads.specs.declared.error.LineFault.TheVariants.{Status}
+use Rattle.response_heads.specs.declared.error.LocationFault.{LocationFault}
+use Rattle.response_heads.specs.declared.error.LocationFault.TheVariants.{NotPlain, Several, Empty, Folded, NoField}
 use Rattle.response_heads.specs.declared.error.ReadError.{ReadError}
 use Rattle.response_heads.specs.declared.error.ReadError.TheVariants.{Line, OutOfMemory}
 
@@ -43,16 +48,37 @@ abbrev pub LeadsPlainly : Parts → List ℕ → Parts → Type 0
 LeadsPlainly url text next =
     IsUtf8 text × (IsPlainOf text next ⊎ ((parse_url (Some url) text ≡ Ok next) × IsHop url next text))
 
--- Where a head with these Locations leads from a URL: where it has none nowhere else; to a URL, where it has one that
--- is plain; and else none can say where, for the head of this line.
-abbrev pub LeadsBy : Parts → ℕ → List (List ℕ) → Result Parts ℕ → Type 0
-LeadsBy url line [] next = next ≡ Ok url
-LeadsBy url line (text ∷ []) (Ok next) = LeadsPlainly url text next
-LeadsBy url line (text ∷ []) (Err at) = (at ≡ line) × ((next : Parts) → ¬ (LeadsPlainly url text next))
-LeadsBy url line (text ∷ other ∷ more) next = next ≡ Err line
+-- what is wrong with a line that may be read as a Location, and is no field line
+abbrev pub odd_fault : FieldText → LocationFault
+odd_fault field = if is_fold field then Folded else NoField
 
-abbrev pub LeadsTo : Parts → HeadText → Result Parts ℕ → Type 0
-LeadsTo url head next = LeadsBy url head.number (locations head) next
+-- with one that leads nowhere plainly
+abbrev pub fault_of_one : FieldText → LocationFault
+fault_of_one field =
+    if is_empty field.name then odd_fault field else if is_empty field.value then Empty else NotPlain
+
+-- with the later of two
+abbrev pub fault_of_later : FieldText → LocationFault
+fault_of_later field = if is_empty field.name then odd_fault field else Several
+
+-- of two the line that misleads, and how: the first where it is no field line, else the second
+abbrev pub lost_by_two : LocationText → LocationText → Lost
+lost_by_two first second =
+    if is_empty first.field.name then record { line = first.line; fault = odd_fault first.field }
+    else record { line = second.line; fault = fault_of_later second.field }
+
+-- Where a head with these Locations leads from a URL: where it has none nowhere else; to a URL, where it has one that
+-- is plain; and else none can say where, for this line and its fault.
+abbrev pub LeadsBy : Parts → List LocationText → Result Parts Lost → Type 0
+LeadsBy url [] next = next ≡ Ok url
+LeadsBy url (one ∷ []) (Ok next) = LeadsPlainly url one.field.value next
+LeadsBy url (one ∷ []) (Err lost) =
+    (lost ≡ record { line = one.line; fault = fault_of_one one.field })
+    × ((next : Parts) → ¬ (LeadsPlainly url one.field.value next))
+LeadsBy url (first ∷ second ∷ more) next = next ≡ Err (lost_by_two first second)
+
+abbrev pub LeadsTo : Parts → HeadText → Result Parts Lost → Type 0
+LeadsTo url head next = LeadsBy url (locations head) next
 
 -- ---- all heads
 
@@ -82,18 +108,19 @@ visit_of url is_behind_success head heads stop =
       stop = stop_behind (length heads) stop;
     }
 
--- The visits of heads, the first of which was answered here, or none knows where for the head of this line, and the
--- line for which heads are left out.
-abbrev pub Walks : Result Parts ℕ → Bool → List HeadText → Option (ℕ × LineFault) → List VisitText → Option ℕ → Type 0
+-- The visits of heads, the first of which was answered here, or none knows where for this line, and the line for which
+-- heads are left out.
+abbrev pub Walks : Result Parts Lost → Bool → List HeadText → Option (ℕ × LineFault) → List VisitText → Option Lost
+    → Type 0
 Walks here is_behind_success [] stop visits lost = (visits ≡ []) × (lost ≡ None)
-Walks (Err line) is_behind_success (head ∷ heads) stop visits lost = (visits ≡ []) × (lost ≡ Some line)
+Walks (Err by) is_behind_success (head ∷ heads) stop visits lost = (visits ≡ []) × (lost ≡ Some by)
 Walks (Ok url) is_behind_success (head ∷ heads) stop visits lost =
-    (next : Result Parts ℕ) × (rest : List VisitText) × LeadsTo url head next
+    (next : Result Parts Lost) × (rest : List VisitText) × LeadsTo url head next
     × Walks next (is_success head.status) heads stop rest lost
     × (visits ≡ visit_of url is_behind_success head heads stop ∷ rest)
 
 -- the visits of a text's heads, of which there is one at least, and the line for which heads are left out
-pub record GivesVisits (url : Parts) (text : List ℕ) (visits : List VisitText) (lost : Option ℕ) : Type 0 where
+pub record GivesVisits (url : Parts) (text : List ℕ) (visits : List VisitText) (lost : Option Lost) : Type 0 where
   pub heads : List HeadText
   pub stop : Option (ℕ × LineFault)
   pub gives : GivesHeads text heads stop

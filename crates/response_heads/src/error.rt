@@ -29,6 +29,26 @@ pub enum LineFault {
     Unended,
 }
 
+/// Why a line leads from its head to no URL.
+#[derive(Clone, Copy, Debug, PartialEq, Eq, Error)]
+pub enum LocationFault {
+    /// It is a `Location` that isn't plain: programs may read another URL each.
+    #[error("NotPlain")]
+    NotPlain,
+    /// It is the second `Location` of its head.
+    #[error("Several")]
+    Several,
+    /// It is a `Location` without a value.
+    #[error("Empty")]
+    Empty,
+    /// It is a folded line, which may go on with a `Location` or be one.
+    #[error("Folded")]
+    Folded,
+    /// It begins with `Location`, and is no field line.
+    #[error("NoField")]
+    NoField,
+}
+
 /// Why visits aren't told.
 #[derive(Clone, Copy, Debug, PartialEq, Eq, Error)]
 pub enum ReadError {

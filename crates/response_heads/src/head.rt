@@ -7,8 +7,8 @@ ghost use Rattle.std.specs.Char.{to_ascii_lowercase};
 ghost use Rattle.response_heads.specs.Heads as spec;
 ghost use Rattle.response_heads.specs.Lines as spec_lines;
 ghost use Rattle.response_heads.specs.Read.{announces_content, fault, field_text, head_text, is_location, is_named};
-ghost use Rattle.response_heads.specs.Read.{is_fold, is_redirection, is_value, locations, says_content};
-ghost use Rattle.response_heads.specs.Read.{requires_proxy_authentication, set_cookie_lines};
+ghost use Rattle.response_heads.specs.Read.{is_fold, is_redirection, is_value, located, location_text, locations};
+ghost use Rattle.response_heads.specs.Read.{requires_proxy_authentication, says_content, set_cookie_lines};
 
 use crate::error::LineFault;
 use crate::field::{begins_white, fault_of, has_control, read_field};
@@ -26,6 +26,15 @@ pub struct Field<'a> {
     /// The whole line where it is no field line, as a folded one isn't, which goes on with the field before it. Empty
     /// where it is one within which the text ends.
     pub value: &'a [u8],
+}
+
+/// A field that some program may read as a `Location`.
+#[derive(Clone, Copy, Debug)]
+pub struct Location<'a> {
+    /// The number of its line, counted from 1.
+    pub line: u128,
+    /// As it stands: without a name where the line is no field line.
+    pub field: Field<'a>,
 }
 
 /// The head of a response.
@@ -105,6 +114,24 @@ fn push_value(lines: &mut Vec<Vec<u8>>, line: Vec<u8>) -> Result<(), AllocError>
     Ok(())
 }
 
+// Adds the field of this line, where it may be a Location.
+fn push_location<'a>(
+    found: &mut Vec<Location<'a>>,
+    line: u128,
+    field: &Field<'a>,
+) -> Result<(), AllocError>
+    ensures { OnOk result (map location_text found.new.items
+        ≡ map location_text found.old.items ++ located line (field_text field.now ∷ [])) }
+{
+    if field.is_location() {
+        found.push(Location {
+            line,
+            field: *field,
+        })?;
+    }
+    Ok(())
+}
+
 impl<'a> Head<'a> {
     /// The values of the `Set-Cookie` fields, in their order (RFC 6265, section 4.1), each with the folded lines behind
     /// it, joined to it by single spaces (RFC 9112, section 5.2). One that then holds a carriage return or a zero byte
@@ -128,25 +155,27 @@ impl<'a> Head<'a> {
         Ok(lines)
     }
 
-    /// The values of the `Location` fields, where the status is one of a redirection, 300 to 399 (RFC 9110, sections
-    /// 10.2.2 and 15.4), and of each line that is no field line and that another program may read as one.
+    /// The `Location` fields, where the status is one of a redirection, 300 to 399 (RFC 9110, sections 10.2.2 and
+    /// 15.4), and each line that is no field line and that another program may read as one.
     ///
     /// # Errors
     ///
     /// `AllocError`, for want of memory.
-    pub fn locations(&self, alloc: Global) -> Result<Vec<&'a [u8]>, AllocError>
-        ensures { IfOk result (λ texts. map (λ text. text.now) texts.items ≡ locations (head_text self.now)) }
+    pub fn locations(&self, alloc: Global) -> Result<Vec<Location<'a>>, AllocError>
+        ensures { IfOk result (λ found. map location_text found.items ≡ locations (head_text self.now)) }
     {
-        let mut texts = Vec::new(alloc);
+        let mut found = Vec::new(alloc);
         if !is_redirection(self.status) {
-            return Ok(texts);
+            return Ok(found);
         }
-        for field in &self.fields {
-            if field.is_location() {
-                texts.push(field.value)?;
-            }
+        let mut left = self.fields.as_slice();
+        let mut line = self.number as u128 + 1;
+        while let [field, behind @ ..] = left {
+            push_location(&mut found, line, field)?;
+            left = behind;
+            line += 1;
         }
-        Ok(texts)
+        Ok(found)
     }
 
     // Whether content follows, by the fields.

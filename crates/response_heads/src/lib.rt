@@ -16,6 +16,6 @@ mod lines;
 mod redirects;
 mod status;
 
-pub use error::{LineFault, ReadError};
-pub use head::{Field, Found, Head, heads};
-pub use redirects::{Visit, Visited, visits};
+pub use error::{LineFault, LocationFault, ReadError};
+pub use head::{Field, Found, Head, Location, heads};
+pub use redirects::{Lost, Visit, Visited, visits};

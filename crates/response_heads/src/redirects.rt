@@ -2,11 +2,11 @@
 ghost use Rattle.std.specs.Prelude.{◌≡◌, Ok, map, IfOk, IfErr, MatchOption, false};
 ghost use Rattle.url.specs.Parts.{Parts};
 ghost use Rattle.plain_url.specs.Plain.{IsPlainOf};
-ghost use Rattle.response_heads.specs.Read.{head_text, is_success};
+ghost use Rattle.response_heads.specs.Read.{field_text, head_text, is_success, location_text};
 ghost use Rattle.response_heads.specs.Visits as spec;
 
-use crate::error::{LineFault, ReadError};
-use crate::head::{Found, Head, heads, requires_proxy_authentication};
+use crate::error::{LineFault, LocationFault, ReadError};
+use crate::head::{Field, Found, Head, Location, heads, requires_proxy_authentication};
 use plain_url::{is_plain_hop, is_plain_of};
 use std::alloc::{AllocError, Global};
 use url::{ParseError, Url};
@@ -51,14 +51,22 @@ impl<'a> Visit<'a> {
     }
 }
 
+/// Behind which line heads are left out: none can say which URL answered them.
+#[derive(Clone, Copy, Debug, PartialEq, Eq)]
+pub struct Lost {
+    /// The number of the line, counted from 1: that of a `Location`, or one that some program may read as one.
+    pub line: u128,
+    /// Why it leads to no URL.
+    pub fault: LocationFault,
+}
+
 /// The heads of a text, each with the URL that answered it.
 #[derive(Debug, Drop)]
 pub struct Visited<'a> {
     /// In their order.
     pub visits: Vec<Visit<'a>>,
-    /// The number of the status line, counted from 1, of a head behind which all are left out: none can say which URL
-    /// answered them.
-    pub lost: Option<usize>,
+    /// Behind which line of the last of these heads were left out, if they were.
+    pub lost: Option<Lost>,
 }
 
 /// The heads of a text, each with the URL that answered it: the first is answered by the given one. Behind a
@@ -99,10 +107,10 @@ fn walk<'a>(
         left -= 1;
         let url = match here {
             Ok(url) => url,
-            Err(line) => {
+            Err(by) => {
                 return Ok(Visited {
                     visits,
-                    lost: Some(line),
+                    lost: Some(by),
                 });
             }
         };
@@ -119,18 +127,74 @@ fn walk<'a>(
     Ok(Visited { visits, lost: None })
 }
 
-// Where a head leads from the URL that answered it, or the number of its status line, where none can say.
-fn leads_to(alloc: Global, url: &Url, head: &Head<'_>) -> Result<Result<Url, usize>, AllocError>
+// Where a head leads from the URL that answered it, or the line for which none can say.
+fn leads_to(alloc: Global, url: &Url, head: &Head<'_>) -> Result<Result<Url, Lost>, AllocError>
     ensures { IfOk result (spec.LeadsTo url.now (head_text head.now)) }
 {
     let locations = head.locations(alloc)?;
     match locations.as_slice() {
         [] => Ok(Ok(url.clone()?)),
-        [text] => match plain_step(alloc, url, text)? {
+        [one] => match plain_step(alloc, url, one.field.value)? {
             Some(next) => Ok(Ok(next)),
-            None => Ok(Err(head.number)),
+            None => Ok(Err(lost_by_one(one))),
         },
-        _ => Ok(Err(head.number)),
+        [first, second, ..] => Ok(Err(lost_by_two(first, second))),
+    }
+}
+
+// What is told of a line that leads nowhere plainly, where it alone may be a Location.
+fn lost_by_one(one: &Location<'_>) -> Lost
+    ensures { result ≡ record { line = one.now.line; fault = spec.fault_of_one (field_text one.now.field) } }
+{
+    let fault = if one.field.name.is_empty() {
+        odd_fault(&one.field)
+    } else if one.field.value.is_empty() {
+        LocationFault::Empty
+    } else {
+        LocationFault::NotPlain
+    };
+    Lost {
+        line: one.line,
+        fault,
+    }
+}
+
+// What is told of two lines, each of which may be a Location.
+fn lost_by_two(first: &Location<'_>, second: &Location<'_>) -> Lost
+    ensures { result ≡ spec.lost_by_two (location_text first.now) (location_text second.now) }
+{
+    if first.field.name.is_empty() {
+        Lost {
+            line: first.line,
+            fault: odd_fault(&first.field),
+        }
+    } else {
+        Lost {
+            line: second.line,
+            fault: fault_of_later(&second.field),
+        }
+    }
+}
+
+// What is wrong with the second of two lines, the first of which is a Location.
+fn fault_of_later(field: &Field<'_>) -> LocationFault
+    ensures { result ≡ spec.fault_of_later (field_text field.now) }
+{
+    if field.name.is_empty() {
+        odd_fault(field)
+    } else {
+        LocationFault::Several
+    }
+}
+
+// What is wrong with a line that is no field line.
+fn odd_fault(field: &Field<'_>) -> LocationFault
+    ensures { result ≡ spec.odd_fault (field_text field.now) }
+{
+    if field.is_fold() {
+        LocationFault::Folded
+    } else {
+        LocationFault::NoField
     }
 }
 

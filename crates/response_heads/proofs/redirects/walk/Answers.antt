@@ -15,7 +15,7 @@ returns-in-Err c =
     let rest = into_iter_items c.next.new.self in
     let stop = c.args.stop in
     let flag = c.loop-head.is_behind_success in
-    leaves_out url heads stop c.in-Err.line flag (head_text c.in-Some.head) (map head_text rest) visits
+    leaves_out url heads stop c.in-Err.by flag (head_text c.in-Some.head) (map head_text rest) visits
     (subst (λ here. WalksOn url heads stop here flag (map head_text (c.in-Some.head ∷ rest)) visits) c.in-Err.is
     (subst (λ items. WalksOn url heads stop c.loop-head.here flag (map head_text items) visits)
     c.in-Some.ensures.steps.0 c.loop-head.invariant.walks))

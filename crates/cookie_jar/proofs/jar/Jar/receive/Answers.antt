@@ -5,14 +5,16 @@ use Rattle.cookie_jar.proofs.jar.Jar.receive.Goals as goal
 
 pub invariant_of-self : goal.invariant_of-self
 invariant_of-self c =
-    received_kept c.host_rows_are_held_rightly.ensures.answers c.pairs_stay.ensures c.args.form c.args.rules.now
-    c.self.inside.store.suffixes c.args.url.now (civil_nanos c.args.now) c.take_all.result (λ ends. ends.items)
+    received_kept c.host_rows_are_held_rightly.ensures.answers c.no_control_comes.ensures.stay
+    c.no_control_comes.ensures.read c.args.form c.args.rules.now c.self.inside.store.suffixes c.args.url.now
+    c.path-path.ensures.valid (civil_nanos c.args.now) c.take_all.result (λ ends. ends.items)
     (λ stopped. stopped.0) (map (λ line. line.now) c.args.lines.now) c.self.inside.store.rows
     c.take_all.new.store.rows c.self.invariant c.take_all.ensures.all c.take_all.ensures.stopped
 
 pub returns-clause-kept : goal.returns-clause-kept
 returns-clause-kept c =
-    received_kept c.host_rows_are_held_rightly.ensures.answers c.pairs_stay.ensures c.args.form c.args.rules.now
-    c.self.inside.store.suffixes c.args.url.now (civil_nanos c.args.now) c.take_all.result (λ ends. ends.items)
+    received_kept c.host_rows_are_held_rightly.ensures.answers c.no_control_comes.ensures.stay
+    c.no_control_comes.ensures.read c.args.form c.args.rules.now c.self.inside.store.suffixes c.args.url.now
+    c.path-path.ensures.valid (civil_nanos c.args.now) c.take_all.result (λ ends. ends.items)
     (λ stopped. stopped.0) (map (λ line. line.now) c.args.lines.now) c.self.inside.store.rows
     c.take_all.new.store.rows c.self.invariant c.take_all.ensures.all c.take_all.ensures.stopped

@@ -1,6 +1,14 @@
-use Rattle.std.proofs.Common.{◌≡◌, take, map}
-use Rattle.response_heads.proofs.ReadLemmas.{located, values}
+use Rattle.std.proofs.Common.{◌≡◌, ◌+◌, ◌++◌, length, map}
+use Rattle.response_heads.specs.Read.{field_text, located, location_text}
 use Rattle.response_heads.proofs.head.Head.locations.Given as goal
 
-abbrev pub invariant-loop-field : goal.invariant-loop-field
-invariant-loop-field l = map (λ text. text.now) l.texts.items ≡ values (located (take l.field-index l.field-items))
+-- what was found, and what is left to be looked at
+abbrev pub invariant-loop-left : goal.invariant-loop-left
+invariant-loop-left l = record {
+  found : map location_text l.found.items ++ located l.line (map field_text l.left)
+      ≡ located (l.self.number + 1) (map field_text l.self.fields.items);
+  counted : l.line + length l.left ≡ l.self.number + 1 + length l.self.fields.items;
+}
+
+abbrev pub decreases-loop-left : goal.decreases-loop-left
+decreases-loop-left l = length l.left
