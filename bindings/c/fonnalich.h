@@ -25,8 +25,13 @@
 
 /* A handle: memory of the caller's own, which the library alone reads and writes. */
 typedef struct fonnalich {
-    uint64_t words[64];
+    uint64_t words[128];
 } fonnalich;
+
+/* What the functions with a body are here. The library exports each of them too, for callers without a C compiler. */
+#ifndef FONNALICH_FORM
+#define FONNALICH_FORM static inline
+#endif
 
 /* ---- why a call answers no text. Of several causes the first of this table is told: the one with the number nearest
    to 0. But where the second and the key of an exchange are right, the first of its commands that is refused is told,
@@ -56,7 +61,8 @@ enum {
     FONNALICH_SITE = -19,     /* the number is none of an attribute SameSite */
     FONNALICH_RULES = -20,    /* the number is none of FONNALICH_RULE_.. */
     FONNALICH_LINE = -21,     /* the header has a control character, as a line break, of a loaded cookie */
-    FONNALICH_PROCESSOR = -22, /* this processor lacks what the library needs: from fonnalich_processor alone */
+    FONNALICH_PROCESSOR = -22, /* this processor lacks what the library needs: from fonnalich_processor and _begin */
+    FONNALICH_HANDLE = -23,   /* the library's handle is larger than this file's: from fonnalich_begin alone */
     FONNALICH_STOPPED = -100  /* this or less, from fonnalich_receive alone: see there */
 };
 
@@ -115,8 +121,14 @@ enum {
     FONNALICH_DO_RESTART = 6,
     FONNALICH_DO_RULES = 7,
     FONNALICH_DO_SAVE_ALL = 8,
-    FONNALICH_DO_RELOAD = 9
+    FONNALICH_DO_RELOAD = 9,
+    FONNALICH_DO_COUNT = 10,
+    FONNALICH_DO_COOKIES = 11,
+    FONNALICH_DO_CLEAR = 12
 };
+
+/* ---- the words of fonnalich_one */
+enum { FONNALICH_DO_GET = 0, FONNALICH_DO_REMOVE = 1 };
 
 /* ---- the fronts of a command's line: what is done, and the way in which the cookie is kept */
 #define FONNALICH_SET "S"    /* and behind the way a Set-Cookie line, whose name and value are percent-decoded */
@@ -145,6 +157,21 @@ typedef struct fonnalich_attributes {
 
 enum { FONNALICH_NO_SITE = 0, FONNALICH_STRICT = 1, FONNALICH_LAX = 2, FONNALICH_NONE = 3 };
 
+/* ---- a cookie that a client holds. Its texts lie in the answer that it was read of, with no byte 0 behind them; the
+   domain is a host's, without a leading dot, and the name and the value are as they were received. No two cookies of a
+   client have the same domain, path and name. */
+typedef struct fonnalich_cookie {
+    const char *domain, *path, *name, *value;
+    size_t domain_length, path_length, name_length, value_length;
+    int64_t expires;   /* a second since 1970, where has_expires is set */
+    bool has_expires;  /* else it ends with the session */
+    bool host_only;    /* it is for its domain alone, and else for the hosts below it too */
+    bool secure;
+    bool http_only;
+    bool partitioned;
+    uint8_t same_site; /* one of those above */
+} fonnalich_cookie;
+
 /* How many bytes a key has, and a nonce. */
 enum { FONNALICH_KEY_LENGTH = 64, FONNALICH_NONCE_LENGTH = 12 };
 
@@ -152,11 +179,13 @@ enum { FONNALICH_KEY_LENGTH = 64, FONNALICH_NONCE_LENGTH = 12 };
 extern "C" {
 #endif
 
-/* Answers 0, or FONNALICH_PROCESSOR on a processor of x86-64 that lacks SSE 4.2. Ask it before any other call, which
-   would end the process there by an illegal instruction. */
-static inline ptrdiff_t fonnalich_processor(void) {
+/* Answers 0, or FONNALICH_PROCESSOR on a processor of x86-64 that lacks SSE 4.2. Ask it before a call that takes no
+   handle, which would end the process there by an illegal instruction. */
+FONNALICH_FORM ptrdiff_t fonnalich_processor(void) {
 #if defined(__x86_64__) && defined(__GNUC__)
-    return __builtin_cpu_supports("sse4.2") ? 0 : FONNALICH_PROCESSOR;
+    uint32_t a = 1, b, c = 0, d;
+    __asm__("cpuid" : "+a"(a), "=b"(b), "+c"(c), "=d"(d));
+    return c >> 20 & 1 ? 0 : FONNALICH_PROCESSOR;
 #else
     return 0;
 #endif
@@ -164,6 +193,10 @@ static inline ptrdiff_t fonnalich_processor(void) {
 
 /* Writes the version of the library, as FONNALICH_VERSION. It takes no memory and is never refused. */
 ptrdiff_t fonnalich_version(char *out, size_t out_length);
+
+/* Writes what the number of a refusal says, in English and without a full stop; nothing of another number. It takes no
+   memory and is never refused. */
+ptrdiff_t fonnalich_text(int64_t number, char *out, size_t out_length);
 
 /* One exchange of a site: a session with this key on a request's Cookie header obeys the commands, lines joined by
    '\n', as FONNALICH_SET FONNALICH_SEALED "cart=3; Max-Age=60; HttpOnly". A set cookie gets Secure and Path=/ and loses
@@ -225,7 +258,7 @@ ptrdiff_t fonnalich_print(bool encode, const fonnalich_attributes *attributes, c
 /* Takes the first item out of an answer that lies from *at to `end`: its text, and its length, or -1 where the text
    isn't there, as of a cookie that the header hasn't, or that isn't by this key: *text has no byte then. Answers 0
    where no item is left. */
-static inline int fonnalich_next(const char **at, const char *end, const char **text, ptrdiff_t *length) {
+FONNALICH_FORM int fonnalich_next(const char **at, const char *end, const char **text, ptrdiff_t *length) {
     uint64_t bytes = 0;
     if (end - *at < 8)
         return 0;
@@ -237,27 +270,43 @@ static inline int fonnalich_next(const char **at, const char *end, const char **
     return 1;
 }
 
-/* How many bytes a handle takes: at most sizeof(fonnalich). */
+/* How many bytes a handle takes. */
 size_t fonnalich_size(void);
 
-/* Begins a handle. It takes no memory and is never refused. */
-void fonnalich_begin(fonnalich *at);
+/* Begins a handle of fonnalich_size bytes. It takes no memory and is never refused. */
+void fonnalich_place(fonnalich *at);
+
+/* Begins a handle, and answers 0. It takes no memory. No handle is begun where it answers FONNALICH_PROCESSOR, or
+   FONNALICH_HANDLE, as of a program that was compiled by another version of this file. */
+FONNALICH_FORM ptrdiff_t fonnalich_begin(fonnalich *at) {
+    if (fonnalich_processor() < 0)
+        return FONNALICH_PROCESSOR;
+    if (fonnalich_size() > sizeof *at)
+        return FONNALICH_HANDLE;
+    fonnalich_place(at);
+    return 0;
+}
 
 /* Does what a word says; the functions below are its forms. The number is a second, or the rules. */
 ptrdiff_t fonnalich_act(fonnalich *at, uint32_t word, int64_t number, const char *subject, size_t subject_length,
                         const char *text, size_t text_length, char *out, size_t out_length);
 
+/* Does what a word says with the cookie of this domain, path and name. */
+ptrdiff_t fonnalich_one(fonnalich *at, uint32_t word, int64_t second, const char *domain, size_t domain_length,
+                        const char *path, size_t path_length, const char *name, size_t name_length, char *out,
+                        size_t out_length);
+
 /* Ends a handle and gives all memory back. */
 void fonnalich_end(fonnalich *at);
 
 /* A client without a cookie, by the bytes of a public suffix list, in place of the one that was there. Answers 0. */
-static inline ptrdiff_t fonnalich_list(fonnalich *at, const char *list, size_t list_length) {
+FONNALICH_FORM ptrdiff_t fonnalich_list(fonnalich *at, const char *list, size_t list_length) {
     char none;
     return fonnalich_act(at, FONNALICH_DO_LIST, 0, "", 0, list, list_length, &none, 0);
 }
 
 /* The same with the cookies of a saved text that aren't expired at this second. Answers 0. */
-static inline ptrdiff_t fonnalich_load(fonnalich *at, int64_t second, const char *saved, size_t saved_length,
+FONNALICH_FORM ptrdiff_t fonnalich_load(fonnalich *at, int64_t second, const char *saved, size_t saved_length,
                                        const char *list, size_t list_length) {
     char none;
     return fonnalich_act(at, FONNALICH_DO_LOAD, second, saved, saved_length, list, list_length, &none, 0);
@@ -265,7 +314,7 @@ static inline ptrdiff_t fonnalich_load(fonnalich *at, int64_t second, const char
 
 /* Puts lines that come later behind these rules, a sum of FONNALICH_RULE_.., or behind none. A handle begins without,
    and keeps them whatever client it gets. They judge no cookie that is there, or is loaded. Answers 0. */
-static inline ptrdiff_t fonnalich_rules(fonnalich *at, int64_t rules) {
+FONNALICH_FORM ptrdiff_t fonnalich_rules(fonnalich *at, int64_t rules) {
     char none;
     return fonnalich_act(at, FONNALICH_DO_RULES, rules, "", 0, "", 0, &none, 0);
 }
@@ -276,49 +325,113 @@ static inline ptrdiff_t fonnalich_rules(fonnalich *at, int64_t rules) {
    '\n' alone.
    FONNALICH_STOPPED - n says that memory was refused at line n, counted from 1: those before it were taken, and no
    later one; at 0 none was. */
-static inline ptrdiff_t fonnalich_receive(fonnalich *at, int64_t second, const char *url, size_t url_length,
+FONNALICH_FORM ptrdiff_t fonnalich_receive(fonnalich *at, int64_t second, const char *url, size_t url_length,
                                           const char *lines, size_t lines_length, char *out, size_t out_length) {
     return fonnalich_act(at, FONNALICH_DO_RECEIVE, second, url, url_length, lines, lines_length, out, out_length);
 }
 
 /* Writes the Cookie header of a request to this URL; where the answer is 0, the request has none. It is one line: it
    has no byte below 32 but the tab, and no 127. FONNALICH_LINE where a cookie of a saved text would put one there. */
-static inline ptrdiff_t fonnalich_header(fonnalich *at, int64_t second, const char *url, size_t url_length, char *out,
+FONNALICH_FORM ptrdiff_t fonnalich_header(fonnalich *at, int64_t second, const char *url, size_t url_length, char *out,
                                          size_t out_length) {
     return fonnalich_act(at, FONNALICH_DO_HEADER, second, url, url_length, "", 0, out, out_length);
 }
 
 /* Writes the saved text of the cookies that have an expiry and aren't expired at this second. */
-static inline ptrdiff_t fonnalich_save(fonnalich *at, int64_t second, char *out, size_t out_length) {
+FONNALICH_FORM ptrdiff_t fonnalich_save(fonnalich *at, int64_t second, char *out, size_t out_length) {
     return fonnalich_act(at, FONNALICH_DO_SAVE, second, "", 0, "", 0, out, out_length);
 }
 
 /* Writes the saved text of all cookies, expired ones and those without an expiry too. */
-static inline ptrdiff_t fonnalich_save_all(fonnalich *at, char *out, size_t out_length) {
+FONNALICH_FORM ptrdiff_t fonnalich_save_all(fonnalich *at, char *out, size_t out_length) {
     return fonnalich_act(at, FONNALICH_DO_SAVE_ALL, 0, "", 0, "", 0, out, out_length);
 }
 
 /* Puts all cookies of a saved text in the place of those that are there, expired ones too. The list and the rules stay,
    and nothing is read but the text: so it is quick beside fonnalich_load. Answers 0. */
-static inline ptrdiff_t fonnalich_reload(fonnalich *at, const char *saved, size_t saved_length) {
+FONNALICH_FORM ptrdiff_t fonnalich_reload(fonnalich *at, const char *saved, size_t saved_length) {
     char none;
     return fonnalich_act(at, FONNALICH_DO_RELOAD, 0, saved, saved_length, "", 0, &none, 0);
 }
 
+/* Answers how many cookies the client holds that aren't expired at this second. */
+FONNALICH_FORM ptrdiff_t fonnalich_count(fonnalich *at, int64_t second) {
+    unsigned char bytes[8];
+    ptrdiff_t count = fonnalich_act(at, FONNALICH_DO_COUNT, second, "", 0, "", 0, (char *)bytes, sizeof bytes);
+    if (count < 0)
+        return count;
+    count = 0;
+    for (int i = 8; i-- > 0;)
+        count = count << 8 | bytes[i];
+    return count;
+}
+
+/* Writes the cookies that the client holds and that aren't expired at this second: fonnalich_next_cookie takes them
+   out. */
+FONNALICH_FORM ptrdiff_t fonnalich_cookies(fonnalich *at, int64_t second, char *out, size_t out_length) {
+    return fonnalich_act(at, FONNALICH_DO_COOKIES, second, "", 0, "", 0, out, out_length);
+}
+
+/* Writes the cookie of this domain, path and name, where the client holds one that isn't expired at this second:
+   fonnalich_next_cookie takes it out. Else it answers 0. FONNALICH_TEXT where one of the three isn't UTF-8. */
+FONNALICH_FORM ptrdiff_t fonnalich_get(fonnalich *at, int64_t second, const char *domain, size_t domain_length,
+                                       const char *path, size_t path_length, const char *name, size_t name_length,
+                                       char *out, size_t out_length) {
+    return fonnalich_one(at, FONNALICH_DO_GET, second, domain, domain_length, path, path_length, name, name_length, out,
+                         out_length);
+}
+
+/* Takes the cookie of this domain, path and name out of the client. Answers 1, or 0 where it holds none. An expired one
+   that it still keeps counts too. */
+FONNALICH_FORM ptrdiff_t fonnalich_remove(fonnalich *at, const char *domain, size_t domain_length, const char *path,
+                                          size_t path_length, const char *name, size_t name_length) {
+    char none;
+    ptrdiff_t length = fonnalich_one(at, FONNALICH_DO_REMOVE, 0, domain, domain_length, path, path_length, name,
+                                     name_length, &none, 0);
+    return length > 0 ? 1 : length;
+}
+
+/* Takes all cookies out of the client; the list stays. Answers 0. */
+FONNALICH_FORM ptrdiff_t fonnalich_clear(fonnalich *at) {
+    char none;
+    return fonnalich_act(at, FONNALICH_DO_CLEAR, 0, "", 0, "", 0, &none, 0);
+}
+
+/* Takes the first cookie out of an answer that lies from *at to `end`. Answers 0 where none is left. */
+FONNALICH_FORM int fonnalich_next_cookie(const char **at, const char *end, fonnalich_cookie *cookie) {
+    const char *text[6];
+    ptrdiff_t length[6];
+    uint64_t second = 0;
+    for (int i = 0; i < 6; i++)
+        if (!fonnalich_next(at, end, &text[i], &length[i]) || length[i] < 0)
+            return 0;
+    const char *flags = text[5];
+    for (int i = 8; i-- > 0;)
+        second = second << 8 | (unsigned char)text[4][i];
+    cookie->domain = text[0], cookie->domain_length = (size_t)length[0];
+    cookie->path = text[1], cookie->path_length = (size_t)length[1];
+    cookie->name = text[2], cookie->name_length = (size_t)length[2];
+    cookie->value = text[3], cookie->value_length = (size_t)length[3];
+    cookie->expires = (int64_t)second;
+    cookie->has_expires = flags[0], cookie->host_only = flags[1], cookie->secure = flags[2];
+    cookie->http_only = flags[3], cookie->partitioned = flags[4], cookie->same_site = (uint8_t)flags[5];
+    return 1;
+}
+
 /* Keeps what saving and loading at this second keeps: it ends the session cookies. Answers 0. */
-static inline ptrdiff_t fonnalich_restart(fonnalich *at, int64_t second) {
+FONNALICH_FORM ptrdiff_t fonnalich_restart(fonnalich *at, int64_t second) {
     char none;
     return fonnalich_act(at, FONNALICH_DO_RESTART, second, "", 0, "", 0, &none, 0);
 }
 
 /* Hands out the last answer that had no room, without doing the work again; 0 where there is none. It is kept until it
-   is handed out with room for all of it, or another call by the handle isn't refused: fonnalich_list, _load, _rules and
-   _restart drop it too. */
-static inline ptrdiff_t fonnalich_answer(fonnalich *at, char *out, size_t out_length) {
+   is handed out with room for all of it, or another call by the handle isn't refused: fonnalich_list, _load, _rules,
+   _restart, _clear and _remove drop it too. */
+FONNALICH_FORM ptrdiff_t fonnalich_answer(fonnalich *at, char *out, size_t out_length) {
     return fonnalich_act(at, FONNALICH_DO_ANSWER, 0, "", 0, "", 0, out, out_length);
 }
 
-static inline void fonnalich_free(fonnalich *at) {
+FONNALICH_FORM void fonnalich_free(fonnalich *at) {
     fonnalich_end(at);
 }
 

@@ -43,6 +43,23 @@ static int is_each(const char *out, ptrdiff_t length, int number) {
     return i == MANY && length == MANY;
 }
 
+/* Whether the client holds each of MANY cookies, in their order, by its number in the name and the value. */
+static int holds_each(fonnalich *at, char *out) {
+    fonnalich_cookie cookie;
+    ptrdiff_t number = fonnalich_cookies(at, NOW, out, ROOM), i = 0;
+    const char *next = out;
+    char name[16];
+    if (number <= 0 || number > ROOM)
+        return 0;
+    for (; fonnalich_next_cookie(&next, out + number, &cookie); i++) {
+        size_t length = sprintf(name, "n%d", (int)i);
+        if (cookie.name_length != length || memcmp(cookie.name, name, length) || cookie.value_length != length - 1
+            || memcmp(cookie.value, name + 1, length - 1) || !cookie.has_expires || cookie.expires != NOW + 60)
+            return 0;
+    }
+    return i == MANY && next == out + number && fonnalich_count(at, NOW) == MANY;
+}
+
 static void takes_many_lines(int64_t rules) {
     char *lines = room(), *header = room(), *out = room(), *saved = room();
     size_t length = joined(lines, MANY, "n%d=%d; Path=/; Max-Age=60", "\n");
@@ -62,6 +79,11 @@ static void takes_many_lines(int64_t rules) {
     ask(number == (ptrdiff_t)header_length && !memcmp(out, header, header_length), "with each of them");
     number = fonnalich_receive(&at, NOW, T(URL), lines, length, out, ROOM);
     ask(is_each(out, number, FONNALICH_UPDATED_EXISTING), "each line takes the place of one");
+    ask(holds_each(&at, out), "it tells each of them");
+    ask(fonnalich_get(&at, NOW, T("example.com"), T("/"), T("n99999"), out, ROOM) > 0, "the last one by its key");
+    ask(fonnalich_remove(&other, T("example.com"), T("/"), T("n50000")) == 1, "one in the middle is removed");
+    ask(fonnalich_count(&other, NOW) == MANY - 1 && fonnalich_clear(&other) == 0, "it alone, then all");
+    ask(fonnalich_count(&other, NOW) == 0, "none is left");
     ask(fonnalich_restart(&at, NOW) == 0, "a restart");
     number = fonnalich_header(&at, NOW + 60, T(URL), out, ROOM);
     ask(number == 0, "all of them end");

@@ -89,6 +89,12 @@ static void is_a_client(void) {
     ask(length > ROWS * VALUE, "a header");
     ask(fonnalich_header(&at, NOW, T(URL), out, 1) == length && held >= full + length, "one without room is kept");
     ask(fonnalich_answer(&at, out, sizeof out) == length, "it is handed out");
+    length = fonnalich_cookies(&at, NOW, out, 1);
+    ask(length > ROWS * VALUE && held >= full + length, "its cookies, without room");
+    ask(fonnalich_count(&at, NOW) == ROWS && held < full + length, "their number drops them");
+    ask(fonnalich_remove(&at, T("example.com"), T("/"), T("n7")) == 1, "a cookie is removed");
+    ask(fonnalich_count(&at, NOW) == ROWS - 1 && held <= full, "and given back");
+    ask(fonnalich_receive(&at, NOW, T(URL), T("n7=7; Max-Age=60"), out, sizeof out) == 1, "it is set anew");
     length = fonnalich_save(&at, NOW, saved, sizeof saved);
     ask(length > 0 && length <= (ptrdiff_t)sizeof saved, "a saved text");
     fonnalich_begin(&other);
@@ -98,6 +104,9 @@ static void is_a_client(void) {
     ask(held == one, "its end gives all of it back");
     ask(fonnalich_load(&at, NOW + 61, saved, length, T(LIST)) == 0 && held < full, "a replaced client is given back");
     ask(fonnalich_load(&at, NOW, saved, length, "a..b", 4) == FONNALICH_LIST && held < full, "a refusal holds nothing");
+    ask(fonnalich_receive(&at, NOW, T(URL), lines, used, out, sizeof out) == ROWS, "lines are taken again");
+    ask(held > listed + ROWS * VALUE, "their values are held again");
+    ask(fonnalich_clear(&at) == 0 && held < listed + ROWS * VALUE, "cleared cookies are given back");
     fonnalich_free(&at);
     ask(held == begun, "the end gives all back");
 }

@@ -60,7 +60,7 @@ static void tells_refusals(void) {
     fonnalich_begin(&at);
     ask(gives(fonnalich_header(&at, NOW, T(URL), out, sizeof out), FONNALICH_NO_CLIENT), "no client");
     ask(gives(fonnalich_list(&at, "a..b\n", 5), FONNALICH_LIST), "no list");
-    ask(gives(fonnalich_act(&at, 10, NOW, "", 0, "", 0, out, sizeof out), FONNALICH_WORD), "no word");
+    ask(gives(fonnalich_act(&at, 13, NOW, "", 0, "", 0, out, sizeof out), FONNALICH_WORD), "no word");
     ask(gives(fonnalich_list(&at, T(LIST)), 0), "a list");
     ask(gives(fonnalich_header(&at, NOW, T("no url"), out, sizeof out), FONNALICH_URL), "no URL");
     ask(gives(fonnalich_header(&at, NOW, "\xff", 1, out, sizeof out), FONNALICH_URL), "no text");
@@ -86,7 +86,7 @@ static void tells_the_first_cause(void) {
     char out[256];
     fonnalich at;
     fonnalich_begin(&at);
-    ask(gives(fonnalich_act(&at, 10, INT64_MAX, T(none), "", 0, out, 0), FONNALICH_WORD), "word, client, second, URL");
+    ask(gives(fonnalich_act(&at, 13, INT64_MAX, T(none), "", 0, out, 0), FONNALICH_WORD), "word, client, second, URL");
     ask(gives(fonnalich_header(&at, INT64_MAX, T(none), out, sizeof out), FONNALICH_NO_CLIENT), "client, second, URL");
     ask(gives(fonnalich_save(&at, INT64_MAX, out, sizeof out), FONNALICH_NO_CLIENT), "client, second");
     ask(gives(fonnalich_load(&at, INT64_MAX, T(no_client), T(no_list)), FONNALICH_LIST), "list, second, saved text");
@@ -315,6 +315,117 @@ static void hands_all_over(void) {
     ask(gives(fonnalich_save_all(&at, out, sizeof out), FONNALICH_YEAR), "a year below 0");
     fonnalich_free(&other);
     fonnalich_free(&at);
+}
+
+/* ---- what a client holds */
+
+/* A cookie as a text: domain, path, name and value, the second of its end or "-", and a letter for each flag. */
+static const char *shown(const fonnalich_cookie *it) {
+    static char text[512];
+    char end[24] = "-";
+    if (it->has_expires)
+        snprintf(end, sizeof end, "%lld", (long long)it->expires);
+    snprintf(text, sizeof text, "%.*s %.*s %.*s=%.*s %s %s%s%s%s%d", (int)it->domain_length, it->domain,
+             (int)it->path_length, it->path, (int)it->name_length, it->name, (int)it->value_length, it->value, end,
+             it->host_only ? "h" : "", it->secure ? "s" : "", it->http_only ? "o" : "", it->partitioned ? "p" : "",
+             it->same_site);
+    return text;
+}
+
+/* Whether an answer has exactly these cookies. */
+static int lists(const char *out, ptrdiff_t length, const char *const *wanted, int count) {
+    fonnalich_cookie cookie;
+    const char *at = out;
+    calls++;
+    for (int i = 0; i < count; i++)
+        if (!fonnalich_next_cookie(&at, out + length, &cookie) || strcmp(shown(&cookie), wanted[i]) != 0)
+            return 0;
+    return at == out + length && !fonnalich_next_cookie(&at, out + length, &cookie);
+}
+
+/* The lines of RFC 6265, section 3.1, and some more. */
+static void tells_what_it_holds(void) {
+    static const char *LINES = "SID=31d4d96e407aad42; Path=/; Secure; HttpOnly\n"
+                               "lang=en-US; Path=/; Domain=example.com\na=b=c; Max-Age=60; Path=/x; SameSite=Lax\n"
+                               "d=; Secure; Partitioned; SameSite=None\n"
+                               "e=5; Max-Age=60";
+    static const char *wanted[] = {"example.com / SID=31d4d96e407aad42 - hso0", "example.com / lang=en-US - 0",
+                                   "example.com / d= - hsp3", "example.com / e=5 1700000060 h0",
+                                   "example.com /x a=b=c 1700000060 h2"};
+    static const char *later[] = {"example.com / SID=31d4d96e407aad42 - hso0", "example.com / lang=en-US - 0",
+                                  "example.com / d= - hsp3"};
+    char out[2048];
+    fonnalich at;
+    fonnalich_begin(&at);
+    ask(gives(fonnalich_count(&at, NOW), FONNALICH_NO_CLIENT), "no client");
+    ask(gives(fonnalich_cookies(&at, NOW, out, sizeof out), FONNALICH_NO_CLIENT), "no client either");
+    ask(gives(fonnalich_clear(&at), FONNALICH_NO_CLIENT), "nor is one cleared");
+    ask(gives(fonnalich_get(&at, NOW, T("a"), T("/"), T("b"), out, sizeof out), FONNALICH_NO_CLIENT), "or asked");
+    fonnalich_list(&at, T(LIST));
+    ask(gives(fonnalich_count(&at, NOW), 0) && gives(fonnalich_cookies(&at, NOW, out, sizeof out), 0), "no cookie");
+    fonnalich_receive(&at, NOW, T(URL), T(LINES), out, sizeof out);
+    ask(gives(fonnalich_count(&at, NOW), 5), "five cookies");
+    ptrdiff_t length = fonnalich_cookies(&at, NOW, out, sizeof out);
+    ask(lists(out, length, wanted, 5), "each as it was set");
+    ask(gives(fonnalich_cookies(&at, NOW, out, 3), length), "no room");
+    ask(gives(fonnalich_answer(&at, out, sizeof out), length) && lists(out, length, wanted, 5), "it is kept");
+    ask(gives(fonnalich_count(&at, NOW + 60), 3), "two have come to their end");
+    length = fonnalich_cookies(&at, NOW + 60, out, sizeof out);
+    ask(lists(out, length, later, 3), "the others haven't");
+    ask(gives(fonnalich_count(&at, INT64_MAX), FONNALICH_MOMENT), "no moment");
+    ask(gives(fonnalich_cookies(&at, INT64_MIN, out, sizeof out), FONNALICH_MOMENT), "nor here");
+    fonnalich_free(&at);
+}
+
+static void finds_and_removes(void) {
+    static const char *a[] = {"example.com / a=1 - h0"}, *b[] = {"example.com /x a=2 1700000060 0"};
+    char out[256];
+    fonnalich at;
+    fonnalich_begin(&at);
+    fonnalich_list(&at, T(LIST));
+    ask(gives(fonnalich_one(&at, 2, NOW, T("a"), T("/"), T("b"), out, sizeof out), FONNALICH_WORD), "no word");
+    fonnalich_receive(&at, NOW, T(URL), T("a=1\na=2; Path=/x; Domain=example.com; Max-Age=60"), out, sizeof out);
+    ptrdiff_t length = fonnalich_get(&at, NOW, T("example.com"), T("/"), T("a"), out, sizeof out);
+    ask(lists(out, length, a, 1), "a cookie by its key");
+    length = fonnalich_get(&at, NOW, T("example.com"), T("/x"), T("a"), out, sizeof out);
+    ask(lists(out, length, b, 1), "the other path's");
+    ask(gives(fonnalich_get(&at, NOW + 60, T("example.com"), T("/x"), T("a"), out, sizeof out), 0), "it ends");
+    ask(gives(fonnalich_get(&at, NOW, T("example.com"), T("/x"), T("b"), out, sizeof out), 0), "another name");
+    ask(gives(fonnalich_get(&at, NOW, T("\xff"), T("/x"), T("b"), out, sizeof out), FONNALICH_TEXT), "no text");
+    ask(gives(fonnalich_get(&at, INT64_MAX, T("\xff"), T("/x"), T("b"), out, 0), FONNALICH_MOMENT), "second, text");
+    ask(gives(fonnalich_remove(&at, T("example.com"), T("/"), T("\xff")), FONNALICH_TEXT), "nor here");
+    ask(gives(fonnalich_remove(&at, T("a.example.com"), T("/"), T("a")), 0), "another domain");
+    ask(gives(fonnalich_count(&at, NOW), 2), "nothing was removed");
+    ask(gives(fonnalich_remove(&at, T("example.com"), T("/"), T("a")), 1), "it is removed");
+    ask(gives(fonnalich_remove(&at, T("example.com"), T("/"), T("a")), 0), "once");
+    ask(is(out, fonnalich_header(&at, NOW, T("https://example.com/x"), out, sizeof out), "a=2"), "it alone");
+    ask(gives(fonnalich_remove(&at, T("example.com"), T("/x"), T("a")), 1), "the other one");
+    ask(gives(fonnalich_count(&at, NOW), 0), "none is left");
+    fonnalich_receive(&at, NOW, T(URL), T("a=1\nb=2"), out, sizeof out);
+    ask(gives(fonnalich_header(&at, NOW, T(URL), out, 3), 8) && gives(fonnalich_clear(&at), 0), "all at once");
+    ask(gives(fonnalich_answer(&at, out, sizeof out), 0), "what was kept is dropped");
+    ask(gives(fonnalich_count(&at, NOW), 0), "none is left again");
+    fonnalich_receive(&at, NOW, T(URL), T("a=1; Domain=com\nb=2"), out, sizeof out);
+    ask(out[0] == FONNALICH_PUBLIC_SUFFIX && out[1] == FONNALICH_INSERTED, "the list stays");
+    fonnalich_free(&at);
+}
+
+/* ---- refusals in words */
+
+static void is_told_in_words(void) {
+    char out[128], again[128];
+    for (int number = FONNALICH_HANDLE; number < 0; number++) {
+        ptrdiff_t length = fonnalich_text(number, out, sizeof out);
+        ask(length > 7 && length < (ptrdiff_t)sizeof out && out[length - 1] != '.', "a refusal in words");
+        for (int other = FONNALICH_HANDLE; other < number; other++)
+            ask(!(fonnalich_text(other, again, sizeof again) == length && memcmp(out, again, length) == 0), "its own");
+    }
+    ask(is(out, fonnalich_text(FONNALICH_URL, out, sizeof out), "the text is no URL"), "no URL in words");
+    ask(is(out, fonnalich_text(FONNALICH_STOPPED - 3, out, sizeof out), "memory was refused at a line"), "a stop");
+    static const int64_t none[] = {0, 1, INT64_MAX, FONNALICH_HANDLE - 1, FONNALICH_STOPPED + 1};
+    for (size_t i = 0; i < sizeof none / sizeof none[0]; i++)
+        ask(gives(fonnalich_text(none[i], out, sizeof out), 0), "no refusal");
+    ask(gives(fonnalich_text(INT64_MIN, out, 0), 28), "the last number");
 }
 
 /* ---- a site's exchange */
@@ -691,6 +802,7 @@ static void bears_a_refusal_behind_rules(fonnalich *at) {
 }
 
 static void bears_a_refusal(long growth) {
+    static const char *held[] = {"example.com / id=1 1700000060 h0"};
     char out[1024], saved[2048];
     ptrdiff_t number;
     fonnalich at;
@@ -732,7 +844,24 @@ static void bears_a_refusal(long growth) {
     if (again(number = fonnalich_reload(&at, saved, length)))
         number = fonnalich_reload(&at, saved, length);
     ask(gives(number, 0), "loaded again");
+    if (again(number = fonnalich_count(&at, NOW)))
+        number = fonnalich_count(&at, NOW);
+    ask(gives(number, 1), "how many it holds");
+    if (again(number = fonnalich_cookies(&at, NOW, out, sizeof out)))
+        number = fonnalich_cookies(&at, NOW, out, sizeof out);
+    ask(lists(out, number, held, 1), "the cookies that it holds");
+    if (again(number = fonnalich_get(&at, NOW, T("example.com"), T("/"), T("id"), out, sizeof out)))
+        number = fonnalich_get(&at, NOW, T("example.com"), T("/"), T("id"), out, sizeof out);
+    ask(lists(out, number, held, 1), "one of them");
     bears_a_refusal_behind_rules(&at);
+    if (again(number = fonnalich_remove(&at, T("example.com"), T("/"), T("id")))) {
+        ask(gives(fonnalich_count(&at, NOW), 3), "it is still there");
+        number = fonnalich_remove(&at, T("example.com"), T("/"), T("id"));
+    }
+    ask(gives(number, 1), "it is removed");
+    if (again(number = fonnalich_clear(&at)))
+        number = fonnalich_clear(&at);
+    ask(gives(number, 0), "cleared");
     fonnalich_free(&at);
     const char *commands = "G3user\nS4a%20b=%2B; Max-Age=60\nG4a%20b\nR3user", *header = "x=1; " SIGNED_PAIR;
     if (again(number = serve(header, commands, 12, out, sizeof out)))
@@ -761,11 +890,15 @@ static void bears_a_refusal(long growth) {
 
 int main(int count, char **words) {
     long rounds = count > 1 ? atol(words[1]) : 5000;
-    ask(fonnalich_size() <= sizeof(fonnalich), "a handle has room");
+    fonnalich place;
+    ask(fonnalich_size() == 1024 && sizeof place == 1024, "a handle has room");
+    ask(fonnalich_begin(&place) == 0, "it is begun");
+    fonnalich_free(&place);
     ask(fonnalich_processor() == 0, "the processor");
     char version[16] = "";
     ask(fonnalich_version(version, sizeof version) == 5 && strcmp(version, FONNALICH_VERSION) == 0, "the version");
     ask(fonnalich_version(version, 4) == 5 && strcmp(version, FONNALICH_VERSION) == 0, "no room for the version");
+    is_told_in_words();
     tells_refusals();
     tells_the_first_cause();
     keeps_rules();
@@ -775,6 +908,8 @@ int main(int count, char **words) {
     keeps_an_answer();
     comes_back();
     hands_all_over();
+    tells_what_it_holds();
+    finds_and_removes();
     is_one_line("1\\r\\n2", FONNALICH_LINE);
     is_one_line("\\u{7f}", FONNALICH_LINE);
     for (int i = 0; i < FONNALICH_KEY_LENGTH; i++)

@@ -137,7 +137,10 @@ func newHandle() (handle, error) {
 	if at == nil {
 		return nil, ErrMemory
 	}
-	C.fonnalich_begin(at)
+	if number := C.fonnalich_begin(at); number < 0 {
+		C.free(unsafe.Pointer(at))
+		return nil, refusal(number)
+	}
 	atomic.AddInt64(&living, 1)
 	return at, nil
 }

@@ -85,7 +85,11 @@ static napi_value begin(napi_env env, napi_callback_info info) {
         napi_throw_error(env, "Memory", "memory was refused");
         return NULL;
     }
-    fonnalich_begin(&its->at);
+    if (fonnalich_begin(&its->at) < 0) {
+        free(its);
+        napi_throw_error(env, "Handle", "the library can't begin a handle here");
+        return NULL;
+    }
     its->owner = own;
     its->told = 0;
     its->has_ended = false;

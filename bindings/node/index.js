@@ -11,7 +11,7 @@ const addon = require(process.env.FONNALICH_NODE ? path.resolve(process.env.FONN
 
 if (!addon.processor()) throw new Error('fonnalich: this processor lacks SSE 4.2, which the library needs');
 
-const [LIST, LOAD, RECEIVE, HEADER, SAVE, RESTART, RULES] = [1, 2, 3, 4, 5, 6, 7];
+const [LIST, LOAD, RECEIVE, HEADER, SAVE, RESTART, RULES, CLEAR] = [1, 2, 3, 4, 5, 6, 7, 12];
 const [MEMORY, STOPPED] = [-1, -100];
 const NONE = Buffer.alloc(0);
 
@@ -193,7 +193,7 @@ class CookieJar {
     }
 
     removeAllCookiesSync() {
-        this.#act(LIST, 0, NONE, this.#suffixes);
+        this.#act(CLEAR, 0, NONE, NONE);
     }
 
     removeAllCookies(callback) {

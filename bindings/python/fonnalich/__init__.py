@@ -20,13 +20,13 @@ import time
 import urllib.parse
 import urllib.request
 import weakref
-from typing import TYPE_CHECKING, Any, Callable, Iterable, NoReturn, Optional, Union
+from typing import TYPE_CHECKING, Any, Callable, Iterable, Iterator, NoReturn, Optional, Union
 
 if TYPE_CHECKING:
     from .fleet import Fleet
 
-__all__ = ["Adapter", "Client", "Cookie", "End", "Jar", "List", "NoList", "NoRules", "Refused", "Rules", "Session",
-           "Stopped", "Way", "is_plain_url", "shard", "shard_of_url", "suffix"]
+__all__ = ["Adapter", "Client", "Cookie", "End", "HeldCookie", "Jar", "List", "NoList", "NoRules", "Refused", "Rules",
+           "Session", "Stopped", "Way", "is_plain_url", "shard", "shard_of_url", "suffix"]
 
 _HERE = os.path.dirname(os.path.abspath(__file__))
 
@@ -61,13 +61,18 @@ _TEXT = [ctypes.c_char_p, ctypes.c_size_t]
 _LIB.fonnalich_size.restype = ctypes.c_size_t
 _LIB.fonnalich_version.argtypes = [ctypes.c_void_p, ctypes.c_size_t]
 _LIB.fonnalich_version.restype = ctypes.c_ssize_t
-_LIB.fonnalich_begin.argtypes = [ctypes.c_void_p]
-_LIB.fonnalich_begin.restype = None
+_LIB.fonnalich_text.argtypes = [ctypes.c_int64, ctypes.c_void_p, ctypes.c_size_t]
+_LIB.fonnalich_text.restype = ctypes.c_ssize_t
+_LIB.fonnalich_place.argtypes = [ctypes.c_void_p]
+_LIB.fonnalich_place.restype = None
 _LIB.fonnalich_end.argtypes = [ctypes.c_void_p]
 _LIB.fonnalich_end.restype = None
 _LIB.fonnalich_act.argtypes = [ctypes.c_void_p, ctypes.c_uint32, ctypes.c_int64, *_TEXT, *_TEXT, ctypes.c_void_p,
                                ctypes.c_size_t]
 _LIB.fonnalich_act.restype = ctypes.c_ssize_t
+_LIB.fonnalich_one.argtypes = [ctypes.c_void_p, ctypes.c_uint32, ctypes.c_int64, *_TEXT, *_TEXT, *_TEXT,
+                               ctypes.c_void_p, ctypes.c_size_t]
+_LIB.fonnalich_one.restype = ctypes.c_ssize_t
 _LIB.fonnalich_exchange.argtypes = [*_TEXT, *_TEXT, ctypes.c_int64, *_TEXT, *_TEXT, ctypes.c_void_p, ctypes.c_size_t]
 _LIB.fonnalich_exchange.restype = ctypes.c_ssize_t
 _LIB.fonnalich_suffix.argtypes = [*_TEXT, *_TEXT, ctypes.c_void_p, ctypes.c_size_t]
@@ -97,7 +102,9 @@ _LIB.fonnalich_print.argtypes = [ctypes.c_bool, ctypes.POINTER(_Attributes), *_T
                                  ctypes.c_void_p, ctypes.c_size_t]
 _LIB.fonnalich_print.restype = ctypes.c_ssize_t
 
-_ANSWER, _LIST, _LOAD, _RECEIVE, _HEADER, _SAVE, _RESTART, _RULES, _SAVE_ALL, _RELOAD = range(10)
+_ANSWER, _LIST, _LOAD, _RECEIVE, _HEADER, _SAVE, _RESTART, _RULES, _SAVE_ALL, _RELOAD, _COUNT, _COOKIES, _CLEAR = (
+    range(13))
+_GET, _REMOVE = 0, 1
 _STOPPED = -100
 _ROOM = 4096
 _KEY_LENGTH, _NONCE_LENGTH = 64, 12
@@ -165,6 +172,17 @@ class Refused(ValueError):
     def __init__(self, number: int):
         super().__init__(self.NAMES.get(number, str(number)))
         self.number = number
+
+    @property
+    def text(self) -> str:
+        """What the number says, in English."""
+        return _told(self.number)
+
+
+def _told(number: int) -> str:
+    """What the number of a refusal says."""
+    room = ctypes.create_string_buffer(128)
+    return ctypes.string_at(room, _LIB.fonnalich_text(number, room, len(room))).decode()
 
 
 class NoRules(Refused):
@@ -415,6 +433,44 @@ class Cookie:
         return _answered(_LIB.fonnalich_print, encode, attributes, *texts).decode()
 
 
+@dataclasses.dataclass(frozen=True)
+class HeldCookie:
+    """A cookie that a client holds. Its name and value are as they were received.
+
+    The domain is a host's, without a leading dot, and `host_only` where the hosts below it don't get the cookie.
+    `expires` is in seconds since 1970; without one the cookie ends with the session. No two of a client have the same
+    domain, path and name.
+    """
+
+    domain: str
+    path: str
+    name: str
+    value: str
+    expires: Optional[int]
+    host_only: bool
+    secure: bool
+    http_only: bool
+    partitioned: bool
+    same_site: Optional[str]
+
+
+def _held(answer: bytes) -> list[HeldCookie]:
+    """The cookies of an answer: six items each, the last two of the second of its end and of its flags."""
+    at, items = 0, []
+    while at < len(answer):
+        end = at + 8 + int.from_bytes(answer[at:at + 8], "little")
+        items.append(answer[at + 8:end])
+        at = end
+    return [_held_of(*items[i:i + 6]) for i in range(0, len(items), 6)]
+
+
+def _held_of(domain: bytes, path: bytes, name: bytes, value: bytes, end: bytes, flags: bytes) -> HeldCookie:
+    has_end, host_only, secure, http_only, partitioned = (it == 1 for it in flags[:5])
+    return HeldCookie(domain.decode(), path.decode(), name.decode(), value.decode(),
+                      int.from_bytes(end, "little", signed=True) if has_end else None, host_only, secure, http_only,
+                      partitioned, _SITES[flags[5]])
+
+
 # How many names a session reads of a header one by one, before it reads all names of the header at once.
 _FEW = 4
 
@@ -598,7 +654,7 @@ class Client:
         self._room = ctypes.create_string_buffer(_ROOM)
         self._at = ctypes.create_string_buffer(_LIB.fonnalich_size() + 16)
         self._place: Optional[int] = -(-ctypes.addressof(self._at) // 16) * 16
-        _LIB.fonnalich_begin(self._place)
+        _LIB.fonnalich_place(self._place)
         _CLIENTS.add(self)
         if saved is None:
             self._call(_LIST, 0, b"", text)
@@ -620,13 +676,20 @@ class Client:
         self._rules = Rules(rules)
 
     def _call(self, word: int, number: int, subject: bytes, text: bytes) -> bytes:
+        return self._answer(_LIB.fonnalich_act, word, number, subject, text)
+
+    def _one(self, word: int, second: int, domain: Text, path: Text, name: Text) -> Optional[HeldCookie]:
+        held = _held(self._answer(_LIB.fonnalich_one, word, second, _bytes(domain), _bytes(path), _bytes(name)))
+        return held[0] if held else None
+
+    def _answer(self, call: Callable[..., int], word: int, number: int, *texts: bytes) -> bytes:
         with self._lock:
             if self._is_torn:
                 raise RuntimeError("the client was in a call of another thread as this process was forked")
             if self._place is None:
                 raise ValueError("the client is closed")
-            length = _LIB.fonnalich_act(self._place, word, number, subject, len(subject), text, len(text), self._room,
-                                        len(self._room))
+            given = [it for text in texts for it in (text, len(text))]
+            length = call(self._place, word, number, *given, self._room, len(self._room))
             if length > len(self._room):
                 self._room = ctypes.create_string_buffer(length)
                 length = _LIB.fonnalich_act(self._place, _ANSWER, 0, b"", 0, b"", 0, self._room, length)
@@ -656,6 +719,40 @@ class Client:
     def restart(self, now: Optional[Moment] = None) -> None:
         """Ends the session cookies, as saving and loading does."""
         self._call(_RESTART, _second(now), b"", b"")
+
+    def cookies(self, now: Optional[Moment] = None) -> list[HeldCookie]:
+        """The cookies that it holds and that aren't expired."""
+        return _held(self._call(_COOKIES, _second(now), b"", b""))
+
+    def count(self, now: Optional[Moment] = None) -> int:
+        """How many they are."""
+        return int.from_bytes(self._call(_COUNT, _second(now), b"", b""), "little")
+
+    def get(self, domain: str, path: str, name: str, now: Optional[Moment] = None) -> Optional[HeldCookie]:
+        """The cookie of this domain, path and name, where it holds one that isn't expired."""
+        return self._one(_GET, _second(now), domain, path, name)
+
+    def remove(self, domain: str, path: str, name: str) -> Optional[HeldCookie]:
+        """Takes the cookie of this domain, path and name out; none where it holds none. An expired one that it still
+        keeps counts too."""
+        return self._one(_REMOVE, 0, domain, path, name)
+
+    def clear(self) -> None:
+        """Takes all cookies out."""
+        self._call(_CLEAR, 0, b"", b"")
+
+    def __iter__(self) -> Iterator[HeldCookie]:
+        return iter(self.cookies())
+
+    def __len__(self) -> int:
+        return self.count()
+
+    def __contains__(self, cookie: object) -> bool:
+        return cookie in self.cookies()
+
+    def __bool__(self) -> bool:
+        """True, with cookies and without."""
+        return True
 
     def close(self) -> None:
         """Gives all memory back. No other call may follow."""
@@ -693,13 +790,39 @@ if hasattr(os, "register_at_fork"):
     os.register_at_fork(after_in_child=_after_fork)
 
 
-class Jar(http.cookiejar.CookieJar):
-    """A jar for `urllib.request.HTTPCookieProcessor` over a client, or over a `Fleet` of the module `fleet`. Its own
-    table stays empty, so it lists no cookie.
+class _Shown(http.cookiejar.Cookie):
+    """A cookie of a client as `http.cookiejar` has one. Its version is 1, so that a jar into which somebody copies it
+    sends it nowhere: what a request gets is the client's to say."""
 
-    `clear_session_cookies` is done to the client; a fleet has no such call. What isn't there raises
-    `NotImplementedError`, which says what to do: `get`, `set`, `update`, `set_cookie`, `clear`, `set_policy` and what a
-    jar of `requests` has of a dict.
+
+def _shown(held: HeldCookie) -> http.cookiejar.Cookie:
+    has_dot = not held.host_only
+    rest = {**({"HttpOnly": ""} if held.http_only else {}), **({"SameSite": held.same_site} if held.same_site else {})}
+    return _Shown(1, held.name, held.value, None, False, "." * has_dot + held.domain, has_dot, has_dot, held.path, True,
+                  held.secure, held.expires, held.expires is None, None, None, rest)
+
+
+def _line_of(cookie: Any) -> tuple[str, str]:
+    """The URL and the line by which a client gets a cookie of `http.cookiejar`."""
+    host, path = cookie.domain[cookie.domain.startswith("."):], cookie.path or "/"
+    if not host or not path.startswith("/"):
+        raise ValueError("a cookie that a client gets has a domain, and a path that begins with /")
+    made = Cookie(cookie.name, cookie.value or "", path, host if cookie.domain.startswith(".") else None,
+                  expires=cookie.expires, http_only=cookie.has_nonstandard_attr("HttpOnly"), secure=cookie.secure,
+                  same_site=cookie.get_nonstandard_attr("SameSite"))
+    line = str(made)
+    if Cookie.parse(line) != dataclasses.replace(made, expires=cookie.expires and math.floor(cookie.expires)):
+        raise ValueError("the cookie isn't what its line reads as")
+    return f"https://{host}/", line
+
+
+class Jar(http.cookiejar.CookieJar):
+    """A jar for `urllib.request.HTTPCookieProcessor` over a client, or over a `Fleet` of the module `fleet`.
+
+    It reads, lists, sets and removes the client's cookies as `http.cookiejar` and the jar of `requests` do. Over a
+    fleet it lists none, and the other calls raise `NotImplementedError`. A cookie that is set has a domain. One that is
+    read, as by `list`, says of itself that its version is 1, so other jars send it nowhere. `bool(jar)` is True, with
+    cookies and without. There is no `set_policy`.
     """
 
     def __init__(self, client: Union[Client, Fleet]):
@@ -719,39 +842,136 @@ class Jar(http.cookiejar.CookieJar):
 
     def clear_session_cookies(self) -> None:
         """Ends the client's session cookies."""
-        if not isinstance(self.client, Client):
-            raise NotImplementedError("a fleet's session cookies don't end together: begin with another store")
-        self.client.restart()
+        self._listed().restart()
+
+    def clear_expired_cookies(self) -> None:
+        """Does nothing, since an expired cookie is neither told nor sent."""
 
     def copy(self) -> "Jar":
         """Another jar over the same client."""
         return Jar(self.client)
 
-    def update(self, other: Iterable[object]) -> None:
-        """Takes nothing of an empty jar or dict, and raises by any other."""
-        for cookie in other:
+    def __iter__(self) -> Iterator[http.cookiejar.Cookie]:
+        # (`requests` does so at each request, over a fleet too)
+        return iter([_shown(held) for held in self.client] if isinstance(self.client, Client) else [])
+
+    def __len__(self) -> int:
+        return len(self.client) if isinstance(self.client, Client) else 0
+
+    def __bool__(self) -> bool:
+        return True
+
+    def __contains__(self, name: object) -> bool:
+        if isinstance(name, http.cookiejar.Cookie):
+            return any(vars(name) == vars(cookie) for cookie in self)
+        return name in self.keys()
+
+    def get(self, name: str, default: Any = None, domain: Optional[str] = None, path: Optional[str] = None) -> Any:
+        """The value of a name, of this domain and path where they are given. `RuntimeError` where several have it."""
+        found = [held.value for held in self._of(domain, path, name)]
+        if len(found) > 1:
+            raise RuntimeError(f"several cookies have the name {name!r}: say a domain and a path")
+        return found[0] if found else default
+
+    def __getitem__(self, name: str) -> str:
+        value: Optional[str] = self.get(name)
+        if value is None:
+            raise KeyError(name)
+        return value
+
+    def keys(self) -> list[str]:
+        """The names."""
+        return [held.name for held in self._listed()]
+
+    def values(self) -> list[str]:
+        """The values."""
+        return [held.value for held in self._listed()]
+
+    def items(self) -> list[tuple[str, str]]:
+        """The names and the values."""
+        return [(held.name, held.value) for held in self._listed()]
+
+    def get_dict(self, domain: Optional[str] = None, path: Optional[str] = None) -> dict[str, str]:
+        """The names and the values, of this domain and path where they are given."""
+        return {held.name: held.value for held in self._of(domain, path)}
+
+    def list_domains(self) -> list[str]:
+        """Each domain once."""
+        return list(dict.fromkeys(cookie.domain for cookie in self))
+
+    def list_paths(self) -> list[str]:
+        """Each path once."""
+        return list(dict.fromkeys(cookie.path for cookie in self))
+
+    def clear(self, domain: Optional[str] = None, path: Optional[str] = None, name: Optional[str] = None) -> None:
+        """Takes out all cookies, or those of a domain, of a domain and path, or of these and a name, where there are
+        some: else it raises `KeyError`."""
+        if domain is None:
+            if path is not None or name is not None:
+                raise ValueError("a path or a name without a domain")
+            self._listed().clear()
+            return
+        if name is not None and path is None:
+            raise ValueError("a name without a path")
+        found = self._of(domain, path, name)
+        if not found:
+            raise KeyError(domain if path is None else path if name is None else name)
+        self._remove(found)
+
+    def __delitem__(self, name: str) -> None:
+        self._remove(self._of(None, None, name))
+
+    def set_cookie(self, cookie: Any, *_: object, **__: object) -> None:
+        """Has the client take a cookie, by its line from its own host over https. `ValueError` where it is refused, as
+        for a public suffix."""
+        url, line = _line_of(cookie)
+        end = self._listed().receive(url, [line])[0]
+        if end not in (End.INSERTED, End.UPDATED_EXISTING, End.EXPIRED_EXISTING, End.EXPIRED):
+            raise ValueError(f"the client refused the cookie: {end.name}")
+
+    def set(self, name: str, value: Optional[str], domain: str = "", path: str = "/", secure: bool = False,
+            expires: Optional[int] = None, rest: Optional[dict[str, Any]] = None) -> None:
+        """Sets a cookie of a domain, or takes it out where the value is None."""
+        if value is None:
+            self._remove(self._of(domain or None, path, name))
+            return
+        has_dot = domain.startswith(".")
+        self.set_cookie(http.cookiejar.Cookie(0, name, value, None, False, domain, bool(domain), has_dot, path, True,
+                                              secure, expires, expires is None, None, None, rest or {}))
+
+    def update(self, other: Iterable[Any]) -> None:
+        """Sets the cookies of another jar."""
+        for cookie in list(other):
+            if isinstance(cookie, str):
+                raise ValueError("a cookie that a client gets has a domain: set(name, value, domain=..)")
             self.set_cookie(cookie)
 
-    def set_cookie(self, *_: object, **__: object) -> NoReturn:
-        """Raises, since a client takes lines alone, each from a URL."""
-        raise NotImplementedError("a Jar sets no cookie: hand its line to client.receive(url, [line])")
+    def set_cookie_if_ok(self, cookie: Any, request: object) -> None:
+        """Sets a cookie."""
+        self.set_cookie(cookie)
 
-    def get(self, *_: object, **__: object) -> NoReturn:
-        """Raises, since a client tells the cookies of a URL alone."""
-        raise NotImplementedError("a Jar reads no cookie: client.header(url) has those of a URL")
-
-    def clear(self, *_: object, **__: object) -> NoReturn:
-        """Raises, since a client forgets no cookie unless a line ends it."""
-        raise NotImplementedError("a Jar clears no cookie: begin a new Client, or end one cookie by "
-                                  "client.receive(url, ['name=; Max-Age=0'])")
+    def __setitem__(self, name: str, value: str) -> None:
+        """Raises, since a cookie has a domain: `set` takes it."""
+        self.set(name, value)
 
     def set_policy(self, policy: object) -> NoReturn:
         """Raises, since the client judges by its rules."""
         raise NotImplementedError("a Jar has no policy: set client.rules")
 
-    set = set_cookie_if_ok = __setitem__ = set_cookie
-    get_dict = items = keys = values = __contains__ = __getitem__ = get
-    __delitem__ = clear
+    def _listed(self) -> Client:
+        if not isinstance(self.client, Client):
+            raise NotImplementedError("a fleet lists, sets and removes no cookie: hand it lines of a URL")
+        return self.client
+
+    def _of(self, domain: Optional[str], path: Optional[str], name: Optional[str] = None) -> list[HeldCookie]:
+        """The cookies of a domain, with a leading dot or without, of a path and of a name, where they are given."""
+        host = domain[domain.startswith("."):] if domain is not None else None
+        return [held for held in self._listed() if host in (None, held.domain) and path in (None, held.path)
+                and name in (None, held.name)]
+
+    def _remove(self, found: Iterable[HeldCookie]) -> None:
+        for held in found:
+            self._listed().remove(held.domain, held.path, held.name)
 
 
 class Adapter:
@@ -773,8 +993,9 @@ class Adapter:
     def send(self, request: Any, *words: Any, **how: Any) -> Any:
         """Sends a request with the client's header, but where the caller put one."""
         given = request.headers.get("Cookie")
-        # `requests` makes a header itself of the cookies of this table alone.
-        if given is None or isinstance(given, _Sendable) or request._cookies:
+        # `requests` makes a header itself of the cookies of this table alone, but for the client's, which it copies.
+        others = any(not isinstance(it, _Shown) for it in request._cookies or ())
+        if given is None or isinstance(given, _Sendable) or others:
             self._put(request)
         return self.over.send(request, *words, **how)
 

@@ -26,11 +26,13 @@
 //! ```
 
 mod cookie;
+mod held;
 mod list;
 mod rules;
 mod site;
 
 pub use cookie::{Cookie, CookieBuilder, Encoded, SameSite, SplitCookies};
+pub use held::HeldCookie;
 pub use list::{List, ListError};
 pub use rules::{Rule, Rules};
 pub use site::{is_plain_url, shard, shard_of_url, suffix, Key, Session, Way};
@@ -39,7 +41,7 @@ use std::fmt;
 
 mod library {
     #[repr(C, align(16))]
-    pub struct Handle(pub [u64; 64]);
+    pub struct Handle(pub [u64; 128]);
 
     /// A cookie's attributes. A number or a text counts where its flag is set.
     #[repr(C)]
@@ -60,7 +62,7 @@ mod library {
     unsafe extern "C" {
         pub fn fonnalich_size() -> usize;
         pub fn fonnalich_version(out: *mut u8, out_length: usize) -> isize;
-        pub fn fonnalich_begin(at: *mut Handle);
+        pub fn fonnalich_place(at: *mut Handle);
         pub fn fonnalich_end(at: *mut Handle);
         #[allow(clippy::too_many_arguments)]
         pub fn fonnalich_act(
@@ -71,6 +73,20 @@ mod library {
             subject_length: usize,
             text: *const u8,
             text_length: usize,
+            out: *mut u8,
+            out_length: usize,
+        ) -> isize;
+        #[allow(clippy::too_many_arguments)]
+        pub fn fonnalich_one(
+            at: *mut Handle,
+            word: u32,
+            second: i64,
+            domain: *const u8,
+            domain_length: usize,
+            path: *const u8,
+            path_length: usize,
+            name: *const u8,
+            name_length: usize,
             out: *mut u8,
             out_length: usize,
         ) -> isize;
@@ -306,6 +322,16 @@ enum Word {
     Save,
     Restart,
     Rules,
+    Count = 10,
+    Cookies,
+    Clear,
+}
+
+// The words of a call with one cookie.
+#[derive(Clone, Copy)]
+enum One {
+    Get,
+    Remove,
 }
 
 /// A client that keeps what it is sent, and gives each request what it holds for it. It may move to another thread.
@@ -380,18 +406,90 @@ impl Client {
         self.act(Word::Restart, now, b"", b"").map(|_| ())
     }
 
+    /// How many cookies it holds that aren't expired.
+    pub fn len(&mut self, now: i64) -> Result<usize, Error> {
+        let count = self.act(Word::Count, now, b"", b"")?;
+        Ok(count.iter().rev().fold(0, |sum, byte| sum << 8 | usize::from(*byte)))
+    }
+
+    /// Whether it holds none that isn't expired.
+    pub fn is_empty(&mut self, now: i64) -> Result<bool, Error> {
+        Ok(self.len(now)? == 0)
+    }
+
+    /// The cookies that it holds and that aren't expired.
+    ///
+    /// ```
+    /// let mut client = fonnalich::Client::new("com\n")?;
+    /// client.receive("https://shop.com/", &["user=ann; Secure", "cart=3"], 1_700_000_000)?;
+    /// for cookie in client.iter(1_700_000_000)? {
+    ///     assert_eq!((cookie.domain(), cookie.path()), ("shop.com", "/"));
+    /// }
+    /// client.remove("shop.com", "/", "user")?;
+    /// let names: Vec<_> = client.iter(1_700_000_000)?.map(|cookie| cookie.name().to_owned()).collect();
+    /// assert_eq!(names, ["cart"]);
+    /// # Ok::<(), fonnalich::Error>(())
+    /// ```
+    pub fn iter(&mut self, now: i64) -> Result<impl ExactSizeIterator<Item = HeldCookie>, Error> {
+        let answer = self.act(Word::Cookies, now, b"", b"")?;
+        Ok(held::cookies(answer).into_iter())
+    }
+
+    /// The cookie of this domain, path and name, where it holds one that isn't expired.
+    pub fn get(&mut self, domain: &str, path: &str, name: &str, now: i64) -> Result<Option<HeldCookie>, Error> {
+        self.one(One::Get, now, [domain, path, name])
+    }
+
+    /// Takes the cookie of this domain, path and name out; none where it holds none. An expired one that it still keeps
+    /// counts too.
+    pub fn remove(&mut self, domain: &str, path: &str, name: &str) -> Result<Option<HeldCookie>, Error> {
+        self.one(One::Remove, 0, [domain, path, name])
+    }
+
+    /// Takes all cookies out.
+    pub fn clear(&mut self) {
+        // The call has a client, asks nothing else, and takes no memory.
+        self.act(Word::Clear, 0, b"", b"").expect("a client");
+    }
+
+    fn one(&mut self, word: One, second: i64, [domain, path, name]: [&str; 3]) -> Result<Option<HeldCookie>, Error> {
+        let (out, room) = (self.room.as_mut_ptr(), self.room.len());
+        // The handle was begun and isn't ended. The call reads the three texts, and writes at most `room` bytes.
+        let length = unsafe {
+            library::fonnalich_one(
+                &mut *self.handle,
+                word as u32,
+                second,
+                domain.as_ptr(),
+                domain.len(),
+                path.as_ptr(),
+                path.len(),
+                name.as_ptr(),
+                name.len(),
+                out,
+                room,
+            )
+        };
+        Ok(held::cookies(self.answer(length)?).pop())
+    }
+
     fn begun() -> Client {
         site::demand_processor();
-        let mut handle = Box::new(Handle([0; 64]));
+        let mut handle = Box::new(Handle([0; 128]));
         // The call asks nothing. Its answer is at most the size of a handle.
         assert!(unsafe { library::fonnalich_size() } <= size_of::<Handle>());
         // The place has room for a handle, and stays where it is until the client is dropped.
-        unsafe { library::fonnalich_begin(&mut *handle) };
+        unsafe { library::fonnalich_place(&mut *handle) };
         Client { handle, room: vec![0; 4096] }
     }
 
     fn act(&mut self, word: Word, number: i64, subject: &[u8], text: &[u8]) -> Result<&[u8], Error> {
-        let mut length = self.call(word, number, subject, text);
+        let length = self.call(word, number, subject, text);
+        self.answer(length)
+    }
+
+    // The answer of a call that was this long, which is kept where the room was too small.
+    fn answer(&mut self, mut length: isize) -> Result<&[u8], Error> {
         if length > self.room.len() as isize {
             self.room.resize(length as usize, 0);
             length = self.call(Word::Answer, 0, b"", b"");
@@ -470,6 +568,45 @@ mod tests {
         client.restart(NOW).unwrap();
         assert_eq!(client.header(URL, NOW).unwrap(), b"a=1");
         assert_eq!(Client::load(LIST, b"[(", NOW).err(), Some(Error::Saved));
+    }
+
+    #[test]
+    fn tells_what_it_holds() {
+        let mut client = Client::new(LIST).unwrap();
+        assert!(client.is_empty(NOW).unwrap());
+        let lines = ["a=b=c; Path=/x; Secure; HttpOnly; SameSite=Lax", "lang=en-US; Domain=example.com; Max-Age=60"];
+        client.receive(URL, &lines, NOW).unwrap();
+        assert_eq!((client.len(NOW), client.len(NOW + 60)), (Ok(2), Ok(1)));
+        let held: Vec<_> = client.iter(NOW).unwrap().collect();
+        let keys: Vec<_> = held.iter().map(|it| (it.domain(), it.path(), it.name(), it.value())).collect();
+        assert_eq!(keys, [("example.com", "/x", "a", "b=c"), ("example.com", "/", "lang", "en-US")]);
+        let first = &held[0];
+        assert!(first.is_host_only() && first.is_secure() && first.is_http_only() && !first.is_partitioned());
+        assert_eq!((first.expires(), first.same_site()), (None, Some(SameSite::Lax)));
+        assert_eq!((held[1].expires(), held[1].is_host_only()), (Some(NOW + 60), false));
+        assert_eq!(client.get("example.com", "/", "lang", NOW).unwrap().as_ref(), Some(&held[1]));
+        assert_eq!(client.get("example.com", "/", "lang", NOW + 60), Ok(None));
+        assert_eq!(client.get("example.org", "/", "lang", NOW), Ok(None));
+        assert_eq!(client.remove("example.com", "/", "a"), Ok(None));
+        assert_eq!(client.remove("example.com", "/x", "a").unwrap().as_ref(), Some(&held[0]));
+        assert_eq!(client.header("https://example.com/x", NOW).unwrap(), b"lang=en-US");
+        client.clear();
+        assert_eq!((client.len(NOW), client.header(URL, NOW)), (Ok(0), Ok(Vec::new())));
+        assert_eq!(client.receive(URL, &["a=1; Domain=com"], NOW), Ok(vec![LineEnd::PublicSuffix]));
+        assert_eq!(client.iter(i64::MAX).err(), Some(Error::Moment));
+    }
+
+    // Each of 1,000 cookies is told, and its answer has no room at first.
+    #[test]
+    fn tells_many_that_it_holds() {
+        let mut client = Client::new(LIST).unwrap();
+        let lines: Vec<_> = (0..1000).map(|i| format!("n{i}={}", "x".repeat(i))).collect();
+        client.receive(URL, &lines, NOW).unwrap();
+        let held = client.iter(NOW).unwrap();
+        assert_eq!(held.len(), 1000);
+        assert!(held.enumerate().all(|(i, it)| it.name() == format!("n{i}") && it.value().len() == i));
+        let long = client.get("example.com", "/", "n999", NOW).unwrap();
+        assert_eq!(long.map(|it| it.value().len()), Some(999));
     }
 
     // The sections 4.1.3 and 5.5 to 5.7 of the draft that follows RFC 6265.

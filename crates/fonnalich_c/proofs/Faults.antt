@@ -11,7 +11,7 @@ use Rattle.publicsuffix.specs.Rules.{Rule, Line, Faulty, HasNoFault}
 use Rattle.url.specs.Parts.{Parts}
 use Rattle.user_agent.specs.declared.rules.Rules.{Rules}
 use Rattle.cookie_store.specs.Placing.{saved}
-use Rattle.cookie_store.specs.Rows.{Row}
+use Rattle.cookie_store.specs.Rows.{Key, Row}
 use Rattle.cookie_store.specs.SavedTexts.{IsAnyBeforeYears}
 use Rattle.cookie_run.specs.Program.{IsSuffixList, IsNoSuffixList, IsNoSavedText}
 use Rattle.cookie_run.specs.ScriptLine.{url_of}
@@ -19,6 +19,7 @@ use Rattle.fonnalich_c.specs.Exchange.{IsNoExchange}
 use Rattle.fonnalich_c.specs.Faults.{IsFirst, IsTold}
 use Rattle.fonnalich_c.specs.Given.{IsNoMoment, IsNoUrl, IsUrl, nanos_of}
 use Rattle.fonnalich_c.specs.Numbers.{refusal_number}
+use Rattle.fonnalich_c.specs.One.{IsKeyText, IsPickFault}
 use Rattle.fonnalich_c.specs.Parts.{AreTexts, IsNoEnd, IsUnmade, Texts, counted}
 use Rattle.fonnalich_c.specs.Tasks.{IsBroken, IsHeaderFault, IsNoLoad, IsRequestFault, IsSavingFault}
 use Rattle.fonnalich_c.specs.declared.attributes.Attributes.{Attributes}
@@ -153,6 +154,20 @@ pub line_unsent : (rules : Option Rules) (second : ℤ) (subject : List ℕ) (ro
 line_unsent rules second subject rows refused is at why =
     inr (third_of_three refusal.Moment refusal.Url refusal.Line (IsNoMoment second) (IsNoUrl subject)
     (IsBroken rules second subject rows) refused is at why)
+
+-- ---- a second and a key of a cookie
+
+pub moment_unpicked : (second : ℤ) (key : Key) (refused : Refusal) → (refused ≡ refusal.Moment) × IsNoMoment second
+    → IsTold (IsPickFault second key) refused
+moment_unpicked second key refused why =
+    inr (first_of_two refusal.Moment refusal.Text (IsNoMoment second) (¬ IsKeyText key) refused (record {
+      le = tt;
+    }) why)
+
+pub text_unpicked : (second : ℤ) (key : Key) (refused : Refusal) → ¬ IsNoMoment second
+    → (refused ≡ refusal.Text) × (¬ IsKeyText key) → IsTold (IsPickFault second key) refused
+text_unpicked second key refused is why =
+    inr (second_of_two refusal.Moment refusal.Text (IsNoMoment second) (¬ IsKeyText key) refused is why)
 
 -- ---- a second and rows
 

@@ -1,6 +1,7 @@
 pub mod Exchanges
 pub mod Faults
 pub mod Flags
+pub mod Listings
 pub mod Parting
 pub mod Receiving
 pub mod Refusals

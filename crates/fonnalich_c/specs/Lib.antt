@@ -12,3 +12,6 @@ pub mod Suffix
 pub mod Shard
 pub mod Plain
 pub mod Parts
+pub mod Listing
+pub mod Words
+pub mod One

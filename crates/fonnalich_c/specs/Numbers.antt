@@ -13,6 +13,7 @@ use Rattle.fonnalich_c.specs.declared.refusal.Refusal.TheVariants as refusal
 use Rattle.fonnalich_c.specs.declared.word.Word.{Word}
 use Rattle.fonnalich_c.specs.declared.word.Word.TheVariants.{List, Load, Rules, Ask}
 use Rattle.fonnalich_c.specs.declared.word.Task.TheVariants.{Receive, Header, Save, Restart, SaveAll, Reload}
+use Rattle.fonnalich_c.specs.declared.word.Task.TheVariants.{Count, List as Listing, Clear}
 
 -- the word that hands out the answer that had no room
 abbrev pub answer_word : ℕ
@@ -30,6 +31,9 @@ word_of number =
     else if number == 7 then Some Rules
     else if number == 8 then Some (Ask SaveAll)
     else if number == 9 then Some (Ask Reload)
+    else if number == 10 then Some (Ask Count)
+    else if number == 11 then Some (Ask Listing)
+    else if number == 12 then Some (Ask Clear)
     else None
 
 -- ---- what became of a line

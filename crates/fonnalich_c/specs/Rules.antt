@@ -1,6 +1,6 @@
 -- The rules of user agents by their flags, and the numbers of what becomes of a line behind them (own:
 -- docs/DEFINITIONS.md). The rules are those of `user_agent`.
-use Rattle.std.specs.Prelude.{ℕ, zero, suc, ℤ, pos, ◌≡◌, ◌<◌, ◌/◌, ◌%◌, ◌==◌, Bool, Option, Some, None}
+use Rattle.std.specs.Prelude.{ℕ, zero, suc, ℤ, pos, ◌≡◌, ◌<◌, ◌/◌, ◌%◌, ◌==◌, Bool, false, Option, Some, None}
 use Rattle.user_agent.specs.declared.rules.Outcome.{Outcome}
 use Rattle.user_agent.specs.declared.rules.Outcome.TheVariants.{Taken, Refused}
 use Rattle.user_agent.specs.declared.rules.Refusal.{Refusal}
@@ -15,7 +15,8 @@ use Rattle.fonnalich_c.specs.Numbers.{end_number}
 abbrev pub is_set : ℕ → ℕ → Bool
 is_set flag flags = (flags / flag) % 2 == 1
 
--- each rule is on whose flag is set: those that refuse, in their order, those that rewrite, and that Secure rows win
+-- each rule is on whose flag is set: those that refuse, in their order, those that rewrite, and that Secure rows win;
+-- `lax_by_default` has none, since no call is told what starts a request
 abbrev pub ruled : ℕ → Rules
 ruled flags = record {
   control = flags % 2 == 1;
@@ -28,6 +29,7 @@ ruled flags = record {
   dates = is_set 128 flags;
   long_lives = is_set 256 flags;
   secure_wins = is_set 512 flags;
+  lax_by_default = false;
 }
 
 -- the rules of a number of ten flags; without a flag there are none, and lines go to the client as they stand

@@ -26,6 +26,7 @@ use Rattle.user_agent.specs.declared.rules.Outcome.{Outcome}
 use Rattle.user_agent.specs.declared.rules.Rules.{Rules}
 use Rattle.fonnalich_c.specs.Faults.{IsTold}
 use Rattle.fonnalich_c.specs.Given.{IsUrl, IsNoUrl, IsNoMoment, nanos_of, lines_of}
+use Rattle.fonnalich_c.specs.Listing.{IsCount, IsListing, IsNoListing}
 use Rattle.fonnalich_c.specs.Numbers.{end_number}
 use Rattle.fonnalich_c.specs.Rules.{IsFlags, IsNoFlags, outcome_number}
 use Rattle.fonnalich_c.specs.declared.refusal.Refusal.{Refusal}
@@ -146,6 +147,9 @@ Does task.Save given rules old answer new = (new ≡ old) × IsSavedText given.n
 Does task.Restart given rules old answer new = (answer ≡ []) × Restarts given.number old new
 Does task.SaveAll given rules old answer new = (new ≡ old) × IsWholeText old.rows answer
 Does task.Reload given rules old answer new = (answer ≡ []) × Reloads given.subject old new
+Does task.Count given rules old answer new = (new ≡ old) × IsCount given.number old.rows answer
+Does task.List given rules old answer new = (new ≡ old) × IsListing given.number old.rows answer
+Does task.Clear given rules old answer new = (answer ≡ []) × (new ≡ record old { rows = [] })
 
 abbrev pub Refuses : Task → Given → Option Rules → Store → Refusal → Store → Type 0
 Refuses task.Receive given rules old refused new =
@@ -156,6 +160,9 @@ Refuses task.Save given rules old refused new = (new ≡ old) × IsTold (IsSavin
 Refuses task.Restart given rules old refused new = (new ≡ old) × IsTold (IsSavingFault given.number old.rows) refused
 Refuses task.SaveAll given rules old refused new = (new ≡ old) × IsNoWholeText old.rows refused
 Refuses task.Reload given rules old refused new = (new ≡ old) × IsNoReload given.subject refused
+Refuses task.Count given rules old refused new = (new ≡ old) × IsNoListing given.number refused
+Refuses task.List given rules old refused new = (new ≡ old) × IsNoListing given.number refused
+Refuses task.Clear given rules old refused new = ⊥
 
 -- ---- a client's beginning
 

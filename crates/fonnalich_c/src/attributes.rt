@@ -71,13 +71,13 @@ fn end(at: Option<DateTime>) -> i64
     }
 }
 
-fn is_set(flag: Option<bool>) -> bool
+pub(crate) fn is_set(flag: Option<bool>) -> bool
     ensures { result ≡ is_set flag }
 {
     flag == Some(true)
 }
 
-fn site_number(site: Option<SameSite>) -> u8
+pub(crate) fn site_number(site: Option<SameSite>) -> u8
     ensures { result ≡ spec.site_number site }
 {
     match site {

@@ -1,7 +1,10 @@
 //! What a handle holds, and what a call does with it.
 ghost use Rattle.std.specs.Prelude.{◌≡◌, length};
+ghost use Rattle.cookie_store.specs.Rows.{key};
 ghost use Rattle.fonnalich_c.specs.Handle as spec;
+ghost use Rattle.fonnalich_c.specs.One.{ActsOnOne};
 
+use crate::one::{Key, Pick, told};
 use crate::task::{Habits, answer};
 use crate::word::{ANSWER, Word};
 use cookie_run::Client;
@@ -68,6 +71,32 @@ pub(crate) fn work(
         subject,
         text,
     ) {
+        Ok(answer) => {
+            held.kept = answer;
+            hand_out(&mut held.kept, out)
+        }
+        Err(refusal) => refusal.number(),
+    }
+}
+
+/// Does what a word says with the cookie of a key, and hands out what is told of it.
+pub(crate) fn pick_one(
+    alloc: Global,
+    held: &mut Held,
+    word: u32,
+    second: i64,
+    domain: &[u8],
+    path: &[u8],
+    name: &[u8],
+    out: &mut [u8],
+) -> isize
+    ensures { ActsOnOne word second (key domain.now path.now name.now)
+        (record { client = held.old.client; rules = held.old.habits.rules; kept = held.old.kept.items }) out.old
+        (record { client = held.new.client; rules = held.new.habits.rules; kept = held.new.kept.items }) out.new
+        result }
+{
+    let texts = Key { domain, path, name };
+    match told(alloc, &mut held.client, Pick::of(word), second, texts) {
         Ok(answer) => {
             held.kept = answer;
             hand_out(&mut held.kept, out)

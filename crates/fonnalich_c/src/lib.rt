@@ -8,14 +8,17 @@ ghost use Rattle.std.specs.Prelude.{◌≡◌};
 ghost use types.Logic.{sem};
 ghost use base.Fml.{fex, fsep, ftrue};
 ghost use Rattle.std.specs.Ptr.{points_to, room_at};
+ghost use Rattle.cookie_store.specs.Rows.{key};
 ghost use Rattle.fonnalich_c.specs.Exchange.{IsExchange, IsNoExchange};
 ghost use Rattle.fonnalich_c.specs.Handle.{IsFresh, Acts};
+ghost use Rattle.fonnalich_c.specs.One.{ActsOnOne};
 ghost use Rattle.fonnalich_c.specs.Plain.{TellsPlain};
 ghost use Rattle.fonnalich_c.specs.Parts.{GivesParts, IsPrinted, IsUnprinted};
 ghost use Rattle.cookie_run.specs.Version.{version};
 ghost use Rattle.fonnalich_c.specs.Room.{Gives, IsWritten};
 ghost use Rattle.fonnalich_c.specs.Shard.{IsShardBy, IsShardAtText, HasNoShard, HasNoShardAt};
 ghost use Rattle.fonnalich_c.specs.Suffix.{IsSuffixOf, HasNoSuffix};
+ghost use Rattle.fonnalich_c.specs.Words.{text_of};
 ghost use Rattle.fonnalich_c.specs.contracts.held.Held as held;
 
 mod apart;
@@ -25,8 +28,10 @@ mod exchange;
 mod given;
 mod held;
 mod item;
+mod listing;
 mod memory;
 mod nonce;
+mod one;
 mod page;
 mod plain;
 mod refusal;
@@ -37,21 +42,23 @@ mod suffix;
 mod task;
 mod together;
 mod word;
+mod words;
 
 use crate::apart::apart;
 use crate::attributes::Attributes;
 use crate::exchange::exchange;
-use crate::held::{Held, fresh, let_go, work};
+use crate::held::{Held, fresh, let_go, pick_one, work};
 use crate::plain::plain_number;
 use crate::room::write;
 use crate::shard::{shard, shard_at};
 use crate::suffix::suffix;
 use crate::together::{Texts, together};
+use crate::words::text_of;
 use cookie_run::version;
 use std::alloc::Global;
 
 /// How many bytes the place of a handle has, which stands at a multiple of 8.
-const PLACE: usize = 512;
+const PLACE: usize = 1024;
 
 const _: () = prove!(size_of::<Held>() <= PLACE);
 
@@ -60,7 +67,7 @@ const _: () = prove!(align_of::<Held>() <= 8);
 /// How many bytes the place of a handle has, which stands at a multiple of 8.
 #[unsafe(no_mangle)]
 pub extern "C" fn fonnalich_size() -> usize
-    ensures { result ≡ 512 }
+    ensures { result ≡ 1024 }
 {
     PLACE
 }
@@ -73,9 +80,17 @@ pub extern "C" fn fonnalich_version(out: &mut [u8]) -> isize
     write(version().as_bytes(), out)
 }
 
+/// What the number of a refusal says; nothing of another.
+#[unsafe(no_mangle)]
+pub extern "C" fn fonnalich_text(number: i64, out: &mut [u8]) -> isize
+    ensures { IsWritten (text_of number) out.old out.new result }
+{
+    write(text_of(number).as_bytes(), out)
+}
+
 /// Begins a handle at this place, without a client. It takes no memory.
 #[unsafe(no_mangle)]
-pub unsafe extern "C" fn fonnalich_begin(alloc: Global, at: *mut u8)
+pub unsafe extern "C" fn fonnalich_place(alloc: Global, at: *mut u8)
     requires* { sem 𝓛 (room_at held.the_row at) }
     ensures* { sem 𝓛 (fex held.the_row.Denot (λ w. fsep
         (fex (IsFresh (record { client = w.client; rules = w.habits.rules; kept = w.kept.items })) (λ _. ftrue))
@@ -111,6 +126,39 @@ pub unsafe extern "C" fn fonnalich_act(
         number,
         subject,
         text,
+        out,
+    )
+}
+
+/// Does what a word says with the cookie of this domain, path and name by the handle at this place: 0 tells it, unless
+/// it is expired at the second, and 1 takes it out, and tells it. Nothing is told where there is none.
+#[unsafe(no_mangle)]
+pub unsafe extern "C" fn fonnalich_one(
+    alloc: Global,
+    at: *mut u8,
+    word: u32,
+    second: i64,
+    domain: &[u8],
+    path: &[u8],
+    name: &[u8],
+    out: &mut [u8],
+) -> isize
+    ghost value: { Held }
+    requires* { sem 𝓛 (points_to held.the_row at value) }
+    ensures* { sem 𝓛 (fex held.the_row.Denot (λ w. fsep
+        (fex (ActsOnOne word second (key domain.now path.now name.now)
+        (record { client = value.client; rules = value.habits.rules; kept = value.kept.items }) out.old
+        (record { client = w.client; rules = w.habits.rules; kept = w.kept.items }) out.new result) (λ _. ftrue))
+        (points_to held.the_row at w))) }
+{
+    pick_one(
+        alloc,
+        &mut *(at as *mut Held),
+        word,
+        second,
+        domain,
+        path,
+        name,
         out,
     )
 }

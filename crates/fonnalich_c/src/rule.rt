@@ -34,6 +34,7 @@ fn ruled(flags: u64) -> Rules
         dates: flags / 128 % 2 == 1,
         long_lives: flags / 256 % 2 == 1,
         secure_wins: flags / 512 % 2 == 1,
+        lax_by_default: false,
     }
 }
 

@@ -4,11 +4,13 @@ ghost use Rattle.std.specs.Prelude.{false, string_bytes, true};
 ghost use Rattle.jiff.specs.Words.{civil_nanos};
 ghost use Rattle.cookie_store.specs.SavedTexts.{IsAnyBeforeYears};
 ghost use Rattle.fonnalich_c.specs.Faults.{IsTold};
+ghost use Rattle.fonnalich_c.specs.Listing.{IsCount, IsListing, IsNoListing};
 ghost use Rattle.fonnalich_c.specs.Numbers.{end_number};
 ghost use Rattle.fonnalich_c.specs.Rules.{outcome_number};
 ghost use Rattle.fonnalich_c.specs.Tasks as spec;
 
 use crate::given::{lines, list, moment};
+use crate::listing::{count_of, listing};
 use crate::memory::Memory;
 use crate::page::{Page, url_at};
 use crate::refusal::{Refusal, end_number};
@@ -131,6 +133,12 @@ fn ask(
         Task::Restart => restart(alloc, client, second),
         Task::SaveAll => save_all(alloc, client),
         Task::Reload => reload(alloc, client, subject),
+        Task::Count => count(alloc, client, second),
+        Task::List => list_all(alloc, client, second),
+        Task::Clear => {
+            client.clear();
+            Ok(Vec::new(alloc))
+        }
     }
 }
 
@@ -304,4 +312,25 @@ fn restart(alloc: Global, client: &mut Client, second: i64) -> Result<Vec<u8>, R
         Err(Error::Year) => Err(Refusal::Year),
         Err(_) => Err(Refusal::Memory),
     }
+}
+
+// How many cookies aren't expired, in eight bytes.
+fn count(alloc: Global, client: &Client, second: i64) -> Result<Vec<u8>, Refusal>
+    ensures ok { IfOk result (λ answer. IsCount second client.now.rows answer.items) }
+    ensures err { IfErr result (IsNoListing second) }
+{
+    let now = moment(second)?;
+    let count = count_of(client, now)?;
+    let mut answer = Vec::with_capacity(alloc, 8)?;
+    answer.extend_from_slice(&count.to_le_bytes())?;
+    Ok(answer)
+}
+
+// The items of these.
+fn list_all(alloc: Global, client: &Client, second: i64) -> Result<Vec<u8>, Refusal>
+    ensures ok { IfOk result (λ answer. IsListing second client.now.rows answer.items) }
+    ensures err { IfErr result (IsNoListing second) }
+{
+    let now = moment(second)?;
+    Ok(listing(alloc, client, now)?)
 }

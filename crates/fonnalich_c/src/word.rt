@@ -20,6 +20,12 @@ pub enum Task {
     SaveAll,
     /// To take all rows of a saved text in the place of its own.
     Reload,
+    /// How many of its rows aren't expired.
+    Count,
+    /// The items of these.
+    List,
+    /// To let go of all its rows.
+    Clear,
 }
 
 /// What a word does.
@@ -50,6 +56,9 @@ impl Word {
             7 => Some(Word::Rules),
             8 => Some(Word::Ask(Task::SaveAll)),
             9 => Some(Word::Ask(Task::Reload)),
+            10 => Some(Word::Ask(Task::Count)),
+            11 => Some(Word::Ask(Task::List)),
+            12 => Some(Word::Ask(Task::Clear)),
             _ => None,
         }
     }

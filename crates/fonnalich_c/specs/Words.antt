@@ -1,0 +1,35 @@
+-- What a refusal's number is told as in words (own: docs/DEFINITIONS.md).
+use Rattle.std.specs.Prelude.{ℕ, ℤ, pos, ◌==◌, if◌then◌else◌, nat_le, int_lt, unsigned_abs, List, [], codes}
+
+-- of the number below 0 that has this size
+abbrev pub words_of : ℕ → List ℕ
+words_of size =
+    if size == 1 then codes "memory was refused"
+    else if size == 2 then codes "the word is none of the header file"
+    else if size == 3 then codes "there is no client yet"
+    else if size == 4 then codes "the text is no public suffix list"
+    else if size == 5 then codes "the second is outside the years -9999 to 9999"
+    else if size == 6 then codes "the text is no URL"
+    else if size == 7 then codes "the text is no saved client"
+    else if size == 8 then codes "a cookie that is to be saved ends in a year below 0"
+    else if size == 9 then codes "the saved text wasn't read to its end"
+    else if size == 10 then codes "the key has under 64 bytes"
+    else if size == 11 then codes "a line is no command"
+    else if size == 12 then codes "the name is empty"
+    else if size == 13 then codes "the expiry is of a year below 100"
+    else if size == 14 then codes "the cookie is too long to be sealed"
+    else if size == 15 then codes "there are too few nonces"
+    else if size == 16 then codes "the host has no byte, or an empty label"
+    else if size == 17 then codes "a text isn't UTF-8"
+    else if size == 18 then codes "the text has no = before its first semicolon"
+    else if size == 19 then codes "the number is none of SameSite"
+    else if size == 20 then codes "the number is none of rules"
+    else if size == 21 then codes "the header has a control character of a loaded cookie"
+    else if size == 22 then codes "this processor lacks SSE 4.2"
+    else if size == 23 then codes "the library's handle is larger than the header file's"
+    else if nat_le 100 size then codes "memory was refused at a line"
+    else []
+
+-- nothing where the number is of no refusal
+abbrev pub text_of : ℤ → List ℕ
+text_of number = if int_lt number (pos 0) then words_of (unsigned_abs number) else []
