@@ -17,7 +17,8 @@ size_t costs_kept_size(void);
 void costs_begin(void *at);
 void costs_end(void *at);
 typedef bool call(void *at, const char *, size_t, const char *, size_t);
-call costs_parse, costs_keep, costs_print, costs_sign, costs_verify, costs_seal, costs_open, costs_list, costs_look_up,
+call costs_parse, costs_keep, costs_print, costs_sign, costs_verify, costs_seal, costs_open, costs_ring,
+    costs_verify_under_ring, costs_open_under_ring, costs_rotate, costs_list, costs_look_up,
     costs_visit, costs_make_ready, costs_insert, costs_put, costs_remove, costs_clear, costs_save_json, costs_load_json,
     costs_save_ron, costs_load_ron, costs_save_lines, costs_load_lines, costs_import, costs_begin_client,
     costs_put_behind_rules, costs_receive, costs_header, costs_open_session, costs_get, costs_get_plain, costs_set,
@@ -135,6 +136,28 @@ static void opens(int n) {
     (void)n;
     does(costs_seal, "user", VALUE);
     counts(costs_open, "user", "");
+}
+
+/* A ring of so many keys, whose last one made what is read. */
+static void make_ring(int keys) {
+    does(costs_ring, repeated("", "k", keys, ""), "");
+}
+
+static void verifies_under_ring(int n) {
+    make_ring(n ? n : 17);
+    does(costs_sign, VALUE, "");
+    counts(costs_verify_under_ring, "", "");
+}
+
+static void opens_under_ring(int n) {
+    make_ring(n ? n : 17);
+    does(costs_seal, "user", VALUE);
+    counts(costs_open_under_ring, "user", "");
+}
+
+static void rotates(int n) {
+    make_ring(n);
+    counts(costs_rotate, "", "");
 }
 
 /* ---- public suffixes */
@@ -340,6 +363,22 @@ static void receives_over_http(int n) {
     counts(costs_receive, lines_of("a", "=1; Path=/p", n), "");
 }
 
+/* One line over http, beside so many rows of another host. */
+static void receives_one_over_http(int n) {
+    begin_client(true, "https://www.shop.com/");
+    does(costs_receive, lines_of("s", "=1; Path=/; Secure", n), "");
+    does(costs_visit, "http://www.stranger.com/", "");
+    counts(costs_receive, "a=1; Path=/p", "");
+}
+
+/* So many lines over http, of the name that as many rows have. */
+static void receives_of_one_name(int n) {
+    begin_client(true, "https://www.shop.com/");
+    does(costs_receive, lines_of("a=1; Secure; Path=/s", "", n), "");
+    does(costs_visit, "http://www.shop.com/", "");
+    counts(costs_receive, lines_of("a=1; Path=/p", "", n), "");
+}
+
 /* A line of a stranger's, of which so many bytes or parts repeat themselves, behind the rules. */
 static void receives_line(const char *start, const char *again, int n, const char *end) {
     begin_client(true, URL);
@@ -526,7 +565,7 @@ static char out[1 << 16];
 
 static void begin_handle(int n) {
     char url[64];
-    fonnalich_begin(&handle);
+    fonnalich_place(&handle);
     demand(fonnalich_list(&handle, LIST, strlen(LIST)) == 0, "a list");
     for (int host = 0; host * PATH_COUNT < n; host++) {
         snprintf(url, sizeof url, "https://h%d.example.com/a/x", host);
@@ -603,6 +642,11 @@ static const struct {
     {"it is verified", verifies, 0},
     {"a value of 16 bytes is sealed", seals, 0},
     {"it is opened", opens, 0},
+    {"a value of 16 bytes is verified under 17 keys", verifies_under_ring, 0},
+    {"a value of 16 bytes is opened under 17 keys", opens_under_ring, 0},
+    {"a value of 16 bytes is verified under n keys", verifies_under_ring, 2},
+    {"a value of 16 bytes is opened under n keys", opens_under_ring, 2},
+    {"a ring of n keys is rotated", rotates, 2},
     {"a value of n bytes is signed", signs, 1000},
     {"a value of n bytes is sealed", seals, 1000},
     {"a list of n rules is read", reads_list, 1000},
@@ -628,6 +672,8 @@ static const struct {
     {"the same behind the rules of browsers", receives_behind_rules, 1000},
     {"a line with an Expires behind the rules", receives_date, 0},
     {"n lines over http behind the rules, beside n Secure rows", receives_over_http, 200},
+    {"a line over http behind the rules, beside n Secure rows", receives_one_over_http, 1000},
+    {"n lines over http of one name, beside n Secure rows of it", receives_of_one_name, 200},
     {"a name of n bytes behind the rules", receives_name, 500},
     {"an escaped name of n characters behind the rules", receives_escaped_name, 150},
     {"a value of n bytes behind the rules", receives_value, 500},
