@@ -1,5 +1,6 @@
 -- Lines and values, put one after another.
-use Rattle.std.proofs.Common.{◌≡◌, ◌<◌, ◌+◌, ◌↔◌, ◌⊎◌, ℕ, List, [], ◌∷◌, ◌++◌, map, length, refl, sym, ap, subst, ◌∙◌, arith, inl, inr}
+use Rattle.std.proofs.Common.{◌≡◌, ◌<◌, ◌+◌, ◌↔◌, ◌⊎◌, ℕ, List, [], ◌∷◌, ◌++◌, map, length, refl, sym, ap}
+use Rattle.std.proofs.Common.{subst, ◌∙◌, arith, inl, inr}
 use Rattle.std.proofs.Common.{Result, Ok, Err, take, length-append, append_assoc, Bool, true, false, IfErr}
 use Rattle.std.specs.Prelude.{IsErr, IsErrAnd, IsErrOf, IsTrue, fold, IfOk, MatchResult, OnOk}
 use Rattle.std.specs.List.{AllZip}

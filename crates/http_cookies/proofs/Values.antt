@@ -25,7 +25,8 @@ use Rattle.cookie_text.specs.declared.expiration.Expiration.TheVariants.{DateTim
 use Rattle.cookie_text.specs.Attribute.{Attribute, HttpOnly, Secure, Partitioned, OfSite, MaxAge, Path, Domain, Expires}
 use Rattle.cookie_text.specs.Pieces.{equals}
 use Rattle.cookie_text.specs.Printing.{attribute_text, attributes_of, date_text, encoded, encoded_pair, end_of, escaped}
-use Rattle.cookie_text.specs.Printing.{escaped_byte, flag, is_escaped, is_set, piece_text, printed_attributes, prints_secure, site_name}
+use Rattle.cookie_text.specs.Printing.{escaped_byte, flag, is_escaped, is_set, piece_text, printed_attributes}
+use Rattle.cookie_text.specs.Printing.{prints_secure, site_name}
 use Rattle.cookie_text.specs.Printing.{whole_seconds}
 use Rattle.cookie_text.specs.Record.{Record, domain_of, without_dot}
 
@@ -37,7 +38,9 @@ fits : (text : List ℕ) → list_all is_value_byte text ≡ true → Fits text
 fits text h = record { bytes = h }
 
 join : (a b : List ℕ) → Fits a → Fits b → Fits (a ++ b)
-join a b h k = record { bytes = list_all-append is_value_byte a b ∙ (ap (λ x. x && list_all is_value_byte b) h.bytes ∙ k.bytes) }
+join a b h k = record {
+  bytes = list_all-append is_value_byte a b ∙ (ap (λ x. x && list_all is_value_byte b) h.bytes ∙ k.bytes);
+}
 
 -- ---- numbers and dates
 
@@ -64,7 +67,8 @@ two_fit n h = fits (two_digits n) (agree_below_at (λ k. list_all is_value_byte 
 
 month_fits : (n : ℕ) → IsInRange 1 12 n → Fits (month_name n)
 month_fits n h =
-    fits (month_name n) (agree_below_at (λ k. list_all is_value_byte (month_name k)) (λ _. true) 13 n refl (omega arith))
+    fits (month_name n)
+    (agree_below_at (λ k. list_all is_value_byte (month_name k)) (λ _. true) 13 n refl (omega arith))
 
 day_fits : (n : ℕ) → IsInRange 1 7 n → Fits (day_name n)
 day_fits n h =

@@ -18,7 +18,8 @@ use Rattle.http_header.specs.HeaderMap.{IsHeaderMap, get_all}
 use Rattle.publicsuffix.specs.Rules.{Rule}
 use Rattle.url.specs.Parts.{Parts}
 use Rattle.http_cookies.specs.Fields.{Fields, TakesHeader, TakesLines, IsHeaderRefusal, AreLinesRefusal, AreFieldValues}
-use Rattle.http_cookies.specs.Fields.{RefusesLines, cookie_name, header_in, lines_in, set_cookie_name, with_header, with_lines}
+use Rattle.http_cookies.specs.Fields.{RefusesLines, cookie_name, header_in, lines_in, set_cookie_name}
+use Rattle.http_cookies.specs.Fields.{with_header, with_lines}
 use Rattle.http_cookies.specs.declared.error.PutError.{PutError}
 use Rattle.http_cookies.specs.declared.error.PutError.TheVariants.{Full, OutOfMemory}
 

@@ -1,5 +1,6 @@
 -- What is answered of a plan, and of none.
-use Rattle.std.proofs.Common.{◌≡◌, ◌⊎◌, ℕ, Bool, true, false, List, Option, Result, Ok, Err, inl, inr, refl, sym, subst, ap}
+use Rattle.std.proofs.Common.{◌≡◌, ◌⊎◌, ℕ, Bool, true, false, List, Option, Result, Ok, Err, inl, inr}
+use Rattle.std.proofs.Common.{refl, sym, subst, ap}
 use Rattle.jar_commands.specs.Outcomes.{OutcomeText}
 use Rattle.jar_commands.specs.Performing.{AnswersPlan, AnswersTexts, Brings, BringsNothing, Reader, reads}
 use Rattle.jar_commands.specs.Plans.{PlanText}
@@ -29,7 +30,8 @@ pub refused : (Unread : Type 0) (reader : Reader) (plan : Result PlanText Failur
     (stored given : Option (List ℕ)) (failure : Failure) → (failure ≡ Memory) ⊎ (plan ≡ Err failure) → Unread
     → AnswersPlan Unread reader plan suffixes stored given (Err failure)
 refused Unread reader (Err cause) suffixes stored given failure (inl memory) unread = (inr (ap Err memory), unread)
-refused Unread reader (Err cause) suffixes stored given failure (inr same) unread = (inl (ap Err (one_cause cause failure same)), unread)
+refused Unread reader (Err cause) suffixes stored given failure (inr same) unread =
+    (inl (ap Err (one_cause cause failure same)), unread)
 refused Unread reader (Ok plan) suffixes stored given failure (inl memory) unread =
     at_memory Unread reader (reads plan.task) plan suffixes stored given failure (Err failure) refl memory unread
 refused Unread reader (Ok plan) suffixes stored given failure (inr same) unread = absurd (not_both plan failure same)

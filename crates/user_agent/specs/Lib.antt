@@ -1,6 +1,6 @@
 pub mod Agent
-pub mod Controls
 pub mod Changes
+pub mod Controls
 pub mod CrossSite
 pub mod CutLives
 pub mod Dates

@@ -90,8 +90,10 @@ fonnalich_place_spec {M} 𝓤 𝓛 𝓜 𝓡 wired =
     suffices ! _ (ends_at 𝓛 f.ended stayed c ((κs, qs, bounds, args (block_ptr b o), vals (block_ptr b o)), tt)
     vunit tt (tt, (tt, tt)) (tt, (tt, tt))) $
     move ! (2 ∷ 0 ∷ []) $ use2 𝓛 (‵ (points_to R (block_ptr b o) r)) (part_in_at 𝓛 R refl full_share r b o _ refl v) $
-    nothing ! $ fpack ! (IsFresh (record { client = r.client; rules = r.habits.rules; kept = r.kept.items })) (λ _. ftrue) is_fresh $ fjoin ! $
-    fpack ! R.Denot (λ w. fsep (fex (IsFresh (record { client = w.client; rules = w.habits.rules; kept = w.kept.items })) (λ _. ftrue))
+    nothing ! $ fpack ! (IsFresh (record { client = r.client; rules = r.habits.rules; kept = r.kept.items })) (λ _. ftrue)
+    is_fresh $ fjoin ! $
+    fpack ! R.Denot
+    (λ w. fsep (fex (IsFresh (record { client = w.client; rules = w.habits.rules; kept = w.kept.items })) (λ _. ftrue))
     (points_to R (block_ptr b o) w)) r $
     -- [what lies at the pointer; the token]
     feq_i ! _ (vunit ∷ []) _ refl $ nothing ! $ nothing ! $ fjoin ! $ nothing ! $ fjoin ! $
