@@ -1,6 +1,8 @@
 -- Starts that ascend, each of a text of its own.
-use Rattle.std.proofs.Common.{◌≡◌, ◌+◌, ◌-◌, ◌&&◌, ◌++◌, ◌<◌, ◌≤◌, ℕ, zero, suc, Bool, true, false, cond, List, [], ◌∷◌, length}
-use Rattle.std.proofs.Common.{map, get_or, length-append, refl, sym, ap, subst, ◌∙◌, ◌⊎◌, inl, inr, arith, true≢false, leb, ltb}
+use Rattle.std.proofs.Common.{◌≡◌, ◌+◌, ◌-◌, ◌&&◌, ◌++◌, ◌<◌, ◌≤◌, ℕ, zero, suc, Bool, true, false, cond, List, [], ◌∷◌}
+use Rattle.std.proofs.Common.{length}
+use Rattle.std.proofs.Common.{map, get_or, length-append, refl, sym, ap, subst, ◌∙◌, ◌⊎◌, inl, inr, arith, true≢false}
+use Rattle.std.proofs.Common.{leb, ltb}
 use Rattle.std.proofs.Common.{leb-false, leb-true, ltb-false, ltb-true}
 use Rattle.std.specs.Prelude.{All, Err, IfSome, Ok, OnErr, OnOk, Result, Some, None, nat_le, nat_lt, option_map}
 use Rattle.std.specs.List.{remove}
@@ -27,7 +29,8 @@ use Rattle.place_index.specs.PathParts.{BeginBefore, path_at}
 use Rattle.place_index.proofs.EntryLemmas.{same_text, text_is}
 use Rattle.place_index.proofs.IndexLemmas.{moved_up, not_moved, value_at-with_other}
 use Rattle.place_index.proofs.IndexOutLemmas.{not_back, one_back}
-use Rattle.place_index.proofs.StartLemmas.{first_mapped, none_found, part_added, place_within, remove-length, still_none}
+use Rattle.place_index.proofs.StartLemmas.{first_mapped, none_found, part_added, place_within, remove-length}
+use Rattle.place_index.proofs.StartLemmas.{still_none}
 use Rattle.place_index.proofs.StartLemmas.{with_value-length, without-length}
 
 -- ---- entries, each of a text of its own
@@ -95,7 +98,8 @@ module _ {V : Type 0} where
 module _ {R P : Type 0} (part : ℕ → R → P) where
   pub seen_by_text : (starts : List ℕ) (rows : List (List ℕ × R)) (i : ℕ) → length starts ≡ length rows
       → HaveOwnTexts rows → i < length starts
-      → (text : List ℕ) × (own : R) × (value_at text (with_starts part starts rows) ≡ Some (part (get_or starts i 0) own))
+      → (text : List ℕ) × (own : R) ×
+      (value_at text (with_starts part starts rows) ≡ Some (part (get_or starts i 0) own))
   seen_by_text [] rs i same own less = absurd (omega (arith, less))
   seen_by_text (s ∷ ss) [] i same own less = absurd (omega (arith, same))
   seen_by_text (s ∷ ss) (e ∷ es) zero same own less =

@@ -12,6 +12,7 @@ pub mod PartLemmas
 pub mod PlacesLemmas
 pub mod PuttingLemmas
 pub mod RowLemmas
+pub mod SideLemmas
 pub mod StartLemmas
 pub mod StepLemmas
 mod IndexOutLemmas

@@ -1,5 +1,6 @@
 -- A domain's part after a row of a path that is there.
-use Rattle.std.proofs.Common.{◌≡◌, ◌≢◌, ◌+◌, ◌++◌, ◌<◌, ◌≤◌, ℕ, List, [], ◌∷◌, refl, sym, ap, subst, ◌∙◌, arith, suc, length}
+use Rattle.std.proofs.Common.{◌≡◌, ◌≢◌, ◌+◌, ◌++◌, ◌<◌, ◌≤◌, ℕ, List, [], ◌∷◌, refl, sym, ap, subst, ◌∙◌, arith, suc}
+use Rattle.std.proofs.Common.{length}
 use Rattle.std.proofs.Common.{get_or, map}
 use Rattle.std.specs.Prelude.{Option, Some, None, IfSome, option_map, slice_get}
 use Rattle.indexmap.specs.IndexMap.{set_value_at}
@@ -123,7 +124,8 @@ still_begin path name old new at place before l text = text_cases text path same
 module _ (path name : List ℕ) (starts : List ℕ) (rows : List (List ℕ × PathRows)) (paths : List (List ℕ × Part))
     (is : with_starts path_at starts rows ≡ paths) (same : length starts ≡ length rows) (place : ℕ)
     (at : place_of path rows ≡ Some place) (own : PathRows)
-    (value : slice_get (map (λ e. e.1) rows) place ≡ Some own) (start : ℕ) (begins : start ≡ get_or starts place 0) where
+    (value : slice_get (map (λ e. e.1) rows) place ≡ Some own) (start : ℕ)
+    (begins : start ≡ get_or starts place 0) where
   pub lengthens : (names : List (List ℕ)) → names ≡ own.names ++ name ∷ []
       → Lengthens path name paths
       (with_starts path_at starts (set_value_at rows place (record { len = own.len + 1; names = names })))

@@ -213,7 +213,8 @@ module _ {R P : Type 0} (part : ℕ → R → P) (text : List ℕ) where
 -- ---- the entry of a text in an index that is kept so
 
 module _ {R P : Type 0} (part : ℕ → R → P) (text : List ℕ) (starts : List ℕ) (rows : List (List ℕ × R))
-    (index : List (List ℕ × P)) (is : with_starts part starts rows ≡ index) (same : length starts ≡ length rows) (place : ℕ)
+    (index : List (List ℕ × P)) (is : with_starts part starts rows ≡ index) (same : length starts ≡ length rows)
+    (place : ℕ)
     (at : place_of text rows ≡ Some place) (own : R) (value : slice_get (map (λ e. e.1) rows) place ≡ Some own)
     (start d : ℕ) (begins : start ≡ get_or starts place d) where
   pub part_there : value_at text index ≡ Some (part start own)

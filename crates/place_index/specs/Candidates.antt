@@ -18,8 +18,8 @@ after_dots (b ∷ bs) = if b == dot then bs ∷ after_dots bs else after_dots bs
 abbrev pub domains_of : List ℕ → List (List ℕ)
 domains_of host = host ∷ after_dots host
 
--- the beginnings of a text, less than all of it, that end with a slash or that a slash follows, each once; also the empty
--- one where a slash stands before the text
+-- the beginnings of a text, less than all of it, that end with a slash or that a slash follows, each once; also the
+-- empty one where a slash stands before the text
 abbrev pub beginnings : Bool → List ℕ → List (List ℕ)
 beginnings behind [] = []
 beginnings behind (b ∷ bs) =

@@ -10,8 +10,10 @@ mod names;
 mod order;
 mod part;
 mod putting;
+mod room;
 mod starts;
 mod taking;
+mod text_list;
 mod text_map;
 
 pub use index::Index;

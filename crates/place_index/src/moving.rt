@@ -5,7 +5,8 @@ ghost use Rattle.std.specs.List.Sorted.{IsNonDecreasing};
 ghost use Rattle.place_index.specs.Index.{last, moved};
 ghost use Rattle.place_index.specs.Taking.{moved_back};
 
-/// Has each start at `at` or later be one later. The starts ascend, so those are the last ones, and no other is touched.
+/// Has each start at `at` or later be one later. The starts ascend, so those are the last ones, and no other is
+/// touched.
 pub(crate) fn move_starts(starts: &mut [usize], at: usize)
     requires ascend { IsNonDecreasing starts.old }
     requires low { All (λ start. start < last) starts.old }

@@ -8,7 +8,7 @@ ghost use Rattle.place_index.specs.Taking.{path_back};
 
 use crate::names::Names;
 use crate::starts::Starts;
-use crate::text_map::TextMap;
+use crate::text_list::TextList;
 use std::alloc::Global;
 use std::marker::Model;
 
@@ -24,7 +24,7 @@ pub(crate) struct PathRows {
 #[derive(Debug, Drop)]
 pub(crate) struct Paths {
     pub(crate) starts: Starts,
-    pub(crate) rows: TextMap<PathRows>,
+    pub(crate) rows: TextList<PathRows>,
 }
 
 impl Model for Paths {
@@ -57,7 +57,7 @@ impl Paths {
     {
         Paths {
             starts: Starts::new(alloc),
-            rows: TextMap::new(alloc),
+            rows: TextList::new(alloc),
         }
     }
 

@@ -3,7 +3,7 @@
 ghost use Rattle.std.specs.Prelude.{◌≡◌, ◌++◌, [], ◌∷◌, IfOk, IfSome, OnOk, OnErr, None, false, string_bytes};
 ghost use Rattle.std.specs.List.{list_any};
 ghost use Rattle.std.specs.Str.{bytes_eq};
-ghost use Rattle.place_index.specs.Entries.{value_at, with_value};
+ghost use Rattle.place_index.specs.Entries.{place_of, value_at, with_value};
 ghost use Rattle.place_index.specs.Index.{last};
 ghost use Rattle.place_index.specs.PathParts.{BeginBefore, EndBefore, LengthensAny};
 ghost use Rattle.place_index.specs.Putting.{HasRoom, IsReady, Puts, PutsAt};
@@ -12,6 +12,7 @@ use crate::index::Domains;
 use crate::names::Names;
 use crate::part::{DomainRows, PathRows, Paths};
 use crate::starts::Starts;
+use crate::text_list::TextList;
 use crate::text_map::TextMap;
 use std::alloc::{AllocError, Global};
 
@@ -81,18 +82,43 @@ fn begin_path(
 {
     let mut names = Names::new(alloc);
     names.push(alloc, name)?;
-    let text = String::from_str(alloc, path)?;
     let rows = PathRows { len: 1, names };
-    begin_part(&mut paths.starts, &mut paths.rows, text, start, rows)
+    begin_rows(alloc, &mut paths.starts, &mut paths.rows, path, start, rows)
 }
 
-// Has a part more, of a text that has none.
-fn begin_part<V: Drop>(
+// Has a path's part more, of a text that has none.
+fn begin_rows(
+    alloc: Global,
     starts: &mut Starts,
-    rows: &mut TextMap<V>,
+    rows: &mut TextList<PathRows>,
+    text: &str,
+    start: usize,
+    value: PathRows,
+) -> Result<(), AllocError>
+    requires { place_of text.now rows.old ≡ None }
+    ensures starts_ok { OnOk result (starts.new ≡ starts.old ++ start ∷ []) }
+    ensures rows_ok { OnOk result (rows.new ≡ with_value rows.old text.now value) }
+    ensures starts_err { OnErr result (starts.new ≡ starts.old) }
+    ensures rows_err { OnErr result (rows.new ≡ rows.old) }
+{
+    let last = starts.len();
+    starts.push(start)?;
+    match rows.push(alloc, text, value) {
+        Ok(()) => Ok(()),
+        Err(e) => {
+            starts.remove(last);
+            Err(e)
+        }
+    }
+}
+
+// Has a domain's part more, of a text that has none.
+fn begin_part(
+    starts: &mut Starts,
+    rows: &mut TextMap<DomainRows>,
     text: String,
     start: usize,
-    value: V,
+    value: DomainRows,
 ) -> Result<(), AllocError>
     ensures starts_ok { OnOk result (starts.new ≡ starts.old ++ start ∷ []) }
     ensures rows_ok { OnOk result (rows.new ≡ with_value rows.old (string_bytes text) value) }

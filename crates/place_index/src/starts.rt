@@ -7,6 +7,7 @@ ghost use Rattle.place_index.specs.Index.{last, moved};
 ghost use Rattle.place_index.specs.Taking.{moved_back};
 
 use crate::moving::{move_starts, move_starts_back};
+use crate::room::make_room;
 use std::alloc::{AllocError, Global};
 use std::marker::Model;
 
@@ -57,7 +58,8 @@ impl Starts {
         ensures ok { OnOk result (self.new ≡ self.old ++ start ∷ []) }
         ensures err { OnErr result (self.new ≡ self.old) }
     {
-        self.numbers.push(start)?;
+        make_room(&mut self.numbers)?;
+        self.numbers.push_reserved(start);
         Ok(())
     }
 

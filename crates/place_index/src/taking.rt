@@ -23,7 +23,7 @@ fn shorten(paths: &mut Paths, at: usize, path: &str)
         rows.len -= 1;
         rows.names.take(inner);
     } else {
-        paths.rows.remove(path);
+        paths.rows.remove(place);
         paths.starts.remove(place);
     }
 }

@@ -15,8 +15,8 @@ fn now() -> DateTime {
 }
 
 // A request of four domain texts and five path texts puts so many questions at the most: four, and five for each of the
-// domains that has a row. This is proved and not run: the test below runs the request by `matches`, which is the call of
-// a blank count.
+// domains that has a row. This is proved and not run: the test below runs the request by `matches`, which is the call
+// of a blank count.
 pub(crate) fn match_deep<'s, L: Ledger>(
     store: &'s CookieStore,
     url: &Url,

@@ -1,4 +1,4 @@
-use Rattle.std.proofs.Common.{◌≡◌, ◌≤◌, ◌-◌, ◌∙◌, ap, arith, refl, subst, sym}
+use Rattle.std.proofs.Common.{◌≡◌, ◌≤◌, ◌<◌, ◌-◌, ◌∙◌, ap, arith, length, refl, subst, sym}
 use Rattle.std.specs.List.{remove}
 use Rattle.indexmap.specs.IndexMap.{set_value_at}
 use Rattle.place_index.specs.Entries.{set_at, value_at, without}
@@ -6,6 +6,7 @@ use Rattle.place_index.specs.PathParts.{path_at}
 use Rattle.place_index.specs.Starts.{AreInOrder, with_starts}
 use Rattle.place_index.specs.Taking.{BeginsBy, shorter}
 use Rattle.place_index.proofs.AscendLemmas.{in_order-same, in_order-set, in_order-without}
+use Rattle.place_index.proofs.SideLemmas.{remove-place, without-gone}
 use Rattle.place_index.proofs.StartLemmas.{entry_at, no_value, none_found, part_removed, part_set, part_there}
 use Rattle.place_index.proofs.StartLemmas.{place_within, set_value_at-same}
 use Rattle.place_index.proofs.TakingLemmas.{shorter-only, shortens_gone, shortens_more, shortens_none}
@@ -44,6 +45,14 @@ invariant_of-paths c =
     in_order-set c.paths.inside.starts c.paths.inside.rows c.paths.invariant c.in-Some.place
     (record { len = c.value_mut-rows.result.now.len - 1; names = c.take.new.self })
 
+pub remove-requires : goal.remove-requires
+remove-requires c =
+    let rows = c.paths.inside.rows in
+    let place = c.in-Some.place in
+    subst (λ es. place < length es)
+    (sym (set_value_at-same rows place c.value_mut-rows.result.now c.value_mut-rows.ensures.value))
+    (place_within c.args.path.now rows place (sym c.in-Some.ensures))
+
 pub remove-requires-else-rows-gt1 : goal.remove-requires-else-rows-gt1
 remove-requires-else-rows-gt1 c =
     let within = place_within c.args.path.now c.paths.inside.rows c.in-Some.place (sym c.in-Some.ensures) in
@@ -56,9 +65,10 @@ invariant_of-paths-else-rows-gt1 c =
     let rows = c.paths.inside.rows in
     let place = c.in-Some.place in
     in_order-same _ _ _ _ c.remove-else-rows-gt1.ensures
-    (c.remove.ensures.rest
-    ∙ ap (without path)
-    (set_value_at-same rows place c.value_mut-rows.result.now c.value_mut-rows.ensures.value))
+    (c.remove.ensures
+    ∙ ap (λ es. remove es place)
+    (set_value_at-same rows place c.value_mut-rows.result.now c.value_mut-rows.ensures.value)
+    ∙ remove-place path rows place (sym c.in-Some.ensures))
     (in_order-without c.paths.inside.starts rows c.paths.invariant path place (sym c.in-Some.ensures))
 
 pub returns-then-rows-gt1 : goal.returns-then-rows-gt1
@@ -91,11 +101,13 @@ returns-else-rows-gt1 c =
     let start = c.get.result in
     let there = part_there path_at path starts rows old c.paths.view_is c.paths.invariant.each place at own
     c.value_mut-rows.ensures.value start 0 c.get.ensures in
-    let kept = c.remove.ensures.rest
-    ∙ ap (without path) (set_value_at-same rows place own c.value_mut-rows.ensures.value) in
+    let kept = c.remove.ensures
+    ∙ ap (λ es. remove es place) (set_value_at-same rows place own c.value_mut-rows.ensures.value)
+    ∙ remove-place path rows place at in
     shortens_gone path c.args.at old old _ refl
     (ap (shorter c.args.at) there ∙ shorter-only c.args.at (path_at start own) c.if-rows-gt1.false)
     ((λ i. with_starts path_at (c.remove-else-rows-gt1.ensures i) (kept i))
     ∙ part_removed path_at path starts rows place c.paths.invariant.each at
     ∙ ap (without path) c.paths.view_is)
-    (none_found path_at path _ c.remove.new.self c.remove.ensures.gone)
+    (none_found path_at path _ c.remove.new.self
+    (ap (value_at path) kept ∙ without-gone path rows c.paths.invariant.apart))

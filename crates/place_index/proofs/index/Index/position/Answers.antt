@@ -28,14 +28,16 @@ returns-in_err-place-clause-at g c places agrees =
     subst (StandsAt row places) (sym c.from_residual-in_err-place.ensures)
     (no_name row c.args.self.now (part_at c.in_ok-start.start c.in_ok-start.rows.now)
     (ap (value_at c.args.domain.now) (sym c.self.view_is) ∙ sym c.in_ok-start.ensures.part)
-    (path_at c.in_ok-inner.inner c.in_ok-inner.rows.now) (sym c.in_ok-inner.ensures.part) (sym c.in_err-place.ensures.place) places agrees)
+    (path_at c.in_ok-inner.inner c.in_ok-inner.rows.now) (sym c.in_ok-inner.ensures.part)
+    (sym c.in_err-place.ensures.place) places agrees)
 
 pub overflow_add-result : goal.overflow_add-result
 overflow_add-result g c =
     let row : Place = record { domain = c.args.domain.now; path = c.args.path.now; name = c.args.name.now } in
     let low = stands_low row c.args.self.now (part_at c.in_ok-start.start c.in_ok-start.rows.now)
     (ap (value_at c.args.domain.now) (sym c.self.view_is) ∙ sym c.in_ok-start.ensures.part)
-    (path_at c.in_ok-inner.inner c.in_ok-inner.rows.now) (sym c.in_ok-inner.ensures.part) c.in_ok-place.place (sym c.in_ok-place.ensures.place)
+    (path_at c.in_ok-inner.inner c.in_ok-inner.rows.now) (sym c.in_ok-inner.ensures.part) c.in_ok-place.place
+    (sym c.in_ok-place.ensures.place)
     c.requires in
     omega (arith, low)
 
@@ -44,7 +46,8 @@ overflow_add-result-2 g c =
     let row : Place = record { domain = c.args.domain.now; path = c.args.path.now; name = c.args.name.now } in
     let low = stands_low row c.args.self.now (part_at c.in_ok-start.start c.in_ok-start.rows.now)
     (ap (value_at c.args.domain.now) (sym c.self.view_is) ∙ sym c.in_ok-start.ensures.part)
-    (path_at c.in_ok-inner.inner c.in_ok-inner.rows.now) (sym c.in_ok-inner.ensures.part) c.in_ok-place.place (sym c.in_ok-place.ensures.place)
+    (path_at c.in_ok-inner.inner c.in_ok-inner.rows.now) (sym c.in_ok-inner.ensures.part) c.in_ok-place.place
+    (sym c.in_ok-place.ensures.place)
     c.requires in
     omega (arith, low)
 
@@ -53,7 +56,8 @@ returns-clause-at g c =
     let row : Place = record { domain = c.args.domain.now; path = c.args.path.now; name = c.args.name.now } in
     stands_there row c.args.self.now (part_at c.in_ok-start.start c.in_ok-start.rows.now)
     (ap (value_at c.args.domain.now) (sym c.self.view_is) ∙ sym c.in_ok-start.ensures.part)
-    (path_at c.in_ok-inner.inner c.in_ok-inner.rows.now) (sym c.in_ok-inner.ensures.part) c.in_ok-place.place (sym c.in_ok-place.ensures.place)
+    (path_at c.in_ok-inner.inner c.in_ok-inner.rows.now) (sym c.in_ok-inner.ensures.part) c.in_ok-place.place
+    (sym c.in_ok-place.ensures.place)
 
 pub returns-in_err-start-clause-looks : goal.returns-in_err-start-clause-looks
 returns-in_err-start-clause-looks g c places agrees =
@@ -79,7 +83,8 @@ returns-in_err-place-clause-looks g c places agrees =
     let second = c.in_ok-inner.ensures.look in
     let third = c.ask-3.ensures.look in
     let three = looks_three row c.args.self.now places agrees (part_at c.in_ok-start.start c.in_ok-start.rows.now)
-    (ap (value_at c.args.domain.now) (sym c.self.view_is) ∙ sym c.in_ok-start.ensures.part) (path_at c.in_ok-inner.inner c.in_ok-inner.rows.now)
+    (ap (value_at c.args.domain.now) (sym c.self.view_is) ∙ sym c.in_ok-start.ensures.part)
+    (path_at c.in_ok-inner.inner c.in_ok-inner.rows.now)
     (sym c.in_ok-inner.ensures.part) in
     omega (arith, first, second, third, three)
 
@@ -90,6 +95,7 @@ returns-clause-looks g c places agrees =
     let second = c.in_ok-inner.ensures.look in
     let third = c.ask-3.ensures.look in
     let three = looks_three row c.args.self.now places agrees (part_at c.in_ok-start.start c.in_ok-start.rows.now)
-    (ap (value_at c.args.domain.now) (sym c.self.view_is) ∙ sym c.in_ok-start.ensures.part) (path_at c.in_ok-inner.inner c.in_ok-inner.rows.now)
+    (ap (value_at c.args.domain.now) (sym c.self.view_is) ∙ sym c.in_ok-start.ensures.part)
+    (path_at c.in_ok-inner.inner c.in_ok-inner.rows.now)
     (sym c.in_ok-inner.ensures.part) in
     omega (arith, first, second, third, three)

@@ -14,7 +14,8 @@ returns-in_err-place c =
 
 pub get-requires : goal.get-requires
 get-requires c =
-    let within = place_within c.args.text.now c.self.inside.rows c.in_ok-place.place (sym c.in_ok-place.ensures.place) in
+    let within = place_within c.args.text.now c.self.inside.rows c.in_ok-place.place
+    (sym c.in_ok-place.ensures.place) in
     let same = c.self.invariant.each in
     omega (arith, within, same)
 
