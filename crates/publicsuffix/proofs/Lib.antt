@@ -1,4 +1,3 @@
-mod CopyLemmas
 mod LineLemmas
 mod NameLemmas
 mod NodeLemmas

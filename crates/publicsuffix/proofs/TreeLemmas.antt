@@ -1,14 +1,17 @@
 -- A tree of labels: what each node stands for, and the rules that are marked.
-use Rattle.std.proofs.Common.{◌≡◌, ℕ, ◌<◌, ◌+◌, ◌⊎◌, Bool, true, false, List, [], ◌∷◌, ◌++◌, length, Option, Some, None}
+use Rattle.std.proofs.Common.{◌≡◌, ℕ, ◌<◌, ◌+◌, ◌⊎◌, Bool, true, false, ◌||◌, List, [], ◌∷◌, ◌++◌, map, length, Option}
+use Rattle.std.proofs.Common.{Some, None, nat_lt}
+use Rattle.std.specs.List.{list_any}
 use Rattle.std.proofs.Common.{Contains, suc, zero, refl, sym, ap, subst, ◌∙◌, inl, inr, arith}
 use Rattle.std.specs.Prelude.{get_or}
-use Rattle.std.proofs.lemmas.Bool.{cases_lt, false≢true}
+use Rattle.std.proofs.lemmas.Bool.{cases_lt, false≢true, lt-ltb}
 use Rattle.std.proofs.lemmas.Option.{none-some, same_Some}
 use Rattle.std.proofs.lemmas.List.{get_or_append_left, get_or_push, length_push}
 use Rattle.std.proofs.lemmas.List.Elements.{Contains-append_left, Contains-append_right, Contains-append_cases}
 use Rattle.std.proofs.lemmas.List.Elements.{Contains-push, Contains-push_cases}
 use Rattle.publicsuffix.specs.Rules.{Label, Rule}
-use Rattle.publicsuffix.specs.Tree.{Grown, grow, labels_at, mark_of, marked, rules_at}
+use Rattle.publicsuffix.specs.Tree.{Grown, grow, is_marked, labels_at, mark_of, marked, rules_at}
+use Rattle.publicsuffix.specs.declared.tree.Node.{Node}
 
 grow_append : (ps : List (List Label)) (es fs : List (Option (ℕ × Label))) → grow ps (es ++ fs) ≡ grow (grow ps es) fs
 grow_append ps [] fs = refl
@@ -234,3 +237,25 @@ pub to_marked : (ps : List (List Label)) (marks : List (Bool × Bool)) (rule : R
 to_marked ps marks rule is =
     subst (λ x. Contains (marked ps marks) (record { is_exception = rule.is_exception; labels = x })) is.labels
     (to_marked_at ps marks rule.is_exception is.place is.in_paths is.in_marks is.mark)
+
+one_more : (rule : Rule) (rules : List Rule) → true ≡ nat_lt 0 (length (rule ∷ rules))
+one_more rule rules = sym (lt-ltb 0 (length (rule ∷ rules)) (omega arith))
+
+some_here : (p : List Label) (plain exception rest : Bool) (others : List Rule) → rest ≡ nat_lt 0 (length others)
+    → (is_marked (plain, exception) || rest) ≡ nat_lt 0 (length (rules_at p (plain, exception) ++ others))
+some_here p false false rest others e = e
+some_here p false true rest others e = one_more (record { is_exception = true; labels = p }) others
+some_here p true false rest others e = one_more (record { is_exception = false; labels = p }) others
+some_here p true true rest others e =
+    one_more (record { is_exception = false; labels = p }) (record { is_exception = true; labels = p } ∷ others)
+
+-- there is a rule where a node is marked
+pub some_marked : (ps : List (List Label)) (nodes : List Node) → length ps ≡ length nodes
+    → list_any (λ n. is_marked (n.plain, n.exception)) nodes
+    ≡ nat_lt 0 (length (marked ps (map (λ n. (n.plain, n.exception)) nodes)))
+some_marked [] [] e = refl
+some_marked [] (n ∷ ns) e = absurd (omega (arith, e))
+some_marked (p ∷ ps) [] e = absurd (omega (arith, e))
+some_marked (p ∷ ps) (n ∷ ns) e = some_here p (n.plain) (n.exception)
+    (list_any (λ n. is_marked (n.plain, n.exception)) ns) (marked ps (map (λ n. (n.plain, n.exception)) ns))
+    (some_marked ps ns (omega (arith, e)))

@@ -1,5 +1,6 @@
 -- What a tree of labels stands for.
-use Rattle.std.specs.Prelude.{◌≡◌, ◌≢◌, ℕ, ◌+◌, ◌*◌, ◌^◌, ◌%◌, ◌<◌, ◌⊎◌, ◌↔◌, Bool, true, false, ◌&&◌, nat_eq, List, []}
+use Rattle.std.specs.Prelude.{◌≡◌, ◌≢◌, ℕ, ◌+◌, ◌*◌, ◌^◌, ◌%◌, ◌<◌, ◌⊎◌, ◌↔◌, Bool, true, false, ◌&&◌, ◌||◌, nat_eq}
+use Rattle.std.specs.Prelude.{List, []}
 use Rattle.std.specs.Prelude.{◌∷◌, ◌++◌, map, length, get_or, slice_get, Option, Some, None, Contains, if◌then◌else◌}
 use Rattle.std.specs.Option.{option_and_then}
 use Rattle.std.specs.Str.{bytes_eq}
@@ -75,6 +76,10 @@ abbrev pub rules_at : List Label → Bool × Bool → List Rule
 rules_at labels marks =
     (if marks.0 then record { is_exception = false; labels = labels } ∷ [] else [])
     ++ (if marks.1 then record { is_exception = true; labels = labels } ∷ [] else [])
+
+-- whether the marks have a rule
+abbrev pub is_marked : Bool × Bool → Bool
+is_marked marks = marks.0 || marks.1
 
 abbrev pub marked : List (List Label) → List (Bool × Bool) → List Rule
 marked [] marks = []
@@ -160,14 +165,6 @@ pub record Marks (old new : Node) (kind : Bool) : Type 0 where
       ⊎ (mark_of (old.plain, old.exception) other ≡ true)
   pub kept : (other : Bool) → mark_of (old.plain, old.exception) other ≡ true
       → mark_of (new.plain, new.exception) other ≡ true
-
--- the copy hangs where the node hangs, has its marks, and leads to the same nodes
-pub record IsCopy (node copy : Node) : Type 0 where
-  pub up : edge_view copy.up ≡ edge_view node.up
-  pub plain : copy.plain ≡ node.plain
-  pub exception : copy.exception ≡ node.exception
-  pub link : copy.next ≡ node.next
-  pub wildcard : copy.wildcard ≡ node.wildcard
 
 -- each rule covers one label of a name or more
 abbrev pub CoverSome : List Rule → Type 0

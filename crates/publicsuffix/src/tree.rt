@@ -1,9 +1,9 @@
 //! The rules as a tree of labels, from the last label inwards.
 ghost use Rattle.std.specs.Prelude.{◌≡◌, ◌<◌, ◌%◌, IfOk, None, OnOk, length, string_bytes, vec_len};
-ghost use Rattle.std.specs.List.{AllZip};
+ghost use Rattle.std.specs.List.{list_any};
 ghost use Rattle.publicsuffix.specs.Rules as spec;
-ghost use Rattle.publicsuffix.specs.Tree.{HasMore, HasNone, HasWildcard, IsBelow, IsCopy, IsGrown, IsLeaf, IsLinked};
-ghost use Rattle.publicsuffix.specs.Tree.{Marks, child, edge_view, hangs_at, hashed, mixed};
+ghost use Rattle.publicsuffix.specs.Tree.{HasMore, HasNone, HasWildcard, IsBelow, IsGrown, IsLeaf, IsLinked};
+ghost use Rattle.publicsuffix.specs.Tree.{Marks, child, edge_view, hangs_at, hashed, is_marked, mixed};
 ghost use Rattle.publicsuffix.specs.View.{label_view};
 
 use crate::label::Label;
@@ -62,6 +62,13 @@ impl Node {
         self.plain
     }
 
+    // Whether the node's labels are a rule.
+    fn is_rule(&self) -> bool
+        ensures { result ≡ is_marked (self.now.plain, self.now.exception) }
+    {
+        self.plain || self.exception
+    }
+
     // Whether the node hangs below another at a text.
     fn hangs_at(&self, at: usize, text: &[u8]) -> bool
         ensures { result ≡ hangs_at at text.now (edge_view self.now.up) }
@@ -88,32 +95,6 @@ impl Node {
         ensures { HasWildcard self.old self.new next }
     {
         self.wildcard = Some(next);
-    }
-
-    // A copy of the node.
-    fn clone(&self) -> Result<Node, AllocError>
-        ensures { IfOk result (IsCopy self.now) }
-    {
-        Ok(Node {
-            up: copy_of(&self.up)?,
-            plain: self.plain,
-            exception: self.exception,
-            wildcard: self.wildcard,
-            next: self.next,
-        })
-    }
-}
-
-// A copy of where a node hangs.
-fn copy_of(up: &Option<Edge>) -> Result<Option<Edge>, AllocError>
-    ensures { IfOk result (λ copy. edge_view copy ≡ edge_view up.now) }
-{
-    match up {
-        None => Ok(None),
-        Some(edge) => Ok(Some(Edge {
-            parent: edge.parent,
-            label: edge.label.clone()?,
-        })),
     }
 }
 
@@ -155,6 +136,13 @@ impl Tree {
         Ok(())
     }
 
+    /// Whether the tree has a rule.
+    pub(crate) fn has_rule(&self) -> bool
+        ensures { result ≡ list_any (λ n. is_marked (n.plain, n.exception)) self.now.nodes.items }
+    {
+        self.nodes.iter().any(|node| node.is_rule())
+    }
+
     /// The node below another at a text.
     pub(crate) fn text(&self, at: usize, text: &[u8]) -> Option<usize>
         requires { IsLinked self.now }
@@ -194,19 +182,6 @@ impl Tree {
         ensures { result ≡ child self.now.nodes.items at spec.Wildcard }
     {
         self.nodes[at].wildcard
-    }
-
-    /// A copy of the tree.
-    pub(crate) fn clone(&self) -> Result<Tree, AllocError>
-        ensures nodes { IfOk result (λ tree. AllZip IsCopy self.now.nodes.items tree.nodes.items) }
-        ensures heads { IfOk result (λ tree. tree.heads.items ≡ self.now.heads.items) }
-    {
-        let heads = self.heads.clone()?;
-        let mut nodes = Vec::new(*self.nodes.allocator());
-        for node in &self.nodes {
-            nodes.push(node.clone()?)?;
-        }
-        Ok(Tree { nodes, heads })
     }
 
     // The node below another at a label, which is made where there is none.

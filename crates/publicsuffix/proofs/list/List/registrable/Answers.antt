@@ -9,5 +9,5 @@ returns c =
     let count = c.suffix_labels.result in
     gives_registrable c.args.self.now c.args.name.now name count c.registrable_behind.result c.in_ok-read.ensures.0
     c.in_ok-read.ensures.1
-    (subst (λ rules. HasSuffixOf rules name count) c.self.view_is c.suffix_labels.ensures.count)
+    (subst (λ rules. HasSuffixOf rules name count) c.tree.ensures.rules c.suffix_labels.ensures.count)
     c.registrable_behind.ensures
