@@ -1,5 +1,5 @@
--- Which keys of a ring open a text. Of these words `opened_by_ring` cites `GivesValue` and `told`, private contracts the
--- others.
+-- Which keys of a ring open a text. Of these words `opened_by_ring` cites `GivesValue` and `told`, private contracts
+-- the others.
 use Rattle.std.specs.Prelude.{◌≡◌, ◌<◌, ◌↔◌, ℕ, Bool, true, false, List, Option, Some, MatchOption, length}
 use Rattle.std.specs.Prelude.{slice_index_or}
 use Rattle.std.specs.Option.{option_map}

@@ -1,6 +1,8 @@
 -- The key schedule, four words at a time.
-use Rattle.std.proofs.Common.{◌≡◌, ℕ, ◌+◌, ◌-◌, ◌*◌, ◌/◌, ◌%◌, ◌<◌, ◌≤◌, List, [], ◌∷◌, ◌++◌, length, get_or, take, drop}
-use Rattle.std.proofs.Common.{Bool, true, false, eqb, if◌then◌else◌, map, refl, ap, sym, ◌∙◌, arith, bit_xor, add-one, lit<, length-append, length-take, subst}
+use Rattle.std.proofs.Common.{◌≡◌, ℕ, ◌+◌, ◌-◌, ◌*◌, ◌/◌, ◌%◌, ◌<◌, ◌≤◌, List, [], ◌∷◌, ◌++◌, length, get_or, take}
+use Rattle.std.proofs.Common.{drop}
+use Rattle.std.proofs.Common.{Bool, true, false, eqb, if◌then◌else◌, map, refl, ap, sym, ◌∙◌, arith, bit_xor, add-one}
+use Rattle.std.proofs.Common.{lit<, length-append, length-take, subst}
 use Rattle.std.proofs.lemmas.Bool.{ne_eqb}
 use Rattle.std.proofs.lemmas.List.{append_assoc, get_or-take, get_or-drop, get_or_append_left, get_or-append_right}
 use Rattle.std.specs.Int.Bits.{xor_assoc, xor_zero_r}
@@ -63,7 +65,8 @@ word_at s b k n long four is within =
 
 four_words : (key s a b d e t : List ℕ) (n : ℕ) → s ≡ schedule key n → n % 4 ≡ 0 → length s ≡ 4 * (n + 8)
     → length a ≡ 4 → length b ≡ 4 → length d ≡ 4 → length e ≡ 4 → length t ≡ 4
-    → a ≡ word s n → b ≡ word s (n + 1) → d ≡ word s (n + 2) → e ≡ word s (n + 3) → t ≡ key_step (n + 8) (word s (n + 7))
+    → a ≡ word s n → b ≡ word s (n + 1) → d ≡ word s (n + 2) → e ≡ word s (n + 3)
+    → t ≡ key_step (n + 8) (word s (n + 7))
     → s ++ (xor_bytes a t ++ (xor_bytes b (xor_bytes a t) ++ (xor_bytes d (xor_bytes b (xor_bytes a t))
     ++ xor_bytes e (xor_bytes d (xor_bytes b (xor_bytes a t))))))
     ≡ schedule key (n + 4)
@@ -138,8 +141,10 @@ sums_of l t0 t1 t2 t3 =
     let o : ℕ → ℕ = λ k. get_or l k 0 in
     λ i. zeroth (o 0) t0 i ∷ zeroth (o 1) t1 i ∷ zeroth (o 2) t2 i ∷ zeroth (o 3) t3 i
     ∷ first (o 4) (o 0) t0 i ∷ first (o 5) (o 1) t1 i ∷ first (o 6) (o 2) t2 i ∷ first (o 7) (o 3) t3 i
-    ∷ second (o 8) (o 4) (o 0) t0 i ∷ second (o 9) (o 5) (o 1) t1 i ∷ second (o 10) (o 6) (o 2) t2 i ∷ second (o 11) (o 7) (o 3) t3 i
-    ∷ third (o 12) (o 8) (o 4) (o 0) t0 i ∷ third (o 13) (o 9) (o 5) (o 1) t1 i ∷ third (o 14) (o 10) (o 6) (o 2) t2 i ∷ third (o 15) (o 11) (o 7) (o 3) t3 i ∷ []
+    ∷ second (o 8) (o 4) (o 0) t0 i ∷ second (o 9) (o 5) (o 1) t1 i ∷ second (o 10) (o 6) (o 2) t2 i
+    ∷ second (o 11) (o 7) (o 3) t3 i
+    ∷ third (o 12) (o 8) (o 4) (o 0) t0 i ∷ third (o 13) (o 9) (o 5) (o 1) t1 i ∷ third (o 14) (o 10) (o 6) (o 2) t2 i
+    ∷ third (o 15) (o 11) (o 7) (o 3) t3 i ∷ []
 
 -- four words by sums within a register: o is the four words eight before them
 pub by_sums : (key w o t sum : List ℕ) (m : ℕ) → length w ≡ 240 → m < 13 → take (16 * m + 32) w ≡ schedule key (4 * m)
@@ -171,7 +176,8 @@ by_sums key w o t sum m long within so_far old added four is =
     (sums_of o (get_or t 0 0) (get_or t 1 0) (get_or t 2 0) (get_or t 3 0)) in
     let size : length s ≡ 4 * (4 * m + 8) = omega (arith, length-take (16 * m + 32) w) in
     ap (λ (q : List ℕ). s ++ q) (is ∙ bytes)
-    ∙ four_words key s (word o 0) (word o 1) (word o 2) (word o 3) t (4 * m) so_far (omega arith) size refl refl refl refl
+    ∙ four_words key s (word o 0) (word o 1) (word o 2) (word o 3) t (4 * m) so_far
+    (omega arith) size refl refl refl refl
     four (part 0 (lit< tt) ∙ zero) (part 1 (lit< tt)) (part 2 (lit< tt)) (part 3 (lit< tt))
     (added ∙ ap (key_step (4 * m + 8)) last)
 
@@ -205,5 +211,7 @@ last_word w l m is =
     λ i k h e. ap (λ (q : List ℕ). get_or q i 0) is
     ∙ get_or-take (16 * (m + 1) + 16 - 16 * (m + 1)) (drop (16 * (m + 1)) w) i 0 (omega arith)
     ∙ get_or-drop (16 * (m + 1)) w i 0 ∙ ap (λ (n : ℕ). get_or w n 0) (sym e) in
-    λ j. from 12 (4 * (4 * m + 7) + 0) (lit< tt) (omega arith) j ∷ from 13 (4 * (4 * m + 7) + 1) (lit< tt) (omega arith) j
-    ∷ from 14 (4 * (4 * m + 7) + 2) (lit< tt) (omega arith) j ∷ from 15 (4 * (4 * m + 7) + 3) (lit< tt) (omega arith) j ∷ []
+    λ j. from 12 (4 * (4 * m + 7) + 0) (lit< tt) (omega arith) j
+    ∷ from 13 (4 * (4 * m + 7) + 1) (lit< tt) (omega arith) j
+    ∷ from 14 (4 * (4 * m + 7) + 2) (lit< tt) (omega arith) j ∷ from 15 (4 * (4 * m + 7) + 3) (lit< tt) (omega arith) j
+    ∷ []

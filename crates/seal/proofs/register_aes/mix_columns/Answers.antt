@@ -19,7 +19,8 @@ mixed s = zip2 bit_xor (zip2 bit_xor (map (product 2) (summed s)) (map (looked_u
 
 mixed_is : (s : List ℕ) → ((k : ℕ) → get_or s k 0 < 256) → mixed s ≡ mix_columns s
 mixed_is s fits =
-    let m : (a b d e : ℕ) → bit_xor (bit_xor (product 2 (bit_xor (get_or s a 0) (get_or s b 0))) (get_or s b 0)) (bit_xor (get_or s d 0) (get_or s e 0))
+    let m : (a b d e : ℕ) → bit_xor (bit_xor (product 2 (bit_xor (get_or s a 0) (get_or s b 0))) (get_or s b 0))
+    (bit_xor (get_or s d 0) (get_or s e 0))
     ≡ bit_xor (bit_xor (product 2 (get_or s a 0)) (product 3 (get_or s b 0))) (bit_xor (get_or s d 0) (get_or s e 0)) =
     λ a b d e. mixed_lane (get_or s a 0) (get_or s b 0) (bit_xor (get_or s d 0) (get_or s e 0)) (fits a) (fits b) in
     λ i. m 0 1 2 3 i ∷ m 1 2 3 0 i ∷ m 2 3 0 1 i ∷ m 3 0 1 2 i

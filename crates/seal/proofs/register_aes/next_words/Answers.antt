@@ -1,4 +1,5 @@
-use Rattle.std.proofs.Common.{◌≡◌, ℕ, List, ◌+◌, ◌-◌, ◌*◌, ◌++◌, map, length, length-take, length-drop, drop, bit_xor, ap, sym}
+use Rattle.std.proofs.Common.{◌≡◌, ℕ, List, ◌+◌, ◌-◌, ◌*◌, ◌++◌, map, length, length-take, length-drop, drop, bit_xor}
+use Rattle.std.proofs.Common.{ap, sym}
 use Rattle.std.proofs.Common.{◌∙◌, arith, refl}
 use lib.Lanes.{zip2}
 use Rattle.seal.specs.Aes.{key_step, word}
@@ -16,7 +17,8 @@ returns c = λ key so_far.
     let o : List ℕ = c.round_key-old.result in
     let t : List ℕ = key_step (4 * m + 8) (word w (4 * m + 7)) in
     let long : length o ≡ 16 =
-    ap length c.round_key-old.ensures ∙ omega (arith, length-take (16 * m + 16 - 16 * m) (drop (16 * m) w), length-drop (16 * m) w) in
+    ap length c.round_key-old.ensures
+    ∙ omega (arith, length-take (16 * m + 16 - 16 * m) (drop (16 * m) w), length-drop (16 * m) w) in
     let whole : o ≡ listing 0 16 o = sym (listing_is 16 0 o (omega arith)) in
     let one : zip2 bit_xor o c.shuffled.result ≡ moved o = λ i. zip2 bit_xor (whole i) (c.shuffled.ensures i) in
     let two : c.shuffled-2.result ≡ map (looked_up (moved o)) TWO_WORDS_ON =

@@ -33,6 +33,6 @@ returns c =
     let sum = zip2_of_maps bit_xor (λ b. looked_up OUT_HIGH (bit_xor (first b) (both b)))
     (λ b. looked_up OUT_LOW (bit_xor (second b) (high b))) v u t in
     with_splat bit_xor
-    (λ b. bit_xor (looked_up OUT_HIGH (bit_xor (first b) (both b))) (looked_up OUT_LOW (bit_xor (second b) (high b)))) v _
-    99 n sum
+    (λ b. bit_xor (looked_up OUT_HIGH (bit_xor (first b) (both b))) (looked_up OUT_LOW (bit_xor (second b) (high b))))
+    v _ 99 n sum
     ∙ map_same out s_box v out_is c.fits-x.1
