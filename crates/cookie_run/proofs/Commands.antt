@@ -53,7 +53,7 @@ matches_gone : (key q : List ℕ) (b : Bool) (o : Option Seen) (e : Option Entry
 matches_gone key q true o e m = tt
 matches_gone key q false o e m = m
 
-named_gone : (q : List ℕ) (b : Bool) (o : Option Seen) → IfSome o (λ s. s.cookie.name ≡ q)
+pub named_gone : (q : List ℕ) (b : Bool) (o : Option Seen) → IfSome o (λ s. s.cookie.name ≡ q)
     → IfSome (cond b None o) (λ s. s.cookie.name ≡ q)
 named_gone q true o h = tt
 named_gone q false o h = h
@@ -86,13 +86,13 @@ remove_fit m n h q d is =
     (λ (e : bytes_eq q n ≡ false). h q d (sym (cond-false _ _ _ e) ∙ found))
     (cases_Bool (bytes_eq q n))
 
-overlaid_gone : (b : Bool) (o : Option Change) (p : Option Seen) → (b ≡ true → p ≡ None)
+pub overlaid_gone : (b : Bool) (o : Option Change) (p : Option Seen) → (b ≡ true → p ≡ None)
     → overlaid (cond b None o) p ≡ cond b None (overlaid o p)
 overlaid_gone true o p h = h refl
 overlaid_gone false o p h = refl
 
-overlaid_removed : (b : Bool) (s : Seen) (o : Option Change) (p : Option Seen) → overlaid (cond b (Some (Removed s)) o)
-    p ≡ cond b None (overlaid o p)
+pub overlaid_removed : (b : Bool) (s : Seen) (o : Option Change) (p : Option Seen)
+    → overlaid (cond b (Some (Removed s)) o) p ≡ cond b None (overlaid o p)
 overlaid_removed true s o p = refl
 overlaid_removed false s o p = refl
 

@@ -90,7 +90,7 @@ all_away list host (Restarts at ∷ acts) s = (tt, all_away list host acts s.1)
 
 -- ---- THE HEADLINE BY `__Host-`, first for a host that sets its `__Host-` cookies alone by sessions
 
-host_leads : (key : List ℕ) (laws : Laws key) (late : (n : ℤ) → IsMoment n → EndsLate n) (list : List Rule)
+pub host_leads : (key : List ℕ) (laws : Laws key) (late : (n : ℤ) → IsMoment n → EndsLate n) (list : List Rule)
     (host : List ℕ) (acts : List Act) (told : List (List Reading)) (rows : List Row) → IsHostSetter host acts
     → AllFollow the_beginning (moments_of acts) → Plays list key [] acts told rows
     → (end : Site) × EachReadsByHost host nothing acts told end
@@ -148,7 +148,7 @@ sets_by_sessions host (Answers url lines at ∷ acts) s =
 sets_by_sessions host (Asks url at ∷ acts) s = (tt, sets_by_sessions host acts s.1)
 sets_by_sessions host (Restarts at ∷ acts) s = (tt, sets_by_sessions host acts s.1)
 
-setter : (host : List ℕ) (acts : List Act) → IsHostSite host acts → IsHostSetter host acts
+pub setter : (host : List ℕ) (acts : List Act) → IsHostSite host acts → IsHostSetter host acts
 setter host acts site = record {
   own_form = site.own_form;
   no_empty_label = site.no_empty_label;

@@ -16,6 +16,18 @@ pub mod GivenRows
 pub mod Walking
 pub mod Commands
 pub mod Sending
+pub mod EndingKeys
+pub mod EndingTexts
+pub mod EndingReads
+pub mod EndingDates
+pub mod EndingBack
+pub mod RingSessions
+pub mod PlainSetLemmas
+pub mod RingPlainLemmas
+pub mod RingGiven
+pub mod RingTexts
+pub mod RingAlike
+pub mod RingMirrors
 pub mod ActMoments
 pub mod Exchange
 pub mod Restarting
@@ -24,6 +36,9 @@ pub mod Promises
 pub mod FromLines
 pub mod Sites
 pub mod HostSites
+pub mod RingSites
+pub mod EndingDeaths
+pub mod RingOfOneLemmas
 pub mod Brought
 pub mod Confined
 pub mod SentLines
@@ -58,6 +73,7 @@ pub mod Untouched
 mod Facts
 mod SiteFacts
 mod Example
+mod RingFacts
 mod RelatedFacts
 mod HostFacts
 mod ScriptFacts

@@ -120,7 +120,7 @@ overlaid_cond : (b : Bool) (kept : Seen) (o : Option Change) (p : Option Seen)
 overlaid_cond true kept o p = refl
 overlaid_cond false kept o p = refl
 
-view_change : (jar : Jar) (kept : Seen) (q : List ℕ) → view (with_change jar (Added kept)) q ≡ cond
+pub view_change : (jar : Jar) (kept : Seen) (q : List ℕ) → view (with_change jar (Added kept)) q ≡ cond
     (bytes_eq q kept.cookie.name) (Some kept) (view jar q)
 view_change jar kept q =
     ap (λ o. overlaid o (finmap.get jar.originals q)) (get_insert jar.changes kept.cookie.name (Added kept) q)
@@ -133,7 +133,7 @@ matches_cond : (key q : List ℕ) (b : Bool) (kept : Seen) (o : Option Seen) (en
 matches_cond key q true kept o entry e h g = h refl
 matches_cond key q false kept o entry e h g = g
 
-named_cond : (q : List ℕ) (b : Bool) (kept : Seen) (o : Option Seen) → (b ≡ true → kept.cookie.name ≡ q)
+pub named_cond : (q : List ℕ) (b : Bool) (kept : Seen) (o : Option Seen) → (b ≡ true → kept.cookie.name ≡ q)
     → IfSome o (λ s. s.cookie.name ≡ q) → IfSome (cond b (Some kept) o) (λ s. s.cookie.name ≡ q)
 named_cond q true kept o h g = h refl
 named_cond q false kept o h g = g

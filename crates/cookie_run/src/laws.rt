@@ -1,18 +1,25 @@
 //! What holds of every play on the rows of a store (RFC 6265, sections 5.2 to 5.4).
+ghost use Rattle.cookie_run.specs.EndingLaws as ends;
 ghost use Rattle.cookie_run.specs.HostRows as rows;
 ghost use Rattle.cookie_run.specs.KeepingLaws as kept;
 ghost use Rattle.cookie_run.specs.KeptKeys.{RestartsKeepKeys, SavesButForMemory};
 ghost use Rattle.cookie_run.specs.Laws as law;
 ghost use Rattle.cookie_run.specs.Once as once;
+ghost use Rattle.cookie_run.specs.RingHeadline as ring_head;
+ghost use Rattle.cookie_run.specs.RingOfOne as ring_of_one_key;
+ghost use Rattle.cookie_run.specs.RingPlain as ring_plain;
+ghost use Rattle.cookie_run.specs.PlainSets as plain;
 ghost use Rattle.cookie_run.specs.Prefixes as prefix;
+ghost use Rattle.cookie_run.specs.RingSession as ringed;
 ghost use Rattle.cookie_run.specs.ScriptLaws as script;
 ghost use Rattle.cookie_run.specs.Strangers as stranger;
 
-use cookie::Key;
-use cookie::laws::{one_value, texts_are_utf8};
+use cookie::laws::{one_value, ring_of_one, texts_are_utf8};
+use cookie::{Key, KeyRing};
 use cookie_text::laws::{
     bound_read_again, encoded_records_read_back, joined_pairs_split, one_outcome, pairs_read_again,
 };
+use saved_text::laws::{dates_are_of_one_moment, printed_dates_are_read};
 
 /// At each of its https requests a site reads, in the way it was set, what its own delivered
 /// commands leave: the last set, not removed, not dead, after a restart only what had a death.
@@ -170,4 +177,84 @@ pub fn host_rows_are_held_rightly()
     pairs_read_again();
     bound_read_again();
     saved_rows_are_kept();
+}
+
+/// A value that was kept until a moment under the current key of a ring reads back under its name, at place 0, before
+/// that moment without its fraction of a second, and as nothing from then on, whatever the nonce was. What was signed
+/// under any key that counts does so too, with the place of that key or of one before it.
+pub fn ending_values_end(ring: &KeyRing)
+    ensures current { ends.EndsReadBack ring.now }
+    ensures signed { ends.SignedEndsReadBack ring.now }
+{
+    seal::laws::lengths();
+    printed_dates_are_read();
+    dates_are_of_one_moment();
+    one_value();
+}
+
+/// No text of a value that ends is a signing or a sealing of the plain form, whatever keys and names. A text that reads
+/// under two names as signed until a moment has one code under two derived keys.
+pub fn forms_are_apart()
+    ensures forms { ends.FormsAreApart }
+    ensures names { ends.NamesAreSigned }
+{
+    seal::laws::lengths();
+}
+
+/// A session on a ring of one key reads in each way what a session with that key reads, at place 0, and nothing else.
+pub fn sessions_of_one_key()
+    ensures { ringed.IsThatSession }
+{
+    ring_of_one();
+}
+
+/// A signed and a sealed set are plain sets of the cookie with the text of its value in the value's place.
+pub fn sets_are_plain()
+    ensures signed { plain.SignedSetsArePlain }
+    ensures sealed { plain.SealedSetsArePlain }
+{
+    texts_are_utf8();
+}
+
+/// What the commands of a session on a ring leave, some commands of a session with its current key leave that sign and
+/// seal nothing; and what a play on a ring leaves, whose ring is rotated as it goes, a play of such commands leaves,
+/// whatever its key.
+pub fn ring_commands_are_plain()
+    ensures commands { ring_plain.RingCommandsArePlain }
+    ensures plays { ring_plain.RingPlaysArePlain }
+{
+    texts_are_utf8();
+}
+
+/// At each of its https requests a site whose sessions open on a ring of keys reads, under the ring as it is then,
+/// what its own delivered commands leave: what was kept under the current key with its value, at place 0; what was
+/// kept under an earlier key that counts with its value, at its place, but where the key of a place before it gives
+/// some, which for a signed value is its value too; a value until a moment till that moment, and as nothing from then
+/// on. Nothing else is read than what the first key gives that counts and gives any, of a text that stands for what
+/// the site holds.
+///
+/// `hosts` says so of names that are stored with `__Host-` in front, whatever other hosts answer, and `setters` does
+/// by the weaker premise of [`hosts_read_their_own`]; `ends` says that a value until a moment is dead from then on.
+pub fn ring_sites_read_their_own()
+    ensures sites { ring_head.EachRingPlayIsRead }
+    ensures hosts { ring_head.EachRingPlayIsReadByHost }
+    ensures setters { ring_head.EachRingPlayIsReadBySetters }
+    ensures ends { ring_head.EndsAreDeaths }
+{
+    encoded_records_read_back();
+    pairs_read_again();
+    one_value();
+    texts_are_utf8();
+    printed_dates_are_read();
+    dates_are_of_one_moment();
+    seal::laws::lengths();
+}
+
+/// A play on a ring of one key, without values that end and without rotations, is a play with that key: it leaves the
+/// same rows and reads the same, each value at place 0. So the headlines of `play` hold of it, word for word.
+pub fn ring_plays_of_one_key()
+    ensures there { ring_of_one_key.AreThatPlay }
+    ensures back { ring_of_one_key.IsSuchAPlay }
+{
+    sessions_of_one_key();
 }

@@ -8,12 +8,14 @@
 #![tactic(auto)]
 
 pub mod client;
+pub mod ending;
 pub mod laws;
 mod moment;
 pub mod play;
 pub mod program;
 pub mod reading;
 mod release;
+pub mod ring_session;
 pub mod script;
 pub mod session;
 pub mod step;
@@ -21,7 +23,9 @@ pub mod text;
 
 pub use client::Client;
 pub use cookie_store::{Counting, Failing, Sink, Source};
+pub use ending::EndingWay;
 pub use release::{version, version_line};
+pub use ring_session::RingSession;
 pub use script::ended::{Ended, RunError};
 pub use script::run::run;
 pub use session::Session;
