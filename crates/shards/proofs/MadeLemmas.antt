@@ -36,7 +36,8 @@ module _ (list : List Rule) (key : List ℕ) where
 
   made_of : (act : Act) (told : List Reading) (old new : List Row) → OneStep list key old act told new
       → Made act told old new
-  made_of (Visits url at commands (Arrives then)) told old new (header, is, (session, serves, (cookies, lists, takes))) =
+  made_of (Visits url at commands (Arrives then)) told old new
+      (header, is, (session, serves, (cookies, lists, takes))) =
       record {
         made = Asks url at ∷ Answers url (lines_of cookies) then ∷ [];
         read = (Header header ∷ []) ∷ [] ∷ [];
@@ -158,6 +159,7 @@ sessions_served one given order list key acts told rows p named =
       all.are_made,
       all.plays,
       λ shard.
-          shards_cut one given order list key all.made all.read rows all.plays (all_named list shard all.made (plain shard))
+          shards_cut one given order list key all.made all.read rows all.plays
+          (all_named list shard all.made (plain shard))
           shard (no_exchange list shard all.made (plain shard)),
     )

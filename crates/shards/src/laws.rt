@@ -29,8 +29,8 @@ pub fn shards_are_the_client()
 }
 
 /// So it is with sessions too, whose lines are handed in, nonces and all: any play leaves the rows that it leaves where
-/// each of its exchanges is made as a look at the header on which its session is opened, and an answer of the lines that
-/// the session closes with. Of that each shard's client is given its own.
+/// each of its exchanges is made as a look at the header on which its session is opened, and an answer of the lines
+/// that the session closes with. Of that each shard's client is given its own.
 pub fn shards_serve_sessions()
     ensures { ShardsServeSessions }
 {

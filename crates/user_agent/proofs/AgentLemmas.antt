@@ -26,8 +26,8 @@ use Rattle.user_agent.specs.declared.rules.Rules.{Rules}
 
 -- ---- line by line
 
-lines_push : (rules : Rules) (list : List Rule) (rows mid new : List Row) (url : Parts) (now : ℤ) (lines : List (List ℕ))
-    (outcomes : List Outcome) (line : List ℕ) (outcome : Outcome)
+lines_push : (rules : Rules) (list : List Rule) (rows mid new : List Row) (url : Parts) (now : ℤ)
+    (lines : List (List ℕ)) (outcomes : List Outcome) (line : List ℕ) (outcome : Outcome)
     → TakesLines rules list rows url now lines outcomes mid → TakesLine rules list mid url now line outcome new
     → TakesLines rules list rows url now (lines ++ line ∷ []) (outcomes ++ outcome ∷ []) new
 lines_push rules list rows mid new url now [] [] line outcome h a =
@@ -40,7 +40,7 @@ lines_push rules list rows mid new url now (l ∷ ls) [] line outcome h a = absu
 lines_push rules list rows mid new url now (l ∷ ls) (o ∷ os) line outcome h a =
     (h.0, h.1, lines_push rules list h.0 mid new url now ls os line outcome h.2 a)
 
-map_take : {A B : Type 0} (f : A → B) (xs : List A) (i : ℕ) (d : A) → i < length xs
+pub map_take : {A B : Type 0} (f : A → B) (xs : List A) (i : ℕ) (d : A) → i < length xs
     → take (i + 1) (map f xs) ≡ take i (map f xs) ++ f (get_or xs i d) ∷ []
 map_take f xs i d h =
     take-map f (i + 1) xs ∙ (ap (map f) (take_more xs i d h) ∙ (map-append f (take i xs) (get_or xs i d ∷ [])
@@ -57,7 +57,7 @@ next_line f rules list start mid new old outcomes outcome url now xs i d h all h
     (lines_push rules list start mid new url now (take i (map f xs)) old (f (get_or xs i d)) outcome all
     (subst (λ l. TakesLine rules l mid url now (f (get_or xs i d)) outcome new) same one)))
 
-map_at : {A : Type 0} (f : A → List ℕ) (xs : List A) (i : ℕ) (d : A) → i < length xs
+pub map_at : {A : Type 0} (f : A → List ℕ) (xs : List A) (i : ℕ) (d : A) → i < length xs
     → get_or (map f xs) i [] ≡ f (get_or xs i d)
 map_at f [] i d h = absurd (omega (arith, h))
 map_at f (x ∷ xs) zero d h = refl
@@ -114,7 +114,7 @@ rewritten_so (Ok outcome) rules list rows new url now line handed free on h =
     inr (free, (handed, inl (on.0, on.2), h))
 rewritten_so (Err e) rules list rows new url now line handed free on h = tt
 
-pub rewritten_asks : {E : Type 0} (r : Result Outcome E) (rules : Rules) (rows new : List Row) (url : Parts) (now : ℤ)
+pub rewritten_asks : {A E : Type 0} (r : Result A E) (rules : Rules) (rows new : List Row) (url : Parts) (now : ℤ)
     (line handed : List ℕ) → ¬ (IsStoppedByControl rules line) → IsRewritten rules now line handed
     → OnErr r ((new ≡ rows) × HandedAsks rules url handed) → OnErr r ((new ≡ rows) × AsksForMemory rules url line)
 rewritten_asks (Ok outcome) rules rows new url now line handed free on h = tt
@@ -128,7 +128,7 @@ pub handed_so : {E : Type 0} (r : Result Outcome E) (rules : Rules) (list : List
 handed_so (Ok outcome) rules list rows new url now line free on h = inr (free, (line, on, h))
 handed_so (Err e) rules list rows new url now line free on h = tt
 
-pub handed_asks : {E : Type 0} (r : Result Outcome E) (rules : Rules) (rows new : List Row) (url : Parts)
+pub handed_asks : {A E : Type 0} (r : Result A E) (rules : Rules) (rows new : List Row) (url : Parts)
     (line : List ℕ) → ¬ (IsStoppedByControl rules line) → OnErr r ((new ≡ rows) × HandedAsks rules url line)
     → OnErr r ((new ≡ rows) × AsksForMemory rules url line)
 handed_asks (Ok outcome) rules rows new url line free h = tt

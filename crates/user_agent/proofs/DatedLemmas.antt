@@ -126,7 +126,8 @@ value_cut n v t at e =
 month_length : (y : ℤ) (m : ℕ) → days_in_month y m < 100
 month_length y m = grind (arith, nat_tests)
 
-module _ (d : Date) (m : DateTime) (is : IsMomentOf d m) (exists : Exists d) (low : 1000 ≤ d.year) (high : d.year ≤ 9999)
+module _ (d : Date) (m : DateTime) (is : IsMomentOf d m) (exists : Exists d) (low : 1000 ≤ d.year)
+    (high : d.year ≤ 9999)
   where
     abbrev w : ℕ
     w = weekday_of m.date + 1

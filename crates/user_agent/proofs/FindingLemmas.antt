@@ -80,7 +80,8 @@ module _ {A : Type 0} (Kind : List ℕ → A → Type 0) (one : IsOneKind Kind) 
           let head : token ≡ b = cc in
           absurd (all.0 x (subst (λ t. Kind t x) head is))
 
-  pub here_first : (token : List ℕ) (tokens : List (List ℕ)) (x : A) → Kind token x → IsFirst Kind (token ∷ tokens) x tokens
+  pub here_first : (token : List ℕ) (tokens : List (List ℕ)) (x : A) → Kind token x
+      → IsFirst Kind (token ∷ tokens) x tokens
   here_first token tokens x is = record {
     before = [];
     token = token;

@@ -109,7 +109,7 @@ module _ (P : Attribute → Type 0) (r : Record) (http : P HttpOnly)
     (secure : prints_secure r ≡ true → P Secure)
     (path : (t : List ℕ) → r.path ≡ Some t → P (Path t)) (domain : (t : List ℕ) → domain_of r ≡ Some t → P (Domain t))
     (aged : (z : ℤ) → P (MaxAge z)) (dated : (d : DateTime) → P (Expires d)) where
-  each_there : AllThere P (attributes_of r)
+  pub each_there : AllThere P (attributes_of r)
   each_there =
       there_flag_so P (is_set r.http_only) HttpOnly _ (λ e. http)
       (there_option P OfSite r.same_site _ (some_so (λ s. P (OfSite s)) r.same_site site)
@@ -135,7 +135,7 @@ named (Domain t) = refl
 named (Expires d) = refl
 
 -- a piece gives no attribute of another name
-other : (a b : Attribute) → bytes_eq (kind_name (kind a)) (kind_name (kind b)) ≡ false
+pub other : (a b : Attribute) → bytes_eq (kind_name (kind a)) (kind_name (kind b)) ≡ false
     → bytes_eq (kind_name (kind b)) (kind_name (kind b)) ≡ true → ¬ (Gives (32 ∷ attribute_text a) b)
 other a b differ same h =
     let names : kind_name (kind a) ≡ kind_name (kind b) = sym (named a) ∙ h.named in
@@ -143,13 +143,13 @@ other a b differ same h =
 
 -- ---- what the last of the pieces gives
 
-there_all : (P : List ℕ → Type 0) (os : List (Option Attribute)) → AllThere (λ a. P (32 ∷ attribute_text a)) os
+pub there_all : (P : List ℕ → Type 0) (os : List (Option Attribute)) → AllThere (λ a. P (32 ∷ attribute_text a)) os
     → All P (pieces_of os)
 there_all P [] h = All-nil P
 there_all P (None ∷ os) h = there_all P os h
 there_all P (Some a ∷ os) h = All-cons P (32 ∷ attribute_text a) (pieces_of os) h.0 (there_all P os h.1)
 
-all_at : (P : List ℕ → Type 0) (before : List (List ℕ)) (p : List ℕ) (after : List (List ℕ))
+pub all_at : (P : List ℕ → Type 0) (before : List (List ℕ)) (p : List ℕ) (after : List (List ℕ))
     → All P (before ++ p ∷ after) → P p
 all_at P [] p after h = All-head P p after h
 all_at P (q ∷ before) p after h = all_at P before p after (All-tail P q (before ++ p ∷ after) h)
@@ -316,10 +316,10 @@ either_of true c b Q f g h e = f refl
 either_of false true b Q f g h e = g refl
 either_of false false b Q f g h e = h e
 
--- what is read of its text may be Secure only where it may be itself, and is uncut
-pub flags_read : (r : Record) (s : Seen) → IsReadPair r.name r.value → IsUncut r → ReadsPlain (printed r) (Ok s)
-    → (may_be_secure s.cookie ≡ true → may_be_secure r ≡ true) × IsUncut s.cookie
-flags_read r s pair uncut h =
+-- what is read of its text has the attributes that the printed pieces give
+pub attributes_read : (r : Record) (s : Seen) → IsReadPair r.name r.value → IsUncut r → ReadsPlain (printed r) (Ok s)
+    → HasAttributes (pieces_of (attributes_of r)) s.cookie
+attributes_read r s pair uncut h =
     let os = attributes_of r in
     let front = IsClean-pair r.name r.value (clean_text r.name pair.name_whole) (clean_text r.value pair.value_whole) in
     let cut : pieces (printed r) ≡ stripped r ∷ pieces_of os =
@@ -327,7 +327,14 @@ flags_read r s pair uncut h =
     ∙ split-joined (stripped r) (pieces_of os) front (all_clean os (are_clean r uncut)) in
     let rest = h.attributes in
     let tails = same_tail _ _ rest.0 (pieces_of os) (sym rest.1 ∙ cut) in
-    let has : HasAttributes (pieces_of os) s.cookie = subst (λ qs. HasAttributes qs s.cookie) tails rest.2 in
+    subst (λ qs. HasAttributes qs s.cookie) tails rest.2
+
+-- what is read of its text may be Secure only where it may be itself, and is uncut
+pub flags_read : (r : Record) (s : Seen) → IsReadPair r.name r.value → IsUncut r → ReadsPlain (printed r) (Ok s)
+    → (may_be_secure s.cookie ≡ true → may_be_secure r ≡ true) × IsUncut s.cookie
+flags_read r s pair uncut h =
+    let os = attributes_of r in
+    let has = attributes_read r s pair uncut h in
     let may : Type 0 = may_be_secure r ≡ true in
     let secure : is_set s.cookie.secure ≡ true → may =
     λ e. printed_may (is_set r.secure) (is_set r.partitioned) (is_unrestricted r.same_site) (is_none r.secure)

@@ -1,5 +1,6 @@
 -- Secure rows stay as they are, whatever comes from a URL that isn't secure.
-use Rattle.std.proofs.Common.{◌≡◌, ◌⊎◌, ℕ, ℤ, List, [], ◌∷◌, ◌++◌, ◌&&◌, Bool, true, false, not, cond, Option, Some, None}
+use Rattle.std.proofs.Common.{◌≡◌, ◌⊎◌, ℕ, ℤ, List, [], ◌∷◌, ◌++◌, ◌&&◌, Bool, true, false, not, cond, Option, Some}
+use Rattle.std.proofs.Common.{None}
 use Rattle.std.proofs.Common.{Result, Ok, Err, sym, refl, ap, ◌∙◌, subst, inl, inr, ⊎_elim, IsTrue}
 use Rattle.std.specs.Prelude.{filter, map, option_and_then, option_map, IsSomeAnd}
 use Rattle.std.specs.List.{AllByRecursion, list_any}

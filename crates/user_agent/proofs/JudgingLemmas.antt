@@ -1,5 +1,6 @@
 -- What a line reads as, and the rules against it.
-use Rattle.std.proofs.Common.{◌≡◌, ◌⊎◌, ◌<◌, ◌+◌, ◌==◌, ℕ, ℤ, List, cond, Result, Ok, Err, Option, Some, None, refl, sym}
+use Rattle.std.proofs.Common.{◌≡◌, ◌⊎◌, ◌<◌, ◌+◌, ◌==◌, ℕ, ℤ, List, cond, Result, Ok, Err, Option, Some, None, refl}
+use Rattle.std.proofs.Common.{sym}
 use Rattle.std.proofs.Common.{ap, subst, ◌∙◌, arith, IsTrue, inl, inr, ⊎_elim}
 use Rattle.std.specs.Prelude.{MatchOption, IfOk, OnErr}
 use Rattle.std.specs.List.{list_any}

@@ -169,7 +169,8 @@ end_silent : (k p : List ℕ) → IsKnown p k → Silent GivesEnd k → Silent G
 end_silent k p (inl (m, loose, is)) quiet e g =
     let h = loose_facts p m loose in
     quiet (At m) (m, subst (λ q. Gives q (Expires m)) (sym is) h.0, refl)
-end_silent k p (inr (none, same)) quiet e (d, inl g, at) = quiet e (d, subst (λ q. Gives q (Expires d)) (sym same) g, at)
+end_silent k p (inr (none, same)) quiet e (d, inl g, at) = quiet e
+    (d, subst (λ q. Gives q (Expires d)) (sym same) g, at)
 end_silent k p (inr (none, same)) quiet e (d, inr loose, at) = none d loose
 
 -- ---- the pieces of the known line

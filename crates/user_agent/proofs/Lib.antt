@@ -1,6 +1,7 @@
 mod AgentLemmas
 mod ControlLemmas
 mod ChangeLemmas
+mod CrossAnswerLemmas
 mod CrossLemmas
 mod CutLemmas
 mod DatedLemmas
@@ -17,13 +18,17 @@ mod PairLemmas
 mod PieceLemmas
 mod PlaceLemmas
 mod RelateLemmas
+mod RowLemmas
 mod SecureReadLemmas
 mod SecureRunLemmas
 mod SentLemmas
 mod SessionLemmas
+mod SessionStrictLemmas
 mod SiteLemmas
+mod SiteReadLemmas
 mod StandingLemmas
 mod StrictLemmas
+mod StrictRunLemmas
 mod TokenLemmas
 mod WholeLemmas
 mod WinningLemmas

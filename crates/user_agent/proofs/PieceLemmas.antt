@@ -1,5 +1,6 @@
 -- A text that is cut at its semicolons and put together again.
-use Rattle.std.proofs.Common.{◌≡◌, ℕ, ◌+◌, ◌<◌, ◌==◌, Bool, true, false, cond, List, [], ◌∷◌, ◌++◌, length, get_or, refl}
+use Rattle.std.proofs.Common.{◌≡◌, ℕ, ◌+◌, ◌<◌, ◌==◌, Bool, true, false, cond, List, [], ◌∷◌, ◌++◌, length, get_or}
+use Rattle.std.proofs.Common.{refl}
 use Rattle.std.proofs.Common.{sym, ap, ◌∙◌, arith, zero, suc}
 use Rattle.std.specs.List.{All, flat_map, slice_split, onto_first}
 use Rattle.std.proofs.lemmas.Bool.{cases_Bool, cond-true, cond-false}
@@ -27,7 +28,8 @@ pieces-joined p (q ∷ qs) hp hq =
 
 -- the pieces of a text are clean
 clean_onto : (b : ℕ) (ps : List (List ℕ)) → (b == semicolon) ≡ false → AreClean ps → AreClean (onto_first b ps)
-clean_onto b [] other h = (All-cons (λ c. (c == semicolon) ≡ false) b [] other (All-nil (λ c. (c == semicolon) ≡ false)), tt)
+clean_onto b [] other h =
+    (All-cons (λ c. (c == semicolon) ≡ false) b [] other (All-nil (λ c. (c == semicolon) ≡ false)), tt)
 clean_onto b (p ∷ ps) other h = (All-cons (λ c. (c == semicolon) ≡ false) b p other h.0, h.1)
 
 pub pieces_clean : (text : List ℕ) → AreClean (pieces text)

@@ -1,8 +1,8 @@
 -- A row that is Secure was set by an answer from a secure URL, and so was what a request is sent under its name.
-use Rattle.std.proofs.Common.{◌≡◌, ◌⊎◌, ℕ, ℤ, List, [], ◌∷◌, ◌&&◌, ◌||◌, Bool, true, false, not, cond, Option, Some}
-use Rattle.std.proofs.Common.{None, Result, Ok, Err, sym, refl, ap, ◌∙◌, subst, inl, inr, IsTrue, codes, take}
+use Rattle.std.proofs.Common.{◌≡◌, ◌⊎◌, ℕ, ℤ, List, [], ◌∷◌, ◌||◌, Bool, true, false, not, cond, Option, Some}
+use Rattle.std.proofs.Common.{None, Ok, sym, refl, ap, ◌∙◌, subst, inl, inr, IsTrue, codes, take}
 use Rattle.std.specs.Net.Addr.{ipv4_octets, ipv6_segments}
-use Rattle.std.specs.Prelude.{filter, map, IsSomeAnd}
+use Rattle.std.specs.Prelude.{filter, IsSomeAnd}
 use Rattle.std.specs.List.{AllByRecursion, list_any}
 use Rattle.std.specs.Str.{IsUtf8, bytes_eq}
 use Rattle.std.proofs.lemmas.Bool.{both_ways, true≢false}
@@ -18,21 +18,17 @@ use Rattle.cookie_text.specs.Printing.{is_set}
 use Rattle.cookie_text.specs.Reading.{ReadsPlain}
 use Rattle.cookie_text.specs.ReadingBack.{Pairwise}
 use Rattle.cookie_text.specs.Record.{Seen, unsliced}
-use Rattle.cookie_text.specs.declared.error.ParseError.{ParseError}
 use Rattle.cookie_text.proofs.PairsAgain.{pair_of as texts_give_pairs, pair_reads_again}
 use Rattle.store_parts.specs.DomainMatch.{text_or_empty}
-use Rattle.store_parts.specs.Expiry.{is_dead}
 use Rattle.store_parts.specs.Schemes.{IsSecure, IsThisHost}
 use Rattle.cookie_store.specs.Given.{ArePicked}
-use Rattle.cookie_store.specs.Insertion.{End, Fits, Inserts, InsertsRead, alone, settled}
+use Rattle.cookie_store.specs.Insertion.{alone}
 use Rattle.cookie_store.specs.Making.{IsMade}
 use Rattle.cookie_store.specs.Placing.{is_saved, saved}
-use Rattle.cookie_store.specs.Rows.{Key, Row, behind_last, ended, expired, has_domain_of, has_key_of, has_place_of}
-use Rattle.cookie_store.specs.Rows.{inserted, is_live, is_live_of, key_of, put, replaced}
+use Rattle.cookie_store.specs.Rows.{Key, Row, expired, is_live, key_of}
 use Rattle.cookie_store.specs.SavedRows.{IsReread}
-use Rattle.cookie_run.specs.Accept.{Accepts}
+use Rattle.cookie_run.specs.HostPrefix.{IsAgainstHost}
 use Rattle.cookie_run.specs.Keeping.{HaveReadPairs, Keeps}
-use Rattle.cookie_run.specs.declared.step.LineEnd.{LineEnd}
 use Rattle.cookie_run.proofs.FromLines.{filter_all}
 use Rattle.user_agent.specs.Agent.{TakesLine, TakesLines}
 use Rattle.user_agent.specs.Refusals.{asks_for_secure}
@@ -44,87 +40,7 @@ use Rattle.user_agent.specs.declared.rules.Refusal.TheVariants.{LacksSecure, Sec
 use Rattle.user_agent.specs.declared.rules.Rules.{Rules}
 use Rattle.user_agent.proofs.FlagLemmas.{IsUncut, flags_read, line_uncut, may_be_secure}
 use Rattle.user_agent.proofs.IntegrityLemmas.{set_is}
-
--- ---- what holds of all rows, whatever becomes of a cookie
-
-module _ (P : Row → Type 0)
-    (same : (row other : Row) → other.raw ≡ row.raw → key_of other ≡ key_of row → P row → P other) where
-  abbrev All : List Row → Type 0
-  All rows = AllByRecursion P rows
-
-  all_map : (f : Row → Row) → ((row : Row) → P row → P (f row)) → (rows : List Row) → All rows → All (map f rows)
-  all_map f each [] h = tt
-  all_map f each (y ∷ ys) h = (each y h.0, all_map f each ys h.1)
-
-  by_cond : (b : Bool) (x y : Row) → P x → P y → P (cond b x y)
-  by_cond true x y p q = p
-  by_cond false x y p q = q
-
-  all_cond : (b : Bool) (xs ys : List Row) → All xs → All ys → All (cond b xs ys)
-  all_cond true xs ys p q = p
-  all_cond false xs ys p q = q
-
-  all_behind : (test : Row → Bool) (x : Row) (rows : List Row) → P x → All rows → All (behind_last test x rows)
-  all_behind test x [] p h = (p, tt)
-  all_behind test x (y ∷ ys) p h =
-      all_cond (test y && not (list_any test ys)) (y ∷ x ∷ ys) (y ∷ behind_last test x ys) (h.0, (p, h.1))
-      (h.0, all_behind test x ys p h.1)
-
-  all_put : (row : Row) (rows : List Row) → P row → All rows → All (put row rows)
-  all_put row rows p h =
-      all_cond (list_any (has_key_of row) rows) (replaced row rows) (inserted row rows)
-      (all_map (λ y. cond (has_key_of row y) row y) (λ y q. by_cond (has_key_of row y) row y p q) rows h)
-      (all_cond (list_any (has_place_of row) rows) (behind_last (has_place_of row) row rows)
-      (behind_last (has_domain_of row) row rows) (all_behind (has_place_of row) row rows p h)
-      (all_behind (has_domain_of row) row rows p h))
-
-  all_ended : (now : ℤ) (row : Row) (rows : List Row) → All rows → All (ended now row rows)
-  all_ended now row rows h =
-      all_map (λ y. cond (is_live_of now row y) (expired y) y)
-      (λ y q. by_cond (is_live_of now row y) (expired y) y (same y (expired y) refl refl q) q) rows h
-
-  end_cond : (b : Bool) (x y : End) → All x.1 → All y.1 → All (cond b x y).1
-  end_cond true x y p q = p
-  end_cond false x y p q = q
-
-  all_settled : (now : ℤ) (row : Row) (rows : List Row) → P row → All rows → All (settled rows now row).1
-  all_settled now row rows p h =
-      end_cond (is_dead now row.death) _ _
-      (end_cond (list_any (is_live_of now row) rows) _ _ (all_ended now row rows h) h) (all_put row rows p h)
-
-  all_fits : (url : Parts) (now : ℤ) (row : Row) (rows : List Row) (end : End) → P row → All rows
-      → Fits rows url now row end → All end.1
-  all_fits url now row rows end p h (inl (out, e)) = subst (λ (x : End). All x.1) (sym e) h
-  all_fits url now row rows end p h (inr (covers, inl (guarded, e))) = subst (λ (x : End). All x.1) (sym e) h
-  all_fits url now row rows end p h (inr (covers, inr (free, e))) =
-      subst (λ (x : End). All x.1) (sym e) (all_settled now row rows p h)
-
-  all_inserts : (list : List Rule) (url : Parts) (now : ℤ) (row : Row) (rows : List Row) (end : End) → P row → All rows
-      → Inserts list rows url now row end → All end.1
-  all_inserts list url now row rows end p h (inl (barred, e)) = subst (λ (x : End). All x.1) (sym e) h
-  all_inserts list url now row rows end p h (inr (allowed, inl (unlisted, fits))) =
-      all_fits url now row rows end p h fits
-  all_inserts list url now row rows end p h (inr (allowed, inr (inl (listed, own, fits)))) =
-      all_fits url now (alone row) rows end (same row (alone row) refl refl p) h fits
-  all_inserts list url now row rows end p h (inr (allowed, inr (inr (listed, other, e)))) =
-      subst (λ (x : End). All x.1) (sym e) h
-
-  -- where it holds of each row of the cookie as which the line reads, it holds after the line
-  module _ (url : Parts) (now : ℤ) (line : List ℕ)
-      (made : (seen : Seen) → IsUtf8 line → ReadsPlain line (Ok seen) → (row : Row)
-      → IsMade (unsliced seen.cookie) url now row → P row) where
-    all_accepts : (list : List Rule) (rows new : List Row) (end : LineEnd) → All rows
-        → Accepts list rows url now line end new → All new
-    all_accepts list rows new end h (inl (against, is, same_rows)) = subst All (sym same_rows) h
-    all_accepts list rows new end h (inr (free, inl (no_text, is, same_rows))) = subst All (sym same_rows) h
-    all_accepts list rows new end h (inr (free, inr (utf8, (read, reads, (answer, inserts, is))))) =
-        by read reads inserts
-      where
-        by : (r : Result Seen ParseError) → ReadsPlain line r → InsertsRead list rows url now r (answer, new) → All new
-        by (Err error) r e = subst (λ (x : End). All x.1) (sym e) h
-        by (Ok seen) r (inl (cause, known, refuses, e)) = subst (λ (x : End). All x.1) (sym e) h
-        by (Ok seen) r (inr (row, is_made, ins)) =
-            all_inserts list url now row rows (answer, new) (made seen utf8 r row is_made) h ins
+use Rattle.user_agent.proofs.RowLemmas.{all_accepts}
 
 -- ---- a URL is secure, or it isn't
 
@@ -194,11 +110,12 @@ module _ (rules : Rules) (from_http : IsTrue rules.secure_from_http) (on : IsTru
       subst (AllByRecursion Q) (sym same) h
   line_sets list rows new url now line outcome sets h
       (inr (free, (handed, is_handed, inr (let_in, (end, accepts, is))))) =
-      all_accepts Q q_same url now handed made list rows new end h accepts
+      all_accepts Q Q (λ row. q_same row (expired row) refl refl) (λ row. q_same row (alone row) refl refl) url now
+      (λ row lives q. q) handed made list rows new end h accepts
     where
-      made : (seen : Seen) → IsUtf8 handed → ReadsPlain handed (Ok seen) → (row : Row)
+      made : (seen : Seen) → ¬ (IsAgainstHost url handed) → IsUtf8 handed → ReadsPlain handed (Ok seen) → (row : Row)
           → IsMade (unsliced seen.cookie) url now row → Q row
-      made seen utf8 reads row is_made =
+      made seen unlike utf8 reads row is_made =
           record {
             pair = subst (λ (s : Seen). IsReadPair s.cookie.name s.cookie.value) (sym is_made.raw)
                 (texts_give_pairs handed seen utf8 reads);

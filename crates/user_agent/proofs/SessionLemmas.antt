@@ -484,7 +484,7 @@ module _ (rules : Rules) (rows : List Row) (url : Parts) (now : ℤ) (c : Record
       k.joined ∙ whole k.others (there_cut rules.long_lives now on os meek k.others
       (subst (λ ps. Pairwise (IsCut now) ps k.others) same k.each))
 
-  handed_same : (handed : List ℕ) → IsHandedOn rules now line handed → handed ≡ line
+  pub handed_same : (handed : List ℕ) → IsHandedOn rules now line handed → handed ≡ line
   handed_same handed (inr (none, same)) = same
   handed_same handed (inl (text, h)) =
       let short : h.short ≡ line = stays_if rules.long_attributes IsShortLine line h.short (λ on. short_same h.short)
@@ -505,7 +505,7 @@ module _ (rules : Rules) (rows : List Row) (url : Parts) (now : ℤ) (c : Record
   is_secure = ap (λ o. is_set o || is_set c.partitioned || (is_unrestricted c.same_site && is_none o)) sent.secure
 
   module _ (seen : Seen) (reads : ReadsPlain line (Ok seen)) where
-    read_is : seen.cookie ≡ normal (encoded_pair c)
+    pub read_is : seen.cookie ≡ normal (encoded_pair c)
     read_is = (reads_back c sent.readable sent.age (Ok seen) reads).normal
 
     read_secure : seen.cookie.secure ≡ Some true
@@ -570,7 +570,7 @@ module _ (rules : Rules) (list : List Rule) (url : Parts) (now : ℤ) (https : C
       (end ∷ ends, (λ i. is i ∷ are i), (mid, accepts, all))
 
 -- what holds of each cookie of a list by name holds of those that are listed
-of_each : (P : Seen → Type 0) (cookies : List Seen) → HaveOwnNames (under_names cookies)
+pub of_each : (P : Seen → Type 0) (cookies : List Seen) → HaveOwnNames (under_names cookies)
     → ((name : List ℕ) (s : Seen) → value_in (under_names cookies) name ≡ Some s → P s) → AllByRecursion P cookies
 of_each P [] apart h = tt
 of_each P (s ∷ cookies) apart h =

@@ -1,6 +1,7 @@
 pub mod Agent
 pub mod Changes
 pub mod Controls
+pub mod CrossAnswers
 pub mod CrossSite
 pub mod CutLives
 pub mod Dates
@@ -16,3 +17,4 @@ pub mod SecureWins
 pub mod SessionLines
 pub mod Sites
 pub mod StrictDates
+pub mod StrictRuns

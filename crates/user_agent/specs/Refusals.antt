@@ -134,7 +134,8 @@ is_on rules SecureFromHttp = rules.secure_from_http
 is_on rules SecureOverlay = rules.secure_overlay
 is_on rules LacksSecure = rules.secure_wins
 
--- those of user agents, which have no `secure_wins`, and of which some have no `lax_by_default`
+-- those of user agents, which have no `secure_wins`, and of which some have neither `lax_by_default` nor
+-- `none_needs_secure`
 abbrev pub browser_rules : Rules
 browser_rules = record {
   long_attributes = true;
@@ -148,6 +149,7 @@ browser_rules = record {
   secure_overlay = true;
   secure_wins = false;
   lax_by_default = false;
+  none_needs_secure = false;
 }
 
 abbrev pub no_rules : Rules
@@ -163,6 +165,7 @@ no_rules = record {
   secure_overlay = false;
   secure_wins = false;
   lax_by_default = false;
+  none_needs_secure = false;
 }
 
 -- the place of a rule in their order

@@ -18,6 +18,7 @@ ghost use Rattle.cookie_run.specs.HostPrefix.{AreHeldRightly, IsHeldRightly};
 ghost use Rattle.cookie_run.specs.Keeping.{HaveReadPairs, Keeps};
 ghost use Rattle.cookie_run.specs.KeptKeys.{KeepsKeys};
 ghost use Rattle.user_agent.specs.Agent as spec;
+ghost use Rattle.user_agent.specs.CrossAnswers.{IsStoppedFor, ReceivesFor};
 ghost use Rattle.user_agent.specs.CutLives.{IsCutLine};
 ghost use Rattle.user_agent.specs.Integrity.{ProtectedRowsStay};
 ghost use Rattle.user_agent.specs.KnownDates.{IsKnownLine};
@@ -26,6 +27,7 @@ ghost use Rattle.user_agent.specs.Refusals.{IsLetIn, IsStoppedByControl};
 ghost use Rattle.user_agent.specs.SecurePlaces.{ArePlacesOf, ShowPlaces};
 ghost use Rattle.user_agent.specs.SecureWins.{IsHeaderBehind, IsWinnersHeader};
 
+use crate::cross_answer::{OutcomeFor, receive_for};
 use crate::cut_life::with_cut_life;
 use crate::judging::{has_control, refusal};
 use crate::known_date::with_known_date;
@@ -34,6 +36,7 @@ use crate::long_attributes::without_long_attributes;
 use crate::rules::{Outcome, Refusal, Rules};
 use crate::secure_places::SecurePlaces;
 use crate::secure_wins::winners;
+use crate::sites::Initiator;
 use cookie::Cookie as RawCookie;
 use cookie_run::client::header_of as header_text;
 use cookie_run::{Client, Stopped};
@@ -104,8 +107,8 @@ impl UserAgent {
     ///
     /// A line is refused by the first rule that is on and refuses it, which looks at the rows as the lines before it
     /// left them, and changes nothing then. Any other goes to the client, as `Client::receive` says: where these rules
-    /// are on, without its long attributes, its dates known and its life cut. Where none of these three is on, no line is
-    /// copied.
+    /// are on, without its long attributes, its dates known and its life cut. Where none of these three is on, no line
+    /// is copied.
     ///
     /// # Errors
     ///
@@ -128,6 +131,40 @@ impl UserAgent {
         ensures held { AreHeldRightly self.new.store.rows }
     {
         let taken = receive_all(&mut self.client, &self.rules, url, lines, now);
+        // What a client holds it holds rightly.
+        let _store = self.client.store();
+        taken
+    }
+
+    /// Takes the `Set-Cookie` lines of an answer at `now` to a request to this URL that was started so. What
+    /// [`UserAgent::receive`] says of a line holds of each that the answer may set by the cookie's `SameSite`.
+    ///
+    /// Where a page of another site started the request, and it doesn't navigate the top level, the answer may set no
+    /// cookie that is `Strict` or `Lax`; nor one without the attribute where the rule `lax_by_default` is on. Where the
+    /// rule `none_needs_secure` is on, no answer may set one with `SameSite=None` that isn't `Secure`. Such a line
+    /// changes nothing: a cookie that it would replace stays. A control character is told first of all.
+    ///
+    /// # Errors
+    ///
+    /// Those of [`UserAgent::receive`].
+    pub fn receive_for(
+        &mut self,
+        url: &Url,
+        initiator: &Initiator<'_>,
+        lines: &[&[u8]],
+        now: DateTime,
+    ) -> Result<Vec<OutcomeFor>, Stopped>
+        ensures all { IfOk result (λ outcomes. ReceivesFor self.old.rules self.old.store.suffixes self.old.store.rows
+            url.now initiator.now (civil_nanos now) (map (λ line. line.now) lines.now) outcomes.items
+            self.new.store.rows) }
+        ensures stopped { IfErr result (λ stopped. IsStoppedFor self.old.rules self.old.store.suffixes
+            self.old.store.rows url.now initiator.now (civil_nanos now) (map (λ line. line.now) lines.now) stopped.0
+            self.new.store.rows) }
+        ensures list { self.new.store.suffixes ≡ self.old.store.suffixes }
+        ensures rules { self.new.rules ≡ self.old.rules }
+        ensures held { AreHeldRightly self.new.store.rows }
+    {
+        let taken = receive_for(&mut self.client, &self.rules, url, initiator, lines, now);
         // What a client holds it holds rightly.
         let _store = self.client.store();
         taken
@@ -240,8 +277,8 @@ fn winners_header(client: &Client, url: &Url, now: DateTime) -> Result<String, A
     header_text(client.alloc(), left)
 }
 
-/// Takes the `Set-Cookie` lines of an answer from this URL at `now` into a client behind these rules, one after another,
-/// as [`UserAgent::receive`] does: for a client whose rules another keeps.
+/// Takes the `Set-Cookie` lines of an answer from this URL at `now` into a client behind these rules, one after
+/// another, as [`UserAgent::receive`] does: for a client whose rules another keeps.
 ///
 /// # Errors
 ///
@@ -475,7 +512,7 @@ fn take_handed(
 }
 
 // The same of a line that is no text, or reads as no cookie: no rule refuses it.
-fn take_unread(
+pub(crate) fn take_unread(
     client: &mut Client,
     rules: &Rules,
     url: &Url,
@@ -493,7 +530,7 @@ fn take_unread(
 }
 
 // The same of a line of which the cookie was read.
-fn take_read(
+pub(crate) fn take_read(
     client: &mut Client,
     rules: &Rules,
     secure: &SecurePlaces,

@@ -6,6 +6,7 @@ ghost use Rattle.cookie_store.specs.Given.{lent_row};
 ghost use Rattle.cookie_store.specs.Longest.{AreGivenLongest};
 ghost use Rattle.user_agent.specs.CrossSite as spec;
 ghost use Rattle.user_agent.specs.SecureWins.{IsHeaderBehind};
+ghost use Rattle.user_agent.specs.StrictRuns.{SessionsSetStrictly, StrictNamesAreReadAtHome};
 
 use crate::UserAgent;
 use crate::agent::header_of;
@@ -150,4 +151,16 @@ pub fn no_strict_cookie_crosses()
 /// of none that is `Strict`: where all rows of a name are, it reads nothing under that name.
 pub fn carried_cookies_are_read()
     ensures { spec.CarriedCookiesAreRead }
+{}
+
+/// The law on the server's side. Whatever came to a user agent that began without a row, whatever started its requests,
+/// with restarts between: where a session on the header of a request to a host at https reads a value by the way
+/// `Host` under a name that this host's answers at https set `Strict` each time, no page of another site started that
+/// request. Removals count for nothing, and other answers may be anyone's.
+///
+/// The lines with which a session closes from an https URL are such, where each cookie of its delta is within the
+/// bounds of [`crate::laws::sessions_pass`], and that of the name is `Strict` or removes.
+pub fn strict_names_are_read_at_home()
+    ensures read { StrictNamesAreReadAtHome }
+    ensures sessions { SessionsSetStrictly }
 {}

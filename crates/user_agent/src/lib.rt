@@ -8,6 +8,7 @@
 mod accepting;
 pub mod agent;
 mod changes;
+pub mod cross_answer;
 pub mod cross_site;
 pub mod cut_life;
 mod date_text;
@@ -28,6 +29,7 @@ mod token;
 pub use accepting::{accept_line, accept_line_beside};
 pub use agent::UserAgent;
 pub use changes::{Changes, accept_line_told};
+pub use cross_answer::{OutcomeFor, SiteRefusal};
 pub use cut_life::with_cut_life;
 pub use known_date::with_known_date;
 pub use long_attributes::without_long_attributes;

@@ -51,10 +51,13 @@ pub struct Rules {
     /// (sections 5.2 and 5.8.3). Some user agents have it. It shows where it is said what starts a request
     /// ([`UserAgent::header_for`](crate::UserAgent::header_for)).
     pub lax_by_default: bool,
+    /// A cookie with `SameSite=None` that isn't `Secure` is refused (section 5.7). Some user agents have it. It shows
+    /// where it is said what starts a request ([`UserAgent::receive_for`](crate::UserAgent::receive_for)).
+    pub none_needs_secure: bool,
 }
 
 impl Rules {
-    /// The rules that all user agents have, and so all but `secure_wins` and `lax_by_default`.
+    /// The rules that all user agents have, and so all but `secure_wins`, `lax_by_default` and `none_needs_secure`.
     pub fn browser() -> Rules
         ensures { result ≡ spec.browser_rules }
     {
@@ -70,6 +73,7 @@ impl Rules {
             secure_overlay: true,
             secure_wins: false,
             lax_by_default: false,
+            none_needs_secure: false,
         }
     }
 
@@ -89,6 +93,7 @@ impl Rules {
             secure_overlay: false,
             secure_wins: false,
             lax_by_default: false,
+            none_needs_secure: false,
         }
     }
 

@@ -26,7 +26,8 @@ returns-clause-found c = by
         → RefusesCookie c.args.store.now.rows c.args.url.now (civil_nanos c.args.now) c.args.cookie.now rule → ⊥
     by Control on against = against
     by TooLong on against = elim c.else-rules.branch [
-      | else-rules-via-then-rules+else-is_too_long w ↦ both_ways _ w.if-is_too_long.false (w.is_too_long.ensures.1 against)
+      | else-rules-via-then-rules+else-is_too_long w ↦ both_ways _ w.if-is_too_long.false
+          (w.is_too_long.ensures.1 against)
       | else-rules-via-else-rules w ↦ both_ways _ w.if-rules.false on
     ]
     by SecurePrefix on against = elim c.else-rules-2.branch [

@@ -10,8 +10,10 @@ returns-in_ok-push_known_pieces-in-Some c =
     (lit< tt)) in
     let begun = c.in_ok-push_str-in-Some.ensures.bytes
     ∙ ap (λ t. t ++ c.in-Some.first.now) c.in_ok-known.ensures.bytes in
-    line_of c.args.line.now c.in-Some.first.now c.in-Some.rest.now (string_bytes c.push_known_pieces.new.known) cut.0 cut.1 cut.2
-    (subst (λ t. PutsKnown c.in-Some.rest.now t (string_bytes c.push_known_pieces.new.known)) begun c.in_ok-push_known_pieces-in-Some.ensures)
+    line_of c.args.line.now c.in-Some.first.now c.in-Some.rest.now
+    (string_bytes c.push_known_pieces.new.known) cut.0 cut.1 cut.2
+    (subst (λ t. PutsKnown c.in-Some.rest.now t (string_bytes c.push_known_pieces.new.known)) begun
+    c.in_ok-push_known_pieces-in-Some.ensures)
 
 pub returns-in_ok-push_str-in-None : goal.returns-in_ok-push_str-in-None
 returns-in_ok-push_str-in-None c =

@@ -57,7 +57,8 @@ returns-clause-value c = by c.offer-4.result refl
       yearless = None;
       time = passed IsTime one_time _ _ _ c.args.token.now c.read_time.ensures.value (c.if-offer.ensures.passed refl);
       day = passed IsDay one_number _ _ _ c.args.token.now c.read_day.ensures.value (c.if-offer-2.ensures.passed refl);
-      month = passed IsMonth one_month _ _ _ c.args.token.now c.read_month.ensures.value (c.if-offer-3.ensures.passed refl);
+      month = passed IsMonth one_month _ _ _ c.args.token.now c.read_month.ensures.value
+          (c.if-offer-3.ensures.passed refl);
       year = took IsYear one_number _ _ _ c.args.token.now c.read_year.ensures.value (c.offer-4.ensures.took is);
     }
     by false is = record {
@@ -67,6 +68,7 @@ returns-clause-value c = by c.offer-4.result refl
       yearless = Some c.args.token.now;
       time = passed IsTime one_time _ _ _ c.args.token.now c.read_time.ensures.value (c.if-offer.ensures.passed refl);
       day = passed IsDay one_number _ _ _ c.args.token.now c.read_day.ensures.value (c.if-offer-2.ensures.passed refl);
-      month = passed IsMonth one_month _ _ _ c.args.token.now c.read_month.ensures.value (c.if-offer-3.ensures.passed refl);
+      month = passed IsMonth one_month _ _ _ c.args.token.now c.read_month.ensures.value
+          (c.if-offer-3.ensures.passed refl);
       year = passed IsYear one_number _ _ _ c.args.token.now c.read_year.ensures.value (c.offer-4.ensures.passed is);
     }

@@ -1,0 +1,273 @@
+//! What an answer may set, by what started its request (the draft that follows RFC 6265, version 15, section 5.7).
+ghost use Rattle.std.specs.Prelude.{◌≡◌, ◌↔◌, IfErr, IfOk, IsTrue, Ok, OnErr, map};
+ghost use Rattle.cookie_text.specs.Reading.{ReadsPlain};
+ghost use Rattle.jiff.specs.Words.{civil_nanos};
+ghost use Rattle.user_agent.specs.Agent.{AsksForMemory, HandedAsks};
+ghost use Rattle.user_agent.specs.CrossAnswers as spec;
+ghost use Rattle.user_agent.specs.Refusals.{IsLetIn};
+ghost use Rattle.user_agent.specs.SecurePlaces.{ArePlacesOf, ShowPlaces};
+
+use crate::agent::{is_stopped, rewritten, take_read, take_unread};
+use crate::rules::{Outcome, Refusal, Rules};
+use crate::secure_places::SecurePlaces;
+use crate::sites::{Initiator, is_cross_site};
+use cookie::{Cookie as RawCookie, SameSite};
+use cookie_run::{Client, Stopped};
+use cookie_store::CookieStore;
+use cookie_text::laws::one_outcome;
+use jiff::civil::DateTime;
+use std::alloc::AllocError;
+use url::Url;
+
+/// Why an answer may not set a cookie, by the cookie's `SameSite`.
+#[derive(Clone, Copy, Debug, PartialEq, Eq)]
+pub enum SiteRefusal {
+    /// The request is cross-site and doesn't navigate the top level, and the cookie is `Strict` or `Lax`, or where the
+    /// rule `lax_by_default` is on without the attribute.
+    CrossSite,
+    /// The cookie has `SameSite=None` and isn't `Secure`. Its rule is [`Rules::none_needs_secure`].
+    NoneLacksSecure,
+}
+
+/// What became of a line of an answer to a request, where it is said what started that.
+#[derive(Clone, Copy, Debug, PartialEq, Eq)]
+pub enum OutcomeFor {
+    /// The answer may set the cookie by its `SameSite`, and the rules judged the line so.
+    Judged(Outcome),
+    /// It may not, and nothing changed: a cookie that it would replace stays.
+    KeptOut(SiteRefusal),
+}
+
+/// Takes the `Set-Cookie` lines of an answer at `now` to a request to this URL that was started so into a client behind
+/// these rules, as [`crate::UserAgent::receive_for`] does: for a client whose rules another keeps.
+///
+/// # Errors
+///
+/// Those of [`crate::UserAgent::receive`].
+pub fn receive_for(
+    client: &mut Client,
+    rules: &Rules,
+    url: &Url,
+    initiator: &Initiator<'_>,
+    lines: &[&[u8]],
+    now: DateTime,
+) -> Result<Vec<OutcomeFor>, Stopped>
+    ensures all { IfOk result (λ outcomes. spec.ReceivesFor rules.now client.old.suffixes client.old.rows url.now
+        initiator.now (civil_nanos now) (map (λ line. line.now) lines.now) outcomes.items client.new.rows) }
+    ensures stopped { IfErr result (λ stopped. spec.IsStoppedFor rules.now client.old.suffixes client.old.rows url.now
+        initiator.now (civil_nanos now) (map (λ line. line.now) lines.now) stopped.0 client.new.rows) }
+    ensures list { client.new.suffixes ≡ client.old.suffixes }
+{
+    let across = comes_across(client.store(), url, initiator);
+    receive_from(client, rules, across, url, lines, now)
+}
+
+// Whether the request is cross-site and doesn't navigate the top level.
+fn comes_across(store: &CookieStore, url: &Url, initiator: &Initiator<'_>) -> bool
+    ensures { IsTrue result ↔ spec.ComesAcross store.now.suffixes url.now initiator.now }
+{
+    is_cross_site(store, url, initiator) && !initiator.is_navigation
+}
+
+// Takes the lines of an answer that comes across sites, or doesn't.
+fn receive_from(
+    client: &mut Client,
+    rules: &Rules,
+    across: bool,
+    url: &Url,
+    lines: &[&[u8]],
+    now: DateTime,
+) -> Result<Vec<OutcomeFor>, Stopped>
+    ensures all { IfOk result (λ outcomes. spec.TakesLinesFrom rules.now across client.old.suffixes client.old.rows
+        url.now (civil_nanos now) (map (λ line. line.now) lines.now) outcomes.items client.new.rows) }
+    ensures stopped { IfErr result (λ stopped. spec.IsStoppedFrom rules.now across client.old.suffixes client.old.rows
+        url.now (civil_nanos now) (map (λ line. line.now) lines.now) stopped.0 client.new.rows) }
+    ensures list { client.new.suffixes ≡ client.old.suffixes }
+{
+    let (alloc, store) = (client.alloc(), client.store());
+    let Ok(secure) = SecurePlaces::of(alloc, store, rules, url, lines.len(), now) else {
+        return Err(Stopped(0));
+    };
+    receive_beside(client, rules, across, &secure, url, lines, now)
+}
+
+// The same where the Secure rows stand at these places.
+fn receive_beside(
+    client: &mut Client,
+    rules: &Rules,
+    across: bool,
+    secure: &SecurePlaces,
+    url: &Url,
+    lines: &[&[u8]],
+    now: DateTime,
+) -> Result<Vec<OutcomeFor>, Stopped>
+    requires { ArePlacesOf secure.now rules.now url.now (civil_nanos now) client.old.rows }
+    ensures all { IfOk result (λ outcomes. spec.TakesLinesFrom rules.now across client.old.suffixes client.old.rows
+        url.now (civil_nanos now) (map (λ line. line.now) lines.now) outcomes.items client.new.rows) }
+    ensures stopped { IfErr result (λ stopped. spec.IsStoppedFrom rules.now across client.old.suffixes client.old.rows
+        url.now (civil_nanos now) (map (λ line. line.now) lines.now) stopped.0 client.new.rows) }
+    ensures list { client.new.suffixes ≡ client.old.suffixes }
+{
+    let Ok(mut outcomes) = Vec::with_capacity(client.alloc(), lines.len()) else {
+        return Err(Stopped(0));
+    };
+    for (i, line) in lines.iter().enumerate() {
+        match take_line(client, rules, across, secure, url, line, now) {
+            // There is room for one outcome a line, so this push is not refused.
+            Ok(outcome) => match outcomes.push(outcome) {
+                Ok(()) => {}
+                Err(_) => return Err(Stopped(0)),
+            },
+            Err(_) => return Err(Stopped(i + 1)),
+        }
+    }
+    Ok(outcomes)
+}
+
+// Takes one line.
+#[tactic(auto, using(crate::proofs::CrossAnswerLemmas::rewritten_from, crate::proofs::AgentLemmas::rewritten_asks, crate::proofs::CrossAnswerLemmas::handed_from, crate::proofs::AgentLemmas::handed_asks,))]
+fn take_line(
+    client: &mut Client,
+    rules: &Rules,
+    across: bool,
+    secure: &SecurePlaces,
+    url: &Url,
+    line: &[u8],
+    now: DateTime,
+) -> Result<OutcomeFor, AllocError>
+    requires { ShowPlaces secure.now (civil_nanos now) client.old.rows }
+    ensures ok { IfOk result (λ outcome. spec.TakesLineFrom rules.now across client.old.suffixes client.old.rows url.now
+        (civil_nanos now) line.now outcome client.new.rows) }
+    ensures err { OnErr result ((client.new.rows ≡ client.old.rows) × AsksForMemory rules.now url.now line.now) }
+    ensures list { client.new.suffixes ≡ client.old.suffixes }
+{
+    if is_stopped(rules, line) {
+        return Ok(OutcomeFor::Judged(Outcome::Refused(Refusal::Control)));
+    }
+    match rewritten(client.alloc(), rules, line, now)? {
+        Some(handed) => take_handed(client, rules, across, secure, url, handed.as_bytes(), now),
+        None => take_handed(client, rules, across, secure, url, line, now),
+    }
+}
+
+// Takes a line as the client gets it, that no control character stops.
+fn take_handed(
+    client: &mut Client,
+    rules: &Rules,
+    across: bool,
+    secure: &SecurePlaces,
+    url: &Url,
+    line: &[u8],
+    now: DateTime,
+) -> Result<OutcomeFor, AllocError>
+    requires { ShowPlaces secure.now (civil_nanos now) client.old.rows }
+    ensures ok { IfOk result (λ outcome. spec.TakesHandedFrom rules.now across client.old.suffixes client.old.rows
+        url.now (civil_nanos now) line.now outcome client.new.rows) }
+    ensures err { OnErr result ((client.new.rows ≡ client.old.rows) × HandedAsks rules.now url.now line.now) }
+    ensures list { client.new.suffixes ≡ client.old.suffixes }
+{
+    one_outcome();
+    let Ok(text) = str::from_utf8(line) else {
+        return take_unread_from(client, rules, across, url, line, now);
+    };
+    match RawCookie::parse(text) {
+        Ok(cookie) => take_read_from(client, rules, across, secure, url, text, &cookie, now),
+        Err(_) => take_unread_from(client, rules, across, url, line, now),
+    }
+}
+
+// The same of a line that is no text, or reads as no cookie: nothing keeps it out, and no rule refuses it.
+fn take_unread_from(
+    client: &mut Client,
+    rules: &Rules,
+    across: bool,
+    url: &Url,
+    line: &[u8],
+    now: DateTime,
+) -> Result<OutcomeFor, AllocError>
+    requires let_in { IsLetIn rules.now client.old.rows url.now (civil_nanos now) line.now }
+    requires set { spec.MaySet rules.now across line.now }
+    ensures ok { IfOk result (λ outcome. spec.TakesHandedFrom rules.now across client.old.suffixes client.old.rows
+        url.now (civil_nanos now) line.now outcome client.new.rows) }
+    ensures err { OnErr result ((client.new.rows ≡ client.old.rows) × HandedAsks rules.now url.now line.now) }
+    ensures list { client.new.suffixes ≡ client.old.suffixes }
+{
+    let outcome = take_unread(client, rules, url, line, now)?;
+    Ok(OutcomeFor::Judged(outcome))
+}
+
+// The same of a line of which the cookie was read.
+fn take_read_from(
+    client: &mut Client,
+    rules: &Rules,
+    across: bool,
+    secure: &SecurePlaces,
+    url: &Url,
+    line: &str,
+    cookie: &RawCookie<'_>,
+    now: DateTime,
+) -> Result<OutcomeFor, AllocError>
+    requires shown { ShowPlaces secure.now (civil_nanos now) client.old.rows }
+    requires read { ReadsPlain line.now (Ok cookie.now) }
+    ensures ok { IfOk result (λ outcome. spec.TakesHandedFrom rules.now across client.old.suffixes client.old.rows
+        url.now (civil_nanos now) line.now outcome client.new.rows) }
+    ensures err { OnErr result ((client.new.rows ≡ client.old.rows) × HandedAsks rules.now url.now line.now) }
+    ensures list { client.new.suffixes ≡ client.old.suffixes }
+{
+    one_outcome();
+    if let Some(cause) = site_refusal(rules, across, cookie) {
+        return Ok(OutcomeFor::KeptOut(cause));
+    }
+    let outcome = take_read(client, rules, secure, url, line, cookie, now)?;
+    Ok(OutcomeFor::Judged(outcome))
+}
+
+// Why the answer may not set the cookie, if so.
+fn site_refusal(rules: &Rules, across: bool, cookie: &RawCookie<'_>) -> Option<SiteRefusal>
+    ensures { result ≡ spec.site_refusal rules.now across cookie.now.cookie }
+{
+    if across && is_bound(rules.lax_by_default, cookie.same_site()) {
+        Some(SiteRefusal::CrossSite)
+    } else if rules.none_needs_secure && is_unrestricted_without_secure(cookie) {
+        Some(SiteRefusal::NoneLacksSecure)
+    } else {
+        None
+    }
+}
+
+// Whether a cookie of this SameSite is bound to its site.
+fn is_bound(by_default: bool, same_site: Option<SameSite>) -> bool
+    ensures { result ≡ spec.is_bound by_default same_site }
+{
+    match same_site {
+        Some(SameSite::Strict | SameSite::Lax) => true,
+        Some(SameSite::None) => false,
+        None => by_default,
+    }
+}
+
+// Whether the cookie has `SameSite=None` and isn't Secure.
+fn is_unrestricted_without_secure(cookie: &RawCookie<'_>) -> bool
+    ensures { result ≡ spec.is_unrestricted_without_secure cookie.now.cookie }
+{
+    matches!(cookie.same_site(), Some(SameSite::None)) && !cookie.secure().unwrap_or(false)
+}
+
+/// Whatever started a request, the rows are those after [`crate::UserAgent::receive`] took the lines of its answer that
+/// aren't kept out, in their order. So what is proved of that holds here.
+///
+/// Where the request isn't cross-site, or navigates the top level, and the rule `none_needs_secure` is off, these are
+/// all lines; and what `receive` does is what is done for such a request.
+pub fn judged_lines_are_received()
+    ensures judged { spec.JudgedLinesAreReceived }
+    ensures own { spec.OwnAnswersAreReceived }
+    ensures received { spec.ReceivedLinesAreOwn }
+{}
+
+/// Whatever lines come across sites, but for navigations of the top level: each row after them that is `Strict` or
+/// `Lax` was there before, or was there and was ended; with `lax_by_default` on, so each without the attribute. Where
+/// `none_needs_secure` is on, so each row of `SameSite=None` that isn't `Secure`, after any lines.
+pub fn no_bound_row_comes()
+    ensures bound { spec.NoBoundRowComes }
+    ensures unrestricted { spec.UnrestrictedRowsAreSecure }
+{}
