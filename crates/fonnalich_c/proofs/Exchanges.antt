@@ -54,7 +54,7 @@ all_more old mid new now nonces between left (l ∷ lines) line told text all on
 )
 
 -- the texts of the first elements, and of one more
-texts_more : {A : Type 0} (text : A → List ℕ) (xs : List A) (i : ℕ) (d : A) → i < length xs
+pub texts_more : {A : Type 0} (text : A → List ℕ) (xs : List A) (i : ℕ) (d : A) → i < length xs
     → map text (take (i + 1) xs) ≡ map text (take i xs) ++ text (get_or xs i d) ∷ []
 texts_more text xs i d less =
     ap (map text) (take_more xs i d less) ∙ map-append text (take i xs) (get_or xs i d ∷ [])

@@ -1,19 +1,18 @@
 -- Of several faults the first is told.
-use Rattle.std.proofs.Common.{◌≡◌, ◌⊎◌, ◌≤◌, ◌<◌, ◌≤ℤ◌, ◌++◌, ℕ, ℤ, Bool, true, false, true≢false, List, [], ◌∷◌}
-use Rattle.std.proofs.Common.{length, get_or, Option, Some, None, Result, Ok, Err, inl, inr, refl, sym, subst, arith}
+use Rattle.std.proofs.Common.{◌≡◌, ◌⊎◌, ◌≤◌, ◌<◌, ◌≤ℤ◌, ℕ, ℤ, Bool, true, false, true≢false, List, []}
+use Rattle.std.proofs.Common.{length, Option, Some, None, Result, Ok, Err, inl, inr, refl, sym, subst}
 use Rattle.std.proofs.Math.Nat.{lt_of_not-le}
 use Rattle.std.specs.Prelude.{option_map, IsOk, ◌↔◌}
 use Rattle.std.specs.Int.Signed.{≤ℤ_refl}
 use Rattle.jiff.specs.Types.{DateTime}
 use Rattle.jiff.specs.Words.{civil_nanos, IsCivilNanos}
 use Rattle.jiff.proofs.Family.{civil_nanos_range}
-use Rattle.publicsuffix.specs.Rules.{Rule, Line, Faulty, HasNoFault}
 use Rattle.url.specs.Parts.{Parts}
 use Rattle.user_agent.specs.declared.rules.Rules.{Rules}
 use Rattle.cookie_store.specs.Placing.{saved}
-use Rattle.cookie_store.specs.Rows.{Key, Row}
+use Rattle.cookie_store.specs.Rows.{Key, Row, Store}
 use Rattle.cookie_store.specs.SavedTexts.{IsAnyBeforeYears}
-use Rattle.cookie_run.specs.Program.{IsSuffixList, IsNoSuffixList, IsNoSavedText}
+use Rattle.cookie_run.specs.Program.{IsNoSavedText}
 use Rattle.cookie_run.specs.ScriptLine.{url_of}
 use Rattle.fonnalich_c.specs.Exchange.{IsNoExchange}
 use Rattle.fonnalich_c.specs.Faults.{IsFirst, IsTold}
@@ -21,10 +20,13 @@ use Rattle.fonnalich_c.specs.Given.{IsNoMoment, IsNoUrl, IsUrl, nanos_of}
 use Rattle.fonnalich_c.specs.Numbers.{refusal_number}
 use Rattle.fonnalich_c.specs.One.{IsKeyText, IsPickFault}
 use Rattle.fonnalich_c.specs.Parts.{AreTexts, IsNoEnd, IsUnmade, Texts, counted}
-use Rattle.fonnalich_c.specs.Tasks.{IsBroken, IsHeaderFault, IsNoLoad, IsRequestFault, IsSavingFault}
+use Rattle.fonnalich_c.specs.Started.{IsNoPageOf, IsReceiptFault, Receipt}
+use Rattle.fonnalich_c.specs.Tasks.{IsBroken, IsBrokenFrom, IsHeaderFault, IsNoLoadBy, IsRequestFault}
+use Rattle.fonnalich_c.specs.Tasks.{IsSavingFault, IsStartedFault}
 use Rattle.fonnalich_c.specs.declared.attributes.Attributes.{Attributes}
 use Rattle.fonnalich_c.specs.declared.refusal.Refusal.{Refusal}
 use Rattle.fonnalich_c.specs.declared.refusal.Refusal.TheVariants as refusal
+use Rattle.fonnalich_c.specs.declared.started.Start.{Start}
 
 -- ---- two faults and three, in the order of their numbers
 
@@ -95,22 +97,6 @@ third_of_three first second third A B C refused never nor why = (inr (inr why), 
 pub is_moment : (at : DateTime) (second : ℤ) → civil_nanos at ≡ nanos_of second → ¬ IsNoMoment second
 is_moment at second same none = none (subst IsCivilNanos same (civil_nanos_range at))
 
-at_fault : (before after : List Line) → get_or (before ++ Faulty ∷ after) (length before) Faulty ≡ Faulty
-at_fault [] after = refl
-at_fault (line ∷ before) after = at_fault before after
-
-is_within : (before after : List Line) → length before < length (before ++ Faulty ∷ after)
-is_within [] after = omega arith
-is_within (line ∷ before) after = let less = is_within before after in omega arith
-
-no_fault_within : (before after : List Line) → HasNoFault (before ++ Faulty ∷ after) → ⊥
-no_fault_within before after none = none (length before) Faulty (is_within before after) (at_fault before after)
-
-pub is_list : (text : List ℕ) (rules : List Rule) → IsSuffixList text rules → ¬ IsNoSuffixList text
-is_list text rules is (inl no_text) = no_text is.0
-is_list text rules is (inr fault) =
-    no_fault_within fault.1.before fault.1.after (subst HasNoFault fault.1.split is.1.sound)
-
 -- ---- a second and a URL
 
 pub moment_first : (second : ℤ) (subject : List ℕ) (refused : Refusal) → (refused ≡ refusal.Moment) × IsNoMoment second
@@ -155,6 +141,55 @@ line_unsent rules second subject rows refused is at why =
     inr (third_of_three refusal.Moment refusal.Url refusal.Line (IsNoMoment second) (IsNoUrl subject)
     (IsBroken rules second subject rows) refused is at why)
 
+-- ---- a second, a URL, that of a page and a header
+
+pub url_unstarted : (rules : Option Rules) (is_let : Bool) (second : ℤ) (subject text : List ℕ) (store : Store)
+    (refused : Refusal) → ¬ IsNoMoment second
+    → (refused ≡ refusal.Memory) ⊎ ((refused ≡ refusal.Url) × (IsNoUrl subject ⊎ IsNoUrl text))
+    → IsTold (IsStartedFault rules is_let second subject text store) refused
+unfolding IsStartedFault
+url_unstarted rules is_let second subject text store refused is (inl memory) = inl memory
+url_unstarted rules is_let second subject text store refused is (inr why) =
+    inr (second_of_three refusal.Moment refusal.Url refusal.Line (IsNoMoment second) (IsNoUrl subject ⊎ IsNoUrl text)
+    (IsBrokenFrom rules is_let second subject text store) refused (record { le = tt }) is why)
+
+pub moment_unstarted : (rules : Option Rules) (is_let : Bool) (second : ℤ) (subject text : List ℕ) (store : Store)
+    (refused : Refusal) → (refused ≡ refusal.Moment) × IsNoMoment second
+    → IsTold (IsStartedFault rules is_let second subject text store) refused
+unfolding IsStartedFault
+moment_unstarted rules is_let second subject text store refused why =
+    inr (first_of_three refusal.Moment refusal.Url refusal.Line (IsNoMoment second) (IsNoUrl subject ⊎ IsNoUrl text)
+    (IsBrokenFrom rules is_let second subject text store) refused (record { le = tt }) (record { le = tt }) why)
+
+pub line_unstarted : (rules : Option Rules) (is_let : Bool) (second : ℤ) (subject text : List ℕ) (store : Store)
+    (refused : Refusal) → ¬ IsNoMoment second → ¬ IsNoUrl subject → ¬ IsNoUrl text
+    → (refused ≡ refusal.Line) × IsBrokenFrom rules is_let second subject text store
+    → IsTold (IsStartedFault rules is_let second subject text store) refused
+unfolding IsStartedFault
+line_unstarted rules is_let second subject text store refused is at from why =
+    inr (third_of_three refusal.Moment refusal.Url refusal.Line (IsNoMoment second) (IsNoUrl subject ⊎ IsNoUrl text)
+    (IsBrokenFrom rules is_let second subject text store) refused is neither why)
+  where
+    neither : ¬ (IsNoUrl subject ⊎ IsNoUrl text)
+    neither (inl none) = at none
+    neither (inr none) = from none
+
+-- ---- a second, a URL and that of the page that starts its request
+
+pub moment_unreceived : (start : Start) (given : Receipt) (refused : Refusal)
+    → (refused ≡ refusal.Moment) × IsNoMoment given.second → IsTold (IsReceiptFault start given) refused
+moment_unreceived start given refused why =
+    inr (first_of_two refusal.Moment refusal.Url (IsNoMoment given.second)
+    (IsNoUrl given.url ⊎ IsNoPageOf start given.page) refused (record { le = tt }) why)
+
+pub url_unreceived : (start : Start) (given : Receipt) (refused : Refusal) → ¬ IsNoMoment given.second
+    → (refused ≡ refusal.Memory) ⊎ ((refused ≡ refusal.Url) × (IsNoUrl given.url ⊎ IsNoPageOf start given.page))
+    → IsTold (IsReceiptFault start given) refused
+url_unreceived start given refused is (inl memory) = inl memory
+url_unreceived start given refused is (inr why) =
+    inr (second_of_two refusal.Moment refusal.Url (IsNoMoment given.second)
+    (IsNoUrl given.url ⊎ IsNoPageOf start given.page) refused is why)
+
 -- ---- a second and a key of a cookie
 
 pub moment_unpicked : (second : ℤ) (key : Key) (refused : Refusal) → (refused ≡ refusal.Moment) × IsNoMoment second
@@ -187,33 +222,29 @@ pub year_unsaved : (second : ℤ) (rows : List Row) (refused : Refusal) → ¬ I
 year_unsaved second rows refused is why =
     inr (second_of_two refusal.Moment refusal.Year (IsNoMoment second) (BeforeYears second rows) refused is why)
 
--- ---- a list, a second and a saved text
+-- ---- a second and a saved text
 
-pub list_first : (second : ℤ) (saved text : List ℕ) (refused : Refusal)
-    → (refused ≡ refusal.Memory) ⊎ ((refused ≡ refusal.List) × IsNoSuffixList text) → IsNoLoad second saved text refused
-unfolding IsNoLoad
-list_first second saved text refused (inl memory) = inl (inl memory)
-list_first second saved text refused (inr why) =
-    inl (inr (first_of_three refusal.List refusal.Moment refusal.Saved (IsNoSuffixList text) (IsNoMoment second)
-    (IsNoSavedText saved) refused (record { le = tt }) (record { le = tt }) why))
+pub moment_unloaded : (second : ℤ) (saved : List ℕ) (refused : Refusal) → (refused ≡ refusal.Moment) × IsNoMoment second
+    → IsNoLoadBy second saved refused
+unfolding IsNoLoadBy
+moment_unloaded second saved refused why =
+    inl (inr (first_of_two refusal.Moment refusal.Saved (IsNoMoment second) (IsNoSavedText saved) refused (record {
+      le = tt;
+    }) why))
 
-pub moment_second : (second : ℤ) (saved text : List ℕ) (refused : Refusal) → ¬ IsNoSuffixList text
-    → (refused ≡ refusal.Moment) × IsNoMoment second → IsNoLoad second saved text refused
-unfolding IsNoLoad
-moment_second second saved text refused is why =
-    inl (inr (second_of_three refusal.List refusal.Moment refusal.Saved (IsNoSuffixList text) (IsNoMoment second)
-    (IsNoSavedText saved) refused (record { le = tt }) is why))
+pub memory_unloaded : (second : ℤ) (saved : List ℕ) (refused : Refusal) → refused ≡ refusal.Memory
+    → IsNoLoadBy second saved refused
+unfolding IsNoLoadBy
+memory_unloaded second saved refused memory = inl (inl memory)
 
-pub saved_third : (second : ℤ) (saved text : List ℕ) (refused : Refusal) → ¬ IsNoSuffixList text
-    → ¬ IsNoMoment second
+pub saved_unloaded : (second : ℤ) (saved : List ℕ) (refused : Refusal) → ¬ IsNoMoment second
     → (refused ≡ refusal.Read) ⊎ (refused ≡ refusal.Memory) ⊎ ((refused ≡ refusal.Saved) × IsNoSavedText saved)
-    → IsNoLoad second saved text refused
-unfolding IsNoLoad
-saved_third second saved text refused is at (inl read) = inr (read, is, at)
-saved_third second saved text refused is at (inr (inl memory)) = inl (inl memory)
-saved_third second saved text refused is at (inr (inr why)) =
-    inl (inr (third_of_three refusal.List refusal.Moment refusal.Saved (IsNoSuffixList text) (IsNoMoment second)
-    (IsNoSavedText saved) refused is at why))
+    → IsNoLoadBy second saved refused
+unfolding IsNoLoadBy
+saved_unloaded second saved refused at (inl read) = inr (read, at)
+saved_unloaded second saved refused at (inr (inl memory)) = inl (inl memory)
+saved_unloaded second saved refused at (inr (inr why)) =
+    inl (inr (second_of_two refusal.Moment refusal.Saved (IsNoMoment second) (IsNoSavedText saved) refused at why))
 
 -- ---- a second and a key
 

@@ -5,7 +5,7 @@ use Rattle.user_agent.specs.declared.rules.Rules.{Rules}
 use Rattle.fonnalich_c.specs.Rules.{IsFlags, ruled}
 
 -- the rules of a number above 0
-pub flagged : (number : ℤ) (rules : Rules) → pos 0 <ℤ number → number <ℤ pos 1024
+pub flagged : (number : ℤ) (rules : Rules) → pos 0 <ℤ number → number <ℤ pos 4096
     → rules ≡ ruled (nat_abs number) → IsFlags number (Some rules)
 flagged (pos zero) rules above below is = absurd (omega (arith, signed_arith))
 flagged (pos (suc n)) rules above below is = (suc n, refl, omega (arith, signed_arith), ap Some is)

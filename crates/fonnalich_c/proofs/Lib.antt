@@ -1,4 +1,6 @@
 pub mod Exchanges
+pub mod RingExchanges
+pub mod Rings
 pub mod Faults
 pub mod Flags
 pub mod Listings

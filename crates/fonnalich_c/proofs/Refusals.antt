@@ -12,8 +12,8 @@ use Rattle.store_parts.specs.declared.error.Error.TheVariants.{OutOfMemory, Year
 use Rattle.cookie_store.specs.Rows.{Row}
 use Rattle.cookie_store.specs.SavedTexts.{OfText, IsAnyBeforeYears, IsReadFault, IsRonRefusal, IsSaveFault}
 use Rattle.cookie_store.specs.SavedTexts.{IsWriteFault}
-use Rattle.cookie_run.specs.Program.{IsNoSuffixList, IsNoSavedText}
-use Rattle.fonnalich_c.specs.Given.{IsListToldAs}
+use Rattle.cookie_run.specs.Program.{IsNoSavedText}
+use Rattle.fonnalich_c.specs.Given.{IsListToldAs, IsNoListOf}
 use Rattle.fonnalich_c.specs.Tasks.{IsLoadToldAs}
 use Rattle.fonnalich_c.specs.declared.refusal.Refusal.{Refusal}
 use Rattle.fonnalich_c.specs.declared.refusal.Refusal.TheVariants as refusal
@@ -37,11 +37,11 @@ listed text given not_text =
 pub not_listed : {L : Type 0} (r : Result L ListError) (text : List ℕ) (cause : ListError) (told : Refusal)
     → r ≡ Err cause → IsListToldAs cause told → (IsErrOf r list.NotText ↔ (¬ IsUtf8 text))
     → ((number : ℕ) → r ≡ Err (list.Rule number) → HasFirstFault text number)
-    → (told ≡ refusal.Memory) ⊎ ((told ≡ refusal.List) × IsNoSuffixList text)
+    → IsNoListOf text told
 not_listed r text cause told is (inl memory) not_text fault = inl memory.1
-not_listed r text list.NotText told is (inr other) not_text fault = inr (other.1, inl (not_text.0 is))
+not_listed r text list.NotText told is (inr other) not_text fault = inr (inl (other.1, inl (not_text.0 is)))
 not_listed r text (list.Rule number) told is (inr other) not_text fault =
-    inr (other.1, inr (number, fault number is))
+    inr (inl (other.1, inr (number, fault number is)))
 not_listed r text list.OutOfMemory told is (inr other) not_text fault = absurd (other.0 refl)
 
 -- why a client isn't loaded from a text

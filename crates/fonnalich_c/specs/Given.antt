@@ -5,7 +5,9 @@ use Rattle.std.specs.Str.{IsUtf8}
 use Rattle.jiff.specs.Words.{IsCivilNanos}
 use Rattle.publicsuffix.specs.declared.error.ListError.{ListError}
 use Rattle.publicsuffix.specs.declared.error.ListError.TheVariants as list
+use Rattle.publicsuffix.specs.Rules.{Rule}
 use Rattle.url.specs.Parts.{Parts}
+use Rattle.cookie_run.specs.Program.{IsSuffixList, IsNoSuffixList}
 use Rattle.cookie_run.specs.ScriptLine.{url_of}
 use Rattle.fonnalich_c.specs.declared.refusal.Refusal.{Refusal}
 use Rattle.fonnalich_c.specs.declared.refusal.Refusal.TheVariants as refusal
@@ -44,6 +46,15 @@ pub record Page : Type 0 where
 abbrev pub IsListToldAs : ListError → Refusal → Type 0
 IsListToldAs cause told =
     ((cause ≡ list.OutOfMemory) × (told ≡ refusal.Memory)) ⊎ ((cause ≢ list.OutOfMemory) × (told ≡ refusal.List))
+
+-- the rules of the text's list, which has one
+abbrev pub IsListOf : List ℕ → List Rule → Type 0
+IsListOf text rules = IsSuffixList text rules × (rules ≢ [])
+
+-- the text is no list, or one without a rule, or memory was refused
+abbrev pub IsNoListOf : List ℕ → Refusal → Type 0
+IsNoListOf text refused = (refused ≡ refusal.Memory) ⊎ ((refused ≡ refusal.List) × IsNoSuffixList text)
+    ⊎ ((refused ≡ refusal.NoRule) × IsSuffixList text [])
 
 -- ---- lines
 

@@ -1,19 +1,26 @@
 -- What a call by a handle does: the client, the answer that is kept, and what is written (own: docs/DEFINITIONS.md).
-use Rattle.std.specs.Prelude.{ℕ, ℤ, pos, ◌≡◌, ◌≢◌, ◌⊎◌, ◌≤◌, ◌<◌, ◌++◌, List, [], length, drop, Option, None}
+use Rattle.std.specs.Prelude.{ℕ, ℤ, pos, ◌≡◌, ◌≢◌, ◌⊎◌, ◌≤◌, ◌<◌, ◌++◌, List, [], length, drop, Option, Some, None}
+use Rattle.publicsuffix.specs.Rules.{Rule}
 use Rattle.cookie_store.specs.Rows.{Store}
 use Rattle.fonnalich_c.specs.Numbers.{answer_word, word_of, refusal_number}
 use Rattle.user_agent.specs.declared.rules.Rules.{Rules}
-use Rattle.fonnalich_c.specs.Tasks.{Given, Makes, Fails}
+use Rattle.fonnalich_c.specs.Tasks.{Given, State, Makes, Fails}
 use Rattle.fonnalich_c.specs.declared.refusal.Refusal.{Refusal}
+use Rattle.fonnalich_c.specs.declared.refusal.Refusal.TheVariants as refusal
 
--- what a handle holds: a client once there is one, the rules of its lines or none, and the answer that had no room
+-- what a handle holds: a client once there is one, a list that it keeps for others or none, the rules of its lines or
+-- none, and the answer that had no room
 pub record Held : Type 0 where
   pub client : Option Store
+  pub list : Option (List Rule)
   pub rules : Option Rules
   pub kept : List ℕ
 
 abbrev pub IsFresh : Held → Type 0
-IsFresh held = (held.client ≡ None) × (held.rules ≡ None) × (held.kept ≡ [])
+IsFresh held = (held.client ≡ None) × (held.list ≡ None) × (held.rules ≡ None) × (held.kept ≡ [])
+
+abbrev pub state_of : Held → State
+state_of held = record { list = held.list; rules = held.rules; client = held.client }
 
 -- The number is the answer's length. Where there is room for all of it, it stands at the beginning of what is written
 -- and nothing is kept; else nothing is written and it is kept.
@@ -25,10 +32,19 @@ IsHandedOut answer out kept written number = (number ≡ pos (length answer))
 -- A word hands out what was kept, or what it made; a refusal writes and drops nothing.
 abbrev pub Acts : ℕ → Given → Held → List ℕ → Held → List ℕ → ℤ → Type 0
 Acts word given old out new written number =
-    ((word ≡ answer_word) × (new.client ≡ old.client) × (new.rules ≡ old.rules)
-    × IsHandedOut old.kept out new.kept written number)
-    ⊎ ((word ≢ answer_word) × ((answer : List ℕ)
-    × Makes (word_of word) given old.rules old.client answer new.rules new.client
+    ((word ≡ answer_word) × (state_of new ≡ state_of old) × IsHandedOut old.kept out new.kept written number)
+    ⊎ ((word ≢ answer_word) × ((answer : List ℕ) × Makes (word_of word) given (state_of old) answer (state_of new)
     × IsHandedOut answer out new.kept written number))
-    ⊎ ((word ≢ answer_word) × ((refused : Refusal) × Fails (word_of word) given old.rules old.client refused new.client
-    × (new.rules ≡ old.rules) × (new.kept ≡ old.kept) × (written ≡ out) × (number ≡ refusal_number refused)))
+    ⊎ ((word ≢ answer_word) × ((refused : Refusal) × Fails (word_of word) given (state_of old) refused new.client
+    × (new.list ≡ old.list) × (new.rules ≡ old.rules) × (new.kept ≡ old.kept) × (written ≡ out)
+    × (number ≡ refusal_number refused)))
+
+-- why a handle gets no list of another: that keeps none, or memory was refused
+abbrev pub IsNoShare : Option (List Rule) → Refusal → Type 0
+IsNoShare given refused = (refused ≡ refusal.Memory) ⊎ ((refused ≡ refusal.NoList) × (given ≡ None))
+
+-- It keeps the list that another keeps; a refusal changes nothing.
+abbrev pub Shares : Option (List Rule) → Held → Held → ℤ → Type 0
+Shares given old new number =
+    ((list : List Rule) × (given ≡ Some list) × (new ≡ record old { list = Some list }) × (number ≡ pos 0))
+    ⊎ ((refused : Refusal) × IsNoShare given refused × (new ≡ old) × (number ≡ refusal_number refused))

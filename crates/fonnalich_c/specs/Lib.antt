@@ -1,6 +1,8 @@
 pub mod Numbers
 pub mod Faults
 pub mod Given
+pub mod Suffix
+pub mod Shard
 pub mod Rules
 pub mod Tasks
 pub mod Handle
@@ -8,10 +10,12 @@ pub mod Items
 pub mod Room
 pub mod Commands
 pub mod Exchange
-pub mod Suffix
-pub mod Shard
+pub mod Ring
+pub mod RingCommands
+pub mod RingExchange
 pub mod Plain
 pub mod Parts
 pub mod Listing
 pub mod Words
 pub mod One
+pub mod Started

@@ -11,9 +11,11 @@ use Rattle.cookie_run.specs.declared.step.SessionError.TheVariants as session
 use Rattle.fonnalich_c.specs.declared.refusal.Refusal.{Refusal}
 use Rattle.fonnalich_c.specs.declared.refusal.Refusal.TheVariants as refusal
 use Rattle.fonnalich_c.specs.declared.word.Word.{Word}
-use Rattle.fonnalich_c.specs.declared.word.Word.TheVariants.{List, Load, Rules, Ask}
+use Rattle.fonnalich_c.specs.declared.word.Word.TheVariants.{List, Load, Rules, Ask, Keep, By}
 use Rattle.fonnalich_c.specs.declared.word.Task.TheVariants.{Receive, Header, Save, Restart, SaveAll, Reload}
 use Rattle.fonnalich_c.specs.declared.word.Task.TheVariants.{Count, List as Listing, Clear}
+use Rattle.fonnalich_c.specs.declared.word.Task.TheVariants.{Fetch, Navigate}
+use Rattle.fonnalich_c.specs.declared.word.ByList.TheVariants as by
 
 -- the word that hands out the answer that had no room
 abbrev pub answer_word : ℕ
@@ -34,6 +36,14 @@ word_of number =
     else if number == 10 then Some (Ask Count)
     else if number == 11 then Some (Ask Listing)
     else if number == 12 then Some (Ask Clear)
+    else if number == 13 then Some (Ask Fetch)
+    else if number == 14 then Some (Ask Navigate)
+    else if number == 15 then Some Keep
+    else if number == 16 then Some (By by.Begin)
+    else if number == 17 then Some (By by.Load)
+    else if number == 18 then Some (By by.Suffix)
+    else if number == 19 then Some (By by.Shard)
+    else if number == 20 then Some (By by.ShardOfUrl)
     else None
 
 -- ---- what became of a line
@@ -87,6 +97,11 @@ refusal_number refusal.Pair = pos 0 -ℤ pos 18
 refusal_number refusal.Site = pos 0 -ℤ pos 19
 refusal_number refusal.Rules = pos 0 -ℤ pos 20
 refusal_number refusal.Line = pos 0 -ℤ pos 21
+refusal_number refusal.NoRule = pos 0 -ℤ pos 24
+refusal_number refusal.NoList = pos 0 -ℤ pos 25
+refusal_number refusal.ManyKeys = pos 0 -ℤ pos 26
+refusal_number refusal.Keys = pos 0 -ℤ pos 27
+refusal_number refusal.KeyEnd = pos 0 -ℤ pos 28
 refusal_number (refusal.Stopped line) = stopped_number line
 
 -- what a session's refusal is told as

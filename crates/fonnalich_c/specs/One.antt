@@ -1,8 +1,7 @@
 -- One cookie of a client, by its key (own: docs/DEFINITIONS.md).
-use Rattle.std.specs.Prelude.{ℕ, ℤ, ◌≡◌, ◌≢◌, ◌⊎◌, ◌==◌, if◌then◌else◌, List, Option, Some, None}
+use Rattle.std.specs.Prelude.{ℕ, ℤ, ◌≡◌, ◌⊎◌, ◌==◌, if◌then◌else◌, List, Option, Some, None}
 use Rattle.std.specs.Str.{IsUtf8}
 use Rattle.cookie_store.specs.Rows.{Key, Store, found, found_live, removed}
-use Rattle.user_agent.specs.declared.rules.Rules.{Rules}
 use Rattle.fonnalich_c.specs.Faults.{IsTold}
 use Rattle.fonnalich_c.specs.Given.{IsNoMoment, nanos_of}
 use Rattle.fonnalich_c.specs.Handle.{Held, IsHandedOut}
@@ -48,7 +47,8 @@ IsNoPick (Some pick) second key (Some client) refused = IsTold (IsPickFault seco
 -- A word hands its answer out; a refusal writes, drops and changes nothing.
 abbrev pub ActsOnOne : ℕ → ℤ → Key → Held → List ℕ → Held → List ℕ → ℤ → Type 0
 ActsOnOne word second key old out new written number =
-    ((answer : List ℕ) × PicksOf (pick_of word) second key old.client answer new.client × (new.rules ≡ old.rules)
+    ((answer : List ℕ) × PicksOf (pick_of word) second key old.client answer new.client × (new.list ≡ old.list)
+    × (new.rules ≡ old.rules)
     × IsHandedOut answer out new.kept written number)
     ⊎ ((refused : Refusal) × IsNoPick (pick_of word) second key old.client refused × (new ≡ old) × (written ≡ out)
     × (number ≡ refusal_number refused))

@@ -1,6 +1,10 @@
 -- The rules of user agents by their flags, and the numbers of what becomes of a line behind them (own:
 -- docs/DEFINITIONS.md). The rules are those of `user_agent`.
-use Rattle.std.specs.Prelude.{ℕ, zero, suc, ℤ, pos, ◌≡◌, ◌<◌, ◌/◌, ◌%◌, ◌==◌, Bool, false, Option, Some, None}
+use Rattle.std.specs.Prelude.{ℕ, zero, suc, ℤ, pos, ◌≡◌, ◌<◌, ◌/◌, ◌%◌, ◌==◌, Bool, Option, Some, None}
+use Rattle.user_agent.specs.declared.cross_answer.OutcomeFor.{OutcomeFor}
+use Rattle.user_agent.specs.declared.cross_answer.OutcomeFor.TheVariants.{Judged, KeptOut}
+use Rattle.user_agent.specs.declared.cross_answer.SiteRefusal.{SiteRefusal}
+use Rattle.user_agent.specs.declared.cross_answer.SiteRefusal.TheVariants.{CrossSite, NoneLacksSecure}
 use Rattle.user_agent.specs.declared.rules.Outcome.{Outcome}
 use Rattle.user_agent.specs.declared.rules.Outcome.TheVariants.{Taken, Refused}
 use Rattle.user_agent.specs.declared.rules.Refusal.{Refusal}
@@ -15,8 +19,8 @@ use Rattle.fonnalich_c.specs.Numbers.{end_number}
 abbrev pub is_set : ℕ → ℕ → Bool
 is_set flag flags = (flags / flag) % 2 == 1
 
--- each rule is on whose flag is set: those that refuse, in their order, those that rewrite, and that Secure rows win;
--- `lax_by_default` has none, since no call is told what starts a request
+-- each rule is on whose flag is set: those that refuse, in their order, those that rewrite, that Secure rows win, and
+-- that a cookie is Lax by default and one of SameSite=None has to be Secure
 abbrev pub ruled : ℕ → Rules
 ruled flags = record {
   control = flags % 2 == 1;
@@ -29,19 +33,20 @@ ruled flags = record {
   dates = is_set 128 flags;
   long_lives = is_set 256 flags;
   secure_wins = is_set 512 flags;
-  lax_by_default = false;
+  lax_by_default = is_set 1024 flags;
+  none_needs_secure = is_set 2048 flags;
 }
 
--- the rules of a number of ten flags; without a flag there are none, and lines go to the client as they stand
+-- the rules of a number of twelve flags; without a flag there are none, and lines go to the client as they stand
 abbrev pub rules_of : ℕ → Option Rules
 rules_of zero = None
 rules_of (suc flags) = Some (ruled (suc flags))
 
 abbrev pub IsFlags : ℤ → Option Rules → Type 0
-IsFlags number rules = (flags : ℕ) × (number ≡ pos flags) × (flags < 1024) × (rules ≡ rules_of flags)
+IsFlags number rules = (flags : ℕ) × (number ≡ pos flags) × (flags < 4096) × (rules ≡ rules_of flags)
 
 abbrev pub IsNoFlags : ℤ → Type 0
-IsNoFlags number = (flags : ℕ) → flags < 1024 → ¬ (number ≡ pos flags)
+IsNoFlags number = (flags : ℕ) → flags < 4096 → ¬ (number ≡ pos flags)
 
 -- ---- what becomes of a line
 
@@ -57,3 +62,12 @@ rule_number LacksSecure = 26
 abbrev pub outcome_number : Outcome → ℕ
 outcome_number (Taken end) = end_number end
 outcome_number (Refused rule) = rule_number rule
+
+abbrev pub site_number : SiteRefusal → ℕ
+site_number CrossSite = 27
+site_number NoneLacksSecure = 28
+
+-- where it is said what started the request
+abbrev pub outcome_for_number : OutcomeFor → ℕ
+outcome_for_number (Judged outcome) = outcome_number outcome
+outcome_for_number (KeptOut cause) = site_number cause

@@ -1,5 +1,6 @@
 -- What the words of a call make of a client (own: docs/DEFINITIONS.md).
 use Rattle.std.specs.Prelude.{ℕ, ℤ, pos, Bool, ◌≡◌, ◌≢◌, ◌⊎◌, List, [], Option, Some, None, map, false, true}
+use Rattle.std.specs.Prelude.{IsSomeAnd}
 use Rattle.std.specs.List.{list_any}
 use Rattle.std.specs.Str.{IsUtf8}
 use Rattle.publicsuffix.specs.Rules.{Rule}
@@ -17,26 +18,34 @@ use Rattle.cookie_run.specs.Header.{IsHeader}
 use Rattle.cookie_run.specs.Keeping.{Keeps}
 use Rattle.cookie_run.specs.KeptKeys.{KeepsKeys}
 use Rattle.cookie_run.specs.HostPrefix.{IsHeldRightly}
-use Rattle.cookie_run.specs.Program.{IsSuffixList, IsNoSuffixList, IsNoSavedText}
+use Rattle.cookie_run.specs.Program.{IsNoSavedText}
 use Rattle.cookie_run.specs.declared.step.LineEnd.{LineEnd}
 use Rattle.user_agent.specs.Agent as agent
+use Rattle.user_agent.specs.CrossSite.{IsHeaderFor}
 use Rattle.user_agent.specs.Refusals.{is_control}
 use Rattle.user_agent.specs.SecureWins.{IsHeaderBehind}
+use Rattle.user_agent.specs.Sites.{is_safe_navigation}
 use Rattle.user_agent.specs.declared.rules.Outcome.{Outcome}
 use Rattle.user_agent.specs.declared.rules.Rules.{Rules}
+use Rattle.user_agent.specs.declared.sites.Initiator.{Initiator}
 use Rattle.fonnalich_c.specs.Faults.{IsTold}
-use Rattle.fonnalich_c.specs.Given.{IsUrl, IsNoUrl, IsNoMoment, nanos_of, lines_of}
+use Rattle.fonnalich_c.specs.Given.{IsListOf, IsNoListOf, IsUrl, IsNoUrl, IsNoMoment, nanos_of, lines_of}
 use Rattle.fonnalich_c.specs.Listing.{IsCount, IsListing, IsNoListing}
 use Rattle.fonnalich_c.specs.Numbers.{end_number}
-use Rattle.fonnalich_c.specs.Rules.{IsFlags, IsNoFlags, outcome_number}
+use Rattle.fonnalich_c.specs.Rules.{IsFlags, IsNoFlags, outcome_number, ruled}
+use Rattle.fonnalich_c.specs.Shard.{IsShardAtIn, IsShardIn, HasNoShardAtIn, HasNoShardIn}
+use Rattle.fonnalich_c.specs.Suffix.{IsSuffixBy, HasNoSuffixBy}
 use Rattle.fonnalich_c.specs.declared.refusal.Refusal.{Refusal}
 use Rattle.fonnalich_c.specs.declared.refusal.Refusal.TheVariants as refusal
+use Rattle.fonnalich_c.specs.declared.word.ByList.{ByList}
+use Rattle.fonnalich_c.specs.declared.word.ByList.TheVariants as by
 use Rattle.fonnalich_c.specs.declared.word.Task.{Task}
 use Rattle.fonnalich_c.specs.declared.word.Task.TheVariants as task
 use Rattle.fonnalich_c.specs.declared.word.Word.{Word}
 use Rattle.fonnalich_c.specs.declared.word.Word.TheVariants as word
 
--- what a call is given: a second since 1970 or the flags of rules, a URL or a saved text, and lines or a suffix list
+-- what a call is given: a second since 1970 or the flags of rules; a URL, a saved text or a host; and lines, the URL of
+-- a page or a suffix list
 pub record Given : Type 0 where
   pub number : ℤ
   pub subject : List ℕ
@@ -106,6 +115,41 @@ IsHeaderFault rules second subject rows refused = ((refused ≡ refusal.Moment) 
     ⊎ ((refused ≡ refusal.Url) × IsNoUrl subject)
     ⊎ ((refused ≡ refusal.Line) × IsBroken rules second subject rows)
 
+-- a page of this URL starts a request, and whether that is a navigation of the top level by a safe method
+abbrev pub IsStartedBy : Parts → Bool → Initiator → Type 0
+IsStartedBy page is_let initiator =
+    IsSomeAnd initiator.page (λ from. from.now ≡ page) × (is_safe_navigation initiator ≡ is_let)
+
+-- without rules none is on
+abbrev pub rules_on : Option Rules → Rules
+rules_on None = ruled 0
+rules_on (Some rules) = rules
+
+-- the header of a request that the page starts so
+abbrev pub SendsFrom : Option Rules → Store → Parts → Parts → Bool → ℤ → List ℕ → Type 0
+SendsFrom rules store url page is_let now header = (initiator : Initiator) × IsStartedBy page is_let initiator
+    × IsHeaderFor (rules_on rules) store.suffixes store.rows url initiator now header
+
+-- this is the header of a request that the page of the text starts so, and whether it has a control character
+abbrev pub HeadsFromSo : Bool → Option Rules → Bool → ℤ → List ℕ → List ℕ → Store → List ℕ → Type 0
+HeadsFromSo is_broken rules is_let second subject text store header = (has_control header ≡ is_broken)
+    × ((url : Parts) × (page : Parts) × IsUrl subject url × IsUrl text page
+    × SendsFrom rules store url page is_let (nanos_of second) header)
+
+unfoldable pub HeadsFrom : Option Rules → Bool → ℤ → List ℕ → List ℕ → Store → List ℕ → Type 0
+HeadsFrom rules is_let second subject text store answer =
+    HeadsFromSo false rules is_let second subject text store answer
+
+abbrev pub IsBrokenFrom : Option Rules → Bool → ℤ → List ℕ → List ℕ → Store → Type 0
+IsBrokenFrom rules is_let second subject text store =
+    (header : List ℕ) × HeadsFromSo true rules is_let second subject text store header
+
+-- what is wrong with a second, a URL, that of the page and the header
+unfoldable pub IsStartedFault : Option Rules → Bool → ℤ → List ℕ → List ℕ → Store → Refusal → Type 0
+IsStartedFault rules is_let second subject text store refused = ((refused ≡ refusal.Moment) × IsNoMoment second)
+    ⊎ ((refused ≡ refusal.Url) × (IsNoUrl subject ⊎ IsNoUrl text))
+    ⊎ ((refused ≡ refusal.Line) × IsBrokenFrom rules is_let second subject text store)
+
 -- the answer is its saved text
 abbrev pub IsSavedText : ℤ → List Row → List ℕ → Type 0
 IsSavedText second rows answer = IsUtf8 answer × Saves ron_layout (saved (nanos_of second) rows) answer
@@ -149,6 +193,10 @@ Does task.SaveAll given rules old answer new = (new ≡ old) × IsWholeText old.
 Does task.Reload given rules old answer new = (answer ≡ []) × Reloads given.subject old new
 Does task.Count given rules old answer new = (new ≡ old) × IsCount given.number old.rows answer
 Does task.List given rules old answer new = (new ≡ old) × IsListing given.number old.rows answer
+Does task.Fetch given rules old answer new =
+    (new ≡ old) × HeadsFrom rules false given.number given.subject given.text old answer
+Does task.Navigate given rules old answer new =
+    (new ≡ old) × HeadsFrom rules true given.number given.subject given.text old answer
 Does task.Clear given rules old answer new = (answer ≡ []) × (new ≡ record old { rows = [] })
 
 abbrev pub Refuses : Task → Given → Option Rules → Store → Refusal → Store → Type 0
@@ -162,32 +210,41 @@ Refuses task.SaveAll given rules old refused new = (new ≡ old) × IsNoWholeTex
 Refuses task.Reload given rules old refused new = (new ≡ old) × IsNoReload given.subject refused
 Refuses task.Count given rules old refused new = (new ≡ old) × IsNoListing given.number refused
 Refuses task.List given rules old refused new = (new ≡ old) × IsNoListing given.number refused
+Refuses task.Fetch given rules old refused new =
+    (new ≡ old) × IsTold (IsStartedFault rules false given.number given.subject given.text old) refused
+Refuses task.Navigate given rules old refused new =
+    (new ≡ old) × IsTold (IsStartedFault rules true given.number given.subject given.text old) refused
 Refuses task.Clear given rules old refused new = ⊥
 
 -- ---- a client's beginning
 
 -- without a row, with the suffix list of the text
 abbrev pub Begins : List ℕ → Store → Type 0
-Begins text new = (new.rows ≡ []) × IsSuffixList text new.suffixes
+Begins text new = (new.rows ≡ []) × IsListOf text new.suffixes
 
-abbrev pub IsNoBeginning : List ℕ → Refusal → Type 0
-IsNoBeginning text refused = (refused ≡ refusal.Memory) ⊎ ((refused ≡ refusal.List) × IsNoSuffixList text)
-
--- with the rows of a saved text that aren't expired at the second, but for those that aren't held rightly
-abbrev pub IsLoaded : ℤ → List ℕ → List ℕ → Store → Type 0
-IsLoaded second subject text new = IsSuffixList text new.suffixes
+-- with the list, and the rows of a saved text that aren't expired at the second, but for those that aren't held rightly
+abbrev pub IsLoadedBy : ℤ → List ℕ → List Rule → Store → Type 0
+IsLoadedBy second subject list new = (new.suffixes ≡ list)
     × ((loaded : Store) × Loads ShowsOnly false (nanos_of second) subject loaded
     × ArePicked IsHeldRightly loaded.rows new.rows)
 
--- what is wrong with a second, a saved text and a list
-abbrev pub IsLoadFault : ℤ → List ℕ → List ℕ → Refusal → Type 0
-IsLoadFault second subject text refused = ((refused ≡ refusal.List) × IsNoSuffixList text)
-    ⊎ ((refused ≡ refusal.Moment) × IsNoMoment second) ⊎ ((refused ≡ refusal.Saved) × IsNoSavedText subject)
+-- what is wrong with a second and a saved text
+abbrev pub IsLoadFault : ℤ → List ℕ → Refusal → Type 0
+IsLoadFault second subject refused =
+    ((refused ≡ refusal.Moment) × IsNoMoment second) ⊎ ((refused ≡ refusal.Saved) × IsNoSavedText subject)
 
--- a failed read has no cause that is known, and comes behind the list's fault and the second's
-unfoldable pub IsNoLoad : ℤ → List ℕ → List ℕ → Refusal → Type 0
-IsNoLoad second subject text refused = IsTold (IsLoadFault second subject text) refused
-    ⊎ ((refused ≡ refusal.Read) × (¬ IsNoSuffixList text) × (¬ IsNoMoment second))
+-- a failed read has no cause that is known, and comes behind the second's fault
+unfoldable pub IsNoLoadBy : ℤ → List ℕ → Refusal → Type 0
+IsNoLoadBy second subject refused = IsTold (IsLoadFault second subject) refused
+    ⊎ ((refused ≡ refusal.Read) × (¬ IsNoMoment second))
+
+-- the same with the list of a text, whose fault is told before these
+abbrev pub IsLoaded : ℤ → List ℕ → List ℕ → Store → Type 0
+IsLoaded second subject text new = (list : List Rule) × IsListOf text list × IsLoadedBy second subject list new
+
+abbrev pub IsNoLoad : ℤ → List ℕ → List ℕ → Refusal → Type 0
+IsNoLoad second subject text refused = IsNoListOf text refused
+    ⊎ (((list : List Rule) × IsListOf text list) × IsNoLoadBy second subject refused)
 
 -- what a refusal to load is told as: a failed read, want of memory, and every other cause
 abbrev pub IsLoadToldAs : Error → Refusal → Type 0
@@ -195,29 +252,76 @@ IsLoadToldAs cause refused = ((cause ≡ Io) × (refused ≡ refusal.Read))
     ⊎ ((cause ≡ OutOfMemory) × (refused ≡ refusal.Memory))
     ⊎ ((cause ≢ Io) × (cause ≢ OutOfMemory) × (refused ≡ refusal.Saved))
 
+-- ---- a list that is kept
+
+-- what is asked of it makes of the client, where there is one, and the answer
+abbrev pub MakesBy : ByList → ℤ → List ℕ → List Rule → Option Store → List ℕ → Option Store → Type 0
+MakesBy by.Begin second subject list old answer new =
+    (answer ≡ []) × (new ≡ Some (record { rows = []; suffixes = list }))
+MakesBy by.Load second subject list old answer new =
+    (answer ≡ []) × ((client : Store) × (new ≡ Some client) × IsLoadedBy second subject list client)
+MakesBy by.Suffix second subject list old answer new = (new ≡ old) × IsSuffixBy list subject answer
+MakesBy by.Shard second subject list old answer new = (new ≡ old) × IsShardIn list subject answer
+MakesBy by.ShardOfUrl second subject list old answer new = (new ≡ old) × IsShardAtIn list subject answer
+
+-- why it has no answer
+abbrev pub FailsBy : ByList → ℤ → List ℕ → List Rule → Refusal → Type 0
+FailsBy by.Begin second subject list refused = refused ≡ refusal.Memory
+FailsBy by.Load second subject list refused = IsNoLoadBy second subject refused
+FailsBy by.Suffix second subject list refused = (refused ≡ refusal.Memory) ⊎ HasNoSuffixBy list subject refused
+FailsBy by.Shard second subject list refused = (refused ≡ refusal.Memory) ⊎ HasNoShardIn subject refused
+FailsBy by.ShardOfUrl second subject list refused = HasNoShardAtIn subject refused
+
 -- ---- all words
 
--- what a word makes of the rules and of the client, where there is one, and the answer
-abbrev pub Makes : Option Word → Given → Option Rules → Option Store → List ℕ → Option Rules → Option Store → Type 0
-Makes None given rules old answer later new = ⊥
-Makes (Some word.List) given rules old answer later new =
-    (answer ≡ []) × (later ≡ rules) × ((client : Store) × (new ≡ Some client) × Begins given.text client)
-Makes (Some word.Load) given rules old answer later new = (answer ≡ []) × (later ≡ rules)
-    × ((client : Store) × (new ≡ Some client) × IsLoaded given.number given.subject given.text client)
-Makes (Some word.Rules) given rules old answer later new =
-    (answer ≡ []) × (new ≡ old) × IsFlags given.number later
-Makes (Some (word.Ask task)) given rules None answer later new = ⊥
-Makes (Some (word.Ask task)) given rules (Some old) answer later new =
-    (later ≡ rules) × ((client : Store) × (new ≡ Some client) × Does task given rules old answer client)
+-- what a word makes of what a handle has beside its answer: its list, its rules and its client, where they are there
+pub record State : Type 0 where
+  pub list : Option (List Rule)
+  pub rules : Option Rules
+  pub client : Option Store
 
--- why it has no answer, and what the client is then
-abbrev pub Fails : Option Word → Given → Option Rules → Option Store → Refusal → Option Store → Type 0
-Fails None given rules old refused new = (new ≡ old) × (refused ≡ refusal.Word)
-Fails (Some word.List) given rules old refused new = (new ≡ old) × IsNoBeginning given.text refused
-Fails (Some word.Load) given rules old refused new =
-    (new ≡ old) × IsNoLoad given.number given.subject given.text refused
-Fails (Some word.Rules) given rules old refused new =
-    (new ≡ old) × (refused ≡ refusal.Rules) × IsNoFlags given.number
-Fails (Some (word.Ask task)) given rules None refused new = (new ≡ None) × (refused ≡ refusal.NoClient)
-Fails (Some (word.Ask task)) given rules (Some old) refused new =
+abbrev pub MakesOf : ByList → ℤ → List ℕ → Option (List Rule) → Option Store → List ℕ → Option Store → Type 0
+MakesOf by second subject None old answer new = ⊥
+MakesOf by second subject (Some list) old answer new = MakesBy by second subject list old answer new
+
+abbrev pub DoesOf : Task → Given → Option Rules → Option Store → List ℕ → Option Store → Type 0
+DoesOf task given rules None answer new = ⊥
+DoesOf task given rules (Some old) answer new =
+    (client : Store) × (new ≡ Some client) × Does task given rules old answer client
+
+abbrev pub Makes : Option Word → Given → State → List ℕ → State → Type 0
+Makes None given old answer new = ⊥
+Makes (Some word.List) given old answer new = (answer ≡ []) × (new.list ≡ old.list) × (new.rules ≡ old.rules)
+    × ((client : Store) × (new.client ≡ Some client) × Begins given.text client)
+Makes (Some word.Load) given old answer new = (answer ≡ []) × (new.list ≡ old.list) × (new.rules ≡ old.rules)
+    × ((client : Store) × (new.client ≡ Some client) × IsLoaded given.number given.subject given.text client)
+Makes (Some word.Rules) given old answer new =
+    (answer ≡ []) × (new.list ≡ old.list) × IsFlags given.number new.rules × (new.client ≡ old.client)
+Makes (Some (word.Ask task)) given old answer new = (new.list ≡ old.list) × (new.rules ≡ old.rules)
+    × DoesOf task given old.rules old.client answer new.client
+Makes (Some word.Keep) given old answer new = (answer ≡ []) × (new.rules ≡ old.rules) × (new.client ≡ old.client)
+    × ((list : List Rule) × (new.list ≡ Some list) × IsListOf given.text list)
+Makes (Some (word.By by)) given old answer new = (new.list ≡ old.list) × (new.rules ≡ old.rules)
+    × MakesOf by given.number given.subject old.list old.client answer new.client
+
+abbrev pub FailsOf : ByList → ℤ → List ℕ → Option (List Rule) → Refusal → Type 0
+FailsOf by second subject None refused = refused ≡ refusal.NoList
+FailsOf by second subject (Some list) refused = FailsBy by second subject list refused
+
+abbrev pub RefusesOf : Task → Given → Option Rules → Option Store → Refusal → Option Store → Type 0
+RefusesOf task given rules None refused new = (new ≡ None) × (refused ≡ refusal.NoClient)
+RefusesOf task given rules (Some old) refused new =
     (client : Store) × (new ≡ Some client) × Refuses task given rules old refused client
+
+-- why it has no answer, and what the client is then: the list and the rules stay
+abbrev pub Fails : Option Word → Given → State → Refusal → Option Store → Type 0
+Fails None given old refused new = (new ≡ old.client) × (refused ≡ refusal.Word)
+Fails (Some word.List) given old refused new = (new ≡ old.client) × IsNoListOf given.text refused
+Fails (Some word.Load) given old refused new =
+    (new ≡ old.client) × IsNoLoad given.number given.subject given.text refused
+Fails (Some word.Rules) given old refused new =
+    (new ≡ old.client) × (refused ≡ refusal.Rules) × IsNoFlags given.number
+Fails (Some (word.Ask task)) given old refused new = RefusesOf task given old.rules old.client refused new
+Fails (Some word.Keep) given old refused new = (new ≡ old.client) × IsNoListOf given.text refused
+Fails (Some (word.By by)) given old refused new =
+    (new ≡ old.client) × FailsOf by given.number given.subject old.list refused

@@ -27,6 +27,11 @@ words_of size =
     else if size == 21 then codes "the header has a control character of a loaded cookie"
     else if size == 22 then codes "this processor lacks SSE 4.2"
     else if size == 23 then codes "the library's handle is larger than the header file's"
+    else if size == 24 then codes "the suffix list has no rule"
+    else if size == 25 then codes "the handle keeps no list"
+    else if size == 26 then codes "there are over 16 earlier keys"
+    else if size == 27 then codes "the keys haven't 64 bytes each, or aren't one more than the ends"
+    else if size == 28 then codes "the end of a key is outside the years -9999 to 9999"
     else if nat_le 100 size then codes "memory was refused at a line"
     else []
 

@@ -44,7 +44,7 @@ pub(crate) fn command(alloc: Global, line: &[u8]) -> Result<Command, Refusal>
     }
 }
 
-fn verb_of(letter: u8) -> Option<Verb>
+pub(crate) fn verb_of(letter: u8) -> Option<Verb>
     ensures { result ≡ spec.verb_of letter }
 {
     match letter {
@@ -69,7 +69,7 @@ fn way_of(digit: u8) -> Option<Way>
 }
 
 // The cookie of a `Set-Cookie` line.
-fn cookie(alloc: Global, text: &[u8]) -> Result<Cookie<'static>, Refusal>
+pub(crate) fn cookie(alloc: Global, text: &[u8]) -> Result<Cookie<'static>, Refusal>
     ensures ok { IfOk result (λ cookie. spec.IsCookieOf text.now cookie) }
     ensures err { IfErr result (λ refused. (refused ≡ Refusal.Memory)
         ⊎ ((refused ≡ Refusal.Command) × spec.IsNoCookie text.now)) }
@@ -85,7 +85,7 @@ fn cookie(alloc: Global, text: &[u8]) -> Result<Cookie<'static>, Refusal>
 }
 
 // The name that a text stands for.
-fn name(alloc: Global, text: &[u8]) -> Result<Text, Refusal>
+pub(crate) fn name(alloc: Global, text: &[u8]) -> Result<Text, Refusal>
     ensures ok { IfOk result (spec.IsNamed text.now) }
     ensures err { IfErr result (λ refused. (refused ≡ Refusal.Memory)
         ⊎ ((refused ≡ Refusal.Command) × spec.IsNoName text.now)) }

@@ -17,7 +17,7 @@ use jiff::civil::DateTime;
 use std::alloc::{AllocError, Global};
 
 /// How many bytes a sealing's nonce has.
-const NONCE_LEN: usize = 12;
+pub(crate) const NONCE_LEN: usize = 12;
 
 /// What a session on this header answers to the commands: the item of each value that is read, and behind them that
 /// of each line that it closes with.
@@ -133,7 +133,7 @@ fn set<'n>(
 }
 
 // How many bytes of nonce a set takes.
-fn nonce_len(way: Way) -> usize
+pub(crate) fn nonce_len(way: Way) -> usize
     ensures { result ≡ spec.nonce_length way }
 {
     match way {
@@ -177,7 +177,7 @@ fn push_reading(told: &mut Vec<u8>, value: &Option<String>) -> Result<(), AllocE
     }
 }
 
-fn push_lines(answer: &mut Vec<u8>, lines: &[String]) -> Result<(), AllocError>
+pub(crate) fn push_lines(answer: &mut Vec<u8>, lines: &[String]) -> Result<(), AllocError>
     ensures { OnOk result
         (answer.new.items ≡ answer.old.items ++ flat_map item (map string_bytes lines.now)) }
 {

@@ -1,9 +1,8 @@
 //! What a call is given: a moment, a URL, a list, lines.
-ghost use Rattle.std.specs.Prelude.{◌≡◌, ◌⊎◌, map, IfOk, IfErr, Some, None};
+ghost use Rattle.std.specs.Prelude.{◌≡◌, ◌≢◌, ◌⊎◌, [], map, IfOk, IfErr, Some, None};
 ghost use Rattle.std.specs.List.{slice_split};
 ghost use Rattle.jiff.specs.Words.{civil_nanos};
 ghost use Rattle.cookie_text.specs.Printing.{whole_seconds};
-ghost use Rattle.cookie_run.specs.Program.{IsSuffixList, IsNoSuffixList};
 ghost use Rattle.cookie_run.specs.ScriptLine.{url_of};
 ghost use Rattle.fonnalich_c.specs.Given as spec;
 
@@ -64,15 +63,26 @@ fn url_of(alloc: Global, text: &str) -> Result<Url, Refusal>
     }
 }
 
-/// The public suffix list of a text.
+/// The public suffix list of a text, which has a rule.
 pub fn list(alloc: Global, text: &[u8]) -> Result<List, Refusal>
-    ensures ok { IfOk result (IsSuffixList text.now) }
-    ensures err { IfErr result (λ refusal.
-        (refusal ≡ Refusal.Memory) ⊎ ((refusal ≡ Refusal.List) × IsNoSuffixList text.now)) }
+    ensures ok { IfOk result (spec.IsListOf text.now) }
+    ensures err { IfErr result (spec.IsNoListOf text.now) }
 {
     match List::parse(alloc, text) {
-        Ok(list) => Ok(list),
+        Ok(list) => with_rule(list),
         Err(cause) => Err(unlisted(cause)),
+    }
+}
+
+// The list, if it has a rule.
+fn with_rule(list: List) -> Result<List, Refusal>
+    ensures ok { IfOk result (λ given. (given ≡ list) × (given ≢ [])) }
+    ensures err { IfErr result (λ refused. (refused ≡ Refusal.NoRule) × (list ≡ [])) }
+{
+    if list.has_rule() {
+        Ok(list)
+    } else {
+        Err(Refusal::NoRule)
     }
 }
 

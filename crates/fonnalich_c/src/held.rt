@@ -1,13 +1,17 @@
 //! What a handle holds, and what a call does with it.
-ghost use Rattle.std.specs.Prelude.{◌≡◌, length};
+ghost use Rattle.std.specs.Prelude.{◌≡◌, length, IfOk, IfErr, Some};
 ghost use Rattle.cookie_store.specs.Rows.{key};
 ghost use Rattle.fonnalich_c.specs.Handle as spec;
 ghost use Rattle.fonnalich_c.specs.One.{ActsOnOne};
+ghost use Rattle.fonnalich_c.specs.Started.{ActsOnReceipt};
 
 use crate::one::{Key, Pick, told};
+use crate::refusal::Refusal;
+use crate::started::{Start, Texts, received};
 use crate::task::{Habits, answer};
 use crate::word::{ANSWER, Word};
 use cookie_run::Client;
+use publicsuffix::List;
 use std::alloc::Global;
 
 /// What a handle holds.
@@ -15,6 +19,8 @@ use std::alloc::Global;
 pub struct Held {
     /// The client, once there is one.
     pub client: Option<Client>,
+    /// The list that it keeps for clients of this handle and of others.
+    pub list: Option<List>,
     /// What it knows beside.
     pub habits: Habits,
     /// The answer that had no room.
@@ -25,12 +31,14 @@ pub struct Held {
 pub(crate) fn fresh(alloc: Global) -> Held
     ensures { spec.IsFresh (record {
       client = result.client;
+      list = result.list;
       rules = result.habits.rules;
       kept = result.kept.items;
     }) }
 {
     Held {
         client: None,
+        list: None,
         habits: Habits {
             rules: None,
             page: None,
@@ -55,8 +63,18 @@ pub(crate) fn work(
     out: &mut [u8],
 ) -> isize
     ensures { spec.Acts word (record { number = number; subject = subject.now; text = text.now })
-        (record { client = held.old.client; rules = held.old.habits.rules; kept = held.old.kept.items }) out.old
-        (record { client = held.new.client; rules = held.new.habits.rules; kept = held.new.kept.items }) out.new
+        (record {
+          client = held.old.client;
+          list = held.old.list;
+          rules = held.old.habits.rules;
+          kept = held.old.kept.items;
+        }) out.old
+        (record {
+          client = held.new.client;
+          list = held.new.list;
+          rules = held.new.habits.rules;
+          kept = held.new.kept.items;
+        }) out.new
         result }
 {
     if word == ANSWER {
@@ -65,6 +83,7 @@ pub(crate) fn work(
     match answer(
         alloc,
         &mut held.client,
+        &mut held.list,
         &mut held.habits,
         Word::of(word),
         number,
@@ -76,6 +95,42 @@ pub(crate) fn work(
             hand_out(&mut held.kept, out)
         }
         Err(refusal) => refusal.number(),
+    }
+}
+
+/// Has a handle keep the list that another keeps, which stays as it is.
+pub(crate) fn share(held: &mut Held, other: &mut Held) -> isize
+    ensures { spec.Shares other.old.list
+        (record {
+          client = held.old.client;
+          list = held.old.list;
+          rules = held.old.habits.rules;
+          kept = held.old.kept.items;
+        })
+        (record {
+          client = held.new.client;
+          list = held.new.list;
+          rules = held.new.habits.rules;
+          kept = held.new.kept.items;
+        }) result × (other.new ≡ other.old) }
+{
+    match shared(&other.list) {
+        Ok(list) => {
+            held.list = Some(list);
+            0
+        }
+        Err(refusal) => refusal.number(),
+    }
+}
+
+// The list, where there is one.
+fn shared(shelf: &Option<List>) -> Result<List, Refusal>
+    ensures ok { IfOk result (λ list. shelf.now ≡ Some list) }
+    ensures err { IfErr result (spec.IsNoShare shelf.now) }
+{
+    match shelf {
+        Some(list) => Ok(list.clone()?),
+        None => Err(Refusal::NoList),
     }
 }
 
@@ -91,12 +146,66 @@ pub(crate) fn pick_one(
     out: &mut [u8],
 ) -> isize
     ensures { ActsOnOne word second (key domain.now path.now name.now)
-        (record { client = held.old.client; rules = held.old.habits.rules; kept = held.old.kept.items }) out.old
-        (record { client = held.new.client; rules = held.new.habits.rules; kept = held.new.kept.items }) out.new
+        (record {
+          client = held.old.client;
+          list = held.old.list;
+          rules = held.old.habits.rules;
+          kept = held.old.kept.items;
+        }) out.old
+        (record {
+          client = held.new.client;
+          list = held.new.list;
+          rules = held.new.habits.rules;
+          kept = held.new.kept.items;
+        }) out.new
         result }
 {
     let texts = Key { domain, path, name };
     match told(alloc, &mut held.client, Pick::of(word), second, texts) {
+        Ok(answer) => {
+            held.kept = answer;
+            hand_out(&mut held.kept, out)
+        }
+        Err(refusal) => refusal.number(),
+    }
+}
+
+/// Takes the lines of an answer to a request that is started so, and hands out what became of each.
+pub(crate) fn receive_for(
+    alloc: Global,
+    held: &mut Held,
+    started: u32,
+    second: i64,
+    url: &[u8],
+    page: &[u8],
+    lines: &[u8],
+    out: &mut [u8],
+) -> isize
+    ensures { ActsOnReceipt started
+        (record { second = second; url = url.now; page = page.now; lines = lines.now })
+        (record {
+          client = held.old.client;
+          list = held.old.list;
+          rules = held.old.habits.rules;
+          kept = held.old.kept.items;
+        }) out.old
+        (record {
+          client = held.new.client;
+          list = held.new.list;
+          rules = held.new.habits.rules;
+          kept = held.new.kept.items;
+        }) out.new
+        result }
+{
+    let texts = Texts { url, page, lines };
+    match received(
+        alloc,
+        &mut held.client,
+        &mut held.habits,
+        Start::of(started),
+        second,
+        texts,
+    ) {
         Ok(answer) => {
             held.kept = answer;
             hand_out(&mut held.kept, out)

@@ -10,12 +10,14 @@ ghost use base.Fml.{fex, fsep, ftrue};
 ghost use Rattle.std.specs.Ptr.{points_to, room_at};
 ghost use Rattle.cookie_store.specs.Rows.{key};
 ghost use Rattle.fonnalich_c.specs.Exchange.{IsExchange, IsNoExchange};
-ghost use Rattle.fonnalich_c.specs.Handle.{IsFresh, Acts};
+ghost use Rattle.fonnalich_c.specs.Handle.{IsFresh, Acts, Shares};
 ghost use Rattle.fonnalich_c.specs.One.{ActsOnOne};
 ghost use Rattle.fonnalich_c.specs.Plain.{TellsPlain};
 ghost use Rattle.fonnalich_c.specs.Parts.{GivesParts, IsPrinted, IsUnprinted};
 ghost use Rattle.cookie_run.specs.Version.{version};
+ghost use Rattle.fonnalich_c.specs.RingExchange.{IsRingExchange, IsNoRingExchange};
 ghost use Rattle.fonnalich_c.specs.Room.{Gives, IsWritten};
+ghost use Rattle.fonnalich_c.specs.Started.{ActsOnReceipt};
 ghost use Rattle.fonnalich_c.specs.Shard.{IsShardBy, IsShardAtText, HasNoShard, HasNoShardAt};
 ghost use Rattle.fonnalich_c.specs.Suffix.{IsSuffixOf, HasNoSuffix};
 ghost use Rattle.fonnalich_c.specs.Words.{text_of};
@@ -23,6 +25,7 @@ ghost use Rattle.fonnalich_c.specs.contracts.held.Held as held;
 
 mod apart;
 mod attributes;
+mod by_list;
 mod command;
 mod exchange;
 mod given;
@@ -35,9 +38,13 @@ mod one;
 mod page;
 mod plain;
 mod refusal;
+mod ring;
+mod ring_command;
+mod ring_exchange;
 mod room;
 mod rule;
 mod shard;
+mod started;
 mod suffix;
 mod task;
 mod together;
@@ -47,8 +54,9 @@ mod words;
 use crate::apart::apart;
 use crate::attributes::Attributes;
 use crate::exchange::exchange;
-use crate::held::{Held, fresh, let_go, pick_one, work};
+use crate::held::{Held, fresh, let_go, pick_one, receive_for, share, work};
 use crate::plain::plain_number;
+use crate::ring_exchange::ring_exchange;
 use crate::room::write;
 use crate::shard::{shard, shard_at};
 use crate::suffix::suffix;
@@ -93,7 +101,8 @@ pub extern "C" fn fonnalich_text(number: i64, out: &mut [u8]) -> isize
 pub unsafe extern "C" fn fonnalich_place(alloc: Global, at: *mut u8)
     requires* { sem 𝓛 (room_at held.the_row at) }
     ensures* { sem 𝓛 (fex held.the_row.Denot (λ w. fsep
-        (fex (IsFresh (record { client = w.client; rules = w.habits.rules; kept = w.kept.items })) (λ _. ftrue))
+        (fex (IsFresh (record { client = w.client; list = w.list; rules = w.habits.rules; kept = w.kept.items }))
+        (λ _. ftrue))
         (points_to held.the_row at w))) }
 {
     let place = at as *mut Held;
@@ -115,8 +124,9 @@ pub unsafe extern "C" fn fonnalich_act(
     requires* { sem 𝓛 (points_to held.the_row at value) }
     ensures* { sem 𝓛 (fex held.the_row.Denot (λ w. fsep
         (fex (Acts word (record { number = number; subject = subject.now; text = text.now })
-        (record { client = value.client; rules = value.habits.rules; kept = value.kept.items }) out.old
-        (record { client = w.client; rules = w.habits.rules; kept = w.kept.items }) out.new result) (λ _. ftrue))
+        (record { client = value.client; list = value.list; rules = value.habits.rules; kept = value.kept.items })
+        out.old (record { client = w.client; list = w.list; rules = w.habits.rules; kept = w.kept.items }) out.new
+        result) (λ _. ftrue))
         (points_to held.the_row at w))) }
 {
     work(
@@ -147,8 +157,9 @@ pub unsafe extern "C" fn fonnalich_one(
     requires* { sem 𝓛 (points_to held.the_row at value) }
     ensures* { sem 𝓛 (fex held.the_row.Denot (λ w. fsep
         (fex (ActsOnOne word second (key domain.now path.now name.now)
-        (record { client = value.client; rules = value.habits.rules; kept = value.kept.items }) out.old
-        (record { client = w.client; rules = w.habits.rules; kept = w.kept.items }) out.new result) (λ _. ftrue))
+        (record { client = value.client; list = value.list; rules = value.habits.rules; kept = value.kept.items })
+        out.old (record { client = w.client; list = w.list; rules = w.habits.rules; kept = w.kept.items }) out.new
+        result) (λ _. ftrue))
         (points_to held.the_row at w))) }
 {
     pick_one(
@@ -161,6 +172,62 @@ pub unsafe extern "C" fn fonnalich_one(
         name,
         out,
     )
+}
+
+/// Takes the lines of an answer from this URL, where it is said what started the request: the user by 0, the page by 1,
+/// and by 2 the page that navigates the top level. Behind the rules an answer to a request of another site's page, but
+/// for such a navigation, sets no cookie that is `Strict` or `Lax`.
+#[unsafe(no_mangle)]
+pub unsafe extern "C" fn fonnalich_receive_for(
+    alloc: Global,
+    at: *mut u8,
+    started: u32,
+    second: i64,
+    url: &[u8],
+    page: &[u8],
+    lines: &[u8],
+    out: &mut [u8],
+) -> isize
+    ghost value: { Held }
+    requires* { sem 𝓛 (points_to held.the_row at value) }
+    ensures* { sem 𝓛 (fex held.the_row.Denot (λ w. fsep
+        (fex (ActsOnReceipt started
+        (record { second = second; url = url.now; page = page.now; lines = lines.now })
+        (record { client = value.client; list = value.list; rules = value.habits.rules; kept = value.kept.items })
+        out.old (record { client = w.client; list = w.list; rules = w.habits.rules; kept = w.kept.items }) out.new
+        result) (λ _. ftrue))
+        (points_to held.the_row at w))) }
+{
+    receive_for(
+        alloc,
+        &mut *(at as *mut Held),
+        started,
+        second,
+        url,
+        page,
+        lines,
+        out,
+    )
+}
+
+/// Has the handle at this place keep the list that the other keeps, and answers 0. They share its rules, which are
+/// given back with the last handle and the last client that has them.
+#[unsafe(no_mangle)]
+pub unsafe extern "C" fn fonnalich_share(at: *mut u8, other: *mut u8) -> isize
+    ghost values: { Held × Held }
+    requires* { sem 𝓛 (fsep (points_to held.the_row at values.0) (points_to held.the_row other values.1)) }
+    ensures* { sem 𝓛 (fex held.the_row.Denot (λ w. fsep
+        (fex (Shares values.1.list
+        (record {
+          client = values.0.client;
+          list = values.0.list;
+          rules = values.0.habits.rules;
+          kept = values.0.kept.items;
+        })
+        (record { client = w.client; list = w.list; rules = w.habits.rules; kept = w.kept.items }) result) (λ _. ftrue))
+        (fsep (points_to held.the_row at w) (points_to held.the_row other values.1)))) }
+{
+    share(&mut *(at as *mut Held), &mut *(other as *mut Held))
 }
 
 /// Ends the handle at this place, and gives back all memory that it took.
@@ -192,6 +259,31 @@ pub extern "C" fn fonnalich_exchange(
         (IsNoExchange key.now header.now second commands.now nonces.now) out.old out.new result }
 {
     match exchange(alloc, key, header, second, commands, nonces) {
+        Ok(answer) => write(&answer, out),
+        Err(refusal) => refusal.number(),
+    }
+}
+
+/// The same on a ring of keys: the current key and, behind it, earlier ones, each of which counts until the second of
+/// its end, or, where that is 2^63 - 1, at each moment. What is set is signed or sealed by the current key, and what
+/// each of them that counts signed or sealed is read, with the place of that key.
+///
+/// A sealed cookie takes a nonce whichever sealed way it is set in.
+#[unsafe(no_mangle)]
+pub extern "C" fn fonnalich_exchange_on_ring(
+    alloc: Global,
+    keys: &[u8],
+    ends: &[i64],
+    header: &[u8],
+    second: i64,
+    commands: &[u8],
+    nonces: &[u8],
+    out: &mut [u8],
+) -> isize
+    ensures { Gives (IsRingExchange keys.now ends.now header.now second commands.now nonces.now)
+        (IsNoRingExchange keys.now ends.now header.now second commands.now nonces.now) out.old out.new result }
+{
+    match ring_exchange(alloc, keys, ends, header, second, commands, nonces) {
         Ok(answer) => write(&answer, out),
         Err(refusal) => refusal.number(),
     }

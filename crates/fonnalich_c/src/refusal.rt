@@ -54,6 +54,16 @@ pub enum Refusal {
     Rules,
     /// The header has a control character, as a line break.
     Line,
+    /// The suffix list has no rule.
+    NoRule,
+    /// The handle keeps no list.
+    NoList,
+    /// There are over 16 earlier keys.
+    ManyKeys,
+    /// The keys haven't 64 bytes each, or aren't one more than the ends.
+    Keys,
+    /// The end of a key is before the year -9999 or after 9999, and isn't that of none.
+    KeyEnd,
     /// Memory was refused at this line, counted from 1: those before it are applied, and no later one
     /// was looked at. At 0 none was.
     Stopped(usize),
@@ -86,6 +96,11 @@ impl Refusal {
             Refusal::Site => -19,
             Refusal::Rules => -20,
             Refusal::Line => -21,
+            Refusal::NoRule => -24,
+            Refusal::NoList => -25,
+            Refusal::ManyKeys => -26,
+            Refusal::Keys => -27,
+            Refusal::KeyEnd => -28,
             Refusal::Stopped(line) => stopped_number(line),
         }
     }

@@ -3,7 +3,7 @@ ghost use Rattle.std.specs.Prelude.{◌≡◌, IfOk, IfErr};
 ghost use Rattle.fonnalich_c.specs.Rules as spec;
 
 use crate::refusal::{Refusal, end_number};
-use user_agent::{Outcome, Refusal as Rule, Rules};
+use user_agent::{Outcome, OutcomeFor, Refusal as Rule, Rules, SiteRefusal};
 
 /// The rules whose flags are set in a number, or none where it is 0.
 pub fn rules_of(number: i64) -> Result<Option<Rules>, Refusal>
@@ -13,14 +13,14 @@ pub fn rules_of(number: i64) -> Result<Option<Rules>, Refusal>
     if number == 0 {
         return Ok(None);
     }
-    if 0 < number && number < 1024 {
+    if 0 < number && number < 4096 {
         return Ok(Some(ruled(number as u64)));
     }
     Err(Refusal::Rules)
 }
 
-// The rules whose flags are set.
-fn ruled(flags: u64) -> Rules
+/// The rules whose flags are set.
+pub(crate) fn ruled(flags: u64) -> Rules
     ensures { result ≡ spec.ruled flags }
 {
     Rules {
@@ -34,7 +34,27 @@ fn ruled(flags: u64) -> Rules
         dates: flags / 128 % 2 == 1,
         long_lives: flags / 256 % 2 == 1,
         secure_wins: flags / 512 % 2 == 1,
-        lax_by_default: false,
+        lax_by_default: flags / 1024 % 2 == 1,
+        none_needs_secure: flags / 2048 % 2 == 1,
+    }
+}
+
+/// The number of what became of a line, where it is said what started the request.
+pub fn outcome_for_number(outcome: OutcomeFor) -> u8
+    ensures { result ≡ spec.outcome_for_number outcome }
+{
+    match outcome {
+        OutcomeFor::Judged(outcome) => outcome_number(outcome),
+        OutcomeFor::KeptOut(cause) => site_number(cause),
+    }
+}
+
+fn site_number(cause: SiteRefusal) -> u8
+    ensures { result ≡ spec.site_number cause }
+{
+    match cause {
+        SiteRefusal::CrossSite => 27,
+        SiteRefusal::NoneLacksSecure => 28,
     }
 }
 

@@ -4,26 +4,30 @@ ghost use Rattle.std.specs.Prelude.{false, string_bytes, true};
 ghost use Rattle.jiff.specs.Words.{civil_nanos};
 ghost use Rattle.cookie_store.specs.SavedTexts.{IsAnyBeforeYears};
 ghost use Rattle.fonnalich_c.specs.Faults.{IsTold};
+ghost use Rattle.fonnalich_c.specs.Given.{IsNoListOf};
 ghost use Rattle.fonnalich_c.specs.Listing.{IsCount, IsListing, IsNoListing};
 ghost use Rattle.fonnalich_c.specs.Numbers.{end_number};
 ghost use Rattle.fonnalich_c.specs.Rules.{outcome_number};
 ghost use Rattle.fonnalich_c.specs.Tasks as spec;
 
-use crate::given::{lines, list, moment};
+use crate::by_list::by_shelf;
+use crate::given::{lines, list, moment, url};
 use crate::listing::{count_of, listing};
 use crate::memory::Memory;
 use crate::page::{Page, url_at};
 use crate::refusal::{Refusal, end_number};
-use crate::rule::{outcome_number, rules_of};
+use crate::rule::{outcome_number, ruled, rules_of};
 use crate::word::{Task, Word};
 use cookie_run::{Client, LineEnd};
 use cookie_store::serde::ron::save_incl_expired_and_nonpersistent;
 use cookie_store::{Counting, Error};
 use jiff::civil::DateTime;
+use publicsuffix::List;
 use std::alloc::{AllocError, Global};
 use url::Url;
 use user_agent::agent::{header_of, receive_all};
-use user_agent::{Outcome, Rules};
+use user_agent::cross_site::header_for;
+use user_agent::{Initiator, Outcome, Rules};
 
 /// What a handle knows beside its client.
 #[derive(Drop)]
@@ -34,10 +38,11 @@ pub struct Habits {
     pub page: Option<Page>,
 }
 
-/// The answer of a word, by the client where there is one.
+/// The answer of a word, by the client and the list where they are there.
 pub(crate) fn answer(
     alloc: Global,
     client: &mut Option<Client>,
+    shelf: &mut Option<List>,
     habits: &mut Habits,
     word: Option<Word>,
     number: i64,
@@ -45,12 +50,13 @@ pub(crate) fn answer(
     text: &[u8],
 ) -> Result<Vec<u8>, Refusal>
     ensures ok { IfOk result (λ answer. spec.Makes word
-        (record { number = number; subject = subject.now; text = text.now }) habits.old.rules client.old
-        answer.items habits.new.rules client.new) }
+        (record { number = number; subject = subject.now; text = text.now })
+        (record { list = shelf.old; rules = habits.old.rules; client = client.old }) answer.items
+        (record { list = shelf.new; rules = habits.new.rules; client = client.new })) }
     ensures err { IfErr result (λ refused. spec.Fails word
-        (record { number = number; subject = subject.now; text = text.now }) habits.old.rules client.old
-        refused client.new) }
-    ensures rules { OnErr result (habits.new.rules ≡ habits.old.rules) }
+        (record { number = number; subject = subject.now; text = text.now })
+        (record { list = shelf.old; rules = habits.old.rules; client = client.old }) refused client.new) }
+    ensures same { OnErr result ((shelf.new ≡ shelf.old) × (habits.new.rules ≡ habits.old.rules)) }
 {
     match word {
         Some(Word::List) => {
@@ -67,18 +73,45 @@ pub(crate) fn answer(
             habits.rules = rules_of(number)?;
             Ok(Vec::new(alloc))
         }
-        Some(Word::Ask(task)) => match client {
-            Some(client) => ask(alloc, client, habits, task, number, subject, text),
-            None => Err(Refusal::NoClient),
-        },
+        Some(Word::Keep) => {
+            let list = list(alloc, text)?;
+            *shelf = Some(list);
+            Ok(Vec::new(alloc))
+        }
+        Some(Word::Ask(task)) => asked(alloc, client, habits, task, number, subject, text),
+        Some(Word::By(by)) => by_shelf(alloc, shelf, client, by, number, subject),
         None => Err(Refusal::Word),
+    }
+}
+
+// The answer of a task, by the client where there is one.
+fn asked(
+    alloc: Global,
+    client: &mut Option<Client>,
+    habits: &mut Habits,
+    task: Task,
+    number: i64,
+    subject: &[u8],
+    text: &[u8],
+) -> Result<Vec<u8>, Refusal>
+    ensures ok { IfOk result (λ answer. spec.DoesOf task
+        (record { number = number; subject = subject.now; text = text.now }) habits.old.rules client.old answer.items
+        client.new) }
+    ensures err { IfErr result (λ refused. spec.RefusesOf task
+        (record { number = number; subject = subject.now; text = text.now }) habits.old.rules client.old refused
+        client.new) }
+    ensures rules { habits.new.rules ≡ habits.old.rules }
+{
+    match client {
+        Some(client) => ask(alloc, client, habits, task, number, subject, text),
+        None => Err(Refusal::NoClient),
     }
 }
 
 // A client without a row, with the suffix list of a text.
 fn first(alloc: Global, text: &[u8]) -> Result<Client, Refusal>
     ensures ok { IfOk result (spec.Begins text.now) }
-    ensures err { IfErr result (spec.IsNoBeginning text.now) }
+    ensures err { IfErr result (IsNoListOf text.now) }
 {
     let list = list(alloc, text)?;
     Ok(Client::new(alloc, list))
@@ -90,6 +123,19 @@ fn loaded(alloc: Global, second: i64, saved: &[u8], text: &[u8]) -> Result<Clien
     ensures err { IfErr result (spec.IsNoLoad second saved.now text.now) }
 {
     let list = list(alloc, text)?;
+    loaded_by(alloc, second, saved, list)
+}
+
+/// A client of a saved text, with this list.
+pub(crate) fn loaded_by(
+    alloc: Global,
+    second: i64,
+    saved: &[u8],
+    list: List,
+) -> Result<Client, Refusal>
+    ensures ok { IfOk result (spec.IsLoadedBy second saved.now list) }
+    ensures err { IfErr result (spec.IsNoLoadBy second saved.now) }
+{
     let now = moment(second)?;
     match Client::load(alloc, list, &mut Counting::new(saved), now) {
         Ok(client) => Ok(client),
@@ -135,6 +181,8 @@ fn ask(
         Task::Reload => reload(alloc, client, subject),
         Task::Count => count(alloc, client, second),
         Task::List => list_all(alloc, client, second),
+        Task::Fetch => header_from(alloc, client, habits, second, subject, text, false),
+        Task::Navigate => header_from(alloc, client, habits, second, subject, text, true),
         Task::Clear => {
             client.clear();
             Ok(Vec::new(alloc))
@@ -238,6 +286,61 @@ fn sent(
     match rules {
         Some(rules) => header_of(client, &rules, url, now),
         None => client.header(url, now),
+    }
+}
+
+// The header of a request that the page of a text starts, as a safe navigation of the top level or otherwise.
+fn header_from(
+    alloc: Global,
+    client: &Client,
+    habits: &mut Habits,
+    second: i64,
+    subject: &[u8],
+    text: &[u8],
+    is_let: bool,
+) -> Result<Vec<u8>, Refusal>
+    ensures ok { IfOk result (λ answer.
+        spec.HeadsFrom habits.old.rules is_let second subject.now text.now client.now answer.items) }
+    ensures err { IfErr result
+        (IsTold (spec.IsStartedFault habits.old.rules is_let second subject.now text.now client.now)) }
+    ensures rules { habits.new.rules ≡ habits.old.rules }
+{
+    let now = moment(second)?;
+    let page = url(alloc, text)?;
+    let url = url_at(alloc, &mut habits.page, subject)?;
+    match sent_from(client, habits.rules, url, &page, is_let, now) {
+        Ok(header) => one_line(header),
+        Err(_) => Err(Refusal::Memory),
+    }
+}
+
+// The header that it gets behind the rules, or without any.
+fn sent_from(
+    client: &Client,
+    rules: Option<Rules>,
+    url: &Url,
+    page: &Url,
+    is_let: bool,
+    now: DateTime,
+) -> Result<String, AllocError>
+    ensures { IfOk result (λ header. spec.SendsFrom rules client.now url.now page.now is_let (civil_nanos now)
+        (string_bytes header)) }
+{
+    let initiator = Initiator {
+        page: Some(page),
+        is_navigation: is_let,
+        is_safe: is_let,
+    };
+    header_for(client, &rules_on(rules), url, &initiator, now)
+}
+
+/// The rules, of which none is on where there are none.
+pub(crate) fn rules_on(rules: Option<Rules>) -> Rules
+    ensures { result ≡ spec.rules_on rules }
+{
+    match rules {
+        Some(rules) => rules,
+        None => ruled(0),
     }
 }
 

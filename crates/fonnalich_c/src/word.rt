@@ -12,6 +12,10 @@ pub enum Task {
     Receive,
     /// The header of a request.
     Header,
+    /// The header of a request that a page starts.
+    Fetch,
+    /// The header of a safe navigation of the top level that a page starts.
+    Navigate,
     /// Its saved text.
     Save,
     /// To be saved and loaded again.
@@ -28,6 +32,21 @@ pub enum Task {
     Clear,
 }
 
+/// What a word asks of the list that a handle keeps.
+#[derive(Clone, Copy, Debug, PartialEq, Eq)]
+pub enum ByList {
+    /// A client without a row.
+    Begin,
+    /// A client of a saved text.
+    Load,
+    /// The public suffix of a host.
+    Suffix,
+    /// The shard of a host.
+    Shard,
+    /// The shard of the host of a URL.
+    ShardOfUrl,
+}
+
 /// What a word does.
 #[derive(Clone, Copy, Debug, PartialEq, Eq)]
 pub enum Word {
@@ -39,6 +58,10 @@ pub enum Word {
     Rules,
     /// A task of the client.
     Ask(Task),
+    /// Keeps the list of a text.
+    Keep,
+    /// What is asked of the list that is kept.
+    By(ByList),
 }
 
 impl Word {
@@ -59,6 +82,14 @@ impl Word {
             10 => Some(Word::Ask(Task::Count)),
             11 => Some(Word::Ask(Task::List)),
             12 => Some(Word::Ask(Task::Clear)),
+            13 => Some(Word::Ask(Task::Fetch)),
+            14 => Some(Word::Ask(Task::Navigate)),
+            15 => Some(Word::Keep),
+            16 => Some(Word::By(ByList::Begin)),
+            17 => Some(Word::By(ByList::Load)),
+            18 => Some(Word::By(ByList::Suffix)),
+            19 => Some(Word::By(ByList::Shard)),
+            20 => Some(Word::By(ByList::ShardOfUrl)),
             _ => None,
         }
     }

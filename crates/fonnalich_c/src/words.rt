@@ -41,6 +41,11 @@ fn words_of(size: u64) -> &'static str
         21 => "the header has a control character of a loaded cookie",
         22 => "this processor lacks SSE 4.2",
         23 => "the library's handle is larger than the header file's",
+        24 => "the suffix list has no rule",
+        25 => "the handle keeps no list",
+        26 => "there are over 16 earlier keys",
+        27 => "the keys haven't 64 bytes each, or aren't one more than the ends",
+        28 => "the end of a key is outside the years -9999 to 9999",
         100.. => "memory was refused at a line",
         _ => "",
     }

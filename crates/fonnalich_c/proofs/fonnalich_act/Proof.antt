@@ -149,8 +149,9 @@ fonnalich_act_spec {M} 𝓤 𝓛 𝓜 𝓡 wired =
       subject =
           a.1.1.1.1.0.now;
       text = a.1.1.1.1.1.0.now;
-    }) (record { client = n.client; rules = n.habits.rules; kept = n.kept.items })
-    a.1.1.1.1.1.1.0.now (record { client = w.client; rules = w.habits.rules; kept = w.kept.items }) o r in
+    }) (record { client = n.client; list = n.list; rules = n.habits.rules; kept = n.kept.items })
+    a.1.1.1.1.1.1.0.now (record { client = w.client; list = w.list; rules = w.habits.rules; kept = w.kept.items })
+    o r in
     let Held : ℕ → ℕ × ℕ → GName → R.Denot → Fml = λ α p γ x. (MutRef (named 0) (α ∷ []) R).own_val (record {
       ref_ptr = p;
       ghost_name = γ;

@@ -157,8 +157,9 @@ fonnalich_one_spec {M} 𝓤 𝓛 𝓜 𝓡 wired =
     let R = held.the_row in
     let Acted : R.Denot → List ℕ → ℤ → Type 0 = λ w o r. ActsOnOne a.1.1.0 a.1.1.1.0
     (key a.1.1.1.1.0.now a.1.1.1.1.1.0.now a.1.1.1.1.1.1.0.now)
-    (record { client = n.client; rules = n.habits.rules; kept = n.kept.items })
-    a.1.1.1.1.1.1.1.0.now (record { client = w.client; rules = w.habits.rules; kept = w.kept.items }) o r in
+    (record { client = n.client; list = n.list; rules = n.habits.rules; kept = n.kept.items })
+    a.1.1.1.1.1.1.1.0.now (record { client = w.client; list = w.list; rules = w.habits.rules; kept = w.kept.items })
+    o r in
     let Held : ℕ → ℕ × ℕ → GName → R.Denot → Fml = λ α p γ x. (MutRef (named 0) (α ∷ []) R).own_val (record {
       ref_ptr = p;
       ghost_name = γ;

@@ -75,6 +75,7 @@ fonnalich_place_spec {M} 𝓤 𝓛 𝓜 𝓡 wired =
     use1 𝓛 (later (some (λ (r : R.Denot). (‵ ftrue ⊛ ‵ (R.own_val r (v ∷ []))) ⊛
     some (λ (ws : Lasts g.ended κs (a.0, tt)). ‵ (lasts g.ended κs (a.0, tt) ws) ⊛ raw (fact 𝓤 (IsFresh (record {
       client = r.client;
+      list = r.list;
       rules = r.habits.rules;
       kept = r.kept.items;
     }))))))) (id⊢ 𝓤 _) $
@@ -90,11 +91,13 @@ fonnalich_place_spec {M} 𝓤 𝓛 𝓜 𝓡 wired =
     suffices ! _ (ends_at 𝓛 f.ended stayed c ((κs, qs, bounds, args (block_ptr b o), vals (block_ptr b o)), tt)
     vunit tt (tt, (tt, tt)) (tt, (tt, tt))) $
     move ! (2 ∷ 0 ∷ []) $ use2 𝓛 (‵ (points_to R (block_ptr b o) r)) (part_in_at 𝓛 R refl full_share r b o _ refl v) $
-    nothing ! $ fpack ! (IsFresh (record { client = r.client; rules = r.habits.rules; kept = r.kept.items })) (λ _. ftrue)
-    is_fresh $ fjoin ! $
+    nothing ! $
+    fpack ! (IsFresh (record { client = r.client; list = r.list; rules = r.habits.rules; kept = r.kept.items }))
+    (λ _. ftrue) is_fresh $ fjoin ! $
     fpack ! R.Denot
-    (λ w. fsep (fex (IsFresh (record { client = w.client; rules = w.habits.rules; kept = w.kept.items })) (λ _. ftrue))
-    (points_to R (block_ptr b o) w)) r $
+    (λ w. fsep
+    (fex (IsFresh (record { client = w.client; list = w.list; rules = w.habits.rules; kept = w.kept.items }))
+    (λ _. ftrue)) (points_to R (block_ptr b o) w)) r $
     -- [what lies at the pointer; the token]
     feq_i ! _ (vunit ∷ []) _ refl $ nothing ! $ nothing ! $ fjoin ! $ nothing ! $ fjoin ! $
     move ! (3 ∷ 0 ∷ 1 ∷ []) $ group ! 3 $ done !))))))))

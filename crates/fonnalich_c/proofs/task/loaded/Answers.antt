@@ -1,55 +1,22 @@
-use Rattle.std.proofs.Common.{◌≡◌, ◌∙◌, ap, false, subst, sym, FitsSigned, w64}
+use Rattle.std.proofs.Common.{inr, FitsSigned, w64}
 use Rattle.std.proofs.lemmas.Int.{to_z-of_z}
-use Rattle.jiff.specs.Words.{civil_nanos}
-use Rattle.saved_text.specs.RonReading.{ShowsOnly}
-use Rattle.cookie_store.specs.SavedTexts.{Loads}
-use Rattle.cookie_run.specs.Program.{IsSuffixList}
-use Rattle.fonnalich_c.specs.Given.{IsNoMoment, nanos_of}
-use Rattle.fonnalich_c.specs.Tasks.{IsNoLoad}
-use Rattle.fonnalich_c.specs.declared.refusal.Refusal.TheVariants.{Moment}
-use Rattle.fonnalich_c.proofs.Exchanges.{err_gives}
-use Rattle.fonnalich_c.proofs.Faults.{is_list, is_moment, list_first, moment_second, saved_third}
-use Rattle.fonnalich_c.proofs.Refusals.{not_loaded}
+use Rattle.std.specs.Prelude.{IfErr, IfOk}
+use Rattle.fonnalich_c.specs.Tasks.{IsLoaded, IsLoadedBy, IsNoLoad, IsNoLoadBy}
+use Rattle.fonnalich_c.proofs.Exchanges.{fault_gives, ok_gives}
 use Rattle.fonnalich_c.proofs.task.loaded.Goals as goal
 
-pub returns-in-Ok-clause-ok : goal.returns-in-Ok-clause-ok
-returns-in-Ok-clause-ok c =
+pub returns-clause-ok : goal.returns-clause-ok
+returns-clause-ok c =
     let fits : FitsSigned w64 c.args.second = c.ranges.second in
-    let moment : civil_nanos c.in_ok-now.now ≡ nanos_of c.args.second = simp to_z-of_z at c.in_ok-now.ensures.ok in
-    let loaded = c.in-Ok.ensures.ok in
-    let same = loaded.1 ∙ ap (λ text. text.now) c.new.ensures.inner in (
-      subst (IsSuffixList c.args.text.now) (sym c.in-Ok.ensures.suffixes) c.in_ok-list.ensures.ok,
-      (
-        loaded.2.0,
-        subst (λ now. Loads ShowsOnly false now c.args.saved.now loaded.2.0) moment
-            (subst (λ text. Loads ShowsOnly false (civil_nanos c.in_ok-now.now) text loaded.2.0) same loaded.2.1),
-        loaded.2.2,
-      ),
-    )
+    let made : IfOk c.loaded_by.result (λ client. IsLoadedBy c.args.second c.args.saved.now c.in_ok-list.list client) =
+    simp to_z-of_z at c.loaded_by.ensures.ok in
+    ok_gives c.loaded_by.result _ (IsLoaded c.args.second c.args.saved.now c.args.text.now)
+    (λ client loaded. (c.in_ok-list.list, c.in_ok-list.ensures.ok, loaded)) made
 
 pub returns-clause-err : goal.returns-clause-err
 returns-clause-err c =
     let fits : FitsSigned w64 c.args.second = c.ranges.second in
-    let moment : civil_nanos c.in_ok-now.now ≡ nanos_of c.args.second = simp to_z-of_z at c.in_ok-now.ensures.ok in
-    subst (λ text. IsNoLoad c.args.second text c.args.text.now c.unloaded.result)
-    (ap (λ text. text.now) c.new.ensures.inner)
-    (saved_third c.args.second _ c.args.text.now c.unloaded.result
-    (is_list c.args.text.now c.in_ok-list.list c.in_ok-list.ensures.ok)
-    (is_moment c.in_ok-now.now c.args.second moment)
-    (not_loaded _ c.in-Err.cause c.unloaded.result _ _ _ c.unloaded.ensures c.in-Err.ensures.err))
-
-pub returns-in_err-list-clause-err : goal.returns-in_err-list-clause-err
-returns-in_err-list-clause-err c =
-    err_gives c.from_residual.result _ _ c.from_residual.ensures (λ refused is.
-    subst (IsNoLoad c.args.second c.args.saved.now c.args.text.now) (sym is)
-    (list_first c.args.second c.args.saved.now c.args.text.now c.in_err-list.field-0.0 c.in_err-list.ensures.err))
-
-pub returns-in_err-now-clause-err : goal.returns-in_err-now-clause-err
-returns-in_err-now-clause-err c =
-    let fits : FitsSigned w64 c.args.second = c.ranges.second in
-    let none : (c.in_err-now.field-0.0 ≡ Moment) × IsNoMoment c.args.second =
-    simp to_z-of_z at c.in_err-now.ensures.err in
-    err_gives c.from_residual-in_err-now.result _ _ c.from_residual-in_err-now.ensures (λ refused is.
-    subst (IsNoLoad c.args.second c.args.saved.now c.args.text.now) (sym is)
-    (moment_second c.args.second c.args.saved.now c.args.text.now c.in_err-now.field-0.0
-    (is_list c.args.text.now c.in_ok-list.list c.in_ok-list.ensures.ok) none))
+    let not : IfErr c.loaded_by.result (λ refused. IsNoLoadBy c.args.second c.args.saved.now refused) =
+    simp to_z-of_z at c.loaded_by.ensures.err in
+    fault_gives c.loaded_by.result _ (IsNoLoad c.args.second c.args.saved.now c.args.text.now)
+    (λ refused why. inr ((c.in_ok-list.list, c.in_ok-list.ensures.ok), why)) not

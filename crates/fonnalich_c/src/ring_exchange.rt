@@ -1,0 +1,252 @@
+//! One exchange of a site on a ring of keys.
+ghost use Rattle.std.specs.Prelude.{◌≡◌, ◌≢◌, ◌⊎◌, ◌++◌, ℕ, List, [], map, drop};
+ghost use Rattle.std.specs.Prelude.{Option, Some, IfOk, IfErr, OnOk};
+ghost use Rattle.cookie_run.specs.Ending.{placed};
+ghost use Rattle.cookie_run.specs.Jar.{TakesOut};
+ghost use Rattle.cookie_run.specs.RingSession.{KeepsRing, ReadsEnding, RingReadsIn, keyed};
+ghost use Rattle.fonnalich_c.specs.Exchange as one;
+ghost use Rattle.fonnalich_c.specs.Items.{placed_text};
+ghost use Rattle.fonnalich_c.specs.RingExchange as spec;
+
+use crate::exchange::{NONCE_LEN, nonce_len, push_lines};
+use crate::given::{lines, moment};
+use crate::item::{push_item, push_none};
+use crate::nonce::Once;
+use crate::refusal::{Refusal, refused};
+use crate::ring::ring_of;
+use crate::ring_command::{RingCommand, ring_command};
+use cookie::Cookie;
+use cookie_run::{Command, EndingWay, RingSession, Text, Way};
+use jiff::civil::DateTime;
+use std::alloc::{AllocError, Global};
+
+/// What a session with this ring on this header answers to the commands: of each value that is read its item and that
+/// of the place of its key, and behind them the item of each line that it closes with.
+pub(crate) fn ring_exchange(
+    alloc: Global,
+    keys: &[u8],
+    ends: &[i64],
+    header: &[u8],
+    second: i64,
+    commands: &[u8],
+    nonces: &[u8],
+) -> Result<Vec<u8>, Refusal>
+    ensures ok { IfOk result (λ answer.
+        spec.IsRingExchange keys.now ends.now header.now second commands.now nonces.now answer.items) }
+    ensures err { IfErr result
+        (spec.IsNoRingExchange keys.now ends.now header.now second commands.now nonces.now) }
+{
+    let now = moment(second)?;
+    let ring = ring_of(alloc, keys, ends)?;
+    let lines = lines(alloc, commands)?;
+    let mut session = RingSession::open(alloc, header, ring, now)?;
+    converse(alloc, &mut session, now, &lines, nonces)
+}
+
+// What an open session answers to the lines of its commands.
+fn converse(
+    alloc: Global,
+    session: &mut RingSession,
+    now: DateTime,
+    lines: &[&[u8]],
+    nonces: &[u8],
+) -> Result<Vec<u8>, Refusal>
+    ensures ok { IfOk result (λ answer.
+        spec.RingAnswers session.old now (map (λ line. line.now) lines.now) nonces.now answer.items) }
+    ensures err { IfErr result (λ refused. (refused ≡ Refusal.Memory)
+        ⊎ spec.RingStopsAt session.old now (map (λ line. line.now) lines.now) nonces.now refused) }
+{
+    let mut answer = obey_all(alloc, session, now, lines, nonces)?;
+    let Ok(closing) = session.close() else {
+        return Err(Refusal::Memory);
+    };
+    push_lines(&mut answer, &closing)?;
+    Ok(answer)
+}
+
+// What the commands read, one after another.
+fn obey_all(
+    alloc: Global,
+    session: &mut RingSession,
+    now: DateTime,
+    lines: &[&[u8]],
+    nonces: &[u8],
+) -> Result<Vec<u8>, Refusal>
+    ensures ok { IfOk result (λ told. (left : List ℕ) × spec.AllTellOnRing session.old now nonces.now
+        (map (λ line. line.now) lines.now) told.items session.new left) }
+    ensures err { IfErr result (λ refused. (refused ≡ Refusal.Memory)
+        ⊎ spec.RingStopsAt session.old now (map (λ line. line.now) lines.now) nonces.now refused) }
+{
+    let mut told = Vec::new(alloc);
+    let mut left = nonces;
+    for line in lines {
+        left = tell(alloc, session, now, line, left, &mut told)?;
+    }
+    Ok(told)
+}
+
+// Does the command of a line, puts what it reads behind what was read, and gives the nonces that it leaves.
+fn tell<'n>(
+    alloc: Global,
+    session: &mut RingSession,
+    now: DateTime,
+    line: &[u8],
+    nonces: &'n [u8],
+    told: &mut Vec<u8>,
+) -> Result<&'n [u8], Refusal>
+    ensures ok { IfOk result (λ left. (text : List ℕ) × (told.new.items ≡ told.old.items ++ text)
+        × spec.RingLineTells now session.old nonces.now line.now text session.new left.now) }
+    ensures err { IfErr result (λ refused. (refused ≡ Refusal.Memory)
+        ⊎ spec.RingRefusesLine now nonces.now line.now refused) }
+{
+    match ring_command(alloc, line)? {
+        RingCommand::Kept(command) => obey(session, now, command, nonces, told),
+        RingCommand::SetUntil(way, cookie, until) => set_until(session, way, cookie, until, nonces),
+        RingCommand::GetUntil(way, name) => {
+            get_until(session, way, &name, told)?;
+            Ok(nonces)
+        }
+    }
+}
+
+// Does a command that a session with a single key has too.
+fn obey<'n>(
+    session: &mut RingSession,
+    now: DateTime,
+    command: Command,
+    nonces: &'n [u8],
+    told: &mut Vec<u8>,
+) -> Result<&'n [u8], Refusal>
+    ensures ok { IfOk result (λ left. (text : List ℕ) × (told.new.items ≡ told.old.items ++ text)
+        × spec.Obeys session.old now nonces.now command text session.new left.now) }
+    ensures err { IfErr result (λ refused. (refused ≡ Refusal.Memory)
+        ⊎ one.Refuses now nonces.now command refused) }
+{
+    match command {
+        Command::Set(way, cookie) => set(session, way, cookie, nonces),
+        Command::Remove(way, name) => {
+            remove(session, way, &name, now)?;
+            Ok(nonces)
+        }
+        Command::Get(way, name) => {
+            get(session, way, &name, told)?;
+            Ok(nonces)
+        }
+    }
+}
+
+// Sets a cookie by the current key, by the first of the nonces where it is sealed.
+fn set<'n>(
+    session: &mut RingSession,
+    way: Way,
+    cookie: Cookie<'static>,
+    nonces: &'n [u8],
+) -> Result<&'n [u8], Refusal>
+    ensures ok { IfOk result (λ left. one.SetsBy (keyed session.old) way cookie.entry nonces.now (keyed session.new)
+        × KeepsRing session.old session.new × (left.now ≡ drop (one.nonce_length way) nonces.now)) }
+    ensures err { IfErr result (λ refused. (refused ≡ Refusal.Memory)
+        ⊎ one.RefusesSet way cookie.entry nonces.now refused) }
+{
+    let Some((nonce, left)) = nonces.split_at_checked(nonce_len(way)) else {
+        return Err(Refusal::Nonces);
+    };
+    match session.set(way, cookie, &mut Once { nonce }) {
+        Ok(()) => Ok(left),
+        Err(error) => Err(refused(error)),
+    }
+}
+
+// Sets a cookie whose value ends at a moment, by the current key.
+fn set_until<'n>(
+    session: &mut RingSession,
+    way: EndingWay,
+    cookie: Cookie<'static>,
+    until: DateTime,
+    nonces: &'n [u8],
+) -> Result<&'n [u8], Refusal>
+    ensures ok { IfOk result (λ left. spec.SetsUntilBy session.old way cookie.entry until nonces.now session.new
+        × (left.now ≡ drop (spec.ending_nonce_length way) nonces.now)) }
+    ensures err { IfErr result (λ refused. (refused ≡ Refusal.Memory)
+        ⊎ spec.RefusesSetUntil way cookie.entry until nonces.now refused) }
+{
+    let Some((nonce, left)) = nonces.split_at_checked(ending_nonce_len(way)) else {
+        return Err(Refusal::Nonces);
+    };
+    match session.set_until(way, cookie, until, &mut Once { nonce }) {
+        Ok(()) => Ok(left),
+        Err(error) => Err(refused(error)),
+    }
+}
+
+// How many bytes of nonce a set of a value that ends takes.
+fn ending_nonce_len(way: EndingWay) -> usize
+    ensures { result ≡ spec.ending_nonce_length way }
+{
+    match way {
+        EndingWay::Signed => 0,
+        EndingWay::Sealed => NONCE_LEN,
+    }
+}
+
+// Removes the cookie of a name.
+fn remove(session: &mut RingSession, way: Way, name: &Text, now: DateTime) -> Result<(), Refusal>
+    ensures ok { OnOk result (TakesOut (keyed session.old) way name.now now (keyed session.new)
+        × KeepsRing session.old session.new) }
+    ensures err { IfErr result (λ refused. (refused ≡ Refusal.Memory)
+        ⊎ one.RefusesRemoval name.now now refused) }
+{
+    match session.remove(way, name.as_str(), now) {
+        Ok(()) => Ok(()),
+        Err(error) => Err(refused(error)),
+    }
+}
+
+// Reads the value of a name, and the place of its key.
+fn get(session: &RingSession, way: Way, name: &Text, told: &mut Vec<u8>) -> Result<(), Refusal>
+    ensures ok { OnOk result ((read : Option (List ℕ × ℕ)) × (name.now ≢ [])
+        × RingReadsIn session.now way name.now read × (told.new.items ≡ told.old.items ++ placed_text read)) }
+    ensures err { IfErr result (λ refused. (refused ≡ Refusal.Memory)
+        ⊎ ((refused ≡ Refusal.EmptyName) × (name.now ≡ []))) }
+{
+    match session.get_with_place(way, name.as_str()) {
+        Ok(read) => Ok(push_placed(told, &read)?),
+        Err(error) => Err(refused(error)),
+    }
+}
+
+// Reads the value of a name that was set until a moment, and the place of its key.
+fn get_until(
+    session: &RingSession,
+    way: EndingWay,
+    name: &Text,
+    told: &mut Vec<u8>,
+) -> Result<(), Refusal>
+    ensures ok { OnOk result ((read : Option (List ℕ × ℕ)) × (name.now ≢ [])
+        × ReadsEnding session.now way name.now read × (told.new.items ≡ told.old.items ++ placed_text read)) }
+    ensures err { IfErr result (λ refused. (refused ≡ Refusal.Memory)
+        ⊎ ((refused ≡ Refusal.EmptyName) × (name.now ≡ []))) }
+{
+    match session.get_until_with_place(way, name.as_str()) {
+        Ok(read) => Ok(push_placed(told, &read)?),
+        Err(error) => Err(refused(error)),
+    }
+}
+
+fn push_placed(told: &mut Vec<u8>, read: &Option<(String, usize)>) -> Result<(), AllocError>
+    ensures { OnOk result (told.new.items ≡ told.old.items ++ placed_text (placed read.now)) }
+{
+    match read {
+        Some((value, place)) => push_read(told, value, *place),
+        None => {
+            push_none(told)?;
+            push_none(told)
+        }
+    }
+}
+
+fn push_read(told: &mut Vec<u8>, value: &str, place: usize) -> Result<(), AllocError>
+    ensures { OnOk result (told.new.items ≡ told.old.items ++ placed_text (Some (value.now, place))) }
+{
+    push_item(told, value.as_bytes())?;
+    push_item(told, &(place as u64).to_le_bytes())
+}
