@@ -1,5 +1,6 @@
 -- What holds of every plain text (this repository's own).
-use Rattle.std.specs.Prelude.{◌+◌, ◌++◌, ℕ, List, [], codes, decimal, drop, is_some, length, option_map, take, unwrap_or}
+use Rattle.std.specs.Prelude.{◌+◌, ◌++◌, ℕ, List, [], codes, decimal, drop, is_some, length, option_map, take}
+use Rattle.std.specs.Prelude.{unwrap_or}
 use Rattle.url.specs.Host.{host_text}
 use Rattle.url.specs.Input.{when}
 use Rattle.url.specs.Parts.{IsValid, Parts, host_or_empty}

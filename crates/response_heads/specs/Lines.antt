@@ -1,10 +1,11 @@
 -- Lines, and those of a head: a status line (RFC 9112, section 4) and field lines (section 5).
 use Rattle.std.specs.Prelude.{◌≡◌, ◌≢◌, ◌⊎◌, ◌==◌, ◌||◌, ◌&&◌, ◌-◌, ℕ, Bool, false, not, List, [], ◌∷◌, length, drop}
-use Rattle.std.specs.Prelude.{take}
+use Rattle.std.specs.Prelude.{map, take}
 use Rattle.std.specs.Prelude.{slice_index, Option, Some, None, codes, if◌then◌else◌}
-use Rattle.std.specs.Char.{is_ascii_alphanumeric, is_ascii_digit}
+use Rattle.std.specs.Char.{is_ascii_alphanumeric, is_ascii_digit, to_ascii_lowercase}
 use Rattle.std.specs.List.{after_first, before_first, list_all, list_any, prefix_len, slice_split, starts_with}
 use Rattle.std.specs.List.{suffix_len}
+use Rattle.std.specs.Str.{bytes_eq}
 use Rattle.std.specs.Str.Lines.{strip_carriage_return}
 use Rattle.std.specs.Str.Parse.{digits_value}
 use Rattle.response_heads.specs.declared.error.LineFault.{LineFault}
@@ -41,9 +42,10 @@ cut_end text = last_piece (pieces text)
 abbrev pub mark : List ℕ
 mark = codes "HTTP/"
 
--- Where no head has begun, such a line begins one, and any other is passed over.
+-- Where no head has begun, a line that begins so in any case of its letters begins one, and any other is passed over:
+-- such a line may be read as a status line (as by curl), though only capitals make one (RFC 9112, section 2.3).
 abbrev pub begins_head : List ℕ → Bool
-begins_head line = starts_with ◌==◌ line mark
+begins_head line = bytes_eq (map to_ascii_lowercase (take 5 line)) (codes "http/")
 
 -- a digit, or two with a full stop between them
 abbrev pub is_number_of_version : List ℕ → Bool

@@ -7,7 +7,8 @@ use thiserror::Error;
 /// What is wrong with a line of a head.
 #[derive(Clone, Copy, Debug, PartialEq, Eq, Error)]
 pub enum LineFault {
-    /// It begins with `HTTP/` where no head has begun, and is no status line (RFC 9112, section 4), or not a whole one.
+    /// It begins with `HTTP/`, in any case, where no head has begun, and is no status line (RFC 9112, section 4), or
+    /// not a whole one.
     #[error("Status")]
     Status,
     /// It begins with white space: the obsolete way to go on with the field before it (section 5.2). It holds neither a
@@ -23,8 +24,8 @@ pub enum LineFault {
     /// It holds a carriage return that isn't at its end, or a zero byte (RFC 9110, section 5.5).
     #[error("Control")]
     Control,
-    /// No empty line ended the head before it: it begins with `HTTP/` or with a carriage return, or the text ends
-    /// within it.
+    /// No empty line ended the head before it: it begins with `HTTP/`, in any case, or with a carriage return, or the
+    /// text ends within it.
     #[error("Unended")]
     Unended,
 }

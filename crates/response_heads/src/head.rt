@@ -220,8 +220,10 @@ pub struct Found<'a> {
 /// are. A line ends at a line feed, and a carriage return before that is no part of it. Of a head that the text's end
 /// cuts off the whole lines count, and the line that has no end stands for a field without a name and without a value.
 ///
-/// A line that begins with `HTTP/` where no head has begun, and is no status line, stops all reading, and so does one
-/// that begins with that or with a carriage return where a head has begun: none can say whose head would be behind it.
+/// A line that begins with `HTTP/`, in any case of its letters, where no head has begun, and is no status line, stops
+/// all reading, and so does one that begins with that or with a carriage return where a head has begun: none can say
+/// whose head would be behind it. Whoever takes something of the heads tells the line of [`Found::stop`], since what
+/// stands behind it is left out.
 ///
 /// # Errors
 ///

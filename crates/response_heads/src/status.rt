@@ -3,14 +3,17 @@ ghost use Rattle.std.specs.Prelude.{◌≡◌, ◌<◌, ◌-◌, ◌∷◌, ◌=
 ghost use Rattle.std.specs.Char.{is_ascii_digit};
 ghost use Rattle.response_heads.specs.Lines as spec;
 
-/// What a line that begins a head begins with.
+/// What a status line begins with.
 const MARK: &[u8] = b"HTTP/";
 
-/// Whether the line begins a head, where none has begun.
+/// Whether the line begins a head, where none has begun: with the mark in any case of its letters.
 pub(crate) fn begins_head(line: &[u8]) -> bool
     ensures { result ≡ spec.begins_head line.now }
 {
-    line.starts_with(MARK)
+    match line.get(..MARK.len()) {
+        Some(front) => front.eq_ignore_ascii_case(MARK),
+        None => false,
+    }
 }
 
 /// The status of a status line, or `None` for any other line.
