@@ -1,28 +1,27 @@
--- What an import takes of lines.
-use Rattle.std.proofs.Common.{◌≡◌, ◌≤◌, ◌+◌, ◌-◌, ◌∙◌, ℕ, ℤ, Bool, true, false, List, [], ◌∷◌, ◌++◌, length, map}
-use Rattle.std.proofs.Common.{Option, None, Some, Result, Ok, Err, refl, sym, subst, ap, inl, inr, arith, ◌<◌, get_or}
+-- What an import takes of lines and of items.
+use Rattle.std.proofs.Common.{◌≡◌, ◌≤◌, ◌+◌, ◌∙◌, ℕ, ℤ, Bool, true, false, List, [], ◌∷◌, ◌++◌, length, map}
+use Rattle.std.proofs.Common.{Option, Some, Result, Ok, Err, refl, sym, subst, ap, inl, inr, arith, ◌<◌, get_or}
 use Rattle.std.proofs.Common.{suc, take}
-use Rattle.std.specs.Prelude.{◌&&◌, IfOk, IfSome, OnErr, filter, not, option_map, if◌then◌else◌}
-use Rattle.std.specs.List.{AllByRecursion, flat_map, list_any}
+use Rattle.std.specs.Prelude.{◌&&◌, IfOk, IfSome, OnErr, not, option_map, if◌then◌else◌}
+use Rattle.std.specs.List.{AllByRecursion, list_any}
 use Rattle.std.proofs.lemmas.Grind.{flat_map-append}
-use Rattle.std.proofs.lemmas.List.{append-nil, length-append, length-map, map-append, take_more}
+use Rattle.std.proofs.lemmas.List.{append-nil, length-map, map-append, take_more}
 use Rattle.std.proofs.lemmas.List.Elements.{filter-append}
 use Rattle.cookie_store.specs.Given.{ArePicked}
 use Rattle.cookie_store.specs.Placing.{loaded, put_all}
 use Rattle.cookie_store.specs.Rows.{Row, Store, behind_last, has_domain_of, has_key_of, has_place_of, inserted}
-use Rattle.cookie_store.specs.Rows.{is_live, live, put, put_in_place, replaced}
+use Rattle.cookie_store.specs.Rows.{is_live, live, put, replaced}
 use Rattle.cookie_store.specs.StoredCookie.{stored_of}
 use Rattle.cookie_store.specs.declared.stored_cookie.Cookie.{Cookie}
-use Rattle.cookies_txt.specs.Entries.{entry_text}
-use Rattle.cookies_txt.specs.declared.entries.Entry.{Entry as LineEntry}
-use Rattle.cookies_txt.specs.declared.error.LineFault.{LineFault}
-use Rattle.cookie_jar.specs.Importing.{AreRefused, Entry, ImportsEntries, ImportsLines, IsUntaken, LinesText, cause_of}
-use Rattle.cookie_jar.specs.Importing.{expired_of, lines_text, lone, refused_pair, row_in, rows_in}
+use Rattle.cookie_jar.specs.Entries.{Entry, entry_text}
+use Rattle.cookie_jar.specs.Importing.{AreRefused, ImportText, Imports, ImportsEntries, IsUntaken, cause_of}
+use Rattle.cookie_jar.specs.Importing.{expired_of, import_text, lone, refused_pair, row_in, rows_in}
+use Rattle.cookie_jar.specs.declared.entries.Entry.{Entry as CodeEntry}
 use Rattle.cookie_jar.specs.Keeping.{AreKept, IsKept, IsTaken}
 use Rattle.cookie_jar.specs.declared.form.Form.{Form}
 use Rattle.cookie_jar.specs.declared.importing.Cause.{Cause}
-use Rattle.cookie_jar.specs.declared.importing.ImportedLines.{ImportedLines}
-use Rattle.cookie_jar.specs.declared.importing.RefusedLine.{RefusedLine}
+use Rattle.cookie_jar.specs.declared.importing.Imported.{Imported}
+use Rattle.cookie_jar.specs.declared.importing.Refused.{Refused}
 use Rattle.cookie_jar.proofs.RowLemmas.{picked_all, placed_all, taken_kept}
 
 -- ---- picked
@@ -84,15 +83,15 @@ refused_same form now entries refused entry (left, picked, is) taken = (
   is,
 )
 
-entries_next : (xs : List LineEntry) (i : ℕ) (entry : LineEntry) → i < length xs → entry ≡ get_or xs i entry
+entries_next : (xs : List CodeEntry) (i : ℕ) (entry : CodeEntry) → i < length xs → entry ≡ get_or xs i entry
     → map entry_text (take (i + 1) xs) ≡ map entry_text (take i xs) ++ entry_text entry ∷ []
 entries_next xs i entry within is =
     ap (map entry_text) (take_more xs i entry within ∙ ap (λ x. take i xs ++ x ∷ []) (sym is))
     ∙ map-append entry_text (take i xs) (entry ∷ [])
 
 -- one line more that was looked at, of those that are refused
-pub next_refused : (form : Form) (now : ℤ) (xs : List LineEntry) (i : ℕ) (entry : LineEntry)
-    (old new : List RefusedLine) (found : Option Cause) (cause : Cause) → i < length xs → entry ≡ get_or xs i entry
+pub next_refused : (form : Form) (now : ℤ) (xs : List CodeEntry) (i : ℕ) (entry : CodeEntry)
+    (old new : List Refused) (found : Option Cause) (cause : Cause) → i < length xs → entry ≡ get_or xs i entry
     → AreRefused form now (map entry_text (take i xs)) (map refused_pair old)
     → IfSome found (λ cause. IsUntaken form now (entry_text entry).1 × (cause ≡ cause_of form (entry_text entry).1))
     → found ≡ Some cause → new ≡ old ++ record { number = entry.number; cause = cause } ∷ []
@@ -101,7 +100,7 @@ next_refused form now xs i entry old new found cause within is far why some push
     let here : IsUntaken form now (entry_text entry).1 × (cause ≡ cause_of form (entry_text entry).1) =
     subst (λ o. IfSome o (λ c. IsUntaken form now (entry_text entry).1 × (c ≡ cause_of form (entry_text entry).1))) some
     why in
-    let line : RefusedLine = record { number = entry.number; cause = cause } in
+    let line : Refused = record { number = entry.number; cause = cause } in
     let told : map refused_pair new ≡ map refused_pair old ++ (entry.number, cause_of form (entry_text entry).1) ∷ [] =
     ap (map refused_pair) pushed ∙ (map-append refused_pair old (line ∷ [])
     ∙ ap (λ c. map refused_pair old ++ (entry.number, c) ∷ []) here.1) in
@@ -109,8 +108,8 @@ next_refused form now xs i entry old new found cause within is far why some push
     (subst (AreRefused form now (map entry_text (take i xs) ++ entry_text entry ∷ [])) (sym told)
     (refused_more form now (map entry_text (take i xs)) (map refused_pair old) (entry_text entry) far here.0))
 
-pub next_taken : (form : Form) (now : ℤ) (xs : List LineEntry) (i : ℕ) (entry : LineEntry)
-    (refused : List RefusedLine) → i < length xs → entry ≡ get_or xs i entry
+pub next_taken : (form : Form) (now : ℤ) (xs : List CodeEntry) (i : ℕ) (entry : CodeEntry)
+    (refused : List Refused) → i < length xs → entry ≡ get_or xs i entry
     → AreRefused form now (map entry_text (take i xs)) (map refused_pair refused)
     → ¬ (IsUntaken form now (entry_text entry).1)
     → AreRefused form now (map entry_text (take (i + 1) xs)) (map refused_pair refused)
@@ -137,7 +136,7 @@ kept_more form now entries kept more entry far one =
     (picked_append (IsTaken form) (live now (rows_in entries)) (live now (row_in entry.1)) kept more far one)
 
 -- one line more that was looked at, of those that are kept
-pub kept_next : (form : Form) (now : ℤ) (xs : List LineEntry) (entry : LineEntry) (old new : List Cookie)
+pub kept_next : (form : Form) (now : ℤ) (xs : List CodeEntry) (entry : CodeEntry) (old new : List Cookie)
     (found : Option Cookie) → ArePicked (IsTaken form) (live now (rows_in (map entry_text xs))) (map stored_of old)
     → ArePicked (IsTaken form) (live now (row_in (entry_text entry).1)) (lone (option_map stored_of found))
     → map stored_of new ≡ map stored_of old ++ lone (option_map stored_of found)
@@ -193,7 +192,7 @@ all_counted form now entries refused kept (left, picked, is) are_kept =
       length-map {B = ℕ × Cause} left (λ e. (e.0, cause_of form e.1)),
     )
 
-pub entries_counted : (form : Form) (now : ℤ) (xs : List LineEntry) (refused : List RefusedLine) (kept : List Cookie)
+pub entries_counted : (form : Form) (now : ℤ) (xs : List CodeEntry) (refused : List Refused) (kept : List Cookie)
     → AreRefused form now (map entry_text xs) (map refused_pair refused)
     → ArePicked (IsTaken form) (live now (rows_in (map entry_text xs))) (map stored_of kept)
     → length refused + length kept + length (expired_of now (rows_in (map entry_text xs))) ≡ length xs
@@ -258,17 +257,17 @@ taken_all form now rows kept others taken are_kept same picked =
     picked ∙ same
 
 -- what an import leaves
-pub lines_kept : (form : Form) (now : ℤ) (entries : List Entry) (old : List Row) (told : LinesText) (new : List Row)
+pub entries_kept : (form : Form) (now : ℤ) (entries : List Entry) (old : List Row) (told : ImportText) (new : List Row)
     → AreKept old → ImportsEntries form now entries old told new → AreKept new
-lines_kept form now entries old told new kept done =
+entries_kept form now entries old told new kept done =
     subst AreKept (sym done.new_rows) (placed_all IsKept now old (loaded false now done.kept) kept
     (loaded_all IsKept now done.kept (taken_kept form done.kept
     (picked_all (IsTaken form) (live now (rows_in entries)) done.kept done.are_kept))))
 
-pub lines_held : {E : Type 0} (r : Result ImportedLines E) (form : Form) (now : ℤ) (text : List ℕ)
+pub import_held : {E : Type 0} (r : Result Imported E) (form held : Form) (now : ℤ) (text : List ℕ)
     (before after : Store) → AreKept before.rows
-    → IfOk r (λ lines. ImportsLines form now text before.rows (lines_text lines) after.rows)
+    → IfOk r (λ done. Imports form held now text before.rows (import_text done) after.rows)
     → OnErr r (after ≡ before) → AreKept after.rows
-lines_held (Ok lines) form now text before after kept (entries, gives, done) same =
-    lines_kept form now entries before.rows (lines_text lines) after.rows kept done
-lines_held (Err e) form now text before after kept ok same = subst (λ (s : Store). AreKept s.rows) (sym same) kept
+import_held (Ok done) form held now text before after kept (entries, gives, imports) same =
+    entries_kept held now entries before.rows (import_text done) after.rows kept imports
+import_held (Err e) form held now text before after kept ok same = subst (λ (s : Store). AreKept s.rows) (sym same) kept

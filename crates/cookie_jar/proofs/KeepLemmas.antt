@@ -1,5 +1,5 @@
 -- Rows that a jar keeps.
-use Rattle.std.proofs.Common.{◌≡◌, ◌≢◌, ◌<◌, ◌∷◌, [], ◌++◌, ◌∙◌, ℕ, ℤ, Bool, true, false, List, length, map, ap, sym}
+use Rattle.std.proofs.Common.{◌≡◌, ◌∷◌, [], ◌++◌, ◌∙◌, ℕ, ℤ, Bool, true, false, List, length, map, ap, sym}
 use Rattle.std.proofs.Common.{subst, refl, arith}
 use Rattle.std.specs.Prelude.{◌==◌, ◌&&◌, ◌||◌, ◌↔◌, not, IfOk, IsTrue, Result, Ok, Err, Option, Some, None}
 use Rattle.std.specs.List.{AllByRecursion, list_any}

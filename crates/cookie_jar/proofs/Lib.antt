@@ -1,7 +1,9 @@
 pub mod AskingLemmas
 mod ControlLemmas
+pub mod EntryLemmas
 pub mod ExplainLemmas
 pub mod ImportLemmas
+pub mod ItemLemmas
 pub mod KeepLemmas
 pub mod KeyLemmas
 pub mod LawLemmas

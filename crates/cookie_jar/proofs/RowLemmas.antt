@@ -1,7 +1,7 @@
 -- Rows that are lent, copied and picked.
-use Rattle.std.proofs.Common.{◌≡◌, ◌≤◌, ℕ, ℤ, Bool, true, false, List, [], ◌∷◌, ◌++◌, map, take, length}
+use Rattle.std.proofs.Common.{◌≡◌, ◌≤◌, ℤ, Bool, true, false, List, [], ◌∷◌, ◌++◌, map, length}
 use Rattle.std.proofs.Common.{Option, None, Result, Ok, Err, sym, refl, ap, ◌∙◌, subst, inl, inr, append_assoc, arith}
-use Rattle.std.specs.Prelude.{◌&&◌, cond, not, filter, if◌then◌else◌, IfOk, IfErr}
+use Rattle.std.specs.Prelude.{◌&&◌, cond, not, filter, if◌then◌else◌, IfOk}
 use Rattle.std.specs.Borrow.{Bor}
 use Rattle.std.specs.Iterator.{AlwaysYields, Drains}
 use Rattle.std.specs.List.{AllByRecursion, list_all, list_any}
@@ -15,8 +15,7 @@ use Rattle.cookie_store.specs.Rows.{Row, Store, behind_last, has_domain_of, has_
 use Rattle.cookie_store.specs.Rows.{live, put, put_in_place, replaced}
 use Rattle.cookie_store.specs.StoredCookie.{stored_of}
 use Rattle.cookie_store.specs.declared.stored_cookie.Cookie.{Cookie}
-use Rattle.cookie_jar.specs.Keeping.{AreKept, IsKept, IsTaken}
-use Rattle.cookie_jar.specs.Reading.{ImportsRows}
+use Rattle.cookie_jar.specs.Keeping.{AreKept, IsTaken}
 use Rattle.cookie_jar.specs.Rows.{AreCopies, lent_rows}
 use Rattle.cookie_jar.specs.declared.form.Form.{Form}
 
@@ -220,13 +219,6 @@ placed_all P now xs ys hx hy =
 pub taken_kept : (form : Form) (rows : List Row) → AllByRecursion (IsTaken form) rows → AreKept rows
 taken_kept form [] all = tt
 taken_kept form (r ∷ rs) all = (all.0.kept, taken_kept form rs all.1)
-
--- and so is what an import leaves
-pub imported_kept : (form : Form) (now : ℤ) (others old : List Row) (count refused : ℕ) (told : List ℕ)
-    (new : List Row) → AreKept old → ImportsRows form now others old count refused told new → AreKept new
-imported_kept form now others old count refused told new kept (taken, picked, is, counted, whole, tells) =
-    subst AreKept (sym is) (placed_all IsKept now old taken kept
-    (taken_kept form taken (picked_all (IsTaken form) others taken picked)))
 
 -- ---- live rows
 

@@ -1,5 +1,6 @@
--- What an import takes of the lines of a `cookies.txt`, each read by itself (this repository's own).
-use Rattle.std.specs.Prelude.{◌≡◌, ◌+◌, ◌++◌, ℕ, ℤ, Bool, true, false, not, List, [], ◌∷◌, length, map}
+-- What an import takes of the lines of a `cookies.txt`, or of the items of a list of RON or JSON, each read by itself
+-- (this repository's own).
+use Rattle.std.specs.Prelude.{◌≡◌, ◌+◌, ◌++◌, ℕ, ℤ, true, false, not, List, [], ◌∷◌, length, map}
 use Rattle.std.specs.Prelude.{Option, Some, None, Result, Ok, Err, ⊤, codes, filter}
 use Rattle.std.specs.Prelude.{if◌then◌else◌}
 use Rattle.std.specs.Fmt.{decimal}
@@ -7,30 +8,28 @@ use Rattle.std.specs.List.{flat_map}
 use Rattle.cookie_store.specs.Given.{ArePicked}
 use Rattle.cookie_store.specs.Placing.{loaded}
 use Rattle.cookie_store.specs.Rows.{Row, is_live, live}
-use Rattle.cookies_txt.specs.Entries.{GivesEntries}
 use Rattle.cookies_txt.specs.declared.error.LineFault.{LineFault}
 use Rattle.cookies_txt.specs.declared.error.LineFault.TheVariants.{NotText, Fields, EmptyDomain, Flag, NoSlash}
 use Rattle.cookies_txt.specs.declared.error.LineFault.TheVariants.{Number, EmptyName, Domain}
 use Rattle.cookies_txt.specs.declared.error.RowFault.{RowFault}
 use Rattle.cookies_txt.specs.declared.error.RowFault.TheVariants as row
+use Rattle.cookie_jar.specs.Entries.{Entry, GivesEntries}
 use Rattle.cookie_jar.specs.Keeping.{IsTaken, fault_in, have_control, is_read_pair}
 use Rattle.cookie_jar.specs.declared.form.Form.{Form}
+use Rattle.cookie_jar.specs.declared.form.Form.TheVariants.{Ron, Json, Txt}
 use Rattle.cookie_jar.specs.declared.importing.Cause.{Cause}
-use Rattle.cookie_jar.specs.declared.importing.Cause.TheVariants.{Faulty, Control, Pair, Unfit, HostPrefix}
-use Rattle.cookie_jar.specs.declared.importing.ImportedLines.{ImportedLines}
-use Rattle.cookie_jar.specs.declared.importing.RefusedLine.{RefusedLine}
-
--- what a line that isn't passed over gives, with its number: its row, or its fault
-abbrev pub Entry : Type 0
-Entry = ℕ × Result Row LineFault
+use Rattle.cookie_jar.specs.declared.importing.Cause.TheVariants.{Faulty, NoRow, Control, Pair, Unfit}
+use Rattle.cookie_jar.specs.declared.importing.Cause.TheVariants.{HostPrefix}
+use Rattle.cookie_jar.specs.declared.importing.Imported.{Imported}
+use Rattle.cookie_jar.specs.declared.importing.Refused.{Refused}
 
 -- ---- the rows that are read
 
-abbrev pub row_in : Result Row LineFault → List Row
+abbrev pub row_in : Result Row Cause → List Row
 row_in (Ok row) = row ∷ []
-row_in (Err fault) = []
+row_in (Err cause) = []
 
--- those of all lines, in their order
+-- those of all entries, in their order
 abbrev pub rows_in : List Entry → List Row
 rows_in entries = flat_map (λ entry. row_in entry.1) entries
 
@@ -38,13 +37,12 @@ rows_in entries = flat_map (λ entry. row_in entry.1) entries
 abbrev pub expired_of : ℤ → List Row → List Row
 expired_of now rows = filter (λ row. not (is_live now row)) rows
 
--- ---- the lines that are refused
+-- ---- what is refused
 
--- The line has a fault, or a row that isn't expired at the moment and that isn't taken into a jar that is saved in this
--- form.
-abbrev pub IsUntaken : Form → ℤ → Result Row LineFault → Type 0
+-- It is no row, or one that isn't expired at the moment and that isn't taken into a jar that is saved in this form.
+abbrev pub IsUntaken : Form → ℤ → Result Row Cause → Type 0
 IsUntaken form now (Ok row) = (is_live now row ≡ true) × (¬ (IsTaken form row))
-IsUntaken form now (Err fault) = ⊤
+IsUntaken form now (Err cause) = ⊤
 
 -- why a row that a text gives isn't taken, by the form's fault
 abbrev pub unfit_or_host : Option RowFault → Cause
@@ -58,12 +56,12 @@ refusal_of form row =
     else if is_read_pair row.raw.cookie.name row.raw.cookie.value then unfit_or_host (fault_in form row)
     else Pair
 
--- why the line is refused
-abbrev pub cause_of : Form → Result Row LineFault → Cause
+-- why it is refused
+abbrev pub cause_of : Form → Result Row Cause → Cause
 cause_of form (Ok row) = refusal_of form row
-cause_of form (Err fault) = Faulty fault
+cause_of form (Err cause) = cause
 
--- the numbers of the lines that are refused, and why each is, in their order
+-- the numbers of the entries that are refused, and why each is, in their order
 abbrev pub AreRefused : Form → ℤ → List Entry → List (ℕ × Cause) → Type 0
 AreRefused form now entries refused =
     (left : List Entry) × ArePicked (λ entry. IsUntaken form now entry.1) entries left
@@ -72,17 +70,17 @@ AreRefused form now entries refused =
 -- ---- what an import does
 
 -- How many rows are taken; how many are passed over since they are expired, and how many for a later row of their key;
--- and which lines are refused.
-pub record LinesText : Type 0 where
+-- and which lines or items are refused.
+pub record ImportText : Type 0 where
   pub rows : ℕ
   pub expired : ℕ
   pub replaced : ℕ
   pub refused : List (ℕ × Cause)
 
--- Rows, and behind them those of lines that are taken into a jar that is saved in this form, placed by their keys,
--- without those that are expired at the moment. Of the lines' rows of one key the last counts as taken, and the others
--- as replaced.
-pub record ImportsEntries (form : Form) (now : ℤ) (entries : List Entry) (old : List Row) (told : LinesText)
+-- Rows, and behind them those of entries that are taken into a jar that is saved in this form, placed by their keys,
+-- without those that are expired at the moment. Of the entries' rows of one key the last counts as taken, and the
+-- others as replaced.
+pub record ImportsEntries (form : Form) (now : ℤ) (entries : List Entry) (old : List Row) (told : ImportText)
     (new : List Row) : Type 0 where
   pub kept : List Row
   pub are_kept : ArePicked (IsTaken form) (live now (rows_in entries)) kept
@@ -92,22 +90,22 @@ pub record ImportsEntries (form : Form) (now : ℤ) (entries : List Entry) (old 
   pub expired : told.expired ≡ length (expired_of now (rows_in entries))
   pub refused : AreRefused form now entries told.refused
 
--- so with the lines of a text
-abbrev pub ImportsLines : Form → ℤ → List ℕ → List Row → LinesText → List Row → Type 0
-ImportsLines form now text old told new =
-    (entries : List Entry) × GivesEntries text entries × ImportsEntries form now entries old told new
+-- so with what a text of the first form gives, in a jar that is saved in the second
+abbrev pub Imports : Form → Form → ℤ → List ℕ → List Row → ImportText → List Row → Type 0
+Imports form held now text old told new =
+    (entries : List Entry) × GivesEntries form text entries × ImportsEntries held now entries old told new
 
 -- ---- what is told
 
-abbrev pub refused_pair : RefusedLine → ℕ × Cause
-refused_pair line = (line.number, line.cause)
+abbrev pub refused_pair : Refused → ℕ × Cause
+refused_pair entry = (entry.number, entry.cause)
 
-abbrev pub lines_text : ImportedLines → LinesText
-lines_text lines = record {
-  rows = lines.rows;
-  expired = lines.expired;
-  replaced = lines.replaced;
-  refused = map refused_pair lines.refused.items;
+abbrev pub import_text : Imported → ImportText
+import_text done = record {
+  rows = done.rows;
+  expired = done.expired;
+  replaced = done.replaced;
+  refused = map refused_pair done.refused.items;
 }
 
 -- what is told of a line with this fault
@@ -132,19 +130,26 @@ unfit_words row.CarriageReturn = codes "value ends in a carriage return"
 
 abbrev pub cause_words : Cause → List ℕ
 cause_words (Faulty fault) = fault_words fault
+cause_words NoRow = codes "no row"
 cause_words Control = codes "control character"
 cause_words Pair = codes "name or value"
 cause_words (Unfit fault) = unfit_words fault
 cause_words HostPrefix = codes "__Host-"
 
+-- what the entries of a text of this form are
+abbrev pub entry_words : Form → List ℕ
+entry_words Ron = codes "\trow "
+entry_words Json = codes "\trow "
+entry_words Txt = codes "\tline "
+
 -- the line that tells of a refused one
-abbrev pub refused_line : ℕ × Cause → List ℕ
-refused_line line =
-    codes "refused: " ++ (cause_words line.1 ++ (codes "\tline " ++ (decimal line.0 ++ 10 ∷ [])))
+abbrev pub refused_line : Form → ℕ × Cause → List ℕ
+refused_line form entry =
+    codes "refused: " ++ (cause_words entry.1 ++ (entry_words form ++ (decimal entry.0 ++ 10 ∷ [])))
 
 -- one for each
-abbrev pub refused_lines : List (ℕ × Cause) → List ℕ
-refused_lines refused = flat_map refused_line refused
+abbrev pub refused_lines : Form → List (ℕ × Cause) → List ℕ
+refused_lines form refused = flat_map (refused_line form) refused
 
 -- a step of the code, for a private contract alone: the row, or none
 abbrev pub lone : Option Row → List Row

@@ -1,5 +1,5 @@
 -- Which rows a jar keeps (RFC 6265, 5.2; draft-ietf-httpbis-rfc6265bis, 4.1.3.2 and 5.6).
-use Rattle.std.specs.Prelude.{◌≡◌, ◌==◌, ◌||◌, ◌&&◌, ℕ, Bool, true, false, not, List, length, nat_lt, Option, None}
+use Rattle.std.specs.Prelude.{◌≡◌, ◌==◌, ◌||◌, ◌&&◌, ℕ, Bool, false, not, List, length, nat_lt, Option, None}
 use Rattle.std.specs.List.{AllByRecursion, list_any}
 use Rattle.std.specs.Str.{bytes_eq, trim}
 use Rattle.cookie_text.specs.Pieces.{equals, semicolon}

@@ -6,7 +6,7 @@ use Rattle.cookie_store.specs.Rows.{Row}
 use Rattle.cookies_txt.specs.Writing.{row_fault}
 use Rattle.cookies_txt.specs.declared.error.RowFault.{RowFault}
 use Rattle.cookie_jar.specs.Importing.{cause_words, refusal_of, unfit_words}
-use Rattle.cookie_jar.specs.Keeping.{IsKept, IsTaken}
+use Rattle.cookie_jar.specs.Keeping.{IsKept}
 use Rattle.cookie_jar.specs.Listing.{domain_field}
 use Rattle.cookie_jar.specs.Told.{shown}
 use Rattle.cookie_jar.specs.declared.form.Form.{Form}
@@ -30,11 +30,6 @@ refused_line form row = codes "refused: " ++ left_out_line (cause_words (refusal
 abbrev pub TellsRefused : Form → List Row → List ℕ → Type 0
 TellsRefused form rows told =
     (left : List Row) × ArePicked IsRefused rows left × (told ≡ flat_map (refused_line form) left)
-
--- a line of each of those that an import into a jar of this form doesn't take
-abbrev pub TellsUntaken : Form → List Row → List ℕ → Type 0
-TellsUntaken form rows told =
-    (left : List Row) × ArePicked (λ row. ¬ (IsTaken form row)) rows left × (told ≡ flat_map (refused_line form) left)
 
 -- ---- rows that a line of `cookies.txt` can't hold
 

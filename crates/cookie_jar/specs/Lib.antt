@@ -1,5 +1,6 @@
 pub mod Asking
 pub mod Changing
+pub mod Entries
 pub mod Explaining
 pub mod Forms
 pub mod Importing
@@ -10,6 +11,8 @@ pub mod LeftOut
 pub mod Listing
 pub mod Places
 pub mod Reading
+pub mod RonItems
+pub mod RowForms
 pub mod Rows
 pub mod Saving
 pub mod Steps

@@ -4,7 +4,6 @@ use Rattle.std.specs.Fmt.{decimal}
 use Rattle.std.specs.List.{AllByRecursion}
 use Rattle.std.specs.Str.{IsUtf8, IsValidUpTo}
 use Rattle.serde_json.specs.Data.{Data, array}
-use Rattle.serde_json.specs.Find.{as_array}
 use Rattle.serde_json.specs.Read.{read}
 use Rattle.serde_json.specs.View.{items_of}
 use Rattle.saved_text.specs.JsonReading.{IsNoRow, ShowsRow}
@@ -14,6 +13,7 @@ use Rattle.saved_text.specs.declared.position.TextPosition.{TextPosition}
 use Rattle.saved_text.specs.declared.row.SavedRow.{SavedRow}
 use Rattle.cookie_store.specs.Rows.{Row}
 use Rattle.cookies_txt.specs.Reading.{GivesRows, IsFirstFault}
+use Rattle.cookie_jar.specs.Entries.{IsNoList}
 use Rattle.cookie_jar.specs.Importing.{fault_words}
 use Rattle.cookie_jar.specs.declared.form.Form.{Form}
 use Rattle.cookie_jar.specs.declared.form.Form.TheVariants.{Ron, Json, Txt}
@@ -38,10 +38,6 @@ StopsInRon text (Some (at_row number)) = ⊥
 StopsInRon text (Some (Line number fault)) = ⊥
 
 -- ---- JSON
-
--- the text has no value, or one that is no list
-abbrev pub IsNoList : List ℕ → Type 0
-IsNoList text = (d : Data) → read text ≡ Some d → as_array d ≡ None
 
 -- the value shows a row
 abbrev pub IsRow : Data → Type 0

@@ -1,17 +1,15 @@
 -- The rows that a jar takes of a text, and why it takes none (this repository's own).
-use Rattle.std.specs.Prelude.{◌≡◌, ◌≢◌, ◌⊎◌, ◌+◌, ◌++◌, ℕ, ℤ, List, length, false}
+use Rattle.std.specs.Prelude.{◌≡◌, ◌≢◌, ◌⊎◌, ℕ, ℤ, List, false}
 use Rattle.saved_text.specs.RonReading.{ShowsOnly}
 use Rattle.store_parts.specs.declared.error.Error.{Error}
 use Rattle.store_parts.specs.declared.error.Error.TheVariants as saved
-use Rattle.cookie_store.specs.Given.{ArePicked}
-use Rattle.cookie_store.specs.Placing.{loaded, loaded_store}
+use Rattle.cookie_store.specs.Placing.{loaded_store}
 use Rattle.cookie_store.specs.Rows.{Row, Store}
 use Rattle.cookie_store.specs.SavedTexts.{IsJsonOf, IsJsonRefusal, IsRonRefusal, Loads}
 use Rattle.cookies_txt.specs.Reading.{GivesRows, IsBytesRefusal}
 use Rattle.cookies_txt.specs.declared.error.ReadError.{ReadError as LinesError}
 use Rattle.cookies_txt.specs.declared.error.ReadError.TheVariants as lines
-use Rattle.cookie_jar.specs.Keeping.{IsTaken}
-use Rattle.cookie_jar.specs.LeftOut.{TellsRefused, TellsUntaken}
+use Rattle.cookie_jar.specs.LeftOut.{TellsRefused}
 use Rattle.cookie_jar.specs.declared.error.ReadError.{ReadError}
 use Rattle.cookie_jar.specs.declared.error.ReadError.TheVariants.{Saved, Lines, OutOfMemory}
 use Rattle.cookie_jar.specs.declared.form.Form.{Form}
@@ -31,18 +29,6 @@ IsUnread Json text e = (e ≡ OutOfMemory)
     ⊎ ((cause : Error) × (cause ≢ saved.OutOfMemory) × IsJsonRefusal text cause × (e ≡ Saved cause))
 IsUnread Txt text e = (e ≡ OutOfMemory)
     ⊎ ((cause : LinesError) × (cause ≢ lines.OutOfMemory) × IsBytesRefusal text cause × (e ≡ Lines cause))
-
--- Rows and then those of others that are taken into a jar that is saved in this form, placed by their keys, without
--- those that are expired at the moment: how many others were taken, how many weren't, and what is told of these.
-abbrev pub ImportsRows : Form → ℤ → List Row → List Row → ℕ → ℕ → List ℕ → List Row → Type 0
-ImportsRows held now others old count refused told new =
-    (taken : List Row) × ArePicked (IsTaken held) others taken × (new ≡ loaded false now (old ++ taken))
-    × (count ≡ length taken) × (count + refused ≡ length others) × TellsUntaken held others told
-
--- the rows of a jar that is saved in the second form, and then those of a text of the first
-abbrev pub Imports : Form → Form → ℤ → List ℕ → List Row → ℕ → ℕ → List ℕ → List Row → Type 0
-Imports form held now text old count refused told new =
-    (read : Store) × Reads form now text read × ImportsRows held now read.rows old count refused told new
 
 -- what is told of the rows of a text that a jar drops as it is loaded, since it doesn't keep them
 abbrev pub TellsDropped : Form → ℤ → List ℕ → List ℕ → Type 0

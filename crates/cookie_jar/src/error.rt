@@ -20,6 +20,17 @@ pub enum ReadError {
     OutOfMemory,
 }
 
+/// Why nothing of a text is imported.
+#[derive(Clone, Copy, Debug, PartialEq, Eq, ThisError)]
+pub enum ImportError {
+    /// It is to be RON or JSON, and is no list.
+    #[error("NoList")]
+    NoList,
+    /// Memory was refused.
+    #[error("OutOfMemory")]
+    OutOfMemory,
+}
+
 /// Why a jar's rows have no text.
 #[derive(Clone, Copy, Debug, PartialEq, Eq, ThisError)]
 pub enum SaveError {
@@ -51,5 +62,15 @@ impl From<AllocError> for SaveError {
 
     fn from(_: AllocError) -> SaveError {
         SaveError::OutOfMemory
+    }
+}
+
+impl From<AllocError> for ImportError {
+    ghost use Rattle.cookie_jar.specs.declared.error.ImportError.TheVariants.{OutOfMemory};
+
+    ghost from_gives = { λ _ e. e ≡ OutOfMemory };
+
+    fn from(_: AllocError) -> ImportError {
+        ImportError::OutOfMemory
     }
 }

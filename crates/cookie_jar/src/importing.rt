@@ -1,29 +1,33 @@
-//! What an import takes of the lines of a `cookies.txt`, each read by itself.
-ghost use Rattle.std.specs.Prelude.{◌≡◌, ◌++◌, ◌∷◌, [], IfOk, IfSome, IsNone, Ok, OnErr, OnOk, map, option_map};
+//! What an import takes of the lines of a `cookies.txt`, or of the items of a list of RON or JSON, each read by itself.
+ghost use Rattle.std.specs.Prelude.{◌≡◌, ◌++◌, ◌∷◌, [], IfErr, IfOk, IfSome, IsNone, Ok, OnErr, OnOk, map, option_map};
 ghost use Rattle.std.specs.Prelude.{string_bytes};
 ghost use Rattle.std.specs.Result.{result_map_both};
 ghost use Rattle.jiff.specs.Words.{civil_nanos};
 ghost use Rattle.cookie_store.specs.Given.{ArePicked};
 ghost use Rattle.cookie_store.specs.Rows.{live};
 ghost use Rattle.cookie_store.specs.StoredCookie.{stored_of};
-ghost use Rattle.cookies_txt.specs.Entries.{entry_text};
+ghost use Rattle.cookie_jar.specs.Entries.{IsRefusal, entry_text};
 ghost use Rattle.cookie_jar.specs.Importing as spec;
 ghost use Rattle.cookie_jar.specs.Keeping.{IsTaken};
 
+use crate::entries::{Entry, entries_of};
+use crate::error::ImportError;
 use crate::form::Form;
 use crate::jar::with_rows;
 use crate::keeping::{fault_in, have_control, is_read_pair, is_taken};
 use crate::reading::placed;
 use cookie_store::{Cookie, CookieStore};
-use cookies_txt::{Entry, LineFault, RowFault, read_entries};
+use cookies_txt::{LineFault, RowFault};
 use jiff::civil::DateTime;
 use std::alloc::{AllocError, Global};
 
-/// Why a line isn't taken.
+/// Why a line or an item of a list isn't taken.
 #[derive(Clone, Copy, Debug, PartialEq, Eq)]
 pub enum Cause {
-    /// It has this fault.
+    /// The line has this fault. Of an item its domain has it: it is `EmptyDomain` or `Domain`.
     Faulty(LineFault),
+    /// The item is no row: it is of another shape, or what stands for a cookie or a date in it doesn't read.
+    NoRow,
     /// A control character, which is a byte below 32 but the tab, or 127, stands in the name, the value, the domain or
     /// the path.
     Control,
@@ -35,49 +39,51 @@ pub enum Cause {
     HostPrefix,
 }
 
-/// A line that isn't taken.
+/// A line, or an item of a list of RON or JSON, that isn't taken.
 #[derive(Clone, Copy, Debug, PartialEq, Eq)]
-pub struct RefusedLine {
+pub struct Refused {
     /// Its number, counted from 1.
     pub number: usize,
     /// Why.
     pub cause: Cause,
 }
 
-/// What an import of lines did.
+/// What an import did.
 #[derive(Debug, Drop)]
-pub struct ImportedLines {
+pub struct Imported {
     /// How many rows were taken.
     pub rows: usize,
-    /// How many lines were passed over since their rows are expired.
+    /// How many lines or items were passed over since their rows are expired.
     pub expired: usize,
-    /// How many lines were passed over since a later one that was taken has their row's domain, path and name.
+    /// How many were passed over since a later one that was taken has their row's domain, path and name.
     pub replaced: usize,
-    /// The lines that were refused, in their order.
-    pub refused: Vec<RefusedLine>,
+    /// Those that were refused, in their order.
+    pub refused: Vec<Refused>,
 }
 
-/// Puts the rows of the lines of a text behind those of the store of a jar that is saved in this form: without those
-/// that are expired at `now` and those that it doesn't keep or that the form can't hold, and of two with one key the
-/// later in the place of the earlier.
+/// Puts the rows of the lines or the items of a text behind those of the store of a jar that is saved in the form
+/// `held`: without those that are expired at `now` and those that it doesn't keep or that the form can't hold, and of
+/// two with one key the later in the place of the earlier.
 ///
 /// # Errors
 ///
-/// `AllocError`, for want of memory. The store is then as it was.
-pub(crate) fn import_lines(
+/// `NoList` where a text of RON or JSON is no list, `OutOfMemory`. The store is then as it was.
+pub(crate) fn import_text(
     alloc: Global,
     store: &mut CookieStore,
     form: Form,
+    held: Form,
     text: &[u8],
     now: DateTime,
-) -> Result<ImportedLines, AllocError>
-    ensures ok { IfOk result (λ lines. spec.ImportsLines form (civil_nanos now) text.now store.old.rows
-        (spec.lines_text lines) store.new.rows) }
+) -> Result<Imported, ImportError>
+    ensures ok { IfOk result (λ done. spec.Imports form held (civil_nanos now) text.now store.old.rows
+        (spec.import_text done) store.new.rows) }
+    ensures err { IfErr result (IsRefusal form text.now) }
     ensures same { OnErr result (store.new ≡ store.old) }
     ensures list { store.new.suffixes ≡ store.old.suffixes }
 {
-    let entries = read_entries(alloc, text)?;
-    import_entries(alloc, store, form, entries, now)
+    let entries = entries_of(alloc, form, text)?;
+    Ok(import_entries(alloc, store, held, entries, now)?)
 }
 
 fn import_entries(
@@ -86,9 +92,9 @@ fn import_entries(
     form: Form,
     entries: Vec<Entry>,
     now: DateTime,
-) -> Result<ImportedLines, AllocError>
-    ensures ok { IfOk result (λ lines. spec.ImportsEntries form (civil_nanos now)
-        (map entry_text entries.items) store.old.rows (spec.lines_text lines) store.new.rows) }
+) -> Result<Imported, AllocError>
+    ensures ok { IfOk result (λ done. spec.ImportsEntries form (civil_nanos now)
+        (map entry_text entries.items) store.old.rows (spec.import_text done) store.new.rows) }
     ensures same { OnErr result (store.new ≡ store.old) }
     ensures list { store.new.suffixes ≡ store.old.suffixes }
 {
@@ -100,7 +106,7 @@ fn import_entries(
     let others = placed(alloc, kept, now)?;
     let (rows, whole) = with_rows(alloc, store, &others, form, now)?;
     store.replace_rows(whole);
-    Ok(ImportedLines {
+    Ok(Imported {
         rows,
         expired,
         replaced: of_keys - rows,
@@ -108,13 +114,13 @@ fn import_entries(
     })
 }
 
-// The lines that are refused, in their order.
+// The entries that are refused, in their order.
 fn refused_of(
     alloc: Global,
     form: Form,
     entries: &[Entry],
     now: DateTime,
-) -> Result<Vec<RefusedLine>, AllocError>
+) -> Result<Vec<Refused>, AllocError>
     ensures { IfOk result (λ refused. spec.AreRefused form (civil_nanos now) (map entry_text entries.now)
         (map spec.refused_pair refused.items)) }
 {
@@ -122,24 +128,24 @@ fn refused_of(
     for entry in entries {
         let number = entry.number;
         match cause_of(form, &entry.row, now) {
-            Some(cause) => refused.push(RefusedLine { number, cause })?,
+            Some(cause) => refused.push(Refused { number, cause })?,
             None => {}
         }
     }
     Ok(refused)
 }
 
-// Why a line is refused, where it is.
-fn cause_of(form: Form, row: &Result<Cookie<'static>, LineFault>, now: DateTime) -> Option<Cause>
+// Why an entry is refused, where it is.
+fn cause_of(form: Form, row: &Result<Cookie<'static>, Cause>, now: DateTime) -> Option<Cause>
     ensures some { IfSome result (λ cause.
-        spec.IsUntaken form (civil_nanos now) (result_map_both stored_of (λ fault. fault) row.now)
-        × (cause ≡ spec.cause_of form (result_map_both stored_of (λ fault. fault) row.now))) }
+        spec.IsUntaken form (civil_nanos now) (result_map_both stored_of (λ cause. cause) row.now)
+        × (cause ≡ spec.cause_of form (result_map_both stored_of (λ cause. cause) row.now))) }
     ensures none { IsNone result
-        → ¬ (spec.IsUntaken form (civil_nanos now) (result_map_both stored_of (λ fault. fault) row.now)) }
+        → ¬ (spec.IsUntaken form (civil_nanos now) (result_map_both stored_of (λ cause. cause) row.now)) }
 {
     match row {
         Ok(cookie) => refusal(form, cookie, now),
-        Err(fault) => Some(Cause::Faulty(*fault)),
+        Err(cause) => Some(*cause),
     }
 }
 
@@ -179,7 +185,7 @@ fn unfit_or_host(fault: Option<RowFault>) -> Cause
     }
 }
 
-// The cookies of lines that aren't expired and that are taken, in their order.
+// The cookies of entries that aren't expired and that are taken, in their order.
 fn kept_of(
     alloc: Global,
     form: Form,
@@ -200,14 +206,14 @@ fn kept_of(
     Ok(kept)
 }
 
-// The cookie of a line, where it isn't expired and is taken.
+// The cookie of an entry, where it isn't expired and is taken.
 fn kept_cookie(
     form: Form,
-    row: Result<Cookie<'static>, LineFault>,
+    row: Result<Cookie<'static>, Cause>,
     now: DateTime,
 ) -> Option<Cookie<'static>>
     ensures { ArePicked (IsTaken form)
-        (live (civil_nanos now) (spec.row_in (result_map_both stored_of (λ fault. fault) row.entry)))
+        (live (civil_nanos now) (spec.row_in (result_map_both stored_of (λ cause. cause) row.entry)))
         (spec.lone (option_map stored_of result)) }
 {
     match row {
@@ -227,29 +233,41 @@ fn only_taken(form: Form, cookie: Cookie<'static>, now: DateTime) -> Option<Cook
     }
 }
 
-/// What is told of lines that were refused: a line for each, `refused: ` and why, a tab, `line ` and its number.
+/// What is told of what was refused of a text of this form: a line for each, `refused: ` and why, a tab, `line ` or, of
+/// RON and JSON, `row `, and its number.
 ///
 /// # Errors
 ///
 /// `AllocError` where there is no memory for the text.
-pub fn refused_text(alloc: Global, refused: &[RefusedLine]) -> Result<String, AllocError>
+pub fn refused_text(alloc: Global, form: Form, refused: &[Refused]) -> Result<String, AllocError>
     ensures { IfOk result (λ text.
-        string_bytes text ≡ spec.refused_lines (map spec.refused_pair refused.now)) }
+        string_bytes text ≡ spec.refused_lines form (map spec.refused_pair refused.now)) }
 {
     let mut text = String::new(alloc);
-    for line in refused {
-        push_refused(&mut text, *line)?;
+    for entry in refused {
+        push_refused(&mut text, form, *entry)?;
     }
     Ok(text)
 }
 
-fn push_refused(text: &mut String, line: RefusedLine) -> Result<(), AllocError>
+fn push_refused(text: &mut String, form: Form, entry: Refused) -> Result<(), AllocError>
     ensures { OnOk result (string_bytes text.new
-        ≡ string_bytes text.old ++ spec.refused_line (spec.refused_pair line)) }
+        ≡ string_bytes text.old ++ spec.refused_line form (spec.refused_pair entry)) }
 {
-    let number = line.number;
-    let cause = cause_words(line.cause);
-    write!(text, "refused: {cause}\tline {number}\n")
+    let number = entry.number;
+    let cause = cause_words(entry.cause);
+    let what = entry_words(form);
+    write!(text, "refused: {cause}{what}{number}\n")
+}
+
+// What the entries of a text of this form are.
+fn entry_words(form: Form) -> &'static str
+    ensures { result.now ≡ spec.entry_words form }
+{
+    match form {
+        Form::Ron | Form::Json => "\trow ",
+        Form::Txt => "\tline ",
+    }
 }
 
 /// What is told of a line or a row that isn't taken for this cause.
@@ -258,6 +276,7 @@ pub(crate) fn cause_words(cause: Cause) -> &'static str
 {
     match cause {
         Cause::Faulty(fault) => fault_words(fault),
+        Cause::NoRow => "no row",
         Cause::Control => "control character",
         Cause::Pair => "name or value",
         Cause::Unfit(fault) => unfit_words(fault),

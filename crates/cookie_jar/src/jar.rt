@@ -13,7 +13,8 @@ ghost use Rattle.cookies_txt.specs.Layout.{text_for};
 ghost use Rattle.cookies_txt.specs.Writing.{held, line_of_row};
 ghost use Rattle.cookie_jar.specs.Asking as asked;
 ghost use Rattle.cookie_jar.specs.Explaining.{IsExplained};
-ghost use Rattle.cookie_jar.specs.Importing as lines;
+ghost use Rattle.cookie_jar.specs.Entries.{IsRefusal};
+ghost use Rattle.cookie_jar.specs.Importing as entry;
 ghost use Rattle.cookie_jar.specs.Json.{rows_json};
 ghost use Rattle.cookie_jar.specs.Keeping.{AreKept, IsKept, IsTaken, has_control};
 ghost use Rattle.cookie_jar.specs.LeftOut.{passed_lines};
@@ -24,16 +25,16 @@ ghost use Rattle.cookie_jar.specs.Taking as take;
 ghost use Rattle.cookie_jar.specs.Told as told;
 
 use crate::asking::{first_value, key_texts, meant, rows_under};
-use crate::error::{ReadError, SaveError};
+use crate::error::{ImportError, ReadError, SaveError};
 use crate::explaining::explained;
 use crate::form::Form;
-use crate::importing::{ImportedLines, import_lines};
+use crate::importing::{Imported, import_text};
 use crate::json_list::rows_json;
 use crate::keeping::only_kept;
-use crate::left_out::{passed_over_lines, refused_lines};
+use crate::left_out::passed_over_lines;
 use crate::listing::listing;
 use crate::reading::read;
-use crate::rows::{live_rows, placed, rows_of, rows_with, untaken_rows};
+use crate::rows::{live_rows, placed, rows_of, rows_with};
 use crate::saving::{Exported, lines_for, text_of};
 use crate::taking::{End, take_all};
 use crate::told::header_line;
@@ -71,18 +72,6 @@ impl Model for Jar {
     ghost view = { λ j. j.store };
 
     ghost invariant = { λ j. AreKept j.store.rows };
-}
-
-/// What an import did.
-#[derive(Debug, Drop)]
-pub struct Imported {
-    /// How many rows were taken.
-    pub rows: usize,
-    /// How many a jar doesn't keep.
-    pub refused: usize,
-    /// A line of each of these: `refused: ` and why (`control character`, `name or value`, `__Host-`), domain, path and
-    /// name, parted by tabs. Of the texts each byte that isn't printable ASCII, and `%`, stands as `%` and two digits.
-    pub told: String,
 }
 
 impl Jar {
@@ -219,55 +208,34 @@ impl Jar {
         text_of(self.alloc, &store, form, passing_over)
     }
 
-    /// Puts the rows of a text of this form behind its own, as if all were of one text: without those that are expired
-    /// at `now`, and of two with one key the later in the place of the earlier. Those that a jar doesn't keep are left
-    /// out before, and told: with a control character in name, value, domain or path, of a name or a value that no
-    /// text gives, or against the prefix `__Host-`. So are those that `held`, the form in which the jar is to be saved,
-    /// can't hold. No row is judged by the list of public suffixes.
+    /// Puts the rows of the lines or the items of a text of this form behind its own, each read by itself: without
+    /// those that are expired at `now`, and of two with one key the later in the place of the earlier. A line is read
+    /// as [`cookies_txt::read_entries`] has it, and an item of a list of RON or JSON as one of a jar, but that its
+    /// domain is put into its IDNA form.
+    ///
+    /// Refused alone are a line or an item that is no row or whose domain has no such form; one with a row that a jar
+    /// doesn't keep, with a control character in name, value, domain or path, of a name or a value that no text gives,
+    /// or against the prefix `__Host-`; and one that `held`, the form in which the jar is to be saved, can't hold. One
+    /// whose row is expired at `now` is passed over before. No row is judged by the list of public suffixes.
     ///
     /// # Errors
     ///
-    /// As `load`. The jar is then as it was.
+    /// `NoList` where a text of RON or JSON is no list, `OutOfMemory`. The jar is then as it was.
     pub fn import(
         &mut self,
         form: Form,
         held: Form,
         text: &[u8],
         now: DateTime,
-    ) -> Result<Imported, ReadError>
-        ensures ok { IfOk result (λ imported. spec.Imports form held (civil_nanos now) text.now self.old.rows
-            imported.rows imported.refused (string_bytes imported.told) self.new.rows) }
-        ensures err { IfErr result (spec.IsUnread form text.now) }
+    ) -> Result<Imported, ImportError>
+        ensures ok { IfOk result (λ done. entry.Imports form held (civil_nanos now) text.now self.old.rows
+            (entry.import_text done) self.new.rows) }
+        ensures err { IfErr result (IsRefusal form text.now) }
         ensures same { OnErr result (self.new ≡ self.old) }
         ensures list { self.new.suffixes ≡ self.old.suffixes }
         ensures kept { AreKept self.new.rows }
     {
-        match read(self.alloc, form, text, now) {
-            Ok(store) => Ok(import_rows(self.alloc, &mut self.store, &store, held, now)?),
-            Err(cause) => Err(cause),
-        }
-    }
-
-    /// The same of the lines of a `cookies.txt`, each read by itself ([`cookies_txt::read_entries`]): a line with a
-    /// fault, and one with a row that the jar doesn't keep or that `held`, the form in which it is to be saved, can't
-    /// hold, is refused alone. One whose row is expired at `now` is passed over before.
-    ///
-    /// # Errors
-    ///
-    /// `AllocError`, for want of memory. The jar is then as it was.
-    pub fn import_lines(
-        &mut self,
-        held: Form,
-        text: &[u8],
-        now: DateTime,
-    ) -> Result<ImportedLines, AllocError>
-        ensures ok { IfOk result (λ done. lines.ImportsLines held (civil_nanos now) text.now self.old.rows
-            (lines.lines_text done) self.new.rows) }
-        ensures same { OnErr result (self.new ≡ self.old) }
-        ensures list { self.new.suffixes ≡ self.old.suffixes }
-        ensures kept { AreKept self.new.rows }
-    {
-        import_lines(self.alloc, &mut self.store, held, text, now)
+        import_text(self.alloc, &mut self.store, form, held, text, now)
     }
 
     /// The line `Cookie: ..` of a request to this URL at `now` (RFC 6265, section 5.4), with longer paths first, or
@@ -544,30 +512,6 @@ fn unexpired(alloc: Global, store: &CookieStore, now: DateTime) -> Result<Cookie
     let _rows = store.iter_any();
     let rows = rows_of(alloc, store)?;
     Ok(placed(alloc, rows, false, now)?)
-}
-
-// Puts the rows of another store behind those of the store of a jar that is saved in this form.
-fn import_rows(
-    alloc: Global,
-    store: &mut CookieStore,
-    other: &CookieStore,
-    form: Form,
-    now: DateTime,
-) -> Result<Imported, AllocError>
-    ensures ok { IfOk result (λ imported. spec.ImportsRows form (civil_nanos now) other.now.rows store.old.rows
-        imported.rows imported.refused (string_bytes imported.told) store.new.rows) }
-    ensures same { OnErr result (store.new ≡ store.old) }
-    ensures list { store.new.suffixes ≡ store.old.suffixes }
-{
-    let all = rows_of(alloc, other)?.len();
-    let told = refused_lines(alloc, form, untaken_rows(alloc, other, form)?)?;
-    let (taken, whole) = with_rows(alloc, store, other, form, now)?;
-    store.replace_rows(whole);
-    Ok(Imported {
-        rows: taken,
-        refused: all - taken,
-        told,
-    })
 }
 
 // How many rows of another store a jar that is saved in this form takes, and the store of its own rows and then these.

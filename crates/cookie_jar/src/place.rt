@@ -3,6 +3,7 @@ ghost use Rattle.std.specs.Prelude.{IfOk, Some, map, take};
 ghost use Rattle.std.specs.Str.{IsValidUpTo};
 ghost use Rattle.serde_json.specs.View.{view};
 ghost use Rattle.saved_text.specs.Position.{IsPosition};
+ghost use Rattle.cookie_jar.specs.Entries.{IsNoList};
 ghost use Rattle.cookie_jar.specs.Places as spec;
 
 use crate::form::Form;
@@ -109,7 +110,7 @@ fn json_place(alloc: Global, text: &str) -> Result<Option<Place>, AllocError>
 
 // The place of the first token of a text that is no list of JSON at which that shows.
 fn at_token(alloc: Global, text: &str) -> Result<Option<Place>, AllocError>
-    requires { spec.IsNoList text.now }
+    requires { IsNoList text.now }
     ensures { IfOk result (spec.TextStopsAt Form.Json text.now) }
 {
     let offset = stop_of(alloc, text)?;

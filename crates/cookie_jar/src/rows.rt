@@ -94,24 +94,6 @@ pub(crate) fn refused_rows(
     Ok(rows)
 }
 
-/// The rows of a store that aren't taken into a jar that is saved in this form, in their order.
-pub(crate) fn untaken_rows(
-    alloc: Global,
-    store: &CookieStore,
-    form: Form,
-) -> Result<Vec<&Cookie<'static>>, AllocError>
-    ensures { IfOk result (λ rows.
-        ArePicked (λ row. ¬ (IsTaken form row)) store.now.rows (lent_rows rows.items)) }
-{
-    let mut rows = Vec::new(alloc);
-    for cookie in store.iter_any() {
-        if !is_taken(form, cookie) {
-            rows.push(cookie)?;
-        }
-    }
-    Ok(rows)
-}
-
 /// A store of these rows, with those that are expired at `now` or without. Of two with one key the later replaces the
 /// earlier in its place.
 pub(crate) fn placed(

@@ -87,8 +87,8 @@ fn tell_lines(rt: &HostRuntime, text: &Option<String>) {
 fn tell_failure(rt: &HostRuntime, words: &str, ended: &Ended<'_>) {
     if let Some(plain) = &ended.instead {
         let _ = eprintln!(rt; "cookie-jar: {words}: ask {} instead", plain.as_str());
-    } else if let Some(line) = ended.line {
-        let _ = eprintln!(rt; "cookie-jar: {words}: line {line}");
+    } else if let Some(spot) = ended.spot {
+        let _ = eprintln!(rt; "cookie-jar: {words}: {spot}");
     } else if let Some(about) = &ended.about {
         let _ = eprintln!(rt; "cookie-jar: {words}: {}", about.as_str());
     } else {

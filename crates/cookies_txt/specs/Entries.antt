@@ -20,16 +20,20 @@ use Rattle.cookies_txt.specs.declared.error.LineFault.TheVariants.{Domain as NoD
 
 -- ---- a line
 
+abbrev pub begins_with_dot : List ℕ → Bool
+begins_with_dot text = slice_index text 0 == dot
+
+-- the line with its domain in this form, which is none where it still begins with a dot
+abbrev pub in_form : CookieLine → List ℕ → Result (Option CookieLine) LineFault
+in_form line form = if begins_with_dot form then Err NoDomain else Ok (Some (record line { domain = form }))
+
 -- the line with its domain in IDNA form, or the fault that there is none
 abbrev pub in_idna : CookieLine → Option Domain → Result (Option CookieLine) LineFault
 in_idna line None = Err NoDomain
-in_idna line (Some (suffix text)) = Ok (Some (record line { domain = text }))
+in_idna line (Some (suffix text)) = in_form line text
 in_idna line (Some (host_only text)) = Err NoDomain
 in_idna line (Some not_present) = Err NoDomain
 in_idna line (Some empty) = Err NoDomain
-
-abbrev pub begins_with_dot : List ℕ → Bool
-begins_with_dot text = slice_index text 0 == dot
 
 -- so; a domain that still begins with a dot, where one was left out in front, has no such form
 abbrev pub said_in_idna : CookieLine → Result (Option CookieLine) LineFault

@@ -29,7 +29,7 @@ pub struct Entry {
 /// Reads each line of a text by itself, as [`crate::read`] does: one entry for each that isn't passed over, in their
 /// order. A line that isn't UTF-8 is faulty, unless it is passed over. A row's domain is put into its IDNA form (RFC
 /// 6265, section 5.1.2): in small letters, and without white space at its ends; one that has a dot in front besides the
-/// one that is left out has none. A byte order mark in front of the text is left out.
+/// one that is left out, behind white space too, has none. A byte order mark in front of the text is left out.
 ///
 /// # Errors
 ///
@@ -101,6 +101,9 @@ fn row_in_idna(
     match CookieDomain::from_text(alloc, line.domain) {
         Ok(CookieDomain::Suffix(domain)) => {
             let domain = domain.as_str();
+            if begins_with_dot(domain) {
+                return Ok(Err(LineFault::Domain));
+            }
             Ok(Ok(Line { domain, ..line }.to_cookie(alloc)?))
         }
         Err(Error::OutOfMemory) => Err(AllocError),

@@ -1,12 +1,15 @@
 -- What is told beside a failure.
-use Rattle.std.proofs.Common.{◌≡◌, ℕ, Bool, true, false, List, Option, Some, None, ap, option_map, subst, sym}
-use Rattle.std.specs.Prelude.{IfSome, if◌then◌else◌}
+use Rattle.std.proofs.Common.{◌≡◌, ◌++◌, ℕ, Bool, true, false, List, Option, Some, None, Result, Ok, Err, ap}
+use Rattle.std.proofs.Common.{option_map}
+use Rattle.std.proofs.Common.{subst, sym}
+use Rattle.std.specs.Prelude.{IfSome, OnOk, if◌then◌else◌}
 use Rattle.std.specs.Bool.{MatchBool}
+use Rattle.jar_commands.specs.About.{IsDetail, TellsDetail}
 use Rattle.jar_commands.specs.Instead.{IsInstead}
 use Rattle.jar_commands.specs.Places.{IsDetailIn, IsDetailOfList}
 use Rattle.jar_commands.specs.Plans.{PlanText}
 use Rattle.jar_commands.specs.declared.about.Detail.{Detail}
-use Rattle.jar_commands.specs.declared.about.Detail.TheVariants.{Cause, NotText, Place, Rule}
+use Rattle.jar_commands.specs.declared.about.Detail.TheVariants.{Cause, NoRule, NotText, Place, Rule}
 use Rattle.jar_commands.specs.declared.failure.Failure.{Failure}
 use Rattle.jar_commands.specs.declared.failure.Failure.TheVariants.{SuffixList}
 
@@ -38,5 +41,12 @@ pub tells_list : (told : Option Detail) (plan : PlanText) (suffixes : List ℕ) 
 tells_list None plan suffixes stored brought failure is h = tt
 tells_list (Some (Rule number)) plan suffixes stored brought failure is h = (is, h)
 tells_list (Some NotText) plan suffixes stored brought failure is h = (is, h)
+tells_list (Some NoRule) plan suffixes stored brought failure is h = (is, h)
 tells_list (Some (Place place)) plan suffixes stored brought failure is h = absurd h
 tells_list (Some (Cause cause)) plan suffixes stored brought failure is h = absurd h
+
+-- a detail that was written behind a text
+pub tells_detail : {T E : Type 0} (r : Result T E) (failure : Failure) (old new detail : List ℕ)
+    → IsDetail failure detail → OnOk r (new ≡ old ++ detail) → OnOk r (TellsDetail failure old new)
+tells_detail (Ok done) failure old new detail is wrote = (detail, is, wrote)
+tells_detail (Err e) failure old new detail is wrote = tt

@@ -10,7 +10,7 @@ use Rattle.cookie_store.specs.Rows.{Row}
 use Rattle.cookie_jar.specs.Taking.{TakesAll}
 use Rattle.cookie_jar.specs.declared.form.Form.{Form}
 use Rattle.user_agent.specs.declared.rules.Rules.{Rules}
-use Rattle.jar_commands.specs.Receiving.{TakesVisits, is_any_refused, visit_told}
+use Rattle.jar_commands.specs.Receiving.{TakesVisits, refuses, visit_told}
 use Rattle.jar_commands.specs.Steps.{TakesVisit}
 
 -- a visit behind those that were taken
@@ -30,8 +30,8 @@ takes_behind is_verbose form rules list rows now [] visit told more refused more
       subst (λ r. TakesAll form rules list r visit.url now lines one.0 new) takes.2 one.1,
       (refl, refl, refl),
       one.2 ∙ (ap (λ t. t ++ behind) takes.0 ∙ sym (append-nil behind)),
-      one.3 ∙ (ap (λ b. b || is_any_refused one.0) takes.1 ∙ (false-or (is_any_refused one.0)
-          ∙ sym (or-false (is_any_refused one.0)))),
+      one.3 ∙ (ap (λ b. b || refuses visit one.0) takes.1 ∙ (false-or (refuses visit one.0)
+          ∙ sym (or-false (refuses visit one.0)))),
     )
 takes_behind is_verbose form rules list rows now (v ∷ visits) visit told more refused more_refused mid new takes one =
     let behind = visit_told is_verbose visit one.0 in
@@ -39,13 +39,13 @@ takes_behind is_verbose form rules list rows now (v ∷ visits) visit told more 
       takes.0,
       takes.1,
       takes.2 ++ behind,
-      takes.3 || is_any_refused one.0,
+      takes.3 || refuses visit one.0,
       takes.4,
       takes_behind is_verbose form rules list takes.1 now visits visit takes.2 (takes.2 ++ behind) takes.3
-          (takes.3 || is_any_refused one.0) mid new takes.5 (one.0, one.1, refl, refl),
+          (takes.3 || refuses visit one.0) mid new takes.5 (one.0, one.1, refl, refl),
       one.2 ∙ (ap (λ t. t ++ behind) takes.6 ∙ append_assoc front takes.2 behind),
-      one.3 ∙ (ap (λ b. b || is_any_refused one.0) takes.7
-          ∙ or_assoc (is_any_refused takes.0) takes.3 (is_any_refused one.0)),
+      one.3 ∙ (ap (λ b. b || refuses visit one.0) takes.7
+          ∙ or_assoc (refuses v takes.0) takes.3 (refuses visit one.0)),
     )
 
 map_take : {A B : Type 0} (f : A → B) (xs : List A) (i : ℕ) (d : A) → i < length xs

@@ -26,12 +26,13 @@ file_in (command.Export file form reader) = Some file.now
 file_in other = None
 
 -- What a failure is about, where `list` is the file of the suffix list: a word of what is asked, or a file's name. With
--- words that are refused stands their word, with heads and with a line of an import its number, and with the others
+-- words that are refused stands their word, with heads and with an entry of an import its number, and with the others
 -- nothing.
 abbrev pub subject : Asked → List ℕ → Failure → Option (List ℕ)
 subject asked list failure.Moment = option_map (λ text. text.now) asked.now
 subject asked list failure.Format = Some asked.jar.now
 subject asked list failure.Rules = option_map (λ text. text.now) asked.rules
+subject asked list failure.OwnFile = file_in asked.command
 subject asked list failure.FileFormat = file_in asked.command
 subject asked list failure.Url = url_in asked.command
 subject asked list failure.Wait = option_map (λ text. text.now) asked.wait
@@ -101,11 +102,11 @@ abbrev pub is_of_list : Failure → Bool
 is_of_list failure.SuffixList = true
 is_of_list other = false
 
--- by this line, which is no rule, or since it isn't UTF-8
+-- by this line, which is no rule, since it isn't UTF-8, or since it has no rule
 abbrev pub IsListDetail : List ℕ → Type 0
 IsListDetail detail =
     ((number : ℕ) × (detail ≡ codes ": line " ++ (decimal number ++ codes ": no rule")))
-    ⊎ (detail ≡ codes ": not UTF-8")
+    ⊎ ((detail ≡ codes ": not UTF-8") ⊎ (detail ≡ codes ": has no rule"))
 
 -- Behind the name may stand the system's cause, where it refused the file, where the text stops to be read, where it
 -- isn't one of the form, or why it is no suffix list. Which these are, no public contract sees, as none sees what files

@@ -1,20 +1,24 @@
 -- What goes to standard error (this repository's own).
-use Rattle.std.specs.Prelude.{ℕ, List, Option, Some, None, Result, Ok, Err, codes}
+use Rattle.std.specs.Prelude.{◌++◌, ℕ, List, Option, Some, None, Result, Err, codes}
+use Rattle.std.specs.Fmt.{decimal}
 use Rattle.cookies_txt.specs.declared.error.LineFault.{LineFault}
 use Rattle.cookies_txt.specs.declared.error.LineFault.TheVariants.{NotText, Fields, EmptyDomain, Flag, NoSlash}
 use Rattle.cookies_txt.specs.declared.error.LineFault.TheVariants.{Number, EmptyName, Domain}
 use Rattle.cookies_txt.specs.declared.error.RowFault.{RowFault}
 use Rattle.cookies_txt.specs.declared.error.RowFault.TheVariants as row
 use Rattle.cookie_jar.specs.declared.importing.Cause.{Cause}
-use Rattle.cookie_jar.specs.declared.importing.Cause.TheVariants.{Faulty, Control, Pair, Unfit, HostPrefix}
+use Rattle.cookie_jar.specs.declared.importing.Cause.TheVariants.{Faulty, NoRow, Control, Pair, Unfit}
+use Rattle.cookie_jar.specs.declared.importing.Cause.TheVariants.{HostPrefix}
 use Rattle.jar_words.specs.Refusing.{kind_text}
 use Rattle.jar_commands.specs.declared.failure.Failure.{Failure}
 use Rattle.jar_commands.specs.declared.failure.Failure.TheVariants.{Words, Moment, Format, FileFormat, Url, SuffixFile}
 use Rattle.jar_commands.specs.declared.failure.Failure.TheVariants.{JarFile, File, SuffixList, JarText, Input, Heads}
-use Rattle.jar_commands.specs.declared.failure.Failure.TheVariants.{FileText, FileLine, JarRow, FileRow, Output, Memory}
-use Rattle.jar_commands.specs.declared.failure.Failure.TheVariants.{Wait, JarInUse, LockFile, Rules}
+use Rattle.jar_commands.specs.declared.failure.Failure.TheVariants.{FileText, FileEntry, JarRow, FileRow, Output}
+use Rattle.jar_commands.specs.declared.failure.Failure.TheVariants.{Memory, OwnFile, Wait, JarInUse, LockFile, Rules}
+use Rattle.jar_commands.specs.declared.failure.Spot.{Spot}
+use Rattle.jar_commands.specs.declared.failure.Spot.TheVariants as spot
 
--- the words of a line that is refused
+-- the words of a line or a row that is refused
 abbrev pub fault_text : LineFault → List ℕ
 fault_text NotText = codes "file text: not UTF-8"
 fault_text Fields = codes "file text: neither six nor seven fields"
@@ -33,12 +37,13 @@ unfit_text row.EmptyName = codes "file text: empty name"
 unfit_text row.Separator = codes "file text: tab or line feed"
 unfit_text row.CarriageReturn = codes "file text: value ends in a carriage return"
 
-abbrev pub line_text : Cause → List ℕ
-line_text (Faulty fault) = fault_text fault
-line_text Control = codes "file text: control character"
-line_text Pair = codes "file text: name or value"
-line_text (Unfit fault) = unfit_text fault
-line_text HostPrefix = codes "file text: __Host-"
+abbrev pub entry_text : Cause → List ℕ
+entry_text (Faulty fault) = fault_text fault
+entry_text NoRow = codes "file text: no row"
+entry_text Control = codes "file text: control character"
+entry_text Pair = codes "file text: name or value"
+entry_text (Unfit fault) = unfit_text fault
+entry_text HostPrefix = codes "file text: __Host-"
 
 -- the words of each cause
 abbrev pub failure_text : Failure → List ℕ
@@ -46,6 +51,7 @@ failure_text (Words kind) = kind_text kind
 failure_text Moment = codes "moment"
 failure_text Format = codes "format"
 failure_text Rules = codes "rules"
+failure_text OwnFile = codes "export onto the jar itself"
 failure_text FileFormat = codes "file format"
 failure_text Url = codes "url"
 failure_text Wait = codes "wait"
@@ -59,14 +65,19 @@ failure_text JarText = codes "jar text"
 failure_text Input = codes "input"
 failure_text (Heads line) = codes "heads: no status line"
 failure_text FileText = codes "file text"
-failure_text (FileLine line cause) = line_text cause
+failure_text (FileEntry spot cause) = entry_text cause
 failure_text JarRow = codes "jar row"
 failure_text FileRow = codes "file row"
 failure_text Output = codes "output"
 failure_text Memory = codes "memory"
 
--- the number of the line that is told with it
-abbrev pub line_of : Result ℕ Failure → Option ℕ
-line_of (Err (Heads line)) = Some line
-line_of (Err (FileLine line cause)) = Some line
-line_of other = None
+-- the line or the row that is told with it
+abbrev pub spot_of : Result ℕ Failure → Option Spot
+spot_of (Err (Heads line)) = Some (spot.Line line)
+spot_of (Err (FileEntry spot cause)) = Some spot
+spot_of other = None
+
+-- as `line 3` and `row 2`
+abbrev pub spot_text : Spot → List ℕ
+spot_text (spot.Line number) = codes "line " ++ decimal number
+spot_text (spot.Row number) = codes "row " ++ decimal number

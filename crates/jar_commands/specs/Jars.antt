@@ -1,5 +1,6 @@
 -- The jar that a command begins with, and the text that it ends with (this repository's own).
-use Rattle.std.specs.Prelude.{◌≡◌, ◌≢◌, ◌⊎◌, ℕ, ℤ, Bool, List, [], Option, Some, None, IsSomeAnd}
+use Rattle.std.specs.Prelude.{◌≡◌, ◌≢◌, ◌⊎◌, ℕ, ℤ, Bool, true, false, List, [], Option, Some, None, IsSomeAnd, length}
+use Rattle.std.specs.Prelude.{nat_lt}
 use Rattle.publicsuffix.specs.Rules.{Rule}
 use Rattle.cookie_store.specs.Given.{ArePicked}
 use Rattle.cookie_store.specs.Rows.{Row, Store}
@@ -29,15 +30,27 @@ AreRows form now None rows = rows ≡ []
 AreRows form now (Some text) rows =
     (store : Store) × Reads form now text store × ArePicked IsKept store.rows rows
 
+-- a suffix list has a rule at least
+abbrev pub has_rule : List Rule → Bool
+has_rule list = nat_lt 0 (length list)
+
+-- the text is a suffix list, of these rules, of which there is one at least
+abbrev pub IsListOf : List ℕ → List Rule → Type 0
+IsListOf text list = IsSuffixList text list × (has_rule list ≡ true)
+
+-- it is one without a rule
+abbrev pub IsRuleless : List ℕ → Type 0
+IsRuleless text = (list : List Rule) × IsSuffixList text list × (has_rule list ≡ false)
+
 -- the jar of a suffix list's text and a jar's text, or none
 abbrev pub IsJar : Form → ℤ → List ℕ → Option (List ℕ) → Store → Type 0
-IsJar form now suffixes stored jar = IsSuffixList suffixes jar.suffixes × AreRows form now stored jar.rows
+IsJar form now suffixes stored jar = IsListOf suffixes jar.suffixes × AreRows form now stored jar.rows
 
--- No jar is made of these texts: the first is no list; or it is one, and the other no text of the form; or memory was
--- refused.
+-- No jar is made of these texts: the first is no list, or one without a rule; or it is one, and the other no text of
+-- the form; or memory was refused.
 abbrev pub MakesNoJar : Form → List ℕ → Option (List ℕ) → Failure → Type 0
 MakesNoJar form suffixes stored failure =
     (failure ≡ Memory)
-    ⊎ (((failure ≡ SuffixList) × IsNoSuffixList suffixes)
-    ⊎ ((failure ≡ JarText) × ((list : List Rule) × IsSuffixList suffixes list)
+    ⊎ (((failure ≡ SuffixList) × (IsNoSuffixList suffixes ⊎ IsRuleless suffixes))
+    ⊎ ((failure ≡ JarText) × ((list : List Rule) × IsListOf suffixes list)
     × IsSomeAnd stored (IsNoTextOf form)))

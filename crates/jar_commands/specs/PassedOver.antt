@@ -47,14 +47,9 @@ odd_lines number is_behind_field (field ∷ fields) =
 abbrev pub proxys : ℕ → List ℕ
 proxys number = line_told (codes "passed over: answer of a proxy\tline ") number
 
--- the line at which reading stopped, if one stopped it
-abbrev pub stop_told : Option (ℕ × LineFault) → List ℕ
-stop_told None = []
-stop_told (Some (number, fault)) = line_told (fault_words false fault) number
-
--- the lines of its head that are no field lines, and the line at which reading stopped
+-- the lines of its head that are no field lines
 abbrev pub lines_told : VisitText → List ℕ
-lines_told visit = odd_lines (visit.head.number + 1) false visit.head.fields ++ stop_told visit.stop
+lines_told visit = odd_lines (visit.head.number + 1) false visit.head.fields
 
 -- of a visit, where it is asked
 abbrev pub passed_over : Bool → VisitText → List ℕ

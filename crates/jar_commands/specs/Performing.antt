@@ -1,18 +1,17 @@
 -- What a command gives for the texts of the files, and why it gives nothing (this repository's own).
-use Rattle.std.specs.Prelude.{◌≡◌, ◌⊎◌, ◌<◌, ◌^◌, ◌-◌, ℕ, ℤ, Bool, true, false, List, [], Option, Some, None}
+use Rattle.std.specs.Prelude.{◌≡◌, ◌⊎◌, ◌^◌, ◌-◌, ℕ, ℤ, Bool, true, false, List, [], Option, Some, None}
 use Rattle.std.specs.Prelude.{Result, Ok, Err, IfSome, IsSomeAnd, is_some, ⊤}
 use Rattle.devices.specs.Device.{Rose}
 use Rattle.url.specs.Parts.{Parts}
 use Rattle.cookie_store.specs.Rows.{Row, Store, live}
 use Rattle.cookie_jar.specs.Asking.{meant, without}
-use Rattle.cookie_jar.specs.Importing.{ImportsLines, LinesText}
-use Rattle.cookie_jar.specs.Reading.{Imports}
+use Rattle.cookie_jar.specs.Entries.{HasNoItems}
+use Rattle.cookie_jar.specs.Importing.{Imports, ImportText}
 use Rattle.cookie_jar.specs.declared.form.Form.{Form}
-use Rattle.cookie_jar.specs.declared.form.Form.TheVariants.{Ron, Json, Txt}
 use Rattle.cookie_jar.specs.declared.taking.End.{End}
 use Rattle.jar_words.specs.declared.asked.Asked.{Asked}
-use Rattle.jar_commands.specs.Importing.{AreLet, GivesImported, IsLet, IsToldOf}
-use Rattle.jar_commands.specs.Jars.{HaveNoText, IsJar, IsNoTextOf, MakesNoJar}
+use Rattle.jar_commands.specs.Importing.{AreLet, GivesImported, IsToldOf}
+use Rattle.jar_commands.specs.Jars.{HaveNoText, IsJar, MakesNoJar}
 use Rattle.jar_commands.specs.Outcomes as gives
 use Rattle.jar_commands.specs.Outcomes.{OutcomeText}
 use Rattle.jar_commands.specs.Plans.{PlanText, plan_of}
@@ -119,28 +118,14 @@ abbrev pub FailsToRemove : PlanText → Store → Option Row → Failure → Typ
 FailsToRemove plan jar row failure =
     (failure ≡ Memory) ⊎ ((is_some row ≡ true) × Unkept plan (without row jar.rows) failure)
 
--- `import` of rows: a row is refused where none may be, or the others have no text
-abbrev pub FailsToImportRows : PlanText → Store → Form → Bool → List ℕ → Failure → Type 0
-FailsToImportRows plan jar form is_strict text failure =
-    (failure ≡ Memory)
-    ⊎ (((failure ≡ FileText) × IsNoTextOf form text)
-    ⊎ ((count : ℕ) × (refused : ℕ) × (told : List ℕ) × (new : List Row)
-    × Imports form plan.form plan.now text jar.rows count refused told new
-    × (((failure ≡ FileText) × (is_strict ≡ true) × (0 < refused))
-    ⊎ (IsLet is_strict refused × Unkept plan new failure))))
-
--- `import` of lines: one of them is refused where none may be, or their rows have no text
-abbrev pub FailsToImportLines : PlanText → Store → Bool → List ℕ → Failure → Type 0
-FailsToImportLines plan jar is_strict text failure =
-    (failure ≡ Memory)
-    ⊎ ((lines : LinesText) × (new : List Row) × ImportsLines plan.form plan.now text jar.rows lines new
-    × (((is_strict ≡ true) × IsToldOf lines.refused failure)
-    ⊎ (AreLet is_strict lines.refused × Unkept plan new failure)))
-
+-- `import` of a text: it has no items; something of it is refused where nothing may be; or the rows have no text
 abbrev pub FailsToImportText : PlanText → Store → Form → Bool → List ℕ → Failure → Type 0
-FailsToImportText plan jar Ron is_strict text failure = FailsToImportRows plan jar Ron is_strict text failure
-FailsToImportText plan jar Json is_strict text failure = FailsToImportRows plan jar Json is_strict text failure
-FailsToImportText plan jar Txt is_strict text failure = FailsToImportLines plan jar is_strict text failure
+FailsToImportText plan jar form is_strict text failure =
+    (failure ≡ Memory)
+    ⊎ (((failure ≡ FileText) × HasNoItems form text)
+    ⊎ ((done : ImportText) × (new : List Row) × Imports form plan.form plan.now text jar.rows done new
+    × (((is_strict ≡ true) × IsToldOf form done.refused failure)
+    ⊎ (AreLet is_strict done.refused × Unkept plan new failure))))
 
 -- `import`
 abbrev pub FailsToImport : PlanText → Store → Form → Bool → Option (List ℕ) → Failure → Type 0

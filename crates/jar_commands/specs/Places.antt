@@ -1,10 +1,11 @@
 -- Where the text stops that a failure tells of. No public contract names a word of this file.
-use Rattle.std.specs.Prelude.{◌≡◌, ℕ, List, Option, Some, IsSomeAnd}
+use Rattle.std.specs.Prelude.{◌≡◌, ℕ, false, List, Option, Some, IsSomeAnd}
 use Rattle.std.specs.Str.{IsUtf8}
-use Rattle.publicsuffix.specs.Rules.{HasFirstFault}
+use Rattle.publicsuffix.specs.Rules.{HasFirstFault, HasRules, Rule}
 use Rattle.cookie_jar.specs.Places.{StopsAt}
 use Rattle.cookie_jar.specs.declared.form.Form.{Form}
 use Rattle.cookie_jar.specs.declared.place.Place.{Place}
+use Rattle.jar_commands.specs.Jars.{has_rule}
 use Rattle.jar_commands.specs.Plans.{PlanText}
 use Rattle.jar_commands.specs.declared.about.Detail.{Detail}
 use Rattle.jar_commands.specs.declared.about.Detail.TheVariants as detail
@@ -28,10 +29,11 @@ IsPlaceIn plan stored brought JarText place = IsPlaceOf plan.form stored place
 IsPlaceIn plan stored brought FileText place = IsPlaceOfTask plan.task brought place
 IsPlaceIn plan stored brought other place = ⊥
 
--- why a text is no suffix list: its first line that is no rule, or it isn't UTF-8
+-- why a text is no suffix list that a jar takes: its first line that is no rule, it isn't UTF-8, or it has no rule
 abbrev pub IsDetailOfList : List ℕ → Detail → Type 0
 IsDetailOfList suffixes (detail.Rule number) = HasFirstFault suffixes number
 IsDetailOfList suffixes detail.NotText = ¬ (IsUtf8 suffixes)
+IsDetailOfList suffixes detail.NoRule = (list : List Rule) × HasRules suffixes list × (has_rule list ≡ false)
 IsDetailOfList suffixes (detail.Place place) = ⊥
 IsDetailOfList suffixes (detail.Cause cause) = ⊥
 
@@ -42,4 +44,6 @@ IsDetailIn plan suffixes stored brought failure (detail.Rule number) =
     (failure ≡ SuffixList) × IsDetailOfList suffixes (detail.Rule number)
 IsDetailIn plan suffixes stored brought failure detail.NotText =
     (failure ≡ SuffixList) × IsDetailOfList suffixes detail.NotText
+IsDetailIn plan suffixes stored brought failure detail.NoRule =
+    (failure ≡ SuffixList) × IsDetailOfList suffixes detail.NoRule
 IsDetailIn plan suffixes stored brought failure (detail.Cause cause) = ⊥

@@ -1,6 +1,6 @@
 -- What words ask for, read: the moment, the form of the jar's text, the rules, and the task (this repository's own).
-use Rattle.std.specs.Prelude.{◌==◌, ℕ, ℤ, Bool, List, Option, Some, None, Result, Ok, Err, codes, if◌then◌else◌}
-use Rattle.std.specs.Prelude.{option_map}
+use Rattle.std.specs.Prelude.{◌==◌, ◌&&◌, ℕ, ℤ, Bool, false, not, List, Option, Some, None, Result, Ok, Err, codes}
+use Rattle.std.specs.Prelude.{if◌then◌else◌, option_map}
 use Rattle.std.specs.List.{after_last, list_any}
 use Rattle.std.specs.Str.{bytes_eq}
 use Rattle.jiff.specs.Words.{civil_nanos}
@@ -154,6 +154,14 @@ task_of command.Clear = Ok task.Clear
 task_of (command.Import file format is_strict) = import_task (form_of_file format file.now) is_strict
 task_of (command.Export file format reader) = export_in (form_of_file format file.now) reader
 
+-- an export to the name of the jar: `-` is the output's, and no file's
+abbrev pub is_onto : Command → List ℕ → Bool
+is_onto (command.Export file format reader) jar = bytes_eq file.now jar && not (bytes_eq file.now (codes "-"))
+is_onto other jar = false
+
+abbrev pub task_asked : Command → List ℕ → Result Task Failure
+task_asked asked jar = if is_onto asked jar then Err failure.OwnFile else task_of asked
+
 -- ---- the plan
 
 abbrev pub plan_by : Bool → Option ℤ → Option Form → Option Rules → Result Task Failure → Result PlanText Failure
@@ -170,4 +178,4 @@ abbrev pub plan_of : Asked → Option ℤ → Result PlanText Failure
 plan_of asked clock =
     plan_by asked.is_verbose (moment_asked (option_map (λ text. text.now) asked.now) clock)
     (form_asked asked.format asked.jar.now) (rules_asked (option_map (λ text. text.now) asked.rules))
-    (task_of asked.command)
+    (task_asked asked.command asked.jar.now)

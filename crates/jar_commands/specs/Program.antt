@@ -18,7 +18,7 @@ use Rattle.jar_commands.specs.Plans.{PlanText, plan_of}
 use Rattle.jar_commands.specs.Waiting.{IsNoWait}
 use Rattle.jar_commands.specs.declared.failure.Failure.{Failure}
 use Rattle.jar_commands.specs.declared.failure.Failure.TheVariants.{Words, Wait, SuffixFile, JarInUse, LockFile}
-use Rattle.jar_commands.specs.declared.failure.Failure.TheVariants.{JarFile, File, Output, Memory}
+use Rattle.jar_commands.specs.declared.failure.Failure.TheVariants.{JarFile, File, OwnFile, Output, Memory}
 
 -- what is known of a writer, before and behind a call: what was written, and how many calls failed
 pub record Writer : Type 0 where
@@ -101,9 +101,9 @@ IsOfFiles failure = (failure ≡ SuffixFile) ⊎ ((failure ≡ JarInUse) ⊎ ((f
 abbrev pub IsBefore : Asked → Failure → Type 0
 IsBefore asked failure = ((failure ≡ Wait) × IsNoWait (option_map (λ text. text.now) asked.wait)) ⊎ IsOfFiles failure
 
--- a file isn't written, or memory was refused for it
+-- a file isn't written, memory was refused for it, or the system says that it is the jar itself
 abbrev pub IsUnwritten : Failure → Type 0
-IsUnwritten failure = (failure ≡ JarFile) ⊎ ((failure ≡ File) ⊎ (failure ≡ Memory))
+IsUnwritten failure = (failure ≡ JarFile) ⊎ ((failure ≡ File) ⊎ ((failure ≡ OwnFile) ⊎ (failure ≡ Memory)))
 
 -- Why a command ends with status 2, in order: what is asked is refused, before a file is read; a file isn't read; the
 -- texts give nothing; a file isn't written; or the files are, and the writer fails. Up to there it is as it was.

@@ -5,6 +5,7 @@ use Rattle.std.specs.List.{list_any}
 use Rattle.publicsuffix.specs.Rules.{Rule}
 use Rattle.response_heads.specs.Visits.{GivesVisits, IsVisitRefusal, VisitText, set_cookie_lines}
 use Rattle.response_heads.specs.declared.error.LineFault.{LineFault}
+use Rattle.response_heads.specs.declared.error.LineFault.TheVariants.{Status}
 use Rattle.response_heads.specs.declared.error.LocationFault.{LocationFault}
 use Rattle.response_heads.specs.declared.error.LocationFault.TheVariants.{NotPlain, Several, Empty, Folded, NoField}
 use Rattle.response_heads.specs.declared.error.ReadError.TheVariants.{Line}
@@ -16,7 +17,7 @@ use Rattle.cookie_jar.specs.Told.{is_refused, told_lines}
 use Rattle.cookie_jar.specs.declared.form.Form.{Form}
 use Rattle.cookie_jar.specs.declared.taking.End.{End}
 use Rattle.user_agent.specs.declared.rules.Rules.{Rules}
-use Rattle.jar_commands.specs.PassedOver.{passed_over}
+use Rattle.jar_commands.specs.PassedOver.{line_told, passed_over}
 use Rattle.jar_commands.specs.declared.failure.Failure.{Failure}
 use Rattle.jar_commands.specs.declared.failure.Failure.TheVariants.{Heads}
 
@@ -24,12 +25,28 @@ use Rattle.jar_commands.specs.declared.failure.Failure.TheVariants.{Heads}
 abbrev pub is_any_refused : List End → Bool
 is_any_refused ends = list_any is_refused ends
 
--- what is told of a visit: what is passed over, where that is asked, and what became of its lines
+-- why nothing is read from a line on: it begins a head that has no status line, or stands in a head that it may end
+abbrev pub stop_words : LineFault → List ℕ
+stop_words Status = codes "refused: no status line\theads from line "
+stop_words other = codes "refused: head without an end\theads from line "
+
+-- what is told of the heads that are left out from a line on, if one stopped all reading
+abbrev pub stop_told : Option (ℕ × LineFault) → List ℕ
+stop_told None = []
+stop_told (Some (number, fault)) = line_told (stop_words fault) number
+
+-- What is told of a visit: what is passed over, where that is asked; what became of its lines; and the line behind it
+-- at which reading stopped.
 abbrev pub visit_told : Bool → VisitText → List End → List ℕ
-visit_told is_verbose visit ends = passed_over is_verbose visit ++ told_lines (set_cookie_lines visit) ends
+visit_told is_verbose visit ends =
+    passed_over is_verbose visit ++ (told_lines (set_cookie_lines visit) ends ++ stop_told visit.stop)
+
+-- one of its lines wasn't stored, or heads behind it are left out
+abbrev pub refuses : VisitText → List End → Bool
+refuses visit ends = is_any_refused ends || is_some visit.stop
 
 -- The Set-Cookie lines of each visit are taken from its URL, one visit after another, in a jar of this form behind
--- these rules: what is told of them, whether one was refused, and the rows behind them.
+-- these rules: what is told of them, whether one was refused or heads are left out, and the rows behind them.
 abbrev pub TakesVisits : Bool → Form → Rules → List Rule → List Row → ℤ → List VisitText → List ℕ → Bool → List Row
     → Type 0
 TakesVisits is_verbose form rules list rows now [] told refused new = (told ≡ []) × (refused ≡ false) × (new ≡ rows)
@@ -38,7 +55,7 @@ TakesVisits is_verbose form rules list rows now (visit ∷ visits) told refused 
     × TakesAll form rules list rows visit.url now (set_cookie_lines visit) ends mid
     × TakesVisits is_verbose form rules list mid now visits rest others new
     × (told ≡ visit_told is_verbose visit ends ++ rest)
-    × (refused ≡ (is_any_refused ends || others))
+    × (refused ≡ (refuses visit ends || others))
 
 -- why a line leads to no URL, and what is left out for that
 abbrev pub location_words : LocationFault → List ℕ

@@ -31,7 +31,7 @@ are_rules names = list_all is_rule names
 abbrev pub has : List (List ℕ) → List ℕ → Bool
 has names rule = list_any (λ name. bytes_eq name rule) names
 
--- just the rules that are named: `secure_wins` and `lax_by_default` have no name here
+-- just the rules that are named: `secure_wins`, `lax_by_default` and `none_needs_secure` have no name here
 abbrev pub rules_with : List (List ℕ) → Rules
 rules_with names = record {
   long_attributes = has names (codes "long-attributes");
@@ -45,6 +45,7 @@ rules_with names = record {
   secure_overlay = has names (codes "secure-overlay");
   secure_wins = false;
   lax_by_default = false;
+  none_needs_secure = false;
 }
 
 -- the rules of these names, where each is one

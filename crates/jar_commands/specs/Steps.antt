@@ -10,7 +10,7 @@ use Rattle.cookie_jar.specs.declared.taking.End.{End}
 use Rattle.user_agent.specs.declared.rules.Rules.{Rules}
 use Rattle.jar_commands.specs.Performing.{Unkept}
 use Rattle.jar_commands.specs.Plans.{PlanText}
-use Rattle.jar_commands.specs.Receiving.{IsNoHeads, TakesHeads, is_any_refused, visit_told}
+use Rattle.jar_commands.specs.Receiving.{IsNoHeads, TakesHeads, refuses, visit_told}
 use Rattle.jar_commands.specs.declared.failure.Failure.{Failure}
 use Rattle.jar_commands.specs.declared.failure.Failure.TheVariants.{Memory}
 
@@ -29,4 +29,4 @@ abbrev pub TakesVisit : Bool → Form → Rules → List Rule → List Row → �
 TakesVisit is_verbose form rules list rows now visit told refused more more_refused new =
     (ends : List End) × TakesAll form rules list rows visit.url now (set_cookie_lines visit) ends new
     × (more ≡ told ++ visit_told is_verbose visit ends)
-    × (more_refused ≡ (refused || is_any_refused ends))
+    × (more_refused ≡ (refused || refuses visit ends))

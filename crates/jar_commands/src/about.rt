@@ -41,6 +41,8 @@ pub(crate) enum Detail {
     Rule(usize),
     /// Its bytes aren't UTF-8, and so no suffix list.
     NotText,
+    /// Its suffix list has no rule.
+    NoRule,
 }
 
 impl Stopped {
@@ -135,6 +137,7 @@ fn list_detail(alloc: Global, text: &[u8]) -> Option<Detail>
     match List::parse(alloc, text) {
         Err(ListError::Rule(number)) => Some(Detail::Rule(number)),
         Err(ListError::NotText) => Some(Detail::NotText),
+        Ok(list) if !list.has_rule() => Some(Detail::NoRule),
         Ok(_) | Err(ListError::OutOfMemory) => None,
     }
 }
@@ -172,9 +175,9 @@ fn subject<'a>(asked: &Asked<'a>, list: &'a str, failure: Failure) -> Option<&'a
         Failure::SuffixFile | Failure::SuffixList => Some(list),
         Failure::Format | Failure::JarInUse | Failure::LockFile => Some(asked.jar),
         Failure::JarFile | Failure::JarText | Failure::JarRow => Some(asked.jar),
-        Failure::FileFormat | Failure::File => file_in(asked.command),
+        Failure::OwnFile | Failure::FileFormat | Failure::File => file_in(asked.command),
         Failure::FileText | Failure::FileRow => file_in(asked.command),
-        Failure::Words(_) | Failure::Input | Failure::Heads(_) | Failure::FileLine(_, _) => None,
+        Failure::Words(_) | Failure::Input | Failure::Heads(_) | Failure::FileEntry(_, _) => None,
         Failure::Output | Failure::Memory => None,
     }
 }
@@ -292,6 +295,7 @@ fn push_detail(told: &mut String, stopped: Stopped) -> Result<(), AllocError>
             write!(told, ": line {number}: no rule")
         }
         Some(Detail::NotText) if is_of_list(stopped.failure) => told.push_str(": not UTF-8"),
+        Some(Detail::NoRule) if is_of_list(stopped.failure) => told.push_str(": has no rule"),
         _ => Ok(()),
     }
 }

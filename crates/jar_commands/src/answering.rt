@@ -35,13 +35,13 @@ use std::alloc::Global;
 ///
 /// # Errors
 ///
-/// The first of these that holds. Before anything is read: `Moment`, `Format`, `Rules`, and then `Url` or
-/// `FileFormat`, as [`plan_of`] tells them. Of `receive` then `Input` where the reader failed. `SuffixList`
-/// where the first bytes are no suffix list, `JarText` where the others are no text of the jar's form. Of
-/// `receive` `Heads` where what was read aren't heads of responses, or one leads nowhere although a head
-/// follows. Of `import` `File` where there are no bytes, and `FileText` where they are to be RON or JSON
-/// and aren't. `JarRow` where a row that is to be kept has no text in the jar's form; of `export`
-/// `FileRow` where one ends in a year below 0. `Memory` stands in their place where memory was refused.
+/// The first of these that holds. Before anything is read: `Moment`, `Format`, `Rules`, and then `Url`, `OwnFile` or
+/// `FileFormat`, as [`plan_of`] tells them. Of `receive` then `Input` where the reader failed. `SuffixList` where the
+/// first bytes are no suffix list with a rule, `JarText` where the others are no text of the jar's form. Of `receive`
+/// `Heads` where what was read aren't heads of responses, or one leads nowhere although a head follows. Of `import`
+/// `File` where there are no bytes, and `FileText` where they are to be RON or JSON and no list, and `FileEntry` where
+/// nothing may be refused and something is. `JarRow` where a row that is to be kept has no text in the jar's form; of
+/// `export` `FileRow` where one ends in a year below 0. `Memory` stands in their place where memory was refused.
 #[tactic(auto, using(crate::proofs::PlanLemmas::refused, crate::proofs::PlanLemmas::planned))]
 pub fn answer<R: Source>(
     alloc: Global,

@@ -1,13 +1,13 @@
 //! How the program ended.
 ghost use Rattle.std.specs.Prelude.{◌≡◌, IfSome, None, Some, if◌then◌else◌, option_map, string_bytes};
 ghost use Rattle.jar_commands.specs.About as abouts;
-ghost use Rattle.jar_commands.specs.Failures.{line_of};
+ghost use Rattle.jar_commands.specs.Failures.{spot_of};
 ghost use Rattle.jar_commands.specs.Instead as urls;
 ghost use Rattle.jar_commands.specs.Program as spec;
 ghost use Rattle.jar_commands.specs.declared.failure.Failure.{Failure};
 
 use crate::about::{Stopped, about_of, name_text, url_text};
-use crate::failure::{Failure, line_of};
+use crate::failure::{Failure, Spot, spot_of};
 use jar_words::{Asked, Refusal};
 use std::alloc::Global;
 
@@ -19,14 +19,15 @@ pub struct Ended<'a> {
     /// What goes to standard error at status 2.
     pub failure: Option<&'static str>,
     /// What the failure is about, as a terminal may have it: a word, a URL or the name of a file, and the cause for
-    /// which the system refused that. It goes behind the failure. It is None where `instead` or `line` stands there,
+    /// which the system refused that. It goes behind the failure. It is None where `instead` or `spot` stands there,
     /// and where memory was refused for it.
     pub about: Option<String>,
     /// The plain text to ask for in the place of a URL that was refused, where there is one: it goes behind the
     /// failure.
     pub instead: Option<String>,
-    /// The number of the line, counted from 1, by which what was read aren't heads: it goes behind the failure.
-    pub line: Option<usize>,
+    /// The line by which what was read aren't heads, or the line or the row of an import that is refused: it goes
+    /// behind the failure.
+    pub spot: Option<Spot>,
     /// The file of the suffix list that counts, where it is to be told.
     pub list: Option<&'a str>,
     /// A line of each row of the jar's file that the jar drops as it is loaded, as an import tells it, where that is to
@@ -40,7 +41,7 @@ pub struct Ended<'a> {
 pub(crate) fn url_told<'a>(alloc: Global, text: &str, status: Result<u8, Failure>) -> Ended<'a>
     ensures told { spec.IsToldBy status result.status (option_map (λ said. said.now) result.failure) }
     ensures about { abouts.TellsUrl text.now status (option_map string_bytes result.about) }
-    ensures line { result.line ≡ line_of status }
+    ensures line { result.spot ≡ spot_of status }
     ensures list { option_map (λ path. path.now) result.list ≡ None }
     ensures rest { (result.instead ≡ None) × (result.dropped ≡ None) × (result.counted ≡ None) }
 {
@@ -72,9 +73,10 @@ pub(crate) fn failed<'a>(
 ) -> Ended<'a>
     ensures told { spec.IsToldBy (Err stopped.failure) result.status (option_map (λ said. said.now) result.failure) }
     ensures instead { result.instead ≡ (if urls.is_refused_url (Err stopped.failure) then instead else None) }
-    ensures about { IfSome result.about (λ told. (result.instead ≡ None) × abouts.IsAbout asked.entry.now.command stopped.failure
+    ensures about { IfSome result.about (λ told. (result.instead ≡ None)
+        × abouts.IsAbout asked.entry.now.command stopped.failure
         (abouts.subject asked.entry.now list.now stopped.failure) (Some (string_bytes told))) }
-    ensures line { result.line ≡ line_of (Err stopped.failure) }
+    ensures line { result.spot ≡ spot_of (Err stopped.failure) }
     ensures rest { result.counted ≡ None }
 {
     let mut ended = told(None, Err(stopped.failure));
@@ -100,11 +102,11 @@ fn instead_at(failure: Failure, instead: Option<String>) -> Option<String>
 pub(crate) fn told<'a>(list: Option<&'a str>, status: Result<u8, Failure>) -> Ended<'a>
     ensures told { spec.IsToldBy status result.status (option_map (λ said. said.now) result.failure) }
     ensures list { option_map (λ path. path.now) result.list ≡ option_map (λ path. path.now) list.entry }
-    ensures line { result.line ≡ line_of status }
+    ensures line { result.spot ≡ spot_of status }
     ensures rest { (result.about ≡ None) × (result.instead ≡ None) × (result.dropped ≡ None)
         × (result.counted ≡ None) }
 {
-    let line = line_of(status);
+    let spot = spot_of(status);
     let (status, failure) = match status {
         Ok(status) => (status, None),
         Err(failure) => (2, Some(failure.words())),
@@ -114,7 +116,7 @@ pub(crate) fn told<'a>(list: Option<&'a str>, status: Result<u8, Failure>) -> En
         failure,
         about: None,
         instead: None,
-        line,
+        spot,
         list,
         dropped: None,
         counted: None,

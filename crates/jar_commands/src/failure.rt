@@ -1,11 +1,32 @@
 //! Why the program ends with status 2.
-ghost use Rattle.std.specs.Prelude.{◌≡◌};
-ghost use Rattle.jar_commands.specs.Failures.{failure_text, fault_text, line_of, line_text, unfit_text};
+ghost use Rattle.std.specs.Prelude.{◌≡◌, Some};
+ghost use Rattle.jar_commands.specs.Failures.{entry_text, failure_text, fault_text, spot_of, spot_text, unfit_text};
 
 use cookie_jar::Cause;
 use cookies_txt::{LineFault, RowFault};
 use jar_words::Kind;
 use std::alloc::AllocError;
+use std::fmt;
+
+/// Where in a text something stands that is refused, printed as `line 3` or `row 2`.
+#[derive(Clone, Copy, Debug, PartialEq, Eq)]
+pub enum Spot {
+    /// At the line of this number, counted from 1.
+    Line(usize),
+    /// At the item of this number, counted from 1, of a list of RON or JSON.
+    Row(usize),
+}
+
+impl fmt::Display for Spot {
+    ghost output = { λ spot. Some (spot_text spot) };
+
+    fn fmt<W: fmt::Write>(&self, f: &mut fmt::Formatter<W>) -> fmt::Result {
+        match *self {
+            Spot::Line(number) => write!(f, "line {number}"),
+            Spot::Row(number) => write!(f, "row {number}"),
+        }
+    }
+}
 
 /// Why the program ends with status 2, in the order in which it is tested.
 #[derive(Clone, Copy, Debug, PartialEq, Eq)]
@@ -18,6 +39,8 @@ pub enum Failure {
     Format,
     /// What `--rules` has isn't a list of rules.
     Rules,
+    /// The other file of an export is the jar itself, by its name or, at the end, by what the system says.
+    OwnFile,
     /// Neither `--file-format` nor the other file's name tells a form, or it isn't `cookies.txt`, as a reader wants it.
     FileFormat,
     /// The text isn't a plain URL.
@@ -36,7 +59,7 @@ pub enum Failure {
     Input,
     /// The other file isn't read, or, at the end, not written.
     File,
-    /// There is no suffix list in its file.
+    /// There is no suffix list in its file, or one without a rule.
     SuffixList,
     /// The jar's text isn't one of its form.
     JarText,
@@ -44,8 +67,8 @@ pub enum Failure {
     Heads(usize),
     /// The other file's text isn't one of its form.
     FileText,
-    /// The line of this number of the other file, counted from 1, is refused for this cause, and nothing may be.
-    FileLine(usize, Cause),
+    /// A line or a row of the other file is refused for this cause, and nothing may be.
+    FileEntry(Spot, Cause),
     /// A row has no text in the jar's form.
     JarRow,
     /// A row has no text in the other file's form.
@@ -66,6 +89,7 @@ impl Failure {
             Failure::Moment => "moment",
             Failure::Format => "format",
             Failure::Rules => "rules",
+            Failure::OwnFile => "export onto the jar itself",
             Failure::FileFormat => "file format",
             Failure::Url => "url",
             Failure::Wait => "wait",
@@ -79,7 +103,7 @@ impl Failure {
             Failure::Input => "input",
             Failure::Heads(_) => "heads: no status line",
             Failure::FileText => "file text",
-            Failure::FileLine(_, cause) => line_words(cause),
+            Failure::FileEntry(_, cause) => entry_words(cause),
             Failure::JarRow => "jar row",
             Failure::FileRow => "file row",
             Failure::Output => "output",
@@ -88,12 +112,13 @@ impl Failure {
     }
 }
 
-// The words of a line that is refused.
-fn line_words(cause: Cause) -> &'static str
-    ensures { result.now ≡ line_text cause }
+// The words of a line or a row that is refused.
+fn entry_words(cause: Cause) -> &'static str
+    ensures { result.now ≡ entry_text cause }
 {
     match cause {
         Cause::Faulty(fault) => fault_words(fault),
+        Cause::NoRow => "file text: no row",
         Cause::Control => "file text: control character",
         Cause::Pair => "file text: name or value",
         Cause::Unfit(fault) => unfit_words(fault),
@@ -129,12 +154,13 @@ fn unfit_words(fault: RowFault) -> &'static str
     }
 }
 
-// The number of the line that is told with a failure.
-pub(crate) fn line_of(status: Result<u8, Failure>) -> Option<usize>
-    ensures { result ≡ line_of status }
+// The line or the row that is told with a failure.
+pub(crate) fn spot_of(status: Result<u8, Failure>) -> Option<Spot>
+    ensures { result ≡ spot_of status }
 {
     match status {
-        Err(Failure::Heads(line) | Failure::FileLine(line, _)) => Some(line),
+        Err(Failure::Heads(line)) => Some(Spot::Line(line)),
+        Err(Failure::FileEntry(spot, _)) => Some(spot),
         _ => None,
     }
 }

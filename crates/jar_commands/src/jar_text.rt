@@ -3,7 +3,7 @@ ghost use Rattle.std.specs.Prelude.{◌≡◌, ◌⊎◌, IfOk, IfErr, false};
 ghost use Rattle.std.specs.Option.{option_copied};
 ghost use Rattle.jiff.specs.Words.{civil_nanos};
 ghost use Rattle.cookie_store.specs.Rows.{live};
-ghost use Rattle.cookie_run.specs.Program.{IsNoSuffixList, IsSuffixList};
+ghost use Rattle.cookie_run.specs.Program.{IsNoSuffixList};
 ghost use Rattle.cookie_jar.specs.Saving.{IsText};
 ghost use Rattle.jar_commands.specs.Jars as spec;
 
@@ -18,7 +18,7 @@ use std::alloc::Global;
 ///
 /// # Errors
 ///
-/// `SuffixList` where the first text is no list, else `JarText` where the other isn't one of the form;
+/// `SuffixList` where the first text is no list or has no rule, else `JarText` where the other isn't one of the form;
 /// `Memory`.
 pub(crate) fn jar_of(
     alloc: Global,
@@ -41,14 +41,15 @@ pub(crate) fn jar_of(
     }
 }
 
-// The suffix list of a text.
+// The suffix list of a text, which has a rule.
 fn list_of(alloc: Global, text: &[u8]) -> Result<List, Failure>
-    ensures ok { IfOk result (IsSuffixList text.now) }
+    ensures ok { IfOk result (spec.IsListOf text.now) }
     ensures err { IfErr result (λ failure. (failure ≡ Failure.Memory)
-        ⊎ ((failure ≡ Failure.SuffixList) × IsNoSuffixList text.now)) }
+        ⊎ ((failure ≡ Failure.SuffixList) × (IsNoSuffixList text.now ⊎ spec.IsRuleless text.now))) }
 {
     match program::list_of(alloc, text) {
-        Ok(list) => Ok(list),
+        Ok(list) if list.has_rule() => Ok(list),
+        Ok(_) => Err(Failure::SuffixList),
         Err(program::Failure::Memory) => Err(Failure::Memory),
         Err(_) => Err(Failure::SuffixList),
     }

@@ -26,11 +26,12 @@ pub mod program;
 mod receiving;
 mod removing;
 mod rule_names;
+mod same_file;
 mod setting;
 mod showing;
 mod url_cause;
 
 pub use answering::answer;
-pub use failure::Failure;
+pub use failure::{Failure, Spot};
 pub use outcome::Outcome;
 pub use plan::{Plan, Task, plan_of};

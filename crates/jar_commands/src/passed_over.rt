@@ -8,8 +8,7 @@ use response_heads::{Field, LineFault, Visit};
 use std::alloc::AllocError;
 
 /// Tells behind a text of a visit's head, where a proxy answered, and of its lines that are no field lines, each with
-/// its number: that it is passed over, or is a folded one that is joined to the field before it. So it tells of the
-/// line at which reading stopped behind it.
+/// its number: that it is passed over, or is a folded one that is joined to the field before it.
 ///
 /// # Errors
 ///
@@ -32,23 +31,12 @@ pub(crate) fn push_passed_over(
     push_lines(told, visit)
 }
 
-// Tells of a head's lines that are no field lines, and of the line at which reading stopped.
+// Tells of a head's lines that are no field lines.
 fn push_lines(told: &mut String, visit: &Visit<'_>) -> Result<(), AllocError>
     ensures { OnOk result (string_bytes told.new
         ≡ string_bytes told.old ++ spec.lines_told (visit_text visit.now)) }
 {
-    push_odd_lines(told, visit.head.number as u128 + 1, &visit.head.fields)?;
-    push_stop(told, visit.stop)
-}
-
-// Tells of the line at which reading stopped, if one stopped it.
-fn push_stop(told: &mut String, stop: Option<(usize, LineFault)>) -> Result<(), AllocError>
-    ensures { OnOk result (string_bytes told.new ≡ string_bytes told.old ++ spec.stop_told stop) }
-{
-    match stop {
-        Some((number, fault)) => push_line(told, fault_words(false, fault), number as u128),
-        None => Ok(()),
-    }
+    push_odd_lines(told, visit.head.number as u128 + 1, &visit.head.fields)
 }
 
 // Tells of the lines of a head that are no field lines, of which the first has this number.
@@ -96,7 +84,12 @@ fn takes_folds(is_behind_field: bool, fault: Option<LineFault>) -> bool
     }
 }
 
-fn push_line(told: &mut String, words: &str, number: u128) -> Result<(), AllocError>
+/// Adds what a line is and its number.
+///
+/// # Errors
+///
+/// `AllocError`, for want of memory.
+pub(crate) fn push_line(told: &mut String, words: &str, number: u128) -> Result<(), AllocError>
     ensures { OnOk result (string_bytes told.new ≡ string_bytes told.old ++ spec.line_told words.now number) }
 {
     write!(told, "{words}{number}\n")

@@ -72,8 +72,8 @@ pub struct Plan<'a> {
 ///
 /// # Errors
 ///
-/// The first of `Moment`, `Format`, `Rules`, and then `Url`, where a text isn't a plain URL, or `FileFormat`; `Memory`
-/// where memory was refused for the rules or a URL.
+/// The first of `Moment`, `Format`, `Rules`, and then `Url`, where a text isn't a plain URL, `OwnFile`, where an export
+/// is to the name of the jar, or `FileFormat`; `Memory` where memory was refused for the rules or a URL.
 pub fn plan_of<'a>(
     alloc: Global,
     asked: &Asked<'a>,
@@ -91,7 +91,7 @@ pub fn plan_of<'a>(
         return Err(Failure::Format);
     };
     let rules = rules_of(alloc, asked.rules)?;
-    match task_of(alloc, asked.command) {
+    match task_asked(alloc, asked.command, asked.jar) {
         Ok(task) => Ok(Plan {
             at,
             form,
@@ -156,12 +156,34 @@ fn is_dotted(name: &str) -> bool
 }
 
 // What stands behind the last slash of a name.
-fn last_part(name: &str) -> &[u8]
+pub(crate) fn last_part(name: &str) -> &[u8]
     ensures { result.now ≡ spec.last_part name.now }
 {
     match name.rfind('/') {
         Some(at) => &name.as_bytes()[at + 1..],
         None => name.as_bytes(),
+    }
+}
+
+// The task of a command over this jar.
+fn task_asked<'a>(alloc: Global, command: Command<'a>, jar: &str) -> Result<Task<'a>, Failure>
+    ensures ok { IfOk result (λ task. spec.task_asked command.entry jar.now ≡ Ok task) }
+    ensures err { IfErr result (λ failure.
+        (failure ≡ Failure.Memory) ⊎ (spec.task_asked command.entry jar.now ≡ Err failure)) }
+{
+    if is_onto(command, jar) {
+        return Err(Failure::OwnFile);
+    }
+    task_of(alloc, command)
+}
+
+// Whether it is an export to the name of the jar.
+fn is_onto(command: Command<'_>, jar: &str) -> bool
+    ensures { result ≡ spec.is_onto command.entry jar.now }
+{
+    match command {
+        Command::Export(file, _, _) => file == jar && file != "-",
+        _ => false,
     }
 }
 

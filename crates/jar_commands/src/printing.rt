@@ -10,6 +10,7 @@ use crate::about::Stopped;
 use crate::failure::Failure;
 use crate::keeping::NAME;
 use crate::outcome::Outcome;
+use crate::same_file::are_one_file;
 use cookie_run::version_line;
 use devices::Sink;
 use devices::pour::write_all;
@@ -30,10 +31,11 @@ pub(crate) struct Done {
     pub(crate) counted: Option<String>,
 }
 
-/// Writes the other file of an export, and prints; or prints the text of that file.
+/// Writes the other file of an export, unless that is the jar, and prints; or prints the text of that file.
 pub(crate) fn finish<H: Files + AllocGlobal, W: Sink>(
     rt: &H,
     command: Command<'_>,
+    jar: &str,
     outcome: Outcome,
     writer: &mut W,
 ) -> Result<Done, Stopped>
@@ -55,7 +57,7 @@ pub(crate) fn finish<H: Files + AllocGlobal, W: Sink>(
     if prints_text(command) {
         return print_text(outcome, writer);
     }
-    keep(rt, command, &outcome)?;
+    keep(rt, command, jar, &outcome)?;
     match print(writer, outcome.printed.as_bytes(), outcome.status) {
         Ok(status) => Ok(Done {
             status,
@@ -150,10 +152,11 @@ pub(crate) fn print_version<W: Sink>(alloc: Global, writer: &mut W) -> Result<u8
     }
 }
 
-// Writes the other file of an export.
+// Writes the other file of an export, which isn't the jar itself.
 fn keep<H: Files + AllocGlobal>(
     rt: &H,
     command: Command<'_>,
+    jar: &str,
     outcome: &Outcome,
 ) -> Result<(), Stopped>
     ensures { IfErr result (λ stopped. spec.IsUnwritten stopped.failure) }
@@ -161,6 +164,9 @@ fn keep<H: Files + AllocGlobal>(
     let (Command::Export(path, _, _), Some(text)) = (command, &outcome.file) else {
         return Ok(());
     };
+    if are_one_file(rt, path, jar) {
+        return Err(Stopped::of(Failure::OwnFile));
+    }
     match Place::of(rt, path, NAME).replace(rt, text) {
         Ok(()) => Ok(()),
         Err(unwritten) => Err(Stopped::unwritten(unwritten, Failure::File)),

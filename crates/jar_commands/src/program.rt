@@ -8,7 +8,7 @@ ghost use Rattle.jar_words.specs.declared.asked.Asked.{Asked};
 ghost use Rattle.jar_words.specs.declared.refusal.Refusal.{Refusal};
 ghost use Rattle.jar_commands.specs.About as abouts;
 ghost use Rattle.jar_commands.specs.Dropped as rows;
-ghost use Rattle.jar_commands.specs.Failures.{line_of};
+ghost use Rattle.jar_commands.specs.Failures.{spot_of};
 ghost use Rattle.jar_commands.specs.Instead as urls;
 ghost use Rattle.jar_commands.specs.Performing.{Brings, BringsNothing, UnreadBut};
 ghost use Rattle.jar_commands.specs.Program as spec;
@@ -70,7 +70,7 @@ pub fn program<'a, H: Files + AllocGlobal, K: Keeper, R: Source, W: Sink>(
         text given
         × spec.IsToldBy given result.status (option_map (λ said. said.now) result.failure)
         × abouts.TellsUrl text given (option_map string_bytes result.about)
-        × (result.line ≡ line_of given) × (reader.new ≡ reader.old) × (K.lock kept.new ≡ K.lock kept.old)
+        × (result.spot ≡ spot_of given) × (reader.new ≡ reader.old) × (K.lock kept.new ≡ K.lock kept.old)
         × (result.instead ≡ None) × (result.dropped ≡ None) × (result.counted ≡ None)
         × (option_map (λ path. path.now) result.list ≡ None)) }
     ensures tells { url_asked (map (λ word. string_bytes word) words.entry.now) ≡ None
@@ -90,7 +90,7 @@ pub fn program<'a, H: Files + AllocGlobal, K: Keeper, R: Source, W: Sink>(
         × urls.TellsInstead read given (option_map string_bytes result.instead)
         × abouts.TellsAbout read (map (λ path. path.now) lists.now) given
         (option_map string_bytes result.instead) (option_map string_bytes result.about)
-        × (result.line ≡ line_of given))
+        × (result.spot ≡ spot_of given))
         × IfSome result.dropped (λ told. rows.TellsJar read (option_map civil_nanos clock) (string_bytes told))
         × spec.TellsList read (map (λ path. path.now) lists.now) (option_map (λ path. path.now) result.list)
         × kept_spec.WordsKeep (reader.new ≡ reader.old)
@@ -120,7 +120,7 @@ fn answered<'a, W: Sink>(alloc: Global, refusal: Refusal<'_>, writer: &mut W) ->
         })
         refusal.entry given
         × spec.IsToldBy given result.status (option_map (λ said. said.now) result.failure)
-        × (result.line ≡ line_of given) }
+        × (result.spot ≡ spot_of given) }
     ensures about { abouts.TellsRefusal refusal.entry (option_map string_bytes result.about) }
     ensures list { option_map (λ path. path.now) result.list ≡ None }
     ensures rest { (result.instead ≡ None) × (result.dropped ≡ None) × (result.counted ≡ None) }
@@ -171,7 +171,7 @@ fn run<'a, H: Files + AllocGlobal, K: Keeper, R: Source, W: Sink>(
         × urls.TellsAskedInstead asked.entry.now given (option_map string_bytes result.instead)
         × abouts.TellsAskedAbout asked.entry.now (map (λ path. path.now) lists.now) given
         (option_map string_bytes result.instead) (option_map string_bytes result.about)
-        × (result.line ≡ line_of given) }
+        × (result.spot ≡ spot_of given) }
     ensures dropped { IfSome result.dropped (λ told.
         rows.IsToldOfJar asked.entry.now (option_map civil_nanos clock) (string_bytes told)) }
     ensures keeps { kept_spec.KeepsJar (reader.new ≡ reader.old)
@@ -321,7 +321,7 @@ fn serve<H: Files + AllocGlobal, K: Keeper, R: Source, W: Sink>(
         brought.as_deref(),
         kept,
     ) {
-        Ok(outcome) => finish(rt, asked.command, outcome, writer),
+        Ok(outcome) => finish(rt, asked.command, asked.jar, outcome, writer),
         Err(stopped) => Err(stopped),
     }
 }

@@ -14,15 +14,15 @@ ghost use Rattle.jar_commands.specs.Steps.{FailsToTake, TakesVisit};
 use crate::failure::Failure;
 use crate::jar_text::saved;
 use crate::outcome::Outcome;
-use crate::passed_over::push_passed_over;
+use crate::passed_over::{push_line, push_passed_over};
 use crate::plan::Plan;
 use cookie_jar::{End, Form, Jar, is_refused, told_lines};
 use jiff::civil::DateTime;
-use response_heads::{LocationFault, Lost, ReadError, Visit, Visited, visits};
+use response_heads::{LineFault, LocationFault, Lost, ReadError, Visit, Visited, visits};
 use std::alloc::{AllocError, Global};
 use url::Url;
 
-// What is told of lines, and whether one of them was refused.
+// What is told of lines, and whether one of them was refused or heads are left out.
 #[derive(Drop)]
 struct Received {
     told: String,
@@ -179,7 +179,7 @@ fn receive_visit(
     let ends = take_lines(plan, jar, &visit.url, &lines)?;
     let told = visit_told(alloc, plan.is_verbose, visit, &lines, &ends)?;
     received.told.push_str(told.as_str())?;
-    received.is_any_refused = received.is_any_refused || is_any_refused(&ends);
+    received.is_any_refused = received.is_any_refused || refuses(visit, &ends);
     Ok(())
 }
 
@@ -227,7 +227,35 @@ fn visit_told(
     push_passed_over(&mut told, is_verbose, visit)?;
     let lines = told_lines(alloc, lines, ends)?;
     told.push_str(lines.as_str())?;
+    push_stop(&mut told, visit.stop)?;
     Ok(told)
+}
+
+// Tells of the heads that are left out from a line on, if one stopped all reading.
+fn push_stop(told: &mut String, stop: Option<(usize, LineFault)>) -> Result<(), AllocError>
+    ensures { OnOk result (string_bytes told.new ≡ string_bytes told.old ++ spec.stop_told stop) }
+{
+    match stop {
+        Some((number, fault)) => push_line(told, stop_words(fault), number as u128),
+        None => Ok(()),
+    }
+}
+
+// Why nothing is read from a line on.
+fn stop_words(fault: LineFault) -> &'static str
+    ensures { result.now ≡ spec.stop_words fault }
+{
+    match fault {
+        LineFault::Status => "refused: no status line\theads from line ",
+        _ => "refused: head without an end\theads from line ",
+    }
+}
+
+// Whether a line of a visit wasn't stored, or heads behind it are left out.
+fn refuses(visit: &Visit<'_>, ends: &[End]) -> bool
+    ensures { result ≡ spec.refuses (visit_text visit.now) ends.now }
+{
+    is_any_refused(ends) || visit.stop.is_some()
 }
 
 /// Whether a line wasn't stored.

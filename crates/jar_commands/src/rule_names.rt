@@ -84,6 +84,7 @@ fn rules_with(names: &[&[u8]]) -> Rules
         secure_overlay: has(names, "secure-overlay"),
         secure_wins: false,
         lax_by_default: false,
+        none_needs_secure: false,
     }
 }
 

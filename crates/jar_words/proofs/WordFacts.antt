@@ -132,3 +132,29 @@ pub knows_the_forms : read (codes "jar" ∷ codes "clear" ∷ codes "--format=RO
     ≡ Err (words kind.Format (codes "RON"))
 unfolding read_by
 knows_the_forms = refl
+
+-- a command in the place of JAR
+pub wants_a_jar : read (codes "list" ∷ codes "--json" ∷ []) ≡ Err (words kind.MissingJar (codes "list"))
+unfolding read_by
+wants_a_jar = refl
+
+pub wants_a_jar_before : read (codes "header" ∷ codes "u" ∷ []) ≡ Err (words kind.MissingJar (codes "header"))
+unfolding read_by
+wants_a_jar_before = refl
+
+pub wants_a_name : read (codes "" ∷ codes "list" ∷ []) ≡ Err (words kind.EmptyJar (codes ""))
+unfolding read_by
+wants_a_name = refl
+
+pub wants_a_text : read (codes "url" ∷ []) ≡ Err (words kind.MissingWord (codes "TEXT"))
+unfolding read_by
+wants_a_text = refl
+
+-- `url` stands alone with its text
+pub has_no_option : read (codes "-v" ∷ codes "url" ∷ codes "u" ∷ []) ≡ Err (words kind.Alone (codes "u"))
+unfolding read_by
+has_no_option = refl
+
+pub has_no_jar : read (codes "jar" ∷ codes "url" ∷ codes "u" ∷ []) ≡ Err (words kind.Alone (codes "url"))
+unfolding read_by
+has_no_jar = refl

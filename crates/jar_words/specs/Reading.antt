@@ -1,6 +1,6 @@
 -- What is read of words: what they ask for, or the first thing that is wrong with them (own: docs/DEFINITIONS.md).
-use Rattle.std.specs.Prelude.{◌≡◌, ◌++◌, ℕ, Bool, true, false, List, [], ◌∷◌, Option, Some, None, Result, Ok, Err}
-use Rattle.std.specs.Prelude.{codes}
+use Rattle.std.specs.Prelude.{◌≡◌, ◌==◌, ◌||◌, ◌++◌, ℕ, Bool, true, false, List, [], ◌∷◌, Option, Some, None}
+use Rattle.std.specs.Prelude.{Result, Ok, Err, codes}
 use Rattle.std.specs.Prelude.{if◌then◌else◌, is_some, length, nat_le, ok_or, option_map, slice_get}
 use Rattle.std.specs.Option.{option_and_then, option_or}
 use Rattle.std.specs.Result.{result_map_both}
@@ -9,6 +9,7 @@ use Rattle.jar_words.specs.Asking as to
 use Rattle.jar_words.specs.Names.{Text, has, verb_of}
 use Rattle.jar_words.specs.Refusing.{Refused, help, version, words, refused_of}
 use Rattle.jar_words.specs.Tokens.{Token, given, plain, wrong, is_given, tokens, value_of, words_of}
+use Rattle.jar_words.specs.UrlAsked.{is_url}
 use Rattle.jar_words.specs.declared.asked.Asked.{Asked}
 use Rattle.jar_words.specs.declared.asked.Format.{Format}
 use Rattle.jar_words.specs.declared.names.Name.{Name}
@@ -30,6 +31,20 @@ fits [] word = true
 fits (jar ∷ []) word = is_some (verb_of word)
 fits (jar ∷ command ∷ others) word = is_within (verb_of command) (length (jar ∷ command ∷ others))
 
+-- what a word is that stands behind JAR and is no command: it shows that the command stands in JAR's place, or that
+-- something stands beside `url TEXT`, or it isn't known
+abbrev pub no_command : Text → Text → Refused
+no_command jar word =
+    if is_some (verb_of jar) then words kind.MissingJar jar
+    else if is_url jar || is_url word then words kind.Alone word
+    else words kind.UnknownWord word
+
+-- why a word may not stand behind those before it
+abbrev pub misfit : List Text → Text → Refused
+misfit [] word = words kind.UnknownWord word
+misfit (jar ∷ []) word = no_command jar word
+misfit (jar ∷ command ∷ others) word = words kind.UnknownWord word
+
 -- why a token may not stand behind those before it
 abbrev pub wrong_behind : List Token → Token → Option Refused
 wrong_behind before (wrong kind word) = Some (words kind word)
@@ -38,7 +53,7 @@ wrong_behind before (given name.Version word value) = Some version
 wrong_behind before (given name word value) =
     if is_given name before then Some (words kind.Repeated word) else None
 wrong_behind before (plain word) =
-    if fits (words_of before) word then None else Some (words kind.UnknownWord word)
+    if fits (words_of before) word then None else Some (misfit (words_of before) word)
 
 -- the first thing that is wrong, of tokens behind these
 unfoldable pub first_wrong : List Token → List Token → Option Refused
@@ -135,11 +150,23 @@ request_with ts jar order = record {
   order = order;
 }
 
+-- what is missing where no command stands behind JAR: it is one itself, or `url`, or there is none
+abbrev pub missing_behind : Text → Refused
+missing_behind jar =
+    if is_some (verb_of jar) then words kind.MissingJar jar
+    else if is_url jar then words kind.MissingWord (codes "TEXT")
+    else words kind.MissingCommand (codes "COMMAND")
+
+-- what is asked of a JAR that has a name
+abbrev pub asked_with : List Token → Text → Result Request Refused
+asked_with ts jar =
+    when_there (verb_asked ts) (missing_behind jar) (λ command.
+    result_map_both (request_with ts jar) (λ refused. refused) (order_asked command ts))
+
 abbrev pub asked_of : List Token → Result Request Refused
 asked_of ts =
     with_word 0 (codes "JAR") ts (λ jar.
-    when_there (verb_asked ts) (words kind.MissingCommand (codes "COMMAND")) (λ command.
-    result_map_both (request_with ts jar) (λ refused. refused) (order_asked command ts)))
+    if length jar == 0 then Err (words kind.EmptyJar jar) else asked_with ts jar)
 
 -- ---- what is read
 

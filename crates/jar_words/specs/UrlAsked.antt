@@ -9,9 +9,13 @@ use Rattle.jar_words.specs.Tokens.{dash}
 abbrev pub is_option : Text → Bool
 is_option text = slice_index text 0 == dash
 
--- the text behind the command `url`
+-- the command
+abbrev pub is_url : Text → Bool
+is_url word = bytes_eq word (codes "url")
+
+-- the text behind it
 abbrev pub text_behind : Text → Text → Option Text
-text_behind command text = if bytes_eq command (codes "url") && not (is_option text) then Some text else None
+text_behind command text = if is_url command && not (is_option text) then Some text else None
 
 -- the text of `url TEXT`
 abbrev pub url_asked : List Text → Option Text

@@ -12,6 +12,7 @@ use crate::commands::{command, form_of};
 use crate::names::{Name, Verb};
 use crate::refusal::{Kind, Refusal};
 use crate::tokens::{Token, Tokens};
+use crate::without_jar::is_url;
 
 /// What the words behind the program's name ask for.
 ///
@@ -59,10 +60,31 @@ fn wrong_behind<'a>(before: Tokens<'a>, token: Token<'a>) -> Option<Refusal<'a>>
         Token::Given(option, word, _) if before.has(option) => {
             Some(Refusal::Words(Kind::Repeated, word))
         }
-        Token::Word(word) if !fits(before, word) => {
-            Some(Refusal::Words(Kind::UnknownWord, word))
-        }
+        Token::Word(word) if !fits(before, word) => Some(misfit(before, word)),
         _ => None,
+    }
+}
+
+// Why a word may not stand behind those before it.
+fn misfit<'a>(before: Tokens<'a>, word: &'a str) -> Refusal<'a>
+    ensures { refused_of result ≡ spec.misfit (words_of (left before.entry)) word.entry.now }
+{
+    match (before.word(0), before.word(1)) {
+        (Some(jar), None) => no_command(jar, word),
+        _ => Refusal::Words(Kind::UnknownWord, word),
+    }
+}
+
+// What a word is that stands behind JAR and is no command.
+fn no_command<'a>(jar: &'a str, word: &'a str) -> Refusal<'a>
+    ensures { refused_of result ≡ spec.no_command jar.entry.now word.entry.now }
+{
+    if Verb::of(jar).is_some() {
+        Refusal::Words(Kind::MissingJar, jar)
+    } else if is_url(jar) || is_url(word) {
+        Refusal::Words(Kind::Alone, word)
+    } else {
+        Refusal::Words(Kind::UnknownWord, word)
     }
 }
 
@@ -140,8 +162,18 @@ fn asked<'a>(tokens: Tokens<'a>) -> Result<Asked<'a>, Refusal<'a>>
     let Some(jar) = tokens.word(0) else {
         return Err(Refusal::Words(Kind::MissingWord, "JAR"));
     };
+    if jar.is_empty() {
+        return Err(Refusal::Words(Kind::EmptyJar, jar));
+    }
+    asked_with(tokens, jar)
+}
+
+// What they ask of this JAR.
+fn asked_with<'a>(tokens: Tokens<'a>, jar: &'a str) -> Result<Asked<'a>, Refusal<'a>>
+    ensures { result_map_both request_of refused_of result ≡ spec.asked_with (left tokens.entry) jar.entry.now }
+{
     let Some(verb) = verb_asked(tokens) else {
-        return Err(Refusal::Words(Kind::MissingCommand, "COMMAND"));
+        return Err(missing_behind(jar));
     };
     let command = command(tokens, verb)?;
     Ok(Asked {
@@ -154,4 +186,17 @@ fn asked<'a>(tokens: Tokens<'a>) -> Result<Asked<'a>, Refusal<'a>>
         jar,
         command,
     })
+}
+
+// What is missing where no command stands behind JAR.
+fn missing_behind(jar: &str) -> Refusal<'_>
+    ensures { refused_of result ≡ spec.missing_behind jar.entry.now }
+{
+    if Verb::of(jar).is_some() {
+        Refusal::Words(Kind::MissingJar, jar)
+    } else if is_url(jar) {
+        Refusal::Words(Kind::MissingWord, "TEXT")
+    } else {
+        Refusal::Words(Kind::MissingCommand, "COMMAND")
+    }
 }

@@ -17,6 +17,12 @@ pub enum Kind {
     MissingWord,
     /// No command.
     MissingCommand,
+    /// A command in the place of JAR, behind which stands no command.
+    MissingJar,
+    /// A JAR without a name.
+    EmptyJar,
+    /// Something beside `url TEXT`, which has neither JAR nor options.
+    Alone,
     /// A form that is none of `ron`, `json` and `txt`.
     Format,
     /// A reader that is none of `curl`, `wget` and `python`.
@@ -37,6 +43,9 @@ impl Kind {
             Kind::Repeated => "an option given twice",
             Kind::MissingWord => "a word is missing",
             Kind::MissingCommand => "a command is missing",
+            Kind::MissingJar => "no JAR stands before this command",
+            Kind::EmptyJar => "JAR has no name",
+            Kind::Alone => "url has one TEXT, and neither JAR nor options",
             Kind::Format => "a format that is none of ron, json and txt",
             Kind::Reader => "a reader that is none of curl, wget and python",
             Kind::Both => "a URL beside --domain",
@@ -51,7 +60,7 @@ pub enum Refusal<'a> {
     Help,
     /// The words ask for the version.
     Version,
-    /// What is wrong with them, and the word at which it shows: of a form or a reader the text that is none, and of
-    /// what is missing its name in the usage, as `JAR` or `URL`.
+    /// What is wrong with them, and the word at which it shows: of a form or a reader the text that is none, of what
+    /// is missing its name in the usage, as `JAR` or `URL`, and of a missing JAR the command that stands in its place.
     Words(Kind, &'a str),
 }

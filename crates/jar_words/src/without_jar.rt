@@ -17,11 +17,18 @@ pub fn url_asked(words: &[String]) -> Option<&str>
 fn text_behind<'a>(command: &str, text: &'a str) -> Option<&'a str>
     ensures { option_map (λ text. text.now) result ≡ spec.text_behind command.now text.entry.now }
 {
-    if command == "url" && !is_option(text.as_bytes()) {
+    if is_url(command) && !is_option(text.as_bytes()) {
         Some(text)
     } else {
         None
     }
+}
+
+/// Whether the word is the command that has no jar.
+pub(crate) fn is_url(word: &str) -> bool
+    ensures { result ≡ spec.is_url word.now }
+{
+    word == "url"
 }
 
 fn is_option(text: &[u8]) -> bool

@@ -249,7 +249,8 @@ domain_stops old text e h l = StopsAs-within (left old) domain_field
     (after old.lacks_raw_cookie old.lacks_path false old.lacks_expires) text text [] e (domain_left old text h) l
 
 pub adds_domain : (old : Draft) (text rest : List ℕ) (value : SavedDomain)
-    → (old.lacks_domain ≡ true) × BeginsWith 100 text → Takes domain_field text (words_of_domain (domain_shown value)) rest
+    → (old.lacks_domain ≡ true) × BeginsWith 100 text
+    → Takes domain_field text (words_of_domain (domain_shown value)) rest
     → Adds old text (record {
       raw_cookie = old.raw_cookie;
       path = old.path;

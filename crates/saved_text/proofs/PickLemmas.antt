@@ -229,14 +229,16 @@ after_lacking false false false true l = refl
 after_lacking false false false false l = absurd (false≢true l)
 
 none_misses : (r p d e : Bool) (text : List ℕ) → IsTrue (is_lacking r p d e) → (r ≡ true → BeginsOtherwise 114 text)
-    → (p ≡ true → BeginsOtherwise 112 text) → (d ≡ true → BeginsOtherwise 100 text) → (e ≡ true → BeginsOtherwise 101 text)
+    → (p ≡ true → BeginsOtherwise 112 text) → (d ≡ true → BeginsOtherwise 100 text)
+    → (e ≡ true → BeginsOtherwise 101 text)
     → Misses (remaining r p d e) text
 none_misses r p d e [] l a b g h = remaining_null r p d e l
 none_misses r p d e (c ∷ t) l a b g h = none_start r p d e c (λ q. ne_eqb c 114 (a q)) (λ q. ne_eqb c 112 (b q))
     (λ q. ne_eqb c 100 (g q)) (λ q. ne_eqb c 101 (h q))
 
 pub none_picked : (r p d e : Bool) (text : List ℕ) → IsTrue (is_lacking r p d e) → (r ≡ true → BeginsOtherwise 114 text)
-    → (p ≡ true → BeginsOtherwise 112 text) → (d ≡ true → BeginsOtherwise 100 text) → (e ≡ true → BeginsOtherwise 101 text)
+    → (p ≡ true → BeginsOtherwise 112 text) → (d ≡ true → BeginsOtherwise 100 text)
+    → (e ≡ true → BeginsOtherwise 101 text)
     → Stops (remaining r p d e) text text
 none_picked r p d e text l a b g h = Stops-at (remaining r p d e) text (remaining_null r p d e l)
     (none_misses r p d e text l a b g h)

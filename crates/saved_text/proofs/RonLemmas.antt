@@ -49,7 +49,8 @@ use Rattle.saved_text.specs.Grammar.Grammar.{nothing, say, sign, one, number, se
 use Rattle.saved_text.specs.Grammar.Word.{the_end, letter}
 use Rattle.saved_text.specs.Letters.{is_digit, is_plain, is_letter, named, digit_value, number_after, AreDigits, limit}
 use Rattle.saved_text.specs.Reads.{Leads, Stuck, Takes, Stops}
-use Rattle.saved_text.specs.Faults.{StopsAs, Undigited, Unplain, Unlettered, IsEnd, Number, BeginsOtherwise, BeginsAscii}
+use Rattle.saved_text.specs.Faults.{StopsAs, Undigited, Unplain, Unlettered, IsEnd, Number, BeginsOtherwise}
+use Rattle.saved_text.specs.Faults.{BeginsAscii}
 use Rattle.saved_text.specs.declared.ron_text.Stop.{Stop}
 use Rattle.saved_text.specs.declared.ron_text.Stop.TheVariants as stop
 use Rattle.saved_text.specs.Ron.{string, character, escape}
@@ -540,11 +541,13 @@ Takes-letter text rest value c l e no_x no_u =
     subst (λ a. Takes escape a (letters (encode_utf8 c)) rest) (sym l.1)
     (subst (λ w. Takes escape (l.0 ∷ rest) w rest) said here)
 
-misses_escape : (text : List ℕ) → BeginsOtherwise 120 text → BeginsOtherwise 117 text → Unlettered text → Misses escape text
+misses_escape : (text : List ℕ) → BeginsOtherwise 120 text → BeginsOtherwise 117 text → Unlettered text
+    → Misses escape text
 misses_escape [] a b u = refl
 misses_escape (c ∷ r) a b u = none_or (is_letter c) (starts (either hex_escape braced_escape) c) u (starts_other c a b)
 
-pub Stops-escape : (text : List ℕ) → BeginsOtherwise 120 text → BeginsOtherwise 117 text → Unlettered text → Stops escape text text
+pub Stops-escape : (text : List ℕ) → BeginsOtherwise 120 text → BeginsOtherwise 117 text → Unlettered text
+    → Stops escape text text
 Stops-escape text a b u = Stops-at escape text refl (misses_escape text a b u)
 
 -- ---- strings
@@ -629,7 +632,8 @@ nothing_left [] u a b = refl
 nothing_left (c ∷ r) u a b = absurd (false≢true (sym u ∙ plain_from c (ne_eqb c 34 a) (ne_eqb c 92 b)))
 
 pub Stops-inside : (text plain behind : List ℕ) → text ≡ plain ++ behind
-    → AllByRecursion (λ b. IsTrue (is_plain b)) plain → Unplain behind → BeginsOtherwise 34 behind → BeginsOtherwise 92 behind
+    → AllByRecursion (λ b. IsTrue (is_plain b)) plain → Unplain behind → BeginsOtherwise 34 behind
+    → BeginsOtherwise 92 behind
     → Stops inside text behind
 Stops-inside text plain behind e a u q s =
     subst (λ t. Stops inside t behind) (sym e)
@@ -676,7 +680,8 @@ Takes-string text rest plain behind next value all g e a f m =
     (Takes-end rest plain behind next e a f))
 
 pub Stops-string : (text rest plain behind : List ℕ) (value : List ℕ) → Goes string text (letters value) inside rest
-    → rest ≡ plain ++ behind → AllByRecursion (λ b. IsTrue (is_plain b)) plain → Unplain behind → BeginsOtherwise 34 behind
+    → rest ≡ plain ++ behind → AllByRecursion (λ b. IsTrue (is_plain b)) plain → Unplain behind
+    → BeginsOtherwise 34 behind
     → BeginsOtherwise 92 behind → Stops string text behind
 Stops-string text rest plain behind value g e a u q s =
     Stops-behind string inside text rest behind (letters value) g (Stops-inside rest plain behind e a u q s)

@@ -314,7 +314,8 @@ pub lacks_name : (b : ℕ) (s : List ℕ) (text : List ℕ) → BeginsOtherwise 
 lacks_name b s [] l = refl
 lacks_name b s (c ∷ r) l = none_or (c == b) false (ne_eqb c b l) refl
 
-domain_other : (text : List ℕ) → BeginsOtherwise 72 text → Goes domain text [] (either suffix (either not_present empty)) text
+domain_other : (text : List ℕ) → BeginsOtherwise 72 text
+    → Goes domain text [] (either suffix (either not_present empty)) text
 domain_other text l = Goes-else host_only (either suffix (either not_present empty)) text refl
     (lacks_tag 72 (codes "ostOnly") text l)
 
@@ -324,7 +325,8 @@ domain_suffix text l b = Goes-trans domain (either suffix (either not_present em
     (subst (λ t. Goes (either suffix (either not_present empty)) t [] suffix t) (sym b.1)
     (Goes-left suffix (either not_present empty) 83 b.0 refl refl))
 
-domain_word : (text : List ℕ) → BeginsOtherwise 72 text → BeginsOtherwise 83 text → Goes domain text [] (either not_present empty) text
+domain_word : (text : List ℕ) → BeginsOtherwise 72 text → BeginsOtherwise 83 text
+    → Goes domain text [] (either not_present empty) text
 domain_word text l m = Goes-trans domain (either suffix (either not_present empty)) (either not_present empty) text
     text text [] [] (domain_other text l)
     (Goes-else suffix (either not_present empty) text refl (lacks_tag 83 (codes "uffix") text m))
@@ -336,7 +338,8 @@ domain_not_present text l m b = Goes-trans domain (either not_present empty) not
     (subst (λ t. Goes (either not_present empty) t [] not_present t) (sym b.1)
     (Goes-left not_present empty 78 b.0 refl refl))
 
-pub domain_empty : (text : List ℕ) → BeginsOtherwise 72 text → BeginsOtherwise 83 text → BeginsOtherwise 78 text → Goes domain text [] empty text
+pub domain_empty : (text : List ℕ) → BeginsOtherwise 72 text → BeginsOtherwise 83 text → BeginsOtherwise 78 text
+    → Goes domain text [] empty text
 domain_empty text l m n = Goes-trans domain (either not_present empty) empty text text text [] []
     (domain_word text l m) (Goes-else not_present empty text refl (lacks_name 78 (codes "otPresent") text n))
 

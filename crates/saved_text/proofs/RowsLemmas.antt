@@ -266,14 +266,16 @@ list_ends text next c rows u i e = closed text next c rows u
     (listed_on text next next rows u others end i (others_end next c e)) e
 
 pub list_ends_behind_comma : (text next c m d : List ℕ) (rows : List SavedRow) (u : Option (Bor (List ℕ)))
-    → IsListed text rows u others next → BeginsOtherwise 93 next → Takes (sign (44 ∷ [])) next [] c → Spaced c m → m ≡ 93 ∷ d
+    → IsListed text rows u others next → BeginsOtherwise 93 next → Takes (sign (44 ∷ [])) next [] c → Spaced c m
+    → m ≡ 93 ∷ d
     → IsListRead list text rows u d
 list_ends_behind_comma text next c m d rows u i l t s e =
     closed text m d rows u (listed_on text m m rows u next_or_end end
     (listed_on text next m rows u others next_or_end i (comma_item next c m l t s)) (choice_end m d e)) e
 
 pub list_goes_on : (text next c m : List ℕ) (rows : List SavedRow) (u : Option (Bor (List ℕ)))
-    → IsListed text rows u others next → BeginsOtherwise 93 next → Takes (sign (44 ∷ [])) next [] c → Spaced c m → BeginsOtherwise 93 m
+    → IsListed text rows u others next → BeginsOtherwise 93 next → Takes (sign (44 ∷ [])) next [] c → Spaced c m
+    → BeginsOtherwise 93 m
     → IsListed text rows u (seq item others) m
 list_goes_on text next c m rows u i l t s e =
     listed_on text m m rows u next_or_end (seq item others)

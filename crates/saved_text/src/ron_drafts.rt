@@ -36,7 +36,8 @@ pub struct Draft {
 // Whether a field that is missing begins with the byte, and stands first.
 fn is_next(is_missing: bool, text: &str, byte: u8) -> bool
     requires { byte < 128 }
-    ensures { MatchBool result ((is_missing ≡ true) × BeginsWith byte text.now) (is_missing ≡ true → BeginsOtherwise byte text.now) }
+    ensures { MatchBool result ((is_missing ≡ true) × BeginsWith byte text.now)
+        (is_missing ≡ true → BeginsOtherwise byte text.now) }
 {
     is_missing && begins(text, byte)
 }

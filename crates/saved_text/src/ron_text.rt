@@ -10,7 +10,8 @@ ghost use Rattle.saved_text.specs.Grammar.{letters};
 ghost use Rattle.saved_text.specs.Grammar.Word.{the_end};
 ghost use Rattle.saved_text.specs.Grammar.Grammar.{sign, number, seq};
 ghost use Rattle.saved_text.specs.Reads.{Takes, Stops};
-ghost use Rattle.saved_text.specs.Faults.{StopsAs, Undigited, Unplain, Unlettered, BeginsAscii, BeginsOtherwise, IsEnd, Number};
+ghost use Rattle.saved_text.specs.Faults.{StopsAs, Undigited, Unplain, Unlettered, BeginsAscii, BeginsOtherwise, IsEnd};
+ghost use Rattle.saved_text.specs.Faults.{Number};
 
 use std::alloc::{AllocError, AllocFailed, Global};
 

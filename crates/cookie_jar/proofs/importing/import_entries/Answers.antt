@@ -4,7 +4,7 @@ use Rattle.jiff.specs.Words.{civil_nanos}
 use Rattle.cookie_store.specs.Placing.{loaded}
 use Rattle.cookie_store.specs.Rows.{Store}
 use Rattle.cookie_store.specs.StoredCookie.{stored_of}
-use Rattle.cookies_txt.specs.Entries.{entry_text}
+use Rattle.cookie_jar.specs.Entries.{entry_text}
 use Rattle.cookie_jar.specs.Importing.{AreRefused, expired_of, refused_pair, rows_in}
 use Rattle.cookie_jar.proofs.ImportLemmas.{entries_counted, loaded_fewer, taken_all}
 use Rattle.cookie_jar.proofs.importing.import_entries.Goals as goal

@@ -3,7 +3,7 @@ use Rattle.jiff.specs.Words.{civil_nanos}
 use Rattle.cookie_store.specs.Given.{ArePicked}
 use Rattle.cookie_store.specs.Rows.{live}
 use Rattle.cookie_store.specs.StoredCookie.{stored_of}
-use Rattle.cookies_txt.specs.Entries.{entry_text}
+use Rattle.cookie_jar.specs.Entries.{entry_text}
 use Rattle.cookie_jar.specs.Importing.{rows_in}
 use Rattle.cookie_jar.specs.Keeping.{IsTaken}
 use Rattle.cookie_jar.proofs.importing.kept_of.Given as goal

@@ -1,8 +1,7 @@
 use Rattle.std.proofs.Common.{ap, is_some, map, subst, sym, take, ◌+◌}
 use Rattle.jiff.specs.Words.{civil_nanos}
-use Rattle.cookies_txt.specs.Entries.{entry_text}
+use Rattle.cookie_jar.specs.Entries.{entry_text}
 use Rattle.cookie_jar.specs.Importing.{AreRefused, refused_pair}
-use Rattle.cookie_jar.specs.declared.importing.RefusedLine.{RefusedLine}
 use Rattle.cookie_jar.proofs.ImportLemmas.{next_refused, next_taken}
 use Rattle.cookie_jar.proofs.importing.refused_of.Goals as goal
 use Rattle.cookie_jar.proofs.importing.refused_of.Goals.{in-Some+in_ok-push-in-Some, in-None}

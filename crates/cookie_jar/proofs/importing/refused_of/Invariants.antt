@@ -1,6 +1,6 @@
 use Rattle.std.specs.Prelude.{map, take}
 use Rattle.jiff.specs.Words.{civil_nanos}
-use Rattle.cookies_txt.specs.Entries.{entry_text}
+use Rattle.cookie_jar.specs.Entries.{entry_text}
 use Rattle.cookie_jar.specs.Importing.{AreRefused, refused_pair}
 use Rattle.cookie_jar.proofs.importing.refused_of.Given as goal
 

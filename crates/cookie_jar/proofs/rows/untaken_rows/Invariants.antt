@@ -1,9 +1,0 @@
-use Rattle.std.specs.Prelude.{[]}
-use Rattle.cookie_jar.proofs.RowLemmas.{PicksSoFar}
-use Rattle.cookie_jar.specs.Keeping.{IsTaken}
-use Rattle.cookie_jar.specs.Rows.{lent_rows}
-use Rattle.cookie_jar.proofs.rows.untaken_rows.Given as goal
-
-abbrev pub invariant-loop-cookie : goal.invariant-loop-cookie
-invariant-loop-cookie l =
-    PicksSoFar (λ row. ¬ (IsTaken l.form row)) [] l.store.rows (lent_rows l.rows.items) l.cookie-iterator
