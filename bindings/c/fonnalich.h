@@ -13,6 +13,9 @@
      may miss it: the library that is compiled with no proof ends the process then (SIGILL);
    - one call at a time uses a handle, on any thread, and on one side of a `fork`: save, and load in the child. Calls
      without a handle keep nothing, and may run on several threads at once;
+   - fonnalich_share, _client and _load_by use both handles that they are given: where several threads begin by one
+     handle's list, they take turns by a lock of yours, or each is given a handle of its own that shares the list.
+     Handles that share one may else be used and freed on several threads at once, each by one call;
    - each length is that of its text, and `out` overlaps no other text and no attributes. */
 #ifndef FONNALICH_H
 #define FONNALICH_H
@@ -34,7 +37,7 @@ typedef struct fonnalich {
 #endif
 
 /* ---- why a call answers no text. Of several causes the first of this table is told: the one with the number nearest
-   to 0. But where the second and the key of an exchange are right, the first of its commands that is refused is told,
+   to 0. But where the second and the keys of an exchange are right, the first of its commands that is refused is told,
    and of one that sets, first that nonces are too few, then the expiry, then the length. Want of memory may be told in
    the place of any cause. */
 enum {
@@ -63,10 +66,18 @@ enum {
     FONNALICH_LINE = -21,     /* the header has a control character, as a line break, of a loaded cookie */
     FONNALICH_PROCESSOR = -22, /* this processor lacks what the library needs: from fonnalich_processor and _begin */
     FONNALICH_HANDLE = -23,   /* the library's handle is larger than this file's: from fonnalich_begin alone */
-    FONNALICH_STOPPED = -100  /* this or less, from fonnalich_receive alone: see there */
+    FONNALICH_NO_RULE = -24,  /* the suffix list has no rule, as a page that is empty: told as FONNALICH_LIST is, before
+                                 what is wrong with the second or another text */
+    FONNALICH_NO_LIST = -25,  /* the handle keeps no list: neither fonnalich_keep_list nor fonnalich_share was called
+                                 with success */
+    /* from fonnalich_exchange_on_ring alone: */
+    FONNALICH_MANY_KEYS = -26, /* there are over 16 earlier keys */
+    FONNALICH_KEYS = -27,     /* the keys haven't 64 bytes each, or aren't one more than the ends */
+    FONNALICH_KEY_END = -28,  /* the end of an earlier key is before the year -9999 or after 9999 */
+    FONNALICH_STOPPED = -100  /* this or less, from fonnalich_receive and fonnalich_receive_for alone: see there */
 };
 
-/* ---- what became of a line, as fonnalich_receive writes it */
+/* ---- what became of a line, as fonnalich_receive and fonnalich_receive_for write it */
 enum {
     FONNALICH_INSERTED = 0,            /* it is a new cookie */
     FONNALICH_EXPIRED_EXISTING = 1,    /* it is expired, and so is now the cookie that stood in its place */
@@ -86,7 +97,10 @@ enum {
     FONNALICH_BY_HOST_PREFIX = 23,
     FONNALICH_BY_SECURE_FROM_HTTP = 24,
     FONNALICH_BY_SECURE_OVERLAY = 25,
-    FONNALICH_BY_LACKS_SECURE = 26
+    FONNALICH_BY_LACKS_SECURE = 26,
+    /* fonnalich_receive_for refused it by its SameSite, and nothing changed */
+    FONNALICH_BY_CROSS_SITE = 27,       /* a page of another site started the request, which navigates nothing */
+    FONNALICH_BY_NONE_LACKS_SECURE = 28 /* it has SameSite=None and isn't Secure */
 };
 
 /* ---- the rules of user agents (the draft that follows RFC 6265, sections 5.5 to 5.7): fonnalich_rules takes a sum */
@@ -107,7 +121,19 @@ enum {
     /* no browser's: a header leaves out what isn't Secure and has the name, decoded, of a Secure cookie in it, and one
        of SameSite=None or Partitioned that isn't Secure is refused from a URL that isn't secure; it rests on
        FONNALICH_RULE_SECURE_FROM_HTTP */
-    FONNALICH_RULE_SECURE_WINS = 512
+    FONNALICH_RULE_SECURE_WINS = 512,
+    /* some browsers': fonnalich_header_for and fonnalich_receive_for take a cookie without SameSite as one with
+       SameSite=Lax */
+    FONNALICH_RULE_LAX_BY_DEFAULT = 1024,
+    /* some browsers': fonnalich_receive_for refuses one with SameSite=None that isn't Secure */
+    FONNALICH_RULE_NONE_NEEDS_SECURE = 2048
+};
+
+/* ---- what starts a request, as fonnalich_header_for and fonnalich_receive_for are told */
+enum {
+    FONNALICH_BY_USER = 0,      /* the user, as by a typed URL or a bookmark */
+    FONNALICH_BY_PAGE = 1,      /* a page, as an image of it, a script, or a form that is sent by POST */
+    FONNALICH_BY_NAVIGATION = 2 /* a page, by a navigation of the top level with a safe method, as a link by GET */
 };
 
 /* ---- the words of fonnalich_act */
@@ -124,7 +150,15 @@ enum {
     FONNALICH_DO_RELOAD = 9,
     FONNALICH_DO_COUNT = 10,
     FONNALICH_DO_COOKIES = 11,
-    FONNALICH_DO_CLEAR = 12
+    FONNALICH_DO_CLEAR = 12,
+    FONNALICH_DO_HEADER_BY_PAGE = 13,
+    FONNALICH_DO_HEADER_BY_NAVIGATION = 14,
+    FONNALICH_DO_KEEP_LIST = 15,
+    FONNALICH_DO_CLIENT = 16,
+    FONNALICH_DO_LOAD_BY = 17,
+    FONNALICH_DO_SUFFIX_BY = 18,
+    FONNALICH_DO_SHARD_BY = 19,
+    FONNALICH_DO_SHARD_OF_URL_BY = 20
 };
 
 /* ---- the words of fonnalich_one */
@@ -139,6 +173,11 @@ enum { FONNALICH_DO_GET = 0, FONNALICH_DO_REMOVE = 1 };
 #define FONNALICH_SECURE_WAY "2" /* under the prefix __Secure- */
 #define FONNALICH_SIGNED "3"
 #define FONNALICH_SEALED "4"
+/* of fonnalich_exchange_on_ring alone: the same of a value that ends when the set cookie expires, so its line has an
+   Expires, else it is refused as FONNALICH_COMMAND. From that second on it isn't read, whatever the client kept, and
+   under another name never. Neither form reads what the other has set. */
+#define FONNALICH_SIGNED_UNTIL "5"
+#define FONNALICH_SEALED_UNTIL "6"
 
 /* ---- a cookie's attributes, but for the texts of two; a number or a text counts where its flag is set. Each bool is
    true or false before every call, so begin with {0}. */
@@ -174,6 +213,10 @@ typedef struct fonnalich_cookie {
 
 /* How many bytes a key has, and a nonce. */
 enum { FONNALICH_KEY_LENGTH = 64, FONNALICH_NONCE_LENGTH = 12 };
+
+/* How many earlier keys a ring may have, and the end of one that counts at each moment. */
+enum { FONNALICH_EARLIER_KEYS = 16 };
+#define FONNALICH_NO_END INT64_MAX
 
 #ifdef __cplusplus
 extern "C" {
@@ -211,6 +254,21 @@ ptrdiff_t fonnalich_text(int64_t number, char *out, size_t out_length);
 ptrdiff_t fonnalich_exchange(const char *key, size_t key_length, const char *header, size_t header_length,
                              int64_t second, const char *commands, size_t commands_length, const char *nonces,
                              size_t nonces_length, char *out, size_t out_length);
+
+/* The same on a ring of keys, so that a key can be replaced and what the one before it signed or sealed is still read.
+   `keys` has the current key and behind it at most 16 earlier ones, 64 bytes each, and `ends` for each earlier one the
+   second from which it counts no more, or FONNALICH_NO_END. Its length is in numbers, not in bytes, and "" won't do
+   for no number: hand in the address of one. What is set is signed or sealed by the current key; what is read is what
+   the first of the keys gives that counts at the second and that signed or sealed it.
+
+   A value that is read has two items: its own, and eight bytes of the place of its key, which is 0 for the current one,
+   1 for the first of the earlier ones, and 0 in the ways without a key: fonnalich_next_placed takes both out. Where the
+   place isn't 0, set the value anew. To rotate, put the new key before the others, with an end for the one that was the
+   current one, and leave out those whose end is past. A set by FONNALICH_SEALED_UNTIL takes a nonce too. */
+ptrdiff_t fonnalich_exchange_on_ring(const char *keys, size_t keys_length, const int64_t *ends, size_t ends_length,
+                                     const char *header, size_t header_length, int64_t second, const char *commands,
+                                     size_t commands_length, const char *nonces, size_t nonces_length, char *out,
+                                     size_t out_length);
 
 /* Writes the public suffix of a host by the bytes of a public suffix list, which is read anew at each call. The host is
    in IDNA ASCII form and lower case. FONNALICH_HOST where it is no name. */
@@ -270,6 +328,20 @@ FONNALICH_FORM int fonnalich_next(const char **at, const char *end, const char *
     return 1;
 }
 
+/* Takes a value and the place of its key out of an answer of fonnalich_exchange_on_ring, as fonnalich_next takes an
+   item. Where *length is -1 there is no value, and *place is 0. */
+FONNALICH_FORM int fonnalich_next_placed(const char **at, const char *end, const char **text, ptrdiff_t *length,
+                                         size_t *place) {
+    const char *bytes;
+    ptrdiff_t count;
+    *place = 0;
+    if (!fonnalich_next(at, end, text, length) || !fonnalich_next(at, end, &bytes, &count))
+        return 0;
+    for (ptrdiff_t i = count; i-- > 0;)
+        *place = *place << 8 | (unsigned char)bytes[i];
+    return 1;
+}
+
 /* How many bytes a handle takes. */
 size_t fonnalich_size(void);
 
@@ -296,7 +368,23 @@ ptrdiff_t fonnalich_one(fonnalich *at, uint32_t word, int64_t second, const char
                         const char *path, size_t path_length, const char *name, size_t name_length, char *out,
                         size_t out_length);
 
-/* Ends a handle and gives all memory back. */
+/* Takes the Set-Cookie lines of an answer as fonnalich_receive does, where it is said what started its request,
+   FONNALICH_BY_..: `page` is the URL of the page that does, at the top of its frames, which isn't looked at for
+   FONNALICH_BY_USER. Where that page is of another site, and but for FONNALICH_BY_NAVIGATION, the answer sets no cookie
+   whose SameSite is Strict or Lax (the draft that follows RFC 6265, section 5.7). Here FONNALICH_BY_NAVIGATION is any
+   navigation of the top level, as a form that is sent by POST too.
+   Without rules none is on. FONNALICH_WORD where it is started by none of the three. */
+ptrdiff_t fonnalich_receive_for(fonnalich *at, uint32_t started, int64_t second, const char *url, size_t url_length,
+                                const char *page, size_t page_length, const char *lines, size_t lines_length, char *out,
+                                size_t out_length);
+
+/* Has a handle keep the list that another handle keeps, and answers 0: they share its rules, which are given back with
+   the last handle and the last client that has them. The call uses both handles, which are two, and takes no memory.
+   What is shared is counted by atomic instructions and else only read: afterwards each of the handles may be used on a
+   thread of its own. FONNALICH_NO_LIST where the other keeps none. */
+ptrdiff_t fonnalich_share(fonnalich *at, fonnalich *other);
+
+/* Ends a handle and gives all memory back, but for a list that another shares. */
 void fonnalich_end(fonnalich *at);
 
 /* A client without a cookie, by the bytes of a public suffix list, in place of the one that was there. Answers 0. */
@@ -310,6 +398,46 @@ FONNALICH_FORM ptrdiff_t fonnalich_load(fonnalich *at, int64_t second, const cha
                                        const char *list, size_t list_length) {
     char none;
     return fonnalich_act(at, FONNALICH_DO_LOAD, second, saved, saved_length, list, list_length, &none, 0);
+}
+
+/* Has a handle keep the list of these bytes, in place of the one that was there, and answers 0. Others may get it by
+   fonnalich_share, and clients by fonnalich_client and fonnalich_load_by: so a list is read once and lies in memory
+   once, however many clients have it. What client the handle has stays as it is. */
+FONNALICH_FORM ptrdiff_t fonnalich_keep_list(fonnalich *at, const char *list, size_t list_length) {
+    char none;
+    return fonnalich_act(at, FONNALICH_DO_KEEP_LIST, 0, "", 0, list, list_length, &none, 0);
+}
+
+/* A client without a cookie, by the list that another handle keeps, in place of the one that was there. Answers 0. */
+FONNALICH_FORM ptrdiff_t fonnalich_client(fonnalich *at, fonnalich *list) {
+    char none;
+    ptrdiff_t number = fonnalich_share(at, list);
+    return number < 0 ? number : fonnalich_act(at, FONNALICH_DO_CLIENT, 0, "", 0, "", 0, &none, 0);
+}
+
+/* The same with the cookies of a saved text that aren't expired at this second. Answers 0. */
+FONNALICH_FORM ptrdiff_t fonnalich_load_by(fonnalich *at, fonnalich *list, int64_t second, const char *saved,
+                                          size_t saved_length) {
+    char none;
+    ptrdiff_t number = fonnalich_share(at, list);
+    return number < 0 ? number : fonnalich_act(at, FONNALICH_DO_LOAD_BY, second, saved, saved_length, "", 0, &none, 0);
+}
+
+/* What fonnalich_suffix, fonnalich_shard and fonnalich_shard_of_url write, by the list that a handle keeps, which isn't
+   read again. */
+FONNALICH_FORM ptrdiff_t fonnalich_suffix_by(fonnalich *list, const char *host, size_t host_length, char *out,
+                                            size_t out_length) {
+    return fonnalich_act(list, FONNALICH_DO_SUFFIX_BY, 0, host, host_length, "", 0, out, out_length);
+}
+
+FONNALICH_FORM ptrdiff_t fonnalich_shard_by(fonnalich *list, const char *host, size_t host_length, char *out,
+                                           size_t out_length) {
+    return fonnalich_act(list, FONNALICH_DO_SHARD_BY, 0, host, host_length, "", 0, out, out_length);
+}
+
+FONNALICH_FORM ptrdiff_t fonnalich_shard_of_url_by(fonnalich *list, const char *url, size_t url_length, char *out,
+                                                  size_t out_length) {
+    return fonnalich_act(list, FONNALICH_DO_SHARD_OF_URL_BY, 0, url, url_length, "", 0, out, out_length);
 }
 
 /* Puts lines that come later behind these rules, a sum of FONNALICH_RULE_.., or behind none. A handle begins without,
@@ -335,6 +463,21 @@ FONNALICH_FORM ptrdiff_t fonnalich_receive(fonnalich *at, int64_t second, const 
 FONNALICH_FORM ptrdiff_t fonnalich_header(fonnalich *at, int64_t second, const char *url, size_t url_length, char *out,
                                          size_t out_length) {
     return fonnalich_act(at, FONNALICH_DO_HEADER, second, url, url_length, "", 0, out, out_length);
+}
+
+/* The same of a request that is started so, FONNALICH_BY_..: `page` is the URL of the page that starts it, at the top
+   of its frames, which isn't looked at for FONNALICH_BY_USER. Where that page is of another site it leaves out the
+   cookies whose SameSite is Strict, and but for FONNALICH_BY_NAVIGATION those whose is Lax (the draft that follows RFC
+   6265, section 5.8.3). A site is a scheme and a registrable domain by the client's list. FONNALICH_WORD where it is
+   started by none of the three. */
+FONNALICH_FORM ptrdiff_t fonnalich_header_for(fonnalich *at, int64_t second, const char *url, size_t url_length,
+                                             uint32_t started, const char *page, size_t page_length, char *out,
+                                             size_t out_length) {
+    uint32_t word = started == FONNALICH_BY_USER         ? FONNALICH_DO_HEADER
+                    : started == FONNALICH_BY_PAGE       ? FONNALICH_DO_HEADER_BY_PAGE
+                    : started == FONNALICH_BY_NAVIGATION ? FONNALICH_DO_HEADER_BY_NAVIGATION
+                                                         : UINT32_MAX;
+    return fonnalich_act(at, word, second, url, url_length, page, page_length, out, out_length);
 }
 
 /* Writes the saved text of the cookies that have an expiry and aren't expired at this second. */
@@ -426,7 +569,7 @@ FONNALICH_FORM ptrdiff_t fonnalich_restart(fonnalich *at, int64_t second) {
 
 /* Hands out the last answer that had no room, without doing the work again; 0 where there is none. It is kept until it
    is handed out with room for all of it, or another call by the handle isn't refused: fonnalich_list, _load, _rules,
-   _restart, _clear and _remove drop it too. */
+   _restart, _clear, _remove, _keep_list and _client drop it too. */
 FONNALICH_FORM ptrdiff_t fonnalich_answer(fonnalich *at, char *out, size_t out_length) {
     return fonnalich_act(at, FONNALICH_DO_ANSWER, 0, "", 0, "", 0, out, out_length);
 }

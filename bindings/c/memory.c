@@ -106,9 +106,36 @@ static void is_a_client(void) {
     ask(fonnalich_load(&at, NOW, saved, length, "a..b", 4) == FONNALICH_LIST && held < full, "a refusal holds nothing");
     ask(fonnalich_receive(&at, NOW, T(URL), lines, used, out, sizeof out) == ROWS, "lines are taken again");
     ask(held > listed + ROWS * VALUE, "their values are held again");
+    size_t again = held;
+    ask(fonnalich_receive_for(&at, FONNALICH_BY_PAGE, NOW, T(URL), T("https://evil.org/"), T("n7=7; SameSite=Lax"), out,
+                              sizeof out) == 1 && out[0] == FONNALICH_BY_CROSS_SITE && held <= again,
+        "a line that is kept out, and its page, hold nothing");
     ask(fonnalich_clear(&at) == 0 && held < listed + ROWS * VALUE, "cleared cookies are given back");
     fonnalich_free(&at);
     ask(held == begun, "the end gives all back");
+}
+
+/* A list that clients share is held once, and as long as one of them has it. */
+static void is_a_shared_list(void) {
+    enum { CLIENTS = 100 };
+    static fonnalich clients[CLIENTS];
+    fonnalich list;
+    size_t begun = held;
+    fonnalich_begin(&list);
+    ask(fonnalich_keep_list(&list, T(LIST)) == 0 && held > begun, "a list is held");
+    size_t one = held;
+    for (int i = 0; i < CLIENTS; i++) {
+        fonnalich_begin(&clients[i]);
+        ask(fonnalich_client(&clients[i], &list) == 0, "a client by it");
+    }
+    ask(held == one, "which takes no memory");
+    most = held;
+    ask(fonnalich_suffix_by(&list, T("a.com"), out, sizeof out) == 3 && most < one + 64, "a suffix by it");
+    fonnalich_free(&list);
+    ask(held == one, "the list stays");
+    for (int i = 0; i < CLIENTS; i++)
+        fonnalich_free(&clients[i]);
+    ask(held == begun, "the last client gives it back");
 }
 
 /* What calls without a handle hold while they work, and leave. */
@@ -118,11 +145,21 @@ static void is_a_site(void) {
     fonnalich_attributes parts = {0};
     size_t begun = held;
     most = held;
-    ptrdiff_t length = fonnalich_exchange(key, sizeof key, T("theme=dark"), NOW, T(commands), nonces, sizeof nonces, out,
-                                          sizeof out);
+    ptrdiff_t length = fonnalich_exchange(key, sizeof key, T("theme=dark"), NOW, T(commands), nonces, sizeof nonces,
+                                          out, sizeof out);
     ask(length > 0 && most > begun && held == begun, "an exchange");
     ask(fonnalich_exchange(key, sizeof key, T("theme=dark"), NOW, T("S4a=1\nS4b=1"), nonces, sizeof nonces, out,
                            sizeof out) == FONNALICH_NONCES && held == begun, "one that is refused");
+    most = held;
+    static const char ring[2 * FONNALICH_KEY_LENGTH];
+    const int64_t end = NOW + 60;
+    const char *turned = "S5user=ann; Expires=Tue, 14 Nov 2023 22:43:20 GMT\nG5user\nG4cart\nS4cart=3";
+    length = fonnalich_exchange_on_ring(ring, sizeof ring, &end, 1, T("cart=x"), NOW, T(turned), nonces,
+                                        sizeof nonces, out, sizeof out);
+    ask(length > 0 && most > begun && held == begun, "an exchange on a ring");
+    ask(fonnalich_exchange_on_ring(ring, sizeof ring, &end, 1, T("cart=x"), NOW, T("S4a=1\nS4b=1"), nonces,
+                                   sizeof nonces, out, sizeof out) == FONNALICH_NONCES && held == begun,
+        "one that is refused");
     most = held;
     ask(fonnalich_suffix(T(LIST), T("a.com"), out, sizeof out) == 3 && most > begun && held == begun, "a suffix");
     most = held;
@@ -143,6 +180,7 @@ static void is_a_site(void) {
 int main(void) {
     for (int i = 0; i < 3; i++) {
         is_a_client();
+        is_a_shared_list();
         is_a_site();
     }
     printf("%s\n", held ? "bytes are held at the end" : "nothing is held at the end");

@@ -60,7 +60,7 @@ static void tells_refusals(void) {
     fonnalich_begin(&at);
     ask(gives(fonnalich_header(&at, NOW, T(URL), out, sizeof out), FONNALICH_NO_CLIENT), "no client");
     ask(gives(fonnalich_list(&at, "a..b\n", 5), FONNALICH_LIST), "no list");
-    ask(gives(fonnalich_act(&at, 13, NOW, "", 0, "", 0, out, sizeof out), FONNALICH_WORD), "no word");
+    ask(gives(fonnalich_act(&at, 21, NOW, "", 0, "", 0, out, sizeof out), FONNALICH_WORD), "no word");
     ask(gives(fonnalich_list(&at, T(LIST)), 0), "a list");
     ask(gives(fonnalich_header(&at, NOW, T("no url"), out, sizeof out), FONNALICH_URL), "no URL");
     ask(gives(fonnalich_header(&at, NOW, "\xff", 1, out, sizeof out), FONNALICH_URL), "no text");
@@ -86,7 +86,7 @@ static void tells_the_first_cause(void) {
     char out[256];
     fonnalich at;
     fonnalich_begin(&at);
-    ask(gives(fonnalich_act(&at, 13, INT64_MAX, T(none), "", 0, out, 0), FONNALICH_WORD), "word, client, second, URL");
+    ask(gives(fonnalich_act(&at, 21, INT64_MAX, T(none), "", 0, out, 0), FONNALICH_WORD), "word, client, second, URL");
     ask(gives(fonnalich_header(&at, INT64_MAX, T(none), out, sizeof out), FONNALICH_NO_CLIENT), "client, second, URL");
     ask(gives(fonnalich_save(&at, INT64_MAX, out, sizeof out), FONNALICH_NO_CLIENT), "client, second");
     ask(gives(fonnalich_load(&at, INT64_MAX, T(no_client), T(no_list)), FONNALICH_LIST), "list, second, saved text");
@@ -114,7 +114,7 @@ static void keeps_rules(void) {
     fonnalich at;
     fonnalich_begin(&at);
     ask(gives(fonnalich_rules(&at, FONNALICH_BROWSER), 0), "rules before a client");
-    ask(gives(fonnalich_rules(&at, 2 * FONNALICH_RULE_SECURE_WINS), FONNALICH_RULES), "no flags");
+    ask(gives(fonnalich_rules(&at, 2 * FONNALICH_RULE_NONE_NEEDS_SECURE), FONNALICH_RULES), "no flags");
     ask(gives(fonnalich_rules(&at, -1), FONNALICH_RULES), "nor below 0");
     ask(gives(fonnalich_list(&at, T(LIST)), 0), "a list");
     snprintf(lines, sizeof lines, "a=\x01\nlong=%04093d\n__secure-a=1\n__HOST-a=1; Secure; Path=/x\n"
@@ -244,6 +244,181 @@ static void keeps_an_answer(void) {
 /* ---- saved and loaded */
 
 /* A saved text of another hand, whose cookie has this value in the place of 1xxxx2: a line break or not. */
+static ptrdiff_t header_for(fonnalich *at, uint32_t started, const char *page, char *out, size_t room) {
+    return fonnalich_header_for(at, NOW, T(URL), started, T(page), out, room);
+}
+
+static ptrdiff_t receive_for(fonnalich *at, uint32_t started, const char *page, const char *lines, char *out,
+                             size_t room) {
+    return fonnalich_receive_for(at, started, NOW, T(URL), T(page), T(lines), out, room);
+}
+
+/* The rows of section 5.8.3, step 1, of the draft that follows RFC 6265, and of its section 5.2 on sites. */
+static void tells_what_starts_a_request(void) {
+    static const char *LINES = "s=1; SameSite=Strict\nl=2; SameSite=Lax\nn=3; SameSite=None; Secure\nd=4";
+    static const char *ALL = "s=1; l=2; n=3; d=4";
+    static const struct {
+        int64_t rules;
+        uint32_t started;
+        const char *page, *header;
+    } rows[] = {
+        {0, FONNALICH_BY_USER, "no url", "s=1; l=2; n=3; d=4"},
+        {0, FONNALICH_BY_PAGE, "https://a.www.example.com:8080/x", "s=1; l=2; n=3; d=4"},
+        {0, FONNALICH_BY_PAGE, "https://evil.org/", "n=3; d=4"},
+        {0, FONNALICH_BY_NAVIGATION, "https://evil.org/", "l=2; n=3; d=4"},
+        {0, FONNALICH_BY_PAGE, "http://example.com/", "n=3; d=4"},
+        {0, FONNALICH_BY_PAGE, "https://example.org/", "n=3; d=4"},
+        {0, FONNALICH_BY_NAVIGATION, "data:,", "l=2; n=3; d=4"},
+        {FONNALICH_BROWSER, FONNALICH_BY_PAGE, "https://evil.org/", "n=3; d=4"},
+        {FONNALICH_RULE_LAX_BY_DEFAULT, FONNALICH_BY_PAGE, "https://evil.org/", "n=3"},
+        {FONNALICH_RULE_LAX_BY_DEFAULT, FONNALICH_BY_NAVIGATION, "https://evil.org/", "l=2; n=3; d=4"},
+        {FONNALICH_RULE_LAX_BY_DEFAULT, FONNALICH_BY_PAGE, "https://www.example.com/", "s=1; l=2; n=3; d=4"},
+    };
+    char out[256];
+    fonnalich at;
+    fonnalich_begin(&at);
+    ask(gives(header_for(&at, FONNALICH_BY_PAGE, "no url", out, sizeof out), FONNALICH_NO_CLIENT), "no client");
+    fonnalich_list(&at, T(LIST));
+    ask(gives(fonnalich_receive(&at, NOW, T(URL), T(LINES), out, sizeof out), 4), "four lines");
+    for (size_t i = 0; i < sizeof rows / sizeof rows[0]; i++) {
+        fonnalich_rules(&at, rows[i].rules);
+        ptrdiff_t length = header_for(&at, rows[i].started, rows[i].page, out, sizeof out);
+        ask(is(out, length, rows[i].header), rows[i].page);
+    }
+    ask(gives(header_for(&at, FONNALICH_BY_PAGE, "no url", out, sizeof out), FONNALICH_URL), "no page");
+    ask(gives(header_for(&at, FONNALICH_BY_NAVIGATION, "", out, sizeof out), FONNALICH_URL), "nor an empty one");
+    ask(gives(header_for(&at, 3, "https://evil.org/", out, sizeof out), FONNALICH_WORD), "started by none");
+    ptrdiff_t length = fonnalich_header_for(&at, NOW, T("no url"), FONNALICH_BY_PAGE, T(URL), out, sizeof out);
+    ask(gives(length, FONNALICH_URL), "no URL");
+    length = fonnalich_header_for(&at, INT64_MAX, T("no url"), FONNALICH_BY_PAGE, T("no url"), out, sizeof out);
+    ask(gives(length, FONNALICH_MOMENT), "second, URL, page");
+    ask(gives(header_for(&at, FONNALICH_BY_PAGE, "https://www.example.com/", out, 3), strlen(ALL)), "no room");
+    ask(is(out, fonnalich_answer(&at, out, sizeof out), ALL), "it is handed out");
+    fonnalich_free(&at);
+}
+
+/* Lines of each kind of SameSite, and what became of each: section 5.7 of that draft. */
+static void tells_what_started_an_answers_request(void) {
+    static const char *LINES = "s=1; SameSite=Strict\nl=2; SameSite=Lax\nn=3; SameSite=None\nd=4";
+    enum { IN = FONNALICH_INSERTED, SITE = FONNALICH_BY_CROSS_SITE, NONE = FONNALICH_BY_NONE_LACKS_SECURE };
+    static const struct {
+        int64_t rules;
+        uint32_t started;
+        const char *page;
+        char ends[4];
+    } rows[] = {
+        {0, FONNALICH_BY_USER, "no url", {IN, IN, IN, IN}},
+        {0, FONNALICH_BY_PAGE, "https://a.www.example.com:8080/x", {IN, IN, IN, IN}},
+        {0, FONNALICH_BY_PAGE, "https://evil.org/", {SITE, SITE, IN, IN}},
+        {0, FONNALICH_BY_NAVIGATION, "https://evil.org/", {IN, IN, IN, IN}},
+        {0, FONNALICH_BY_PAGE, "http://example.com/", {SITE, SITE, IN, IN}},
+        {FONNALICH_BROWSER, FONNALICH_BY_PAGE, "data:,", {SITE, SITE, IN, IN}},
+        {FONNALICH_RULE_LAX_BY_DEFAULT, FONNALICH_BY_PAGE, "https://evil.org/", {SITE, SITE, IN, SITE}},
+        {FONNALICH_RULE_LAX_BY_DEFAULT, FONNALICH_BY_USER, "https://evil.org/", {IN, IN, IN, IN}},
+        {FONNALICH_RULE_NONE_NEEDS_SECURE, FONNALICH_BY_PAGE, "https://evil.org/", {SITE, SITE, NONE, IN}},
+        {FONNALICH_RULE_NONE_NEEDS_SECURE, FONNALICH_BY_NAVIGATION, "https://evil.org/", {IN, IN, NONE, IN}},
+        {FONNALICH_RULE_NONE_NEEDS_SECURE, FONNALICH_BY_USER, "", {IN, IN, NONE, IN}},
+    };
+    char out[256];
+    fonnalich at;
+    fonnalich_begin(&at);
+    ask(gives(receive_for(&at, FONNALICH_BY_PAGE, "no url", LINES, out, sizeof out), FONNALICH_NO_CLIENT), "no client");
+    for (size_t i = 0; i < sizeof rows / sizeof rows[0]; i++) {
+        fonnalich_list(&at, T(LIST));
+        fonnalich_rules(&at, rows[i].rules);
+        ptrdiff_t count = receive_for(&at, rows[i].started, rows[i].page, LINES, out, sizeof out);
+        ask(gives(count, 4) && memcmp(out, rows[i].ends, 4) == 0, rows[i].page);
+    }
+    fonnalich_list(&at, T(LIST));
+    fonnalich_rules(&at, FONNALICH_NO_RULES);
+    ask(gives(receive_for(&at, FONNALICH_BY_USER, "", LINES, out, sizeof out), 4), "four lines");
+    ask(gives(receive_for(&at, FONNALICH_BY_PAGE, "https://evil.org/", "s=9; SameSite=Strict", out, sizeof out), 1),
+        "another site's answer");
+    ask(is(out, fonnalich_header(&at, NOW, T(URL), out, sizeof out), "s=1; l=2; n=3; d=4"), "what was there stays");
+    ask(gives(receive_for(&at, FONNALICH_BY_USER, "", "", out, sizeof out), 0), "no line");
+    ask(gives(receive_for(&at, FONNALICH_BY_PAGE, "no url", LINES, out, sizeof out), FONNALICH_URL), "no page");
+    ask(gives(receive_for(&at, FONNALICH_BY_NAVIGATION, "", LINES, out, sizeof out), FONNALICH_URL), "nor an empty");
+    ask(gives(receive_for(&at, 3, "https://evil.org/", LINES, out, sizeof out), FONNALICH_WORD), "started by none");
+    ptrdiff_t number = fonnalich_receive_for(&at, FONNALICH_BY_USER, NOW, T("no url"), T(""), T("a=1"), out, 9);
+    ask(gives(number, FONNALICH_URL), "no URL");
+    number = fonnalich_receive_for(&at, FONNALICH_BY_PAGE, INT64_MAX, T("no url"), T("no url"), T(""), out, sizeof out);
+    ask(gives(number, FONNALICH_MOMENT), "second, URL, page");
+    ask(gives(receive_for(&at, FONNALICH_BY_PAGE, "https://evil.org/\nx=1", "n=4", out, 0), 1), "no room");
+    ask(gives(fonnalich_answer(&at, out, sizeof out), 1) && out[0] == FONNALICH_UPDATED_EXISTING, "it is handed out");
+    fonnalich_free(&at);
+}
+
+/* ---- a list that clients share */
+
+static void refuses_a_list_without_a_rule(void) {
+    static const char *none[] = {"", "// com\n", "\n\n", "\xef\xbb\xbf", " com\n"};
+    char out[256];
+    fonnalich at;
+    fonnalich_begin(&at);
+    for (size_t i = 0; i < sizeof none / sizeof none[0]; i++) {
+        ask(gives(fonnalich_list(&at, T(none[i])), FONNALICH_NO_RULE), none[i]);
+        ask(gives(fonnalich_load(&at, INT64_MAX, T("[("), T(none[i])), FONNALICH_NO_RULE), "list, second, saved text");
+        ask(gives(fonnalich_keep_list(&at, T(none[i])), FONNALICH_NO_RULE), "none is kept");
+        ask(gives(fonnalich_suffix(T(none[i]), T("a..b"), out, sizeof out), FONNALICH_NO_RULE), "list, host");
+        ask(gives(fonnalich_shard(T(none[i]), T(""), out, sizeof out), FONNALICH_NO_RULE), "list, host");
+        ask(gives(fonnalich_shard_of_url(T(none[i]), T("a"), out, sizeof out), FONNALICH_NO_RULE), "list, URL");
+    }
+    ask(gives(fonnalich_list(&at, T("examples/suffixes.dat")), FONNALICH_LIST), "a path");
+    ask(gives(fonnalich_count(&at, NOW), FONNALICH_NO_CLIENT), "no client was made");
+    fonnalich_free(&at);
+}
+
+static void shares_a_list(void) {
+    char out[256], saved[2048];
+    fonnalich list, at, other;
+    fonnalich_begin(&list);
+    fonnalich_begin(&at);
+    fonnalich_begin(&other);
+    ask(gives(fonnalich_client(&at, &list), FONNALICH_NO_LIST), "it keeps none yet");
+    ask(gives(fonnalich_suffix_by(&list, T("a..b"), out, sizeof out), FONNALICH_NO_LIST), "list, host");
+    ask(gives(fonnalich_keep_list(&list, T("a..b")), FONNALICH_LIST), "no list");
+    ask(gives(fonnalich_keep_list(&list, T(LIST)), 0), "a list");
+    ask(gives(fonnalich_header(&list, NOW, T(URL), out, sizeof out), FONNALICH_NO_CLIENT), "which is no client");
+    ask(gives(fonnalich_client(&at, &list), 0) && gives(fonnalich_client(&other, &list), 0), "two clients");
+    fonnalich_free(&list);
+    ptrdiff_t count = fonnalich_receive(&at, NOW, T(URL), T("a=1; Domain=com\nb=2; Max-Age=60"), out, sizeof out);
+    ask(gives(count, 2) && out[0] == FONNALICH_PUBLIC_SUFFIX && out[1] == FONNALICH_INSERTED, "by the list's rules");
+    ask(is(out, fonnalich_header(&other, NOW, T(URL), out, sizeof out), ""), "the other has no cookie of it");
+    ptrdiff_t length = fonnalich_save(&at, NOW, saved, sizeof saved);
+    ask(gives(fonnalich_load_by(&other, &at, NOW, saved, length), 0), "loaded, by the list of a client");
+    ask(is(out, fonnalich_header(&other, NOW, T(URL), out, sizeof out), "b=2"), "its cookie");
+    ask(gives(fonnalich_load_by(&other, &at, NOW, T("[(")), FONNALICH_SAVED), "no saved text");
+    ask(gives(fonnalich_load_by(&other, &at, INT64_MAX, T("[(")), FONNALICH_MOMENT), "second, saved text");
+    ask(is(out, fonnalich_header(&other, NOW, T(URL), out, sizeof out), "b=2"), "it stays");
+    ask(gives(fonnalich_keep_list(&at, T("org\n")), 0), "another list");
+    count = fonnalich_receive(&at, NOW, T(URL), T("a=1; Domain=com"), out, sizeof out);
+    ask(gives(count, 1) && out[0] == FONNALICH_PUBLIC_SUFFIX, "a client keeps its own");
+    ask(gives(fonnalich_share(&other, &at), 0) && gives(fonnalich_client(&other, &at), 0), "shared anew");
+    count = fonnalich_receive(&other, NOW, T(URL), T("a=1; Domain=com"), out, sizeof out);
+    ask(gives(count, 1) && out[0] == FONNALICH_INSERTED, "by the other list");
+    fonnalich_free(&at);
+    fonnalich_free(&other);
+}
+
+static void asks_a_list_that_is_kept(void) {
+    char out[64];
+    fonnalich at;
+    fonnalich_begin(&at);
+    fonnalich_keep_list(&at, T(LIST));
+    ask(is(out, fonnalich_suffix_by(&at, T("www.example.ck"), out, sizeof out), "example.ck"), "a suffix");
+    ask(gives(fonnalich_suffix_by(&at, T("a..com"), out, sizeof out), FONNALICH_HOST), "none");
+    ask(is(out, fonnalich_shard_by(&at, T("a.www.example.com"), out, sizeof out), "example.com"), "a shard");
+    ask(gives(fonnalich_shard_by(&at, T(""), out, sizeof out), FONNALICH_HOST), "no host");
+    ask(gives(fonnalich_shard_by(&at, T("a\xff.com"), out, sizeof out), FONNALICH_TEXT), "no UTF-8");
+    const char *url = "https://u@A.WWW.example.com:8080/b";
+    ask(is(out, fonnalich_shard_of_url_by(&at, T(url), out, sizeof out), "example.com"), "of a URL");
+    ask(gives(fonnalich_shard_of_url_by(&at, T("mailto:a@b.com"), out, sizeof out), FONNALICH_HOST), "without a host");
+    ask(gives(fonnalich_shard_of_url_by(&at, T("a.com"), out, sizeof out), FONNALICH_URL), "no URL");
+    ask(gives(fonnalich_shard_by(&at, T("www.example.com"), out, 2), 11), "no room");
+    ask(is(out, fonnalich_answer(&at, out, sizeof out), "example.com"), "it is handed out");
+    fonnalich_free(&at);
+}
+
 static void is_one_line(const char *value, ptrdiff_t wanted) {
     char saved[2048], out[256];
     fonnalich at;
@@ -261,6 +436,8 @@ static void is_one_line(const char *value, ptrdiff_t wanted) {
         ask(gives(fonnalich_rules(&at, rules), 0), "rules");
         ask(gives(fonnalich_header(&at, NOW, T(URL), out, sizeof out), wanted), value);
         ask(gives(fonnalich_header(&at, NOW, T("https://example.org/"), out, sizeof out), 0), "another site's");
+        for (uint32_t started = FONNALICH_BY_USER; started <= FONNALICH_BY_NAVIGATION; started++)
+            ask(gives(header_for(&at, started, "https://evil.org/", out, sizeof out), wanted), "by a page");
     }
     fonnalich_free(&at);
 }
@@ -414,15 +591,15 @@ static void finds_and_removes(void) {
 
 static void is_told_in_words(void) {
     char out[128], again[128];
-    for (int number = FONNALICH_HANDLE; number < 0; number++) {
+    for (int number = FONNALICH_KEY_END; number < 0; number++) {
         ptrdiff_t length = fonnalich_text(number, out, sizeof out);
         ask(length > 7 && length < (ptrdiff_t)sizeof out && out[length - 1] != '.', "a refusal in words");
-        for (int other = FONNALICH_HANDLE; other < number; other++)
+        for (int other = FONNALICH_KEY_END; other < number; other++)
             ask(!(fonnalich_text(other, again, sizeof again) == length && memcmp(out, again, length) == 0), "its own");
     }
     ask(is(out, fonnalich_text(FONNALICH_URL, out, sizeof out), "the text is no URL"), "no URL in words");
     ask(is(out, fonnalich_text(FONNALICH_STOPPED - 3, out, sizeof out), "memory was refused at a line"), "a stop");
-    static const int64_t none[] = {0, 1, INT64_MAX, FONNALICH_HANDLE - 1, FONNALICH_STOPPED + 1};
+    static const int64_t none[] = {0, 1, INT64_MAX, FONNALICH_KEY_END - 1, FONNALICH_STOPPED + 1};
     for (size_t i = 0; i < sizeof none / sizeof none[0]; i++)
         ask(gives(fonnalich_text(none[i], out, sizeof out), 0), "no refusal");
     ask(gives(fonnalich_text(INT64_MIN, out, 0), 28), "the last number");
@@ -528,6 +705,140 @@ static void tells_the_first_cause_of_a_site(void) {
     ask(gives(refused(64, -60000000000, "G0\nR0a", 0), FONNALICH_EMPTY_NAME), "a name, then an expiry");
     ask(gives(refused(64, -60000000000, "R0a\nG0", 0), FONNALICH_EXPIRY), "an expiry, then a name");
     ask(gives(refused(64, -60000000000, "R0", 0), FONNALICH_EMPTY_NAME), "a name and an expiry");
+}
+
+/* ---- a site's exchange on a ring of keys */
+
+/* The current key has the bytes 64 to 127, and the first earlier one, which is `key`, ends 60 seconds from now. Of the
+   others each has one byte alone. */
+static char ring[(FONNALICH_EARLIER_KEYS + 2) * FONNALICH_KEY_LENGTH];
+static int64_t ends[FONNALICH_EARLIER_KEYS + 1];
+
+/* By Python's hmac and its package cryptography, of the current key and the nonce of 0 to 11: the signing and the
+   sealing of the values above, and those until 1800 seconds from now, these by `key` too. */
+#define NEW_SIGNED_PAIR "user=nZdCEdoTr3DMWY6ulZS1AlobYygyU9EuCf+TqVJV6x8%3Dann"
+#define NEW_SEALED_PAIR "cart=AAECAwQFBgcICQoLlzGSbyu26akcKPMisxcEn6E%3D"
+#define ENDING_SIGNED "~OQezO6il2FOvoR27JzKPPzb0SOCp78xwKr6X7O8llso=2023-11-14T22:43:20Zann"
+#define ENDING_SEALED "~AAECAwQFBgcICQoLf2poCGCkxm0xi2Xjs+8Ij5SdAa4s36F1yRuQw/qIsazAyIDdAg=="
+#define OLD_ENDING_SIGNED "~PxenwkQ8OcdyLnIBdWTpxdMSu0sCFe4ZDbDAmInG4FU=2023-11-14T22:43:20Zann"
+#define OLD_ENDING_SEALED "~AAECAwQFBgcICQoLSgSHVqEmszoS91o/Dw46aTfvAeO32IWrvNQVdhhiMja7mRE8Ew=="
+#define IN_30_MINUTES "Expires=Tue, 14 Nov 2023 22:43:20 GMT"
+#define ENDING_LINE "; Secure; Path=/; " IN_30_MINUTES
+#define REMOVED "; Secure; Path=/; Max-Age=0; Expires=Mon, 14 Nov 2022 22:13:20 GMT"
+
+static void make_ring(void) {
+    for (size_t i = 0; i < sizeof ring; i++)
+        ring[i] = (char)(i < 64 ? i + 64 : i < 128 ? i - 64 : i / 64);
+    for (size_t i = 0; i < sizeof ends / sizeof *ends; i++)
+        ends[i] = i ? FONNALICH_NO_END : NOW + 60;
+}
+
+static ptrdiff_t turn(size_t earlier, int64_t second, const char *header, const char *commands, char *out,
+                      size_t room) {
+    return fonnalich_exchange_on_ring(ring, (earlier + 1) * FONNALICH_KEY_LENGTH, ends, earlier, T(header), second,
+                                      T(commands), nonces, sizeof nonces, out, room);
+}
+
+/* The values that so many commands read, each behind '|' with its place, or '-', and behind them the lines. */
+static int turns(size_t earlier, int64_t second, const char *header, const char *commands, int reads,
+                 const char *wanted) {
+    char out[2048], all[2048];
+    const char *at = out, *text;
+    ptrdiff_t length = turn(earlier, second, header, commands, out, sizeof out), bytes;
+    size_t used = 0, place;
+    calls++;
+    if (length < 0 || length > (ptrdiff_t)sizeof out)
+        return 0;
+    for (int i = 0; i < reads && fonnalich_next_placed(&at, out + length, &text, &bytes, &place); i++)
+        used += bytes < 0 ? snprintf(all + used, sizeof all - used, "|-")
+                          : snprintf(all + used, sizeof all - used, "|%.*s %zu", (int)bytes, text, place);
+    snprintf(all + used, sizeof all - used, "%s", items(at, out + length - at));
+    return strcmp(all, wanted) == 0;
+}
+
+static void sets_by_the_current_key(void) {
+    ask(turns(1, NOW, "", "S3user=ann", 0, "|" NEW_SIGNED_PAIR "; Secure; Path=/"), "a signing by the current key");
+    ask(turns(1, NOW, "", "S4cart=3", 0, "|" NEW_SEALED_PAIR "; Secure; Path=/"), "a sealing by the current key");
+    ask(turns(0, NOW, "", "S3user=ann\nG3user", 1, "|ann 0|" NEW_SIGNED_PAIR "; Secure; Path=/"), "and read");
+    ask(turns(1, NOW, "", "S0a=1\nG0a\nR0b", 1, "|1 0|a=1; Secure; Path=/"), "as it is");
+}
+
+static void reads_by_each_key_that_counts(void) {
+    const char *gets = "G3user\nG4cart", *both = SIGNED_PAIR "; " SEALED_PAIR;
+    ask(turns(1, NOW, both, gets, 2, "|ann 1|3 1"), "of the earlier key");
+    ask(turns(1, NOW, NEW_SIGNED_PAIR "; " NEW_SEALED_PAIR, gets, 2, "|ann 0|3 0"), "of the current one");
+    ask(turns(1, NOW + 59, both, gets, 2, "|ann 1|3 1"), "up to its end");
+    ask(turns(1, NOW + 60, both, gets, 2, "|-|-"), "from its end on");
+    ask(turns(0, NOW, both, gets, 2, "|-|-"), "without it");
+    ends[0] = FONNALICH_NO_END;
+    ask(turns(1, NOW + 60, both, gets, 2, "|ann 1|3 1"), "with no end");
+    make_ring();
+    /* the earlier key behind 15 others */
+    memcpy(ring + 16 * FONNALICH_KEY_LENGTH, key, sizeof key);
+    memset(ring + FONNALICH_KEY_LENGTH, 1, FONNALICH_KEY_LENGTH);
+    ask(turns(16, NOW, both, gets, 2, "|ann 16|3 16"), "of the last key");
+    ask(turns(15, NOW, both, gets, 2, "|-|-"), "but for it");
+    make_ring();
+}
+
+static void sets_values_that_end(void) {
+    const char *gets = "G5user\nG6cart\nG3user\nG4cart";
+    const char *both = "user=" ENDING_SIGNED "; cart=" ENDING_SEALED;
+    const char *old = "user=" OLD_ENDING_SIGNED "; cart=" OLD_ENDING_SEALED;
+    ask(turns(1, NOW, "", "S5user=ann; Max-Age=5; " IN_30_MINUTES, 0,
+              "|user=~OQezO6il2FOvoR27JzKPPzb0SOCp78xwKr6X7O8llso%3D2023-11-14T22%3A43%3A20Zann" ENDING_LINE),
+        "a signing until then");
+    ask(turns(1, NOW, "", "S6cart=3; HttpOnly; " IN_30_MINUTES, 0,
+              "|cart=~AAECAwQFBgcICQoLf2poCGCkxm0xi2Xjs+8Ij5SdAa4s36F1yRuQw%2FqIsazAyIDdAg%3D%3D; HttpOnly"
+              ENDING_LINE),
+        "a sealing until then");
+    ask(turns(1, NOW, both, gets, 4, "|ann 0|3 0|-|-"), "they are read");
+    ask(turns(1, NOW + 1799, both, gets, 4, "|ann 0|3 0|-|-"), "up to their end");
+    ask(turns(1, NOW + 1800, both, gets, 4, "|-|-|-|-"), "from their end on");
+    ask(turns(1, NOW, old, gets, 4, "|ann 1|3 1|-|-"), "of the earlier key");
+    ask(turns(1, NOW + 60, old, gets, 4, "|-|-|-|-"), "from the end of that key on");
+    ask(turns(1, NOW, "name=" ENDING_SIGNED "; basket=" ENDING_SEALED, "G5name\nG6basket", 2, "|-|-"), "another name");
+    ask(turns(1, NOW, SIGNED_PAIR "; " SEALED_PAIR, "G5user\nG6cart", 2, "|-|-"), "those without an end aren't");
+    ask(turns(1, NOW, both, "R5user\nG5user", 1, "|-|user=" REMOVED), "a signing is removed");
+    ask(turns(1, NOW, both, "R6cart\nG6cart", 1, "|-|cart=" REMOVED), "a sealing is removed");
+}
+
+static ptrdiff_t off(size_t keys_length, size_t earlier, int64_t second, const char *commands) {
+    char out[64];
+    return fonnalich_exchange_on_ring(ring, keys_length, ends, earlier, "", 0, second, T(commands), nonces, 11, out,
+                                      sizeof out);
+}
+
+static void refuses_a_ring(void) {
+    char out[64] = "#";
+    ask(gives(off(64, 0, NOW, ""), 0), "one key");
+    ask(gives(off(17 * 64, 16, NOW, ""), 0), "sixteen earlier ones");
+    ask(gives(off(18 * 64, 17, NOW, ""), FONNALICH_MANY_KEYS), "seventeen");
+    ask(gives(off(0, 0, NOW, ""), FONNALICH_KEYS), "none");
+    ask(gives(off(63, 0, NOW, ""), FONNALICH_KEYS), "a short key");
+    ask(gives(off(65, 0, NOW, ""), FONNALICH_KEYS), "a long key");
+    ask(gives(off(127, 1, NOW, ""), FONNALICH_KEYS), "a short earlier key");
+    ask(gives(off(64, 1, NOW, ""), FONNALICH_KEYS), "an end too many");
+    ask(gives(off(128, 0, NOW, ""), FONNALICH_KEYS), "a key too many");
+    ends[1] = INT64_MAX - 1;
+    ask(gives(off(128, 1, NOW, ""), 0), "an end that isn't looked at");
+    ask(gives(off(192, 2, NOW, ""), FONNALICH_KEY_END), "no end");
+    /* the first of several causes */
+    ask(gives(off(5, 17, INT64_MAX, "x"), FONNALICH_MOMENT), "second, keys, ends");
+    ask(gives(off(5, 17, NOW, "x"), FONNALICH_MANY_KEYS), "too many, too short, no end");
+    ask(gives(off(5, 2, NOW, "x"), FONNALICH_KEYS), "too short, no end, no command");
+    ask(gives(off(192, 2, NOW, "x"), FONNALICH_KEY_END), "no end, no command");
+    make_ring();
+    static const char *none[] = {"S5a=1", "S6a=1; Max-Age=60", "S5a; " IN_30_MINUTES, "S7a=1", "X5a", "G5%ff", "G",
+                                 "G7a"};
+    for (size_t i = 0; i < sizeof none / sizeof *none; i++)
+        ask(gives(off(64, 0, NOW, none[i]), FONNALICH_COMMAND), none[i]);
+    static const char *nameless[] = {FONNALICH_GET FONNALICH_SIGNED_UNTIL, FONNALICH_REMOVE FONNALICH_SEALED_UNTIL};
+    for (size_t i = 0; i < sizeof nameless / sizeof *nameless; i++)
+        ask(gives(off(64, 0, NOW, nameless[i]), FONNALICH_EMPTY_NAME), "no name is read or removed");
+    ask(gives(off(64, 0, NOW, "S6a=1; " IN_30_MINUTES), FONNALICH_NONCES), "a short nonce");
+    ptrdiff_t wanted = turn(1, NOW, SIGNED_PAIR, "G3user", out, 5);
+    ask(gives(wanted, 8 + 3 + 8 + 8) && out[0] == '#', "nothing is written without room");
 }
 
 static void finds_suffixes(void) {
@@ -758,6 +1069,9 @@ static void serves_often(long rounds) {
         snprintf(commands, sizeof commands, "S0n=%ld\nS4m=%ld\nG4m\nR4m", i, i);
         snprintf(wanted, sizeof wanted, "|%ld|n=%ld; Secure; Path=/", i, i);
         ask(serves(SIGNED_PAIR, commands, wanted), "an exchange");
+        snprintf(commands, sizeof commands, "S0n=%ld\nG4cart", i);
+        snprintf(wanted, sizeof wanted, "|3 1|n=%ld; Secure; Path=/", i);
+        ask(turns(1, NOW, SEALED_PAIR, commands, 1, wanted), "one on a ring");
     }
 }
 
@@ -801,6 +1115,61 @@ static void bears_a_refusal_behind_rules(fonnalich *at) {
     ask(is(out, number, "id=2; e=1; f=3"), "their header");
 }
 
+static void bears_a_refusal_of_a_list(fonnalich *at) {
+    char out[256];
+    ptrdiff_t number;
+    fonnalich list;
+    fonnalich_begin(&list);
+    if (again(number = fonnalich_keep_list(&list, T(LIST))))
+        number = fonnalich_keep_list(&list, T(LIST));
+    ask(gives(number, 0), "a list is kept");
+    if (again(number = fonnalich_client(at, &list)))
+        number = fonnalich_client(at, &list);
+    ask(gives(number, 0), "a client by it");
+    fonnalich_receive(at, NOW, T(URL), T("id=1; SameSite=Lax"), out, sizeof out);
+    fonnalich_receive(at, NOW, T(URL), T("id=1; SameSite=Lax"), out, sizeof out);
+    if (again(number = header_for(at, FONNALICH_BY_NAVIGATION, "https://evil.org/", out, sizeof out)))
+        number = header_for(at, FONNALICH_BY_NAVIGATION, "https://evil.org/", out, sizeof out);
+    ask(is(out, number, "id=1"), "the header of a navigation");
+    number = receive_for(at, FONNALICH_BY_PAGE, "https://evil.org/", "a=1; SameSite=Lax\nid=2", out, sizeof out);
+    if (again(number) || number <= FONNALICH_STOPPED) {
+        ask(again(number) || number >= FONNALICH_STOPPED - 2, "a line that is there");
+        number = receive_for(at, FONNALICH_BY_PAGE, "https://evil.org/", "a=1; SameSite=Lax\nid=2", out, sizeof out);
+    }
+    ask(gives(number, 2) && out[0] == FONNALICH_BY_CROSS_SITE, "the answer to a page");
+    if (again(number = fonnalich_load_by(at, &list, NOW, T("[]"))))
+        number = fonnalich_load_by(at, &list, NOW, T("[]"));
+    ask(gives(number, 0), "loaded by it");
+    if (again(number = fonnalich_suffix_by(&list, T("a.com"), out, sizeof out)))
+        number = fonnalich_suffix_by(&list, T("a.com"), out, sizeof out);
+    ask(is(out, number, "com"), "a suffix by it");
+    if (again(number = fonnalich_shard_by(&list, T("www.a.com"), out, sizeof out)))
+        number = fonnalich_shard_by(&list, T("www.a.com"), out, sizeof out);
+    ask(is(out, number, "a.com"), "a shard by it");
+    if (again(number = fonnalich_shard_of_url_by(&list, T("https://www.a.com/"), out, sizeof out)))
+        number = fonnalich_shard_of_url_by(&list, T("https://www.a.com/"), out, sizeof out);
+    ask(is(out, number, "a.com"), "a shard of a URL by it");
+    fonnalich_free(&list);
+}
+
+static ptrdiff_t turn_again(char *out, size_t room) {
+    const char *header = "user=" OLD_ENDING_SIGNED "; cart=" OLD_ENDING_SEALED;
+    return turn(1, NOW, header, "G5user\nG6cart\nS6cart=4; " IN_30_MINUTES, out, room);
+}
+
+static void bears_a_refusal_of_a_ring(void) {
+    char out[1024];
+    const char *at = out, *text;
+    ptrdiff_t number, length = 0;
+    size_t place;
+    if (again(number = turn_again(out, sizeof out)))
+        number = turn_again(out, sizeof out);
+    ask(number > 0 && number <= (ptrdiff_t)sizeof out, "an exchange on a ring");
+    ask(fonnalich_next_placed(&at, out + number, &text, &length, &place) && length == 3 && place == 1, "a signed one");
+    ask(fonnalich_next_placed(&at, out + number, &text, &length, &place) && length == 1 && place == 1, "a sealed one");
+    ask(fonnalich_next(&at, out + number, &text, &length) && length > 60 && text[5] == '~', "the other's line");
+}
+
 static void bears_a_refusal(long growth) {
     static const char *held[] = {"example.com / id=1 1700000060 h0"};
     char out[1024], saved[2048];
@@ -808,6 +1177,7 @@ static void bears_a_refusal(long growth) {
     fonnalich at;
     growths = 0;
     refused_at = growth;
+    bears_a_refusal_of_a_ring();
     fonnalich_begin(&at);
     if (again(number = fonnalich_list(&at, T(LIST))))
         number = fonnalich_list(&at, T(LIST));
@@ -862,6 +1232,7 @@ static void bears_a_refusal(long growth) {
     if (again(number = fonnalich_clear(&at)))
         number = fonnalich_clear(&at);
     ask(gives(number, 0), "cleared");
+    bears_a_refusal_of_a_list(&at);
     fonnalich_free(&at);
     const char *commands = "G3user\nS4a%20b=%2B; Max-Age=60\nG4a%20b\nR3user", *header = "x=1; " SIGNED_PAIR;
     if (again(number = serve(header, commands, 12, out, sizeof out)))
@@ -910,6 +1281,11 @@ int main(int count, char **words) {
     hands_all_over();
     tells_what_it_holds();
     finds_and_removes();
+    tells_what_starts_a_request();
+    tells_what_started_an_answers_request();
+    refuses_a_list_without_a_rule();
+    shares_a_list();
+    asks_a_list_that_is_kept();
     is_one_line("1\\r\\n2", FONNALICH_LINE);
     is_one_line("\\u{7f}", FONNALICH_LINE);
     for (int i = 0; i < FONNALICH_KEY_LENGTH; i++)
@@ -921,6 +1297,11 @@ int main(int count, char **words) {
     is_told_its_room();
     refuses_a_site();
     tells_the_first_cause_of_a_site();
+    make_ring();
+    sets_by_the_current_key();
+    reads_by_each_key_that_counts();
+    sets_values_that_end();
+    refuses_a_ring();
     finds_suffixes();
     finds_shards();
     takes_cookies_apart();

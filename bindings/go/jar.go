@@ -49,6 +49,30 @@ func New(list []byte, options *Options) (*Jar, error) {
 	return jar.orNone(err)
 }
 
+// NewWith is New with a list that was read before, which the jar shares.
+func NewWith(list *List, options *Options) (*Jar, error) {
+	jar, err := begin(options)
+	if err == nil {
+		err = list.share(jar.at)
+	}
+	if err == nil {
+		_, err = jar.act(C.FONNALICH_DO_CLIENT, 0, nil, nil)
+	}
+	return jar.orNone(err)
+}
+
+// LoadWith is Load with such a list.
+func LoadWith(list *List, saved []byte, options *Options) (*Jar, error) {
+	jar, err := begin(options)
+	if err == nil {
+		err = list.share(jar.at)
+	}
+	if err == nil {
+		_, err = jar.act(C.FONNALICH_DO_LOAD_BY, jar.second(), saved, nil)
+	}
+	return jar.orNone(err)
+}
+
 // Load begins a jar with the cookies of a saved text that aren't expired.
 func Load(list, saved []byte, options *Options) (*Jar, error) {
 	jar, err := begin(options)
@@ -82,7 +106,9 @@ func begin(options *Options) (*Jar, error) {
 
 func (jar *Jar) orNone(err error) (*Jar, error) {
 	if err != nil {
-		jar.Close()
+		if jar != nil {
+			jar.Close()
+		}
 		return nil, err
 	}
 	return jar, nil
@@ -181,6 +207,42 @@ func (jar *Jar) Save() ([]byte, error) {
 func (jar *Jar) Restart() error {
 	_, err := jar.act(C.FONNALICH_DO_RESTART, jar.second(), nil, nil)
 	return err
+}
+
+// Held are the cookies that the jar holds and that aren't expired.
+func (jar *Jar) Held() ([]HeldCookie, error) {
+	answer, err := jar.act(C.FONNALICH_DO_COOKIES, jar.second(), nil, nil)
+	return heldOf(answer), err
+}
+
+// Get is the cookie of a domain, a path and a name, or nil where the jar holds none that isn't expired.
+func (jar *Jar) Get(domain, path, name string) (*HeldCookie, error) {
+	return jar.one(C.FONNALICH_DO_GET, jar.second(), domain, path, name)
+}
+
+// Remove takes the cookie of a domain, a path and a name out, and answers it, or nil where the jar holds none. An
+// expired one that it still keeps counts too.
+func (jar *Jar) Remove(domain, path, name string) (*HeldCookie, error) {
+	return jar.one(C.FONNALICH_DO_REMOVE, 0, domain, path, name)
+}
+
+// Clear takes all cookies out.
+func (jar *Jar) Clear() error {
+	_, err := jar.act(C.FONNALICH_DO_CLEAR, 0, nil, nil)
+	return err
+}
+
+func (jar *Jar) one(word C.uint32_t, second int64, domain, path, name string) (*HeldCookie, error) {
+	jar.lock.Lock()
+	defer jar.lock.Unlock()
+	if jar.at == nil {
+		return nil, ErrClosed
+	}
+	answer, err := one(jar.at, word, second, domain, path, name)
+	if held := heldOf(answer); len(held) > 0 {
+		return &held[0], err
+	}
+	return nil, err
 }
 
 // take has a line after the other taken, and tells what is refused.

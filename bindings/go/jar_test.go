@@ -8,6 +8,7 @@ import (
 	"net/http/httptest"
 	"net/url"
 	"os"
+	"reflect"
 	"runtime"
 	"strings"
 	"sync"
@@ -115,9 +116,14 @@ func TestRefusals(t *testing.T) {
 	closed.Close()
 	closed.Close()
 	_, isClosed := closed.Header(shop)
+	_, noRule := New([]byte("// com\n"), nil)
+	_, isNoList := NewList([]byte("lists/suffixes.dat"))
+	_, hasNoRule := NewList(nil)
+	_, noText := made(t, list, nil).Get("shop.com", "/", "\xff")
 	for _, it := range []struct{ found, wanted error }{
 		{noList, Refused(-4)}, {noMoment, Refused(-5)}, {noURL, Refused(-6)}, {noJar, Refused(-7)},
-		{noRules, Refused(-20)}, {isClosed, ErrClosed},
+		{noRules, Refused(-20)}, {isClosed, ErrClosed}, {noRule, Refused(-24)}, {isNoList, Refused(-4)},
+		{hasNoRule, Refused(-24)}, {noText, Refused(-17)},
 	} {
 		if !errors.Is(it.found, it.wanted) {
 			t.Errorf("%v, and not %v", it.found, it.wanted)
@@ -298,5 +304,97 @@ func TestTheVersionIsThatOfTheHeaderFile(t *testing.T) {
 	}
 	if !strings.Contains(string(header), `FONNALICH_VERSION "`+Version()+`"`) {
 		t.Error(Version())
+	}
+}
+
+// The lines of RFC 6265, section 3.1, and some more.
+func TestWhatAJarHolds(t *testing.T) {
+	jar := made(t, list, &Options{Rules: NoRules, Now: at(60).Now})
+	receive(t, jar, shop, "SID=31d4d96e; Path=/; Secure; HttpOnly", "lang=en-US; Path=/; Domain=shop.com; Max-Age=60",
+		"d=; Secure; Partitioned; SameSite=None", "a=b=c; Path=/x; SameSite=Lax")
+	wanted := []HeldCookie{
+		{Domain: "shop.com", Path: "/", Name: "SID", Value: "31d4d96e", HostOnly: true, Secure: true, HttpOnly: true},
+		{Domain: "shop.com", Path: "/", Name: "lang", Value: "en-US", Expires: time.Unix(120, 0)},
+		{Domain: "shop.com", Path: "/", Name: "d", HostOnly: true, Secure: true, Partitioned: true,
+			SameSite: http.SameSiteNoneMode},
+		{Domain: "shop.com", Path: "/x", Name: "a", Value: "b=c", HostOnly: true, SameSite: http.SameSiteLaxMode},
+	}
+	held, err := jar.Held()
+	if err != nil || !reflect.DeepEqual(held, wanted) {
+		t.Fatal(held, err)
+	}
+	if one, err := jar.Get("shop.com", "/x", "a"); err != nil || !reflect.DeepEqual(one, &wanted[3]) {
+		t.Error(one, err)
+	}
+	if one, err := jar.Remove("shop.com", "/", "a"); err != nil || one != nil {
+		t.Error(one, err)
+	}
+	if one, err := jar.Remove("shop.com", "/x", "a"); err != nil || !reflect.DeepEqual(one, &wanted[3]) {
+		t.Error(one, err)
+	}
+	if held, err := jar.Held(); err != nil || !reflect.DeepEqual(held, wanted[:3]) {
+		t.Error(held, err)
+	}
+	if err := jar.Clear(); err != nil || headerOf(t, jar, shop) != "" {
+		t.Error(err)
+	}
+	if held, err := jar.Held(); err != nil || len(held) != 0 {
+		t.Error(held, err)
+	}
+	jar.Close()
+	if _, err := jar.Remove("shop.com", "/", "a"); !errors.Is(err, ErrClosed) {
+		t.Error(err)
+	}
+}
+
+// The answer has no room at first.
+func TestManyThatAJarHolds(t *testing.T) {
+	jar := made(t, list, nil)
+	for i := 0; i < 300; i++ {
+		receive(t, jar, shop, fmt.Sprintf("n%d=%s", i, strings.Repeat("x", i)))
+	}
+	held, err := jar.Held()
+	if err != nil || len(held) != 300 {
+		t.Fatal(len(held), err)
+	}
+	for i, it := range held {
+		if it.Name != fmt.Sprintf("n%d", i) || len(it.Value) != i {
+			t.Error(it)
+		}
+	}
+}
+
+func TestJarsShareAList(t *testing.T) {
+	shared, err := NewList([]byte(list))
+	if err != nil {
+		t.Fatal(err)
+	}
+	jars := make([]*Jar, 100)
+	var waits sync.WaitGroup
+	for i := range jars {
+		waits.Add(1)
+		go func(i int) {
+			defer waits.Done()
+			if i%2 == 0 {
+				jars[i], _ = NewWith(shared, nil)
+			} else {
+				jars[i], _ = LoadWith(shared, []byte("[]"), nil)
+			}
+		}(i)
+	}
+	waits.Wait()
+	if _, err := LoadWith(shared, []byte("no"), nil); !errors.Is(err, Refused(-7)) {
+		t.Error(err)
+	}
+	shared.Close()
+	shared.Close()
+	if _, err := NewWith(shared, nil); !errors.Is(err, ErrClosed) {
+		t.Error(err)
+	}
+	for _, jar := range jars {
+		if end := receive(t, jar, shop, "a=1; Domain=com"); end[0] != PublicSuffix {
+			t.Error(end)
+		}
+		jar.Close()
 	}
 }

@@ -14,10 +14,10 @@ import (
 // room is how many bytes an answer has room for at first.
 const room = 4096
 
-// ErrMemory says that memory was refused, and ErrClosed that the jar is closed.
+// ErrMemory says that memory was refused, and ErrClosed that the jar or the list is closed.
 var (
 	ErrMemory = errors.New("fonnalich: memory was refused")
-	ErrClosed = errors.New("fonnalich: the jar is closed")
+	ErrClosed = errors.New("fonnalich: the jar or the list is closed")
 )
 
 // Refused is the number of a refusal, as the header file has it. The jar is as it was.
@@ -26,7 +26,8 @@ type Refused int
 var refusals = map[Refused]string{
 	-4: "the text is no public suffix list", -5: "the moment is outside the years -9999 to 9999",
 	-6: "the text is no URL", -7: "the text is no saved jar", -8: "a cookie ends in a year below 0",
-	-20: "the number is none of rules", -21: "a loaded cookie has a control character",
+	-17: "a text isn't UTF-8", -20: "the number is none of rules", -21: "a loaded cookie has a control character",
+	-24: "the suffix list has no rule",
 }
 
 func (refused Refused) Error() string {
@@ -156,6 +157,20 @@ func act(at handle, word C.uint32_t, number int64, subject, text []byte) ([]byte
 	out := make([]byte, room)
 	length := C.fonnalich_act(at, word, C.int64_t(number), start(subject), C.size_t(len(subject)), start(text),
 		C.size_t(len(text)), start(out), C.size_t(len(out)))
+	return answered(at, out, length)
+}
+
+// one does what a word says with the cookie of a domain, a path and a name.
+func one(at handle, word C.uint32_t, second int64, domain, path, name string) ([]byte, error) {
+	out := make([]byte, room)
+	length := C.fonnalich_one(at, word, C.int64_t(second), start([]byte(domain)), C.size_t(len(domain)),
+		start([]byte(path)), C.size_t(len(path)), start([]byte(name)), C.size_t(len(name)), start(out),
+		C.size_t(len(out)))
+	return answered(at, out, length)
+}
+
+// answered is the answer of a call that was this long, which is kept where the room was too small.
+func answered(at handle, out []byte, length C.ptrdiff_t) ([]byte, error) {
 	if length > C.ptrdiff_t(len(out)) {
 		out = make([]byte, length)
 		length = C.fonnalich_answer(at, start(out), C.size_t(len(out)))

@@ -1,7 +1,8 @@
 /* The addon of index.js: handles of the library as objects of Node-API.
 
-   `new Handle()` begins one, `act(word, number, subject, text)` does what a word says, and `close()` ends it. The texts
-   are views of bytes; the answer is a Buffer, or the number of a refusal. Where Node collects a handle, or ends a
+   `new Handle()` begins one, `act(word, number, subject, text)` does what a word says, `one(word, second, domain, path,
+   name)` with one cookie, `share(other)` keeps the list that another keeps, and `close()` ends it. The texts are views
+   of bytes; the answer is a Buffer, or the number of a refusal. Where Node collects a handle, or ends a
    thread, it ends it too; `living()` says how many of this thread haven't ended. Each worker thread has an instance of
    its own, and two share nothing that is written to. */
 #define NAPI_VERSION 8
@@ -18,7 +19,7 @@
         } \
     } while (0)
 
-/* By how much a client outgrows the text of its list: so much memory is told to Node, which collects handles by it. */
+/* By how much a list outgrows its text: so much memory is told to Node, which collects handles by it. */
 #define GROWTH 6
 
 /* What an instance knows; it goes with the last of its handles, where Node lets go of that later. */
@@ -136,8 +137,20 @@ static napi_value kept(napi_env env, handle *its, size_t length) {
     return answer;
 }
 
+/* The answer of a call that was this long, or the number of its refusal. */
+static napi_value answered(napi_env env, handle *its, ptrdiff_t length, const char *room) {
+    napi_value answer;
+    if (length > ROOM)
+        return kept(env, its, length);
+    if (length < 0)
+        TYPED(napi_create_int64(env, length, &answer));
+    else
+        TYPED(napi_create_buffer_copy(env, length, room, NULL, &answer));
+    return answer;
+}
+
 static napi_value act(napi_env env, napi_callback_info info) {
-    napi_value words[4], self, answer;
+    napi_value words[4], self;
     size_t count = 4, subject_length, text_length;
     const char *subject, *text;
     char room[ROOM];
@@ -152,15 +165,42 @@ static napi_value act(napi_env env, napi_callback_info info) {
     if (!its)
         return NULL;
     ptrdiff_t length = fonnalich_act(&its->at, word, number, subject, subject_length, text, text_length, room, ROOM);
-    if (length >= 0 && (word == FONNALICH_DO_LIST || word == FONNALICH_DO_LOAD))
+    if (length >= 0 && word == FONNALICH_DO_KEEP_LIST)
         tell(env, its, GROWTH * (int64_t)text_length);
-    if (length > ROOM)
-        return kept(env, its, length);
-    if (length < 0)
-        TYPED(napi_create_int64(env, length, &answer));
-    else
-        TYPED(napi_create_buffer_copy(env, length, room, NULL, &answer));
-    return answer;
+    return answered(env, its, length, room);
+}
+
+static napi_value one(napi_env env, napi_callback_info info) {
+    napi_value words[5], self;
+    size_t count = 5, length[3];
+    const char *text[3];
+    char room[ROOM];
+    uint32_t word;
+    int64_t second;
+    TYPED(napi_get_cb_info(env, info, &count, words, &self, NULL));
+    TYPED(napi_get_value_uint32(env, words[0], &word));
+    TYPED(napi_get_value_int64(env, words[1], &second));
+    for (int i = 0; i < 3; i++)
+        TYPED(bytes(env, words[2 + i], &text[i], &length[i]));
+    handle *its = of(env, self);
+    if (!its)
+        return NULL;
+    return answered(env, its, fonnalich_one(&its->at, word, second, text[0], length[0], text[1], length[1], text[2],
+                                            length[2], room, ROOM), room);
+}
+
+static napi_value share(napi_env env, napi_callback_info info) {
+    napi_value words[1], self;
+    size_t count = 1;
+    TYPED(napi_get_cb_info(env, info, &count, words, &self, NULL));
+    handle *its = of(env, self), *other = its ? of(env, words[0]) : NULL;
+    if (!other)
+        return NULL;
+    if (its == other) {
+        napi_throw_type_error(env, NULL, "fonnalich: a handle shares no list with itself");
+        return NULL;
+    }
+    return answered(env, its, fonnalich_share(&its->at, &other->at), "");
 }
 
 static napi_value finish(napi_env env, napi_callback_info info) {
@@ -199,6 +239,8 @@ static napi_value version(napi_env env, napi_callback_info info) {
 NAPI_MODULE_INIT() {
     napi_property_descriptor methods[] = {
         {.utf8name = "act", .method = act},
+        {.utf8name = "one", .method = one},
+        {.utf8name = "share", .method = share},
         {.utf8name = "close", .method = finish},
     };
     napi_value made;
@@ -208,7 +250,7 @@ NAPI_MODULE_INIT() {
         return NULL;
     }
     TYPED(napi_set_instance_data(env, own, finalize_instance, NULL));
-    TYPED(napi_define_class(env, "Handle", NAPI_AUTO_LENGTH, begin, NULL, 2, methods, &made));
+    TYPED(napi_define_class(env, "Handle", NAPI_AUTO_LENGTH, begin, NULL, 4, methods, &made));
     TYPED(napi_set_named_property(env, exports, "Handle", made));
     napi_property_descriptor calls[] = {
         {.utf8name = "living", .method = living},

@@ -10,7 +10,9 @@ export type LineEnd =
     | 'ByLacksSecure';
 
 /** Why a call was refused: the name of its number in the header file. */
-export type Refusal = 'Word' | 'NoClient' | 'List' | 'Moment' | 'Url' | 'Saved' | 'Year' | 'Read' | 'Rules' | 'Line';
+export type Refusal =
+    | 'Word' | 'NoClient' | 'List' | 'Moment' | 'Url' | 'Saved' | 'Year' | 'Read' | 'Text' | 'Rules' | 'Line' | 'NoRule'
+    | 'NoList';
 
 /** A moment: a Date, or milliseconds since 1970, of which the whole seconds count. */
 export type Moment = Date | number;
@@ -21,11 +23,12 @@ export type Callback<T> = (error: Error | null, value?: T) => void;
 export declare const Rules: Readonly<{
     NONE: 0; CONTROL: 1; TOO_LONG: 2; SECURE_PREFIX: 4; HOST_PREFIX: 8; SECURE_FROM_HTTP: 16; SECURE_OVERLAY: 32;
     LONG_ATTRIBUTES: 64; DATES: 128; LONG_LIVES: 256; BROWSER: 511; SECURE_WINS: 512;
+    LAX_BY_DEFAULT: 1024;
 }>;
 
 export interface JarOptions {
-    /** The text of a public suffix list. */
-    suffixes: string | Uint8Array;
+    /** A public suffix list, which jars share, or the text of one. */
+    suffixes: List | string | Uint8Array;
     /** A sum of `Rules`, which lines come behind; none given is `Rules.BROWSER`. */
     rules?: number;
     /** As 'strict' a line that breaks its name's prefix is an error; else it is passed over. */
@@ -53,6 +56,31 @@ export interface SetOptions extends CallOptions {
 
 export interface MomentOption {
     now?: Moment;
+}
+
+/** A public suffix list, by its text. It is read once, and lies in memory once, however many jars have it. */
+export declare class List {
+    constructor(text: string | Uint8Array);
+    /** Gives its memory back, once no jar has it either. No jar may be given it then. */
+    close(): void;
+}
+
+/** A cookie that a jar holds. No two of a jar have the same domain, path and key. */
+export interface HeldCookie {
+    /** The host that it is for, without a leading dot. */
+    domain: string;
+    path: string;
+    /** Its name, as it was received. */
+    key: string;
+    value: string;
+    /** Its end; none where that is the session's. */
+    expires: Date | undefined;
+    /** Whether it is for its domain alone, and else for the hosts below it too. */
+    hostOnly: boolean;
+    secure: boolean;
+    httpOnly: boolean;
+    partitioned: boolean;
+    sameSite: 'strict' | 'lax' | 'none' | undefined;
 }
 
 /**
@@ -95,6 +123,12 @@ export declare class CookieJar {
     serializeSync(options?: MomentOption): string;
     toJSON(): string;
 
+    /** The cookies that it holds and that aren't expired. */
+    heldCookies(options?: MomentOption): HeldCookie[];
+    /** The cookie of this domain, path and name, where it holds one that isn't expired. */
+    heldCookie(domain: string, path: string, name: string, options?: MomentOption): HeldCookie | undefined;
+    /** Takes the cookie out. An expired one that it still keeps counts too. */
+    removeCookie(domain: string, path: string, name: string): HeldCookie | undefined;
     removeAllCookies(): Promise<void>;
     removeAllCookies(callback: Callback<void>): void;
     removeAllCookiesSync(): void;

@@ -11,7 +11,9 @@ const addon = require(process.env.FONNALICH_NODE ? path.resolve(process.env.FONN
 
 if (!addon.processor()) throw new Error('fonnalich: this processor lacks SSE 4.2, which the library needs');
 
-const [LIST, LOAD, RECEIVE, HEADER, SAVE, RESTART, RULES, CLEAR] = [1, 2, 3, 4, 5, 6, 7, 12];
+const [RECEIVE, HEADER, SAVE, RESTART, RULES, HELD, CLEAR] = [3, 4, 5, 6, 7, 11, 12];
+const [KEEP_LIST, CLIENT, LOAD_BY] = [15, 16, 17];
+const [GET, REMOVE] = [0, 1];
 const [MEMORY, STOPPED] = [-1, -100];
 const NONE = Buffer.alloc(0);
 
@@ -19,11 +21,12 @@ const NONE = Buffer.alloc(0);
 const Rules = Object.freeze({
     NONE: 0, CONTROL: 1, TOO_LONG: 2, SECURE_PREFIX: 4, HOST_PREFIX: 8, SECURE_FROM_HTTP: 16, SECURE_OVERLAY: 32,
     LONG_ATTRIBUTES: 64, DATES: 128, LONG_LIVES: 256, BROWSER: 511, SECURE_WINS: 512,
+    LAX_BY_DEFAULT: 1024,
 });
 
 const REFUSALS = {
     '-2': 'Word', '-3': 'NoClient', '-4': 'List', '-5': 'Moment', '-6': 'Url', '-7': 'Saved', '-8': 'Year',
-    '-9': 'Read', '-20': 'Rules', '-21': 'Line',
+    '-9': 'Read', '-17': 'Text', '-20': 'Rules', '-21': 'Line', '-24': 'NoRule', '-25': 'NoList',
 };
 const ENDS = {
     0: 'Inserted', 1: 'ExpiredExisting', 2: 'UpdatedExisting', 3: 'NotText', 4: 'HostPrefix', 10: 'NonHttpScheme',
@@ -121,25 +124,73 @@ function later(callback, work) {
     return undefined;
 }
 
+/* The answer of a call, or what it was refused for. */
+function answered(answer) {
+    if (typeof answer !== 'number') return answer;
+    // (of one line, where memory is refused at it none was taken)
+    if (answer === MEMORY || answer <= STOPPED) throw new OutOfMemory();
+    throw new Refused(answer);
+}
+
+let handleOf;
+
+/* A public suffix list, by its text: jars that are given it share it. It is read once, and lies in memory once. */
+class List {
+    #handle = new addon.Handle();
+
+    static {
+        handleOf = (list) => list.#handle;
+    }
+
+    constructor(text) {
+        answered(this.#handle.act(KEEP_LIST, 0, NONE, bytesOf(text, 'the text of a public suffix list')));
+    }
+
+    /* Gives its memory back, once no jar has it either. No jar may be given it then. */
+    close() {
+        this.#handle.close();
+    }
+}
+
+const SITES = [undefined, 'strict', 'lax', 'none'];
+
+/* The cookies of an answer: six items each behind their lengths, the last two the second of its end and its flags. */
+function heldOf(answer) {
+    const cookies = [];
+    for (let at = 0; at < answer.length;) {
+        const items = [];
+        for (let i = 0; i < 6; i++) {
+            const length = Number(answer.readBigUInt64LE(at));
+            items.push(answer.subarray(at + 8, at + 8 + length));
+            at += 8 + length;
+        }
+        const [domain, path, key, value] = items.slice(0, 4).map(String);
+        const [hasEnd, hostOnly, secure, httpOnly, partitioned] = [...items[5]].map(Boolean);
+        const expires = hasEnd ? new Date(1000 * Number(items[4].readBigInt64LE())) : undefined;
+        const sameSite = SITES[items[5][5]];
+        cookies.push({ domain, path, key, value, expires, hostOnly, secure, httpOnly, partitioned, sameSite });
+    }
+    return cookies;
+}
+
 /* A jar that keeps what sites set, and gives each request what it holds for it.
 
-   `store` is null. `options.suffixes` is the text of a public suffix list, and `options.rules` a sum of Rules, by
+   `store` is null. `options.suffixes` is a List, or the text of one, and `options.rules` a sum of Rules, by
    default those of browsers. With `options.prefixSecurity` as 'strict' a line that breaks its name's prefix is an
    error; else it is passed over. */
 class CookieJar {
     #handle = new addon.Handle();
-    #suffixes;
     #isStrict;
 
     constructor(store, options) {
         this.#put(store, options);
-        this.#act(LIST, 0, NONE, this.#suffixes);
+        this.#act(CLIENT, 0, NONE, NONE);
     }
 
     /* The jar of a saved text, without what is expired at `options.now`. */
     static deserializeSync(saved, store, options) {
         const jar = new CookieJar(store, options);
-        jar.#act(LOAD, secondOf(options.now), bytesOf(saved, 'the saved text'), jar.#suffixes);
+        jar.#act(LOAD_BY, secondOf(options.now), bytesOf(saved, 'the saved text'), NONE);
         return jar;
     }
 
@@ -192,6 +243,22 @@ class CookieJar {
         return this.serializeSync();
     }
 
+    /* The cookies that it holds and that aren't expired at `options.now`. */
+    heldCookies(options) {
+        return heldOf(this.#act(HELD, secondOf(options?.now), NONE, NONE));
+    }
+
+    /* The cookie of this domain, path and name, where it holds one that isn't expired at `options.now`. */
+    heldCookie(domain, path, name, options) {
+        return this.#one(GET, secondOf(options?.now), domain, path, name);
+    }
+
+    /* Takes the cookie of this domain, path and name out; nothing where it holds none. An expired one that it still
+       keeps counts too. */
+    removeCookie(domain, path, name) {
+        return this.#one(REMOVE, 0, domain, path, name);
+    }
+
     removeAllCookiesSync() {
         this.#act(CLEAR, 0, NONE, NONE);
     }
@@ -217,7 +284,11 @@ class CookieJar {
             throw new NotThere(`options.prefixSecurity = ${prefixSecurity}`, 'leave rules out of options.rules');
         }
         this.#isStrict = prefixSecurity === 'strict';
-        this.#suffixes = Buffer.from(bytesOf(suffixes, 'options.suffixes, the text of a public suffix list,'));
+        if (suffixes instanceof List) {
+            answered(this.#handle.share(handleOf(suffixes)));
+        } else {
+            this.#act(KEEP_LIST, 0, NONE, bytesOf(suffixes, 'options.suffixes, the text of a public suffix list,'));
+        }
         this.#act(RULES, rules ?? Rules.BROWSER, NONE, NONE);
     }
 
@@ -229,11 +300,12 @@ class CookieJar {
     }
 
     #act(word, number, subject, text) {
-        const answer = this.#handle.act(word, number, subject, text);
-        if (typeof answer !== 'number') return answer;
-        // (of one line, where memory is refused at it none was taken)
-        if (answer === MEMORY || answer <= STOPPED) throw new OutOfMemory();
-        throw new Refused(answer);
+        return answered(this.#handle.act(word, number, subject, text));
+    }
+
+    #one(word, second, ...key) {
+        const texts = key.map((text) => bytesOf(text, 'a domain, a path or a name'));
+        return heldOf(answered(this.#handle.one(word, second, ...texts)))[0];
     }
 }
 
@@ -264,8 +336,8 @@ putAbsent(CookieJar.prototype, 'CookieJar.', COOKIES, 'getCookieString has those
 putAbsent(CookieJar.prototype, 'CookieJar.', ['clone', 'cloneSync'], 'serialize() and CookieJar.deserialize() do it');
 putAbsent(Cookie, 'Cookie.', ['parse', 'fromJSON', 'cookiesCreated']);
 module.exports = {
-    Cookie, CookieJar, FonnalichError, LineRefused, MemoryCookieStore, NotThere, OutOfMemory, Refused, Rules, Store,
-    living: addon.living, version: addon.version(),
+    Cookie, CookieJar, FonnalichError, LineRefused, List, MemoryCookieStore, NotThere, OutOfMemory, Refused, Rules,
+    Store, living: addon.living, version: addon.version(),
 };
 putAbsent(module.exports, '', ['canonicalDomain', 'cookieCompare', 'defaultPath', 'domainMatch', 'formatDate',
     'fromJSON', 'getPublicSuffix', 'parse', 'parseDate', 'pathMatch', 'permuteDomain', 'permutePath']);

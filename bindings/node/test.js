@@ -255,3 +255,53 @@ test("the page's block", () => {
     const how = { cwd: path.join(__dirname, '../..'), encoding: 'utf8' };
     assert.equal(execFileSync(process.execPath, ['bindings/node/visit.js'], how), 'cart=3 cart=3\n');
 });
+
+// The lines of RFC 6265, section 3.1, and some more.
+test('what a jar holds', () => {
+    const jar = jarOf({ rules: Rules.NONE });
+    const moment = { now: THEN };
+    const lines = ['SID=31d4d96e; Path=/; Secure; HttpOnly', 'lang=en-US; Path=/; Domain=shop.com; Max-Age=60',
+        'a=b=c; Path=/x; SameSite=Lax', 'd=; Secure; Partitioned; SameSite=None'];
+    for (const line of lines) jar.setCookieSync(line, URL_ASKED, moment);
+    const held = jar.heldCookies(moment);
+    assert.deepEqual(held.map((it) => [it.domain, it.path, it.key, it.value]), [['shop.com', '/', 'SID', '31d4d96e'],
+        ['shop.com', '/', 'lang', 'en-US'], ['shop.com', '/', 'd', ''], ['shop.com', '/x', 'a', 'b=c']]);
+    assert.deepEqual(held.map((it) => [it.hostOnly, it.secure, it.httpOnly, it.partitioned, it.sameSite]), [
+        [true, true, true, false, undefined], [false, false, false, false, undefined],
+        [true, true, false, true, 'none'], [true, false, false, false, 'lax']]);
+    assert.deepEqual(held.map((it) => it.expires), [undefined, new Date(+THEN + 60000), undefined, undefined]);
+    assert.deepEqual(jar.heldCookie('shop.com', '/x', 'a', moment), held[3]);
+    assert.equal(jar.heldCookie('shop.com', '/', 'lang', { now: +THEN + 60000 }), undefined);
+    assert.equal(jar.removeCookie('shop.com', '/', 'a'), undefined);
+    assert.deepEqual(jar.removeCookie('shop.com', '/x', 'a'), held[3]);
+    assert.equal(jar.heldCookies({ now: +THEN + 60000 }).length, 2);
+    assert.throws(() => jar.heldCookie('shop.com', '/', Buffer.from([255])), { code: 'Text' });
+    assert.throws(() => jar.heldCookie('shop.com', '/'), TypeError);
+    jar.removeAllCookiesSync();
+    assert.deepEqual(jar.heldCookies(moment), []);
+});
+
+test('many that a jar holds', () => {
+    const jar = jarOf();
+    for (let i = 0; i < 300; i++) jar.setCookieSync(`n${i}=${'x'.repeat(i)}`, URL_ASKED, { now: THEN });
+    const held = jar.heldCookies({ now: THEN });
+    assert.equal(held.length, 300);
+    assert.ok(held.every((it, i) => it.key === `n${i}` && it.value.length === i));
+});
+
+test('a list that jars share', () => {
+    const suffixes = new fonnalich.List(SUFFIXES);
+    const jars = Array.from({ length: 100 }, () => new CookieJar(null, { suffixes }));
+    jars.push(CookieJar.deserializeSync('[]', null, { suffixes }));
+    suffixes.close();
+    for (const jar of jars) {
+        assert.throws(() => jar.setCookieSync('a=1; Domain=co.uk', 'https://a.co.uk/'), { code: 'PublicSuffix' });
+        jar.close();
+    }
+    assert.throws(() => new CookieJar(null, { suffixes }), TypeError);
+    for (const text of ['', '// com\n']) {
+        assert.throws(() => new fonnalich.List(text), { name: 'Refused', code: 'NoRule' });
+        assert.throws(() => jarOf({ suffixes: text }), { code: 'NoRule' });
+    }
+    assert.throws(() => new fonnalich.List('lists/suffixes.dat'), { code: 'List' });
+});

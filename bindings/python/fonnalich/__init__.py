@@ -14,13 +14,12 @@ import enum
 import http.cookiejar
 import math
 import os
-import re
 import threading
 import time
 import urllib.parse
 import urllib.request
 import weakref
-from typing import TYPE_CHECKING, Any, Callable, Iterable, Iterator, NoReturn, Optional, Union
+from typing import TYPE_CHECKING, Any, Callable, Iterable, Iterator, NoReturn, Optional, Tuple, Union
 
 if TYPE_CHECKING:
     from .fleet import Fleet
@@ -53,6 +52,8 @@ Bytes = Union[bytes, bytearray, memoryview]
 Text = Union[str, Bytes]
 # A moment: seconds since 1970, of which the whole part counts, or a datetime that has a zone.
 Moment = Union[int, float, datetime.datetime]
+# A key of 64 bytes, or, behind the current one, such a key with the moment from which it counts no more, or none.
+RingKey = Union[Bytes, Tuple[Bytes, Optional[Moment]]]
 # How long a cookie lives: seconds, of which the whole part counts, or a timedelta.
 Life = Union[int, float, datetime.timedelta]
 
@@ -73,14 +74,15 @@ _LIB.fonnalich_act.restype = ctypes.c_ssize_t
 _LIB.fonnalich_one.argtypes = [ctypes.c_void_p, ctypes.c_uint32, ctypes.c_int64, *_TEXT, *_TEXT, *_TEXT,
                                ctypes.c_void_p, ctypes.c_size_t]
 _LIB.fonnalich_one.restype = ctypes.c_ssize_t
+_LIB.fonnalich_receive_for.argtypes = _LIB.fonnalich_one.argtypes
+_LIB.fonnalich_receive_for.restype = ctypes.c_ssize_t
 _LIB.fonnalich_exchange.argtypes = [*_TEXT, *_TEXT, ctypes.c_int64, *_TEXT, *_TEXT, ctypes.c_void_p, ctypes.c_size_t]
 _LIB.fonnalich_exchange.restype = ctypes.c_ssize_t
-_LIB.fonnalich_suffix.argtypes = [*_TEXT, *_TEXT, ctypes.c_void_p, ctypes.c_size_t]
-_LIB.fonnalich_suffix.restype = ctypes.c_ssize_t
-_LIB.fonnalich_shard.argtypes = [*_TEXT, *_TEXT, ctypes.c_void_p, ctypes.c_size_t]
-_LIB.fonnalich_shard.restype = ctypes.c_ssize_t
-_LIB.fonnalich_shard_of_url.argtypes = [*_TEXT, *_TEXT, ctypes.c_void_p, ctypes.c_size_t]
-_LIB.fonnalich_shard_of_url.restype = ctypes.c_ssize_t
+_LIB.fonnalich_exchange_on_ring.argtypes = [*_TEXT, ctypes.POINTER(ctypes.c_int64), ctypes.c_size_t, *_TEXT,
+                                            ctypes.c_int64, *_TEXT, *_TEXT, ctypes.c_void_p, ctypes.c_size_t]
+_LIB.fonnalich_exchange_on_ring.restype = ctypes.c_ssize_t
+_LIB.fonnalich_share.argtypes = [ctypes.c_void_p, ctypes.c_void_p]
+_LIB.fonnalich_share.restype = ctypes.c_ssize_t
 _LIB.fonnalich_is_plain_url.argtypes = _TEXT
 _LIB.fonnalich_is_plain_url.restype = ctypes.c_ssize_t
 
@@ -102,13 +104,16 @@ _LIB.fonnalich_print.argtypes = [ctypes.c_bool, ctypes.POINTER(_Attributes), *_T
                                  ctypes.c_void_p, ctypes.c_size_t]
 _LIB.fonnalich_print.restype = ctypes.c_ssize_t
 
-_ANSWER, _LIST, _LOAD, _RECEIVE, _HEADER, _SAVE, _RESTART, _RULES, _SAVE_ALL, _RELOAD, _COUNT, _COOKIES, _CLEAR = (
-    range(13))
+_ANSWER, _HEADER, _SAVE, _RESTART, _RULES = 0, 4, 5, 6, 7
+_SAVE_ALL, _RELOAD, _COUNT, _COOKIES, _CLEAR, _HEADER_BY_PAGE, _HEADER_BY_NAVIGATION = range(8, 15)
+_KEEP_LIST, _CLIENT, _LOAD_BY, _SUFFIX_BY, _SHARD_BY, _SHARD_OF_URL_BY = range(15, 21)
 _GET, _REMOVE = 0, 1
+_BY_USER, _BY_PAGE, _BY_NAVIGATION = 0, 1, 2
 _STOPPED = -100
 _ROOM = 4096
 _KEY_LENGTH, _NONCE_LENGTH = 64, 12
-_LIST_NUMBER, _URL_NUMBER, _SAVED_NUMBER, _EXPIRY, _HOST_NUMBER = -4, -6, -7, -13, -16
+_EARLIER_KEYS, _NO_END = 16, (1 << 63) - 1
+_URL_NUMBER, _SAVED_NUMBER, _EXPIRY, _HOST_NUMBER, _NO_RULE = -6, -7, -13, -16, -24
 _YEAR_100 = -59011459200
 _EPOCH = datetime.datetime(1970, 1, 1, tzinfo=datetime.timezone.utc)
 
@@ -135,6 +140,9 @@ class End(enum.IntEnum):
     BY_SECURE_FROM_HTTP = 24
     BY_SECURE_OVERLAY = 25
     BY_LACKS_SECURE = 26
+    # Its `SameSite` did.
+    BY_CROSS_SITE = 27
+    BY_NONE_LACKS_SECURE = 28
 
 
 class Rules(enum.IntFlag):
@@ -146,6 +154,8 @@ class Rules(enum.IntFlag):
     No browser has `SECURE_WINS`: a header leaves out what isn't Secure and has the name, decoded, of a Secure cookie in
     it, and one of `SameSite=None` or `Partitioned` that isn't Secure is refused from a URL that isn't secure. It rests
     on `SECURE_FROM_HTTP`.
+    Some browsers have `LAX_BY_DEFAULT`: where a page of another site starts a request, a cookie without `SameSite` is
+    one with `SameSite=Lax`. Some have `NONE_NEEDS_SECURE`: one with `SameSite=None` that isn't Secure is refused.
     """
 
     NONE = 0
@@ -160,6 +170,8 @@ class Rules(enum.IntFlag):
     LONG_LIVES = 256
     BROWSER = 511
     SECURE_WINS = 512
+    LAX_BY_DEFAULT = 1024
+    NONE_NEEDS_SECURE = 2048
 
 
 class Refused(ValueError):
@@ -167,7 +179,8 @@ class Refused(ValueError):
 
     NAMES = {-2: "Word", -3: "NoClient", -4: "List", -5: "Moment", -6: "Url", -7: "Saved", -8: "Year", -9: "Read",
              -10: "Key", -11: "Command", -12: "EmptyName", -13: "Expiry", -14: "TooLong", -15: "Nonces", -16: "Host",
-             -17: "Text", -18: "Pair", -19: "Site", -20: "Rules", -21: "Line"}
+             -17: "Text", -18: "Pair", -19: "Site", -20: "Rules", -21: "Line", -24: "NoRule", -25: "NoList",
+             -26: "ManyKeys", -27: "Keys", -28: "KeyEnd"}
 
     def __init__(self, number: int):
         super().__init__(self.NAMES.get(number, str(number)))
@@ -186,10 +199,10 @@ def _told(number: int) -> str:
 
 
 class NoRules(Refused):
-    """A text was refused that should be a public suffix list, and has no rule: by it no suffix would be public."""
+    """A public suffix list was refused that has no rule: by it no suffix would be public. So is the name of a file."""
 
     def __init__(self) -> None:
-        super().__init__(_LIST_NUMBER)
+        super().__init__(_NO_RULE)
         self.args = ("the text of the list has no rule: hand in what the file holds, or List.from_file(path)",)
 
 
@@ -265,11 +278,14 @@ def _raise(number: int) -> None:
         raise Stopped(_STOPPED - number)
     if number == -1:
         raise MemoryError
+    if number == _NO_RULE:
+        raise NoRules
     if number < 0:
         raise Refused(number)
 
 
-def _answered(call: Callable[..., int], *words: Union[bytes, int, _Attributes]) -> bytes:
+def _answered(call: Callable[..., int], *words: Union[bytes, int, _Attributes, ctypes.Array[ctypes.c_int64]]
+              ) -> bytes:
     """The answer of a call without a handle; where it has no room, the same call is made again with more."""
     given = [it for word in words for it in ([word, len(word)] if isinstance(word, bytes) else [word])]
     length = _ROOM
@@ -293,25 +309,93 @@ def _items(answer: bytes) -> list[Optional[str]]:
 
 __version__ = _answered(_LIB.fonnalich_version).decode()
 
-# A line that could be a rule for hosts: labels of letters, digits and hyphens, or `*`, up to a white space.
-_RULE = re.compile(rb"^!?(?:\*|[a-zA-Z0-9\x80-\xff-]+)(?:\.(?:\*|[a-zA-Z0-9\x80-\xff-]+))*(?=\s|\Z)", re.M)
+class _Handle:
+    """A handle of the library. Calls of one wait for one another, so threads may share it."""
+
+    def __init__(self) -> None:
+        self._lock = threading.Lock()
+        self._is_torn = False
+        self._room = ctypes.create_string_buffer(_ROOM)
+        self._at = ctypes.create_string_buffer(_LIB.fonnalich_size() + 16)
+        self._place: Optional[int] = -(-ctypes.addressof(self._at) // 16) * 16
+        _LIB.fonnalich_place(self._place)
+        _HANDLES.add(self)
+
+    def _call(self, word: int, number: int, subject: bytes, text: bytes) -> bytes:
+        return self._answer(_LIB.fonnalich_act, word, number, subject, text)
+
+    def _answer(self, call: Callable[..., int], word: int, number: int, *texts: bytes) -> bytes:
+        with self._lock:
+            place = self._usable()
+            given = [it for text in texts for it in (text, len(text))]
+            length = call(place, word, number, *given, self._room, len(self._room))
+            if length > len(self._room):
+                self._room = ctypes.create_string_buffer(length)
+                length = _LIB.fonnalich_act(place, _ANSWER, 0, b"", 0, b"", 0, self._room, length)
+            _raise(length)
+            return ctypes.string_at(self._room, length)
+
+    def _share(self, other: _Handle) -> None:
+        """Keeps the list that another keeps. Nobody else has this handle yet."""
+        with other._lock:
+            _raise(_LIB.fonnalich_share(self._usable(), other._usable()))
+
+    def _usable(self) -> int:
+        if self._is_torn:
+            raise RuntimeError("this was in a call of another thread as this process was forked")
+        if self._place is None:
+            raise ValueError("this is closed")
+        return self._place
+
+    def _end(self) -> None:
+        with self._lock:
+            if self._place is not None and not self._is_torn:
+                _LIB.fonnalich_end(self._place)
+            self._place = None
+
+    def __del__(self) -> None:
+        if getattr(self, "_place", None) is not None:
+            self._end()
 
 
-class List:
+_HANDLES: weakref.WeakSet[_Handle] = weakref.WeakSet()
+
+
+def _after_fork() -> None:
+    """Gives each handle a lock again whose own no thread of this process will open, and marks it."""
+    for handle in list(_HANDLES):
+        if handle._lock.locked():
+            handle._lock, handle._is_torn = threading.Lock(), True
+
+
+if hasattr(os, "register_at_fork"):
+    os.register_at_fork(after_in_child=_after_fork)
+
+
+class List(_Handle):
     """A public suffix list, by its text as publicsuffix.org publishes it. `text` has it in bytes.
 
-    A text without any rule is refused as `NoRules`, the path of a file above all: by it a site could set cookies for
+    It is read once, and its rules lie in memory once, however many clients have it. What is no list, as a path, is
+    refused as `List`, and one without a rule, or the name of a file, as `NoRules`: by it a site could set cookies for
     `Domain=com`. That it has all rules isn't looked at.
     """
 
     SYSTEM = "/usr/share/publicsuffix/public_suffix_list.dat"
 
     def __init__(self, text: Text):
+        super().__init__()
         self.text = _bytes(text)
-        if _RULE.search(self.text) is None or _is_path(self.text):
-            # (which refuses what is no list at all)
-            _suffix(self.text, "com")
+        self._call(_KEEP_LIST, 0, b"", self.text)
+        if _is_path(self.text):
             raise NoRules
+
+    def _ask(self, word: int, text: Text) -> str:
+        """What is asked of it for a host or a URL."""
+        return self._call(word, 0, _bytes(text), b"").decode()
+
+    def __reduce__(self) -> tuple[type[List], tuple[bytes]]:
+        """Another of the same text."""
+        return type(self), (self.text,)
 
     @classmethod
     def from_file(cls, path: Union[str, os.PathLike[str]]) -> List:
@@ -338,29 +422,26 @@ def _is_path(text: bytes) -> bool:
 Suffixes = Union[List, Text]
 
 
-def _list(suffixes: Suffixes) -> bytes:
-    return (suffixes if isinstance(suffixes, List) else List(suffixes)).text
+def _list(suffixes: Suffixes) -> List:
+    return suffixes if isinstance(suffixes, List) else List(suffixes)
 
 
 def suffix(suffixes: Suffixes, host: str) -> str:
-    """The public suffix of a host, which is in IDNA ASCII form and lower case, by a list or the text of one."""
-    return _suffix(_list(suffixes), host)
-
-
-def _suffix(text: bytes, host: str) -> str:
-    return _answered(_LIB.fonnalich_suffix, text, _bytes(host)).decode()
+    """The public suffix of a host, which is in IDNA ASCII form and lower case, by a list or the text of one, which is
+    read anew."""
+    return _list(suffixes)._ask(_SUFFIX_BY, host)
 
 
 def shard(suffixes: Suffixes, host: str) -> str:
     """The shard of a host, which is in IDNA ASCII form and lower case, by a list or the text of one: the shortest of it
     and the texts behind its dots that is no public suffix of the list; the whole host where each of them is one, and
     for an address. Hosts that can share a cookie have one shard."""
-    return _answered(_LIB.fonnalich_shard, _list(suffixes), _bytes(host)).decode()
+    return _list(suffixes)._ask(_SHARD_BY, host)
 
 
 def shard_of_url(suffixes: Suffixes, url: Text) -> str:
     """The shard of the host of a URL, as a `Client` reads it."""
-    return _answered(_LIB.fonnalich_shard_of_url, _list(suffixes), _bytes(url)).decode()
+    return _list(suffixes)._ask(_SHARD_OF_URL_BY, url)
 
 
 def is_plain_url(url: Text) -> bool:
@@ -454,14 +535,30 @@ class HeldCookie:
     same_site: Optional[str]
 
 
-def _held(answer: bytes) -> list[HeldCookie]:
-    """The cookies of an answer: six items each, the last two of the second of its end and of its flags."""
-    at, items = 0, []
+def _records(answer: bytes) -> Iterator[bytes]:
+    """The records of an answer, one of a cookie: six items each, the last two of the second of its end and of its
+    flags."""
+    at = 0
     while at < len(answer):
-        end = at + 8 + int.from_bytes(answer[at:at + 8], "little")
-        items.append(answer[at + 8:end])
+        start = at
+        for _ in range(6):
+            at += 8 + int.from_bytes(answer[at:at + 8], "little")
+        yield answer[start:at]
+
+
+def _held(answer: bytes) -> list[HeldCookie]:
+    """The cookies of an answer."""
+    return [_held_of(*_parts(record)) for record in _records(answer)]
+
+
+def _parts(record: bytes) -> list[bytes]:
+    """The items of a record."""
+    at, items = 0, []
+    while at < len(record):
+        end = at + 8 + int.from_bytes(record[at:at + 8], "little")
+        items.append(record[at + 8:end])
         at = end
-    return [_held_of(*items[i:i + 6]) for i in range(0, len(items), 6)]
+    return items
 
 
 def _held_of(domain: bytes, path: bytes, name: bytes, value: bytes, end: bytes, flags: bytes) -> HeldCookie:
@@ -487,6 +584,8 @@ class Way(enum.Enum):
 
 WayOrName = Union[Way, str]
 _PREFIXES = {Way.HOST: b"__Host-", Way.SECURE: b"__Secure-"}
+# How values that end are kept in a way.
+_ENDING = {Way.SIGNED: b"5", Way.SEALED: b"6"}
 
 
 def _way(way: WayOrName) -> Way:
@@ -496,6 +595,44 @@ def _way(way: WayOrName) -> Way:
     if found is None:
         raise ValueError(f"no way is named {way!r}")
     return found
+
+
+def _ending(way: WayOrName) -> bytes:
+    kept = _ENDING.get(_way(way))
+    if kept is None:
+        raise ValueError(f"{way!r}: a value that ends is signed or sealed")
+    return kept
+
+
+def _readings(answer: bytes, count: int) -> list[Optional[tuple[str, int]]]:
+    """The first values of an answer, each with the place of its key in the eight bytes of an item behind it."""
+    items = _items(answer)
+    return [None if value is None else (value, int.from_bytes((place or "").encode(), "little"))
+            for value, place in zip(items[:2 * count:2], items[1:2 * count:2])]
+
+
+def _value(read: Optional[tuple[str, int]]) -> Optional[str]:
+    return read[0] if read else None
+
+
+def _key_bytes(key: Bytes) -> bytes:
+    if isinstance(key, str):
+        raise TypeError("a key is of bytes")
+    key = _bytes(key)
+    if len(key) != _KEY_LENGTH:
+        raise ValueError(f"a key of {len(key)} bytes")
+    return key
+
+
+def _ring(keys: Iterable[RingKey]) -> tuple[bytes, list[int]]:
+    """The keys one behind another, and the ends of the earlier ones."""
+    each = [(key[0], key[1]) if isinstance(key, tuple) else (key, None) for key in keys]
+    if not each or each[0][1] is not None:
+        raise ValueError("a ring begins with its current key, which has no end")
+    if len(each) > _EARLIER_KEYS + 1:
+        raise ValueError(f"{len(each) - 1} earlier keys")
+    ends = [_NO_END if end is None else min(_second_of(end), _NO_END - 1) for _, end in each[1:]]
+    return b"".join(_key_bytes(key) for key, _ in each), ends
 
 
 def _escaped(text: str) -> bytes:
@@ -533,40 +670,64 @@ class Session:
 
     A header that has a character for each byte, as those of `http.server` and WSGI, goes in as
     `header.encode("latin-1")`.
-    `key` has 64 secret bytes, and is the same for all requests. `now` is the moment of the request, in seconds since
-    1970 or a `datetime` with a zone; none is now. A set cookie gets `Secure` and `Path=/`. Nothing is kept behind a
-    session, and none has to be closed.
+    `key` has 64 secret bytes, and is the same for all requests. So that it can be replaced, hand in `keys` for it: the
+    current key and behind it at most 16 earlier ones, each alone or with the moment from which it counts no more, as
+    `keys=[new, (old, next_week)]`. What is set is signed or sealed by the current key; what is read is what the first
+    of the keys gives that counts at the moment of the request. This is `now`, in seconds since 1970 or a `datetime`
+    with a zone; none is now. A set cookie gets `Secure` and `Path=/`. Nothing is kept behind a session, and none has to
+    be closed.
     """
 
-    def __init__(self, header: Text, key: Bytes, now: Optional[Moment] = None):
-        if isinstance(key, str):
-            raise TypeError("a key is of bytes")
-        self._header, self._key, self._now = _bytes(header), _bytes(key), _second(now)
-        if len(self._key) != _KEY_LENGTH:
-            raise ValueError(f"a key of {len(self._key)} bytes")
+    def __init__(self, header: Text, key: Optional[Bytes] = None, now: Optional[Moment] = None, *,
+                 keys: Optional[Iterable[RingKey]] = None):
+        if keys is None and key is not None:
+            keys = [key]
+        elif keys is None or key is not None:
+            raise TypeError("a session has a key of bytes, or keys")
+        self._header, self._now = _bytes(header), _second(now)
+        self._keys, ends = _ring(keys)
+        self._earlier, self._ends = len(ends), (ctypes.c_int64 * (len(ends) + 1))(*ends)
         self._commands: list[bytes] = []
         self._nonces = b""
+        # The lines of the last command alone.
+        self._lines: list[str] = []
         # The last command of each cookie with its nonce; the header decoded, what was read of it, and the ways in which
         # all was.
         self._last: dict[bytes, tuple[bytes, bytes]] = {}
         self._decoded: Optional[bytes] = None
-        self._read: dict[bytes, Optional[str]] = {}
-        self._ahead: set[Way] = set()
+        self._read: dict[bytes, Optional[tuple[str, int]]] = {}
+        self._ahead: set[bytes] = set()
 
     def get(self, way: WayOrName, name: str) -> Optional[str]:
         """The value of a name, as it was set in this way: set last here, else in the header."""
+        return _value(self.get_with_place(way, name))
+
+    def get_with_place(self, way: WayOrName, name: str) -> Optional[tuple[str, int]]:
+        """The same with the place of its key: 0 is the current one, 1 the first of the earlier ones. Where it isn't 0,
+        set the value anew. In the ways without a key it is 0."""
         way = _way(way)
-        asked = b"G" + way.value + _escaped(name)
-        whole = _whole(way, name)
+        return self._get(way.value, _whole(way, name), name)
+
+    def get_until(self, way: WayOrName, name: str) -> Optional[str]:
+        """The value of a name that was set with an `until` in this way, before that moment; none from then on, whatever
+        the client kept. Neither `get` nor this reads what was set for the other."""
+        return _value(self.get_until_with_place(way, name))
+
+    def get_until_with_place(self, way: WayOrName, name: str) -> Optional[tuple[str, int]]:
+        """The same with the place of its key."""
+        return self._get(_ending(way), _bytes(name), name)
+
+    def _get(self, way: bytes, whole: bytes, name: str) -> Optional[tuple[str, int]]:
+        asked = b"G" + way + _escaped(name)
         if whole in self._last:
             # What a cookie was set to last decides, whatever the header has and other names were set to.
             command, nonce = self._last[whole]
-            return _items(self._exchange(b"", [command, asked], nonce))[0]
+            return _readings(self._exchange(b"", [command, asked], nonce), 1)[0]
         if asked not in self._read:
             self._read_header(way, whole, asked)
         return self._read[asked]
 
-    def _read_header(self, way: Way, whole: bytes, asked: bytes) -> None:
+    def _read_header(self, way: bytes, whole: bytes, asked: bytes) -> None:
         """Keeps what the header has of this name, and of all its names in this way once many were asked."""
         if whole not in self._header and whole not in self._decoded_header():
             # (so it isn't read for a name that it can't have)
@@ -574,7 +735,7 @@ class Session:
             return
         if len(self._read) >= _FEW and way not in self._ahead:
             self._ahead.add(way)
-            self._keep(self._header, [b"G" + way.value + name for name in _guessed(self._header)])
+            self._keep(self._header, [b"G" + way + name for name in _guessed(self._header)])
         if asked not in self._read:
             self._keep(self._header, [asked])
 
@@ -584,11 +745,11 @@ class Session:
         return self._decoded
 
     def _keep(self, header: bytes, asked: list[bytes]) -> None:
-        self._read.update(zip(asked, _items(self._exchange(header, asked, b""))))
+        self._read.update(zip(asked, _readings(self._exchange(header, asked, b""), len(asked))))
 
     def set(self, way: WayOrName, name: str, value: str, max_age: Optional[Life] = None,
             expires: Optional[Moment] = None, http_only: bool = False, same_site: Optional[str] = None,
-            partitioned: bool = False) -> None:
+            partitioned: bool = False, *, until: Optional[Moment] = None) -> None:
         """Sets a cookie in a way. `max_age` is in seconds or a `timedelta`, `expires` in seconds since 1970 or a
         `datetime` with a zone, `same_site` one of `Strict`, `Lax` and `None`. By `Way.SEALED` it takes a nonce of
         `os.urandom`.
@@ -596,11 +757,18 @@ class Session:
         An expiry before the year 100 is refused as `Expiry`, since its year would be read as one from 1970 to 2069, and
         one past 9999 as `Moment`. The years 100 to 1600, by the Gregorian calendar carried back, are written as they
         stand, and a `Client` takes such a cookie as expired. But by RFC 6265, section 5.1.1, step 5, a client passes
-        over such an expiry, and so keeps the cookie until its session ends. `remove` ends a cookie in either."""
+        over such an expiry, and so keeps the cookie until its session ends. `remove` ends a cookie in either.
+
+        With `until` the value ends: from that moment on no session reads it, whatever the client kept. It is signed or
+        sealed with the moment and the name in it, `get_until` reads it, and the moment is the cookie's expiry."""
         if same_site not in (None, "Strict", "Lax", "None"):
             raise ValueError(f"same_site is {same_site!r}")
         way = _way(way)
-        line = b"S" + way.value + _escaped(name) + b"=" + _escaped(value)
+        if until is not None and (max_age, expires) != (None, None):
+            raise ValueError("a value with an end has no other expiry")
+        kept = way.value if until is None else _ending(way)
+        expires = expires if until is None else until
+        line = b"S" + kept + _escaped(name) + b"=" + _escaped(value)
         line += b"; HttpOnly" if http_only else b""
         line += f"; SameSite={same_site}".encode() if same_site else b""
         line += b"; Partitioned" if partitioned else b""
@@ -615,6 +783,9 @@ class Session:
 
     def close(self) -> list[str]:
         """The `Set-Cookie` line of each cookie that was set or removed, in no promised order."""
+        if len(self._commands) == 1 and self._commands[0].startswith(b"S"):
+            # (a cookie that is set has this line whatever the header has)
+            return list(self._lines)
         items = _items(self._exchange(self._header, self._commands, self._nonces))
         return [line for line in items if line is not None]
 
@@ -624,23 +795,25 @@ class Session:
 
     def _add(self, whole: bytes, command: bytes, nonce: bytes) -> None:
         # What a command is refused for is in itself, and so is asked of it alone.
-        self._exchange(b"", [command], nonce)
+        self._lines = [line for line in _items(self._exchange(b"", [command], nonce)) if line is not None]
         self._commands.append(command)
         self._nonces += nonce
         self._last[whole] = command, nonce
 
     def _exchange(self, header: bytes, commands: list[bytes], nonces: bytes) -> bytes:
-        return _answered(_LIB.fonnalich_exchange, self._key, header, self._now, b"\n".join(commands), nonces)
+        return _answered(_LIB.fonnalich_exchange_on_ring, self._keys, self._ends, self._earlier, header, self._now,
+                         b"\n".join(commands), nonces)
 
 
-class Client:
+class Client(_Handle):
     """A client that keeps what it is sent, and gives each request what it holds for it.
 
     A line as `str` goes in as UTF-8, and a header comes out so. What has a character for each byte, as a header from
     `http.client`, goes in as `line.encode("latin-1")`, and out as `header.encode().decode("latin-1")`: `Jar` does so.
-    `suffixes` is a `List`, or the text of one, as publicsuffix.org publishes it, in `str` or bytes; one without a rule
-    is refused as `NoRules`. Where `saved` is given, the client begins with the cookies of that text that aren't expired
-    now. A moment is in seconds since 1970, of which the whole part counts, or a `datetime` with a zone; none is now.
+    `suffixes` is a `List`, which the client shares, or the text of one, as publicsuffix.org publishes it, in `str` or
+    bytes; one without a rule is refused as `NoRules`. Where `saved` is given, the client begins with the cookies of
+    that text that aren't expired now. A moment is in seconds since 1970, of which the whole part counts, or a
+    `datetime` with a zone; none is now.
     Lines come behind `rules`, which judge none of the cookies that are there.
     Calls of one client wait for one another, so threads may share it. In a process that was forked while another thread
     was in a call of the client, each call of it raises `RuntimeError`.
@@ -648,18 +821,13 @@ class Client:
 
     def __init__(self, suffixes: Suffixes, saved: Optional[Bytes] = None, now: Optional[Moment] = None,
                  rules: int = Rules.NONE):
-        text = _list(suffixes)
-        self._lock = threading.Lock()
-        self._is_torn = False
-        self._room = ctypes.create_string_buffer(_ROOM)
-        self._at = ctypes.create_string_buffer(_LIB.fonnalich_size() + 16)
-        self._place: Optional[int] = -(-ctypes.addressof(self._at) // 16) * 16
-        _LIB.fonnalich_place(self._place)
-        _CLIENTS.add(self)
+        shared = _list(suffixes)
+        super().__init__()
+        self._share(shared)
         if saved is None:
-            self._call(_LIST, 0, b"", text)
+            self._call(_CLIENT, 0, b"", b"")
         else:
-            self._call(_LOAD, _second(now), _bytes(saved), text)
+            self._call(_LOAD_BY, _second(now), _bytes(saved), b"")
         self._put(rules)
 
     @property
@@ -675,42 +843,40 @@ class Client:
         self._call(_RULES, _counted(rules), b"", b"")
         self._rules = Rules(rules)
 
-    def _call(self, word: int, number: int, subject: bytes, text: bytes) -> bytes:
-        return self._answer(_LIB.fonnalich_act, word, number, subject, text)
-
     def _one(self, word: int, second: int, domain: Text, path: Text, name: Text) -> Optional[HeldCookie]:
         held = _held(self._answer(_LIB.fonnalich_one, word, second, _bytes(domain), _bytes(path), _bytes(name)))
         return held[0] if held else None
 
-    def _answer(self, call: Callable[..., int], word: int, number: int, *texts: bytes) -> bytes:
-        with self._lock:
-            if self._is_torn:
-                raise RuntimeError("the client was in a call of another thread as this process was forked")
-            if self._place is None:
-                raise ValueError("the client is closed")
-            given = [it for text in texts for it in (text, len(text))]
-            length = call(self._place, word, number, *given, self._room, len(self._room))
-            if length > len(self._room):
-                self._room = ctypes.create_string_buffer(length)
-                length = _LIB.fonnalich_act(self._place, _ANSWER, 0, b"", 0, b"", 0, self._room, length)
-            _raise(length)
-            return ctypes.string_at(self._room, length)
+    def receive(self, url: str, lines: Iterable[Text], now: Optional[Moment] = None, *,
+                initiator: Optional[str] = None, navigates: bool = False) -> list[End]:
+        """Takes the Set-Cookie lines of an answer from this URL, and says what became of each.
 
-    def receive(self, url: str, lines: Iterable[Text], now: Optional[Moment] = None) -> list[End]:
-        """Takes the Set-Cookie lines of an answer from this URL, and says what became of each."""
+        `initiator` is the URL of the page that started the request, at the top of its frames; the user did where there
+        is none. Where that page is of another site, the answer sets no cookie whose `SameSite` is `Strict` or `Lax`,
+        unless the request `navigates` the top level, by whatever method (the draft that follows RFC 6265, section
+        5.7)."""
         each = _lines(lines)
         if not each:
             return []
         # One empty line is no text, and no cookie.
         if each == [b""]:
             return [End.PARSE]
-        return [End(number) for number in self._call(_RECEIVE, _second(now), _bytes(url), b"\n".join(each))]
+        started = _BY_USER if initiator is None else _BY_NAVIGATION if navigates else _BY_PAGE
+        texts = _bytes(url), _bytes(initiator or ""), b"\n".join(each)
+        return [End(number) for number in self._answer(_LIB.fonnalich_receive_for, started, _second(now), *texts)]
 
-    def header(self, url: str, now: Optional[Moment] = None) -> str:
+    def header(self, url: str, now: Optional[Moment] = None, *, initiator: Optional[str] = None,
+               navigates: bool = False) -> str:
         """The Cookie header of a request to this URL; empty where it gets none.
 
-        It is one line: it is refused as `Line` where a cookie of a saved text would put a control character there."""
-        return self._call(_HEADER, _second(now), _bytes(url), b"").decode("utf-8", "surrogateescape")
+        It is one line: it is refused as `Line` where a cookie of a saved text would put a control character there.
+        `initiator` is the URL of the page that starts the request, at the top of its frames; the user does where there
+        is none. Where that page is of another site, cookies are left out whose `SameSite` is `Strict`, and unless the
+        request `navigates` the top level with a safe method, as a link by GET, those whose is `Lax` (the draft that
+        follows RFC 6265, section 5.8.3)."""
+        word = _HEADER if initiator is None else _HEADER_BY_NAVIGATION if navigates else _HEADER_BY_PAGE
+        answer = self._call(word, _second(now), _bytes(url), _bytes(initiator or ""))
+        return answer.decode("utf-8", "surrogateescape")
 
     def save(self, now: Optional[Moment] = None) -> bytes:
         """The saved text of the cookies that have an expiry and aren't expired."""
@@ -756,10 +922,7 @@ class Client:
 
     def close(self) -> None:
         """Gives all memory back. No other call may follow."""
-        with self._lock:
-            if self._place is not None and not self._is_torn:
-                _LIB.fonnalich_end(self._place)
-            self._place = None
+        self._end()
 
     def __reduce__(self) -> NoReturn:
         """Raises, since two would give the same memory back."""
@@ -771,31 +934,25 @@ class Client:
     def __exit__(self, *_: object) -> None:
         self.close()
 
-    def __del__(self) -> None:
-        if getattr(self, "_place", None) is not None:
-            self.close()
-
-
-_CLIENTS: "weakref.WeakSet[Client]" = weakref.WeakSet()
-
-
-def _after_fork() -> None:
-    """Gives each client a lock again whose own no thread of this process will open, and marks it."""
-    for client in list(_CLIENTS):
-        if client._lock.locked():
-            client._lock, client._is_torn = threading.Lock(), True
-
-
-if hasattr(os, "register_at_fork"):
-    os.register_at_fork(after_in_child=_after_fork)
-
 
 class _Shown(http.cookiejar.Cookie):
     """A cookie of a client as `http.cookiejar` has one. Its version is 1, so that a jar into which somebody copies it
     sends it nowhere: what a request gets is the client's to say."""
 
+    _rest: dict[str, Any]
 
-def _shown(held: HeldCookie) -> http.cookiejar.Cookie:
+    def __copy__(self) -> _Shown:
+        # (`requests` copies each at each request, which takes four times as long by `copy` itself)
+        copied = _Shown.__new__(_Shown)
+        copied.__dict__ = self.__dict__.copy()
+        return copied
+
+    def set_nonstandard_attr(self, name: str, value: str) -> None:
+        """Sets another attribute of this cookie, and of no copy."""
+        self._rest = {**self._rest, name: value}
+
+
+def _shown(held: HeldCookie) -> _Shown:
     has_dot = not held.host_only
     rest = {**({"HttpOnly": ""} if held.http_only else {}), **({"SameSite": held.same_site} if held.same_site else {})}
     return _Shown(1, held.name, held.value, None, False, "." * has_dot + held.domain, has_dot, has_dot, held.path, True,
@@ -816,27 +973,35 @@ def _line_of(cookie: Any) -> tuple[str, str]:
     return f"https://{host}/", line
 
 
+def _site_of(url: str) -> str:
+    """The URL whose cookies a request gets: a WebSocket's are those of its handshake, which is by http or https (the
+    standard WebSockets, "establish a WebSocket connection")."""
+    return f"http{url[2:]}" if url[:4].lower() == "wss:" or url[:3].lower() == "ws:" else url
+
+
 class Jar(http.cookiejar.CookieJar):
     """A jar for `urllib.request.HTTPCookieProcessor` over a client, or over a `Fleet` of the module `fleet`.
 
     It reads, lists, sets and removes the client's cookies as `http.cookiejar` and the jar of `requests` do. Over a
     fleet it lists none, and the other calls raise `NotImplementedError`. A cookie that is set has a domain. One that is
     read, as by `list`, says of itself that its version is 1, so other jars send it nowhere. `bool(jar)` is True, with
-    cookies and without. There is no `set_policy`.
+    cookies and without. There is no `set_policy`. A WebSocket (ws, wss) gets the cookies of its handshake.
     """
 
     def __init__(self, client: Union[Client, Fleet]):
         super().__init__()
         self.client = client
+        # What the client last answered, and the cookie that was made of each of its records.
+        self._listing: tuple[bytes, dict[bytes, _Shown]] = b"", {}
 
     def extract_cookies(self, response: Any, request: urllib.request.Request) -> None:
         """Has the client take the `Set-Cookie` lines of an answer, byte for byte."""
         lines = response.info().get_all("Set-Cookie", [])
-        self.client.receive(request.get_full_url(), [_received(line) for line in lines])
+        self.client.receive(_site_of(request.get_full_url()), [_received(line) for line in lines])
 
     def add_cookie_header(self, request: urllib.request.Request) -> None:
         """Gives a request the client's header, byte for byte, where it has no `Cookie` header of its own."""
-        header = self.client.header(request.get_full_url())
+        header = self.client.header(_site_of(request.get_full_url()))
         if header and not request.has_header("Cookie"):
             request.add_unredirected_header("Cookie", _Sendable(header))
 
@@ -853,7 +1018,16 @@ class Jar(http.cookiejar.CookieJar):
 
     def __iter__(self) -> Iterator[http.cookiejar.Cookie]:
         # (`requests` does so at each request, over a fleet too)
-        return iter([_shown(held) for held in self.client] if isinstance(self.client, Client) else [])
+        return iter([it.__copy__() for it in self._shown()] if isinstance(self.client, Client) else [])
+
+    def _shown(self) -> Iterable[_Shown]:
+        """The client's cookies. Each is made once, as long as it is the same."""
+        answer, made = self._listing
+        now = self._listed()._call(_COOKIES, _second(None), b"", b"")
+        if now != answer:
+            made = {it: made[it] if it in made else _shown(_held_of(*_parts(it))) for it in _records(now)}
+            self._listing = now, made
+        return made.values()
 
     def __len__(self) -> int:
         return len(self.client) if isinstance(self.client, Client) else 0
@@ -890,6 +1064,22 @@ class Jar(http.cookiejar.CookieJar):
     def items(self) -> list[tuple[str, str]]:
         """The names and the values."""
         return [(held.name, held.value) for held in self._listed()]
+
+    def iterkeys(self) -> Iterator[str]:
+        """The names, one after another."""
+        return iter(self.keys())
+
+    def itervalues(self) -> Iterator[str]:
+        """The values, one after another."""
+        return iter(self.values())
+
+    def iteritems(self) -> Iterator[tuple[str, str]]:
+        """The names and the values, one after another."""
+        return iter(self.items())
+
+    def multiple_domains(self) -> bool:
+        """Whether it has cookies of several domains."""
+        return len(self.list_domains()) > 1
 
     def get_dict(self, domain: Optional[str] = None, path: Optional[str] = None) -> dict[str, str]:
         """The names and the values, of this domain and path where they are given."""
@@ -974,6 +1164,12 @@ class Jar(http.cookiejar.CookieJar):
             self._listed().remove(held.domain, held.path, held.name)
 
 
+def _has_others(request: Any) -> bool:
+    """Whether `requests` may have made the header itself: it does so of the cookies of this table alone, but for the
+    client's, which it copies."""
+    return request._cookies is not None and any(not isinstance(it, _Shown) for it in request._cookies)
+
+
 class Adapter:
     """An adapter for `requests`: mount it for `http://` and `https://` of a session whose `cookies` are `Jar(client)`.
     A `Fleet` may stand in the client's place.
@@ -993,9 +1189,7 @@ class Adapter:
     def send(self, request: Any, *words: Any, **how: Any) -> Any:
         """Sends a request with the client's header, but where the caller put one."""
         given = request.headers.get("Cookie")
-        # `requests` makes a header itself of the cookies of this table alone, but for the client's, which it copies.
-        others = any(not isinstance(it, _Shown) for it in request._cookies or ())
-        if given is None or isinstance(given, _Sendable) or others:
+        if given is None or isinstance(given, _Sendable) or _has_others(request):
             self._put(request)
         return self.over.send(request, *words, **how)
 

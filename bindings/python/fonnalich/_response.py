@@ -1,7 +1,9 @@
 """What the modules for sites share: a session whose lines go out with a response's fields."""
 from __future__ import annotations
 
-from . import Bytes, Session
+from typing import Iterable
+
+from . import Bytes, RingKey, Session
 
 NAME = "fonnalich.session"
 
@@ -26,7 +28,8 @@ class ResponseSession(Session):
         super()._add(whole, command, nonce)
 
 
-def checked(key: Bytes) -> bytes:
-    """A key, which is refused here and not at the first request."""
-    Session("", key)
-    return bytes(key)
+def checked(key: Bytes, fallbacks: Iterable[RingKey]) -> list[RingKey]:
+    """A key, and those that were the key before, which are refused here and not at the first request."""
+    keys: list[RingKey] = [key, *fallbacks]
+    Session("", keys=keys)
+    return keys

@@ -6,9 +6,9 @@ stream may set cookies before it; one that is set later raises `Sent`.
 """
 from __future__ import annotations
 
-from typing import Any, Awaitable, Callable, MutableMapping, Optional
+from typing import Any, Awaitable, Callable, Iterable, MutableMapping, Optional
 
-from . import Bytes
+from . import Bytes, RingKey
 from ._response import NAME, ResponseSession, Sent, checked
 
 __all__ = ["Middleware", "Sent"]
@@ -24,10 +24,13 @@ _ACCEPT = "websocket.accept"
 
 
 class Middleware:
-    """An application over another one, whose requests have a session by this key of 64 bytes."""
+    """An application over another one, whose requests have a session by this key of 64 bytes.
 
-    def __init__(self, app: App, key: Bytes):
-        self._app, self._key = app, checked(key)
+    `fallbacks` are keys that were the key before, each alone or with the moment from which it counts no more: what they
+    signed or sealed is read too."""
+
+    def __init__(self, app: App, key: Bytes, fallbacks: Iterable[RingKey] = ()):
+        self._app, self._keys = app, checked(key, fallbacks)
 
     async def __call__(self, scope: Message, receive: Receive, send: Send) -> None:
         if scope["type"] not in ("http", "websocket"):
@@ -35,7 +38,7 @@ class Middleware:
             return
         # (HTTP/2 may send a field for each cookie)
         header = b"; ".join(value for name, value in scope["headers"] if name.lower() == b"cookie")
-        session = ResponseSession(header, self._key)
+        session = ResponseSession(header, keys=self._keys)
         response = _Response(session, send)
         await self._app({**scope, NAME: session}, receive, response.send)
         await response.begin()

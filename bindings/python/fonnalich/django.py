@@ -4,8 +4,9 @@
     SESSION_COOKIE_NAME, SESSION_COOKIE_SECURE = "__Host-session", True
     FONNALICH_KEY = Path("KEY_FILE").read_bytes()
 
-and in MIDDLEWARE "fonnalich.django.SessionMiddleware" in the place of Django's, which reads a neighbour's
-`\\u00a0__Host-session` as the site's.
+where `FONNALICH_KEY_FALLBACKS` may be a list of keys that were the key before, as Django's `SECRET_KEY_FALLBACKS`, each
+alone or with the moment from which it counts no more. And in MIDDLEWARE "fonnalich.django.SessionMiddleware" in the
+place of Django's, which reads a neighbour's `\\u00a0__Host-session` as the site's.
 
 It is as `django.contrib.sessions.backends.signed_cookies`, but encrypted, so that its user can't read it; and no
 neighbour site can set, shadow or expire it. As there, a cookie that was stolen holds until `SESSION_COOKIE_AGE` is
@@ -21,15 +22,15 @@ from django.contrib.sessions import middleware
 from django.contrib.sessions.backends.base import SessionBase
 from django.core.exceptions import ImproperlyConfigured
 
-from . import Session, Way
+from . import RingKey, Session, Way
 
 __all__ = ["SessionMiddleware", "SessionStore"]
 
 _PREFIXES = ("__Host-", "__Secure-")
 
 
-def _key() -> bytes:
-    """The key of the settings, where these say what the prefix `__Host-` asks."""
+def _keys() -> list[RingKey]:
+    """The key of the settings and its fallbacks, where these say what the prefix `__Host-` asks."""
     wrong = []
     if not settings.SESSION_COOKIE_NAME.startswith("__Host-"):
         wrong.append("SESSION_COOKIE_NAME has to begin with __Host-")
@@ -40,20 +41,25 @@ def _key() -> bytes:
         wrong.append("FONNALICH_KEY has to be 64 secret bytes")
     if wrong:
         raise ImproperlyConfigured("; ".join(wrong))
-    return bytes(key or b"")
+    keys: list[RingKey] = [bytes(key or b""), *getattr(settings, "FONNALICH_KEY_FALLBACKS", ())]
+    try:
+        Session("", keys=keys)
+    except (TypeError, ValueError) as why:
+        raise ImproperlyConfigured(f"FONNALICH_KEY_FALLBACKS: {why}") from why
+    return keys
 
 
 class SessionStore(SessionBase):
     """A session whose key is the sealed text of all that it holds, so that nothing is kept at the site."""
 
     def __init__(self, session_key: Optional[str] = None):
-        self._secret = _key()
+        self._keys = _keys()
         super().__init__(session_key)
 
     def load(self) -> dict[str, Any]:
         """What the cookie holds; a new session where it holds nothing by this key, or is past its age."""
         name = settings.SESSION_COOKIE_NAME
-        text = Session(f"{name}={self.session_key}", self._secret).get(Way.SEALED, name)
+        text = Session(f"{name}={self.session_key}", keys=self._keys).get(Way.SEALED, name)
         try:
             second, _, content = (text or "").partition(" ")
             if int(second) + self.get_session_cookie_age() >= time.time():
@@ -88,7 +94,7 @@ class SessionStore(SessionBase):
         self.save()
 
     def _get_session_key(self) -> str:
-        session = Session("", self._secret)
+        session = Session("", keys=self._keys)
         text = f"{int(time.time())} {self.serializer().dumps(self._session).decode('latin-1')}"
         session.set(Way.SEALED, settings.SESSION_COOKIE_NAME, text)
         return session.close()[0].partition(";")[0].partition("=")[2]

@@ -6,14 +6,14 @@ by http at `localhost` name it `session`.
 """
 from __future__ import annotations
 
+import json
 import time
 import warnings
-from typing import TYPE_CHECKING, Any, Optional
+from typing import TYPE_CHECKING, Any, Iterable, Optional
 
 from flask.sessions import SecureCookieSession, SessionInterface, session_json_serializer
 
-from . import Bytes, Session, Way
-from ._response import checked
+from . import Bytes, RingKey, Session, Way
 
 if TYPE_CHECKING:
     from flask import Flask, Request, Response
@@ -22,12 +22,19 @@ __all__ = ["SealedSession", "Sessions", "init_app"]
 
 # What a client has to keep of a name and a value (RFC 6265, section 6.1).
 _LONGEST = 4096
+# What Flask writes of values that JSON has: by Flask itself it takes three times as long.
+_ENCODER = json.JSONEncoder(separators=(",", ":"))
+# How Flask begins what stands for a value that JSON hasn't, as a date.
+_TAGGED = '{" '
 # What a cookie under `__Host-` can't have.
 _OTHERS = ("SESSION_COOKIE_DOMAIN", "SESSION_COOKIE_PATH")
 
 
-def init_app(app: Flask, key: Bytes, name: str = "__Host-session") -> None:
+def init_app(app: Flask, key: Bytes, name: str = "__Host-session", fallbacks: Iterable[RingKey] = ()) -> None:
     """Has the sessions of an application be sealed by this key of 64 bytes.
+
+    `fallbacks` are keys that were the key before, as Flask's `SECRET_KEY_FALLBACKS`, each alone or with the moment from
+    which it counts no more: sessions are opened by them too, and sealed by the key.
 
     `SESSION_COOKIE_HTTPONLY`, `SESSION_COOKIE_SAMESITE` (none is `Lax`), `SESSION_REFRESH_EACH_REQUEST` and
     `PERMANENT_SESSION_LIFETIME` count as Flask says. A domain and a path are refused, since the cookie is its host's.
@@ -35,7 +42,7 @@ def init_app(app: Flask, key: Bytes, name: str = "__Host-session") -> None:
     for it in _OTHERS:
         if app.config.get(it) not in (None, False, "/"):
             raise ValueError(f"{it}: the cookie is of its host and of all paths")
-    app.session_interface = Sessions(key, name)
+    app.session_interface = Sessions(key, name, fallbacks)
 
 
 class SealedSession(SecureCookieSession):
@@ -47,22 +54,26 @@ class SealedSession(SecureCookieSession):
 
 
 class Sessions(SessionInterface):
-    """Opens and saves the sessions of an application, under one name and by one key of 64 bytes."""
+    """Opens and saves the sessions of an application, under one name and by a key of 64 bytes. What an earlier key
+    sealed is opened too."""
 
-    def __init__(self, key: Bytes, name: str = "__Host-session"):
-        self._key, self._name = checked(key), name
+    def __init__(self, key: Bytes, name: str = "__Host-session", fallbacks: Iterable[RingKey] = ()):
+        self._keys, self._name = [key, *fallbacks], name
+        Session("", keys=self._keys)
 
     def open_session(self, app: Flask, request: Request) -> SealedSession:
         """The session of a request, empty where it has none by this key, or one past its lifetime."""
         # (a header has a character for each byte)
         header: bytes = request.environ.get("HTTP_COOKIE", "").encode("latin-1")
-        kept = Session(header, self._key)
+        kept = Session(header, keys=self._keys)
         return SealedSession(kept, _content(app, kept.get(Way.SEALED, self._name)))
 
     def save_session(self, app: Flask, session: Any, response: Response) -> None:
         """Puts the line of the session's cookie into a response, where there is something to set or to remove."""
-        if session.accessed:
+        if session.accessed and "Vary" in response.headers:
             response.vary.add("Cookie")
+        elif session.accessed:
+            response.headers["Vary"] = "Cookie"
         if not session and session.modified:
             session.kept.remove(Way.SEALED, self._name)
         elif session and self.should_set_cookie(app, session):
@@ -75,11 +86,20 @@ class Sessions(SessionInterface):
                 warnings.warn(f"the session is over {_LONGEST} bytes, which clients needn't keep", stacklevel=2)
 
     def _seal(self, app: Flask, session: SealedSession) -> None:
-        text = session_json_serializer.dumps([int(time.time()), dict(session)])
+        text = _written([int(time.time()), dict(session)])
         session.kept.set(Way.SEALED, self._name, text,
                          max_age=app.permanent_session_lifetime if session.permanent else None,
                          http_only=self.get_cookie_httponly(app), same_site=self.get_cookie_samesite(app) or "Lax",
                          partitioned=bool(app.config.get("SESSION_COOKIE_PARTITIONED")))
+
+
+def _written(value: Any) -> str:
+    """The JSON that Flask writes."""
+    try:
+        return _ENCODER.encode(session_json_serializer.tag(value))
+    except TypeError:
+        # (the application's own JSON may have more)
+        return session_json_serializer.dumps(value)
 
 
 def _content(app: Flask, text: Optional[str]) -> Optional[dict[str, Any]]:
@@ -87,7 +107,7 @@ def _content(app: Flask, text: Optional[str]) -> Optional[dict[str, Any]]:
     if text is None:
         return None
     try:
-        second, content = session_json_serializer.loads(text)
+        second, content = session_json_serializer.loads(text) if _TAGGED in text else json.loads(text)
         is_over = second + int(app.permanent_session_lifetime.total_seconds()) < int(time.time())
         return None if is_over else dict(content)
     except (TypeError, ValueError):

@@ -23,7 +23,7 @@ import threading
 import time
 from typing import Any, Callable, Iterable, Iterator, Optional, Protocol, TypeVar
 
-from . import (_HOST_NUMBER, _LOAD, _RELOAD, _SAVE_ALL, _SAVED_NUMBER, Client, End, Life, Moment, Refused, Rules,
+from . import (_HOST_NUMBER, _LOAD_BY, _RELOAD, _SAVE_ALL, _SAVED_NUMBER, Client, End, Life, Moment, Refused, Rules,
                Suffixes, Text, _bytes, _counted, _lines, _list, _second, _seconds_of, is_plain_url, shard_of_url)
 
 __all__ = ["BadShard", "Conflict", "Fleet", "MemoryStore", "PostgresStore", "RedisStore", "Store"]
@@ -96,7 +96,7 @@ class Fleet:
 
     def __init__(self, suffixes: Suffixes, store: Store, rules: int = Rules.NONE):
         self.store, self._suffixes = store, _list(suffixes)
-        self._sum = hashlib.sha256(self._suffixes).hexdigest()[:16]
+        self._sum = hashlib.sha256(self._suffixes.text).hexdigest()[:16]
         self._key_of = functools.lru_cache(_URLS)(self._read_key)
         # Clients that no call uses, which have read the list.
         self._clients: list[Client] = []
@@ -133,7 +133,7 @@ class Fleet:
         No `Client` has such a call: a cookie that is set anew behind it comes last among its like in a header, where
         one client would give it the place of the expired one. It raises as `receive` does."""
         second = _second(now)
-        self._change(url, lambda client: client._call(_LOAD, second, _text(client), self._suffixes))
+        self._change(url, lambda client: client._call(_LOAD_BY, second, _text(client), b""))
 
     def _change(self, url: str, change: Callable[[Client], _Told]) -> _Told:
         """What a change of the shard of a URL tells, once it is in the store."""

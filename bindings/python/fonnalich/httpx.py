@@ -91,7 +91,9 @@ def _asked(url: httpx.URL) -> str:
     of a path without a slash, behind which a text goes on with the host."""
     host = url.raw_host.decode("ascii")
     port = f":{url.port}" if url.port is not None else ""
-    site = f"{url.scheme}://{f'[{host}]' if ':' in host else host}{port}"
+    # (a WebSocket's cookies are those of its handshake)
+    scheme = {"ws": "http", "wss": "https"}.get(url.scheme, url.scheme)
+    site = f"{scheme}://{f'[{host}]' if ':' in host else host}{port}"
     path: str = url.raw_path.decode("ascii")
     if not is_plain_url(f"{site}/") or not path.startswith("/"):
         raise Refused(_URL_NUMBER)

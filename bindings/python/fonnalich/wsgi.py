@@ -8,7 +8,7 @@ from __future__ import annotations
 
 from typing import TYPE_CHECKING, Any, Callable, Iterable, Iterator, Optional
 
-from . import Bytes
+from . import Bytes, RingKey
 from ._response import NAME, ResponseSession, Sent, checked
 
 if TYPE_CHECKING:
@@ -18,14 +18,17 @@ __all__ = ["Middleware", "Sent"]
 
 
 class Middleware:
-    """An application over another one, whose requests have a session by this key of 64 bytes."""
+    """An application over another one, whose requests have a session by this key of 64 bytes.
 
-    def __init__(self, app: WSGIApplication, key: Bytes):
-        self._app, self._key = app, checked(key)
+    `fallbacks` are keys that were the key before, each alone or with the moment from which it counts no more: what they
+    signed or sealed is read too."""
+
+    def __init__(self, app: WSGIApplication, key: Bytes, fallbacks: Iterable[RingKey] = ()):
+        self._app, self._keys = app, checked(key, fallbacks)
 
     def __call__(self, environ: WSGIEnvironment, start_response: StartResponse) -> Iterable[bytes]:
         # (a header has a character for each byte)
-        session = ResponseSession(environ.get("HTTP_COOKIE", "").encode("latin-1"), self._key)
+        session = ResponseSession(environ.get("HTTP_COOKIE", "").encode("latin-1"), keys=self._keys)
         environ[NAME] = session
         head = _Head(session, start_response)
         return _Body(self._app(environ, head.start), head)

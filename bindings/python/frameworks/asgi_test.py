@@ -1,5 +1,6 @@
 """Tests `fonnalich.asgi` by Starlette."""
 import asyncio
+import time
 import unittest
 
 from starlette.applications import Starlette
@@ -73,9 +74,9 @@ ROUTES = [Route("/", count), Route("/read", read), Route("/stream", stream), Rou
           Route("/background", background), WebSocketRoute("/socket", socket)]
 
 
-def starlette():
+def starlette(key=KEY, fallbacks=()):
     app = Starlette(routes=ROUTES)
-    app.add_middleware(Middleware, key=KEY)
+    app.add_middleware(Middleware, key=key, fallbacks=fallbacks)
     return app
 
 
@@ -119,6 +120,13 @@ class Requests(Asked):
     def test_have_a_session_each(self):
         self.assertEqual([self.get("/")[0] for _ in range(3)], [b"1", b"2", b"3"])
         self.assertEqual(self.get("/read"), (b"None", []))
+
+    def test_outlive_their_key(self):
+        self.get("/")
+        header, new, later = self.client.header(SITE).encode(), bytes(range(64, 128)), time.time() + 60
+        for fallbacks, text in [([], b"1"), ([(KEY, later - 61)], b"1"), ([KEY], b"2"), ([(KEY, later)], b"2")]:
+            told = sent(starlette(new, fallbacks), "/", [(b"cookie", header)])
+            self.assertEqual(told[1]["body"], text, fallbacks)
 
     def test_have_the_cookies_of_all_fields(self):
         for fields in [[(b"cookie", b"a=1"), (b"cookie", b"b=2")], [(b"Cookie", b"a=1; b=2")]]:
@@ -180,6 +188,8 @@ class Requests(Asked):
     def test_refuse_a_bad_key_at_once(self):
         with self.assertRaises(ValueError):
             Middleware(None, bytes(63))
+        with self.assertRaises(ValueError):
+            Middleware(None, KEY, [bytes(63)])
 
     def test_of_the_page_run(self):
         names = {"app": Starlette(routes=ROUTES), "key": KEY}

@@ -1,6 +1,7 @@
 """Tests `fonnalich.django` by Django, beside its own backend of signed cookies."""
 import json
 import random
+import time
 import unittest
 import unittest.mock
 
@@ -81,19 +82,28 @@ class Sessions(unittest.TestCase):
         self.assertEqual(self.browser.get("/").text, "[('user', 'ann')]")
 
     def test_are_sealed_json_of_the_host(self):
-        line, = self.browser.get("/set/user/ann").lines()
+        # (with a hyphen, which no sealing has)
+        line, = self.browser.get("/set/user/ann-e").lines()
         cookie = Cookie.parse(line)
         self.assertEqual((cookie.name, cookie.path, cookie.domain, cookie.secure, cookie.http_only, cookie.same_site,
                           cookie.max_age), ("__Host-session", "/", None, True, True, "Lax", 14 * 24 * 60 * 60))
-        self.assertNotIn("ann", line)
+        self.assertNotIn("ann-e", line)
         text = Session(line.partition(";")[0], KEY).get(Way.SEALED, "__Host-session")
-        self.assertEqual(json.loads(text.partition(" ")[2]), {"user": "ann"})
+        self.assertEqual(json.loads(text.partition(" ")[2]), {"user": "ann-e"})
 
     def test_end(self):
         self.browser.get("/set/user/ann")
         cookie = Cookie.parse(self.browser.get("/flush").lines()[0])
         self.assertEqual((cookie.name, cookie.max_age), ("__Host-session", 0))
         self.assertEqual(self.browser.client.header(HOST), "")
+
+    def test_outlive_their_key(self):
+        self.browser.get("/set/user/ann")
+        header, new, later = self.browser.client.header(HOST), bytes(range(64, 128)), time.time() + 60
+        for fallbacks, held in [([], ""), ([(KEY, later - 61)], ""), ([KEY], "('user', 'ann')"),
+                                ([(KEY, later)], "('user', 'ann')")]:
+            with override_settings(FONNALICH_KEY=new, FONNALICH_KEY_FALLBACKS=fallbacks):
+                self.assertEqual(Browser(WSGIHandler()).get("/", header).text, f"[{held}]", fallbacks)
 
     def test_of_another_hand_are_empty(self):
         expect_nothing_of_another_hand(self, HOST, ["hello", "[]", "1 {", f"{NOW} {{}}", ""])
@@ -128,7 +138,9 @@ class Settings(unittest.TestCase):
     def test_that_can_not_be_are_told(self):
         for wrong in [{"SESSION_COOKIE_NAME": "sessionid"}, {"SESSION_COOKIE_SECURE": False},
                       {"SESSION_COOKIE_DOMAIN": "shop.test"}, {"SESSION_COOKIE_PATH": "/shop"},
-                      {"FONNALICH_KEY": bytes(63)}, {"FONNALICH_KEY": "x" * 64}, {"FONNALICH_KEY": None}]:
+                      {"FONNALICH_KEY": bytes(63)}, {"FONNALICH_KEY": "x" * 64}, {"FONNALICH_KEY": None},
+                      {"FONNALICH_KEY_FALLBACKS": [bytes(63)]}, {"FONNALICH_KEY_FALLBACKS": ["x" * 64]},
+                      {"FONNALICH_KEY_FALLBACKS": [KEY] * 17}]:
             with override_settings(**wrong), self.assertRaisesRegex(ImproperlyConfigured, [*wrong][0]):
                 from fonnalich.django import SessionStore
                 SessionStore()

@@ -64,9 +64,9 @@ def shop(**settings):
     return app
 
 
-def sealed(**settings):
+def sealed(key=KEY, fallbacks=(), **settings):
     app = shop(**settings)
-    fonnalich.flask.init_app(app, KEY)
+    fonnalich.flask.init_app(app, key, fallbacks=fallbacks)
     return app
 
 
@@ -80,16 +80,30 @@ class Sessions(unittest.TestCase):
         self.browser.get("/flash")
         self.assertEqual(self.browser.get("/flashed").text, repr(([("info", "seen")], (1, b"\xff"))))
 
+    def test_outlive_their_key(self):
+        self.browser.get("/set/user/ann")
+        new, later = bytes(range(64, 128)), time.time() + 60
+        for fallbacks, held in [([], ""), ([(KEY, later - 61)], ""), ([KEY], "('user', 'ann')"),
+                                ([(KEY, later)], "('user', 'ann')")]:
+            self.browser.app = sealed(new, fallbacks)
+            self.assertEqual(self.browser.get("/").text, f"[{held}]", fallbacks)
+        self.browser.get("/set/visits/1")
+        self.browser.app = sealed(new)
+        self.assertEqual(self.browser.get("/").text, "[('user', 'ann'), ('visits', '1')]")
+        with self.assertRaises(ValueError):
+            sealed(new, [KEY[:63]])
+
     def test_are_sealed_json_of_the_host(self):
-        line, = self.browser.get("/set/user/ann").lines()
+        # (with a hyphen, which no sealing has)
+        line, = self.browser.get("/set/user/ann-e").lines()
         cookie = Cookie.parse(line)
         self.assertEqual((cookie.name, cookie.path, cookie.domain, cookie.secure, cookie.http_only, cookie.same_site,
                           cookie.max_age, cookie.expires),
                          ("__Host-session", "/", None, True, True, "Lax", None, None))
-        self.assertNotIn("ann", line)
+        self.assertNotIn("ann-e", line)
         second, content = json.loads(Session(line.partition(";")[0], KEY).get(Way.SEALED, "__Host-session"))
         self.assertLess(abs(time.time() - second), 60)
-        self.assertEqual(content, {"user": "ann"})
+        self.assertEqual(content, {"user": "ann-e"})
 
     def test_say_what_they_vary_by(self):
         self.assertIn(("Vary", "Cookie"), self.browser.get("/set/user/ann").fields)

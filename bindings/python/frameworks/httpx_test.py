@@ -117,6 +117,21 @@ class Transports(unittest.TestCase):
         self.assertEqual(self.client.header("https://shop.test/"), "a=1; b=2")
         self.assertEqual(self.client.header("http://[::1]/"), "b=2")
 
+    # Packages for WebSockets hand in these schemes, whose handshake is by http or https.
+    def test_ask_by_websocket(self):
+        heard = []
+
+        def answer(request):
+            heard.append((str(request.url), request.headers.get("Cookie")))
+            return httpx.Response(200, headers=[("Set-Cookie", f"{request.url.scheme}=1; Path=/; HttpOnly")])
+
+        self.client.receive("https://shop.test/", ["a=1; Path=/; Secure; HttpOnly"])
+        with httpx.Client(transport=Transport(self.client, over=httpx.MockTransport(answer))) as its:
+            for scheme in ("wss", "ws"):
+                its.get(f"{scheme}://shop.test/")
+        self.assertEqual(heard, [("wss://shop.test/", "a=1"), ("ws://shop.test/", "wss=1")])
+        self.assertEqual(self.client.header("https://shop.test/"), "a=1; wss=1; ws=1")
+
     def test_close_what_they_go_over(self):
         class Over(httpx.BaseTransport, httpx.AsyncBaseTransport):
             closed = 0

@@ -1,5 +1,6 @@
 """Tests `fonnalich.wsgi` by `wsgiref.validate`, and over a socket by the server of the standard library."""
 import threading
+import time
 import unittest
 import urllib.request
 import wsgiref.simple_server
@@ -58,10 +59,19 @@ class Requests(unittest.TestCase):
                              "['1', '2', '3']", pair)
             self.assertEqual(over(reading).get("/", pair).text, "[None, None, None]", pair)
 
+    def test_outlive_their_key(self):
+        browser = over(counting)
+        browser.get("/")
+        new, later = bytes(range(64, 128)), time.time() + 60
+        header = browser.client.header("https://shop.test/")
+        for fallbacks, text in [([], "1"), ([(KEY, later - 61)], "1"), ([KEY], "2"), ([(KEY, later)], "2")]:
+            self.assertEqual(Browser(Middleware(counting, new, fallbacks)).get("/", header).text, text, fallbacks)
+
     def test_refuse_a_bad_key_at_once(self):
         for key, error in [(bytes(63), ValueError), ("x" * 64, TypeError)]:
-            with self.assertRaises(error):
-                Middleware(counting, key)
+            for keys in [(key,), (KEY, [key]), (KEY, [(key, None)])]:
+                with self.assertRaises(error):
+                    Middleware(counting, *keys)
 
 
 class Streams(unittest.TestCase):

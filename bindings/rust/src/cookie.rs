@@ -179,6 +179,11 @@ impl Cookie {
         Cookie { path: None, domain: None, ..self }
     }
 
+    /// The same with this end alone.
+    pub(crate) fn until(self, second: i64) -> Cookie {
+        Cookie { max_age: None, expires: Some(second), ..self }
+    }
+
     /// What it prints; memory alone refuses it.
     pub(crate) fn printed(&self, encode: bool) -> Result<String, Error> {
         let attributes = self.attributes();

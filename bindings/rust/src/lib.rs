@@ -26,17 +26,22 @@
 //! ```
 
 mod cookie;
+mod handle;
 mod held;
 mod list;
+mod ring;
 mod rules;
 mod site;
 
 pub use cookie::{Cookie, CookieBuilder, Encoded, SameSite, SplitCookies};
 pub use held::HeldCookie;
-pub use list::{List, ListError};
+pub use list::{List, ListError, Suffixes};
+pub use ring::KeyRing;
 pub use rules::{Rule, Rules};
-pub use site::{is_plain_url, shard, shard_of_url, suffix, Key, Session, Way};
+pub use site::{is_plain_url, shard, shard_of_url, suffix, EndingWay, Key, Session, Way};
 
+use handle::{Held, One, Started, Word};
+use list::Given;
 use std::fmt;
 
 mod library {
@@ -91,9 +96,26 @@ mod library {
             out_length: usize,
         ) -> isize;
         #[allow(clippy::too_many_arguments)]
-        pub fn fonnalich_exchange(
-            key: *const u8,
-            key_length: usize,
+        pub fn fonnalich_receive_for(
+            at: *mut Handle,
+            started: u32,
+            second: i64,
+            url: *const u8,
+            url_length: usize,
+            page: *const u8,
+            page_length: usize,
+            lines: *const u8,
+            lines_length: usize,
+            out: *mut u8,
+            out_length: usize,
+        ) -> isize;
+        pub fn fonnalich_share(at: *mut Handle, other: *mut Handle) -> isize;
+            #[allow(clippy::too_many_arguments)]
+        pub fn fonnalich_exchange_on_ring(
+            keys: *const u8,
+            keys_length: usize,
+            ends: *const i64,
+            ends_length: usize,
             header: *const u8,
             header_length: usize,
             second: i64,
@@ -155,8 +177,6 @@ mod library {
     }
 }
 
-use library::Handle;
-
 /// The version of the library, which is this crate's.
 pub fn version() -> String {
     // The call writes within `out`, and is never refused.
@@ -173,7 +193,7 @@ pub enum Error {
     OutOfMemory,
     /// The text is no public suffix list.
     List,
-    /// The text of a list has no rule, as a path has none.
+    /// The list has no rule, or its text is the name of a file.
     NoRule,
     /// The second is before the year -9999 or after 9999.
     Moment,
@@ -187,6 +207,10 @@ pub enum Error {
     LineFeed,
     /// A key has under 64 bytes.
     Key,
+    /// There are over 16 earlier keys.
+    ManyKeys,
+    /// The end of an earlier key is before the year -9999 or after 9999.
+    KeyEnd,
     /// A cookie that is to be set has no name.
     Command,
     /// The name that is to be read or removed, or that of a text, is empty.
@@ -229,6 +253,9 @@ impl Error {
             -17 => Error::Utf8Error,
             -18 => Error::MissingPair,
             -21 => Error::Line,
+            -24 => Error::NoRule,
+            -26 => Error::ManyKeys,
+            -28 => Error::KeyEnd,
             ..=-100 => Error::Stopped((-100 - number) as usize),
             _ => Error::Other(number),
         }
@@ -247,6 +274,8 @@ impl fmt::Display for Error {
             Error::Year => to.write_str("a cookie that is to be saved ends in a year below 0"),
             Error::LineFeed => to.write_str("a line has a line feed"),
             Error::Key => to.write_str("the key has under 64 bytes"),
+            Error::ManyKeys => to.write_str("there are over 16 earlier keys"),
+            Error::KeyEnd => to.write_str("the end of a key is out of the years -9999 to 9999"),
             Error::Command => to.write_str("the cookie has no name"),
             Error::EmptyName => to.write_str("the name is empty"),
             Error::Expiry => to.write_str("the expiry is of a year below 100"),
@@ -312,34 +341,25 @@ impl LineEnd {
     }
 }
 
-#[derive(Clone, Copy)]
-enum Word {
-    Answer,
-    List,
-    Load,
-    Receive,
-    Header,
-    Save,
-    Restart,
-    Rules,
-    Count = 10,
-    Cookies,
-    Clear,
-}
-
-// The words of a call with one cookie.
-#[derive(Clone, Copy)]
-enum One {
-    Get,
-    Remove,
+/// What starts a request (the draft that follows RFC 6265, section 5.2).
+///
+/// A redirect is of the request that it answers: what starts that starts each hop.
+#[derive(Clone, Copy, Debug, PartialEq, Eq)]
+pub enum Initiator<'u> {
+    /// The user, as by a typed URL or a bookmark.
+    User,
+    /// A page of this URL, at the top of its frames: as an image of it, a script, or a form that is sent by POST.
+    Page(&'u str),
+    /// Such a page, by a navigation of the top level with a safe method, as a link by GET. At
+    /// [`Client::receive_for`] by any method.
+    Navigation(&'u str),
 }
 
 /// A client that keeps what it is sent, and gives each request what it holds for it. It may move to another thread.
 ///
 /// Moments are whole seconds since 1970.
 pub struct Client {
-    handle: Box<Handle>,
-    room: Vec<u8>,
+    held: Held,
 }
 
 // (nothing of the library belongs to a thread, and `&mut` lets one call at a time use a handle)
@@ -347,19 +367,29 @@ const _: () = {
     const fn moves<T: Send>() {}
     moves::<Client>();
     moves::<Session>();
+    const fn is_shared<T: Send + Sync>() {}
+    is_shared::<List>();
 };
 
 impl Client {
-    /// A client without a cookie, by a public suffix list or its text.
-    pub fn new(list: impl AsRef<[u8]>) -> Result<Client, Error> {
-        let mut client = Client::begun();
-        client.act(Word::List, 0, b"", list.as_ref())?;
-        list::demand_rule(list)?;
-        Ok(client)
+    /// A client without a cookie, by a public suffix list, which it shares, or by its text.
+    pub fn new(list: impl Suffixes) -> Result<Client, Error> {
+        let mut held = Held::begun();
+        match list.given() {
+            Given::List(list) => {
+                list.share(&mut held)?;
+                held.act(Word::Client, 0, b"", b"")?;
+            }
+            Given::Text(text) => {
+                held.act(Word::List, 0, b"", text)?;
+                list::refuse_file(text)?;
+            }
+        }
+        Ok(Client { held })
     }
 
     /// A client without a cookie, whose lines come behind these rules.
-    pub fn with_rules(list: impl AsRef<[u8]>, rules: Rules) -> Result<Client, Error> {
+    pub fn with_rules(list: impl Suffixes, rules: Rules) -> Result<Client, Error> {
         let mut client = Client::new(list)?;
         client.set_rules(rules);
         Ok(client)
@@ -372,28 +402,87 @@ impl Client {
     }
 
     /// A client of a saved text's cookies that aren't expired at this moment.
-    pub fn load(list: impl AsRef<[u8]>, saved: &[u8], now: i64) -> Result<Client, Error> {
-        let mut client = Client::begun();
-        client.act(Word::Load, now, saved, list.as_ref())?;
-        list::demand_rule(list)?;
-        Ok(client)
+    pub fn load(list: impl Suffixes, saved: &[u8], now: i64) -> Result<Client, Error> {
+        let mut held = Held::begun();
+        match list.given() {
+            Given::List(list) => {
+                list.share(&mut held)?;
+                held.act(Word::LoadBy, now, saved, b"")?;
+            }
+            Given::Text(text) => {
+                held.act(Word::Load, now, saved, text)?;
+                list::refuse_file(text)?;
+            }
+        }
+        Ok(Client { held })
     }
 
     /// Takes the Set-Cookie lines of an answer from this URL, and says what became of each.
     pub fn receive<L: AsRef<[u8]>>(&mut self, url: &str, lines: &[L], now: i64) -> Result<Vec<LineEnd>, Error> {
-        if lines.iter().any(|line| line.as_ref().contains(&b'\n')) {
-            return Err(Error::LineFeed);
-        }
-        let text = lines.iter().map(AsRef::as_ref).collect::<Vec<_>>().join(&b'\n');
-        let ends = self.act(Word::Receive, now, url.as_bytes(), &text)?.iter().map(|end| LineEnd::of(*end)).collect();
-        // One empty line makes an empty text, which has no line; it is no cookie.
-        Ok(if lines.len() == 1 && text.is_empty() { vec![LineEnd::Parse] } else { ends })
+        let text = joined(lines)?;
+        let ends = self.act(Word::Receive, now, url.as_bytes(), &text)?;
+        Ok(ends_of(lines.len(), &text, ends))
+    }
+
+    /// The same of an answer to a request that is started so. Where a page of another site starts it, and but for a
+    /// navigation, it sets no cookie whose `SameSite` is `Strict` or `Lax`; by the rule `lax_by_default` so none
+    /// without the attribute, and by `none_needs_secure`, whatever starts it, none of `None` that isn't Secure.
+    ///
+    /// ```
+    /// use fonnalich::{Client, Initiator, LineEnd, Rule};
+    ///
+    /// let mut client = Client::new("com\norg\n")?;
+    /// let by_image = Initiator::Page("https://evil.org/");
+    /// let lines = ["user=mallory; SameSite=Lax", "seen=1; SameSite=None; Secure"];
+    /// let ends = client.receive_for("https://shop.com/", by_image, &lines, 1_700_000_000)?;
+    /// assert_eq!(ends, [LineEnd::Ruled(Rule::CrossSite), LineEnd::Inserted]);
+    /// # Ok::<(), fonnalich::Error>(())
+    /// ```
+    pub fn receive_for<L: AsRef<[u8]>>(
+        &mut self,
+        url: &str,
+        initiator: Initiator<'_>,
+        lines: &[L],
+        now: i64,
+    ) -> Result<Vec<LineEnd>, Error> {
+        let text = joined(lines)?;
+        let (started, page) = match initiator {
+            Initiator::User => (Started::User, ""),
+            Initiator::Page(page) => (Started::Page, page),
+            Initiator::Navigation(page) => (Started::Navigation, page),
+        };
+        let ends = self.held.receive_for(started, now, [url.as_bytes(), page.as_bytes(), &text])?;
+        Ok(ends_of(lines.len(), &text, ends))
     }
 
     /// The Cookie header of a request to this URL; empty where it gets none. It is one line: `Line` where a cookie of a
     /// saved text would put a control character there.
     pub fn header(&mut self, url: &str, now: i64) -> Result<Vec<u8>, Error> {
         self.act(Word::Header, now, url.as_bytes(), b"").map(<[u8]>::to_vec)
+    }
+
+    /// The same of a request that is started so. Where a page of another site starts it, it leaves out the cookies
+    /// whose `SameSite` is `Strict`, and but for a navigation those whose is `Lax`; by the rule `lax_by_default` so
+    /// those without the attribute. A site is a scheme and a registrable domain by the client's list.
+    ///
+    /// ```
+    /// use fonnalich::{Client, Initiator};
+    ///
+    /// let mut client = Client::new("com\norg\n")?;
+    /// client.receive("https://shop.com/", &["user=ann; SameSite=Strict", "theme=dark; SameSite=Lax"], 1_700_000_000)?;
+    /// let by_link = Initiator::Navigation("https://evil.org/");
+    /// assert_eq!(client.header_for("https://shop.com/", by_link, 1_700_000_000)?, b"theme=dark");
+    /// let by_image = Initiator::Page("https://evil.org/");
+    /// assert_eq!(client.header_for("https://shop.com/", by_image, 1_700_000_000)?, b"");
+    /// # Ok::<(), fonnalich::Error>(())
+    /// ```
+    pub fn header_for(&mut self, url: &str, initiator: Initiator<'_>, now: i64) -> Result<Vec<u8>, Error> {
+        let (word, page) = match initiator {
+            Initiator::User => (Word::Header, ""),
+            Initiator::Page(page) => (Word::HeaderByPage, page),
+            Initiator::Navigation(page) => (Word::HeaderByNavigation, page),
+        };
+        self.act(word, now, url.as_bytes(), page.as_bytes()).map(<[u8]>::to_vec)
     }
 
     /// The saved text of the cookies that have an expiry and aren't expired.
@@ -452,78 +541,29 @@ impl Client {
         self.act(Word::Clear, 0, b"", b"").expect("a client");
     }
 
-    fn one(&mut self, word: One, second: i64, [domain, path, name]: [&str; 3]) -> Result<Option<HeldCookie>, Error> {
-        let (out, room) = (self.room.as_mut_ptr(), self.room.len());
-        // The handle was begun and isn't ended. The call reads the three texts, and writes at most `room` bytes.
-        let length = unsafe {
-            library::fonnalich_one(
-                &mut *self.handle,
-                word as u32,
-                second,
-                domain.as_ptr(),
-                domain.len(),
-                path.as_ptr(),
-                path.len(),
-                name.as_ptr(),
-                name.len(),
-                out,
-                room,
-            )
-        };
-        Ok(held::cookies(self.answer(length)?).pop())
-    }
-
-    fn begun() -> Client {
-        site::demand_processor();
-        let mut handle = Box::new(Handle([0; 128]));
-        // The call asks nothing. Its answer is at most the size of a handle.
-        assert!(unsafe { library::fonnalich_size() } <= size_of::<Handle>());
-        // The place has room for a handle, and stays where it is until the client is dropped.
-        unsafe { library::fonnalich_place(&mut *handle) };
-        Client { handle, room: vec![0; 4096] }
+    fn one(&mut self, word: One, second: i64, key: [&str; 3]) -> Result<Option<HeldCookie>, Error> {
+        Ok(held::cookies(self.held.one(word, second, key)?).pop())
     }
 
     fn act(&mut self, word: Word, number: i64, subject: &[u8], text: &[u8]) -> Result<&[u8], Error> {
-        let length = self.call(word, number, subject, text);
-        self.answer(length)
-    }
-
-    // The answer of a call that was this long, which is kept where the room was too small.
-    fn answer(&mut self, mut length: isize) -> Result<&[u8], Error> {
-        if length > self.room.len() as isize {
-            self.room.resize(length as usize, 0);
-            length = self.call(Word::Answer, 0, b"", b"");
-        }
-        match usize::try_from(length) {
-            Ok(length) => Ok(&self.room[..length]),
-            Err(_) => Err(Error::of(length)),
-        }
-    }
-
-    fn call(&mut self, word: Word, number: i64, subject: &[u8], text: &[u8]) -> isize {
-        let (out, room) = (self.room.as_mut_ptr(), self.room.len());
-        // The handle was begun and isn't ended. The call reads the two texts, and writes at most `room` bytes.
-        unsafe {
-            library::fonnalich_act(
-                &mut *self.handle,
-                word as u32,
-                number,
-                subject.as_ptr(),
-                subject.len(),
-                text.as_ptr(),
-                text.len(),
-                out,
-                room,
-            )
-        }
+        self.held.act(word, number, subject, text)
     }
 }
 
-impl Drop for Client {
-    fn drop(&mut self) {
-        // The handle was begun, and no call follows.
-        unsafe { library::fonnalich_end(&mut *self.handle) };
+// The lines as the library takes them.
+fn joined<L: AsRef<[u8]>>(lines: &[L]) -> Result<Vec<u8>, Error> {
+    if lines.iter().any(|line| line.as_ref().contains(&b'\n')) {
+        return Err(Error::LineFeed);
     }
+    Ok(lines.iter().map(AsRef::as_ref).collect::<Vec<_>>().join(&b'\n'))
+}
+
+// What became of so many lines. One empty line makes an empty text, which has no line; it is no cookie.
+fn ends_of(count: usize, text: &[u8], ends: &[u8]) -> Vec<LineEnd> {
+    if count == 1 && text.is_empty() {
+        return vec![LineEnd::Parse];
+    }
+    ends.iter().map(|end| LineEnd::of(*end)).collect()
 }
 
 #[cfg(test)]
@@ -725,15 +765,70 @@ mod tests {
 
     #[test]
     fn tells_refusals_in_words() {
-        let numbers = [-1, -4, -5, -6, -7, -8, -10, -11, -12, -13, -14, -16, -17, -18, -21];
+        let numbers = [-1, -4, -5, -6, -7, -8, -10, -11, -12, -13, -14, -16, -17, -18, -21, -24];
         let mut words: Vec<String> = numbers.iter().map(|number| Error::of(*number).to_string()).collect();
-        words.extend([Error::LineFeed, Error::Random, Error::NoRule].map(|error| error.to_string()));
+        words.extend([Error::LineFeed, Error::Random].map(|error| error.to_string()));
         assert!(words.iter().all(|words| words.contains(' ') && words.is_ascii()), "{words:?}");
         words.sort();
         words.dedup();
         assert_eq!(words.len(), 18);
         assert_eq!(Error::of(-107).to_string(), "memory was refused at line 7");
         assert_eq!(Error::of(-9).to_string(), "the library answered -9");
+    }
+
+    // The rows of section 5.8.3, step 1, of the draft, and of its section 5.2 on sites.
+    #[test]
+    fn tells_what_starts_a_request() {
+        let mut client = Client::new(LIST).unwrap();
+        let lines = ["s=1; SameSite=Strict", "l=2; SameSite=Lax", "n=3; SameSite=None; Secure", "d=4"];
+        client.receive(URL, &lines, NOW).unwrap();
+        let by_default = Rules { lax_by_default: true, ..Rules::browser() };
+        for (rules, initiator, header) in [
+            (Rules::none(), Initiator::User, "s=1; l=2; n=3; d=4"),
+            (Rules::none(), Initiator::Page("https://a.example.com/"), "s=1; l=2; n=3; d=4"),
+            (Rules::none(), Initiator::Page("http://example.com/"), "n=3; d=4"),
+            (Rules::none(), Initiator::Navigation("https://evil.org/"), "l=2; n=3; d=4"),
+            (Rules::browser(), Initiator::Page("data:,"), "n=3; d=4"),
+            (by_default, Initiator::Page("https://evil.org/"), "n=3"),
+            (by_default, Initiator::Navigation("https://evil.org/"), "l=2; n=3; d=4"),
+        ] {
+            client.set_rules(rules);
+            assert_eq!(client.header_for(URL, initiator, NOW).unwrap(), header.as_bytes(), "{initiator:?}");
+        }
+        assert_eq!(client.header_for(URL, Initiator::Page("no url"), NOW), Err(Error::Url));
+        assert_eq!(client.header_for(URL, Initiator::Page(""), i64::MAX), Err(Error::Moment));
+    }
+
+    // The rows of section 5.7 of the draft.
+    #[test]
+    fn tells_what_started_an_answers_request() {
+        const IN: LineEnd = LineEnd::Inserted;
+        const SITE: LineEnd = LineEnd::Ruled(Rule::CrossSite);
+        const NONE: LineEnd = LineEnd::Ruled(Rule::NoneLacksSecure);
+        let lines = ["s=1; SameSite=Strict", "l=2; SameSite=Lax", "n=3; SameSite=None", "d=4"];
+        let evil = "https://evil.org/";
+        let by_default = Rules { lax_by_default: true, ..Rules::browser() };
+        let needs_secure = Rules { none_needs_secure: true, ..Rules::none() };
+        for (rules, initiator, ends) in [
+            (Rules::none(), Initiator::User, [IN, IN, IN, IN]),
+            (Rules::none(), Initiator::Page("https://a.example.com/"), [IN, IN, IN, IN]),
+            (Rules::none(), Initiator::Page("http://example.com/"), [SITE, SITE, IN, IN]),
+            (Rules::none(), Initiator::Page(evil), [SITE, SITE, IN, IN]),
+            (Rules::browser(), Initiator::Navigation(evil), [IN, IN, IN, IN]),
+            (by_default, Initiator::Page(evil), [SITE, SITE, IN, SITE]),
+            (needs_secure, Initiator::Page(evil), [SITE, SITE, NONE, IN]),
+            (needs_secure, Initiator::Navigation(evil), [IN, IN, NONE, IN]),
+            (needs_secure, Initiator::User, [IN, IN, NONE, IN]),
+        ] {
+            let mut client = Client::with_rules(LIST, rules).unwrap();
+            assert_eq!(client.receive_for(URL, initiator, &lines, NOW).unwrap(), ends, "{rules:?} {initiator:?}");
+        }
+        let mut client = Client::new(LIST).unwrap();
+        assert_eq!(client.receive_for(URL, Initiator::Page("no url"), &["a=1"], NOW), Err(Error::Url));
+        assert_eq!(client.receive_for(URL, Initiator::Page(""), &["a=1"], i64::MAX), Err(Error::Moment));
+        assert_eq!(client.receive_for(URL, Initiator::User, &["a=1\nb=2"], NOW), Err(Error::LineFeed));
+        assert_eq!(client.receive_for(URL, Initiator::User, &[""], NOW), Ok(vec![LineEnd::Parse]));
+        assert_eq!(client.receive_for(URL, Initiator::User, &[""; 0], NOW), Ok(vec![]));
     }
 
     #[test]
@@ -760,6 +855,9 @@ mod tests {
         let mut client = Client::new(LIST).unwrap();
         assert!(client.receive(URL, &lines, NOW).unwrap().iter().all(|end| *end == LineEnd::Inserted));
         assert!(client.header(URL, NOW).unwrap() == header.as_bytes());
+        let by_page = Initiator::Page("https://evil.org/");
+        let ends = client.receive_for(URL, by_page, &lines, NOW).unwrap();
+        assert!(ends.len() == 100_000 && ends.iter().all(|end| *end == LineEnd::UpdatedExisting));
         let saved = client.save(NOW).unwrap();
         assert!(saved.len() > 4 << 20);
         assert!(Client::load(LIST, &saved, NOW + 1).unwrap().header(URL, NOW + 1).unwrap() == header.as_bytes());

@@ -1,36 +1,39 @@
 //! A public suffix list.
 
-use crate::site::suffix;
+use crate::handle::{Held, Word};
 use crate::Error;
 use std::fmt;
 use std::fs;
 use std::io;
 use std::path::{Path, PathBuf};
+use std::sync::{Arc, Mutex, MutexGuard, PoisonError};
 
 const SYSTEM: &str = "/usr/share/publicsuffix/public_suffix_list.dat";
-const BYTE_ORDER_MARK: &[u8] = b"\xef\xbb\xbf";
 
-/// The text of a public suffix list, which says for what nobody may set a cookie.
+/// A public suffix list, which says for what nobody may set a cookie. Copies and clients share it: it is read once, and
+/// lies in memory once.
 ///
 /// ```
 /// use fonnalich::{Client, Error, List};
 ///
 /// let list = List::new("com\norg\n")?;
-/// let client = Client::new(&list)?;
-/// assert_eq!(List::new("public_suffix_list.dat").err(), Some(Error::NoRule));
+/// let (shop, bank) = (Client::new(&list)?, Client::new(&list)?);
+/// assert_eq!(List::new("lists/public_suffix_list.dat").err(), Some(Error::List));
 /// # Ok::<(), Error>(())
 /// ```
-#[derive(Clone, PartialEq, Eq)]
+#[derive(Clone)]
 pub struct List {
-    text: Vec<u8>,
+    shared: Arc<Mutex<Held>>,
 }
 
 impl List {
-    /// The list of a text. `List` where it is none, `NoRule` where it has no rule, as a path in its place.
-    pub fn new(text: impl Into<Vec<u8>>) -> Result<List, Error> {
-        let list = List { text: text.into() };
-        suffix(&list, "com")?;
-        Ok(list)
+    /// The list of a text. `List` where it is none, as a path in its place, `NoRule` where it has no rule, or is of one
+    /// line and names a file.
+    pub fn new(text: impl AsRef<[u8]>) -> Result<List, Error> {
+        let mut held = Held::begun();
+        held.act(Word::KeepList, 0, b"", text.as_ref())?;
+        refuse_file(text.as_ref())?;
+        Ok(List { shared: Arc::new(Mutex::new(held)) })
     }
 
     /// The list of a file.
@@ -46,16 +49,58 @@ impl List {
     }
 }
 
-impl AsRef<[u8]> for List {
-    fn as_ref(&self) -> &[u8] {
-        &self.text
+impl List {
+    /// Has a handle keep it.
+    pub(crate) fn share(&self, to: &mut Held) -> Result<(), Error> {
+        to.share(&mut self.lock())
+    }
+
+    /// What is asked of it for a host or a URL.
+    pub(crate) fn ask(&self, word: Word, text: &str) -> Result<String, Error> {
+        let mut held = self.lock();
+        let answer = held.act(word, 0, text.as_bytes(), b"")?;
+        Ok(String::from_utf8_lossy(answer).into_owned())
+    }
+
+    fn lock(&self) -> MutexGuard<'_, Held> {
+        // (no call leaves a handle half done)
+        self.shared.lock().unwrap_or_else(PoisonError::into_inner)
     }
 }
 
-/// Shows how long it is.
 impl fmt::Debug for List {
     fn fmt(&self, to: &mut fmt::Formatter<'_>) -> fmt::Result {
-        to.debug_struct("List").field("bytes", &self.text.len()).finish()
+        to.debug_struct("List").finish_non_exhaustive()
+    }
+}
+
+/// A public suffix list, or the text of one as bytes or `str`, which is read anew by each call that takes it.
+pub trait Suffixes {
+    #[doc(hidden)]
+    fn given(&self) -> Given<'_>;
+}
+
+#[doc(hidden)]
+pub enum Given<'l> {
+    List(&'l List),
+    Text(&'l [u8]),
+}
+
+impl Suffixes for List {
+    fn given(&self) -> Given<'_> {
+        Given::List(self)
+    }
+}
+
+impl Suffixes for &List {
+    fn given(&self) -> Given<'_> {
+        Given::List(self)
+    }
+}
+
+impl<T: AsRef<[u8]>> Suffixes for T {
+    fn given(&self) -> Given<'_> {
+        Given::Text(self.as_ref())
     }
 }
 
@@ -80,24 +125,10 @@ impl fmt::Display for ListError {
 
 impl std::error::Error for ListError {}
 
-/// `NoRule` where no line could be a rule, or the text is a file's name: by it a site might set cookies for all of
-/// `com`. That it has all rules isn't looked at.
-pub(crate) fn demand_rule(list: impl AsRef<[u8]>) -> Result<(), Error> {
-    let text = list.as_ref();
-    let lines = text.strip_prefix(BYTE_ORDER_MARK).unwrap_or(text);
-    let has_rule = lines.split(|byte| *byte == b'\n').any(is_rule);
-    (has_rule && !is_file(text)).then_some(()).ok_or(Error::NoRule)
-}
-
-// Whether labels of a host stand before the first white space of a line.
-fn is_rule(line: &[u8]) -> bool {
-    let rule = line.split(u8::is_ascii_whitespace).next().unwrap_or(line);
-    rule.strip_prefix(b"!").unwrap_or(rule).split(|byte| *byte == b'.').all(is_label)
-}
-
-fn is_label(text: &[u8]) -> bool {
-    let is_of_host = |byte: &u8| byte.is_ascii_alphanumeric() || *byte == b'-' || *byte >= 0x80;
-    text == b"*" || !text.is_empty() && text.iter().all(is_of_host)
+/// `NoRule` where the text is the name of a file, which could be a rule: by it a site might set cookies for all of
+/// `com`.
+pub(crate) fn refuse_file(text: &[u8]) -> Result<(), Error> {
+    (!is_file(text)).then_some(()).ok_or(Error::NoRule)
 }
 
 // Whether a text of one line names a file, as `suffixes.dat`, which could be a rule.
@@ -108,7 +139,7 @@ fn is_file(text: &[u8]) -> bool {
 #[cfg(test)]
 mod tests {
     use super::*;
-    use crate::{Client, LineEnd};
+    use crate::{shard, shard_of_url, suffix, Client, LineEnd};
 
     const URL: &str = "https://a.example.com/";
     const NOW: i64 = 1_700_000_000;
@@ -116,39 +147,84 @@ mod tests {
     // A path, a file's name, a page in the place of the list, comments and white space.
     #[test]
     fn is_refused_without_a_rule() {
-        for text in [
-            SYSTEM,
-            "public_suffix_list.dat",
-            "Cargo.toml",
-            "C:\\lists\\list",
-            "/list",
-            "",
-            "\n\n",
-            "\u{feff}",
-            "// com\n",
-            " com\n",
-            "<html>\n",
+        for (text, error) in [
+            (SYSTEM, Error::List),
+            ("public_suffix_list.dat", Error::List),
+            ("C:\\lists\\list", Error::List),
+            ("/list", Error::List),
+            ("<html>\n", Error::List),
+            ("a/b\n*.ck\n!www.ck\n", Error::List),
+            ("a..b\n", Error::List),
+            ("Cargo.toml", Error::NoRule),
+            ("", Error::NoRule),
+            ("\n\n", Error::NoRule),
+            ("\u{feff}", Error::NoRule),
+            ("// com\n", Error::NoRule),
+            (" com\n", Error::NoRule),
         ] {
-            assert_eq!(List::new(text).err(), Some(Error::NoRule), "{text:?}");
-            assert_eq!(Client::new(text).err(), Some(Error::NoRule), "{text:?}");
-            assert_eq!(suffix(text, "a.com"), Err(Error::NoRule), "{text:?}");
-            assert_eq!(Client::with_rules(text, crate::Rules::browser()).err(), Some(Error::NoRule), "{text:?}");
+            assert_eq!(List::new(text).err(), Some(error), "{text:?}");
+            assert_eq!(Client::new(text).err(), Some(error), "{text:?}");
+            assert_eq!(suffix(text, "a.com"), Err(error), "{text:?}");
+            assert_eq!(Client::with_rules(text, crate::Rules::browser()).err(), Some(error), "{text:?}");
         }
-        assert_eq!(List::new("a..b\n").err(), Some(Error::List));
         let mut client = Client::new("com\n").unwrap();
         let saved = client.save(NOW).unwrap();
-        assert_eq!(Client::load("a/list.dat", &saved, NOW).err(), Some(Error::NoRule));
+        assert_eq!(Client::load("// none", &saved, NOW).err(), Some(Error::NoRule));
         client = Client::load("com\n", &saved, NOW).unwrap();
         assert_eq!(client.receive(URL, &["a=1; Domain=com"], NOW), Ok(vec![LineEnd::PublicSuffix]));
     }
 
     #[test]
     fn has_a_rule() {
-        let odd = ["\u{feff}com\r\n", "// x\n\n*\n", "a.b\ncom rest", "рф\n", "xn--p1ai\n", "a/b\n*.ck\n!www.ck\n"];
+        let odd = ["\u{feff}com\r\n", "// x\n\n*\n", "a.b\ncom rest", "рф\n", "xn--p1ai\n", "*.ck\n!www.ck\n"];
         for text in ["com", "github.io", "Cargo.toml\n", "a.*.ck\n"].into_iter().chain(odd) {
-            assert_eq!(List::new(text).unwrap().as_ref(), text.as_bytes());
-            assert!(Client::new(text).is_ok(), "{text:?}");
+            assert!(List::new(text).is_ok() && Client::new(text).is_ok(), "{text:?}");
         }
+    }
+
+    // A client keeps the list of its beginning, as long as it lives.
+    #[test]
+    fn is_shared_by_clients() {
+        let list = List::new("com\norg\n").unwrap();
+        let copy = list.clone();
+        let mut clients: Vec<_> = (0..100).map(|_| Client::new(&list).unwrap()).collect();
+        let saved = clients[0].save(NOW).unwrap();
+        clients.push(Client::load(&list, &saved, NOW).unwrap());
+        clients.push(Client::new(list).unwrap());
+        assert_eq!((suffix(&copy, "a.b.com").as_deref(), shard(&copy, "a.b.com").as_deref()), (Ok("com"), Ok("b.com")));
+        assert_eq!(shard_of_url(&copy, "https://a.b.com/").as_deref(), Ok("b.com"));
+        assert_eq!((suffix(&copy, "a..com"), shard_of_url(&copy, "a")), (Err(Error::Host), Err(Error::Url)));
+        assert_eq!(Client::load(&copy, b"[(", NOW).err(), Some(Error::Saved));
+        drop(copy);
+        let work = |mut client: Client| {
+            let ends = client.receive(URL, &["a=1; Domain=com", "b=2"], NOW);
+            assert_eq!(ends, Ok(vec![LineEnd::PublicSuffix, LineEnd::Inserted]));
+        };
+        let threads: Vec<_> = clients.into_iter().map(|client| std::thread::spawn(move || work(client))).collect();
+        threads.into_iter().for_each(|thread| thread.join().unwrap());
+    }
+
+    // Copies of a list and clients by it begin and end on several threads at once, and the first copy ends meanwhile.
+    #[test]
+    fn is_shared_between_threads() {
+        fn is_shared<T: Send + Sync>(it: T) -> T {
+            it
+        }
+        let list = is_shared(List::new("com\norg\n*.ck\n").unwrap());
+        let work = |list: List| {
+            for _ in 0..50 {
+                let copy = list.clone();
+                let mut client = Client::new(&copy).unwrap();
+                drop(copy);
+                let ends = client.receive(URL, &["a=1; Domain=com", "b=2"], NOW);
+                assert_eq!(ends, Ok(vec![LineEnd::PublicSuffix, LineEnd::Inserted]));
+                assert_eq!(suffix(&list, "a.b.ck").as_deref(), Ok("b.ck"));
+            }
+        };
+        let of_one = |list: List| std::thread::spawn(move || work(list));
+        let threads: Vec<_> = (0..8).map(|_| of_one(list.clone())).collect();
+        drop(list);
+        threads.into_iter().for_each(|thread| thread.join().unwrap());
     }
 
     #[test]
@@ -156,10 +232,10 @@ mod tests {
         let path = std::env::temp_dir().join(format!("fonnalich-list-{}.dat", std::process::id()));
         fs::write(&path, "com\n").unwrap();
         let list = List::from_file(&path).unwrap();
-        assert_eq!((list.as_ref(), format!("{list:?}")), (&b"com\n"[..], "List { bytes: 4 }".to_owned()));
+        assert_eq!((suffix(&list, "a.com").as_deref(), format!("{list:?}").as_str()), (Ok("com"), "List { .. }"));
         fs::write(&path, "list/list").unwrap();
         let told = List::from_file(&path).unwrap_err().to_string();
-        assert_eq!(told, format!("{}: {}", path.display(), Error::NoRule));
+        assert_eq!(told, format!("{}: {}", path.display(), Error::List));
         fs::remove_file(&path).unwrap();
         let told = List::from_file(&path).unwrap_err().to_string();
         assert_eq!(told, format!("{}: No such file or directory (os error 2)", path.display()));

@@ -31,10 +31,17 @@ pub struct Rules {
     /// `SameSite=None` or `Partitioned` that isn't Secure from a URL that isn't secure. No browser has it. It rests on
     /// `secure_from_http`: without that a Secure cookie may come from anyone.
     pub secure_wins: bool,
+    /// [`Client::header_for`](crate::Client::header_for) and [`Client::receive_for`](crate::Client::receive_for) take a
+    /// cookie without `SameSite` as one with `SameSite=Lax`. Some browsers have it.
+    pub lax_by_default: bool,
+    /// [`Client::receive_for`](crate::Client::receive_for) refuses a cookie with `SameSite=None` that isn't Secure.
+    /// Some browsers have it.
+    pub none_needs_secure: bool,
 }
 
 impl Rules {
-    /// All rules of browsers, and so all but `secure_wins`.
+    /// All rules that each browser has, and so all but `secure_wins`, `lax_by_default` and
+    /// `none_needs_secure`.
     pub fn browser() -> Rules {
         Rules {
             control: true,
@@ -47,6 +54,8 @@ impl Rules {
             dates: true,
             long_lives: true,
             secure_wins: false,
+            lax_by_default: false,
+            none_needs_secure: false,
         }
     }
 
@@ -63,13 +72,16 @@ impl Rules {
             dates: false,
             long_lives: false,
             secure_wins: false,
+            lax_by_default: false,
+            none_needs_secure: false,
         }
     }
 
     pub(crate) fn flags(self) -> i64 {
         let refusing = [self.control, self.too_long, self.secure_prefix, self.host_prefix, self.secure_from_http];
         let others = [self.secure_overlay, self.long_attributes, self.dates, self.long_lives, self.secure_wins];
-        refusing.into_iter().chain(others).rev().fold(0, |flags, is_on| flags * 2 + i64::from(is_on))
+        let last = [self.lax_by_default, self.none_needs_secure];
+        refusing.into_iter().chain(others).chain(last).rev().fold(0, |flags, is_on| flags * 2 + i64::from(is_on))
     }
 }
 
@@ -84,6 +96,11 @@ pub enum Rule {
     SecureFromHttp,
     SecureOverlay,
     LacksSecure,
+    /// [`Client::receive_for`](crate::Client::receive_for) alone: a page of another site started the request, which
+    /// doesn't navigate the top level, and the cookie is `Strict` or `Lax`.
+    CrossSite,
+    /// That call alone: the cookie has `SameSite=None` and isn't Secure.
+    NoneLacksSecure,
 }
 
 impl Rule {
@@ -96,6 +113,8 @@ impl Rule {
             24 => Some(Rule::SecureFromHttp),
             25 => Some(Rule::SecureOverlay),
             26 => Some(Rule::LacksSecure),
+            27 => Some(Rule::CrossSite),
+            28 => Some(Rule::NoneLacksSecure),
             _ => None,
         }
     }

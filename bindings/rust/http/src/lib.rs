@@ -1,5 +1,6 @@
 //! The sessions and clients of `fonnalich` in the types of `http`: a [`Session`](fonnalich::Session) from and into its
-//! headers, by the feature `tower` a layer that does so, and by `reqwest` a client that keeps its cookies.
+//! headers, by the feature `tower` a layer that does so, and by `reqwest` a client that keeps its cookies. Over `http`
+//! 1 there is an extractor too, by the feature `axum`.
 //!
 //! ```
 //! use fonnalich::{Key, Session, Way};
@@ -15,12 +16,16 @@
 
 #![forbid(unsafe_code)]
 
+#[cfg(feature = "axum")]
+mod extract;
 mod headers;
 #[cfg(feature = "tower")]
 mod layer;
 #[cfg(feature = "reqwest")]
 mod shared;
 
+#[cfg(feature = "axum")]
+pub use extract::{Refusal, RequestSession};
 pub use headers::HttpSession;
 #[cfg(feature = "tower")]
 pub use layer::{SessionFuture, SessionLayer, SessionService, SharedSession};

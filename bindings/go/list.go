@@ -1,0 +1,57 @@
+package fonnalich
+
+// #include "fonnalich.h"
+import "C"
+
+import (
+	"runtime"
+	"sync"
+)
+
+// A List is a public suffix list. Jars that begin with it share it: it is read once, and lies in memory once.
+// Goroutines may share one.
+//
+// Its memory goes with the list and the last jar that has it, by a finalizer; Close lets go of it at once.
+type List struct {
+	lock sync.Mutex
+	at   handle
+}
+
+// NewList reads the text of a public suffix list.
+func NewList(text []byte) (*List, error) {
+	at, err := newHandle()
+	if err != nil {
+		return nil, err
+	}
+	if _, err = act(at, C.FONNALICH_DO_KEEP_LIST, 0, nil, text); err != nil {
+		freeHandle(at)
+		return nil, err
+	}
+	list := &List{at: at}
+	runtime.SetFinalizer(list, (*List).Close)
+	return list, nil
+}
+
+// Close lets go of the list. Jars that have it keep it; no other can begin with it.
+func (list *List) Close() {
+	list.lock.Lock()
+	defer list.lock.Unlock()
+	if list.at != nil {
+		freeHandle(list.at)
+		list.at = nil
+	}
+	runtime.SetFinalizer(list, nil)
+}
+
+// share has a handle keep the list.
+func (list *List) share(to handle) error {
+	list.lock.Lock()
+	defer list.lock.Unlock()
+	if list.at == nil {
+		return ErrClosed
+	}
+	if number := C.fonnalich_share(to, list.at); number < 0 {
+		return refusal(number)
+	}
+	return nil
+}
