@@ -1,5 +1,5 @@
 /* The rows of the table in docs/BUDGET.md: each sets up what its call needs, and counts the call. Writes for each row
-   and each size a line of its name, the size, and the bytes that were asked for, or are held for each cookie; callgrind
+   and each size a line of its name, the size, and the bytes that were asked for, or are kept for each cookie; callgrind
    writes down the instructions beside it. costs [WORD]: the rows whose name has that word. */
 #include <assert.h>
 #include <stdarg.h>
@@ -18,11 +18,12 @@ void costs_begin(void *at);
 void costs_end(void *at);
 typedef bool call(void *at, const char *, size_t, const char *, size_t);
 call costs_parse, costs_keep, costs_print, costs_sign, costs_verify, costs_seal, costs_open, costs_ring,
-    costs_verify_under_ring, costs_open_under_ring, costs_rotate, costs_list, costs_look_up,
-    costs_visit, costs_make_ready, costs_insert, costs_put, costs_remove, costs_clear, costs_save_json, costs_load_json,
-    costs_save_ron, costs_load_ron, costs_save_lines, costs_load_lines, costs_import, costs_begin_client,
+    costs_verify_under_ring, costs_open_under_ring, costs_rotate, costs_sign_until, costs_seal_until,
+    costs_verify_until, costs_open_until, costs_list, costs_look_up, costs_clone_list, costs_visit, costs_make_ready,
+    costs_insert, costs_put, costs_remove, costs_clear, costs_save_json, costs_load_json, costs_save_ron,
+    costs_load_ron, costs_save_lines, costs_load_lines, costs_import, costs_begin_client, costs_add_client,
     costs_put_behind_rules, costs_receive, costs_header, costs_open_session, costs_get, costs_get_plain, costs_set,
-    costs_set_plain, costs_close;
+    costs_set_plain, costs_close, costs_send_both, costs_exchange;
 
 static uint64_t kept[1024];
 static const int64_t NOW = 1700000000;
@@ -160,6 +161,26 @@ static void rotates(int n) {
     counts(costs_rotate, "", "");
 }
 
+/* ---- values that end */
+
+static void signs_until(int n) {
+    counts(costs_sign_until, "user", n ? repeated("", "v", n, "") : VALUE);
+}
+
+static void seals_until(int n) {
+    counts(costs_seal_until, "user", n ? repeated("", "v", n, "") : VALUE);
+}
+
+static void verifies_until(int n) {
+    does(costs_sign_until, "user", n ? repeated("", "v", n, "") : VALUE);
+    counts(costs_verify_until, "user", "");
+}
+
+static void opens_until(int n) {
+    does(costs_seal_until, "user", n ? repeated("", "v", n, "") : VALUE);
+    counts(costs_open_until, "user", "");
+}
+
 /* ---- public suffixes */
 
 static const char *rules(int n) {
@@ -177,6 +198,11 @@ static void reads_list(int n) {
 static void looks_up(int n) {
     does(costs_list, rules(n), "");
     counts(costs_look_up, "www.shop.r7.com", "");
+}
+
+static void clones_list(int n) {
+    does(costs_list, rules(n), "");
+    counts(costs_clone_list, "", "");
 }
 
 static void looks_up_labels(int n) {
@@ -355,6 +381,12 @@ static void receives_date(int n) {
     counts(costs_receive, "user=0123456789abcdef; Path=/; Secure; Expires=Thu, 1-Jan-26 0:00:00 UTC", "");
 }
 
+static void receives_strict_date(int n) {
+    (void)n;
+    begin_client(true, URL);
+    counts(costs_receive, "user=0123456789abcdef; Path=/; Secure; Expires=Mon, 01 Jan 2024 00:00:00 GMT", "");
+}
+
 /* So many lines over http, beside as many rows. */
 static void receives_over_http(int n) {
     begin_client(true, "https://www.shop.com/");
@@ -523,6 +555,11 @@ static void closes(int n) {
     counts(costs_close, "", "");
 }
 
+static void exchanges(int n) {
+    does(costs_send_both, repeated("", "v", n, ""), "");
+    counts(costs_exchange, text, "");
+}
+
 static const char *pairs(int n) {
     begun();
     for (int i = 0; i < n; i++)
@@ -598,13 +635,13 @@ static void handle_heads(int n) {
     fonnalich_end(&handle);
 }
 
-/* ---- memory: the bytes that are held */
+/* ---- memory: the bytes that are kept, of those asked for */
 
 static void holds(int n, int to_host) {
     begin_client(false, URL);
-    size_t before = heap.held;
+    size_t before = heap.kept;
     fill(costs_receive, n, to_host);
-    tell((heap.held - before) / (size_t)n);
+    tell((heap.kept - before) / (size_t)n);
 }
 
 static void holds_five(int n) {
@@ -617,16 +654,24 @@ static void holds_one(int n) {
 
 static void holds_names(int n) {
     begin_client(false, URL);
-    size_t before = heap.held;
+    size_t before = heap.kept;
     does(costs_receive, lines_of("name", "=value; Path=/; Max-Age=2592000", n), "");
-    tell((heap.held - before) / (size_t)n);
+    tell((heap.kept - before) / (size_t)n);
+}
+
+static void holds_clients(int n) {
+    does(costs_list, rules(1000), "");
+    size_t before = heap.kept;
+    for (int i = 0; i < n; i++)
+        does(costs_add_client, "", "");
+    tell((heap.kept - before) / (size_t)n);
 }
 
 static void holds_list(int n) {
     rules(n);
-    size_t before = heap.held;
+    size_t before = heap.kept;
     does(costs_begin_client, text, "");
-    tell((heap.held - before) / (size_t)n);
+    tell((heap.kept - before) / (size_t)n);
 }
 
 /* ---- the rows */
@@ -649,9 +694,16 @@ static const struct {
     {"a ring of n keys is rotated", rotates, 2},
     {"a value of n bytes is signed", signs, 1000},
     {"a value of n bytes is sealed", seals, 1000},
+    {"a value of 16 bytes is signed until a moment", signs_until, 0},
+    {"a value of 16 bytes is read that was signed so", verifies_until, 0},
+    {"a value of 16 bytes is sealed until a moment", seals_until, 0},
+    {"a value of 16 bytes is read that was sealed so", opens_until, 0},
+    {"a value of n bytes is read that was signed so", verifies_until, 1000},
+    {"a value of n bytes is read that was sealed so", opens_until, 1000},
     {"a list of n rules is read", reads_list, 1000},
     {"a name is looked up among n rules", looks_up, 1000},
     {"a name of n labels is looked up", looks_up_labels, 1000},
+    {"a list of n rules is cloned", clones_list, 1000},
     {"a new host's first cookie is put in beside n", inserts_first, 1000},
     {"a host's fifth cookie is put in beside n", inserts_fifth, 1000},
     {"a cookie is removed beside n", removes, 1000},
@@ -671,9 +723,10 @@ static const struct {
     {"a client receives a line beside n rows", receives, 1000},
     {"the same behind the rules of browsers", receives_behind_rules, 1000},
     {"a line with an Expires behind the rules", receives_date, 0},
+    {"a line with a strict Expires behind the rules", receives_strict_date, 0},
     {"n lines over http behind the rules, beside n Secure rows", receives_over_http, 200},
     {"a line over http behind the rules, beside n Secure rows", receives_one_over_http, 1000},
-    {"n lines over http of one name, beside n Secure rows of it", receives_of_one_name, 200},
+    {"n lines over http of one name, beside n rows of it", receives_of_one_name, 200},
     {"a name of n bytes behind the rules", receives_name, 500},
     {"an escaped name of n characters behind the rules", receives_escaped_name, 150},
     {"a value of n bytes behind the rules", receives_value, 500},
@@ -698,16 +751,18 @@ static const struct {
     {"it gets a sealed value", gets, 0},
     {"it sets a sealed cookie", sets, 0},
     {"it closes with a line", closes, 0},
+    {"a whole exchange, of two values of n bytes", exchanges, 128},
     {"a session opens on n pairs", opens_pairs, 1000},
     {"it gets one of n", gets_of, 1000},
     {"it sets one beside n", sets_beside, 1000},
     {"it closes with n lines", closes_sets, 1000},
     {"a handle receives a line beside n rows", handle_receives, 1000},
     {"a handle's header of 4 cookies among n", handle_heads, 1000},
-    {"held for each of n cookies, five to a host", holds_five, 1000},
-    {"held for each of n cookies, one to a host", holds_one, 1000},
-    {"held for each of n cookies of one path", holds_names, 1000},
-    {"held for each of a client's n rules", holds_list, 1000},
+    {"kept for each of n cookies, five to a host", holds_five, 1000},
+    {"kept for each of n cookies, one to a host", holds_one, 1000},
+    {"kept for each of n cookies of one path", holds_names, 1000},
+    {"kept for each of a client's n rules", holds_list, 1000},
+    {"kept for each of n clients of one list", holds_clients, 1000},
 };
 enum { TIMES = 8 };
 
@@ -718,7 +773,7 @@ static void count_row(const char *its_name, void (*make)(int n), int n) {
     costs_begin(kept);
     make(n);
     costs_end(kept);
-    demand(heap.held == 0, "memory is held");
+    demand(heap.kept == 0, "memory is kept");
 }
 
 int main(int count, char **words) {

@@ -100,14 +100,14 @@ struct answer rattle_alloc(size_t size, size_t align) {
         return (struct answer){0, 0};
     block->size = size;
     heap.asked += size;
-    heap.held += size;
+    heap.kept += size;
     return (struct answer){1, (char *)block + FRONT};
 }
 
 void rattle_dealloc(void *at) {
     struct block *block = (struct block *)((char *)at - FRONT);
     struct block **place = place_of(block->length);
-    heap.held -= block->size;
+    heap.kept -= block->size;
     block->next = *place;
     *place = block;
 }

@@ -5,11 +5,11 @@
 typedef __SIZE_TYPE__ size_t;
 
 struct heap {
-    /* The bytes of all growths so far, and of what is held now. */
-    size_t asked, held;
+    /* The bytes of all growths so far, and of what is kept now. */
+    size_t asked, kept;
 };
 extern struct heap heap;
 
-/* Begins anew, where nothing is held. */
+/* Begins anew, where nothing is kept. */
 void heap_begin(void);
 #endif

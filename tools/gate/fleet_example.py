@@ -4,6 +4,7 @@ Other visits are to a site that sends what is no answer, and while Redis is away
 """
 import http.server
 import os
+import re
 import subprocess
 import sys
 import tempfile
@@ -19,16 +20,18 @@ from .peers import environment
 SECONDS, AWAY = 30, 1
 LIST, COOKIE = b"test\n", "sid=a3f"
 PATHS = range(20)
-# What a site may send that isn't an answer, and a part of what a worker says of it.
+# What a site may send that isn't an answer, and a part of what a worker says of it: newer Pythons read a long body
+# piece by piece, and older ones ask for all its memory at once.
 MANGLED = {
     "nothing": (b"", "RemoteDisconnected"),
     "junk": (b"junk\n200 2\r\n\r\n", "BadStatusLine"),
     "cut": (b"HTTP/1.1 200 OK\r\nContent-Length: 9\r\n\r\nok", "IncompleteRead"),
-    "long": (b"HTTP/1.1 200 OK\r\nContent-Length: 1" + b"0" * 30 + b"\r\n\r\nok", "OverflowError"),
+    "long": (b"HTTP/1.1 200 OK\r\nContent-Length: 1" + b"0" * 30 + b"\r\n\r\nok", "OverflowError|IncompleteRead"),
     "chunk": (b"HTTP/1.1 200 OK\r\nTransfer-Encoding: chunked\r\n\r\nx\r\n", "IncompleteRead"),
     "line": (b"HTTP/1.1 200 OK\r\nSet-Cookie: " + b"a" * 70000 + b"\r\n\r\n", "LineTooLong"),
     "port": (b"HTTP/1.1 302 Found\r\nLocation: http://a:b/\r\n\r\n", "Url"),
-    "body": (b"HTTP/1.1 302 Found\r\nLocation: /\r\nContent-Length: 1" + b"0" * 17 + b"\r\n\r\n", "MemoryError"),
+    "body": (b"HTTP/1.1 302 Found\r\nLocation: /\r\nContent-Length: 1" + b"0" * 17 + b"\r\n\r\n",
+             "MemoryError|IncompleteRead"),
 }
 
 
@@ -95,7 +98,7 @@ def mangled_visits(server, env):
     wanted = {f"http://mangled.test/{name}": words for name, (_, words) in MANGLED.items()}
     said = visited(server, 1, [*wanted, *no_urls, last], env)
     wrong = [f"of {url} was said {line}" for (url, words), line in zip(wanted.items(), said)
-             if not line.startswith(f"{url} failed") or words not in line]
+             if not line.startswith(f"{url} failed") or not re.search(words, line)]
     is_whole = len(said) == len(wanted) + len(no_urls) + 1 and said[-1] == f"{last} 200 2"
     wrong += [it for it in said[len(wanted):-1] if " failed: " not in it]
     return wrong + ([] if is_whole else [f"a worker said {said}"])

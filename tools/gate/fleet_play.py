@@ -1,6 +1,7 @@
 """A play of a fleet: workers make exchanges, and some of them end, and Redis does, at drawn moments."""
 import contextlib
 import json
+import mmap
 import os
 import random
 import signal
@@ -14,6 +15,8 @@ from .bounded import patience
 WORKERS = 8
 # Of a play of a thousand exchanges, in seconds on a calm machine.
 SECONDS = 10
+# How far exchanges may go beyond the next one at which something ends.
+AHEAD = 10 * WORKERS
 
 
 class Play:
@@ -26,6 +29,7 @@ class Play:
         self.draw = random.Random(seed)
         self.redis, self.pids, self.logs = servers.Redis(room), {}, []
         self.killed, self.restarts, self.failed = 0, 0, []
+        self.bound = mmap.mmap(-1, 8)
         server = fleet.Server(hosts)
         self.port = server.server_address[1]
         self.site = forked(server.serve_forever)
@@ -38,8 +42,19 @@ class Play:
         log = os.open(path, os.O_WRONLY | os.O_CREAT | os.O_APPEND, 0o600)
         self.logs.append(path)
         ports = (self.redis.port, self.port)
-        self.pids[forked(lambda: fleet.work(mine, self.hosts, ports, log, self.plant))] = mine, path
+        self.pids[forked(lambda: fleet.work(self.held(mine), self.hosts, ports, log, self.plant))] = mine, path
         os.close(log)
+
+    def held(self, mine):
+        """These exchanges, each once it may be made: so none comes before what has to end before it."""
+        for number in mine:
+            while number > int.from_bytes(self.bound[:], "big"):
+                time.sleep(0.001)
+            yield number
+
+    def hold(self, events):
+        """Tells the workers how far they may go."""
+        self.bound[:] = (events[0][0] + AHEAD if events else self.exchanges).to_bytes(8, "big")
 
     def drawn_events(self):
         """At which exchange what ends: workers, and Redis. None comes so late that all have ended before."""
@@ -49,16 +64,18 @@ class Play:
     def run(self, events):
         """Has all workers make their exchanges. `events` are the counts of exchanges at which something ends: a worker,
         or Redis."""
+        self.hold(events)
         for number in range(WORKERS):
             self.begin(range(number, self.exchanges, WORKERS))
         began = time.monotonic()
         while self.pids:
-            time.sleep(0.03)
+            time.sleep(0.01)
             if time.monotonic() - began > patience(SECONDS * max(1, self.exchanges / 1000)):
                 raise TimeoutError("the workers have not ended")
             self.reap()
             if events and self.pids and self.progress() >= events[0][0]:
                 self.strike(*events.pop(0)[1:])
+                self.hold(events)
 
     def reap(self):
         """Looks which workers have ended."""
@@ -75,7 +92,7 @@ class Play:
 
     def progress(self):
         """How many exchanges were begun, of those workers that are there, as far as the slowest."""
-        return min(last_of(path) for _, path in self.pids.values())
+        return min(max(last_of(path), mine.start - WORKERS) for mine, path in self.pids.values())
 
     def strike(self, what):
         if what == "redis":

@@ -12,7 +12,7 @@ sys.dont_write_bytecode = True
 sys.path.insert(0, os.path.dirname(os.path.dirname(os.path.abspath(__file__))))
 
 from gate import compiler, firefox
-from gate.kit import CC, demand, load_rt
+from gate.kit import CC, demand, guarded, load_rt
 from gate.progress import Progress
 
 TOP = os.path.dirname(os.path.dirname(os.path.dirname(os.path.abspath(__file__))))
@@ -72,14 +72,17 @@ def crates(command):
 
 def is_built(command):
     """Whether a program is built, and no younger file of its crates' tells that it is stale."""
-    if not os.access(built(command), os.X_OK):
-        return False
+    return os.access(built(command), os.X_OK) and is_fresh(command, built(command))
+
+
+def is_fresh(command, path):
+    """Whether no file of a program's crates is younger than this one."""
     files = [f"{TOP}/crates.txt"]
     for name in crates(command):
         for part in ("src", "specs", "proofs"):
             for at, _, names in os.walk(f"{TOP}/crates/{name}/{part}"):
                 files += [at, *(f"{at}/{it}" for it in names)]
-    return max(map(os.path.getmtime, files)) <= os.path.getmtime(built(command))
+    return max(map(os.path.getmtime, files)) <= os.path.getmtime(path)
 
 
 def sources(command):
@@ -150,6 +153,27 @@ def build(command):
     os.utime(built(command), (began, began))
 
 
+def built_for(command, processor):
+    """Where the object of a proved program for another processor stands."""
+    return f"{TOP}/out/{processor}/{crate_of(command)}.o"
+
+
+def build_for(command, processor):
+    """Proves and builds a program's object for another processor, over what its own build has kept."""
+    rtlib, to, began = load_rt().rtlib, built_for(command, processor), time.time()
+    crate = next(it for it in rtlib.crates_below(TOP) if it.name == crate_of(command))
+    words = crate.words(["--jobs", "1", f"--target={processor}-unknown-linux-gnu", "--backend", "llvm"])
+    words += ["--toolchain", f"{rtlib.KIT}/toolchain", "--incremental", "out/incremental"]
+    os.makedirs(os.path.dirname(to), exist_ok=True)
+    with open(log_of("build"), "ab") as log:
+        how = {"cwd": crate.folder, "stdin": subprocess.DEVNULL, "stdout": log, "stderr": log}
+        status = subprocess.run([*guarded(rtlib), rtlib.RATTLE, "build", *words, "-o", to], **how).returncode
+    if status:
+        sys.exit(f"{command}: it was not built for {processor}: {os.path.relpath(log.name)} tells why")
+    # (a source that was changed meanwhile is younger)
+    os.utime(to, (began, began))
+
+
 def compile_sources(command, is_shown=True):
     """Compiles the program from its sources, with checks of each index, sum and access of memory and with no proof,
     and keeps it in the place of those of other sources. Returns its path."""
@@ -178,7 +202,8 @@ def put_compiled(command, room, path, log):
     """Compiles the program in a folder, and puts it at its path at once. Returns whether that was done."""
     # (what one that was killed left)
     shutil.rmtree(room, ignore_errors=True)
-    made = f"{room}/made/{command}"
+    # (of these sources alone: a program of others that runs meanwhile links itself to a place of its own)
+    made = f"{room}/{os.path.basename(os.path.dirname(path))}/{command}"
     os.makedirs(os.path.dirname(made))
     # (a program is linked to its place, so it is made on the same file system)
     keeper = [*CC, "-O2", "-fPIC", "-c", f'-DKEPT="{made}.program"', "-o", f"{room}/keep.o"]

@@ -1,5 +1,5 @@
-/* Exchanges by a key of which nothing is known. With the word `counts` it has callgrind write down how many
-   instructions readings take whose codes, or whose sealed texts, are wrong at one place. */
+/* Exchanges by a key of which nothing is known, and by a ring of such keys. With the word `counts` it has callgrind
+   write down how many instructions readings take whose codes, or whose sealed texts, are wrong at one place. */
 #include "fonnalich.h"
 #include "secrets.h"
 #include <malloc.h>
@@ -8,21 +8,40 @@
 static const char *VALUES[] = {"3", "a text of 41 bytes, so of two blocks more"};
 enum { VALUES_COUNT = 2 };
 
+/* A moment, and a cookie's attribute by which its value ends an hour later. */
+enum { NOW = 1700000000, HOUR = 3600 };
+#define UNTIL "; Expires=Tue, 14 Nov 2023 23:13:20 GMT"
+
+/* A ring of keys, and behind it one that isn't in it. */
+enum { KEYS = 3 };
+static const int64_t ends[KEYS - 1] = {FONNALICH_NO_END, NOW + 2 * HOUR};
+static char ring[KEYS + 1][FONNALICH_KEY_LENGTH];
+
 static char key[FONNALICH_KEY_LENGTH], nonces[FONNALICH_NONCE_LENGTH];
 /* The answer of the last exchange, and the item at its front. */
 static char out[1024];
 static const char *item;
 static ptrdiff_t item_length;
 
-/* Makes an exchange, of whose answer all is told. */
-static void ask(const char *header, const char *commands) {
-    ptrdiff_t length = fonnalich_exchange(key, sizeof key, header, strlen(header), 1700000000, commands,
-                                          strlen(commands), nonces, sizeof nonces, out, sizeof out);
+/* Takes the item at the front of an answer, of which all is told. */
+static void tell(ptrdiff_t length) {
     PUBLIC(length);
     PUBLIC(out);
     const char *at = out;
     demand(length > 0 && length <= (ptrdiff_t)sizeof out, "an exchange");
     demand(fonnalich_next(&at, out + length, &item, &item_length), "an exchange");
+}
+
+/* Makes an exchange. */
+static void ask(const char *header, const char *commands) {
+    tell(fonnalich_exchange(key, sizeof key, header, strlen(header), NOW, commands, strlen(commands), nonces,
+                            sizeof nonces, out, sizeof out));
+}
+
+/* Makes one on a ring of so many keys. */
+static void ask_on(const char *keys, size_t count, int64_t second, const char *header, const char *commands) {
+    tell(fonnalich_exchange_on_ring(keys, count * FONNALICH_KEY_LENGTH, ends, count - 1, header, strlen(header), second,
+                                    commands, strlen(commands), nonces, sizeof nonces, out, sizeof out));
 }
 
 static void set(char way, const char *value) {
@@ -38,12 +57,16 @@ static void get(char way, const char *header) {
     ask(header, command);
 }
 
-/* The header that brings a value back, its signing or sealing not escaped; made by a key of which all is known. */
-static const char *header_of(char way, const char *value) {
+static void set_until(const char *keys, size_t count, char way, const char *value) {
+    char command[128];
+    snprintf(command, sizeof command, FONNALICH_SET "%cuser=%s" UNTIL, way, value);
+    ask_on(keys, count, NOW, "", command);
+}
+
+/* The header that brings back what the line at the front of the answer sets, not escaped. */
+static const char *brought_back(void) {
     static char header[512];
     char *to = header;
-    PUBLIC(key);
-    set(way, value);
     for (const char *at = item; *at != ';'; at++) {
         unsigned byte = (unsigned char)*at;
         if (*at == '%' && sscanf(at + 1, "%2x", &byte) == 1)
@@ -51,8 +74,23 @@ static const char *header_of(char way, const char *value) {
         *to++ = (char)byte;
     }
     *to = 0;
-    SECRET(key);
     return header;
+}
+
+/* The header that brings a value back, made by a key of which all is known. */
+static const char *header_of(char way, const char *value) {
+    PUBLIC(key);
+    set(way, value);
+    SECRET(key);
+    return brought_back();
+}
+
+/* The same of a value that ends, made by the key of a place. */
+static const char *header_until(size_t place, char way, const char *value) {
+    PUBLIC(ring);
+    set_until(ring[place], 1, way, value);
+    SECRET(ring);
+    return brought_back();
 }
 
 static const char *LETTERS = "ABCDEFGHIJKLMNOPQRSTUVWXYZabcdefghijklmnopqrstuvwxyz0123456789+/";
@@ -128,6 +166,45 @@ static void reads_wrong_sealed(void) {
     reads_wrong(*FONNALICH_SEALED, SEALINGS, COUNT(SEALINGS));
 }
 
+static void sets_until(char way) {
+    for (int i = 0; i < VALUES_COUNT; i++)
+        set_until(ring[0], KEYS, way, VALUES[i]);
+}
+
+/* Reads what the key of a place made. There is a verdict for each key of the ring, and one whether there is a value; of
+   an opening the compiler asks for that of each key where it is kept, too. */
+static void read_until(char way, size_t place, int64_t second) {
+    char command[] = FONNALICH_GET "-user";
+    const char *value = VALUES[place % VALUES_COUNT], *header = header_until(place, way, value);
+    command[1] = way;
+    verdicts += (way == *FONNALICH_SEALED_UNTIL ? 2 * KEYS : KEYS) + 1;
+    ask_on(ring[0], KEYS, second, header, command);
+    int is_wanted = place < KEYS && second < NOW + HOUR;
+    demand(is_wanted ? is_read(value) : item_length < 0, "a reading of a value that ends");
+}
+
+static void sets_signed_until(void) {
+    sets_until(*FONNALICH_SIGNED_UNTIL);
+}
+
+static void sets_sealed_until(void) {
+    sets_until(*FONNALICH_SEALED_UNTIL);
+}
+
+/* (of one that is right memcheck tells wherever its value goes, since the compiler takes that by the verdict, and not
+   by a branch) */
+static void reads_wrong_signed_until(void) {
+    read_until(*FONNALICH_SIGNED_UNTIL, KEYS, NOW);
+}
+
+/* What each key made, before its end and from then on, and what another one did. */
+static void reads_sealed_until(void) {
+    for (size_t place = 0; place <= KEYS; place++) {
+        read_until(*FONNALICH_SEALED_UNTIL, place, NOW + HOUR - 1);
+        read_until(*FONNALICH_SEALED_UNTIL, place, NOW + HOUR);
+    }
+}
+
 /* Has callgrind write down what a reading takes that is wrong at a place, where it is to be kept. */
 static void count(char way, int place, int is_kept) {
     char header[512], name[32];
@@ -154,6 +231,8 @@ static void counts(void) {
 int main(int count, char **words) {
     for (int i = 0; i < FONNALICH_KEY_LENGTH; i++)
         key[i] = (char)(7 * i + 1);
+    for (size_t i = 0; i <= KEYS; i++)
+        memset(ring[i], (int)i + 1, sizeof ring[i]);
     for (int i = 0; i < FONNALICH_NONCE_LENGTH; i++)
         nonces[i] = (char)(11 * i + 3);
     if (count > 1 && strcmp(words[1], "counts") == 0) {
@@ -161,11 +240,16 @@ int main(int count, char **words) {
         return 0;
     }
     SECRET(key);
+    SECRET(ring);
     TAKE(sets_signed);
     TAKE(sets_sealed);
     TAKE(reads_signed);
     TAKE(reads_wrong_signed);
     TAKE(reads_sealed);
     TAKE(reads_wrong_sealed);
+    TAKE(sets_signed_until);
+    TAKE(sets_sealed_until);
+    TAKE(reads_wrong_signed_until);
+    TAKE(reads_sealed_until);
     return 0;
 }

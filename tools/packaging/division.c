@@ -1,0 +1,15 @@
+/* A division of 128 bits, which compilers keep in a library of their own: for a shared library that is linked where
+   that one isn't there for its processor. */
+typedef unsigned __int128 wide;
+
+wide __udivti3(wide number, wide by) {
+    wide quotient = 0, rest = 0;
+    for (int i = 128; i-- > 0;) {
+        int is_long = (int)(rest >> 127);
+        rest = rest << 1 | (number >> i & 1);
+        quotient <<= 1;
+        if (is_long || rest >= by)
+            rest -= by, quotient |= 1;
+    }
+    return quotient;
+}
