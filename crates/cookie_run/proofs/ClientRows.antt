@@ -63,7 +63,7 @@ loaded_each [] (r ∷ rs) h = absurd h
 loaded_each (t ∷ ts) [] h = absurd h
 loaded_each (t ∷ ts) (r ∷ rs) h = (loaded_pair t r h.0, loaded_each ts rs h.1)
 
-put_each : (rows old : List Row) → HaveReadPairs rows → HaveReadPairs old → HaveReadPairs (put_all rows old)
+pub put_each : (rows old : List Row) → HaveReadPairs rows → HaveReadPairs old → HaveReadPairs (put_all rows old)
 put_each [] old own all = all
 put_each (r ∷ rs) old own all =
     put_each rs (put r old) own.1 (put_from HasReadPair (λ r h. h) (λ r h. h) r old own.0 all)

@@ -14,6 +14,7 @@ use Rattle.cookie_run.specs.ScriptDrawn.{LineFails}
 use Rattle.cookie_run.specs.ScriptText.{Reached, obeyed, goes_back, done, after_line}
 use Rattle.cookie_run.specs.Standing.{Stands, Goes, Halts}
 use Rattle.cookie_run.specs.ScriptRead.{line_of}
+use Rattle.cookie.specs.KeyRing.{Ring}
 use Rattle.cookie_store.specs.Rows.{Row}
 use Rattle.publicsuffix.specs.Rules.{Rule}
 use Rattle.cookie_run.specs.declared.script.cause.Cause.{Cause}
@@ -41,10 +42,10 @@ skips true x y e = absurd (false≢true (sym e))
 skips false x y e = refl
 
 -- an empty line is passed over
-pub passes_over : (list : List Rule) (key : List ℕ) (line : List ℕ) (rows : List Row) (last : ℤ)
-    (visit : Option Visit) (text : List ℕ) → line ≡ [] → text ≡ [] → Goes [] list key (λ r. after_line r line) rows last
-    visit rows last visit text
-passes_over list key line rows last visit text e empty start r output drawn s = (
+pub passes_over : (list : List Rule) (line : List ℕ) (ring : Ring) (rows : List Row) (last : ℤ)
+    (visit : Option Visit) (text : List ℕ) → line ≡ [] → text ≡ [] → Goes [] list (λ r. after_line r line) ring rows
+    last visit ring rows last visit text
+passes_over list line ring rows last visit text e empty first start r output drawn s = (
   r,
   picks (bytes_eq line []) (Ok r) (done r (spec.read_line line)) (empty_line line e),
   record {
@@ -57,6 +58,7 @@ passes_over list key line rows last visit text e empty start r output drawn s = 
     is_open = s.is_open;
     answered = s.answered;
     prints = ap (λ t. output ++ t) empty ∙ (append-nil output ∙ s.prints);
+    turned = s.turned;
     moment = s.moment;
   },
 )
@@ -67,50 +69,55 @@ read_led r line read some e = skips (bytes_eq line []) (Ok r) (done r (spec.read
     ∙ ap (done r) e
 
 -- its text has a fault
-pub misreads : (list : List Rule) (key : List ℕ) (line : List ℕ) (rows : List Row) (last : ℤ) (visit : Option Visit)
+pub misreads : (list : List Rule) (line : List ℕ) (ring : Ring) (rows : List Row) (last : ℤ) (visit : Option Visit)
     (cause : Cause) → 0 < length line → (spec.read_line line ≡ Err cause) ⊎ (cause ≡ Memory)
-    → Halts [] list key (λ r. after_line r line) rows last visit cause rows
-misreads list key line rows last visit cause some (inl e) start r output drawn s =
-    own_fault drawn list key start rows r last visit output (after_line r line) cause s
+    → Halts [] list (λ r. after_line r line) ring rows last visit cause rows
+misreads list line ring rows last visit cause some (inl e) first start r output drawn s =
+    own_fault drawn list first start ring rows r last visit output (after_line r line) cause s
     (read_led r line (Err cause) some e)
-misreads list key line rows last visit cause some (inr e) start r output drawn s =
-    no_memory drawn list key start rows r last visit output (after_line r line) cause s e
+misreads list line ring rows last visit cause some (inr e) first start r output drawn s =
+    no_memory drawn list first start ring rows r last visit output (after_line r line) cause s e
 
 -- its moment is before the last
-pub comes_back : (list : List Rule) (key : List ℕ) (line : List ℕ) (rows : List Row) (last : ℤ) (visit : Option Visit)
+pub comes_back : (list : List Rule) (line : List ℕ) (ring : Ring) (rows : List Row) (last : ℤ) (visit : Option Visit)
     (read : Line) → 0 < length line → spec.read_line line ≡ Ok (line_of read)
-    → goes_back last (line_of read) ≡ true → Halts [] list key (λ r. after_line r line) rows last visit Back rows
-comes_back list key line rows last visit read some e back start r output drawn s =
-    own_fault drawn list key start rows r last visit output (after_line r line) Back s
+    → goes_back last (line_of read) ≡ true → Halts [] list (λ r. after_line r line) ring rows last visit Back rows
+comes_back list line ring rows last visit read some e back first start r output drawn s =
+    own_fault drawn list first start ring rows r last visit output (after_line r line) Back s
     (read_led r line (Ok (line_of read)) some e ∙ picks (goes_back r.last (line_of read)) (Err Back)
-    (obeyed r.acts r.last r.now (line_of read)) (subst (λ m. goes_back m (line_of read) ≡ true) s.moment back))
+    (obeyed r.acts r.ring r.last r.now (line_of read)) (subst (λ m. goes_back m (line_of read) ≡ true) s.moment back))
 
-led : (drawn : List Draw) (list : List Rule) (key : List ℕ) (start rows : List Row) (r : Reached) (last : ℤ)
-    (visit : Option Visit) (output line : List ℕ) (read : Line) → Stands drawn list key start r rows last visit output
+led : (drawn : List Draw) (list : List Rule) (first : Ring) (start : List Row) (ring : Ring) (rows : List Row)
+    (r : Reached) (last : ℤ)
+    (visit : Option Visit) (output line : List ℕ) (read : Line)
+    → Stands drawn list first start r ring rows last visit output
     → 0 < length line → spec.read_line line ≡ Ok (line_of read) → goes_back last (line_of read) ≡ false
-    → after_line r line ≡ obeyed r.acts r.last r.now (line_of read)
-led drawn list key start rows r last visit output line read s some e forth =
+    → after_line r line ≡ obeyed r.acts r.ring r.last r.now (line_of read)
+led drawn list first start ring rows r last visit output line read s some e forth =
     read_led r line (Ok (line_of read)) some e ∙ skips (goes_back r.last (line_of read)) (Err Back)
-    (obeyed r.acts r.last r.now (line_of read)) (subst (λ m. goes_back m (line_of read) ≡ false) s.moment forth)
+    (obeyed r.acts r.ring r.last r.now (line_of read)) (subst (λ m. goes_back m (line_of read) ≡ false) s.moment forth)
 
-pub goes_on : (more : List Draw) (list : List Rule) (key : List ℕ) (line : List ℕ) (rows new_rows : List Row)
+pub goes_on : (more : List Draw) (list : List Rule) (line : List ℕ) (ring new_ring : Ring) (rows new_rows : List Row)
     (last new_last : ℤ) (visit new_visit : Option Visit) (read : Line) (text : List ℕ) → 0 < length line
     → spec.read_line line ≡ Ok (line_of read) → goes_back last (line_of read) ≡ false
-    → Goes more list key (λ r. obeyed r.acts r.last r.now (line_of read)) rows last visit new_rows new_last new_visit
-    text → Goes more list key (λ r. after_line r line) rows last visit new_rows new_last new_visit text
-goes_on more list key line rows new_rows last new_last visit new_visit read text some e forth goes start r output drawn
+    → Goes more list (λ r. obeyed r.acts r.ring r.last r.now (line_of read)) ring rows last visit new_ring new_rows
+    new_last new_visit text
+    → Goes more list (λ r. after_line r line) ring rows last visit new_ring new_rows new_last new_visit text
+goes_on more list line ring new_ring rows new_rows last new_last visit new_visit read text some e forth goes first start
+    r output drawn
     s =
-    let g = goes start r output drawn s in
-    (g.0, led drawn list key start rows r last visit output line read s some e forth ∙ g.1, g.2)
+    let g = goes first start r output drawn s in
+    (g.0, led drawn list first start ring rows r last visit output line read s some e forth ∙ g.1, g.2)
 
-pub halts_there : (here : List Draw) (list : List Rule) (key : List ℕ) (line : List ℕ) (rows new_rows : List Row)
+pub halts_there : (here : List Draw) (list : List Rule) (line : List ℕ) (ring : Ring) (rows new_rows : List Row)
     (last : ℤ) (visit : Option Visit) (read : Line) (cause : Cause) → 0 < length line
     → spec.read_line line ≡ Ok (line_of read) → goes_back last (line_of read) ≡ false
-    → Halts here list key (λ r. obeyed r.acts r.last r.now (line_of read)) rows last visit cause new_rows
-    → Halts here list key (λ r. after_line r line) rows last visit cause new_rows
-halts_there here list key line rows new_rows last visit read cause some e forth halts start r output drawn s =
-    subst (λ l. LineFails drawn here list key start r l cause output new_rows)
-    (sym (led drawn list key start rows r last visit output line read s some e forth)) (halts start r output drawn s)
+    → Halts here list (λ r. obeyed r.acts r.ring r.last r.now (line_of read)) ring rows last visit cause new_rows
+    → Halts here list (λ r. after_line r line) ring rows last visit cause new_rows
+halts_there here list line ring rows new_rows last visit read cause some e forth halts first start r output drawn s =
+    subst (λ l. LineFails drawn here list first start r l cause output new_rows)
+    (sym (led drawn list first start ring rows r last visit output line read s some e forth)) (halts first start r
+    output drawn s)
 
 -- ---- results
 

@@ -62,11 +62,11 @@ made_held line s url now made free utf8 reads is = λ begins.
           (record { secure = h.secure; path = h.path; domain = h.domain });
     }
 
-expired_held : (r : Row) → IsHeldRightly r → IsHeldRightly (expired r)
+pub expired_held : (r : Row) → IsHeldRightly r → IsHeldRightly (expired r)
 expired_held r h = λ begins.
     let is = h begins in record { domain = is.domain; path = is.path; conforms = is.conforms }
 
-alone_held : (r : Row) → IsHeldRightly r → IsHeldRightly (alone r)
+pub alone_held : (r : Row) → IsHeldRightly r → IsHeldRightly (alone r)
 alone_held r h = λ begins.
     let is = h begins in record { domain = (domain_text r, refl); path = is.path; conforms = is.conforms }
 

@@ -1,4 +1,6 @@
 pub mod HeaderCookies
+pub mod ReadPairs
+pub mod PutCookies
 pub mod Escaped
 pub mod ReadBack
 pub mod HeaderBack
@@ -47,8 +49,10 @@ pub mod Refusals
 pub mod SeenPrefixes
 pub mod Runs
 pub mod DrawnRuns
+pub mod RingDrawnRuns
 pub mod Headers
 pub mod ScriptLines
+pub mod ScriptRings
 pub mod ScriptNumbers
 pub mod Shown
 pub mod MomentText
@@ -56,6 +60,8 @@ pub mod Calendar
 pub mod Ends
 pub mod ReadCode
 pub mod OpenCode
+pub mod ScriptDates
+pub mod ScriptEndings
 pub mod Standings
 pub mod Halting
 pub mod ScriptRun

@@ -11,6 +11,7 @@ use Rattle.devices.specs.Device.{AppendsFront}
 use Rattle.std.specs.declared.convert.Infallible.{Infallible}
 use Rattle.rand_chacha.specs.ChaCha.{ChaCha, of_seed}
 use Rattle.cookie.specs.Key.{derived}
+use Rattle.cookie.specs.KeyRing.{alone}
 use Rattle.publicsuffix.specs.Rules.{Rule}
 use Rattle.cookie_run.specs.Drawn.{DrawsSo}
 use Rattle.cookie_run.specs.Program.{IsFill, ScriptEnds, ScriptFails, ScriptGives}
@@ -105,9 +106,9 @@ pub script_ends : (io : Devices) (asked : Asked) (rules : List Rule) (rows : Lis
     (Is : List Row → ℤ → Type 0) (key : List ℕ) (start : ChaCha) (new : List Row) (end : ℤ) (left : ChaCha)
     → was ≡ ended → key ≡ derived asked.seed → start ≡ of_seed asked.seed
     → IfSome io.left (λ input. (output : List ℕ) × Appends io.written.0 io.written.1 output
-    × Runs Infallible rules key rows asked.at input output new end was)
+    × Runs Infallible rules (alone key) rows asked.at input output new end was)
     → (input : List ℕ) × IfSome io.left (λ whole. input ≡ whole) × DrawsSo IsFill Infallible start (λ drawn. IsScriptBy
-    drawn rules key rows asked.at input io.written.0 io.written.1 new end (Ok was)) left
+    drawn rules (alone key) rows asked.at input io.written.0 io.written.1 new end (Ok was)) left
     → Is new end → ScriptEnds io asked rules rows ended Is
 script_ends io asked rules rows ended was Is key start new end left is_ended is_key is_start text draws is =
     subst (λ e. ScriptEnds io asked rules rows e Is) is_ended (joined io.left (λ input h d. (
@@ -116,12 +117,13 @@ script_ends io asked rules rows ended was Is key start new end left is_ended is_
       (
         new,
         end,
-        subst (λ k. Runs Infallible rules k rows asked.at input h.0 new end was) is_key h.2,
+        subst (λ k. Runs Infallible rules (alone k) rows asked.at input h.0 new end was) is_key h.2,
         (
           left,
-          subst (λ k. DrawsSo IsFill Infallible (of_seed asked.seed) (λ drawn. IsScriptBy drawn rules k rows asked.at
+          subst (λ k. DrawsSo IsFill Infallible (of_seed asked.seed) (λ drawn. IsScriptBy drawn rules (alone k) rows
+              asked.at
               input io.written.0 io.written.1 new end (Ok was)) left) is_key
-              (subst (λ s. DrawsSo IsFill Infallible s (λ drawn. IsScriptBy drawn rules key rows asked.at input
+              (subst (λ s. DrawsSo IsFill Infallible s (λ drawn. IsScriptBy drawn rules (alone key) rows asked.at input
               io.written.0 io.written.1 new end (Ok was)) left) is_start d),
         ),
         is,

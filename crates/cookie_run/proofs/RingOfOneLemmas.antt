@@ -78,7 +78,7 @@ module _ (that : IsThatSession) (key : List ℕ) (now : DateTime) where
       let law = (that key now jar way (b ∷ bs) h.0).0 h.2 in (
         Value way (b ∷ bs) (value_alone h.0) ∷ [],
         (value_alone h.0, refl, law.0),
-        h.1 ∙ ap (λ (r : Option (List ℕ × ℕ)). ring.Read r ∷ []) (at_0_is h.0 law.1),
+        h.1 ∙ ap (λ (r : Option (List ℕ × ℕ)). ring.Read way (b ∷ bs) r ∷ []) (at_0_is h.0 law.1),
       )
 
   -- what the commands read, and the ring that they leave

@@ -10,9 +10,9 @@ use Rattle.cookie_text.specs.Record.{bare, unsliced}
 use Rattle.cookie_run.specs.ScriptLine.{Commands, Loses, Delivers, read_line, seconds_of, dated}
 use Rattle.cookie_run.specs.ScriptMoment.{date_of, moment_of}
 use Rattle.cookie_run.specs.ScriptText.{reading_text, fault_text}
-use Rattle.cookie_run.specs.declared.step.Command.TheVariants.{Set, Remove, Get}
-use Rattle.cookie_run.specs.declared.step.Way.TheVariants.{Plain, Host, Sealed}
-use Rattle.cookie_run.specs.declared.step.Reading.TheVariants.{Value, Header}
+use Rattle.cookie_run.specs.RingPlay.{Set, Remove, Get, GetUntil, Read, ReadUntil, Header}
+use Rattle.cookie_run.specs.declared.step.Way.TheVariants.{Plain, Host, Signed, Sealed}
+use Rattle.cookie_run.specs.declared.ending.EndingWay.TheVariants as ends
 use Rattle.cookie_run.specs.declared.script.cause.Cause.TheVariants.{Word, Text, Fields, Moment}
 
 -- ---- moments
@@ -97,6 +97,11 @@ a_get : read_line (codes "get" ++ 9 ∷ codes "sealed" ++ 9 ∷ codes "a") ≡ O
 unfolding read_line percent_decode is_utf8 chars lib.Utf8.encode
 a_get = refl
 
+a_get_until : read_line (codes "get-until" ++ 9 ∷ codes "signed" ++ 9 ∷ codes "a") ≡ Ok
+    (Commands (GetUntil ends.Signed (codes "a")))
+unfolding read_line percent_decode is_utf8 chars lib.Utf8.encode
+a_get_until = refl
+
 a_delivery : read_line (codes "deliver" ++ 9 ∷ codes "2024-02-29T00:00:00Z") ≡ Ok
     (Delivers (pos 1_709_164_800_000_000_000))
 unfolding read_line percent_decode is_utf8 chars lib.Utf8.encode moment_of date_of civil_nanos days_from_civil
@@ -117,6 +122,10 @@ no_text : read_line (codes "set" ++ 9 ∷ codes "plain" ++ 9 ∷ codes "%FF") �
 unfolding read_line percent_decode is_utf8 chars lib.Utf8.encode
 no_text = refl
 
+no_ending_way : read_line (codes "get-until" ++ 9 ∷ codes "plain" ++ 9 ∷ codes "a") ≡ Err Fields
+unfolding read_line percent_decode is_utf8 chars lib.Utf8.encode
+no_ending_way = refl
+
 too_few_fields : read_line (codes "get" ++ 9 ∷ codes "plain") ≡ Err Fields
 unfolding read_line percent_decode is_utf8 chars lib.Utf8.encode
 too_few_fields = refl
@@ -132,14 +141,24 @@ no_moment = refl
 
 -- ---- what is printed
 
-with_value : reading_text (Value Plain (codes "foo !%?=") (Some (codes "bar;;, a"))) ≡ codes "plain"
+with_value : reading_text (Read Plain (codes "foo !%?=") (Some (codes "bar;;, a", 0))) ≡ codes "plain"
     ++ 9 ∷ codes "foo%20!%25?=" ++ 9 ∷ codes "=bar;;,%20a" ++ 10 ∷ []
 unfolding percent_encode_byte
 with_value = refl
 
-without_value : reading_text (Value Plain (codes "a") None) ≡ codes "plain" ++ 9 ∷ codes "a" ++ 9 ∷ codes "-" ++ 10 ∷ []
+without_value : reading_text (Read Plain (codes "a") None) ≡ codes "plain" ++ 9 ∷ codes "a" ++ 9 ∷ codes "-" ++ 10 ∷ []
 unfolding percent_encode_byte
 without_value = refl
+
+with_place : reading_text (Read Signed (codes "a") (Some (codes "b", 12))) ≡ codes "signed"
+    ++ 9 ∷ codes "a" ++ 9 ∷ codes "=b" ++ 9 ∷ codes "12" ++ 10 ∷ []
+unfolding percent_encode_byte digits
+with_place = refl
+
+ending : reading_text (ReadUntil ends.Sealed (codes "a") (Some (codes "b", 0))) ≡ codes "sealed-until"
+    ++ 9 ∷ codes "a" ++ 9 ∷ codes "=b" ++ 10 ∷ []
+unfolding percent_encode_byte
+ending = refl
 
 a_header : reading_text (Header (codes "a=1; b=2")) ≡ codes "header" ++ 9 ∷ codes "a=1;%20b=2" ++ 10 ∷ []
 unfolding percent_encode_byte

@@ -5,7 +5,9 @@ use Rattle.std.specs.Prelude.{IfOk, IfErr, OnOk, IsErrOf, IfSome, Some, IsErrAnd
 use Rattle.std.specs.Str.Lines.{lines}
 use Rattle.std.specs.Io.KnownBytes.{Appends}
 use Rattle.std.proofs.KnownBytes.{Appends-trans, Appends-nil}
-use Rattle.cookie_run.specs.Acts.{Act, Visits, Answers, Asks, Restarts, Arrives, Never}
+use Rattle.cookie.specs.KeyRing.{Ring}
+use Rattle.cookie_run.specs.Acts.{Arrives, Never}
+use Rattle.cookie_run.specs.RingPlay.{RingAct, RingReading, Visits, Answers, Asks, Restarts, Rotates}
 use Rattle.cookie_run.specs.Drawn.{Draw, Fills}
 use Rattle.cookie_run.specs.ScriptDrawn.{EndsBy, LineFails, FaultDraws, NextFails, HalfStepBy, IsScriptBy, PrintsBy}
 use Rattle.cookie_run.specs.ScriptDrawn.{PrintsUntilBy}
@@ -23,35 +25,37 @@ use Rattle.cookie_run.specs.declared.script.ended.RunError.{RunError}
 use Rattle.cookie_run.specs.declared.script.ended.RunError.TheVariants.{Read, Write}
 use Rattle.cookie_run.proofs.ScriptLines.{lines_some}
 use Rattle.cookie_run.specs.declared.script.visit.Visit.{Visit}
-use Rattle.cookie_run.specs.declared.step.Reading.{Reading}
-use Rattle.cookie_run.proofs.DrawnRuns.{commands_any, draws_nil, plays_any}
+use Rattle.cookie_run.proofs.DrawnRuns.{draws_nil}
+use Rattle.cookie_run.proofs.RingDrawnRuns.{commands_any, plays_any}
 use Rattle.cookie_run.proofs.Halting.{prints_all}
 use Rattle.cookie_run.proofs.Runs.{on_ok}
 
 -- ---- whatever the nonces
 
-prints_any : (ds : List Draw) (list : List Rule) (key : List ℕ) (start : List Row) (r : Reached) (output : List ℕ)
-    (new : List Row) → PrintsBy ds list key start r output new → Prints list key start r output new
-prints_any ds list key start r output new p =
-    (p.0, plays_any ds list key start (all_acts r) p.0 new p.1, p.2, p.3)
+prints_any : (ds : List Draw) (list : List Rule) (origin : Ring) (start : List Row) (r : Reached) (output : List ℕ)
+    (new : List Row) → PrintsBy ds list origin start r output new → Prints list origin start r output new
+prints_any ds list origin start r output new p =
+    (p.0, plays_any ds list origin start (all_acts r) p.0 r.ring new p.1, p.2, p.3)
 
-half_any : (ds : List Draw) (list : List Rule) (key : List ℕ) (rows : List Row) (act : Act) (told : List Reading)
-    (new : List Row) → HalfStepBy ds list key rows act told new → HalfStep list key rows act told new
-half_any ds list key rows (Visits url at cs (Arrives moment)) told new h = (
+half_any : (ds : List Draw) (list : List Rule) (ring : Ring) (rows : List Row) (act : RingAct)
+    (told : List RingReading) (new : List Row) → HalfStepBy ds list ring rows act told new
+    → HalfStep list ring rows act told new
+half_any ds list ring rows (Visits url at cs (Arrives moment)) told new h = (
   h.0,
   h.1,
-  (h.2.2.0, (h.2.0, h.2.1, commands_any ds h.2.0 at cs told h.2.2.0 h.2.2.1), h.2.2.2),
+  (h.2.0, h.2.1, (h.2.2.0, commands_any ds h.2.0 cs told h.2.2.0 h.2.2.1, h.2.2.2)),
 )
-half_any ds list key rows (Visits url at cs Never) told new h = absurd h
-half_any ds list key rows (Answers url answer at) told new h = (h.0, h.1)
-half_any ds list key rows (Asks url at) told new h = absurd h
-half_any ds list key rows (Restarts at) told new h = absurd h
+half_any ds list ring rows (Visits url at cs Never) told new h = absurd h
+half_any ds list ring rows (Answers url answer at) told new h = (h.0, h.1)
+half_any ds list ring rows (Asks url at) told new h = absurd h
+half_any ds list ring rows (Restarts at) told new h = absurd h
+half_any ds list ring rows (Rotates key at keep_until) told new h = absurd h
 
-until_any : (ds : List Draw) (list : List Rule) (key : List ℕ) (start : List Row) (r : Reached)
+until_any : (ds : List Draw) (list : List Rule) (origin : Ring) (start : List Row) (r : Reached)
     (led : Result Reached Cause) (output : List ℕ) (new : List Row)
-    → PrintsUntilBy ds list key start r led output new → PrintsUntil list key start r led output new
-until_any ds list key start r led output new (inl p) = inl (prints_any ds list key start r output new p)
-until_any ds list key start r led output new (inr (next, act, is, more, h)) = inr (
+    → PrintsUntilBy ds list origin start r led output new → PrintsUntil list origin start r led output new
+until_any ds list origin start r led output new (inl p) = inl (prints_any ds list origin start r output new p)
+until_any ds list origin start r led output new (inr (next, act, is, more, h)) = inr (
   next,
   act,
   is,
@@ -60,8 +64,8 @@ until_any ds list key start r led output new (inr (next, act, is, more, h)) = in
     h.0,
     h.1,
     h.2,
-    plays_any h.3 list key start r.acts h.0 h.1 h.6,
-    half_any h.4 list key h.1 act h.2 new h.7,
+    plays_any h.3 list origin start r.acts h.0 r.ring h.1 h.6,
+    half_any h.4 list r.ring h.1 act h.2 new h.7,
     h.8,
     h.9,
   ),
@@ -75,60 +79,63 @@ fault_any May Error old new ds r led cause fills (inr failed) =
     inr (failed.0, (subst (λ xs. Fills May Error old xs new) failed.1 fills).0, failed.2)
 
 -- a line isn't done
-abbrev pub LineFailsAny : Type 0 → List Rule → List ℕ → List Row → Reached → Result Reached Cause → Cause → List ℕ
+abbrev pub LineFailsAny : Type 0 → List Rule → Ring → List Row → Reached → Result Reached Cause → Cause → List ℕ
     → List Row → Type 0
-LineFailsAny Error list key start r led cause output new =
-    (HasFault Error r led cause × Prints list key start r output new)
-    ⊎ ((cause ≡ Memory) × PrintsUntil list key start r led output new)
+LineFailsAny Error list origin start r led cause output new =
+    (HasFault Error r led cause × Prints list origin start r output new)
+    ⊎ ((cause ≡ Memory) × PrintsUntil list origin start r led output new)
 
 pub fails_any : {G : Type 0} (May : G → List ℕ → G → Type 0) (Error : Type 0) (from to : G) (ds here : List Draw)
-    (list : List Rule) (key : List ℕ) (start : List Row) (r : Reached) (led : Result Reached Cause) (cause : Cause)
+    (list : List Rule) (origin : Ring) (start : List Row) (r : Reached) (led : Result Reached Cause) (cause : Cause)
     (output : List ℕ) (new : List Row) → Fills May Error from here to
-    → LineFails ds here list key start r led cause output new → LineFailsAny Error list key start r led cause output new
-fails_any May Error from to ds here list key start r led cause output new fills (inl fault) = inl
-    (fault_any May Error from to here r led cause fills fault.0, prints_any ds list key start r output new fault.1)
-fails_any May Error from to ds here list key start r led cause output new fills (inr memory) =
-    inr (memory.0, until_any ds list key start r led output new memory.2)
+    → LineFails ds here list origin start r led cause output new
+    → LineFailsAny Error list origin start r led cause output new
+fails_any May Error from to ds here list origin start r led cause output new fills (inl fault) = inl
+    (fault_any May Error from to here r led cause fills fault.0, prints_any ds list origin start r output new fault.1)
+fails_any May Error from to ds here list origin start r led cause output new fills (inr memory) =
+    inr (memory.0, until_any ds list origin start r led output new memory.2)
 
 -- ---- the lines
 
 -- how far the run has come by these draws: the lines done, where they led, and what was printed for them
-pub record Come (drawn : List Draw) (list : List Rule) (key : List ℕ) (start : List Row) (first : ℤ)
-    (text rest : List ℕ) (rows : List Row) (last : ℤ) (visit : Option Visit) (done : ℕ) (old new : Option (List ℕ))
+pub record Come (drawn : List Draw) (list : List Rule) (origin : Ring) (start : List Row) (first : ℤ)
+    (text rest : List ℕ) (ring : Ring) (rows : List Row) (last : ℤ) (visit : Option Visit) (done : ℕ) (old new : Option
+    (List ℕ))
     : Type 0 where
   pub r : Reached
   pub before : List (List ℕ)
   pub output : List ℕ
-  pub leads : LeadsTo (begun first) before r
+  pub leads : LeadsTo (begun origin first) before r
   pub whole : lines text ≡ before ++ lines rest
-  pub stands : Stands drawn list key start r rows last visit output
+  pub stands : Stands drawn list origin start r ring rows last visit output
   pub written : Appends old new output
   pub count : done ≡ length before
 
-stands_first : (list : List Rule) (key : List ℕ) (start : List Row) (first : ℤ)
-    → Stands [] list key start (begun first) start first None []
-stands_first list key start first = record {
+stands_first : (list : List Rule) (origin : Ring) (start : List Row) (first : ℤ)
+    → Stands [] list origin start (begun origin first) origin start first None []
+stands_first list origin start first = record {
   told = [];
   front = [];
   done = [];
   here = [];
   draws = refl;
-  plays = (refl, refl);
+  plays = (refl, refl, refl);
   is_open = (refl, refl);
   answered = tt;
   prints = refl;
+  turned = refl;
   moment = refl;
 }
 
-pub come_first : (list : List Rule) (key : List ℕ) (start : List Row) (first : ℤ) (text : List ℕ) (w : Option (List ℕ))
-    → Come [] list key start first text text start first None 0 w w
-come_first list key start first text w = record {
-  r = begun first;
+pub come_first : (list : List Rule) (origin : Ring) (start : List Row) (first : ℤ) (text : List ℕ) (w : Option (List ℕ))
+    → Come [] list origin start first text text origin start first None 0 w w
+come_first list origin start first text w = record {
+  r = begun origin first;
   before = [];
   output = [];
   leads = refl;
   whole = refl;
-  stands = stands_first list key start first;
+  stands = stands_first list origin start first;
   written = Appends-nil w;
   count = refl;
 }
@@ -138,19 +145,24 @@ leads_more : (start : Reached) (before : List (List ℕ)) (r next : Reached) (li
 leads_more start [] r next line h e = (next, subst (λ s. after_line s line ≡ Ok next) h e, refl)
 leads_more start (l ∷ before) r next line h e = (h.0, h.1, leads_more h.0 before r next line h.2 e)
 
-pub come_more : (drawn more_drawn : List Draw) (list : List Rule) (key : List ℕ) (start : List Row) (first : ℤ)
-    (text rest line more : List ℕ) (rows new_rows : List Row) (last new_last : ℤ) (visit new_visit : Option Visit)
+pub come_more : (drawn more_drawn : List Draw) (list : List Rule) (origin : Ring) (start : List Row) (first : ℤ)
+    (text rest line more : List ℕ) (ring new_ring : Ring) (rows new_rows : List Row) (last new_last : ℤ)
+    (visit new_visit : Option Visit)
     (done : ℕ) (old mid new : Option (List ℕ)) (printed : List ℕ)
-    → (come : Come drawn list key start first text rest rows last visit done old mid) → lines rest ≡ line ∷ lines more
-    → ((next : Reached) × (after_line come.r line ≡ Ok next) × Stands (drawn ++ more_drawn) list key start next new_rows
+    → (come : Come drawn list origin start first text rest ring rows last visit done old mid)
+    → lines rest ≡ line ∷ lines more
+    → ((next : Reached) × (after_line come.r line ≡ Ok next) × Stands (drawn ++ more_drawn) list origin start next
+    new_ring new_rows
     new_last new_visit (come.output ++ printed)) → Appends mid new printed
-    → Come (drawn ++ more_drawn) list key start first text more new_rows new_last new_visit (done + 1) old new
-come_more drawn more_drawn list key start first text rest line more rows new_rows last new_last visit new_visit done
+    → Come (drawn ++ more_drawn) list origin start first text more new_ring new_rows new_last new_visit (done + 1) old
+    new
+come_more drawn more_drawn list origin start first text rest line more ring new_ring rows new_rows last new_last visit
+    new_visit done
     old mid new printed come cut goes written = record {
       r = goes.0;
       before = come.before ++ line ∷ [];
       output = come.output ++ printed;
-      leads = leads_more (begun first) come.before come.r goes.0 line come.leads goes.1;
+      leads = leads_more (begun origin first) come.before come.r goes.0 line come.leads goes.1;
       whole = come.whole ∙ (ap (λ ls. come.before ++ ls) cut ∙ sym (append_assoc come.before (line ∷ []) (lines more)));
       stands = goes.2;
       written = Appends-trans old mid new come.output printed come.written written;
@@ -158,25 +170,26 @@ come_more drawn more_drawn list key start first text rest line more rows new_row
     }
 
 -- what the text prints, and how it ends
-abbrev pub Ends : Type 0 → List Rule → List ℕ → List Row → ℤ → List ℕ → Option (List ℕ) → Option (List ℕ) → List Row
+abbrev pub Ends : Type 0 → List Rule → Ring → List Row → ℤ → List ℕ → Option (List ℕ) → Option (List ℕ) → List Row
     → ℤ → Ended → Type 0
-Ends Error list key start first text old new rows last ended = (output : List ℕ) × Appends old new output
-    × (ScriptText Error list key start first text output rows last ended
-    ⊎ EndsForMemory list key start first text output rows last ended)
+Ends Error list origin start first text old new rows last ended = (output : List ℕ) × Appends old new output
+    × (ScriptText Error list origin start first text output rows last ended
+    ⊎ EndsForMemory list origin start first text output rows last ended)
 
-pub come_whole : (drawn : List Draw) (Error : Type 0) (list : List Rule) (key : List ℕ) (start : List Row) (first : ℤ)
-    (text rest : List ℕ) (rows : List Row) (last : ℤ) (visit : Option Visit) (done : ℕ) (old new : Option (List ℕ))
-    → Come drawn list key start first text rest rows last visit done old new → rest ≡ []
-    → Ends Error list key start first text old new rows last Whole
-come_whole drawn Error list key start first text rest rows last visit done old new come e =
+pub come_whole : (drawn : List Draw) (Error : Type 0) (list : List Rule) (origin : Ring) (start : List Row) (first : ℤ)
+    (text rest : List ℕ) (ring : Ring) (rows : List Row) (last : ℤ) (visit : Option Visit) (done : ℕ) (old new : Option
+    (List ℕ))
+    → Come drawn list origin start first text rest ring rows last visit done old new → rest ≡ []
+    → Ends Error list origin start first text old new rows last Whole
+come_whole drawn Error list origin start first text rest ring rows last visit done old new come e =
     let all : lines text ≡ come.before = come.whole ∙ (ap (λ x. come.before ++ lines x) e ∙ append-nil come.before) in (
       come.output,
       come.written,
       inl (record {
         r = come.r;
-        leads = subst (λ ls. LeadsTo (begun first) ls come.r) (sym all) come.leads;
-        prints = prints_any drawn list key start come.r come.output rows
-            (prints_all drawn list key start rows come.r last visit come.output come.stands);
+        leads = subst (λ ls. LeadsTo (begun origin first) ls come.r) (sym all) come.leads;
+        prints = prints_any drawn list origin start come.r come.output rows
+            (prints_all drawn list origin start ring rows come.r last visit come.output come.stands);
         moment = come.stands.moment;
       }),
     )
@@ -184,14 +197,17 @@ come_whole drawn Error list key start first text rest rows last visit done old n
 no_length : (line : List ℕ) → 0 < length line → line ≡ [] → ⊥
 no_length line some empty = let none = ap length empty in omega arith
 
-pub come_fault : (drawn : List Draw) (Error : Type 0) (list : List Rule) (key : List ℕ) (start : List Row) (first : ℤ)
-    (text rest line more : List ℕ) (rows new_rows : List Row) (last new_last : ℤ) (visit : Option Visit) (done : ℕ)
+pub come_fault : (drawn : List Draw) (Error : Type 0) (list : List Rule) (origin : Ring) (start : List Row) (first : ℤ)
+    (text rest line more : List ℕ) (ring : Ring) (rows new_rows : List Row) (last new_last : ℤ) (visit : Option Visit)
+    (done : ℕ)
     (old mid new : Option (List ℕ)) (cause : Cause)
-    → (come : Come drawn list key start first text rest rows last visit done old mid) → lines rest ≡ line ∷ lines more
-    → LineFailsAny Error list key start come.r (after_line come.r line) cause come.output new_rows → 0 < length line
+    → (come : Come drawn list origin start first text rest ring rows last visit done old mid)
+    → lines rest ≡ line ∷ lines more
+    → LineFailsAny Error list origin start come.r (after_line come.r line) cause come.output new_rows → 0 < length line
     → new_last ≡ last → Appends mid new (fault_text (done + 1) cause)
-    → Ends Error list key start first text old new new_rows new_last (Faulty (done + 1))
-come_fault drawn Error list key start first text rest line more rows new_rows last new_last visit done old mid new cause
+    → Ends Error list origin start first text old new new_rows new_last (Faulty (done + 1))
+come_fault drawn Error list origin start first text rest line more ring rows new_rows last new_last visit done old mid
+    new cause
     come cut (inl fault) some kept written = (
       come.output ++ fault_text (done + 1) cause,
       Appends-trans old mid new come.output _ come.written written,
@@ -213,7 +229,8 @@ come_fault drawn Error list key start first text rest line more rows new_rows la
         moment = kept ∙ come.stands.moment;
       }),
     )
-come_fault drawn Error list key start first text rest line more rows new_rows last new_last visit done old mid new cause
+come_fault drawn Error list origin start first text rest line more ring rows new_rows last new_last visit done old mid
+    new cause
     come cut (inr half) some kept written = (
       come.output ++ fault_text (done + 1) cause,
       Appends-trans old mid new come.output _ come.written written,
@@ -237,22 +254,22 @@ come_fault drawn Error list key start first text rest line more rows new_rows la
 
 -- ---- where memory is refused while the text is read
 
-pub memory_first : (Error : Type 0) (list : List Rule) (key : List ℕ) (start : List Row) (first : ℤ) (text : List ℕ)
+pub memory_first : (Error : Type 0) (list : List Rule) (origin : Ring) (start : List Row) (first : ℤ) (text : List ℕ)
     (old new : Option (List ℕ)) → 0 < length text → Appends old new (fault_text 1 Memory)
-    → Ends Error list key start first text old new start first (Faulty 1)
-memory_first Error list key start first text old new some written =
+    → Ends Error list origin start first text old new start first (Faulty 1)
+memory_first Error list origin start first text old new some written =
     let l = lines_some text some in (
       fault_text 1 Memory,
       written,
       inr (record {
-        r = begun first;
+        r = begun origin first;
         before = [];
         line = l.0;
         readings = [];
         place = record { after = l.1; whole = l.2; number = refl };
         asks = λ empty. refl;
         leads = refl;
-        prints = inl ([], refl, tt, refl);
+        prints = inl ([], (refl, refl), tt, refl);
         text = refl;
         moment = refl;
       }),
@@ -291,26 +308,28 @@ only_write (Err x) P only e = absurd (read_write (sym only ∙ same x e))
 
 -- ---- what is left, however the run ends
 
-rows_left : (list : List Rule) (key : List ℕ) (start : List Row) (r : Reached) (after : List (List ℕ)) (output : List ℕ)
-    (new : List Row) → Prints list key start r output new → LeavesRows list key start r after new
-rows_left list key start r [] output new p = (output, p)
-rows_left list key start r (line ∷ later) output new p = (output, inl p)
+rows_left : (list : List Rule) (origin : Ring) (start : List Row) (r : Reached) (after : List (List ℕ))
+    (output : List ℕ)
+    (new : List Row) → Prints list origin start r output new → LeavesRows list origin start r after new
+rows_left list origin start r [] output new p = (output, p)
+rows_left list origin start r (line ∷ later) output new p = (output, inl p)
 
-pub leaves_now : (drawn : List Draw) (list : List Rule) (key : List ℕ) (start : List Row) (first : ℤ) (text : List ℕ)
-    (r : Reached) (before after : List (List ℕ)) (rows : List Row) (last : ℤ) (visit : Option Visit) (output : List ℕ)
-    (result : Result Ended RunError) → LeadsTo (begun first) before r → lines text ≡ before ++ after
-    → Stands drawn list key start r rows last visit output → IsDoneUpTo result before after
-    → LeavesFront list key start first text rows last result
-leaves_now drawn list key start first text r before after rows last visit output result leads cut stands up_to =
+pub leaves_now : (drawn : List Draw) (list : List Rule) (origin : Ring) (start : List Row) (first : ℤ) (text : List ℕ)
+    (r : Reached) (before after : List (List ℕ)) (ring : Ring) (rows : List Row) (last : ℤ) (visit : Option Visit)
+    (output : List ℕ)
+    (result : Result Ended RunError) → LeadsTo (begun origin first) before r → lines text ≡ before ++ after
+    → Stands drawn list origin start r ring rows last visit output → IsDoneUpTo result before after
+    → LeavesFront list origin start first text rows last result
+leaves_now drawn list origin start first text r before after ring rows last visit output result leads cut stands up_to =
     record {
       r = r;
       before = before;
       after = after;
       cut = cut;
       leads = leads;
-      leaves = rows_left list key start r after output rows
-          (prints_any drawn list key start r output rows
-          (prints_all drawn list key start rows r last visit output stands));
+      leaves = rows_left list origin start r after output rows
+          (prints_any drawn list origin start r output rows
+          (prints_all drawn list origin start ring rows r last visit output stands));
       moment = stands.moment;
       done_up_to = up_to;
     }
@@ -327,29 +346,37 @@ up_to_any (Ok ended) Q before after is = absurd is
 up_to_any (Err error) Q before after is = tt
 
 -- the line was done, and what it printed wasn't written
-pub leaves_more : (drawn more_drawn : List Draw) (list : List Rule) (key : List ℕ) (start : List Row) (first : ℤ)
-    (text rest line more : List ℕ) (rows new_rows : List Row) (last new_last : ℤ) (visit new_visit : Option Visit)
+pub leaves_more : (drawn more_drawn : List Draw) (list : List Rule) (origin : Ring) (start : List Row) (first : ℤ)
+    (text rest line more : List ℕ) (ring new_ring : Ring) (rows new_rows : List Row) (last new_last : ℤ)
+    (visit new_visit : Option Visit)
     (done : ℕ) (old mid : Option (List ℕ)) (printed : List ℕ) (result : Result Ended RunError)
     (Q : RunError → Type 0) → IsErrAnd result Q
-    → (come : Come drawn list key start first text rest rows last visit done old mid) → lines rest ≡ line ∷ lines more
-    → ((next : Reached) × (after_line come.r line ≡ Ok next) × Stands (drawn ++ more_drawn) list key start next new_rows
-    new_last new_visit (come.output ++ printed)) → LeavesFront list key start first text new_rows new_last result
-leaves_more drawn more_drawn list key start first text rest line more rows new_rows last new_last visit new_visit done
-    old mid printed result Q failed come cut goes = leaves_now (drawn ++ more_drawn) list key start first text goes.0
-    (come.before ++ line ∷ []) (lines more) new_rows new_last new_visit (come.output ++ printed) result
-    (leads_more (begun first) come.before come.r goes.0 line come.leads goes.1)
+    → (come : Come drawn list origin start first text rest ring rows last visit done old mid)
+    → lines rest ≡ line ∷ lines more
+    → ((next : Reached) × (after_line come.r line ≡ Ok next) × Stands (drawn ++ more_drawn) list origin start next
+    new_ring new_rows
+    new_last new_visit (come.output ++ printed)) → LeavesFront list origin start first text new_rows new_last result
+leaves_more drawn more_drawn list origin start first text rest line more ring new_ring rows new_rows last new_last visit
+    new_visit done
+    old mid printed result Q failed come cut goes = leaves_now (drawn ++ more_drawn) list origin start first text goes.0
+    (come.before ++ line ∷ []) (lines more) new_ring new_rows new_last new_visit (come.output ++ printed) result
+    (leads_more (begun origin first) come.before come.r goes.0 line come.leads goes.1)
     (come.whole ∙ (ap (λ ls. come.before ++ ls) cut ∙ sym (append_assoc come.before (line ∷ []) (lines more))))
     goes.2 (up_to_any result Q (come.before ++ line ∷ []) (lines more) failed)
 
 -- the line wasn't done
-pub leaves_fault : (drawn : List Draw) (Error : Type 0) (list : List Rule) (key : List ℕ) (start : List Row) (first : ℤ)
-    (text rest line more : List ℕ) (rows new_rows : List Row) (last new_last : ℤ) (visit : Option Visit) (done : ℕ)
+pub leaves_fault : (drawn : List Draw) (Error : Type 0) (list : List Rule) (origin : Ring) (start : List Row)
+    (first : ℤ)
+    (text rest line more : List ℕ) (ring : Ring) (rows new_rows : List Row) (last new_last : ℤ) (visit : Option Visit)
+    (done : ℕ)
     (old mid : Option (List ℕ)) (cause : Cause) (result : Result Ended RunError)
     → IfOk result (λ ended. ended ≡ Faulty (done + 1))
-    → (come : Come drawn list key start first text rest rows last visit done old mid) → lines rest ≡ line ∷ lines more
-    → LineFailsAny Error list key start come.r (after_line come.r line) cause come.output new_rows → new_last ≡ last
-    → LeavesFront list key start first text new_rows new_last result
-leaves_fault drawn Error list key start first text rest line more rows new_rows last new_last visit done old mid cause
+    → (come : Come drawn list origin start first text rest ring rows last visit done old mid)
+    → lines rest ≡ line ∷ lines more
+    → LineFailsAny Error list origin start come.r (after_line come.r line) cause come.output new_rows → new_last ≡ last
+    → LeavesFront list origin start first text new_rows new_last result
+leaves_fault drawn Error list origin start first text rest line more ring rows new_rows last new_last visit done old mid
+    cause
     result is come cut said kept = record {
       r = come.r;
       before = come.before;
@@ -361,33 +388,36 @@ leaves_fault drawn Error list key start first text rest line more rows new_rows 
       done_up_to = up_to_fault result (done + 1) come.before (line ∷ lines more) is (ap (λ n. n + 1) come.count);
     }
   where
-    until : LineFailsAny Error list key start come.r (after_line come.r line) cause come.output new_rows
-        → PrintsUntil list key start come.r (after_line come.r line) come.output new_rows
+    until : LineFailsAny Error list origin start come.r (after_line come.r line) cause come.output new_rows
+        → PrintsUntil list origin start come.r (after_line come.r line) come.output new_rows
     until (inl fault) = inl fault.1
     until (inr half) = half.1
 
 -- no line was done
-none_done : (list : List Rule) (key : List ℕ) (start : List Row) (first : ℤ) (input : List ℕ)
+none_done : (list : List Rule) (origin : Ring) (start : List Row) (first : ℤ) (input : List ℕ)
     (result : Result Ended RunError) → ((after : List (List ℕ)) → IsDoneUpTo result [] after)
-    → LeavesFront list key start first input start first result
-none_done list key start first input result up_to = leaves_now [] list key start first input (begun first) []
-    (lines input) start first None [] result refl refl (stands_first list key start first) (up_to (lines input))
+    → LeavesFront list origin start first input start first result
+none_done list origin start first input result up_to = leaves_now [] list origin start first input (begun origin first)
+    []
+    (lines input) origin start first None [] result refl refl (stands_first list origin start first) (up_to (lines
+    input))
 
-pub leaves_first : (list : List Rule) (key : List ℕ) (start : List Row) (first : ℤ) (left : Option (List ℕ))
+pub leaves_first : (list : List Rule) (origin : Ring) (start : List Row) (first : ℤ) (left : Option (List ℕ))
     (result : Result Ended RunError) → ((after : List (List ℕ)) → IsDoneUpTo result [] after)
-    → (input : List ℕ) × IfSome left (λ whole. input ≡ whole) × LeavesFront list key start first input start first
+    → (input : List ℕ) × IfSome left (λ whole. input ≡ whole) × LeavesFront list origin start first input start first
     result
-leaves_first list key start first None result up_to = ([], tt, none_done list key start first [] result up_to)
-leaves_first list key start first (Some whole) result up_to =
-    (whole, refl, none_done list key start first whole result up_to)
+leaves_first list origin start first None result up_to = ([], tt, none_done list origin start first [] result up_to)
+leaves_first list origin start first (Some whole) result up_to =
+    (whole, refl, none_done list origin start first whole result up_to)
 
 -- ---- by the draws
 
-pub script_whole : (drawn : List Draw) (list : List Rule) (key : List ℕ) (start : List Row) (first : ℤ)
-    (text rest : List ℕ) (rows : List Row) (last : ℤ) (visit : Option Visit) (done : ℕ) (old mid new : Option (List ℕ))
-    → (come : Come drawn list key start first text rest rows last visit done old mid) → rest ≡ []
-    → Appends old new come.output → IsScriptBy drawn list key start first text old new rows last (Ok Whole)
-script_whole drawn list key start first text rest rows last visit done old mid new come e written = record {
+pub script_whole : (drawn : List Draw) (list : List Rule) (origin : Ring) (start : List Row) (first : ℤ)
+    (text rest : List ℕ) (ring : Ring) (rows : List Row) (last : ℤ) (visit : Option Visit) (done : ℕ) (old mid new :
+    Option (List ℕ))
+    → (come : Come drawn list origin start first text rest ring rows last visit done old mid) → rest ≡ []
+    → Appends old new come.output → IsScriptBy drawn list origin start first text old new rows last (Ok Whole)
+script_whole drawn list origin start first text rest ring rows last visit done old mid new come e written = record {
   r = come.r;
   before = come.before;
   after = [];
@@ -400,18 +430,20 @@ script_whole drawn list key start first text rest rows last visit done old mid n
   ends = (
     refl,
     refl,
-    (come.output, prints_all drawn list key start rows come.r last visit come.output come.stands, written),
+    (come.output, prints_all drawn list origin start ring rows come.r last visit come.output come.stands, written),
   );
 }
 
 -- a device failed before a line
-pub script_cut : (drawn : List Draw) (list : List Rule) (key : List ℕ) (start : List Row) (first : ℤ) (text : List ℕ)
-    (r : Reached) (before after : List (List ℕ)) (rows : List Row) (last : ℤ) (visit : Option Visit) (output : List ℕ)
+pub script_cut : (drawn : List Draw) (list : List Rule) (origin : Ring) (start : List Row) (first : ℤ) (text : List ℕ)
+    (r : Reached) (before after : List (List ℕ)) (ring : Ring) (rows : List Row) (last : ℤ) (visit : Option Visit)
+    (output : List ℕ)
     (old new : Option (List ℕ)) (result : Result Ended RunError) (Q : RunError → Type 0) → IsErrAnd result Q
-    → LeadsTo (begun first) before r → lines text ≡ before ++ after
-    → Stands drawn list key start r rows last visit output
-    → IsScriptBy drawn list key start first text old new rows last result
-script_cut drawn list key start first text r before after rows last visit output old new result Q failed leads cut
+    → LeadsTo (begun origin first) before r → lines text ≡ before ++ after
+    → Stands drawn list origin start r ring rows last visit output
+    → IsScriptBy drawn list origin start first text old new rows last result
+script_cut drawn list origin start first text r before after ring rows last visit output old new result Q failed leads
+    cut
     stands =
     record {
       r = r;
@@ -427,45 +459,55 @@ script_cut drawn list key start first text r before after rows last visit output
     }
   where
     by_error : (result : Result Ended RunError) → IsErrAnd result Q
-        → EndsBy drawn [] list key start r before after old new rows result
+        → EndsBy drawn [] list origin start r before after old new rows result
     by_error (Ok ended) is = absurd is
-    by_error (Err error) is = (output, inl (refl, prints_all drawn list key start rows r last visit output stands))
+    by_error (Err error) is =
+        (output, inl (refl, prints_all drawn list origin start ring rows r last visit output stands))
 
-pub script_more : (drawn more_drawn : List Draw) (list : List Rule) (key : List ℕ) (start : List Row) (first : ℤ)
-    (text rest line more : List ℕ) (rows new_rows : List Row) (last new_last : ℤ) (visit new_visit : Option Visit)
+pub script_more : (drawn more_drawn : List Draw) (list : List Rule) (origin : Ring) (start : List Row) (first : ℤ)
+    (text rest line more : List ℕ) (ring new_ring : Ring) (rows new_rows : List Row) (last new_last : ℤ)
+    (visit new_visit : Option Visit)
     (done : ℕ) (old mid new : Option (List ℕ)) (printed : List ℕ) (result : Result Ended RunError)
     (Q : RunError → Type 0) → IsErrAnd result Q
-    → (come : Come drawn list key start first text rest rows last visit done old mid) → lines rest ≡ line ∷ lines more
-    → ((next : Reached) × (after_line come.r line ≡ Ok next) × Stands (drawn ++ more_drawn) list key start next new_rows
+    → (come : Come drawn list origin start first text rest ring rows last visit done old mid)
+    → lines rest ≡ line ∷ lines more
+    → ((next : Reached) × (after_line come.r line ≡ Ok next) × Stands (drawn ++ more_drawn) list origin start next
+    new_ring new_rows
     new_last new_visit (come.output ++ printed))
-    → IsScriptBy (drawn ++ more_drawn) list key start first text old new new_rows new_last result
-script_more drawn more_drawn list key start first text rest line more rows new_rows last new_last visit new_visit done
-    old mid new printed result Q failed come cut goes = script_cut (drawn ++ more_drawn) list key start first text
-    goes.0 (come.before ++ line ∷ []) (lines more) new_rows new_last new_visit (come.output ++ printed) old new result
-    Q failed (leads_more (begun first) come.before come.r goes.0 line come.leads goes.1)
+    → IsScriptBy (drawn ++ more_drawn) list origin start first text old new new_rows new_last result
+script_more drawn more_drawn list origin start first text rest line more ring new_ring rows new_rows last new_last visit
+    new_visit done
+    old mid new printed result Q failed come cut goes = script_cut (drawn ++ more_drawn) list origin start first text
+    goes.0 (come.before ++ line ∷ []) (lines more) new_ring new_rows new_last new_visit (come.output ++ printed) old new
+    result
+    Q failed (leads_more (begun origin first) come.before come.r goes.0 line come.leads goes.1)
     (come.whole ∙ (ap (λ ls. come.before ++ ls) cut ∙ sym (append_assoc come.before (line ∷ []) (lines more)))) goes.2
 
 -- line n wasn't done
-by_fault : (ds here : List Draw) (list : List Rule) (key : List ℕ) (start : List Row) (r : Reached)
+by_fault : (ds here : List Draw) (list : List Rule) (origin : Ring) (start : List Row) (r : Reached)
     (before after : List (List ℕ)) (old new : Option (List ℕ)) (rows : List Row) (n : ℕ) (cause : Cause)
     (output : List ℕ) (result : Result Ended RunError) → n ≡ length before + 1
-    → NextFails ds here list key start r after cause output rows
+    → NextFails ds here list origin start r after cause output rows
     → OnOk result (Appends old new (output ++ fault_text n cause)) → IfOk result (λ ended. ended ≡ Faulty n)
-    → EndsBy ds here list key start r before after old new rows result
-by_fault ds here list key start r before after old new rows n cause output (Ok ended) number fails written is =
-    subst (λ x. let e : Result Ended RunError = Ok x in EndsBy ds here list key start r before after old new rows e)
+    → EndsBy ds here list origin start r before after old new rows result
+by_fault ds here list origin start r before after old new rows n cause output (Ok ended) number fails written is =
+    subst (λ x. let e : Result Ended RunError = Ok x in EndsBy ds here list origin start r before after old new rows e)
     (sym is) (number, (cause, output, fails, written))
-by_fault ds here list key start r before after old new rows n cause output (Err error) number fails written is =
+by_fault ds here list origin start r before after old new rows n cause output (Err error) number fails written is =
     (output, inr (cause, fails))
 
-pub script_fault : (drawn here : List Draw) (list : List Rule) (key : List ℕ) (start : List Row) (first : ℤ)
-    (text rest line more : List ℕ) (rows new_rows : List Row) (last new_last : ℤ) (visit : Option Visit) (done : ℕ)
+pub script_fault : (drawn here : List Draw) (list : List Rule) (origin : Ring) (start : List Row) (first : ℤ)
+    (text rest line more : List ℕ) (ring : Ring) (rows new_rows : List Row) (last new_last : ℤ) (visit : Option Visit)
+    (done : ℕ)
     (old mid new : Option (List ℕ)) (cause : Cause) (result : Result Ended RunError)
-    → (come : Come drawn list key start first text rest rows last visit done old mid) → lines rest ≡ line ∷ lines more
-    → LineFails drawn here list key start come.r (after_line come.r line) cause come.output new_rows → new_last ≡ last
+    → (come : Come drawn list origin start first text rest ring rows last visit done old mid)
+    → lines rest ≡ line ∷ lines more
+    → LineFails drawn here list origin start come.r (after_line come.r line) cause come.output new_rows
+    → new_last ≡ last
     → OnOk result (Appends mid new (fault_text (done + 1) cause)) → IfOk result (λ ended. ended ≡ Faulty (done + 1))
-    → IsScriptBy (drawn ++ here) list key start first text old new new_rows new_last result
-script_fault drawn here list key start first text rest line more rows new_rows last new_last visit done old mid new
+    → IsScriptBy (drawn ++ here) list origin start first text old new new_rows new_last result
+script_fault drawn here list origin start first text rest line more ring rows new_rows last new_last visit done old mid
+    new
     cause result come cut fails kept written is = record {
       r = come.r;
       before = come.before;
@@ -476,35 +518,37 @@ script_fault drawn here list key start first text rest line more rows new_rows l
       done = drawn;
       here = here;
       draws = refl;
-      ends = by_fault drawn here list key start come.r come.before (line ∷ lines more) old new new_rows (done + 1) cause
+      ends = by_fault drawn here list origin start come.r come.before (line ∷ lines more) old new new_rows (done + 1)
+          cause
           come.output result (ap (λ n. n + 1) come.count) fails
           (on_ok result _ _ (Appends-trans old mid new come.output _ come.written) written) is;
     }
 
 -- nothing was read
-pub script_unread : (list : List Rule) (key : List ℕ) (start : List Row) (first : ℤ) (left : Option (List ℕ))
+pub script_unread : (list : List Rule) (origin : Ring) (start : List Row) (first : ℤ) (left : Option (List ℕ))
     (old new : Option (List ℕ)) (error : RunError)
     → (input : List ℕ) × IfSome left (λ whole. input ≡ whole)
-    × IsScriptBy [] list key start first input old new start first (Err error)
-script_unread list key start first left old new error = known left
+    × IsScriptBy [] list origin start first input old new start first (Err error)
+script_unread list origin start first left old new error = known left
   where
-    none : (input : List ℕ) → IsScriptBy [] list key start first input old new start first (Err error)
-    none input = script_cut [] list key start first input (begun first) [] (lines input) start first None [] old new
-        (Err error) (λ e. ⊤) tt refl refl (stands_first list key start first)
+    none : (input : List ℕ) → IsScriptBy [] list origin start first input old new start first (Err error)
+    none input = script_cut [] list origin start first input (begun origin first) [] (lines input) origin start first
+        None [] old new
+        (Err error) (λ e. ⊤) tt refl refl (stands_first list origin start first)
 
     known : (left : Option (List ℕ)) → (input : List ℕ) × IfSome left (λ whole. input ≡ whole)
-        × IsScriptBy [] list key start first input old new start first (Err error)
+        × IsScriptBy [] list origin start first input old new start first (Err error)
     known None = ([], tt, none [])
     known (Some whole) = (whole, refl, none whole)
 
 -- memory was refused while the text was read
-script_refused : (list : List Rule) (key : List ℕ) (start : List Row) (first : ℤ) (input : List ℕ)
+script_refused : (list : List Rule) (origin : Ring) (start : List Row) (first : ℤ) (input : List ℕ)
     (old new : Option (List ℕ)) (result : Result Ended RunError) → 0 < length input
     → OnOk result (Appends old new (fault_text 1 Memory)) → IfOk result (λ ended. ended ≡ Faulty 1)
-    → IsScriptBy [] list key start first input old new start first result
-script_refused list key start first input old new result some written is =
+    → IsScriptBy [] list origin start first input old new start first result
+script_refused list origin start first input old new result some written is =
     let l = lines_some input some in record {
-      r = begun first;
+      r = begun origin first;
       before = [];
       after = l.0 ∷ l.1;
       cut = l.2;
@@ -513,16 +557,16 @@ script_refused list key start first input old new result some written is =
       done = [];
       here = [];
       draws = refl;
-      ends = by_fault [] [] list key start (begun first) [] (l.0 ∷ l.1) old new start 1 Memory [] result refl
-          (inr (refl, inl refl, inl ([], (refl, refl), tt, refl))) written is;
+      ends = by_fault [] [] list origin start (begun origin first) [] (l.0 ∷ l.1) old new start 1 Memory [] result refl
+          (inr (refl, inl refl, inl ([], (refl, refl, refl), tt, refl))) written is;
     }
 
-pub script_memory : (list : List Rule) (key : List ℕ) (start : List Row) (first : ℤ) (left : Option (List ℕ))
+pub script_memory : (list : List Rule) (origin : Ring) (start : List Row) (first : ℤ) (left : Option (List ℕ))
     (old new : Option (List ℕ)) (result : Result Ended RunError) → IfSome left (λ input. 0 < length input)
     → OnOk result (Appends old new (fault_text 1 Memory)) → IfOk result (λ ended. ended ≡ Faulty 1)
     → (input : List ℕ) × IfSome left (λ whole. input ≡ whole)
-    × IsScriptBy [] list key start first input old new start first result
-script_memory list key start first None old new result some written is =
-    (0 ∷ [], tt, script_refused list key start first (0 ∷ []) old new result (omega arith) written is)
-script_memory list key start first (Some whole) old new result some written is =
-    (whole, refl, script_refused list key start first whole old new result some written is)
+    × IsScriptBy [] list origin start first input old new start first result
+script_memory list origin start first None old new result some written is =
+    (0 ∷ [], tt, script_refused list origin start first (0 ∷ []) old new result (omega arith) written is)
+script_memory list origin start first (Some whole) old new result some written is =
+    (whole, refl, script_refused list origin start first whole old new result some written is)

@@ -1,57 +1,60 @@
 -- The run of a script goes on by one line.
 use Rattle.std.proofs.Common.{◌≡◌, ◌≢◌, ℕ, ℤ, true, false, List, [], ◌∷◌, ◌++◌, Option, Some, None, Result, Ok}
-use Rattle.std.proofs.Common.{inl, inr, sym, refl, ap, ◌∙◌, subst, append_assoc, append-nil}
-use Rattle.std.specs.Prelude.{is_some, is_none, if◌then◌else◌}
+use Rattle.std.proofs.Common.{◌<◌, arith, inl, inr, length, sym, refl, ap, ◌∙◌, subst, append_assoc, append-nil}
+use Rattle.std.specs.Prelude.{is_some, is_none, nat_lt, if◌then◌else◌}
+use Rattle.std.proofs.lemmas.Bool.Decides.{nat_tests}
 use Rattle.std.specs.List.{AllByRecursion}
 use Rattle.std.specs.Str.{bytes_eq}
 use Rattle.url.specs.Parts.{Parts}
 use Rattle.cookie_text.specs.Record.{Seen}
 use Rattle.cookie_run.specs.declared.step.SessionError.{SessionError}
 use Rattle.cookie_run.specs.declared.step.SessionError.TheVariants as refusals
-use Rattle.cookie_run.specs.Jar.{Keyed, ClosesWith, IsOpened, ReadsIn, TakesOut, IsRemovalRefusal}
+use Rattle.cookie.specs.KeyRing.{Ring, kept, rotated}
+use Rattle.cookie_run.specs.Jar.{ClosesWith, TakesOut, IsRemovalRefusal}
+use Rattle.cookie_run.specs.RingPlay.{Answers, Asks, RingAct, RingCommand, RingGetTells, GetUntilTells, RingReading}
+use Rattle.cookie_run.specs.RingPlay.{Restarts, Rotates, Visits, Set, SetUntil, Remove, Get, GetUntil, all_told}
+use Rattle.cookie_run.specs.RingPlay.{Read, ReadUntil, Refused, Header}
+use Rattle.cookie_run.specs.RingSession.{IsOpenedOn, KeepsRing, ReadsEnding, RingReadsIn, Ringed, keyed}
+use Rattle.cookie_run.specs.RingDrawn.{RingCommandDraws, RingPlaysBy, RingSetDraws, RingStepBy, SetUntilDraws}
+use Rattle.cookie_run.specs.declared.ending.EndingWay.{EndingWay}
 use Rattle.jiff.specs.Types.{DateTime}
 use Rattle.jiff.specs.Words.{civil_nanos}
 use Rattle.cookie_run.specs.declared.script.moment.Moment.{Moment}
 use Rattle.cookie_run.specs.Accept.{Takes}
 use Rattle.cookie_run.specs.Header.{IsHeader}
 use Rattle.cookie_run.specs.Keeping.{Keeps}
-use Rattle.cookie_run.specs.Acts.{Act, Visits, Answers, Asks, Restarts, Arrives, Never}
-use Rattle.cookie_run.specs.Drawn.{Draw, CommandDraws, PlaysBy, SetDraws, StepBy}
-use Rattle.cookie_run.specs.Play.{GetTells}
-use Rattle.cookie_run.specs.Readings.{all_told}
+use Rattle.cookie_run.specs.Acts.{Arrives, Never}
+use Rattle.cookie_run.specs.Drawn.{Draw}
 use Rattle.cookie_run.specs.ScriptLine as spec
 use Rattle.cookie_run.specs.ScriptText.{Now, Closed, Within, Reached, IsAnswered, obeyed, command_refusal}
-use Rattle.cookie_run.specs.ScriptText.{unless_refused, readings_text, reading_text}
-use Rattle.cookie_run.specs.Standing.{Stands, IsOpen}
+use Rattle.cookie_run.specs.ScriptText.{most_earlier, unless_many, unless_refused, readings_text, reading_text}
+use Rattle.cookie_run.specs.Standing.{Stands}
 use Rattle.cookie_store.specs.Rows.{Row}
 use Rattle.publicsuffix.specs.Rules.{Rule}
 use Rattle.cookie_run.specs.declared.step.Way.{Way}
-use Rattle.cookie_run.specs.declared.step.Command.{Command}
-use Rattle.cookie_run.specs.declared.step.Command.TheVariants.{Set, Remove, Get}
-use Rattle.cookie_run.specs.declared.step.Reading.{Reading}
-use Rattle.cookie_run.specs.declared.step.Reading.TheVariants.{Value, Refused, Header}
 use Rattle.cookie_run.specs.declared.script.cause.Cause.{Cause}
 use Rattle.cookie_run.specs.declared.script.visit.Visit.{Visit}
-use Rattle.cookie_run.proofs.DrawnRuns.{draw_more, draws_nil, steps_more}
-use Rattle.cookie_run.proofs.Runs.{told_more}
+use Rattle.cookie_run.proofs.DrawnRuns.{draws_nil}
+use Rattle.cookie_run.proofs.RingDrawnRuns.{draw_more, steps_more, told_more}
+use Rattle.cookie_run.proofs.ScriptEndings.{ending_refusal}
 
 -- ---- what is printed
 
-readings_append : (xs ys : List Reading) → readings_text (xs ++ ys) ≡ readings_text xs ++ readings_text ys
+readings_append : (xs ys : List RingReading) → readings_text (xs ++ ys) ≡ readings_text xs ++ readings_text ys
 readings_append [] ys = refl
 readings_append (x ∷ xs) ys = ap (λ t. reading_text x ++ t) (readings_append xs ys)
     ∙ sym (append_assoc (reading_text x) (readings_text xs) (readings_text ys))
 
-pub one_reading : (x : Reading) → readings_text (x ∷ []) ≡ reading_text x
+pub one_reading : (x : RingReading) → readings_text (x ∷ []) ≡ reading_text x
 one_reading x = append-nil (reading_text x)
 
-pub answered_append : (xs ys : List Reading) → AllByRecursion IsAnswered xs → AllByRecursion IsAnswered ys
+pub answered_append : (xs ys : List RingReading) → AllByRecursion IsAnswered xs → AllByRecursion IsAnswered ys
     → AllByRecursion IsAnswered (xs ++ ys)
 answered_append [] ys h g = g
 answered_append (x ∷ xs) ys h g = (h.0, answered_append xs ys h.1 g)
 
 -- more readings behind those so far
-prints_more : (before more : List Reading) (output text : List ℕ) → output ≡ readings_text before
+prints_more : (before more : List RingReading) (output text : List ℕ) → output ≡ readings_text before
     → text ≡ readings_text more → output ++ text ≡ readings_text (before ++ more)
 prints_more before more output text e f = (λ i. e i ++ f i) ∙ sym (readings_append before more)
 
@@ -59,7 +62,7 @@ prints_none : (output text : List ℕ) → text ≡ [] → output ++ text ≡ ou
 prints_none output text e = ap (λ t. output ++ t) e ∙ append-nil output
 
 -- the readings of a step that ended stand with those of the steps
-pub ended : (told : List (List Reading)) (front : List Reading)
+pub ended : (told : List (List RingReading)) (front : List RingReading)
     → all_told (told ++ front ∷ []) ++ [] ≡ all_told told ++ front
 ended told front = append-nil (all_told (told ++ front ∷ [])) ∙ told_more told front
 
@@ -79,146 +82,183 @@ unnamed (b ∷ bs) e = absurd (not_empty b bs e)
 true_false : true ≡ false → ⊥
 true_false e = cc
 
-get_accepted : (way : Way) (n : List ℕ) → n ≢ [] → command_refusal (Get way n) ≡ None
-get_accepted way n h = ap (λ t. if t then Some refusals.EmptyName else None) (named n h)
+get_accepted : (n : List ℕ) → n ≢ [] → (if bytes_eq n [] then Some refusals.EmptyName else None) ≡ None
+get_accepted n h = ap (λ t. if t then Some refusals.EmptyName else None) (named n h)
 
-get_tells : (session : Keyed) (way : Way) (n : List ℕ) (value : Option (List ℕ)) → n ≢ [] → ReadsIn session way n value
-    → GetTells session way n (Value way n value ∷ [])
-get_tells session way [] value h reads = absurd (h refl)
-get_tells session way (b ∷ bs) value h reads = (value, refl, reads)
+get_tells : (s : Ringed) (way : Way) (n : List ℕ) (read : Option (List ℕ × ℕ)) → n ≢ [] → RingReadsIn s way n read
+    → RingGetTells s way n (Read way n read ∷ [])
+get_tells s way [] read h reads = absurd (h refl)
+get_tells s way (b ∷ bs) read h reads = (read, refl, reads)
+
+until_get_tells : (s : Ringed) (way : EndingWay) (n : List ℕ) (read : Option (List ℕ × ℕ)) → n ≢ []
+    → ReadsEnding s way n read → GetUntilTells s way n (ReadUntil way n read ∷ [])
+until_get_tells s way [] read h reads = absurd (h refl)
+until_get_tells s way (b ∷ bs) read h reads = (read, refl, reads)
 
 -- ---- the lines
 
 -- where a line leads, and that the run stands there
-abbrev pub LeadsOn : List Draw → List Rule → List ℕ → List Row → Result Reached Cause → List Row → ℤ → Option Visit
-    → List ℕ → Type 0
-LeadsOn drawn list key start led rows last visit output = (next : Reached) × (led ≡ Ok next)
-    × Stands drawn list key start next rows last visit output
+abbrev pub LeadsOn : List Draw → List Rule → Ring → List Row → Result Reached Cause → Ring → List Row → ℤ
+    → Option Visit → List ℕ → Type 0
+LeadsOn drawn list first start led ring rows last visit output = (next : Reached) × (led ≡ Ok next)
+    × Stands drawn list first start next ring rows last visit output
+
+abbrev pub reached : List RingAct → Ring → ℤ → Now → Reached
+reached acts ring last now = record { acts = acts; ring = ring; now = now; last = last }
 
 -- `open`
-begin_at : (drawn done here : List Draw) (list : List Rule) (key : List ℕ) (start rows : List Row) (acts : List Act)
-    (m : ℤ) (now : Now) (visit : Option Visit) (told : List (List Reading)) (front : List Reading)
-    (output text : List ℕ) (url : Parts) (at : Moment) (new_last : ℤ) (header : List ℕ) (session : Keyed)
-    → drawn ≡ done ++ here → PlaysBy done list key start acts told rows → IsOpen here key rows now visit front
-    → AllByRecursion IsAnswered (all_told told ++ front) → output ≡ readings_text (all_told told ++ front)
-    → is_some visit ≡ false → IsHeader rows url (civil_nanos at.date) header → IsOpened key header session → text ≡ []
-    → new_last ≡ civil_nanos at.date
-    → LeadsOn (drawn ++ []) list key start (obeyed acts m now (spec.Opens url (civil_nanos at.date))) rows new_last
+begin_at : (drawn : List Draw) (list : List Rule) (first : Ring) (start : List Row) (ring : Ring) (rows : List Row)
+    (acts : List RingAct) (turned : Ring) (m : ℤ) (now : Now) (last : ℤ) (visit : Option Visit) (output text : List ℕ)
+    (url : Parts) (at : Moment) (new_last : ℤ) (header : List ℕ) (session : Ringed)
+    → Stands drawn list first start (reached acts turned m now) ring rows last visit output
+    → is_some visit ≡ false → IsHeader rows url (civil_nanos at.date) header
+    → IsOpenedOn ring at.date header session → text ≡ [] → new_last ≡ civil_nanos at.date
+    → LeadsOn (drawn ++ []) list first start (obeyed acts turned m now (spec.Opens url at.date)) ring rows new_last
     (Some (record { url = url; at = at; session = session })) (output ++ text)
-begin_at drawn done here list key start rows acts m Closed None told front output text url at new_last header session
-    draws plays is_open answered prints none head opened empty moment = (
-      record { acts = acts; now = Within url (civil_nanos at.date) []; last = civil_nanos at.date },
+begin_at drawn list first start ring rows acts turned m Closed last None output text url at new_last header session s
+    none head opened empty moment = (
+      reached acts turned (civil_nanos at.date) (Within url at.date []),
       refl,
       record {
-        told = told;
-        front = front;
-        done = done;
-        here = here;
-        draws = draws_nil drawn ∙ draws;
-        plays = plays;
-        is_open = (refl, refl, (header, head, (session, opened, (is_open.0, refl, is_open.1))));
-        answered = answered;
-        prints = prints_none output text empty ∙ prints;
+        told = s.told;
+        front = s.front;
+        done = s.done;
+        here = s.here;
+        draws = draws_nil drawn ∙ s.draws;
+        plays = s.plays;
+        is_open = (
+          refl,
+          refl,
+          opened.moment_is,
+          (header, head, (session, opened, (s.is_open.0, refl, s.is_open.1))),
+        );
+        answered = s.answered;
+        prints = prints_none output text empty ∙ s.prints;
+        turned = s.turned;
         moment = moment;
       },
     )
-begin_at drawn done here list key start rows acts m Closed (Some v) told front output text url at new_last header
-    session draws plays is_open answered prints none head opened empty moment = absurd is_open
-begin_at drawn done here list key start rows acts m (Within u a cs) None told front output text url at new_last header
-    session draws plays is_open answered prints none head opened empty moment = absurd is_open
-begin_at drawn done here list key start rows acts m (Within u a cs) (Some v) told front output text url at new_last
-    header session draws plays is_open answered prints none head opened empty moment = absurd (true_false none)
+begin_at drawn list first start ring rows acts turned m Closed last (Some v) output text url at new_last header session
+    s none head opened empty moment = absurd s.is_open
+begin_at drawn list first start ring rows acts turned m (Within u a cs) last None output text url at new_last header
+    session s none head opened empty moment = absurd s.is_open
+begin_at drawn list first start ring rows acts turned m (Within u a cs) last (Some v) output text url at new_last
+    header session s none head opened empty moment = absurd (true_false none)
 
-pub begins : (drawn : List Draw) (list : List Rule) (key : List ℕ) (start rows : List Row) (r : Reached) (last : ℤ)
-    (visit : Option Visit) (output text : List ℕ) (url : Parts) (at : Moment) (new_last : ℤ) (header : List ℕ)
-    (session : Keyed) → Stands drawn list key start r rows last visit output
-    → is_some visit ≡ false → IsHeader rows url (civil_nanos at.date) header → IsOpened key header session → text ≡ []
-    → new_last ≡ civil_nanos at.date
-    → LeadsOn (drawn ++ []) list key start (obeyed r.acts r.last r.now (spec.Opens url (civil_nanos at.date))) rows
+pub begins : (drawn : List Draw) (list : List Rule) (first : Ring) (start : List Row) (ring : Ring) (rows : List Row)
+    (r : Reached) (last : ℤ) (visit : Option Visit) (output text : List ℕ) (url : Parts) (at : Moment) (new_last : ℤ)
+    (header : List ℕ) (session : Ringed) → Stands drawn list first start r ring rows last visit output
+    → is_some visit ≡ false → IsHeader rows url (civil_nanos at.date) header
+    → IsOpenedOn ring at.date header session → text ≡ [] → new_last ≡ civil_nanos at.date
+    → LeadsOn (drawn ++ []) list first start (obeyed r.acts r.ring r.last r.now (spec.Opens url at.date)) ring rows
     new_last (Some (record { url = url; at = at; session = session })) (output ++ text)
-begins drawn list key start rows r last visit output text url at new_last header session s none head opened empty
-    moment =
-    begin_at drawn s.done s.here list key start rows r.acts r.last r.now visit s.told s.front output text url at
-    new_last header session s.draws s.plays s.is_open s.answered s.prints none head opened empty moment
+begins drawn list first start ring rows r last visit output text url at new_last header session s none head opened
+    empty moment =
+    begin_at drawn list first start ring rows r.acts r.ring r.last r.now last visit output text url at new_last header
+    session s none head opened empty moment
 
 -- a command: the session is the one after it, its readings are printed, and its draws are behind the others
-command_at : (drawn done here more : List Draw) (list : List Rule) (key : List ℕ) (start rows : List Row)
-    (acts : List Act) (m : ℤ) (now : Now) (v w : Visit) (told : List (List Reading)) (front t : List Reading)
-    (output text : List ℕ) (last : ℤ) (command : Command)
-    → drawn ≡ done ++ here → PlaysBy done list key start acts told rows → IsOpen here key rows now (Some v) front
-    → AllByRecursion IsAnswered (all_told told ++ front) → output ≡ readings_text (all_told told ++ front) → last ≡ m
-    → command_refusal command ≡ None → w.url ≡ v.url → w.at ≡ v.at
-    → CommandDraws more v.session (civil_nanos v.at.date) command t w.session
+command_at : (drawn more : List Draw) (list : List Rule) (first : Ring) (start : List Row) (ring : Ring)
+    (rows : List Row) (acts : List RingAct) (turned : Ring) (m : ℤ) (now : Now) (last : ℤ) (v w : Visit)
+    (t : List RingReading) (output text : List ℕ) (command : RingCommand)
+    → Stands drawn list first start (reached acts turned m now) ring rows last (Some v) output
+    → command_refusal command ≡ None → w.url ≡ v.url → w.at ≡ v.at → w.session.moment ≡ v.session.moment
+    → (v.session.moment ≡ v.at.date → RingCommandDraws more v.session command t w.session)
     → AllByRecursion IsAnswered t → text ≡ readings_text t
-    → LeadsOn (drawn ++ more) list key start (obeyed acts m now (spec.Commands command)) rows last (Some w)
-    (output ++ text)
-command_at drawn done here more list key start rows acts m Closed v w told front t output text last command draws plays
-    is_open answered prints moment accepted same_url same_at tells good shown = absurd is_open
-command_at drawn done here more list key start rows acts m (Within url at cs) v w told front t output text last command
-    draws plays is_open answered prints moment accepted same_url same_at tells good shown =
-    let next : Reached = record { acts = acts; now = Within url at (cs ++ command ∷ []); last = m } in
-    let behind = append_assoc (all_told told) front t in
-    let told_at = subst (λ (x : ℤ). CommandDraws more v.session x command t w.session) is_open.1 tells in (
+    → LeadsOn (drawn ++ more) list first start (obeyed acts turned m now (spec.Commands command)) ring rows last
+    (Some w) (output ++ text)
+command_at drawn more list first start ring rows acts turned m Closed last v w t output text command s accepted
+    same_url same_at same_moment tells good shown = absurd s.is_open
+command_at drawn more list first start ring rows acts turned m (Within url at cs) last v w t output text command s
+    accepted same_url same_at same_moment tells good shown =
+    let next : Reached = reached acts turned m (Within url at (cs ++ command ∷ [])) in
+    let behind = append_assoc (all_told s.told) s.front t in
+    let o = s.is_open in (
       next,
       ap (λ o. unless_refused o next) accepted,
       record {
-        told = told;
-        front = front ++ t;
-        done = done;
-        here = here ++ more;
-        draws = ap (λ ds. ds ++ more) draws ∙ append_assoc done here more;
-        plays = plays;
+        told = s.told;
+        front = s.front ++ t;
+        done = s.done;
+        here = s.here ++ more;
+        draws = ap (λ ds. ds ++ more) s.draws ∙ append_assoc s.done s.here more;
+        plays = s.plays;
         is_open = (
-          same_url ∙ is_open.0,
-          ap (λ (x : Moment). civil_nanos x.date) same_at ∙ is_open.1,
+          same_url ∙ o.0,
+          ap (λ (x : Moment). x.date) same_at ∙ o.1,
+          same_moment ∙ o.2,
           (
-            is_open.2.0,
-            is_open.2.1,
+            o.3.0,
+            o.3.1,
             (
-              is_open.2.2.0,
-              is_open.2.2.1,
-              draw_more here more is_open.2.2.0 v.session w.session at cs command front t is_open.2.2.2 told_at,
+              o.3.2.0,
+              o.3.2.1,
+              draw_more s.here more o.3.2.0 v.session w.session cs command s.front t o.3.2.2 (tells (o.2 ∙ sym o.1)),
             ),
           ),
         );
-        answered = subst (AllByRecursion IsAnswered) behind (answered_append (all_told told ++ front) t answered good);
-        prints = prints_more (all_told told ++ front) t output text prints shown ∙ ap readings_text behind;
-        moment = moment;
+        answered = subst (AllByRecursion IsAnswered) behind
+            (answered_append (all_told s.told ++ s.front) t s.answered good);
+        prints = prints_more (all_told s.told ++ s.front) t output text s.prints shown ∙ ap readings_text behind;
+        turned = s.turned;
+        moment = s.moment;
       },
     )
 
-pub commands : (drawn more : List Draw) (list : List Rule) (key : List ℕ) (start rows : List Row) (r : Reached)
-    (last : ℤ) (visit : Option Visit) (v w : Visit) (t : List Reading) (output text : List ℕ) (command : Command)
-    → Stands drawn list key start r rows last visit output
+pub commands : (drawn more : List Draw) (list : List Rule) (first : Ring) (start : List Row) (ring : Ring)
+    (rows : List Row) (r : Reached) (last : ℤ) (visit : Option Visit) (v w : Visit) (t : List RingReading)
+    (output text : List ℕ) (command : RingCommand) → Stands drawn list first start r ring rows last visit output
     → visit ≡ Some v → command_refusal command ≡ None → w.url ≡ v.url → w.at ≡ v.at
-    → CommandDraws more v.session (civil_nanos v.at.date) command t w.session
+    → w.session.moment ≡ v.session.moment
+    → (v.session.moment ≡ v.at.date → RingCommandDraws more v.session command t w.session)
     → AllByRecursion IsAnswered t → text ≡ readings_text t
-    → LeadsOn (drawn ++ more) list key start (obeyed r.acts r.last r.now (spec.Commands command)) rows last (Some w)
-    (output ++ text)
-commands drawn more list key start rows r last visit v w t output text command s is accepted same_url same_at tells good
-    shown =
-    command_at drawn s.done s.here more list key start rows r.acts r.last r.now v w s.told s.front t output text last
-    command s.draws s.plays (subst (λ o. IsOpen s.here key rows r.now o s.front) is s.is_open) s.answered s.prints
-    s.moment accepted same_url same_at tells good shown
+    → LeadsOn (drawn ++ more) list first start (obeyed r.acts r.ring r.last r.now (spec.Commands command)) ring rows
+    last (Some w) (output ++ text)
+commands drawn more list first start ring rows r last visit v w t output text command s is accepted same_url same_at
+    same_moment tells good shown =
+    command_at drawn more list first start ring rows r.acts r.ring r.last r.now last v w t output text command
+    (subst (λ o. Stands drawn list first start r ring rows last o output) is s) accepted same_url same_at same_moment
+    tells good shown
+
+-- nothing is read of an accepted set
+no_reading : (error : SessionError) → [] ≡ Refused error ∷ [] → ⊥
+no_reading error e = cc
 
 -- a set that reads nothing is an accepted one
-set_accepted : (more : List Draw) (old new : Keyed) (way : Way) (c : Seen) → SetDraws more old way c [] new
-    → command_refusal (Set way c) ≡ None
-set_accepted more old new way c (inl h) = h.1.accepted
+set_accepted : (more : List Draw) (old new : Ringed) (way : Way) (c : Seen) → RingSetDraws more old way c [] new
+    → (command_refusal (Set way c) ≡ None) × KeepsRing old new
+set_accepted more old new way c (inl h) = (h.1.accepted, h.2)
 set_accepted more old new way c (inr h) = absurd (no_reading h.0 h.1)
-  where
-    no_reading : (error : SessionError) → [] ≡ Refused error ∷ [] → ⊥
-    no_reading error e = cc
 
-pub sets : (drawn more : List Draw) (list : List Rule) (key : List ℕ) (start rows : List Row) (r : Reached) (last : ℤ)
-    (visit : Option Visit) (v w : Visit) (output text : List ℕ) (way : Way) (c : Seen)
-    → Stands drawn list key start r rows last visit output
-    → visit ≡ Some v → w.url ≡ v.url → w.at ≡ v.at → SetDraws more v.session way c [] w.session → text ≡ []
-    → LeadsOn (drawn ++ more) list key start (obeyed r.acts r.last r.now (spec.Commands (Set way c))) rows last (Some w)
-    (output ++ text)
-sets drawn more list key start rows r last visit v w output text way c s is same_url same_at set empty =
-    commands drawn more list key start rows r last visit v w [] output text (Set way c) s is
-    (set_accepted more v.session w.session way c set) same_url same_at set tt empty
+pub sets : (drawn more : List Draw) (list : List Rule) (first : Ring) (start : List Row) (ring : Ring)
+    (rows : List Row) (r : Reached) (last : ℤ) (visit : Option Visit) (v w : Visit) (output text : List ℕ) (way : Way)
+    (c : Seen) → Stands drawn list first start r ring rows last visit output
+    → visit ≡ Some v → w.url ≡ v.url → w.at ≡ v.at → RingSetDraws more v.session way c [] w.session → text ≡ []
+    → LeadsOn (drawn ++ more) list first start (obeyed r.acts r.ring r.last r.now (spec.Commands (Set way c))) ring
+    rows last (Some w) (output ++ text)
+sets drawn more list first start ring rows r last visit v w output text way c s is same_url same_at set empty =
+    let accepted = set_accepted more v.session w.session way c set in
+    commands drawn more list first start ring rows r last visit v w [] output text (Set way c) s is accepted.0 same_url
+    same_at accepted.1.1 (λ e. set) tt empty
+
+until_accepted : (more : List Draw) (old new : Ringed) (way : EndingWay) (c : Seen) (until : DateTime)
+    → SetUntilDraws more old way c until [] new
+    → (command_refusal (SetUntil way c until) ≡ None) × KeepsRing old new
+until_accepted more old new way c until (inl h) =
+    (sym (ending_refusal way c h.1.ending until h.1.ends) ∙ h.1.accepted, h.1.parts)
+until_accepted more old new way c until (inr h) = absurd (no_reading h.0 h.1)
+
+pub sets_until : (drawn more : List Draw) (list : List Rule) (first : Ring) (start : List Row) (ring : Ring)
+    (rows : List Row) (r : Reached) (last : ℤ) (visit : Option Visit) (v w : Visit) (output text : List ℕ)
+    (way : EndingWay) (c : Seen) (until : DateTime) → Stands drawn list first start r ring rows last visit output
+    → visit ≡ Some v → w.url ≡ v.url → w.at ≡ v.at → SetUntilDraws more v.session way c until [] w.session → text ≡ []
+    → LeadsOn (drawn ++ more) list first start
+    (obeyed r.acts r.ring r.last r.now (spec.Commands (SetUntil way c until))) ring rows last (Some w) (output ++ text)
+sets_until drawn more list first start ring rows r last visit v w output text way c until s is same_url same_at set
+    empty =
+    let accepted = until_accepted more v.session w.session way c until set in
+    commands drawn more list first start ring rows r last visit v w [] output text (SetUntil way c until) s is
+    accepted.0 same_url same_at accepted.1.1 (λ e. set) tt empty
 
 -- an accepted removal isn't of an empty name
 removal_named : (way : Way) (name : List ℕ) (now : DateTime) → IsRemovalRefusal name now None
@@ -229,187 +269,233 @@ removal_named way [] now accepted = absurd (none_some accepted.2)
     none_some e = cc
 removal_named way (b ∷ bs) now accepted = refl
 
-pub removes : (drawn : List Draw) (list : List Rule) (key : List ℕ) (start rows : List Row) (r : Reached) (last : ℤ)
-    (visit : Option Visit) (v w : Visit) (output text : List ℕ) (way : Way) (name : List ℕ)
-    → Stands drawn list key start r rows last visit output
-    → visit ≡ Some v → w.url ≡ v.url → w.at ≡ v.at → TakesOut v.session way name v.at.date w.session → text ≡ []
-    → LeadsOn (drawn ++ []) list key start (obeyed r.acts r.last r.now (spec.Commands (Remove way name))) rows last
-    (Some w) (output ++ text)
-removes drawn list key start rows r last visit v w output text way name s is same_url same_at takes empty =
-    commands drawn [] list key start rows r last visit v w [] output text (Remove way name) s is
-    (removal_named way name v.at.date takes.accepted) same_url same_at
-    ((v.at.date, refl, inl (refl, takes)), refl) tt empty
+pub removes : (drawn : List Draw) (list : List Rule) (first : Ring) (start : List Row) (ring : Ring) (rows : List Row)
+    (r : Reached) (last : ℤ) (visit : Option Visit) (v w : Visit) (output text : List ℕ) (way : Way) (name : List ℕ)
+    → Stands drawn list first start r ring rows last visit output
+    → visit ≡ Some v → w.url ≡ v.url → w.at ≡ v.at → KeepsRing v.session w.session
+    → TakesOut (keyed v.session) way name v.at.date (keyed w.session) → text ≡ []
+    → LeadsOn (drawn ++ []) list first start (obeyed r.acts r.ring r.last r.now (spec.Commands (Remove way name))) ring
+    rows last (Some w) (output ++ text)
+removes drawn list first start ring rows r last visit v w output text way name s is same_url same_at keeps takes empty =
+    commands drawn [] list first start ring rows r last visit v w [] output text (Remove way name) s is
+    (removal_named way name v.at.date takes.accepted) same_url same_at keeps.1 (λ same. (
+      inl (
+        refl,
+        subst (λ (now : DateTime). TakesOut (keyed v.session) way name now (keyed w.session)) (sym same) takes,
+        keeps,
+      ),
+      refl,
+    )) tt empty
 
-pub gets : (drawn : List Draw) (list : List Rule) (key : List ℕ) (start rows : List Row) (r : Reached) (last : ℤ)
-    (visit : Option Visit) (v : Visit) (output text : List ℕ) (way : Way) (name : List ℕ) (value : Option (List ℕ))
-    → Stands drawn list key start r rows last visit output → visit ≡ Some v → name ≢ []
-    → ReadsIn v.session way name value → text ≡ reading_text (Value way name value)
-    → LeadsOn (drawn ++ []) list key start (obeyed r.acts r.last r.now (spec.Commands (Get way name))) rows last visit
-    (output ++ text)
-gets drawn list key start rows r last visit v output text way name value s is not_empty reads shown =
-    subst (λ o. LeadsOn (drawn ++ []) list key start (obeyed r.acts r.last r.now (spec.Commands (Get way name))) rows
-    last o (output ++ text)) (sym is)
-    (commands drawn [] list key start rows r last visit v v (Value way name value ∷ []) output text (Get way name) s is
-    (get_accepted way name not_empty) refl refl ((get_tells v.session way name value not_empty reads, refl), refl)
-    (tt, tt) (shown ∙ sym (one_reading (Value way name value))))
+pub gets : (drawn : List Draw) (list : List Rule) (first : Ring) (start : List Row) (ring : Ring) (rows : List Row)
+    (r : Reached) (last : ℤ) (visit : Option Visit) (v : Visit) (output text : List ℕ) (way : Way) (name : List ℕ)
+    (read : Option (List ℕ × ℕ)) → Stands drawn list first start r ring rows last visit output → visit ≡ Some v
+    → name ≢ [] → RingReadsIn v.session way name read → text ≡ reading_text (Read way name read)
+    → LeadsOn (drawn ++ []) list first start (obeyed r.acts r.ring r.last r.now (spec.Commands (Get way name))) ring
+    rows last visit (output ++ text)
+gets drawn list first start ring rows r last visit v output text way name read s is not_empty reads shown =
+    subst (λ o. LeadsOn (drawn ++ []) list first start
+    (obeyed r.acts r.ring r.last r.now (spec.Commands (Get way name))) ring rows last o (output ++ text)) (sym is)
+    (commands drawn [] list first start ring rows r last visit v v (Read way name read ∷ []) output text (Get way name)
+    s is (get_accepted name not_empty) refl refl refl
+    (λ e. ((get_tells v.session way name read not_empty reads, refl), refl)) (tt, tt)
+    (shown ∙ sym (one_reading (Read way name read))))
+
+pub gets_until : (drawn : List Draw) (list : List Rule) (first : Ring) (start : List Row) (ring : Ring)
+    (rows : List Row) (r : Reached) (last : ℤ) (visit : Option Visit) (v : Visit) (output text : List ℕ)
+    (way : EndingWay) (name : List ℕ) (read : Option (List ℕ × ℕ))
+    → Stands drawn list first start r ring rows last visit output → visit ≡ Some v → name ≢ []
+    → ReadsEnding v.session way name read → text ≡ reading_text (ReadUntil way name read)
+    → LeadsOn (drawn ++ []) list first start (obeyed r.acts r.ring r.last r.now (spec.Commands (GetUntil way name)))
+    ring rows last visit (output ++ text)
+gets_until drawn list first start ring rows r last visit v output text way name read s is not_empty reads shown =
+    subst (λ o. LeadsOn (drawn ++ []) list first start
+    (obeyed r.acts r.ring r.last r.now (spec.Commands (GetUntil way name))) ring rows last o (output ++ text)) (sym is)
+    (commands drawn [] list first start ring rows r last visit v v (ReadUntil way name read ∷ []) output text
+    (GetUntil way name) s is (get_accepted name not_empty) refl refl refl
+    (λ e. ((until_get_tells v.session way name read not_empty reads, refl), refl)) (tt, tt)
+    (shown ∙ sym (one_reading (ReadUntil way name read))))
 
 -- a step ends, with these readings, and draws none itself
-ends_at : (drawn done here : List Draw) (list : List Rule) (key : List ℕ) (start rows new : List Row) (acts : List Act)
-    (act : Act) (told : List (List Reading)) (more : List Reading) (output : List ℕ) (last at : ℤ)
-    → drawn ≡ done ++ here → PlaysBy done list key start acts told rows → StepBy here list key rows act more new
-    → AllByRecursion IsAnswered (all_told told ++ more) → output ≡ readings_text (all_told told ++ more) → last ≡ at
-    → Stands (drawn ++ []) list key start (record { acts = acts ++ act ∷ []; now = Closed; last = at }) new last None
-    output
-ends_at drawn done here list key start rows new acts act told more output last at draws plays step answered prints
-    moment = record {
+ends_at : (drawn done here : List Draw) (list : List Rule) (first : Ring) (start : List Row) (ring left : Ring)
+    (rows new : List Row) (acts : List RingAct) (turned : Ring) (act : RingAct) (told : List (List RingReading))
+    (more : List RingReading) (output : List ℕ) (last at : ℤ)
+    → drawn ≡ done ++ here → RingPlaysBy done list first start acts told ring rows
+    → RingStepBy here list ring rows act more left new → AllByRecursion IsAnswered (all_told told ++ more)
+    → output ≡ readings_text (all_told told ++ more) → turned ≡ left → last ≡ at
+    → Stands (drawn ++ []) list first start (reached (acts ++ act ∷ []) turned at Closed) left new last None output
+ends_at drawn done here list first start ring left rows new acts turned act told more output last at draws plays step
+    answered prints same moment = record {
       told = told ++ more ∷ [];
       front = [];
       done = done ++ here;
       here = [];
       draws = ap (λ ds. ds ++ []) draws;
-      plays = steps_more done here list key start rows new acts told act more plays step;
+      plays = steps_more done here list first ring left start rows new acts told act more plays step;
       is_open = (refl, refl);
       answered = subst (AllByRecursion IsAnswered) (sym (ended told more)) answered;
       prints = prints ∙ ap readings_text (sym (ended told more));
+      turned = same;
       moment = moment;
     }
 
 -- `deliver` and `lose`
-lose_at : (drawn done here : List Draw) (list : List Rule) (key : List ℕ) (start rows : List Row) (acts : List Act)
-    (m : ℤ) (now : Now) (visit : Option Visit) (told : List (List Reading)) (front : List Reading)
-    (output text : List ℕ) (last : ℤ)
-    → drawn ≡ done ++ here → PlaysBy done list key start acts told rows → IsOpen here key rows now visit front
-    → AllByRecursion IsAnswered (all_told told ++ front) → output ≡ readings_text (all_told told ++ front) → last ≡ m
-    → is_none visit ≡ false → text ≡ []
-    → LeadsOn (drawn ++ []) list key start (obeyed acts m now spec.Loses) rows last None (output ++ text)
-lose_at drawn done here list key start rows acts m now None told front output text last draws plays is_open answered
-    prints moment some empty = absurd (true_false some)
-lose_at drawn done here list key start rows acts m Closed (Some v) told front output text last draws plays is_open
-    answered prints moment some empty = absurd is_open
-lose_at drawn done here list key start rows acts m (Within url at cs) (Some v) told front output text last draws plays
-    is_open answered prints moment some empty = (
-      record { acts = acts ++ Visits url at cs Never ∷ []; now = Closed; last = m },
+lose_at : (drawn : List Draw) (list : List Rule) (first : Ring) (start : List Row) (ring : Ring) (rows : List Row)
+    (acts : List RingAct) (turned : Ring) (m : ℤ) (now : Now) (last : ℤ) (visit : Option Visit) (output text : List ℕ)
+    → Stands drawn list first start (reached acts turned m now) ring rows last visit output → is_none visit ≡ false
+    → text ≡ []
+    → LeadsOn (drawn ++ []) list first start (obeyed acts turned m now spec.Loses) ring rows last None (output ++ text)
+lose_at drawn list first start ring rows acts turned m now last None output text s some empty = absurd (true_false some)
+lose_at drawn list first start ring rows acts turned m Closed last (Some v) output text s some empty = absurd s.is_open
+lose_at drawn list first start ring rows acts turned m (Within url at cs) last (Some v) output text s some empty =
+    let o = s.is_open in (
+      reached (acts ++ Visits url at cs Never ∷ []) turned m Closed,
       refl,
-      ends_at drawn done here list key start rows rows acts (Visits url at cs Never) told front (output ++ text) last m
-          draws plays
-          (is_open.2.0, is_open.2.1, (is_open.2.2.0, is_open.2.2.1, (v.session, is_open.2.2.2, refl))) answered
-          (prints_none output text empty ∙ prints) moment,
+      ends_at drawn s.done s.here list first start ring ring rows rows acts turned (Visits url at cs Never) s.told
+          s.front (output ++ text) last m s.draws s.plays
+          (o.3.0, o.3.1, (o.3.2.0, o.3.2.1, (v.session, o.3.2.2, refl)), refl) s.answered
+          (prints_none output text empty ∙ s.prints) s.turned s.moment,
     )
 
 pub none_or_some : (visit : Option Visit) → true ≡ is_some visit → is_none visit ≡ false
 none_or_some None e = absurd (true_false e)
 none_or_some (Some v) e = refl
 
-pub loses : (drawn : List Draw) (list : List Rule) (key : List ℕ) (start rows : List Row) (r : Reached) (last : ℤ)
-    (visit : Option Visit) (output text : List ℕ) → Stands drawn list key start r rows last visit output
-    → true ≡ is_some visit → text ≡ []
-    → LeadsOn (drawn ++ []) list key start (obeyed r.acts r.last r.now spec.Loses) rows last None (output ++ text)
-loses drawn list key start rows r last visit output text s some empty = lose_at drawn s.done s.here list key start rows
-    r.acts r.last r.now visit s.told s.front output text last s.draws s.plays s.is_open s.answered s.prints s.moment
+pub loses : (drawn : List Draw) (list : List Rule) (first : Ring) (start : List Row) (ring : Ring) (rows : List Row)
+    (r : Reached) (last : ℤ) (visit : Option Visit) (output text : List ℕ)
+    → Stands drawn list first start r ring rows last visit output → true ≡ is_some visit → text ≡ []
+    → LeadsOn (drawn ++ []) list first start (obeyed r.acts r.ring r.last r.now spec.Loses) ring rows last None
+    (output ++ text)
+loses drawn list first start ring rows r last visit output text s some empty =
+    lose_at drawn list first start ring rows r.acts r.ring r.last r.now last visit output text s
     (none_or_some visit some) empty
 
-deliver_at : (drawn done here : List Draw) (list : List Rule) (key : List ℕ) (start rows new : List Row)
-    (acts : List Act) (m : ℤ) (now : Now) (v : Visit) (answer : List (List ℕ)) (told : List (List Reading))
-    (front : List Reading) (output text : List ℕ) (at last : ℤ)
-    → drawn ≡ done ++ here → PlaysBy done list key start acts told rows → IsOpen here key rows now (Some v) front
-    → AllByRecursion IsAnswered (all_told told ++ front) → output ≡ readings_text (all_told told ++ front)
+deliver_at : (drawn : List Draw) (list : List Rule) (first : Ring) (start : List Row) (ring : Ring)
+    (rows new : List Row) (acts : List RingAct) (turned : Ring) (m : ℤ) (now : Now) (old_last : ℤ) (v : Visit)
+    (answer : List (List ℕ)) (output text : List ℕ) (at last : ℤ)
+    → Stands drawn list first start (reached acts turned m now) ring rows old_last (Some v) output
     → ClosesWith v.session.jar answer → Takes list rows v.url at answer new → text ≡ [] → last ≡ at
-    → LeadsOn (drawn ++ []) list key start (obeyed acts m now (spec.Delivers at)) new last None (output ++ text)
-deliver_at drawn done here list key start rows new acts m Closed v answer told front output text at last draws plays
-    is_open answered prints closes taken empty moment = absurd is_open
-deliver_at drawn done here list key start rows new acts m (Within url a cs) v answer told front output text at last
-    draws plays is_open answered prints closes taken empty moment = (
-      record { acts = acts ++ Visits url a cs (Arrives at) ∷ []; now = Closed; last = at },
+    → LeadsOn (drawn ++ []) list first start (obeyed acts turned m now (spec.Delivers at)) ring new last None
+    (output ++ text)
+deliver_at drawn list first start ring rows new acts turned m Closed old_last v answer output text at last s closes
+    taken empty moment = absurd s.is_open
+deliver_at drawn list first start ring rows new acts turned m (Within url a cs) old_last v answer output text at last s
+    closes taken empty moment =
+    let o = s.is_open in (
+      reached (acts ++ Visits url a cs (Arrives at) ∷ []) turned at Closed,
       refl,
-      ends_at drawn done here list key start rows new acts (Visits url a cs (Arrives at)) told front (output ++ text)
-          last at draws plays (
-            is_open.2.0,
-            is_open.2.1,
+      ends_at drawn s.done s.here list first start ring ring rows new acts turned (Visits url a cs (Arrives at)) s.told
+          s.front (output ++ text) last at s.draws s.plays (
+            o.3.0,
+            o.3.1,
             (
-              is_open.2.2.0,
-              is_open.2.2.1,
+              o.3.2.0,
+              o.3.2.1,
               (
                 v.session,
-                is_open.2.2.2,
+                o.3.2.2,
                 (
                   closes.cookies,
                   closes.lists,
                   subst (λ ls. Takes list rows url at ls new) closes.printed
-                      (subst (λ u. Takes list rows u at answer new) is_open.0 taken),
+                      (subst (λ u. Takes list rows u at answer new) o.0 taken),
                 ),
               ),
             ),
-          ) answered (prints_none output text empty ∙ prints) moment,
+            refl,
+          ) s.answered (prints_none output text empty ∙ s.prints) s.turned moment,
     )
 
-pub delivers : (drawn : List Draw) (list : List Rule) (key : List ℕ) (start rows new : List Row) (r : Reached)
-    (old_last : ℤ) (visit : Option Visit) (v : Visit) (answer : List (List ℕ)) (output text : List ℕ) (at last : ℤ)
-    → Stands drawn list key start r rows old_last visit output
+pub delivers : (drawn : List Draw) (list : List Rule) (first : Ring) (start : List Row) (ring : Ring)
+    (rows new : List Row) (r : Reached) (old_last : ℤ) (visit : Option Visit) (v : Visit) (answer : List (List ℕ))
+    (output text : List ℕ) (at last : ℤ) → Stands drawn list first start r ring rows old_last visit output
     → visit ≡ Some v → ClosesWith v.session.jar answer → Takes list rows v.url at answer new → text ≡ [] → last ≡ at
-    → LeadsOn (drawn ++ []) list key start (obeyed r.acts r.last r.now (spec.Delivers at)) new last None
+    → LeadsOn (drawn ++ []) list first start (obeyed r.acts r.ring r.last r.now (spec.Delivers at)) ring new last None
     (output ++ text)
-delivers drawn list key start rows new r old_last visit v answer output text at last s is closes taken empty moment =
-    deliver_at drawn s.done s.here list key start rows new r.acts r.last r.now v answer s.told s.front output text at
-    last s.draws s.plays (subst (λ o. IsOpen s.here key rows r.now o s.front) is s.is_open) s.answered s.prints closes
-    taken empty moment
+delivers drawn list first start ring rows new r old_last visit v answer output text at last s is closes taken empty
+    moment =
+    deliver_at drawn list first start ring rows new r.acts r.ring r.last r.now old_last v answer output text at last
+    (subst (λ o. Stands drawn list first start r ring rows old_last o output) is s) closes taken empty moment
 
--- `receive`, `header` and `restart`
-alone_at : (drawn done here : List Draw) (list : List Rule) (key : List ℕ) (start rows new : List Row)
-    (acts : List Act) (m : ℤ) (now : Now) (visit : Option Visit) (told : List (List Reading)) (front : List Reading)
-    (output text : List ℕ) (line : spec.Line) (act : Act) (more : List Reading) (last at : ℤ)
-    → drawn ≡ done ++ here → PlaysBy done list key start acts told rows
-    → IsOpen here key rows now visit front → AllByRecursion IsAnswered (all_told told ++ front)
-    → output ≡ readings_text (all_told told ++ front) → is_some visit ≡ false
-    → obeyed acts m Closed line ≡ Ok (record { acts = acts ++ act ∷ []; now = Closed; last = at })
-    → StepBy [] list key rows act more new → AllByRecursion IsAnswered more → text ≡ readings_text more → last ≡ at
-    → LeadsOn (drawn ++ []) list key start (obeyed acts m now line) new last visit (output ++ text)
-alone_at drawn done here list key start rows new acts m Closed None told front output text line act more last at draws
-    plays is_open answered prints none led step good shown moment =
-    let alone : all_told told ++ front ≡ all_told told = ap (λ x. all_told told ++ x) is_open.0
-    ∙ append-nil (all_told told) in (
-      record { acts = acts ++ act ∷ []; now = Closed; last = at },
+-- `receive`, `header`, `restart` and `rotate`
+alone_at : (drawn : List Draw) (list : List Rule) (first : Ring) (start : List Row) (ring left : Ring)
+    (rows new : List Row) (acts : List RingAct) (turned turned_left : Ring) (m : ℤ) (now : Now) (old_last : ℤ)
+    (visit : Option Visit) (output text : List ℕ) (line : spec.Line) (act : RingAct) (more : List RingReading)
+    (last at : ℤ) → Stands drawn list first start (reached acts turned m now) ring rows old_last visit output
+    → is_some visit ≡ false
+    → obeyed acts turned m Closed line ≡ Ok (reached (acts ++ act ∷ []) turned_left at Closed)
+    → RingStepBy [] list ring rows act more left new → turned_left ≡ left → AllByRecursion IsAnswered more
+    → text ≡ readings_text more → last ≡ at
+    → LeadsOn (drawn ++ []) list first start (obeyed acts turned m now line) left new last visit (output ++ text)
+alone_at drawn list first start ring left rows new acts turned turned_left m Closed old_last None output text line act
+    more last at s none led step same good shown moment =
+    let alone : all_told s.told ++ s.front ≡ all_told s.told = ap (λ x. all_told s.told ++ x) s.is_open.0
+    ∙ append-nil (all_told s.told) in (
+      reached (acts ++ act ∷ []) turned_left at Closed,
       led,
-      ends_at drawn done [] list key start rows new acts act told more (output ++ text) last at
-          (draws ∙ ap (λ ds. done ++ ds) is_open.1) plays step
-          (answered_append (all_told told) more (subst (AllByRecursion IsAnswered) alone answered) good)
-          (prints_more (all_told told) more output text (prints ∙ ap readings_text alone) shown) moment,
+      ends_at drawn s.done [] list first start ring left rows new acts turned_left act s.told more (output ++ text) last
+          at (s.draws ∙ ap (λ ds. s.done ++ ds) s.is_open.1) s.plays step
+          (answered_append (all_told s.told) more (subst (AllByRecursion IsAnswered) alone s.answered) good)
+          (prints_more (all_told s.told) more output text (s.prints ∙ ap readings_text alone) shown) same moment,
     )
-alone_at drawn done here list key start rows new acts m Closed (Some v) told front output text line act more last at
-    draws plays is_open answered prints none led step good shown moment = absurd is_open
-alone_at drawn done here list key start rows new acts m (Within u a cs) None told front output text line act more last
-    at draws plays is_open answered prints none led step good shown moment = absurd is_open
-alone_at drawn done here list key start rows new acts m (Within u a cs) (Some v) told front output text line act more
-    last at draws plays is_open answered prints none led step good shown moment = absurd (true_false none)
+alone_at drawn list first start ring left rows new acts turned turned_left m Closed old_last (Some v) output text line
+    act more last at s none led step same good shown moment = absurd s.is_open
+alone_at drawn list first start ring left rows new acts turned turned_left m (Within u a cs) old_last None output text
+    line act more last at s none led step same good shown moment = absurd s.is_open
+alone_at drawn list first start ring left rows new acts turned turned_left m (Within u a cs) old_last (Some v) output
+    text line act more last at s none led step same good shown moment = absurd (true_false none)
 
-pub receives : (drawn : List Draw) (list : List Rule) (key : List ℕ) (start rows new : List Row) (r : Reached)
-    (old_last : ℤ) (visit : Option Visit) (output text : List ℕ) (url : Parts) (answer : List (List ℕ)) (at last : ℤ)
-    → Stands drawn list key start r rows old_last visit output
+pub receives : (drawn : List Draw) (list : List Rule) (first : Ring) (start : List Row) (ring : Ring)
+    (rows new : List Row) (r : Reached) (old_last : ℤ) (visit : Option Visit) (output text : List ℕ) (url : Parts)
+    (answer : List (List ℕ)) (at last : ℤ) → Stands drawn list first start r ring rows old_last visit output
     → is_some visit ≡ false → Takes list rows url at answer new → text ≡ [] → last ≡ at
-    → LeadsOn (drawn ++ []) list key start (obeyed r.acts r.last r.now (spec.Receives url answer at)) new last visit
-    (output ++ text)
-receives drawn list key start rows new r old_last visit output text url answer at last s none taken empty moment =
-    alone_at drawn s.done s.here list key start rows new r.acts r.last r.now visit s.told s.front output text
-    (spec.Receives url answer at) (Answers url answer at) [] last at s.draws s.plays s.is_open s.answered s.prints none
-    refl ((refl, taken), refl) tt empty moment
+    → LeadsOn (drawn ++ []) list first start (obeyed r.acts r.ring r.last r.now (spec.Receives url answer at)) ring new
+    last visit (output ++ text)
+receives drawn list first start ring rows new r old_last visit output text url answer at last s none taken empty
+    moment =
+    alone_at drawn list first start ring ring rows new r.acts r.ring r.ring r.last r.now old_last visit output text
+    (spec.Receives url answer at) (Answers url answer at) [] last at s none refl ((refl, taken, refl), refl) s.turned
+    tt empty moment
 
-pub heads : (drawn : List Draw) (list : List Rule) (key : List ℕ) (start rows : List Row) (r : Reached) (old_last : ℤ)
-    (visit : Option Visit) (output text : List ℕ) (url : Parts) (header : List ℕ) (at last : ℤ)
-    → Stands drawn list key start r rows old_last visit output
+pub heads : (drawn : List Draw) (list : List Rule) (first : Ring) (start : List Row) (ring : Ring) (rows : List Row)
+    (r : Reached) (old_last : ℤ) (visit : Option Visit) (output text : List ℕ) (url : Parts) (header : List ℕ)
+    (at last : ℤ) → Stands drawn list first start r ring rows old_last visit output
     → is_some visit ≡ false → IsHeader rows url at header → text ≡ reading_text (Header header) → last ≡ at
-    → LeadsOn (drawn ++ []) list key start (obeyed r.acts r.last r.now (spec.Heads url at)) rows last visit
-    (output ++ text)
-heads drawn list key start rows r old_last visit output text url header at last s none head shown moment =
-    alone_at drawn s.done s.here list key start rows rows r.acts r.last r.now visit s.told s.front output text
-    (spec.Heads url at) (Asks url at) (Header header ∷ []) last at s.draws s.plays s.is_open s.answered s.prints none
-    refl (((header, head, refl), refl), refl) (tt, tt) (shown ∙ sym (one_reading (Header header))) moment
+    → LeadsOn (drawn ++ []) list first start (obeyed r.acts r.ring r.last r.now (spec.Heads url at)) ring rows last
+    visit (output ++ text)
+heads drawn list first start ring rows r old_last visit output text url header at last s none head shown moment =
+    alone_at drawn list first start ring ring rows rows r.acts r.ring r.ring r.last r.now old_last visit output text
+    (spec.Heads url at) (Asks url at) (Header header ∷ []) last at s none refl
+    (((header, head, refl), refl, refl), refl) s.turned (tt, tt) (shown ∙ sym (one_reading (Header header))) moment
 
-pub restarts : (drawn : List Draw) (list : List Rule) (key : List ℕ) (start rows new : List Row) (r : Reached)
-    (old_last : ℤ) (visit : Option Visit) (output text : List ℕ) (at last : ℤ)
-    → Stands drawn list key start r rows old_last visit output
+pub restarts : (drawn : List Draw) (list : List Rule) (first : Ring) (start : List Row) (ring : Ring)
+    (rows new : List Row) (r : Reached) (old_last : ℤ) (visit : Option Visit) (output text : List ℕ) (at last : ℤ)
+    → Stands drawn list first start r ring rows old_last visit output
     → is_some visit ≡ false → Keeps rows at at new → text ≡ [] → last ≡ at
-    → LeadsOn (drawn ++ []) list key start (obeyed r.acts r.last r.now (spec.Restarts at)) new last visit
+    → LeadsOn (drawn ++ []) list first start (obeyed r.acts r.ring r.last r.now (spec.Restarts at)) ring new last visit
     (output ++ text)
-restarts drawn list key start rows new r old_last visit output text at last s none kept empty moment =
-    alone_at drawn s.done s.here list key start rows new r.acts r.last r.now visit s.told s.front output text
-    (spec.Restarts at) (Restarts at) [] last at s.draws s.plays s.is_open s.answered s.prints none refl
-    ((refl, kept), refl) tt empty moment
+restarts drawn list first start ring rows new r old_last visit output text at last s none kept empty moment =
+    alone_at drawn list first start ring ring rows new r.acts r.ring r.ring r.last r.now old_last visit output text
+    (spec.Restarts at) (Restarts at) [] last at s none refl ((refl, kept, refl), refl) s.turned tt empty moment
+
+-- what decides whether over 16 earlier keys would be left
+few : (n : ℕ) → ¬ (16 < n) → nat_lt most_earlier n ≡ false
+few n h = grind (arith, nat_tests)
+
+pub rotates : (drawn : List Draw) (list : List Rule) (first : Ring) (start : List Row) (ring left : Ring)
+    (rows : List Row) (r : Reached) (old_last : ℤ) (visit : Option Visit) (output text key : List ℕ) (at : DateTime)
+    (keep_until : Option DateTime) (last : ℤ) → Stands drawn list first start r ring rows old_last visit output
+    → is_some visit ≡ false → ¬ (16 < length (kept at keep_until ring)) → left ≡ rotated key at keep_until ring
+    → text ≡ [] → last ≡ civil_nanos at
+    → LeadsOn (drawn ++ []) list first start (obeyed r.acts r.ring r.last r.now (spec.Rotates key at keep_until)) left
+    rows last visit (output ++ text)
+rotates drawn list first start ring left rows r old_last visit output text key at keep_until last s none room turned
+    empty moment =
+    let new : Ring = rotated key at keep_until r.ring in
+    let next : Reached = reached (r.acts ++ Rotates key at keep_until ∷ []) new (civil_nanos at) Closed in
+    alone_at drawn list first start ring left rows rows r.acts r.ring new r.last r.now old_last visit output text
+    (spec.Rotates key at keep_until) (Rotates key at keep_until) [] last (civil_nanos at) s none
+    (ap (λ t. unless_many t next) (few (length (kept at keep_until r.ring))
+    (subst (λ (k : Ring). ¬ (16 < length (kept at keep_until k))) (sym s.turned) room)))
+    ((refl, refl, turned), refl)
+    (ap (λ (k : Ring). rotated key at keep_until k) s.turned ∙ sym turned) tt empty moment

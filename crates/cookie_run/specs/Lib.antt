@@ -1,4 +1,5 @@
 pub mod Reading
+pub mod Pair
 pub mod Hosts
 pub mod HostPrefix
 pub mod Accept
@@ -18,6 +19,7 @@ pub mod Play
 pub mod Drawn
 pub mod PlainSets
 pub mod RingPlay
+pub mod RingDrawn
 pub mod RingPlain
 pub mod Headline
 pub mod HostHeadline

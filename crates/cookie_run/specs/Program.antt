@@ -1,16 +1,15 @@
 -- What the program answers (own: docs/DEFINITIONS.md).
 use Rattle.std.specs.Prelude.{ℕ, ℤ, List, [], ◌∷◌, Option, Some, None, Result, Ok, Err, codes, ◌≡◌, ◌≢◌, ◌⊎◌, ◌^◌, ◌-◌}
 use Rattle.std.specs.Prelude.{IfSome, IsSomeAnd, false, length, ⊤}
-use Rattle.std.specs.Result.{result_ok}
 use Rattle.std.specs.Str.{IsUtf8}
 use Rattle.std.specs.Io.KnownBytes.{Appends}
 use Rattle.std.specs.declared.convert.Infallible.{Infallible}
 use Rattle.devices.specs.Device.{AppendsFront, Rose}
-use Rattle.hex.specs.Hex.{decode_sized}
 use Rattle.rand_core.specs.Steps.{steps_u32, stream_of}
 use Rattle.rand_core.specs.Stream.{Stream, fill_bytes}
 use Rattle.rand_chacha.specs.ChaCha.{ChaCha, next_word, of_seed}
 use Rattle.cookie.specs.Key.{derived}
+use Rattle.cookie.specs.KeyRing.{alone}
 use Rattle.publicsuffix.specs.declared.error.ListError.{ListError}
 use Rattle.publicsuffix.specs.declared.error.ListError.TheVariants as list
 use Rattle.publicsuffix.specs.Rules.{Rule, HasRules, HasFirstFault}
@@ -25,6 +24,7 @@ use Rattle.cookie_store.specs.SavedTexts.{Saves, Loads, IsAnyBeforeYears, IsRonR
 use Rattle.cookie_run.specs.Drawn.{Draw, DrawsSo}
 use Rattle.cookie_run.specs.HostPrefix.{IsHeldRightly}
 use Rattle.cookie_run.specs.ScriptDrawn.{IsScriptBy}
+use Rattle.cookie_run.specs.ScriptLine.{seed_of}
 use Rattle.cookie_run.specs.ScriptMoment.{moment_of}
 use Rattle.cookie_run.specs.ScriptText.{Runs}
 use Rattle.cookie_run.specs.Version.{version_line}
@@ -43,10 +43,6 @@ pub record Asked : Type 0 where
   pub seed : List ℕ
   pub store_file : List ℕ
   pub at : ℤ
-
--- the 32 bytes of 64 hexadecimal digits, of either case
-abbrev pub seed_of : List ℕ → Option (List ℕ)
-seed_of text = result_ok (decode_sized text 32)
 
 -- the seed is tested before the moment
 abbrev pub asked_by : List ℕ → Option (List ℕ) → List ℕ → Option ℤ → Result Asked Failure
@@ -139,15 +135,15 @@ pub record Devices : Type 0 where
 abbrev pub SeedDraws : List ℕ → (List Draw → Type 0) → Type 0
 SeedDraws seed Are = (left : ChaCha) × DrawsSo IsFill Infallible (of_seed seed) Are left
 
--- From these rows on, with this list, and the key and the generator that come from the seed, the script that was read
--- ends so, and what it prints was written; and so it is with the rows that it left and its last moment. Where what was
--- left to read isn't known, nothing is said.
+-- From these rows on, with this list, the ring of the key that comes from the seed alone, and the generator that comes
+-- from it, the script that was read ends so, and what it prints was written; and so it is with the rows that it left
+-- and its last moment. Where what was left to read isn't known, nothing is said.
 abbrev pub ScriptEnds : Devices → Asked → List Rule → List Row → Ended → (List Row → ℤ → Type 0) → Type 0
 ScriptEnds io asked list rows ended Is = IfSome io.left (λ input. (output : List ℕ)
     × Appends io.written.0 io.written.1 output × ((new : List Row) × (end : ℤ)
-    × Runs Infallible list (derived asked.seed) rows asked.at input output new end ended
-    × SeedDraws asked.seed (λ drawn. IsScriptBy drawn list (derived asked.seed) rows asked.at input io.written.0
-    io.written.1 new end (Ok ended)) × Is new end))
+    × Runs Infallible list (alone (derived asked.seed)) rows asked.at input output new end ended
+    × SeedDraws asked.seed (λ drawn. IsScriptBy drawn list (alone (derived asked.seed)) rows asked.at input
+    io.written.0 io.written.1 new end (Ok ended)) × Is new end))
 
 -- Why the script gives no text: a device fails; or it ended whole, and the rows that it left have no saved text at its
 -- last moment, for a death of a year below 0 or for want of memory.

@@ -53,7 +53,7 @@ acts_of_one (Rotates key at keep_until ∷ later) = acts_of_one later
 
 -- a reading with the place 0 behind its value
 abbrev pub placed_at_0 : Reading → RingReading
-placed_at_0 (readings.Value way name value) = Read (at_0 value)
+placed_at_0 (readings.Value way name value) = Read way name (at_0 value)
 placed_at_0 (readings.Refused error) = Refused error
 placed_at_0 (readings.Header header) = Header header
 

@@ -30,9 +30,10 @@ pub data RingCommand : Type 0 where
   Get : (way : Way) (name : List ℕ) → RingCommand
   GetUntil : (way : EndingWay) (name : List ℕ) → RingCommand
 
--- what is read: a value with the place of its key, or none; a refusal; a header
+-- what is read under a name: a value with the place of its key, or none; a refusal; a header
 pub data RingReading : Type 0 where
-  Read : (read : Option (List ℕ × ℕ)) → RingReading
+  Read : (way : Way) (name : List ℕ) (read : Option (List ℕ × ℕ)) → RingReading
+  ReadUntil : (way : EndingWay) (name : List ℕ) (read : Option (List ℕ × ℕ)) → RingReading
   Refused : (error : SessionError) → RingReading
   Header : (header : List ℕ) → RingReading
 
@@ -79,12 +80,12 @@ RingRemoveTells old way name told new =
 abbrev pub RingGetTells : Ringed → Way → List ℕ → List RingReading → Type 0
 RingGetTells s way [] told = told ≡ Refused EmptyName ∷ []
 RingGetTells s way (b ∷ bs) told =
-    (read : Option (List ℕ × ℕ)) × (told ≡ Read read ∷ []) × RingReadsIn s way (b ∷ bs) read
+    (read : Option (List ℕ × ℕ)) × (told ≡ Read way (b ∷ bs) read ∷ []) × RingReadsIn s way (b ∷ bs) read
 
 abbrev pub GetUntilTells : Ringed → EndingWay → List ℕ → List RingReading → Type 0
 GetUntilTells s way [] told = told ≡ Refused EmptyName ∷ []
 GetUntilTells s way (b ∷ bs) told =
-    (read : Option (List ℕ × ℕ)) × (told ≡ Read read ∷ []) × ReadsEnding s way (b ∷ bs) read
+    (read : Option (List ℕ × ℕ)) × (told ≡ ReadUntil way (b ∷ bs) read ∷ []) × ReadsEnding s way (b ∷ bs) read
 
 abbrev pub RingCommandTells : Ringed → RingCommand → List RingReading → Ringed → Type 0
 RingCommandTells old (Set way cookie) told new = RingSetTells old way cookie told new
@@ -123,3 +124,8 @@ RingPlays list ring rows (step ∷ steps) (told ∷ later) left new =
     × RingPlays list turned mid steps later left new
 RingPlays list ring rows [] (told ∷ later) left new = ⊥
 RingPlays list ring rows (step ∷ steps) [] left new = ⊥
+
+-- what all the steps read, in order
+abbrev pub all_told : List (List RingReading) → List RingReading
+all_told [] = []
+all_told (told ∷ later) = told ++ all_told later

@@ -15,6 +15,7 @@ use Rattle.cookie_run.specs.Acts.{Arrival, Arrives, Never}
 use Rattle.cookie_run.specs.Ending.{IsReadBefore, StandsFor, dated_text}
 use Rattle.cookie_run.specs.EndingLaws.{IsReadTill}
 use Rattle.cookie_run.specs.RingPlay.{RingCommand, RingReading, Set, SetUntil, Remove, Get, GetUntil, Read, Refused}
+use Rattle.cookie_run.specs.RingPlay.{ReadUntil}
 use Rattle.cookie_run.specs.RingSession.{EndsAt, RefusesUntil, until_refusal}
 use Rattle.cookie_run.specs.Site.{Refuses, is_lasting, set_refusal, stored_name, with_at}
 use Rattle.cookie_run.specs.declared.ending.EndingWay.{EndingWay}
@@ -197,14 +198,14 @@ RingRemoveOn view way (b ∷ bs) told noted new = (told ≡ []) × (noted ≡ Ta
 abbrev pub RingGetOn : (List ℕ → Type 0) → Ring → DateTime → RingView → Way → List ℕ → List RingReading → Type 0
 RingGetOn Counts ring now view way [] told = told ≡ Refused EmptyName ∷ []
 RingGetOn Counts ring now view way (b ∷ bs) told =
-    (read : Option (List ℕ × ℕ)) × (told ≡ Read read ∷ []) × (Counts (stored_name way (b ∷ bs))
+    (read : Option (List ℕ × ℕ)) × (told ≡ Read way (b ∷ bs) read ∷ []) × (Counts (stored_name way (b ∷ bs))
     → IsReadOf now ring (form_of way) (stored_name way (b ∷ bs)) (view (stored_name way (b ∷ bs))) read)
 
 abbrev pub GetUntilOn : (List ℕ → Type 0) → Ring → DateTime → RingView → EndingWay → List ℕ → List RingReading
     → Type 0
 GetUntilOn Counts ring now view way [] told = told ≡ Refused EmptyName ∷ []
 GetUntilOn Counts ring now view way (b ∷ bs) told =
-    (read : Option (List ℕ × ℕ)) × (told ≡ Read read ∷ [])
+    (read : Option (List ℕ × ℕ)) × (told ≡ ReadUntil way (b ∷ bs) read ∷ [])
     × (Counts (b ∷ bs) → IsEndingReadOf now ring way (b ∷ bs) (view (b ∷ bs)) read)
 
 abbrev pub RingCommandOn : (List ℕ → Type 0) → Ring → DateTime → RingView → RingCommand → List RingReading

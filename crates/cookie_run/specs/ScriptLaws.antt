@@ -6,8 +6,8 @@ use Rattle.jiff.specs.Words.{civil_nanos}
 use Rattle.cookie_run.specs.Jar.{IsRemovalRefusal}
 use Rattle.cookie_run.specs.Moments.{IsMoment, IsWrong, Follows, second_1971}
 use Rattle.cookie_run.specs.Readings.{IsRemovalAnswer}
+use Rattle.cookie_run.specs.RingPlay.{Remove}
 use Rattle.cookie_run.specs.ScriptText.{command_refusal, is_before}
-use Rattle.cookie_run.specs.declared.step.Command.TheVariants.{Remove}
 use Rattle.cookie_run.specs.declared.step.FaultKind.TheVariants.{Back}
 use Rattle.cookie_run.specs.declared.step.Reading.{Reading}
 use Rattle.cookie_run.specs.declared.step.Reading.TheVariants.{Refused}

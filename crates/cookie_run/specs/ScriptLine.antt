@@ -6,29 +6,33 @@ use Rattle.std.specs.List.{slice_split, list_all}
 use Rattle.std.specs.Str.{bytes_eq, is_utf8}
 use Rattle.std.specs.Str.Parse.{digits_value}
 use Rattle.std.specs.Result.{result_ok}
+use Rattle.hex.specs.Hex.{decode_sized}
 use Rattle.jiff.specs.Types.{DateTime}
 use Rattle.percent_encoding.specs.Percent.{percent_decode}
 use Rattle.url.specs.Parts.{Parts}
 use Rattle.url.specs.Parser.{parse_url}
+use Rattle.cookie.specs.Key.{derived}
 use Rattle.cookie_text.specs.Record.{Record, bare, unsliced}
 use Rattle.cookie_text.specs.declared.expiration.Expiration.TheVariants.{DateTime as At}
-use Rattle.cookie_run.specs.ScriptMoment.{date_of, moment_of}
+use Rattle.cookie_run.specs.RingPlay.{RingCommand, Set, SetUntil, Remove, Get, GetUntil}
+use Rattle.cookie_run.specs.ScriptMoment.{date_of, moment_date, moment_of}
+use Rattle.cookie_run.specs.declared.ending.EndingWay.{EndingWay}
+use Rattle.cookie_run.specs.declared.ending.EndingWay.TheVariants as ends
 use Rattle.cookie_run.specs.declared.step.Way.{Way}
 use Rattle.cookie_run.specs.declared.step.Way.TheVariants.{Plain, Host, Secure, Signed, Sealed}
-use Rattle.cookie_run.specs.declared.step.Command.{Command}
-use Rattle.cookie_run.specs.declared.step.Command.TheVariants.{Set, Remove, Get}
 use Rattle.cookie_run.specs.declared.script.cause.Cause.{Cause}
 use Rattle.cookie_run.specs.declared.script.cause.Cause.TheVariants.{Word, Text, Fields, Url, Moment}
 
--- what a line asks for; moments are nanoseconds since 1970-01-01T00:00:00
+-- what a line asks for; moments are dates, or nanoseconds since 1970-01-01T00:00:00
 pub data Line : Type 0 where
-  Opens : (url : Parts) (at : ℤ) → Line
-  Commands : (command : Command) → Line
+  Opens : (url : Parts) (at : DateTime) → Line
+  Commands : (command : RingCommand) → Line
   Delivers : (at : ℤ) → Line
   Loses : Line
   Receives : (url : Parts) (lines : List (List ℕ)) (at : ℤ) → Line
   Heads : (url : Parts) (at : ℤ) → Line
   Restarts : (at : ℤ) → Line
+  Rotates : (key : List ℕ) (at : DateTime) (keep_until : Option DateTime) → Line
 
 -- fields stand between tabs, each percent-decoded
 abbrev pub is_tab : ℕ → Bool
@@ -42,7 +46,7 @@ unfoldable pub url_of : List ℕ → Option Parts
 url_of text = result_ok (parse_url None text)
 
 -- a line of a URL and a moment; the URL is tested first
-abbrev pub placed : (Parts → ℤ → Line) → Option Parts → Option ℤ → Result Line Cause
+abbrev pub placed : {A : Type 0} → (Parts → A → Line) → Option Parts → Option A → Result Line Cause
 placed line None at = Err Url
 placed line (Some url) None = Err Moment
 placed line (Some url) (Some at) = Ok (line url at)
@@ -98,7 +102,7 @@ with_end line (Some age) (Some end) = Ok (line age end)
 
 -- `open url moment`
 abbrev pub read_open : List (List ℕ) → Result Line Cause
-read_open (url ∷ at ∷ []) = placed Opens (url_of url) (moment_of at)
+read_open (url ∷ at ∷ []) = placed Opens (url_of url) (moment_date at)
 read_open fields = Err Fields
 
 -- `header url moment`
@@ -115,7 +119,7 @@ way_of word =
     else if bytes_eq word (codes "sealed") then Some Sealed
     else None
 
-abbrev pub for_way : Option Way → (Way → Result Line Cause) → Result Line Cause
+abbrev pub for_way : {W : Type 0} → Option W → (W → Result Line Cause) → Result Line Cause
 for_way None line = Err Fields
 for_way (Some way) line = line way
 
@@ -135,6 +139,28 @@ abbrev pub read_get : List (List ℕ) → Result Line Cause
 read_get (way ∷ name ∷ []) = for_way (way_of way) (λ w. Ok (Commands (Get w name)))
 read_get fields = Err Fields
 
+-- the ways of values that end
+abbrev pub ending_way_of : List ℕ → Option EndingWay
+ending_way_of word =
+    if bytes_eq word (codes "signed") then Some ends.Signed
+    else if bytes_eq word (codes "sealed") then Some ends.Sealed
+    else None
+
+abbrev pub ending_line : EndingWay → List ℕ → List ℕ → Option DateTime → Result Line Cause
+ending_line way name value None = Err Fields
+ending_line way name value (Some until) = Ok (Commands (SetUntil way (unsliced (bare name value)) until))
+
+-- `set-until way name value until`
+abbrev pub read_set_until : List (List ℕ) → Result Line Cause
+read_set_until (way ∷ name ∷ value ∷ until ∷ []) =
+    for_way (ending_way_of way) (λ w. ending_line w name value (date_of until))
+read_set_until fields = Err Fields
+
+-- `get-until way name`
+abbrev pub read_get_until : List (List ℕ) → Result Line Cause
+read_get_until (way ∷ name ∷ []) = for_way (ending_way_of way) (λ w. Ok (Commands (GetUntil w name)))
+read_get_until fields = Err Fields
+
 -- `deliver moment`
 abbrev pub read_deliver : List (List ℕ) → Result Line Cause
 read_deliver (at ∷ []) = timed Delivers (moment_of at)
@@ -144,6 +170,22 @@ read_deliver fields = Err Fields
 abbrev pub read_restart : List (List ℕ) → Result Line Cause
 read_restart (at ∷ []) = timed Restarts (moment_of at)
 read_restart fields = Err Fields
+
+-- the 32 bytes of 64 hexadecimal digits, of either case
+abbrev pub seed_of : List ℕ → Option (List ℕ)
+seed_of text = result_ok (decode_sized text 32)
+
+-- a rotation to the key that comes from a seed; seed and end are tested before the moment
+abbrev pub rotation : Option (List ℕ) → Option (Option DateTime) → Option DateTime → Result Line Cause
+rotation None keep_until at = Err Fields
+rotation (Some seed) None at = Err Fields
+rotation (Some seed) (Some keep_until) None = Err Moment
+rotation (Some seed) (Some keep_until) (Some at) = Ok (Rotates (derived seed) at keep_until)
+
+-- `rotate seed moment keep`
+abbrev pub read_rotate : List (List ℕ) → Result Line Cause
+read_rotate (seed ∷ at ∷ keep ∷ []) = rotation (seed_of seed) (unless_dash date_of keep) (moment_date at)
+read_rotate fields = Err Fields
 
 -- `lose`
 abbrev pub read_lose : List (List ℕ) → Result Line Cause
@@ -175,6 +217,9 @@ read_word word fields =
     else if bytes_eq word (codes "receive") then read_receive fields
     else if bytes_eq word (codes "header") then of_texts read_header fields
     else if bytes_eq word (codes "restart") then of_texts read_restart fields
+    else if bytes_eq word (codes "rotate") then of_texts read_rotate fields
+    else if bytes_eq word (codes "set-until") then of_texts read_set_until fields
+    else if bytes_eq word (codes "get-until") then of_texts read_get_until fields
     else Err Word
 
 abbrev pub read_fields : List (List ℕ) → Result Line Cause

@@ -80,6 +80,14 @@ is_timely d = int_le (pos 1971) d.date.year && int_le d.date.year (pos 9998)
 abbrev pub moment_at : DateTime → Option ℤ
 moment_at d = if is_timely d then Some (civil_nanos d) else None
 
+-- such a date, as it is
+abbrev pub if_timely : DateTime → Option DateTime
+if_timely d = if is_timely d then Some d else None
+
+-- the date of the moment that a text names
+unfoldable pub moment_date : List ℕ → Option DateTime
+moment_date text = option_and_then if_timely (date_of text)
+
 -- the moment that a text names
 unfoldable pub moment_of : List ℕ → Option ℤ
 moment_of text = option_and_then moment_at (date_of text)

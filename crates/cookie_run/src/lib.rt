@@ -11,6 +11,7 @@ pub mod client;
 pub mod ending;
 pub mod laws;
 mod moment;
+pub mod pair;
 pub mod play;
 pub mod program;
 pub mod reading;

@@ -7,4 +7,5 @@ mod line;
 pub mod moment;
 mod print;
 pub mod run;
+pub(crate) mod seed;
 mod visit;

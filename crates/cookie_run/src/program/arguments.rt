@@ -1,11 +1,11 @@
 //! What the words behind the program's name ask for.
-ghost use Rattle.std.specs.Prelude.{◌≡◌, map, string_bytes};
+ghost use Rattle.std.specs.Prelude.{map, string_bytes};
 ghost use Rattle.cookie_run.specs.Program as spec;
 ghost use Rattle.cookie_run.specs.ProgramRead.{ReadsWords};
 
 use crate::program::failure::Failure;
 use crate::script::moment::{Moment, moment_of};
-use hex::FromHex;
+use crate::script::seed::seed_of;
 
 /// What four words ask for: `SUFFIXFILE SEED STOREFILE MOMENT`.
 #[derive(Clone, Copy)]
@@ -40,11 +40,4 @@ pub fn read(words: &[String]) -> Result<Asked<'_>, Failure>
         store_file: store_file.as_str(),
         at,
     })
-}
-
-// The 32 bytes of 64 hexadecimal digits.
-fn seed_of(text: &str) -> Option<[u8; 32]>
-    ensures { result ≡ spec.seed_of text.now }
-{
-    <[u8; 32] as FromHex>::from_hex(text).ok()
 }

@@ -11,7 +11,7 @@ pub enum Cause {
     Word,
     /// A field isn't UTF-8.
     Text,
-    /// The number of fields, a way, a max-age or an expiry isn't one that the word takes.
+    /// The number of fields, a way, a max-age, an expiry or a seed isn't one that the word takes.
     Fields,
     /// The URL doesn't parse.
     Url,
@@ -31,6 +31,8 @@ pub enum Cause {
     TooLong,
     /// The generator's fill failed.
     Rng,
+    /// Over 16 earlier keys would be left.
+    Keys,
     /// A restart was refused, and not for want of memory. No script ends so.
     Restart,
     /// Memory was refused.
@@ -55,6 +57,7 @@ impl Cause {
             Cause::Year => "Year",
             Cause::TooLong => "TooLong",
             Cause::Rng => "Rng",
+            Cause::Keys => "Keys",
             Cause::Restart => "Restart",
             Cause::Memory => "Memory",
         }

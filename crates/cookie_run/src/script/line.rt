@@ -1,5 +1,5 @@
 //! What a line of a script asks for.
-ghost use Rattle.std.specs.Prelude.{◌≡◌, ◌⊎◌, map, IfOk, IfErr, IfSome, Some, None, option_map};
+ghost use Rattle.std.specs.Prelude.{◌≡◌, ◌⊎◌, map, IfOk, IfErr, IfSome, OnErr, Some, None, option_map};
 ghost use Rattle.jiff.specs.Words.{civil_nanos, signed_nanos};
 ghost use Rattle.cookie_text.specs.Record.{unsliced};
 ghost use Rattle.cookie_run.specs.ScriptLine as spec;
@@ -7,12 +7,14 @@ ghost use Rattle.cookie_run.specs.ScriptMoment as dates;
 ghost use Rattle.cookie_run.specs.ScriptText as text_spec;
 ghost use Rattle.cookie_run.specs.ScriptRead.{ReadsLine, line_of};
 
+use crate::ending::EndingWay;
 use crate::script::cause::Cause;
 use crate::script::field::{fields_of, text_of, texts_of};
-use crate::script::moment::{Moment, date_of, moment_of};
+use crate::script::moment::{Moment, date_of, timely};
+use crate::script::seed::seed_of;
 use crate::step::Way;
 use crate::text::Text;
-use cookie::{Cookie, Expiration};
+use cookie::{Cookie, Expiration, Key};
 use jiff::SignedDuration;
 use jiff::civil::DateTime;
 use std::alloc::Global;
@@ -58,6 +60,23 @@ pub enum Line {
     },
     /// `restart`: the client's cookies are saved and loaded again.
     Restart(Moment),
+    /// `rotate`: a new key is the current one, and the one that was counts until a moment, or for ever.
+    Rotate {
+        key: Key,
+        at: Moment,
+        keep_until: Option<DateTime>,
+    },
+    /// `set-until`: a cookie is set whose value ends at a moment.
+    SetUntil {
+        way: EndingWay,
+        cookie: Cookie<'static>,
+        until: DateTime,
+    },
+    /// `get-until`: the value of a name is read, as it was set until a moment.
+    GetUntil {
+        way: EndingWay,
+        name: Text,
+    },
 }
 
 impl Line {
@@ -66,10 +85,17 @@ impl Line {
         ensures { result ≡ text_spec.goes_back (civil_nanos last) (line_of self.now) }
     {
         match self {
-            Line::Open { at, .. } | Line::Receive { at, .. } | Line::Header { at, .. } => at.date
-                < last,
+            Line::Open { at, .. }
+            | Line::Receive { at, .. }
+            | Line::Header { at, .. }
+            | Line::Rotate { at, .. } => at.date < last,
             Line::Deliver(at) | Line::Restart(at) => at.date < last,
-            Line::Set { .. } | Line::Remove { .. } | Line::Get { .. } | Line::Lose => false,
+            Line::Set { .. }
+            | Line::Remove { .. }
+            | Line::Get { .. }
+            | Line::Lose
+            | Line::SetUntil { .. }
+            | Line::GetUntil { .. } => false,
         }
     }
 }
@@ -107,6 +133,12 @@ fn read_word(alloc: Global, word: &[u8], fields: &[Vec<u8>]) -> Result<Line, Cau
         read_header(alloc, &texts_of(alloc, fields)?)
     } else if word == b"restart".as_slice() {
         read_restart(&texts_of(alloc, fields)?)
+    } else if word == b"rotate".as_slice() {
+        read_rotate(&texts_of(alloc, fields)?)
+    } else if word == b"set-until".as_slice() {
+        read_set_until(alloc, &texts_of(alloc, fields)?)
+    } else if word == b"get-until".as_slice() {
+        read_get_until(alloc, &texts_of(alloc, fields)?)
     } else {
         Err(Cause::Word)
     }
@@ -255,6 +287,50 @@ fn way_of(word: &str) -> Option<Way>
     }
 }
 
+fn read_set_until(alloc: Global, fields: &[&str]) -> Result<Line, Cause>
+    ensures { ReadsLine result (spec.read_set_until (map (λ field. field.now) fields.now)) }
+{
+    let [way, name, value, until] = fields else {
+        return Err(Cause::Fields);
+    };
+    let Some(way) = ending_way_of(way) else {
+        return Err(Cause::Fields);
+    };
+    let Some(until) = date_of(until) else {
+        return Err(Cause::Fields);
+    };
+    let name = Text::from_str(alloc, name)?;
+    let value = Text::from_str(alloc, value)?;
+    let cookie = dated(name, value, None, None);
+    Ok(Line::SetUntil { way, cookie, until })
+}
+
+fn read_get_until(alloc: Global, fields: &[&str]) -> Result<Line, Cause>
+    ensures { ReadsLine result (spec.read_get_until (map (λ field. field.now) fields.now)) }
+{
+    let [way, name] = fields else {
+        return Err(Cause::Fields);
+    };
+    let Some(way) = ending_way_of(way) else {
+        return Err(Cause::Fields);
+    };
+    Ok(Line::GetUntil {
+        way,
+        name: Text::from_str(alloc, name)?,
+    })
+}
+
+// The way of a word, for a value that ends.
+fn ending_way_of(word: &str) -> Option<EndingWay>
+    ensures { result ≡ spec.ending_way_of word.now }
+{
+    match word {
+        "signed" => Some(EndingWay::Signed),
+        "sealed" => Some(EndingWay::Sealed),
+        _ => None,
+    }
+}
+
 fn read_deliver(fields: &[&str]) -> Result<Line, Cause>
     ensures { ReadsLine result (spec.read_deliver (map (λ field. field.now) fields.now)) }
 {
@@ -271,6 +347,24 @@ fn read_restart(fields: &[&str]) -> Result<Line, Cause>
         return Err(Cause::Fields);
     };
     Ok(Line::Restart(timed(at)?))
+}
+
+fn read_rotate(fields: &[&str]) -> Result<Line, Cause>
+    ensures { ReadsLine result (spec.read_rotate (map (λ field. field.now) fields.now)) }
+{
+    let [seed, at, keep] = fields else {
+        return Err(Cause::Fields);
+    };
+    let Some(seed) = seed_of(seed) else {
+        return Err(Cause::Fields);
+    };
+    let keep_until = end_of(keep)?;
+    let at = timed(at)?;
+    Ok(Line::Rotate {
+        key: Key::derive_from(&seed),
+        at,
+        keep_until,
+    })
 }
 
 fn read_lose(fields: &[&str]) -> Result<Line, Cause>
@@ -333,9 +427,11 @@ fn url_of(alloc: Global, text: &str) -> Result<Url, Cause>
 // The moment of a text.
 fn timed(text: &str) -> Result<Moment, Cause>
     ensures at { IfOk result (λ at. dates.moment_of text.now ≡ Some (civil_nanos at.date)) }
+    ensures date { IfOk result (λ at. dates.moment_date text.now ≡ Some at.date) }
     ensures err { IfErr result (λ cause. (cause ≡ Cause.Moment) × (dates.moment_of text.now ≡ None)) }
+    ensures undated { OnErr result (dates.moment_date text.now ≡ None) }
 {
-    match moment_of(text) {
+    match timely(text) {
         Some(at) => Ok(at),
         None => Err(Cause::Moment),
     }

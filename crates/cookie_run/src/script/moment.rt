@@ -19,9 +19,16 @@ pub struct Moment {
 
 /// The moment that a text names in the form `YYYY-MM-DDThh:mm:ssZ`, to be read as UTC, where the
 /// day exists and is of the years 1971 to 9998.
-#[tactic(auto, unfolding(crate::specs::ScriptMoment::moment_of))]
 pub fn moment_of(text: &str) -> Option<Moment>
     ensures { option_map (λ moment. civil_nanos moment.date) result ≡ spec.moment_of text.now }
+{
+    timely(text)
+}
+
+/// The same, with its date.
+#[tactic(auto, unfolding(crate::specs::ScriptMoment::moment_date))]
+pub fn timely(text: &str) -> Option<Moment>
+    ensures { option_map (λ moment. moment.date) result ≡ spec.moment_date text.now }
 {
     let date = date_of(text)?;
     if date.year() < 1971 || 9998 < date.year() {

@@ -1,8 +1,11 @@
 //! What a script's run prints.
-ghost use Rattle.std.specs.Prelude.{◌≡◌, ◌++◌, IfOk, OnOk, string_bytes, option_map};
-ghost use Rattle.cookie_run.specs.declared.step.Reading.TheVariants.{Value, Header};
-ghost use Rattle.cookie_run.specs.ScriptText.{shown_escaped, shown_value, reading_text, way_text};
+ghost use Rattle.std.specs.Prelude.{◌≡◌, ◌++◌, IfOk, OnOk, string_bytes};
+ghost use Rattle.cookie_run.specs.Ending.{placed};
+ghost use Rattle.cookie_run.specs.RingPlay.{Header, Read, ReadUntil};
+ghost use Rattle.cookie_run.specs.ScriptText.{ending_way_text, read_text, reading_text, shown_escaped, shown_place};
+ghost use Rattle.cookie_run.specs.ScriptText.{shown_read, way_text};
 
+use crate::ending::EndingWay;
 use crate::step::Way;
 use percent_encoding::{AsciiSet, CONTROLS, ascii_set, percent_encode};
 use std::alloc::{AllocError, Global};
@@ -10,22 +13,44 @@ use std::alloc::{AllocError, Global};
 /// The bytes that are escaped in what is printed: all but graphic ASCII, and `%`.
 pub const SHOWN: AsciiSet = ascii_set!(CONTROLS.add(b' ').add(b'%'));
 
-/// The line of a value that was read: way, name, and `=` with the value or `-`, parted by tabs.
+/// The line of a value that was read: way, name, and `=` with the value or `-`, parted by tabs. Behind a value stands
+/// the place of its key, where that isn't 0.
 pub fn value_line(
     alloc: Global,
     way: Way,
     name: &str,
-    value: &Option<String>,
+    read: &Option<(String, usize)>,
 ) -> Result<String, AllocError>
-    ensures { IfOk result (λ line. string_bytes line
-        ≡ reading_text (Value way name.now (option_map string_bytes value.now))) }
+    ensures { IfOk result (λ line. string_bytes line ≡ reading_text (Read way name.now (placed read.now))) }
 {
-    let mut line = String::new(alloc);
-    line.push_str(way_name(way))?;
+    read_line(alloc, way_name(way), name, read)
+}
+
+/// The same of a value that ends.
+pub fn ending_line(
+    alloc: Global,
+    way: EndingWay,
+    name: &str,
+    read: &Option<(String, usize)>,
+) -> Result<String, AllocError>
+    ensures { IfOk result (λ line. string_bytes line ≡ reading_text (ReadUntil way name.now (placed read.now))) }
+{
+    read_line(alloc, ending_way_name(way), name, read)
+}
+
+fn read_line(
+    alloc: Global,
+    word: &str,
+    name: &str,
+    read: &Option<(String, usize)>,
+) -> Result<String, AllocError>
+    ensures { IfOk result (λ line. string_bytes line ≡ read_text word.now name.now (placed read.now)) }
+{
+    let mut line = String::from_str(alloc, word)?;
     line.push_str("\t")?;
     push_shown(&mut line, name)?;
     line.push_str("\t")?;
-    push_value(&mut line, value)?;
+    push_read(&mut line, read)?;
     line.push_str("\n")?;
     Ok(line)
 }
@@ -53,17 +78,35 @@ fn way_name(way: Way) -> &'static str
     }
 }
 
-fn push_value(line: &mut String, value: &Option<String>) -> Result<(), AllocError>
-    ensures { OnOk result (string_bytes line.new
-        ≡ string_bytes line.old ++ shown_value (option_map string_bytes value.now)) }
+fn ending_way_name(way: EndingWay) -> &'static str
+    ensures { result.now ≡ ending_way_text way }
 {
-    match value {
-        Some(value) => {
+    match way {
+        EndingWay::Signed => "signed-until",
+        EndingWay::Sealed => "sealed-until",
+    }
+}
+
+fn push_read(line: &mut String, read: &Option<(String, usize)>) -> Result<(), AllocError>
+    ensures { OnOk result (string_bytes line.new ≡ string_bytes line.old ++ shown_read (placed read.now)) }
+{
+    match read {
+        Some((value, place)) => {
             line.push_str("=")?;
-            push_shown(line, value.as_str())
+            push_shown(line, value.as_str())?;
+            push_place(line, *place)
         }
         None => line.push_str("-"),
     }
+}
+
+fn push_place(line: &mut String, place: usize) -> Result<(), AllocError>
+    ensures { OnOk result (string_bytes line.new ≡ string_bytes line.old ++ shown_place place) }
+{
+    if place == 0 {
+        return Ok(());
+    }
+    write!(line, "\t{place}")
 }
 
 fn push_shown(line: &mut String, text: &str) -> Result<(), AllocError>

@@ -2,6 +2,7 @@
 ghost use Rattle.std.specs.Prelude.{◌≡◌, ◌⊎◌, ◌^◌, ◌-◌, ℕ, List, IfOk, OnOk, OnErr, IfErr, IfSome, IsErrOf, None};
 ghost use Rattle.std.specs.Io.KnownBytes.{Appends};
 ghost use Rattle.jiff.specs.Words.{civil_nanos};
+ghost use Rattle.cookie.specs.KeyRing.{alone};
 ghost use Rattle.devices.specs.Device.{Rose, one_more};
 ghost use Rattle.cookie_run.specs.Drawn.{DrawsSo};
 ghost use Rattle.cookie_run.specs.ScriptDrawn.{IsScriptBy};
@@ -12,14 +13,16 @@ use crate::script::cause::Cause;
 use crate::script::ended::{Ended, RunError};
 use crate::script::field::cut_line;
 use crate::script::visit::{Visit, follow};
-use cookie::Key;
+use crate::session::copy_of;
+use cookie::{Key, KeyRing};
 use devices::pour::{Stop, flush, read_all, write_all, write_number};
 use devices::{Sink, Source};
 use jiff::civil::DateTime;
 use rand_core::TryRng;
 use std::alloc::Global;
 
-/// Plays the script that is read, line by line, on the client, and writes what it prints.
+/// Plays the script that is read, line by line, on the client, and writes what it prints. Its sessions open on a ring
+/// of keys, which is this key alone at first.
 ///
 /// `last` is the last moment so far, in UTC; afterwards it is that of the last line done that has
 /// one. The first line with a fault ends the run with `line N: Name` as the last thing printed, and
@@ -41,7 +44,7 @@ pub fn run<R: Source, W: Sink, G: TryRng>(
 ) -> Result<Ended, RunError>
     ensures text { IfOk result (λ ended. IfSome (R.left reader.old) (λ input. (output : List ℕ)
         × Appends (W.written writer.old) (W.written writer.new) output
-        × Runs G.Error client.old.suffixes key.now client.old.rows (civil_nanos last.old) input output
+        × Runs G.Error client.old.suffixes (alone key.now) client.old.rows (civil_nanos last.old) input output
         client.new.rows (civil_nanos last.new) ended)) }
     ensures list { client.new.suffixes ≡ client.old.suffixes }
     ensures read { IsErrOf result RunError.Read
@@ -52,19 +55,22 @@ pub fn run<R: Source, W: Sink, G: TryRng>(
     ensures flushed { OnOk result (W.flushes writer.new ≡ one_more (W.flushes writer.old)) }
     ensures unflushed { OnOk result (W.unflushed writer.new ≡ 0) }
     ensures leaves { (input : List ℕ) × IfSome (R.left reader.old) (λ whole. input ≡ whole)
-        × LeavesFront client.old.suffixes key.now client.old.rows (civil_nanos last.old) input client.new.rows
+        × LeavesFront client.old.suffixes (alone key.now) client.old.rows (civil_nanos last.old) input client.new.rows
         (civil_nanos last.new) result }
     ensures unread { IsErrOf result RunError.Read
         → (client.new ≡ client.old) × (last.new ≡ last.old) × (rng.new ≡ rng.old) }
     ensures draws { (input : List ℕ) × IfSome (R.left reader.old) (λ whole. input ≡ whole)
-        × DrawsSo G.may_fill G.Error rng.old (λ drawn. IsScriptBy drawn client.old.suffixes key.now client.old.rows
-        (civil_nanos last.old) input (W.written writer.old) (W.written writer.new) client.new.rows
+        × DrawsSo G.may_fill G.Error rng.old (λ drawn. IsScriptBy drawn client.old.suffixes (alone key.now)
+        client.old.rows (civil_nanos last.old) input (W.written writer.old) (W.written writer.new) client.new.rows
         (civil_nanos last.new) result) rng.new }
 {
     match read_all(alloc, reader) {
         Ok(input) => {
             let mut visit = None;
-            play_text(alloc, &input, writer, client, last, &mut visit, key, rng)
+            let mut ring = KeyRing::new(alloc, copy_of(key));
+            play_text(
+                alloc, &input, writer, client, last, &mut visit, &mut ring, rng,
+            )
         }
         Err(Stop::Memory) => stop_at(writer, 1, Cause::Memory),
         Err(Stop::Read) => Err(RunError::Read),
@@ -79,13 +85,13 @@ fn play_text<W: Sink, G: TryRng>(
     client: &mut Client,
     last: &mut DateTime,
     visit: &mut Option<Visit>,
-    key: &Key,
+    ring: &mut KeyRing,
     rng: &mut G,
 ) -> Result<Ended, RunError>
     requires { visit.old ≡ None }
     ensures text { IfOk result (λ ended. (output : List ℕ)
         × Appends (W.written writer.old) (W.written writer.new) output
-        × Runs G.Error client.old.suffixes key.now client.old.rows (civil_nanos last.old) text.now output
+        × Runs G.Error client.old.suffixes ring.old client.old.rows (civil_nanos last.old) text.now output
         client.new.rows (civil_nanos last.new) ended) }
     ensures list { client.new.suffixes ≡ client.old.suffixes }
     ensures failures { OnOk result (W.failures writer.new ≡ W.failures writer.old) }
@@ -93,9 +99,9 @@ fn play_text<W: Sink, G: TryRng>(
     ensures only { IfErr result (λ e. e ≡ RunError.Write) }
     ensures flushed { OnOk result (W.flushes writer.new ≡ one_more (W.flushes writer.old)) }
     ensures unflushed { OnOk result (W.unflushed writer.new ≡ 0) }
-    ensures leaves { LeavesFront client.old.suffixes key.now client.old.rows (civil_nanos last.old) text.now
+    ensures leaves { LeavesFront client.old.suffixes ring.old client.old.rows (civil_nanos last.old) text.now
         client.new.rows (civil_nanos last.new) result }
-    ensures draws { DrawsSo G.may_fill G.Error rng.old (λ drawn. IsScriptBy drawn client.old.suffixes key.now
+    ensures draws { DrawsSo G.may_fill G.Error rng.old (λ drawn. IsScriptBy drawn client.old.suffixes ring.old
         client.old.rows (civil_nanos last.old) text.now (W.written writer.old) (W.written writer.new) client.new.rows
         (civil_nanos last.new) result) rng.new }
 {
@@ -103,7 +109,7 @@ fn play_text<W: Sink, G: TryRng>(
     let mut rest = text;
     while !rest.is_empty() {
         let (line, more) = cut_line(rest);
-        match follow(alloc, key, line, client, last, visit, rng) {
+        match follow(alloc, ring, line, client, last, visit, rng) {
             Ok(printed) => write_all(writer, printed.as_str().as_bytes())?,
             Err(cause) => return stop_at(writer, done + 1, cause),
         }

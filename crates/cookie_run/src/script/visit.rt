@@ -7,23 +7,25 @@ ghost use Rattle.std.specs.Prelude.{◌≡◌, length, ◌<◌, ℕ, ℤ, List, 
 ghost use Rattle.jiff.specs.Words.{civil_nanos};
 ghost use Rattle.publicsuffix.specs.Rules.{Rule};
 ghost use Rattle.cookie_store.specs.Rows.{Row};
+ghost use Rattle.cookie.specs.KeyRing.{Ring};
 ghost use Rattle.cookie_run.specs.Drawn.{DrawsSo};
 ghost use Rattle.cookie_run.specs.Jar.{ClosesWith};
+ghost use Rattle.cookie_run.specs.RingPlay.{Set, SetUntil, Remove, Get, GetUntil};
 ghost use Rattle.cookie_run.specs.ScriptLine as spec;
 ghost use Rattle.cookie_run.specs.ScriptText.{after_line, cause_of};
 ghost use Rattle.cookie_run.specs.Standing.{Goes, Halts, Obeys, Balks};
 ghost use Rattle.cookie_run.specs.ScriptRead.{line_of};
-ghost use Rattle.cookie_run.specs.declared.step.Command.TheVariants.{Set, Remove, Get};
 
 use crate::client::Client;
+use crate::ending::EndingWay;
+use crate::ring_session::{RingSession, copy_of_ring};
 use crate::script::cause::Cause;
 use crate::script::line::{Line, read_line};
 use crate::script::moment::Moment;
-use crate::script::print::{header_line, value_line};
-use crate::session::{Session, copy_of};
+use crate::script::print::{ending_line, header_line, value_line};
 use crate::step::{SessionError, Way};
 use crate::text::{Text, bytes_of, views_of};
-use cookie::{Cookie, Key};
+use cookie::{Cookie, Key, KeyRing, KeyRingError};
 use cookie_store::Error;
 use jiff::civil::DateTime;
 use rand_core::TryRng;
@@ -35,13 +37,13 @@ use url::Url;
 pub struct Visit {
     pub url: Url,
     pub at: Moment,
-    pub session: Session,
+    pub session: RingSession,
 }
 
 /// Does a line of a script. An empty one is passed over.
 pub fn follow<G: TryRng>(
     alloc: Global,
-    key: &Key,
+    ring: &mut KeyRing,
     line: &[u8],
     client: &mut Client,
     last: &mut DateTime,
@@ -49,10 +51,10 @@ pub fn follow<G: TryRng>(
     rng: &mut G,
 ) -> Result<String, Cause>
     ensures ok { IfOk result (λ text. DrawsSo G.may_fill G.Error rng.old (λ drawn. Goes drawn client.old.suffixes
-        key.now (λ r. after_line r line.now) client.old.rows (civil_nanos last.old) visit.old
-        client.new.rows (civil_nanos last.new) visit.new (string_bytes text)) rng.new) }
+        (λ r. after_line r line.now) ring.old client.old.rows (civil_nanos last.old) visit.old
+        ring.new client.new.rows (civil_nanos last.new) visit.new (string_bytes text)) rng.new) }
     ensures err { IfErr result (λ cause. DrawsSo G.may_fill G.Error rng.old (λ drawn. Halts drawn client.old.suffixes
-        key.now (λ r. after_line r line.now) client.old.rows (civil_nanos last.old) visit.old cause client.new.rows)
+        (λ r. after_line r line.now) ring.old client.old.rows (civil_nanos last.old) visit.old cause client.new.rows)
         rng.new) }
     ensures list { client.new.suffixes ≡ client.old.suffixes }
     ensures last { OnErr result (last.new ≡ last.old) }
@@ -68,13 +70,13 @@ pub fn follow<G: TryRng>(
     if asked.goes_back(*last) {
         return Err(Cause::Back);
     }
-    obey(alloc, key, asked, client, last, visit, rng)
+    obey(alloc, ring, asked, client, last, visit, rng)
 }
 
 // Does what a line asks for, whose moment isn't before the last.
 fn obey<G: TryRng>(
     alloc: Global,
-    key: &Key,
+    ring: &mut KeyRing,
     line: Line,
     client: &mut Client,
     last: &mut DateTime,
@@ -82,15 +84,15 @@ fn obey<G: TryRng>(
     rng: &mut G,
 ) -> Result<String, Cause>
     ensures ok { IfOk result (λ text. DrawsSo G.may_fill G.Error rng.old (λ drawn. Obeys drawn client.old.suffixes
-        key.now (line_of line) client.old.rows (civil_nanos last.old) visit.old
-        client.new.rows (civil_nanos last.new) visit.new (string_bytes text)) rng.new) }
+        (line_of line) ring.old client.old.rows (civil_nanos last.old) visit.old
+        ring.new client.new.rows (civil_nanos last.new) visit.new (string_bytes text)) rng.new) }
     ensures err { IfErr result (λ cause. DrawsSo G.may_fill G.Error rng.old (λ drawn. Balks drawn client.old.suffixes
-        key.now (line_of line) client.old.rows (civil_nanos last.old) visit.old cause client.new.rows) rng.new) }
+        (line_of line) ring.old client.old.rows (civil_nanos last.old) visit.old cause client.new.rows) rng.new) }
     ensures list { client.new.suffixes ≡ client.old.suffixes }
     ensures last { OnErr result (last.new ≡ last.old) }
 {
     match line {
-        Line::Open { url, at } => begin(alloc, key, url, at, client, last, visit),
+        Line::Open { url, at } => begin(alloc, ring, url, at, client, last, visit),
         Line::Set { way, cookie } => set(alloc, way, cookie, visit, rng),
         Line::Remove { way, name } => remove(alloc, way, &name, visit),
         Line::Get { way, name } => get(alloc, way, &name, visit),
@@ -101,13 +103,20 @@ fn obey<G: TryRng>(
         }
         Line::Header { url, at } => header(alloc, &url, at.date, client, last, visit),
         Line::Restart(at) => restart(alloc, at, client, last, visit),
+        Line::Rotate {
+            key,
+            at,
+            keep_until,
+        } => rotate(alloc, key, at, keep_until, ring, last, visit),
+        Line::SetUntil { way, cookie, until } => set_until(alloc, way, cookie, until, visit, rng),
+        Line::GetUntil { way, name } => get_until(alloc, way, &name, visit),
     }
 }
 
 // `open`: a session on the client's header.
 fn begin(
     alloc: Global,
-    key: &Key,
+    ring: &KeyRing,
     url: Url,
     at: Moment,
     client: &Client,
@@ -115,19 +124,20 @@ fn begin(
     visit: &mut Option<Visit>,
 ) -> Result<String, Cause>
     ensures ok { IfOk result
-        (λ text. Obeys [] client.now.suffixes key.now (spec.Opens url (civil_nanos at.date))
-        client.now.rows (civil_nanos last.old) visit.old
-        client.now.rows (civil_nanos last.new) visit.new (string_bytes text)) }
+        (λ text. Obeys [] client.now.suffixes (spec.Opens url at.date)
+        ring.now client.now.rows (civil_nanos last.old) visit.old
+        ring.now client.now.rows (civil_nanos last.new) visit.new (string_bytes text)) }
     ensures err { IfErr result
-        (λ cause. Balks [] client.now.suffixes key.now (spec.Opens url (civil_nanos at.date))
-        client.now.rows (civil_nanos last.old) visit.old cause client.now.rows) }
+        (λ cause. Balks [] client.now.suffixes (spec.Opens url at.date)
+        ring.now client.now.rows (civil_nanos last.old) visit.old cause client.now.rows) }
     ensures last { OnErr result (last.new ≡ last.old) }
 {
     if visit.is_some() {
         return Err(Cause::Open);
     }
     let header = client.header(&url, at.date)?;
-    let session = Session::open(alloc, header.as_str().as_bytes(), copy_of(key))?;
+    let keys = copy_of_ring(alloc, ring)?;
+    let session = RingSession::open(alloc, header.as_str().as_bytes(), keys, at.date)?;
     *last = at.date;
     *visit = Some(Visit { url, at, session });
     Ok(String::new(alloc))
@@ -142,13 +152,13 @@ fn set<G: TryRng>(
     rng: &mut G,
 ) -> Result<String, Cause>
     ensures ok { IfOk result
-        (λ text. DrawsSo G.may_fill G.Error rng.old (λ drawn. (list : List Rule) (key : List ℕ) (rows : List Row)
-        (last : ℤ) → Obeys drawn list key (spec.Commands (Set way cookie.entry))
-        rows last visit.old rows last visit.new (string_bytes text)) rng.new) }
+        (λ text. DrawsSo G.may_fill G.Error rng.old (λ drawn. (list : List Rule) (ring : Ring) (rows : List Row)
+        (last : ℤ) → Obeys drawn list (spec.Commands (Set way cookie.entry))
+        ring rows last visit.old ring rows last visit.new (string_bytes text)) rng.new) }
     ensures err { IfErr result
-        (λ cause. DrawsSo G.may_fill G.Error rng.old (λ drawn. (list : List Rule) (key : List ℕ) (rows : List Row)
-        (last : ℤ) → Balks drawn list key (spec.Commands (Set way cookie.entry))
-        rows last visit.old cause rows) rng.new) }
+        (λ cause. DrawsSo G.may_fill G.Error rng.old (λ drawn. (list : List Rule) (ring : Ring) (rows : List Row)
+        (last : ℤ) → Balks drawn list (spec.Commands (Set way cookie.entry))
+        ring rows last visit.old cause rows) rng.new) }
 {
     let Some(
         Visit {
@@ -171,13 +181,13 @@ fn set<G: TryRng>(
 // `remove`, at the moment at which the session was opened.
 fn remove(alloc: Global, way: Way, name: &Text, visit: &mut Option<Visit>) -> Result<String, Cause>
     ensures ok { IfOk result
-        (λ text. (list : List Rule) (key : List ℕ) (rows : List Row) (last : ℤ)
-        → Obeys [] list key (spec.Commands (Remove way name.now))
-        rows last visit.old rows last visit.new (string_bytes text)) }
+        (λ text. (list : List Rule) (ring : Ring) (rows : List Row) (last : ℤ)
+        → Obeys [] list (spec.Commands (Remove way name.now))
+        ring rows last visit.old ring rows last visit.new (string_bytes text)) }
     ensures err { IfErr result
-        (λ cause. (list : List Rule) (key : List ℕ) (rows : List Row) (last : ℤ)
-        → Balks [] list key (spec.Commands (Remove way name.now))
-        rows last visit.old cause rows) }
+        (λ cause. (list : List Rule) (ring : Ring) (rows : List Row) (last : ℤ)
+        → Balks [] list (spec.Commands (Remove way name.now))
+        ring rows last visit.old cause rows) }
 {
     let Some(
         Visit {
@@ -200,19 +210,80 @@ fn remove(alloc: Global, way: Way, name: &Text, visit: &mut Option<Visit>) -> Re
 // `get`.
 fn get(alloc: Global, way: Way, name: &Text, visit: &Option<Visit>) -> Result<String, Cause>
     ensures ok { IfOk result
-        (λ text. (list : List Rule) (key : List ℕ) (rows : List Row) (last : ℤ)
-        → Obeys [] list key (spec.Commands (Get way name.now))
-        rows last visit.now rows last visit.now (string_bytes text)) }
+        (λ text. (list : List Rule) (ring : Ring) (rows : List Row) (last : ℤ)
+        → Obeys [] list (spec.Commands (Get way name.now))
+        ring rows last visit.now ring rows last visit.now (string_bytes text)) }
     ensures err { IfErr result
-        (λ cause. (list : List Rule) (key : List ℕ) (rows : List Row) (last : ℤ)
-        → Balks [] list key (spec.Commands (Get way name.now))
-        rows last visit.now cause rows) }
+        (λ cause. (list : List Rule) (ring : Ring) (rows : List Row) (last : ℤ)
+        → Balks [] list (spec.Commands (Get way name.now))
+        ring rows last visit.now cause rows) }
 {
     let Some(open) = visit else {
         return Err(Cause::NoSession);
     };
-    match open.session.get(way, name.as_str()) {
-        Ok(value) => Ok(value_line(alloc, way, name.as_str(), &value)?),
+    match open.session.get_with_place(way, name.as_str()) {
+        Ok(read) => Ok(value_line(alloc, way, name.as_str(), &read)?),
+        Err(error) => Err(refused(error)),
+    }
+}
+
+// `set-until`.
+fn set_until<G: TryRng>(
+    alloc: Global,
+    way: EndingWay,
+    cookie: Cookie<'static>,
+    until: DateTime,
+    visit: &mut Option<Visit>,
+    rng: &mut G,
+) -> Result<String, Cause>
+    ensures ok { IfOk result
+        (λ text. DrawsSo G.may_fill G.Error rng.old (λ drawn. (list : List Rule) (ring : Ring) (rows : List Row)
+        (last : ℤ) → Obeys drawn list (spec.Commands (SetUntil way cookie.entry until))
+        ring rows last visit.old ring rows last visit.new (string_bytes text)) rng.new) }
+    ensures err { IfErr result
+        (λ cause. DrawsSo G.may_fill G.Error rng.old (λ drawn. (list : List Rule) (ring : Ring) (rows : List Row)
+        (last : ℤ) → Balks drawn list (spec.Commands (SetUntil way cookie.entry until))
+        ring rows last visit.old cause rows) rng.new) }
+{
+    let Some(
+        Visit {
+            url,
+            at,
+            mut session,
+        },
+    ) = visit.take()
+    else {
+        return Err(Cause::NoSession);
+    };
+    let end = session.set_until(way, cookie, until, rng);
+    *visit = Some(Visit { url, at, session });
+    match end {
+        Ok(()) => Ok(String::new(alloc)),
+        Err(error) => Err(refused(error)),
+    }
+}
+
+// `get-until`.
+fn get_until(
+    alloc: Global,
+    way: EndingWay,
+    name: &Text,
+    visit: &Option<Visit>,
+) -> Result<String, Cause>
+    ensures ok { IfOk result
+        (λ text. (list : List Rule) (ring : Ring) (rows : List Row) (last : ℤ)
+        → Obeys [] list (spec.Commands (GetUntil way name.now))
+        ring rows last visit.now ring rows last visit.now (string_bytes text)) }
+    ensures err { IfErr result
+        (λ cause. (list : List Rule) (ring : Ring) (rows : List Row) (last : ℤ)
+        → Balks [] list (spec.Commands (GetUntil way name.now))
+        ring rows last visit.now cause rows) }
+{
+    let Some(open) = visit else {
+        return Err(Cause::NoSession);
+    };
+    match open.session.get_until_with_place(way, name.as_str()) {
+        Ok(read) => Ok(ending_line(alloc, way, name.as_str(), &read)?),
         Err(error) => Err(refused(error)),
     }
 }
@@ -239,12 +310,12 @@ fn deliver(
     visit: &mut Option<Visit>,
 ) -> Result<String, Cause>
     ensures ok { IfOk result
-        (λ text. (key : List ℕ) → Obeys [] client.old.suffixes key (spec.Delivers (civil_nanos at))
-        client.old.rows (civil_nanos last.old) visit.old
-        client.new.rows (civil_nanos last.new) visit.new (string_bytes text)) }
+        (λ text. (ring : Ring) → Obeys [] client.old.suffixes (spec.Delivers (civil_nanos at))
+        ring client.old.rows (civil_nanos last.old) visit.old
+        ring client.new.rows (civil_nanos last.new) visit.new (string_bytes text)) }
     ensures err { IfErr result
-        (λ cause. (key : List ℕ) → Balks [] client.old.suffixes key (spec.Delivers (civil_nanos at))
-        client.old.rows (civil_nanos last.old) visit.old cause client.new.rows) }
+        (λ cause. (ring : Ring) → Balks [] client.old.suffixes (spec.Delivers (civil_nanos at))
+        ring client.old.rows (civil_nanos last.old) visit.old cause client.new.rows) }
     ensures list { client.new.suffixes ≡ client.old.suffixes }
     ensures last { OnErr result (last.new ≡ last.old) }
 {
@@ -264,11 +335,11 @@ fn deliver(
 // `lose`: they don't.
 fn lose(alloc: Global, visit: &mut Option<Visit>) -> Result<String, Cause>
     ensures ok { IfOk result
-        (λ text. (list : List Rule) (key : List ℕ) (rows : List Row) (last : ℤ) → Obeys [] list key spec.Loses
-        rows last visit.old rows last visit.new (string_bytes text)) }
+        (λ text. (list : List Rule) (ring : Ring) (rows : List Row) (last : ℤ) → Obeys [] list spec.Loses
+        ring rows last visit.old ring rows last visit.new (string_bytes text)) }
     ensures err { IfErr result
-        (λ cause. (list : List Rule) (key : List ℕ) (rows : List Row) (last : ℤ) → Balks [] list key spec.Loses
-        rows last visit.old cause rows) }
+        (λ cause. (list : List Rule) (ring : Ring) (rows : List Row) (last : ℤ) → Balks [] list spec.Loses
+        ring rows last visit.old cause rows) }
 {
     if visit.is_none() {
         return Err(Cause::NoSession);
@@ -288,14 +359,14 @@ fn receive(
     visit: &Option<Visit>,
 ) -> Result<String, Cause>
     ensures ok { IfOk result
-        (λ text. (key : List ℕ)
-        → Obeys [] client.old.suffixes key (spec.Receives url.now (map (λ line. line.items) lines.now) (civil_nanos at))
-        client.old.rows (civil_nanos last.old) visit.now
-        client.new.rows (civil_nanos last.new) visit.now (string_bytes text)) }
+        (λ text. (ring : Ring)
+        → Obeys [] client.old.suffixes (spec.Receives url.now (map (λ line. line.items) lines.now) (civil_nanos at))
+        ring client.old.rows (civil_nanos last.old) visit.now
+        ring client.new.rows (civil_nanos last.new) visit.now (string_bytes text)) }
     ensures err { IfErr result
-        (λ cause. (key : List ℕ)
-        → Balks [] client.old.suffixes key (spec.Receives url.now (map (λ line. line.items) lines.now) (civil_nanos at))
-        client.old.rows (civil_nanos last.old) visit.now cause client.new.rows) }
+        (λ cause. (ring : Ring)
+        → Balks [] client.old.suffixes (spec.Receives url.now (map (λ line. line.items) lines.now) (civil_nanos at))
+        ring client.old.rows (civil_nanos last.old) visit.now cause client.new.rows) }
     ensures list { client.new.suffixes ≡ client.old.suffixes }
     ensures last { OnErr result (last.new ≡ last.old) }
 {
@@ -320,12 +391,12 @@ fn header(
     visit: &Option<Visit>,
 ) -> Result<String, Cause>
     ensures ok { IfOk result
-        (λ text. (key : List ℕ) → Obeys [] client.now.suffixes key (spec.Heads url.now (civil_nanos at))
-        client.now.rows (civil_nanos last.old) visit.now
-        client.now.rows (civil_nanos last.new) visit.now (string_bytes text)) }
+        (λ text. (ring : Ring) → Obeys [] client.now.suffixes (spec.Heads url.now (civil_nanos at))
+        ring client.now.rows (civil_nanos last.old) visit.now
+        ring client.now.rows (civil_nanos last.new) visit.now (string_bytes text)) }
     ensures err { IfErr result
-        (λ cause. (key : List ℕ) → Balks [] client.now.suffixes key (spec.Heads url.now (civil_nanos at))
-        client.now.rows (civil_nanos last.old) visit.now cause client.now.rows) }
+        (λ cause. (ring : Ring) → Balks [] client.now.suffixes (spec.Heads url.now (civil_nanos at))
+        ring client.now.rows (civil_nanos last.old) visit.now cause client.now.rows) }
     ensures last { OnErr result (last.new ≡ last.old) }
 {
     if visit.is_some() {
@@ -347,12 +418,12 @@ fn restart(
     visit: &Option<Visit>,
 ) -> Result<String, Cause>
     ensures ok { IfOk result
-        (λ text. (key : List ℕ) → Obeys [] client.old.suffixes key (spec.Restarts (civil_nanos at.date))
-        client.old.rows (civil_nanos last.old) visit.now
-        client.new.rows (civil_nanos last.new) visit.now (string_bytes text)) }
+        (λ text. (ring : Ring) → Obeys [] client.old.suffixes (spec.Restarts (civil_nanos at.date))
+        ring client.old.rows (civil_nanos last.old) visit.now
+        ring client.new.rows (civil_nanos last.new) visit.now (string_bytes text)) }
     ensures err { IfErr result
-        (λ cause. (key : List ℕ) → Balks [] client.old.suffixes key (spec.Restarts (civil_nanos at.date))
-        client.old.rows (civil_nanos last.old) visit.now cause client.new.rows) }
+        (λ cause. (ring : Ring) → Balks [] client.old.suffixes (spec.Restarts (civil_nanos at.date))
+        ring client.old.rows (civil_nanos last.old) visit.now cause client.new.rows) }
     ensures list { client.new.suffixes ≡ client.old.suffixes }
     ensures last { OnErr result (last.new ≡ last.old) }
 {
@@ -369,8 +440,40 @@ fn restart(
     }
 }
 
+// `rotate`: a new key is the current one of the ring.
+fn rotate(
+    alloc: Global,
+    key: Key,
+    at: Moment,
+    keep_until: Option<DateTime>,
+    ring: &mut KeyRing,
+    last: &mut DateTime,
+    visit: &Option<Visit>,
+) -> Result<String, Cause>
+    ensures ok { IfOk result
+        (λ text. (list : List Rule) (rows : List Row) → Obeys [] list (spec.Rotates key at.date keep_until)
+        ring.old rows (civil_nanos last.old) visit.now
+        ring.new rows (civil_nanos last.new) visit.now (string_bytes text)) }
+    ensures err { IfErr result
+        (λ cause. (list : List Rule) (rows : List Row) → Balks [] list (spec.Rotates key at.date keep_until)
+        ring.old rows (civil_nanos last.old) visit.now cause rows) }
+    ensures last { OnErr result (last.new ≡ last.old) }
+{
+    if visit.is_some() {
+        return Err(Cause::Open);
+    }
+    match ring.rotate(key, at.date, keep_until) {
+        Ok(()) => {
+            *last = at.date;
+            Ok(String::new(alloc))
+        }
+        Err(KeyRingError::OutOfMemory) => Err(Cause::Memory),
+        Err(KeyRingError::TooMany(_)) => Err(Cause::Keys),
+    }
+}
+
 // The lines that a session closes with.
-fn closed_lines(session: &Session) -> Result<Vec<String>, Cause>
+fn closed_lines(session: &RingSession) -> Result<Vec<String>, Cause>
     ensures lines { IfOk result (λ lines. ClosesWith session.now.jar (map string_bytes lines.items)) }
     ensures err { IfErr result (λ cause. cause ≡ Cause.Memory) }
 {

@@ -1,7 +1,8 @@
 use Rattle.std.proofs.Common.{◌≡◌, ◌∙◌, ◌<◌, ◌≤◌, ℕ, ℤ, List, [], ◌∷◌, length, get_or, arith, subst, sym, Ok, Some}
 use Rattle.std.specs.Prelude.{map, string_bytes}
 use Rattle.jiff.specs.Words.{civil_nanos}
-use Rattle.cookie_run.specs.Program.{asked_of, asked_by, seed_of}
+use Rattle.cookie_run.specs.Program.{asked_of, asked_by}
+use Rattle.cookie_run.specs.ScriptLine.{seed_of}
 use Rattle.cookie_run.specs.ScriptMoment.{moment_of}
 use Rattle.cookie_run.proofs.program.arguments.read.Goals as goal
 

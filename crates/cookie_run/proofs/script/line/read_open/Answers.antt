@@ -1,15 +1,15 @@
-use Rattle.std.proofs.Common.{◌≡◌, ◌<◌, ◌≤◌, List, ℕ, [], ◌∷◌, length, get_or, arith, Some, Ok, ℤ}
+use Rattle.std.proofs.Common.{◌≡◌, ◌<◌, ◌≤◌, List, ℕ, [], ◌∷◌, length, get_or, arith, Some, Ok}
 use Rattle.std.specs.Prelude.{map}
 use denote.Ref.{Bor}
-use Rattle.jiff.specs.Words.{civil_nanos}
+use Rattle.jiff.specs.Types.{DateTime}
 use Rattle.url.specs.Parts.{Parts}
-use Rattle.cookie_run.specs.ScriptMoment.{moment_of}
+use Rattle.cookie_run.specs.ScriptMoment.{moment_date}
 use Rattle.cookie_run.specs.ScriptLine.{url_of, placed, read_open, Opens}
 use Rattle.cookie_run.proofs.script.line.read_open.Goals as goal
 
-open_read : (fields : List (Bor (List ℕ))) (d e : Bor (List ℕ)) (url : Parts) (at : ℤ) → 2 ≤ length fields
+open_read : (fields : List (Bor (List ℕ))) (d e : Bor (List ℕ)) (url : Parts) (at : DateTime) → 2 ≤ length fields
     → length fields < 3
-    → url_of (get_or fields 0 d).now ≡ Some url → moment_of (get_or fields 1 e).now ≡ Some at
+    → url_of (get_or fields 0 d).now ≡ Some url → moment_date (get_or fields 1 e).now ≡ Some at
     → read_open (map (λ field. field.now) fields) ≡ Ok (Opens url at)
 open_read [] d e url at low high u m = absurd (omega (arith, low))
 open_read (a ∷ []) d e url at low high u m = absurd (omega (arith, low))
@@ -18,5 +18,5 @@ open_read (a ∷ b ∷ x ∷ more) d e url at low high u m = absurd (omega (arit
 
 pub returns : goal.returns
 returns c = open_read c.args.fields.now _ _ c.in_ok-url.url
-    (civil_nanos c.in_ok-at.at.date) c.in-len2.len_at_least c.in-len2.len_below c.in_ok-url.ensures.url
-    c.in_ok-at.ensures.at
+    c.in_ok-at.at.date c.in-len2.len_at_least c.in-len2.len_below c.in_ok-url.ensures.url
+    c.in_ok-at.ensures.date

@@ -4,7 +4,7 @@ use Rattle.std.specs.Prelude.{option_map, Ok}
 use Rattle.jiff.specs.Words.{signed_nanos}
 use Rattle.cookie_text.specs.Record.{unsliced}
 use Rattle.cookie_run.specs.ScriptLine as spec
-use Rattle.cookie_run.specs.declared.step.Command.TheVariants.{Set}
+use Rattle.cookie_run.specs.RingPlay.{Set}
 use Rattle.cookie_run.proofs.ScriptLines.{set_read, set_few, set_many}
 use Rattle.cookie_run.proofs.script.line.read_set.Goals as goal
 use Rattle.cookie_run.proofs.script.line.read_set.Goals.{in_default-via-then-fields-lt5}

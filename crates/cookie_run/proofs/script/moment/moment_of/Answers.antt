@@ -1,10 +1,8 @@
-use Rattle.std.proofs.Common.{arith}
-use Rattle.jiff.proofs.SpanFacts.{signed_arith}
-use Rattle.cookie_run.proofs.MomentText.{late_enough}
+use Rattle.std.proofs.Common.{◌∙◌, ap, sym}
+use Rattle.std.specs.Prelude.{option_map}
+use Rattle.jiff.specs.Words.{civil_nanos}
+use Rattle.cookie_run.proofs.ScriptDates.{moment_dated, nanos_of}
 use Rattle.cookie_run.proofs.script.moment.moment_of.Goals as goal
 
-pub invariant_of-result : goal.invariant_of-result
-invariant_of-result c = record {
-  from = late_enough c.in_ok-date.date
-      (omega (arith, signed_arith, c.if-year-lt1971.false, c.year.ensures));
-}
+pub returns : goal.returns
+returns c = nanos_of c.timely.result ∙ ap (option_map civil_nanos) c.timely.ensures ∙ sym (moment_dated c.args.text.now)

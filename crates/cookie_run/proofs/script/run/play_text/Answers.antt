@@ -27,8 +27,9 @@ loop-rest-init g c =
       come = (
         [],
         refl,
-        subst (λ visit. Come [] list c.args.key.now rows first text text rows first visit 0 written written)
-            (sym c.requires) (come_first list c.args.key.now rows first text written),
+        subst (λ visit. Come [] list c.args.ring.now rows first text text c.args.ring.now rows first visit 0 written
+            written)
+            (sym c.requires) (come_first list c.args.ring.now rows first text written),
       );
       failures = refl;
       flushes = refl;
@@ -43,7 +44,7 @@ returns-in-Err-clause-flushed g c = subst (λ n. OnOk c.stop_at.result
 pub returns-in-Err-clause-text : goal.returns-in-Err-clause-text
 returns-in-Err-clause-text g c =
     let list = c.args.client.now.suffixes in
-    let key = c.args.key.now in
+    let origin = c.args.ring.now in
     let start = c.args.client.now.rows in
     let first = civil_nanos c.args.last.now in
     let text = c.args.text.now in
@@ -56,24 +57,27 @@ returns-in-Err-clause-text g c =
     let new = g.W.Sink.written c.stop_at.new.writer in
     let done = c.loop-rest.done in
     let last = civil_nanos c.follow.new.last in
-    let halts = subst (λ l. Halts c.in-Err.ensures.err.0 l key (λ r. after_line r line) c.loop-rest.client.rows
+    let halts = subst (λ l. Halts c.in-Err.ensures.err.0 l (λ r. after_line r line) c.loop-rest.ring
+    c.loop-rest.client.rows
     (civil_nanos c.loop-rest.last) c.loop-rest.visit c.in-Err.cause c.follow.new.client.rows)
     c.loop-rest.invariant.list c.in-Err.ensures.err.2 in
-    let said = halts start come.r come.output drawn come.stands in
+    let said = halts origin start come.r come.output drawn come.stands in
     let fails = fails_any g.G.TryRng.may_fill g.row.G-Error.Denot c.loop-rest.rng c.follow.new.rng drawn
-    c.in-Err.ensures.err.0 list key start come.r (after_line come.r line) c.in-Err.cause come.output
+    c.in-Err.ensures.err.0 list origin start come.r (after_line come.r line) c.in-Err.cause come.output
     c.follow.new.client.rows c.in-Err.ensures.err.1 said in
-    for_one c.stop_at.result (Ends g.row.G-Error.Denot list key start first text old new c.follow.new.client.rows last)
+    for_one c.stop_at.result (Ends g.row.G-Error.Denot list origin start first text old new c.follow.new.client.rows
+    last)
     (Appends mid new (fault_text (done + 1) c.in-Err.cause)) (Faulty (done + 1)) c.stop_at.ensures.text
-    c.stop_at.ensures.ended (λ written. come_fault drawn g.row.G-Error.Denot list key start first text
-    c.loop-rest.rest.now line more c.loop-rest.client.rows c.follow.new.client.rows (civil_nanos c.loop-rest.last) last
+    c.stop_at.ensures.ended (λ written. come_fault drawn g.row.G-Error.Denot list origin start first text
+    c.loop-rest.rest.now line more c.loop-rest.ring c.loop-rest.client.rows c.follow.new.client.rows (civil_nanos
+    c.loop-rest.last) last
     c.loop-rest.visit done old mid new c.in-Err.cause come c.cut_line.ensures.line fails c.in-Err.ensures.asks
     (ap civil_nanos c.in-Err.ensures.last) written)
 
 pub loop-rest-preserved : goal.loop-rest-preserved
 loop-rest-preserved g c =
     let list = c.args.client.now.suffixes in
-    let key = c.args.key.now in
+    let origin = c.args.ring.now in
     let start = c.args.client.now.rows in
     let first = civil_nanos c.args.last.now in
     let text = c.args.text.now in
@@ -85,18 +89,21 @@ loop-rest-preserved g c =
     let more = c.cut_line.result.1.now in
     let new = g.W.Sink.written c.write_all.new.writer in
     let printed = string_bytes c.in-Ok.printed in
-    let leads_on = subst (λ l. Goes c.in-Ok.ensures.ok.0 l key (λ r. after_line r line) c.loop-rest.client.rows
-    (civil_nanos c.loop-rest.last) c.loop-rest.visit c.follow.new.client.rows (civil_nanos c.follow.new.last)
+    let leads_on = subst (λ l. Goes c.in-Ok.ensures.ok.0 l (λ r. after_line r line) c.loop-rest.ring
+    c.loop-rest.client.rows
+    (civil_nanos c.loop-rest.last) c.loop-rest.visit c.follow.new.ring c.follow.new.client.rows (civil_nanos
+    c.follow.new.last)
     c.follow.new.visit printed) c.loop-rest.invariant.list c.in-Ok.ensures.ok.2 in
-    let goes = leads_on start come.r come.output drawn come.stands in
+    let goes = leads_on origin start come.r come.output drawn come.stands in
     let same : c.as_bytes.result.now ≡ printed = cc in
     record {
       come = (
         drawn ++ c.in-Ok.ensures.ok.0,
         fills_more g.G.TryRng.may_fill g.row.G-Error.Denot c.args.rng.now c.loop-rest.rng c.follow.new.rng drawn
             c.in-Ok.ensures.ok.0 c.loop-rest.invariant.come.1 c.in-Ok.ensures.ok.1,
-        come_more drawn c.in-Ok.ensures.ok.0 list key start first text c.loop-rest.rest.now line more
-            c.loop-rest.client.rows c.follow.new.client.rows (civil_nanos c.loop-rest.last)
+        come_more drawn c.in-Ok.ensures.ok.0 list origin start first text c.loop-rest.rest.now line more
+            c.loop-rest.ring c.follow.new.ring c.loop-rest.client.rows c.follow.new.client.rows (civil_nanos
+            c.loop-rest.last)
             (civil_nanos c.follow.new.last) c.loop-rest.visit c.follow.new.visit c.loop-rest.done old mid new printed
             come c.cut_line.ensures.line goes
             (subst (Appends mid new) same c.in_ok-write_all-in-Ok.ensures.bytes),
@@ -110,7 +117,7 @@ loop-rest-preserved g c =
 pub returns-clause-text : goal.returns-clause-text
 returns-clause-text g c =
     let list = c.args.client.now.suffixes in
-    let key = c.args.key.now in
+    let origin = c.args.ring.now in
     let start = c.args.client.now.rows in
     let first = civil_nanos c.args.last.now in
     let text = c.args.text.now in
@@ -121,8 +128,9 @@ returns-clause-text g c =
     let none = nil_from_length c.loop-rest.rest.now
     (grind (arith, nat_tests, c.is_empty.ensures, c.loop-rest-test.false)) in
     let new = g.W.Sink.written c.flush.new.writer in
-    let ends = come_whole drawn g.row.G-Error.Denot list key start first text c.loop-rest.rest.now
-    c.loop-rest.client.rows (civil_nanos c.loop-rest.last) c.loop-rest.visit c.loop-rest.done old mid come none in
+    let ends = come_whole drawn g.row.G-Error.Denot list origin start first text c.loop-rest.rest.now
+    c.loop-rest.ring c.loop-rest.client.rows (civil_nanos c.loop-rest.last) c.loop-rest.visit c.loop-rest.done old mid
+    come none in
     (ends.0, Appends-kept old mid new ends.0 ends.1 c.in_ok-flush.ensures.bytes, ends.2)
 
 pub returns-clause-flushed : goal.returns-clause-flushed
@@ -131,7 +139,7 @@ returns-clause-flushed g c = c.flush.ensures.flushes ∙ ap one_more c.loop-rest
 pub returns-in-Err-clause-leaves : goal.returns-in-Err-clause-leaves
 returns-in-Err-clause-leaves g c =
     let list = c.args.client.now.suffixes in
-    let key = c.args.key.now in
+    let origin = c.args.ring.now in
     let start = c.args.client.now.rows in
     let first = civil_nanos c.args.last.now in
     let text = c.args.text.now in
@@ -141,22 +149,24 @@ returns-in-Err-clause-leaves g c =
     let come = c.loop-rest.invariant.come.2 in
     let line = c.cut_line.result.0.now in
     let more = c.cut_line.result.1.now in
-    let halts = subst (λ l. Halts c.in-Err.ensures.err.0 l key (λ r. after_line r line) c.loop-rest.client.rows
+    let halts = subst (λ l. Halts c.in-Err.ensures.err.0 l (λ r. after_line r line) c.loop-rest.ring
+    c.loop-rest.client.rows
     (civil_nanos c.loop-rest.last) c.loop-rest.visit c.in-Err.cause c.follow.new.client.rows)
     c.loop-rest.invariant.list c.in-Err.ensures.err.2 in
-    let said = halts start come.r come.output drawn come.stands in
+    let said = halts origin start come.r come.output drawn come.stands in
     let fails = fails_any g.G.TryRng.may_fill g.row.G-Error.Denot c.loop-rest.rng c.follow.new.rng drawn
-    c.in-Err.ensures.err.0 list key start come.r (after_line come.r line) c.in-Err.cause come.output
+    c.in-Err.ensures.err.0 list origin start come.r (after_line come.r line) c.in-Err.cause come.output
     c.follow.new.client.rows c.in-Err.ensures.err.1 said in
-    leaves_fault drawn g.row.G-Error.Denot list key start first text c.loop-rest.rest.now line more
-    c.loop-rest.client.rows c.follow.new.client.rows (civil_nanos c.loop-rest.last) (civil_nanos c.follow.new.last)
+    leaves_fault drawn g.row.G-Error.Denot list origin start first text c.loop-rest.rest.now line more
+    c.loop-rest.ring c.loop-rest.client.rows c.follow.new.client.rows (civil_nanos c.loop-rest.last) (civil_nanos
+    c.follow.new.last)
     c.loop-rest.visit c.loop-rest.done old mid c.in-Err.cause c.stop_at.result c.stop_at.ensures.ended come
     c.cut_line.ensures.line fails (ap civil_nanos c.in-Err.ensures.last)
 
 pub returns-clause-leaves : goal.returns-clause-leaves
 returns-clause-leaves g c =
     let list = c.args.client.now.suffixes in
-    let key = c.args.key.now in
+    let origin = c.args.ring.now in
     let start = c.args.client.now.rows in
     let first = civil_nanos c.args.last.now in
     let text = c.args.text.now in
@@ -166,13 +176,14 @@ returns-clause-leaves g c =
     let come = c.loop-rest.invariant.come.2 in
     let none = nil_from_length c.loop-rest.rest.now
     (grind (arith, nat_tests, c.is_empty.ensures, c.loop-rest-test.false)) in
-    leaves_now drawn list key start first text come.r come.before (lines c.loop-rest.rest.now) c.loop-rest.client.rows
+    leaves_now drawn list origin start first text come.r come.before (lines c.loop-rest.rest.now) c.loop-rest.ring
+    c.loop-rest.client.rows
     (civil_nanos c.loop-rest.last) c.loop-rest.visit come.output _ come.leads come.whole come.stands (ap lines none)
 
 pub returns-in_err-flush-clause-leaves : goal.returns-in_err-flush-clause-leaves
 returns-in_err-flush-clause-leaves g c =
     let list = c.args.client.now.suffixes in
-    let key = c.args.key.now in
+    let origin = c.args.ring.now in
     let start = c.args.client.now.rows in
     let first = civil_nanos c.args.last.now in
     let text = c.args.text.now in
@@ -180,14 +191,15 @@ returns-in_err-flush-clause-leaves g c =
     let mid = g.W.Sink.written c.loop-rest.writer in
     let drawn = c.loop-rest.invariant.come.0 in
     let come = c.loop-rest.invariant.come.2 in
-    leaves_now drawn list key start first text come.r come.before (lines c.loop-rest.rest.now) c.loop-rest.client.rows
+    leaves_now drawn list origin start first text come.r come.before (lines c.loop-rest.rest.now) c.loop-rest.ring
+    c.loop-rest.client.rows
     (civil_nanos c.loop-rest.last) c.loop-rest.visit come.output c.from_residual-in_err-flush.result come.leads
     come.whole come.stands (up_to_any _ _ _ _ c.from_residual-in_err-flush.ensures.1)
 
 pub returns-in_err-write_all-in-Ok-clause-leaves : goal.returns-in_err-write_all-in-Ok-clause-leaves
 returns-in_err-write_all-in-Ok-clause-leaves g c =
     let list = c.args.client.now.suffixes in
-    let key = c.args.key.now in
+    let origin = c.args.ring.now in
     let start = c.args.client.now.rows in
     let first = civil_nanos c.args.last.now in
     let text = c.args.text.now in
@@ -198,19 +210,22 @@ returns-in_err-write_all-in-Ok-clause-leaves g c =
     let line = c.cut_line.result.0.now in
     let more = c.cut_line.result.1.now in
     let printed = string_bytes c.in-Ok.printed in
-    let leads_on = subst (λ l. Goes c.in-Ok.ensures.ok.0 l key (λ r. after_line r line) c.loop-rest.client.rows
-    (civil_nanos c.loop-rest.last) c.loop-rest.visit c.follow.new.client.rows (civil_nanos c.follow.new.last)
+    let leads_on = subst (λ l. Goes c.in-Ok.ensures.ok.0 l (λ r. after_line r line) c.loop-rest.ring
+    c.loop-rest.client.rows
+    (civil_nanos c.loop-rest.last) c.loop-rest.visit c.follow.new.ring c.follow.new.client.rows (civil_nanos
+    c.follow.new.last)
     c.follow.new.visit printed) c.loop-rest.invariant.list c.in-Ok.ensures.ok.2 in
-    let goes = leads_on start come.r come.output drawn come.stands in
-    leaves_more drawn c.in-Ok.ensures.ok.0 list key start first text c.loop-rest.rest.now line more
-    c.loop-rest.client.rows c.follow.new.client.rows (civil_nanos c.loop-rest.last) (civil_nanos c.follow.new.last)
+    let goes = leads_on origin start come.r come.output drawn come.stands in
+    leaves_more drawn c.in-Ok.ensures.ok.0 list origin start first text c.loop-rest.rest.now line more
+    c.loop-rest.ring c.follow.new.ring c.loop-rest.client.rows c.follow.new.client.rows (civil_nanos c.loop-rest.last)
+    (civil_nanos c.follow.new.last)
     c.loop-rest.visit c.follow.new.visit c.loop-rest.done old mid printed c.from_residual.result _
     c.from_residual.ensures.1 come c.cut_line.ensures.line goes
 
 pub returns-clause-draws : goal.returns-clause-draws
 returns-clause-draws g c =
     let list = c.args.client.now.suffixes in
-    let key = c.args.key.now in
+    let origin = c.args.ring.now in
     let start = c.args.client.now.rows in
     let first = civil_nanos c.args.last.now in
     let text = c.args.text.now in
@@ -223,7 +238,7 @@ returns-clause-draws g c =
     let new = g.W.Sink.written c.flush.new.writer in (
       drawn,
       c.loop-rest.invariant.come.1,
-      script_whole drawn list key start first text c.loop-rest.rest.now c.loop-rest.client.rows
+      script_whole drawn list origin start first text c.loop-rest.rest.now c.loop-rest.ring c.loop-rest.client.rows
           (civil_nanos c.loop-rest.last) c.loop-rest.visit c.loop-rest.done old mid new come none
           (Appends-kept old mid new come.output come.written c.in_ok-flush.ensures.bytes),
     )
@@ -231,7 +246,7 @@ returns-clause-draws g c =
 pub returns-in_err-flush-clause-draws : goal.returns-in_err-flush-clause-draws
 returns-in_err-flush-clause-draws g c =
     let list = c.args.client.now.suffixes in
-    let key = c.args.key.now in
+    let origin = c.args.ring.now in
     let start = c.args.client.now.rows in
     let first = civil_nanos c.args.last.now in
     let text = c.args.text.now in
@@ -242,8 +257,8 @@ returns-in_err-flush-clause-draws g c =
     let new = g.W.Sink.written c.flush.new.writer in (
       drawn,
       c.loop-rest.invariant.come.1,
-      script_cut drawn list key start first text come.r come.before (lines c.loop-rest.rest.now)
-          c.loop-rest.client.rows (civil_nanos c.loop-rest.last) c.loop-rest.visit come.output old new
+      script_cut drawn list origin start first text come.r come.before (lines c.loop-rest.rest.now)
+          c.loop-rest.ring c.loop-rest.client.rows (civil_nanos c.loop-rest.last) c.loop-rest.visit come.output old new
           c.from_residual-in_err-flush.result _ c.from_residual-in_err-flush.ensures.1 come.leads come.whole
           come.stands,
     )
@@ -251,7 +266,7 @@ returns-in_err-flush-clause-draws g c =
 pub returns-in_err-write_all-in-Ok-clause-draws : goal.returns-in_err-write_all-in-Ok-clause-draws
 returns-in_err-write_all-in-Ok-clause-draws g c =
     let list = c.args.client.now.suffixes in
-    let key = c.args.key.now in
+    let origin = c.args.ring.now in
     let start = c.args.client.now.rows in
     let first = civil_nanos c.args.last.now in
     let text = c.args.text.now in
@@ -263,15 +278,18 @@ returns-in_err-write_all-in-Ok-clause-draws g c =
     let more = c.cut_line.result.1.now in
     let new = g.W.Sink.written c.write_all.new.writer in
     let printed = string_bytes c.in-Ok.printed in
-    let leads_on = subst (λ l. Goes c.in-Ok.ensures.ok.0 l key (λ r. after_line r line) c.loop-rest.client.rows
-    (civil_nanos c.loop-rest.last) c.loop-rest.visit c.follow.new.client.rows (civil_nanos c.follow.new.last)
+    let leads_on = subst (λ l. Goes c.in-Ok.ensures.ok.0 l (λ r. after_line r line) c.loop-rest.ring
+    c.loop-rest.client.rows
+    (civil_nanos c.loop-rest.last) c.loop-rest.visit c.follow.new.ring c.follow.new.client.rows (civil_nanos
+    c.follow.new.last)
     c.follow.new.visit printed) c.loop-rest.invariant.list c.in-Ok.ensures.ok.2 in
-    let goes = leads_on start come.r come.output drawn come.stands in (
+    let goes = leads_on origin start come.r come.output drawn come.stands in (
       drawn ++ c.in-Ok.ensures.ok.0,
       fills_more g.G.TryRng.may_fill g.row.G-Error.Denot c.args.rng.now c.loop-rest.rng c.follow.new.rng drawn
           c.in-Ok.ensures.ok.0 c.loop-rest.invariant.come.1 c.in-Ok.ensures.ok.1,
-      script_more drawn c.in-Ok.ensures.ok.0 list key start first text c.loop-rest.rest.now line more
-          c.loop-rest.client.rows c.follow.new.client.rows (civil_nanos c.loop-rest.last)
+      script_more drawn c.in-Ok.ensures.ok.0 list origin start first text c.loop-rest.rest.now line more
+          c.loop-rest.ring c.follow.new.ring c.loop-rest.client.rows c.follow.new.client.rows (civil_nanos
+          c.loop-rest.last)
           (civil_nanos c.follow.new.last) c.loop-rest.visit c.follow.new.visit c.loop-rest.done old mid new printed
           c.from_residual.result _ c.from_residual.ensures.1 come c.cut_line.ensures.line goes,
     )
@@ -279,7 +297,7 @@ returns-in_err-write_all-in-Ok-clause-draws g c =
 pub returns-in-Err-clause-draws : goal.returns-in-Err-clause-draws
 returns-in-Err-clause-draws g c =
     let list = c.args.client.now.suffixes in
-    let key = c.args.key.now in
+    let origin = c.args.ring.now in
     let start = c.args.client.now.rows in
     let first = civil_nanos c.args.last.now in
     let text = c.args.text.now in
@@ -290,15 +308,16 @@ returns-in-Err-clause-draws g c =
     let line = c.cut_line.result.0.now in
     let more = c.cut_line.result.1.now in
     let new = g.W.Sink.written c.stop_at.new.writer in
-    let halts = subst (λ l. Halts c.in-Err.ensures.err.0 l key (λ r. after_line r line) c.loop-rest.client.rows
+    let halts = subst (λ l. Halts c.in-Err.ensures.err.0 l (λ r. after_line r line) c.loop-rest.ring
+    c.loop-rest.client.rows
     (civil_nanos c.loop-rest.last) c.loop-rest.visit c.in-Err.cause c.follow.new.client.rows)
     c.loop-rest.invariant.list c.in-Err.ensures.err.2 in
-    let said = halts start come.r come.output drawn come.stands in (
+    let said = halts origin start come.r come.output drawn come.stands in (
       drawn ++ c.in-Err.ensures.err.0,
       fills_more g.G.TryRng.may_fill g.row.G-Error.Denot c.args.rng.now c.loop-rest.rng c.follow.new.rng drawn
           c.in-Err.ensures.err.0 c.loop-rest.invariant.come.1 c.in-Err.ensures.err.1,
-      script_fault drawn c.in-Err.ensures.err.0 list key start first text c.loop-rest.rest.now line more
-          c.loop-rest.client.rows c.follow.new.client.rows (civil_nanos c.loop-rest.last)
+      script_fault drawn c.in-Err.ensures.err.0 list origin start first text c.loop-rest.rest.now line more
+          c.loop-rest.ring c.loop-rest.client.rows c.follow.new.client.rows (civil_nanos c.loop-rest.last)
           (civil_nanos c.follow.new.last) c.loop-rest.visit c.loop-rest.done old mid new c.in-Err.cause
           c.stop_at.result come c.cut_line.ensures.line said (ap civil_nanos c.in-Err.ensures.last)
           c.stop_at.ensures.text c.stop_at.ensures.ended,

@@ -6,8 +6,8 @@ use Rattle.cookie_run.proofs.script.run.play_text.Given as goal
 
 abbrev pub invariant-loop-rest : goal.invariant-loop-rest
 invariant-loop-rest g l = record {
-  come : DrawsSo g.G.TryRng.may_fill g.row.G-Error.Denot l.fn.rng (λ drawn. Come drawn l.fn.client.suffixes l.key
-      l.fn.client.rows (civil_nanos l.fn.last) l.text l.rest l.client.rows (civil_nanos l.last) l.visit l.done
+  come : DrawsSo g.G.TryRng.may_fill g.row.G-Error.Denot l.fn.rng (λ drawn. Come drawn l.fn.client.suffixes l.fn.ring
+      l.fn.client.rows (civil_nanos l.fn.last) l.text l.rest l.ring l.client.rows (civil_nanos l.last) l.visit l.done
       (g.W.Sink.written l.fn.writer) (g.W.Sink.written l.writer)) l.rng;
   failures : g.W.Failing.failures l.writer ≡ g.W.Failing.failures l.fn.writer;
   flushes : g.W.Sink.flushes l.writer ≡ g.W.Sink.flushes l.fn.writer;

@@ -1,36 +1,36 @@
 use Rattle.std.proofs.Common.{◌≡◌, ◌≢◌, ◌⊎◌, ◌∙◌, [], ℕ, List, ap, false, subst}
-use Rattle.std.specs.Prelude.{string_bytes, option_map, is_none}
+use Rattle.std.specs.Prelude.{string_bytes, is_none}
+use Rattle.cookie_run.specs.Ending.{placed}
+use Rattle.cookie_run.specs.RingPlay.{Get, Read}
+use Rattle.cookie_run.specs.RingSession.{RingReadsIn}
 use Rattle.cookie_run.specs.ScriptLine as spec
-use Rattle.cookie_run.specs.ScriptText.{obeyed}
-use Rattle.cookie_run.specs.declared.step.Command.TheVariants.{Get}
+use Rattle.cookie_run.specs.ScriptText.{obeyed, reading_text}
 use Rattle.cookie_run.specs.declared.step.SessionError.TheVariants.{EmptyName, OutOfMemory}
 use Rattle.cookie_run.proofs.Halting.{get_halts, no_memory}
 use Rattle.cookie_run.proofs.Runs.{err_gives}
-use Rattle.cookie_run.specs.Jar.{ReadsIn}
-use Rattle.cookie_run.specs.ScriptText.{reading_text}
-use Rattle.cookie_run.specs.declared.step.Reading.TheVariants.{Value}
 use Rattle.cookie_run.proofs.Standings.{gets}
 use Rattle.cookie_run.proofs.script.visit.get.Goals as goal
 
 pub returns-in_ok-value_line-in-Ok-clause-ok : goal.returns-in_ok-value_line-in-Ok-clause-ok
 returns-in_ok-value_line-in-Ok-clause-ok c =
-    let value = option_map string_bytes c.in-Ok.value in
-    λ list key rows last start r output drawn s. gets drawn list key start rows r last c.args.visit.now c.in-Some.open
-    output (string_bytes c.in_ok-value_line-in-Ok.field-0) c.args.way c.args.name.now value s
+    let read = placed c.in-Ok.read in
+    λ list ring rows last first start r output drawn s. gets drawn list first start ring rows r last c.args.visit.now
+    c.in-Some.open output (string_bytes c.in_ok-value_line-in-Ok.field-0) c.args.way c.args.name.now read s
     c.in-Some.is (subst (λ n. n ≢ []) c.as_str.ensures.value c.in-Ok.ensures.value.0)
-    (subst (λ n. ReadsIn c.in-Some.open.session c.args.way n value) c.as_str.ensures.value c.in-Ok.ensures.value.1)
-    (c.in_ok-value_line-in-Ok.ensures ∙ ap (λ n. reading_text (Value c.args.way n value)) c.as_str-in-Ok.ensures.value)
+    (subst (λ n. RingReadsIn c.in-Some.open.session c.args.way n read) c.as_str.ensures.value c.in-Ok.ensures.value.1)
+    (c.in_ok-value_line-in-Ok.ensures ∙ ap (λ n. reading_text (Read c.args.way n read)) c.as_str-in-Ok.ensures.value)
 
 pub returns-in_err-value_line-in-Ok-clause-err : goal.returns-in_err-value_line-in-Ok-clause-err
 returns-in_err-value_line-in-Ok-clause-err c =
-    err_gives c.from_residual.result _ _ c.from_residual.ensures (λ cause e list key rows last start r output drawn s.
-    no_memory drawn list key start rows r last c.args.visit.now output
-    (obeyed r.acts r.last r.now (spec.Commands (Get c.args.way c.args.name.now))) cause s e)
+    err_gives c.from_residual.result _ _ c.from_residual.ensures
+    (λ cause e list ring rows last first start r output drawn s.
+    no_memory drawn list first start ring rows r last c.args.visit.now output
+    (obeyed r.acts r.ring r.last r.now (spec.Commands (Get c.args.way c.args.name.now))) cause s e)
 
 pub returns-in-Err-clause-err : goal.returns-in-Err-clause-err
 returns-in-Err-clause-err c =
     let some : is_none c.args.visit.now ≡ false = ap is_none c.in-Some.is in
     let error = c.in-Err.error in
-    λ list key rows last. get_halts list key error c.refused.result rows last c.args.visit.now c.args.way
+    λ list ring rows last. get_halts list ring error c.refused.result rows last c.args.visit.now c.args.way
     c.args.name.now some (subst (λ (n : List ℕ). ((error ≡ EmptyName) × (n ≡ [])) ⊎ ((error ≡ OutOfMemory) × (n ≢ [])))
     c.as_str.ensures.value c.in-Err.ensures.err) c.refused.ensures

@@ -17,15 +17,16 @@ returns-clause-ok c =
     let new = c.receive.new.self.rows in
     let taken = subst (λ ls. Takes list rows c.args.url.now at ls new) lines
     (takes_of list rows new c.args.url.now at _ c.receive.result c.if-is_err.ensures.value c.receive.ensures.all) in
-    λ key start r output drawn s.
-    receives drawn list key start rows new r (civil_nanos c.args.last.now) c.args.visit.now output
+    λ ring first start r output drawn s.
+    receives drawn list first start ring rows new r (civil_nanos c.args.last.now) c.args.visit.now output
     (string_bytes c.new.result) c.args.url.now (map (λ line. line.items) c.args.lines.now) at at s
     (sym c.if-is_some.ensures) taken c.new.ensures.bytes refl
 
 pub returns-then-is_some-clause-err : goal.returns-then-is_some-clause-err
 returns-then-is_some-clause-err c =
     let answer = map (λ line. line.items) c.args.lines.now in
-    λ key start r output drawn s.
-    open_already drawn c.args.client.now.suffixes key start c.args.client.now.rows r (civil_nanos c.args.last.now)
+    λ ring first start r output drawn s.
+    open_already drawn c.args.client.now.suffixes first start ring c.args.client.now.rows r (civil_nanos
+    c.args.last.now)
     c.args.visit.now output (spec.Receives c.args.url.now answer (civil_nanos c.args.at)) s (c.if-is_some.ensures)
     (open_receive r c.args.url.now answer (civil_nanos c.args.at))

@@ -11,8 +11,8 @@ use Rattle.cookie_run.proofs.script.visit.restart.Goals as goal
 pub returns-in-Ok-clause-ok : goal.returns-in-Ok-clause-ok
 returns-in-Ok-clause-ok c =
     let at = civil_nanos c.args.at.date in
-    λ key start r output drawn s.
-    restarts drawn c.args.client.now.suffixes key start c.args.client.now.rows c.restart.new.self.rows r
+    λ ring first start r output drawn s.
+    restarts drawn c.args.client.now.suffixes first start ring c.args.client.now.rows c.restart.new.self.rows r
     (civil_nanos c.args.last.now) c.args.visit.now output (string_bytes c.new.result) at at s
     (sym c.if-is_some.ensures) c.in-Ok.ensures.ok c.new.ensures.bytes refl
 
@@ -23,7 +23,8 @@ returns-in-Err-clause-err c =
     c.in-Err.ensures.err))
 
 pub returns-then-is_some-clause-err : goal.returns-then-is_some-clause-err
-returns-then-is_some-clause-err c = λ key start r output drawn s.
-    open_already drawn c.args.client.now.suffixes key start c.args.client.now.rows r (civil_nanos c.args.last.now)
+returns-then-is_some-clause-err c = λ ring first start r output drawn s.
+    open_already drawn c.args.client.now.suffixes first start ring c.args.client.now.rows r (civil_nanos
+    c.args.last.now)
     c.args.visit.now output (spec.Restarts (civil_nanos c.args.at.date)) s (c.if-is_some.ensures)
     (open_restart r (civil_nanos c.args.at.date))
