@@ -167,7 +167,7 @@ tells_none now row old none =
 pub is_explained : (form : Form) (rules : Rules) (store copy : Store) (url : Parts) (now : ℤ) (line : List ℕ)
     (handed : Option (List ℕ)) (left : List ℕ) (end : End) (rows : List Row) (none said ended text : List ℕ)
     → none ≡ [] → Appends (SaysLeft rules now line handed) none said → copy ≡ store
-    → TakesLine form rules copy.suffixes copy.rows url now line end rows
+    → TakesLine form rules None copy.suffixes copy.rows url now line end rows
     → ended ≡ said ++ (end_text end ++ rule_text end) → left ≡ left_of handed line
     → Appends (SentAs url now left end rows) ended text → IsExplained form rules store url now line text
 is_explained form rules store copy url now line handed left end rows none said ended text empty (says, is, first) same
@@ -179,7 +179,7 @@ is_explained form rules store copy url now line handed left end rows none said e
       record {
         end = end;
         rows = rows;
-        takes = subst (λ (s : Store). TakesLine form rules s.suffixes s.rows url now line end rows) same takes;
+        takes = subst (λ (s : Store). TakesLine form rules None s.suffixes s.rows url now line end rows) same takes;
         sent = sent;
         sent_as = subst (λ l. SentAs url now l end rows sent) still sends;
         told = refl;

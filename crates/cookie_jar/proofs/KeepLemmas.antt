@@ -131,7 +131,7 @@ pair_clean row clean =
     let both = or_parts (has_control row.raw.cookie.name) (has_control row.raw.cookie.value) texts.0 in
     join_clean row.raw.cookie.name (61 ∷ row.raw.cookie.value) both.0 both.1
 
-all_clean : (rows : List Row) → AllByRecursion IsClean rows → has_control (header_of (map pair_of rows)) ≡ false
+pub all_clean : (rows : List Row) → AllByRecursion IsClean rows → has_control (header_of (map pair_of rows)) ≡ false
 all_clean [] clean = refl
 all_clean (r ∷ []) clean = pair_clean r clean.0
 all_clean (r ∷ s ∷ rs) clean =

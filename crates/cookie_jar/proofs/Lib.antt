@@ -12,5 +12,6 @@ pub mod PlaceLemmas
 pub mod RowLemmas
 pub mod SavingLemmas
 pub mod Shown
+pub mod StartedLemmas
 pub mod TakeLemmas
 pub mod ToldLemmas

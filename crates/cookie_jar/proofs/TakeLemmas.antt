@@ -1,10 +1,11 @@
 -- What a jar does with lines one after another.
-use Rattle.std.proofs.Common.{◌≡◌, ◌∙◌, ◌+◌, ◌<◌, ◌∷◌, [], ◌++◌, ℕ, ℤ, true, false, zero, suc, List, length}
-use Rattle.std.proofs.Common.{take, get_or, sym, refl, ap, subst, inl, inr, Result, Ok, Err, ⊎_elim, arith}
-use Rattle.std.specs.Prelude.{map, IfOk, IfErr}
+use Rattle.std.proofs.Common.{◌≡◌, ◌↔◌, ◌∙◌, ◌+◌, ◌<◌, ◌∷◌, [], ◌++◌, ℕ, ℤ, Bool, true, false, zero, suc, List}
+use Rattle.std.proofs.Common.{Option, Some, None, length, take, get_or, sym, refl, ap, subst, inl, inr, Result, Ok, Err}
+use Rattle.std.proofs.Common.{⊎_elim, arith}
+use Rattle.std.specs.Prelude.{map, IfOk, IfErr, IsTrue}
 use Rattle.std.specs.List.{AllByRecursion}
 use Rattle.std.specs.Str.{IsUtf8}
-use Rattle.std.proofs.lemmas.Bool.{cases_Bool}
+use Rattle.std.proofs.lemmas.Bool.{cases_Bool, false≢true}
 use Rattle.std.proofs.lemmas.List.{take_more, take-map, map-append, length-map}
 use Rattle.cookie_text.specs.Reading.{ReadsPlain}
 use Rattle.cookie_text.specs.Record.{Seen}
@@ -20,36 +21,42 @@ use Rattle.cookie_run.specs.HostRows.{AnswersHoldRightly}
 use Rattle.cookie_run.specs.declared.step.LineEnd.{LineEnd}
 use Rattle.cookie_run.proofs.ClientRows.{received_pairs}
 use Rattle.cookie_run.proofs.FromLines.{inserts_from}
-use Rattle.user_agent.specs.Agent.{AsksForMemory, NoRulesAreTheClient, TakesLine as AgentTakes}
+use Rattle.user_agent.specs.Agent.{AsksForMemory, IsHandedOn, NoRulesAreTheClient, TakesHanded}
+use Rattle.user_agent.specs.Agent.{TakesLine as AgentTakes}
 use Rattle.user_agent.specs.Controls.{FreeLinesRead, FreeLinesStay}
+use Rattle.user_agent.specs.CrossAnswers.{ByRequest, ComesAcross, TakesLineFrom}
+use Rattle.user_agent.specs.declared.cross_answer.OutcomeFor.{OutcomeFor}
+use Rattle.user_agent.specs.declared.cross_answer.OutcomeFor.TheVariants.{Judged, KeptOut as IsKeptOut}
 use Rattle.user_agent.specs.declared.rules.Outcome.{Outcome}
 use Rattle.user_agent.specs.declared.rules.Outcome.TheVariants.{Taken}
 use Rattle.user_agent.specs.declared.rules.Rules.{Rules}
+use Rattle.user_agent.specs.declared.sites.Initiator.{Initiator}
 use Rattle.cookie_jar.specs.Keeping.{AreKept, IsClean, has_control}
 use Rattle.cookie_jar.specs.Laws.{WithoutRules}
-use Rattle.cookie_jar.specs.Taking.{HasControl, IsStopped, StopsAt, TakesAll, TakesLine}
+use Rattle.cookie_jar.specs.Taking.{AgentTakesFrom, HasControl, IsStopped, IsStoppedFor, StopsAt, TakesAll, TakesFor}
+use Rattle.cookie_jar.specs.Taking.{TakesLine}
 use Rattle.cookie_jar.specs.declared.form.Form.{Form}
 use Rattle.cookie_jar.specs.declared.taking.End.{End}
-use Rattle.cookie_jar.specs.declared.taking.End.TheVariants.{Line, Control, Tab}
+use Rattle.cookie_jar.specs.declared.taking.End.TheVariants.{Line, KeptOut, Control, Tab}
 use Rattle.cookie_jar.proofs.ControlLemmas.{made_clean}
 use Rattle.cookie_jar.proofs.KeepLemmas.{clean_of, held_of, kept_from, pairs_of}
 
 -- ---- line by line
 
-all_push : (form : Form) (rules : Rules) (list : List Rule) (rows mid new : List Row) (url : Parts) (now : ℤ)
+all_push : (form : Form) (rules : Rules) (across : Option Bool) (list : List Rule) (rows mid new : List Row) (url : Parts) (now : ℤ)
     (lines : List (List ℕ)) (ends : List End) (line : List ℕ) (end : End)
-    → TakesAll form rules list rows url now lines ends mid
-    → TakesLine form rules list mid url now line end new
-    → TakesAll form rules list rows url now (lines ++ line ∷ []) (ends ++ end ∷ []) new
-all_push form rules list rows mid new url now [] [] line end h a =
-    (new, subst (λ rs. TakesLine form rules list rs url now line end new) h.1 a, (refl, refl))
-all_push form rules list rows mid new url now [] (e ∷ ends) line end h a = absurd (not_nil e ends h.0)
+    → TakesAll form rules across list rows url now lines ends mid
+    → TakesLine form rules across list mid url now line end new
+    → TakesAll form rules across list rows url now (lines ++ line ∷ []) (ends ++ end ∷ []) new
+all_push form rules across list rows mid new url now [] [] line end h a =
+    (new, subst (λ rs. TakesLine form rules across list rs url now line end new) h.1 a, (refl, refl))
+all_push form rules across list rows mid new url now [] (e ∷ ends) line end h a = absurd (not_nil e ends h.0)
   where
     not_nil : (e : End) (es : List End) → e ∷ es ≡ [] → ⊥
     not_nil e es p = cc
-all_push form rules list rows mid new url now (l ∷ lines) [] line end h a = absurd h
-all_push form rules list rows mid new url now (l ∷ lines) (e ∷ ends) line end h a =
-    (h.0, h.1, all_push form rules list h.0 mid new url now lines ends line end h.2 a)
+all_push form rules across list rows mid new url now (l ∷ lines) [] line end h a = absurd h
+all_push form rules across list rows mid new url now (l ∷ lines) (e ∷ ends) line end h a =
+    (h.0, h.1, all_push form rules across list h.0 mid new url now lines ends line end h.2 a)
 
 map_take : {A : Type 0} (f : A → List ℕ) (xs : List A) (i : ℕ) (d : A) → i < length xs
     → take (i + 1) (map f xs) ≡ take i (map f xs) ++ f (get_or xs i d) ∷ []
@@ -63,29 +70,29 @@ map_at f [] i d h = absurd (omega (arith, h))
 map_at f (x ∷ xs) zero d h = refl
 map_at f (x ∷ xs) (suc i) d h = map_at f xs i d (omega arith)
 
-pub next_line : {A : Type 0} (f : A → List ℕ) (form : Form) (rules : Rules) (list : List Rule)
+pub next_line : {A : Type 0} (f : A → List ℕ) (form : Form) (rules : Rules) (across : Option Bool) (list : List Rule)
     (start mid new : List Row) (old ends : List End) (end : End) (url : Parts) (now : ℤ) (xs : List A) (i : ℕ)
-    (d : A) → i < length xs → TakesAll form rules list start url now (take i (map f xs)) old mid
+    (d : A) → i < length xs → TakesAll form rules across list start url now (take i (map f xs)) old mid
     → (here : List Rule) → here ≡ list
-    → TakesLine form rules here mid url now (f (get_or xs i d)) end new → ends ≡ old ++ end ∷ []
-    → TakesAll form rules list start url now (take (i + 1) (map f xs)) ends new
-next_line f form rules list start mid new old ends end url now xs i d h all here same one is =
-    subst (λ es. TakesAll form rules list start url now (take (i + 1) (map f xs)) es new) (sym is)
-    (subst (λ ls. TakesAll form rules list start url now ls (old ++ end ∷ []) new) (sym (map_take f xs i d h))
-    (all_push form rules list start mid new url now (take i (map f xs)) old (f (get_or xs i d)) end all
-    (subst (λ l. TakesLine form rules l mid url now (f (get_or xs i d)) end new) same one)))
+    → TakesLine form rules across here mid url now (f (get_or xs i d)) end new → ends ≡ old ++ end ∷ []
+    → TakesAll form rules across list start url now (take (i + 1) (map f xs)) ends new
+next_line f form rules across list start mid new old ends end url now xs i d h all here same one is =
+    subst (λ es. TakesAll form rules across list start url now (take (i + 1) (map f xs)) es new) (sym is)
+    (subst (λ ls. TakesAll form rules across list start url now ls (old ++ end ∷ []) new) (sym (map_take f xs i d h))
+    (all_push form rules across list start mid new url now (take i (map f xs)) old (f (get_or xs i d)) end all
+    (subst (λ l. TakesLine form rules across l mid url now (f (get_or xs i d)) end new) same one)))
 
-pub stopped_line : {A : Type 0} (f : A → List ℕ) (form : Form) (rules : Rules) (list : List Rule)
+pub stopped_line : {A : Type 0} (f : A → List ℕ) (form : Form) (rules : Rules) (across : Option Bool) (list : List Rule)
     (start mid new : List Row) (old : List End) (url : Parts) (now : ℤ) (xs : List A) (i : ℕ) (d : A) → i < length xs
-    → TakesAll form rules list start url now (take i (map f xs)) old mid → new ≡ mid
+    → TakesAll form rules across list start url now (take i (map f xs)) old mid → new ≡ mid
     → AsksForMemory rules url (f (get_or xs i d))
-    → StopsAt form rules list start url now (map f xs) (i + 1) new
-stopped_line f form rules list start mid new old url now xs i d h all same asks = record {
+    → StopsAt form rules across list start url now (map f xs) (i + 1) new
+stopped_line f form rules across list start mid new old url now xs i d h all same asks = record {
   before = i;
   number = refl;
   within = subst (λ n. i < n) (sym (length-map xs f)) h;
   ends = old;
-  taken = subst (TakesAll form rules list start url now (take i (map f xs)) old) (sym same) all;
+  taken = subst (TakesAll form rules across list start url now (take i (map f xs)) old) (sym same) all;
   asks = subst (AsksForMemory rules url) (sym (map_at f xs i d h)) asks;
 }
 
@@ -120,7 +127,7 @@ module _ (read : FreeLinesRead) (list : List Rule) (url : Parts) (valid : IsVali
 -- ---- the rows behind lines are kept
 
 module _ (law : AnswersHoldRightly) (stay : FreeLinesStay) (read : FreeLinesRead) (form : Form) (rules : Rules)
-    (list : List Rule) (url : Parts) (valid : IsValid url) (now : ℤ) where
+    (across : Option Bool) (list : List Rule) (url : Parts) (valid : IsValid url) (now : ℤ) where
   accepts_kept : (line : List ℕ) (rows : List Row) (end : LineEnd) (new : List Row) → has_control line ≡ false
       → AreKept rows → Accepts list rows url now line end new → AreKept new
   accepts_kept line rows end new free kept accepts = kept_from new
@@ -128,37 +135,99 @@ module _ (law : AnswersHoldRightly) (stay : FreeLinesStay) (read : FreeLinesRead
       (received_pairs list url now (line ∷ []) rows (end ∷ []) new (pairs_of rows kept) (new, accepts, (refl, refl)))
       (law list rows url now (line ∷ []) new (end ∷ [], (new, accepts, (refl, refl))) (held_of rows kept))
 
+  handed_kept : (line handed : List ℕ) (rows : List Row) (outcome : Outcome) (new : List Row)
+      → has_control line ≡ false → AreKept rows → IsHandedOn rules now line handed
+      → TakesHanded rules list rows url now handed outcome new → AreKept new
+  handed_kept line handed rows outcome new free kept is (inl (rule, refused, told, same)) =
+      subst AreKept (sym same) kept
+  handed_kept line handed rows outcome new free kept is (inr (let_in, (end, accepts, told))) =
+      accepts_kept handed rows end new (stay rules now line handed free is) kept accepts
+
   agent_kept : (line : List ℕ) (rows : List Row) (outcome : Outcome) (new : List Row) → has_control line ≡ false
       → AreKept rows → AgentTakes rules list rows url now line outcome new → AreKept new
   agent_kept line rows outcome new free kept (inl (stopped, is, same)) = subst AreKept (sym same) kept
-  agent_kept line rows outcome new free kept (inr (passed, (handed, is, inl (rule, refused, told, same)))) =
+  agent_kept line rows outcome new free kept (inr (passed, (handed, is, takes))) =
+      handed_kept line handed rows outcome new free kept is takes
+
+  -- where it is said whether the answer comes across sites
+  across_kept : (b : Bool) (line : List ℕ) (rows : List Row) (outcome : OutcomeFor) (new : List Row)
+      → has_control line ≡ false → AreKept rows → TakesLineFrom rules b list rows url now line outcome new
+      → AreKept new
+  across_kept b line rows outcome new free kept (inl (stopped, is, same)) = subst AreKept (sym same) kept
+  across_kept b line rows outcome new free kept (inr (passed, (handed, is, inl (cause, out, told, same)))) =
       subst AreKept (sym same) kept
-  agent_kept line rows outcome new free kept (inr (passed, (handed, is, inr (let_in, (end, accepts, told))))) =
-      accepts_kept handed rows end new (stay rules now line handed free is) kept accepts
+  across_kept b line rows outcome new free kept (inr (passed, (handed, is, inr (may, (judged, takes, told))))) =
+      handed_kept line handed rows judged new free kept is takes
+
+  from_kept : (o : Option Bool) (line : List ℕ) (rows : List Row) (outcome : OutcomeFor) (new : List Row)
+      → has_control line ≡ false → AreKept rows → AgentTakesFrom rules o list rows url now line outcome new
+      → AreKept new
+  from_kept (Some b) line rows outcome new free kept takes = across_kept b line rows outcome new free kept takes
+  from_kept None line rows (Judged outcome) new free kept takes = agent_kept line rows outcome new free kept takes
+  from_kept None line rows (IsKeptOut cause) new free kept takes = absurd takes
 
   line_kept : (line : List ℕ) (rows : List Row) (end : End) (new : List Row) → AreKept rows
-      → TakesLine form rules list rows url now line end new → AreKept new
+      → TakesLine form rules across list rows url now line end new → AreKept new
   line_kept line rows Control new kept takes = subst AreKept (sym takes.1) kept
   line_kept line rows Tab new kept takes = subst AreKept (sym takes.2) kept
   line_kept line rows (Line outcome changes) new kept takes =
-      agent_kept line rows outcome new (free_of line takes.0) kept takes.2
+      from_kept across line rows (Judged outcome) new (free_of line takes.0) kept takes.2
+  line_kept line rows (KeptOut cause) new kept takes =
+      from_kept across line rows (IsKeptOut cause) new (free_of line takes.0) kept takes.2
 
   all_kept : (lines : List (List ℕ)) (rows : List Row) (ends : List End) (new : List Row) → AreKept rows
-      → TakesAll form rules list rows url now lines ends new → AreKept new
+      → TakesAll form rules across list rows url now lines ends new → AreKept new
   all_kept [] rows ends new kept takes = subst AreKept (sym takes.1) kept
   all_kept (line ∷ lines) rows [] new kept takes = absurd takes
   all_kept (line ∷ lines) rows (end ∷ ends) new kept takes =
       all_kept lines takes.0 ends new (line_kept line rows end takes.0 kept takes.1) takes.2
 
+  stopped_kept : (lines : List (List ℕ)) (rows : List Row) (n : ℕ) (new : List Row) → AreKept rows
+      → IsStopped form rules across list rows url now lines n new → AreKept new
+  stopped_kept lines rows n new kept (inl none) = subst AreKept (sym none.1) kept
+  stopped_kept lines rows n new kept (inr stops) =
+      all_kept (take stops.before lines) rows stops.ends new kept stops.taken
+
   -- however receiving ended
   pub received_kept : {A B : Type 0} (r : Result A B) (all : A → List End) (at : B → ℕ) (lines : List (List ℕ))
       (rows new : List Row) → AreKept rows
-      → IfOk r (λ ends. TakesAll form rules list rows url now lines (all ends) new)
-      → IfErr r (λ stopped. IsStopped form rules list rows url now lines (at stopped) new) → AreKept new
+      → IfOk r (λ ends. TakesAll form rules across list rows url now lines (all ends) new)
+      → IfErr r (λ stopped. IsStopped form rules across list rows url now lines (at stopped) new) → AreKept new
   received_kept (Ok ends) all at lines rows new kept h g = all_kept lines rows (all ends) new kept h
-  received_kept (Err stopped) all at lines rows new kept h (inl none) = subst AreKept (sym none.1) kept
-  received_kept (Err stopped) all at lines rows new kept h (inr stops) =
-      all_kept (take stops.before lines) rows stops.ends new kept stops.taken
+  received_kept (Err stopped) all at lines rows new kept h g = stopped_kept lines rows (at stopped) new kept g
+
+-- ---- by what started the request
+
+module _ (law : AnswersHoldRightly) (stay : FreeLinesStay) (read : FreeLinesRead) (form : Form) (rules : Rules)
+    (list : List Rule) (url : Parts) (valid : IsValid url) (now : ℤ) (initiator : Initiator) where
+  pub received_kept_for : {A B : Type 0} (r : Result A B) (all : A → List End) (at : B → ℕ) (lines : List (List ℕ))
+      (rows new : List Row) → AreKept rows
+      → IfOk r (λ ends. TakesFor form rules list rows url initiator now lines (all ends) new)
+      → IfErr r (λ stopped. IsStoppedFor form rules list rows url initiator now lines (at stopped) new) → AreKept new
+  received_kept_for (Ok ends) all at lines rows new kept (inl takes) g =
+      all_kept law stay read form rules (Some true) list url valid now lines rows (all ends) new kept takes.1
+  received_kept_for (Ok ends) all at lines rows new kept (inr takes) g =
+      all_kept law stay read form rules (Some false) list url valid now lines rows (all ends) new kept takes.1
+  received_kept_for (Err stopped) all at lines rows new kept h (inl stops) =
+      stopped_kept law stay read form rules (Some true) list url valid now lines rows (at stopped) new kept stops.1
+  received_kept_for (Err stopped) all at lines rows new kept h (inr stops) =
+      stopped_kept law stay read form rules (Some false) list url valid now lines rows (at stopped) new kept stops.1
+
+module _ (across : Bool) (list : List Rule) (url : Parts) (initiator : Initiator)
+    (is : IsTrue across ↔ ComesAcross list url initiator) where
+  by_request : (b : Bool) → across ≡ b → (Holds : Bool → Type 0) → Holds b → ByRequest list url initiator Holds
+  by_request true e Holds h = inl (is.0 e, h)
+  by_request false e Holds h = inr ((λ comes. false≢true (sym e ∙ is.1 comes)), h)
+
+  pub ok_by_request : {A E : Type 0} (r : Result A E) (Holds : Bool → A → Type 0) → IfOk r (Holds across)
+      → IfOk r (λ x. ByRequest list url initiator (λ b. Holds b x))
+  ok_by_request (Ok x) Holds h = by_request across refl (λ b. Holds b x) h
+  ok_by_request (Err e) Holds h = tt
+
+  pub err_by_request : {A E : Type 0} (r : Result A E) (Holds : Bool → E → Type 0) → IfErr r (Holds across)
+      → IfErr r (λ x. ByRequest list url initiator (λ b. Holds b x))
+  err_by_request (Ok x) Holds h = tt
+  err_by_request (Err e) Holds h = by_request across refl (λ b. Holds b e) h
 
 -- ---- without rules
 

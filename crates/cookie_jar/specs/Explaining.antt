@@ -21,6 +21,8 @@ use Rattle.cookies_txt.specs.Layout.{when}
 use Rattle.cookies_txt.specs.Writing.{is_suffix}
 use Rattle.cookie_run.specs.declared.step.LineEnd.{LineEnd}
 use Rattle.cookie_run.specs.declared.step.LineEnd.TheVariants.{Stored, Refused, NotText, HostPrefix}
+use Rattle.user_agent.specs.declared.cross_answer.SiteRefusal.{SiteRefusal}
+use Rattle.user_agent.specs.declared.cross_answer.SiteRefusal.TheVariants.{CrossSite, NoneLacksSecure}
 use Rattle.user_agent.specs.declared.rules.Outcome.{Outcome}
 use Rattle.user_agent.specs.declared.rules.Outcome.TheVariants as outcome
 use Rattle.user_agent.specs.declared.rules.Refusal.{Refusal}
@@ -32,7 +34,7 @@ use Rattle.cookie_jar.specs.Taking.{TakesLine}
 use Rattle.cookie_jar.specs.Told.{end_text, shown}
 use Rattle.cookie_jar.specs.declared.form.Form.{Form}
 use Rattle.cookie_jar.specs.declared.taking.End.{End}
-use Rattle.cookie_jar.specs.declared.taking.End.TheVariants.{Line, Control, Tab}
+use Rattle.cookie_jar.specs.declared.taking.End.TheVariants.{Line, KeptOut, Control, Tab}
 
 -- ---- what the line says
 
@@ -114,9 +116,14 @@ abbrev pub outcome_rule : Outcome → List ℕ
 outcome_rule (outcome.Taken end) = line_end_rule end
 outcome_rule (outcome.Refused rule) = refusal_rule rule
 
+abbrev pub site_rule : SiteRefusal → List ℕ
+site_rule CrossSite = codes " (draft-ietf-httpbis-rfc6265bis, section 5.7, step 18)\n"
+site_rule NoneLacksSecure = codes " (draft-ietf-httpbis-rfc6265bis, section 5.7, step 19)\n"
+
 -- by which rule it became so
 abbrev pub rule_text : End → List ℕ
 rule_text (Line outcome changes) = outcome_rule outcome
+rule_text (KeptOut cause) = site_rule cause
 rule_text Control = codes " (draft-ietf-httpbis-rfc6265bis, section 5.6, step 1)\n"
 rule_text Tab = codes " (a rule of this jar: cookies.txt parts its fields by tabs)\n"
 
@@ -175,6 +182,7 @@ SentAs url now line (Line (outcome.Taken (Refused cause)) changes) rows text = t
 SentAs url now line (Line (outcome.Taken NotText) changes) rows text = text ≡ []
 SentAs url now line (Line (outcome.Taken HostPrefix) changes) rows text = text ≡ []
 SentAs url now line (Line (outcome.Refused rule) changes) rows text = text ≡ []
+SentAs url now line (KeptOut cause) rows text = text ≡ []
 SentAs url now line Control rows text = text ≡ []
 SentAs url now line Tab rows text = text ≡ []
 
@@ -186,7 +194,7 @@ pub record Becomes (form : Form) (rules : Rules) (store : Store) (url : Parts) (
     (line handed text : List ℕ) : Type 0 where
   pub end : End
   pub rows : List Row
-  pub takes : TakesLine form rules store.suffixes store.rows url now line end rows
+  pub takes : TakesLine form rules None store.suffixes store.rows url now line end rows
   pub sent : List ℕ
   pub sent_as : SentAs url now handed end rows sent
   pub told : text ≡ end_text end ++ (rule_text end ++ sent)

@@ -10,12 +10,14 @@ use Rattle.store_parts.specs.declared.error.CookieError.TheVariants as cause
 use Rattle.cookie_run.specs.declared.step.LineEnd.{LineEnd}
 use Rattle.cookie_run.specs.declared.step.LineEnd.TheVariants.{Stored, Refused, NotText, HostPrefix}
 use Rattle.user_agent.specs.declared.changes.Changes.{Changes}
+use Rattle.user_agent.specs.declared.cross_answer.SiteRefusal.{SiteRefusal}
+use Rattle.user_agent.specs.declared.cross_answer.SiteRefusal.TheVariants.{CrossSite, NoneLacksSecure}
 use Rattle.user_agent.specs.declared.rules.Outcome.{Outcome}
 use Rattle.user_agent.specs.declared.rules.Outcome.TheVariants as outcome
 use Rattle.user_agent.specs.declared.rules.Refusal.{Refusal}
 use Rattle.user_agent.specs.declared.rules.Refusal.TheVariants as rule
 use Rattle.cookie_jar.specs.declared.taking.End.{End}
-use Rattle.cookie_jar.specs.declared.taking.End.TheVariants.{Line, Control, Tab}
+use Rattle.cookie_jar.specs.declared.taking.End.TheVariants.{Line, KeptOut, Control, Tab}
 
 -- ---- a header
 
@@ -70,9 +72,15 @@ abbrev pub outcome_text : Outcome → List ℕ
 outcome_text (outcome.Taken end) = line_end_text end
 outcome_text (outcome.Refused rule) = refusal_text rule
 
+-- why an answer may not set what it reads as
+abbrev pub site_text : SiteRefusal → List ℕ
+site_text CrossSite = codes "refused: SameSite"
+site_text NoneLacksSecure = codes "refused: SameSite=None, not Secure"
+
 -- what became of a line
 abbrev pub end_text : End → List ℕ
 end_text (Line outcome changes) = outcome_text outcome
+end_text (KeptOut cause) = site_text cause
 end_text Control = codes "refused: control character"
 end_text Tab = codes "refused: tab"
 
@@ -92,6 +100,7 @@ changes_text changes = names_text changes.long_attributes changes.dates changes.
 
 abbrev pub rules_text : End → List ℕ
 rules_text (Line outcome changes) = changes_text changes
+rules_text (KeptOut cause) = []
 rules_text Control = []
 rules_text Tab = []
 
@@ -112,5 +121,6 @@ is_refused (Line (outcome.Taken (Refused cause)) changes) = true
 is_refused (Line (outcome.Taken NotText) changes) = true
 is_refused (Line (outcome.Taken HostPrefix) changes) = true
 is_refused (Line (outcome.Refused rule) changes) = true
+is_refused (KeptOut cause) = true
 is_refused Control = true
 is_refused Tab = true

@@ -23,7 +23,7 @@ use jiff::civil::DateTime;
 use line_report::{Judgement, PairFault, Piece, pair, pieces};
 use std::alloc::{AllocError, Global};
 use url::Url;
-use user_agent::{Outcome, Refusal, Rules, SecurePlaces};
+use user_agent::{Outcome, Refusal, Rules, SecurePlaces, SiteRefusal};
 
 /// Which rules change the line, what it says then, what would become of it at `now` in the store of a jar of this form
 /// behind these rules and by which rule, and which requests would get it.
@@ -47,7 +47,7 @@ pub(crate) fn explained(
     let handed = push_said(alloc, &mut text, rules, line, now)?;
     let mut copy = store.clone()?;
     let secure = SecurePlaces::none();
-    let end = take_line(alloc, &mut copy, form, rules, &secure, url, line, now)?;
+    let end = take_line(alloc, &mut copy, form, rules, None, &secure, url, line, now)?;
     push_end(&mut text, end)?;
     let left = left_of(&handed, line);
     push_sent(alloc, &mut text, &copy, url, left, end, now)?;
@@ -173,6 +173,7 @@ fn rule_text(end: End) -> &'static str
 {
     match end {
         End::Line(outcome, _) => outcome_rule(outcome),
+        End::KeptOut(cause) => site_rule(cause),
         End::Control => " (draft-ietf-httpbis-rfc6265bis, section 5.6, step 1)\n",
         End::Tab => " (a rule of this jar: cookies.txt parts its fields by tabs)\n",
     }
@@ -184,6 +185,15 @@ fn outcome_rule(outcome: Outcome) -> &'static str
     match outcome {
         Outcome::Taken(end) => line_end_rule(end),
         Outcome::Refused(rule) => refusal_rule(rule),
+    }
+}
+
+fn site_rule(cause: SiteRefusal) -> &'static str
+    ensures { result.now ≡ spec.site_rule cause }
+{
+    match cause {
+        SiteRefusal::CrossSite => " (draft-ietf-httpbis-rfc6265bis, section 5.7, step 18)\n",
+        SiteRefusal::NoneLacksSecure => " (draft-ietf-httpbis-rfc6265bis, section 5.7, step 19)\n",
     }
 }
 

@@ -1,6 +1,6 @@
 //! A jar: a store whose rows can be sent, saved and read again, with what the commands of a shell do to it.
 ghost use Rattle.std.specs.Prelude.{◌≡◌, ◌+◌, ◌++◌, [], false, true, IfOk, IfErr, OnErr, is_some, length, map, IsTrue};
-ghost use Rattle.std.specs.Prelude.{option_map, string_bytes};
+ghost use Rattle.std.specs.Prelude.{None, option_map, string_bytes};
 ghost use Rattle.std.specs.List.{list_all};
 ghost use Rattle.std.specs.Str.{IsUtf8};
 ghost use Rattle.jiff.specs.Words.{civil_nanos};
@@ -9,6 +9,7 @@ ghost use Rattle.cookie_store.specs.Longest.{AreGivenLongest};
 ghost use Rattle.cookie_store.specs.Placing.{loaded};
 ghost use Rattle.cookie_store.specs.Rows.{Store, found, is_live, key, live, removed};
 ghost use Rattle.cookie_run.specs.Header.{IsHeader};
+ghost use Rattle.user_agent.specs.CrossSite.{IsHeaderFor};
 ghost use Rattle.cookies_txt.specs.Layout.{text_for};
 ghost use Rattle.cookies_txt.specs.Writing.{held, line_of_row};
 ghost use Rattle.cookie_jar.specs.Asking as asked;
@@ -36,7 +37,7 @@ use crate::listing::listing;
 use crate::reading::read;
 use crate::rows::{live_rows, placed, rows_of, rows_with};
 use crate::saving::{Exported, lines_for, text_of};
-use crate::taking::{End, take_all};
+use crate::taking::{End, take_all, take_for};
 use crate::told::header_line;
 use cookie_run::Stopped;
 use cookie_run::client::header_of;
@@ -48,8 +49,9 @@ use publicsuffix::List;
 use std::alloc::{AllocError, Global};
 use std::marker::Model;
 use url::Url;
-use user_agent::Rules;
+use user_agent::cross_site::store_header_for;
 use user_agent::laws::no_control_comes;
+use user_agent::{Initiator, Rules};
 
 /// A jar, which contracts see as its store: the rows in their order, and the list of public suffixes.
 ///
@@ -252,6 +254,27 @@ impl Jar {
         header_line(self.alloc, header.as_str())
     }
 
+    /// The same line of a request that is started so, behind these rules, as [`user_agent::UserAgent::header_for`] has
+    /// its header: to a page of another site it leaves out the cookies that their `SameSite` keeps at home.
+    ///
+    /// # Errors
+    ///
+    /// Those of [`Jar::header`].
+    pub fn header_for(
+        &self,
+        rules: &Rules,
+        url: &Url,
+        initiator: &Initiator<'_>,
+        now: DateTime,
+    ) -> Result<String, AllocError>
+        ensures { IfOk result (λ line. (header : _) × IsHeaderFor rules.now self.now.suffixes self.now.rows url.now
+            initiator.now (civil_nanos now) header
+            × (string_bytes line ≡ told.header_line header) × (has_control header ≡ false)) }
+    {
+        let header = store_header_for(self.alloc, self.store(), rules, url, initiator, now)?;
+        header_line(self.alloc, header.as_str())
+    }
+
     /// Takes the `Set-Cookie` lines of an answer from this URL at `now`, one after another, and says what became of
     /// each, as [`user_agent::UserAgent::receive`] does behind these rules. Before them a line with a control character
     /// is refused, and one with a tab where the jar is to be saved as `cookies.txt`. Without a rule any other line is
@@ -269,10 +292,10 @@ impl Jar {
         lines: &[&[u8]],
         now: DateTime,
     ) -> Result<Vec<End>, Stopped>
-        ensures all { IfOk result (λ ends. take.TakesAll form rules.now self.old.suffixes self.old.rows url.now
+        ensures all { IfOk result (λ ends. take.TakesAll form rules.now None self.old.suffixes self.old.rows url.now
             (civil_nanos now) (map (λ line. line.now) lines.now) ends.items self.new.rows) }
-        ensures stopped { IfErr result (λ stopped. take.IsStopped form rules.now self.old.suffixes self.old.rows url.now
-            (civil_nanos now) (map (λ line. line.now) lines.now) stopped.0 self.new.rows) }
+        ensures stopped { IfErr result (λ stopped. take.IsStopped form rules.now None self.old.suffixes self.old.rows
+            url.now (civil_nanos now) (map (λ line. line.now) lines.now) stopped.0 self.new.rows) }
         ensures list { self.new.suffixes ≡ self.old.suffixes }
         ensures kept { AreKept self.new.rows }
     {
@@ -280,7 +303,47 @@ impl Jar {
         no_control_comes();
         // A URL that was parsed is valid, whatever is done with it.
         let _path = url.path();
-        take_all(self.alloc, &mut self.store, form, rules, url, lines, now)
+        let alloc = self.alloc;
+        take_all(alloc, &mut self.store, form, rules, None, url, lines, now)
+    }
+
+    /// The same of an answer to a request that is started so, as [`user_agent::UserAgent::receive_for`] has it: where
+    /// that comes across sites, it sets no cookie that its `SameSite` keeps out.
+    ///
+    /// # Errors
+    ///
+    /// Those of [`Jar::receive`].
+    pub fn receive_for(
+        &mut self,
+        form: Form,
+        rules: &Rules,
+        url: &Url,
+        initiator: &Initiator<'_>,
+        lines: &[&[u8]],
+        now: DateTime,
+    ) -> Result<Vec<End>, Stopped>
+        ensures all { IfOk result (λ ends. take.TakesFor form rules.now self.old.suffixes self.old.rows url.now
+            initiator.now (civil_nanos now) (map (λ line. line.now) lines.now) ends.items self.new.rows) }
+        ensures stopped { IfErr result (λ stopped. take.IsStoppedFor form rules.now self.old.suffixes self.old.rows
+            url.now initiator.now (civil_nanos now) (map (λ line. line.now) lines.now) stopped.0 self.new.rows) }
+        ensures list { self.new.suffixes ≡ self.old.suffixes }
+        ensures kept { AreKept self.new.rows }
+    {
+        host_rows_are_held_rightly();
+        no_control_comes();
+        // A URL that was parsed is valid, whatever is done with it.
+        let _path = url.path();
+        let alloc = self.alloc;
+        take_for(
+            alloc,
+            &mut self.store,
+            form,
+            rules,
+            url,
+            initiator,
+            lines,
+            now,
+        )
     }
 
     /// The value of the first cookie of this name that a request to this URL gets at `now`, with longer paths first, as

@@ -2,6 +2,7 @@
 ghost use Rattle.std.specs.Prelude.{◌≡◌, IfOk, IfErr, OnErr, map};
 ghost use Rattle.jiff.specs.Words.{civil_nanos};
 ghost use Rattle.user_agent.specs.Agent.{AsksForMemory};
+ghost use Rattle.user_agent.specs.Changes.{AreChanges};
 ghost use Rattle.user_agent.specs.SecurePlaces.{ArePlacesOf};
 ghost use Rattle.cookie_jar.specs.Taking as spec;
 
@@ -12,13 +13,19 @@ use cookie_store::CookieStore;
 use jiff::civil::DateTime;
 use std::alloc::{AllocError, Global};
 use url::Url;
-use user_agent::{Changes, Outcome, Rules, SecurePlaces, accept_line_told};
+use user_agent::cross_answer::comes_across;
+use user_agent::{
+    Changes, Initiator, Outcome, OutcomeFor, Rules, SecurePlaces, SiteRefusal, accept_line_from,
+    accept_line_told,
+};
 
 /// What became of a line in a jar.
 #[derive(Clone, Copy, Debug, PartialEq, Eq)]
 pub enum End {
     /// It went as a user agent takes it, behind the changes of these rules.
     Line(Outcome, Changes),
+    /// Its answer may not set it, by its `SameSite` and what started the request. Nothing changed.
+    KeptOut(SiteRefusal),
     /// A control character, which is a byte below 32 but the tab, or 127, stands in it. Nothing changed.
     Control,
     /// A tab stands in it, and the jar is to be saved as `cookies.txt`, which parts its fields by tabs. Nothing
@@ -27,7 +34,7 @@ pub enum End {
 }
 
 /// Takes the lines of an answer from this URL at `now` into the store of a jar that is to be saved in this form, one
-/// after another, each behind these rules.
+/// after another, each behind these rules; `across` is whether it comes across sites, where that is said.
 ///
 /// # Errors
 ///
@@ -38,20 +45,46 @@ pub(crate) fn take_all(
     store: &mut CookieStore,
     form: Form,
     rules: &Rules,
+    across: Option<bool>,
     url: &Url,
     lines: &[&[u8]],
     now: DateTime,
 ) -> Result<Vec<End>, Stopped>
-    ensures all { IfOk result (λ ends. spec.TakesAll form rules.now store.old.suffixes store.old.rows url.now
+    ensures all { IfOk result (λ ends. spec.TakesAll form rules.now across store.old.suffixes store.old.rows url.now
         (civil_nanos now) (map (λ line. line.now) lines.now) ends.items store.new.rows) }
-    ensures stopped { IfErr result (λ stopped. spec.IsStopped form rules.now store.old.suffixes store.old.rows url.now
+    ensures stopped { IfErr result (λ stopped. spec.IsStopped form rules.now across store.old.suffixes store.old.rows url.now
         (civil_nanos now) (map (λ line. line.now) lines.now) stopped.0 store.new.rows) }
     ensures list { store.new.suffixes ≡ store.old.suffixes }
 {
     let Ok(secure) = SecurePlaces::of(alloc, store, rules, url, lines.len(), now) else {
         return Err(Stopped(0));
     };
-    take_beside(alloc, store, form, rules, &secure, url, lines, now)
+    take_beside(alloc, store, form, rules, across, &secure, url, lines, now)
+}
+
+/// The same of an answer to a request that is started so.
+///
+/// # Errors
+///
+/// Those of [`take_all`].
+pub(crate) fn take_for(
+    alloc: Global,
+    store: &mut CookieStore,
+    form: Form,
+    rules: &Rules,
+    url: &Url,
+    initiator: &Initiator<'_>,
+    lines: &[&[u8]],
+    now: DateTime,
+) -> Result<Vec<End>, Stopped>
+    ensures all { IfOk result (λ ends. spec.TakesFor form rules.now store.old.suffixes store.old.rows url.now
+        initiator.now (civil_nanos now) (map (λ line. line.now) lines.now) ends.items store.new.rows) }
+    ensures stopped { IfErr result (λ stopped. spec.IsStoppedFor form rules.now store.old.suffixes store.old.rows
+        url.now initiator.now (civil_nanos now) (map (λ line. line.now) lines.now) stopped.0 store.new.rows) }
+    ensures list { store.new.suffixes ≡ store.old.suffixes }
+{
+    let across = comes_across(store, url, initiator);
+    take_all(alloc, store, form, rules, Some(across), url, lines, now)
 }
 
 // The same where the Secure rows stand at these places.
@@ -60,15 +93,16 @@ fn take_beside(
     store: &mut CookieStore,
     form: Form,
     rules: &Rules,
+    across: Option<bool>,
     secure: &SecurePlaces,
     url: &Url,
     lines: &[&[u8]],
     now: DateTime,
 ) -> Result<Vec<End>, Stopped>
     requires { ArePlacesOf secure.now rules.now url.now (civil_nanos now) store.old.rows }
-    ensures all { IfOk result (λ ends. spec.TakesAll form rules.now store.old.suffixes store.old.rows url.now
+    ensures all { IfOk result (λ ends. spec.TakesAll form rules.now across store.old.suffixes store.old.rows url.now
         (civil_nanos now) (map (λ line. line.now) lines.now) ends.items store.new.rows) }
-    ensures stopped { IfErr result (λ stopped. spec.IsStopped form rules.now store.old.suffixes store.old.rows url.now
+    ensures stopped { IfErr result (λ stopped. spec.IsStopped form rules.now across store.old.suffixes store.old.rows url.now
         (civil_nanos now) (map (λ line. line.now) lines.now) stopped.0 store.new.rows) }
     ensures list { store.new.suffixes ≡ store.old.suffixes }
 {
@@ -76,7 +110,7 @@ fn take_beside(
         return Err(Stopped(0));
     };
     for (i, line) in lines.iter().enumerate() {
-        match take_line(alloc, store, form, rules, secure, url, line, now) {
+        match take_line(alloc, store, form, rules, across, secure, url, line, now) {
             // There is room for one end a line, so this push is not refused.
             Ok(end) => match ends.push(end) {
                 Ok(()) => {}
@@ -98,13 +132,14 @@ pub(crate) fn take_line(
     store: &mut CookieStore,
     form: Form,
     rules: &Rules,
+    across: Option<bool>,
     secure: &SecurePlaces,
     url: &Url,
     line: &[u8],
     now: DateTime,
 ) -> Result<End, AllocError>
     requires { ArePlacesOf secure.now rules.now url.now (civil_nanos now) store.old.rows }
-    ensures ok { IfOk result (λ end. spec.TakesLine form rules.now store.old.suffixes store.old.rows url.now
+    ensures ok { IfOk result (λ end. spec.TakesLine form rules.now across store.old.suffixes store.old.rows url.now
         (civil_nanos now) line.now end store.new.rows) }
     ensures err { OnErr result ((store.new.rows ≡ store.old.rows) × AsksForMemory rules.now url.now line.now) }
     ensures list { store.new.suffixes ≡ store.old.suffixes }
@@ -116,8 +151,37 @@ pub(crate) fn take_line(
     if parts_by_tabs(form) && has_tab(line) {
         return Ok(End::Tab);
     }
+    match take_by_rules(alloc, store, rules, across, secure, url, line, now) {
+        Ok((OutcomeFor::Judged(outcome), changes)) => Ok(End::Line(outcome, changes)),
+        Ok((OutcomeFor::KeptOut(cause), _)) => Ok(End::KeptOut(cause)),
+        Err(refused) => Err(refused),
+    }
+}
+
+// Takes one line that the jar itself doesn't refuse.
+fn take_by_rules(
+    alloc: Global,
+    store: &mut CookieStore,
+    rules: &Rules,
+    across: Option<bool>,
+    secure: &SecurePlaces,
+    url: &Url,
+    line: &[u8],
+    now: DateTime,
+) -> Result<(OutcomeFor, Changes), AllocError>
+    requires { ArePlacesOf secure.now rules.now url.now (civil_nanos now) store.old.rows }
+    ensures ok { IfOk result (λ told. spec.AgentTakesFrom rules.now across store.old.suffixes store.old.rows url.now
+        (civil_nanos now) line.now told.0 store.new.rows) }
+    ensures changes { IfOk result (λ told. AreChanges rules.now (civil_nanos now) line.now told.1) }
+    ensures err { OnErr result ((store.new.rows ≡ store.old.rows) × AsksForMemory rules.now url.now line.now) }
+    ensures list { store.new.suffixes ≡ store.old.suffixes }
+    ensures places { ArePlacesOf secure.now rules.now url.now (civil_nanos now) store.new.rows }
+{
+    if let Some(across) = across {
+        return accept_line_from(alloc, store, rules, across, secure, url, line, now);
+    }
     match accept_line_told(alloc, store, rules, secure, url, line, now) {
-        Ok((outcome, changes)) => Ok(End::Line(outcome, changes)),
+        Ok((outcome, changes)) => Ok((OutcomeFor::Judged(outcome), changes)),
         Err(refused) => Err(refused),
     }
 }

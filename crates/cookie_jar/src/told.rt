@@ -7,7 +7,7 @@ use cookie_run::LineEnd;
 use cookie_store::{CookieError, StoreAction};
 use percent_encoding::{AsciiSet, CONTROLS, ascii_set, percent_encode};
 use std::alloc::{AllocError, Global};
-use user_agent::{Changes, Outcome, Refusal};
+use user_agent::{Changes, Outcome, Refusal, SiteRefusal};
 
 /// The bytes that are escaped in what is printed: all but printable ASCII, and `%`.
 pub(crate) const HIDDEN: AsciiSet = ascii_set!(CONTROLS.add(b'%'));
@@ -81,6 +81,7 @@ pub(crate) fn end_text(end: End) -> &'static str
 {
     match end {
         End::Line(outcome, _) => outcome_text(outcome),
+        End::KeptOut(cause) => site_text(cause),
         End::Control => "refused: control character",
         End::Tab => "refused: tab",
     }
@@ -92,7 +93,7 @@ fn rules_text(end: End) -> &'static str
 {
     match end {
         End::Line(_, changes) => changes_text(changes),
-        End::Control | End::Tab => "",
+        End::KeptOut(_) | End::Control | End::Tab => "",
     }
 }
 
@@ -117,6 +118,15 @@ fn outcome_text(outcome: Outcome) -> &'static str
     match outcome {
         Outcome::Taken(end) => line_end_text(end),
         Outcome::Refused(rule) => refusal_text(rule),
+    }
+}
+
+fn site_text(cause: SiteRefusal) -> &'static str
+    ensures { result.now ≡ spec.site_text cause }
+{
+    match cause {
+        SiteRefusal::CrossSite => "refused: SameSite",
+        SiteRefusal::NoneLacksSecure => "refused: SameSite=None, not Secure",
     }
 }
 

@@ -11,13 +11,15 @@ use Rattle.jar_commands.specs.Receiving.{TakesHeads}
 use Rattle.jar_commands.specs.Steps.{FailsToTake}
 use Rattle.jar_commands.specs.declared.failure.Failure.{Failure}
 use Rattle.jar_commands.specs.declared.failure.Failure.TheVariants.{Memory}
+use Rattle.jar_commands.specs.declared.plan.Start.{Start}
 
 -- behind heads that were taken
-pub heads_unkept : (plan : PlanText) (jar : Store) (url : Parts) (text told : List ℕ) (refused : Bool) (new : List Row)
-    (failure : Failure) → TakesHeads plan.is_verbose plan.form plan.rules jar plan.now url text told refused new
-    → (failure ≡ Memory) ⊎ Unkept plan new failure → FailsToTake plan jar url text failure
-heads_unkept plan jar url text told refused new failure takes (inl memory) = inl memory
-heads_unkept plan jar url text told refused new failure takes (inr unkept) =
+pub heads_unkept : (plan : PlanText) (jar : Store) (url : Parts) (start : Start) (text told : List ℕ) (refused : Bool)
+    (new : List Row) (failure : Failure)
+    → TakesHeads plan.is_verbose plan.form plan.rules start jar plan.now url text told refused new
+    → (failure ≡ Memory) ⊎ Unkept plan new failure → FailsToTake plan jar url start text failure
+heads_unkept plan jar url start text told refused new failure takes (inl memory) = inl memory
+heads_unkept plan jar url start text told refused new failure takes (inr unkept) =
     inr (inr (told, refused, new, takes, unkept))
 
 -- behind an import

@@ -6,5 +6,6 @@ pub mod PlanLemmas
 pub mod PrintLemmas
 pub mod RuleLemmas
 pub mod ServeLemmas
+pub mod StartedLemmas
 pub mod TellLemmas
 pub mod VisitLemmas

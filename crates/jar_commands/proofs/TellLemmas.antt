@@ -3,7 +3,6 @@ use Rattle.std.proofs.Common.{◌≡◌, ◌++◌, ℕ, Bool, true, false, List,
 use Rattle.std.proofs.Common.{option_map}
 use Rattle.std.proofs.Common.{subst, sym}
 use Rattle.std.specs.Prelude.{IfSome, OnOk, if◌then◌else◌}
-use Rattle.std.specs.Bool.{MatchBool}
 use Rattle.jar_commands.specs.About.{IsDetail, TellsDetail}
 use Rattle.jar_commands.specs.Instead.{IsInstead}
 use Rattle.jar_commands.specs.Places.{IsDetailIn, IsDetailOfList}
@@ -13,12 +12,22 @@ use Rattle.jar_commands.specs.declared.about.Detail.TheVariants.{Cause, NoRule, 
 use Rattle.jar_commands.specs.declared.failure.Failure.{Failure}
 use Rattle.jar_commands.specs.declared.failure.Failure.TheVariants.{SuffixList}
 
--- a text to ask instead, where it is to be told
-pub tells_instead : {S : Type 0} (f : S → List ℕ) (b : Bool) (url : Option (List ℕ)) (instead told : Option S)
-    → IsInstead url (option_map f instead) → told ≡ (if b then instead else None)
-    → MatchBool b (IsInstead url (option_map f told)) (option_map f told ≡ None)
-tells_instead f true url instead told is same = subst (λ t. IsInstead url (option_map f t)) (sym same) is
-tells_instead f false url instead told is same = ap (option_map f) same
+-- nothing to ask instead, where no URL was refused
+pub tells_nothing : {S : Type 0} (f : S → List ℕ) (told : Option S) → told ≡ None
+    → IsInstead None (option_map f told)
+tells_nothing f told same = subst (λ t. IsInstead None (option_map f t)) (sym same) tt
+
+-- a text to ask instead, of the URL that was refused
+pub tells_instead : {S : Type 0} (f : S → List ℕ) (of_url of_page : Bool) (url page : Option (List ℕ))
+    (for_url for_page told : Option S) → IsInstead url (option_map f for_url)
+    → IsInstead page (option_map f for_page)
+    → told ≡ (if of_url then for_url else (if of_page then for_page else None))
+    → IsInstead (if of_url then url else (if of_page then page else None)) (option_map f told)
+tells_instead f true of_page url page for_url for_page told is also same =
+    subst (λ t. IsInstead url (option_map f t)) (sym same) is
+tells_instead f false true url page for_url for_page told is also same =
+    subst (λ t. IsInstead page (option_map f t)) (sym same) also
+tells_instead f false false url page for_url for_page told is also same = tells_nothing f told same
 
 -- what a failure is about, by the file of the suffix list that counts
 pub tells_about : {S : Type 0} (f : S → List ℕ) (instead about : Option S) (list : List ℕ) (Counts : List ℕ → Type 0)

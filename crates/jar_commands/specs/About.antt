@@ -11,7 +11,7 @@ use Rattle.jar_words.specs.declared.asked.Command.TheVariants as command
 use Rattle.jar_words.specs.declared.refusal.Refusal.{Refusal}
 use Rattle.jar_words.specs.declared.refusal.Refusal.TheVariants as refusal
 use Rattle.url.specs.Input.{is_empty}
-use Rattle.jar_commands.specs.Instead.{url_in}
+use Rattle.jar_commands.specs.Instead.{page_in, url_in}
 use Rattle.jar_commands.specs.Program.{IsListFile}
 use Rattle.jar_commands.specs.UrlCauses.{url_cause}
 use Rattle.jar_commands.specs.declared.failure.Failure.{Failure}
@@ -35,6 +35,7 @@ subject asked list failure.Rules = option_map (λ text. text.now) asked.rules
 subject asked list failure.OwnFile = file_in asked.command
 subject asked list failure.FileFormat = file_in asked.command
 subject asked list failure.Url = url_in asked.command
+subject asked list failure.From = page_in asked.command
 subject asked list failure.Wait = option_map (λ text. text.now) asked.wait
 subject asked list failure.SuffixFile = Some list
 subject asked list failure.SuffixList = Some list
@@ -81,6 +82,7 @@ url_text url = name_text url ++ (codes ": " ++ url_cause url)
 -- the name that a command's failure is about, and what stands behind it in any case
 abbrev pub named : Command → Failure → List ℕ → List ℕ
 named asked failure.Url name = url_text name
+named asked failure.From name = url_text name
 named asked failure name = name_text name ++ ending asked failure
 
 -- the system refused a file

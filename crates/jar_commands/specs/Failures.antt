@@ -14,7 +14,7 @@ use Rattle.jar_commands.specs.declared.failure.Failure.{Failure}
 use Rattle.jar_commands.specs.declared.failure.Failure.TheVariants.{Words, Moment, Format, FileFormat, Url, SuffixFile}
 use Rattle.jar_commands.specs.declared.failure.Failure.TheVariants.{JarFile, File, SuffixList, JarText, Input, Heads}
 use Rattle.jar_commands.specs.declared.failure.Failure.TheVariants.{FileText, FileEntry, JarRow, FileRow, Output}
-use Rattle.jar_commands.specs.declared.failure.Failure.TheVariants.{Memory, OwnFile, Wait, JarInUse, LockFile, Rules}
+use Rattle.jar_commands.specs.declared.failure.Failure.TheVariants.{Memory, OwnFile, Wait, JarInUse, LockFile, Rules, From}
 use Rattle.jar_commands.specs.declared.failure.Spot.{Spot}
 use Rattle.jar_commands.specs.declared.failure.Spot.TheVariants as spot
 
@@ -54,6 +54,7 @@ failure_text Rules = codes "rules"
 failure_text OwnFile = codes "export onto the jar itself"
 failure_text FileFormat = codes "file format"
 failure_text Url = codes "url"
+failure_text From = codes "from"
 failure_text Wait = codes "wait"
 failure_text SuffixFile = codes "suffix file"
 failure_text JarInUse = codes "jar in use"

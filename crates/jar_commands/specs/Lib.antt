@@ -15,6 +15,7 @@ pub mod ProgramKept
 pub mod Receiving
 pub mod RuleNames
 pub mod Setting
+pub mod Started
 pub mod Steps
 pub mod UrlCauses
 pub mod Waiting

@@ -8,7 +8,6 @@ use Rattle.cookie_store.specs.Rows.{Row, Store, live}
 use Rattle.cookies_txt.specs.Layout.{text_for}
 use Rattle.cookies_txt.specs.Writing.{held, line_of_row}
 use Rattle.cookies_txt.specs.declared.readers.Reader.{Reader}
-use Rattle.cookie_run.specs.Header.{IsHeader}
 use Rattle.cookie_jar.specs.Asking.{AreUnder, first_value, without}
 use Rattle.cookie_jar.specs.Explaining.{IsExplained}
 use Rattle.cookie_jar.specs.Json.{rows_json}
@@ -23,7 +22,9 @@ use Rattle.cookie_jar.specs.declared.taking.End.{End}
 use Rattle.jar_commands.specs.Plans.{PlanText}
 use Rattle.jar_commands.specs.Receiving.{TakesHeads, is_any_refused}
 use Rattle.jar_commands.specs.Setting.{TakesSet}
+use Rattle.jar_commands.specs.Started.{IsHeaderFrom}
 use Rattle.jar_commands.specs.declared.outcome.Outcome.{Outcome}
+use Rattle.jar_commands.specs.declared.plan.Start.{Start}
 
 -- what is printed, the exit status, and the texts that the jar and the other file are to hold, where they change
 pub record OutcomeText : Type 0 where
@@ -52,10 +53,10 @@ Keeps plan printed status rows outcome =
 
 -- ---- commands that print
 
-abbrev pub GivesHeader : PlanText → Store → Parts → OutcomeText → Type 0
-GivesHeader plan jar url outcome =
-    (header : List ℕ) × IsHeader jar.rows url plan.now header × (has_control header ≡ false)
-    × Prints (header_line header) outcome
+abbrev pub GivesHeader : PlanText → Store → Parts → Start → OutcomeText → Type 0
+GivesHeader plan jar url start outcome =
+    (header : List ℕ) × IsHeaderFrom start plan.rules jar.suffixes jar.rows url plan.now header
+    × (has_control header ≡ false) × Prints (header_line header) outcome
 
 -- the value and a line feed, or nothing where there is none, as the status tells
 abbrev pub PrintsValue : Option (List ℕ) → OutcomeText → Type 0
@@ -104,10 +105,10 @@ abbrev pub rows_line : ℕ → List ℕ
 rows_line count = codes "rows: " ++ (decimal count ++ 10 ∷ [])
 
 -- the status tells a refused line
-abbrev pub GivesReceived : PlanText → Store → Parts → List ℕ → OutcomeText → Type 0
-GivesReceived plan jar url text outcome =
+abbrev pub GivesReceived : PlanText → Store → Parts → Start → List ℕ → OutcomeText → Type 0
+GivesReceived plan jar url start text outcome =
     (told : List ℕ) × (refused : Bool) × (new : List Row)
-    × TakesHeads plan.is_verbose plan.form plan.rules jar plan.now url text told refused new
+    × TakesHeads plan.is_verbose plan.form plan.rules start jar plan.now url text told refused new
     × Keeps plan told (if refused then 1 else 0) new outcome
 
 -- the status tells that the line was refused

@@ -20,6 +20,7 @@ use Rattle.jar_commands.specs.Setting.{TakesSet}
 use Rattle.jar_commands.specs.declared.failure.Failure.{Failure}
 use Rattle.jar_commands.specs.declared.failure.Failure.TheVariants.{File, FileRow, FileText, Input, JarRow}
 use Rattle.jar_commands.specs.declared.failure.Failure.TheVariants.{Memory}
+use Rattle.jar_commands.specs.declared.plan.Start.{Start}
 use Rattle.jar_commands.specs.declared.plan.Task.{Task}
 use Rattle.jar_commands.specs.declared.plan.Task.TheVariants as task
 
@@ -32,8 +33,8 @@ pub record Reader : Type 0 where
 
 -- only `receive` reads
 abbrev pub reads : Task → Bool
-reads (task.Receive url) = true
-reads (task.Header url) = false
+reads (task.Receive url start) = true
+reads (task.Header url start) = false
 reads (task.Get url name) = false
 reads (task.Set url line) = false
 reads task.List = false
@@ -71,9 +72,9 @@ UnreadBut Unread false = Unread
 
 -- A task gives this of a jar; `receive` and `import` want what is brought.
 abbrev pub Gives : PlanText → Store → Option (List ℕ) → Task → OutcomeText → Type 0
-Gives plan jar brought (task.Receive url) outcome =
-    IsSomeAnd brought (λ text. gives.GivesReceived plan jar url text outcome)
-Gives plan jar brought (task.Header url) outcome = gives.GivesHeader plan jar url outcome
+Gives plan jar brought (task.Receive url start) outcome =
+    IsSomeAnd brought (λ text. gives.GivesReceived plan jar url start text outcome)
+Gives plan jar brought (task.Header url start) outcome = gives.GivesHeader plan jar url start outcome
 Gives plan jar brought (task.Get url name) outcome = gives.GivesValue plan jar url name.now outcome
 Gives plan jar brought (task.Set url line) outcome = gives.GivesSet plan jar url line.now outcome
 Gives plan jar brought task.List outcome = gives.GivesList plan jar outcome
@@ -98,13 +99,14 @@ abbrev pub Unkept : PlanText → List Row → Failure → Type 0
 Unkept plan rows failure = (failure ≡ JarRow) × HaveNoText plan.form false (live plan.now rows)
 
 -- `receive`
-abbrev pub FailsToReceive : PlanText → Store → Parts → Option (List ℕ) → Failure → Type 0
-FailsToReceive plan jar url None failure = failure ≡ Input
-FailsToReceive plan jar url (Some text) failure =
+abbrev pub FailsToReceive : PlanText → Store → Parts → Start → Option (List ℕ) → Failure → Type 0
+FailsToReceive plan jar url start None failure = failure ≡ Input
+FailsToReceive plan jar url start (Some text) failure =
     (failure ≡ Memory)
     ⊎ (IsNoHeads text failure
     ⊎ ((told : List ℕ) × (refused : Bool) × (new : List Row)
-    × TakesHeads plan.is_verbose plan.form plan.rules jar plan.now url text told refused new × Unkept plan new failure))
+    × TakesHeads plan.is_verbose plan.form plan.rules start jar plan.now url text told refused new
+    × Unkept plan new failure))
 
 -- `set`
 abbrev pub FailsToSet : PlanText → Store → Parts → List ℕ → Failure → Type 0
@@ -139,8 +141,8 @@ FailsToExport plan jar form failure =
 
 -- a task fails so
 abbrev pub Fails : PlanText → Store → Option (List ℕ) → Task → Failure → Type 0
-Fails plan jar brought (task.Receive url) failure = FailsToReceive plan jar url brought failure
-Fails plan jar brought (task.Header url) failure = failure ≡ Memory
+Fails plan jar brought (task.Receive url start) failure = FailsToReceive plan jar url start brought failure
+Fails plan jar brought (task.Header url start) failure = failure ≡ Memory
 Fails plan jar brought (task.Get url name) failure = failure ≡ Memory
 Fails plan jar brought (task.Set url line) failure = FailsToSet plan jar url line.now failure
 Fails plan jar brought task.List failure = failure ≡ Memory

@@ -20,6 +20,8 @@ use Rattle.jar_words.specs.declared.asked.Format.{Format}
 use Rattle.jar_words.specs.declared.asked.Format.TheVariants.{Ron, Json, Txt}
 use Rattle.jar_words.specs.declared.asked.Reader.{Reader as AskedReader}
 use Rattle.jar_words.specs.declared.asked.Reader.TheVariants.{Curl, Wget, Python}
+use Rattle.jar_words.specs.declared.asked.Start.{Start as AskedStart}
+use Rattle.jar_words.specs.declared.asked.Start.TheVariants.{Unsaid, Page, Navigation}
 use Rattle.jar_words.specs.declared.asked.Which.{Which}
 use Rattle.jar_words.specs.declared.asked.Which.TheVariants.{All, For, Under}
 use Rattle.user_agent.specs.declared.rules.Rules.{Rules}
@@ -27,6 +29,8 @@ use Rattle.jar_commands.specs.RuleNames.{rules_asked}
 use Rattle.jar_commands.specs.declared.failure.Failure.{Failure}
 use Rattle.jar_commands.specs.declared.failure.Failure.TheVariants as failure
 use Rattle.jar_commands.specs.declared.plan.Plan.{Plan}
+use Rattle.jar_commands.specs.declared.plan.Start.{Start}
+use Rattle.jar_commands.specs.declared.plan.Start.TheVariants as start
 use Rattle.jar_commands.specs.declared.plan.Task.{Task}
 use Rattle.jar_commands.specs.declared.plan.Task.TheVariants as task
 
@@ -95,6 +99,25 @@ abbrev pub at_url : (Parts → Task) → Option Parts → Result Task Failure
 at_url task None = Err failure.Url
 at_url task (Some url) = Ok (task url)
 
+-- what starts a request, where the page's text is a URL's own
+abbrev pub page_at : (Parts → Start) → Option Parts → Result Start Failure
+page_at started None = Err failure.From
+page_at started (Some page) = Ok (started page)
+
+abbrev pub start_of : AskedStart → Result Start Failure
+start_of Unsaid = Ok start.Unsaid
+start_of (Page url) = page_at start.Page (plain_of url.now)
+start_of (Navigation url) = page_at start.Navigation (plain_of url.now)
+
+-- a task at a URL whose request is started so: the URL is tested first
+abbrev pub started_at : (Parts → Start → Task) → Parts → Result Start Failure → Result Task Failure
+started_at task url (Err failure) = Err failure
+started_at task url (Ok started) = Ok (task url started)
+
+abbrev pub at_url_from : (Parts → Start → Task) → Option Parts → Result Start Failure → Result Task Failure
+at_url_from task None started = Err failure.Url
+at_url_from task (Some url) started = started_at task url started
+
 -- the form that the other file's name ends with; `-` has that of `cookies.txt`
 abbrev pub form_in : Option Form → Result Form Failure
 form_in None = Err failure.FileFormat
@@ -142,8 +165,8 @@ json_task (Under domain) = Ok (task.ListJsonUnder domain)
 
 -- the task of a command
 abbrev pub task_of : Command → Result Task Failure
-task_of (command.Receive url) = at_url task.Receive (plain_of url.now)
-task_of (command.Header url) = at_url task.Header (plain_of url.now)
+task_of (command.Receive url started) = at_url_from task.Receive (plain_of url.now) (start_of started)
+task_of (command.Header url started) = at_url_from task.Header (plain_of url.now) (start_of started)
 task_of (command.Get url name) = at_url (λ parts. task.Get parts name) (plain_of url.now)
 task_of (command.Set url line) = at_url (λ parts. task.Set parts line) (plain_of url.now)
 task_of (command.List which) = list_task which

@@ -42,7 +42,7 @@ is_dash name = bytes_eq name (codes "-")
 
 -- `receive` reads the program's input, and so does `import -`
 abbrev pub reads_input : Command → Bool
-reads_input (command.Receive url) = true
+reads_input (command.Receive url start) = true
 reads_input (command.Import file form is_strict) = is_dash file.now
 reads_input other = false
 

@@ -14,8 +14,8 @@ use Rattle.jar_commands.specs.declared.plan.Task.TheVariants as task
 
 -- the commands that change a jar
 abbrev pub changes : Task → Bool
-changes (task.Receive url) = true
-changes (task.Header url) = false
+changes (task.Receive url start) = true
+changes (task.Header url start) = false
 changes (task.Get url name) = false
 changes (task.Set url line) = true
 changes task.List = false

@@ -12,14 +12,15 @@ use Rattle.response_heads.specs.declared.error.ReadError.TheVariants.{Line}
 use Rattle.response_heads.specs.declared.redirects.Lost.{Lost}
 use Rattle.url.specs.Parts.{Parts}
 use Rattle.cookie_store.specs.Rows.{Row, Store}
-use Rattle.cookie_jar.specs.Taking.{TakesAll}
 use Rattle.cookie_jar.specs.Told.{is_refused, told_lines}
 use Rattle.cookie_jar.specs.declared.form.Form.{Form}
 use Rattle.cookie_jar.specs.declared.taking.End.{End}
 use Rattle.user_agent.specs.declared.rules.Rules.{Rules}
 use Rattle.jar_commands.specs.PassedOver.{line_told, passed_over}
+use Rattle.jar_commands.specs.Started.{TakesFrom}
 use Rattle.jar_commands.specs.declared.failure.Failure.{Failure}
 use Rattle.jar_commands.specs.declared.failure.Failure.TheVariants.{Heads}
+use Rattle.jar_commands.specs.declared.plan.Start.{Start}
 
 -- one of the lines wasn't stored
 abbrev pub is_any_refused : List End → Bool
@@ -46,14 +47,16 @@ abbrev pub refuses : VisitText → List End → Bool
 refuses visit ends = is_any_refused ends || is_some visit.stop
 
 -- The Set-Cookie lines of each visit are taken from its URL, one visit after another, in a jar of this form behind
--- these rules: what is told of them, whether one was refused or heads are left out, and the rows behind them.
-abbrev pub TakesVisits : Bool → Form → Rules → List Rule → List Row → ℤ → List VisitText → List ℕ → Bool → List Row
-    → Type 0
-TakesVisits is_verbose form rules list rows now [] told refused new = (told ≡ []) × (refused ≡ false) × (new ≡ rows)
-TakesVisits is_verbose form rules list rows now (visit ∷ visits) told refused new =
+-- these rules: what is told of them, whether one was refused or heads are left out, and the rows behind them. What
+-- started the first request started each: a redirect is of the request that it answers.
+abbrev pub TakesVisits : Bool → Form → Rules → Start → List Rule → List Row → ℤ → List VisitText → List ℕ → Bool
+    → List Row → Type 0
+TakesVisits is_verbose form rules start list rows now [] told refused new =
+    (told ≡ []) × (refused ≡ false) × (new ≡ rows)
+TakesVisits is_verbose form rules start list rows now (visit ∷ visits) told refused new =
     (ends : List End) × (mid : List Row) × (rest : List ℕ) × (others : Bool)
-    × TakesAll form rules list rows visit.url now (set_cookie_lines visit) ends mid
-    × TakesVisits is_verbose form rules list mid now visits rest others new
+    × TakesFrom start form rules list rows visit.url now (set_cookie_lines visit) ends mid
+    × TakesVisits is_verbose form rules start list mid now visits rest others new
     × (told ≡ visit_told is_verbose visit ends ++ rest)
     × (refused ≡ (refuses visit ends || others))
 
@@ -71,11 +74,12 @@ lost_line None = []
 lost_line (Some lost) = location_words lost.fault ++ (decimal lost.line ++ 10 ∷ [])
 
 -- So it is with the heads of a text, the first of which this URL answered; to leave heads out is to refuse lines.
-abbrev pub TakesHeads : Bool → Form → Rules → Store → ℤ → Parts → List ℕ → List ℕ → Bool → List Row → Type 0
-TakesHeads is_verbose form rules jar now url text told refused new =
+abbrev pub TakesHeads : Bool → Form → Rules → Start → Store → ℤ → Parts → List ℕ → List ℕ → Bool → List Row
+    → Type 0
+TakesHeads is_verbose form rules start jar now url text told refused new =
     (visits : List VisitText) × (lost : Option Lost) × (front : List ℕ) × (others : Bool)
     × GivesVisits url text visits lost
-    × TakesVisits is_verbose form rules jar.suffixes jar.rows now visits front others new
+    × TakesVisits is_verbose form rules start jar.suffixes jar.rows now visits front others new
     × (told ≡ front ++ lost_line lost) × (refused ≡ (others || is_some lost))
 
 -- the text isn't heads of responses, and the failure has the number of the line that isn't

@@ -1,5 +1,5 @@
 -- What becomes of a line that is set, as if a URL had answered it (this repository's own).
-use Rattle.std.specs.Prelude.{◌≡◌, ◌==◌, ◌||◌, ℕ, ℤ, Bool, List, [], ◌∷◌}
+use Rattle.std.specs.Prelude.{◌≡◌, ◌==◌, ◌||◌, ℕ, ℤ, Bool, List, [], ◌∷◌, None}
 use Rattle.std.specs.Bool.{MatchBool}
 use Rattle.std.specs.List.{list_any}
 use Rattle.publicsuffix.specs.Rules.{Rule}
@@ -21,4 +21,4 @@ breaks_head line = list_any (λ b. b == 10 || (b == 13 || b == 0)) line
 abbrev pub TakesSet : Form → Rules → List Rule → List Row → Parts → ℤ → List ℕ → List End → List Row → Type 0
 TakesSet form rules list rows url now line ends new =
     MatchBool (breaks_head line) ((ends ≡ Control ∷ []) × (new ≡ rows))
-    (TakesAll form rules list rows url now (line ∷ []) ends new)
+    (TakesAll form rules None list rows url now (line ∷ []) ends new)

@@ -4,29 +4,30 @@ use Rattle.publicsuffix.specs.Rules.{Rule}
 use Rattle.response_heads.specs.Visits.{VisitText, set_cookie_lines}
 use Rattle.url.specs.Parts.{Parts}
 use Rattle.cookie_store.specs.Rows.{Row, Store}
-use Rattle.cookie_jar.specs.Taking.{TakesAll}
 use Rattle.cookie_jar.specs.declared.form.Form.{Form}
 use Rattle.cookie_jar.specs.declared.taking.End.{End}
 use Rattle.user_agent.specs.declared.rules.Rules.{Rules}
 use Rattle.jar_commands.specs.Performing.{Unkept}
 use Rattle.jar_commands.specs.Plans.{PlanText}
 use Rattle.jar_commands.specs.Receiving.{IsNoHeads, TakesHeads, refuses, visit_told}
+use Rattle.jar_commands.specs.Started.{TakesFrom}
 use Rattle.jar_commands.specs.declared.failure.Failure.{Failure}
 use Rattle.jar_commands.specs.declared.failure.Failure.TheVariants.{Memory}
+use Rattle.jar_commands.specs.declared.plan.Start.{Start}
 
 -- why the heads of a text that was read give nothing
-abbrev pub FailsToTake : PlanText → Store → Parts → List ℕ → Failure → Type 0
-FailsToTake plan jar url text failure =
+abbrev pub FailsToTake : PlanText → Store → Parts → Start → List ℕ → Failure → Type 0
+FailsToTake plan jar url start text failure =
     (failure ≡ Memory)
     ⊎ (IsNoHeads text failure
     ⊎ ((told : List ℕ) × (refused : Bool) × (new : List Row)
-    × TakesHeads plan.is_verbose plan.form plan.rules jar plan.now url text told refused new
+    × TakesHeads plan.is_verbose plan.form plan.rules start jar plan.now url text told refused new
     × Unkept plan new failure))
 
 -- the lines of one more visit are taken, and told behind what was told
-abbrev pub TakesVisit : Bool → Form → Rules → List Rule → List Row → ℤ → VisitText → List ℕ → Bool → List ℕ → Bool
-    → List Row → Type 0
-TakesVisit is_verbose form rules list rows now visit told refused more more_refused new =
-    (ends : List End) × TakesAll form rules list rows visit.url now (set_cookie_lines visit) ends new
+abbrev pub TakesVisit : Bool → Form → Rules → Start → List Rule → List Row → ℤ → VisitText → List ℕ → Bool → List ℕ
+    → Bool → List Row → Type 0
+TakesVisit is_verbose form rules start list rows now visit told refused more more_refused new =
+    (ends : List End) × TakesFrom start form rules list rows visit.url now (set_cookie_lines visit) ends new
     × (more ≡ told ++ visit_told is_verbose visit ends)
     × (more_refused ≡ (refused || refuses visit ends))

@@ -7,7 +7,7 @@ ghost use Rattle.jar_commands.specs.Plans.{plan_text};
 ghost use Rattle.jar_commands.specs.Program.{IsOfFiles};
 
 use crate::failure::Failure;
-use crate::instead::url_in;
+use crate::instead::{page_in, url_in};
 use crate::place::place_in;
 use crate::plan::Plan;
 use crate::url_cause::url_cause;
@@ -172,6 +172,7 @@ fn subject<'a>(asked: &Asked<'a>, list: &'a str, failure: Failure) -> Option<&'a
         Failure::Rules => asked.rules,
         Failure::Wait => asked.wait,
         Failure::Url => url_in(asked.command),
+        Failure::From => page_in(asked.command),
         Failure::SuffixFile | Failure::SuffixList => Some(list),
         Failure::Format | Failure::JarInUse | Failure::LockFile => Some(asked.jar),
         Failure::JarFile | Failure::JarText | Failure::JarRow => Some(asked.jar),
@@ -215,7 +216,7 @@ fn named(
 ) -> Result<String, AllocError>
     ensures { IfOk result (λ told. string_bytes told ≡ spec.named command.entry failure name.now) }
 {
-    if let Failure::Url = failure {
+    if matches!(failure, Failure::Url | Failure::From) {
         return url_text(alloc, name);
     }
     let mut told = name_text(alloc, name)?;

@@ -101,8 +101,8 @@ pub(crate) fn reads(task: &Task<'_>) -> bool
     ensures { result ≡ spec.reads task.now }
 {
     match task {
-        Task::Receive(_) => true,
-        Task::Header(_) | Task::Get(_, _) | Task::Set(_, _) => false,
+        Task::Receive(_, _) => true,
+        Task::Header(_, _) | Task::Get(_, _) | Task::Set(_, _) => false,
         Task::List | Task::ListOf(_) | Task::ListUnder(_) => false,
         Task::ListJson | Task::ListJsonOf(_) | Task::ListJsonUnder(_) => false,
         Task::Explain(_, _) | Task::Remove(_, _, _) | Task::Clear => false,
@@ -157,8 +157,8 @@ fn perform(
         (result_map_both outcome_text (λ failure. failure) result) }
 {
     match &plan.task {
-        Task::Receive(url) => receive(alloc, plan, jar, url, brought),
-        Task::Header(url) => header(plan, jar, url),
+        Task::Receive(url, start) => receive(alloc, plan, jar, url, start, brought),
+        Task::Header(url, start) => header(plan, jar, url, start),
         Task::Get(url, name) => get(alloc, plan, jar, url, name),
         Task::Set(url, line) => set(alloc, plan, jar, url, line),
         Task::List => list(plan, jar),

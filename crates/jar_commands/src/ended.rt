@@ -8,6 +8,7 @@ ghost use Rattle.jar_commands.specs.declared.failure.Failure.{Failure};
 
 use crate::about::{Stopped, about_of, name_text, url_text};
 use crate::failure::{Failure, Spot, spot_of};
+use crate::instead::Instead;
 use jar_words::{Asked, Refusal};
 use std::alloc::Global;
 
@@ -62,17 +63,18 @@ pub(crate) fn about_words(alloc: Global, refusal: Refusal<'_>) -> Option<String>
     }
 }
 
-/// How a command ended that was stopped: where a URL was refused, what to ask instead is told, if there is such a text,
-/// and else what the failure is about.
+/// How a command ended that was stopped: where a URL was refused, what to ask instead of that is told, if there is such
+/// a text, and else what the failure is about.
 pub(crate) fn failed<'a>(
     alloc: Global,
     asked: &Asked<'_>,
     list: &str,
     stopped: Stopped,
-    instead: Option<String>,
+    instead: Instead,
 ) -> Ended<'a>
     ensures told { spec.IsToldBy (Err stopped.failure) result.status (option_map (λ said. said.now) result.failure) }
-    ensures instead { result.instead ≡ (if urls.is_refused_url (Err stopped.failure) then instead else None) }
+    ensures instead { result.instead ≡ (if urls.is_refused_url (Err stopped.failure) then instead.url
+        else (if urls.is_refused_page (Err stopped.failure) then instead.page else None)) }
     ensures about { IfSome result.about (λ told. (result.instead ≡ None)
         × abouts.IsAbout asked.entry.now.command stopped.failure
         (abouts.subject asked.entry.now list.now stopped.failure) (Some (string_bytes told))) }
@@ -88,13 +90,14 @@ pub(crate) fn failed<'a>(
 }
 
 // What to ask instead, where a URL was refused.
-fn instead_at(failure: Failure, instead: Option<String>) -> Option<String>
-    ensures { result ≡ (if urls.is_refused_url (Err failure) then instead else None) }
+fn instead_at(failure: Failure, instead: Instead) -> Option<String>
+    ensures { result ≡ (if urls.is_refused_url (Err failure) then instead.url
+        else (if urls.is_refused_page (Err failure) then instead.page else None)) }
 {
-    if matches!(failure, Failure::Url) {
-        instead
-    } else {
-        None
+    match failure {
+        Failure::Url => instead.url,
+        Failure::From => instead.page,
+        _ => None,
     }
 }
 

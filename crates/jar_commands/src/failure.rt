@@ -45,6 +45,8 @@ pub enum Failure {
     FileFormat,
     /// The text isn't a plain URL.
     Url,
+    /// What `--from` has isn't a plain URL.
+    From,
     /// What `--wait` has isn't a number of seconds.
     Wait,
     /// The file of the suffix list isn't read.
@@ -92,6 +94,7 @@ impl Failure {
             Failure::OwnFile => "export onto the jar itself",
             Failure::FileFormat => "file format",
             Failure::Url => "url",
+            Failure::From => "from",
             Failure::Wait => "wait",
             Failure::SuffixFile => "suffix file",
             Failure::JarInUse => "jar in use",

@@ -7,19 +7,40 @@ ghost use Rattle.jar_commands.specs.Instead as spec;
 use crate::failure::Failure;
 use crate::printing::print;
 use devices::Sink;
-use jar_words::{Command, Which};
+use jar_words::{Command, Start, Which};
 use plain_url::plain_for;
 use std::alloc::{AllocError, Global};
 
-/// The plain text to ask for in the place of a command's URL, where there is one.
+/// The plain texts to ask for in the place of a command's URL and of that of the page which starts its request, where
+/// there are such.
+#[derive(Drop, Debug)]
+pub(crate) struct Instead {
+    pub(crate) url: Option<String>,
+    pub(crate) page: Option<String>,
+}
+
+/// What to ask for in the place of a command's URLs.
 ///
 /// # Errors
 ///
 /// `AllocError`, for want of memory.
-pub(crate) fn instead_of(alloc: Global, command: Command<'_>) -> Result<Option<String>, AllocError>
-    ensures { IfOk result (λ plain. spec.IsInstead (spec.url_in command.entry) (option_map string_bytes plain)) }
+pub(crate) fn instead_of(alloc: Global, command: Command<'_>) -> Result<Instead, AllocError>
+    ensures url { IfOk result (λ instead.
+        spec.IsInstead (spec.url_in command.entry) (option_map string_bytes instead.url)) }
+    ensures page { IfOk result (λ instead.
+        spec.IsInstead (spec.page_in command.entry) (option_map string_bytes instead.page)) }
 {
-    match url_in(command) {
+    let url = plain_of(alloc, url_in(command))?;
+    let page = plain_of(alloc, page_in(command))?;
+    Ok(Instead { url, page })
+}
+
+// The plain text for a text, where there are both.
+fn plain_of(alloc: Global, text: Option<&str>) -> Result<Option<String>, AllocError>
+    ensures { IfOk result (λ plain.
+        spec.IsInstead (option_map (λ text. text.now) text.entry) (option_map string_bytes plain)) }
+{
+    match text {
         Some(text) => plain_for(alloc, text),
         None => Ok(None),
     }
@@ -29,11 +50,29 @@ pub(crate) fn url_in(command: Command<'_>) -> Option<&str>
     ensures { option_map (λ text. text.now) result ≡ spec.url_in command.entry }
 {
     match command {
-        Command::Receive(url) | Command::Header(url) | Command::Get(url, _) => Some(url),
-        Command::Set(url, _) | Command::Explain(url, _) => Some(url),
+        Command::Receive(url, _) | Command::Header(url, _) => Some(url),
+        Command::Get(url, _) | Command::Set(url, _) | Command::Explain(url, _) => Some(url),
         Command::List(which) | Command::ListJson(which) => url_of(which),
         Command::Remove(_, _, _) | Command::Clear => None,
         Command::Import(_, _, _) | Command::Export(_, _, _) => None,
+    }
+}
+
+pub(crate) fn page_in(command: Command<'_>) -> Option<&str>
+    ensures { option_map (λ text. text.now) result ≡ spec.page_in command.entry }
+{
+    match command {
+        Command::Receive(_, start) | Command::Header(_, start) => page_of(start),
+        _ => None,
+    }
+}
+
+fn page_of(start: Start<'_>) -> Option<&str>
+    ensures { option_map (λ text. text.now) result ≡ spec.page_of start.entry }
+{
+    match start {
+        Start::Unsaid => None,
+        Start::Page(page) | Start::Navigation(page) => Some(page),
     }
 }
 

@@ -50,9 +50,9 @@ pub(crate) fn changes(task: &Task<'_>) -> bool
     ensures { result ≡ spec.changes task.now }
 {
     match task {
-        Task::Receive(_) | Task::Set(_, _) | Task::Remove(_, _, _) => true,
+        Task::Receive(_, _) | Task::Set(_, _) | Task::Remove(_, _, _) => true,
         Task::Clear | Task::Import(_, _) => true,
-        Task::Header(_) | Task::Get(_, _) | Task::Explain(_, _) => false,
+        Task::Header(_, _) | Task::Get(_, _) | Task::Explain(_, _) => false,
         Task::List | Task::ListOf(_) | Task::ListUnder(_) => false,
         Task::ListJson | Task::ListJsonOf(_) | Task::ListJsonUnder(_) => false,
         Task::Export(_) | Task::ExportFor(_) => false,

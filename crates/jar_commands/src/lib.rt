@@ -34,4 +34,4 @@ mod url_cause;
 pub use answering::answer;
 pub use failure::{Failure, Spot};
 pub use outcome::Outcome;
-pub use plan::{Plan, Task, plan_of};
+pub use plan::{Plan, Start, Task, plan_of};

@@ -3,6 +3,7 @@ ghost use Rattle.std.specs.Prelude.{◌≡◌, ◌==◌, ◌⊎◌, IfOk, IfErr,
 ghost use Rattle.std.specs.List.{after_last};
 ghost use Rattle.jiff.specs.Words.{civil_nanos};
 ghost use Rattle.jar_commands.specs.Plans as spec;
+ghost use Rattle.jar_commands.specs.Started as started;
 
 use crate::failure::Failure;
 use crate::rule_names::rules_of;
@@ -14,15 +15,50 @@ use jiff::civil::DateTime;
 use plain_url::is_plain_of;
 use std::alloc::Global;
 use url::{ParseError, Url};
-use user_agent::Rules;
+use user_agent::{Initiator, Rules};
+
+/// What starts a request.
+#[derive(Debug, Drop)]
+pub enum Start {
+    /// Nothing is said of that.
+    Unsaid,
+    /// The page of this URL.
+    Page(Url),
+    /// The page of this URL, and it navigates the top level by a safe method.
+    Navigation(Url),
+}
+
+impl Start {
+    /// What a user agent is told of that.
+    pub(crate) fn initiator(&self) -> Option<Initiator<'_>>
+        ensures { started.IsTold self.now result }
+    {
+        match self {
+            Start::Unsaid => None,
+            Start::Page(page) => Some(by_page(page, false)),
+            Start::Navigation(page) => Some(by_page(page, true)),
+        }
+    }
+}
+
+// The page starts a request by a safe method, and it navigates the top level or doesn't.
+fn by_page(page: &Url, is_navigation: bool) -> Initiator<'_>
+    ensures { started.IsStartedBy page.now is_navigation result }
+{
+    Initiator {
+        page: Some(page),
+        is_navigation,
+        is_safe: true,
+    }
+}
 
 /// What is to be done to a jar.
 #[derive(Debug, Drop)]
 pub enum Task<'a> {
     /// Takes the lines of heads that this URL answered.
-    Receive(Url),
+    Receive(Url, Start),
     /// Prints the header of a request to this URL.
-    Header(Url),
+    Header(Url, Start),
     /// Prints the value that a request to this URL gets of this name.
     Get(Url, &'a str),
     /// Takes a line as one that this URL answered.
@@ -72,8 +108,9 @@ pub struct Plan<'a> {
 ///
 /// # Errors
 ///
-/// The first of `Moment`, `Format`, `Rules`, and then `Url`, where a text isn't a plain URL, `OwnFile`, where an export
-/// is to the name of the jar, or `FileFormat`; `Memory` where memory was refused for the rules or a URL.
+/// The first of `Moment`, `Format`, `Rules`, and then `Url`, where a text isn't a plain URL, and `From`, where that of
+/// the page isn't one, `OwnFile`, where an export is to the name of the jar, or `FileFormat`; `Memory` where memory was
+/// refused for the rules or a URL.
 pub fn plan_of<'a>(
     alloc: Global,
     asked: &Asked<'a>,
@@ -194,8 +231,12 @@ fn task_of<'a>(alloc: Global, command: Command<'a>) -> Result<Task<'a>, Failure>
         (failure ≡ Failure.Memory) ⊎ (spec.task_of command.entry ≡ Err failure)) }
 {
     match command {
-        Command::Receive(url) => Ok(Task::Receive(url_of(alloc, url)?)),
-        Command::Header(url) => Ok(Task::Header(url_of(alloc, url)?)),
+        Command::Receive(url, start) => {
+            Ok(Task::Receive(url_of(alloc, url)?, start_of(alloc, start)?))
+        }
+        Command::Header(url, start) => {
+            Ok(Task::Header(url_of(alloc, url)?, start_of(alloc, start)?))
+        }
         Command::Get(url, name) => Ok(Task::Get(url_of(alloc, url)?, name)),
         Command::Set(url, line) => Ok(Task::Set(url_of(alloc, url)?, line)),
         Command::List(which) => list_task(alloc, which),
@@ -207,6 +248,32 @@ fn task_of<'a>(alloc: Global, command: Command<'a>) -> Result<Task<'a>, Failure>
             Ok(Task::Import(form_of_file(format, file)?, is_strict))
         }
         Command::Export(file, format, reader) => export_task(form_of_file(format, file)?, reader),
+    }
+}
+
+// What starts the request, where the page's text is plain.
+fn start_of(alloc: Global, start: jar_words::Start<'_>) -> Result<Start, Failure>
+    ensures ok { IfOk result (λ started. spec.start_of start.entry ≡ Ok started) }
+    ensures err { IfErr result (λ failure.
+        (failure ≡ Failure.Memory) ⊎ (spec.start_of start.entry ≡ Err failure)) }
+{
+    match start {
+        jar_words::Start::Unsaid => Ok(Start::Unsaid),
+        jar_words::Start::Page(page) => Ok(Start::Page(page_of(alloc, page)?)),
+        jar_words::Start::Navigation(page) => Ok(Start::Navigation(page_of(alloc, page)?)),
+    }
+}
+
+// The URL of a page whose text is plain.
+fn page_of(alloc: Global, text: &str) -> Result<Url, Failure>
+    ensures ok { IfOk result (λ url. spec.plain_of text.now ≡ Some url) }
+    ensures err { IfErr result (λ failure.
+        ((failure ≡ Failure.From) × (spec.plain_of text.now ≡ None)) ⊎ (failure ≡ Failure.Memory)) }
+{
+    match url_of(alloc, text) {
+        Ok(url) => Ok(url),
+        Err(Failure::Memory) => Err(Failure::Memory),
+        Err(_) => Err(Failure::From),
     }
 }
 

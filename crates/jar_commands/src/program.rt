@@ -21,7 +21,7 @@ use crate::dropped::dropped_of;
 pub use crate::ended::Ended;
 use crate::ended::{about_words, failed, told, url_told};
 use crate::failure::Failure;
-use crate::instead::{instead_of, print_plain};
+use crate::instead::{Instead, instead_of, print_plain};
 use crate::keeping::{NAME, outcome_of, read_jar, wait_of};
 use crate::plan::plan_of;
 use crate::printing::{DASH, Done, finish, print_help, print_version};
@@ -211,9 +211,10 @@ fn beside<H: Files + AllocGlobal>(
     rt: &H,
     asked: &Asked<'_>,
     clock: Option<DateTime>,
-) -> Result<(Option<String>, Option<String>), AllocError>
+) -> Result<(Instead, Option<String>), AllocError>
     ensures { IfOk result (λ found.
-        urls.IsInstead (urls.url_in asked.entry.now.command) (option_map string_bytes found.0)
+        urls.IsInstead (urls.url_in asked.entry.now.command) (option_map string_bytes found.0.url)
+        × urls.IsInstead (urls.page_in asked.entry.now.command) (option_map string_bytes found.0.page)
         × IfSome found.1 (λ told.
         rows.IsToldOfJar asked.entry.now (option_map civil_nanos clock) (string_bytes told))) }
 {
@@ -362,7 +363,7 @@ fn reads_input(command: Command<'_>) -> bool
     ensures { result ≡ spec.reads_input command.entry }
 {
     match command {
-        Command::Receive(_) => true,
+        Command::Receive(_, _) => true,
         Command::Import(file, _, _) => file == DASH,
         _ => false,
     }

@@ -1,6 +1,6 @@
 //! The command that takes what URLs answered.
 ghost use Rattle.std.specs.Prelude.{◌≡◌, ◌⊎◌, ◌++◌, ◌||◌, is_some, IfOk, IfErr, IsSomeAnd, OnOk, map, string_bytes};
-ghost use Rattle.std.specs.Prelude.{if◌then◌else◌};
+ghost use Rattle.std.specs.Prelude.{None, if◌then◌else◌};
 ghost use Rattle.std.specs.Option.{option_copied};
 ghost use Rattle.jiff.specs.Words.{civil_nanos};
 ghost use Rattle.response_heads.specs.Visits.{GivesVisits, set_cookie_lines, visit_text};
@@ -9,13 +9,14 @@ ghost use Rattle.jar_commands.specs.Outcomes.{GivesReceived, outcome_text};
 ghost use Rattle.jar_commands.specs.Performing.{FailsToReceive};
 ghost use Rattle.jar_commands.specs.Plans.{plan_text};
 ghost use Rattle.jar_commands.specs.Receiving as spec;
+ghost use Rattle.jar_commands.specs.Started.{TakesFrom};
 ghost use Rattle.jar_commands.specs.Steps.{FailsToTake, TakesVisit};
 
 use crate::failure::Failure;
 use crate::jar_text::saved;
 use crate::outcome::Outcome;
 use crate::passed_over::{push_line, push_passed_over};
-use crate::plan::Plan;
+use crate::plan::{Plan, Start};
 use cookie_jar::{End, Form, Jar, is_refused, told_lines};
 use jiff::civil::DateTime;
 use response_heads::{LineFault, LocationFault, Lost, ReadError, Visit, Visited, visits};
@@ -29,21 +30,22 @@ struct Received {
     is_any_refused: bool,
 }
 
-/// `receive URL`, of the text that was read.
+/// `receive URL`, of the text that was read, where the first request is started so.
 pub(crate) fn receive(
     alloc: Global,
     plan: &Plan<'_>,
     jar: &mut Jar,
     url: &Url,
+    start: &Start,
     brought: Option<&[u8]>,
 ) -> Result<Outcome, Failure>
     ensures ok { IfOk result (λ outcome. IsSomeAnd (option_copied brought.entry) (λ text.
-        GivesReceived (plan_text plan.now) jar.old url.now text (outcome_text outcome))) }
+        GivesReceived (plan_text plan.now) jar.old url.now start.now text (outcome_text outcome))) }
     ensures err { IfErr result
-        (FailsToReceive (plan_text plan.now) jar.old url.now (option_copied brought.entry)) }
+        (FailsToReceive (plan_text plan.now) jar.old url.now start.now (option_copied brought.entry)) }
 {
     match brought {
-        Some(text) => receive_text(alloc, plan, jar, url, text),
+        Some(text) => receive_text(alloc, plan, jar, url, start, text),
         None => Err(Failure::Input),
     }
 }
@@ -54,16 +56,17 @@ fn receive_text(
     plan: &Plan<'_>,
     jar: &mut Jar,
     url: &Url,
+    start: &Start,
     text: &[u8],
 ) -> Result<Outcome, Failure>
     ensures ok { IfOk result (λ outcome.
-        GivesReceived (plan_text plan.now) jar.old url.now text.now (outcome_text outcome)) }
-    ensures err { IfErr result (FailsToTake (plan_text plan.now) jar.old url.now text.now) }
+        GivesReceived (plan_text plan.now) jar.old url.now start.now text.now (outcome_text outcome)) }
+    ensures err { IfErr result (FailsToTake (plan_text plan.now) jar.old url.now start.now text.now) }
 {
     let Received {
         told,
         is_any_refused,
-    } = receive_heads(alloc, plan, jar, url, text)?;
+    } = receive_heads(alloc, plan, jar, url, start, text)?;
     match saved(plan, jar) {
         Ok(text) => Ok(Outcome::kept(told, status_of(is_any_refused), text)),
         Err(failure) => Err(failure),
@@ -83,15 +86,16 @@ fn receive_heads(
     plan: &Plan<'_>,
     jar: &mut Jar,
     url: &Url,
+    start: &Start,
     text: &[u8],
 ) -> Result<Received, Failure>
-    ensures ok { IfOk result (λ received. spec.TakesHeads plan.now.is_verbose plan.now.form plan.now.rules jar.old
-        (civil_nanos plan.now.at) url.now text.now
-        (string_bytes received.told) received.is_any_refused jar.new.rows) }
+    ensures ok { IfOk result (λ received. spec.TakesHeads plan.now.is_verbose plan.now.form plan.now.rules start.now
+        jar.old (civil_nanos plan.now.at) url.now text.now (string_bytes received.told) received.is_any_refused
+        jar.new.rows) }
     ensures err { IfErr result (λ failure. (failure ≡ Failure.Memory) ⊎ spec.IsNoHeads text.now failure) }
 {
     let Visited { visits, lost } = visits_of(alloc, url, text)?;
-    let received = receive_visits(alloc, plan, jar, &visits)?;
+    let received = receive_visits(alloc, plan, jar, start, &visits)?;
     Ok(with_lost(alloc, received, lost)?)
 }
 
@@ -145,9 +149,10 @@ fn receive_visits(
     alloc: Global,
     plan: &Plan<'_>,
     jar: &mut Jar,
+    start: &Start,
     visits: &[Visit<'_>],
 ) -> Result<Received, AllocError>
-    ensures { IfOk result (λ received. spec.TakesVisits plan.now.is_verbose plan.now.form plan.now.rules
+    ensures { IfOk result (λ received. spec.TakesVisits plan.now.is_verbose plan.now.form plan.now.rules start.now
         jar.old.suffixes jar.old.rows (civil_nanos plan.now.at) (map visit_text visits.now) (string_bytes received.told)
         received.is_any_refused jar.new.rows) }
 {
@@ -156,7 +161,7 @@ fn receive_visits(
         is_any_refused: false,
     };
     for visit in visits {
-        receive_visit(alloc, plan, jar, visit, &mut received)?;
+        receive_visit(alloc, plan, jar, start, visit, &mut received)?;
     }
     Ok(received)
 }
@@ -166,31 +171,53 @@ fn receive_visit(
     alloc: Global,
     plan: &Plan<'_>,
     jar: &mut Jar,
+    start: &Start,
     visit: &Visit<'_>,
     received: &mut Received,
 ) -> Result<(), AllocError>
-    ensures ok { OnOk result (TakesVisit plan.now.is_verbose plan.now.form plan.now.rules jar.old.suffixes jar.old.rows
-        (civil_nanos plan.now.at) (visit_text visit.now) (string_bytes received.old.told)
+    ensures ok { OnOk result (TakesVisit plan.now.is_verbose plan.now.form plan.now.rules start.now jar.old.suffixes
+        jar.old.rows (civil_nanos plan.now.at) (visit_text visit.now) (string_bytes received.old.told)
         received.old.is_any_refused (string_bytes received.new.told) received.new.is_any_refused jar.new.rows) }
     ensures list { jar.new.suffixes ≡ jar.old.suffixes }
 {
     let read = visit.set_cookie_lines(alloc)?;
     let lines = slices_of(alloc, &read)?;
-    let ends = take_lines(plan, jar, &visit.url, &lines)?;
+    let ends = take_answer(plan, jar, start, &visit.url, &lines)?;
     let told = visit_told(alloc, plan.is_verbose, visit, &lines, &ends)?;
     received.told.push_str(told.as_str())?;
     received.is_any_refused = received.is_any_refused || refuses(visit, &ends);
     Ok(())
 }
 
-/// Takes the lines of an answer from this URL, one after another.
+// Takes the lines of an answer from this URL to a request that is started so.
+fn take_answer(
+    plan: &Plan<'_>,
+    jar: &mut Jar,
+    start: &Start,
+    url: &Url,
+    lines: &[&[u8]],
+) -> Result<Vec<End>, AllocError>
+    ensures ok { IfOk result (λ ends. TakesFrom start.now plan.now.form plan.now.rules jar.old.suffixes jar.old.rows
+        url.now (civil_nanos plan.now.at) (map (λ line. line.now) lines.now) ends.items jar.new.rows) }
+    ensures list { jar.new.suffixes ≡ jar.old.suffixes }
+{
+    let Some(initiator) = start.initiator() else {
+        return take_lines(plan, jar, url, lines);
+    };
+    match jar.receive_for(plan.form, &plan.rules, url, &initiator, lines, plan.at) {
+        Ok(ends) => Ok(ends),
+        Err(_) => Err(AllocError),
+    }
+}
+
+/// Takes the lines of an answer from this URL, one after another, where nothing is said of its request.
 pub(crate) fn take_lines(
     plan: &Plan<'_>,
     jar: &mut Jar,
     url: &Url,
     lines: &[&[u8]],
 ) -> Result<Vec<End>, AllocError>
-    ensures ok { IfOk result (λ ends. TakesAll plan.now.form plan.now.rules jar.old.suffixes jar.old.rows url.now
+    ensures ok { IfOk result (λ ends. TakesAll plan.now.form plan.now.rules None jar.old.suffixes jar.old.rows url.now
         (civil_nanos plan.now.at) (map (λ line. line.now) lines.now) ends.items jar.new.rows) }
     ensures list { jar.new.suffixes ≡ jar.old.suffixes }
 {

@@ -5,18 +5,26 @@ ghost use Rattle.jar_commands.specs.Plans.{plan_text};
 
 use crate::failure::Failure;
 use crate::outcome::Outcome;
-use crate::plan::Plan;
+use crate::plan::{Plan, Start};
 use cookie_jar::Jar;
 use std::alloc::{AllocError, Global};
 use url::Url;
 
-/// `header URL`.
-pub(crate) fn header(plan: &Plan<'_>, jar: &Jar, url: &Url) -> Result<Outcome, Failure>
+/// `header URL`, of a request that is started so.
+pub(crate) fn header(
+    plan: &Plan<'_>,
+    jar: &Jar,
+    url: &Url,
+    start: &Start,
+) -> Result<Outcome, Failure>
     ensures ok { IfOk result (λ outcome.
-        spec.GivesHeader (plan_text plan.now) jar.now url.now (spec.outcome_text outcome)) }
+        spec.GivesHeader (plan_text plan.now) jar.now url.now start.now (spec.outcome_text outcome)) }
     ensures err { IfErr result (λ failure. failure ≡ Failure.Memory) }
 {
-    Ok(shown(jar.header(url, plan.at)?))
+    let Some(initiator) = start.initiator() else {
+        return Ok(shown(jar.header(url, plan.at)?));
+    };
+    Ok(shown(jar.header_for(&plan.rules, url, &initiator, plan.at)?))
 }
 
 /// `get URL NAME`.

@@ -1,7 +1,7 @@
 -- What is read of words that are written out.
 use Rattle.std.proofs.Common.{◌≡◌, refl, [], ◌∷◌, Some, None, Ok, Err, true, false, codes}
-use Rattle.jar_words.specs.Asking.{Order, Request, all, clear, export, header, import, list, list_json, remove}
-use Rattle.jar_words.specs.Asking.{under}
+use Rattle.jar_words.specs.Asking.{Order, Request, all, clear, export, header, import, list, list_json, navigation}
+use Rattle.jar_words.specs.Asking.{page, receive, remove, under, unsaid}
 use Rattle.jar_words.specs.Names.{Text, option_of, row_of, verb_of}
 use Rattle.jar_words.specs.Reading.{first_wrong, first_wrong_option, order_asked, read}
 use Rattle.jar_words.specs.Refusing.{help, version, words}
@@ -46,10 +46,22 @@ pub reads_options_anywhere : read (codes "-v" ∷ codes "jar" ∷ codes "--now" 
       rules = Some (codes "none");
       is_verbose = true;
       jar = codes "jar";
-      order = header (codes "u");
+      order = header (codes "u") unsaid;
     })
 unfolding read_by
 reads_options_anywhere = refl
+
+-- a page that starts the request, and a navigation by it
+pub reads_a_page : read (codes "jar" ∷ codes "receive" ∷ codes "u" ∷ codes "--from=p" ∷ [])
+    ≡ Ok (plainly (codes "jar") (receive (codes "u") (page (codes "p"))))
+unfolding read_by
+reads_a_page = refl
+
+pub reads_a_navigation : read (codes "jar" ∷ codes "header" ∷ codes "--navigate" ∷ codes "u" ∷ codes "--from"
+    ∷ codes "p" ∷ [])
+    ≡ Ok (plainly (codes "jar") (header (codes "u") (navigation (codes "p"))))
+unfolding read_by
+reads_a_navigation = refl
 
 -- behind `--` no word is an option
 pub reads_behind_dashes : read (codes "jar" ∷ codes "remove" ∷ codes "a" ∷ codes "--" ∷ codes "/" ∷ codes "-v" ∷ [])
@@ -127,6 +139,16 @@ pub wants_one_of_both : read (codes "jar" ∷ codes "list" ∷ codes "--domain=a
     ≡ Err (words kind.Both (codes "u"))
 unfolding read_by
 wants_one_of_both = refl
+
+pub wants_a_page : read (codes "jar" ∷ codes "header" ∷ codes "--navigate" ∷ codes "u" ∷ [])
+    ≡ Err (words kind.NoFrom (codes "--navigate"))
+unfolding read_by
+wants_a_page = refl
+
+pub knows_no_page_of_another : read (codes "jar" ∷ codes "get" ∷ codes "--from=p" ∷ codes "u" ∷ codes "a" ∷ [])
+    ≡ Err (words kind.UnknownWord (codes "--from=p"))
+unfolding read_by
+knows_no_page_of_another = refl
 
 pub knows_the_forms : read (codes "jar" ∷ codes "clear" ∷ codes "--format=RON" ∷ [])
     ≡ Err (words kind.Format (codes "RON"))

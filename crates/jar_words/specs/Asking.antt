@@ -9,6 +9,8 @@ use Rattle.jar_words.specs.declared.asked.Format.{Format}
 use Rattle.jar_words.specs.declared.asked.Format.TheVariants as format
 use Rattle.jar_words.specs.declared.asked.Reader.{Reader}
 use Rattle.jar_words.specs.declared.asked.Reader.TheVariants as reader
+use Rattle.jar_words.specs.declared.asked.Start.{Start}
+use Rattle.jar_words.specs.declared.asked.Start.TheVariants as start
 use Rattle.jar_words.specs.declared.asked.Which.{Which}
 use Rattle.jar_words.specs.declared.asked.Which.TheVariants as which
 
@@ -32,10 +34,16 @@ pub data Listed : Type 0 where
   for : Text → Listed
   under : Text → Listed
 
+-- what starts a request: nothing is said of that, the page of a URL, or a navigation by it
+pub data Started : Type 0 where
+  unsaid : Started
+  page : Text → Started
+  navigation : Text → Started
+
 -- a command, with its words
 pub data Order : Type 0 where
-  receive : Text → Order
-  header : Text → Order
+  receive : Text → Started → Order
+  header : Text → Started → Order
   get : Text → Text → Order
   set : Text → Text → Order
   list : Listed → Order
@@ -61,9 +69,14 @@ listed_of which.All = all
 listed_of (which.For url) = for url.now
 listed_of (which.Under domain) = under domain.now
 
+abbrev pub started_of : Start → Started
+started_of start.Unsaid = unsaid
+started_of (start.Page url) = page url.now
+started_of (start.Navigation url) = navigation url.now
+
 abbrev pub order_of : Command → Order
-order_of (of.Receive url) = receive url.now
-order_of (of.Header url) = header url.now
+order_of (of.Receive url start) = receive url.now (started_of start)
+order_of (of.Header url start) = header url.now (started_of start)
 order_of (of.Get url name) = get url.now name.now
 order_of (of.Set url line) = set url.now line.now
 order_of (of.List which) = list (listed_of which)

@@ -26,6 +26,8 @@ number name.Domain = 9
 number name.Strict = 10
 number name.FileFormat = 11
 number name.For = 12
+number name.From = 13
+number name.Navigate = 14
 
 abbrev pub is : Name → Name → Bool
 is option other = number option == number other
@@ -58,6 +60,8 @@ options =
     ∷ (codes "--strict", (name.Strict, false))
     ∷ (codes "--file-format", (name.FileFormat, true))
     ∷ (codes "--for", (name.For, true))
+    ∷ (codes "--from", (name.From, true))
+    ∷ (codes "--navigate", (name.Navigate, false))
     ∷ []
 
 unfoldable pub option_of : Text → Option (Name × Bool)
@@ -88,10 +92,16 @@ is_general name.Domain = false
 is_general name.Strict = false
 is_general name.FileFormat = false
 is_general name.For = false
+is_general name.From = false
+is_general name.Navigate = false
 is_general other = true
 
 -- the command has the option
 abbrev pub has : Verb → Name → Bool
+has verb.Receive name.From = true
+has verb.Receive name.Navigate = true
+has verb.Header name.From = true
+has verb.Header name.Navigate = true
 has verb.List name.Json = true
 has verb.List name.Domain = true
 has verb.Import name.Strict = true

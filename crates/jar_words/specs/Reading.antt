@@ -4,7 +4,7 @@ use Rattle.std.specs.Prelude.{Result, Ok, Err, codes}
 use Rattle.std.specs.Prelude.{if◌then◌else◌, is_some, length, nat_le, ok_or, option_map, slice_get}
 use Rattle.std.specs.Option.{option_and_then, option_or}
 use Rattle.std.specs.Result.{result_map_both}
-use Rattle.jar_words.specs.Asking.{Listed, Order, Request, format_of, reader_of, request_of}
+use Rattle.jar_words.specs.Asking.{Listed, Order, Request, Started, format_of, reader_of, request_of}
 use Rattle.jar_words.specs.Asking as to
 use Rattle.jar_words.specs.Names.{Text, has, verb_of}
 use Rattle.jar_words.specs.Refusing.{Refused, help, version, words, refused_of}
@@ -109,13 +109,24 @@ listing ts =
     result_map_both (list_by (is_given name.Json ts)) (λ refused. refused)
     (listed (slice_get (words_of ts) 2) (value_of name.Domain ts))
 
+-- what starts the request, by the page and whether it navigates, which a page alone does
+abbrev pub started : Option Text → Bool → Result Started Refused
+started None false = Ok to.unsaid
+started None true = Err (words kind.NoFrom (codes "--navigate"))
+started (Some page) false = Ok (to.page page)
+started (Some page) true = Ok (to.navigation page)
+
+abbrev pub with_start : (Started → Order) → List Token → Result Order Refused
+with_start order ts =
+    result_map_both order (λ refused. refused) (started (value_of name.From ts) (is_given name.Navigate ts))
+
 abbrev pub file_format : List Token → Option Format
 file_format ts = option_and_then format_of (value_of name.FileFormat ts)
 
 -- the command with its words and options
 unfoldable pub order_asked : Verb → List Token → Result Order Refused
-order_asked verb.Receive ts = with_word 2 (codes "URL") ts (λ url. Ok (to.receive url))
-order_asked verb.Header ts = with_word 2 (codes "URL") ts (λ url. Ok (to.header url))
+order_asked verb.Receive ts = with_word 2 (codes "URL") ts (λ url. with_start (to.receive url) ts)
+order_asked verb.Header ts = with_word 2 (codes "URL") ts (λ url. with_start (to.header url) ts)
 order_asked verb.Get ts =
     with_word 2 (codes "URL") ts (λ url. with_word 3 (codes "NAME") ts (λ called. Ok (to.get url called)))
 order_asked verb.Set ts =

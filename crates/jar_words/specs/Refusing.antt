@@ -20,6 +20,7 @@ kind_text kind.Alone = codes "url has one TEXT, and neither JAR nor options"
 kind_text kind.Format = codes "a format that is none of ron, json and txt"
 kind_text kind.Reader = codes "a reader that is none of curl, wget and python"
 kind_text kind.Both = codes "a URL beside --domain"
+kind_text kind.NoFrom = codes "an option without --from"
 
 -- why words aren't read: they ask for help or the version, or are wrong, which shows at this word
 pub data Refused : Type 0 where

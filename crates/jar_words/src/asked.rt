@@ -69,6 +69,17 @@ pub enum Which<'a> {
     Under(&'a str),
 }
 
+/// What starts the request of a command.
+#[derive(Clone, Copy, Debug, PartialEq, Eq)]
+pub enum Start<'a> {
+    /// Nothing is said of that.
+    Unsaid,
+    /// The page of this URL.
+    Page(&'a str),
+    /// The page of this URL, and it navigates the top level by a safe method.
+    Navigation(&'a str),
+}
+
 /// What the words behind the program's name ask for.
 #[derive(Clone, Copy, Debug, PartialEq, Eq)]
 pub struct Asked<'a> {
@@ -93,10 +104,10 @@ pub struct Asked<'a> {
 /// A command, with its words as they are written.
 #[derive(Clone, Copy, Debug, PartialEq, Eq)]
 pub enum Command<'a> {
-    /// `receive URL`.
-    Receive(&'a str),
-    /// `header URL`.
-    Header(&'a str),
+    /// `receive URL [--from PAGE [--navigate]]`.
+    Receive(&'a str, Start<'a>),
+    /// `header URL [--from PAGE [--navigate]]`.
+    Header(&'a str, Start<'a>),
     /// `get URL NAME`.
     Get(&'a str, &'a str),
     /// `set URL LINE`.

@@ -6,9 +6,9 @@ ghost use Rattle.jar_words.specs.Asking as to;
 ghost use Rattle.jar_words.specs.Refusing.{refused_of};
 ghost use Rattle.jar_words.specs.Reading as spec;
 ghost use Rattle.jar_words.specs.Left.{left};
-ghost use Rattle.jar_words.specs.Tokens.{value_of, words_of};
+ghost use Rattle.jar_words.specs.Tokens.{is_given, value_of, words_of};
 
-use crate::asked::{Command, Format, Reader, Which};
+use crate::asked::{Command, Format, Reader, Start, Which};
 use crate::names::{Name, Verb};
 use crate::refusal::{Kind, Refusal};
 use crate::tokens::Tokens;
@@ -19,8 +19,8 @@ pub(crate) fn command<'a>(tokens: Tokens<'a>, verb: Verb) -> Result<Command<'a>,
     ensures { result_map_both to.order_of refused_of result ≡ spec.order_asked verb (left tokens.entry) }
 {
     match verb {
-        Verb::Receive => Ok(Command::Receive(word(tokens, 2, "URL")?)),
-        Verb::Header => Ok(Command::Header(word(tokens, 2, "URL")?)),
+        Verb::Receive => Ok(Command::Receive(word(tokens, 2, "URL")?, start(tokens)?)),
+        Verb::Header => Ok(Command::Header(word(tokens, 2, "URL")?, start(tokens)?)),
         Verb::Get => Ok(Command::Get(word(tokens, 2, "URL")?, word(tokens, 3, "NAME")?)),
         Verb::Set => Ok(Command::Set(word(tokens, 2, "URL")?, word(tokens, 3, "LINE")?)),
         Verb::List => list(tokens),
@@ -52,6 +52,19 @@ fn word<'a>(tokens: Tokens<'a>, place: usize, name: &'static str) -> Result<&'a 
     match tokens.word(place) {
         Some(word) => Ok(word),
         None => Err(Refusal::Words(Kind::MissingWord, name)),
+    }
+}
+
+// What starts the request, by the page and whether it navigates.
+fn start<'a>(tokens: Tokens<'a>) -> Result<Start<'a>, Refusal<'a>>
+    ensures { result_map_both to.started_of refused_of result ≡ spec.started
+        (value_of Name.From (left tokens.entry)) (is_given Name.Navigate (left tokens.entry)) }
+{
+    match (tokens.value(Name::From), tokens.has(Name::Navigate)) {
+        (None, false) => Ok(Start::Unsaid),
+        (None, true) => Err(Refusal::Words(Kind::NoFrom, "--navigate")),
+        (Some(page), false) => Ok(Start::Page(page)),
+        (Some(page), true) => Ok(Start::Navigation(page)),
     }
 }
 

@@ -16,6 +16,10 @@ commands:
   receive URL          Takes the Set-Cookie lines of answers' heads, from standard input, and tells
                        of each. URL was requested; a Location that curl followed moves it.
   header URL           Prints the line Cookie: .. of a request to URL, or nothing.
+      --from PAGE      Of receive and header: the page at the URL PAGE started the request; a
+                       cookie goes to another site, or is set by it, as its SameSite lets it.
+      --navigate       Beside --from: the request opens a page in the place of PAGE, by a safe
+                       method, as a link does that is followed.
   get URL NAME         Prints the value of the cookie NAME that a request to URL gets.
   set URL LINE         Takes LINE as receive takes a Set-Cookie line of an answer from URL.
   list [URL]           Prints a table of the cookies, or of those that a request to URL gets:

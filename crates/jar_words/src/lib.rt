@@ -4,7 +4,7 @@
 //! // jar.txt header https://shop.com/ --format=json
 //! let asked = read(words.as_slice())?;
 //! assert!(rt; asked.format == Some(Format::Json) && asked.jar == "jar.txt");
-//! assert!(rt; asked.command == Command::Header("https://shop.com/"));
+//! assert!(rt; asked.command == Command::Header("https://shop.com/", Start::Unsaid));
 //! ```
 #![tactic(auto)]
 
@@ -17,7 +17,7 @@ mod refusal;
 mod tokens;
 mod without_jar;
 
-pub use asked::{Asked, Command, Format, Reader, Which};
+pub use asked::{Asked, Command, Format, Reader, Start, Which};
 pub use help::HELP;
 pub use reading::read;
 pub use refusal::{Kind, Refusal};

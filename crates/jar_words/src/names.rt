@@ -18,10 +18,12 @@ pub(crate) enum Name {
     Strict,
     FileFormat,
     For,
+    From,
+    Navigate,
 }
 
 // How each option is written, and whether it has a value.
-const OPTIONS: [(&str, (Name, bool)); 16] = [
+const OPTIONS: [(&str, (Name, bool)); 18] = [
     ("--now", (Name::Now, true)),
     ("--suffixes", (Name::Suffixes, true)),
     ("--format", (Name::Format, true)),
@@ -38,6 +40,8 @@ const OPTIONS: [(&str, (Name, bool)); 16] = [
     ("--strict", (Name::Strict, false)),
     ("--file-format", (Name::FileFormat, true)),
     ("--for", (Name::For, true)),
+    ("--from", (Name::From, true)),
+    ("--navigate", (Name::Navigate, false)),
 ];
 
 impl Name {
@@ -62,6 +66,7 @@ impl Name {
     {
         match self {
             Name::Json | Name::Domain | Name::Strict | Name::FileFormat | Name::For => false,
+            Name::From | Name::Navigate => false,
             _ => true,
         }
     }
@@ -110,6 +115,7 @@ impl Verb {
         ensures { result ≡ spec.has self option }
     {
         match (self, option) {
+            (Verb::Receive | Verb::Header, Name::From | Name::Navigate) => true,
             (Verb::List, Name::Json | Name::Domain) => true,
             (Verb::Import, Name::Strict | Name::FileFormat) => true,
             (Verb::Export, Name::For | Name::FileFormat) => true,

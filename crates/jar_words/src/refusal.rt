@@ -29,6 +29,8 @@ pub enum Kind {
     Reader,
     /// A URL beside `--domain`.
     Both,
+    /// `--navigate` without `--from`.
+    NoFrom,
 }
 
 impl Kind {
@@ -49,6 +51,7 @@ impl Kind {
             Kind::Format => "a format that is none of ron, json and txt",
             Kind::Reader => "a reader that is none of curl, wget and python",
             Kind::Both => "a URL beside --domain",
+            Kind::NoFrom => "an option without --from",
         }
     }
 }

@@ -10,6 +10,7 @@ use Rattle.url.specs.Parts.{Parts}
 use Rattle.cookie_store.specs.Rows.{Row}
 use Rattle.user_agent.specs.Agent.{AsksForMemory, HandedAsks, IsDoneIf, TakesHanded, TakesLine, rewrites}
 use Rattle.user_agent.specs.Changes.{AreChangesTo, IsMadeOf, changes_in, left_of, no_changes}
+use Rattle.user_agent.specs.CrossAnswers.{TakesHandedFrom, TakesLineFrom}
 use Rattle.user_agent.specs.CutLives.{IsCutLine}
 use Rattle.user_agent.specs.KnownDates.{IsKnownLine}
 use Rattle.user_agent.specs.LeftAlone.{AreLeftAlone}
@@ -17,6 +18,7 @@ use Rattle.user_agent.specs.LongAttributes.{IsShortLine}
 use Rattle.user_agent.specs.Refusals.{IsStoppedByControl}
 use Rattle.user_agent.specs.SecurePlaces.{ArePlacesOf, Places}
 use Rattle.user_agent.specs.declared.changes.Changes.{Changes}
+use Rattle.user_agent.specs.declared.cross_answer.OutcomeFor.{OutcomeFor}
 use Rattle.user_agent.specs.declared.rules.Outcome.{Outcome}
 use Rattle.user_agent.specs.declared.rules.Rules.{Rules}
 use Rattle.user_agent.proofs.AgentLemmas.{not_done, or_false}
@@ -111,6 +113,19 @@ told_so rules list rows new url now line None changes outcome free (inl (none, t
 told_so rules list rows new url now line None changes outcome free (inr (utf8, to)) h =
     inr (free, (line, inl (utf8, to.is), h))
 told_so rules list rows new url now line (Some handed) changes outcome free (utf8, on, to) h =
+    inr (free, (handed, inl (utf8, to.is), h))
+
+-- so of an answer that comes across sites, or doesn't
+pub told_from : (rules : Rules) (across : Bool) (list : List Rule) (rows new : List Row) (url : Parts) (now : ℤ)
+    (line : List ℕ) (text : Option (List ℕ)) (changes : Changes) (outcome : OutcomeFor)
+    → ¬ (IsStoppedByControl rules line) → IsMadeOf rules now line text changes
+    → TakesHandedFrom rules across list rows url now (left_of text line) outcome new
+    → TakesLineFrom rules across list rows url now line outcome new
+told_from rules across list rows new url now line None changes outcome free (inl (none, told)) h =
+    inr (free, (line, inr (none, refl), h))
+told_from rules across list rows new url now line None changes outcome free (inr (utf8, to)) h =
+    inr (free, (line, inl (utf8, to.is), h))
+told_from rules across list rows new url now line (Some handed) changes outcome free (utf8, on, to) h =
     inr (free, (handed, inl (utf8, to.is), h))
 
 pub told_places : (places : Places) (rules : Rules) (list : List Rule) (rows new : List Row) (url : Parts) (now : ℤ)

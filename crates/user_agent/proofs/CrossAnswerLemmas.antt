@@ -1,7 +1,7 @@
 -- What becomes of the lines of an answer, by what started its request.
 use Rattle.std.proofs.Common.{◌≡◌, ◌⊎◌, ◌↔◌, ◌∙◌, ℕ, ℤ, ◌+◌, ◌<◌, List, [], ◌∷◌, ◌++◌, ◌&&◌, Bool, true, false, cond}
 use Rattle.std.proofs.Common.{Option, Some, None, Result, Ok, Err, ap, get_or, inl, inr, length, refl, subst, sym, take}
-use Rattle.std.specs.Prelude.{IfErr, IfOk, IsTrue, map}
+use Rattle.std.specs.Prelude.{IfErr, IfOk, IsTrue, MatchOption, map}
 use Rattle.std.specs.List.{AllByRecursion}
 use Rattle.std.specs.Str.{IsUtf8}
 use Rattle.std.proofs.lemmas.Bool.{both_ways, false≢true}
@@ -16,7 +16,7 @@ use Rattle.publicsuffix.specs.Rules.{Rule}
 use Rattle.url.specs.Parts.{Parts}
 use Rattle.cookie_run.specs.HostPrefix.{IsAgainstHost}
 use Rattle.user_agent.specs.Agent.{AsksForMemory, IsHandedOn, IsRewritten, TakesLine, TakesLines}
-use Rattle.user_agent.specs.CrossAnswers.{AreJudged, ByRequest, ComesAcross, IsOneOf}
+use Rattle.user_agent.specs.CrossAnswers.{AreJudged, ByRequest, ComesAcross, IsKeptOut, IsOneOf}
 use Rattle.user_agent.specs.CrossAnswers.{JudgedLinesAreReceived, MaySet, NoBoundRowComes}
 use Rattle.user_agent.specs.CrossAnswers.{OwnAnswersAreReceived, ReceivedLinesAreOwn, StopsAtLineFrom}
 use Rattle.user_agent.specs.CrossAnswers.{TakesHandedFrom, TakesLineFrom, TakesLinesFrom, UnrestrictedRowsAreSecure}
@@ -114,6 +114,14 @@ module _ (once : OneOutcome) (rules : Rules) (across : Bool) (line : List ℕ) (
       let same : out.1.0 ≡ seen = same_ok out.1.0 seen (once line (Ok out.1.0) (Ok seen) out.1.1 reads) in
       some_is_not_none cause
       (sym out.1.2 ∙ (ap (λ (s : Seen). site_refusal rules across s.cookie) same ∙ none))
+
+  -- as the test of the cookie has it
+  pub kept_out_so : (text : List ℕ) (found : Option SiteRefusal) → text ≡ line → IsUtf8 text
+      → found ≡ site_refusal rules across seen.cookie
+      → MatchOption found (MaySet rules across text) (λ cause. IsKeptOut rules across text cause)
+  kept_out_so text None same utf8 is = subst (MaySet rules across) (sym same) (may_set (sym is))
+  kept_out_so text (Some cause) same utf8 is =
+      (utf8, (seen, subst (λ t. ReadsPlain t (Ok seen)) (sym same) reads, sym is))
 
 -- a line either changes nothing, or is taken by the rules
 judged_line : (rules : Rules) (across : Bool) (list : List Rule) (rows new : List Row) (url : Parts) (now : ℤ)

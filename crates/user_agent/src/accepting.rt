@@ -3,10 +3,12 @@ ghost use Rattle.std.specs.Prelude.{◌≡◌, IfOk, Ok, OnErr};
 ghost use Rattle.cookie_text.specs.Reading.{ReadsPlain};
 ghost use Rattle.jiff.specs.Words.{civil_nanos};
 ghost use Rattle.user_agent.specs.Agent as spec;
+ghost use Rattle.user_agent.specs.CrossAnswers.{TakesHandedFrom};
 ghost use Rattle.user_agent.specs.Refusals.{IsLetIn};
 ghost use Rattle.user_agent.specs.SecurePlaces.{ArePlacesOf, ShowPlaces};
 
 use crate::agent::{is_stopped, rewritten};
+use crate::cross_answer::{OutcomeFor, kept_out};
 use crate::judging::refusal;
 use crate::rules::{Outcome, Refusal, Rules};
 use crate::secure_places::SecurePlaces;
@@ -119,6 +121,30 @@ pub(crate) fn accept_handed(
         Ok(cookie) => accept_read(alloc, store, rules, secure, url, text, &cookie, now),
         Err(_) => accept_unread(store, rules, url, line, now),
     }
+}
+
+// The same of a line of an answer that comes across sites, or doesn't.
+pub(crate) fn accept_handed_from(
+    alloc: Global,
+    store: &mut CookieStore,
+    rules: &Rules,
+    across: bool,
+    secure: &SecurePlaces,
+    url: &Url,
+    line: &[u8],
+    now: DateTime,
+) -> Result<OutcomeFor, AllocError>
+    requires { ShowPlaces secure.now (civil_nanos now) store.old.rows }
+    ensures ok { IfOk result (λ outcome. TakesHandedFrom rules.now across store.old.suffixes store.old.rows url.now
+        (civil_nanos now) line.now outcome store.new.rows) }
+    ensures err { OnErr result ((store.new.rows ≡ store.old.rows) × spec.HandedAsks rules.now url.now line.now) }
+    ensures list { store.new.suffixes ≡ store.old.suffixes }
+{
+    if let Some(cause) = kept_out(rules, across, line) {
+        return Ok(OutcomeFor::KeptOut(cause));
+    }
+    let outcome = accept_handed(alloc, store, rules, secure, url, line, now)?;
+    Ok(OutcomeFor::Judged(outcome))
 }
 
 // The same of a line that is no text, or reads as no cookie: no rule refuses it.

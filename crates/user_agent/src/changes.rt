@@ -4,13 +4,15 @@ ghost use Rattle.std.specs.Str.{IsUtf8};
 ghost use Rattle.jiff.specs.Words.{civil_nanos};
 ghost use Rattle.user_agent.specs.Agent.{AsksForMemory, IsDoneIf, TakesLine, rewrites};
 ghost use Rattle.user_agent.specs.Changes as spec;
+ghost use Rattle.user_agent.specs.CrossAnswers.{TakesLineFrom};
 ghost use Rattle.user_agent.specs.CutLives.{IsCutLine};
 ghost use Rattle.user_agent.specs.KnownDates.{IsKnownLine};
 ghost use Rattle.user_agent.specs.LongAttributes.{IsShortLine};
 ghost use Rattle.user_agent.specs.SecurePlaces.{ArePlacesOf};
 
-use crate::accepting::accept_handed;
+use crate::accepting::{accept_handed, accept_handed_from};
 use crate::agent::{is_stopped, rewrites};
+use crate::cross_answer::OutcomeFor;
 use crate::cut_life::with_cut_life;
 use crate::known_date::with_known_date;
 use crate::left_alone::left_alone;
@@ -81,6 +83,41 @@ pub fn accept_line_told(
     let made = made_of(alloc, rules, line, now)?;
     let handed = left_of(&made.text, line);
     let outcome = accept_handed(alloc, store, rules, secure, url, handed, now)?;
+    Ok((outcome, made.changes))
+}
+
+/// The same of a line of an answer that comes across sites, or doesn't ([`crate::cross_answer::comes_across`]), as
+/// [`crate::UserAgent::receive_for`] takes each into its client.
+///
+/// # Errors
+///
+/// Those of [`crate::accept_line`].
+pub fn accept_line_from(
+    alloc: Global,
+    store: &mut CookieStore,
+    rules: &Rules,
+    across: bool,
+    secure: &SecurePlaces,
+    url: &Url,
+    line: &[u8],
+    now: DateTime,
+) -> Result<(OutcomeFor, Changes), AllocError>
+    requires { ArePlacesOf secure.now rules.now url.now (civil_nanos now) store.old.rows }
+    ensures ok { IfOk result (λ told. TakesLineFrom rules.now across store.old.suffixes store.old.rows url.now
+        (civil_nanos now) line.now told.0 store.new.rows) }
+    ensures changes { IfOk result (λ told. spec.AreChanges rules.now (civil_nanos now) line.now told.1) }
+    ensures err { OnErr result ((store.new.rows ≡ store.old.rows)
+        × AsksForMemory rules.now url.now line.now) }
+    ensures list { store.new.suffixes ≡ store.old.suffixes }
+    ensures places { ArePlacesOf secure.now rules.now url.now (civil_nanos now) store.new.rows }
+{
+    if is_stopped(rules, line) {
+        let outcome = OutcomeFor::Judged(Outcome::Refused(Refusal::Control));
+        return Ok((outcome, Changes::none()));
+    }
+    let made = made_of(alloc, rules, line, now)?;
+    let left = left_of(&made.text, line);
+    let outcome = accept_handed_from(alloc, store, rules, across, secure, url, left, now)?;
     Ok((outcome, made.changes))
 }
 

@@ -1,5 +1,5 @@
 //! What an answer may set, by what started its request (the draft that follows RFC 6265, version 15, section 5.7).
-ghost use Rattle.std.specs.Prelude.{◌≡◌, ◌↔◌, IfErr, IfOk, IsTrue, Ok, OnErr, map};
+ghost use Rattle.std.specs.Prelude.{◌≡◌, ◌↔◌, IfErr, IfOk, IsTrue, MatchOption, Ok, OnErr, map};
 ghost use Rattle.cookie_text.specs.Reading.{ReadsPlain};
 ghost use Rattle.jiff.specs.Words.{civil_nanos};
 ghost use Rattle.user_agent.specs.Agent.{AsksForMemory, HandedAsks};
@@ -62,8 +62,8 @@ pub fn receive_for(
     receive_from(client, rules, across, url, lines, now)
 }
 
-// Whether the request is cross-site and doesn't navigate the top level.
-fn comes_across(store: &CookieStore, url: &Url, initiator: &Initiator<'_>) -> bool
+/// Whether an answer to the request comes across sites: that is cross-site, and doesn't navigate the top level.
+pub fn comes_across(store: &CookieStore, url: &Url, initiator: &Initiator<'_>) -> bool
     ensures { IsTrue result ↔ spec.ComesAcross store.now.suffixes url.now initiator.now }
 {
     is_cross_site(store, url, initiator) && !initiator.is_navigation
@@ -220,6 +220,21 @@ fn take_read_from(
     }
     let outcome = take_read(client, rules, secure, url, line, cookie, now)?;
     Ok(OutcomeFor::Judged(outcome))
+}
+
+/// Why the answer may not set what the line, as the client gets it, reads as, if so.
+pub(crate) fn kept_out(rules: &Rules, across: bool, line: &[u8]) -> Option<SiteRefusal>
+    ensures { MatchOption result (spec.MaySet rules.now across line.now)
+        (λ cause. spec.IsKeptOut rules.now across line.now cause) }
+{
+    one_outcome();
+    let Ok(text) = str::from_utf8(line) else {
+        return None;
+    };
+    match RawCookie::parse(text) {
+        Ok(cookie) => site_refusal(rules, across, &cookie),
+        Err(_) => None,
+    }
 }
 
 // Why the answer may not set the cookie, if so.

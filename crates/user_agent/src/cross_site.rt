@@ -16,7 +16,7 @@ use crate::sites::{Initiator, is_cross_site, is_safe_navigation};
 use cookie::SameSite;
 use cookie_run::Client;
 use cookie_run::client::header_of as header_text;
-use cookie_store::Cookie;
+use cookie_store::{Cookie, CookieStore};
 use jiff::civil::DateTime;
 use std::alloc::{AllocError, Global};
 use url::Url;
@@ -61,28 +61,73 @@ pub fn header_for(
         initiator.now (civil_nanos now) (string_bytes header)) }
 {
     if is_cross_site(client.store(), url, initiator) {
-        header_across(client, rules, url, initiator, now)
+        header_across(client.alloc(), client.store(), rules, url, initiator, now)
     } else {
         header_of(client, rules, url, now)
     }
 }
 
+/// The `Cookie` header of a request that is started so from a store behind these rules, as [`UserAgent::header_for`]
+/// gives it: for a store that is no client's.
+///
+/// # Errors
+///
+/// Those of [`UserAgent::header`].
+pub fn store_header_for(
+    alloc: Global,
+    store: &CookieStore,
+    rules: &Rules,
+    url: &Url,
+    initiator: &Initiator<'_>,
+    now: DateTime,
+) -> Result<String, AllocError>
+    ensures { IfOk result (λ header. spec.IsHeaderFor rules.now store.now.suffixes store.now.rows url.now
+        initiator.now (civil_nanos now) (string_bytes header)) }
+{
+    if is_cross_site(store, url, initiator) {
+        header_across(alloc, store, rules, url, initiator, now)
+    } else {
+        header_within(alloc, store, rules, url, now)
+    }
+}
+
 // The header of a cross-site request.
 fn header_across(
-    client: &Client,
+    alloc: Global,
+    store: &CookieStore,
     rules: &Rules,
     url: &Url,
     initiator: &Initiator<'_>,
     now: DateTime,
 ) -> Result<String, AllocError>
     ensures { IfOk result (λ header. IsHeaderBehind rules.now
-        (spec.sent_across rules.now.lax_by_default initiator.now client.now.rows) url.now (civil_nanos now)
+        (spec.sent_across rules.now.lax_by_default initiator.now store.now.rows) url.now (civil_nanos now)
         (string_bytes header)) }
 {
     // A URL that was parsed is valid, whatever is done with it.
     let _path = url.path();
-    let alloc = client.alloc();
-    let given = given_across(client, rules, url, initiator, now)?;
+    let given = given_across(alloc, store, rules, url, initiator, now)?;
+    if rules.secure_wins {
+        header_text(alloc, winners(alloc, given)?)
+    } else {
+        header_text(alloc, given)
+    }
+}
+
+// The header of a request that isn't.
+fn header_within(
+    alloc: Global,
+    store: &CookieStore,
+    rules: &Rules,
+    url: &Url,
+    now: DateTime,
+) -> Result<String, AllocError>
+    ensures { IfOk result (λ header.
+        IsHeaderBehind rules.now store.now.rows url.now (civil_nanos now) (string_bytes header)) }
+{
+    // A URL that was parsed is valid, whatever is done with it.
+    let _path = url.path();
+    let given = store.matches_longest(url, now)?;
     if rules.secure_wins {
         header_text(alloc, winners(alloc, given)?)
     } else {
@@ -92,19 +137,20 @@ fn header_across(
 
 // The cookies that a cross-site request is given, longer paths first.
 fn given_across<'c>(
-    client: &'c Client,
+    alloc: Global,
+    store: &'c CookieStore,
     rules: &Rules,
     url: &Url,
     initiator: &Initiator<'_>,
     now: DateTime,
 ) -> Result<Vec<&'c Cookie<'static>>, AllocError>
     ensures { IfOk result (λ given. AreGivenLongest
-        (spec.sent_across rules.now.lax_by_default initiator.now client.now.rows) url.now (civil_nanos now)
+        (spec.sent_across rules.now.lax_by_default initiator.now store.now.rows) url.now (civil_nanos now)
         (map lent_row given.items)) }
 {
-    let given = client.store().matches_longest(url, now)?;
+    let given = store.matches_longest(url, now)?;
     let is_let = is_safe_navigation(initiator);
-    sent(client.alloc(), rules.lax_by_default, is_let, given)
+    sent(alloc, rules.lax_by_default, is_let, given)
 }
 
 // The cookies that a cross-site request may carry, in their order.

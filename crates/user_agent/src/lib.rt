@@ -28,7 +28,7 @@ mod token;
 
 pub use accepting::{accept_line, accept_line_beside};
 pub use agent::UserAgent;
-pub use changes::{Changes, accept_line_told};
+pub use changes::{Changes, accept_line_from, accept_line_told};
 pub use cross_answer::{OutcomeFor, SiteRefusal};
 pub use cut_life::with_cut_life;
 pub use known_date::with_known_date;

@@ -2,13 +2,13 @@ use Rattle.std.proofs.Common.{◌≡◌, Err, Ok, Some, ap, inl, map, option_map
 use Rattle.std.specs.Prelude.{string_bytes}
 use Rattle.jiff.specs.Words.{civil_nanos}
 use Rattle.jar_commands.specs.About.{IsAbout, subject}
-use Rattle.jar_commands.specs.Instead.{is_refused_url, url_in}
+use Rattle.jar_commands.specs.Instead.{is_refused_page, is_refused_url, page_in, url_in}
 use Rattle.jar_commands.specs.Performing.{Reader}
 use Rattle.jar_commands.specs.Program.{IsListFile}
 use Rattle.jar_commands.specs.ProgramKept.{KeepsJar}
 use Rattle.jar_commands.specs.declared.failure.Failure.TheVariants.{Memory}
 use Rattle.jar_commands.proofs.ServeLemmas.{unplanned}
-use Rattle.jar_commands.proofs.TellLemmas.{tells_about, tells_instead, tells_none}
+use Rattle.jar_commands.proofs.TellLemmas.{tells_about, tells_instead, tells_none, tells_nothing}
 use Rattle.jar_commands.proofs.program.run.Goals as goal
 
 pub returns-in-Ok-serve-clause-tells : goal.returns-in-Ok-serve-clause-tells
@@ -16,7 +16,7 @@ returns-in-Ok-serve-clause-tells g c = (
   Ok c.in-Ok-serve.done.status,
   c.in-Ok-serve.ensures.serves_ok,
   c.told-ended.ensures.told,
-  ap (option_map string_bytes) c.told-ended.ensures.rest.1,
+  tells_nothing string_bytes c.told-ended.result.instead c.told-ended.ensures.rest.1,
   ap (option_map string_bytes) c.told-ended.ensures.rest.0,
   c.told-ended.ensures.line,
 )
@@ -39,8 +39,9 @@ returns-in-Err-serve-clause-tells g c =
       Err failure,
       (c.in-Err-serve.ensures.serves_err, ap (option_map string_bytes) c.failed-ended.ensures.rest),
       c.failed-ended.ensures.told,
-      tells_instead string_bytes (is_refused_url (Err failure)) (url_in c.args.asked.now.command) c.in-Ok.instead
-          c.failed-ended.result.instead c.in-Ok.ensures.0 c.failed-ended.ensures.instead,
+      tells_instead string_bytes (is_refused_url (Err failure)) (is_refused_page (Err failure))
+          (url_in c.args.asked.now.command) (page_in c.args.asked.now.command) c.in-Ok.instead.url c.in-Ok.instead.page
+          c.failed-ended.result.instead c.in-Ok.ensures.0 c.in-Ok.ensures.1 c.failed-ended.ensures.instead,
       tells_about string_bytes c.failed-ended.result.instead c.failed-ended.result.about c.list_file-list.result.now
           (IsListFile (option_map (λ path. path.now) c.args.asked.now.suffixes)
           (map (λ path. path.now) c.args.lists.now))
@@ -81,7 +82,7 @@ returns-in-Err-clause-tells g c = (
     ap (option_map string_bytes) c.told.ensures.rest.3,
   ),
   c.told.ensures.told,
-  ap (option_map string_bytes) c.told.ensures.rest.1,
+  tells_nothing string_bytes c.told.result.instead c.told.ensures.rest.1,
   tells_none string_bytes c.told.result.about _ c.told.ensures.rest.0,
   c.told.ensures.line,
 )

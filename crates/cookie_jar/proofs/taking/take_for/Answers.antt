@@ -1,0 +1,25 @@
+use Rattle.std.proofs.Common.{Some, map}
+use Rattle.jiff.specs.Words.{civil_nanos}
+use Rattle.cookie_jar.specs.Taking.{IsStopped, TakesAll}
+use Rattle.cookie_jar.proofs.TakeLemmas.{err_by_request, ok_by_request}
+use Rattle.cookie_jar.proofs.taking.take_for.Goals as goal
+
+pub returns-clause-all : goal.returns-clause-all
+returns-clause-all c =
+    let url = c.args.url.now in
+    let old = c.args.store.now in
+    ok_by_request c.comes_across-across.result old.suffixes url c.args.initiator.now c.comes_across-across.ensures
+    c.take_all.result
+    (λ across ends. TakesAll c.args.form c.args.rules.now (Some across) old.suffixes old.rows url
+    (civil_nanos c.args.now) (map (λ line. line.now) c.args.lines.now) ends.items c.take_all.new.store.rows)
+    c.take_all.ensures.all
+
+pub returns-clause-stopped : goal.returns-clause-stopped
+returns-clause-stopped c =
+    let url = c.args.url.now in
+    let old = c.args.store.now in
+    err_by_request c.comes_across-across.result old.suffixes url c.args.initiator.now c.comes_across-across.ensures
+    c.take_all.result
+    (λ across stopped. IsStopped c.args.form c.args.rules.now (Some across) old.suffixes old.rows url
+    (civil_nanos c.args.now) (map (λ line. line.now) c.args.lines.now) stopped.0 c.take_all.new.store.rows)
+    c.take_all.ensures.stopped
