@@ -1,0 +1,7 @@
+mod HeaderLemmas
+mod LawLemmas
+mod PartLemmas
+mod SiteLemmas
+mod SortLemmas
+mod UnderLemmas
+mod WayLemmas
