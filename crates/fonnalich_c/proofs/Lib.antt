@@ -4,6 +4,7 @@ pub mod Rings
 pub mod Faults
 pub mod Flags
 pub mod Listings
+pub mod Imports
 pub mod Parting
 pub mod Receiving
 pub mod Refusals

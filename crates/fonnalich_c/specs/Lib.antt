@@ -1,3 +1,6 @@
+pub mod Control
+pub mod Exporting
+pub mod Importing
 pub mod Numbers
 pub mod Faults
 pub mod Given

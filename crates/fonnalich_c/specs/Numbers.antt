@@ -1,5 +1,6 @@
 -- The numbers by which words, outcomes and refusals cross to C (own: docs/DEFINITIONS.md).
 use Rattle.std.specs.Prelude.{ℕ, ℤ, pos, ◌+◌, ◌^◌, ◌-ℤ◌, ◌==◌, if◌then◌else◌, Option, Some, None, min}
+use Rattle.std.specs.Prelude.{false, true}
 use Rattle.store_parts.specs.declared.error.CookieError.{CookieError}
 use Rattle.store_parts.specs.declared.error.CookieError.TheVariants as cause
 use Rattle.cookie_store.specs.declared.action.StoreAction.{StoreAction}
@@ -8,13 +9,14 @@ use Rattle.cookie_run.specs.declared.step.LineEnd.{LineEnd}
 use Rattle.cookie_run.specs.declared.step.LineEnd.TheVariants as end
 use Rattle.cookie_run.specs.declared.step.SessionError.{SessionError}
 use Rattle.cookie_run.specs.declared.step.SessionError.TheVariants as session
+use Rattle.cookies_txt.specs.declared.readers.Reader.TheVariants as reader
 use Rattle.fonnalich_c.specs.declared.refusal.Refusal.{Refusal}
 use Rattle.fonnalich_c.specs.declared.refusal.Refusal.TheVariants as refusal
 use Rattle.fonnalich_c.specs.declared.word.Word.{Word}
 use Rattle.fonnalich_c.specs.declared.word.Word.TheVariants.{List, Load, Rules, Ask, Keep, By}
 use Rattle.fonnalich_c.specs.declared.word.Task.TheVariants.{Receive, Header, Save, Restart, SaveAll, Reload}
 use Rattle.fonnalich_c.specs.declared.word.Task.TheVariants.{Count, List as Listing, Clear}
-use Rattle.fonnalich_c.specs.declared.word.Task.TheVariants.{Fetch, Navigate}
+use Rattle.fonnalich_c.specs.declared.word.Task.TheVariants.{Fetch, Navigate, Import, Export}
 use Rattle.fonnalich_c.specs.declared.word.ByList.TheVariants as by
 
 -- the word that hands out the answer that had no room
@@ -44,6 +46,13 @@ word_of number =
     else if number == 18 then Some (By by.Suffix)
     else if number == 19 then Some (By by.Shard)
     else if number == 20 then Some (By by.ShardOfUrl)
+    else if number == 21 then Some (Ask Import)
+    else if number == 22 then Some (Ask (Export reader.Curl true))
+    else if number == 23 then Some (Ask (Export reader.Wget true))
+    else if number == 24 then Some (Ask (Export reader.Python true))
+    else if number == 25 then Some (Ask (Export reader.Curl false))
+    else if number == 26 then Some (Ask (Export reader.Wget false))
+    else if number == 27 then Some (Ask (Export reader.Python false))
     else None
 
 -- ---- what became of a line

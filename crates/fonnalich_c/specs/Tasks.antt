@@ -1,7 +1,6 @@
 -- What the words of a call make of a client (own: docs/DEFINITIONS.md).
 use Rattle.std.specs.Prelude.{ℕ, ℤ, pos, Bool, ◌≡◌, ◌≢◌, ◌⊎◌, List, [], Option, Some, None, map, false, true}
 use Rattle.std.specs.Prelude.{IsSomeAnd}
-use Rattle.std.specs.List.{list_any}
 use Rattle.std.specs.Str.{IsUtf8}
 use Rattle.publicsuffix.specs.Rules.{Rule}
 use Rattle.saved_text.specs.RonLayout.{ron_layout}
@@ -22,14 +21,16 @@ use Rattle.cookie_run.specs.Program.{IsNoSavedText}
 use Rattle.cookie_run.specs.declared.step.LineEnd.{LineEnd}
 use Rattle.user_agent.specs.Agent as agent
 use Rattle.user_agent.specs.CrossSite.{IsHeaderFor}
-use Rattle.user_agent.specs.Refusals.{is_control}
 use Rattle.user_agent.specs.SecureWins.{IsHeaderBehind}
 use Rattle.user_agent.specs.Sites.{is_safe_navigation}
 use Rattle.user_agent.specs.declared.rules.Outcome.{Outcome}
 use Rattle.user_agent.specs.declared.rules.Rules.{Rules}
 use Rattle.user_agent.specs.declared.sites.Initiator.{Initiator}
+use Rattle.fonnalich_c.specs.Control.{has_control}
+use Rattle.fonnalich_c.specs.Exporting.{Exports}
 use Rattle.fonnalich_c.specs.Faults.{IsTold}
 use Rattle.fonnalich_c.specs.Given.{IsListOf, IsNoListOf, IsUrl, IsNoUrl, IsNoMoment, nanos_of, lines_of}
+use Rattle.fonnalich_c.specs.Importing.{Imports}
 use Rattle.fonnalich_c.specs.Listing.{IsCount, IsListing, IsNoListing}
 use Rattle.fonnalich_c.specs.Numbers.{end_number}
 use Rattle.fonnalich_c.specs.Rules.{IsFlags, IsNoFlags, outcome_number, ruled}
@@ -91,10 +92,6 @@ RefusesLines rules second subject text old refused new =
 abbrev pub Sends : Option Rules → List Row → Parts → ℤ → List ℕ → Type 0
 Sends None rows url now header = IsHeader rows url now header
 Sends (Some rules) rows url now header = IsHeaderBehind rules rows url now header
-
--- the text has a control character: a byte below 32 but the tab, or 127
-abbrev pub has_control : List ℕ → Bool
-has_control text = list_any is_control text
 
 -- this is the header of a request to the URL, and whether it has a control character
 abbrev pub HeadsSo : Bool → Option Rules → ℤ → List ℕ → List Row → List ℕ → Type 0
@@ -198,6 +195,9 @@ Does task.Fetch given rules old answer new =
 Does task.Navigate given rules old answer new =
     (new ≡ old) × HeadsFrom rules true given.number given.subject given.text old answer
 Does task.Clear given rules old answer new = (answer ≡ []) × (new ≡ record old { rows = [] })
+Does task.Import given rules old answer new = Imports (nanos_of given.number) given.text old answer new
+Does (task.Export reader sessions) given rules old answer new =
+    (new ≡ old) × Exports reader sessions (nanos_of given.number) old.rows answer
 
 abbrev pub Refuses : Task → Given → Option Rules → Store → Refusal → Store → Type 0
 Refuses task.Receive given rules old refused new =
@@ -215,6 +215,8 @@ Refuses task.Fetch given rules old refused new =
 Refuses task.Navigate given rules old refused new =
     (new ≡ old) × IsTold (IsStartedFault rules true given.number given.subject given.text old) refused
 Refuses task.Clear given rules old refused new = ⊥
+Refuses task.Import given rules old refused new = (new ≡ old) × IsNoListing given.number refused
+Refuses (task.Export reader sessions) given rules old refused new = (new ≡ old) × IsNoListing given.number refused
 
 -- ---- a client's beginning
 

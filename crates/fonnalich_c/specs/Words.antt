@@ -32,6 +32,17 @@ words_of size =
     else if size == 26 then codes "there are over 16 earlier keys"
     else if size == 27 then codes "the keys haven't 64 bytes each, or aren't one more than the ends"
     else if size == 28 then codes "the end of a key is outside the years -9999 to 9999"
+    else if size == 40 then codes "the line isn't UTF-8"
+    else if size == 41 then codes "the line has neither six nor seven fields"
+    else if size == 42 then codes "the line has no domain"
+    else if size == 43 then codes "a flag of the line is neither TRUE nor FALSE"
+    else if size == 44 then codes "the path has no / in front"
+    else if size == 45 then codes "the expiry is no number"
+    else if size == 46 then codes "the line's name is empty"
+    else if size == 47 then codes "the domain has no IDNA form"
+    else if size == 48 then codes "a control character stands in the cookie"
+    else if size == 49 then codes "no Set-Cookie line gives such a name or value"
+    else if size == 50 then codes "the cookie is against the prefix __Host-"
     else if nat_le 100 size then codes "memory was refused at a line"
     else []
 

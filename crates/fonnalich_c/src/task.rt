@@ -3,6 +3,7 @@ ghost use Rattle.std.specs.Prelude.{◌≡◌, ◌⊎◌, ◌≤◌, [], length,
 ghost use Rattle.std.specs.Prelude.{false, string_bytes, true};
 ghost use Rattle.jiff.specs.Words.{civil_nanos};
 ghost use Rattle.cookie_store.specs.SavedTexts.{IsAnyBeforeYears};
+ghost use Rattle.fonnalich_c.specs.Control as control;
 ghost use Rattle.fonnalich_c.specs.Faults.{IsTold};
 ghost use Rattle.fonnalich_c.specs.Given.{IsNoListOf};
 ghost use Rattle.fonnalich_c.specs.Listing.{IsCount, IsListing, IsNoListing};
@@ -11,7 +12,10 @@ ghost use Rattle.fonnalich_c.specs.Rules.{outcome_number};
 ghost use Rattle.fonnalich_c.specs.Tasks as spec;
 
 use crate::by_list::by_shelf;
+use crate::control::has_control;
+use crate::exporting::export;
 use crate::given::{lines, list, moment, url};
+use crate::importing::import;
 use crate::listing::{count_of, listing};
 use crate::memory::Memory;
 use crate::page::{Page, url_at};
@@ -187,6 +191,8 @@ fn ask(
             client.clear();
             Ok(Vec::new(alloc))
         }
+        Task::Import => import(alloc, client, second, text),
+        Task::Export(reader, sessions) => export(alloc, client, reader, sessions, second),
     }
 }
 
@@ -347,21 +353,15 @@ pub(crate) fn rules_on(rules: Option<Rules>) -> Rules
 // The bytes of a header, if none is a control character: one that is would begin a further field of the request.
 fn one_line(header: String) -> Result<Vec<u8>, Refusal>
     ensures ok { IfOk result (λ answer.
-        (answer.items ≡ string_bytes header) × (spec.has_control answer.items ≡ false)) }
+        (answer.items ≡ string_bytes header) × (control.has_control answer.items ≡ false)) }
     ensures err { IfErr result (λ refused.
-        (refused ≡ Refusal.Line) × (spec.has_control (string_bytes header) ≡ true)) }
+        (refused ≡ Refusal.Line) × (control.has_control (string_bytes header) ≡ true)) }
 {
     if has_control(header.as_bytes()) {
         Err(Refusal::Line)
     } else {
         Ok(header.into_bytes())
     }
-}
-
-fn has_control(text: &[u8]) -> bool
-    ensures { result ≡ spec.has_control text.now }
-{
-    text.iter().any(|b| (*b < 32 && *b != b'\t') || *b == 127)
 }
 
 // The saved text. Memory alone refuses a write.

@@ -2,6 +2,8 @@
 ghost use Rattle.std.specs.Prelude.{◌≡◌};
 ghost use Rattle.fonnalich_c.specs.Numbers as spec;
 
+use cookies_txt::Reader;
+
 /// Hands out the answer that had no room.
 pub const ANSWER: u32 = 0;
 
@@ -30,6 +32,10 @@ pub enum Task {
     List,
     /// To let go of all its rows.
     Clear,
+    /// To take the rows of a `cookies.txt`.
+    Import,
+    /// Its rows as a `cookies.txt` for a reader, with those that end with the session or without.
+    Export(Reader, bool),
 }
 
 /// What a word asks of the list that a handle keeps.
@@ -90,6 +96,13 @@ impl Word {
             18 => Some(Word::By(ByList::Suffix)),
             19 => Some(Word::By(ByList::Shard)),
             20 => Some(Word::By(ByList::ShardOfUrl)),
+            21 => Some(Word::Ask(Task::Import)),
+            22 => Some(Word::Ask(Task::Export(Reader::Curl, true))),
+            23 => Some(Word::Ask(Task::Export(Reader::Wget, true))),
+            24 => Some(Word::Ask(Task::Export(Reader::Python, true))),
+            25 => Some(Word::Ask(Task::Export(Reader::Curl, false))),
+            26 => Some(Word::Ask(Task::Export(Reader::Wget, false))),
+            27 => Some(Word::Ask(Task::Export(Reader::Python, false))),
             _ => None,
         }
     }

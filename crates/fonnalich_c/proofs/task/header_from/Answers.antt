@@ -4,7 +4,8 @@ use Rattle.std.specs.Prelude.{string_bytes}
 use Rattle.jiff.specs.Words.{civil_nanos}
 use Rattle.fonnalich_c.specs.Faults.{IsTold}
 use Rattle.fonnalich_c.specs.Given.{IsNoMoment, nanos_of}
-use Rattle.fonnalich_c.specs.Tasks.{HeadsFrom, IsStartedFault, SendsFrom, has_control}
+use Rattle.fonnalich_c.specs.Control.{has_control}
+use Rattle.fonnalich_c.specs.Tasks.{HeadsFrom, IsStartedFault, SendsFrom}
 use Rattle.fonnalich_c.specs.declared.refusal.Refusal.TheVariants as refusal
 use Rattle.fonnalich_c.proofs.Exchanges.{err_gives, fault_gives, ok_gives}
 use Rattle.fonnalich_c.proofs.Faults.{is_moment, is_url, line_unstarted, moment_unstarted, url_unstarted}
