@@ -4,7 +4,8 @@
 usage: bench/frameworks/measure.py [ROUNDS]
 
 By the library of FONNALICH_LIB, else that of out/. Processor time of this process; nothing goes over a network. The
-kinds take turns, ROUNDS times, 15 where none is said, and the least and the median of these are told.
+kinds take turns, ROUNDS times, 15 where none is said, and the least and the median of these are told. Behind them the
+parts of a sealed session, each timed alone behind a request without one, as it is in a request.
 """
 import io
 import os
@@ -88,6 +89,37 @@ def request_of(kind):
     return lambda: asked(app, "/", header)
 
 
+def behind(request, part):
+    """The least and the median time of a part, in microseconds, each time behind a request, which takes the processor's
+    caches."""
+    took = []
+    for _ in range(40 * ROUNDS):
+        request()
+        began = time.perf_counter_ns()
+        part()
+        took.append((time.perf_counter_ns() - began) / 1000)
+    return min(took), statistics.median(took)
+
+
+def parts_told():
+    """Tells what the parts of a sealed session take."""
+    app, content, now = site("sealed, set"), {"user": "ann", "count": 0}, int(time.time())
+    sessions, plain = app.session_interface, request_of("without")
+    cookie, text = sessions._cookie, fonnalich.flask._written(now, content)
+    header = cookie.line(text, now).partition(";")[0].encode()
+    parts = {
+        "nothing": lambda: None,
+        "a text is opened": lambda: cookie.opened(header, now),
+        "one is sealed": lambda: cookie.line(text, now, None, True, "Lax"),
+        "its JSON is read, and its life": lambda: fonnalich.flask._content(app, text, now),
+        "its JSON is written": lambda: fonnalich.flask._written(now, content),
+        "Flask's object for a session": lambda: fonnalich.flask.SealedSession(header, content),
+    }
+    for name, part in parts.items():
+        least, median = behind(plain, part)
+        print(f"Flask, a part, {name}: {least:.1f} at least, {median:.1f} at the median")
+
+
 # ---- requests
 
 class Answers(BaseAdapter):
@@ -127,6 +159,7 @@ def main():
     print(f"Python {sys.version.split()[0]}, Flask {flask.__version__}, requests {requests.__version__}, load {load}")
     kinds = ("without", "Flask's own, read", "Flask's own, set", "sealed, read", "sealed, set")
     told("Flask, a session", {kind: request_of(kind) for kind in kinds}, 100)
+    parts_told()
     for count, each in ((10, 10), (1000, 10), (1000, 1)):
         calls = {"its own jar": visitor(False, count, each), "a client's": visitor(True, count, each)}
         told(f"requests, {count} cookies, {each} at a host", calls, 5)

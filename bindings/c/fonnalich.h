@@ -74,6 +74,7 @@ enum {
     FONNALICH_MANY_KEYS = -26, /* there are over 16 earlier keys */
     FONNALICH_KEYS = -27,     /* the keys haven't 64 bytes each, or aren't one more than the ends */
     FONNALICH_KEY_END = -28,  /* the end of an earlier key is before the year -9999 or after 9999 */
+    /* -40 to -50 are none of a call: fonnalich_import tells them of lines */
     FONNALICH_STOPPED = -100  /* this or less, from fonnalich_receive and fonnalich_receive_for alone: see there */
 };
 
@@ -101,6 +102,31 @@ enum {
     /* fonnalich_receive_for refused it by its SameSite, and nothing changed */
     FONNALICH_BY_CROSS_SITE = 27,       /* a page of another site started the request, which navigates nothing */
     FONNALICH_BY_NONE_LACKS_SECURE = 28 /* it has SameSite=None and isn't Secure */
+};
+
+/* ---- why fonnalich_import doesn't take a line of a cookies.txt: of several causes the first. fonnalich_text says each
+   in words */
+enum {
+    FONNALICH_ROW_TEXT = -40,      /* it isn't UTF-8 */
+    FONNALICH_ROW_FIELDS = -41,    /* it has neither six nor seven fields, parted by tabs */
+    FONNALICH_ROW_NO_DOMAIN = -42, /* it has no domain */
+    FONNALICH_ROW_FLAG = -43,      /* one of its two flags is neither TRUE nor FALSE, in any case */
+    FONNALICH_ROW_PATH = -44,      /* its path doesn't begin with '/' */
+    FONNALICH_ROW_EXPIRY = -45,    /* its expiry is neither empty nor a number of seconds */
+    FONNALICH_ROW_NO_NAME = -46,   /* its name is empty */
+    FONNALICH_ROW_DOMAIN = -47,    /* its domain has no IDNA form, or a second dot in front */
+    FONNALICH_ROW_CONTROL = -48,   /* a control character stands in its name, value, domain or path: a byte below 32 but
+                                      the tab, or 127 */
+    FONNALICH_ROW_PAIR = -49,      /* no Set-Cookie line gives such a name or value, as one with a semicolon, or with
+                                      white space at an end */
+    FONNALICH_ROW_HOST_PREFIX = -50 /* it is against the prefix __Host- */
+};
+
+/* ---- who reads a cookies.txt, as fonnalich_export is told */
+enum {
+    FONNALICH_FOR_CURL = 0,  /* curl, and others that read the format as it documents it */
+    FONNALICH_FOR_WGET = 1,  /* wget, which takes "#HttpOnly_" for a comment: no line says that it is HttpOnly */
+    FONNALICH_FOR_PYTHON = 2 /* MozillaCookieJar, which takes 0 for a second of 1970: without an expiry that is empty */
 };
 
 /* ---- the rules of user agents (the draft that follows RFC 6265, sections 5.5 to 5.7): fonnalich_rules takes a sum */
@@ -158,7 +184,11 @@ enum {
     FONNALICH_DO_LOAD_BY = 17,
     FONNALICH_DO_SUFFIX_BY = 18,
     FONNALICH_DO_SHARD_BY = 19,
-    FONNALICH_DO_SHARD_OF_URL_BY = 20
+    FONNALICH_DO_SHARD_OF_URL_BY = 20,
+    FONNALICH_DO_IMPORT = 21,
+    /* and these by FONNALICH_FOR_.. more: */
+    FONNALICH_DO_EXPORT = 22,
+    FONNALICH_DO_EXPORT_LASTING = 25
 };
 
 /* ---- the words of fonnalich_one */
@@ -174,8 +204,9 @@ enum { FONNALICH_DO_GET = 0, FONNALICH_DO_REMOVE = 1 };
 #define FONNALICH_SIGNED "3"
 #define FONNALICH_SEALED "4"
 /* of fonnalich_exchange_on_ring alone: the same of a value that ends when the set cookie expires, so its line has an
-   Expires, else it is refused as FONNALICH_COMMAND. From that second on it isn't read, whatever the client kept, and
-   under another name never. Neither form reads what the other has set. */
+   Expires, else it is refused as FONNALICH_COMMAND. From that second on it isn't read, whatever the client kept, nor is
+   its text under another name. Neither form reads what the other has set, but as FONNALICH_PLAIN, by which it is the
+   text. */
 #define FONNALICH_SIGNED_UNTIL "5"
 #define FONNALICH_SEALED_UNTIL "6"
 
@@ -342,6 +373,44 @@ FONNALICH_FORM int fonnalich_next_placed(const char **at, const char *end, const
     return 1;
 }
 
+/* What became of the lines of a cookies.txt that are neither blank nor comments. */
+typedef struct fonnalich_imported {
+    size_t taken;
+    size_t expired; /* these are passed over */
+    size_t refused;
+} fonnalich_imported;
+
+/* Reads an eight-byte number, the lowest byte first. */
+FONNALICH_FORM uint64_t fonnalich_number(const char *bytes) {
+    uint64_t number = 0;
+    for (int i = 8; i-- > 0;)
+        number = number << 8 | (unsigned char)bytes[i];
+    return number;
+}
+
+/* Takes the counts out of an answer of fonnalich_import that lies from *at to `end`. Answers 0 where there are none. */
+FONNALICH_FORM int fonnalich_counts(const char **at, const char *end, fonnalich_imported *counts) {
+    if (end - *at < 16)
+        return 0;
+    size_t lines = (size_t)fonnalich_number(*at);
+    counts->taken = (size_t)fonnalich_number(*at + 8);
+    *at += 16;
+    counts->refused = (size_t)(end - *at) / 9;
+    counts->expired = lines - counts->taken - counts->refused;
+    return 1;
+}
+
+/* Takes the first refused line out of what is left of it: its number, counted from 1, and why it was, FONNALICH_ROW_..
+   Answers 0 where none is left. */
+FONNALICH_FORM int fonnalich_next_refused(const char **at, const char *end, size_t *line, ptrdiff_t *cause) {
+    if (end - *at < 9)
+        return 0;
+    *line = (size_t)fonnalich_number(*at);
+    *cause = -(ptrdiff_t)(unsigned char)(*at)[8];
+    *at += 9;
+    return 1;
+}
+
 /* How many bytes a handle takes. */
 size_t fonnalich_size(void);
 
@@ -495,6 +564,31 @@ FONNALICH_FORM ptrdiff_t fonnalich_save_all(fonnalich *at, char *out, size_t out
 FONNALICH_FORM ptrdiff_t fonnalich_reload(fonnalich *at, const char *saved, size_t saved_length) {
     char none;
     return fonnalich_act(at, FONNALICH_DO_RELOAD, 0, saved, saved_length, "", 0, &none, 0);
+}
+
+/* Puts the cookies of a cookies.txt, Netscape's form that curl, wget and Python share, into the client, and writes what
+   became of its lines: fonnalich_counts takes the numbers out, and fonnalich_next_refused the lines that were refused.
+   Each line is read by itself. One that is expired at this second is passed over; the others are put in one after
+   another, and of two of one domain, path and name the later takes the place of the earlier, as of those that the
+   client holds. Neither the suffix list nor the rules judge a line: so of a file that isn't trusted they don't keep a
+   cookie of Domain=com out. Blank lines and comments are passed over, and "#HttpOnly_" before a domain is none. It
+   takes a copy of what the client holds.
+   Where the answer is longer than `out`, the lines are taken all the same: fonnalich_answer hands it out, and to call
+   this again would import them again. */
+FONNALICH_FORM ptrdiff_t fonnalich_import(fonnalich *at, int64_t second, const char *text, size_t text_length,
+                                          char *out, size_t out_length) {
+    return fonnalich_act(at, FONNALICH_DO_IMPORT, second, "", 0, text, text_length, out, out_length);
+}
+
+/* Writes the cookies that the client holds and that aren't expired at this second as a cookies.txt for this reader,
+   FONNALICH_FOR_..; without `sessions` those are left out that end with the session. So are those that no line can
+   hold, as one with a tab in its value. FONNALICH_WORD where the reader is none of the three. */
+FONNALICH_FORM ptrdiff_t fonnalich_export(fonnalich *at, int64_t second, uint32_t reader, bool sessions, char *out,
+                                          size_t out_length) {
+    uint32_t word = reader > FONNALICH_FOR_PYTHON ? UINT32_MAX
+                    : sessions                    ? FONNALICH_DO_EXPORT + reader
+                                                  : FONNALICH_DO_EXPORT_LASTING + reader;
+    return fonnalich_act(at, word, second, "", 0, "", 0, out, out_length);
 }
 
 /* Answers how many cookies the client holds that aren't expired at this second. */

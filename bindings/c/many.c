@@ -92,6 +92,42 @@ static void takes_many_lines(int64_t rules) {
     free(lines), free(header), free(out), free(saved);
 }
 
+/* Rows of a cookies.txt: each is taken, or tells why it isn't, and what is written of them is taken again. */
+static void takes_many_rows(void) {
+    char *rows = room(), *out = room(), *text = room();
+    size_t length = joined(rows, MANY, "example.com\tFALSE\t/\tFALSE\t1700000060\tn%d\t%d\n", "");
+    fonnalich at, other;
+    fonnalich_imported done;
+    fonnalich_begin(&at);
+    fonnalich_begin(&other);
+    ask(fonnalich_list(&at, T(LIST)) == 0 && fonnalich_list(&other, T(LIST)) == 0, "a list");
+    const char *next = out;
+    ptrdiff_t number = fonnalich_import(&at, NOW, rows, length, out, ROOM);
+    ask(number == 16 && fonnalich_counts(&next, out + number, &done) && done.taken == MANY, "each row is taken");
+    ask(holds_each(&at, out), "it tells each of them");
+    ptrdiff_t text_length = fonnalich_export(&at, NOW, FONNALICH_FOR_CURL, true, text, ROOM);
+    ask(text_length > (ptrdiff_t)length && text_length <= ROOM, "each has a line");
+    number = fonnalich_import(&other, NOW, text, text_length, out, ROOM);
+    ask(number == 16 && holds_each(&other, out), "and is taken again");
+    number = fonnalich_import(&other, NOW, text, text_length, out, ROOM);
+    ask(number == 16 && holds_each(&other, out), "in its own place");
+    next = out;
+    number = fonnalich_import(&at, NOW + 60, rows, length, out, ROOM);
+    ask(number == 16 && fonnalich_counts(&next, out + number, &done) && done.expired == MANY, "all of them end");
+    length = joined(rows, MANY, "no row %d", "\n");
+    number = fonnalich_import(&at, NOW, rows, length, out, ROOM);
+    next = out;
+    ask(number == 16 + 9 * MANY && fonnalich_counts(&next, out + number, &done), "each line is told");
+    size_t line, last = 0;
+    ptrdiff_t cause;
+    while (fonnalich_next_refused(&next, out + number, &line, &cause))
+        last += line == last + 1 && cause == FONNALICH_ROW_FIELDS;
+    ask(last == MANY, "by its number and its cause");
+    fonnalich_free(&other);
+    fonnalich_free(&at);
+    free(rows), free(out), free(text);
+}
+
 static void obeys_many_commands(void) {
     static const char key[FONNALICH_KEY_LENGTH];
     char *header = room(), *commands = room(), *out = room();
@@ -116,6 +152,7 @@ static void obeys_many_commands(void) {
 int main(void) {
     takes_many_lines(FONNALICH_NO_RULES);
     takes_many_lines(FONNALICH_BROWSER);
+    takes_many_rows();
     obeys_many_commands();
     printf("%s\n", failures ? "not as of a few" : "as of a few");
     return failures != 0;

@@ -110,7 +110,15 @@ static void is_a_client(void) {
     ask(fonnalich_receive_for(&at, FONNALICH_BY_PAGE, NOW, T(URL), T("https://evil.org/"), T("n7=7; SameSite=Lax"), out,
                               sizeof out) == 1 && out[0] == FONNALICH_BY_CROSS_SITE && held <= again,
         "a line that is kept out, and its page, hold nothing");
+    length = fonnalich_export(&at, NOW, FONNALICH_FOR_CURL, true, saved, sizeof saved);
+    ask(length > ROWS * VALUE && length <= (ptrdiff_t)sizeof saved, "a cookies.txt");
     ask(fonnalich_clear(&at) == 0 && held < listed + ROWS * VALUE, "cleared cookies are given back");
+    size_t cleared = held;
+    ask(fonnalich_import(&at, NOW, saved, length, out, sizeof out) == 16 && held >= cleared + ROWS * VALUE,
+        "those of a cookies.txt are held");
+    size_t imported = held;
+    ask(fonnalich_import(&at, NOW, saved, length, out, sizeof out) == 16 && held <= imported, "once");
+    ask(fonnalich_clear(&at) == 0 && held < listed + ROWS * VALUE, "and are given back");
     fonnalich_free(&at);
     ask(held == begun, "the end gives all back");
 }

@@ -57,32 +57,36 @@ static const char *ATTRIBUTES[] = {"", "; Path=/", "; Path=/a", "; Domain=exampl
                                    "; Expires=Tue, 15 Nov 2033 12:00:00 GMT", "; Expires=Thu, 1-Jan-70 0:00:00 UTC",
                                    "; SameSite=Strict", "; SameSite=None", "; Partitioned", "; unknown"};
 static const char *PATHS[] = {"/", "/a", "/a/b", "a", "", "\xff"};
-static const char *WAYS[] = {"0", "1", "2", "3", "4", "5", ""};
+static const char *FIELDS[] = {"TRUE", "FALSE", "FALSE", "yes", "", "\xff"};
+static const char *EXPIRIES[] = {"", "0", "1", "1700000005", "1700000060", "2000000000.5", "-1", "soon",
+                                 "99999999999999999999"};
+static const char *WAYS[] = {"0", "1", "2", "3", "4", "5", "6", "7", ""};
 static const char *DOINGS[] = {"S", "R", "G", "x"};
 static const int64_t ODD[] = {INT64_MIN, INT64_MAX, -62167219201, -377705116801, 253402300799, 253402300800, 0};
 static const size_t ROOMS[] = {0, 1, 8, 64};
 
-enum { HANDLES = 4, ROOM = 8192, LINES = 2048, TEXT = 1 << 17, GROWTHS = 24 };
+enum { HANDLES = 4, ROOM = 8192, LINES = 2048, TEXT = 1 << 17, GROWTHS = 24, EARLIER = FONNALICH_EARLIER_KEYS + 1 };
 
 /* ---- a call */
 
 enum word {
     LIST, LOAD, RECEIVE, HEADER, SAVE, RESTART, RULES, SAVE_ALL, RELOAD, COUNT, COOKIES, CLEAR, HEADER_FOR, KEEP_LIST,
-    SHARE, CLIENT, LOAD_BY, SUFFIX_BY, SHARD_BY, SHARD_OF_URL_BY, GET, REMOVE, ANSWER, ACT, ONE, BEGIN,
-    EXCHANGE, SUFFIX, SHARD, SHARD_OF_URL, PARSE, PRINT, IS_PLAIN_URL, TELL, VERSION, ALL
+    SHARE, CLIENT, LOAD_BY, SUFFIX_BY, SHARD_BY, SHARD_OF_URL_BY, GET, REMOVE, RECEIVE_FOR, IMPORT, EXPORT, ANSWER,
+    ACT, ONE, BEGIN, EXCHANGE, ON_RING, SUFFIX, SHARD, SHARD_OF_URL, PARSE, PRINT, IS_PLAIN_URL, TELL, VERSION, ALL
 };
 
 /* What calls are drawn of: some more often, so that handles have clients with cookies. */
-static const enum word OFTEN[] = {LIST, RECEIVE, RECEIVE, RECEIVE, RECEIVE, HEADER, HEADER, HEADER_FOR, SAVE_ALL,
-                                  CLIENT, KEEP_LIST, COOKIES, GET, REMOVE};
+static const enum word OFTEN[] = {LIST, RECEIVE, RECEIVE, RECEIVE, RECEIVE, RECEIVE_FOR, HEADER, HEADER, HEADER_FOR,
+                                  SAVE_ALL, CLIENT, KEEP_LIST, COOKIES, GET, REMOVE, IMPORT, IMPORT, EXPORT, ON_RING,
+                                  ON_RING};
 
 struct call {
     enum word word;
-    size_t at, other, room, lines_length, saved_length;
-    int64_t second, number;
+    size_t at, other, room, lines_length, saved_length, header_length, newest, earlier, keys_length;
+    int64_t second, number, ends[EARLIER];
     uint32_t started;
     const char *url, *page, *list, *host, *domain, *path, *name, *value;
-    char lines[LINES];
+    char lines[LINES], header[LINES];
     bool decodes;
     fonnalich_attributes parts;
 };
@@ -90,6 +94,10 @@ struct call {
 /* The last text that a client was saved as, and what is handed in for it. */
 static char saved[TEXT], given[TEXT];
 static size_t saved_length;
+
+/* The pairs of the lines that an exchange last answered. */
+static char pairs[LINES];
+static size_t pairs_length;
 
 static size_t put(char *to, size_t used, const char *text) {
     size_t length = strlen(text);
@@ -99,9 +107,25 @@ static size_t put(char *to, size_t used, const char *text) {
     return used + length;
 }
 
+/* Commands of a site that are as they should be, each of a value that ends late, joined by line feeds. */
+static size_t put_commands(char *to) {
+    size_t used = 0, count = 1 + drawn(4);
+    for (size_t i = 0; i < count; i++) {
+        size_t doing = drawn(3);
+        used = put(to, used, i ? "\n" : "");
+        used = put(to, used, DOINGS[doing]);
+        used = put(to, used, WAYS[drawn(7)]);
+        used = put(to, used, NAMES[drawn(3)]);
+        used = put(to, used, doing ? "" : "=two; Expires=Tue, 15 Nov 2033 12:00:00 GMT");
+    }
+    return used;
+}
+
 /* Lines of Set-Cookie, or commands of a site, joined by line feeds. */
 static size_t put_lines(char *to, bool commands) {
     size_t used = 0, count = 1 + drawn(4);
+    if (commands && drawn(4))
+        return put_commands(to);
     for (size_t i = 0; i < count; i++) {
         used = put(to, used, i ? "\n" : "");
         if (commands) {
@@ -115,6 +139,23 @@ static size_t put_lines(char *to, bool commands) {
         }
         for (size_t j = drawn(4); j-- > 0;)
             used = put(to, used, ONE_OF(ATTRIBUTES));
+    }
+    return used;
+}
+
+/* Rows of a cookies.txt, some of them faulty, and lines between them that are none. */
+static size_t put_rows(char *to) {
+    static const char *MARKS[] = {"", "", "#HttpOnly_", ".", "# ", " "};
+    size_t used = 0, count = drawn(6);
+    for (size_t i = 0; i < count; i++) {
+        const char *fields[] = {ONE_OF(HOSTS), ONE_OF(FIELDS), ONE_OF(PATHS), ONE_OF(FIELDS), ONE_OF(EXPIRIES),
+                                ONE_OF(NAMES), ONE_OF(VALUES)};
+        used = put(to, used, ONE_OF(MARKS));
+        for (size_t j = 0; j < (drawn(16) ? 7 : drawn(8)); j++) {
+            used = put(to, used, j ? "\t" : "");
+            used = put(to, used, fields[j]);
+        }
+        used = put(to, used, drawn(8) ? "\n" : "\r\n");
     }
     return used;
 }
@@ -149,16 +190,29 @@ static fonnalich_attributes drawn_parts(void) {
     return parts;
 }
 
+/* A request's header and a ring: the pairs of the last lines, or what no site has set, and some earlier keys. */
+static void draw_request(struct call *it) {
+    it->header_length = drawn(4) ? pairs_length : it->lines_length / 2;
+    memcpy(it->header, it->header_length == pairs_length ? pairs : it->lines, it->header_length);
+    it->newest = drawn(3);
+    it->earlier = drawn(16) ? drawn(3) : drawn(EARLIER + 1);
+    it->keys_length = (it->earlier + 1) * FONNALICH_KEY_LENGTH - !drawn(16);
+    for (size_t i = 0; i < EARLIER; i++)
+        it->ends[i] = drawn(3) ? FONNALICH_NO_END : drawn(16) ? NOW + (int64_t)drawn(120) - 10 : ONE_OF(ODD);
+}
+
 static void draw(struct call *it) {
     it->word = drawn(2) ? ONE_OF(OFTEN) : (enum word)drawn(ALL);
     it->at = drawn(HANDLES), it->other = (it->at + 1 + drawn(HANDLES - 1)) % HANDLES;
-    it->room = it->word == RECEIVE || drawn(3) ? ROOM : ONE_OF(ROOMS);
+    it->room = it->word == RECEIVE || it->word == RECEIVE_FOR || drawn(3) ? ROOM : ONE_OF(ROOMS);
     it->second = drawn(40) ? NOW + (int64_t)drawn(120) - 10 : ONE_OF(ODD);
     it->number = drawn(8) ? (int64_t)drawn(2048) : (int64_t)drawn(4096) - 1024;
     it->started = (uint32_t)drawn(4);
     it->url = ONE_OF(URLS), it->page = ONE_OF(URLS), it->list = ONE_OF(LISTS), it->host = ONE_OF(HOSTS);
     it->domain = ONE_OF(HOSTS), it->path = ONE_OF(PATHS), it->name = ONE_OF(NAMES), it->value = ONE_OF(VALUES);
-    it->lines_length = put_lines(it->lines, it->word == EXCHANGE);
+    it->lines_length = it->word == IMPORT ? put_rows(it->lines)
+                                          : put_lines(it->lines, it->word == EXCHANGE || it->word == ON_RING);
+    draw_request(it);
     it->saved_length = put_saved();
     it->decodes = drawn(2), it->parts = drawn_parts();
 }
@@ -171,7 +225,8 @@ struct side {
     fonnalich_attributes parts;
 };
 
-static char key[FONNALICH_KEY_LENGTH], nonces[2 * FONNALICH_NONCE_LENGTH];
+/* Keys of which no two are one, the first of them that of a session with one. A ring begins at one of the first. */
+static char keys[(EARLIER + 3) * FONNALICH_KEY_LENGTH], nonces[2 * FONNALICH_NONCE_LENGTH];
 static long calls;
 static int failures;
 
@@ -182,9 +237,15 @@ static void ask(int holds, const char *what, const struct call *it) {
     printf("not so: %s, at call %ld, word %d\n", what, calls, it->word);
 }
 
-static ptrdiff_t begun_anew(fonnalich *at) {
-    fonnalich_free(at);
-    return fonnalich_begin(at);
+/* Ends a handle and begins it again, by the header's forms or by what they call. */
+static ptrdiff_t begun_anew(fonnalich *at, bool by_forms) {
+    if (by_forms) {
+        fonnalich_free(at);
+        return fonnalich_begin(at);
+    }
+    fonnalich_end(at);
+    fonnalich_place(at);
+    return fonnalich_size() > sizeof *at ? FONNALICH_HANDLE : fonnalich_processor();
 }
 
 /* A call that needs no handle. */
@@ -193,8 +254,12 @@ static ptrdiff_t made_alone(const struct call *it, struct side *on) {
     size_t room = it->room;
     switch (it->word) {
     case EXCHANGE:
-        return fonnalich_exchange(key, sizeof key - !it->started, it->lines, it->lines_length / 2, it->second,
+        return fonnalich_exchange(keys, FONNALICH_KEY_LENGTH - !it->started, it->header, it->header_length, it->second,
                                   it->lines, it->lines_length, nonces, sizeof nonces, out, room);
+    case ON_RING:
+        return fonnalich_exchange_on_ring(keys + it->newest * FONNALICH_KEY_LENGTH, it->keys_length, it->ends,
+                                          it->earlier, it->header, it->header_length, it->second, it->lines,
+                                          it->lines_length, nonces, sizeof nonces, out, room);
     case SUFFIX: return fonnalich_suffix(T(it->list), T(it->host), out, room);
     case SHARD: return fonnalich_shard(T(it->list), T(it->host), out, room);
     case SHARD_OF_URL: return fonnalich_shard_of_url(T(it->list), T(it->url), out, room);
@@ -203,7 +268,7 @@ static ptrdiff_t made_alone(const struct call *it, struct side *on) {
         return fonnalich_print(it->decodes, &it->parts, T(it->name), T(it->value), T(it->path), T(it->domain), out,
                                room);
     case IS_PLAIN_URL: return fonnalich_is_plain_url(T(it->url));
-    case TELL: return fonnalich_text(-(it->number & 31), out, room);
+    case TELL: return fonnalich_text(-(it->number & 63), out, room);
     default: return fonnalich_version(out, room);
     }
 }
@@ -245,6 +310,9 @@ static ptrdiff_t made(const struct call *it, struct side *on, size_t from) {
     case LOAD: return fonnalich_load(at, it->second, given, it->saved_length, T(it->list));
     case RECEIVE:
         return fonnalich_receive(at, it->second, T(it->url), it->lines + from, it->lines_length - from, out, room);
+    case RECEIVE_FOR:
+        return fonnalich_receive_for(at, it->started, it->second, T(it->url), T(it->page), it->lines + from,
+                                     it->lines_length - from, out, room);
     case HEADER: return fonnalich_header(at, it->second, T(it->url), out, room);
     case HEADER_FOR: return fonnalich_header_for(at, it->second, T(it->url), it->started, T(it->page), out, room);
     case SAVE: return fonnalich_save(at, it->second, out, room);
@@ -257,8 +325,10 @@ static ptrdiff_t made(const struct call *it, struct side *on, size_t from) {
     case CLEAR: return fonnalich_clear(at);
     case GET: return fonnalich_get(at, it->second, T(it->domain), T(it->path), T(it->name), out, room);
     case REMOVE: return fonnalich_remove(at, T(it->domain), T(it->path), T(it->name));
+    case IMPORT: return fonnalich_import(at, it->second, it->lines, it->lines_length, out, room);
+    case EXPORT: return fonnalich_export(at, it->second, it->started, it->decodes, out, room);
     case ANSWER: return fonnalich_answer(at, out, room);
-    case BEGIN: return begun_anew(at);
+    case BEGIN: return begun_anew(at, it->decodes);
     case ACT: case ONE: return made_bare(it, on);
     default: return it->word < GET ? made_by_list(it, on) : made_alone(it, on);
     }
@@ -318,6 +388,58 @@ static void keep(const struct side *on, ptrdiff_t length) {
     }
 }
 
+/* Keeps the pair of a line that an exchange answered. */
+static void keep_pair(const char *line, size_t length) {
+    const char *end = memchr(line, ';', length);
+    size_t more = end ? (size_t)(end - line) : 0;
+    if (!more || pairs_length + more + 2 > LINES)
+        return;
+    memcpy(pairs + pairs_length, line, more);
+    memcpy(pairs + pairs_length + more, "; ", 2);
+    pairs_length += more + 2;
+}
+
+/* How many values the commands of a site read. */
+static size_t reads(const struct call *it) {
+    size_t count = 0;
+    for (size_t i = 0; i < it->lines_length; i++)
+        count += (i == 0 || it->lines[i - 1] == '\n') && it->lines[i] == *FONNALICH_GET;
+    return count;
+}
+
+/* Takes an answer apart by what the header has for it, and adds to the sum what that tells. */
+static void take_apart(const struct call *it, const char *at, const char *end) {
+    const char *text;
+    ptrdiff_t length, cause;
+    size_t number;
+    fonnalich_cookie cookie;
+    fonnalich_imported counts = {0};
+    switch (it->word) {
+    case COOKIES: case GET:
+        while (fonnalich_next_cookie(&at, end, &cookie))
+            add(cookie.name, cookie.name_length), add(&cookie.expires, sizeof cookie.expires);
+        break;
+    case EXCHANGE: case ON_RING:
+        pairs_length = drawn(2) ? 0 : pairs_length;
+        for (size_t i = it->word == ON_RING ? reads(it) : 0; i > 0; i--) {
+            ask(fonnalich_next_placed(&at, end, &text, &length, &number), "a value and its place", it);
+            add(&number, sizeof number);
+        }
+        while (fonnalich_next(&at, end, &text, &length))
+            keep_pair(text, length < 0 ? 0 : (size_t)length);
+        break;
+    case IMPORT:
+        number = (size_t)fonnalich_number(at);
+        ask(fonnalich_counts(&at, end, &counts), "the counts of an import", it);
+        ask(number == counts.taken + counts.expired + counts.refused, "they are all lines", it);
+        while (fonnalich_next_refused(&at, end, &number, &cause))
+            add(&number, sizeof number), add(&cause, sizeof cause);
+        break;
+    default: return;
+    }
+    ask(at == end, "an answer to its end", it);
+}
+
 /* The same call on both sides, which answer alike. */
 static void go_on(struct side *one, struct side *other) {
     static struct call it;
@@ -333,6 +455,8 @@ static void go_on(struct side *one, struct side *other) {
     int64_t told = number;
     add(&told, sizeof told);
     add(other->out, number > 0 && number <= (ptrdiff_t)it.room ? (size_t)number : 0);
+    if (number > 0 && number <= (ptrdiff_t)it.room)
+        take_apart(&it, other->out, other->out + number);
     if ((it.word == SAVE || it.word == SAVE_ALL) && number <= (ptrdiff_t)it.room)
         keep(other, number);
 }
@@ -341,6 +465,8 @@ int main(int count, char **words) {
     static struct side one, other;
     long wanted = count > 1 ? atol(words[1]) : 5000, first = count > 2 ? atol(words[2]) : 1;
     state = 0x9e3779b97f4a7c15ull * (uint64_t)(first + 1);
+    for (size_t i = 0; i < sizeof keys; i++)
+        keys[i] = (char)(i / FONNALICH_KEY_LENGTH);
     for (int i = 0; i < HANDLES; i++)
         if (fonnalich_begin(&one.at[i]) < 0 || fonnalich_begin(&other.at[i]) < 0)
             return 2;

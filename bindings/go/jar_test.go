@@ -347,6 +347,45 @@ func TestWhatAJarHolds(t *testing.T) {
 	}
 }
 
+// What curl 7.88.1 wrote of a site, and lines that are refused behind it.
+func TestACookiesTxt(t *testing.T) {
+	rows := []string{"# Netscape HTTP Cookie File\n", "\n", ".shop.com\tTRUE\t/a/\tFALSE\t2795896097\tlang\ten\n",
+		"shop.com\tFALSE\t/\tFALSE\t0\tsid\t31d4\n", "#HttpOnly_shop.com\tFALSE\t/\tTRUE\t2147169600\tuser\tann\n"}
+	text := strings.Join(rows, "")
+	jar := made(t, list, &Options{Now: at(60).Now})
+	done, err := jar.ImportCookiesTxt([]byte(text + "shop.com\tFALSE\t/\tFALSE\t1\tgone\t\nno row\n"))
+	wanted := Imported{Taken: 3, Expired: 1, Refused: []RefusedLine{{7, -41}}}
+	if err != nil || !reflect.DeepEqual(done, wanted) {
+		t.Fatal(done, err)
+	}
+	if told := done.Refused[0].Error(); told != "fonnalich: the line has neither six nor seven fields" {
+		t.Error(told)
+	}
+	python := strings.Replace(text, "\t0\tsid", "\t\tsid", 1)
+	for _, it := range []struct {
+		reader   Reader
+		sessions bool
+		wanted   string
+	}{{ForCurl, true, text}, {ForPython, true, python}, {ForWget, true, strings.Replace(text, "#HttpOnly_", "", 1)},
+		{ForCurl, false, strings.Replace(text, rows[3], "", 1)}} {
+		written, err := jar.ExportCookiesTxt(it.reader, it.sessions)
+		if err != nil || string(written) != it.wanted {
+			t.Error(string(written), err)
+		}
+		again := made(t, list, &Options{Now: at(60).Now})
+		if done, err := again.ImportCookiesTxt(written); err != nil || done.Expired != 0 || len(done.Refused) != 0 {
+			t.Error(done, err)
+		}
+	}
+	if _, err := jar.ExportCookiesTxt(3, true); err == nil {
+		t.Error("no reader")
+	}
+	jar.Close()
+	if _, err := jar.ImportCookiesTxt(nil); !errors.Is(err, ErrClosed) {
+		t.Error(err)
+	}
+}
+
 // The answer has no room at first.
 func TestManyThatAJarHolds(t *testing.T) {
 	jar := made(t, list, nil)

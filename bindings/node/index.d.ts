@@ -19,7 +19,8 @@ export type Moment = Date | number;
 
 export type Callback<T> = (error: Error | null, value?: T) => void;
 
-/** The rules of browsers, of which a jar takes a sum. */
+/** The rules of browsers, of which a jar takes a sum. A jar isn't told what starts a request, so LAX_BY_DEFAULT changes
+ *  nothing. */
 export declare const Rules: Readonly<{
     NONE: 0; CONTROL: 1; TOO_LONG: 2; SECURE_PREFIX: 4; HOST_PREFIX: 8; SECURE_FROM_HTTP: 16; SECURE_OVERLAY: 32;
     LONG_ATTRIBUTES: 64; DATES: 128; LONG_LIVES: 256; BROWSER: 511; SECURE_WINS: 512;
@@ -63,6 +64,30 @@ export declare class List {
     constructor(text: string | Uint8Array);
     /** Gives its memory back, once no jar has it either. No jar may be given it then. */
     close(): void;
+}
+
+/** Why a line of a cookies.txt wasn't taken: FONNALICH_ROW_.. of the header file. */
+export type RowCause =
+    | 'NotText' | 'Fields' | 'NoDomain' | 'Flag' | 'Path' | 'Expiry' | 'EmptyName' | 'Domain' | 'Control' | 'Pair'
+    | 'HostPrefix';
+
+/** What became of the lines of a cookies.txt that are neither blank nor comments. */
+export interface Imported {
+    taken: number;
+    /** How many were passed over, since their cookies are expired. */
+    expired: number;
+    /** Each by its number, counted from 1. */
+    refused: { line: number; code: RowCause }[];
+}
+
+export interface ExportOptions extends MomentOption {
+    /**
+     * Who reads the text; none is 'curl'. 'wget' takes `#HttpOnly_` for a comment, so no line says that to it. To
+     * 'python', which is `MozillaCookieJar`, no expiry is empty, since it takes 0 for a second of 1970.
+     */
+    reader?: 'curl' | 'wget' | 'python';
+    /** As false those are left out that end with the session. */
+    sessions?: boolean;
 }
 
 /** A cookie that a jar holds. No two of a jar have the same domain, path and key. */
@@ -122,6 +147,17 @@ export declare class CookieJar {
     serialize(options: MomentOption | undefined, callback: Callback<string>): void;
     serializeSync(options?: MomentOption): string;
     toJSON(): string;
+
+    /**
+     * Puts the cookies of a cookies.txt, which curl, wget and Python share, into the jar. Each line is read by itself;
+     * neither the suffix list nor rules judge it, so trust the file.
+     */
+    importCookiesTxt(text: string | Uint8Array, options?: MomentOption): Imported;
+    /**
+     * The cookies that it holds and that aren't expired as a cookies.txt. Those that no line can hold are left out, as
+     * one with a tab in its value.
+     */
+    exportCookiesTxt(options?: ExportOptions): string;
 
     /** The cookies that it holds and that aren't expired. */
     heldCookies(options?: MomentOption): HeldCookie[];

@@ -12,12 +12,13 @@ const addon = require(process.env.FONNALICH_NODE ? path.resolve(process.env.FONN
 if (!addon.processor()) throw new Error('fonnalich: this processor lacks SSE 4.2, which the library needs');
 
 const [RECEIVE, HEADER, SAVE, RESTART, RULES, HELD, CLEAR] = [3, 4, 5, 6, 7, 11, 12];
-const [KEEP_LIST, CLIENT, LOAD_BY] = [15, 16, 17];
+const [KEEP_LIST, CLIENT, LOAD_BY, IMPORT, EXPORT, EXPORT_LASTING] = [15, 16, 17, 21, 22, 25];
 const [GET, REMOVE] = [0, 1];
 const [MEMORY, STOPPED] = [-1, -100];
 const NONE = Buffer.alloc(0);
 
-/* The rules of browsers, of which a jar takes a sum: those of the header file. */
+/* The rules of browsers, of which a jar takes a sum: those of the header file but for NONE_NEEDS_SECURE. A jar isn't
+   told what starts a request: so neither that rule nor LAX_BY_DEFAULT, which a sum may have, would change anything. */
 const Rules = Object.freeze({
     NONE: 0, CONTROL: 1, TOO_LONG: 2, SECURE_PREFIX: 4, HOST_PREFIX: 8, SECURE_FROM_HTTP: 16, SECURE_OVERLAY: 32,
     LONG_ATTRIBUTES: 64, DATES: 128, LONG_LIVES: 256, BROWSER: 511, SECURE_WINS: 512,
@@ -34,6 +35,11 @@ const ENDS = {
     21: 'ByTooLong', 22: 'BySecurePrefix', 23: 'ByHostPrefix', 24: 'BySecureFromHttp', 25: 'BySecureOverlay',
     26: 'ByLacksSecure',
 };
+const ROW_CAUSES = {
+    40: 'NotText', 41: 'Fields', 42: 'NoDomain', 43: 'Flag', 44: 'Path', 45: 'Expiry', 46: 'EmptyName', 47: 'Domain',
+    48: 'Control', 49: 'Pair', 50: 'HostPrefix',
+};
+const READERS = ['curl', 'wget', 'python'];
 const TAKEN = ['Inserted', 'ExpiredExisting', 'UpdatedExisting', 'Expired'];
 const OF_PREFIX = ['HostPrefix', 'BySecurePrefix', 'ByHostPrefix'];
 
@@ -173,6 +179,16 @@ function heldOf(answer) {
     return cookies;
 }
 
+/* What an answer tells of lines: how many there are, how many were taken, and nine bytes of each that was refused. */
+function importedOf(answer) {
+    const [lines, taken] = [0, 8].map((at) => Number(answer.readBigUInt64LE(at)));
+    const refused = [];
+    for (let at = 16; at < answer.length; at += 9) {
+        refused.push({ line: Number(answer.readBigUInt64LE(at)), code: ROW_CAUSES[answer[at + 8]] });
+    }
+    return { taken, expired: lines - taken - refused.length, refused };
+}
+
 /* A jar that keeps what sites set, and gives each request what it holds for it.
 
    `store` is null. `options.suffixes` is a List, or the text of one, and `options.rules` a sum of Rules, by
@@ -241,6 +257,23 @@ class CookieJar {
 
     toJSON() {
         return this.serializeSync();
+    }
+
+    /* Puts the cookies of a cookies.txt, which curl, wget and Python share, into the jar, and says what became of its
+       lines: how many were taken, how many were passed over since they are expired at `options.now`, and which were
+       refused, each by its number, counted from 1, and its code. Neither the suffix list nor rules judge a line. */
+    importCookiesTxt(text, options) {
+        return importedOf(this.#act(IMPORT, secondOf(options?.now), NONE, bytesOf(text, 'the text')));
+    }
+
+    /* The cookies that it holds and that aren't expired at `options.now` as a cookies.txt for `options.reader`: 'curl',
+       which is the default, 'wget' or 'python'. With `options.sessions` as false those are left out that end with the
+       session. So are those that no line can hold, as one with a tab in its value. */
+    exportCookiesTxt(options) {
+        const reader = READERS.indexOf(options?.reader ?? 'curl');
+        if (reader < 0) throw new TypeError(`options.reader is ${options.reader}`);
+        const word = (options?.sessions ?? true ? EXPORT : EXPORT_LASTING) + reader;
+        return this.#act(word, secondOf(options?.now), NONE, NONE).toString();
     }
 
     /* The cookies that it holds and that aren't expired at `options.now`. */

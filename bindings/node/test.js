@@ -134,6 +134,29 @@ test('what tough-cookie has and this has not raises by its name', () => {
     assert.equal(jar.setCookieSync('a=1', URL_ASKED, { loose: false, expire: true, secure: undefined }), 'Inserted');
 });
 
+/* What curl 7.88.1 wrote of a site, and lines that are refused behind it. */
+test('a cookies.txt', () => {
+    const rows = ['# Netscape HTTP Cookie File', '', '.shop.com\tTRUE\t/a/\tFALSE\t2795896097\tlang\ten',
+        'shop.com\tFALSE\t/\tFALSE\t0\tsid\t31d4', '#HttpOnly_shop.com\tFALSE\t/\tTRUE\t2147169600\tuser\tann'];
+    const jar = jarOf();
+    const more = ['shop.com\tFALSE\t/\tFALSE\t1\tgone\t', 'no row', 'shop.com\tFALSE\t/\tFALSE\t0\ta\tx\u0001'];
+    assert.deepEqual(jar.importCookiesTxt([...rows, ...more].join('\n'), { now: THEN }), {
+        taken: 3, expired: 1, refused: [{ line: 7, code: 'Fields' }, { line: 8, code: 'Control' }],
+    });
+    assert.equal(jar.getCookieStringSync(`${URL_ASKED}a/b`, { now: THEN }), 'lang=en; sid=31d4; user=ann');
+    assert.equal(jar.exportCookiesTxt({ now: THEN }), rows.join('\n') + '\n');
+    const lasting = jar.exportCookiesTxt({ now: THEN, sessions: false, reader: 'wget' });
+    assert.equal(lasting, [...rows.slice(0, 3), rows[4].slice(10)].join('\n') + '\n');
+    const python = jar.exportCookiesTxt({ now: THEN, reader: 'python' });
+    assert.equal(python, rows.join('\n').replace('\t0\tsid', '\t\tsid') + '\n');
+    const again = jarOf();
+    assert.equal(again.importCookiesTxt(Buffer.from(python), { now: THEN }).taken, 3);
+    assert.deepEqual(again.heldCookies({ now: THEN }), jar.heldCookies({ now: THEN }));
+    assert.throws(() => jar.exportCookiesTxt({ reader: 'lynx' }), TypeError);
+    assert.throws(() => jar.importCookiesTxt(undefined), TypeError);
+    assert.throws(() => jar.importCookiesTxt('', { now: 1e15 }), { name: 'Refused', code: 'Moment' });
+});
+
 test('a saved text has what lives on', () => {
     const jar = jarOf();
     jar.setCookieSync('a=1; Max-Age=60', URL_ASKED, { now: THEN });

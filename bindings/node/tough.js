@@ -186,12 +186,13 @@ async function playedOf(folder) {
     return played;
 }
 
-/* The page's count of tests that pass, and the names of those that fail: one that ends in `..` stands for all that
-   begin so. */
+/* The page's counts of tests that pass and that fail, and the names of the latter: one that ends in `..` stands for
+   all that begin so. */
 function table() {
     const section = fs.readFileSync(PAGE, 'utf8').split('\n## tough-cookie\n')[1].split('\n## ')[0];
     const names = [...section.matchAll(/^\| `(.*?)` \| \S.* \|$/gm)].map((it) => it[1]);
-    return [Number(section.match(/^(\d+) pass/m)[1]), names];
+    const [, passing, failing] = section.match(/^(\d+) pass and (\d+) fail\./m);
+    return [Number(passing), Number(failing), names];
 }
 
 /* The rows of the page that a name falls under. */
@@ -200,12 +201,12 @@ function rowsOf(names, name) {
 }
 
 function hold(played) {
-    const [count, names] = table();
+    const [passing, count, names] = table();
     const failing = played.filter(([, failure]) => failure).map(([name]) => name);
     const said = played.map(([name]) => name).filter((name) => rowsOf(names, name).length);
     assert.deepStrictEqual(failing, said);
     assert.deepStrictEqual(names.filter((it) => !failing.some((name) => rowsOf([it], name).length)), []);
-    assert.strictEqual(played.length - failing.length, count);
+    assert.deepStrictEqual([played.length - failing.length, failing.length], [passing, count]);
 }
 
 async function main([folder, way]) {

@@ -24,8 +24,9 @@ from typing import TYPE_CHECKING, Any, Callable, Iterable, Iterator, NoReturn, O
 if TYPE_CHECKING:
     from .fleet import Fleet
 
-__all__ = ["Adapter", "Client", "Cookie", "End", "HeldCookie", "Jar", "List", "NoList", "NoRules", "Refused", "Rules",
-           "Session", "Stopped", "Way", "is_plain_url", "shard", "shard_of_url", "suffix"]
+__all__ = ["Adapter", "Client", "Cookie", "End", "HeldCookie", "Imported", "Jar", "List", "NoList", "NoRules", "Reader",
+           "Refused", "RefusedLine", "Rules", "Session", "Stopped", "Way", "is_plain_url", "shard", "shard_of_url",
+           "suffix"]
 
 _HERE = os.path.dirname(os.path.abspath(__file__))
 
@@ -106,7 +107,8 @@ _LIB.fonnalich_print.restype = ctypes.c_ssize_t
 
 _ANSWER, _HEADER, _SAVE, _RESTART, _RULES = 0, 4, 5, 6, 7
 _SAVE_ALL, _RELOAD, _COUNT, _COOKIES, _CLEAR, _HEADER_BY_PAGE, _HEADER_BY_NAVIGATION = range(8, 15)
-_KEEP_LIST, _CLIENT, _LOAD_BY, _SUFFIX_BY, _SHARD_BY, _SHARD_OF_URL_BY = range(15, 21)
+_KEEP_LIST, _CLIENT, _LOAD_BY, _SUFFIX_BY, _SHARD_BY, _SHARD_OF_URL_BY, _IMPORT, _EXPORT = range(15, 23)
+_EXPORT_LASTING = 25
 _GET, _REMOVE = 0, 1
 _BY_USER, _BY_PAGE, _BY_NAVIGATION = 0, 1, 2
 _STOPPED = -100
@@ -568,6 +570,50 @@ def _held_of(domain: bytes, path: bytes, name: bytes, value: bytes, end: bytes, 
                       partitioned, _SITES[flags[5]])
 
 
+class Reader(enum.IntEnum):
+    """Who reads a `cookies.txt`.
+
+    `WGET` takes `#HttpOnly_` for a comment, so no line says to it that a cookie is HttpOnly. `PYTHON` is
+    `http.cookiejar.MozillaCookieJar`, whose `load` takes session cookies with `ignore_discard=True` alone: to it no
+    expiry is empty, since it takes 0 for a second of 1970.
+    """
+
+    CURL = 0
+    WGET = 1
+    PYTHON = 2
+
+
+@dataclasses.dataclass(frozen=True)
+class RefusedLine:
+    """A line of a `cookies.txt` that wasn't taken: `line` is its number, counted from 1, and `number` says why, as
+    FONNALICH_ROW_.. of the header file does."""
+
+    line: int
+    number: int
+
+    @property
+    def text(self) -> str:
+        """Why, in English."""
+        return _told(self.number)
+
+
+@dataclasses.dataclass(frozen=True)
+class Imported:
+    """What became of the lines of a `cookies.txt` that are neither blank nor comments: how many were taken, how many
+    were passed over since their cookies are expired, and which were refused."""
+
+    taken: int
+    expired: int
+    refused: list[RefusedLine]
+
+
+def _imported(answer: bytes) -> Imported:
+    lines, taken = (int.from_bytes(answer[at:at + 8], "little") for at in (0, 8))
+    refused = [RefusedLine(int.from_bytes(answer[at:at + 8], "little"), -answer[at + 8])
+               for at in range(16, len(answer), 9)]
+    return Imported(taken, lines - taken - len(refused), refused)
+
+
 # How many names a session reads of a header one by one, before it reads all names of the header at once.
 _FEW = 4
 
@@ -885,6 +931,22 @@ class Client(_Handle):
     def restart(self, now: Optional[Moment] = None) -> None:
         """Ends the session cookies, as saving and loading does."""
         self._call(_RESTART, _second(now), b"", b"")
+
+    def import_cookies_txt(self, text: Text, now: Optional[Moment] = None) -> Imported:
+        """Puts the cookies of a `cookies.txt` into the client, as curl, wget and `MozillaCookieJar.save` write it, and
+        says what became of its lines.
+
+        Each line is read by itself. Of two of one domain, path and name the later takes the place of the earlier, as of
+        those that the client holds. Neither the suffix list nor `rules` judge a line, so trust the file: they don't
+        keep a cookie of `Domain=com` out."""
+        return _imported(self._call(_IMPORT, _second(now), b"", _bytes(text)))
+
+    def export_cookies_txt(self, reader: Reader = Reader.CURL, *, sessions: bool = True,
+                           now: Optional[Moment] = None) -> bytes:
+        """The cookies that it holds and that aren't expired, as a `cookies.txt` for this reader: with those that end
+        with the session, or without. Those that no line can hold are left out, as one with a tab in its value."""
+        word = (_EXPORT if sessions else _EXPORT_LASTING) + Reader(reader)
+        return self._call(word, _second(now), b"", b"")
 
     def cookies(self, now: Optional[Moment] = None) -> list[HeldCookie]:
         """The cookies that it holds and that aren't expired."""

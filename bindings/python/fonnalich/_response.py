@@ -29,7 +29,8 @@ class ResponseSession(Session):
 
 
 def checked(key: Bytes, fallbacks: Iterable[RingKey]) -> list[RingKey]:
-    """A key, and those that were the key before, which are refused here and not at the first request."""
+    """A key, and those that were the key before with their ends: they are refused here, not at the first request."""
     keys: list[RingKey] = [key, *fallbacks]
-    Session("", keys=keys)
+    # (an exchange looks at the ends)
+    Session("", keys=keys).close()
     return keys

@@ -22,15 +22,16 @@ from django.contrib.sessions import middleware
 from django.contrib.sessions.backends.base import SessionBase
 from django.core.exceptions import ImproperlyConfigured
 
-from . import RingKey, Session, Way
+from . import RingKey
+from ._sealed import SealedCookie
 
 __all__ = ["SessionMiddleware", "SessionStore"]
 
 _PREFIXES = ("__Host-", "__Secure-")
 
 
-def _keys() -> list[RingKey]:
-    """The key of the settings and its fallbacks, where these say what the prefix `__Host-` asks."""
+def _cookie() -> SealedCookie:
+    """The cookie of the settings, by their key and its fallbacks, where these say what the prefix `__Host-` asks."""
     wrong = []
     if not settings.SESSION_COOKIE_NAME.startswith("__Host-"):
         wrong.append("SESSION_COOKIE_NAME has to begin with __Host-")
@@ -43,26 +44,25 @@ def _keys() -> list[RingKey]:
         raise ImproperlyConfigured("; ".join(wrong))
     keys: list[RingKey] = [bytes(key or b""), *getattr(settings, "FONNALICH_KEY_FALLBACKS", ())]
     try:
-        Session("", keys=keys)
+        return SealedCookie(keys, settings.SESSION_COOKIE_NAME)
     except (TypeError, ValueError) as why:
         raise ImproperlyConfigured(f"FONNALICH_KEY_FALLBACKS: {why}") from why
-    return keys
 
 
 class SessionStore(SessionBase):
     """A session whose key is the sealed text of all that it holds, so that nothing is kept at the site."""
 
     def __init__(self, session_key: Optional[str] = None):
-        self._keys = _keys()
+        self._cookie = _cookie()
         super().__init__(session_key)
 
     def load(self) -> dict[str, Any]:
         """What the cookie holds; a new session where it holds nothing by this key, or is past its age."""
-        name = settings.SESSION_COOKIE_NAME
-        text = Session(f"{name}={self.session_key}", keys=self._keys).get(Way.SEALED, name)
+        now, header = time.time(), f"{settings.SESSION_COOKIE_NAME}={self.session_key}"
+        text = self._cookie.opened(header.encode("utf-8", "surrogateescape"), int(now))
         try:
             second, _, content = (text or "").partition(" ")
-            if int(second) + self.get_session_cookie_age() >= time.time():
+            if int(second) + self.get_session_cookie_age() >= now:
                 found: dict[str, Any] = self.serializer().loads(content.encode("latin-1"))
                 return found
         except Exception:  # (whatever a serializer of the settings raises)
@@ -94,10 +94,9 @@ class SessionStore(SessionBase):
         self.save()
 
     def _get_session_key(self) -> str:
-        session = Session("", keys=self._keys)
-        text = f"{int(time.time())} {self.serializer().dumps(self._session).decode('latin-1')}"
-        session.set(Way.SEALED, settings.SESSION_COOKIE_NAME, text)
-        return session.close()[0].partition(";")[0].partition("=")[2]
+        now = int(time.time())
+        line = self._cookie.line(f"{now} {self.serializer().dumps(self._session).decode('latin-1')}", now)
+        return line.partition(";")[0].partition("=")[2]
 
     @classmethod
     def clear_expired(cls) -> None:
@@ -113,7 +112,16 @@ def _hides_prefix(pair: str) -> bool:
 
 class SessionMiddleware(middleware.SessionMiddleware):
     """Django's, which first takes out of a request's cookies those whose names Django reads as under a prefix, and a
-    browser doesn't. So a neighbour may set them."""
+    browser doesn't. So a neighbour may set them.
+
+    Settings by which no `SessionStore` of this module can be are refused as the site starts, by
+    `ImproperlyConfigured`."""
+
+    def __init__(self, get_response: Any):
+        super().__init__(get_response)
+        # (another engine needs no key)
+        if issubclass(self.SessionStore, SessionStore):
+            _cookie()
 
     def process_request(self, request: Any) -> None:
         """Puts the session into a request."""

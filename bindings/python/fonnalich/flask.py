@@ -13,7 +13,8 @@ from typing import TYPE_CHECKING, Any, Iterable, Optional
 
 from flask.sessions import SecureCookieSession, SessionInterface, session_json_serializer
 
-from . import Bytes, RingKey, Session, Way
+from . import Bytes, RingKey
+from ._sealed import SealedCookie
 
 if TYPE_CHECKING:
     from flask import Flask, Request, Response
@@ -24,6 +25,9 @@ __all__ = ["SealedSession", "Sessions", "init_app"]
 _LONGEST = 4096
 # What Flask writes of values that JSON has: by Flask itself it takes three times as long.
 _ENCODER = json.JSONEncoder(separators=(",", ":"))
+_DECODER = json.JSONDecoder()
+# What Flask asks of each value that it writes, where nobody added to that.
+_TAGS = [*session_json_serializer.order]
 # How Flask begins what stands for a value that JSON hasn't, as a date.
 _TAGGED = '{" '
 # What a cookie under `__Host-` can't have.
@@ -48,9 +52,9 @@ def init_app(app: Flask, key: Bytes, name: str = "__Host-session", fallbacks: It
 class SealedSession(SecureCookieSession):
     """What `flask.session` is: a dict that keeps whether it was read and changed."""
 
-    def __init__(self, kept: Session, content: Any = None):
+    def __init__(self, header: bytes, content: Any = None):
         super().__init__(content)
-        self.kept = kept
+        self._header = header
 
 
 class Sessions(SessionInterface):
@@ -58,43 +62,48 @@ class Sessions(SessionInterface):
     sealed is opened too."""
 
     def __init__(self, key: Bytes, name: str = "__Host-session", fallbacks: Iterable[RingKey] = ()):
-        self._keys, self._name = [key, *fallbacks], name
-        Session("", keys=self._keys)
+        self._cookie = SealedCookie([key, *fallbacks], name)
 
     def open_session(self, app: Flask, request: Request) -> SealedSession:
         """The session of a request, empty where it has none by this key, or one past its lifetime."""
         # (a header has a character for each byte)
         header: bytes = request.environ.get("HTTP_COOKIE", "").encode("latin-1")
-        kept = Session(header, keys=self._keys)
-        return SealedSession(kept, _content(app, kept.get(Way.SEALED, self._name)))
+        now = int(time.time())
+        text = self._cookie.opened(header, now)
+        return SealedSession(header, None if text is None else _content(app, text, now))
 
     def save_session(self, app: Flask, session: Any, response: Response) -> None:
         """Puts the line of the session's cookie into a response, where there is something to set or to remove."""
-        if session.accessed and "Vary" in response.headers:
-            response.vary.add("Cookie")
-        elif session.accessed:
-            response.headers["Vary"] = "Cookie"
-        if not session and session.modified:
-            session.kept.remove(Way.SEALED, self._name)
-        elif session and self.should_set_cookie(app, session):
-            self._seal(app, session)
+        if session.accessed:
+            if response.headers.getlist("Vary"):
+                response.vary.add("Cookie")
+            else:
+                response.headers.add("Vary", "Cookie")
+        if session:
+            line = self._sealed(app, session) if self.should_set_cookie(app, session) else None
         else:
+            line = self._cookie.removal(session._header, int(time.time())) if session.modified else None
+        if line is None:
             return
-        for line in session.kept.close():
-            response.headers.add("Set-Cookie", line)
-            if len(line.partition(";")[0]) > _LONGEST:
-                warnings.warn(f"the session is over {_LONGEST} bytes, which clients needn't keep", stacklevel=2)
+        response.headers.add("Set-Cookie", line)
+        if line.index(";") > _LONGEST:
+            warnings.warn(f"the session is over {_LONGEST} bytes, which clients needn't keep", stacklevel=2)
 
-    def _seal(self, app: Flask, session: SealedSession) -> None:
-        text = _written([int(time.time()), dict(session)])
-        session.kept.set(Way.SEALED, self._name, text,
-                         max_age=app.permanent_session_lifetime if session.permanent else None,
-                         http_only=self.get_cookie_httponly(app), same_site=self.get_cookie_samesite(app) or "Lax",
-                         partitioned=bool(app.config.get("SESSION_COOKIE_PARTITIONED")))
+    def _sealed(self, app: Flask, session: SealedSession) -> str:
+        now = int(time.time())
+        return self._cookie.line(_written(now, dict(session)), now,
+                                 max_age=app.permanent_session_lifetime if session.permanent else None,
+                                 http_only=self.get_cookie_httponly(app),
+                                 same_site=self.get_cookie_samesite(app) or "Lax",
+                                 partitioned=bool(app.config.get("SESSION_COOKIE_PARTITIONED")))
 
 
-def _written(value: Any) -> str:
-    """The JSON that Flask writes."""
+def _written(second: int, content: dict[str, Any]) -> str:
+    """The JSON that Flask writes of a second and what a session holds."""
+    text = _plain(content)
+    if text is not None:
+        return f"[{second},{text}]"
+    value = [second, content]
     try:
         return _ENCODER.encode(session_json_serializer.tag(value))
     except TypeError:
@@ -102,13 +111,43 @@ def _written(value: Any) -> str:
         return session_json_serializer.dumps(value)
 
 
-def _content(app: Flask, text: Optional[str]) -> Optional[dict[str, Any]]:
-    """What a cookie holds, where it isn't past its lifetime, which Flask counts for a session of the browser too."""
-    if text is None:
+def _plain(content: dict[str, Any]) -> Optional[str]:
+    """The JSON of texts, whole numbers and truths under several names, each of which Flask writes as JSON does: under
+    one name they may stand for something else. None where a session holds other values."""
+    if len(content) < 2 or session_json_serializer.order != _TAGS:
         return None
+    items = []
+    for name, value in content.items():
+        kind = type(value)
+        if type(name) is not str:
+            return None
+        if kind is str:
+            text = _ENCODER.encode(value)
+        elif kind is int:
+            text = repr(value)
+        elif kind is bool:
+            text = "true" if value else "false"
+        else:
+            return None
+        items.append(f"{_ENCODER.encode(name)}:{text}")
+    return f"{{{','.join(items)}}}"
+
+
+def _read(text: str) -> Any:
+    """What a text of JSON says."""
+    # (`json.loads` looks for white space at both ends, where Flask writes none)
+    if text.startswith("["):
+        value, end = _DECODER.raw_decode(text)
+        if end == len(text):
+            return value
+    return json.loads(text)
+
+
+def _content(app: Flask, text: str, now: int) -> Optional[dict[str, Any]]:
+    """What a cookie holds, where it isn't past its lifetime, which Flask counts for a session of the browser too."""
     try:
-        second, content = session_json_serializer.loads(text) if _TAGGED in text else json.loads(text)
-        is_over = second + int(app.permanent_session_lifetime.total_seconds()) < int(time.time())
+        second, content = session_json_serializer.loads(text) if _TAGGED in text else _read(text)
+        is_over = second + int(app.permanent_session_lifetime.total_seconds()) < now
         return None if is_over else dict(content)
     except (TypeError, ValueError):
         # (another program's text under this key)

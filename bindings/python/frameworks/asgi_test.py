@@ -8,10 +8,10 @@ from starlette.background import BackgroundTask
 from starlette.responses import PlainTextResponse, StreamingResponse
 from starlette.routing import Route, WebSocketRoute
 
-from fonnalich import Client, Rules, Session, Way
+from fonnalich import Client, Refused, Rules, Session, Way
 from fonnalich.asgi import Middleware, Sent
 
-from frameworks.kit import KEY, blocks, forged
+from frameworks.kit import KEY, NOW, blocks, forged
 
 SITE = "https://shop.test/"
 
@@ -123,8 +123,8 @@ class Requests(Asked):
 
     def test_outlive_their_key(self):
         self.get("/")
-        header, new, later = self.client.header(SITE).encode(), bytes(range(64, 128)), time.time() + 60
-        for fallbacks, text in [([], b"1"), ([(KEY, later - 61)], b"1"), ([KEY], b"2"), ([(KEY, later)], b"2")]:
+        header, new, later = self.client.header(SITE).encode(), bytes(range(64, 128)), time.time() + 3600
+        for fallbacks, text in [([], b"1"), ([(KEY, later - 3601)], b"1"), ([KEY], b"2"), ([(KEY, later)], b"2")]:
             told = sent(starlette(new, fallbacks), "/", [(b"cookie", header)])
             self.assertEqual(told[1]["body"], text, fallbacks)
 
@@ -190,6 +190,10 @@ class Requests(Asked):
             Middleware(None, bytes(63))
         with self.assertRaises(ValueError):
             Middleware(None, KEY, [bytes(63)])
+
+    def test_refuse_an_end_in_milliseconds_at_once(self):
+        with self.assertRaisesRegex(Refused, "KeyEnd"):
+            Middleware(None, KEY, [(KEY, NOW * 1000)])
 
     def test_of_the_page_run(self):
         names = {"app": Starlette(routes=ROUTES), "key": KEY}

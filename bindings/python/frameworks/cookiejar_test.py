@@ -25,6 +25,8 @@ SUFFIXES = "com\nnet\norg\nno\nuk\nco.uk\n"
 PRIVATE = re.compile(r"\w\._[a-z]")
 # What the page says of a test that this Python needn't have.
 NEWER = "newer Pythons have it"
+# The newest Python that the page was tried with: a later one may have other tests.
+NEWEST = (3, 13)
 
 
 class StandIn(Jar):
@@ -86,6 +88,10 @@ class Table(unittest.TestCase):
         found, there = {name: not trace for name, trace in played()}, names()
         wanted = {name: is_passed for name, (is_passed, told) in table().items() if name in there or told != NEWER}
         self.assertGreater(len(found), 20)
+        if sys.version_info[:2] > NEWEST:
+            for name in sorted(found.keys() ^ wanted.keys()):
+                print(f"skipped: http.cookiejar: {name}, which the page or this later Python hasn't", flush=True)
+            found, wanted = ({name: it[name] for name in found.keys() & wanted.keys()} for it in (found, wanted))
         self.assertEqual(wanted, found)
 
     def test_says_why(self):

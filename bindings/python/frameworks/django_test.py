@@ -99,8 +99,8 @@ class Sessions(unittest.TestCase):
 
     def test_outlive_their_key(self):
         self.browser.get("/set/user/ann")
-        header, new, later = self.browser.client.header(HOST), bytes(range(64, 128)), time.time() + 60
-        for fallbacks, held in [([], ""), ([(KEY, later - 61)], ""), ([KEY], "('user', 'ann')"),
+        header, new, later = self.browser.client.header(HOST), bytes(range(64, 128)), time.time() + 3600
+        for fallbacks, held in [([], ""), ([(KEY, later - 3601)], ""), ([KEY], "('user', 'ann')"),
                                 ([(KEY, later)], "('user', 'ann')")]:
             with override_settings(FONNALICH_KEY=new, FONNALICH_KEY_FALLBACKS=fallbacks):
                 self.assertEqual(Browser(WSGIHandler()).get("/", header).text, f"[{held}]", fallbacks)
@@ -140,10 +140,15 @@ class Settings(unittest.TestCase):
                       {"SESSION_COOKIE_DOMAIN": "shop.test"}, {"SESSION_COOKIE_PATH": "/shop"},
                       {"FONNALICH_KEY": bytes(63)}, {"FONNALICH_KEY": "x" * 64}, {"FONNALICH_KEY": None},
                       {"FONNALICH_KEY_FALLBACKS": [bytes(63)]}, {"FONNALICH_KEY_FALLBACKS": ["x" * 64]},
-                      {"FONNALICH_KEY_FALLBACKS": [KEY] * 17}]:
-            with override_settings(**wrong), self.assertRaisesRegex(ImproperlyConfigured, [*wrong][0]):
-                from fonnalich.django import SessionStore
-                SessionStore()
+                      {"FONNALICH_KEY_FALLBACKS": [KEY] * 17}, {"FONNALICH_KEY_FALLBACKS": [(KEY, NOW * 1000)]}]:
+            from fonnalich.django import SessionStore
+            for begin in [SessionStore, WSGIHandler]:
+                with override_settings(**wrong), self.assertRaisesRegex(ImproperlyConfigured, [*wrong][0], msg=begin):
+                    begin()
+
+    def test_of_another_engine_need_no_key(self):
+        site = browser(SESSION_ENGINE=OWN["SESSION_ENGINE"], FONNALICH_KEY=None)
+        self.assertEqual(site.get("/set/user/ann").text, "[('user', 'ann')]")
 
 
 class BesideDjango(unittest.TestCase):

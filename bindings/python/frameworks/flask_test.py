@@ -5,13 +5,17 @@ import random
 import time
 import unittest
 import unittest.mock
+import uuid
 import warnings
 
 import flask
 from flask import Flask, session
+from flask.json.tag import JSONTag
+from flask.sessions import session_json_serializer
+from markupsafe import Markup
 
 import fonnalich.flask
-from fonnalich import Cookie, Session, Way
+from fonnalich import Cookie, Refused, Session, Way
 
 from frameworks.kit import KEY, NOW, Browser, blocks, expect_nothing_of_another_hand, forged
 
@@ -82,8 +86,8 @@ class Sessions(unittest.TestCase):
 
     def test_outlive_their_key(self):
         self.browser.get("/set/user/ann")
-        new, later = bytes(range(64, 128)), time.time() + 60
-        for fallbacks, held in [([], ""), ([(KEY, later - 61)], ""), ([KEY], "('user', 'ann')"),
+        new, later = bytes(range(64, 128)), time.time() + 3600
+        for fallbacks, held in [([], ""), ([(KEY, later - 3601)], ""), ([KEY], "('user', 'ann')"),
                                 ([(KEY, later)], "('user', 'ann')")]:
             self.browser.app = sealed(new, fallbacks)
             self.assertEqual(self.browser.get("/").text, f"[{held}]", fallbacks)
@@ -95,14 +99,16 @@ class Sessions(unittest.TestCase):
 
     def test_are_sealed_json_of_the_host(self):
         # (with a hyphen, which no sealing has)
+        began = int(time.time())
         line, = self.browser.get("/set/user/ann-e").lines()
+        ended = int(time.time())
         cookie = Cookie.parse(line)
         self.assertEqual((cookie.name, cookie.path, cookie.domain, cookie.secure, cookie.http_only, cookie.same_site,
                           cookie.max_age, cookie.expires),
                          ("__Host-session", "/", None, True, True, "Lax", None, None))
         self.assertNotIn("ann-e", line)
         second, content = json.loads(Session(line.partition(";")[0], KEY).get(Way.SEALED, "__Host-session"))
-        self.assertLess(abs(time.time() - second), 60)
+        self.assertIn(second, range(began, ended + 1))
         self.assertEqual(content, {"user": "ann-e"})
 
     def test_say_what_they_vary_by(self):
@@ -181,6 +187,8 @@ class Settings(unittest.TestCase):
         for key, error in [(bytes(63), ValueError), ("x" * 64, TypeError)]:
             with self.assertRaises(error):
                 fonnalich.flask.init_app(Flask("shop"), key)
+        with self.assertRaisesRegex(Refused, "KeyEnd"):
+            sealed(KEY, [(KEY, NOW * 1000)])
 
     def test_of_the_page_run(self):
         names = {"app": shop(), "key": KEY}
@@ -188,6 +196,47 @@ class Settings(unittest.TestCase):
         browser = Browser(names["app"])
         browser.get("/set/user/ann")
         self.assertIn("__Host-session=", browser.client.header(HOST))
+
+
+class Texts(unittest.TestCase):
+    """The JSON of a session says what that of Flask does, and is read as what it was."""
+
+    VALUES = ["", "ann", "\u00e9; %\n\x7f", 0, -1, 10**30, True, False, None, 1.5, (1, "a"), b"\xff", [1, [2]],
+              {"a": 1}, {" t": [1]}, {" t": 1, "b": (2,)}, uuid.UUID(int=7), Markup("<b>")]
+    NAMES = ["user", "count", " t", " d", "_permanent", "\u00e9", 'a "b"', ""]
+
+    def test_of_drawn_sessions(self):
+        drawn, app = random.Random(4), Flask("shop")
+        for _ in range(1000):
+            plain = drawn.random() < 0.5
+            values = self.VALUES[:8] if plain else self.VALUES
+            content = {it: drawn.choice(values) for it in drawn.sample(self.NAMES, drawn.randrange(6))}
+            self.expect(app, content)
+
+    def test_by_a_tag_of_the_application(self):
+        class Shout(JSONTag):
+            key = " shout"
+
+            def check(self, value):
+                return value == "ann"
+
+            def to_json(self, value):
+                return value.upper()
+
+            def to_python(self, value):
+                return value.lower()
+
+        order, tags = [*session_json_serializer.order], {**session_json_serializer.tags}
+        self.addCleanup(lambda: (setattr(session_json_serializer, "order", order),
+                                 setattr(session_json_serializer, "tags", tags)))
+        session_json_serializer.register(Shout, index=0)
+        self.expect(Flask("shop"), {"user": "ann", "count": 1})
+        self.assertIn("ANN", fonnalich.flask._written(NOW, {"user": "ann", "count": 1}))
+
+    def expect(self, app, content):
+        text, wanted = fonnalich.flask._written(NOW, content), session_json_serializer.dumps([NOW, content])
+        self.assertEqual(*(json.dumps(json.loads(it), sort_keys=True) for it in (text, wanted)), content)
+        self.assertEqual(repr(fonnalich.flask._content(app, text, NOW)), repr(content))
 
 
 class BesideFlask(unittest.TestCase):
@@ -217,20 +266,24 @@ class BesideFlask(unittest.TestCase):
         for path, later in asked:
             now += later
             with unittest.mock.patch("time.time", lambda: now + 0.25):
-                (text, lives), (other_text, others) = (self.told(it, path, now) for it in browsers)
-            self.assertEqual((text, lives), (other_text, [(it, life and life // 30) for it, life in others]), asked)
+                told, wanted = (self.told(it, path, now) for it in browsers)
+            self.assertEqual(told, wanted, asked)
 
     def told(self, browser, path, now):
         """The text of an answer, and the lives of the cookies that it sets."""
-        browser.now = now
+        browser.now, began = now, datetime.datetime.now().timestamp()
         answer = browser.get(path)
+        # (Flask counts lives from the true time, whatever is told)
+        moments = range(int(began), int(datetime.datetime.now().timestamp()) + 1)
         # (Flask removes a cookie too that isn't there)
-        return answer.text, [it for it in map(self.life, answer.lines()) if it[0]]
+        return answer.text, [it for it in (self.life(line, moments) for line in answer.lines()) if it[0]]
 
-    def life(self, line):
-        """Whether a line sets a cookie, and for how long. Flask counts that from the true time, whatever is told."""
-        it, true = Cookie.parse(line), datetime.datetime.now().timestamp()
-        return bool(it.value), it.max_age if it.max_age is not None else it.expires and round((it.expires - true) / 30)
+    def life(self, line, moments):
+        """Whether a line of one of these moments sets a cookie, and for how long; by an expiry that is another life
+        than 60 it is that expiry."""
+        it = Cookie.parse(line)
+        is_a_minute = it.expires is not None and it.expires - 60 in moments
+        return bool(it.value), it.max_age if it.max_age is not None else 60 if is_a_minute else it.expires
 
 
 if __name__ == "__main__":

@@ -30,14 +30,15 @@ class Loopback(unittest.TestCase):
 
     def getters(self):
         """What gets the body of a path, each by a new client: with and without tasks."""
-        with httpx.Client(transport=Transport(self.client), cookies=EmptyJar(), follow_redirects=True) as asked:
+        how_it_asks = {"cookies": EmptyJar(), "follow_redirects": True, "timeout": 60}
+        with httpx.Client(transport=Transport(self.client), **how_it_asks) as asked:
             yield lambda path, **how: asked.get(self.site.url + path, **how).content
         self.client = Told("test\n")
         yield lambda path, **how: asyncio.run(self.task(path, **how))
 
     async def task(self, path, **how):
-        how_it_asks = {"transport": AsyncTransport(self.client), "cookies": EmptyJar(), "follow_redirects": True}
-        async with httpx.AsyncClient(**how_it_asks) as asked:
+        how_it_asks = {"cookies": EmptyJar(), "follow_redirects": True, "timeout": 60}
+        async with httpx.AsyncClient(transport=AsyncTransport(self.client), **how_it_asks) as asked:
             return (await asked.get(self.site.url + path, **how)).content
 
 
@@ -70,7 +71,7 @@ class Hops(Loopback):
     # Its own table is filled too, from which it makes a header.
     def test_of_a_client_with_a_table(self):
         self.site.lines["/"] = [b"a=1; Path=/"]
-        with httpx.Client(transport=Transport(self.client), cookies={"own": "1"}) as asked:
+        with httpx.Client(transport=Transport(self.client), cookies={"own": "1"}, timeout=60) as asked:
             asked.get(self.site.url)
             self.site.lines.clear()
             self.client.receive(self.site.url, ["a=2; Path=/"])
@@ -79,7 +80,7 @@ class Hops(Loopback):
 
     def test_leave_an_empty_jar(self):
         self.site.lines["/"] = [b"a=1; Path=/"]
-        with httpx.Client(transport=Transport(self.client), cookies=EmptyJar()) as asked:
+        with httpx.Client(transport=Transport(self.client), cookies=EmptyJar(), timeout=60) as asked:
             self.assertEqual(asked.get(self.site.url).cookies["a"], "1")
             self.assertEqual([*asked.cookies.jar], [])
 
@@ -163,7 +164,7 @@ class Tasks(Loopback):
         self.site.server.lines = {f"/{i}": [b"n%d=%d; Path=/" % (i, i)] for i in range(40)}
 
         async def main():
-            async with httpx.AsyncClient(transport=AsyncTransport(self.client)) as asked:
+            async with httpx.AsyncClient(transport=AsyncTransport(self.client), timeout=60) as asked:
                 await asyncio.gather(*(asked.get(f"{self.site.url}/{i}") for i in range(40)))
                 return (await asked.get(self.site.url)).text
 
@@ -179,18 +180,18 @@ class Page(Loopback):
             exec(blocks("requests and httpx")[0], {"session": session, "client": self.client})
             self.site.lines["/"] = [b"a=1; Path=/"]
             for wanted in [b"", b"a=1"]:
-                self.assertEqual(session.get(self.site.url, timeout=10).content, wanted)
+                self.assertEqual(session.get(self.site.url, timeout=60).content, wanted)
 
     def test_of_httpx_runs(self):
         names = {"httpx": httpx, "client": self.client}
         exec(blocks("requests and httpx")[1], names)
         self.site.lines["/"] = [b"a=1; Path=/"]
         with names["browser"] as browser:
-            browser.get(self.site.url)
+            browser.get(self.site.url, timeout=60)
 
         async def again():
             async with names["tasks"] as tasks:
-                return (await tasks.get(self.site.url)).content
+                return (await tasks.get(self.site.url, timeout=60)).content
 
         self.assertEqual(asyncio.run(again()), b"a=1")
 

@@ -116,12 +116,17 @@ class Echo(http.server.BaseHTTPRequestHandler):
         pass
 
 
+class Server(http.server.ThreadingHTTPServer):
+    """A server in which all that a test asks at once has a place in the queue."""
+
+    daemon_threads, request_queue_size = True, 128
+
+
 class Site:
     """A site on loopback, which sends the lines of each path, for the length of a block."""
 
     def __enter__(self):
-        self.server = http.server.ThreadingHTTPServer(("127.0.0.1", 0), Echo)
-        self.server.daemon_threads = True
+        self.server = Server(("127.0.0.1", 0), Echo)
         self.server.lines = self.lines = {}
         threading.Thread(target=self.server.serve_forever, args=(0.01,), daemon=True).start()
         self.url = f"http://127.0.0.1:{self.server.server_port}"

@@ -5,10 +5,10 @@ import unittest
 import urllib.request
 import wsgiref.simple_server
 
-from fonnalich import Client, Jar, Session, Way
+from fonnalich import Client, Jar, Refused, Session, Way
 from fonnalich.wsgi import Middleware, Sent
 
-from frameworks.kit import KEY, Answer, Browser, blocks, forged, validator
+from frameworks.kit import KEY, NOW, Answer, Browser, blocks, forged, validator
 
 
 def over(app):
@@ -62,9 +62,9 @@ class Requests(unittest.TestCase):
     def test_outlive_their_key(self):
         browser = over(counting)
         browser.get("/")
-        new, later = bytes(range(64, 128)), time.time() + 60
+        new, later = bytes(range(64, 128)), time.time() + 3600
         header = browser.client.header("https://shop.test/")
-        for fallbacks, text in [([], "1"), ([(KEY, later - 61)], "1"), ([KEY], "2"), ([(KEY, later)], "2")]:
+        for fallbacks, text in [([], "1"), ([(KEY, later - 3601)], "1"), ([KEY], "2"), ([(KEY, later)], "2")]:
             self.assertEqual(Browser(Middleware(counting, new, fallbacks)).get("/", header).text, text, fallbacks)
 
     def test_refuse_a_bad_key_at_once(self):
@@ -72,6 +72,10 @@ class Requests(unittest.TestCase):
             for keys in [(key,), (KEY, [key]), (KEY, [(key, None)])]:
                 with self.assertRaises(error):
                     Middleware(counting, *keys)
+
+    def test_refuse_an_end_in_milliseconds_at_once(self):
+        with self.assertRaisesRegex(Refused, "KeyEnd"):
+            Middleware(counting, KEY, [(KEY, NOW * 1000)])
 
 
 class Streams(unittest.TestCase):
@@ -205,7 +209,7 @@ class Servers(unittest.TestCase):
         with Client("test\n") as client:
             opener = urllib.request.build_opener(urllib.request.HTTPCookieProcessor(Jar(client)))
             for wanted in [b"1", b"2"]:
-                with opener.open(f"http://localhost:{server.server_port}/", timeout=10) as answer:
+                with opener.open(f"http://localhost:{server.server_port}/", timeout=60) as answer:
                     self.assertEqual(answer.read(), wanted)
 
 

@@ -26,6 +26,13 @@ pub(crate) enum Word {
     SuffixBy,
     ShardBy,
     ShardOfUrlBy,
+    Import,
+    Export,
+    ExportForWget,
+    ExportForPython,
+    ExportLasting,
+    ExportLastingForWget,
+    ExportLastingForPython,
 }
 
 /// The words of a call with one cookie.

@@ -26,6 +26,7 @@
 //! ```
 
 mod cookie;
+mod cookies_txt;
 mod handle;
 mod held;
 mod list;
@@ -34,6 +35,7 @@ mod rules;
 mod site;
 
 pub use cookie::{Cookie, CookieBuilder, Encoded, SameSite, SplitCookies};
+pub use cookies_txt::{Imported, Reader, RefusedLine, RowCause};
 pub use held::HeldCookie;
 pub use list::{List, ListError, Suffixes};
 pub use ring::KeyRing;
@@ -490,6 +492,35 @@ impl Client {
         self.act(Word::Save, now, b"", b"").map(<[u8]>::to_vec)
     }
 
+    /// Puts the cookies of a `cookies.txt`, which curl, wget and Python share, into the client, and says what became of
+    /// its lines.
+    ///
+    /// Each line is read by itself. Of two of one domain, path and name the later takes the place of the earlier, as of
+    /// those that the client holds. Neither the suffix list nor the rules judge a line, so trust the file: they don't
+    /// keep a cookie of `Domain=com` out.
+    ///
+    /// ```
+    /// use fonnalich::{Client, Reader};
+    ///
+    /// let text = b"#HttpOnly_.shop.com\tTRUE\t/\tTRUE\t2000000000\tuser\tann\nno row\n";
+    /// let mut client = Client::new("com\n")?;
+    /// let done = client.import_cookies_txt(text, 1_700_000_000)?;
+    /// assert_eq!((done.taken, done.refused[0].line), (1, 2));
+    /// assert_eq!(client.header("https://www.shop.com/", 1_700_000_000)?, b"user=ann");
+    /// let written = client.export_cookies_txt(Reader::Curl, true, 1_700_000_000)?;
+    /// assert!(written.ends_with(&text[..text.len() - 7]));
+    /// # Ok::<(), fonnalich::Error>(())
+    /// ```
+    pub fn import_cookies_txt(&mut self, text: &[u8], now: i64) -> Result<Imported, Error> {
+        self.act(Word::Import, now, b"", text).map(cookies_txt::imported)
+    }
+
+    /// The cookies that it holds and that aren't expired, as a `cookies.txt` for this reader: with those that end with
+    /// the session, or without. Those that no line can hold are left out, as one with a tab in its value.
+    pub fn export_cookies_txt(&mut self, reader: Reader, sessions: bool, now: i64) -> Result<Vec<u8>, Error> {
+        self.act(reader.word(sessions), now, b"", b"").map(<[u8]>::to_vec)
+    }
+
     /// Ends the session cookies, as saving and loading does.
     pub fn restart(&mut self, now: i64) -> Result<(), Error> {
         self.act(Word::Restart, now, b"", b"").map(|_| ())
@@ -829,6 +860,39 @@ mod tests {
         assert_eq!(client.receive_for(URL, Initiator::User, &["a=1\nb=2"], NOW), Err(Error::LineFeed));
         assert_eq!(client.receive_for(URL, Initiator::User, &[""], NOW), Ok(vec![LineEnd::Parse]));
         assert_eq!(client.receive_for(URL, Initiator::User, &[""; 0], NOW), Ok(vec![]));
+    }
+
+    // What curl 7.88.1 wrote of a site, and what is refused of lines behind it.
+    #[test]
+    fn takes_what_curl_wrote() {
+        let text = "# Netscape HTTP Cookie File\n# https://curl.se/docs/http-cookies.html\n\n\
+                    .example.com\tTRUE\t/a/\tFALSE\t2795896097\tlang\ten\n\
+                    example.com\tFALSE\t/\tFALSE\t0\tsid\t31d4\n\
+                    #HttpOnly_example.com\tFALSE\t/\tFALSE\t2147169600\tuser\tann\n\
+                    example.com\tFALSE\t/\tFALSE\t1\tgone\t\nno row\nexample.com\tFALSE\t/\tFALSE\t0\ta\tx\u{1}\n";
+        let mut client = Client::new(LIST).unwrap();
+        let done = client.import_cookies_txt(text.as_bytes(), NOW).unwrap();
+        let refused = [(8, RowCause::Fields), (9, RowCause::Control)].map(|(line, cause)| RefusedLine { line, cause });
+        assert_eq!(done, Imported { taken: 3, expired: 1, refused: refused.to_vec() });
+        assert_eq!(client.header("http://example.com/a/b", NOW).unwrap(), b"lang=en; sid=31d4; user=ann");
+        for (reader, sessions, lines) in [
+            (Reader::Curl, true, 3),
+            (Reader::Wget, true, 3),
+            (Reader::Python, true, 3),
+            (Reader::Curl, false, 2),
+            (Reader::Wget, false, 2),
+            (Reader::Python, false, 2),
+        ] {
+            let written = client.export_cookies_txt(reader, sessions, NOW).unwrap();
+            let mut again = Client::new(LIST).unwrap();
+            let done = again.import_cookies_txt(&written, NOW).unwrap();
+            assert_eq!((done.taken, done.expired, done.refused.len()), (lines, 0, 0), "{reader:?}");
+            let marked = again.iter(NOW).unwrap().filter(|it| it.is_http_only()).count();
+            assert_eq!(marked, usize::from(reader != Reader::Wget));
+        }
+        assert_eq!(client.import_cookies_txt(b"", i64::MAX), Err(Error::Moment));
+        assert_eq!(client.export_cookies_txt(Reader::Curl, true, i64::MIN), Err(Error::Moment));
+        assert_eq!(client.len(NOW), Ok(3));
     }
 
     #[test]

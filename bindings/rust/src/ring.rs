@@ -91,6 +91,13 @@ fn number(end: Option<i64>) -> i64 {
 }
 
 /// The ring of one key.
+impl From<Key> for KeyRing {
+    fn from(key: Key) -> KeyRing {
+        KeyRing::new(&key)
+    }
+}
+
+/// The ring of one key.
 impl From<&Key> for KeyRing {
     fn from(key: &Key) -> KeyRing {
         KeyRing::new(key)

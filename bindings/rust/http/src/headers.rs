@@ -1,22 +1,23 @@
 //! A session from and into headers.
 
-use fonnalich::{Error, Key, Session};
+use fonnalich::{Error, KeyRing, Session};
 use http::header::{HeaderMap, HeaderValue, COOKIE, SET_COOKIE};
 
 /// A session from the headers of a request, and into those of its response.
 pub trait HttpSession: Sized {
-    /// A session on all `Cookie` fields of a request at this second since 1970. HTTP/2 may split them, and they are one
-    /// text, joined by `; ` (RFC 9113, section 8.2.3).
-    fn from_headers(headers: &HeaderMap, key: &Key, now: i64) -> Self;
+    /// A session on all `Cookie` fields of a request at this second since 1970, with a [`Key`](fonnalich::Key), a
+    /// [`KeyRing`] or a [`SharedKeyRing`](crate::SharedKeyRing). HTTP/2 may split the fields, and they are one text,
+    /// joined by `; ` (RFC 9113, section 8.2.3).
+    fn from_headers(headers: &HeaderMap, keys: impl Into<KeyRing>, now: i64) -> Self;
 
     /// Adds a `Set-Cookie` field for each cookie that was set or removed. Where that is refused none is added.
     fn close_into(&self, headers: &mut HeaderMap) -> Result<(), Error>;
 }
 
 impl HttpSession for Session {
-    fn from_headers(headers: &HeaderMap, key: &Key, now: i64) -> Session {
+    fn from_headers(headers: &HeaderMap, keys: impl Into<KeyRing>, now: i64) -> Session {
         let fields: Vec<_> = headers.get_all(COOKIE).iter().map(HeaderValue::as_bytes).collect();
-        Session::open(fields.join(&b"; "[..]), key, now)
+        Session::open(fields.join(&b"; "[..]), keys, now)
     }
 
     fn close_into(&self, headers: &mut HeaderMap) -> Result<(), Error> {

@@ -1,6 +1,7 @@
 //! The sessions and clients of `fonnalich` in the types of `http`: a [`Session`](fonnalich::Session) from and into its
 //! headers, by the feature `tower` a layer that does so, and by `reqwest` a client that keeps its cookies. Over `http`
-//! 1 there is an extractor too, by the feature `axum`.
+//! 1 there is an extractor too, by the feature `axum`. Each takes a [`Key`](fonnalich::Key), a
+//! [`KeyRing`](fonnalich::KeyRing) of several, or a [`SharedKeyRing`], whose keys change while a site runs.
 //!
 //! ```
 //! use fonnalich::{Key, Session, Way};
@@ -21,6 +22,7 @@ mod extract;
 mod headers;
 #[cfg(feature = "tower")]
 mod layer;
+mod ring;
 #[cfg(feature = "reqwest")]
 mod shared;
 
@@ -29,6 +31,7 @@ pub use extract::{Refusal, RequestSession};
 pub use headers::HttpSession;
 #[cfg(feature = "tower")]
 pub use layer::{SessionFuture, SessionLayer, SessionService, SharedSession};
+pub use ring::SharedKeyRing;
 #[cfg(feature = "reqwest")]
 pub use shared::SharedClient;
 

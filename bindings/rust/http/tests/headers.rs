@@ -1,7 +1,7 @@
 //! A session from and into `http::HeaderMap`.
 
-use fonnalich::{Cookie, Error, Key, Session, Way};
-use fonnalich_http::{now, HttpSession};
+use fonnalich::{Cookie, EndingWay, Error, Key, KeyRing, Session, Way};
+use fonnalich_http::{now, HttpSession, SharedKeyRing};
 use http::header::{HeaderMap, HeaderValue, COOKIE, SET_COOKIE};
 
 const NOW: i64 = 1_700_000_000;
@@ -83,6 +83,59 @@ fn writes_a_field_for_each_line() {
         b"user=DR8SuBlsUrDbRKVCnIMjAjDAS1re9vpW+c9wxfBEMkI%3Dann; Secure; Path=/",
     ];
     assert_eq!(lines(&response), wanted);
+}
+
+/// The headers of a request with this `Cookie` field.
+fn sent(field: &'static str) -> HeaderMap {
+    HeaderMap::from_iter([(COOKIE, HeaderValue::from_static(field))])
+}
+
+// The codes are by Python's `hmac`: of a value, and of one that ends 1,800 seconds from then.
+const SIGNED: &str = "user=DR8SuBlsUrDbRKVCnIMjAjDAS1re9vpW+c9wxfBEMkI%3Dann";
+const ENDING: &str = "user=~PxenwkQ8OcdyLnIBdWTpxdMSu0sCFe4ZDbDAmInG4FU%3D2023-11-14T22%3A43%3A20Zann";
+
+#[test]
+fn reads_by_the_keys_that_count() {
+    let new = Key::from(&[7; 64]);
+    let ring = KeyRing::with_earlier(&new, [(&key(), Some(NOW + 60))]).unwrap();
+    let place = |keys: &KeyRing, now| {
+        let read = Session::from_headers(&sent(SIGNED), keys, now).get_with_place(Way::Signed, "user").unwrap();
+        let ending = Session::from_headers(&sent(ENDING), keys, now);
+        assert_eq!(ending.get_until_with_place(EndingWay::Signed, "user").unwrap(), read);
+        read.map(|(user, place)| (user == "ann").then_some(place))
+    };
+    assert_eq!(place(&KeyRing::new(&key()), NOW), Some(Some(0)));
+    assert_eq!((place(&ring, NOW + 59), place(&ring, NOW + 60)), (Some(Some(1)), None));
+    assert_eq!(place(&KeyRing::new(&new), NOW), None);
+    let late = Session::from_headers(&sent(ENDING), &key(), NOW + 1800);
+    assert_eq!(late.get_until(EndingWay::Signed, "user"), Ok(None));
+}
+
+#[test]
+fn shares_a_ring() {
+    let (shared, old) = (SharedKeyRing::new(key()), Key::from(&[7; 64]));
+    let copy = shared.clone();
+    copy.replace(&old);
+    copy.rotate(&key(), NOW, Some(NOW + 60)).unwrap();
+    assert_eq!(shared.ring(), KeyRing::with_earlier(&key(), [(&old, Some(NOW + 60))]).unwrap());
+    assert_eq!(
+        (KeyRing::from(&shared), SharedKeyRing::from(&shared).ring()),
+        (copy.ring(), KeyRing::from(copy.clone()))
+    );
+    let session = Session::from_headers(&sent(SIGNED), &shared, NOW);
+    // (an open session keeps its keys)
+    shared.replace(&old);
+    assert_eq!(session.get(Way::Signed, "user").unwrap().as_deref(), Some("ann"));
+    assert_eq!(Session::from_headers(&sent(SIGNED), copy, NOW).get(Way::Signed, "user"), Ok(None));
+}
+
+#[test]
+fn keeps_a_ring_that_has_no_room() {
+    let shared = SharedKeyRing::from(KeyRing::with_earlier(&key(), vec![(&key(), None); 16]).unwrap());
+    let before = shared.ring();
+    assert_eq!(shared.rotate(&Key::from(&[7; 64]), NOW, None), Err(Error::ManyKeys));
+    assert_eq!(shared.ring(), before);
+    assert_eq!(format!("{:?}", SharedKeyRing::from(&Key::from(&[77; 64]))), "SharedKeyRing(KeyRing { ends: [], .. })");
 }
 
 #[test]

@@ -1,7 +1,7 @@
 //! The blocks of the page, which run as they stand.
 
-use fonnalich::{Client, Cookie, Error, Key, List, Session, Way};
-use fonnalich_http::{now, HttpSession, SessionLayer, SharedClient, SharedSession};
+use fonnalich::{Client, Cookie, EndingWay, Error, Key, List, Session, Way};
+use fonnalich_http::{now, HttpSession, SessionLayer, SharedClient, SharedKeyRing, SharedSession};
 use http::{Request, Response};
 use std::sync::Arc;
 use tower::{ServiceBuilder, ServiceExt};
@@ -43,6 +43,33 @@ fn counts_visits() {
     let response = runtime.block_on(visited(Key::generate())).unwrap();
     assert_eq!(response.body(), "visit 1");
     assert!(response.headers()["set-cookie"].to_str().unwrap().starts_with("count="));
+}
+
+async fn welcomed(key: Key, request: Request<String>) -> Result<Response<String>, Error> {
+    // README: bindings/README.md
+    async fn welcome(request: Request<String>) -> Result<Response<String>, Error> {
+        let session = request.extensions().get::<SharedSession>().expect("the session of the layer");
+        let Some(user) = session.get_until(EndingWay::Sealed, "user")? else { return Ok(Response::default()) };
+        session.set_until(EndingWay::Sealed, ("user", &user), now() + 30 * 60)?;
+        Ok(Response::new(user))
+    }
+    let keys = SharedKeyRing::new(key);
+    let site = ServiceBuilder::new().layer(SessionLayer::new(&keys)).service_fn(welcome);
+    keys.rotate(&Key::generate(), now(), Some(now() + 7 * 24 * 60 * 60))?;
+    // README: end
+    site.oneshot(request).await
+}
+
+#[test]
+fn welcomes_by_an_earlier_key() {
+    let (key, mut request) = (Key::generate(), Request::<String>::default());
+    let mut session = Session::open("", &key, now());
+    session.set_until(EndingWay::Sealed, ("user", "ann"), now() + 3600).unwrap();
+    let header = session.close().unwrap()[0].split(';').next().unwrap().to_owned();
+    request.headers_mut().insert("cookie", header.parse().unwrap());
+    let runtime = tokio::runtime::Builder::new_current_thread().build().unwrap();
+    let response = runtime.block_on(welcomed(key, request)).unwrap();
+    assert_eq!((response.body().as_str(), response.headers().len()), ("ann", 1));
 }
 
 fn saved() -> Result<Vec<u8>, Box<dyn std::error::Error>> {

@@ -4,8 +4,8 @@ use axum::extract::{FromRef, Request};
 use axum::response::{IntoResponse, Response};
 use axum::routing::{get, MethodRouter};
 use axum::{body::Body, Router};
-use fonnalich::{Error, Key, Way};
-use fonnalich_http::{Refusal, RequestSession};
+use fonnalich::{EndingWay, Error, Key, KeyRing, Way};
+use fonnalich_http::{now, Refusal, RequestSession, SharedKeyRing};
 use http::header::{HeaderValue, COOKIE, SET_COOKIE};
 use http::StatusCode;
 use http_body_util::BodyExt;
@@ -27,7 +27,10 @@ fn key() -> Key {
 
 /// The status, the lines and the body of a page's response to a request with these `Cookie` fields.
 fn ask(page: MethodRouter<State>, key: Key, fields: &[&str]) -> (StatusCode, Vec<String>, String) {
-    let site: Router = Router::new().route("/", page).with_state(State(key));
+    asked(Router::new().route("/", page).with_state(State(key)), fields)
+}
+
+fn asked(site: Router, fields: &[&str]) -> (StatusCode, Vec<String>, String) {
     let mut request = Request::new(Body::empty());
     for field in fields {
         request.headers_mut().append(COOKIE, HeaderValue::from_str(field).unwrap());
@@ -103,6 +106,46 @@ fn keeps_what_a_page_sets() {
     assert_eq!(ask(get(visits), Key::from(&[7; 64]), &[&header]).2, "1");
     for other in ["__Host-count=3", &header.replace("__Host", "%5F_Host"), &header.replace("=", "=A")] {
         assert_eq!(ask(get(visits), key(), &[other]).2, "1", "{other}");
+    }
+}
+
+type Login = RequestSession<SharedKeyRing>;
+
+/// Says who is logged in and the place of the key, and logs in anew up to an hour from then.
+async fn welcome(mut session: Login) -> Result<(Login, String), Refusal> {
+    let found = session.get_until_with_place(EndingWay::Sealed, "__Host-user")?;
+    let (user, place) = found.unwrap_or(("ann".to_owned(), 9));
+    session.set_until(EndingWay::Sealed, ("__Host-user", &user), now() + 3600)?;
+    Ok((session, format!("{user} {place}")))
+}
+
+/// Says the place of the key.
+async fn place(session: RequestSession<KeyRing>) -> Result<String, Refusal> {
+    let found = session.get_until_with_place(EndingWay::Sealed, "__Host-user")?;
+    Ok(found.map_or("none".to_owned(), |it| it.1.to_string()))
+}
+
+#[test]
+fn keeps_a_session_while_keys_change() {
+    let (keys, new) = (SharedKeyRing::new(key()), Key::from(&[7; 64]));
+    let site: Router = Router::new().route("/", get(welcome)).with_state(keys.clone());
+    let visited = |header: &str| {
+        let (_, lines, body) = asked(site.clone(), &[header]);
+        (body, pair(&lines[0]).to_owned())
+    };
+    let (text, first) = visited("");
+    keys.rotate(&new, now(), None).unwrap();
+    let (later, second) = visited(&first);
+    assert_eq!([text, later, visited(&second).0], ["ann 9", "ann 1", "ann 0"]);
+    for (ring, header, wanted) in [
+        (keys.ring(), &first, "1"),
+        (keys.ring(), &second, "0"),
+        (KeyRing::new(&new), &second, "0"),
+        (KeyRing::new(&new), &first, "none"),
+        (KeyRing::with_earlier(&new, [(&key(), Some(now()))]).unwrap(), &first, "none"),
+    ] {
+        let site = Router::new().route("/", get(place)).with_state(ring);
+        assert_eq!(asked(site, &[header]).2, wanted);
     }
 }
 
