@@ -1,4 +1,5 @@
 """Links what packages hold: the shared library of an archive, and the programs as static files."""
+import functools
 import os
 import shlex
 import shutil
@@ -21,6 +22,9 @@ EXPORTS = "FONNALICH_0 { global: fonnalich_*; local: *; };\n"
 # What the library takes of the C library for aarch64, all of it since glibc's first version for that processor.
 TAKEN = ("malloc", "realloc", "free", "memcpy", "memmove", "memset")
 LEAST = "GLIBC_2.17 { global: *; };\n"
+PACKAGING = f"{TOP}/tools/packaging"
+# What stands for the toolchain's functions in C in a program for aarch64.
+FOR_ARM = (f"{TOP}/bindings/c/heap.c", f"{PACKAGING}/os.c")
 PLAIN = ("--build-id=none", "-z", "now", "-z", "relro", "--gc-sections", "-s")
 
 
@@ -60,38 +64,65 @@ def stubs(room, linker):
     names = written(f"{room}/names.c", "".join(f"void {it}(void) {{}}\n" for it in TAKEN))
     words = ["-shared", "-soname", "libc.so.6", f"--version-script={written(f'{room}/least', LEAST)}"]
     run(linker, "-o", f"{room}/libc.so", *words, build.in_c(room, names, target))
-    return [build.in_c(room, f"{TOP}/tools/packaging/division.c", target), "--as-needed", f"{room}/libc.so"]
+    return [build.in_c(room, f"{PACKAGING}/division.c", target), "--as-needed", f"{room}/libc.so"]
 
 
-def program(processor, command):
-    """A proved program as a static file. Where it can't be linked so here, it is as it was built for x86-64, and None
-    for aarch64."""
+class Unlinked(Exception):
+    """Why there is no program."""
+
+
+def program(processor, command, told=None):
+    """A proved program as a static file, which answers `--help` with what is `told`. Where it can't be linked so here,
+    it is as it was built for x86-64. Raises Unlinked where there is none."""
     is_arm = processor != "x86_64"
     words = shlex.split(ARM_CC) if is_arm else CC
-    with tempfile.TemporaryDirectory() as room:
-        objects = shutil.which(words[0]) and (objects_for_arm(command, room) if is_arm else objects_of(command))
-        flags = ["-static", "-o", f"{room}/made", "-Wl,--build-id=none", "-Wl,--gc-sections", "-Wl,-s"]
-        if objects and not subprocess.run([*words, *objects, *flags], check=False).returncode:
-            return read(f"{room}/made")
-    if is_arm:
-        return None
+    if not programs.is_built(command):
+        raise Unlinked("it isn't proved and built")
+    if is_arm and not links_for_arm():
+        raise Unlinked(f"'{ARM_CC}' isn't there, or links no static file")
+    if not programs.is_built_for(command, processor):
+        raise Unlinked(f"it isn't proved and built for {processor}")
+    try:
+        return static(words, objects_for_arm(command) if is_arm else objects_of(command), told)
+    except subprocess.CalledProcessError:
+        if is_arm:
+            sys.exit(f"package: '{ARM_CC}' doesn't link {command}, as stands above")
     print(f"package: {command} is no static file, since what it is linked of isn't there", file=sys.stderr)
     return read(programs.built(command))
 
 
+@functools.cache
+def links_for_arm():
+    """Whether a compiler for aarch64 is there, with a C library that links static files."""
+    if not shutil.which(shlex.split(ARM_CC)[0]):
+        return False
+    with tempfile.TemporaryDirectory() as room:
+        words = [*shlex.split(ARM_CC), "-static", written(f"{room}/it.c", "int main(void) {}\n"), "-o", f"{room}/it"]
+        return subprocess.run(words, stderr=subprocess.DEVNULL, check=False).returncode == 0
+
+
+def static(words, parts, told):
+    """A static file of these objects, and of these files in C, by the words of a compiler."""
+    flags = ["-static", "-Wl,--build-id=none", "-Wl,--gc-sections", "-Wl,-s"]
+    with tempfile.TemporaryDirectory() as room:
+        def in_c(path, *more):
+            made = f"{room}/{os.path.basename(path)}.o"
+            run(*words, "-O2", "-std=gnu11", "-Wall", "-Wextra", *more, "-c", path, "-o", made)
+            return made
+
+        objects = [in_c(it) if it.endswith(".c") else it for it in parts]
+        if told:
+            objects.append(in_c(f"{PACKAGING}/help.c", f"-DTEXT={','.join(map(str, told.encode()))}"))
+        run(*words, *objects, *flags, "-o", f"{room}/made")
+        return read(f"{room}/made")
+
+
 def objects_of(command):
     """What a program is linked of, as the toolchain left it."""
-    kit, made = load_rt().rtlib.KIT, f"{programs.built(command)}.o"
-    return os.path.exists(made) and [made, f"{kit}/c/libos_c.a", f"{kit}/c/liblibc_c.a"]
+    kit = load_rt().rtlib.KIT
+    return [f"{programs.built(command)}.o", f"{kit}/c/libos_c.a", f"{kit}/c/liblibc_c.a"]
 
 
-def objects_for_arm(command, room):
+def objects_for_arm(command):
     """The same for aarch64, with the functions in C that the toolchain has for x86-64 alone."""
-    made = [programs.built_for(command, "aarch64")]
-    if not (os.path.exists(made[0]) and programs.is_fresh(command, made[0])):
-        return None
-    for path in (f"{TOP}/bindings/c/heap.c", f"{TOP}/tools/packaging/os.c"):
-        made_of = f"{room}/{os.path.basename(path)[:-2]}.o"
-        run(*shlex.split(ARM_CC), "-O2", "-std=gnu11", "-Wall", "-Wextra", "-c", path, "-o", made_of)
-        made.append(made_of)
-    return made
+    return [programs.built_for(command, "aarch64"), *FOR_ARM]

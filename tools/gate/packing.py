@@ -22,7 +22,7 @@ class Tree:
         self.files, self.links = {}, {}
 
     def put(self, path, data, mode=FILE):
-        self.files[path] = (data if isinstance(data, bytes) else data.encode(), mode)
+        self.files[os.path.normpath(path)] = (data if isinstance(data, bytes) else data.encode(), mode)
 
     def link(self, path, target):
         self.links[path] = target

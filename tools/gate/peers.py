@@ -3,13 +3,15 @@
 import fcntl
 import os
 import shutil
+import socket
 import subprocess
 import sys
 
+from .bounded import patience
 from .kit import TOP
 
 OUT = f"{TOP}/out"
-# Seconds that a module may take to be imported.
+# Seconds that a module may take to be imported, on a calm machine.
 SECONDS = 60
 
 
@@ -22,7 +24,7 @@ def python_with(*modules):
 
 
 def has(python, modules):
-    how = {"stdout": subprocess.DEVNULL, "stderr": subprocess.DEVNULL, "timeout": SECONDS, "check": False}
+    how = {"stdout": subprocess.DEVNULL, "stderr": subprocess.DEVNULL, "timeout": patience(SECONDS), "check": False}
     return not modules or subprocess.run([python, "-c", f"import {', '.join(modules)}"], **how).returncode == 0
 
 
@@ -32,6 +34,15 @@ def missing(modules, commands):
     if modules and not python_with(*modules):
         left += modules
     return f"{' and '.join(left)} isn't there" if left else ""
+
+
+def held_port():
+    """A socket that keeps its port of loopback from all that ask for any port, as long as it is open. A server that
+    asks for this one, by the option SO_REUSEADDR, listens there."""
+    held = socket.socket()
+    held.setsockopt(socket.SOL_SOCKET, socket.SO_REUSEADDR, 1)
+    held.bind(("127.0.0.1", 0))
+    return held
 
 
 def environment():

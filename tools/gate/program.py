@@ -55,11 +55,17 @@ def built(command, top=TOP):
 
 def crates(command):
     """The repository's crates that a program is made of, each after those that it stands on."""
+    return crates_to(crate_of(command))
+
+
+def crates_to(crate):
+    """The repository's crates that one is made of, itself the last."""
     uses = {}
     with open(f"{TOP}/crates.txt", encoding="utf-8") as lines:
         for line in lines:
             name, _, below = line.partition("#")[0].partition(":")
-            uses[name.strip()] = below.split()
+            # (a kind may stand behind the name)
+            uses[name.partition(" ")[0].strip()] = below.split()
 
     def below(name):
         found = []
@@ -67,18 +73,18 @@ def crates(command):
             found += [its for its in below(it) if its not in found] if it in uses else []
         return [*found, name]
 
-    return below(crate_of(command))
+    return below(crate)
 
 
 def is_built(command):
     """Whether a program is built, and no younger file of its crates' tells that it is stale."""
-    return os.access(built(command), os.X_OK) and is_fresh(command, built(command))
+    return os.access(built(command), os.X_OK) and is_fresh(crate_of(command), built(command))
 
 
-def is_fresh(command, path):
-    """Whether no file of a program's crates is younger than this one."""
-    files = [f"{TOP}/crates.txt"]
-    for name in crates(command):
+def is_fresh(crate, path, *more):
+    """Whether no file of a crate and of those below it, and none of `more`, is younger than this one."""
+    files = [f"{TOP}/crates.txt", *more]
+    for name in crates_to(crate):
         for part in ("src", "specs", "proofs"):
             for at, _, names in os.walk(f"{TOP}/crates/{name}/{part}"):
                 files += [at, *(f"{at}/{it}" for it in names)]
@@ -156,6 +162,13 @@ def build(command):
 def built_for(command, processor):
     """Where the object of a proved program for another processor stands."""
     return f"{TOP}/out/{processor}/{crate_of(command)}.o"
+
+
+def is_built_for(command, processor):
+    """Whether a program is built for a processor, and nothing that it is made of is younger."""
+    made = built_for(command, processor)
+    is_here = processor == "x86_64" or os.path.exists(made) and is_fresh(crate_of(command), made)
+    return is_here and is_built(command)
 
 
 def build_for(command, processor):

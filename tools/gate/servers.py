@@ -10,6 +10,7 @@ import subprocess
 import time
 
 from .bounded import patience
+from .peers import held_port
 
 # Of a server's start, and of its end, in seconds on a calm machine.
 STARTING, ENDING = 20, 5
@@ -27,11 +28,11 @@ def is_awaited(is_there):
 
 
 class Redis:
-    """A server of Redis on a free port of loopback, which writes down each change before it tells of it."""
+    """A server of Redis on a port of loopback that is its own, which writes down each change before it tells of it."""
 
     def __init__(self, folder):
-        with socket.create_server(("127.0.0.1", 0)) as free:
-            self.port = free.getsockname()[1]
+        self.held = held_port()
+        self.port = self.held.getsockname()[1]
         self.folder, self.process = folder, None
         self.words = ["redis-server", "--port", str(self.port), "--bind", "127.0.0.1", "--dir", folder, "--save", "",
                       "--appendonly", "yes", "--appendfsync", "always", "--auto-aof-rewrite-percentage", "0"]

@@ -6,7 +6,9 @@ _cookie_jar() {
         case $over$given in
             --) over=1 ;;
             =) ;; # It stands by itself before a value, and doesn't end the option.
-            --now | --suffixes | --format | --wait | --rules | --domain | --file-format | --for) option=$given ;;
+            --now | --suffixes | --format | --wait | --rules | --domain | --file-format | --for | --from)
+                option=$given
+                ;;
             --* | -?) option='' ;;
             *) [[ $option ]] || plain+=("$given"); option='' ;;
         esac
@@ -25,6 +27,7 @@ _cookie_jar() {
     if [[ ! $option && ! $over && $word == -* ]]; then
         files='' found='--now --suffixes --format --wait --rules --verbose --help --version'
         case ${plain[1]} in
+            receive | header) found+=' --from --navigate' ;;
             list) found+=' --json --domain' ;;
             import) found+=' --strict --file-format' ;;
             export) found+=' --for --file-format' ;;

@@ -44,3 +44,12 @@ ssize_t rattle_arg(size_t i, char *room, size_t length) {
 ssize_t rattle_env(const char *name, char *room, size_t length) {
     return put(getenv(name), room, length);
 }
+
+extern char **environ;
+
+ssize_t rattle_env_at(size_t i, char *room, size_t length) {
+    char **at = environ;
+    for (; at && *at && i; i--)
+        at++;
+    return put(at ? *at : NULL, room, length);
+}
