@@ -64,6 +64,8 @@ static void serve(int to, const char *path, const char *header) {
     int visits, end;
     if (sscanf(path, "/login?user=%63[a-zA-Z0-9]%n", user, &end) == 1 && path[end] == 0)
         seal(to, TO_PAGE, user, 0);
+    else if (strncmp(path, "/login", 6) == 0 && (path[6] == 0 || path[6] == '?'))
+        answer(to, "400 Bad Request", "", "no user\n");
     else if (strcmp(path, "/logout") == 0)
         answer(to, TO_PAGE, exchange(header, REMOVED, value, sizeof value) ? value : "", "");
     else if (strcmp(path, "/") != 0)

@@ -2,15 +2,16 @@
 
 usage: PORT=8000 KEY_FILE=key python3 app.py
 
-/login?user=NAME logs in and redirects to /, which tells the user and counts visits; /logout logs out. A real site asks
-for a password there, by a form. It listens on 127.0.0.1 by http, behind a server that speaks https: a browser takes a
-cookie under `__Host-` by https alone. KEY_FILE has the key of 64 bytes, and is made where it isn't there.
+/login?user=NAME, of letters and digits, logs in and redirects to /, which tells the user and counts visits; /logout
+logs out. A real site asks for a password there, by a form. It listens on 127.0.0.1 by http, behind a server that speaks
+https: a browser takes a cookie under `__Host-` by https alone. KEY_FILE has the key of 64 bytes, and is made where it
+isn't there.
 """
 import os
 import sys
 
 import fonnalich.flask
-from flask import Flask, Response, redirect, request, session
+from flask import Flask, Response, abort, redirect, request, session
 from werkzeug.serving import WSGIRequestHandler, make_server
 
 
@@ -29,9 +30,12 @@ fonnalich.flask.init_app(app, key_of(os.environ.get("KEY_FILE", "key")))
 
 @app.route("/login")
 def login():
+    user = request.args.get("user", "")
+    if not (user.isascii() and user.isalnum()):
+        abort(400, "no user")
     session.clear()
     session.permanent = True
-    session["user"], session["visits"] = request.args["user"], 0
+    session["user"], session["visits"] = user, 0
     return redirect("/", 303)
 
 

@@ -3,9 +3,9 @@
 usage: PORT=8000 KEY_FILE=keys python3 app.py
        KEY_FILE=keys python3 app.py rotate
 
-/login?user=NAME logs in and redirects to /, which tells the user and counts visits; /logout logs out. A real site asks
-for a password there, by a form. It listens on 127.0.0.1 by http, behind a server that speaks https: a browser takes a
-cookie under `__Host-` by https alone.
+/login?user=NAME, of letters and digits, logs in and redirects to /, which tells the user and counts visits; /logout
+logs out. A real site asks for a password there, by a form. It listens on 127.0.0.1 by http, behind a server that speaks
+https: a browser takes a cookie under `__Host-` by https alone.
 
 KEY_FILE has keys of 64 bytes, the newest first, and is made where it isn't there. `rotate`, which a timer runs each
 week, puts a new key before them and leaves the last two: so a key is read for two weeks after it was replaced, and no
@@ -21,6 +21,7 @@ from fonnalich import Session, Way
 
 LIFE, KEPT, LENGTH = 30 * 60, 2, 64
 NAME = "__Host-session"
+TO_PAGE = "303 See Other"
 KEY_FILE = os.environ.get("KEY_FILE", "keys")
 
 
@@ -45,20 +46,36 @@ def rotate():
 def site(environ, start_response):
     # (a header has a character for each byte)
     session = Session(environ.get("HTTP_COOKIE", "").encode("latin-1"), keys=keys())
-    user, _, count = (session.get_until(Way.SEALED, NAME) or "").partition(" ")
-    path, text, fields = environ["PATH_INFO"], "nobody", [("Content-Type", "text/plain")]
-    if path == "/login":
-        keep(session, parse_qs(environ["QUERY_STRING"])["user"][0], 0)
-    elif path == "/logout":
-        session.remove(Way.SEALED, NAME)
-    elif user:
-        text = f"{user} {int(count) + 1}"
-        keep(session, user, int(count) + 1)
-    if path in ("/login", "/logout"):
-        fields.append(("Location", "/"))
-    start_response("200 OK" if path == "/" else "303 See Other",
-                   [*fields, *[("Set-Cookie", line) for line in session.close()]])
+    status, text = answer(session, environ["PATH_INFO"], environ.get("QUERY_STRING", ""))
+    fields = [("Content-Type", "text/plain"), *([("Location", "/")] if status == TO_PAGE else [])]
+    start_response(status, [*fields, *[("Set-Cookie", line) for line in session.close()]])
     return [f"{text}\n".encode()]
+
+
+def answer(session, path, query):
+    """The status and the text of a page."""
+    if path == "/login":
+        return log_in(session, parse_qs(query).get("user", [""])[0])
+    if path == "/logout":
+        session.remove(Way.SEALED, NAME)
+        return TO_PAGE, ""
+    return welcome(session) if path == "/" else ("404 Not Found", "no such page")
+
+
+def log_in(session, user):
+    # (with a blank in it, the text that is sealed would say another user or count)
+    if not (user.isascii() and user.isalnum()):
+        return "400 Bad Request", "no user"
+    keep(session, user, 0)
+    return TO_PAGE, ""
+
+
+def welcome(session):
+    user, _, count = (session.get_until(Way.SEALED, NAME) or "").partition(" ")
+    if not user:
+        return "200 OK", "nobody"
+    keep(session, user, int(count) + 1)
+    return "200 OK", f"{user} {int(count) + 1}"
 
 
 def keep(session, user, count):

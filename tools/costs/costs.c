@@ -343,10 +343,15 @@ static void loads_lines(int n) {
     counts(costs_load_lines, "", "");
 }
 
-static void imports(int n) {
+/* A cookies.txt of n rows. */
+static void rows_of_txt(int n) {
     begun();
     for (int i = 0; i < n; i++)
         add("h%d.example.com\tFALSE\t%s\tTRUE\t4102444800\tname%d\tvalue\n", i / PATH_COUNT, PATHS[i % PATH_COUNT], i);
+}
+
+static void imports(int n) {
+    rows_of_txt(n);
     counts(costs_import, text, "");
 }
 
@@ -366,6 +371,16 @@ static void receives(int n) {
     fill(costs_receive, n, PATH_COUNT);
     does(costs_visit, URL, "");
     counts(costs_receive, LINE, "");
+}
+
+/* The URL is given as text, as to a handle. */
+static void receives_from_text(int n) {
+    begin_client(false, URL);
+    fill(costs_receive, n, PATH_COUNT);
+    begin_counting();
+    bool holds = costs_visit(kept, URL, strlen(URL), "", 0) && costs_receive(kept, LINE, strlen(LINE), "", 0);
+    end_counting();
+    demand(holds, URL);
 }
 
 static void receives_behind_rules(int n) {
@@ -624,6 +639,18 @@ static void handle_receives(int n) {
     fonnalich_end(&handle);
 }
 
+/* The URL is that of the call before. */
+static void handle_receives_again(int n) {
+    begin_handle(n);
+    size_t url = strlen(URL), line = strlen(LINE);
+    fonnalich_receive(&handle, NOW, URL, url, "other=1", 7, out, sizeof out);
+    begin_counting();
+    ptrdiff_t told = fonnalich_receive(&handle, NOW, URL, url, LINE, line, out, sizeof out);
+    end_counting();
+    demand(told == 1 && *out == FONNALICH_INSERTED, "a line");
+    fonnalich_end(&handle);
+}
+
 static void handle_heads(int n) {
     static const char *here = "https://h7.example.com/a/x";
     begin_handle(n);
@@ -632,6 +659,33 @@ static void handle_heads(int n) {
     ptrdiff_t told = fonnalich_header(&handle, NOW, here, url, out, sizeof out);
     end_counting();
     demand(told > 0, "a header");
+    fonnalich_end(&handle);
+}
+
+static void handle_imports_beside(int n, int beside) {
+    begin_handle(beside);
+    rows_of_txt(n);
+    begin_counting();
+    ptrdiff_t told = fonnalich_import(&handle, NOW, text, length, out, sizeof out);
+    end_counting();
+    demand(told == 16, "rows");
+    fonnalich_end(&handle);
+}
+
+static void handle_imports(int n) {
+    handle_imports_beside(n, 0);
+}
+
+static void handle_imports_one(int n) {
+    handle_imports_beside(1, n);
+}
+
+static void handle_exports(int n) {
+    begin_handle(n);
+    begin_counting();
+    ptrdiff_t told = fonnalich_export(&handle, NOW, FONNALICH_FOR_CURL, true, out, sizeof out);
+    end_counting();
+    demand(told > n, "a cookies.txt");
     fonnalich_end(&handle);
 }
 
@@ -722,6 +776,7 @@ static const struct {
     {"n lines of cookies.txt are read", imports, 500},
     {"a client receives a line beside n rows", receives, 1000},
     {"the same behind the rules of browsers", receives_behind_rules, 1000},
+    {"a client receives a line from a URL's text", receives_from_text, 1000},
     {"a line with an Expires behind the rules", receives_date, 0},
     {"a line with a strict Expires behind the rules", receives_strict_date, 0},
     {"n lines over http behind the rules, beside n Secure rows", receives_over_http, 200},
@@ -757,7 +812,11 @@ static const struct {
     {"it sets one beside n", sets_beside, 1000},
     {"it closes with n lines", closes_sets, 1000},
     {"a handle receives a line beside n rows", handle_receives, 1000},
+    {"a handle receives a line of the URL before", handle_receives_again, 1000},
     {"a handle's header of 4 cookies among n", handle_heads, 1000},
+    {"a handle takes n rows of a cookies.txt", handle_imports, 500},
+    {"a handle takes a row of a cookies.txt beside n", handle_imports_one, 500},
+    {"a handle writes n rows as a cookies.txt", handle_exports, 500},
     {"kept for each of n cookies, five to a host", holds_five, 1000},
     {"kept for each of n cookies, one to a host", holds_one, 1000},
     {"kept for each of n cookies of one path", holds_names, 1000},
