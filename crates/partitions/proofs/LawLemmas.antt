@@ -17,7 +17,8 @@ use Rattle.user_agent.specs.declared.rules.Rules.{Rules}
 use Rattle.user_agent.specs.declared.sites.Initiator.{Initiator}
 use Rattle.partitions.specs.Keys.{BySite, IsSiteText}
 use Rattle.partitions.specs.Laws.{AgentRuns, AreSeenFrom, AreUnderOne, HasNonePartitioned}
-use Rattle.partitions.specs.Laws.{IsWithout, PartitionsDontShow, Runs, WithoutPartitionsItIsTheAgent, OthersTouchNothing}
+use Rattle.partitions.specs.Laws.{IsWithout, PartitionsDontShow, Runs, WithoutPartitionsItIsTheAgent}
+use Rattle.partitions.specs.Laws.{OthersTouchNothing}
 use Rattle.partitions.specs.Parted.{ChangesPart, Exchange, IsHeaderOf, IsHeaderUnder, Parted, Receives}
 use Rattle.partitions.specs.Parted.{ReceivesUnder, TakesUnder, found_at, joined, kept_as, made_of, part_at, part_of}
 use Rattle.partitions.specs.Ways.{AreWays, IsWay, going, is_partitioned, is_unpartitioned}
@@ -181,7 +182,8 @@ module _ (once : ReadsOnce) (sites : OneIsRegistrable) (rules : Rules) (list : L
                   outcomes,
                   are,
                   subst (λ l. ChangesPart l other
-                      (Receives one.rules x.url x.initiator x.at (going is_partitioned x.lines ways) outcomes) parts after)
+                      (Receives one.rules x.url x.initiator x.at (going is_partitioned x.lines ways) outcomes) parts
+                      after)
                       (sym of_list) changed,
                 ),
               ),
@@ -254,7 +256,8 @@ module _ (once : ReadsOnce) (sites : OneIsRegistrable) (rules : Rules) (list : L
   ends (x ∷ xs) [] one new parts of_rules of_list agree ran seen = absurd seen
   ends (x ∷ xs) (y ∷ few) one new parts of_rules of_list agree (ways, un, own, mid, h, ran) seen =
       later (by seen.0)
-      (λ next agrees. ends xs few mid new next (h.keeps.rules ∙ of_rules) (h.keeps.suffixes ∙ of_list) agrees ran seen.1)
+      (λ next agrees. ends xs few mid new next (h.keeps.rules ∙ of_rules) (h.keeps.suffixes ∙ of_list) agrees ran
+      seen.1)
     where
       by : ((AreUnderOne list top x.top × (y ≡ x)) ⊎ ((¬ (AreUnderOne list top x.top)) × IsWithout rules x y))
           → Beside one parts y mid

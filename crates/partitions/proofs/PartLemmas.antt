@@ -22,7 +22,8 @@ use Rattle.user_agent.specs.declared.cross_answer.OutcomeFor.{OutcomeFor}
 use Rattle.user_agent.specs.declared.rules.Rules.{Rules}
 use Rattle.user_agent.specs.declared.sites.Initiator.{Initiator}
 use Rattle.partitions.specs.Keys.{GivesText, IsSiteText}
-use Rattle.partitions.specs.Parted.{ChangesPart, FindsPart, Parted, PutsPart, PutsUnder, Receives, Stops, entries_of, found_at, kept_as, shown}
+use Rattle.partitions.specs.Parted.{ChangesPart, FindsPart, Parted, PutsPart, PutsUnder, Receives, Stops, entries_of}
+use Rattle.partitions.specs.Parted.{found_at, kept_as, shown}
 use Rattle.partitions.specs.Parted.{made_of, part_at}
 
 -- ---- a map by texts

@@ -1,5 +1,6 @@
 -- The texts of sites.
-use Rattle.std.proofs.Common.{◌≡◌, ◌⊎◌, ◌∙◌, ◌++◌, ◌∷◌, ℕ, List, None, Option, Some, ap, append_assoc, inl, inr, refl, subst, sym}
+use Rattle.std.proofs.Common.{◌≡◌, ◌⊎◌, ◌∙◌, ◌++◌, ◌∷◌, ℕ, List, None, Option, Some, ap, append_assoc, inl, inr, refl}
+use Rattle.std.proofs.Common.{subst, sym}
 use Rattle.std.specs.Prelude.{IsSomeAnd, codes}
 use Rattle.publicsuffix.specs.Prevailing.{IsName, without_last_dot}
 use Rattle.publicsuffix.specs.Registrable.{IsSuffixItself, NoSuffixHasOne, OneIsRegistrable}

@@ -1,5 +1,6 @@
 -- Lines are sorted one after another.
-use Rattle.std.proofs.Common.{◌≡◌, ◌∙◌, ◌+◌, ◌<◌, ◌++◌, ℕ, Bool, true, false, List, [], ◌∷◌, length, take, get_or, ap, cond, refl}
+use Rattle.std.proofs.Common.{◌≡◌, ◌∙◌, ◌+◌, ◌<◌, ◌++◌, ℕ, Bool, true, false, List, [], ◌∷◌, length, take, get_or, ap}
+use Rattle.std.proofs.Common.{cond, refl}
 use Rattle.std.proofs.Common.{subst, sym}
 use Rattle.std.proofs.lemmas.List.{take_more, take-map, map-append}
 use Rattle.std.specs.Prelude.{map}

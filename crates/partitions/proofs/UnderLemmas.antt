@@ -8,7 +8,8 @@ use Rattle.publicsuffix.specs.Rules.{Rule}
 use Rattle.user_agent.specs.declared.cross_answer.OutcomeFor.{OutcomeFor}
 use Rattle.user_agent.specs.declared.rules.Rules.{Rules}
 use Rattle.partitions.specs.Keys.{GivesText, IsSiteText}
-use Rattle.partitions.specs.Parted.{ChangesPart, Exchange, HaltsUnder, Parted, Receives, ReceivesUnder, Stops, TakesUnder}
+use Rattle.partitions.specs.Parted.{ChangesPart, Exchange, HaltsUnder, Parted, Receives, ReceivesUnder, Stops}
+use Rattle.partitions.specs.Parted.{TakesUnder}
 use Rattle.partitions.specs.Sorting.{AreSorted, TakesBySite}
 use Rattle.partitions.specs.Ways.{going, is_partitioned, is_unpartitioned}
 use Rattle.partitions.specs.declared.received.Halt.TheVariants.{AtUnpartitioned, AtPartitioned}
@@ -92,7 +93,8 @@ module _ (rules : Rules) (store after : Store) (parts : List (List ℕ × Store)
         subst (λ (old : Parted). ReceivesUnder old x sorted.ways.items outcomes partitioned (new left)) viewed (record {
           ways_are = are.ways;
           received = taken;
-          under = by site gives (subst (λ ls. TakesBySite rules list (option_map (λ text. text.items) site) x.url x.initiator
+          under = by site gives (subst (λ ls. TakesBySite rules list (option_map (λ text. text.items) site) x.url
+              x.initiator
               x.at ls partitioned parts left) own_are takes);
           keeps = record { rules = refl; suffixes = same };
         })

@@ -48,7 +48,8 @@ module _ (once : ReadsOnce) (rules : Rules) where
       λ i. way_once line a b p.0 q.0 i ∷ ways_once lines ways others p.1 q.1 i
 
   -- where none is partitioned
-  pub ways_are : (lines : List (List ℕ)) (ways : List Way) → AllByRecursion (λ line. IsWay rules line Unpartitioned) lines
+  pub ways_are : (lines : List (List ℕ)) (ways : List Way)
+      → AllByRecursion (λ line. IsWay rules line Unpartitioned) lines
       → AreWays rules lines ways
       → (going is_unpartitioned lines ways ≡ lines) × (going is_partitioned lines ways ≡ [])
   ways_are [] ways none are = (refl, refl)

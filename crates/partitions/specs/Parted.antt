@@ -1,5 +1,6 @@
 -- Cookies that are partitioned by the site of the top level (CHIPS: docs/DEFINITIONS.md).
-use Rattle.std.specs.Prelude.{◌≡◌, ◌⊎◌, ◌++◌, ℕ, ℤ, Bool, true, false, List, [], ◌∷◌, Option, Some, None, map, unwrap_or}
+use Rattle.std.specs.Prelude.{◌≡◌, ◌⊎◌, ◌++◌, ℕ, ℤ, Bool, true, false, List, [], ◌∷◌, Option, Some, None, map}
+use Rattle.std.specs.Prelude.{unwrap_or}
 use Rattle.std.specs.BTreeMap.{BTreeMap}
 use Rattle.std.specs.Global.{Vec}
 use Rattle.std.specs.Map.{lookup}
@@ -113,8 +114,8 @@ pub record KeepsRules (old new : Parted) : Type 0 where
   pub rules : new.rules ≡ old.rules
   pub suffixes : new.store.suffixes ≡ old.store.suffixes
 
--- what becomes of the partitioned lines: where there are some, the partition under the site takes them, if the top level
--- has a site
+-- what becomes of the partitioned lines: where there are some, the partition under the site takes them, if the top
+-- level has a site
 abbrev pub TakesUnder : Rules → List Rule → Exchange → List (List ℕ) → Option (List OutcomeFor)
     → List (List ℕ × Store) → List (List ℕ × Store) → Type 0
 TakesUnder rules list x lines partitioned old new =

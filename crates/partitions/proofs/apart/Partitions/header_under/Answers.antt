@@ -16,7 +16,8 @@ returns-in-None c =
 pub returns-in_ok-behind-in-Some : goal.returns-in_ok-behind-in-Some
 returns-in_ok-behind-in-Some c =
     if_ok c.with_behind.result _ _
-    (λ both is. header_behind c.args.self.now c.args.top.now c.args.url.now c.args.initiator.now (civil_nanos c.args.now)
+    (λ both is. header_behind c.args.self.now c.args.top.now c.args.url.now c.args.initiator.now
+    (civil_nanos c.args.now)
     (string_bytes c.in_ok-first.first) (string_bytes c.in_ok-behind-in-Some.behind) (string_bytes both)
     c.in-Some.client.now
     (subst (λ (p : Parted). IsHeaderOf p.rules c.args.url.now c.args.initiator.now (civil_nanos c.args.now) p.store
