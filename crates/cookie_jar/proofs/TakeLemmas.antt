@@ -43,7 +43,8 @@ use Rattle.cookie_jar.proofs.KeepLemmas.{clean_of, held_of, kept_from, pairs_of}
 
 -- ---- line by line
 
-all_push : (form : Form) (rules : Rules) (across : Option Bool) (list : List Rule) (rows mid new : List Row) (url : Parts) (now : ℤ)
+all_push : (form : Form) (rules : Rules) (across : Option Bool) (list : List Rule) (rows mid new : List Row)
+    (url : Parts) (now : ℤ)
     (lines : List (List ℕ)) (ends : List End) (line : List ℕ) (end : End)
     → TakesAll form rules across list rows url now lines ends mid
     → TakesLine form rules across list mid url now line end new

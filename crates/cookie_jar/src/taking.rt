@@ -52,7 +52,8 @@ pub(crate) fn take_all(
 ) -> Result<Vec<End>, Stopped>
     ensures all { IfOk result (λ ends. spec.TakesAll form rules.now across store.old.suffixes store.old.rows url.now
         (civil_nanos now) (map (λ line. line.now) lines.now) ends.items store.new.rows) }
-    ensures stopped { IfErr result (λ stopped. spec.IsStopped form rules.now across store.old.suffixes store.old.rows url.now
+    ensures stopped { IfErr result (λ stopped. spec.IsStopped form rules.now across store.old.suffixes
+        store.old.rows url.now
         (civil_nanos now) (map (λ line. line.now) lines.now) stopped.0 store.new.rows) }
     ensures list { store.new.suffixes ≡ store.old.suffixes }
 {
@@ -102,7 +103,8 @@ fn take_beside(
     requires { ArePlacesOf secure.now rules.now url.now (civil_nanos now) store.old.rows }
     ensures all { IfOk result (λ ends. spec.TakesAll form rules.now across store.old.suffixes store.old.rows url.now
         (civil_nanos now) (map (λ line. line.now) lines.now) ends.items store.new.rows) }
-    ensures stopped { IfErr result (λ stopped. spec.IsStopped form rules.now across store.old.suffixes store.old.rows url.now
+    ensures stopped { IfErr result (λ stopped. spec.IsStopped form rules.now across store.old.suffixes
+        store.old.rows url.now
         (civil_nanos now) (map (λ line. line.now) lines.now) stopped.0 store.new.rows) }
     ensures list { store.new.suffixes ≡ store.old.suffixes }
 {
