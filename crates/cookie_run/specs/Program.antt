@@ -32,6 +32,7 @@ use Rattle.cookie_run.specs.declared.program.failure.Failure.{Failure}
 use Rattle.cookie_run.specs.declared.program.failure.Failure.TheVariants.{Arguments, Seed, Moment, SuffixFile}
 use Rattle.cookie_run.specs.declared.program.failure.Failure.TheVariants.{SuffixList, StoreInUse, LockFile, StoreFile}
 use Rattle.cookie_run.specs.declared.program.failure.Failure.TheVariants.{StoreText, Input, Output, Memory}
+use Rattle.cookie_run.specs.declared.program.help.TheConstants.{HELP}
 use Rattle.cookie_run.specs.declared.script.ended.Ended.{Ended}
 use Rattle.cookie_run.specs.declared.script.ended.Ended.TheVariants.{Whole, Faulty}
 
@@ -218,7 +219,22 @@ ProgramTells Untouched io words status said =
     ((kept : Option (List ℕ)) × IsToldBy (Ok kept) status said × FilesGive Untouched io words (Ok kept))
     ⊎ ((failure : Failure) × IsToldBy (Err failure) status said × ProgramFails Untouched io words failure)
 
--- ---- the version
+-- ---- the help and the version
+
+-- A text was written; or the writer failed behind a front of it.
+abbrev pub PrintTells : List ℕ → Option (List ℕ) × Option (List ℕ) → ℕ × ℕ → ℕ → Option (List ℕ) → Type 0
+PrintTells text written unwritten status said =
+    ((status ≡ 0) × (said ≡ None) × Appends written.0 written.1 text)
+    ⊎ ((status ≡ 2) × (said ≡ Some (failure_text Output)) × Rose unwritten.0 unwritten.1
+    × AppendsFront written.0 written.1 text)
+
+-- `--help`, alone
+abbrev pub help_words : List (List ℕ)
+help_words = codes "--help" ∷ []
+
+-- what the code has as the text of `--help`
+abbrev pub help_text : List ℕ
+help_text = HELP.now
 
 -- `--version`, alone
 abbrev pub version_words : List (List ℕ)
@@ -228,18 +244,20 @@ version_words = codes "--version" ∷ []
 abbrev pub program_version : List ℕ
 program_version = version_line (codes "cookie-run")
 
--- The line of the version was written; or the writer failed behind a front of it; or memory was refused for it, and the
--- writer is as it was.
+-- The text of the help was printed, or the writer failed.
+abbrev pub HelpTells : Option (List ℕ) × Option (List ℕ) → ℕ × ℕ → ℕ → Option (List ℕ) → Type 0
+HelpTells written unwritten status said = PrintTells help_text written unwritten status said
+
+-- The line of the version was printed, or the writer failed; or memory was refused for it, and the writer is as it was.
 abbrev pub VersionTells : Type 0 → Option (List ℕ) × Option (List ℕ) → ℕ × ℕ → ℕ → Option (List ℕ) → Type 0
 VersionTells Unwritten written unwritten status said =
-    ((status ≡ 0) × (said ≡ None) × Appends written.0 written.1 program_version)
-    ⊎ (((status ≡ 2) × (said ≡ Some (failure_text Output)) × Rose unwritten.0 unwritten.1
-    × AppendsFront written.0 written.1 program_version)
-    ⊎ ((status ≡ 2) × (said ≡ Some (failure_text Memory)) × Unwritten))
+    PrintTells program_version written unwritten status said
+    ⊎ ((status ≡ 2) × (said ≡ Some (failure_text Memory)) × Unwritten)
 
--- What the program tells of any words: of its version where they ask for it, and nothing is read then; else what a run
--- tells.
+-- What the program tells of any words: of its help or its version where they ask for that, and nothing is read then;
+-- else what a run tells.
 abbrev pub WordsTell : Type 0 → Type 0 → Devices → List (List ℕ) → ℕ → Option (List ℕ) → Type 0
 WordsTell Unread Unwritten io words status said =
-    ((words ≡ version_words) × Unread × VersionTells Unwritten io.written io.unwritten status said)
-    ⊎ ((words ≢ version_words) × ProgramTells (Unread × Unwritten) io words status said)
+    ((words ≡ help_words) × Unread × HelpTells io.written io.unwritten status said)
+    ⊎ (((words ≡ version_words) × Unread × VersionTells Unwritten io.written io.unwritten status said)
+    ⊎ ((words ≢ help_words) × (words ≢ version_words) × ProgramTells (Unread × Unwritten) io words status said))

@@ -1,7 +1,7 @@
 -- What becomes of the store file in a run, under its lock (own: docs/DEFINITIONS.md).
 use Rattle.std.specs.Prelude.{ℕ, List, Option, Some, None, Result, Ok, Err, ◌≡◌, ◌⊎◌}
 use Rattle.kept_file.specs.Locks.{Lock, Given, bytes_of, with_put}
-use Rattle.cookie_run.specs.Program.{Asked, Devices, RunGives, asked_of, version_words}
+use Rattle.cookie_run.specs.Program.{Asked, Devices, RunGives, asked_of, help_words, version_words}
 use Rattle.cookie_run.specs.declared.program.failure.Failure.{Failure}
 
 -- the text that a run gives to be saved, or none
@@ -34,10 +34,10 @@ KeepsStore Untouched io words lock status =
     × (lock.1 ≡ kept_so asked.store_file stored (text_of given)))
     ⊎ ((status ≡ 2) × IsUnread lock)
 
--- words that ask for the version leave the lock
+-- words that ask for the help or the version leave the lock
 abbrev pub WordsKeep : Type 0 → Devices → List (List ℕ) → Lock × Lock → ℕ → Type 0
 WordsKeep Untouched io words lock status =
-    ((words ≡ version_words) × (lock.1 ≡ lock.0)) ⊎ KeepsStore Untouched io words lock status
+    (((words ≡ help_words) ⊎ (words ≡ version_words)) × (lock.1 ≡ lock.0)) ⊎ KeepsStore Untouched io words lock status
 
 -- ---- for private contracts alone
 

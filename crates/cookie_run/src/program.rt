@@ -1,5 +1,5 @@
 //! The program: a script from a reader, played to a writer for a client that is kept in a file.
-ghost use Rattle.std.specs.Prelude.{◌≡◌, ◌⊎◌, ◌↔◌, ℕ, IfOk, IfErr, IsNone, IsTrue, List, None, Ok, OnErr};
+ghost use Rattle.std.specs.Prelude.{◌≡◌, ◌⊎◌, ◌↔◌, ◌∷◌, [], ℕ, IfOk, IfErr, IsNone, IsTrue, List, None, Ok, OnErr};
 ghost use Rattle.std.specs.Prelude.{OnOk, Option, Result, Some, map};
 ghost use Rattle.std.specs.Prelude.{option_map, string_bytes};
 ghost use Rattle.std.specs.Io.KnownBytes.{Appends};
@@ -11,9 +11,11 @@ ghost use Rattle.cookie_run.specs.ProgramKept as kept_spec;
 mod answering;
 mod arguments;
 mod failure;
+mod help;
 
 pub use crate::program::answering::{answer, list_of};
 pub use crate::program::failure::Failure;
+pub use crate::program::help::HELP;
 use crate::release::version_line;
 use devices::pour::{WriteFailed, write_all};
 use devices::{Sink, Source};
@@ -52,8 +54,9 @@ const WAIT: u64 = 10;
 ///
 /// STOREFILE is kept by `kept`: its lock is held from before it is read until the text stands in its place.
 ///
-/// By `cookie-run --version` it prints the line `cookie-run VERSION` and reads nothing. `output` stands
-/// against that where the writer failed, and `memory`, which leaves the writer as it was.
+/// By `cookie-run --help` it prints [`HELP`], and by `cookie-run --version` the line `cookie-run VERSION`;
+/// it reads nothing then. `output` stands against that where the writer failed, and `memory` against the
+/// version, which leaves the writer as it was.
 pub fn program<H: Files + AllocGlobal, K: Keeper, R: Source, W: Sink>(
     rt: &H,
     words: &[String],
@@ -86,18 +89,21 @@ pub fn program<H: Files + AllocGlobal, K: Keeper, R: Source, W: Sink>(
         (map (λ word. string_bytes word) words.now) (K.lock kept.old, K.lock kept.new) result.0 }
     ensures unflushed { IsNone result.1 → W.unflushed writer.new ≡ 0 }
 {
-    if asks_version(words) {
+    if are_alone(words, "--help") {
+        return print(writer, HELP.as_bytes());
+    }
+    if are_alone(words, "--version") {
         return print_version(rt.alloc(), writer);
     }
     run_told(rt, words, kept, reader, writer)
 }
 
-// Whether the words ask for the version.
-fn asks_version(words: &[String]) -> bool
-    ensures { IsTrue result ↔ (map (λ word. string_bytes word) words.now ≡ spec.version_words) }
+// Whether the words are this one alone.
+fn are_alone(words: &[String], asked: &str) -> bool
+    ensures { IsTrue result ↔ (map (λ word. string_bytes word) words.now ≡ asked.now ∷ []) }
 {
     match words {
-        [word] => word.as_str() == "--version",
+        [word] => word.as_str() == asked,
         _ => false,
     }
 }
@@ -112,10 +118,22 @@ fn print_version<W: Sink>(alloc: Global, writer: &mut W) -> (u8, Option<&'static
     ensures failures { IsNone result.1 → W.failures writer.new ≡ W.failures writer.old }
     ensures unflushed { IsNone result.1 → W.unflushed writer.new ≡ 0 }
 {
-    let Ok(line) = version_line(alloc, NAME) else {
-        return (2, Some(Failure::Memory.words()));
-    };
-    match write_flushed(writer, line.as_bytes()) {
+    match version_line(alloc, NAME) {
+        Ok(line) => print(writer, line.as_bytes()),
+        Err(_) => (2, Some(Failure::Memory.words())),
+    }
+}
+
+// Prints a text.
+fn print<W: Sink>(writer: &mut W, text: &[u8]) -> (u8, Option<&'static str>)
+    ensures tells { spec.PrintTells text.now
+        (W.written writer.old, W.written writer.new)
+        (W.failures writer.old, W.failures writer.new)
+        result.0 (option_map (λ said. said.now) result.1) }
+    ensures failures { IsNone result.1 → W.failures writer.new ≡ W.failures writer.old }
+    ensures unflushed { IsNone result.1 → W.unflushed writer.new ≡ 0 }
+{
+    match write_flushed(writer, text) {
         Ok(()) => (0, None),
         Err(_) => (2, Some(Failure::Output.words())),
     }
