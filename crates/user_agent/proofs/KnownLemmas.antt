@@ -1,14 +1,13 @@
 -- What a line with its dates known reads as.
-use Rattle.std.proofs.Common.{◌≡◌, ◌≢◌, ◌≤ℤ◌, ◌≤◌, ◌<◌, ℕ, List, [], ◌∷◌, ◌++◌, length, ◌==◌, Bool, false, Option}
+use Rattle.std.proofs.Common.{◌≡◌, ◌≢◌, ◌≤◌, ◌<◌, ℕ, List, [], ◌∷◌, ◌++◌, length, ◌==◌, Bool, false, Option}
 use Rattle.std.proofs.Common.{Some, None, Result, Ok, Err, refl, sym, ap, subst, ◌∙◌, inl, inr, arith, ⊎_elim}
-use Rattle.std.proofs.Common.{codes, pos, append_assoc, get_or, IsSome, lit<}
+use Rattle.std.proofs.Common.{codes, append_assoc, get_or, IsSome, lit<}
 use Rattle.std.specs.Prelude.{MatchOption}
-use Rattle.std.specs.Str.{trim, trim_start, trim_end, chars}
+use Rattle.std.specs.Str.{trim_start, trim_end, chars}
 use lib.Utf8.{encode}
 use Rattle.std.specs.List.{flat_map, after_first}
 use Rattle.std.proofs.lemmas.List.Concat.{flat_map-append}
 use Rattle.std.specs.List.{All, position_or_len}
-use Rattle.std.specs.Prelude.{IsTrue}
 use Rattle.std.proofs.lemmas.Bool.{both_ways, cases_lt}
 use Rattle.std.proofs.lemmas.List.Elements.{All-nil, All-cons, All-head, All-tail, All-from_get_or}
 use Rattle.std.proofs.lemmas.List.Splits.{slice_split_first, slice_split_none}
@@ -17,7 +16,6 @@ use Rattle.std.proofs.lemmas.List.{append-nil, take_all}
 use Rattle.std.proofs.lemmas.Option.{same_Some}
 use Rattle.jiff.specs.Types.{DateTime}
 use Rattle.jiff.proofs.Family.{same_datetime}
-use Rattle.jiff_core.proofs.SignedLemmas.{signed_arith}
 use Rattle.jiff_core.specs.DateTime.{civil_nanos}
 use Rattle.cookie_text.specs.Attribute.{Attribute, HttpOnly, Secure, Partitioned, OfSite, MaxAge, Path, Domain, Expires}
 use Rattle.cookie_text.specs.Attribute.{Gives, kind, kind_name}
@@ -97,10 +95,8 @@ flipped (p ∷ ps) (k ∷ ks) r = (r.0, flipped ps ks r.1)
 dated_facts : (m : DateTime) (d : Date) (text : List ℕ) → Shows text d → IsMomentOf d m → Gives (dated_piece m)
     (Expires m) × IsClean (dated_piece m)
 dated_facts m d text s is =
-    let high : d.year ≤ 9999 = let h : pos d.year ≤ℤ pos 9999 = subst (λ z. z ≤ℤ pos 9999) is.year m.date.year_in.1 in
-    omega (arith, signed_arith, h) in
     let low : 1000 ≤ d.year = omega (arith, s.late) in
-    (dated_gives d m is s.exists low high, dated_clean d m is s.exists low high)
+    (dated_gives d m is low, dated_clean d m is low)
 
 loose_facts : (p : List ℕ) (m : DateTime) → HasLooseDate p m → Gives (dated_piece m) (Expires m)
     × IsClean (dated_piece m)

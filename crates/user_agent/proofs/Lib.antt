@@ -14,6 +14,7 @@ mod LeftLemmas
 mod LongLemmas
 mod MatchLemmas
 mod NestedLemmas
+mod OneHeaderLemmas
 mod PairLemmas
 mod PieceLemmas
 mod PlaceLemmas

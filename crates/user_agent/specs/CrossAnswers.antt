@@ -27,15 +27,19 @@ use Rattle.user_agent.specs.declared.sites.Initiator.{Initiator}
 
 -- ---- a cookie
 
--- Its same-site-flag isn't "None". Of a cookie without the attribute the flag is "Default", which counts where the rule
--- is on.
+-- What its `SameSite` is, `cookie_text` says: of several the last that has one of the three words. By the draft the
+-- last of all counts, and one of another word is none: so is that of `SameSite=None; SameSite=x` (5.6.7.1; 5.7, step
+-- 17).
+
+-- Its same-site-flag isn't "None" (5.7, step 18). Of a cookie without the attribute the flag is "Default", which counts
+-- where the rule is on.
 abbrev pub is_bound : Bool → Option SameSite → Bool
 is_bound by_default (Some Strict) = true
 is_bound by_default (Some Lax) = true
 is_bound by_default (Some Unrestricted) = false
 is_bound by_default None = by_default
 
--- the flag is "None", and the secure-only-flag is false
+-- the flag is "None", and the secure-only-flag is false (step 19)
 abbrev pub is_unrestricted_without_secure : Record → Bool
 is_unrestricted_without_secure cookie = is_unrestricted cookie.same_site && not (is_set cookie.secure)
 

@@ -50,7 +50,7 @@ abbrev pub BreaksHostPrefix : Parts → Seen → Type 0
 BreaksHostPrefix url seen =
     BeginsInAnyCase seen.cookie.name (codes "__host-") × (¬ (IsHost seen × CameByHttps url))
 
--- Secure, from a URL that isn't secure (5.7, step 8)
+-- Secure, from a URL that isn't secure (5.7, step 13)
 abbrev pub IsSecureFromHttp : Parts → Record → Type 0
 IsSecureFromHttp url cookie = (cookie.secure ≡ Some true) × (¬ (IsSecure url))
 
@@ -82,7 +82,7 @@ abbrev pub HasOne : (Row → Type 0) → List Row → Type 0
 HasOne Is [] = ⊥
 HasOne Is (row ∷ rows) = Is row ⊎ HasOne Is rows
 
--- not Secure, from a URL that isn't secure, and a row is overlaid by it (5.7, step 9)
+-- not Secure, from a URL that isn't secure, and a row is overlaid by it (5.7, step 16)
 pub record IsOverlay (rows : List Row) (url : Parts) (now : ℤ) (cookie : Record) : Type 0 where
   pub plain : ¬ (cookie.secure ≡ Some true)
   pub insecure : ¬ (IsSecure url)
@@ -101,7 +101,7 @@ AsksForOverlay url line =
 abbrev pub asks_for_secure : Record → Bool
 asks_for_secure cookie = is_unrestricted cookie.same_site || is_set cookie.partitioned
 
--- so, and not Secure, from a URL that isn't secure (5.7, where the draft asks it of `SameSite=None` from any URL)
+-- so, and not Secure, from a URL that isn't secure (5.7, step 19 asks it of `SameSite=None` from any URL)
 pub record IsWithoutSecure (url : Parts) (cookie : Record) : Type 0 where
   pub asks : IsTrue (asks_for_secure cookie)
   pub plain : ¬ (cookie.secure ≡ Some true)
@@ -151,6 +151,10 @@ browser_rules = record {
   lax_by_default = false;
   none_needs_secure = false;
 }
+
+-- those of version 15 of the draft, which has the last two (5.7, steps 18 and 19; 5.8.3)
+abbrev pub draft_rules : Rules
+draft_rules = record browser_rules { lax_by_default = true; none_needs_secure = true }
 
 abbrev pub no_rules : Rules
 no_rules = record {

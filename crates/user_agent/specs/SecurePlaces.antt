@@ -1,5 +1,5 @@
 -- Where the Secure rows stand by their names, while lines come from a URL that isn't secure (the draft that follows
--- RFC 6265, 5.7, step 9).
+-- RFC 6265, 5.7, step 16).
 use Rattle.std.specs.Prelude.{◌≡◌, ◌⊎◌, ℕ, ℤ, Bool, List, [], ◌∷◌, Option, filter, map, option_map, string_bytes}
 use Rattle.std.specs.Prelude.{unwrap_or, IfSome, IsTrue}
 use Rattle.std.specs.BTreeMap.{BTreeMap, get_by}

@@ -86,12 +86,13 @@ abbrev pub IsStrictOrRemoves : ℤ → Record → Type 0
 IsStrictOrRemoves now cookie =
     (cookie.same_site ≡ Some Strict) ⊎ ((cookie.max_age ≡ Some (pos 0)) × (pos 0 ≤ℤ now))
 
--- So the lines that a session closes with set strictly from an https URL, where each cookie of its delta is within the
--- bounds of the rules, and that of the name is so.
+-- So the lines that a session closes with set strictly from an https URL, where the cookie of the name in its delta, if
+-- there is one, is so and within the bounds of the rules. Of its other cookies nothing is asked: whatever the rules
+-- change, each keeps its name.
 abbrev pub SessionsSetStrictly : Type 0
 SessionsSetStrictly =
     (rules : Rules) (url : Parts) (now : ℤ) (jar : Jar) (lines : List (List ℕ)) (name : List ℕ) → ClosesWith jar lines
     → CameByHttps url
-    → ((stored : List ℕ) (s : Seen) → delta jar stored ≡ Some s
-    → IsWithin rules now s.cookie × (s.cookie.name ≡ name → IsStrictOrRemoves now s.cookie))
+    → ((stored : List ℕ) (s : Seen) → delta jar stored ≡ Some s → s.cookie.name ≡ name
+    → IsWithin rules now s.cookie × IsStrictOrRemoves now s.cookie)
     → AllByRecursion (SetsStrictly rules now name) lines

@@ -184,6 +184,15 @@ fn is_held_back(by_default: bool, is_let: bool, same_site: Option<SameSite>) -> 
     }
 }
 
+/// A request has one header: of one store, URL and moment, behind the same rules and started so, it is one text at
+/// most. So a header that is what it would be otherwise is so byte for byte.
+pub fn one_header()
+    ensures started { spec.OneHeader }
+    ensures behind { spec.OneHeaderBehind }
+{
+    cookie_store::laws();
+}
+
 /// The header of a cross-site request is byte for byte what it would be, had the user agent no `Strict` row, whatever
 /// came from anyone; and where the request is no safe navigation of the top level, no `Lax` row either. A request that
 /// the user starts has the header of [`UserAgent::header`].
@@ -204,8 +213,9 @@ pub fn carried_cookies_are_read()
 /// `Host` under a name that this host's answers at https set `Strict` each time, no page of another site started that
 /// request. Removals count for nothing, and other answers may be anyone's.
 ///
-/// The lines with which a session closes from an https URL are such, where each cookie of its delta is within the
-/// bounds of [`crate::laws::sessions_pass`], and that of the name is `Strict` or removes.
+/// The lines with which a session closes from an https URL are such, where the cookie of the name in its delta, if
+/// there is one, is within the bounds of [`crate::laws::sessions_pass`], and is `Strict` or removes. Of its other
+/// cookies nothing is asked.
 pub fn strict_names_are_read_at_home()
     ensures read { StrictNamesAreReadAtHome }
     ensures sessions { SessionsSetStrictly }

@@ -47,9 +47,9 @@ pub struct Rules {
     /// percent-decoded, is that of a `Secure` one among them; and [`Refusal::LacksSecure`] is a rule. No user agent has
     /// it. It rests on `secure_from_http`: without that a `Secure` row may come from anyone.
     pub secure_wins: bool,
-    /// To a request that a page of another site starts a cookie without `SameSite` is as one with `SameSite=Lax`
-    /// (sections 5.2 and 5.8.3). Some user agents have it. It shows where it is said what starts a request
-    /// ([`UserAgent::header_for`](crate::UserAgent::header_for)).
+    /// To a request that a page of another site starts, and to its answer, a cookie without `SameSite` is as one with
+    /// `SameSite=Lax` (sections 5.2, 5.7 and 5.8.3). Some user agents have it. It shows where it is said what starts a
+    /// request ([`UserAgent::header_for`](crate::UserAgent::header_for)).
     pub lax_by_default: bool,
     /// A cookie with `SameSite=None` that isn't `Secure` is refused (section 5.7). Some user agents have it. It shows
     /// where it is said what starts a request ([`UserAgent::receive_for`](crate::UserAgent::receive_for)).
@@ -57,7 +57,8 @@ pub struct Rules {
 }
 
 impl Rules {
-    /// The rules that all user agents have, and so all but `secure_wins`, `lax_by_default` and `none_needs_secure`.
+    /// The rules that all user agents have, and so all but `secure_wins`, `lax_by_default` and `none_needs_secure`:
+    /// the draft asks for the last two, and Firefox and Safari do without them. [`Rules::draft`] has them.
     pub fn browser() -> Rules
         ensures { result ≡ spec.browser_rules }
     {
@@ -74,6 +75,18 @@ impl Rules {
             secure_wins: false,
             lax_by_default: false,
             none_needs_secure: false,
+        }
+    }
+
+    /// The rules that version 15 of the draft asks for: those of [`Rules::browser`], `lax_by_default` (section 5.8.3,
+    /// where the flag isn't `None`; section 5.7, step 18) and `none_needs_secure` (section 5.7, step 19).
+    pub fn draft() -> Rules
+        ensures { result ≡ spec.draft_rules }
+    {
+        Rules {
+            lax_by_default: true,
+            none_needs_secure: true,
+            ..Rules::browser()
         }
     }
 

@@ -9,14 +9,19 @@ use publicsuffix::laws::one_registrable_domain;
 use publicsuffix::registrable_without_list;
 use url::Url;
 
-/// Who starts a request, and how.
+/// Who starts a request, and how (sections 5.2 and 5.2.1).
 ///
-/// A redirect is of the request that it answers: what starts that starts each hop.
+/// A redirect is of the request that it answers: what starts that starts each hop. A reload by the user repeats what
+/// started the page before. For a WebSocket give its URL as http or https, as which it is fetched: `wss` is another
+/// scheme than `https`, and so another site.
 #[derive(Clone, Copy, Debug)]
 pub struct Initiator<'p> {
-    /// The page that starts it, by the URL of the document at the top of its frames; `None` where the user does, as by
-    /// a typed URL or a bookmark. Where the frames above the one that starts it are not all of one site, any URL
-    /// without a host, as `data:,`: it is of no site.
+    /// The page that starts it, by the URL of the document at the top, where the document that starts it and each one
+    /// above it are of that one's site. Where one of them isn't, as a frame of another site, any URL without a host, as
+    /// `data:,`: it is of no site. `None` where the user starts it, as by a typed URL or a bookmark.
+    ///
+    /// Of a document that is `about:blank`, `srcdoc` or a `blob:` the URL is that of the document which made it;
+    /// `data:,` errs on the safe side. What a worker starts, the document starts that started the worker.
     pub page: Option<&'p Url>,
     /// Whether it navigates the top level: what the user then looks at is what it gives.
     pub is_navigation: bool,
@@ -24,7 +29,7 @@ pub struct Initiator<'p> {
     pub is_safe: bool,
 }
 
-/// Whether a page starts the request, and isn't of the site of its URL.
+/// Whether a page starts the request, and isn't of the site of its URL (section 5.2).
 ///
 /// A site is a scheme and a registrable domain by the store's list of public suffixes; a host that is an address or a
 /// public suffix itself is its own. A URL without a host is of no site. It takes no memory.
@@ -57,8 +62,9 @@ pub fn are_same_site(store: &CookieStore, one: &Url, other: &Url) -> bool
     }
 }
 
-// The domain of the host's site.
-fn site_domain<'h>(store: &CookieStore, host: &'h str) -> &'h [u8]
+/// The domain of a host's site: its registrable domain by the store's list of public suffixes; a host that is an
+/// address or a public suffix itself is its own. It takes no memory.
+pub fn site_domain<'h>(store: &CookieStore, host: &'h str) -> &'h [u8]
     ensures { spec.IsSiteDomain store.now.suffixes host.now result.now }
 {
     one_registrable_domain();
