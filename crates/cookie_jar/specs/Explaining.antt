@@ -108,8 +108,8 @@ refusal_rule rule.Control = codes " (draft-ietf-httpbis-rfc6265bis, section 5.6,
 refusal_rule rule.TooLong = codes " (draft-ietf-httpbis-rfc6265bis, section 5.6, step 5)\n"
 refusal_rule rule.SecurePrefix = codes " (draft-ietf-httpbis-rfc6265bis, sections 4.1.3.1 and 5.7, step 20)\n"
 refusal_rule rule.HostPrefix = codes " (draft-ietf-httpbis-rfc6265bis, sections 4.1.3.2 and 5.7, step 21)\n"
-refusal_rule rule.SecureFromHttp = codes " (draft-ietf-httpbis-rfc6265bis, section 5.7, step 8)\n"
-refusal_rule rule.SecureOverlay = codes " (draft-ietf-httpbis-rfc6265bis, section 5.7, step 9)\n"
+refusal_rule rule.SecureFromHttp = codes " (draft-ietf-httpbis-rfc6265bis, section 5.7, step 13)\n"
+refusal_rule rule.SecureOverlay = codes " (draft-ietf-httpbis-rfc6265bis, section 5.7, step 16)\n"
 refusal_rule rule.LacksSecure = codes " (a rule of the crate user_agent: secure_wins)\n"
 
 abbrev pub outcome_rule : Outcome → List ℕ

@@ -209,8 +209,8 @@ fn refusal_rule(rule: Refusal) -> &'static str
         Refusal::HostPrefix => {
             " (draft-ietf-httpbis-rfc6265bis, sections 4.1.3.2 and 5.7, step 21)\n"
         }
-        Refusal::SecureFromHttp => " (draft-ietf-httpbis-rfc6265bis, section 5.7, step 8)\n",
-        Refusal::SecureOverlay => " (draft-ietf-httpbis-rfc6265bis, section 5.7, step 9)\n",
+        Refusal::SecureFromHttp => " (draft-ietf-httpbis-rfc6265bis, section 5.7, step 13)\n",
+        Refusal::SecureOverlay => " (draft-ietf-httpbis-rfc6265bis, section 5.7, step 16)\n",
         Refusal::LacksSecure => " (a rule of the crate user_agent: secure_wins)\n",
     }
 }

@@ -15,9 +15,9 @@ use Rattle.jar_commands.specs.Steps.{TakesVisit}
 use Rattle.jar_commands.specs.declared.plan.Start.{Start}
 
 -- a visit behind those that were taken
-pub takes_behind : (is_verbose : Bool) (form : Form) (rules : Rules) (start : Start) (list : List Rule) (rows : List Row) (now : ℤ)
-    (visits : List VisitText) (visit : VisitText)
-    (told more : List ℕ) (refused more_refused : Bool) (mid new : List Row)
+pub takes_behind : (is_verbose : Bool) (form : Form) (rules : Rules) (start : Start) (list : List Rule)
+    (rows : List Row) (now : ℤ) (visits : List VisitText) (visit : VisitText) (told more : List ℕ)
+    (refused more_refused : Bool) (mid new : List Row)
     → TakesVisits is_verbose form rules start list rows now visits told refused mid
     → TakesVisit is_verbose form rules start list mid now visit told refused more more_refused new
     → TakesVisits is_verbose form rules start list rows now (visits ++ visit ∷ []) more more_refused new
@@ -34,7 +34,7 @@ takes_behind is_verbose form rules start list rows now [] visit told more refuse
       one.3 ∙ (ap (λ b. b || refuses visit one.0) takes.1 ∙ (false-or (refuses visit one.0)
           ∙ sym (or-false (refuses visit one.0)))),
     )
-takes_behind is_verbose form rules start list rows now (v ∷ visits) visit told more refused more_refused mid new takes one =
+takes_behind is_verbose form rules start list rows now (v ∷ visits) visit told more refused after mid new takes one =
     let behind = visit_told is_verbose visit one.0 in
     let front = visit_told is_verbose v takes.0 in (
       takes.0,
@@ -62,10 +62,10 @@ pub takes_next : {A : Type 0} (is_verbose : Bool) (f : A → VisitText) (form : 
     → TakesVisits is_verbose form rules start list rows now (take i (map f xs)) told refused mid → here ≡ list
     → TakesVisit is_verbose form rules start here mid now (f (get_or xs i d)) told refused more more_refused new
     → TakesVisits is_verbose form rules start list rows now (take (i + 1) (map f xs)) more more_refused new
-takes_next is_verbose f form rules start list here rows mid new now xs i d told more refused more_refused h takes same one =
-    subst (λ visits. TakesVisits is_verbose form rules start list rows now visits more more_refused new)
+takes_next is_verbose f form rules start list here rows mid new now xs i d told more refused after h takes same one =
+    subst (λ visits. TakesVisits is_verbose form rules start list rows now visits more after new)
     (sym (map_take f xs i d h))
     (takes_behind is_verbose form rules start list rows now (take i (map f xs)) (f (get_or xs i d)) told more refused
-    more_refused mid new takes
-    (subst (λ l. TakesVisit is_verbose form rules start l mid now (f (get_or xs i d)) told refused more more_refused new)
+    after mid new takes
+    (subst (λ l. TakesVisit is_verbose form rules start l mid now (f (get_or xs i d)) told refused more after new)
     same one))

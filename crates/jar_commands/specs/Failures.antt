@@ -13,8 +13,8 @@ use Rattle.jar_words.specs.Refusing.{kind_text}
 use Rattle.jar_commands.specs.declared.failure.Failure.{Failure}
 use Rattle.jar_commands.specs.declared.failure.Failure.TheVariants.{Words, Moment, Format, FileFormat, Url, SuffixFile}
 use Rattle.jar_commands.specs.declared.failure.Failure.TheVariants.{JarFile, File, SuffixList, JarText, Input, Heads}
-use Rattle.jar_commands.specs.declared.failure.Failure.TheVariants.{FileText, FileEntry, JarRow, FileRow, Output}
-use Rattle.jar_commands.specs.declared.failure.Failure.TheVariants.{Memory, OwnFile, Wait, JarInUse, LockFile, Rules, From}
+use Rattle.jar_commands.specs.declared.failure.Failure.TheVariants.{FileText, FileEntry, JarRow, FileRow, Output, From}
+use Rattle.jar_commands.specs.declared.failure.Failure.TheVariants.{Memory, OwnFile, Wait, JarInUse, LockFile, Rules}
 use Rattle.jar_commands.specs.declared.failure.Spot.{Spot}
 use Rattle.jar_commands.specs.declared.failure.Spot.TheVariants as spot
 

@@ -21,8 +21,12 @@ is_refusing name =
     || (bytes_eq name (codes "host-prefix") || (bytes_eq name (codes "secure-from-http")
     || bytes_eq name (codes "secure-overlay")))))
 
+-- a rule on `SameSite`, which counts where it is said what starts a request
+abbrev pub is_of_same_site : List ℕ → Bool
+is_of_same_site name = bytes_eq name (codes "lax-by-default") || bytes_eq name (codes "none-needs-secure")
+
 abbrev pub is_rule : List ℕ → Bool
-is_rule name = is_changing name || is_refusing name
+is_rule name = is_changing name || (is_refusing name || is_of_same_site name)
 
 abbrev pub are_rules : List (List ℕ) → Bool
 are_rules names = list_all is_rule names
@@ -31,7 +35,7 @@ are_rules names = list_all is_rule names
 abbrev pub has : List (List ℕ) → List ℕ → Bool
 has names rule = list_any (λ name. bytes_eq name rule) names
 
--- just the rules that are named: `secure_wins`, `lax_by_default` and `none_needs_secure` have no name here
+-- just the rules that are named: `secure_wins` has no name here
 abbrev pub rules_with : List (List ℕ) → Rules
 rules_with names = record {
   long_attributes = has names (codes "long-attributes");
@@ -44,15 +48,15 @@ rules_with names = record {
   secure_from_http = has names (codes "secure-from-http");
   secure_overlay = has names (codes "secure-overlay");
   secure_wins = false;
-  lax_by_default = false;
-  none_needs_secure = false;
+  lax_by_default = has names (codes "lax-by-default");
+  none_needs_secure = has names (codes "none-needs-secure");
 }
 
 -- the rules of these names, where each is one
 abbrev pub rules_in : List (List ℕ) → Option Rules
 rules_in names = if are_rules names then Some (rules_with names) else None
 
--- the rules of a list: all those of browsers, none, or those that it names
+-- the rules of a list: those of all browsers, none, or those that it names
 abbrev pub rules_named : List ℕ → Option Rules
 rules_named list =
     if bytes_eq list (codes "browser") then Some browser_rules

@@ -83,8 +83,8 @@ fn rules_with(names: &[&[u8]]) -> Rules
         secure_from_http: has(names, "secure-from-http"),
         secure_overlay: has(names, "secure-overlay"),
         secure_wins: false,
-        lax_by_default: false,
-        none_needs_secure: false,
+        lax_by_default: has(names, "lax-by-default"),
+        none_needs_secure: has(names, "none-needs-secure"),
     }
 }
 
@@ -92,7 +92,7 @@ fn rules_with(names: &[&[u8]]) -> Rules
 fn is_rule(name: &[u8]) -> bool
     ensures { result ≡ spec.is_rule name.now }
 {
-    is_changing(name) || is_refusing(name)
+    is_changing(name) || is_refusing(name) || is_of_same_site(name)
 }
 
 // Whether it is that of a rule which changes lines.
@@ -112,6 +112,13 @@ fn is_refusing(name: &[u8]) -> bool
         || is(name, "host-prefix")
         || is(name, "secure-from-http")
         || is(name, "secure-overlay")
+}
+
+// Whether it is that of a rule on `SameSite`.
+fn is_of_same_site(name: &[u8]) -> bool
+    ensures { result ≡ spec.is_of_same_site name.now }
+{
+    is(name, "lax-by-default") || is(name, "none-needs-secure")
 }
 
 // Whether one of the names is this one.

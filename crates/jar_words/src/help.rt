@@ -45,7 +45,8 @@ options, which may stand anywhere; behind a word -- no word is an option:
   --wait SECONDS       For so many seconds another may hold JAR, which is locked while it changes;
                        10 where it isn't given.
   --rules LIST         The rules of browsers for what is received, some of those below with commas
-                       between, or browser for all, or none; browser where it isn't given.
+                       between, or browser for all but the last two, or none; browser where it
+                       isn't given. The last two count beside --from.
   --suffixes FILE      The list of public suffixes; Debian's or a small one where it isn't given.
   --now MOMENT         The moment, as 2024-01-01T00:00:00Z; the clock's where it isn't given.
   -v, --verbose        Says on standard error which list of public suffixes is used, and which rows
@@ -54,7 +55,7 @@ options, which may stand anywhere; behind a word -- no word is an option:
   -V, --version        Prints the version.
 
 rules: long-attributes, dates, long-lives, control, too-long, secure-prefix, host-prefix,
-secure-from-http, secure-overlay
+secure-from-http, secure-overlay, lax-by-default, none-needs-secure
 
 examples:
   curl -gsLD - -o page https://shop.com/ | cookie-jar jar.json receive https://shop.com/

@@ -7,4 +7,5 @@ pub returns-in-Err-clause-err : goal.returns-in-Err-clause-err
 returns-in-Err-clause-err c =
     let received = c.in_ok-told.field-0 in
     heads_unkept (plan_text c.args.plan.now) c.args.jar.now c.args.url.now c.args.start.now c.args.text.now
-    (string_bytes received.told) received.is_any_refused c.receive_heads.new.jar.rows c.in-Err.failure c.in_ok-told.ensures.ok c.in-Err.ensures.err
+    (string_bytes received.told) received.is_any_refused c.receive_heads.new.jar.rows c.in-Err.failure
+    c.in_ok-told.ensures.ok c.in-Err.ensures.err

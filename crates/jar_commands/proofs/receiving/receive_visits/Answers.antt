@@ -13,15 +13,16 @@ loop-visit-preserved c =
     let rules_on = c.args.plan.now.rules in
     let now = civil_nanos c.args.plan.now.at in
     record {
-      takes = takes_next verbose visit_text form rules_on c.args.start.now c.args.jar.now.suffixes c.loop-visit.jar.suffixes
-          c.args.jar.now.rows c.loop-visit.jar.rows c.receive_visit.new.jar.rows now c.args.visits.now
-          c.loop-visit.visit-index c.visit-item.result (string_bytes c.loop-visit.received.told)
+      takes = takes_next verbose visit_text form rules_on c.args.start.now c.args.jar.now.suffixes
+          c.loop-visit.jar.suffixes c.args.jar.now.rows c.loop-visit.jar.rows c.receive_visit.new.jar.rows now
+          c.args.visits.now c.loop-visit.visit-index c.visit-item.result (string_bytes c.loop-visit.received.told)
           (string_bytes c.receive_visit.new.received.told)
           c.loop-visit.received.is_any_refused c.receive_visit.new.received.is_any_refused c.loop-visit-test.true
           c.loop-visit.invariant.takes c.loop-visit.invariant.list
-          (subst (λ visit. TakesVisit verbose form rules_on c.args.start.now c.loop-visit.jar.suffixes c.loop-visit.jar.rows now
-          (visit_text visit) (string_bytes c.loop-visit.received.told) c.loop-visit.received.is_any_refused
-          (string_bytes c.receive_visit.new.received.told) c.receive_visit.new.received.is_any_refused
-          c.receive_visit.new.jar.rows) c.visit-item.is c.in_ok-receive_visit.ensures.ok);
+          (subst (λ visit. TakesVisit verbose form rules_on c.args.start.now c.loop-visit.jar.suffixes
+          c.loop-visit.jar.rows now (visit_text visit) (string_bytes c.loop-visit.received.told)
+          c.loop-visit.received.is_any_refused (string_bytes c.receive_visit.new.received.told)
+          c.receive_visit.new.received.is_any_refused c.receive_visit.new.jar.rows) c.visit-item.is
+          c.in_ok-receive_visit.ensures.ok);
       list = search rules;
     }
