@@ -2,23 +2,16 @@
 use Rattle.std.proofs.Common.{◌≡◌, ◌⊎◌, ◌∙◌, ◌++◌, ◌∷◌, ℕ, List, None, Option, Some, ap, append_assoc, inl, inr, refl}
 use Rattle.std.proofs.Common.{subst, sym}
 use Rattle.std.specs.Prelude.{IsSomeAnd, codes}
-use Rattle.publicsuffix.specs.Prevailing.{IsName, without_last_dot}
-use Rattle.publicsuffix.specs.Registrable.{IsSuffixItself, NoSuffixHasOne, OneIsRegistrable}
+use Rattle.publicsuffix.specs.Registrable.{OneIsRegistrable}
 use Rattle.publicsuffix.specs.Rules.{Rule}
 use Rattle.store_parts.specs.Schemes.{host_of}
 use Rattle.url.specs.Parts.{Parts}
 use Rattle.url.specs.Scheme.{IsScheme}
 use Rattle.url.specs.Parser.{split_scheme}
 use Rattle.url.proofs.RoundTrip.{split_own_scheme}
-use Rattle.user_agent.specs.Sites.{AreSameSite, HasDomain, IsSiteDomain, IsSiteOf, Site}
+use Rattle.user_agent.specs.Sites.{AreSameSite, IsSiteDomain, IsSiteOf, Site}
 use Rattle.partitions.specs.Laws.{AreUnderOne, OneTextIsOneSite}
 use Rattle.partitions.specs.Keys.{IsSiteText, site_text}
-
--- a host that is no name or a public suffix itself has no registrable domain
-pub no_domain : NoSuffixHasOne → (list : List Rule) (host other : List ℕ)
-    → ((¬ (IsName (without_last_dot host))) ⊎ IsSuffixItself list host) → ¬ (HasDomain list host other)
-no_domain none list host other (inl no_name) has = no_name has.registrable.is_name
-no_domain none list host other (inr itself) has = none list host other itself has.registrable
 
 module _ (once : OneIsRegistrable) (list : List Rule) where
   one_domain : (host one other : List ℕ) → IsSiteDomain list host one → IsSiteDomain list host other → one ≡ other

@@ -1,7 +1,7 @@
 -- Laws of partitions (own: docs/DEFINITIONS.md).
 use Rattle.std.specs.Prelude.{◌≡◌, ◌⊎◌, ◌↔◌, ℕ, ℤ, List, [], ◌∷◌, Option}
 use Rattle.std.specs.List.{AllByRecursion}
-use Rattle.cookie_store.specs.Rows.{Row}
+use Rattle.cookie_store.specs.Rows.{Row, Store}
 use Rattle.publicsuffix.specs.Rules.{Rule}
 use Rattle.url.specs.Parts.{IsValid, Parts}
 use Rattle.user_agent.specs.CrossSite.{IsHeaderFor}
@@ -10,19 +10,27 @@ use Rattle.user_agent.specs.declared.cross_answer.OutcomeFor.{OutcomeFor}
 use Rattle.user_agent.specs.declared.rules.Rules.{Rules}
 use Rattle.user_agent.specs.declared.sites.Initiator.{Initiator}
 use Rattle.partitions.specs.Keys.{IsSiteText}
-use Rattle.partitions.specs.Parted.{Exchange, IsHeaderUnder, Parted, Receives, ReceivesUnder, found_at}
+use Rattle.cookie_run.specs.declared.step.Stopped.{Stopped}
+use Rattle.partitions.specs.Parted.{Exchange, HaltsUnder, IsHeaderUnder, Parted, Receives, ReceivesUnder, Stops}
+use Rattle.partitions.specs.Parted.{found_at}
 use Rattle.partitions.specs.Ways.{AreWays, IsWay, going, is_unpartitioned}
+use Rattle.partitions.specs.declared.received.Halt.{Halt}
 use Rattle.partitions.specs.declared.way.Way.{Way}
 use Rattle.partitions.specs.declared.way.Way.TheVariants.{Unpartitioned}
 
 -- ---- histories
 
--- what is kept after the exchanges, one after another
+-- what is kept after an exchange: the answer is taken to its end, or memory is refused somewhere
+abbrev pub Steps : Parted → Exchange → Parted → Type 0
+Steps old x new =
+    ((ways : List Way) × (unpartitioned : List OutcomeFor) × (partitioned : Option (List OutcomeFor))
+    × ReceivesUnder old x ways unpartitioned partitioned new)
+    ⊎ ((halt : Halt) × HaltsUnder old x halt new)
+
+-- after the exchanges, one after another
 abbrev pub Runs : Parted → List Exchange → Parted → Type 0
 Runs old [] new = new ≡ old
-Runs old (x ∷ xs) new =
-    (ways : List Way) × (unpartitioned : List OutcomeFor) × (partitioned : Option (List OutcomeFor)) × (mid : Parted)
-    × ReceivesUnder old x ways unpartitioned partitioned mid × Runs mid xs new
+Runs old (x ∷ xs) new = (mid : Parted) × Steps old x mid × Runs mid xs new
 
 -- both top levels are of one site
 abbrev pub AreUnderOne : List Rule → Parts → Parts → Type 0
@@ -90,12 +98,18 @@ PartitionsDontShow =
 abbrev pub HasNonePartitioned : Rules → Exchange → Type 0
 HasNonePartitioned rules x = AllByRecursion (λ line. IsWay rules line Unpartitioned) x.lines
 
--- the rows of a user agent's client after the exchanges, whatever the top levels
+-- the rows of a user agent's client after an exchange, whatever the top level: the answer is taken to its end, or
+-- memory is refused at a line of it, or before
+abbrev pub AgentSteps : Rules → Exchange → Store → List Row → Type 0
+AgentSteps rules x store new =
+    ((outcomes : List OutcomeFor) × Receives rules x.url x.initiator x.at x.lines outcomes store new)
+    ⊎ (((stopped : Stopped) × Stops rules x.url x.initiator x.at x.lines stopped store new) ⊎ (new ≡ store.rows))
+
+-- after the exchanges
 abbrev pub AgentRuns : Rules → List Rule → List Row → List Exchange → List Row → Type 0
 AgentRuns rules list rows [] new = new ≡ rows
 AgentRuns rules list rows (x ∷ xs) new =
-    (outcomes : List OutcomeFor) × (mid : List Row)
-    × Receives rules x.url x.initiator x.at x.lines outcomes (record { rows = rows; suffixes = list }) mid
+    (mid : List Row) × AgentSteps rules x (record { rows = rows; suffixes = list }) mid
     × AgentRuns rules list mid xs new
 
 -- Where no line is partitioned, and there is no partition at the start, there is none at the end; the rows are those of

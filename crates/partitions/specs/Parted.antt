@@ -161,6 +161,10 @@ pub record HaltsUnder (old : Parted) (x : Exchange) (halt : Halt) (new : Parted)
 
 -- ---- partitions that come back
 
+-- the row is set `Partitioned`: where it stands among what isn't partitioned, it would be sent under every site
+abbrev pub IsSetPartitioned : Row → Type 0
+IsSetPartitioned row = row.raw.cookie.partitioned ≡ Some true
+
 -- the partition under the top level's site is this one, where it has a site, and each other is as it was
 abbrev pub PutsUnder : Parted → Parts → Store → Bool → Parted → Type 0
 PutsUnder old top store has_site new =

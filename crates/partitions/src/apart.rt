@@ -1,9 +1,10 @@
 //! A user agent that keeps partitioned cookies apart.
-ghost use Rattle.std.specs.Prelude.{◌≡◌, [], IfErr, IfOk, OnErr, map, option_map, string_bytes};
+ghost use Rattle.std.specs.Prelude.{◌≡◌, ◌↔◌, [], IfErr, IfOk, IsOk, OnErr, map, option_map, string_bytes};
 ghost use Rattle.jiff.specs.Words.{civil_nanos};
+ghost use Rattle.user_agent.specs.Refusals.{HasOne};
 ghost use Rattle.partitions.specs.Parted as spec;
 
-use crate::part::{receive_by_site, with_behind};
+use crate::part::{holds_partitioned, receive_by_site, with_behind};
 use crate::received::{Halt, Received};
 use crate::site::site_text;
 use crate::sorting::sort;
@@ -64,17 +65,26 @@ impl Partitions {
 
     /// One without a partition, with these rules and this client of what isn't partitioned, as one that was saved and
     /// loaded again. Its list of public suffixes is this one.
-    pub fn with_client(client: Client, list: List, rules: Rules) -> Partitions
+    ///
+    /// # Errors
+    ///
+    /// The client as it is, where one of its rows is set `Partitioned`: it would be sent under every site.
+    pub fn with_client(client: Client, list: List, rules: Rules) -> Result<Partitions, Client>
         requires { client.suffixes ≡ list }
-        ensures { result ≡ record { rules = rules; store = client; parts = [] } }
+        ensures accepted { IsOk result ↔ (¬ (HasOne spec.IsSetPartitioned client.rows)) }
+        ensures ok { IfOk result (λ new. new ≡ record { rules = rules; store = client; parts = [] }) }
+        ensures err { IfErr result (λ back. back ≡ client) }
     {
+        if holds_partitioned(client.store()) {
+            return Err(client);
+        }
         let parts = BTreeMap::new(client.alloc());
-        Partitions {
+        Ok(Partitions {
             list,
             rules,
             unpartitioned: client,
             parts,
-        }
+        })
     }
 
     /// Its rules.
@@ -101,7 +111,7 @@ impl Partitions {
         ensures { IfOk result (λ found.
             spec.FindsPart self.now top.now (option_map (λ client. client.now) found)) }
     {
-        match site_text(self.unpartitioned.alloc(), &self.list, top)? {
+        match site_text(self.unpartitioned.alloc(), self.unpartitioned.store(), top)? {
             Some(site) => Ok(self.parts.get(site.as_slice())),
             None => Ok(None),
         }
@@ -116,16 +126,19 @@ impl Partitions {
     }
 
     /// Puts this client in the place of the partition under the site of a top level, as one that was saved and loaded
-    /// again. `false` where the top level has no site; nothing is changed then, and the client is dropped.
+    /// again. `false` where the top level has no site; nothing is changed then, and the client is dropped. Its list of
+    /// public suffixes is this one's, so that one list judges a header.
     ///
     /// # Errors
     ///
     /// `AllocError`, for want of memory. Nothing is changed then.
     pub fn put(&mut self, top: &Url, client: Client) -> Result<bool, AllocError>
+        requires { client.suffixes ≡ self.old.store.suffixes }
         ensures ok { IfOk result (λ has_site. spec.PutsUnder self.old top.now client has_site self.new) }
         ensures err { OnErr result (self.new ≡ self.old) }
     {
-        let Some(site) = site_text(self.unpartitioned.alloc(), &self.list, top)? else {
+        let (alloc, store) = (self.unpartitioned.alloc(), self.unpartitioned.store());
+        let Some(site) = site_text(alloc, store, top)? else {
             return Ok(false);
         };
         match self.parts.insert(site, client) {
@@ -205,7 +218,7 @@ impl Partitions {
         let Ok(sorted) = sort(alloc, &self.rules, lines) else {
             return Err(Halt::AtNone);
         };
-        let Ok(site) = site_text(alloc, &self.list, top) else {
+        let Ok(site) = site_text(alloc, self.unpartitioned.store(), top) else {
             return Err(Halt::AtNone);
         };
         let Ok(list) = self.list.clone() else {

@@ -4,10 +4,11 @@ ghost use Rattle.partitions.specs.Laws as spec;
 use cookie_text::laws::one_outcome;
 use publicsuffix::laws::one_registrable_domain;
 
-/// Partitions don't show. Whatever exchanges come under whatever top levels, what is kept after them, seen from a top
-/// level, is what is kept after the same exchanges without the lines that are partitioned under other sites: the
-/// cookies that aren't partitioned, the partition under its site, and each header under it, byte for byte. So a header
-/// under one site tells nothing of what is partitioned under another.
+/// Partitions don't show. Whatever exchanges come under whatever top levels, and wherever memory is refused in one,
+/// what is kept after them, seen from a top level, is what is kept after the same exchanges without the lines that are
+/// partitioned under other sites: the cookies that aren't partitioned, the partition under its site, and each header
+/// under it, byte for byte (a request has one header: [`user_agent::cross_site::one_header`]). So a header under one
+/// site tells nothing of what is partitioned under another.
 ///
 /// Exchanges under other sites alone leave the partition under a site as it was.
 pub fn partitions_dont_show()
@@ -19,7 +20,7 @@ pub fn partitions_dont_show()
 }
 
 /// Where no line is partitioned, no partition is made, and the rows and each header are those of
-/// [`user_agent::UserAgent`], byte for byte, whatever the top levels.
+/// [`user_agent::UserAgent`], byte for byte, whatever the top levels, and wherever memory is refused.
 pub fn without_partitions_it_is_the_agent()
     ensures { spec.WithoutPartitionsItIsTheAgent }
 {

@@ -1,11 +1,14 @@
 //! One partition of many.
 ghost use Rattle.std.specs.Prelude.{◌≡◌, ◌↔◌, [], IfErr, IfOk, IsSomeAnd, IsTrue, None, OnErr, OnOk};
 ghost use Rattle.std.specs.Prelude.{map, option_map, string_bytes};
+ghost use Rattle.cookie_store.specs.StoredCookie.{stored_of};
 ghost use Rattle.jiff.specs.Words.{civil_nanos};
+ghost use Rattle.user_agent.specs.Refusals.{HasOne};
 ghost use Rattle.partitions.specs.Parted as spec;
 ghost use Rattle.partitions.specs.Sorting.{TakesBySite};
 
 use cookie_run::{Client, Stopped};
+use cookie_store::{Cookie, CookieStore};
 use jiff::civil::DateTime;
 use publicsuffix::List;
 use std::alloc::{AllocError, Global};
@@ -135,4 +138,23 @@ fn has_row(client: &Client) -> bool
 {
     let mut rows = client.store().iter_any();
     rows.next().is_some()
+}
+
+/// Whether one of the rows is set `Partitioned`.
+pub(crate) fn holds_partitioned(store: &CookieStore) -> bool
+    ensures { IsTrue result ↔ HasOne spec.IsSetPartitioned store.now.rows }
+{
+    for row in store.iter_any() {
+        if is_set_partitioned(row) {
+            return true;
+        }
+    }
+    false
+}
+
+// Whether the row is.
+fn is_set_partitioned(row: &Cookie<'static>) -> bool
+    ensures { IsTrue result ↔ spec.IsSetPartitioned (stored_of row.now) }
+{
+    row.raw().partitioned().unwrap_or(false)
 }

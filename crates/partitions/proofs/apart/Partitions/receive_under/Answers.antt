@@ -1,6 +1,7 @@
 use Rattle.std.proofs.Common.{◌∙◌, ℕ, Bor, List, ap, map, subst, sym}
 use Rattle.std.specs.Prelude.{option_map}
 use Rattle.jiff.specs.Words.{civil_nanos}
+use Rattle.cookie_store.specs.Rows.{Store}
 use Rattle.publicsuffix.specs.Rules.{Rule}
 use Rattle.partitions.specs.Keys.{GivesText}
 use Rattle.partitions.specs.Parted.{entries_of}
@@ -34,7 +35,9 @@ returns-in-Err-taken-clause-halted c =
     }) c.in-Ok.sorted c.in-Ok.ensures c.receive_for-taken.ensures.list c.args.self.now c.self.view_is
     c.in-Ok-clone.list (c.self.invariant ∙ sym c.in-Ok-clone.ensures) c.in-Ok-site_text.site
     (subst (λ (l : List Rule). GivesText l c.args.top.now (option_map (λ text. text.items) c.in-Ok-site_text.site))
-    (sym c.in-Ok-clone.ensures) c.in-Ok-site_text.ensures) (map (λ line. line.now) c.deref.result.now)
+    (ap (λ (s : Store). s.suffixes) c.store.ensures.store
+    ∙ (c.self.invariant ∙ sym c.in-Ok-clone.ensures)) c.in-Ok-site_text.ensures)
+    (map (λ line. line.now) c.deref.result.now)
     (map (λ line. line.now) c.deref-2.result.now) c.in-Ok-taken.outcomes.items
     (ap (map (λ (line : Bor (List ℕ)). line.now)) c.deref.ensures.value) c.in-Ok-taken.ensures.all
     (ap (map (λ (line : Bor (List ℕ)). line.now)) c.deref-2.ensures.value)
@@ -54,7 +57,9 @@ returns-clause-received c =
     }) c.in-Ok.sorted c.in-Ok.ensures c.receive_for-taken.ensures.list c.args.self.now c.self.view_is
     c.in-Ok-clone.list (c.self.invariant ∙ sym c.in-Ok-clone.ensures) c.in-Ok-site_text.site
     (subst (λ (l : List Rule). GivesText l c.args.top.now (option_map (λ text. text.items) c.in-Ok-site_text.site))
-    (sym c.in-Ok-clone.ensures) c.in-Ok-site_text.ensures) (map (λ line. line.now) c.deref.result.now)
+    (ap (λ (s : Store). s.suffixes) c.store.ensures.store
+    ∙ (c.self.invariant ∙ sym c.in-Ok-clone.ensures)) c.in-Ok-site_text.ensures)
+    (map (λ line. line.now) c.deref.result.now)
     (map (λ line. line.now) c.deref-2.result.now) c.in-Ok-taken.outcomes.items
     (ap (map (λ (line : Bor (List ℕ)). line.now)) c.deref.ensures.value) c.in-Ok-taken.ensures.all
     (ap (map (λ (line : Bor (List ℕ)). line.now)) c.deref-2.ensures.value)
