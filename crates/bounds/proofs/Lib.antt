@@ -1,0 +1,17 @@
+mod AnswerLemmas
+mod BoundLemmas
+mod CountLemmas
+mod FullLemmas
+mod GroupLemmas
+mod HaltLemmas
+mod HandedLemmas
+mod HostReadLemmas
+mod HostRowLemmas
+mod KeyListLemmas
+mod LineKeyLemmas
+mod MadeLemmas
+mod OrderLemmas
+mod SameHostLemmas
+mod SoundLemmas
+mod TrimLemmas
+mod TrimmingLemmas

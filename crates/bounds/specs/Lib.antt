@@ -1,0 +1,5 @@
+pub mod Bounded
+pub mod Counting
+pub mod Groups
+pub mod Halts
+pub mod Laws
