@@ -110,10 +110,10 @@ def parts_told():
     parts = {
         "nothing": lambda: None,
         "a text is opened": lambda: cookie.opened(header, now),
-        "one is sealed": lambda: cookie.line(text, now, None, True, "Lax"),
+        "one is sealed": lambda: cookie.line(text, now),
         "its JSON is read, and its life": lambda: fonnalich.flask._content(app, text, now),
         "its JSON is written": lambda: fonnalich.flask._written(now, content),
-        "Flask's object for a session": lambda: fonnalich.flask.SealedSession(header, content),
+        "Flask's object for a session": lambda: fonnalich.flask.SealedSession(content),
     }
     for name, part in parts.items():
         least, median = behind(plain, part)

@@ -148,10 +148,10 @@ enum {
        of SameSite=None or Partitioned that isn't Secure is refused from a URL that isn't secure; it rests on
        FONNALICH_RULE_SECURE_FROM_HTTP */
     FONNALICH_RULE_SECURE_WINS = 512,
-    /* some browsers': fonnalich_header_for and fonnalich_receive_for take a cookie without SameSite as one with
-       SameSite=Lax */
+    /* the draft's, which Firefox and Safari lack: fonnalich_header_for and fonnalich_receive_for take a cookie without
+       SameSite as one with SameSite=Lax */
     FONNALICH_RULE_LAX_BY_DEFAULT = 1024,
-    /* some browsers': fonnalich_receive_for refuses one with SameSite=None that isn't Secure */
+    /* likewise: fonnalich_receive_for refuses one with SameSite=None that isn't Secure */
     FONNALICH_RULE_NONE_NEEDS_SECURE = 2048
 };
 
@@ -438,10 +438,11 @@ ptrdiff_t fonnalich_one(fonnalich *at, uint32_t word, int64_t second, const char
                         size_t out_length);
 
 /* Takes the Set-Cookie lines of an answer as fonnalich_receive does, where it is said what started its request,
-   FONNALICH_BY_..: `page` is the URL of the page that does, at the top of its frames, which isn't looked at for
-   FONNALICH_BY_USER. Where that page is of another site, and but for FONNALICH_BY_NAVIGATION, the answer sets no cookie
-   whose SameSite is Strict or Lax (the draft that follows RFC 6265, section 5.7). Here FONNALICH_BY_NAVIGATION is any
-   navigation of the top level, as a form that is sent by POST too.
+   FONNALICH_BY_..: `page` is the URL of the document at the top of the frames, where the one that starts the request
+   and each above it are of one site with it; else `data:,`, as for a frame of ads.com in a page of shop.com. It isn't
+   looked at for FONNALICH_BY_USER. Where it is of another site, and but for FONNALICH_BY_NAVIGATION, the answer sets no
+   cookie whose SameSite is Strict or Lax (the draft that follows RFC 6265, section 5.7). Here FONNALICH_BY_NAVIGATION
+   is any navigation of the top level, as a form that is sent by POST too.
    Without rules none is on. FONNALICH_WORD where it is started by none of the three. */
 ptrdiff_t fonnalich_receive_for(fonnalich *at, uint32_t started, int64_t second, const char *url, size_t url_length,
                                 const char *page, size_t page_length, const char *lines, size_t lines_length, char *out,
@@ -534,11 +535,13 @@ FONNALICH_FORM ptrdiff_t fonnalich_header(fonnalich *at, int64_t second, const c
     return fonnalich_act(at, FONNALICH_DO_HEADER, second, url, url_length, "", 0, out, out_length);
 }
 
-/* The same of a request that is started so, FONNALICH_BY_..: `page` is the URL of the page that starts it, at the top
-   of its frames, which isn't looked at for FONNALICH_BY_USER. Where that page is of another site it leaves out the
-   cookies whose SameSite is Strict, and but for FONNALICH_BY_NAVIGATION those whose is Lax (the draft that follows RFC
-   6265, section 5.8.3). A site is a scheme and a registrable domain by the client's list. FONNALICH_WORD where it is
-   started by none of the three. */
+/* The same of a request that is started so, FONNALICH_BY_..: `page` is the URL of the document at the top of the
+   frames, where the one that starts the request and each above it are of one site with it; else `data:,`, as for a
+   frame of ads.com in a page of shop.com. It isn't looked at for FONNALICH_BY_USER. Where it is of another site, the
+   header leaves out the cookies whose SameSite is Strict, and but for FONNALICH_BY_NAVIGATION those whose is Lax (the
+   draft that follows RFC 6265, section 5.8.3). Here a form that is sent by POST is FONNALICH_BY_PAGE, at the top level
+   too. A site is a scheme and a registrable domain by the client's list. FONNALICH_WORD where it is started by none of
+   the three. */
 FONNALICH_FORM ptrdiff_t fonnalich_header_for(fonnalich *at, int64_t second, const char *url, size_t url_length,
                                              uint32_t started, const char *page, size_t page_length, char *out,
                                              size_t out_length) {

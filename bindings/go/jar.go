@@ -163,9 +163,16 @@ func (jar *Jar) Cookies(u *url.URL) []*http.Cookie {
 // Receive takes the Set-Cookie lines of an answer from a URL, byte for byte, and says what became of each. At an error
 // no later one is taken, and the ends are those of the lines before it.
 func (jar *Jar) Receive(u *url.URL, lines []string) ([]LineEnd, error) {
+	return jar.ReceiveFor(u, Initiator{}, lines)
+}
+
+// ReceiveFor is Receive of an answer whose request was started so. Where a page of another site started it, the answer
+// sets no cookie whose SameSite is Strict or Lax, unless the request navigates (the draft that follows RFC 6265,
+// section 5.7).
+func (jar *Jar) ReceiveFor(u *url.URL, by Initiator, lines []string) ([]LineEnd, error) {
 	ends := []LineEnd{}
 	for _, line := range lines {
-		end, err := jar.receive(u, line)
+		end, err := jar.receive(u, by, line)
 		if err != nil {
 			return ends, err
 		}
@@ -175,14 +182,19 @@ func (jar *Jar) Receive(u *url.URL, lines []string) ([]LineEnd, error) {
 }
 
 // receive takes a line. The library takes lines that line feeds join, and of an empty text none.
-func (jar *Jar) receive(u *url.URL, line string) (LineEnd, error) {
+func (jar *Jar) receive(u *url.URL, by Initiator, line string) (LineEnd, error) {
 	if strings.Contains(line, "\n") {
 		return ByControl, nil
 	}
 	if line == "" {
 		return NoCookie, nil
 	}
-	told, err := jar.act(C.FONNALICH_DO_RECEIVE, jar.second(), textOf(u), []byte(line))
+	jar.lock.Lock()
+	defer jar.lock.Unlock()
+	if jar.at == nil {
+		return NoCookie, ErrClosed
+	}
+	told, err := receiveFor(jar.at, by, jar.second(), textOf(u), []byte(line))
 	if err != nil {
 		return NoCookie, err
 	}
@@ -191,10 +203,18 @@ func (jar *Jar) receive(u *url.URL, line string) (LineEnd, error) {
 
 // Header is the Cookie header of a request to a URL, byte for byte; empty where it has none.
 func (jar *Jar) Header(u *url.URL) (string, error) {
+	return jar.HeaderFor(u, Initiator{})
+}
+
+// HeaderFor is Header of a request that is started so. Where a page of another site starts it, it leaves out the
+// cookies whose SameSite is Strict, and unless the request navigates those whose is Lax (the draft that follows RFC
+// 6265, section 5.8.3).
+func (jar *Jar) HeaderFor(u *url.URL, by Initiator) (string, error) {
 	if !isWeb(u) {
 		return "", nil
 	}
-	header, err := jar.act(C.FONNALICH_DO_HEADER, jar.second(), textOf(u), nil)
+	started, page := by.started()
+	header, err := jar.act(headers[started], jar.second(), textOf(u), page)
 	return string(header), err
 }
 
@@ -251,7 +271,7 @@ func (jar *Jar) take(u *url.URL, lines []string) {
 		return
 	}
 	for _, line := range lines {
-		end, err := jar.receive(u, line)
+		end, err := jar.receive(u, Initiator{}, line)
 		if err == nil && !end.IsTaken() {
 			err = &LineError{line, end}
 		}

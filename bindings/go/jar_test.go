@@ -73,6 +73,80 @@ func TestEnds(t *testing.T) {
 	}
 }
 
+// The rows of section 5.8.3, step 1, of the draft that follows RFC 6265, and of its section 5.2 on sites.
+func TestAHeaderIsToldWhatStartsItsRequest(t *testing.T) {
+	evil, sub, plain, none := parsed("https://evil.org/"), parsed("https://a.shop.com/"), parsed("http://shop.com/"),
+		parsed("data:,")
+	lines := []string{"s=1; SameSite=Strict", "l=2; SameSite=Lax", "n=3; SameSite=None; Secure", "d=4"}
+	for _, it := range []struct {
+		rules  Rules
+		by     Initiator
+		header string
+	}{
+		{Browser, Initiator{}, "s=1; l=2; n=3; d=4"},
+		{Browser, Initiator{Navigates: true}, "s=1; l=2; n=3; d=4"},
+		{Browser, Initiator{Page: sub}, "s=1; l=2; n=3; d=4"},
+		{Browser, Initiator{Page: plain}, "n=3; d=4"},
+		{Browser, Initiator{Page: none}, "n=3; d=4"},
+		{NoRules, Initiator{Page: evil}, "n=3; d=4"},
+		{Browser, Initiator{Page: evil, Navigates: true}, "l=2; n=3; d=4"},
+		{LaxByDefault, Initiator{Page: evil}, "n=3"},
+		{LaxByDefault, Initiator{Page: evil, Navigates: true}, "l=2; n=3; d=4"},
+	} {
+		jar := made(t, list, &Options{Rules: it.rules})
+		receive(t, jar, shop, lines...)
+		if header, err := jar.HeaderFor(shop, it.by); err != nil || header != it.header {
+			t.Errorf("%v: %q, %v", it, header, err)
+		}
+		if header := headerOf(t, jar, shop); header != "s=1; l=2; n=3; d=4" {
+			t.Error(header)
+		}
+	}
+	if _, err := made(t, list, nil).HeaderFor(shop, Initiator{Page: &url.URL{}}); !errors.Is(err, Refused(-6)) {
+		t.Error(err)
+	}
+}
+
+// The rows of section 5.7 of that draft.
+func TestAnAnswerIsToldWhatStartedItsRequest(t *testing.T) {
+	evil, sub, plain := parsed("https://evil.org/"), parsed("https://a.shop.com/"), parsed("http://shop.com/")
+	lines := []string{"s=1; SameSite=Strict", "l=2; SameSite=Lax", "n=3; SameSite=None", "d=4"}
+	const put, site, none = Inserted, ByCrossSite, ByNoneLacksSecure
+	for _, it := range []struct {
+		rules Rules
+		by    Initiator
+		ends  []LineEnd
+	}{
+		{Browser, Initiator{}, []LineEnd{put, put, put, put}},
+		{Browser, Initiator{Page: sub}, []LineEnd{put, put, put, put}},
+		{Browser, Initiator{Page: plain}, []LineEnd{site, site, put, put}},
+		{NoRules, Initiator{Page: evil}, []LineEnd{site, site, put, put}},
+		{Browser, Initiator{Page: evil, Navigates: true}, []LineEnd{put, put, put, put}},
+		{LaxByDefault, Initiator{Page: evil}, []LineEnd{site, site, put, site}},
+		{NoneNeedsSecure, Initiator{Page: evil}, []LineEnd{site, site, none, put}},
+		{NoneNeedsSecure, Initiator{Page: evil, Navigates: true}, []LineEnd{put, put, none, put}},
+		{NoneNeedsSecure, Initiator{}, []LineEnd{put, put, none, put}},
+	} {
+		jar := made(t, list, &Options{Rules: it.rules})
+		if ends, err := jar.ReceiveFor(shop, it.by, lines); err != nil || !reflect.DeepEqual(ends, it.ends) {
+			t.Errorf("%v: %v, %v", it, ends, err)
+		}
+	}
+	jar := made(t, list, nil)
+	receive(t, jar, shop, "s=0")
+	ends, err := jar.ReceiveFor(shop, Initiator{Page: evil}, []string{"s=9; SameSite=Lax"})
+	if err != nil || ends[0].IsTaken() || ends[0].String() == "" || headerOf(t, jar, shop) != "s=0" {
+		t.Error(ends, err)
+	}
+	if _, err := jar.ReceiveFor(shop, Initiator{Page: &url.URL{}}, lines); !errors.Is(err, Refused(-6)) {
+		t.Error(err)
+	}
+	jar.Close()
+	if _, err := jar.ReceiveFor(shop, Initiator{}, lines); !errors.Is(err, ErrClosed) {
+		t.Error(err)
+	}
+}
+
 func TestRulesAreThoseOfBrowsersUnlessOthersAreNamed(t *testing.T) {
 	plain := parsed("http://shop.com/")
 	for rules, wanted := range map[Rules]LineEnd{

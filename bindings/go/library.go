@@ -40,7 +40,8 @@ func (refused Refused) Error() string {
 // LineEnd is what became of a line, as the header file numbers it.
 type LineEnd byte
 
-// Those up to UpdatedExisting, and Expired, took the line; the others refused it, those from ByControl on by a rule.
+// Those up to UpdatedExisting, and Expired, took the line; the others refused it, those from ByControl on by a rule,
+// and the last two by its SameSite.
 const (
 	Inserted          LineEnd = 0
 	ExpiredExisting   LineEnd = 1
@@ -60,6 +61,8 @@ const (
 	BySecureFromHTTP  LineEnd = 24
 	BySecureOverlay   LineEnd = 25
 	ByLacksSecure     LineEnd = 26
+	ByCrossSite       LineEnd = 27
+	ByNoneLacksSecure LineEnd = 28
 )
 
 var ends = map[LineEnd]string{
@@ -70,6 +73,8 @@ var ends = map[LineEnd]string{
 	ByControl: "with a control character", ByTooLong: "too long", BySecurePrefix: "against the prefix __Secure-",
 	ByHostPrefix: "against the prefix __Host-", BySecureFromHTTP: "Secure, and not from a secure URL",
 	BySecureOverlay: "not Secure, over a Secure cookie", ByLacksSecure: "for all sites or partitioned, and not Secure",
+	ByCrossSite:       "of one site, and a page of another one started the request",
+	ByNoneLacksSecure: "for all sites, and not Secure",
 }
 
 func (end LineEnd) String() string {
@@ -94,20 +99,24 @@ func (it *LineError) Error() string {
 // Rules is a sum of rules of browsers (the draft that follows RFC 6265, sections 5.5 to 5.7), or NoRules.
 type Rules int64
 
-// SecureWins is no browser's: a header leaves out what has the name of a Secure cookie in it and isn't Secure.
+// SecureWins is no browser's: a header leaves out what has the name of a Secure cookie in it and isn't Secure. Some
+// browsers have LaxByDefault: where a page of another site starts a request, a cookie without SameSite is one with
+// SameSite=Lax. Some have NoneNeedsSecure: one with SameSite=None that isn't Secure is refused.
 const (
-	NoRules        Rules = -1
-	Control        Rules = 1
-	TooLong        Rules = 2
-	SecurePrefix   Rules = 4
-	HostPrefix     Rules = 8
-	SecureFromHTTP Rules = 16
-	SecureOverlay  Rules = 32
-	LongAttributes Rules = 64
-	Dates          Rules = 128
-	LongLives      Rules = 256
-	Browser        Rules = 511
-	SecureWins     Rules = 512
+	NoRules         Rules = -1
+	Control         Rules = 1
+	TooLong         Rules = 2
+	SecurePrefix    Rules = 4
+	HostPrefix      Rules = 8
+	SecureFromHTTP  Rules = 16
+	SecureOverlay   Rules = 32
+	LongAttributes  Rules = 64
+	Dates           Rules = 128
+	LongLives       Rules = 256
+	Browser         Rules = 511
+	SecureWins      Rules = 512
+	LaxByDefault    Rules = 1024
+	NoneNeedsSecure Rules = 2048
 )
 
 // Version is the version of the library.

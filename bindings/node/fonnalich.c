@@ -1,10 +1,11 @@
 /* The addon of index.js: handles of the library as objects of Node-API.
 
    `new Handle()` begins one, `act(word, number, subject, text)` does what a word says, `one(word, second, domain, path,
-   name)` with one cookie, `share(other)` keeps the list that another keeps, and `close()` ends it. The texts are views
-   of bytes; the answer is a Buffer, or the number of a refusal. Where Node collects a handle, or ends a
-   thread, it ends it too; `living()` says how many of this thread haven't ended. Each worker thread has an instance of
-   its own, and two share nothing that is written to. */
+   name)` with one cookie, `receive(started, second, url, page, lines)` takes the lines of an answer, `share(other)`
+   keeps the list that another keeps, and `close()` ends it. The texts are views of bytes; the answer is a Buffer, or
+   the number of a refusal. Where Node collects a handle, or ends a thread, it ends it too; `living()` says how many of
+   this thread haven't ended. Each worker thread has an instance of its own, and two share nothing that is written
+   to. */
 #define NAPI_VERSION 8
 #include "fonnalich.h"
 #include <node_api.h>
@@ -170,23 +171,36 @@ static napi_value act(napi_env env, napi_callback_info info) {
     return answered(env, its, length, room);
 }
 
-static napi_value one(napi_env env, napi_callback_info info) {
+/* A call of the library with a number, a second and three texts. */
+typedef ptrdiff_t of_three(fonnalich *at, uint32_t number, int64_t second, const char *first, size_t first_length,
+                           const char *next, size_t next_length, const char *last, size_t last_length, char *out,
+                           size_t out_length);
+
+static napi_value with_three(napi_env env, napi_callback_info info, of_three *call) {
     napi_value words[5], self;
     size_t count = 5, length[3];
     const char *text[3];
     char room[ROOM];
-    uint32_t word;
+    uint32_t number;
     int64_t second;
     TYPED(napi_get_cb_info(env, info, &count, words, &self, NULL));
-    TYPED(napi_get_value_uint32(env, words[0], &word));
+    TYPED(napi_get_value_uint32(env, words[0], &number));
     TYPED(napi_get_value_int64(env, words[1], &second));
     for (int i = 0; i < 3; i++)
         TYPED(bytes(env, words[2 + i], &text[i], &length[i]));
     handle *its = of(env, self);
     if (!its)
         return NULL;
-    return answered(env, its, fonnalich_one(&its->at, word, second, text[0], length[0], text[1], length[1], text[2],
-                                            length[2], room, ROOM), room);
+    return answered(env, its, call(&its->at, number, second, text[0], length[0], text[1], length[1], text[2], length[2],
+                                   room, ROOM), room);
+}
+
+static napi_value one(napi_env env, napi_callback_info info) {
+    return with_three(env, info, fonnalich_one);
+}
+
+static napi_value receive(napi_env env, napi_callback_info info) {
+    return with_three(env, info, fonnalich_receive_for);
 }
 
 static napi_value share(napi_env env, napi_callback_info info) {
@@ -240,6 +254,7 @@ NAPI_MODULE_INIT() {
     napi_property_descriptor methods[] = {
         {.utf8name = "act", .method = act},
         {.utf8name = "one", .method = one},
+        {.utf8name = "receive", .method = receive},
         {.utf8name = "share", .method = share},
         {.utf8name = "close", .method = finish},
     };
@@ -250,7 +265,7 @@ NAPI_MODULE_INIT() {
         return NULL;
     }
     TYPED(napi_set_instance_data(env, own, finalize_instance, NULL));
-    TYPED(napi_define_class(env, "Handle", NAPI_AUTO_LENGTH, begin, NULL, 4, methods, &made));
+    TYPED(napi_define_class(env, "Handle", NAPI_AUTO_LENGTH, begin, NULL, 5, methods, &made));
     TYPED(napi_set_named_property(env, exports, "Handle", made));
     napi_property_descriptor calls[] = {
         {.utf8name = "living", .method = living},

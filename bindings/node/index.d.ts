@@ -3,11 +3,11 @@
 /** What became of a line that was taken. */
 export type Taken = 'Inserted' | 'UpdatedExisting' | 'ExpiredExisting' | 'Expired';
 
-/** Why a line was refused: by the store, or, from `ByControl` on, by a rule. */
+/** Why a line was refused: by the store, or, from `ByControl` on, by a rule, or, the last two, by its `SameSite`. */
 export type LineEnd =
     | 'NotText' | 'HostPrefix' | 'NonHttpScheme' | 'NonRelativeScheme' | 'DomainMismatch' | 'Parse' | 'PublicSuffix'
     | 'ByControl' | 'ByTooLong' | 'BySecurePrefix' | 'ByHostPrefix' | 'BySecureFromHttp' | 'BySecureOverlay'
-    | 'ByLacksSecure';
+    | 'ByLacksSecure' | 'ByCrossSite' | 'ByNoneLacksSecure';
 
 /** Why a call was refused: the name of its number in the header file. */
 export type Refusal =
@@ -19,12 +19,15 @@ export type Moment = Date | number;
 
 export type Callback<T> = (error: Error | null, value?: T) => void;
 
-/** The rules of browsers, of which a jar takes a sum. A jar isn't told what starts a request, so LAX_BY_DEFAULT changes
- *  nothing. */
+/**
+ * The rules of browsers, of which a jar takes a sum. Some browsers have `LAX_BY_DEFAULT`: where a page of another site
+ * starts a request, a cookie without `SameSite` is one with `SameSite=Lax`. Some have `NONE_NEEDS_SECURE`: one with
+ * `SameSite=None` that isn't Secure is refused. `BROWSER` has neither. No browser has `SECURE_WINS`.
+ */
 export declare const Rules: Readonly<{
     NONE: 0; CONTROL: 1; TOO_LONG: 2; SECURE_PREFIX: 4; HOST_PREFIX: 8; SECURE_FROM_HTTP: 16; SECURE_OVERLAY: 32;
     LONG_ATTRIBUTES: 64; DATES: 128; LONG_LIVES: 256; BROWSER: 511; SECURE_WINS: 512;
-    LAX_BY_DEFAULT: 1024;
+    LAX_BY_DEFAULT: 1024; NONE_NEEDS_SECURE: 2048;
 }>;
 
 export interface JarOptions {
@@ -44,6 +47,19 @@ export interface CallOptions {
     now?: Moment;
     /** Whether the caller is HTTP. What isn't, as a page's script, has neither HttpOnly cookies nor Secure ones. */
     http?: boolean;
+    /** The URL of the page that starts the request, at the top of its frames, or `data:,` where a frame of another site
+     *  does; none is the user. */
+    initiator?: string | URL;
+    /**
+     * Whether the request navigates the top level: for its header by a safe method, as a link by GET, and for its
+     * answer by any.
+     */
+    navigates?: boolean;
+    /**
+     * The same of a page that isn't named: 'strict' where it is of the site itself, 'lax' where one of another site
+     * navigates, and 'none' where one of another site asks for something else. Not beside `initiator`.
+     */
+    sameSiteContext?: 'strict' | 'lax' | 'none';
     allPaths?: false;
     expire?: true;
     loose?: false;

@@ -11,18 +11,21 @@ const addon = require(process.env.FONNALICH_NODE ? path.resolve(process.env.FONN
 
 if (!addon.processor()) throw new Error('fonnalich: this processor lacks SSE 4.2, which the library needs');
 
-const [RECEIVE, HEADER, SAVE, RESTART, RULES, HELD, CLEAR] = [3, 4, 5, 6, 7, 11, 12];
+const [SAVE, RESTART, RULES, HELD, CLEAR] = [5, 6, 7, 11, 12];
 const [KEEP_LIST, CLIENT, LOAD_BY, IMPORT, EXPORT, EXPORT_LASTING] = [15, 16, 17, 21, 22, 25];
 const [GET, REMOVE] = [0, 1];
+/* What starts a request, and the word for the header of one that is started so. */
+const [BY_USER, BY_PAGE, BY_NAVIGATION] = [0, 1, 2];
+const HEADERS = [4, 13, 14];
 const [MEMORY, STOPPED] = [-1, -100];
 const NONE = Buffer.alloc(0);
 
-/* The rules of browsers, of which a jar takes a sum: those of the header file but for NONE_NEEDS_SECURE. A jar isn't
-   told what starts a request: so neither that rule nor LAX_BY_DEFAULT, which a sum may have, would change anything. */
+/* The rules of browsers, of which a jar takes a sum. Some browsers have LAX_BY_DEFAULT and NONE_NEEDS_SECURE: BROWSER
+   has neither. No browser has SECURE_WINS. */
 const Rules = Object.freeze({
     NONE: 0, CONTROL: 1, TOO_LONG: 2, SECURE_PREFIX: 4, HOST_PREFIX: 8, SECURE_FROM_HTTP: 16, SECURE_OVERLAY: 32,
     LONG_ATTRIBUTES: 64, DATES: 128, LONG_LIVES: 256, BROWSER: 511, SECURE_WINS: 512,
-    LAX_BY_DEFAULT: 1024,
+    LAX_BY_DEFAULT: 1024, NONE_NEEDS_SECURE: 2048,
 });
 
 const REFUSALS = {
@@ -33,7 +36,7 @@ const ENDS = {
     0: 'Inserted', 1: 'ExpiredExisting', 2: 'UpdatedExisting', 3: 'NotText', 4: 'HostPrefix', 10: 'NonHttpScheme',
     11: 'NonRelativeScheme', 12: 'DomainMismatch', 13: 'Expired', 14: 'Parse', 15: 'PublicSuffix', 20: 'ByControl',
     21: 'ByTooLong', 22: 'BySecurePrefix', 23: 'ByHostPrefix', 24: 'BySecureFromHttp', 25: 'BySecureOverlay',
-    26: 'ByLacksSecure',
+    26: 'ByLacksSecure', 27: 'ByCrossSite', 28: 'ByNoneLacksSecure',
 };
 const ROW_CAUSES = {
     40: 'NotText', 41: 'Fields', 42: 'NoDomain', 43: 'Flag', 44: 'Path', 45: 'Expiry', 46: 'EmptyName', 47: 'Domain',
@@ -83,7 +86,11 @@ class NotThere extends FonnalichError {
 
 /* What options of tough-cookie mean nothing here but by these values. */
 const OF_JAR = { allowSpecialUseDomain: [true], looseMode: [false], rejectPublicSuffixes: [true] };
-const OF_CALL = { allPaths: [false], expire: [true], loose: [false], sameSiteContext: [], secure: [], sort: [true] };
+const OF_CALL = { allPaths: [false], expire: [true], loose: [false], secure: [], sort: [true] };
+/* What tough-cookie's sameSiteContext says that started a request. Of the page it tells no more: so it is one of no
+   site, as a `data:` URL. */
+const CONTEXTS = { strict: BY_USER, lax: BY_NAVIGATION, none: BY_PAGE };
+const OF_NO_SITE = Buffer.from('data:,');
 
 function optionsOf(given, absent) {
     for (const [name, meant] of Object.entries(absent)) {
@@ -114,6 +121,20 @@ function urlOf(url, http) {
     if (http ?? true) return Buffer.from(text);
     if (!/^https?:/i.test(text)) throw new Refused(-6);
     return Buffer.from(text.replace(/^https?/i, 'ws'));
+}
+
+/* What starts a request by a call's options, and the URL of the page that does. */
+function startOf({ initiator, navigates, sameSiteContext }) {
+    if (sameSiteContext !== undefined) {
+        if (initiator !== undefined) throw new TypeError('options.sameSiteContext stands beside options.initiator');
+        if (!Object.hasOwn(CONTEXTS, sameSiteContext)) throw new TypeError('options.sameSiteContext is none');
+        return [CONTEXTS[sameSiteContext], OF_NO_SITE];
+    }
+    if (initiator === undefined) return [BY_USER, NONE];
+    if (typeof initiator !== 'string' && !(initiator instanceof URL)) {
+        throw new TypeError('options.initiator is neither a string nor a URL');
+    }
+    return [navigates ? BY_NAVIGATION : BY_PAGE, Buffer.from(String(initiator))];
 }
 
 function callbackOf(options, callback) {
@@ -219,11 +240,17 @@ class CookieJar {
     }
 
     /* Takes a Set-Cookie line of an answer from a URL, and says what became of it: 'Inserted', 'UpdatedExisting',
-       'ExpiredExisting' or 'Expired'; nothing where it was refused and that is passed over. */
+       'ExpiredExisting' or 'Expired'; nothing where it was refused and that is passed over.
+
+       `options.initiator` is the URL of the page that started the request, at the top of its frames, or `data:,` where
+       a frame of another site did; the user did where there is none. Where that page is of another site, the answer
+       sets no cookie whose SameSite is Strict or Lax, unless the request `navigates` the top level, by whatever method
+       (the draft that follows RFC 6265, section 5.7).
+       tough-cookie's `sameSiteContext` says the same of a page that isn't named. */
     setCookieSync(line, url, options) {
         if (typeof line !== 'string') throw new NotThere('a Cookie', 'hand in its line');
-        const { http, ignoreError, now } = optionsOf(options, OF_CALL);
-        const end = this.#received(line, urlOf(url, http), secondOf(now));
+        const { http, ignoreError, now, ...start } = optionsOf(options, OF_CALL);
+        const end = this.#received(startOf(start), line, urlOf(url, http), secondOf(now));
         if (TAKEN.includes(end)) return end;
         if (ignoreError || (OF_PREFIX.includes(end) && !this.#isStrict)) return undefined;
         throw new LineRefused(end);
@@ -234,10 +261,17 @@ class CookieJar {
         return later(called, () => this.setCookieSync(line, url, given));
     }
 
-    /* The Cookie header of a request to a URL; '' where it has none. */
+    /* The Cookie header of a request to a URL; '' where it has none.
+
+       `options.initiator` is the URL of the page that starts the request, at the top of its frames, or `data:,`
+       where a frame of another site does; the user does where there is none. Where that page is of another site,
+       cookies are left out whose SameSite is Strict, and unless the request `navigates` the top level with a safe
+       method, as a link by GET, those whose is Lax (the draft that follows RFC 6265, section 5.8.3). tough-cookie's
+       `sameSiteContext` says the same of a page that isn't named. */
     getCookieStringSync(url, options) {
-        const { http, now } = optionsOf(options, OF_CALL);
-        return this.#act(HEADER, secondOf(now), urlOf(url, http), NONE).toString();
+        const { http, now, ...start } = optionsOf(options, OF_CALL);
+        const [started, page] = startOf(start);
+        return this.#act(HEADERS[started], secondOf(now), urlOf(url, http), page).toString();
     }
 
     getCookieString(url, options, callback) {
@@ -325,11 +359,11 @@ class CookieJar {
         this.#act(RULES, rules ?? Rules.BROWSER, NONE, NONE);
     }
 
-    #received(line, url, second) {
+    #received([started, page], line, url, second) {
         // (the library takes lines that line feeds join, and of an empty text none)
         if (line.includes('\n')) return 'ByControl';
         if (line === '') return 'Parse';
-        return ENDS[this.#act(RECEIVE, second, url, Buffer.from(line))[0]];
+        return ENDS[answered(this.#handle.receive(started, second, url, page, Buffer.from(line)))[0]];
     }
 
     #act(word, number, subject, text) {

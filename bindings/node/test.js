@@ -114,6 +114,84 @@ test('errors by name', () => {
     assert.ok(new Refused(-6) instanceof fonnalich.FonnalichError);
 });
 
+/* The rows of section 5.8.3, step 1, of the draft, and of its section 5.2 on sites. */
+test('what starts a request', async () => {
+    const jar = jarOf();
+    for (const line of ['s=1; SameSite=Strict', 'l=2; SameSite=Lax', 'n=3; SameSite=None; Secure', 'd=4']) {
+        jar.setCookieSync(line, URL_ASKED, { now: THEN });
+    }
+    const asked = (options) => jar.getCookieStringSync(URL_ASKED, { now: THEN, ...options });
+    for (const [options, header] of [
+        [{}, 's=1; l=2; n=3; d=4'],
+        [{ navigates: true }, 's=1; l=2; n=3; d=4'],
+        [{ initiator: 'https://a.shop.com/' }, 's=1; l=2; n=3; d=4'],
+        [{ initiator: 'http://shop.com/' }, 'n=3; d=4'],
+        [{ initiator: 'https://evil.org/' }, 'n=3; d=4'],
+        [{ initiator: new URL('https://evil.org/'), navigates: true }, 'l=2; n=3; d=4'],
+        [{ initiator: 'data:,' }, 'n=3; d=4'],
+        [{ sameSiteContext: 'strict' }, 's=1; l=2; n=3; d=4'],
+        [{ sameSiteContext: 'lax' }, 'l=2; n=3; d=4'],
+        [{ sameSiteContext: 'none' }, 'n=3; d=4'],
+    ]) {
+        assert.equal(asked(options), header, JSON.stringify(options));
+    }
+    assert.equal(await jar.getCookieString(URL_ASKED, { now: THEN, initiator: 'https://evil.org/' }), 'n=3; d=4');
+    const byDefault = jarOf({ rules: Rules.LAX_BY_DEFAULT });
+    byDefault.setCookieSync('d=4', URL_ASKED, { now: THEN });
+    for (const [navigates, header] of [[false, ''], [true, 'd=4']]) {
+        const options = { now: THEN, initiator: 'https://evil.org/', navigates };
+        assert.equal(byDefault.getCookieStringSync(URL_ASKED, options), header);
+    }
+    for (const page of ['', 'no url']) {
+        assert.throws(() => asked({ initiator: page }), { name: 'Refused', code: 'Url' });
+    }
+    assert.throws(() => asked({ initiator: 1 }), TypeError);
+    assert.throws(() => asked({ sameSiteContext: 'toString' }), TypeError);
+    assert.throws(() => asked({ sameSiteContext: 'lax', initiator: URL_ASKED }), TypeError);
+});
+
+/* The rows of section 5.7 of the draft. */
+test('what an answer may set, by what started its request', async () => {
+    const lines = ['s=1; SameSite=Strict', 'l=2; SameSite=Lax', 'n=3; SameSite=None', 'd=4', 'g=5; SameSite=garbage'];
+    const [put, site, none] = ['Inserted', 'ByCrossSite', 'ByNoneLacksSecure'];
+    const evil = 'https://evil.org/';
+    for (const [rules, options, ends] of [
+        [Rules.BROWSER, {}, [put, put, put, put, put]],
+        [Rules.BROWSER, { initiator: 'https://a.shop.com/' }, [put, put, put, put, put]],
+        [Rules.BROWSER, { initiator: 'http://shop.com/' }, [site, site, put, put, put]],
+        [Rules.NONE, { initiator: evil }, [site, site, put, put, put]],
+        [Rules.BROWSER, { initiator: evil, navigates: true }, [put, put, put, put, put]],
+        [Rules.LAX_BY_DEFAULT, { initiator: evil }, [site, site, put, site, site]],
+        [Rules.NONE_NEEDS_SECURE, { initiator: evil }, [site, site, none, put, put]],
+        [Rules.NONE_NEEDS_SECURE, { initiator: evil, navigates: true }, [put, put, none, put, put]],
+        [Rules.NONE_NEEDS_SECURE, {}, [put, put, none, put, put]],
+        [Rules.BROWSER, { sameSiteContext: 'strict' }, [put, put, put, put, put]],
+        [Rules.BROWSER, { sameSiteContext: 'lax' }, [put, put, put, put, put]],
+        [Rules.BROWSER, { sameSiteContext: 'none' }, [site, site, put, put, put]],
+    ]) {
+        const jar = jarOf({ rules });
+        const found = lines.map((line) => {
+            try {
+                return jar.setCookieSync(line, URL_ASKED, { now: THEN, ...options });
+            } catch (error) {
+                assert.ok(error instanceof LineRefused, error);
+                return error.code;
+            }
+        });
+        assert.deepEqual(found, ends, JSON.stringify(options));
+    }
+    const jar = jarOf();
+    jar.setCookieSync('s=0', URL_ASKED, { now: THEN });
+    await assert.rejects(jar.setCookie('s=9; SameSite=Strict', URL_ASKED, { now: THEN, initiator: evil }),
+        { code: 'ByCrossSite' });
+    assert.equal(jar.setCookieSync('s=9; SameSite=Lax', URL_ASKED, { initiator: evil, ignoreError: true }), undefined);
+    assert.equal(jar.getCookieStringSync(URL_ASKED, { now: THEN }), 's=0');
+    for (const page of ['', 'no url']) {
+        const options = { now: THEN, initiator: page };
+        assert.throws(() => jar.setCookieSync('a=1', URL_ASKED, options), { name: 'Refused', code: 'Url' });
+    }
+});
+
 test('what tough-cookie has and this has not raises by its name', () => {
     const jar = jarOf();
     const absent = (call, what) => assert.throws(call, (error) => error instanceof NotThere && error.what === what);
@@ -123,7 +201,6 @@ test('what tough-cookie has and this has not raises by its name', () => {
     absent(() => jar.cloneSync(), 'CookieJar.cloneSync');
     absent(() => jar.setCookieSync({ key: 'a' }, URL_ASKED), 'a Cookie');
     absent(() => jar.setCookieSync('a', URL_ASKED, { loose: true }), 'options.loose = true');
-    absent(() => jar.getCookieStringSync(URL_ASKED, { sameSiteContext: 'lax' }), 'options.sameSiteContext = lax');
     absent(() => jar.getCookieStringSync(URL_ASKED, { expire: false }), 'options.expire = false');
     absent(() => new CookieJar({}, { suffixes: SUFFIXES }), 'a Store');
     absent(() => jarOf({ looseMode: true }), 'options.looseMode = true');

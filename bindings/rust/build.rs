@@ -1,4 +1,5 @@
-//! Links the static library of FONNALICH_DIR, or that of this crate's lib/TARGET, or of the repository's out/.
+//! Links the static library of FONNALICH_DIR, or that of this crate's lib/TARGET, or of the repository's out/ or
+//! out/aarch64/.
 
 use std::env;
 use std::path::{Path, PathBuf};
@@ -12,7 +13,8 @@ fn folder_for(target: &str) -> Option<PathBuf> {
     }
     let home = env::var("CARGO_MANIFEST_DIR").unwrap();
     let home = Path::new(&home);
-    let folders = [home.join("lib").join(target), home.join("../../out")];
+    let built = if target.starts_with("aarch64-") { "../../out/aarch64" } else { "../../out" };
+    let folders = [home.join("lib").join(target), home.join(built)];
     folders.into_iter().find(|folder| folder.join(NAME).exists())
 }
 
@@ -20,7 +22,10 @@ fn main() {
     let target = env::var("TARGET").unwrap();
     println!("cargo:rerun-if-env-changed=FONNALICH_DIR");
     let Some(folder) = folder_for(&target) else {
-        panic!("fonnalich: there is no {NAME} for {target}: set FONNALICH_DIR to the folder of one");
+        panic!(
+            "fonnalich: there is no {NAME} for {target}: set FONNALICH_DIR to the folder of one. \
+             Packages have it for Linux on x86_64 and aarch64"
+        );
     };
     println!("cargo:rustc-link-search=native={}", folder.display());
     println!("cargo:rustc-link-lib=static=fonnalich");

@@ -2,8 +2,8 @@
 
 `Session` is what a site reads and sets within one request, `Cookie` a cookie by itself. `Client` is a client, by a
 public suffix `List`; `Jar` is one for `urllib`, and `Adapter` one for `requests`. The modules `flask`, `django`,
-`wsgi`, `asgi`, `requests` and `httpx` of this package put them into what these names say. Set FONNALICH_LIB to the path
-of the shared library where it lies neither beside this module nor in out/.
+`wsgi`, `asgi`, `requests`, `httpx` and `http.cookiejar` of this package put them into what these names say. Set
+FONNALICH_LIB to the path of the shared library where it lies neither beside this module nor in out/.
 """
 from __future__ import annotations
 
@@ -11,18 +11,13 @@ import ctypes
 import dataclasses
 import datetime
 import enum
-import http.cookiejar
 import math
 import os
 import threading
 import time
 import urllib.parse
-import urllib.request
 import weakref
-from typing import TYPE_CHECKING, Any, Callable, Iterable, Iterator, NoReturn, Optional, Tuple, Union
-
-if TYPE_CHECKING:
-    from .fleet import Fleet
+from typing import Callable, Iterable, Iterator, NoReturn, Optional, Tuple, Union
 
 __all__ = ["Adapter", "Client", "Cookie", "End", "HeldCookie", "Imported", "Jar", "List", "NoList", "NoRules", "Reader",
            "Refused", "RefusedLine", "Rules", "Session", "Stopped", "Way", "is_plain_url", "shard", "shard_of_url",
@@ -50,13 +45,15 @@ def _path() -> str:
 if _lacks_sse():
     raise ImportError("fonnalich: this processor lacks SSE 4.2, which the library needs")
 Bytes = Union[bytes, bytearray, memoryview]
+"""What a call takes as bytes."""
 Text = Union[str, Bytes]
-# A moment: seconds since 1970, of which the whole part counts, or a datetime that has a zone.
+"""What a call takes as a text: a `str` goes in as UTF-8."""
 Moment = Union[int, float, datetime.datetime]
-# A key of 64 bytes, or, behind the current one, such a key with the moment from which it counts no more, or none.
+"""A moment: seconds since 1970, of which the whole part counts, or a `datetime` that has a zone."""
 RingKey = Union[Bytes, Tuple[Bytes, Optional[Moment]]]
-# How long a cookie lives: seconds, of which the whole part counts, or a timedelta.
+"""A key of 64 bytes, or, behind the current one, such a key with the moment from which it counts no more, or none."""
 Life = Union[int, float, datetime.timedelta]
+"""How long a cookie lives: seconds, of which the whole part counts, or a `timedelta`."""
 
 _LIB = ctypes.CDLL(os.environ.get("FONNALICH_LIB") or _path())
 _TEXT = [ctypes.c_char_p, ctypes.c_size_t]
@@ -156,8 +153,9 @@ class Rules(enum.IntFlag):
     No browser has `SECURE_WINS`: a header leaves out what isn't Secure and has the name, decoded, of a Secure cookie in
     it, and one of `SameSite=None` or `Partitioned` that isn't Secure is refused from a URL that isn't secure. It rests
     on `SECURE_FROM_HTTP`.
-    Some browsers have `LAX_BY_DEFAULT`: where a page of another site starts a request, a cookie without `SameSite` is
-    one with `SameSite=Lax`. Some have `NONE_NEEDS_SECURE`: one with `SameSite=None` that isn't Secure is refused.
+    Two are of the draft, and `BROWSER` leaves them out, as Firefox and Safari do. `LAX_BY_DEFAULT`: where a page of
+    another site starts a request, a cookie without `SameSite` is one with `SameSite=Lax`. `NONE_NEEDS_SECURE`: one with
+    `SameSite=None` that isn't Secure is refused.
     """
 
     NONE = 0
@@ -225,18 +223,6 @@ def _bytes(text: Text) -> bytes:
         return text.encode("utf-8", "surrogateescape")
     # By way of a view, since `bytes` makes something of a number too.
     return text if isinstance(text, bytes) else bytes(memoryview(text))
-
-
-def _received(line: str) -> bytes:
-    """The bytes of a header that `http.client` read, which makes a character of each. A folded line becomes one."""
-    return b" ".join(line.encode("latin-1").splitlines())
-
-
-class _Sendable(str):
-    """A client's header as `http.client` sends it, which makes a byte of each character."""
-
-    def __new__(cls, header: str) -> "_Sendable":
-        return super().__new__(cls, _bytes(header).decode("latin-1"))
 
 
 def _counted(number: int) -> int:
@@ -422,6 +408,7 @@ def _is_path(text: bytes) -> bool:
 
 
 Suffixes = Union[List, Text]
+"""A public suffix list, or the text of one, which each call reads anew."""
 
 
 def _list(suffixes: Suffixes) -> List:
@@ -629,6 +616,7 @@ class Way(enum.Enum):
 
 
 WayOrName = Union[Way, str]
+"""A way, or its name."""
 _PREFIXES = {Way.HOST: b"__Host-", Way.SECURE: b"__Secure-"}
 # How values that end are kept in a way.
 _ENDING = {Way.SIGNED: b"5", Way.SEALED: b"6"}
@@ -897,10 +885,11 @@ class Client(_Handle):
                 initiator: Optional[str] = None, navigates: bool = False) -> list[End]:
         """Takes the Set-Cookie lines of an answer from this URL, and says what became of each.
 
-        `initiator` is the URL of the page that started the request, at the top of its frames; the user did where there
-        is none. Where that page is of another site, the answer sets no cookie whose `SameSite` is `Strict` or `Lax`,
-        unless the request `navigates` the top level, by whatever method (the draft that follows RFC 6265, section
-        5.7)."""
+        `initiator` is the URL of the document at the top of the frames, where the one that started the request and each
+        above it are of one site with it; else `data:,`, as for a frame of ads.com in a page of shop.com. Without it the
+        user did. Where it is of another site, the answer sets no cookie whose `SameSite` is `Strict` or `Lax`, unless
+        the request `navigates` the top level, by whatever method, so by a form's POST too, of which `header` isn't told
+        so (the draft that follows RFC 6265, section 5.7)."""
         each = _lines(lines)
         if not each:
             return []
@@ -916,10 +905,12 @@ class Client(_Handle):
         """The Cookie header of a request to this URL; empty where it gets none.
 
         It is one line: it is refused as `Line` where a cookie of a saved text would put a control character there.
-        `initiator` is the URL of the page that starts the request, at the top of its frames; the user does where there
-        is none. Where that page is of another site, cookies are left out whose `SameSite` is `Strict`, and unless the
-        request `navigates` the top level with a safe method, as a link by GET, those whose is `Lax` (the draft that
-        follows RFC 6265, section 5.8.3)."""
+        `initiator` is the URL of the document at the top of the frames, where the one that starts the request and each
+        above it are of one site with it; else `data:,`, as for a frame of ads.com in a page of shop.com. Without it the
+        user does. Where it is of another site, cookies are left out whose `SameSite` is `Strict`, and unless the
+        request `navigates` the top level with a safe method, as a link by GET, those whose is `Lax`: of a form that is
+        sent by POST `navigates` is left out here, and given at `receive` (the draft that follows RFC 6265, section
+        5.8.3)."""
         word = _HEADER if initiator is None else _HEADER_BY_NAVIGATION if navigates else _HEADER_BY_PAGE
         answer = self._call(word, _second(now), _bytes(url), _bytes(initiator or ""))
         return answer.decode("utf-8", "surrogateescape")
@@ -997,271 +988,6 @@ class Client(_Handle):
         self.close()
 
 
-class _Shown(http.cookiejar.Cookie):
-    """A cookie of a client as `http.cookiejar` has one. Its version is 1, so that a jar into which somebody copies it
-    sends it nowhere: what a request gets is the client's to say."""
-
-    _rest: dict[str, Any]
-
-    def __copy__(self) -> _Shown:
-        # (`requests` copies each at each request, which takes four times as long by `copy` itself)
-        copied = _Shown.__new__(_Shown)
-        copied.__dict__ = self.__dict__.copy()
-        return copied
-
-    def set_nonstandard_attr(self, name: str, value: str) -> None:
-        """Sets another attribute of this cookie, and of no copy."""
-        self._rest = {**self._rest, name: value}
-
-
-def _shown(held: HeldCookie) -> _Shown:
-    has_dot = not held.host_only
-    rest = {**({"HttpOnly": ""} if held.http_only else {}), **({"SameSite": held.same_site} if held.same_site else {})}
-    return _Shown(1, held.name, held.value, None, False, "." * has_dot + held.domain, has_dot, has_dot, held.path, True,
-                  held.secure, held.expires, held.expires is None, None, None, rest)
-
-
-def _line_of(cookie: Any) -> tuple[str, str]:
-    """The URL and the line by which a client gets a cookie of `http.cookiejar`."""
-    host, path = cookie.domain[cookie.domain.startswith("."):], cookie.path or "/"
-    if not host or not path.startswith("/"):
-        raise ValueError("a cookie that a client gets has a domain, and a path that begins with /")
-    made = Cookie(cookie.name, cookie.value or "", path, host if cookie.domain.startswith(".") else None,
-                  expires=cookie.expires, http_only=cookie.has_nonstandard_attr("HttpOnly"), secure=cookie.secure,
-                  same_site=cookie.get_nonstandard_attr("SameSite"))
-    line = str(made)
-    if Cookie.parse(line) != dataclasses.replace(made, expires=cookie.expires and math.floor(cookie.expires)):
-        raise ValueError("the cookie isn't what its line reads as")
-    return f"https://{host}/", line
-
-
-def _site_of(url: str) -> str:
-    """The URL whose cookies a request gets: a WebSocket's are those of its handshake, which is by http or https (the
-    standard WebSockets, "establish a WebSocket connection")."""
-    return f"http{url[2:]}" if url[:4].lower() == "wss:" or url[:3].lower() == "ws:" else url
-
-
-class Jar(http.cookiejar.CookieJar):
-    """A jar for `urllib.request.HTTPCookieProcessor` over a client, or over a `Fleet` of the module `fleet`.
-
-    It reads, lists, sets and removes the client's cookies as `http.cookiejar` and the jar of `requests` do. Over a
-    fleet it lists none, and the other calls raise `NotImplementedError`. A cookie that is set has a domain. One that is
-    read, as by `list`, says of itself that its version is 1, so other jars send it nowhere. `bool(jar)` is True, with
-    cookies and without. There is no `set_policy`. A WebSocket (ws, wss) gets the cookies of its handshake.
-    """
-
-    def __init__(self, client: Union[Client, Fleet]):
-        super().__init__()
-        self.client = client
-        # What the client last answered, and the cookie that was made of each of its records.
-        self._listing: tuple[bytes, dict[bytes, _Shown]] = b"", {}
-
-    def extract_cookies(self, response: Any, request: urllib.request.Request) -> None:
-        """Has the client take the `Set-Cookie` lines of an answer, byte for byte."""
-        lines = response.info().get_all("Set-Cookie", [])
-        self.client.receive(_site_of(request.get_full_url()), [_received(line) for line in lines])
-
-    def add_cookie_header(self, request: urllib.request.Request) -> None:
-        """Gives a request the client's header, byte for byte, where it has no `Cookie` header of its own."""
-        header = self.client.header(_site_of(request.get_full_url()))
-        if header and not request.has_header("Cookie"):
-            request.add_unredirected_header("Cookie", _Sendable(header))
-
-    def clear_session_cookies(self) -> None:
-        """Ends the client's session cookies."""
-        self._listed().restart()
-
-    def clear_expired_cookies(self) -> None:
-        """Does nothing, since an expired cookie is neither told nor sent."""
-
-    def copy(self) -> "Jar":
-        """Another jar over the same client."""
-        return Jar(self.client)
-
-    def __iter__(self) -> Iterator[http.cookiejar.Cookie]:
-        # (`requests` does so at each request, over a fleet too)
-        return iter([it.__copy__() for it in self._shown()] if isinstance(self.client, Client) else [])
-
-    def _shown(self) -> Iterable[_Shown]:
-        """The client's cookies. Each is made once, as long as it is the same."""
-        answer, made = self._listing
-        now = self._listed()._call(_COOKIES, _second(None), b"", b"")
-        if now != answer:
-            made = {it: made[it] if it in made else _shown(_held_of(*_parts(it))) for it in _records(now)}
-            self._listing = now, made
-        return made.values()
-
-    def __len__(self) -> int:
-        return len(self.client) if isinstance(self.client, Client) else 0
-
-    def __bool__(self) -> bool:
-        return True
-
-    def __contains__(self, name: object) -> bool:
-        if isinstance(name, http.cookiejar.Cookie):
-            return any(vars(name) == vars(cookie) for cookie in self)
-        return name in self.keys()
-
-    def get(self, name: str, default: Any = None, domain: Optional[str] = None, path: Optional[str] = None) -> Any:
-        """The value of a name, of this domain and path where they are given. `RuntimeError` where several have it."""
-        found = [held.value for held in self._of(domain, path, name)]
-        if len(found) > 1:
-            raise RuntimeError(f"several cookies have the name {name!r}: say a domain and a path")
-        return found[0] if found else default
-
-    def __getitem__(self, name: str) -> str:
-        value: Optional[str] = self.get(name)
-        if value is None:
-            raise KeyError(name)
-        return value
-
-    def keys(self) -> list[str]:
-        """The names."""
-        return [held.name for held in self._listed()]
-
-    def values(self) -> list[str]:
-        """The values."""
-        return [held.value for held in self._listed()]
-
-    def items(self) -> list[tuple[str, str]]:
-        """The names and the values."""
-        return [(held.name, held.value) for held in self._listed()]
-
-    def iterkeys(self) -> Iterator[str]:
-        """The names, one after another."""
-        return iter(self.keys())
-
-    def itervalues(self) -> Iterator[str]:
-        """The values, one after another."""
-        return iter(self.values())
-
-    def iteritems(self) -> Iterator[tuple[str, str]]:
-        """The names and the values, one after another."""
-        return iter(self.items())
-
-    def multiple_domains(self) -> bool:
-        """Whether it has cookies of several domains."""
-        return len(self.list_domains()) > 1
-
-    def get_dict(self, domain: Optional[str] = None, path: Optional[str] = None) -> dict[str, str]:
-        """The names and the values, of this domain and path where they are given."""
-        return {held.name: held.value for held in self._of(domain, path)}
-
-    def list_domains(self) -> list[str]:
-        """Each domain once."""
-        return list(dict.fromkeys(cookie.domain for cookie in self))
-
-    def list_paths(self) -> list[str]:
-        """Each path once."""
-        return list(dict.fromkeys(cookie.path for cookie in self))
-
-    def clear(self, domain: Optional[str] = None, path: Optional[str] = None, name: Optional[str] = None) -> None:
-        """Takes out all cookies, or those of a domain, of a domain and path, or of these and a name, where there are
-        some: else it raises `KeyError`."""
-        if domain is None:
-            if path is not None or name is not None:
-                raise ValueError("a path or a name without a domain")
-            self._listed().clear()
-            return
-        if name is not None and path is None:
-            raise ValueError("a name without a path")
-        found = self._of(domain, path, name)
-        if not found:
-            raise KeyError(domain if path is None else path if name is None else name)
-        self._remove(found)
-
-    def __delitem__(self, name: str) -> None:
-        self._remove(self._of(None, None, name))
-
-    def set_cookie(self, cookie: Any, *_: object, **__: object) -> None:
-        """Has the client take a cookie, by its line from its own host over https. `ValueError` where it is refused, as
-        for a public suffix."""
-        url, line = _line_of(cookie)
-        end = self._listed().receive(url, [line])[0]
-        if end not in (End.INSERTED, End.UPDATED_EXISTING, End.EXPIRED_EXISTING, End.EXPIRED):
-            raise ValueError(f"the client refused the cookie: {end.name}")
-
-    def set(self, name: str, value: Optional[str], domain: str = "", path: str = "/", secure: bool = False,
-            expires: Optional[int] = None, rest: Optional[dict[str, Any]] = None) -> None:
-        """Sets a cookie of a domain, or takes it out where the value is None."""
-        if value is None:
-            self._remove(self._of(domain or None, path, name))
-            return
-        has_dot = domain.startswith(".")
-        self.set_cookie(http.cookiejar.Cookie(0, name, value, None, False, domain, bool(domain), has_dot, path, True,
-                                              secure, expires, expires is None, None, None, rest or {}))
-
-    def update(self, other: Iterable[Any]) -> None:
-        """Sets the cookies of another jar."""
-        for cookie in list(other):
-            if isinstance(cookie, str):
-                raise ValueError("a cookie that a client gets has a domain: set(name, value, domain=..)")
-            self.set_cookie(cookie)
-
-    def set_cookie_if_ok(self, cookie: Any, request: object) -> None:
-        """Sets a cookie."""
-        self.set_cookie(cookie)
-
-    def __setitem__(self, name: str, value: str) -> None:
-        """Raises, since a cookie has a domain: `set` takes it."""
-        self.set(name, value)
-
-    def set_policy(self, policy: object) -> NoReturn:
-        """Raises, since the client judges by its rules."""
-        raise NotImplementedError("a Jar has no policy: set client.rules")
-
-    def _listed(self) -> Client:
-        if not isinstance(self.client, Client):
-            raise NotImplementedError("a fleet lists, sets and removes no cookie: hand it lines of a URL")
-        return self.client
-
-    def _of(self, domain: Optional[str], path: Optional[str], name: Optional[str] = None) -> list[HeldCookie]:
-        """The cookies of a domain, with a leading dot or without, of a path and of a name, where they are given."""
-        host = domain[domain.startswith("."):] if domain is not None else None
-        return [held for held in self._listed() if host in (None, held.domain) and path in (None, held.path)
-                and name in (None, held.name)]
-
-    def _remove(self, found: Iterable[HeldCookie]) -> None:
-        for held in found:
-            self._listed().remove(held.domain, held.path, held.name)
-
-
-def _has_others(request: Any) -> bool:
-    """Whether `requests` may have made the header itself: it does so of the cookies of this table alone, but for the
-    client's, which it copies."""
-    return request._cookies is not None and any(not isinstance(it, _Shown) for it in request._cookies)
-
-
-class Adapter:
-    """An adapter for `requests`: mount it for `http://` and `https://` of a session whose `cookies` are `Jar(client)`.
-    A `Fleet` may stand in the client's place.
-
-    It puts the header of each request, at a redirect anew. A `Cookie` header of the caller's own goes out instead, up
-    to a redirect. `cookies=` of a request is passed over, and so is an own header beside it. What a request gets goes
-    by its URL, whatever its `Host` header says, while `requests` has the lines of the answer taken as from that host.
-    Requests go out by `over`, else by an `HTTPAdapter` of `requests` that is made of the other words.
-    """
-
-    def __init__(self, client: Union[Client, Fleet], over: Any = None, **how: Any):
-        # (nobody else loads `requests`)
-        from requests.adapters import HTTPAdapter
-        self.client = client
-        self.over = HTTPAdapter(**how) if over is None else over
-
-    def send(self, request: Any, *words: Any, **how: Any) -> Any:
-        """Sends a request with the client's header, but where the caller put one."""
-        given = request.headers.get("Cookie")
-        if given is None or isinstance(given, _Sendable) or _has_others(request):
-            self._put(request)
-        return self.over.send(request, *words, **how)
-
-    def close(self) -> None:
-        """Closes what requests go out by."""
-        self.over.close()
-
-    def _put(self, request: Any) -> None:
-        header = self.client.header(request.url)
-        if header:
-            request.headers["Cookie"] = _Sendable(header)
-        else:
-            request.headers.pop("Cookie", None)
+# (these stand on what is above)
+from .http.cookiejar import Jar
+from .requests import Adapter

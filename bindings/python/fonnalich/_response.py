@@ -6,6 +6,7 @@ from typing import Iterable
 from . import Bytes, RingKey, Session
 
 NAME = "fonnalich.session"
+"""What a session stands under in a request."""
 
 
 class Sent(RuntimeError):

@@ -5,15 +5,23 @@ It does what a `Session` does with one name, in fewer steps of Python.
 from __future__ import annotations
 
 import ctypes
+import functools
 import os
 import struct
 from typing import Any, Iterable, Optional
 
-from . import _LIB, _NONCE_LENGTH, _ROOM, Life, RingKey, Way, _answered, _escaped, _raise, _ring, _seconds_of
+from . import (_KEY_LENGTH, _LIB, _NONCE_LENGTH, _ROOM, Life, RingKey, Way, _answered, _escaped, _raise, _ring,
+               _seconds_of)
 
 _LENGTH = struct.Struct("<q")
 _SIZE = _LENGTH.size
-_EXCHANGE = _LIB.fonnalich_exchange_on_ring
+_Size = ctypes.c_size_t
+_Second = ctypes.c_int64
+# It gets its numbers as C's types, of which those that stay are made once: what `argtypes` make of all at each call
+# takes as long as the sealing.
+_EXCHANGE = _LIB["fonnalich_exchange"]
+_EXCHANGE.restype = ctypes.c_ssize_t
+_NO_SIZE, _KEY_SIZE, _NONCE_SIZE, _ROOM_SIZE = map(_Size, (0, _KEY_LENGTH, _NONCE_LENGTH, _ROOM))
 _SAME_SITES = {it: f"; SameSite={it}".encode() for it in ("Strict", "Lax", "None")}
 
 
@@ -22,67 +30,84 @@ class SealedCookie:
 
     def __init__(self, keys: Iterable[RingKey], name: str):
         self._keys, ends = _ring(keys)
-        self._length, self._earlier = len(self._keys), len(ends)
-        self._ends = (ctypes.c_int64 * (len(ends) + 1))(*ends)
+        self._key, self._ends = self._keys[:_KEY_LENGTH], (ctypes.c_int64 * (len(ends) + 1))(*ends)
+        self._earlier = len(ends)
         self._name, escaped = name.encode(), _escaped(name)
         way = Way.SEALED.value
         self._get, self._set, self._remove = b"G" + way + escaped, b"S" + way + escaped + b"=", b"R" + way + escaped
+        self._get_size = _Size(len(self._get))
         # The rooms that no call has now: each takes one out, whatever runs meanwhile.
         self._rooms: list[Any] = []
         # An end that is none is refused here, and not at the first reading.
-        self._first(b"", 0, b"", b"")
+        self._read_by_ring(b"", 0, b"")
 
     def opened(self, header: bytes, now: int) -> Optional[str]:
         """The text that the cookie of a header has at this second, as `Session.get` reads it."""
         if self._name not in header and b"%" not in header:
             return None
-        return self._first(header, now, self._get, b"")
+        text = self._told(header, _Size(len(header)), now, self._get, self._get_size)
+        # (the current key is the first of the ring, and the others are seldom asked)
+        return self._read_by_ring(header, now, self._get) if text is None and self._earlier else text
 
-    def line(self, text: str, now: int, max_age: Optional[Life] = None, http_only: bool = False,
-             same_site: Optional[str] = None, partitioned: bool = False) -> str:
-        """The `Set-Cookie` line that seals a text, as `Session.set` makes it."""
-        command = self._set + _quoted(text)
-        if http_only:
-            command += b"; HttpOnly"
-        if same_site is not None:
-            if same_site not in _SAME_SITES:
-                raise ValueError(f"same_site is {same_site!r}")
-            command += _SAME_SITES[same_site]
-        if partitioned:
-            command += b"; Partitioned"
+    def line(self, text: str, now: int, attributes: bytes = b"", max_age: Optional[Life] = None) -> str:
+        """The `Set-Cookie` line that seals a text, as `Session.set` makes it. Other attributes are those of
+        `attributes_of`."""
+        command = self._set + _quoted(text) + attributes
         if max_age is not None:
             command += b"; Max-Age=%d" % _seconds_of(max_age)
-        line = self._first(b"", now, command, os.urandom(_NONCE_LENGTH))
+        line = self._told(b"", _NO_SIZE, now, command, _Size(len(command)), os.urandom(_NONCE_LENGTH), _NONCE_SIZE)
         assert line is not None
         return line
 
     def removal(self, header: bytes, now: int) -> Optional[str]:
         """The line that removes the cookie of a header, where it has one."""
-        return self._first(header, now, self._remove, b"")
+        return self._told(header, _Size(len(header)), now, self._remove, _Size(len(self._remove)))
 
-    def _first(self, header: bytes, now: int, command: bytes, nonce: bytes) -> Optional[str]:
-        """The first item of an exchange's answer."""
+    def _told(self, header: bytes, header_size: _Size, now: int, command: bytes, command_size: _Size,
+              nonce: bytes = b"", nonce_size: _Size = _NO_SIZE) -> Optional[str]:
+        """The one item of an exchange's answer by the current key, where it has one with a text."""
         try:
             room = self._rooms.pop()
         except IndexError:
             room = ctypes.create_string_buffer(_ROOM)
-        length = _EXCHANGE(self._keys, self._length, self._ends, self._earlier, header, len(header), now, command,
-                           len(command), nonce, len(nonce), room, _ROOM)
-        if length < 0:
-            _raise(length)
+        length = _EXCHANGE(self._key, _KEY_SIZE, header, header_size, _Second(now), command, command_size, nonce,
+                           nonce_size, room, _ROOM_SIZE)
         if length > _ROOM:
-            answer = _answered(_EXCHANGE, self._keys, self._ends, self._earlier, header, now, command, nonce)
+            # (nothing was written)
+            text = _item(_answered(_LIB.fonnalich_exchange, self._key, header, now, command, nonce))
+        elif length > _SIZE:
+            text = room[_SIZE:length].decode()
         else:
-            answer = room[:length]
+            _raise(length)
+            text = _item(room[:length])
         self._rooms.append(room)
-        if not answer:
-            return None
-        size, = _LENGTH.unpack_from(answer)
-        return None if size < 0 else answer[_SIZE:_SIZE + size].decode()
+        return text
+
+    def _read_by_ring(self, header: bytes, now: int, command: bytes) -> Optional[str]:
+        """The first item of an exchange's answer by all keys."""
+        return _item(_answered(_LIB.fonnalich_exchange_on_ring, self._keys, self._ends, self._earlier, header, now,
+                               command, b""))
+
+
+def _item(answer: bytes) -> Optional[str]:
+    """The first item of an answer, where there is one and it has a text."""
+    if not answer:
+        return None
+    size, = _LENGTH.unpack_from(answer)
+    return None if size < 0 else answer[_SIZE:_SIZE + size].decode()
+
+
+@functools.lru_cache(maxsize=None)
+def attributes_of(http_only: bool, same_site: Optional[str], partitioned: bool) -> bytes:
+    """The attributes of a line that a site sets by these words of `Session.set`."""
+    if same_site is not None and same_site not in _SAME_SITES:
+        raise ValueError(f"same_site is {same_site!r}")
+    return (b"; HttpOnly" * http_only + (b"" if same_site is None else _SAME_SITES[same_site])
+            + b"; Partitioned" * partitioned)
 
 
 def _quoted(text: str) -> bytes:
     """A text as a command has it, which is decoded. Of printable ASCII, as JSON is, little has to be escaped."""
-    if text.isascii() and text.isprintable() and text[:1] != " " and text[-1:] != " ":
+    if text.isascii() and text.isprintable() and text == text.strip():
         return text.replace("%", "%25").replace(";", "%3B").encode()
     return _escaped(text)

@@ -14,9 +14,13 @@ from ._response import NAME, ResponseSession, Sent, checked
 __all__ = ["Middleware", "Sent"]
 
 Message = MutableMapping[str, Any]
+"""A message or a scope of ASGI."""
 Receive = Callable[[], Awaitable[Message]]
+"""What an application gets its messages by."""
 Send = Callable[[Message], Awaitable[None]]
+"""What an application sends its messages by."""
 App = Callable[[Message, Receive, Send], Awaitable[None]]
+"""An application of ASGI."""
 
 # What has the fields, which a server keeps until the next message, and what has them and ends there.
 _BEGIN = ("http.response.start", "websocket.http.response.start")

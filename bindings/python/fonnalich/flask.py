@@ -9,12 +9,12 @@ from __future__ import annotations
 import json
 import time
 import warnings
-from typing import TYPE_CHECKING, Any, Iterable, Optional
+from typing import TYPE_CHECKING, Any, Callable, Iterable, Optional
 
 from flask.sessions import SecureCookieSession, SessionInterface, session_json_serializer
 
 from . import Bytes, RingKey
-from ._sealed import SealedCookie
+from ._sealed import SealedCookie, attributes_of
 
 if TYPE_CHECKING:
     from flask import Flask, Request, Response
@@ -23,8 +23,10 @@ __all__ = ["SealedSession", "Sessions", "init_app"]
 
 # What a client has to keep of a name and a value (RFC 6265, section 6.1).
 _LONGEST = 4096
-# What Flask writes of values that JSON has: by Flask itself it takes three times as long.
+# What Flask writes of values that JSON has, and of those of one type: by Flask itself it takes three times as long.
 _ENCODER = json.JSONEncoder(separators=(",", ":"))
+_text: Callable[[str], str] = getattr(json.encoder, "encode_basestring_ascii", json.encoder.py_encode_basestring_ascii)
+_WRITERS: dict[type, Callable[[Any], str]] = {str: _text, int: repr, bool: {False: "false", True: "true"}.__getitem__}
 _DECODER = json.JSONDecoder()
 # What Flask asks of each value that it writes, where nobody added to that.
 _TAGS = [*session_json_serializer.order]
@@ -52,9 +54,13 @@ def init_app(app: Flask, key: Bytes, name: str = "__Host-session", fallbacks: It
 class SealedSession(SecureCookieSession):
     """What `flask.session` is: a dict that keeps whether it was read and changed."""
 
-    def __init__(self, header: bytes, content: Any = None):
-        super().__init__(content)
-        self._header = header
+    # That of its request.
+    _header = b""
+
+    def __setitem__(self, name: str, value: Any) -> None:
+        # (Flask's own does the same, and takes six times as long)
+        dict.__setitem__(self, name, value)
+        self.modified = self.accessed = True
 
 
 class Sessions(SessionInterface):
@@ -70,32 +76,38 @@ class Sessions(SessionInterface):
         header: bytes = request.environ.get("HTTP_COOKIE", "").encode("latin-1")
         now = int(time.time())
         text = self._cookie.opened(header, now)
-        return SealedSession(header, None if text is None else _content(app, text, now))
+        session = SealedSession(None if text is None else _content(app, text, now))
+        session._header = header
+        return session
 
     def save_session(self, app: Flask, session: Any, response: Response) -> None:
         """Puts the line of the session's cookie into a response, where there is something to set or to remove."""
-        if session.accessed:
-            if response.headers.getlist("Vary"):
+        # (older versions count it as an access too that is asked here whether the session is permanent)
+        accessed, line = session.accessed, None
+        if session:
+            if self.should_set_cookie(app, session):
+                line = self._sealed(app, session)
+        elif session.modified:
+            line = self._cookie.removal(session._header, int(time.time()))
+        headers = response.headers
+        if accessed or line is not None:
+            # (a cache that keeps the answer mustn't hand it to others)
+            if headers.getlist("Vary"):
                 response.vary.add("Cookie")
             else:
-                response.headers.add("Vary", "Cookie")
-        if session:
-            line = self._sealed(app, session) if self.should_set_cookie(app, session) else None
-        else:
-            line = self._cookie.removal(session._header, int(time.time())) if session.modified else None
+                headers.add("Vary", "Cookie")
         if line is None:
             return
-        response.headers.add("Set-Cookie", line)
+        headers.add("Set-Cookie", line)
         if line.index(";") > _LONGEST:
             warnings.warn(f"the session is over {_LONGEST} bytes, which clients needn't keep", stacklevel=2)
 
     def _sealed(self, app: Flask, session: SealedSession) -> str:
         now = int(time.time())
-        return self._cookie.line(_written(now, dict(session)), now,
-                                 max_age=app.permanent_session_lifetime if session.permanent else None,
-                                 http_only=self.get_cookie_httponly(app),
-                                 same_site=self.get_cookie_samesite(app) or "Lax",
-                                 partitioned=bool(app.config.get("SESSION_COOKIE_PARTITIONED")))
+        attributes = attributes_of(bool(self.get_cookie_httponly(app)), self.get_cookie_samesite(app) or "Lax",
+                                   bool(app.config.get("SESSION_COOKIE_PARTITIONED")))
+        return self._cookie.line(_written(now, session), now, attributes,
+                                 app.permanent_session_lifetime if session.permanent else None)
 
 
 def _written(second: int, content: dict[str, Any]) -> str:
@@ -103,7 +115,7 @@ def _written(second: int, content: dict[str, Any]) -> str:
     text = _plain(content)
     if text is not None:
         return f"[{second},{text}]"
-    value = [second, content]
+    value = [second, dict(content)]
     try:
         return _ENCODER.encode(session_json_serializer.tag(value))
     except TypeError:
@@ -116,37 +128,18 @@ def _plain(content: dict[str, Any]) -> Optional[str]:
     one name they may stand for something else. None where a session holds other values."""
     if len(content) < 2 or session_json_serializer.order != _TAGS:
         return None
-    items = []
-    for name, value in content.items():
-        kind = type(value)
-        if type(name) is not str:
-            return None
-        if kind is str:
-            text = _ENCODER.encode(value)
-        elif kind is int:
-            text = repr(value)
-        elif kind is bool:
-            text = "true" if value else "false"
-        else:
-            return None
-        items.append(f"{_ENCODER.encode(name)}:{text}")
+    try:
+        items = [f"{_text(name)}:{_WRITERS[type(value)](value)}" for name, value in content.items()]
+    except (KeyError, TypeError):
+        return None
     return f"{{{','.join(items)}}}"
-
-
-def _read(text: str) -> Any:
-    """What a text of JSON says."""
-    # (`json.loads` looks for white space at both ends, where Flask writes none)
-    if text.startswith("["):
-        value, end = _DECODER.raw_decode(text)
-        if end == len(text):
-            return value
-    return json.loads(text)
 
 
 def _content(app: Flask, text: str, now: int) -> Optional[dict[str, Any]]:
     """What a cookie holds, where it isn't past its lifetime, which Flask counts for a session of the browser too."""
     try:
-        second, content = session_json_serializer.loads(text) if _TAGGED in text else _read(text)
+        value, end = (None, -1) if _TAGGED in text or text[:1] != "[" else _DECODER.raw_decode(text)
+        second, content = value if end == len(text) else session_json_serializer.loads(text)
         is_over = second + int(app.permanent_session_lifetime.total_seconds()) < now
         return None if is_over else dict(content)
     except (TypeError, ValueError):

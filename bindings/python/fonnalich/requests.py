@@ -4,6 +4,55 @@
     session.mount("https://", Adapter(client))
     session.mount("http://", Adapter(client))
 """
-from . import Adapter, Jar
+from __future__ import annotations
+
+from typing import TYPE_CHECKING, Any, Union
+
+from . import Client
+from .http.cookiejar import Jar, _Sendable, _Shown
+
+if TYPE_CHECKING:
+    from .fleet import Fleet
 
 __all__ = ["Adapter", "Jar"]
+
+
+def _has_others(request: Any) -> bool:
+    """Whether `requests` may have made the header itself: it does so of the cookies of this table alone, but for the
+    client's, which it copies."""
+    return request._cookies is not None and any(not isinstance(it, _Shown) for it in request._cookies)
+
+
+class Adapter:
+    """An adapter for `requests`: mount it for `http://` and `https://` of a session whose `cookies` are `Jar(client)`.
+    A `Fleet` may stand in the client's place.
+
+    It puts the header of each request, at a redirect anew. A `Cookie` header of the caller's own goes out instead, up
+    to a redirect. `cookies=` of a request is passed over, and so is an own header beside it. What a request gets goes
+    by its URL, whatever its `Host` header says, while `requests` has the lines of the answer taken as from that host.
+    Requests go out by `over`, else by an `HTTPAdapter` of `requests` that is made of the other words.
+    """
+
+    def __init__(self, client: Union[Client, Fleet], over: Any = None, **how: Any):
+        # (nobody else loads `requests`)
+        from requests.adapters import HTTPAdapter
+        self.client = client
+        self.over = HTTPAdapter(**how) if over is None else over
+
+    def send(self, request: Any, *words: Any, **how: Any) -> Any:
+        """Sends a request with the client's header, but where the caller put one."""
+        given = request.headers.get("Cookie")
+        if given is None or isinstance(given, _Sendable) or _has_others(request):
+            self._put(request)
+        return self.over.send(request, *words, **how)
+
+    def close(self) -> None:
+        """Closes what requests go out by."""
+        self.over.close()
+
+    def _put(self, request: Any) -> None:
+        header = self.client.header(request.url)
+        if header:
+            request.headers["Cookie"] = _Sendable(header)
+        else:
+            request.headers.pop("Cookie", None)

@@ -65,6 +65,11 @@ def shop(**settings):
     def static_page():
         return "page"
 
+    @app.route("/varied")
+    def varied():
+        session.get("user")
+        return "page", {"Vary": "Accept"}
+
     return app
 
 
@@ -114,6 +119,14 @@ class Sessions(unittest.TestCase):
     def test_say_what_they_vary_by(self):
         self.assertIn(("Vary", "Cookie"), self.browser.get("/set/user/ann").fields)
         self.assertNotIn(("Vary", "Cookie"), self.browser.get("/static").fields)
+        self.assertIn(("Vary", "Accept, Cookie"), self.browser.get("/varied").fields)
+
+    # A cache that keeps such an answer would hand the cookie to others (Flask 2.2.5 and later say so too).
+    def test_say_so_where_a_cookie_is_set_for_a_page_that_reads_none(self):
+        self.browser.get("/permanent/1")
+        answer = self.browser.get("/static")
+        self.assertEqual(len(answer.lines()), 1)
+        self.assertIn(("Vary", "Cookie"), answer.fields)
 
     def test_are_not_touched_without_a_change(self):
         self.browser.get("/set/user/ann")

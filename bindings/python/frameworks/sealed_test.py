@@ -4,7 +4,7 @@ import threading
 import unittest
 
 from fonnalich import Cookie, Refused, Session, Way, _sealed
-from fonnalich._sealed import SealedCookie
+from fonnalich._sealed import SealedCookie, attributes_of
 
 from frameworks.kit import KEY, NOW, forged
 
@@ -39,14 +39,15 @@ class Sealed(unittest.TestCase):
             self.assertEqual(line.partition("; ")[2], "Secure; Path=/")
 
     def test_has_the_attributes_of_a_session(self):
-        for how in [{}, {"http_only": True}, {"same_site": "Strict"}, {"same_site": "None", "partitioned": True},
-                    {"max_age": 90.5, "http_only": True, "same_site": "Lax"}]:
+        for words, max_age in [((False, None, False), None), ((True, None, False), None),
+                               ((False, "Strict", False), None), ((False, "None", True), 0),
+                               ((True, "Lax", True), 90.5)]:
             wanted = session()
-            wanted.set(Way.SEALED, NAME, "a", **how)
-            line, = wanted.close()
-            self.assertEqual(self.cookie.line("a", NOW, **how).partition("; ")[2], line.partition("; ")[2], how)
+            wanted.set(Way.SEALED, NAME, "a", max_age, None, *words)
+            line = self.cookie.line("a", NOW, attributes_of(*words), max_age)
+            self.assertEqual(line.partition("; ")[2], wanted.close()[0].partition("; ")[2], (words, max_age))
         with self.assertRaisesRegex(ValueError, "same_site"):
-            self.cookie.line("a", NOW, same_site="lax")
+            attributes_of(False, "lax", False)
 
     def test_seals_by_new_nonces(self):
         self.assertEqual(len({self.cookie.line("a", NOW) for _ in range(9)}), 9)

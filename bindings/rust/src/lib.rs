@@ -112,7 +112,7 @@ mod library {
             out_length: usize,
         ) -> isize;
         pub fn fonnalich_share(at: *mut Handle, other: *mut Handle) -> isize;
-            #[allow(clippy::too_many_arguments)]
+        #[allow(clippy::too_many_arguments)]
         pub fn fonnalich_exchange_on_ring(
             keys: *const u8,
             keys_length: usize,
@@ -350,10 +350,13 @@ impl LineEnd {
 pub enum Initiator<'u> {
     /// The user, as by a typed URL or a bookmark.
     User,
-    /// A page of this URL, at the top of its frames: as an image of it, a script, or a form that is sent by POST.
+    /// A page: as an image of it, a script, or a form that is sent by POST. The URL is that of the document at the top
+    /// of the frames, where the one that starts the request and each above it are of one site with it; else `data:,`,
+    /// as for a frame of ads.com in a page of shop.com.
     Page(&'u str),
     /// Such a page, by a navigation of the top level with a safe method, as a link by GET. At
-    /// [`Client::receive_for`] by any method.
+    /// [`Client::receive_for`] by any method: a form that navigates the top level by POST is `Page` at
+    /// [`Client::header_for`], and `Navigation` there.
     Navigation(&'u str),
 }
 

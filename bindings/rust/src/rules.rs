@@ -32,10 +32,10 @@ pub struct Rules {
     /// `secure_from_http`: without that a Secure cookie may come from anyone.
     pub secure_wins: bool,
     /// [`Client::header_for`](crate::Client::header_for) and [`Client::receive_for`](crate::Client::receive_for) take a
-    /// cookie without `SameSite` as one with `SameSite=Lax`. Some browsers have it.
+    /// cookie without `SameSite` as one with `SameSite=Lax`. The draft has it, and Firefox and Safari don't.
     pub lax_by_default: bool,
-    /// [`Client::receive_for`](crate::Client::receive_for) refuses a cookie with `SameSite=None` that isn't Secure.
-    /// Some browsers have it.
+    /// [`Client::receive_for`](crate::Client::receive_for) refuses a cookie with `SameSite=None` that isn't Secure. The
+    /// draft has it, and Firefox and Safari don't.
     pub none_needs_secure: bool,
 }
 

@@ -15,7 +15,8 @@ use Rattle.cookie_run.specs.Keeping.{HaveReadPairs}
 use Rattle.cookies_txt.specs.Entries.{entry_text}
 use Rattle.cookies_txt.specs.declared.entries.Entry.{Entry}
 use Rattle.cookies_txt.specs.declared.error.LineFault.{LineFault}
-use Rattle.fonnalich_c.specs.Importing.{AreEnds, End, IsBar, IsEnd, Sorts, refused_in, refused_lines, taken_in, taken_of}
+use Rattle.fonnalich_c.specs.Importing.{AreEnds, End, IsBar, IsEnd, Sorts, refused_in, refused_lines, taken_in}
+use Rattle.fonnalich_c.specs.Importing.{taken_of}
 use Rattle.fonnalich_c.specs.declared.importing.Cause.{Cause}
 
 abbrev Line : Type 0

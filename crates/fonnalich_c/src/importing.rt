@@ -43,8 +43,8 @@ struct Sorted {
 /// Puts the rows of the lines of a text among those of a client, and answers how many lines name a cookie or are
 /// faulty, how many were taken, and which were refused and why.
 ///
-/// A line is read as [`read_entries`] has it, and refused alone. One whose row is expired at the second is passed over. No row
-/// is judged by the list of public suffixes, or by rules. The client is as it was where that is refused.
+/// A line is read as [`read_entries`] has it, and refused alone. One whose row is expired at the second is passed over.
+/// No row is judged by the list of public suffixes, or by rules. The client is as it was where that is refused.
 pub(crate) fn import(
     alloc: Global,
     client: &mut Client,

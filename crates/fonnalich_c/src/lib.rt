@@ -180,6 +180,9 @@ pub unsafe extern "C" fn fonnalich_one(
 /// Takes the lines of an answer from this URL, where it is said what started the request: the user by 0, the page by 1,
 /// and by 2 the page that navigates the top level. Behind the rules an answer to a request of another site's page, but
 /// for such a navigation, sets no cookie that is `Strict` or `Lax`.
+///
+/// Which page that is, [`user_agent::Initiator`] says: the document at the top, where the one that starts the request
+/// and each one above it are of its site; else any URL without a host, as `data:,`.
 #[unsafe(no_mangle)]
 pub unsafe extern "C" fn fonnalich_receive_for(
     alloc: Global,

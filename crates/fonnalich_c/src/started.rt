@@ -49,7 +49,7 @@ impl Start {
 pub(crate) struct Texts<'t> {
     /// The URL of the request.
     pub url: &'t [u8],
-    /// That of the page that starts it.
+    /// That of the page that starts it, as [`user_agent::Initiator`] has it.
     pub page: &'t [u8],
     /// The lines of its answer.
     pub lines: &'t [u8],

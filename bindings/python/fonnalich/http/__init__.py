@@ -1,0 +1,1 @@
+"""What stands for modules of Python's `http`: `cookiejar`."""

@@ -1,0 +1,259 @@
+"""A jar for what takes one of `http.cookiejar`: `urllib.request`, `requests` and what reads `session.cookies`.
+
+    opener = urllib.request.build_opener(urllib.request.HTTPCookieProcessor(Jar(client)))
+"""
+from __future__ import annotations
+
+import dataclasses
+import http.cookiejar
+import math
+import urllib.request
+from typing import TYPE_CHECKING, Any, Iterable, Iterator, NoReturn, Optional, Union
+
+from .. import _COOKIES, Client, Cookie, End, HeldCookie, _bytes, _held_of, _parts, _records, _second
+
+if TYPE_CHECKING:
+    from ..fleet import Fleet
+
+__all__ = ["Jar"]
+
+
+def _received(line: str) -> bytes:
+    """The bytes of a header that `http.client` read, which makes a character of each. A folded line becomes one."""
+    return b" ".join(line.encode("latin-1").splitlines())
+
+
+class _Sendable(str):
+    """A client's header as `http.client` sends it, which makes a byte of each character."""
+
+    def __new__(cls, header: str) -> "_Sendable":
+        return super().__new__(cls, _bytes(header).decode("latin-1"))
+
+
+class _Shown(http.cookiejar.Cookie):
+    """A cookie of a client as `http.cookiejar` has one. Its version is 1, so that a jar into which somebody copies it
+    sends it nowhere: what a request gets is the client's to say."""
+
+    _rest: dict[str, Any]
+
+    def __copy__(self) -> _Shown:
+        # (`requests` copies each at each request, which takes four times as long by `copy` itself)
+        copied = _Shown.__new__(_Shown)
+        copied.__dict__ = self.__dict__.copy()
+        return copied
+
+    def set_nonstandard_attr(self, name: str, value: str) -> None:
+        """Sets another attribute of this cookie, and of no copy."""
+        self._rest = {**self._rest, name: value}
+
+
+def _shown(held: HeldCookie) -> _Shown:
+    has_dot = not held.host_only
+    rest = {**({"HttpOnly": ""} if held.http_only else {}), **({"SameSite": held.same_site} if held.same_site else {})}
+    return _Shown(1, held.name, held.value, None, False, "." * has_dot + held.domain, has_dot, has_dot, held.path, True,
+                  held.secure, held.expires, held.expires is None, None, None, rest)
+
+
+def _line_of(cookie: Any) -> tuple[str, str]:
+    """The URL and the line by which a client gets a cookie of `http.cookiejar`."""
+    host, path = cookie.domain[cookie.domain.startswith("."):], cookie.path or "/"
+    if not host or not path.startswith("/"):
+        raise ValueError("a cookie that a client gets has a domain, and a path that begins with /")
+    made = Cookie(cookie.name, cookie.value or "", path, host if cookie.domain.startswith(".") else None,
+                  expires=cookie.expires, http_only=cookie.has_nonstandard_attr("HttpOnly"), secure=cookie.secure,
+                  same_site=cookie.get_nonstandard_attr("SameSite"))
+    line = str(made)
+    if Cookie.parse(line) != dataclasses.replace(made, expires=cookie.expires and math.floor(cookie.expires)):
+        raise ValueError("the cookie isn't what its line reads as")
+    return f"https://{host}/", line
+
+
+def _site_of(url: str) -> str:
+    """The URL whose cookies a request gets: a WebSocket's are those of its handshake, which is by http or https (the
+    standard WebSockets, "establish a WebSocket connection")."""
+    return f"http{url[2:]}" if url[:4].lower() == "wss:" or url[:3].lower() == "ws:" else url
+
+
+class Jar(http.cookiejar.CookieJar):
+    """A jar for `urllib.request.HTTPCookieProcessor` over a client, or over a `Fleet` of the module `fleet`.
+
+    It reads, lists, sets and removes the client's cookies as `http.cookiejar` and the jar of `requests` do. Over a
+    fleet it lists none, and the other calls raise `NotImplementedError`. A cookie that is set has a domain. One that is
+    read, as by `list`, says of itself that its version is 1, so other jars send it nowhere. `bool(jar)` is True, with
+    cookies and without. There is no `set_policy`. A WebSocket (ws, wss) gets the cookies of its handshake.
+    """
+
+    def __init__(self, client: Union[Client, Fleet]):
+        super().__init__()
+        self.client = client
+        # What the client last answered, and the cookie that was made of each of its records.
+        self._listing: tuple[bytes, dict[bytes, _Shown]] = b"", {}
+
+    def extract_cookies(self, response: Any, request: urllib.request.Request) -> None:
+        """Has the client take the `Set-Cookie` lines of an answer, byte for byte."""
+        lines = response.info().get_all("Set-Cookie", [])
+        self.client.receive(_site_of(request.get_full_url()), [_received(line) for line in lines])
+
+    def add_cookie_header(self, request: urllib.request.Request) -> None:
+        """Gives a request the client's header, byte for byte, where it has no `Cookie` header of its own."""
+        header = self.client.header(_site_of(request.get_full_url()))
+        if header and not request.has_header("Cookie"):
+            request.add_unredirected_header("Cookie", _Sendable(header))
+
+    def clear_session_cookies(self) -> None:
+        """Ends the client's session cookies."""
+        self._listed().restart()
+
+    def clear_expired_cookies(self) -> None:
+        """Does nothing, since an expired cookie is neither told nor sent."""
+
+    def copy(self) -> "Jar":
+        """Another jar over the same client."""
+        return Jar(self.client)
+
+    def __iter__(self) -> Iterator[http.cookiejar.Cookie]:
+        # (`requests` does so at each request, over a fleet too)
+        return iter([it.__copy__() for it in self._shown()] if isinstance(self.client, Client) else [])
+
+    def _shown(self) -> Iterable[_Shown]:
+        """The client's cookies. Each is made once, as long as it is the same."""
+        answer, made = self._listing
+        now = self._listed()._call(_COOKIES, _second(None), b"", b"")
+        if now != answer:
+            made = {it: made[it] if it in made else _shown(_held_of(*_parts(it))) for it in _records(now)}
+            self._listing = now, made
+        return made.values()
+
+    def __len__(self) -> int:
+        return len(self.client) if isinstance(self.client, Client) else 0
+
+    def __bool__(self) -> bool:
+        return True
+
+    def __contains__(self, name: object) -> bool:
+        if isinstance(name, http.cookiejar.Cookie):
+            return any(vars(name) == vars(cookie) for cookie in self)
+        return name in self.keys()
+
+    def get(self, name: str, default: Any = None, domain: Optional[str] = None, path: Optional[str] = None) -> Any:
+        """The value of a name, of this domain and path where they are given. `RuntimeError` where several have it."""
+        found = [held.value for held in self._of(domain, path, name)]
+        if len(found) > 1:
+            raise RuntimeError(f"several cookies have the name {name!r}: say a domain and a path")
+        return found[0] if found else default
+
+    def __getitem__(self, name: str) -> str:
+        value: Optional[str] = self.get(name)
+        if value is None:
+            raise KeyError(name)
+        return value
+
+    def keys(self) -> list[str]:
+        """The names."""
+        return [held.name for held in self._listed()]
+
+    def values(self) -> list[str]:
+        """The values."""
+        return [held.value for held in self._listed()]
+
+    def items(self) -> list[tuple[str, str]]:
+        """The names and the values."""
+        return [(held.name, held.value) for held in self._listed()]
+
+    def iterkeys(self) -> Iterator[str]:
+        """The names, one after another."""
+        return iter(self.keys())
+
+    def itervalues(self) -> Iterator[str]:
+        """The values, one after another."""
+        return iter(self.values())
+
+    def iteritems(self) -> Iterator[tuple[str, str]]:
+        """The names and the values, one after another."""
+        return iter(self.items())
+
+    def multiple_domains(self) -> bool:
+        """Whether it has cookies of several domains."""
+        return len(self.list_domains()) > 1
+
+    def get_dict(self, domain: Optional[str] = None, path: Optional[str] = None) -> dict[str, str]:
+        """The names and the values, of this domain and path where they are given."""
+        return {held.name: held.value for held in self._of(domain, path)}
+
+    def list_domains(self) -> list[str]:
+        """Each domain once."""
+        return list(dict.fromkeys(cookie.domain for cookie in self))
+
+    def list_paths(self) -> list[str]:
+        """Each path once."""
+        return list(dict.fromkeys(cookie.path for cookie in self))
+
+    def clear(self, domain: Optional[str] = None, path: Optional[str] = None, name: Optional[str] = None) -> None:
+        """Takes out all cookies, or those of a domain, of a domain and path, or of these and a name, where there are
+        some: else it raises `KeyError`."""
+        if domain is None:
+            if path is not None or name is not None:
+                raise ValueError("a path or a name without a domain")
+            self._listed().clear()
+            return
+        if name is not None and path is None:
+            raise ValueError("a name without a path")
+        found = self._of(domain, path, name)
+        if not found:
+            raise KeyError(domain if path is None else path if name is None else name)
+        self._remove(found)
+
+    def __delitem__(self, name: str) -> None:
+        self._remove(self._of(None, None, name))
+
+    def set_cookie(self, cookie: Any, *_: object, **__: object) -> None:
+        """Has the client take a cookie, by its line from its own host over https. `ValueError` where it is refused, as
+        for a public suffix."""
+        url, line = _line_of(cookie)
+        end = self._listed().receive(url, [line])[0]
+        if end not in (End.INSERTED, End.UPDATED_EXISTING, End.EXPIRED_EXISTING, End.EXPIRED):
+            raise ValueError(f"the client refused the cookie: {end.name}")
+
+    def set(self, name: str, value: Optional[str], domain: str = "", path: str = "/", secure: bool = False,
+            expires: Optional[int] = None, rest: Optional[dict[str, Any]] = None) -> None:
+        """Sets a cookie of a domain, or takes it out where the value is None."""
+        if value is None:
+            self._remove(self._of(domain or None, path, name))
+            return
+        has_dot = domain.startswith(".")
+        self.set_cookie(http.cookiejar.Cookie(0, name, value, None, False, domain, bool(domain), has_dot, path, True,
+                                              secure, expires, expires is None, None, None, rest or {}))
+
+    def update(self, other: Iterable[Any]) -> None:
+        """Sets the cookies of another jar."""
+        for cookie in list(other):
+            if isinstance(cookie, str):
+                raise ValueError("a cookie that a client gets has a domain: set(name, value, domain=..)")
+            self.set_cookie(cookie)
+
+    def set_cookie_if_ok(self, cookie: Any, request: object) -> None:
+        """Sets a cookie."""
+        self.set_cookie(cookie)
+
+    def __setitem__(self, name: str, value: str) -> None:
+        """Raises, since a cookie has a domain: `set` takes it."""
+        self.set(name, value)
+
+    def set_policy(self, policy: object) -> NoReturn:
+        """Raises, since the client judges by its rules."""
+        raise NotImplementedError("a Jar has no policy: set client.rules")
+
+    def _listed(self) -> Client:
+        if not isinstance(self.client, Client):
+            raise NotImplementedError("a fleet lists, sets and removes no cookie: hand it lines of a URL")
+        return self.client
+
+    def _of(self, domain: Optional[str], path: Optional[str], name: Optional[str] = None) -> list[HeldCookie]:
+        """The cookies of a domain, with a leading dot or without, of a path and of a name, where they are given."""
+        host = domain[domain.startswith("."):] if domain is not None else None
+        return [held for held in self._listed() if host in (None, held.domain) and path in (None, held.path)
+                and name in (None, held.name)]
+
+    def _remove(self, found: Iterable[HeldCookie]) -> None:
+        for held in found:
+            self._listed().remove(held.domain, held.path, held.name)
