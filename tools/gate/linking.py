@@ -71,9 +71,9 @@ class Unlinked(Exception):
     """Why there is no program."""
 
 
-def program(processor, command, told=None):
-    """A proved program as a static file, which answers `--help` with what is `told`. Where it can't be linked so here,
-    it is as it was built for x86-64. Raises Unlinked where there is none."""
+def program(processor, command):
+    """A proved program as a static file. Where it can't be linked so here, it is as it was built for x86-64. Raises
+    Unlinked where there is none."""
     is_arm = processor != "x86_64"
     words = shlex.split(ARM_CC) if is_arm else CC
     if not programs.is_built(command):
@@ -83,7 +83,7 @@ def program(processor, command, told=None):
     if not programs.is_built_for(command, processor):
         raise Unlinked(f"it isn't proved and built for {processor}")
     try:
-        return static(words, objects_for_arm(command) if is_arm else objects_of(command), told)
+        return static(words, objects_for_arm(command) if is_arm else objects_of(command))
     except subprocess.CalledProcessError:
         if is_arm:
             sys.exit(f"package: '{ARM_CC}' doesn't link {command}, as stands above")
@@ -101,18 +101,16 @@ def links_for_arm():
         return subprocess.run(words, stderr=subprocess.DEVNULL, check=False).returncode == 0
 
 
-def static(words, parts, told):
+def static(words, parts):
     """A static file of these objects, and of these files in C, by the words of a compiler."""
     flags = ["-static", "-Wl,--build-id=none", "-Wl,--gc-sections", "-Wl,-s"]
     with tempfile.TemporaryDirectory() as room:
-        def in_c(path, *more):
+        def in_c(path):
             made = f"{room}/{os.path.basename(path)}.o"
-            run(*words, "-O2", "-std=gnu11", "-Wall", "-Wextra", *more, "-c", path, "-o", made)
+            run(*words, "-O2", "-std=gnu11", "-Wall", "-Wextra", "-c", path, "-o", made)
             return made
 
         objects = [in_c(it) if it.endswith(".c") else it for it in parts]
-        if told:
-            objects.append(in_c(f"{PACKAGING}/help.c", f"-DTEXT={','.join(map(str, told.encode()))}"))
         run(*words, *objects, *flags, "-o", f"{room}/made")
         return read(f"{room}/made")
 

@@ -5,8 +5,8 @@ import subprocess
 
 # What the library and the programs are made of, and what else is packed with them and packs them.
 MADE_OF = ("crates", "crates.txt", "HANDLES", "bindings/c/fonnalich.h")
-PACKED = ("LICENSE-APACHE", "LICENSE-MIT", "bindings", "cookie-run", "examples/suffixes.dat", "tools/gate",
-          "tools/package", "tools/packaging")
+PACKED = ("LICENSE-APACHE", "LICENSE-MIT", "bindings", "examples/suffixes.dat", "tools/gate", "tools/package",
+          "tools/packaging")
 # Folders of what is built.
 BUILT = ("out", "target", "__pycache__")
 

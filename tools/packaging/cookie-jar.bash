@@ -19,7 +19,7 @@ _cookie_jar() {
         --format:* | --file-format:*) found='ron json txt' ;;
         --for:*) found='curl wget python' ;;
         --rules:*) found='browser none long-attributes dates long-lives control too-long secure-prefix host-prefix
-            secure-from-http secure-overlay' ;;
+            secure-from-http secure-overlay lax-by-default none-needs-secure' ;;
         :0) files=1 ;;
         :1) found='receive header get set list explain remove clear import export' ;;
         :2) [[ ${plain[1]} == import || ${plain[1]} == export ]] && files=1 ;;
