@@ -142,10 +142,7 @@ domain_asked empty host is = absurd is
 
 -- a path that the request-path path-matches
 pub path_asked : (path text : List ℕ) → PathMatches text path → is_among text (paths_of path) ≡ true
-path_asked path text (inl same) = (are_paths path text).1 (inl same)
-path_asked path text (inr prefix) =
-    (are_paths path text).1
-    (inr (record { rest = prefix.rest; split = prefix.split; at_slash = prefix.at_slash }))
+path_asked path text = (are_paths path text).1
 
 -- ---- what it is given
 

@@ -6,12 +6,12 @@ use Rattle.std.specs.Str.Lines.{lines}
 use Rattle.cookie_text.specs.ReadingBack.{Pairwise}
 use Rattle.saved_text.specs.JsonReading.{IsJsonFault, IsNoRow}
 use Rattle.store_parts.specs.declared.error.Error.{Error}
-use Rattle.cookie_store.specs.LoadedLines.{Reader, Input, TakesLines, StopsAtLine, StopsLoadingLines, LoadsLines}
-use Rattle.cookie_store.specs.LoadedLines.{MakesRow}
+use Rattle.cookie_store.specs.LoadedLines.{Input, LineReader, LoadsLinesBy, MakesRow, StopsAtLine, StopsLoadingLines}
+use Rattle.cookie_store.specs.LoadedLines.{TakesLines}
 use Rattle.cookie_store.specs.Rows.{Row, Store}
 use Rattle.cookie_store.specs.SavedTexts as form
 
-module _ {F : Type 0} (closures : Reader F)
+module _ {F : Type 0} (closures : LineReader F)
     (makes : (f : F) (line : List ℕ) (row : Row) (g : F) → MakesRow closures f line row g → form.IsJsonRow line row)
     (refuses : (f : F) (line : List ℕ) (e : Error) (g : F) → CalledAt closures.calls f line (Err e) g
     → form.IsRefusal (IsJsonFault IsNoRow line) e) where
@@ -24,7 +24,7 @@ module _ {F : Type 0} (closures : Reader F)
       ((utf8, makes f line row mid made), taken mid last ls rows more)
 
   pub loads : (f : F) (with_expired : Bool) (now : ℤ) (old new : Input) (store : Store)
-      → LoadsLines closures f with_expired now old new store
+      → LoadsLinesBy closures f with_expired now old new store
       → form.LoadsLines with_expired now old new store
   loads f with_expired now old new store h = record {
     text = h.text;

@@ -10,7 +10,7 @@ use Rattle.std.specs.Str.Lines.{lines, lines_of_parts, strip_carriage_return}
 use Rattle.std.proofs.lemmas.List.Splits.{slice_split_at, slice_split_none}
 use Rattle.store_parts.specs.declared.error.Error.{Error}
 use Rattle.store_parts.specs.declared.error.Error.TheVariants.{OutOfMemory}
-use Rattle.cookie_store.specs.LoadedLines.{Cuts, IsFault, Reader, StopsAtLine, TakesLines}
+use Rattle.cookie_store.specs.LoadedLines.{Cuts, IsFault, LineReader, StopsAtLine, TakesLines}
 use Rattle.cookie_store.specs.Rows.{Row}
 use Rattle.cookie_store.specs.Steps.{Fills, TakesOne, TakesRest, TakesWhole}
 use Rattle.cookie_store.proofs.LoadLemmas.{kept, kept_first, none_kept}
@@ -107,7 +107,7 @@ nothing_more begun (x ∷ xs) e = absurd (omega (arith, e))
 pub nothing_whole : (text begun : List ℕ) → text ≡ begun → All (λ b. b ≢ 10) begun → Cuts text [] begun
 nothing_whole text begun e unended = record { first = λ rest. ap (λ l. lines (l ++ rest)) e; unended = unended }
 
-module _ {F : Type 0} (closures : Reader F) where
+module _ {F : Type 0} (closures : LineReader F) where
   -- memory may be wanting at any line
   pub stops_wanting : (closure : F) (all : List (List ℕ)) → IsSome all → StopsAtLine closures closure all OutOfMemory
   stops_wanting closure all (line, more, e) =

@@ -8,8 +8,8 @@ use Rattle.std.specs.Str.Lines.{lines}
 use Rattle.std.proofs.KnownBytes.{Consumes-trans}
 use Rattle.devices.specs.Device.{Rose, one_more}
 use Rattle.store_parts.specs.declared.error.Error.{Error}
-use Rattle.cookie_store.specs.LoadedLines.{Cuts, Input, LoadsLines, Reader, StopsAtLine, StopsLoadingLines}
-use Rattle.cookie_store.specs.LoadedLines.{StopsReading}
+use Rattle.cookie_store.specs.LoadedLines.{Cuts, Input, LoadsLinesBy, LineReader, StopsAtLine, StopsLoadingLines}
+use Rattle.cookie_store.specs.LoadedLines.{StopsReadingBy}
 use Rattle.cookie_store.specs.LoadedLines.{TakesLines}
 use Rattle.cookie_store.specs.Rows.{Row, Store}
 use Rattle.cookie_store.specs.Steps.{TakesRest, TakesWhole}
@@ -37,7 +37,7 @@ read_none a b c text buf n none first second =
 pub rose_by_one : (first old new : ℕ) → old ≡ first → new ≡ one_more old → Rose first new
 rose_by_one first old new same more = grind (arith, common_steps)
 
-module _ {F : Type 0} (closures : Reader F) where
+module _ {F : Type 0} (closures : LineReader F) where
   lines_append : (first mid last : F) (xs ys : List (List ℕ)) (rows more : List Row)
       → TakesLines closures first xs rows mid → TakesLines closures mid ys more last
       → TakesLines closures first (xs ++ ys) (rows ++ more) last
@@ -134,7 +134,7 @@ module _ {F : Type 0} (closures : Reader F) where
     pub loads_all : (first mid last : F) (new end : List Row) (text begun : List ℕ) (a b : Input) (store : Store)
         → TakesWhole closures with_expired now first [] text mid new begun → Consumes a.left b.left text
         → IsAtEnd b.left → b.failures ≡ a.failures → TakesRest closures with_expired now mid new begun last end
-        → store ≡ record { rows = end; suffixes = [] } → LoadsLines closures first with_expired now a b store
+        → store ≡ record { rows = end; suffixes = [] } → LoadsLinesBy closures first with_expired now a b store
     loads_all first mid last new end text begun a b store (whole, made, cut, taken, placed) read ended steady
         (made-2, taken-2, placed-2) is =
         record {
@@ -157,7 +157,7 @@ module _ {F : Type 0} (closures : Reader F) where
     -- a read failed, or there were too many
     pub stops_reading : (first mid : F) (new : List Row) (text begun : List ℕ) (a b : Input)
         → TakesWhole closures with_expired now first [] text mid new begun → Consumes a.left b.left text
-        → (Rose a.failures b.failures ⊎ (b.reads ≡ 2 ^ 64 - 1)) → StopsReading closures first a b
+        → (Rose a.failures b.failures ⊎ (b.reads ≡ 2 ^ 64 - 1)) → StopsReadingBy closures first a b
     stops_reading first mid new text begun a b (whole, made, cut, taken, placed) read failed =
         record {
           failed = failed;

@@ -30,21 +30,21 @@ abbrev pub input : Option (List ℕ) → ℕ → ℕ → Input
 input left failures reads = record { left = left; failures = failures; reads = reads }
 
 -- what calls of a closure take and give: a text, and a cookie that shows a row
-pub record Reader (F : Type 0) : Type 1 where
+pub record LineReader (F : Type 0) : Type 1 where
   pub Item : Type 0
   pub shows : Item → Row
   pub calls : Mut F (Bor (List ℕ) × Unit {0}) (Result Item Error)
 
-abbrev pub line_reader : {F C : Type 0} → (C → Row) → Mut F (Bor (List ℕ) × Unit {0}) (Result C Error) → Reader F
+abbrev pub line_reader : {F C : Type 0} → (C → Row) → Mut F (Bor (List ℕ) × Unit {0}) (Result C Error) → LineReader F
 line_reader {F} {C} shows calls = record { Item = C; shows = shows; calls = calls }
 
 -- the closure made a cookie of the line that shows the row
-abbrev pub MakesRow : {F : Type 0} → Reader F → F → List ℕ → Row → F → Type 0
+abbrev pub MakesRow : {F : Type 0} → LineReader F → F → List ℕ → Row → F → Type 0
 MakesRow closures closure line row after =
     (cookie : closures.Item) × (closures.shows cookie ≡ row) × CalledAt closures.calls closure line (Ok cookie) after
 
 -- the lines are UTF-8, and the closure made these rows of them, one after another
-abbrev pub TakesLines : {F : Type 0} → Reader F → F → List (List ℕ) → List Row → F → Type 0
+abbrev pub TakesLines : {F : Type 0} → LineReader F → F → List (List ℕ) → List Row → F → Type 0
 TakesLines closures closure [] [] last = closure ≡ last
 TakesLines closures closure [] (row ∷ rows) last = ⊥
 TakesLines closures closure (line ∷ more) [] last = ⊥
@@ -52,14 +52,14 @@ TakesLines {F} closures closure (line ∷ more) (row ∷ rows) last =
     (mid : F) × IsUtf8 line × MakesRow closures closure line row mid × TakesLines closures mid more rows last
 
 -- why a line gives no cookie: it isn't UTF-8, or the closure refused it
-abbrev pub IsFault : {F : Type 0} → Reader F → F → List ℕ → Error → Type 0
+abbrev pub IsFault : {F : Type 0} → LineReader F → F → List ℕ → Error → Type 0
 IsFault {F} closures closure line error =
     ((error ≡ NotText) × (¬ (IsUtf8 line)))
     ⊎ (IsUtf8 line × (last : F) × CalledAt closures.calls closure line (Err error) last)
 
 -- loading stopped at a line, those before it having given cookies: at the first fault in the order of the lines, or
 -- for want of memory
-abbrev pub StopsAtLine : {F : Type 0} → Reader F → F → List (List ℕ) → Error → Type 0
+abbrev pub StopsAtLine : {F : Type 0} → LineReader F → F → List (List ℕ) → Error → Type 0
 StopsAtLine closures closure [] error = ⊥
 StopsAtLine {F} closures closure (line ∷ more) error =
     IsFault closures closure line error
@@ -73,7 +73,7 @@ pub record Cuts (text : List ℕ) (whole : List (List ℕ)) (begun : List ℕ) :
   pub unended : All (λ b. b ≢ 10) begun
 
 -- a read failed, or 2^64 - 1 reads met no end, and each line that ends in what was read had given a cookie
-pub record StopsReading {F : Type 0} (closures : Reader F) (closure : F) (old new : Input) : Type 0 where
+pub record StopsReadingBy {F : Type 0} (closures : LineReader F) (closure : F) (old new : Input) : Type 0 where
   pub failed : Rose old.failures new.failures ⊎ (new.reads ≡ 2 ^ 64 - 1)
   pub text : List ℕ
   pub read : Consumes old.left new.left text
@@ -85,8 +85,8 @@ pub record StopsReading {F : Type 0} (closures : Reader F) (closure : F) (old ne
   pub taken : TakesLines closures closure whole rows last
 
 -- all was read, and each line gave a cookie
-pub record LoadsLines {F : Type 0} (closures : Reader F) (closure : F) (with_expired : Bool) (now : ℤ) (old new : Input)
-    (store : Store) : Type 0 where
+pub record LoadsLinesBy {F : Type 0} (closures : LineReader F) (closure : F) (with_expired : Bool) (now : ℤ)
+    (old new : Input) (store : Store) : Type 0 where
   pub text : List ℕ
   pub read : Consumes old.left new.left text
   pub ended : IsAtEnd new.left
@@ -97,11 +97,11 @@ pub record LoadsLines {F : Type 0} (closures : Reader F) (closure : F) (with_exp
   pub placed : store ≡ loaded_store with_expired now rows
 
 -- loading stopped, at a line of the text, while no read failed, or at a read
-abbrev pub StopsLoadingLines : {F : Type 0} → Reader F → F → Input → Input → Error → Type 0
+abbrev pub StopsLoadingLines : {F : Type 0} → LineReader F → F → Input → Input → Error → Type 0
 StopsLoadingLines closures closure old new error =
     ((new.failures ≡ old.failures) × (text : List ℕ) × IfSome old.left (λ left. text ≡ left)
     × StopsAtLine closures closure (lines text) error)
-    ⊎ ((error ≡ Io) × StopsReading closures closure old new)
+    ⊎ ((error ≡ Io) × StopsReadingBy closures closure old new)
 
 -- ---- cookies of an iterator
 

@@ -37,25 +37,25 @@ IsListOf closures closure rows text =
 -- ---- loading
 
 -- what calls of a closure take and give: a text, and cookies that show rows
-pub record Reader (F : Type 0) : Type 1 where
+pub record ListReader (F : Type 0) : Type 1 where
   pub Item : Type 0
   pub shows : Item → Row
   pub calls : Mut F (Bor (List ℕ) × Unit {0}) (Result (Vec Item) Error)
 
-abbrev pub reader : {F C : Type 0} → (C → Row) → Mut F (Bor (List ℕ) × Unit {0}) (Result (Vec C) Error) → Reader F
+abbrev pub reader : {F C : Type 0} → (C → Row) → Mut F (Bor (List ℕ) × Unit {0}) (Result (Vec C) Error) → ListReader F
 reader {F} {C} shows calls = record { Item = C; shows = shows; calls = calls }
 
 -- the closure answers this at a text
-abbrev pub ReadsList : {F : Type 0} (closures : Reader F) → F → List ℕ → Result (Vec closures.Item) Error → Type 0
+abbrev pub ReadsList : {F : Type 0} (closures : ListReader F) → F → List ℕ → Result (Vec closures.Item) Error → Type 0
 ReadsList {F} closures closure text answer =
     IsUtf8 text × ((last : F) × CalledAt closures.calls closure text answer last)
 
 -- a store that loaded what it makes of the text
-abbrev pub LoadsBy : {F : Type 0} → Reader F → F → Bool → ℤ → List ℕ → Store → Type 0
+abbrev pub LoadsBy : {F : Type 0} → ListReader F → F → Bool → ℤ → List ℕ → Store → Type 0
 LoadsBy closures closure with_expired now text store =
     (cookies : Vec closures.Item) × ReadsList closures closure text (Ok cookies)
     × (store ≡ loaded_store with_expired now (map closures.shows cookies.items))
 
 -- Why none is loaded of the text: it isn't UTF-8, or the closure refused it.
-abbrev pub IsRefusedBy : {F : Type 0} → Reader F → F → List ℕ → Error → Type 0
+abbrev pub IsRefusedBy : {F : Type 0} → ListReader F → F → List ℕ → Error → Type 0
 IsRefusedBy closures closure text e = ((e ≡ NotText) × (¬ IsUtf8 text)) ⊎ ReadsList closures closure text (Err e)

@@ -18,7 +18,7 @@ use Rattle.url.specs.Parts.{Parts}
 use Rattle.cookie_store.specs.Given.{AreGiven}
 use Rattle.cookie_store.specs.Insertion.{End, Inserts, Receives, refused}
 use Rattle.cookie_store.specs.Making.{asked_domain, HasNoDomain, IsDomainFor}
-use Rattle.cookie_store.specs.LoadedLines.{Cuts, MakesRow, Reader, TakesLines}
+use Rattle.cookie_store.specs.LoadedLines.{Cuts, MakesRow, LineReader, TakesLines}
 use Rattle.cookie_store.specs.Placing.{chosen, is_saved, put_all, saved}
 use Rattle.cookie_store.specs.Rows.{Row, is_live_of, ended}
 use Rattle.cookie_store.specs.StoredCookie.{owned}
@@ -110,7 +110,7 @@ wanted (Some now) rows = saved now rows
 -- ---- loading
 
 -- the line is UTF-8, the closure made a cookie of it, and this was put where it is kept
-abbrev pub TakesOne : {F : Type 0} → Reader F → Bool → ℤ → F → List Row → List ℕ → F → List Row → Type 0
+abbrev pub TakesOne : {F : Type 0} → LineReader F → Bool → ℤ → F → List Row → List ℕ → F → List Row → Type 0
 TakesOne closures with_expired now closure rows line after new =
     (row : Row) × IsUtf8 line × MakesRow closures closure line row after
     × (new ≡ put_all (chosen with_expired now (row ∷ [])) rows)
@@ -122,13 +122,13 @@ Fills begun bytes new (Some after) =
     (front : List ℕ) × (new ≡ begun ++ front) × All (λ b. b ≢ 10) front × (bytes ≡ front ++ 10 ∷ after)
 
 -- the whole lines of the text gave cookies, which were put where they are kept, and what is behind them is begun
-abbrev pub TakesWhole : {F : Type 0} → Reader F → Bool → ℤ → F → List Row → List ℕ → F → List Row → List ℕ → Type 0
+abbrev pub TakesWhole : {F : Type 0} → LineReader F → Bool → ℤ → F → List Row → List ℕ → F → List Row → List ℕ → Type 0
 TakesWhole closures with_expired now closure rows text after new begun =
     (whole : List (List ℕ)) × (made : List Row) × Cuts text whole begun × TakesLines closures closure whole made after
     × (new ≡ put_all (chosen with_expired now made) rows)
 
 -- what is behind the last line feed gave a cookie where it isn't empty, and this was put where it is kept
-abbrev pub TakesRest : {F : Type 0} → Reader F → Bool → ℤ → F → List Row → List ℕ → F → List Row → Type 0
+abbrev pub TakesRest : {F : Type 0} → LineReader F → Bool → ℤ → F → List Row → List ℕ → F → List Row → Type 0
 TakesRest closures with_expired now closure rows begun after new =
     (made : List Row) × TakesLines closures closure (lines begun) made after
     × (new ≡ put_all (chosen with_expired now made) rows)

@@ -2,10 +2,10 @@
 ghost use Rattle.std.specs.Prelude.{◌≡◌, ◌≢◌, ◌⊎◌, ◌++◌, ◌∷◌, [], ℕ, ℤ};
 ghost use Rattle.std.specs.Prelude.{List, true, false, All, map, option_map, IfOk, OnOk, IfErr};
 ghost use Rattle.std.specs.Iterator.{IsFinite};
-ghost use Rattle.std.specs.Str.Lines.{lines, strip_carriage_return};
+ghost use Rattle.std.specs.Str.Lines.{lines};
 ghost use Rattle.jiff.specs.Words.{civil_nanos};
 ghost use Rattle.store_parts.specs.declared.error.Error.TheVariants.{OutOfMemory};
-ghost use Rattle.cookie_store.specs.LoadedLines.{IsFault, GivesStore, LoadsLines, StopsAtLine, StopsGiving};
+ghost use Rattle.cookie_store.specs.LoadedLines.{IsFault, GivesStore, LoadsLinesBy, StopsAtLine, StopsGiving};
 ghost use Rattle.cookie_store.specs.LoadedLines.{StopsLoadingLines, input, line_reader};
 ghost use Rattle.cookie_store.specs.Placing.{chosen, put_all, loaded_store};
 ghost use Rattle.cookie_store.specs.Steps.{Fills, TakesOne, TakesRest, TakesWhole};
@@ -20,6 +20,7 @@ use devices::Source;
 use jiff::civil::DateTime;
 use std::alloc::{AllocError, Global};
 use store_parts::Error;
+use text_lines::without_return;
 
 /// Puts a loaded cookie among the rows: any, or one that is not expired at `now`.
 pub(crate) fn put_loaded(
@@ -100,7 +101,7 @@ impl CookieStore {
         now: DateTime,
     ) -> StoreResult<CookieStore>
         requires { F.IsAlwaysCallable closure }
-        ensures ok { IfOk result (λ store. LoadsLines (line_reader C.shows F.FnMut) closure false (civil_nanos now)
+        ensures ok { IfOk result (λ store. LoadsLinesBy (line_reader C.shows F.FnMut) closure false (civil_nanos now)
             (input (R.left reader.old) (R.failures reader.old) (R.reads reader.old))
             (input (R.left reader.new) (R.failures reader.new) (R.reads reader.new)) store) }
         ensures err { IfErr result (λ error. StopsLoadingLines (line_reader C.shows F.FnMut) closure
@@ -121,7 +122,7 @@ impl CookieStore {
         closure: F,
     ) -> StoreResult<CookieStore>
         requires { F.IsAlwaysCallable closure }
-        ensures ok { IfOk result (λ store. (now : ℤ) → LoadsLines (line_reader C.shows F.FnMut) closure true now
+        ensures ok { IfOk result (λ store. (now : ℤ) → LoadsLinesBy (line_reader C.shows F.FnMut) closure true now
             (input (R.left reader.old) (R.failures reader.old) (R.reads reader.old))
             (input (R.left reader.new) (R.failures reader.new) (R.reads reader.new)) store) }
         ensures err { IfErr result (λ error. StopsLoadingLines (line_reader C.shows F.FnMut) closure
@@ -129,16 +130,6 @@ impl CookieStore {
             (input (R.left reader.new) (R.failures reader.new) (R.reads reader.new)) error) }
     {
         load_lines(alloc, reader, closure, true, DateTime::MIN)
-    }
-}
-
-// The line without the carriage return at its end, where it has one.
-fn without_return(line: &[u8]) -> &[u8]
-    ensures { result.now ≡ strip_carriage_return line.now }
-{
-    match line {
-        [front @ .., b'\r'] => front,
-        _ => line,
     }
 }
 
@@ -254,7 +245,7 @@ fn load_lines<R: Source, C: StoreCookie, F: FnMut(&str) -> Result<C, Error>>(
     now: DateTime,
 ) -> StoreResult<CookieStore>
     requires { F.IsAlwaysCallable closure }
-    ensures ok { IfOk result (λ store. LoadsLines (line_reader C.shows F.FnMut) closure with_expired (civil_nanos now)
+    ensures ok { IfOk result (λ store. LoadsLinesBy (line_reader C.shows F.FnMut) closure with_expired (civil_nanos now)
         (input (R.left reader.old) (R.failures reader.old) (R.reads reader.old))
         (input (R.left reader.new) (R.failures reader.new) (R.reads reader.new)) store) }
     ensures err { IfErr result (λ error. StopsLoadingLines (line_reader C.shows F.FnMut) closure

@@ -1,8 +1,7 @@
 -- The expiry of a line.
 use Rattle.std.proofs.Common.{◌≡◌, ◌≢◌, ◌<◌, ◌≤◌, ◌^◌, min, ℕ, Bool, true, false, cond, List, [], ◌∷◌, ◌++◌, All}
 use Rattle.std.proofs.Common.{length, get_or, Option, Some, None, MatchOption, Result, Ok, Err, refl, sym, ap, subst}
-use Rattle.std.proofs.Common.{◌∙◌}
-use Rattle.std.proofs.Common.{MatchResult, arith, rules}
+use Rattle.std.proofs.Common.{◌∙◌, MatchResult, arith, rules}
 use Rattle.std.specs.Borrow.{Bor}
 use Rattle.std.specs.Prelude.{◌==◌, ◌&&◌, not}
 use Rattle.std.specs.Char.{is_ascii_digit}

@@ -1,15 +1,12 @@
 -- The fields of a line.
-use Rattle.std.proofs.Common.{◌≡◌, ◌≢◌, ◌<◌, ℕ, Bool, true, false, cond, List, [], ◌∷◌, ◌++◌, All}
-use Rattle.std.proofs.Common.{length}
-use Rattle.std.proofs.Common.{get_or, Option, Some, None, MatchOption, option_map, refl, sym, ap, subst}
-use Rattle.std.proofs.Common.{◌∙◌, arith, unwrap_or}
+use Rattle.std.proofs.Common.{◌≡◌, ◌≢◌, ◌<◌, ℕ, Bool, true, false, cond, List, [], ◌∷◌, ◌++◌, All, length, get_or}
+use Rattle.std.proofs.Common.{Option, Some, None, MatchOption, option_map, refl, sym, ap, subst, ◌∙◌, arith}
 use Rattle.std.specs.Borrow.{Bor}
 use Rattle.std.specs.Prelude.{◌==◌, is_some}
 use Rattle.std.specs.List.{slice_split, onto_first}
 use Rattle.std.proofs.lemmas.Bool.Decides.{nat_tests}
 use Rattle.std.proofs.lemmas.List.{get_or_default}
 use Rattle.std.proofs.lemmas.List.Splits.{slice_split_at, slice_split_none}
-use Rattle.cookie_text.specs.Record.{without_dot}
 use Rattle.cookies_txt.specs.Layout.{tab}
 use Rattle.cookies_txt.specs.Reading.{field_texts, parts}
 use Rattle.cookies_txt.specs.Steps.{last_two}
@@ -83,19 +80,6 @@ with_last_two domain below path secure expires (name ∷ value ∷ []) = refl
 with_last_two domain below path secure expires (name ∷ value ∷ third ∷ more) = refl
 
 -- ---- what fields say
-
-without_dot-other : (text : List ℕ) → ((rest : List ℕ) → text ≢ 46 ∷ rest) → without_dot text ≡ text
-without_dot-other [] none = refl
-without_dot-other (b ∷ bs) none =
-    let other : b ≢ 46 = λ e. none bs (ap (λ c. c ∷ bs) e) in
-    let apart : (b == 46) ≡ false = grind (arith, nat_tests) in
-    rw apart refl
-
-pub without_dot-stripped : (text : Bor (List ℕ)) (stripped : Option (Bor (List ℕ)))
-    → MatchOption stripped ((rest : List ℕ) → text.now ≢ 46 ∷ rest) (λ x. text.now ≡ 46 ∷ x.now)
-    → (unwrap_or stripped text).now ≡ without_dot text.now
-without_dot-stripped text None none = sym (without_dot-other text.now none)
-without_dot-stripped text (Some x) split = sym (ap without_dot split)
 
 -- the fields of a line that was cut five times
 pub joined_fields : (line domain below path secure expires r1 r2 r3 r4 r5 : List ℕ)

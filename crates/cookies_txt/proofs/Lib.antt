@@ -5,5 +5,4 @@ pub mod LineLemmas
 pub mod PartLemmas
 pub mod ReadLemmas
 pub mod RowLemmas
-pub mod TextLemmas
 pub mod WriteLemmas

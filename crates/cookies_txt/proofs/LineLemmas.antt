@@ -1,7 +1,6 @@
 -- What was written is read: a line, and the lines of a text.
-use Rattle.std.proofs.Common.{◌≡◌, ◌≢◌, ◌<◌, ◌≤◌, ◌-◌, ℕ, Bool, true, false, List, [], ◌∷◌, ◌++◌}
-use Rattle.std.proofs.Common.{length, get_or, map, min, Some, None, Ok, refl, sym, ap, subst, ◌∙◌, arith}
-use Rattle.std.proofs.Common.{append_assoc, suc, rules}
+use Rattle.std.proofs.Common.{◌≡◌, ◌≢◌, ◌<◌, ◌≤◌, ◌-◌, ℕ, Bool, true, false, List, [], ◌∷◌, ◌++◌, length, get_or, map}
+use Rattle.std.proofs.Common.{min, Some, None, Ok, refl, sym, ap, subst, ◌∙◌, arith, append_assoc, suc, rules}
 use Rattle.std.specs.Prelude.{◌==◌, ◌||◌, ◌&&◌, codes, not, IsOk}
 use Rattle.std.specs.Char.{is_ascii_digit, is_ascii_whitespace}
 use Rattle.std.specs.Fmt.{decimal}
@@ -15,9 +14,8 @@ use Rattle.std.proofs.lemmas.List.Splits.{slice_split_at, slice_split_none}
 use Rattle.cookie_text.specs.Record.{without_dot}
 use Rattle.cookies_txt.specs.Layout.{CookieLine, expiry_field, flag_text, heading_text, http_only_mark, kept_for}
 use Rattle.cookies_txt.specs.Layout.{knows_mark, knows_zero, line_text, tab, text_for, when}
-use Rattle.cookies_txt.specs.Reading.{FieldTexts, fault_of, field_texts, is_expiry, is_flag, is_marked}
-use Rattle.cookies_txt.specs.Reading.{is_passed_over, is_true, parts, read_line, said, said_by_fields, second_of}
-use Rattle.cookies_txt.specs.Reading.{unindented, unmarked}
+use Rattle.cookies_txt.specs.Reading.{FieldTexts, fault_of, field_texts, is_expiry, is_flag, is_marked, is_passed_over}
+use Rattle.cookies_txt.specs.Reading.{is_true, parts, read_line, said, said_by_fields, second_of, unindented, unmarked}
 use Rattle.cookies_txt.specs.Reading.{IsFine, SaysLines}
 use Rattle.cookies_txt.specs.Writing.{begins_with_slash, ends_in_return, has_separator, latest_second}
 use Rattle.cookies_txt.specs.declared.readers.Reader.{Reader}

@@ -1,31 +1,16 @@
 -- The parts of a line's row: its expiry, and the cookie as it would have been received.
-use Rattle.std.proofs.Common.{◌≡◌, ℤ, pos, Bool, true, false, Option, Some, None, refl, sym, ap, subst, ◌∙◌, arith}
+use Rattle.std.proofs.Common.{◌≡◌, ℤ, Bool, true, false, Option, Some, None, refl, sym, ap, subst, ◌∙◌}
 use Rattle.std.specs.Prelude.{if◌then◌else◌}
 use Rattle.jiff.specs.Types.{DateTime}
-use Rattle.jiff.specs.Words.{IsYmd, IsHms}
-use Rattle.jiff.proofs.SpanFacts.{signed_arith}
-use Rattle.jiff_core.specs.DateTime.{civil_nanos, civil_seconds}
-use Rattle.jiff_core.specs.Time.{time_nanos}
-use Rattle.jiff_core.proofs.DateTimeLemmas.{civil_nanos-parts}
-use Rattle.jiff_core.proofs.StandardFacts.{known_days}
+use Rattle.jiff_core.specs.DateTime.{civil_nanos}
 use Rattle.cookie_text.specs.Record.{Seen, bare, unsliced}
 use Rattle.cookie_text.specs.Setting.{SetsExpires, with_domain, with_expires, with_http_only, with_path, with_secure}
 use Rattle.cookie_text.specs.declared.expiration.Expiration.{Expiration}
 use Rattle.cookie_text.specs.declared.expiration.Expiration.TheVariants.{DateTime as At, Session}
-use Rattle.store_parts.specs.Expiry.{whole_second}
 use Rattle.cookie_store.specs.Stripped.{IsEndOf}
 use Rattle.cookies_txt.specs.Layout.{CookieLine}
 use Rattle.cookies_txt.specs.Steps.{IsRawOf, PutsDomain, PutsExpires}
 use Rattle.cookies_txt.specs.Writing.{flag_of}
-
-pub civil_nanos-epoch : (m : DateTime) → IsYmd (pos 1970) (pos 1) (pos 1) m.date
-    → IsHms (pos 0) (pos 0) (pos 0) (pos 0) m.time → civil_nanos m ≡ pos 0
-civil_nanos-epoch m d t =
-    let year = d.0 in
-    let month : m.date.month ≡ 1 = omega (arith, signed_arith, d.1) in
-    let day : m.date.day ≡ 1 = omega (arith, signed_arith, d.2) in
-    let time : time_nanos m.time ≡ 0 = omega (arith, signed_arith, t.0, t.1, t.2, t.3) in
-    civil_nanos-parts m ∙ rw (year, month, day, time, known_days.0) refl
 
 pub sets_end : (end : DateTime) (old new : Seen) → SetsExpires old (At end) new
     → PutsExpires (Some (civil_nanos end)) old new
@@ -88,10 +73,3 @@ raw_made line death s0 s1 s2 s3 s4 s5 e0 e1 e2 e3 e4 e5 =
     (e1 ∙ ap (λ s. with_http_only s (flag_of line.http_only)) e0)) in
     ends line death s4 s5
     (e4 ∙ (ap (λ s. if line.below then with_domain s (Some line.domain) else s) path ∙ has_domain line)) e5
-
--- the second that the calendar shows of a moment
-pub whole_second_shown : (moment : DateTime) → whole_second (civil_nanos moment) ≡ civil_seconds moment
-unfolding civil_nanos civil_seconds
-whole_second_shown moment =
-    let sub = moment.time.subsec_in in
-    omega (arith, signed_arith)

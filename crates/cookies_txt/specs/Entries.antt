@@ -1,7 +1,7 @@
 -- What the lines of a text give where each is read by itself: a row, its domain in IDNA form (RFC 6265, 5.1.2), or a
 -- fault (this repository's own).
-use Rattle.std.specs.Prelude.{◌≡◌, ◌==◌, ◌+◌, ◌++◌, ℕ, Bool, List, [], ◌∷◌, drop, map, Option, Some, None}
-use Rattle.std.specs.Prelude.{Result, Ok, Err, MatchOption, MatchResult, if◌then◌else◌, slice_index}
+use Rattle.std.specs.Prelude.{◌≡◌, ◌==◌, ◌+◌, ◌++◌, ℕ, Bool, List, [], ◌∷◌, drop, Option, Some, None, Result, Ok, Err}
+use Rattle.std.specs.Prelude.{MatchOption, MatchResult, if◌then◌else◌, slice_index}
 use Rattle.std.specs.List.{starts_with}
 use Rattle.std.specs.Result.{result_map_both}
 use Rattle.std.specs.Str.{is_utf8}

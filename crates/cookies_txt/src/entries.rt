@@ -10,9 +10,9 @@ ghost use Rattle.cookies_txt.specs.Writing.{latest_second};
 use crate::error::LineFault;
 use crate::fields::is_passed_over;
 use crate::line::Line;
-use crate::lines::first_line;
 use cookie_store::{Cookie, CookieDomain, Error};
 use std::alloc::{AllocError, Global};
+use text_lines::first_line;
 
 // What some editors put in front of a text.
 const BYTE_ORDER_MARK: &[u8] = b"\xef\xbb\xbf";

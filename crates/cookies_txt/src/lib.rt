@@ -12,7 +12,6 @@ mod error;
 mod fields;
 pub mod laws;
 mod line;
-mod lines;
 mod readers;
 mod reading;
 mod row;

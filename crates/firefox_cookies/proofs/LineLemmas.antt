@@ -1,19 +1,9 @@
 -- The line of a row, and the row of a store that is made of a line.
-use Rattle.std.proofs.Common.{◌≡◌, ◌≢◌, ◌≤◌, ℕ, ℤ, pos, negsuc, Bool}
-use Rattle.std.proofs.Common.{true, false, List, [], ◌∷◌, Option, Some, None, MatchOption}
+use Rattle.std.proofs.Common.{◌≡◌, ◌≤◌, ℕ, ℤ, pos, negsuc, Bool, true, false, List, Option, Some, None, MatchOption}
 use Rattle.std.proofs.Common.{Result, Ok, Err, refl, sym, ap, subst, ◌∙◌, arith}
-use Rattle.std.specs.Borrow.{Bor}
-use Rattle.std.specs.Prelude.{◌==◌, if◌then◌else◌, unwrap_or}
-use Rattle.std.proofs.lemmas.Bool.Decides.{nat_tests}
-use Rattle.jiff.specs.Types.{DateTime}
-use Rattle.jiff.specs.Words.{IsYmd, IsHms}
+use Rattle.std.specs.Prelude.{if◌then◌else◌}
 use Rattle.jiff.proofs.SpanFacts.{signed_arith}
-use Rattle.jiff_core.specs.DateTime.{civil_nanos}
-use Rattle.jiff_core.specs.Time.{time_nanos}
-use Rattle.jiff_core.proofs.DateTimeLemmas.{civil_nanos-parts}
-use Rattle.jiff_core.proofs.StandardFacts.{known_days}
 use Rattle.cookie_text.specs.Printing.{is_set}
-use Rattle.cookie_text.specs.Record.{without_dot}
 use Rattle.store_parts.specs.DomainMatch.{host_only, suffix, text_or_empty}
 use Rattle.store_parts.specs.Expiry.{seconds, whole_second}
 use Rattle.cookie_store.specs.Rows.{Row}
@@ -22,37 +12,13 @@ use Rattle.cookies_txt.specs.Writing.{clamped, expiry_second, is_suffix, latest_
 use Rattle.cookies_txt.specs.declared.error.RowFault.{RowFault}
 use Rattle.sqlite_value.specs.declared.value.Value.{Value}
 use Rattle.firefox_cookies.specs.Columns.{FirefoxRow, Says}
-use Rattle.firefox_cookies.specs.Lines.{Gives, IsPlain, domain_in, in_seconds, line_fault, line_of}
+use Rattle.firefox_cookies.specs.Lines.{Gives, IsPlain, in_seconds, line_fault, line_of}
 use Rattle.firefox_cookies.specs.Making.{AnswersSaid, IsHeld}
 use Rattle.firefox_cookies.specs.Steps.{IsMadeOf}
 use Rattle.firefox_cookies.specs.declared.fault.Fault.{Fault}
 use Rattle.firefox_cookies.specs.declared.fault.Fault.TheVariants.{Unheld}
 
--- ---- the host
-
-without_dot-other : (text : List ℕ) → ((rest : List ℕ) → text ≢ 46 ∷ rest) → without_dot text ≡ text
-without_dot-other [] none = refl
-without_dot-other (b ∷ bs) none =
-    let other : b ≢ 46 = λ e. none bs (ap (λ c. c ∷ bs) e) in
-    let apart : (b == 46) ≡ false = grind (arith, nat_tests) in
-    rw apart refl
-
-pub without_dot-stripped : (text : Bor (List ℕ)) (stripped : Option (Bor (List ℕ)))
-    → MatchOption stripped ((rest : List ℕ) → text.now ≢ 46 ∷ rest) (λ x. text.now ≡ 46 ∷ x.now)
-    → (unwrap_or stripped text).now ≡ without_dot text.now
-without_dot-stripped text None none = sym (without_dot-other text.now none)
-without_dot-stripped text (Some x) split = sym (ap without_dot split)
-
 -- ---- the expiry
-
-pub civil_nanos-epoch : (m : DateTime) → IsYmd (pos 1970) (pos 1) (pos 1) m.date
-    → IsHms (pos 0) (pos 0) (pos 0) (pos 0) m.time → civil_nanos m ≡ pos 0
-civil_nanos-epoch m d t =
-    let year = d.0 in
-    let month : m.date.month ≡ 1 = omega (arith, signed_arith, d.1) in
-    let day : m.date.day ≡ 1 = omega (arith, signed_arith, d.2) in
-    let time : time_nanos m.time ≡ 0 = omega (arith, signed_arith, t.0, t.1, t.2, t.3) in
-    civil_nanos-parts m ∙ rw (year, month, day, time, known_days.0) refl
 
 -- a second that a line tells comes back
 expiry_made : (n : ℕ) → 1 ≤ n → n ≤ latest_second → expiry_second (Some (seconds n)) ≡ n

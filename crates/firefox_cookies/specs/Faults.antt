@@ -1,6 +1,5 @@
 -- The words for rows that have no line (this repository's own).
 use Rattle.std.specs.Prelude.{ℕ, List, codes}
-use Rattle.cookies_txt.specs.declared.error.RowFault.{RowFault}
 use Rattle.cookies_txt.specs.declared.error.RowFault.TheVariants.{NoDomain, HostSign, NoSlash, EmptyName}
 use Rattle.cookies_txt.specs.declared.error.RowFault.TheVariants.{Separator, CarriageReturn}
 use Rattle.firefox_cookies.specs.declared.fault.Fault.{Fault}

@@ -1,6 +1,6 @@
 -- The line of `cookies.txt` for a row of Firefox, and why there is none (this repository's own).
-use Rattle.std.specs.Prelude.{◌≡◌, ◌==◌, ◌||◌, ◌/◌, ℕ, ℤ, pos, negsuc, Bool, true, false, List, [], length}
-use Rattle.std.specs.Prelude.{nat_lt, slice_index, Option, Some, None, Result, Ok, Err, if◌then◌else◌}
+use Rattle.std.specs.Prelude.{◌≡◌, ◌==◌, ◌||◌, ◌/◌, ℕ, ℤ, pos, negsuc, Bool, true, false, List, [], nat_lt, slice_index}
+use Rattle.std.specs.Prelude.{Option, Some, None, Result, Ok, Err, if◌then◌else◌}
 use Rattle.std.specs.List.{list_any}
 use Rattle.std.specs.Option.{option_or}
 use Rattle.std.specs.Str.{IsUtf8}

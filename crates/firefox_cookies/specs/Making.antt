@@ -1,13 +1,12 @@
 -- What private functions make of rows. No public contract names a word of this file.
-use Rattle.std.specs.Prelude.{◌≡◌, ◌++◌, ℕ, List, [], ◌∷◌, map}
-use Rattle.std.specs.Prelude.{Option, Some, None, Result, Ok, Err, MatchOption, MatchResult}
+use Rattle.std.specs.Prelude.{◌≡◌, ◌++◌, ℕ, List, [], ◌∷◌, map, Option, Some, None, Result, Ok, Err, MatchOption}
 use Rattle.cookie_text.specs.ReadingBack.{Pairwise}
 use Rattle.cookie_store.specs.Rows.{Row}
 use Rattle.cookie_store.specs.declared.stored_cookie.Cookie.{Cookie}
 use Rattle.cookies_txt.specs.Writing.{held, line_of_row, row_fault}
 use Rattle.cookies_txt.specs.Layout.{CookieLine}
 use Rattle.sqlite_value.specs.declared.value.Value.{Value}
-use Rattle.firefox_cookies.specs.Columns.{FirefoxRow, IsOther, Says}
+use Rattle.firefox_cookies.specs.Columns.{IsOther}
 use Rattle.firefox_cookies.specs.Lines.{Gives}
 use Rattle.firefox_cookies.specs.Texts.{fault_line, lines_in, told_of}
 use Rattle.firefox_cookies.specs.declared.fault.Fault.{Fault}

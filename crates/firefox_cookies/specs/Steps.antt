@@ -1,5 +1,5 @@
 -- What private functions answer. No public contract names a word of this file.
-use Rattle.std.specs.Prelude.{◌≡◌, ℕ, Bool, List, Option, Some}
+use Rattle.std.specs.Prelude.{◌≡◌, Some}
 use Rattle.cookie_text.specs.Record.{Seen, bare, unsliced}
 use Rattle.store_parts.specs.Expiry.{seconds}
 use Rattle.cookie_store.specs.Rows.{Row}

@@ -1,5 +1,5 @@
 //! The line of a row, and the cookie that has it.
-ghost use Rattle.std.specs.Prelude.{◌≡◌, ◌≢◌, ◌≤◌, [], false, pos, IfOk, IfErr, MatchResult, Some};
+ghost use Rattle.std.specs.Prelude.{◌≡◌, ◌≤◌, pos, IfOk, MatchResult, Some};
 ghost use Rattle.std.specs.Str.{IsUtf8};
 ghost use Rattle.cookie_text.specs.Record.{without_dot};
 ghost use Rattle.cookies_txt.specs.Writing.{clamped, latest_second};

@@ -2,10 +2,7 @@
 ghost use Rattle.std.specs.Prelude.{◌≡◌, ◌⊎◌, ◌++◌, ℕ, IfOk, IfErr, OnOk, map, option_map, string_bytes};
 ghost use Rattle.std.specs.Result.{result_map_both};
 ghost use Rattle.cookie_store.specs.StoredCookie.{stored_of};
-ghost use Rattle.cookies_txt.specs.Layout.{CookieLine};
 ghost use Rattle.cookies_txt.specs.Writing.{rows_in};
-ghost use Rattle.firefox_cookies.specs.Columns.{IsOther};
-ghost use Rattle.firefox_cookies.specs.Lines.{Gives};
 ghost use Rattle.firefox_cookies.specs.Making as making;
 ghost use Rattle.firefox_cookies.specs.Texts as spec;
 ghost use Rattle.firefox_cookies.specs.declared.fault.Fault.{Fault};

@@ -8,7 +8,8 @@ use Rattle.std.proofs.lemmas.Bool.{or_left, or_right, or_parts, cond-false, cond
 use Rattle.std.proofs.lemmas.List.{append-nil, length-map}
 use Rattle.std.proofs.lemmas.Grind.{common_steps}
 use Rattle.std.proofs.lemmas.Option.{none-some, same_Some}
-use Rattle.place_index.specs.Paths.{dot, slash, EndsAfterDot, PathMatches, MeetAtSlash}
+use Rattle.matching.specs.Domains.{dot, EndsAfterDot}
+use Rattle.matching.specs.Paths.{slash, PathMatches, MeetAtSlash}
 use Rattle.place_index.proofs.EntryLemmas.{same_text, text_is}
 use Rattle.place_index.specs.Candidates.{is_among, after_dots, beginnings, domains_of, paths_of, count_of}
 

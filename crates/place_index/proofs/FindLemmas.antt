@@ -6,7 +6,8 @@ use Rattle.std.specs.List.{list_any, AllByRecursion}
 use Rattle.std.proofs.lemmas.Bool.{cond-true, cond-false, or_left, or_right}
 use Rattle.std.proofs.lemmas.List.Folds.{list_any_at, list_any_none}
 use Rattle.std.proofs.lemmas.Option.{get_or_from_slice_get, slice_get-get_or}
-use Rattle.place_index.specs.Paths.{dot, slash}
+use Rattle.matching.specs.Domains.{dot}
+use Rattle.matching.specs.Paths.{slash}
 use Rattle.place_index.specs.Places.{Place, is_of}
 use Rattle.place_index.specs.Entries.{value_at}
 use Rattle.place_index.specs.Candidates.{domains_of, paths_of, count_of}

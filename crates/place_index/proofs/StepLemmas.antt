@@ -10,7 +10,7 @@ use Rattle.place_index.specs.Candidates.{beginnings, paths_of}
 use Rattle.place_index.specs.Entries.{value_at}
 use Rattle.place_index.specs.Found.{span_of, spans_of}
 use Rattle.place_index.specs.Index.{DomainPart, Span}
-use Rattle.place_index.specs.Paths.{slash}
+use Rattle.matching.specs.Paths.{slash}
 
 pub drop_step : (xs : List ℕ) (i : ℕ) → i < length xs → drop i xs ≡ get_or xs i 0 ∷ drop (suc i) xs
 drop_step [] i l = absurd (omega arith)

@@ -3,7 +3,8 @@ use Rattle.std.specs.Prelude.{◌≡◌, ◌↔◌, ◌⊎◌, ◌==◌, ◌||�
 use Rattle.std.specs.Prelude.{false, if◌then◌else◌}
 use Rattle.std.specs.List.{list_any}
 use Rattle.std.specs.Str.{bytes_eq}
-use Rattle.place_index.specs.Paths.{dot, slash, EndsAfterDot, PathMatches}
+use Rattle.matching.specs.Domains.{dot, EndsAfterDot}
+use Rattle.matching.specs.Paths.{slash, PathMatches}
 
 -- the text is among the texts
 abbrev pub is_among : List ℕ → List (List ℕ) → Bool

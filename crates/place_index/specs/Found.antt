@@ -3,7 +3,8 @@ use Rattle.std.specs.Prelude.{◌≡◌, ◌↔◌, ◌^◌, IfSome, ◌<◌, �
 use Rattle.std.specs.Prelude.{Option}
 use Rattle.std.specs.Prelude.{Some, None, slice_get, nat_le, nat_lt, filter, if◌then◌else◌}
 use Rattle.std.specs.List.{flat_map, list_any, AllByRecursion}
-use Rattle.place_index.specs.Paths.{dot, slash}
+use Rattle.matching.specs.Domains.{dot}
+use Rattle.matching.specs.Paths.{slash}
 use Rattle.place_index.specs.Places.{Place, is_at, is_of}
 use Rattle.place_index.specs.Entries.{value_at}
 use Rattle.place_index.specs.Candidates.{is_among, domains_of, paths_of, count_of}

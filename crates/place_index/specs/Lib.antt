@@ -6,7 +6,6 @@ pub mod Inserting
 pub mod Lending
 pub mod Parts
 pub mod PathParts
-pub mod Paths
 pub mod Places
 pub mod Putting
 pub mod Starts

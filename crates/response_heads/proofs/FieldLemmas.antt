@@ -5,9 +5,9 @@ use Rattle.std.specs.Prelude.{◌||◌, nat_lt, not, position, slice_index}
 use Rattle.std.specs.List.{after_first, before_first, list_any, position_or_len}
 use Rattle.std.proofs.lemmas.Bool.Decides.{nat_tests}
 use Rattle.std.proofs.lemmas.List.{take_rest}
+use Rattle.text_lines.proofs.LineLemmas.{found, missed}
 use Rattle.response_heads.specs.Lines.{fault_of, is_colon, is_control, is_token, is_white}
 use Rattle.response_heads.specs.declared.error.LineFault.TheVariants.{NoColon, Name, Control}
-use Rattle.response_heads.proofs.TextLemmas.{found, missed}
 
 -- ---- the colon
 

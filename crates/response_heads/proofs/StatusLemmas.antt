@@ -8,8 +8,8 @@ use Rattle.std.proofs.lemmas.List.{take_rest}
 use Rattle.std.proofs.lemmas.List.Elements.{All-from_get_or}
 use Rattle.std.proofs.lemmas.List.Sums.{fails_before_first}
 use Rattle.std.proofs.lemmas.List.Splits.{slice_split_first, slice_split_none}
+use Rattle.text_lines.proofs.LineLemmas.{found, missed}
 use Rattle.response_heads.specs.Lines.{words}
-use Rattle.response_heads.proofs.TextLemmas.{found, missed}
 
 abbrev is_space : ℕ → Bool
 is_space b = b == 32

@@ -1,33 +1,16 @@
 -- The lines of a text.
-use Rattle.std.proofs.Common.{◌≡◌, ℕ, ◌+◌, ◌-◌, ◌<◌, Bool, true, false, cond, List, [], ◌∷◌, length, take, drop}
-use Rattle.std.proofs.Common.{Option, Some, None, sym, refl, ap, ◌∙◌, subst, arith, All}
-use Rattle.std.specs.Prelude.{◌==◌, nat_lt, position}
+use Rattle.std.proofs.Common.{◌≡◌, ℕ, ◌+◌, ◌-◌, ◌<◌, false, List, [], ◌∷◌, length, take, drop}
+use Rattle.std.proofs.Common.{Some, None, sym, refl, ap, ◌∙◌, subst, arith, All}
+use Rattle.std.specs.Prelude.{nat_lt, position}
 use Rattle.std.specs.List.{slice_split, position_or_len}
 use Rattle.std.specs.Str.Lines.{strip_carriage_return}
 use Rattle.std.proofs.lemmas.Bool.Decides.{nat_tests}
 use Rattle.std.proofs.lemmas.List.{length-drop, take_rest}
 use Rattle.std.proofs.lemmas.List.Elements.{All-from_get_or}
 use Rattle.std.proofs.lemmas.List.Sums.{fails_before_first}
-use Rattle.std.proofs.lemmas.List.Splits.{slice_split_first, slice_split_none, length-slice_split}
+use Rattle.std.proofs.lemmas.List.Splits.{slice_split_first, slice_split_none}
+use Rattle.text_lines.proofs.LineLemmas.{found, is_line_feed, missed, some_parts}
 use Rattle.response_heads.specs.Lines.{cut_end, last_piece, whole_lines, whole_pieces}
-
-abbrev pub is_line_feed : ℕ → Bool
-is_line_feed b = b == 10
-
--- what `position` says
-pub found : (t : Bool) (n i : ℕ) → cond t (Some n) None ≡ Some i → (t ≡ true) × (n ≡ i)
-found true n i e = (refl, cc)
-found false n i e = absurd (none_some None i refl e)
-  where
-    none_some : (o : Option ℕ) (i : ℕ) → o ≡ None → o ≡ Some i → ⊥
-    none_some o i e f = cc
-
-pub missed : (t : Bool) (n : ℕ) → cond t (Some n) None ≡ None → t ≡ false
-missed true n e = absurd (some_none n e)
-  where
-    some_none : (n : ℕ) → Some n ≡ None → ⊥
-    some_none n e = cc
-missed false n e = refl
 
 -- a piece with others behind it is a whole line
 pieces_more : (x : List ℕ) (pieces : List (List ℕ)) → 0 < length pieces
@@ -35,9 +18,6 @@ pieces_more : (x : List ℕ) (pieces : List (List ℕ)) → 0 < length pieces
     × (last_piece (x ∷ pieces) ≡ last_piece pieces)
 pieces_more x [] h = absurd (omega (arith, h))
 pieces_more x (y ∷ pieces) h = (refl, refl)
-
-some_pieces : (text : List ℕ) → 0 < length (slice_split is_line_feed text)
-some_pieces text = omega (arith, length-slice_split is_line_feed text)
 
 pub cut_some : (text line : List ℕ) (i : ℕ) → position is_line_feed text ≡ Some i
     → line ≡ strip_carriage_return (take i text)
@@ -51,7 +31,7 @@ cut_some text line i e is =
     let split : slice_split is_line_feed text ≡ take i text ∷ slice_split is_line_feed (drop (i + 1) text) =
     subst (λ n. slice_split is_line_feed text ≡ take n text ∷ slice_split is_line_feed (drop (n + 1) text)) f.1
     (slice_split_first is_line_feed text 0 below) in
-    let more = pieces_more (take i text) _ (some_pieces (drop (i + 1) text)) in
+    let more = pieces_more (take i text) _ (some_parts (drop (i + 1) text)) in
     let rest = take_rest text (i + 1) in (
       ap whole_pieces split ∙ more.0 ∙ ap (λ l. l ∷ whole_lines (drop (i + 1) text)) (sym is)
           ∙ ap (λ left. line ∷ whole_lines left) (sym rest),

@@ -1,7 +1,6 @@
 -- Lines, and those of a head: a status line (RFC 9112, section 4) and field lines (section 5).
 use Rattle.std.specs.Prelude.{◌≡◌, ◌≢◌, ◌⊎◌, ◌==◌, ◌||◌, ◌&&◌, ◌-◌, ℕ, Bool, false, not, List, [], ◌∷◌, length, drop}
-use Rattle.std.specs.Prelude.{map, take}
-use Rattle.std.specs.Prelude.{slice_index, Option, Some, None, codes, if◌then◌else◌}
+use Rattle.std.specs.Prelude.{map, take, slice_index, Option, Some, None, codes, if◌then◌else◌}
 use Rattle.std.specs.Char.{is_ascii_alphanumeric, is_ascii_digit, to_ascii_lowercase}
 use Rattle.std.specs.List.{after_first, before_first, list_all, list_any, prefix_len, slice_split, starts_with}
 use Rattle.std.specs.List.{suffix_len}

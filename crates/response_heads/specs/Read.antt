@@ -1,7 +1,6 @@
 -- What a caller reads in a head: the fields of a name, and where it leads (RFC 9110, sections 5.1, 10.2.2 and 15.4).
 use Rattle.std.specs.Prelude.{◌&&◌, ◌||◌, ◌==◌, ◌+◌, ◌++◌, ℕ, Bool, not, List, [], ◌∷◌, Option, Some, None, codes}
-use Rattle.std.specs.Prelude.{filter, map}
-use Rattle.std.specs.Prelude.{nat_le, nat_lt, slice_index, take, if◌then◌else◌}
+use Rattle.std.specs.Prelude.{filter, map, nat_le, nat_lt, slice_index, take, if◌then◌else◌}
 use Rattle.url.specs.Input.{is_empty}
 use Rattle.std.specs.Char.{to_ascii_lowercase}
 use Rattle.std.specs.List.{fold, list_any, take_while}

@@ -38,8 +38,8 @@ abbrev pub is_proxys : VisitText → Bool
 is_proxys visit = visit.is_tunnel || requires_proxy_authentication visit.head.status
 
 -- the Set-Cookie lines of the URL that answered, none where a proxy did
-abbrev pub set_cookie_lines : VisitText → List (List ℕ)
-set_cookie_lines visit = if is_proxys visit then [] else head.set_cookie_lines visit.head
+abbrev pub visit_lines : VisitText → List (List ℕ)
+visit_lines visit = if is_proxys visit then [] else head.set_cookie_lines visit.head
 
 -- ---- where a head leads
 

@@ -1,6 +1,5 @@
 //! Field lines (RFC 9112, section 5).
-ghost use Rattle.std.specs.Prelude.{◌≡◌, ◌≢◌, ◌<◌, position, slice_index, None, Some, MatchResult, length};
-ghost use Rattle.std.specs.Prelude.{if◌then◌else◌};
+ghost use Rattle.std.specs.Prelude.{◌≡◌, ◌<◌, position, slice_index, Some, MatchResult, if◌then◌else◌};
 ghost use Rattle.std.specs.List.{list_any};
 ghost use Rattle.response_heads.specs.Lines as spec;
 ghost use Rattle.response_heads.specs.Read.{field_text};

@@ -1,7 +1,8 @@
 //! The lines of a text.
-ghost use Rattle.std.specs.Prelude.{◌≡◌, ◌∷◌, ◌+◌, ◌<◌, ◌≤◌, ◌^◌, ◌==◌, [], length, position, MatchOption};
-ghost use Rattle.std.specs.Str.Lines.{strip_carriage_return};
+ghost use Rattle.std.specs.Prelude.{◌≡◌, ◌∷◌, ◌+◌, ◌<◌, ◌^◌, [], length, MatchOption};
 ghost use Rattle.response_heads.specs.Lines.{cut_end, whole_lines};
+
+use text_lines::{line_end, without_return};
 
 /// What is left of a text, and how many of its whole lines were taken.
 #[derive(Drop)]
@@ -46,21 +47,4 @@ fn first_line(text: &[u8]) -> Option<(&[u8], &[u8])>
 {
     let end = line_end(text)?;
     Some((without_return(&text[..end]), &text[end + 1..]))
-}
-
-// Where the first line feed stands.
-fn line_end(text: &[u8]) -> Option<usize>
-    ensures { result ≡ position (λ b. b == 10) text.now }
-{
-    text.iter().position(|b| *b == b'\n')
-}
-
-// The line without the carriage return at its end, where it has one.
-fn without_return(line: &[u8]) -> &[u8]
-    ensures { result.now ≡ strip_carriage_return line.now }
-{
-    match line {
-        [front @ .., b'\r'] => front,
-        _ => line,
-    }
 }

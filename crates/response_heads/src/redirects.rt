@@ -42,7 +42,7 @@ impl<'a> Visit<'a> {
     /// `AllocError`, for want of memory.
     pub fn set_cookie_lines(&self, alloc: Global) -> Result<Vec<Vec<u8>>, AllocError>
         ensures { IfOk result (λ lines. map (λ line. line.items) lines.items
-            ≡ spec.set_cookie_lines (spec.visit_text self.now)) }
+            ≡ spec.visit_lines (spec.visit_text self.now)) }
     {
         if self.is_proxys() {
             return Ok(Vec::new(alloc));

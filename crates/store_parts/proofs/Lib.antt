@@ -1,5 +1,4 @@
 pub mod DomainLemmas
 pub mod ExpiryLemmas
-pub mod HostNameLemmas
 pub mod PathLemmas
 pub mod StandardFacts

@@ -1,17 +1,17 @@
 -- The definitions at values that RFC 6265 and its rules show.
-use Rattle.std.proofs.Common.{◌≡◌, ℕ, List, [], true, false, ℤ, pos, negsuc, refl, inl, inr}
+use Rattle.std.proofs.Common.{◌≡◌, ℕ, List, [], true, false, ℤ, pos, negsuc, refl, inl}
 use Rattle.std.specs.Prelude.{Some, None, codes}
 use Rattle.std.specs.Str.{trim_start, trim_end}
 use Rattle.idna.proofs.Computing.{idna}
 use Rattle.cookie_text.specs.Record.{Record, bare, without_dot}
 use Rattle.cookie_text.specs.declared.error.ParseError.TheVariants as unread
 use Rattle.cookie_text.specs.declared.expiration.Expiration.TheVariants.{Session}
-use Rattle.store_parts.specs.DomainMatch.{host_only, suffix, not_present, empty, text_of, text_or_empty, EndsAfterDot}
+use Rattle.store_parts.specs.DomainMatch.{host_only, suffix, not_present, empty, text_of, text_or_empty}
 use Rattle.store_parts.specs.DomainMatch.{Covers}
 use Rattle.store_parts.specs.DomainOrder.{rank}
 use Rattle.store_parts.specs.DomainText.{attribute_domain, read_domain, suffix_or_empty}
 use Rattle.store_parts.specs.Expiry.{death, expiry_after, is_dead, seconds, epoch, latest, whole_second}
-use Rattle.store_parts.specs.PathMatch.{default_path, read_path, PathMatches}
+use Rattle.store_parts.specs.PathMatch.{default_path, read_path}
 use Rattle.store_parts.specs.Refusals.{handed_on, of_cookie, of_idna, of_parse}
 use Rattle.store_parts.specs.Schemes.{IsHttpScheme, IsSecure, IsThisHost}
 use Rattle.store_parts.specs.declared.error.CookieError.TheVariants as refused
@@ -31,19 +31,6 @@ default_paths = (refl, refl, refl, refl, refl, refl)
 pub read_paths : (read_path [] ≡ None) × (read_path (codes "a/foo") ≡ None)
     × (read_path (codes "/a") ≡ Some (record { text = codes "/a"; from_attribute = true }))
 read_paths = (refl, refl, refl)
-
--- `/foo` and `/foo/` path-match `/foo/bus`
-pub path_matches : PathMatches (codes "/foo") (codes "/foo/bus")
-    × PathMatches (codes "/foo/") (codes "/foo/bus")
-path_matches = (
-  inr (record { rest = codes "/bus"; split = refl; at_slash = inr refl }),
-  inr (record { rest = codes "bus"; split = refl; at_slash = inl refl }),
-)
-
--- the hosts that section 4.1.2.3 names for the domain `example.com`
-pub hosts_below : EndsAfterDot (codes "www.example.com") (codes "example.com")
-    × EndsAfterDot (codes "www.corp.example.com") (codes "example.com")
-hosts_below = ((codes "www", refl), (codes "www.corp", refl))
 
 -- one dot in front is left out
 pub leading_dots : (without_dot (codes ".example.com") ≡ codes "example.com")

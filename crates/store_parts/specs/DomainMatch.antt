@@ -1,16 +1,12 @@
 -- The domain of a cookie and the hosts that it covers (RFC 6265, 5.1.3).
-use Rattle.std.specs.Prelude.{◌≡◌, ◌⊎◌, ◌++◌, ℕ, List, [], ◌∷◌, Option, Some, None, IsSomeAnd, string_bytes, unwrap_or}
+use Rattle.std.specs.Prelude.{◌≡◌, ℕ, List, [], Option, Some, None, IsSomeAnd, string_bytes, unwrap_or}
+pub use Rattle.matching.specs.Domains.{dot, IsIpv4, IsHostName, EndsAfterDot, DomainMatches}
 use Rattle.publicsuffix.specs.Prevailing.{Listed}
 use Rattle.publicsuffix.specs.Rules.{Rule}
 use Rattle.url.specs.Parts.{Parts}
 use Rattle.store_parts.specs.declared.cookie_domain.CookieDomain.{CookieDomain}
 use Rattle.store_parts.specs.declared.cookie_domain.CookieDomain.TheVariants.{HostOnly, Suffix, NotPresent, Empty}
-use Rattle.store_parts.specs.HostName.{IsHostName}
 use Rattle.store_parts.specs.Schemes.{host_of}
-
--- `b'.'`
-abbrev pub dot : ℕ
-dot = 46
 
 -- a cookie's domain: one host alone, a host with those below it, or none, by an attribute that is
 -- not there or one that is empty
@@ -37,15 +33,6 @@ text_of empty = None
 -- the domain's text, empty where it has none
 abbrev pub text_or_empty : Domain → List ℕ
 text_or_empty domain = unwrap_or (text_of domain) []
-
--- the string ends with a dot and the domain string
-abbrev pub EndsAfterDot : List ℕ → List ℕ → Type 0
-EndsAfterDot string domain = (before : List ℕ) × (string ≡ before ++ dot ∷ domain)
-
--- domain-match: the string is the domain string, or is a host name that ends with a dot and it
-abbrev pub DomainMatches : List ℕ → List ℕ → Type 0
-DomainMatches string domain =
-    (string ≡ domain) ⊎ (IsHostName string × EndsAfterDot string domain)
 
 -- the domain covers the host: a host alone its own, a suffix those that domain-match it
 abbrev pub Covers : Domain → List ℕ → Type 0

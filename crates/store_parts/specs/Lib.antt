@@ -2,7 +2,6 @@ pub mod DomainMatch
 pub mod DomainOrder
 pub mod DomainText
 pub mod Expiry
-pub mod HostName
 pub mod PathMatch
 pub mod PathOrder
 pub mod Refusals

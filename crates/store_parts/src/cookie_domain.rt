@@ -14,9 +14,9 @@ ghost use Rattle.std.specs.Cmp.Rules.{comparing, hashing};
 ghost use Rattle.std.specs.Ordering.{as_partial_cmp};
 
 use crate::error::{CookieError, Error, IdnaErrors};
-use crate::utils::is_host_name;
 use cookie::Cookie as RawCookie;
 use idna::{AsciiDenyList, domain_to_ascii_cow};
+use matching::domain_matches;
 use publicsuffix::List;
 use std::alloc::{AllocError, Global};
 use std::borrow::CowStr;
@@ -259,23 +259,6 @@ impl Hash for CookieDomain {
         let (kind, text) = kind_and_text(self);
         kind.hash(state);
         text.hash(state);
-    }
-}
-
-// Whether the host domain-matches the domain string (RFC 6265, section 5.1.3).
-fn domain_matches(host: &str, domain: &str) -> bool
-    ensures { IsTrue result ↔ spec.DomainMatches host.now domain.now }
-{
-    host == domain || (is_host_name(host) && ends_after_dot(host, domain))
-}
-
-// Whether the host ends with a dot and the domain string.
-fn ends_after_dot(host: &str, domain: &str) -> bool
-    ensures { IsTrue result ↔ spec.EndsAfterDot host.now domain.now }
-{
-    match host.as_bytes().strip_suffix(domain.as_bytes()) {
-        Some(before) => before.ends_with(b"."),
-        None => false,
     }
 }
 

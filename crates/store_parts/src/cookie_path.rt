@@ -8,6 +8,7 @@ ghost use Rattle.std.specs.Cmp.{partial_order_from_own_ties};
 ghost use Rattle.std.specs.Cmp.Rules.{comparing, hashing};
 ghost use Rattle.std.specs.Ordering.{as_partial_cmp};
 
+use matching::path_matches;
 use std::alloc::{AllocError, Global};
 use std::cmp::Ordering;
 use std::hash::{Hash, Hasher};
@@ -207,24 +208,6 @@ fn matches_at(cookie_path: &str, request_url: &Url) -> bool
     ensures { IsTrue result ↔ spec.PathMatchesAt cookie_path.now request_url.now }
 {
     !request_url.cannot_be_a_base() && path_matches(cookie_path, request_url.path())
-}
-
-// Whether the request-path path-matches the cookie-path.
-fn path_matches(cookie_path: &str, request_path: &str) -> bool
-    ensures { IsTrue result ↔ spec.PathMatches cookie_path.now request_path.now }
-{
-    let cookie_path = cookie_path.as_bytes();
-    match request_path.as_bytes().strip_prefix(cookie_path) {
-        Some(rest) => rest.is_empty() || meet_at_slash(cookie_path, rest),
-        None => false,
-    }
-}
-
-// Whether the first text ends with `/` or the second begins with it.
-fn meet_at_slash(before: &[u8], after: &[u8]) -> bool
-    ensures { IsTrue result ↔ spec.MeetAtSlash before.now after.now }
-{
-    matches!(before, [.., b'/']) || matches!(after, [b'/', ..])
 }
 
 // The default-path of a URL.

@@ -1,9 +1,8 @@
 //! What a URL's scheme and host allow.
 ghost use Rattle.std.specs.Prelude.{◌↔◌, IsTrue};
-ghost use Rattle.store_parts.specs.HostName.{IsHostName};
 ghost use Rattle.store_parts.specs.Schemes.{IsHttpScheme, IsSecure};
 
-use std::net::{Ipv4Addr, Ipv6Addr};
+pub use matching::is_host_name;
 use url::{Host, Url};
 
 /// Whether the URL's scheme begins with `http`, so that it may see HttpOnly cookies.
@@ -11,14 +10,6 @@ pub fn is_http_scheme(url: &Url) -> bool
     ensures { IsTrue result ↔ IsHttpScheme url.now }
 {
     url.scheme().as_bytes().starts_with(b"http")
-}
-
-/// Whether the text is a host name: the text of neither an IPv4 nor an IPv6 address, the latter
-/// without brackets (RFC 6265, section 5.1.3).
-pub fn is_host_name(host: &str) -> bool
-    ensures { IsTrue result ↔ IsHostName host.now }
-{
-    host.parse::<Ipv4Addr>().is_err() && host.parse::<Ipv6Addr>().is_err()
 }
 
 /// Whether Secure cookies may go to the URL: its scheme is `https`, or its host is `localhost`, an

@@ -1,4 +1,4 @@
-use Rattle.cookies_txt.proofs.PartLemmas.{civil_nanos-epoch}
+use Rattle.store_parts.proofs.ExpiryLemmas.{civil_nanos-epoch}
 use Rattle.cookies_txt.proofs.line.epoch.Goals as goal
 
 pub returns : goal.returns

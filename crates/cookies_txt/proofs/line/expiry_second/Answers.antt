@@ -2,7 +2,7 @@ use Rattle.std.proofs.Common.{w64, sym, ap, ◌∙◌}
 use Rattle.std.proofs.lemmas.Int.{to_z-of_z}
 use Rattle.jiff_core.specs.DateTime.{civil_seconds}
 use Rattle.cookies_txt.specs.Writing.{clamped}
-use Rattle.cookies_txt.proofs.PartLemmas.{whole_second_shown}
+use Rattle.store_parts.proofs.ExpiryLemmas.{whole_second_shown}
 use Rattle.cookies_txt.proofs.line.expiry_second.Goals as goal
 
 pub returns-in-AtUtc : goal.returns-in-AtUtc

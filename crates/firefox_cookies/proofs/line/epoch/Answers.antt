@@ -1,4 +1,4 @@
-use Rattle.firefox_cookies.proofs.LineLemmas.{civil_nanos-epoch}
+use Rattle.store_parts.proofs.ExpiryLemmas.{civil_nanos-epoch}
 use Rattle.firefox_cookies.proofs.line.epoch.Goals as goal
 
 pub returns : goal.returns

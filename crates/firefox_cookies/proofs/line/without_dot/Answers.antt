@@ -1,6 +1,6 @@
 use Rattle.std.proofs.Common.{◌∙◌, ap, lit<}
 use Rattle.std.proofs.lemmas.Str.Pattern.{strip_prefix_char}
-use Rattle.firefox_cookies.proofs.LineLemmas.{without_dot-stripped}
+use Rattle.store_parts.proofs.DomainLemmas.{without_dot-stripped}
 use Rattle.firefox_cookies.proofs.line.without_dot.Goals as goal
 
 pub returns : goal.returns

@@ -2,7 +2,7 @@ use Rattle.std.proofs.Common.{◌≡◌, ◌||◌, ◌<◌, ◌∙◌, ap, arith
 use Rattle.std.proofs.lemmas.Bool.{or_left, or_right}
 use Rattle.std.proofs.lemmas.Grind.{common_steps}
 use Rattle.std.proofs.lemmas.Str.{IsCharBoundary-after_ascii}
-use Rattle.place_index.specs.Paths.{slash}
+use Rattle.matching.specs.Paths.{slash}
 use Rattle.place_index.specs.Index.{part_at}
 use Rattle.place_index.proofs.CandidateLemmas.{same_nat}
 use Rattle.place_index.proofs.StepLemmas.{beginning, fewer_asked, fewer_passed, spans_asked, spans_begun, spans_passed}

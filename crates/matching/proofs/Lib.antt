@@ -1,0 +1,3 @@
+pub mod DomainLemmas
+pub mod PathLemmas
+pub mod StandardFacts
