@@ -33,7 +33,7 @@ join_lacks : (k : ℕ) (xs ys : List ℕ) → Lacks k xs → Lacks k ys → Lack
 join_lacks k [] ys h g = g
 join_lacks k (x ∷ xs) ys h g = (h.0, join_lacks k xs ys h.1 g)
 
-encode_lacks : (k c : ℕ) → k < 128 → c ≢ k → Lacks k (encode c)
+pub encode_lacks : (k c : ℕ) → k < 128 → c ≢ k → Lacks k (encode c)
 unfolding encode
 encode_lacks k c small other =
     cond_both (ltb c 128) _ _ (Lacks k) (λ e. (other, tt)) (λ e.
@@ -46,15 +46,15 @@ encode_lacks k c small other =
       ((λ s. omega (arith, s, small)), ((λ s. omega (arith, s, small)), ((λ s. omega (arith, s, small)), tt))),
     ))))
 
-itself : (k : ℕ) → k < 128 → encode k ≡ k ∷ []
+pub encode-byte : (k : ℕ) → k < 128 → encode k ≡ k ∷ []
 unfolding encode
-itself k small = let e : ltb k 128 ≡ true = grind (arith, nat_tests, small) in cond-true _ _ _ e
+encode-byte k small = let e : ltb k 128 ≡ true = grind (arith, nat_tests, small) in cond-true _ _ _ e
 
 chars_lacks : (k : ℕ) (cs : List ℕ) → k < 128 → Lacks k (encodes cs) → Lacks k cs
 chars_lacks k [] small h = tt
 chars_lacks k (c ∷ cs) small h =
     let parts = front_lacks k (encode c) (encodes cs) h in
-    ((λ e. (subst (Lacks k) (ap encode e ∙ itself k small) parts.0).0 refl), chars_lacks k cs small parts.1)
+    ((λ e. (subst (Lacks k) (ap encode e ∙ encode-byte k small) parts.0).0 refl), chars_lacks k cs small parts.1)
 
 encodes_lacks : (k : ℕ) (cs : List ℕ) → k < 128 → Lacks k cs → Lacks k (encodes cs)
 encodes_lacks k [] small h = tt
@@ -66,22 +66,22 @@ encodes_lacks k (c ∷ cs) small h = join_lacks k (encode c) (encodes cs) (encod
 abbrev strip : List ℕ → List ℕ
 strip cs = drop_trailing_whitespace (skip_leading_whitespace cs)
 
-skip_lacks : (P : ℕ → Type 0) (cs : List ℕ) → AllByRecursion P cs → AllByRecursion P (skip_leading_whitespace cs)
-skip_lacks P [] h = tt
-skip_lacks P (c ∷ cs) h =
+pub skip_all : (P : ℕ → Type 0) (cs : List ℕ) → AllByRecursion P cs → AllByRecursion P (skip_leading_whitespace cs)
+skip_all P [] h = tt
+skip_all P (c ∷ cs) h =
     ⊎_elim
-    (λ (e : is_whitespace c ≡ true). subst (AllByRecursion P) (sym (cond-true _ _ _ e)) (skip_lacks P cs h.1))
+    (λ (e : is_whitespace c ≡ true). subst (AllByRecursion P) (sym (cond-true _ _ _ e)) (skip_all P cs h.1))
     (λ (e : is_whitespace c ≡ false). subst (AllByRecursion P) (sym (cond-false _ _ _ e)) h)
     (cases_Bool (is_whitespace c))
 
-drop_lacks : (P : ℕ → Type 0) (cs : List ℕ) → AllByRecursion P cs → AllByRecursion P (drop_trailing_whitespace cs)
-drop_lacks P [] h = tt
-drop_lacks P (c ∷ cs) h =
+pub drop_all : (P : ℕ → Type 0) (cs : List ℕ) → AllByRecursion P cs → AllByRecursion P (drop_trailing_whitespace cs)
+drop_all P [] h = tt
+drop_all P (c ∷ cs) h =
     ⊎_elim
     (λ (e : (is_whitespace c && length (drop_trailing_whitespace cs) == 0) ≡ true). subst (AllByRecursion P)
     (sym (cond-true _ _ _ e)) tt)
     (λ (e : (is_whitespace c && length (drop_trailing_whitespace cs) == 0) ≡ false). subst (AllByRecursion P)
-    (sym (cond-false _ _ _ e)) (h.0, drop_lacks P cs h.1))
+    (sym (cond-false _ _ _ e)) (h.0, drop_all P cs h.1))
     (cases_Bool (is_whitespace c && length (drop_trailing_whitespace cs) == 0))
 
 drop_twice : (cs : List ℕ) → drop_trailing_whitespace (drop_trailing_whitespace cs) ≡ drop_trailing_whitespace cs
@@ -127,11 +127,11 @@ scalars_all [] h = refl
 scalars_all (c ∷ cs) h = λ i. h.0 i && scalars_all cs h.1 i
 
 skip_scalars : (cs : List ℕ) → scalars cs ≡ true → scalars (skip_leading_whitespace cs) ≡ true
-skip_scalars cs h = scalars_all _ (skip_lacks (λ c. scalar c ≡ true) cs (all_scalars cs h))
+skip_scalars cs h = scalars_all _ (skip_all (λ c. scalar c ≡ true) cs (all_scalars cs h))
 
 strip_scalars : (cs : List ℕ) → scalars cs ≡ true → scalars (strip cs) ≡ true
 strip_scalars cs h = scalars_all _
-    (drop_lacks (λ c. scalar c ≡ true) _ (skip_lacks (λ c. scalar c ≡ true) cs (all_scalars cs h)))
+    (drop_all (λ c. scalar c ≡ true) _ (skip_all (λ c. scalar c ≡ true) cs (all_scalars cs h)))
 
 trim_is : (x : List ℕ) → IsUtf8 x → trim x ≡ encodes (strip (chars x))
 unfolding trim_start trim_end
@@ -152,7 +152,7 @@ trim_lacks : (k : ℕ) (x : List ℕ) → k < 128 → IsUtf8 x → Lacks k x →
 trim_lacks k x small h free =
     subst (Lacks k) (sym (trim_is x h))
     (encodes_lacks k (strip (chars x)) small
-    (drop_lacks (λ b. b ≢ k) _ (skip_lacks (λ b. b ≢ k) (chars x)
+    (drop_all (λ b. b ≢ k) _ (skip_all (λ b. b ≢ k) (chars x)
     (chars_lacks k (chars x) small (subst (Lacks k) (sym (encodes-chars x h)) free)))))
 
 -- ---- cutting a text

@@ -24,6 +24,8 @@ mod trim;
 
 pub use builder::{Builder, CookieBuilder};
 pub use cookie::Cookie;
+pub use date_display::PrintedDate;
+pub use date_names::month_name;
 pub use display::Display;
 pub use draft::SameSite;
 pub use error::ParseError;

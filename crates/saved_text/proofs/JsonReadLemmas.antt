@@ -10,7 +10,7 @@ use Rattle.serde_json.specs.Read.{read}
 use Rattle.serde_json.specs.View.{items_view}
 use Rattle.serde_json.specs.declared.value.Value.{Value}
 use Rattle.saved_text.specs.Json.{row_value, rows_items, expires_value}
-use Rattle.saved_text.specs.JsonReading.{HasDeath, IsReadable, AreShown, ShowsRow, ShowsRows, IsNoRow, AreNoRows}
+use Rattle.saved_text.specs.JsonReading.{HasDeath, IsReadable, AreShown, ShowsRow, ShowsRowsInJson, IsNoRow, AreNoRows}
 use Rattle.saved_text.specs.JsonReading.{IsShapeFault, IsJsonFault}
 use Rattle.saved_text.specs.Row.{Shown}
 use Rattle.saved_text.specs.Saved.{IsCookieText, IsShown}
@@ -116,11 +116,11 @@ rows_more d rs x more r h p = record {
   split = h.split ∙ ap (λ y. array (items_onto h.rows (item y more))) p.1 ∙ ap array (onto_more h.rows p.0 more);
 }
 
-rows_end : (d : Data) (rs : List SavedRow) → RowsSoFar d rs no_items → ShowsRows d rs
+rows_end : (d : Data) (rs : List SavedRow) → RowsSoFar d rs no_items → ShowsRowsInJson d rs
 rows_end d rs h = (h.rows, h.split ∙ ap array (onto_none h.rows), h.are_shown)
 
 pub rows_ended : (d : Data) (rs : List SavedRow) (vs : List Value) → RowsSoFar d rs (items_view vs) → length vs ≡ 0
-    → ShowsRows d rs
+    → ShowsRowsInJson d rs
 rows_ended d rs [] h e = rows_end d rs h
 rows_ended d rs (v ∷ vs) h e = absurd (omega arith)
 

@@ -17,7 +17,8 @@ use Rattle.jiff_core.specs.Calendar.{IsCivilDate}
 use Rattle.jiff_core.proofs.CalendarLemmas.{day_count-lt_year, days_in_month_bounds}
 use Rattle.saved_text.specs.Rfc3339.{two_digits, four_digits, date_text}
 use Rattle.saved_text.specs.DateReading.{blanked, shows, clock_form, is_civil, seconds_to, civil_of, civil_if}
-use Rattle.saved_text.specs.DateReading.{first_moment, last_moment, IsDateOf}
+use Rattle.cookie_text.specs.Setting.{last_moment}
+use Rattle.saved_text.specs.DateReading.{first_moment, IsDateOf}
 use Rattle.saved_text.specs.PrintedDates.{without_fraction, IsWholeSecondOf}
 use Rattle.saved_text.proofs.DateLemmas.{Within, within_tested, if_true, nanos_are}
 

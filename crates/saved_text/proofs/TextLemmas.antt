@@ -30,7 +30,7 @@ use Rattle.saved_text.specs.Grammar.Word.{the_name}
 use Rattle.saved_text.specs.Reads.{Leads, Stuck}
 use Rattle.saved_text.specs.Faults.{StopsAs, Spaced}
 use Rattle.saved_text.specs.Ron.{string, list, ron}
-use Rattle.saved_text.specs.RonReading.{IsUnreadAt, IsRonFaultAt, ShowsNoRows, ShowsRows, AreRead}
+use Rattle.saved_text.specs.RonReading.{IsUnreadAt, IsRonFaultAt, ShowsNoRows, ShowsRowsInRon, AreRead}
 use Rattle.saved_text.specs.Words.{string_words}
 use Rattle.saved_text.specs.JsonReading.{AreShown}
 use Rattle.saved_text.specs.Drafts.{Unreads, Marks, IsListRead, IsTextRead, StopsText}
@@ -178,7 +178,7 @@ shows_none text q u shown h a =
     u.unread (read_behind [] [] u.before u.name u.value rest.0
     (subst (AreRead [] []) (behind.2 ∙ ap (λ w. b ++ w) rest.2) (rows_read shown h.0 h.2 a).0))
 
-pub text_rows : (text : List ℕ) (rows : List SavedRow) → IsTextRead text rows None → ShowsRows text rows
+pub text_rows : (text : List ℕ) (rows : List SavedRow) → IsTextRead text rows None → ShowsRowsInRon text rows
 text_rows text rows i =
     let only : (others : List Shown) → ShowsRon text others → others ≡ i.shown =
     λ others h. rows_one others i.shown i.said (subst (SaysRows others) (i.only h.0 h.1) h.2) i.says in

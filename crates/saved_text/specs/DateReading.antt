@@ -36,6 +36,7 @@ use Rattle.std.specs.Str.{bytes_eq}
 use Rattle.std.specs.Str.Parse.{digits_value}
 use Rattle.std.specs.Char.{is_ascii_digit}
 use Rattle.jiff_core.specs.Calendar.{days_from_civil, days_in_month}
+use Rattle.cookie_text.specs.Setting.{last_moment}
 
 -- `0` for a digit, `T` for `t`, `Z` for `z`, and every other byte as it is
 abbrev pub blanked : ℕ → ℕ
@@ -121,12 +122,9 @@ minutes_of zone =
 
 -- ---- the date
 
--- the years 0 to 9999, in nanoseconds since 1970-01-01T00:00:00
+-- the first moment of the years 0 to 9999, in nanoseconds since 1970-01-01T00:00:00
 abbrev pub first_moment : ℤ
 first_moment = pos 0 -ℤ pos 62_167_219_200_000_000_000
-
-abbrev pub last_moment : ℤ
-last_moment = pos 253_402_300_799_999_999_999
 
 -- A text is a date of this moment: local time less its offset.
 pub record IsDateOf (text : List ℕ) (at : ℤ) : Type 0 where

@@ -35,8 +35,8 @@ abbrev pub ShowsRow : Data → SavedRow → Type 0
 ShowsRow d r = (t : Shown) × (d ≡ row_value t) × IsShown t r
 
 -- The value shows these rows.
-abbrev pub ShowsRows : Data → List SavedRow → Type 0
-ShowsRows d rs = (ts : List Shown) × (d ≡ rows_value ts) × AreShown ts rs
+abbrev pub ShowsRowsInJson : Data → List SavedRow → Type 0
+ShowsRowsInJson d rs = (ts : List Shown) × (d ≡ rows_value ts) × AreShown ts rs
 
 -- The value is of another shape, or what it shows doesn't read.
 abbrev pub IsNoRow : Data → Type 0

@@ -59,8 +59,8 @@ abbrev pub ShowsOnly : List ℕ → List Shown → Type 0
 ShowsOnly text shown = ShowsRon text shown × ((others : List Shown) → ShowsRon text others → others ≡ shown)
 
 -- The text shows the rows, and each raw cookie and date in it reads.
-abbrev pub ShowsRows : List ℕ → List SavedRow → Type 0
-ShowsRows text rows = (shown : List Shown) × ShowsOnly text shown × AreShown shown rows
+abbrev pub ShowsRowsInRon : List ℕ → List SavedRow → Type 0
+ShowsRowsInRon text rows = (shown : List Shown) × ShowsOnly text shown × AreShown shown rows
 
 -- The text shows no rows, or a raw cookie or a date in it doesn't read.
 abbrev pub ShowsNoRows : List ℕ → Type 0

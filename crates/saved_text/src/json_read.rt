@@ -3,7 +3,7 @@ ghost use Rattle.std.specs.Prelude.{◌≡◌, Some, IfOk, IfErr, MatchOption, o
 ghost use Rattle.serde_json.specs.Data.{Data};
 ghost use Rattle.serde_json.specs.Read.{read};
 ghost use Rattle.serde_json.specs.View.{view};
-ghost use Rattle.saved_text.specs.JsonReading.{HasDeath, IsReadable, ShowsRow, ShowsRows, IsNoRow, AreNoRows};
+ghost use Rattle.saved_text.specs.JsonReading.{HasDeath, IsReadable, ShowsRow, ShowsRowsInJson, IsNoRow, AreNoRows};
 ghost use Rattle.saved_text.specs.JsonReading.{IsShapeFault, IsJsonFault};
 ghost use Rattle.saved_text.specs.Parts.{domain_view, row_view};
 ghost use Rattle.saved_text.specs.Saved.{domain_shown, IsCookieText, IsDeath, IsShown};
@@ -59,7 +59,7 @@ pub fn row_from_json_in(
 /// `Json` where the text is no JSON, `Shape` where its value is of another shape or a raw cookie or a date in it
 /// doesn't read, `OutOfMemory`.
 pub fn rows_from_json(alloc: Global, text: &str) -> Result<Vec<SavedRow>, SavedTextError>
-    ensures ok { IfOk result (λ rows. (d : Data) × (read text.now ≡ Some d) × ShowsRows d rows.items) }
+    ensures ok { IfOk result (λ rows. (d : Data) × (read text.now ≡ Some d) × ShowsRowsInJson d rows.items) }
     ensures err { IfErr result (IsJsonFault AreNoRows text.now) }
 {
     if let Some(rows) = rows_in_order(alloc, text)? {
@@ -90,7 +90,7 @@ pub fn from_value(alloc: Global, value: &Value) -> Result<SavedRow, SavedTextErr
 ///
 /// `Shape` where the value is of another shape or a raw cookie or a date in it doesn't read, `OutOfMemory`.
 pub fn rows_from_value(alloc: Global, value: &Value) -> Result<Vec<SavedRow>, SavedTextError>
-    ensures ok { IfOk result (λ rows. ShowsRows (view value.now) rows.items) }
+    ensures ok { IfOk result (λ rows. ShowsRowsInJson (view value.now) rows.items) }
     ensures err { IfErr result (IsShapeFault (AreNoRows (view value.now))) }
 {
     let mut rows = Vec::new(alloc);

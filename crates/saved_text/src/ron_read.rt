@@ -3,7 +3,7 @@ ghost use Rattle.std.specs.Prelude.{◌≡◌, [], ◌↔◌, MatchResult, IfOk,
 ghost use Rattle.std.specs.Result.{IsErrOf};
 ghost use Rattle.std.specs.Str.{IsUtf8};
 ghost use Rattle.saved_text.specs.Drafts.{IsTextRead, StopsText};
-ghost use Rattle.saved_text.specs.RonReading.{ShowsRows, IsRonFault};
+ghost use Rattle.saved_text.specs.RonReading.{ShowsRowsInRon, IsRonFault};
 ghost use Rattle.saved_text.specs.declared.error.SavedTextError.TheVariants as fault;
 
 use crate::error::SavedTextError;
@@ -22,7 +22,7 @@ use std::alloc::Global;
 /// read; `OutOfMemory`.
 pub fn rows_from_ron(alloc: Global, text: &[u8]) -> Result<Vec<SavedRow>, SavedTextError>
     ensures not_text { IsErrOf result fault.NotText ↔ (¬ (IsUtf8 text.now)) }
-    ensures ok { IfOk result (λ rows. ShowsRows text.now rows.items) }
+    ensures ok { IfOk result (λ rows. ShowsRowsInRon text.now rows.items) }
     ensures err { IfErr result (IsRonFault text.now) }
 {
     match str::from_utf8(text) {
@@ -33,7 +33,7 @@ pub fn rows_from_ron(alloc: Global, text: &[u8]) -> Result<Vec<SavedRow>, SavedT
 
 // The rows that a text is.
 fn rows_of(alloc: Global, text: &str) -> Result<Vec<SavedRow>, SavedTextError>
-    ensures ok { IfOk result (λ rows. ShowsRows text.now rows.items) }
+    ensures ok { IfOk result (λ rows. ShowsRowsInRon text.now rows.items) }
     ensures err { IfErr result (IsRonFault text.now) }
 {
     let mut rows = Vec::new(alloc);

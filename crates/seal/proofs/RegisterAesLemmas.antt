@@ -3,7 +3,7 @@ use Rattle.std.proofs.Common.{◌≡◌, ℕ, suc, ◌+◌, ◌/◌, ◌%◌, �
 use Rattle.std.specs.Int.Bits.{xor_assoc}
 use Rattle.seal.specs.Aes.{sub_bytes, shift_rows, mix_columns, round_key, rounds}
 use Rattle.seal.specs.Bytes.{sum_below, xor_bytes}
-use Rattle.seal.specs.Field.{times_x, times_x_power, product, inverse_below, inverse, byte_of, s_box}
+use Rattle.seal.specs.Field.{times_x, times_x_power, byte_product, inverse_below, inverse, byte_of, s_box}
 use Rattle.seal.specs.Registers.{looked_up}
 use Rattle.seal.specs.declared.register_aes.TheConstants.{INTO_LOW, INTO_HIGH, INVERSE, SCALED, OUT_HIGH, OUT_LOW}
 use Rattle.seal.specs.declared.register_aes.TheConstants.{CARRIED}
@@ -42,7 +42,7 @@ out b = bit_xor
 
 -- at all 256 bytes
 pub out_is : (b : ℕ) → b < 256 → out b ≡ s_box b
-unfolding sum_below times_x times_x_power product inverse_below inverse byte_of s_box
+unfolding sum_below times_x times_x_power byte_product inverse_below inverse byte_of s_box
 out_is b h = equal_below out s_box 256 b refl h
 
 -- ---- MixColumns
@@ -50,21 +50,22 @@ out_is b h = equal_below out s_box 256 b refl h
 abbrev pub plus : ℕ → ℕ → ℕ
 plus a b = (a + b) % 256
 
-pub double_is : (b : ℕ) → b < 256 → bit_xor (plus b b) (looked_up CARRIED (down b 4)) ≡ product 2 b
-unfolding sum_below times_x times_x_power product
-double_is b h = equal_below (λ b. bit_xor (plus b b) (looked_up CARRIED (down b 4))) (product 2) 256 b refl h
+pub double_is : (b : ℕ) → b < 256 → bit_xor (plus b b) (looked_up CARRIED (down b 4)) ≡ byte_product 2 b
+unfolding sum_below times_x times_x_power byte_product
+double_is b h = equal_below (λ b. bit_xor (plus b b) (looked_up CARRIED (down b 4))) (byte_product 2) 256 b refl h
 
-triple_is : (b : ℕ) → b < 256 → bit_xor (product 2 b) b ≡ product 3 b
-unfolding sum_below times_x times_x_power product
-triple_is b h = equal_below (λ b. bit_xor (product 2 b) b) (product 3) 256 b refl h
+triple_is : (b : ℕ) → b < 256 → bit_xor (byte_product 2 b) b ≡ byte_product 3 b
+unfolding sum_below times_x times_x_power byte_product
+triple_is b h = equal_below (λ b. bit_xor (byte_product 2 b) b) (byte_product 3) 256 b refl h
 
 -- 2a + 3b is 2(a + b) + b
 pub mixed_lane : (a b rest : ℕ) → a < 256 → b < 256
-    → bit_xor (bit_xor (product 2 (bit_xor a b)) b) rest ≡ bit_xor (bit_xor (product 2 a) (product 3 b)) rest
+    → bit_xor (bit_xor (byte_product 2 (bit_xor a b)) b) rest
+    ≡ bit_xor (bit_xor (byte_product 2 a) (byte_product 3 b)) rest
 mixed_lane a b rest ha hb =
     ap (λ (q : ℕ). bit_xor q rest)
     (ap (λ (q : ℕ). bit_xor q b) (product_xor_right 2 a b ha hb)
-    ∙ xor_assoc (product 2 a) (product 2 b) b ∙ ap (bit_xor (product 2 a)) (triple_is b hb))
+    ∙ xor_assoc (byte_product 2 a) (byte_product 2 b) b ∙ ap (bit_xor (byte_product 2 a)) (triple_is b hb))
 
 -- ---- rounds
 

@@ -1,6 +1,6 @@
 -- A product with H by the halves of its first factor, some bits a step.
 use Rattle.std.proofs.Common.{◌≡◌, ℕ, ◌+◌, ◌/◌, ◌^◌, bit_xor, ap, sym, ◌∙◌, shr-shr, add_comm}
-use Rattle.seal.specs.Ghash.{times_power, product_low, product}
+use Rattle.seal.specs.Ghash.{times_power, product_low, block_product}
 use Rattle.seal.proofs.GhashLemmas.{product_low-more, product_low-mod}
 use Rattle.seal.proofs.GhashLaws.{product_is}
 
@@ -40,7 +40,8 @@ worked_off-more step bits n x h low high rest p q a b e off hp hq ha hb =
     }
 
 -- both halves, the low one moved past the high one
-pub together : (x h : ℕ) → bit_xor (times_power 64 (product_low 64 x h)) (product_low 64 (x / 2 ^ 64) h) ≡ product x h
+pub together : (x h : ℕ)
+    → bit_xor (times_power 64 (product_low 64 x h)) (product_low 64 (x / 2 ^ 64) h) ≡ block_product x h
 together x h =
     ap (bit_xor (times_power 64 (product_low 64 x h))) (sym (product_low-mod 64 (x / 2 ^ 64) h))
     ∙ sym (product_low-more 64 64 x h) ∙ sym (product_is x h)

@@ -9,7 +9,7 @@ use Rattle.std.proofs.lemmas.Nat.{xor_comm, xor_shr, xor_mod, mod-pow-add}
 use Rattle.std.specs.Int.{bit_at, byte_at}
 use Rattle.std.specs.Int.Bits.{xor_assoc, xor_shifted}
 use Rattle.std.specs.Simd.Lanes.{digits_l, number_l}
-use Rattle.seal.specs.Ghash.{scale, times_a, times_power, product_low, product}
+use Rattle.seal.specs.Ghash.{scale, times_a, times_power, product_low, block_product}
 use lib.Lanes.{Each1, chunk, put_chunk}
 use borrow.Rule.Slice.PartMut.{put_mid, post_of}
 use Rattle.std.proofs.lemmas.List.{get_or_append_left, get_or-append_right, get_or-take, get_or-drop, length-take-le}
@@ -314,7 +314,7 @@ length-digits (suc n) x = ap suc (length-digits n (x / 256))
 abbrev pub number_at : ℕ → ℕ → ℕ → ℕ
 number_at h x t = number_l 256 (map (picked_byte h t) (digits_l 256 16 x))
 
-pub horner_is_product : (h x : ℕ) → h < 2 ^ 128 → x < 2 ^ 128 → horner (number_at h x) 16 ≡ product x h
+pub horner_is_product : (h x : ℕ) → h < 2 ^ 128 → x < 2 ^ 128 → horner (number_at h x) 16 ≡ block_product x h
 horner_is_product h x within below =
     let v : List ℕ = digits_l 256 16 x in
     let same : (t : ℕ) → number_at h x t ≡ moved h v 0 t = λ t. omega arith in

@@ -5,7 +5,7 @@
 
 ghost use Rattle.std.specs.Prelude.{◌≡◌, ◌≤◌, ◌<◌, ◌+◌, ◌^◌, ◌++◌, ◌∷◌, [], List, ℕ, bit_xor, slice_index};
 ghost use Rattle.std.specs.Int.{w128, to_be_bytes};
-ghost use Rattle.seal.specs.Ghash.{ghash, number_of, product, product_low, times_power};
+ghost use Rattle.seal.specs.Ghash.{ghash, number_of, block_product, product_low, times_power};
 
 use crate::powers::{Turns, times_power};
 use std::marker::Model;
@@ -80,7 +80,7 @@ impl Multiples {
 
     // x * H, in at most 32 turns: the halves of x are worked off side by side, low bits first.
     fn times<L: Ledger>(&self, x: u128, turns: &mut Turns<L>) -> u128
-        ensures value { result ≡ product x self.now }
+        ensures value { result ≡ block_product x self.now }
         ensures turns { turns.new ≤ turns.old + 32 }
     {
         let mut rest = x;
@@ -99,7 +99,7 @@ impl Multiples {
     /// (y + block) * H, in at most 32 turns.
     pub fn step<L: Ledger>(&self, y: &[u8; 16], block: &[u8; 16], turns: &mut Turns<L>) -> [u8; 16]
         ensures value { result ≡ to_be_bytes w128
-            (product (bit_xor (number_of y.now) (number_of block.now)) self.now) }
+            (block_product (bit_xor (number_of y.now) (number_of block.now)) self.now) }
         ensures turns { turns.new ≤ turns.old + 32 }
     {
         let sum = u128::from_be_bytes(*y) ^ u128::from_be_bytes(*block);
@@ -145,7 +145,7 @@ impl ByteMultiples {
 
     // x * H, in at most 15 turns: the halves of x are worked off side by side, low bits first.
     fn times<L: Ledger>(&self, x: u128, turns: &mut Turns<L>) -> u128
-        ensures value { result ≡ product x self.now }
+        ensures value { result ≡ block_product x self.now }
         ensures turns { turns.new ≤ turns.old + 15 }
     {
         let mut rest = x;

@@ -7,7 +7,7 @@
 ghost use Rattle.std.specs.Prelude.{◌≡◌, ◌<◌, ◌+◌, ◌*◌, ◌^◌, ◌++◌, ◌∷◌, [], List, ℕ, bit_xor, map, slice_index};
 ghost use Rattle.std.specs.Int.{w128, bit_at, byte_at, to_be_bytes};
 ghost use Rattle.std.specs.Simd.Lanes.{digits_l, number_l};
-ghost use Rattle.seal.specs.Ghash.{ghash, number_of, product, product_low, scale, times_a, times_power};
+ghost use Rattle.seal.specs.Ghash.{ghash, number_of, block_product, product_low, scale, times_a, times_power};
 
 use crate::registers::shuffled;
 use std::marker::Model;
@@ -152,7 +152,7 @@ impl HashSubkey {
     // x * H: byte t of the multiples that the bytes of x pick is a number of its own, and those are worked off by
     // Horner's rule. What goes past a^127 is kept, to be reduced at the end.
     fn times(&self, x: u128) -> u128
-        ensures { result ≡ product x self.now }
+        ensures { result ≡ block_product x self.now }
     {
         let _ = &self.number;
         let bytes = lanes_of(x);
@@ -168,7 +168,7 @@ impl HashSubkey {
     /// (y + block) * H.
     pub fn step(&self, y: &[u8; 16], block: &[u8; 16]) -> [u8; 16]
         ensures { result ≡ to_be_bytes w128
-            (product (bit_xor (number_of y.now) (number_of block.now)) self.now) }
+            (block_product (bit_xor (number_of y.now) (number_of block.now)) self.now) }
     {
         let sum = u128::from_be_bytes(*y) ^ u128::from_be_bytes(*block);
         self.times(sum).to_be_bytes()

@@ -6,7 +6,7 @@
 ghost use Rattle.std.specs.Prelude.{◌≡◌, ◌<◌, ◌+◌, ◌*◌, ◌++◌, List, ℕ, map, take};
 ghost use Rattle.seal.specs.Aes as spec;
 ghost use Rattle.seal.specs.Bytes.{xor_bytes};
-ghost use Rattle.seal.specs.Field.{product};
+ghost use Rattle.seal.specs.Field.{byte_product};
 
 use crate::registers::shuffled;
 use std::simd::prelude::*;
@@ -65,7 +65,7 @@ const CARRIED: [u8; 16] = [0, 0, 0, 0, 0, 0, 0, 0, 27, 27, 27, 27, 27, 27, 27, 2
 // The product of each byte with x.
 #[inline(always)]
 fn doubled(x: u8x16) -> u8x16
-    ensures { result ≡ map (product 2) x }
+    ensures { result ≡ map (byte_product 2) x }
 {
     (x + x) ^ shuffled(u8x16::from_array(CARRIED), x >> u8x16::splat(4))
 }
