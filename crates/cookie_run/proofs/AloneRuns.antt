@@ -21,20 +21,20 @@ use Rattle.cookie_store.specs.Rows.{Row, live}
 use Rattle.cookie_store.specs.SavedRows.{IsReread, IsWholeDeath}
 use Rattle.cookie_store.specs.declared.action.StoreAction.{StoreAction}
 use Rattle.cookie_store.proofs.ReadableLemmas.{IsUnrefuted, pair_reads}
-use Rattle.cookie_run.specs.Accept.{Accepts, AcceptsAll, text_end}
+use Rattle.cookie_client.specs.Accept.{Accepts, AcceptsAll, text_end}
 use Rattle.cookie_run.specs.Acts.{Act, Visits, Answers, Asks, Restarts}
 use Rattle.cookie_store.specs.Laws.{OneOrder}
-use Rattle.cookie_run.specs.Header.{IsHeader, header_of}
+use Rattle.cookie_client.specs.Header.{IsHeader, header_of}
 use Rattle.cookie_run.specs.Headline.{Each}
-use Rattle.cookie_run.specs.Keeping.{Keeps, HasReadPair, HaveReadPairs}
+use Rattle.cookie_client.specs.Keeping.{Keeps, HasReadPair, HaveReadPairs}
 use Rattle.cookie_run.specs.Play.{OneStep, Plays}
 use Rattle.cookie_run.specs.Strangers.{Concerns, IsOnly, IsNoExchange, HeaderAlone}
-use Rattle.cookie_run.specs.declared.step.LineEnd.{LineEnd}
-use Rattle.cookie_run.specs.declared.step.LineEnd.TheVariants.{NotText, HostPrefix}
+use Rattle.cookie_client.specs.declared.outcome.LineEnd.{LineEnd}
+use Rattle.cookie_client.specs.declared.outcome.LineEnd.TheVariants.{NotText, HostPrefix}
 use Rattle.cookie_run.specs.declared.step.Reading.{Reading}
 use Rattle.cookie_run.specs.declared.step.Reading.TheVariants.{Header}
-use Rattle.cookie_run.proofs.ClientRows.{kept_pairs, received_pairs}
-use Rattle.cookie_run.proofs.FromLines.{filter_all}
+use Rattle.cookie_client.proofs.ClientRows.{kept_pairs, received_pairs}
+use Rattle.cookie_client.proofs.ComingBack.{filter_all}
 use Rattle.cookie_text.proofs.PairsAgain.{prints_pair}
 
 either : (P : Type 0) → IsUnrefuted (P ⊎ (¬ P))

@@ -13,15 +13,17 @@ use Rattle.store_parts.specs.Expiry.{is_dead}
 use Rattle.cookie_store.specs.Rows.{Row, is_live}
 use Rattle.cookie_store.specs.Given.{pair_of}
 use Rattle.cookie_run.specs.Brought.{Matches, HoldsPair, live_under, SplitsInto, BringsSite}
-use Rattle.cookie_run.specs.Header.{IsHeader, header_of}
-use Rattle.cookie_run.specs.Hosts.{secure_host}
+use Rattle.cookie_client.specs.Header.{IsHeader, header_of}
+use Rattle.cookie_client.specs.Hosts.{secure_host}
 use Rattle.cookie_run.specs.Laws.{RowsAreTheSites}
 use Rattle.cookie_run.specs.Moments.{IsMoment}
 use Rattle.cookie_run.specs.Site.{Site, live_at, live_view}
-use Rattle.cookie_run.proofs.HeaderBack.{pair_at}
+use Rattle.cookie_client.proofs.HeaderBack.{pair_at}
 use Rattle.cookie_run.proofs.Kepts.{Kept, found_in, AreApart, all_filter, apart_filter}
-use Rattle.cookie_run.proofs.Longest.{all_longest, longest_own, own_short}
-use Rattle.cookie_run.proofs.OwnRows.{is_own, rows_of, IsRowOf, IsGoodKept, Agrees, walk}
+use Rattle.cookie_client.proofs.RowLists.{all_longest}
+use Rattle.cookie_run.proofs.Longest.{longest_own, own_short}
+use Rattle.cookie_client.proofs.CountedRows.{is_own, rows_of}
+use Rattle.cookie_run.proofs.OwnRows.{IsRowOf, IsGoodKept, Agrees, walk}
 use Rattle.cookie_run.proofs.Received.{alive}
 use Rattle.cookie_run.proofs.GivenRows.{lives, record_of, rooted, given_rows, all_rows, found_live, pairs_same}
 use Rattle.cookie_run.proofs.GivenRows.{IsUncounted}

@@ -6,8 +6,6 @@ use Rattle.std.specs.Str.{bytes_eq, IsUtf8}
 use Rattle.std.specs.FinMap as finmap
 use Rattle.std.proofs.lemmas.Bool.{cases_Bool, cond-true, cond-false}
 use Rattle.std.proofs.lemmas.Int.{ints}
-use Rattle.std.proofs.lemmas.Str.{IsUtf8-from_ascii}
-use Rattle.std.proofs.lemmas.Str.Ascii.{IsAscii-nil}
 use Rattle.jiff.specs.Types.{DateTime}
 use Rattle.jiff_core.specs.DateTime.{civil_nanos}
 use Rattle.jiff_core.specs.Timestamp.{IsDurationNanos}
@@ -18,28 +16,31 @@ use Rattle.cookie.specs.declared.delta.DeltaCookie.{DeltaCookie as Change}
 use Rattle.cookie.specs.declared.delta.DeltaCookie.TheVariants.{Removed}
 use Rattle.cookie.specs.ByName.{ByName}
 use Rattle.cookie.specs.Jar.{Jar, overlaid, view, with_change, without_change}
-use Rattle.cookie_run.specs.Jar.{Keyed, TakesOut, taken, value_in, record_in}
-use Rattle.cookie_run.specs.Site.{Entry, stored_name}
+use Rattle.cookie_client.specs.Jar.{Keyed, TakesOut, taken, value_in, record_in}
+use Rattle.cookie_run.specs.Site.{Entry}
+use Rattle.cookie_client.specs.Ways.{stored_name}
 use Rattle.cookie_run.specs.declared.step.Reading.{Reading}
 use Rattle.cookie_run.specs.declared.step.Reading.TheVariants.{Refused}
-use Rattle.cookie_run.specs.declared.step.SessionError.{SessionError}
-use Rattle.cookie_run.specs.declared.step.SessionError.TheVariants.{EmptyName, Year}
-use Rattle.cookie_run.specs.declared.step.Way.{Way}
-use Rattle.cookie_run.proofs.Sessions.{IsReadableJar, get_insert, get_remove, taken_readable, stored_named}
-use Rattle.cookie_run.proofs.Sessions.{named as sized}
+use Rattle.cookie_client.specs.declared.outcome.SessionError.{SessionError}
+use Rattle.cookie_client.specs.declared.outcome.SessionError.TheVariants.{EmptyName, Year}
+use Rattle.cookie_client.specs.declared.way.Way.{Way}
+use Rattle.cookie_client.proofs.Sessions.{IsReadableJar, get_insert, get_remove, taken_readable, stored_named}
+use Rattle.cookie_client.proofs.Sessions.{named as sized}
 use Rattle.cookie_run.specs.Brought.{Matches}
-use Rattle.cookie_run.proofs.Showing.{OnlyOne, Shows, GetIn, get_on, utf8_bytes, not_nil}
-use Rattle.cookie_run.proofs.Texts.{same_text, some_is_not_none}
+use Rattle.cookie_run.proofs.Showing.{OnlyOne, Shows, GetIn, get_on}
+use Rattle.cookie_client.proofs.SessionTexts.{utf8_bytes, not_nil}
+use Rattle.cookie_client.proofs.Texts.{same_text, some_is_not_none}
 use Rattle.cookie_run.specs.declared.step.Command.{Command}
 use Rattle.cookie_run.specs.declared.step.Command.TheVariants.{Set, Remove, Get}
 use Rattle.cookie_run.specs.Site.{Site, View, with_at, live_at, SetOn, RemoveOn, entry_of, left_by, left_by_all}
 use Rattle.cookie_run.specs.Play.{RemoveTells, CommandTells, Tells}
 use Rattle.cookie_run.proofs.Kepts.{Kept}
-use Rattle.cookie_run.proofs.OwnRows.{Counts}
+use Rattle.cookie_client.proofs.CountedRows.{Counts}
 use Rattle.cookie_run.proofs.Received.{alive}
 use Rattle.cookie_run.proofs.GivenRows.{record_of}
 use Rattle.cookie_run.proofs.Walking.{MatchesHeld, IsFitChange, AllFit, sent_at, Walks, alive_later, sent_cond}
 use Rattle.cookie_run.proofs.Walking.{live_cond, held_cond, insert_fit, set_walks}
+use Rattle.cookie_client.proofs.Texts.{nil_utf8}
 
 -- a removal in a play is never of a year below 100
 abbrev pub EndsLate : ℤ → Type 0
@@ -132,9 +133,6 @@ unchanged_walks counts key now d at old new seen left n after w none same is rea
       ∙ w.brought q c))))
       (w.leaves q c);
 }
-
-pub nil_utf8 : IsUtf8 []
-nil_utf8 = IsUtf8-from_ascii [] IsAscii-nil
 
 removal_fit : (way : Way) (name : List ℕ) (r : Seen) (moment : DateTime) → stored_name way name ≢ []
     → IsUtf8 (stored_name way name) → MakesRemoval (taken way name) moment r → IsFitChange (Removed r)

@@ -21,28 +21,31 @@ use Rattle.store_parts.specs.DomainMatch.{suffix}
 use Rattle.store_parts.specs.DomainText.{read_domain}
 use Rattle.store_parts.specs.Expiry.{epoch, is_dead}
 use Rattle.cookie_run.specs.Acts.{Arrival, Arrives, Never}
-use Rattle.cookie_run.specs.Hosts.{secure_host}
-use Rattle.cookie_run.specs.Jar.{Keyed, record_in}
+use Rattle.cookie_client.specs.Hosts.{secure_host}
+use Rattle.cookie_client.specs.Jar.{Keyed, record_in}
 use Rattle.cookie_run.specs.declared.step.Reading.{Reading}
 use Rattle.cookie_run.proofs.Records.{found_in as found_record, lacks as lacks_record, AreApart as RecordsApart}
-use Rattle.cookie_run.proofs.Sessions.{IsReadableJar, each_of_names, of_change}
-use Rattle.cookie_run.proofs.Showing.{ReadingBack, OnlyOne, records, lines_are, found_records, apart_records}
+use Rattle.cookie_client.proofs.Sessions.{IsReadableJar, each_of_names, of_change}
+use Rattle.cookie_client.proofs.SessionTexts.{ReadingBack}
+use Rattle.cookie_run.proofs.Showing.{OnlyOne, records, lines_are, found_records, apart_records}
 use Rattle.cookie_run.proofs.Showing.{all_records}
-use Rattle.cookie_run.proofs.Texts.{same_text}
+use Rattle.cookie_client.proofs.Texts.{same_text}
 use Rattle.cookie_store.specs.Rows.{Row}
-use Rattle.cookie_run.specs.Accept.{AcceptsAll}
+use Rattle.cookie_client.specs.Accept.{AcceptsAll}
 use Rattle.cookie_text.specs.Again.{PairsReadAgain, TextsGivePairs}
-use Rattle.cookie_run.specs.declared.step.LineEnd.{LineEnd}
-use Rattle.cookie_run.specs.Header.{IsHeader}
+use Rattle.cookie_client.specs.declared.outcome.LineEnd.{LineEnd}
+use Rattle.cookie_client.specs.Header.{IsHeader}
 use Rattle.cookie_run.specs.declared.step.Command.{Command}
 use Rattle.cookie_run.specs.Site.{Site, View, live_at, live_view, left_by_all, after_arrival}
-use Rattle.cookie_run.specs.Keeping.{HaveReadPairs}
+use Rattle.cookie_client.specs.Keeping.{HaveReadPairs}
 use Rattle.cookie_run.specs.Play.{Serves, Delivers}
 use Rattle.cookie_run.proofs.ActMoments.{end_moment}
 use Rattle.cookie_run.proofs.Kepts.{Kept, found_in}
-use Rattle.cookie_run.proofs.OwnRows.{Counts, Agrees}
+use Rattle.cookie_client.proofs.CountedRows.{Counts}
+use Rattle.cookie_run.proofs.OwnRows.{Agrees}
 use Rattle.cookie_run.proofs.Received.{alive, Writes}
-use Rattle.cookie_run.proofs.Lines.{IsClosed, IsTime, kept_of, own_line}
+use Rattle.cookie_client.proofs.Lines.{IsClosed}
+use Rattle.cookie_run.proofs.Lines.{IsTime, kept_of, own_line}
 use Rattle.cookie_run.proofs.GivenRows.{header_last}
 use Rattle.cookie_run.proofs.Walking.{MatchesHeld, brings, IsFitChange, AllFit, sent_at, Walks, opened_walks}
 use Rattle.cookie_run.proofs.Walking.{matches_later}

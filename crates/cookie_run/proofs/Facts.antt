@@ -8,17 +8,18 @@ use Rattle.cookie_text.specs.declared.expiration.Expiration.TheVariants.{Session
 use Rattle.cookie_text.specs.Pieces.{name_of, text_after, value_of}
 use Rattle.cookie_text.specs.Printing.{encoded, escaped}
 use Rattle.cookie_text.specs.Record.{Record, bare, unsliced}
-use Rattle.cookie_run.specs.Jar.{sent}
-use Rattle.cookie_run.proofs.HeaderCookies.{cookies_of}
-use Rattle.cookie_run.specs.Header.{header_of}
-use Rattle.cookie_run.specs.declared.step.Way.TheVariants.{Plain, Host, Sealed}
+use Rattle.cookie_client.specs.Jar.{sent}
+use Rattle.cookie_client.proofs.HeaderCookies.{cookies_of}
+use Rattle.cookie_client.specs.Header.{header_of}
+use Rattle.cookie_client.specs.declared.way.Way.TheVariants.{Plain, Host, Sealed}
 use Rattle.cookie_run.specs.declared.step.Reading.{Reading}
 use Rattle.cookie_run.specs.declared.step.Reading.TheVariants.{Value, Refused}
-use Rattle.cookie_run.specs.declared.step.SessionError.TheVariants.{EmptyName}
+use Rattle.cookie_client.specs.declared.outcome.SessionError.TheVariants.{EmptyName}
 use Rattle.cookie_run.specs.declared.step.Command.{Command}
 use Rattle.cookie_run.specs.declared.step.Command.TheVariants.{Set}
-use Rattle.cookie_run.specs.Site as kinds
-use Rattle.cookie_run.specs.Site.{View, with_at, stored_name, set_refusal, SetOn, GetOn}
+use Rattle.cookie_client.specs.Ways as kinds
+use Rattle.cookie_run.specs.Site.{View, with_at, SetOn, GetOn}
+use Rattle.cookie_client.specs.Ways.{stored_name, set_refusal}
 
 -- ---- what is sent
 

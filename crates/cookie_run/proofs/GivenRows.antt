@@ -16,25 +16,29 @@ use Rattle.cookie_text.specs.Record.{Record, bare}
 use Rattle.store_parts.specs.DomainMatch.{suffix, Covers, CoversAt}
 use Rattle.store_parts.specs.DomainText.{read_domain}
 use Rattle.store_parts.specs.PathMatch.{PathMatchesAt}
-use Rattle.cookie_run.specs.Hosts.{secure_host}
+use Rattle.cookie_client.specs.Hosts.{secure_host}
 use Rattle.store_parts.specs.Schemes.{host_of}
-use Rattle.cookie_run.specs.Jar.{last_in}
-use Rattle.cookie_run.specs.Keeping.{HasReadPair, HaveReadPairs}
-use Rattle.cookie_run.proofs.HeaderCookies.{cookie_of, cookies_of}
-use Rattle.cookie_run.proofs.HeaderBack.{pair_at, IsRead, texts_of, header_back, cookie_named, passed_over}
-use Rattle.cookie_run.proofs.ReadBack.{led, cookie_of_led}
-use Rattle.cookie_run.proofs.Showing.{or_none}
-use Rattle.cookie_run.proofs.Texts.{same_text, other_text, some_is_not_none}
+use Rattle.cookie_client.specs.Jar.{last_in}
+use Rattle.cookie_client.specs.Keeping.{HasReadPair, HaveReadPairs}
+use Rattle.cookie_client.proofs.HeaderCookies.{cookie_of, cookies_of}
+use Rattle.cookie_client.proofs.HeaderBack.{pair_at, IsRead, texts_of, header_back, cookie_named, passed_over}
+use Rattle.cookie_client.proofs.ReadBack.{led}
+use Rattle.cookie_run.proofs.ReadBack.{cookie_of_led}
+use Rattle.cookie_client.proofs.SessionTexts.{or_none}
+use Rattle.cookie_client.proofs.Texts.{same_text, other_text, some_is_not_none}
 use Rattle.cookie_store.specs.Rows.{Row}
-use Rattle.cookie_store.specs.Given.{IsGiven, AreGiven, ArePicked, pair_of}
+use Rattle.cookie_store.specs.Given.{IsGiven, AreGiven, pair_of}
 use Rattle.store_parts.specs.Expiry.{is_dead}
-use Rattle.cookie_run.specs.Header.{IsHeader, pair_text}
-use Rattle.cookie_run.proofs.Longest.{all_longest, longest_own, own_short}
+use Rattle.cookie_client.specs.Header.{IsHeader, pair_text}
+use Rattle.cookie_client.proofs.RowLists.{all_longest}
+use Rattle.cookie_run.proofs.Longest.{longest_own, own_short}
 use Rattle.cookie_run.proofs.Kepts.{Kept, found_in, AreApart, pass, found_filter, all_filter}
-use Rattle.cookie_run.proofs.OwnRows.{Counts, is_counted, is_own, rows_of, own_text, IsRowOf, IsGoodKept, IsOther}
+use Rattle.cookie_client.proofs.CountedRows.{Counts, is_counted, is_own, rows_of}
+use Rattle.cookie_run.proofs.OwnRows.{own_text, IsRowOf, IsGoodKept, IsOther}
 use Rattle.cookie_run.proofs.OwnRows.{Agrees, walk}
 use Rattle.cookie_run.proofs.Received.{alive}
-use Rattle.cookie_run.proofs.Lines.{https_of, is_http}
+use Rattle.cookie_client.proofs.Lines.{https_of, is_http}
+use Rattle.cookie_client.proofs.RowLists.{picked_all}
 
 -- ---- the URL of a request
 
@@ -186,14 +190,6 @@ all_rows counts host (r ∷ rs) all h =
     (λ (other : is_own counts host r ≡ false). absurd
     (both_ways _ (h.0 other) (all (percent_decode r.raw.cookie.name))))
     (cases_Bool (is_own counts host r))
-
-pub picked_all : (P Is : Row → Type 0) (rows picked : List Row) → AllByRecursion P rows → ArePicked Is rows picked
-    → AllByRecursion P picked
-picked_all P Is [] picked all p = subst (AllByRecursion P) (sym p) tt
-picked_all P Is (r ∷ rs) picked all (later, p, inl is) =
-    subst (AllByRecursion P) (sym is.1) (all.0, picked_all P Is rs later all.1 p)
-picked_all P Is (r ∷ rs) picked all (later, p, inr is) =
-    subst (AllByRecursion P) (sym is.1) (picked_all P Is rs later all.1 p)
 
 -- ---- the header
 

@@ -8,26 +8,26 @@ use Rattle.std.proofs.lemmas.Bool.Decides.{nat_tests}
 use Rattle.url.specs.Parts.{Parts}
 use Rattle.std.specs.List.{AllByRecursion}
 use Rattle.cookie_text.specs.Record.{Seen}
-use Rattle.cookie_run.specs.declared.step.Way.{Way}
-use Rattle.cookie_run.specs.declared.step.Way.TheVariants.{Plain, Host, Secure, Signed, Sealed}
-use Rattle.cookie_run.specs.declared.step.SessionError.{SessionError}
-use Rattle.cookie_run.specs.declared.step.SessionError.TheVariants as refusals
+use Rattle.cookie_client.specs.declared.way.Way.{Way}
+use Rattle.cookie_client.specs.declared.way.Way.TheVariants.{Plain, Host, Secure, Signed, Sealed}
+use Rattle.cookie_client.specs.declared.outcome.SessionError.{SessionError}
+use Rattle.cookie_client.specs.declared.outcome.SessionError.TheVariants as refusals
 use Rattle.cookie.specs.KeyRing.{Ring, kept, rotated}
-use Rattle.cookie_run.specs.Jar.{ClosesWith, IsRemovalRefusal}
+use Rattle.cookie_client.specs.Jar.{ClosesWith, IsRemovalRefusal}
 use Rattle.cookie_run.specs.RingDrawn.{RingPlaysBy}
 use Rattle.cookie_run.specs.RingPlay.{Answers, RingAct, RingCommand, RingReading, Rotates, Visits, Set, SetUntil}
-use Rattle.cookie_run.specs.RingPlay.{Remove, Get, GetUntil, all_told}
-use Rattle.cookie_run.specs.RingSession.{RefusesUntil}
-use Rattle.cookie_run.specs.declared.ending.EndingWay.{EndingWay}
-use Rattle.cookie_run.specs.declared.ending.EndingWay.TheVariants as ends
+use Rattle.cookie_run.specs.RingPlay.{Remove, Get, GetUntil, all_read}
+use Rattle.cookie_client.specs.RingSession.{RefusesUntil}
+use Rattle.cookie_client.specs.declared.ending.EndingWay.{EndingWay}
+use Rattle.cookie_client.specs.declared.ending.EndingWay.TheVariants as ends
 use Rattle.cookie_run.specs.Moments.{second_1971}
 use Rattle.jiff.specs.Types.{DateTime}
 use Rattle.jiff.specs.Words.{civil_nanos}
 use Rattle.cookie_text.specs.Record.{bare, unsliced}
 use Rattle.std.proofs.lemmas.Option.{same_Some}
 use Rattle.cookie_run.proofs.Removals.{removal_late}
-use Rattle.cookie_run.specs.Accept.{IsStopped}
-use Rattle.cookie_run.specs.Site.{Refuses, set_refusal}
+use Rattle.cookie_client.specs.Accept.{IsStopped}
+use Rattle.cookie_client.specs.Ways.{Refuses, set_refusal}
 use Rattle.cookie_run.specs.Acts.{Arrives, Never}
 use Rattle.cookie_run.specs.Drawn.{Draw, DrawsSo}
 use Rattle.cookie_run.specs.ScriptLine as spec
@@ -72,10 +72,10 @@ prints_at : (drawn : List Draw) (list : List Rule) (first : Ring) (start : List 
     → (s : Stands drawn list first start (reached acts turned m now) ring rows last visit output)
     → (all : List (List RingReading))
     × RingPlaysBy (s.done ++ s.here) list first start (acts ++ left_open now) all ring rows
-    × AllByRecursion IsAnswered (all_told all) × (output ≡ readings_text (all_told all))
+    × AllByRecursion IsAnswered (all_read all) × (output ≡ readings_text (all_read all))
 prints_at drawn list first start ring rows acts turned m Closed last None output s =
-    let alone : all_told s.told ++ s.front ≡ all_told s.told = ap (λ x. all_told s.told ++ x) s.is_open.0
-    ∙ append-nil (all_told s.told) in
+    let alone : all_read s.told ++ s.front ≡ all_read s.told = ap (λ x. all_read s.told ++ x) s.is_open.0
+    ∙ append-nil (all_read s.told) in
     let same : s.done ++ s.here ≡ s.done = ap (λ ds. s.done ++ ds) s.is_open.1 ∙ draws_nil s.done in (
       s.told,
       subst (λ ds. RingPlaysBy ds list first start (acts ++ []) s.told ring rows) (sym same)
@@ -516,8 +516,8 @@ half_receive_at drawn list first start ring rows new acts turned m Closed last N
         s.draws ∙ ap (λ ds. s.done ++ ds) s.is_open.1,
         s.plays,
         (refl, (n, stopped), refl),
-        subst (λ f. AllByRecursion IsAnswered (all_told s.told ++ f)) s.is_open.0 s.answered,
-        s.prints ∙ ap (λ f. readings_text (all_told s.told ++ f)) s.is_open.0,
+        subst (λ f. AllByRecursion IsAnswered (all_read s.told ++ f)) s.is_open.0 s.answered,
+        s.prints ∙ ap (λ f. readings_text (all_read s.told ++ f)) s.is_open.0,
       ),
     )
 half_receive_at drawn list first start ring rows new acts turned m Closed last (Some v) output url answer n at s none

@@ -17,13 +17,13 @@ use Rattle.cookie_run.specs.Acts.{Act, Visits, Answers, Asks, Restarts, Arrives}
 use Rattle.cookie_run.specs.Headline.{AnswersBySessions, AnswersApart, Each}
 use Rattle.cookie_run.specs.HostHeadline.{IsHostSite, SecureAnswersBySessions}
 use Rattle.cookie_run.specs.HostLines.{IsHostSetter, NamesHost}
-use Rattle.cookie_run.specs.HostPrefix.{IsAgainstHost}
-use Rattle.cookie_run.specs.Hosts.{secure_host}
+use Rattle.cookie_client.specs.HostPrefix.{IsAgainstHost}
+use Rattle.cookie_client.specs.Hosts.{secure_host}
 use Rattle.cookie_run.specs.declared.step.Command.{Command}
 use Rattle.cookie_run.proofs.Example.{shop, list, own_form, no_empty_label}
-use Rattle.cookie_run.proofs.Lines.{https_of}
+use Rattle.cookie_client.proofs.Lines.{https_of}
 use Rattle.cookie_run.proofs.RelatedFacts.{below, at_host, shop_reached, shop_unlisted}
-use Rattle.cookie_run.proofs.Texts.{some_is_not_none}
+use Rattle.cookie_client.proofs.Texts.{some_is_not_none}
 
 abbrev over_http : List ℕ → Parts
 over_http host = record (at_host host) { scheme = codes "http" }

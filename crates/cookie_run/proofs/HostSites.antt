@@ -2,7 +2,6 @@
 use Rattle.std.proofs.Common.{◌≡◌, ◌⊎◌, ℕ, ℤ, true, false, List, [], ◌∷◌, ◌++◌, take, drop, sym, ap, ◌∙◌, inl, inr}
 use Rattle.std.proofs.Common.{Some, ⊎_elim}
 use Rattle.std.specs.List.{AllByRecursion}
-use Rattle.std.specs.Str.{bytes_eq}
 use Rattle.std.proofs.lemmas.Bool.{cases_Bool}
 use Rattle.url.specs.Parts.{Parts}
 use Rattle.std.proofs.lemmas.List.{take-append-drop}
@@ -16,29 +15,25 @@ use Rattle.cookie_run.specs.HostHeadline.{IsHostSite, SecureAnswersBySessions, H
 use Rattle.cookie_run.specs.HostHeadline.{EachReadsByHost, HostsReadTheirOwn, HostsReadTheirOwnUntil}
 use Rattle.cookie_run.specs.HostLines.{NamesHost, SetsHostBySessions, IsHostSetter, SettersReadTheirOwn}
 use Rattle.cookie_run.specs.HostLines.{SettersReadTheirOwnUntil}
-use Rattle.cookie_run.specs.Hosts.{secure_host}
-use Rattle.cookie_run.specs.HostPrefix.{BeginsHost}
+use Rattle.cookie_client.specs.Hosts.{secure_host}
+use Rattle.cookie_client.specs.HostPrefix.{BeginsHost}
 use Rattle.cookie_run.specs.Laws.{EachPlayIsReadByHost, EachStoppedPlayIsReadByHost}
 use Rattle.cookie_run.specs.Laws.{EachPlayIsReadBySetters, EachStoppedPlayIsReadBySetters}
 use Rattle.cookie_run.specs.Moments.{IsMoment, AllFollow, last_of, the_beginning}
 use Rattle.cookie_run.specs.Play.{Plays}
 use Rattle.cookie_run.specs.Readings.{all_told}
-use Rattle.cookie_run.specs.Site.{Site, nothing, stored_name}
+use Rattle.cookie_run.specs.Site.{Site, nothing}
+use Rattle.cookie_client.specs.Ways.{stored_name}
 use Rattle.cookie_run.specs.declared.step.FaultKind.{FaultKind}
 use Rattle.cookie_run.specs.declared.step.Reading.{Reading}
 use Rattle.cookie_run.proofs.Commands.{Told, EndsLate}
 use Rattle.cookie_run.proofs.Exchange.{Laws, SiteAgrees}
 use Rattle.cookie_run.proofs.FromLines.{line_pairs, plays_from}
 use Rattle.cookie_run.proofs.Lines.{ReadsUncounted, AreAway}
-use Rattle.cookie_run.proofs.OwnRows.{Counts}
-use Rattle.cookie_run.proofs.Showing.{is_text, host_is, other_host}
+use Rattle.cookie_client.proofs.SessionTexts.{is_text, host_is, other_host}
 use Rattle.cookie_run.proofs.Sites.{AnswersAway, each_leads, begins, reads_back, act_stops, front_inside, plays_answer}
-use Rattle.cookie_run.proofs.Texts.{same_text}
-
--- ---- the names that begin with `__Host-`
-
-abbrev pub begins_host : Counts
-begins_host name = bytes_eq (take 7 name) host_text
+use Rattle.cookie_client.proofs.Texts.{same_text}
+use Rattle.cookie_client.proofs.HostRows.{begins_host}
 
 front_is : (name : List ℕ) → begins_host name ≡ true → HasHostPrefix name
 front_is name e = (

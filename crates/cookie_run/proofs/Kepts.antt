@@ -6,7 +6,7 @@ use Rattle.std.specs.List.{filter, AllByRecursion}
 use Rattle.std.specs.Str.{bytes_eq}
 use Rattle.std.proofs.lemmas.Bool.{cases_Bool, cond-true, cond-false}
 use Rattle.cookie.specs.ByName.{HaveOwnNames as EntriesApart, value_in as entry_in}
-use Rattle.cookie_run.proofs.Texts.{same_text, turned, some_is_not_none}
+use Rattle.cookie_client.proofs.Texts.{same_text, turned, some_is_not_none}
 
 -- a name and a value, and when they end
 pub record Kept : Type 0 where

@@ -1,15 +1,7 @@
-pub mod HeaderCookies
-pub mod ReadPairs
-pub mod PutCookies
-pub mod Escaped
 pub mod ReadBack
-pub mod HeaderBack
-pub mod Texts
-pub mod Sessions
 pub mod Records
 pub mod Showing
 pub mod Kepts
-pub mod LetIn
 pub mod OwnRows
 pub mod Received
 pub mod Lines
@@ -17,14 +9,6 @@ pub mod Longest
 pub mod GivenRows
 pub mod Walking
 pub mod Commands
-pub mod Sending
-pub mod EndingKeys
-pub mod EndingTexts
-pub mod EndingReads
-pub mod EndingDates
-pub mod EndingBack
-pub mod RingSessions
-pub mod PlainSetLemmas
 pub mod RingPlainLemmas
 pub mod RingGiven
 pub mod RingTexts
@@ -42,15 +26,9 @@ pub mod RingSites
 pub mod EndingDeaths
 pub mod RingOfOneLemmas
 pub mod Brought
-pub mod Confined
-pub mod SentLines
-pub mod Receiving
-pub mod Refusals
-pub mod SeenPrefixes
 pub mod Runs
 pub mod DrawnRuns
 pub mod RingDrawnRuns
-pub mod Headers
 pub mod ScriptLines
 pub mod ScriptRings
 pub mod ScriptNumbers
@@ -58,7 +36,6 @@ pub mod Shown
 pub mod MomentText
 pub mod Calendar
 pub mod Ends
-pub mod ReadCode
 pub mod OpenCode
 pub mod ScriptDates
 pub mod ScriptEndings
@@ -68,11 +45,9 @@ pub mod ScriptRun
 pub mod ScriptAgrees
 pub mod ProgramFacts
 pub mod Following
-pub mod ReadOnce
 pub mod Picks
 pub mod Tried
-pub mod ClientRows
-pub mod RowsKept
+pub mod Sound
 pub mod AloneRuns
 pub mod Strangers
 pub mod Untouched
@@ -85,5 +60,4 @@ mod HostFacts
 mod ScriptFacts
 mod VisitFacts
 pub mod HostRows
-pub mod HeldCopies
 pub mod MappedSteps

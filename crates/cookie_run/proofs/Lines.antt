@@ -1,88 +1,54 @@
 -- What becomes of the rows under a host when a line comes: one of its own sessions, or one from elsewhere.
 use Rattle.std.proofs.Common.{◌≡◌, ◌≢◌, ◌⊎◌, ℕ, ℤ, ◌≤ℤ◌, pos, ◌*ℤ◌, ◌+ℤ◌, Bool, true, false, cond, List, [], ◌∷◌, sym}
 use Rattle.std.proofs.Common.{refl, ap, ◌∙◌, subst, ⊎_elim, inl, inr, Option, Some, None, Result, Ok, Err, arith}
-use Rattle.std.specs.Prelude.{option_map, option_and_then, unwrap_or, codes, IfSome, IsSomeAnd, int_lt, ◌&&◌, ◌||◌}
-use Rattle.std.specs.Prelude.{is_none}
+use Rattle.std.specs.Prelude.{option_map, unwrap_or, codes, IfSome, IsSomeAnd, int_lt}
 use Rattle.std.specs.Int.{int_min}
 use Rattle.std.specs.List.{AllByRecursion}
 use Rattle.std.specs.Str.{bytes_eq, IsUtf8}
-use Rattle.std.proofs.lemmas.Bool.{cases_Bool, cond-true, cond-false, both_ways}
+use Rattle.std.proofs.lemmas.Bool.{cases_Bool, both_ways}
 use Rattle.jiff.proofs.SpanFacts.{signed_arith}
 use Rattle.jiff.specs.Types.{DateTime}
 use Rattle.jiff.specs.Words.{civil_nanos, civil_seconds}
 use Rattle.jiff.proofs.Family.{civil_nanos-civil_seconds}
-use Rattle.jiff_core.specs.Timestamp.{IsDurationNanos}
 use Rattle.percent_encoding.specs.Percent.{percent_decode}
 use Rattle.url.specs.Parts.{Parts}
 use Rattle.cookie_text.specs.declared.error.ParseError.{ParseError}
 use Rattle.cookie_text.specs.declared.expiration.Expiration.{Expiration}
 use Rattle.cookie_text.specs.declared.expiration.Expiration.TheVariants.{DateTime as At, Session}
-use Rattle.cookie_text.specs.Normal.{normal, kept, IsReadable, not_below_zero, whole_end, whole_moment}
-use Rattle.cookie_text.specs.Printing.{encoded, encoded_pair, is_set, is_unrestricted, prints_secure, whole_seconds}
+use Rattle.cookie_text.specs.Normal.{normal, not_below_zero, whole_end, whole_moment}
+use Rattle.cookie_text.specs.Printing.{encoded, whole_seconds}
 use Rattle.cookie_text.specs.Reading.{ReadsPlain}
 use Rattle.cookie_text.specs.ReadingBack.{ReadsBack}
-use Rattle.cookie_text.specs.Record.{Record, Seen, unsliced, without_dot, moment_of, domain_of as domain_attribute}
+use Rattle.cookie_text.specs.Record.{Record, Seen, unsliced, moment_of}
 use Rattle.publicsuffix.specs.Prevailing.{Listed}
 use Rattle.publicsuffix.specs.Rules.{Rule}
-use Rattle.store_parts.specs.DomainMatch.{Domain, host_only, suffix, not_present, text_of, Covers, CoversAt}
+use Rattle.store_parts.specs.DomainMatch.{Domain, host_only, suffix, text_of, Covers, CoversAt}
 use Rattle.store_parts.specs.DomainMatch.{DomainMatches, IsListedIn}
 use Rattle.store_parts.specs.DomainText.{attribute_domain, idna_form, suffix_or_empty}
 use Rattle.store_parts.specs.Expiry.{death, latest, expiry_after}
-use Rattle.store_parts.specs.PathMatch.{default_path_at, read_path}
-use Rattle.store_parts.specs.Schemes.{IsHttpScheme}
 use Rattle.store_parts.specs.declared.error.CookieError.{CookieError}
-use Rattle.store_parts.specs.declared.error.CookieError.TheVariants.{NonHttpScheme, NonRelativeScheme, DomainMismatch}
-use Rattle.store_parts.specs.declared.error.CookieError.TheVariants.{Expired, Parse, PublicSuffix, UnspecifiedDomain}
-use Rattle.store_parts.specs.declared.error.CookieError.TheVariants.{OutOfMemory}
 use Rattle.cookie_store.specs.Making.{IsMade, IsRefused, IsDomainFor, asked_domain, path_at}
-use Rattle.cookie_run.specs.Hosts.{secure_host}
+use Rattle.cookie_client.specs.Hosts.{secure_host}
 use Rattle.store_parts.specs.Schemes.{host_of}
-use Rattle.cookie_run.proofs.ReadBack.{IsGood}
-use Rattle.cookie_run.proofs.Showing.{ReadingBack}
-use Rattle.cookie_run.proofs.Texts.{same_text, some_is_not_none}
+use Rattle.cookie_client.proofs.ReadBack.{IsGood}
+use Rattle.cookie_client.proofs.SessionTexts.{ReadingBack}
+use Rattle.cookie_client.proofs.Texts.{same_text, some_is_not_none}
 use Rattle.cookie_store.specs.Rows.{Row, domain_text}
 use Rattle.cookie_store.specs.Insertion.{End, Fits, Admits, Inserts, InsertsRead}
 use Rattle.cookie_store.specs.declared.action.StoreAction.{StoreAction}
-use Rattle.cookie_run.specs.Accept.{Accepts, AcceptsAll}
-use Rattle.cookie_run.specs.declared.step.LineEnd.{LineEnd}
+use Rattle.cookie_client.specs.Accept.{Accepts, AcceptsAll}
+use Rattle.cookie_client.specs.declared.outcome.LineEnd.{LineEnd}
 use Rattle.cookie_run.specs.Headline.{IsApartFrom}
 use Rattle.cookie.specs.Prefix.{IsHost}
-use Rattle.cookie_run.specs.HostPrefix.{BeginsHost, IsAgainstHost}
+use Rattle.cookie_client.specs.HostPrefix.{BeginsHost}
 use Rattle.cookie_run.proofs.Kepts.{Kept}
-use Rattle.cookie_run.proofs.LetIn.{free_conforms}
-use Rattle.cookie_run.proofs.OwnRows.{Counts, is_counted, is_own, root, IsRowOf, IsGoodKept, IsWholeSecond}
+use Rattle.cookie_client.proofs.LetIn.{free_conforms}
+use Rattle.cookie_client.proofs.CountedRows.{Counts, is_counted, is_own}
+use Rattle.cookie_run.proofs.OwnRows.{IsRowOf, IsGoodKept, IsWholeSecond}
 use Rattle.cookie_run.proofs.OwnRows.{Agrees, first_and}
 use Rattle.cookie_run.proofs.Received.{Writes, sent_writes, settled_keeps, second_and}
-
--- ---- https
-
-pub https_of : (host : List ℕ) (url : Parts) → secure_host url ≡ Some host → (url.scheme ≡ codes "https")
-    × (host_of url ≡ Some host)
-https_of host url e =
-    ⊎_elim
-    (λ (s : bytes_eq url.scheme (codes "https") ≡ true). (
-      same_text url.scheme (codes "https") s,
-      sym
-          (cond-true _ _ _ s) ∙ e,
-    ))
-    (λ (s : bytes_eq url.scheme (codes "https") ≡ false). absurd (some_is_not_none host (sym e ∙ cond-false _ _ _ s)))
-    (cases_Bool (bytes_eq url.scheme (codes "https")))
-
-pub is_http : (host : List ℕ) (url : Parts) → secure_host url ≡ Some host → IsHttpScheme url
-is_http host url e = (codes "s", (https_of host url e).0)
-
--- ---- a cookie that a session closes with
-
-pub record IsSent (c : Record) : Type 0 where
-  pub secure : c.secure ≡ Some true
-  pub path : c.path ≡ Some (codes "/")
-  pub domain : c.domain ≡ None
-  pub age : IfSome c.max_age IsDurationNanos
-
-pub record IsClosed (c : Record) : Type 0 where
-  pub good : IsGood c
-  pub is_sent : IsSent c
-  pub readable : IsReadable c
+use Rattle.cookie_client.proofs.Lines.{https_of, is_http, IsClosed, read_as, not_refused, path_is, some_domain}
+use Rattle.cookie_client.proofs.Lines.{domain_is, not_against}
 
 -- what the row of its line holds
 abbrev pub kept_of : ℤ → Record → Kept
@@ -142,41 +108,6 @@ death_whole c now (Some n) e h = subst
     (record (normal c) { max_age = option_map (λ nanos. not_below_zero (whole_seconds nanos) *ℤ pos 1_000_000_000) o })
     now) IsWholeSecond) (sym e)
     (age_whole (not_below_zero (whole_seconds n) *ℤ pos 1_000_000_000) now (not_below_zero (whole_seconds n), refl) h)
-
--- ---- nothing is against its line
-
-abbrev pub read_as : Record → Record
-read_as c = normal (encoded_pair c)
-
-pub asks_none : (c : Record) → c.domain ≡ None → asked_domain (read_as c) ≡ Some not_present
-asks_none c e = ap (λ o. attribute_domain (option_map without_dot (option_map without_dot o))) e
-
-pub not_refused : (host : List ℕ) (url : Parts) (c : Record) (cause : CookieError) → secure_host url ≡ Some host
-    → c.domain ≡ None → cause ≢ OutOfMemory → IsRefused (read_as c) url cause → ⊥
-not_refused host url c NonHttpScheme secure none mem h = h.1 (is_http host url secure)
-not_refused host url c Parse secure none mem h = some_is_not_none not_present (sym (asks_none c none) ∙ h.1)
-not_refused host url c DomainMismatch secure none mem h = let g = subst
-    (λ o. IsSomeAnd o (λ asked. ((text : List ℕ) × (asked ≡ suffix text)) × (¬ (CoversAt asked url))))
-    (asks_none c none) h.1 in let wrong : not_present ≡ suffix g.0.0 = g.0.1 in absurd (cc)
-not_refused host url c NonRelativeScheme secure none mem h = some_is_not_none host (sym (https_of host url secure).1
-    ∙ h.1.1)
-not_refused host url c OutOfMemory secure none mem h = mem refl
-not_refused host url c Expired secure none mem h = h.1
-not_refused host url c PublicSuffix secure none mem h = h.1
-not_refused host url c UnspecifiedDomain secure none mem h = h.1
-
-pub path_is : (c : Record) (url : Parts) → c.path ≡ Some (codes "/") → path_at (read_as c) url ≡ root
-path_is c url e = ap (λ o. unwrap_or (option_and_then read_path o) (default_path_at url)) e
-
-pub some_domain : (d e : Domain) → Some d ≡ Some e → d ≡ e
-some_domain d e h = cc
-
-pub domain_is : (host : List ℕ) (url : Parts) (c : Record) (d : Domain) → secure_host url ≡ Some host → c.domain ≡ None
-    → IsSomeAnd (asked_domain (read_as c)) (λ asked. IsDomainFor asked url d) → d ≡ host_only host
-domain_is host url c d secure none h =
-    let g : option_map host_only (host_of url) ≡ Some d = subst (λ o. IsSomeAnd o (λ asked. IsDomainFor asked url d))
-    (asks_none c none) h in
-    sym (some_domain (host_only host) d (sym (ap (option_map host_only) (https_of host url secure).1) ∙ g))
 
 pub row_is : (host : List ℕ) (url : Parts) (now : ℤ) (c : Record) (s : Seen) (made : Row) → secure_host url ≡ Some host
     → IsWholeSecond now → IsClosed c → ReadsPlain (encoded c) (Ok s) → s.cookie ≡ read_as c
@@ -258,23 +189,6 @@ read_writes counts list host url now c rows ks end new (Ok s) secure time closed
     inserts_writes counts list host url now (kept_of now c) made.0 rows ks end new secure time
     (row_is host url now c s made.0 secure time.whole closed reads back.normal made.1) (good_kept now c closed.good)
     a made.2
-
--- it conforms to the prefix `__Host-`
-pub not_against : (law : ReadingBack) (host : List ℕ) (url : Parts) (c : Record) → secure_host url ≡ Some host
-    → IsSent c → IsReadable c → ¬ (IsAgainstHost url (encoded c))
-not_against law host url c secure sent readable against =
-    let (seen, reads, breaks) = against.1 in
-    let same : seen.cookie ≡ read_as c = (law c readable sent.age (Ok seen) reads).normal in
-    let flag : prints_secure (encoded_pair c) ≡ true =
-    ap (λ o. is_set o || is_set c.partitioned || (is_unrestricted c.same_site && is_none o)) sent.secure in
-    breaks.1 (
-      record {
-        secure = ap (λ (r : Record). r.secure) same ∙ ap kept flag;
-        path = ap (λ (r : Record). r.path) same ∙ sent.path;
-        domain = ap domain_attribute same ∙ ap (λ o. option_map without_dot (option_map without_dot o)) sent.domain;
-      },
-      (https_of host url secure).0,
-    )
 
 -- it writes what it sends
 pub own_line : (counts : Counts) (law : ReadingBack) (utf8 : (c : Record) → IsClosed c → IsUtf8 (encoded c))

@@ -4,20 +4,16 @@ use Rattle.std.proofs.Common.{subst}
 use Rattle.std.specs.Prelude.{filter}
 use Rattle.std.specs.List.{AllByRecursion}
 use Rattle.std.proofs.lemmas.Bool.{cases_Bool, cond-true, cond-false, both_ways, eq-eqb}
-use Rattle.std.proofs.lemmas.List.Elements.{All-from_recursion, recursion_from_All}
-use Rattle.std.proofs.lemmas.List.Sorted.{All-permutation, IsPermutation-refl}
+use Rattle.std.proofs.lemmas.List.Sorted.{IsPermutation-refl}
 use Rattle.cookie_store.specs.Laws.{OneOrder}
 use Rattle.cookie_store.specs.Longest.{AreLongestFirst, path_length, has_length}
 use Rattle.cookie_store.specs.Rows.{Row}
 use Rattle.cookie_text.specs.ReadingBack.{Pairwise}
 use Rattle.store_parts.specs.PathMatch.{Path}
 use Rattle.cookie_run.proofs.Kepts.{Kept}
-use Rattle.cookie_run.proofs.OwnRows.{Counts, is_own, rows_of, IsRowOf, IsGoodKept, walk}
-
-pub all_longest : (P : Row → Type 0) (rows ordered : List Row) → AreLongestFirst rows ordered
-    → AllByRecursion P rows → AllByRecursion P ordered
-all_longest P rows ordered first all =
-    recursion_from_All P ordered (All-permutation P rows ordered first.permutation (All-from_recursion P rows all))
+use Rattle.cookie_client.proofs.CountedRows.{Counts, is_own, rows_of}
+use Rattle.cookie_run.proofs.OwnRows.{IsRowOf, IsGoodKept, walk}
+use Rattle.cookie_client.proofs.RowLists.{all_longest}
 
 pub none_longest : OneOrder → (rows ordered : List Row) → rows ≡ [] → AreLongestFirst rows ordered → ordered ≡ []
 none_longest order rows ordered none first =

@@ -22,7 +22,8 @@ use Rattle.std.proofs.lemmas.Int.Digits.{digits_value_more}
 use Rattle.std.proofs.lemmas.List.{get_or-map, length-map, take-map, drop-map, ext_get_or}
 use Rattle.std.proofs.Math.Nat.{pow-le-pow_right}
 use Rattle.cookie_run.specs.Moments.{second_1971}
-use Rattle.cookie_run.specs.ScriptMoment.{blanked, has_shape, number_at, where_so, day_if, clock_if, date_if, date_of}
+use Rattle.cookie_run.specs.ScriptMoment.{blanked, has_shape, where_so, day_if, clock_if, date_if, date_of}
+use Rattle.saved_text.specs.DateReading.{number_at}
 
 abbrev pub shape : List ℕ
 shape = codes "0000-00-00T00:00:00Z"

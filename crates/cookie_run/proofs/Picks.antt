@@ -14,10 +14,11 @@ use Rattle.cookie_store.specs.Rows.{Row, domain_text, has_domain_of, has_place_o
 use Rattle.cookie_store.specs.Rows.{live}
 use Rattle.cookie_store.specs.Rows.{behind_last, inserted, put}
 use Rattle.cookie_store.specs.SavedRows.{IsReread}
-use Rattle.cookie_run.specs.Keeping.{Keeps}
+use Rattle.cookie_client.specs.Keeping.{Keeps}
 use Rattle.cookie_run.proofs.OwnRows.{first_and}
-use Rattle.cookie_run.proofs.Received.{at_epoch, epoch_domain, replaced_domain}
-use Rattle.cookie_run.proofs.Texts.{same_text}
+use Rattle.cookie_client.proofs.Lines.{at_epoch}
+use Rattle.cookie_run.proofs.Received.{epoch_domain, replaced_domain}
+use Rattle.cookie_client.proofs.Texts.{same_text}
 
 module _ (In : List ℕ → Type 0) where
   abbrev pub Under : Row → Type 0

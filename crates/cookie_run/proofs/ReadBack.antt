@@ -1,13 +1,11 @@
 -- An escaped pair is read back from a header.
-use Rattle.std.proofs.Common.{◌≡◌, ◌≢◌, ℕ, ◌<◌, ◌≤◌, Bool, true, false, ltb, List, [], ◌∷◌, ◌++◌, length, drop, IsAscii}
+use Rattle.std.proofs.Common.{◌≡◌, ◌≢◌, ℕ, ◌<◌, Bool, true, false, ltb, List, [], ◌∷◌, ◌++◌, length, drop, IsAscii}
 use Rattle.std.proofs.Common.{All, sym, refl, ap, ◌∙◌, arith, Some, suc, add-one, length-append, ⊎_elim}
 use Rattle.std.proofs.Common.{subst, true≢false}
 use Rattle.std.specs.Prelude.{◌==◌, ◌&&◌, ◌||◌, not}
 use Rattle.std.specs.List.{AllByRecursion, position_or_len, starts_with}
-use Rattle.std.specs.Str.{trim, trim_start, trim_end, skip_leading_whitespace, drop_trailing_whitespace, is_utf8}
+use Rattle.std.specs.Str.{trim, trim_start, trim_end, is_utf8}
 use Rattle.std.specs.Str.{IsUtf8}
-use Rattle.std.specs.Char.{is_whitespace}
-use Rattle.std.proofs.Math.Seq.{take-append_seam}
 use Rattle.std.proofs.lemmas.Bool.{cases_Bool, cond-true, cond-false}
 use Rattle.std.proofs.lemmas.Bool.Decides.{nat_tests}
 use Rattle.std.proofs.lemmas.Str.{chars-IsAscii, IsUtf8-from_ascii, is_utf8-from_IsUtf8}
@@ -20,48 +18,16 @@ use Rattle.cookie.specs.Prefix.{host_text, secure_text}
 use Rattle.cookie_text.specs.Printing.{encoded_pair, escaped, is_escaped, stripped}
 use Rattle.cookie_text.specs.Record.{Record, bare}
 use Rattle.cookie_text.specs.Again.{Lacks, IsReadPair}
-use Rattle.cookie_run.specs.Reading.{behind_blanks, is_hidden, is_hidden_prefix}
-use Rattle.cookie_run.proofs.HeaderCookies.{pair_in, decoded, cookie_of, shown}
-use Rattle.cookie_run.proofs.Escaped.{IsPlain, escaped_plain, decoded_escaped}
-
--- ---- trimming what has no white space
-
-pub record IsGraphic (b : ℕ) : Type 0 where
-  pub low : 33 ≤ b
-  pub high : b < 127
-
-is_no_space : (b : ℕ) → IsGraphic b → is_whitespace b ≡ false
-is_no_space b h = grind (arith, nat_tests)
-
-skip_graphic : (bs : List ℕ) → AllByRecursion IsGraphic bs → skip_leading_whitespace bs ≡ bs
-skip_graphic [] h = refl
-skip_graphic (b ∷ bs) h = cond-false _ _ _ (is_no_space b h.0)
-
-drop_graphic : (bs : List ℕ) → AllByRecursion IsGraphic bs → drop_trailing_whitespace bs ≡ bs
-drop_graphic [] h = refl
-drop_graphic (b ∷ bs) h = rw (is_no_space b h.0) (ap (λ x. b ∷ x) (drop_graphic bs h.1))
-
-graphic_ascii : (bs : List ℕ) → AllByRecursion IsGraphic bs → AllByRecursion (λ b. b < 128) bs
-graphic_ascii [] h = tt
-graphic_ascii (b ∷ bs) h = (omega (arith, h.0.high), graphic_ascii bs h.1)
-
-pub ascii : (bs : List ℕ) → AllByRecursion IsGraphic bs → IsAscii bs
-ascii bs h = IsAscii-from_all bs (All-from_recursion (λ b. b < 128) bs (graphic_ascii bs h))
+use Rattle.cookie_client.specs.Reading.{behind_blanks, is_hidden, is_hidden_prefix}
+use Rattle.cookie_client.proofs.HeaderCookies.{pair_in, decoded, cookie_of, shown}
+use Rattle.cookie_client.proofs.Escaped.{IsPlain, escaped_plain, decoded_escaped}
+use Rattle.cookie_client.proofs.ReadBack.{IsGraphic, skip_graphic, graphic_ascii, ascii, end_trimmed, trim_graphic}
+use Rattle.cookie_client.proofs.ReadBack.{is_semicolon, is_equals, plain_graphic, first_equals, led, led_whole}
+use Rattle.cookie_client.proofs.ReadBack.{led_uncut, led_pair, name_before, IsGood, graphic_of}
 
 ascii_spaced : (bs : List ℕ) → AllByRecursion IsGraphic bs → IsAscii (32 ∷ bs)
 ascii_spaced bs h = IsAscii-from_all (32 ∷ bs) (All-from_recursion (λ b. b < 128) (32 ∷ bs)
     (omega arith, graphic_ascii bs h))
-
-end_trimmed : (bs : List ℕ) → AllByRecursion IsGraphic bs → trim_end bs ≡ bs
-unfolding trim_end
-end_trimmed bs h = rw (chars-IsAscii bs (ascii bs h)) (rw (drop_graphic bs h) (encodes-IsAscii bs (ascii bs h)))
-
-pub trim_graphic : (bs : List ℕ) → AllByRecursion IsGraphic bs → trim bs ≡ bs
-unfolding trim_start
-trim_graphic bs h =
-    let start : trim_start bs ≡ bs = rw (chars-IsAscii bs (ascii bs h))
-    (rw (skip_graphic bs h) (encodes-IsAscii bs (ascii bs h))) in
-    ap trim_end start ∙ end_trimmed bs h
 
 pub trim_spaced : (bs : List ℕ) → AllByRecursion IsGraphic bs → trim (32 ∷ bs) ≡ bs
 unfolding trim_start
@@ -69,23 +35,6 @@ trim_spaced bs h =
     let start : trim_start (32 ∷ bs) ≡ bs = rw (chars-IsAscii (32 ∷ bs) (ascii_spaced bs h))
     (rw (skip_graphic bs h) (encodes-IsAscii bs (ascii bs h))) in
     ap trim_end start ∙ end_trimmed bs h
-
--- ---- the parts of `name=value`
-
-abbrev pub is_semicolon : ℕ → Bool
-is_semicolon b = b == 59
-
-abbrev pub is_equals : ℕ → Bool
-is_equals b = b == 61
-
-plain_graphic : (bs : List ℕ) → AllByRecursion IsPlain bs → AllByRecursion IsGraphic bs
-plain_graphic [] h = tt
-plain_graphic (b ∷ bs) h = (record { low = h.0.low; high = h.0.high }, plain_graphic bs h.1)
-
-pair_graphic : (n v : List ℕ) → AllByRecursion IsPlain n → AllByRecursion IsPlain v
-    → AllByRecursion IsGraphic (n ++ 61 ∷ v)
-pair_graphic [] v hn hv = (record { low = omega arith; high = omega arith }, plain_graphic v hv)
-pair_graphic (b ∷ bs) v hn hv = (record { low = hn.0.low; high = hn.0.high }, pair_graphic bs v hn.1 hv)
 
 pair_whole : (n v : List ℕ) → AllByRecursion IsPlain n → AllByRecursion IsPlain v
     → AllByRecursion (λ b. is_semicolon b ≡ false) (n ++ 61 ∷ v)
@@ -98,11 +47,6 @@ plain_uncut : (bs : List ℕ) → AllByRecursion IsPlain bs → AllByRecursion (
 plain_uncut [] h = tt
 plain_uncut (b ∷ bs) h = (grind (arith, nat_tests, h.0.no_equals), plain_uncut bs h.1)
 
-first_equals : (n v : List ℕ) → AllByRecursion (λ b. is_equals b ≡ false) n
-    → position_or_len is_equals (n ++ 61 ∷ v) ≡ length n
-first_equals [] v h = refl
-first_equals (b ∷ bs) v h = grind (arith, nat_tests, h.0, first_equals bs v h.1)
-
 drop_past : (n v : List ℕ) → drop (suc (length n)) (n ++ 61 ∷ v) ≡ v
 drop_past [] v = refl
 drop_past (b ∷ bs) v = drop_past bs v
@@ -111,52 +55,19 @@ has_equals : (n v : List ℕ) → AllByRecursion (λ b. is_equals b ≡ false) n
     → ltb (position_or_len is_equals (n ++ 61 ∷ v)) (length (n ++ 61 ∷ v)) ≡ true
 has_equals n v h = grind (arith, nat_tests, first_equals n v h, length-append n (61 ∷ v))
 
--- a text, where nothing or one space stands before it
-abbrev pub led : Bool → List ℕ → List ℕ
-led false text = text
-led true text = 32 ∷ text
-
 trim_led : (spaced : Bool) (bs : List ℕ) → AllByRecursion IsGraphic bs → trim (led spaced bs) ≡ bs
 trim_led false bs h = trim_graphic bs h
 trim_led true bs h = trim_spaced bs h
 
-pub led_whole : (spaced : Bool) (bs : List ℕ) → AllByRecursion (λ b. is_semicolon b ≡ false) bs
-    → AllByRecursion (λ b. is_semicolon b ≡ false) (led spaced bs)
-led_whole false bs h = h
-led_whole true bs h = (refl, h)
-
-pub led_uncut : (spaced : Bool) (bs : List ℕ) → AllByRecursion (λ b. is_equals b ≡ false) bs
-    → AllByRecursion (λ b. is_equals b ≡ false) (led spaced bs)
-led_uncut false bs h = h
-led_uncut true bs h = (refl, h)
-
 led_ascii : (spaced : Bool) (bs : List ℕ) → AllByRecursion IsGraphic bs → IsAscii (led spaced bs)
 led_ascii false bs h = ascii bs h
 led_ascii true bs h = ascii_spaced bs h
-
-pub led_pair : (spaced : Bool) (n v : List ℕ) → led spaced (n ++ 61 ∷ v) ≡ led spaced n ++ 61 ∷ v
-led_pair false n v = refl
-led_pair true n v = refl
-
-pub name_before : (n v : List ℕ) → AllByRecursion (λ b. is_equals b ≡ false) n → name_of (n ++ 61 ∷ v) ≡ trim n
-unfolding name_of
-name_before n v h = rw (first_equals n v h) (rw take-append_seam refl)
 
 value_behind : (n v : List ℕ) → AllByRecursion (λ b. is_equals b ≡ false) n → AllByRecursion IsGraphic v
     → value_of (n ++ 61 ∷ v) ≡ Some v
 unfolding value_of text_after
 value_behind n v h g =
     cond-true _ _ _ (has_equals n v h) ∙ ap Some (rw (first_equals n v h, add-one, drop_past n v) (trim_graphic v g))
-
--- ---- what is set, and what it reads back as
-
--- a name and a value that are texts, the name not empty
-pub record IsGood (c : Record) : Type 0 where
-  pub named : c.name ≢ []
-  pub name : IsUtf8 c.name
-  pub value : IsUtf8 c.value
-  pub name_bytes : All IsByte c.name
-  pub value_bytes : All IsByte c.value
 
 -- a cookie of the same name and value, with no attribute
 abbrev pub bare_of : Record → Record
@@ -197,9 +108,6 @@ escaped_pair n v named bytes = record {
 
 pub ascii_is_utf8 : (bs : List ℕ) → IsAscii bs → is_utf8 bs ≡ true
 ascii_is_utf8 bs h = is_utf8-from_IsUtf8 bs (IsUtf8-from_ascii bs h)
-
-pub graphic_of : (c : Record) → AllByRecursion IsGraphic (stripped (encoded_pair c))
-graphic_of c = pair_graphic (escaped c.name) (escaped c.value) (escaped_plain c.name) (escaped_plain c.value)
 
 pub whole_of : (c : Record) → AllByRecursion (λ b. is_semicolon b ≡ false) (stripped (encoded_pair c))
 whole_of c = pair_whole (escaped c.name) (escaped c.value) (escaped_plain c.name) (escaped_plain c.value)

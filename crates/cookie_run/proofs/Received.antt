@@ -1,26 +1,29 @@
 -- What becomes of the rows under a host when a row is received.
 use Rattle.std.proofs.Common.{◌≡◌, ℕ, ℤ, ◌≤ℤ◌, pos, ◌*ℤ◌, Bool, true, false, cond, ◌&&◌, ◌||◌, List, [], ◌∷◌, ◌++◌, sym}
-use Rattle.std.proofs.Common.{refl, ap, ◌∙◌, subst, ⊎_elim, Option, Some, None, arith}
+use Rattle.std.proofs.Common.{refl, ap, ◌∙◌, subst, ⊎_elim, Option, Some, None}
 use Rattle.std.specs.Prelude.{map, option_map, is_some, not, IfSome}
 use Rattle.std.specs.List.{list_any, AllByRecursion}
 use Rattle.std.specs.Str.{bytes_eq}
 use Rattle.std.proofs.lemmas.Bool.{cases_Bool, cond-true, cond-false, both_ways}
-use Rattle.std.proofs.lemmas.Int.{ints}
 use Rattle.cookie_text.specs.ReadingBack.{Pairwise}
 use Rattle.percent_encoding.specs.Percent.{percent_decode}
 use Rattle.store_parts.specs.PathMatch.{Path}
 use Rattle.store_parts.specs.Expiry.{epoch, is_dead}
-use Rattle.cookie_run.proofs.Texts.{same_text, text_is, other_text, turned}
+use Rattle.cookie_client.proofs.Texts.{same_text, text_is, other_text, turned}
 use Rattle.cookie_run.proofs.Records.{same_escaped}
 use Rattle.cookie_store.specs.Rows.{Row, domain_text, has_domain_of, has_place_of, has_key_of, replaced, behind_last}
 use Rattle.cookie_store.specs.Rows.{inserted, is_live_of, ended}
 use Rattle.cookie_store.specs.Insertion.{settled}
 use Rattle.cookie_run.proofs.Kepts.{Kept, found_in, lacks, found_named, found_map, apart_map, all_map, found_push}
 use Rattle.cookie_run.proofs.Kepts.{apart_push, all_push}
-use Rattle.cookie_run.proofs.OwnRows.{Counts, is_own, rows_of, IsRowOf, IsGoodKept, IsOther, Agrees}
+use Rattle.cookie_client.proofs.CountedRows.{Counts, is_own, rows_of}
+use Rattle.cookie_run.proofs.OwnRows.{IsRowOf, IsGoodKept, IsOther, Agrees}
 use Rattle.cookie_run.proofs.OwnRows.{own_is, own_text, name_counts}
-use Rattle.cookie_run.proofs.OwnRows.{pairwise_map, pairwise_push, all_rows_map, all_behind, rows_map, rows_map_other}
-use Rattle.cookie_run.proofs.OwnRows.{own_behind, other_behind, first_and, walk}
+use Rattle.cookie_run.proofs.OwnRows.{pairwise_map, pairwise_push}
+use Rattle.cookie_client.proofs.CountedRows.{all_rows_map, all_behind, rows_map, rows_map_other}
+use Rattle.cookie_client.proofs.CountedRows.{own_behind}
+use Rattle.cookie_run.proofs.OwnRows.{other_behind, first_and, walk}
+use Rattle.cookie_client.proofs.Lines.{at_epoch, epoch_dead}
 
 -- ---- what is alive
 
@@ -320,9 +323,6 @@ ending_good now k d h = cond_good (bytes_eq k.name d.name && not (is_dead now d.
     cond_good true d h = h
     cond_good false d h = h
 
-abbrev pub at_epoch : Row → Row
-at_epoch r = record r { death = Some epoch }
-
 pub epoch_whole : epoch ≡ (pos 0 *ℤ pos 1_000_000_000)
 epoch_whole = refl
 
@@ -358,9 +358,6 @@ pub epoch_other : (counts : Counts) (host : List ℕ) (b : Bool) (r : Row) → I
     → IsOther counts host (cond b (at_epoch r) r)
 epoch_other counts host true r h = h
 epoch_other counts host false r h = h
-
-pub epoch_dead : (now : ℤ) → pos 0 ≤ℤ now → is_dead now (Some epoch) ≡ true
-epoch_dead now h = grind (arith, ints)
 
 pub ending_none : (now : ℤ) (d : Kept) → pos 0 ≤ℤ now
     → alive now (Some (cond (not (is_dead now d.death)) (record d { death = Some epoch }) d)) ≡ None

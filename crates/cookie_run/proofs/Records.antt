@@ -8,8 +8,8 @@ use Rattle.percent_encoding.proofs.PercentLemmas.{IsByte}
 use Rattle.cookie_text.specs.Printing.{escaped}
 use Rattle.cookie_text.specs.Record.{Record}
 use Rattle.cookie.specs.ByName.{HaveOwnNames as EntriesApart, value_in as entry_in}
-use Rattle.cookie_run.proofs.Texts.{same_text, text_is, other_text, texts_differ}
-use Rattle.cookie_run.proofs.Escaped.{decoded_escaped}
+use Rattle.cookie_client.proofs.Texts.{same_text, text_is, other_text, texts_differ}
+use Rattle.cookie_client.proofs.Escaped.{decoded_escaped}
 
 abbrev pub by_name : List Record → List (List ℕ × Record)
 by_name cs = map (λ c. (c.name, c)) cs

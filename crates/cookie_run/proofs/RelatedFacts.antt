@@ -9,8 +9,7 @@ use Rattle.std.specs.Fmt.{digits}
 use Rattle.std.specs.Net.Reader.{read_number, read_octet, read_ipv4, read_segment, read_segments, read_ipv6}
 use Rattle.publicsuffix.specs.Prevailing.{Listed, covered}
 use Rattle.publicsuffix.specs.Rules.{Rule}
-use Rattle.store_parts.specs.DomainMatch.{EndsAfterDot}
-use Rattle.store_parts.specs.HostName.{IsHostName, IsIpv4}
+use Rattle.store_parts.specs.DomainMatch.{EndsAfterDot, IsHostName, IsIpv4}
 use Rattle.url.specs.Parts.{Parts}
 use Rattle.url.specs.declared.host.Host.TheVariants.{Domain}
 use Rattle.cookie_run.specs.Acts.{Act, Visits, Answers, Asks, Restarts, Arrival}

@@ -17,11 +17,12 @@ use Rattle.cookie_store.specs.Placing.{is_saved, saved}
 use Rattle.cookie_store.specs.Rows.{Row, is_live, live}
 use Rattle.cookie_store.specs.SavedRows.{IsReread, IsWholeDeath}
 use Rattle.cookie_text.specs.Again.{IsReadPair, PairsReadAgain}
-use Rattle.cookie_run.specs.Keeping.{Keeps, HasReadPair, HaveReadPairs}
+use Rattle.cookie_client.specs.Keeping.{Keeps, HasReadPair, HaveReadPairs}
 use Rattle.cookie_run.specs.Site.{Held, Site, live_at, is_lasting, lasting_at, restarted}
 use Rattle.cookie_run.proofs.Exchange.{SiteAgrees}
 use Rattle.cookie_run.proofs.Kepts.{Kept, found_in, pass, found_filter, apart_filter, all_filter}
-use Rattle.cookie_run.proofs.OwnRows.{Counts, is_own, rows_of, IsRowOf, IsGoodKept, IsOther, IsWholeSecond, Agrees}
+use Rattle.cookie_client.proofs.CountedRows.{Counts, is_own, rows_of}
+use Rattle.cookie_run.proofs.OwnRows.{IsRowOf, IsGoodKept, IsOther, IsWholeSecond, Agrees}
 use Rattle.cookie_run.proofs.OwnRows.{walk}
 use Rattle.cookie_run.proofs.OwnRows.{own_is}
 use Rattle.cookie_run.proofs.OwnRows.{first_and}

@@ -14,24 +14,27 @@ use Rattle.cookie_run.specs.RingSite.{Change, Form, IsReadOf, Put, RingCommandOn
 use Rattle.cookie_run.specs.RingSite.{RingView}
 use Rattle.cookie_run.specs.RingSite.{StandsBy, Take, changed, changed_all, put_from, ring_entry_in, ring_lasting_at}
 use Rattle.cookie_run.specs.RingSite.{ring_live_at, ring_live_view, ring_restarted}
-use Rattle.cookie_run.specs.Site.{Entry, Held, IsReadAt, Kind, Refuses, RemoveOn, SetOn, Site, View}
-use Rattle.cookie_run.specs.Site.{entry_in, entry_of, held_from, is_lasting, kind_of, lasting_at, left_by, left_by_all}
-use Rattle.cookie_run.specs.Site.{live_at, live_view, restarted, set_refusal, stored_name, with_at}
-use Rattle.cookie_run.specs.Site as site
+use Rattle.cookie_run.specs.Site.{Entry, Held, IsReadAt, RemoveOn, SetOn, Site, View}
+use Rattle.cookie_client.specs.Ways.{Kind, Refuses}
+use Rattle.cookie_run.specs.Site.{entry_in, entry_of, held_from, is_lasting, lasting_at, left_by, left_by_all}
+use Rattle.cookie_client.specs.Ways.{kind_of}
+use Rattle.cookie_run.specs.Site.{live_at, live_view, restarted, with_at}
+use Rattle.cookie_client.specs.Ways.{set_refusal, stored_name}
+use Rattle.cookie_client.specs.Ways as site
 use Rattle.cookie_run.specs.declared.step.Command.{Command}
 use Rattle.cookie_run.specs.declared.step.Command.TheVariants.{Set, Remove, Get}
 use Rattle.cookie_run.specs.declared.step.Reading.{Reading}
 use Rattle.cookie_run.specs.declared.step.Reading.TheVariants.{Value}
-use Rattle.cookie_run.specs.declared.step.SessionError.{SessionError}
-use Rattle.cookie_run.specs.declared.step.SessionError.TheVariants.{EmptyName, Year, TooLong, Rng, OutOfMemory}
-use Rattle.cookie_run.specs.declared.step.Way.{Way}
-use Rattle.cookie_run.specs.declared.step.Way.TheVariants as ways
+use Rattle.cookie_client.specs.declared.outcome.SessionError.{SessionError}
+use Rattle.cookie_client.specs.declared.outcome.SessionError.TheVariants.{EmptyName, Year, TooLong, Rng, OutOfMemory}
+use Rattle.cookie_client.specs.declared.way.Way.{Way}
+use Rattle.cookie_client.specs.declared.way.Way.TheVariants as ways
 use Rattle.cookie_run.proofs.Commands.{CommandsIn, Gets}
-use Rattle.cookie_run.proofs.EndingBack.{IsOneSealed}
-use Rattle.cookie_run.proofs.EndingTexts.{CodesHave32}
+use Rattle.cookie_client.proofs.EndingBack.{IsOneSealed}
+use Rattle.cookie_client.proofs.EndingTexts.{CodesHave32}
 use Rattle.cookie_run.proofs.RingGiven.{given_of}
 use Rattle.cookie_run.proofs.RingTexts.{ReadsText}
-use Rattle.cookie_run.proofs.Texts.{same_text, some_is_not_none}
+use Rattle.cookie_client.proofs.Texts.{same_text, some_is_not_none}
 
 -- ---- entries
 

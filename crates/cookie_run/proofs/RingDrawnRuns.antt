@@ -8,22 +8,22 @@ use Rattle.publicsuffix.specs.Rules.{Rule}
 use Rattle.cookie_store.specs.Rows.{Row}
 use Rattle.cookie_run.specs.Drawn as drawn
 use Rattle.cookie_run.specs.Drawn.{Draw, DrawsSo}
-use Rattle.cookie_run.specs.Ending.{IsKeptUntil}
-use Rattle.cookie_run.specs.Jar.{Sets}
-use Rattle.cookie_run.specs.Play.{any_nonce}
+use Rattle.cookie_client.specs.Ending.{IsKeptUntil}
+use Rattle.cookie_client.specs.Jar.{Sets}
+use Rattle.cookie_client.specs.PlainSets.{any_nonce}
 use Rattle.cookie_run.specs.RingDrawn.{RingSetDraws, SetUntilDraws, RingCommandDraws, RingCommandsDraw, RingStepBy}
 use Rattle.cookie_run.specs.RingDrawn.{RingPlaysBy}
 use Rattle.cookie_run.specs.RingPlay.{Answers, Asks, Restarts, RingAct, RingCommand, RingCommandTells, RingReading}
 use Rattle.cookie_run.specs.RingPlay.{RingPlays, RingStep, RingTells, Rotates, Visits, Set, SetUntil, Remove, Get}
-use Rattle.cookie_run.specs.RingPlay.{GetUntil, all_told}
-use Rattle.cookie_run.specs.RingSession.{KeepsRing, Ringed, SetsUntil, keyed}
-use Rattle.cookie_run.specs.Site.{set_refusal}
-use Rattle.cookie_run.specs.declared.ending.EndingWay.{EndingWay}
-use Rattle.cookie_run.specs.declared.ending.EndingWay.TheVariants as ends
+use Rattle.cookie_run.specs.RingPlay.{GetUntil, all_read}
+use Rattle.cookie_client.specs.RingSession.{KeepsRing, Ringed, SetsUntil, keyed}
+use Rattle.cookie_client.specs.Ways.{set_refusal}
+use Rattle.cookie_client.specs.declared.ending.EndingWay.{EndingWay}
+use Rattle.cookie_client.specs.declared.ending.EndingWay.TheVariants as ends
 use Rattle.cookie_run.specs.declared.step.Reading.TheVariants as readings
-use Rattle.cookie_run.specs.declared.step.SessionError.{SessionError}
-use Rattle.cookie_run.specs.declared.step.Way.{Way}
-use Rattle.cookie_run.specs.declared.step.Way.TheVariants.{Sealed}
+use Rattle.cookie_client.specs.declared.outcome.SessionError.{SessionError}
+use Rattle.cookie_client.specs.declared.way.Way.{Way}
+use Rattle.cookie_client.specs.declared.way.Way.TheVariants.{Sealed}
 use Rattle.cookie_run.proofs.DrawnRuns.{draws_nil, set_drawn}
 use Rattle.cookie_run.proofs.Runs.{sets_any}
 
@@ -33,9 +33,9 @@ readings_nil : (xs : List RingReading) → xs ++ [] ≡ xs
 readings_nil [] = refl
 readings_nil (x ∷ xs) = ap (λ ys. x ∷ ys) (readings_nil xs)
 
-pub told_more : (told : List (List RingReading)) (t : List RingReading) → all_told (told ++ t ∷ []) ≡ all_told told ++ t
+pub told_more : (told : List (List RingReading)) (t : List RingReading) → all_read (told ++ t ∷ []) ≡ all_read told ++ t
 told_more [] t = readings_nil t
-told_more (u ∷ us) t = ap (λ x. u ++ x) (told_more us t) ∙ sym (append_assoc u (all_told us) t)
+told_more (u ∷ us) t = ap (λ x. u ++ x) (told_more us t) ∙ sym (append_assoc u (all_read us) t)
 
 -- ---- one set
 

@@ -7,11 +7,11 @@ use Rattle.std.proofs.lemmas.Bool.{cases_lt}
 use Rattle.jiff.specs.Types.{DateTime}
 use Rattle.cookie.specs.Key.{encryption_half}
 use Rattle.cookie.specs.KeyRing.{Ring, GivesUnder, key_at}
-use Rattle.cookie_run.specs.RingSite.{AreApart, Form, Plain, Signed, Sealed, Until, IsGivenBefore, IsGivenOf, RingEntry}
-use Rattle.cookie_run.specs.RingSite.{ShowsContent, StandsBy}
-use Rattle.cookie_run.specs.declared.ending.EndingWay.TheVariants as ends
-use Rattle.cookie_run.proofs.EndingBack.{IsOneSealed, forms_apart, given_current, names_signed, only}
-use Rattle.cookie_run.proofs.EndingTexts.{CodesHave32, one_signed}
+use Rattle.cookie_run.specs.RingSite.{AreFormsApart, Form, Plain, Signed, Sealed, Until, IsGivenBefore, IsGivenOf}
+use Rattle.cookie_run.specs.RingSite.{RingEntry, ShowsContent, StandsBy}
+use Rattle.cookie_client.specs.declared.ending.EndingWay.TheVariants as ends
+use Rattle.cookie_client.proofs.EndingBack.{IsOneSealed, forms_apart, given_current, names_signed, only}
+use Rattle.cookie_client.proofs.EndingTexts.{CodesHave32, one_signed}
 
 some_key : (k l : List ℕ) → Some k ≡ Some l → k ≡ l
 some_key k l e = cc
@@ -94,7 +94,7 @@ module _ (sizes : CodesHave32) (one : IsOneSealed) where
       shown form name text key it.key content g.0 shows s it.gives
 
   -- no text is of forms that are apart
-  none_of_both : (mine other : Form) (name text key k a b : List ℕ) → AreApart mine other
+  none_of_both : (mine other : Form) (name text key k a b : List ℕ) → AreFormsApart mine other
       → StandsBy mine name text key a → ¬ (StandsBy other name text k b)
   none_of_both Plain other name text key k a b apart s u = absurd apart
   none_of_both Signed (Until way) name text key k a b apart s u =
@@ -115,7 +115,7 @@ module _ (sizes : CodesHave32) (one : IsOneSealed) where
   none_of_both (Until way) (Until other) name text key k a b apart s u = absurd apart
 
   none_given : (mine form : Form) (name text key content : List ℕ) (now : DateTime) (ring : Ring)
-      (given : Option (List ℕ × ℕ)) → AreApart mine form → StandsBy mine name text key content
+      (given : Option (List ℕ × ℕ)) → AreFormsApart mine form → StandsBy mine name text key content
       → GivesUnder (StandsBy form name text) now ring given → given ≡ None
   none_given mine form name text key content now ring None apart s none = refl
   none_given mine form name text key content now ring (Some g) apart s it =

@@ -15,39 +15,42 @@ use Rattle.cookie.specs.Signing.{signing}
 use Rattle.store_parts.specs.Expiry.{death}
 use Rattle.saved_text.specs.DateReading.{AreOfOneMoment}
 use Rattle.saved_text.specs.PrintedDates.{PrintedDatesAreRead}
-use Rattle.cookie_run.specs.Ending.{IsKeptUntil, IsReadBefore, dated_text}
-use Rattle.cookie_run.specs.Jar.{Keyed, Sets, record_in, value_in}
-use Rattle.cookie_run.specs.Play.{GetTells, Tells, any_nonce}
+use Rattle.cookie_client.specs.Ending.{IsKeptUntil, IsReadBefore, dated_text}
+use Rattle.cookie_client.specs.Jar.{Keyed, Sets, record_in, value_in}
+use Rattle.cookie_run.specs.Play.{GetTells, Tells}
+use Rattle.cookie_client.specs.PlainSets.{any_nonce}
 use Rattle.cookie_run.specs.RingHeadline.{HasText}
 use Rattle.cookie_run.specs.RingPlain.{IsPlainCommand}
 use Rattle.cookie_run.specs.RingPlay as ring
 use Rattle.cookie_run.specs.RingPlay.{RingCommand, RingCommandTells, RingReading, RingTells}
-use Rattle.cookie_run.specs.RingSession.{KeepsRing, Ringed, SetsUntil, keyed}
+use Rattle.cookie_client.specs.RingSession.{KeepsRing, Ringed, SetsUntil, keyed}
 use Rattle.cookie_run.specs.RingSite.{IsEndingReadOf, Put, RingCommandsOn, RingView, StandsBy, Until, ending_entry}
 use Rattle.cookie_run.specs.RingSite.{Form, Change, form_of, ring_entry_of}
 use Rattle.cookie_run.specs.RingSite as held
-use Rattle.cookie_run.specs.Site.{View, is_too_long, kind_of, refusal_of, stored_name}
+use Rattle.cookie_run.specs.Site.{View}
+use Rattle.cookie_client.specs.Ways.{is_too_long, kind_of, refusal_of, stored_name}
 use Rattle.cookie_run.specs.Site as site
-use Rattle.cookie_run.specs.declared.ending.EndingWay.{EndingWay}
+use Rattle.cookie_client.specs.Ways as kinds
+use Rattle.cookie_client.specs.declared.ending.EndingWay.{EndingWay}
 use Rattle.cookie_run.specs.declared.step.Command.{Command}
 use Rattle.cookie_run.specs.declared.step.Command.TheVariants.{Set, Remove, Get}
 use Rattle.cookie_run.specs.declared.step.Reading.{Reading}
 use Rattle.cookie_run.specs.declared.step.Reading.TheVariants.{Value}
-use Rattle.cookie_run.specs.declared.step.SessionError.{SessionError}
-use Rattle.cookie_run.specs.declared.step.SessionError.TheVariants.{EmptyName, Year}
-use Rattle.cookie_run.specs.declared.step.Way.{Way}
-use Rattle.cookie_run.specs.declared.step.Way.TheVariants.{Plain, Host, Secure, Signed, Sealed}
+use Rattle.cookie_client.specs.declared.outcome.SessionError.{SessionError}
+use Rattle.cookie_client.specs.declared.outcome.SessionError.TheVariants.{EmptyName, Year}
+use Rattle.cookie_client.specs.declared.way.Way.{Way}
+use Rattle.cookie_client.specs.declared.way.Way.TheVariants.{Plain, Host, Secure, Signed, Sealed}
 use Rattle.cookie_run.proofs.Commands.{CommandsIn, EndsLate, Gets}
-use Rattle.cookie_run.proofs.EndingBack.{IsOneSealed, kept_stands}
-use Rattle.cookie_run.proofs.EndingDates.{dated_is, read_till, utf8_dated}
-use Rattle.cookie_run.proofs.EndingTexts.{CodesHave32}
-use Rattle.cookie_run.proofs.PlainSetLemmas.{signed_plain, sealed_plain}
+use Rattle.cookie_client.proofs.EndingBack.{IsOneSealed, kept_stands}
+use Rattle.cookie_client.proofs.EndingDates.{dated_is, read_till, utf8_dated}
+use Rattle.cookie_client.proofs.EndingTexts.{CodesHave32}
+use Rattle.cookie_client.proofs.PlainSetLemmas.{signed_plain, sealed_plain}
 use Rattle.cookie_run.proofs.RingAlike.{AlikeViews, Does, IsWrite, LeaveAlike, TellsPlain, puts, shows, stays, takes}
 use Rattle.cookie_run.proofs.RingPlainLemmas.{all_append, any_set, tells_append}
 use Rattle.cookie_run.proofs.RingTexts.{IsNamed, ReadsText, set_named, take_named, until_text, way_text}
-use Rattle.cookie_run.proofs.Sessions.{stored_named, then_none}
-use Rattle.cookie_run.proofs.Showing.{not_nil}
-use Rattle.cookie_run.proofs.Texts.{some_is_not_none}
+use Rattle.cookie_client.proofs.Sessions.{stored_named, then_none}
+use Rattle.cookie_client.proofs.SessionTexts.{not_nil}
+use Rattle.cookie_client.proofs.Texts.{some_is_not_none}
 
 -- what public laws promise
 pub record RingLaws : Type 0 where
@@ -103,17 +106,17 @@ sets Counts Read old new c told name text cookie way s entry is w stands long na
   does = puts Counts Read old.ring old.moment c told name text cookie way s entry w stands long on;
 }
 
-accepted_plain : (way : Way) (c : Record) → site.set_refusal way c ≡ None → site.set_refusal Plain c ≡ None
+accepted_plain : (way : Way) (c : Record) → kinds.set_refusal way c ≡ None → kinds.set_refusal Plain c ≡ None
 accepted_plain way c none =
     let free = then_none (refusal_of c.name c.expires) (is_too_long way c.name c.value) none in
     rw free.0 refl
 
-as_it_is : (way : Way) (s : Seen) → kind_of way ≡ site.Plain → site.set_refusal way s.cookie ≡ None
+as_it_is : (way : Way) (s : Seen) → kind_of way ≡ kinds.Plain → kinds.set_refusal way s.cookie ≡ None
     → IsWrite (stored_name way s.cookie.name) s.cookie.value s.cookie way s
 as_it_is way s plain none =
     record { plain = plain; accepted = none; named = refl; value = refl; ends = λ at. refl }
 
-with_text : (way : Way) (s : Seen) (text : List ℕ) → site.set_refusal way s.cookie ≡ None
+with_text : (way : Way) (s : Seen) (text : List ℕ) → kinds.set_refusal way s.cookie ≡ None
     → IsWrite s.cookie.name text s.cookie Plain (with_value s text)
 with_text way s text none = record {
   plain = refl;
@@ -124,7 +127,7 @@ with_text way s text none = record {
 }
 
 set_on : (Counts : List ℕ → Type 0) → (old : Ringed) (way : Way) (s : Seen) (told : List RingReading) → told ≡ []
-    → site.set_refusal way s.cookie ≡ None → (ringed : RingView)
+    → kinds.set_refusal way s.cookie ≡ None → (ringed : RingView)
     → held.RingCommandOn Counts old.ring old.moment ringed (ring.Set way s) told
     (Put (stored_name way s.cookie.name) (ring_entry_of old.ring way s.cookie) s.cookie ∷ [])
     (site.with_at ringed (stored_name way s.cookie.name) (Some (ring_entry_of old.ring way s.cookie)))

@@ -11,18 +11,18 @@ use Rattle.cookie.specs.KeyRing.{Ring, alone}
 use Rattle.cookie_text.specs.Record.{Seen}
 use Rattle.cookie_store.specs.Rows.{Row}
 use Rattle.publicsuffix.specs.Rules.{Rule}
-use Rattle.cookie_run.specs.Jar.{IsOpened, Keyed, ReadsIn, TakesOut}
+use Rattle.cookie_client.specs.Jar.{IsOpened, Keyed, ReadsIn, TakesOut}
 use Rattle.cookie_run.specs.Play.{GetTells, RemoveTells, SetTells, Tells}
 use Rattle.cookie_run.specs.RingOfOne.{AreThatPlay, HasNoEnd, IsSuchAPlay, all_placed}
 use Rattle.cookie_run.specs.RingOfOne.{commands_of, placed_at_0}
 use Rattle.cookie_run.specs.RingPlay as ring
 use Rattle.cookie_run.specs.RingPlay.{RingAct, RingCommand, RingGetTells, RingPlays, RingReading, RingRemoveTells}
 use Rattle.cookie_run.specs.RingPlay.{RingSetTells, RingTells}
-use Rattle.cookie_run.specs.RingSession.{IsOpenedOn, IsThatSession, Ringed, at_0, keyed, value_alone}
+use Rattle.cookie_client.specs.RingSession.{IsOpenedOn, IsThatSession, Ringed, at_0, keyed, value_alone}
 use Rattle.cookie_run.specs.declared.step.Reading.{Reading}
 use Rattle.cookie_run.specs.declared.step.Reading.TheVariants.{Header, Refused, Value}
-use Rattle.cookie_run.specs.declared.step.SessionError.TheVariants.{EmptyName}
-use Rattle.cookie_run.specs.declared.step.Way.{Way}
+use Rattle.cookie_client.specs.declared.outcome.SessionError.TheVariants.{EmptyName}
+use Rattle.cookie_client.specs.declared.way.Way.{Way}
 
 -- a session with a key alone, as one on its ring
 abbrev on : List ℕ → DateTime → Jar → Ringed
@@ -162,7 +162,7 @@ module _ (that : IsThatSession) (key : List ℕ) (now : DateTime) where
       inr (
         h.0,
         ap (map placed_at_0) h.1,
-        subst (λ (d : DateTime). Rattle.cookie_run.specs.Jar.IsRemovalRefusal name d (Some h.0)) same h.2,
+        subst (λ (d : DateTime). Rattle.cookie_client.specs.Jar.IsRemovalRefusal name d (Some h.0)) same h.2,
         ap (λ (x : Keyed). on key now x.jar) h.3,
       )
 

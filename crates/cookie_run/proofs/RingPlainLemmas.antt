@@ -12,19 +12,20 @@ use Rattle.jiff.specs.Types.{DateTime}
 use Rattle.cookie_store.specs.Rows.{Row}
 use Rattle.cookie.specs.KeyRing.{Ring}
 use Rattle.cookie_run.specs.Acts as acts
-use Rattle.cookie_run.specs.Jar.{IsOpened, Keyed, Sets}
-use Rattle.cookie_run.specs.Play.{CommandTells, GetTells, Plays, RemoveTells, Serves, Tells, any_nonce}
+use Rattle.cookie_client.specs.Jar.{IsOpened, Keyed, Sets}
+use Rattle.cookie_run.specs.Play.{CommandTells, GetTells, Plays, RemoveTells, Serves, Tells}
+use Rattle.cookie_client.specs.PlainSets.{any_nonce}
 use Rattle.cookie_run.specs.RingPlain.{IsPlainCommand, RingCommandsArePlain, RingPlaysArePlain}
 use Rattle.cookie_run.specs.RingPlay as ring
 use Rattle.cookie_run.specs.RingPlay.{RingCommand, RingCommandTells, RingReading, RingTells}
-use Rattle.cookie_run.specs.RingSession.{IsOpenedOn, KeepsRing, Ringed, keyed}
+use Rattle.cookie_client.specs.RingSession.{IsOpenedOn, KeepsRing, Ringed, keyed}
 use Rattle.cookie_run.specs.declared.step.Command.{Command}
 use Rattle.cookie_run.specs.declared.step.Command.TheVariants.{Set, Remove, Get}
 use Rattle.cookie_run.specs.declared.step.Reading.{Reading}
 use Rattle.cookie_run.specs.declared.step.Reading.TheVariants.{Header}
-use Rattle.cookie_run.specs.declared.step.Way.{Way}
-use Rattle.cookie_run.specs.declared.step.Way.TheVariants.{Plain, Host, Secure, Signed, Sealed}
-use Rattle.cookie_run.proofs.PlainSetLemmas.{signed_plain, sealed_plain}
+use Rattle.cookie_client.specs.declared.way.Way.{Way}
+use Rattle.cookie_client.specs.declared.way.Way.TheVariants.{Plain, Host, Secure, Signed, Sealed}
+use Rattle.cookie_client.proofs.PlainSetLemmas.{signed_plain, sealed_plain}
 
 -- commands that do it
 abbrev pub Does : Ringed → Ringed → Type 0

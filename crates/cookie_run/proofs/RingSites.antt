@@ -16,7 +16,7 @@ use Rattle.cookie_run.specs.Acts.{Act, Arrival, Arrives, Never, arrival_moments,
 use Rattle.cookie_run.specs.Headline.{AnswersApart, AnswersBySessions, Each, IsSite}
 use Rattle.cookie_run.specs.HostHeadline.{GetByHost, HasHostPrefix}
 use Rattle.cookie_run.specs.HostLines.{IsHostSetter, SetsHostBySessions}
-use Rattle.cookie_run.specs.Hosts.{secure_host}
+use Rattle.cookie_client.specs.Hosts.{secure_host}
 use Rattle.cookie_run.specs.Moments.{AllFollow, IsMoment, the_beginning}
 use Rattle.cookie_run.specs.Play.{Plays, Serves}
 use Rattle.cookie_run.specs.RingHeadline.{AreFit, EachRingPlayIsRead, EachRingPlayIsReadByHost, EachRingReadsOn}
@@ -25,13 +25,14 @@ use Rattle.cookie_run.specs.RingHeadline.{HasText, every_name, without_commands}
 use Rattle.cookie_run.specs.Readings.{IsAnswer}
 use Rattle.cookie_run.specs.RingPlay as ring
 use Rattle.cookie_run.specs.RingPlay.{RingAct, RingCommand, RingPlays, RingReading, RingTells, ring_moments_of}
-use Rattle.cookie_run.specs.RingSession.{IsOpenedOn, Ringed, keyed}
+use Rattle.cookie_client.specs.RingSession.{IsOpenedOn, Ringed, keyed}
 use Rattle.cookie_run.specs.RingSite.{Change, RingExchangeOn, RingSite, no_entry, ring_after_arrival, ring_restarted}
-use Rattle.cookie_run.specs.Site.{GetOn, IsReadAt, Plain, Site, after_arrival, nothing, restarted}
+use Rattle.cookie_run.specs.Site.{GetOn, IsReadAt, Site, after_arrival, nothing, restarted}
+use Rattle.cookie_client.specs.Ways.{Plain}
 use Rattle.cookie_run.specs.declared.step.Command.{Command}
 use Rattle.cookie_run.specs.declared.step.Reading.{Reading}
 use Rattle.cookie_run.specs.declared.step.Reading.TheVariants.{Header, Refused, Value}
-use Rattle.cookie_run.specs.declared.step.Way.TheVariants as ways
+use Rattle.cookie_client.specs.declared.way.Way.TheVariants as ways
 use Rattle.cookie_run.proofs.Commands.{EndsLate, Gets}
 use Rattle.cookie_run.proofs.Exchange.{ExchangeIn, Laws}
 use Rattle.cookie_run.proofs.HostSites.{host_leads, setter}
@@ -39,7 +40,7 @@ use Rattle.cookie_run.proofs.RingAlike.{AlikeSites, LeaveAlike, TellsPlain, alik
 use Rattle.cookie_run.proofs.RingMirrors.{AllDo, RingLaws, all_mirror}
 use Rattle.cookie_run.proofs.RingPlainLemmas.{rekey, rekeyed_all, rekeyed_opening}
 use Rattle.cookie_run.proofs.RingTexts.{opened_named}
-use Rattle.cookie_run.proofs.Showing.{other_host, is_text, host_is}
+use Rattle.cookie_client.proofs.SessionTexts.{other_host, is_text, host_is}
 use Rattle.cookie_run.proofs.Sites.{EachReadsIn, site_leads}
 
 -- ---- the moments

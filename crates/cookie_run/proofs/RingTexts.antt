@@ -12,19 +12,20 @@ use Rattle.cookie.specs.Jar.{Jar, overlaid, view, with_change, without_change}
 use Rattle.cookie.specs.KeyRing.{Ring, GivesUnder, ReadsFoundUnder, ReadsUnder}
 use Rattle.cookie.specs.Reading.{IsSigned, IsSealed}
 use Rattle.cookie.specs.Sealing.{IsSealing}
-use Rattle.cookie_run.specs.Ending.{IsReadBefore}
+use Rattle.cookie_client.specs.Ending.{IsReadBefore}
 use Rattle.jiff.specs.Words.{civil_nanos}
-use Rattle.cookie_run.specs.Jar.{IsOpened, Keyed, Sets, TakesOut, record_in, taken, value_in}
-use Rattle.cookie_run.specs.RingSession.{ReadsEnding, RingReadsIn, Ringed, at_0, value_placed}
+use Rattle.cookie_client.specs.Jar.{IsOpened, Keyed, Sets, TakesOut, record_in, taken, value_in}
+use Rattle.cookie_client.specs.RingSession.{ReadsEnding, RingReadsIn, Ringed, at_0, value_placed}
 use Rattle.cookie_run.specs.RingSite.{Form, Plain, Signed, Sealed, Until, StandsBy, form_of}
-use Rattle.cookie_run.specs.Site.{stored_name}
-use Rattle.cookie_run.specs.declared.ending.EndingWay.{EndingWay}
-use Rattle.cookie_run.specs.declared.step.Way.{Way}
-use Rattle.cookie_run.specs.declared.step.Way.TheVariants as ways
+use Rattle.cookie_client.specs.Ways.{stored_name}
+use Rattle.cookie_client.specs.declared.ending.EndingWay.{EndingWay}
+use Rattle.cookie_client.specs.declared.way.Way.{Way}
+use Rattle.cookie_client.specs.declared.way.Way.TheVariants as ways
 use Rattle.cookie_run.proofs.Commands.{named_gone, overlaid_gone, overlaid_removed}
-use Rattle.cookie_run.proofs.Sessions.{get_insert, get_remove}
-use Rattle.cookie_run.proofs.Showing.{last_named, named_cond, seen_named, view_change, view_original}
-use Rattle.cookie_run.proofs.Texts.{same_text}
+use Rattle.cookie_client.proofs.Sessions.{get_insert, get_remove}
+use Rattle.cookie_client.proofs.SessionTexts.{last_named, view_original}
+use Rattle.cookie_run.proofs.Showing.{named_cond, seen_named, view_change}
+use Rattle.cookie_client.proofs.Texts.{same_text}
 
 -- ---- each cookie of a session stands under its name
 
@@ -160,7 +161,7 @@ ReadsDated now ring way name text read = (given : Option (List ℕ × ℕ)) × R
 
 ending_text : (s : Ringed) (way : EndingWay) (name : List ℕ) (o : Option Seen) (read : Option (List ℕ × ℕ))
     → MatchOption o (read ≡ None)
-    (λ stored. Rattle.cookie_run.specs.Ending.ReadsUntil way s.moment s.ring name stored.cookie.value read)
+    (λ stored. Rattle.cookie_client.specs.Ending.ReadsUntil way s.moment s.ring name stored.cookie.value read)
     → ReadsDated s.moment s.ring way name (value_in (record_in o)) read
 ending_text s way name None read h = (None, refl, h)
 ending_text s way name (Some x) read h = h

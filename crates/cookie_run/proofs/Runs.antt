@@ -10,13 +10,14 @@ use Rattle.cookie_run.specs.Acts.{Act}
 use Rattle.cookie_run.specs.declared.step.Reading.{Reading}
 use Rattle.cookie_run.specs.declared.step.Command.{Command}
 use Rattle.cookie_text.specs.Record.{Seen}
-use Rattle.cookie_run.specs.declared.step.Way.{Way}
-use Rattle.cookie_run.specs.declared.step.Way.TheVariants.{Plain, Host, Secure, Signed, Sealed}
-use Rattle.cookie_run.specs.Jar.{Keyed, IsKeptAs, IsRemovalRefusal, Sets, sent}
-use Rattle.cookie_run.specs.Play.{any_nonce, GetTells}
+use Rattle.cookie_client.specs.declared.way.Way.{Way}
+use Rattle.cookie_client.specs.declared.way.Way.TheVariants.{Plain, Host, Secure, Signed, Sealed}
+use Rattle.cookie_client.specs.Jar.{Keyed, IsKeptAs, IsRemovalRefusal, Sets, sent}
+use Rattle.cookie_client.specs.PlainSets.{any_nonce}
+use Rattle.cookie_run.specs.Play.{GetTells}
 use Rattle.cookie_run.specs.Readings.{all_told, MayRead}
-use Rattle.cookie_run.specs.declared.step.SessionError.{SessionError}
-use Rattle.cookie_run.specs.declared.step.SessionError.TheVariants.{EmptyName, Year, Rng}
+use Rattle.cookie_client.specs.declared.outcome.SessionError.{SessionError}
+use Rattle.cookie_client.specs.declared.outcome.SessionError.TheVariants.{EmptyName, Year, Rng}
 use Rattle.std.specs.List.{AllByRecursion}
 use Rattle.std.proofs.Common.{Bool, true, false, cond, Some, None}
 use Rattle.jiff.specs.Types.{DateTime}

@@ -9,11 +9,11 @@ use Rattle.jiff_core.proofs.SignedLemmas.{signed_arith}
 use Rattle.jiff.specs.Types.{DateTime}
 use Rattle.jiff.specs.Words.{civil_nanos}
 use Rattle.cookie_text.specs.Record.{bare, unsliced}
-use Rattle.cookie_run.specs.Jar.{IsRemovalRefusal}
+use Rattle.cookie_client.specs.Jar.{IsRemovalRefusal}
 use Rattle.cookie_run.specs.Moments.{second_1971}
 use Rattle.cookie_run.specs.ScriptLaws.{LinesGoBack, RemovalsAreRefused, RemovalsRead}
-use Rattle.cookie_run.specs.declared.step.SessionError.{SessionError}
-use Rattle.cookie_run.specs.declared.step.SessionError.TheVariants.{Year}
+use Rattle.cookie_client.specs.declared.outcome.SessionError.{SessionError}
+use Rattle.cookie_client.specs.declared.outcome.SessionError.TheVariants.{Year}
 use Rattle.cookie_run.proofs.Removals.{removal_late}
 
 ordered : (o : Ordering) (at last : ℤ) → MatchOrdering o (at <ℤ last) (at ≡ last) (last <ℤ at)

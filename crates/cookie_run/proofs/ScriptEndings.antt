@@ -15,11 +15,11 @@ use Rattle.cookie_text.specs.Setting.{IsKept, latest_end}
 use Rattle.cookie_text.specs.declared.expiration.Expiration.{Expiration}
 use Rattle.cookie_text.specs.declared.expiration.Expiration.TheVariants.{DateTime as At, Session}
 use Rattle.cookie_run.specs.RingPlay.{SetUntil}
-use Rattle.cookie_run.specs.RingSession.{EndsAt, is_too_long, until_refusal}
+use Rattle.cookie_client.specs.RingSession.{EndsAt, is_ending_too_long, until_refusal}
 use Rattle.cookie_run.specs.ScriptText.{command_refusal}
-use Rattle.cookie_run.specs.Site.{refusal_of, then_long}
-use Rattle.cookie_run.specs.declared.ending.EndingWay.{EndingWay}
-use Rattle.cookie_run.specs.declared.step.SessionError.TheVariants.{Year}
+use Rattle.cookie_client.specs.Ways.{refusal_of, then_long}
+use Rattle.cookie_client.specs.declared.ending.EndingWay.{EndingWay}
+use Rattle.cookie_client.specs.declared.outcome.SessionError.TheVariants.{Year}
 use Rattle.cookie_run.proofs.Removals.{early_year}
 
 -- a moment of 1970 or later is of no short year
@@ -65,5 +65,5 @@ pub ending_refusal : (way : EndingWay) (c ending : Seen) (until : DateTime) → 
     → until_refusal way ending.cookie ≡ command_refusal (SetUntil way c until)
 ending_refusal way c ending until ends =
     ap (λ (s : Seen). until_refusal way s.cookie) ends.2
-    ∙ ap (λ o. then_long o (is_too_long way c.cookie.name c.cookie.value))
+    ∙ ap (λ o. then_long o (is_ending_too_long way c.cookie.name c.cookie.value))
     (same_refusal c.cookie.name (Some ends.0) (Some (At until)) (kept_short until ends.0 ends.1))

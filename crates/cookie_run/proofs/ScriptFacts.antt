@@ -11,8 +11,8 @@ use Rattle.cookie_run.specs.ScriptLine.{Commands, Loses, Delivers, read_line, se
 use Rattle.cookie_run.specs.ScriptMoment.{date_of, moment_of}
 use Rattle.cookie_run.specs.ScriptText.{reading_text, fault_text}
 use Rattle.cookie_run.specs.RingPlay.{Set, Remove, Get, GetUntil, Read, ReadUntil, Header}
-use Rattle.cookie_run.specs.declared.step.Way.TheVariants.{Plain, Host, Signed, Sealed}
-use Rattle.cookie_run.specs.declared.ending.EndingWay.TheVariants as ends
+use Rattle.cookie_client.specs.declared.way.Way.TheVariants.{Plain, Host, Signed, Sealed}
+use Rattle.cookie_client.specs.declared.ending.EndingWay.TheVariants as ends
 use Rattle.cookie_run.specs.declared.script.cause.Cause.TheVariants.{Word, Text, Fields, Moment}
 
 -- ---- moments

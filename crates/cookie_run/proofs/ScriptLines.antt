@@ -1,10 +1,10 @@
 -- The lines of a text, and the fields of a line.
-use Rattle.std.proofs.Common.{◌≡◌, ℕ, zero, suc, ◌+◌, ◌-◌, ◌<◌, ◌≤◌, Bool, true, false, cond, ◌&&◌, List, [], ◌∷◌}
+use Rattle.std.proofs.Common.{◌≡◌, ℕ, zero, suc, ◌-◌, ◌<◌, ◌≤◌, Bool, true, false, ◌&&◌, List, [], ◌∷◌}
 use Rattle.std.proofs.Common.{length, take, drop, get_or, Option, Some, None, ℤ, Ok, Err, sym, refl, ap, ◌∙◌, subst}
 use Rattle.std.proofs.Common.{⊎_elim}
 use Rattle.std.proofs.Common.{arith, All, drop_of_length-le}
 use Rattle.std.specs.Prelude.{map, ◌==◌, nat_lt, position, if◌then◌else◌}
-use Rattle.std.specs.List.{slice_split, position_or_len, list_all}
+use Rattle.std.specs.List.{position_or_len, list_all}
 use Rattle.std.specs.Str.{is_utf8, IsUtf8}
 use Rattle.std.specs.Str.Lines.{lines, lines_of_parts, strip_carriage_return}
 use Rattle.std.proofs.lemmas.Bool.{cases_Bool}
@@ -13,60 +13,21 @@ use Rattle.std.proofs.lemmas.Str.{IsUtf8-from_is_utf8}
 use Rattle.std.proofs.lemmas.List.{take_rest}
 use Rattle.std.proofs.lemmas.List.Elements.{All-from_get_or}
 use Rattle.std.proofs.lemmas.List.Sums.{fails_before_first}
-use Rattle.std.proofs.lemmas.List.Splits.{slice_split_first, slice_split_none, length-slice_split}
+use Rattle.std.proofs.lemmas.List.Splits.{slice_split_none}
 use Rattle.percent_encoding.specs.Percent.{percent_decode}
 use denote.Ref.{Bor}
 use Rattle.url.specs.Parts.{Parts}
 use Rattle.jiff.specs.Types.{DateTime}
+use Rattle.text_lines.proofs.LineLemmas.{cut_some, is_line_feed, missed}
 use Rattle.cookie_run.specs.ScriptMoment.{date_of, moment_of}
 use Rattle.cookie_run.specs.ScriptLine.{url_of, placed, read_header, Heads, read_set, for_way, way_of, with_end}
 use Rattle.cookie_run.specs.ScriptLine.{cookie_line, unless_dash, age_of}
-use Rattle.cookie_run.specs.declared.step.Way.{Way}
+use Rattle.cookie_client.specs.declared.way.Way.{Way}
 use Rattle.cookie_run.specs.declared.script.cause.Cause.TheVariants.{Fields}
 
 pub not_utf8 : (bs : List ℕ) → ¬ (IsUtf8 bs) → is_utf8 bs ≡ false
 not_utf8 bs wrong = ⊎_elim (λ (e : is_utf8 bs ≡ true). absurd (wrong (IsUtf8-from_is_utf8 bs e)))
     (λ (e : is_utf8 bs ≡ false). e) (cases_Bool (is_utf8 bs))
-
-abbrev is_line_feed : ℕ → Bool
-is_line_feed b = b == 10
-
--- what `position` says
-found : (t : Bool) (n i : ℕ) → cond t (Some n) None ≡ Some i → (t ≡ true) × (n ≡ i)
-found true n i e = (refl, cc)
-found false n i e = absurd (none_some None i refl e)
-  where
-    none_some : (o : Option ℕ) (i : ℕ) → o ≡ None → o ≡ Some i → ⊥
-    none_some o i e f = cc
-
-missed : (t : Bool) (n : ℕ) → cond t (Some n) None ≡ None → t ≡ false
-missed true n e = absurd (some_none n e)
-  where
-    some_none : (n : ℕ) → Some n ≡ None → ⊥
-    some_none n e = cc
-missed false n e = refl
-
--- a part with others behind it is a line
-parts_more : (x : List ℕ) (parts : List (List ℕ)) → 0 < length parts
-    → lines_of_parts (x ∷ parts) ≡ strip_carriage_return x ∷ lines_of_parts parts
-parts_more x [] h = absurd (omega (arith, h))
-parts_more x (y ∷ parts) h = refl
-
-some_parts : (text : List ℕ) → 0 < length (slice_split is_line_feed text)
-some_parts text = omega (arith, length-slice_split is_line_feed text)
-
-pub cut_some : (text line : List ℕ) (i : ℕ) → position is_line_feed text ≡ Some i
-    → line ≡ strip_carriage_return (take i text)
-    → lines text ≡ line ∷ lines (take (length text - (i + 1)) (drop (i + 1) text))
-cut_some text line i e is =
-    let f = found (nat_lt (position_or_len is_line_feed text) (length text)) (position_or_len is_line_feed text) i e in
-    let below : position_or_len is_line_feed text < length text = grind (arith, nat_tests) in
-    let split : slice_split is_line_feed text ≡ take i text ∷ slice_split is_line_feed (drop (i + 1) text) =
-    subst (λ n. slice_split is_line_feed text ≡ take n text ∷ slice_split is_line_feed (drop (n + 1) text)) f.1
-    (slice_split_first is_line_feed text 0 below) in
-    ap lines_of_parts split ∙ parts_more (take i text) _ (some_parts (drop (i + 1) text))
-    ∙ ap (λ l. l ∷ lines (drop (i + 1) text)) (sym is)
-    ∙ ap (λ rest. line ∷ lines rest) (sym (take_rest text (i + 1)))
 
 last_line : (text : List ℕ) → 0 < length text → lines_of_parts (text ∷ []) ≡ text ∷ []
 last_line text h = let e : (length text == 0) ≡ false = grind (arith, nat_tests) in ap
@@ -111,8 +72,7 @@ by_position text None e some = (text, _, cut_none text e some)
 by_position text (Some i) e some = (
   strip_carriage_return (take i text),
   _,
-  cut_some text
-      (strip_carriage_return (take i text)) i e refl,
+  (cut_some text (strip_carriage_return (take i text)) i e refl).0,
 )
 
 -- a text that isn't empty has a line

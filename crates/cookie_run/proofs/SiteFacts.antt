@@ -6,8 +6,8 @@ use Rattle.cookie_text.specs.Normal.{normal}
 use Rattle.cookie_text.specs.Record.{Seen, bare, unsliced}
 use Rattle.store_parts.specs.DomainMatch.{host_only}
 use Rattle.store_parts.specs.Expiry.{death, epoch}
-use Rattle.cookie_run.specs.Site.{Plain, Signed}
-use Rattle.cookie_run.specs.declared.step.Way.TheVariants as ways
+use Rattle.cookie_client.specs.Ways.{Plain, Signed}
+use Rattle.cookie_client.specs.declared.way.Way.TheVariants as ways
 use Rattle.cookie_store.specs.Insertion.{settled}
 use Rattle.cookie_store.specs.Rows.{Row}
 use Rattle.cookie_run.specs.Site.{Held, nothing, live_view, left_by_all, restarted}

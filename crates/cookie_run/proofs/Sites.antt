@@ -12,21 +12,21 @@ use Rattle.publicsuffix.specs.Rules.{Rule}
 use Rattle.store_parts.specs.DomainText.{idna_form, suffix_or_empty}
 use Rattle.cookie.specs.Jar.{Jar}
 use Rattle.cookie_run.specs.Acts.{Arrival, Arrives, Never}
-use Rattle.cookie_run.specs.Hosts.{secure_host}
-use Rattle.cookie_run.specs.Jar.{Keyed, lines_of}
+use Rattle.cookie_client.specs.Hosts.{secure_host}
+use Rattle.cookie_client.specs.Jar.{Keyed, lines_of}
 use Rattle.cookie_run.specs.Moments.{IsMoment, AllFollow, last_of, the_beginning}
 use Rattle.cookie_run.specs.Play.{GetTells}
 use Rattle.cookie_run.specs.Readings.{IsAnswer, all_told}
 use Rattle.cookie_run.specs.declared.step.FaultKind.{FaultKind}
 use Rattle.cookie_run.specs.declared.step.Reading.TheVariants.{Value, Refused}
-use Rattle.cookie_run.specs.declared.step.SessionError.{SessionError}
-use Rattle.cookie_run.specs.declared.step.SessionError.TheVariants.{EmptyName, Year}
-use Rattle.cookie_run.specs.declared.step.Way.{Way}
+use Rattle.cookie_client.specs.declared.outcome.SessionError.{SessionError}
+use Rattle.cookie_client.specs.declared.outcome.SessionError.TheVariants.{EmptyName, Year}
+use Rattle.cookie_client.specs.declared.way.Way.{Way}
 use Rattle.cookie_text.specs.Record.{bare, unsliced, without_dot}
 use Rattle.cookie_run.specs.declared.step.Reading.{Reading}
-use Rattle.cookie_run.proofs.Showing.{is_text, host_is, other_host}
-use Rattle.cookie_run.proofs.Texts.{some_is_not_none}
-use Rattle.cookie_run.specs.Header.{IsHeader}
+use Rattle.cookie_client.proofs.SessionTexts.{is_text, host_is, other_host}
+use Rattle.cookie_client.proofs.Texts.{some_is_not_none}
+use Rattle.cookie_client.specs.Header.{IsHeader}
 use Rattle.cookie_run.specs.Readings.{IsRemovalAnswer, AnswersTo, AnswersAct, AnswersEach}
 use Rattle.cookie_run.specs.Stops.{StopsFrom, StopsInside, GoesOnBy}
 use Rattle.cookie_run.specs.Laws.{EachPlayIsRead, EachStoppedPlayIsRead}
@@ -36,12 +36,13 @@ use Rattle.cookie_run.specs.declared.step.Command.{Command}
 use Rattle.cookie_run.specs.declared.step.Command.TheVariants.{Set, Remove, Get}
 use Rattle.cookie_run.specs.Site.{Site, View, GetOn, nothing, live_view, restarted}
 use Rattle.cookie_run.specs.Headline.{AnswersBySessions, AnswersApart, Each, IsSite, EachReadsOn}
-use Rattle.cookie_run.specs.Keeping.{HaveReadPairs}
+use Rattle.cookie_client.specs.Keeping.{HaveReadPairs}
 use Rattle.cookie_run.specs.Play.{Delivers, OneStep, Plays, RemoveTells, Tells, ServesAll, ServesFront, ReadsAll}
 use Rattle.cookie_run.specs.Play.{ReadsFront}
 use Rattle.cookie_run.proofs.Kepts.{Kept}
 use Rattle.cookie_run.proofs.ActMoments.{end_moment, ends_at, front_follows, ends_last, last_append}
-use Rattle.cookie_run.proofs.OwnRows.{Counts, Agrees}
+use Rattle.cookie_client.proofs.CountedRows.{Counts}
+use Rattle.cookie_run.proofs.OwnRows.{Agrees}
 use Rattle.cookie_run.proofs.Lines.{IsTime, IsAway, AreAway, other_lines}
 use Rattle.cookie_run.proofs.Commands.{Gets, Told, CommandsIn, EndsLate}
 use Rattle.cookie_run.proofs.Exchange.{Laws, SiteAgrees, agrees_later, IsReadBack, IsArrival, ExchangeIn, exchanged}

@@ -7,22 +7,22 @@ use Rattle.std.specs.List.{AllByRecursion}
 use Rattle.std.specs.Str.{bytes_eq}
 use Rattle.url.specs.Parts.{Parts}
 use Rattle.cookie_text.specs.Record.{Seen}
-use Rattle.cookie_run.specs.declared.step.SessionError.{SessionError}
-use Rattle.cookie_run.specs.declared.step.SessionError.TheVariants as refusals
+use Rattle.cookie_client.specs.declared.outcome.SessionError.{SessionError}
+use Rattle.cookie_client.specs.declared.outcome.SessionError.TheVariants as refusals
 use Rattle.cookie.specs.KeyRing.{Ring, kept, rotated}
-use Rattle.cookie_run.specs.Jar.{ClosesWith, TakesOut, IsRemovalRefusal}
+use Rattle.cookie_client.specs.Jar.{ClosesWith, TakesOut, IsRemovalRefusal}
 use Rattle.cookie_run.specs.RingPlay.{Answers, Asks, RingAct, RingCommand, RingGetTells, GetUntilTells, RingReading}
-use Rattle.cookie_run.specs.RingPlay.{Restarts, Rotates, Visits, Set, SetUntil, Remove, Get, GetUntil, all_told}
+use Rattle.cookie_run.specs.RingPlay.{Restarts, Rotates, Visits, Set, SetUntil, Remove, Get, GetUntil, all_read}
 use Rattle.cookie_run.specs.RingPlay.{Read, ReadUntil, Refused, Header}
-use Rattle.cookie_run.specs.RingSession.{IsOpenedOn, KeepsRing, ReadsEnding, RingReadsIn, Ringed, keyed}
+use Rattle.cookie_client.specs.RingSession.{IsOpenedOn, KeepsRing, ReadsEnding, RingReadsIn, Ringed, keyed}
 use Rattle.cookie_run.specs.RingDrawn.{RingCommandDraws, RingPlaysBy, RingSetDraws, RingStepBy, SetUntilDraws}
-use Rattle.cookie_run.specs.declared.ending.EndingWay.{EndingWay}
+use Rattle.cookie_client.specs.declared.ending.EndingWay.{EndingWay}
 use Rattle.jiff.specs.Types.{DateTime}
 use Rattle.jiff.specs.Words.{civil_nanos}
 use Rattle.cookie_run.specs.declared.script.moment.Moment.{Moment}
-use Rattle.cookie_run.specs.Accept.{Takes}
-use Rattle.cookie_run.specs.Header.{IsHeader}
-use Rattle.cookie_run.specs.Keeping.{Keeps}
+use Rattle.cookie_client.specs.Accept.{Takes}
+use Rattle.cookie_client.specs.Header.{IsHeader}
+use Rattle.cookie_client.specs.Keeping.{Keeps}
 use Rattle.cookie_run.specs.Acts.{Arrives, Never}
 use Rattle.cookie_run.specs.Drawn.{Draw}
 use Rattle.cookie_run.specs.ScriptLine as spec
@@ -31,7 +31,7 @@ use Rattle.cookie_run.specs.ScriptText.{most_earlier, unless_many, unless_refuse
 use Rattle.cookie_run.specs.Standing.{Stands}
 use Rattle.cookie_store.specs.Rows.{Row}
 use Rattle.publicsuffix.specs.Rules.{Rule}
-use Rattle.cookie_run.specs.declared.step.Way.{Way}
+use Rattle.cookie_client.specs.declared.way.Way.{Way}
 use Rattle.cookie_run.specs.declared.script.cause.Cause.{Cause}
 use Rattle.cookie_run.specs.declared.script.visit.Visit.{Visit}
 use Rattle.cookie_run.proofs.DrawnRuns.{draws_nil}
@@ -63,8 +63,8 @@ prints_none output text e = ap (λ t. output ++ t) e ∙ append-nil output
 
 -- the readings of a step that ended stand with those of the steps
 pub ended : (told : List (List RingReading)) (front : List RingReading)
-    → all_told (told ++ front ∷ []) ++ [] ≡ all_told told ++ front
-ended told front = append-nil (all_told (told ++ front ∷ [])) ∙ told_more told front
+    → all_read (told ++ front ∷ []) ++ [] ≡ all_read told ++ front
+ended told front = append-nil (all_read (told ++ front ∷ [])) ∙ told_more told front
 
 -- ---- names that aren't empty
 
@@ -172,7 +172,7 @@ command_at drawn more list first start ring rows acts turned m Closed last v w t
 command_at drawn more list first start ring rows acts turned m (Within url at cs) last v w t output text command s
     accepted same_url same_at same_moment tells good shown =
     let next : Reached = reached acts turned m (Within url at (cs ++ command ∷ [])) in
-    let behind = append_assoc (all_told s.told) s.front t in
+    let behind = append_assoc (all_read s.told) s.front t in
     let o = s.is_open in (
       next,
       ap (λ o. unless_refused o next) accepted,
@@ -198,8 +198,8 @@ command_at drawn more list first start ring rows acts turned m (Within url at cs
           ),
         );
         answered = subst (AllByRecursion IsAnswered) behind
-            (answered_append (all_told s.told ++ s.front) t s.answered good);
-        prints = prints_more (all_told s.told ++ s.front) t output text s.prints shown ∙ ap readings_text behind;
+            (answered_append (all_read s.told ++ s.front) t s.answered good);
+        prints = prints_more (all_read s.told ++ s.front) t output text s.prints shown ∙ ap readings_text behind;
         turned = s.turned;
         moment = s.moment;
       },
@@ -321,8 +321,8 @@ ends_at : (drawn done here : List Draw) (list : List Rule) (first : Ring) (start
     (rows new : List Row) (acts : List RingAct) (turned : Ring) (act : RingAct) (told : List (List RingReading))
     (more : List RingReading) (output : List ℕ) (last at : ℤ)
     → drawn ≡ done ++ here → RingPlaysBy done list first start acts told ring rows
-    → RingStepBy here list ring rows act more left new → AllByRecursion IsAnswered (all_told told ++ more)
-    → output ≡ readings_text (all_told told ++ more) → turned ≡ left → last ≡ at
+    → RingStepBy here list ring rows act more left new → AllByRecursion IsAnswered (all_read told ++ more)
+    → output ≡ readings_text (all_read told ++ more) → turned ≡ left → last ≡ at
     → Stands (drawn ++ []) list first start (reached (acts ++ act ∷ []) turned at Closed) left new last None output
 ends_at drawn done here list first start ring left rows new acts turned act told more output last at draws plays step
     answered prints same moment = record {
@@ -429,14 +429,14 @@ alone_at : (drawn : List Draw) (list : List Rule) (first : Ring) (start : List R
     → LeadsOn (drawn ++ []) list first start (obeyed acts turned m now line) left new last visit (output ++ text)
 alone_at drawn list first start ring left rows new acts turned turned_left m Closed old_last None output text line act
     more last at s none led step same good shown moment =
-    let alone : all_told s.told ++ s.front ≡ all_told s.told = ap (λ x. all_told s.told ++ x) s.is_open.0
-    ∙ append-nil (all_told s.told) in (
+    let alone : all_read s.told ++ s.front ≡ all_read s.told = ap (λ x. all_read s.told ++ x) s.is_open.0
+    ∙ append-nil (all_read s.told) in (
       reached (acts ++ act ∷ []) turned_left at Closed,
       led,
       ends_at drawn s.done [] list first start ring left rows new acts turned_left act s.told more (output ++ text) last
           at (s.draws ∙ ap (λ ds. s.done ++ ds) s.is_open.1) s.plays step
-          (answered_append (all_told s.told) more (subst (AllByRecursion IsAnswered) alone s.answered) good)
-          (prints_more (all_told s.told) more output text (s.prints ∙ ap readings_text alone) shown) same moment,
+          (answered_append (all_read s.told) more (subst (AllByRecursion IsAnswered) alone s.answered) good)
+          (prints_more (all_read s.told) more output text (s.prints ∙ ap readings_text alone) shown) same moment,
     )
 alone_at drawn list first start ring left rows new acts turned turned_left m Closed old_last (Some v) output text line
     act more last at s none led step same good shown moment = absurd s.is_open

@@ -1,19 +1,16 @@
 -- Two runs, one with the answers of unrelated hosts and one without, have the same rows under the texts that matter to
 -- a host: each is compared with one list, of its rows under these texts.
-use Rattle.std.proofs.Common.{◌≡◌, ◌≢◌, ◌⊎◌, ℕ, ℤ, Bool, true, false, cond, ◌&&◌, List, [], ◌∷◌, ◌++◌, sym, refl, ap}
-use Rattle.std.proofs.Common.{◌∙◌, subst, ⊎_elim, inl, inr, Some, Result}
+use Rattle.std.proofs.Common.{◌≡◌, ◌≢◌, ◌⊎◌, ℕ, ℤ, Bool, true, false, ◌&&◌, List, [], ◌∷◌, ◌++◌, sym, refl, ap, ◌∙◌}
+use Rattle.std.proofs.Common.{subst, ⊎_elim, inl, inr, Some, Result}
 use Rattle.std.specs.Prelude.{map, IsSomeAnd}
-use Rattle.std.specs.List.{filter, list_any, AllByRecursion}
+use Rattle.std.specs.List.{list_any, AllByRecursion}
 use Rattle.std.specs.Str.{bytes_eq}
 use Rattle.std.proofs.lemmas.Bool.{cases_Bool}
 use Rattle.cookie_text.specs.Printing.{is_set}
-use Rattle.cookie_text.specs.ReadingBack.{Pairwise}
 use Rattle.publicsuffix.specs.Prevailing.{Listed}
 use Rattle.publicsuffix.specs.Rules.{Rule}
 use Rattle.store_parts.specs.DomainMatch.{Domain, host_only, suffix, not_present, empty, text_or_empty, Covers}
-use Rattle.store_parts.specs.DomainMatch.{DomainMatches, EndsAfterDot}
-use Rattle.store_parts.specs.Expiry.{is_dead}
-use Rattle.store_parts.specs.HostName.{IsHostName}
+use Rattle.store_parts.specs.DomainMatch.{DomainMatches, EndsAfterDot, IsHostName}
 use Rattle.store_parts.specs.Schemes.{host_of}
 use Rattle.store_parts.specs.declared.error.CookieError.{CookieError}
 use Rattle.url.specs.Parts.{Parts}
@@ -22,31 +19,29 @@ use Rattle.cookie_store.specs.Given.{ArePicked, IsGiven, pair_of}
 use Rattle.cookie_store.specs.Insertion.{End, settled, Settles}
 use Rattle.cookie_store.specs.Laws.{GivenOnce, OneOrder}
 use Rattle.cookie_store.specs.Longest.{AreLongestFirst}
-use Rattle.cookie_store.specs.Placing.{is_saved, saved}
-use Rattle.cookie_store.specs.Rows.{Row, domain_text, has_key_of, is_live, is_live_of}
-use Rattle.cookie_store.specs.SavedRows.{IsReread}
+use Rattle.cookie_store.specs.Rows.{Row, domain_text, is_live_of}
 use Rattle.cookie_store.specs.declared.action.StoreAction.{StoreAction}
-use Rattle.cookie_run.specs.Accept.{Accepts, AcceptsAll}
+use Rattle.cookie_client.specs.Accept.{Accepts, AcceptsAll}
 use Rattle.cookie_run.specs.Acts.{Act, Visits, Answers, Asks, Restarts, Arrival, Arrives, Never}
-use Rattle.cookie_run.specs.Header.{IsHeader, header_of}
+use Rattle.cookie_client.specs.Header.{IsHeader, header_of}
 use Rattle.cookie_run.specs.Headline.{AreRelated, Each}
-use Rattle.cookie_run.specs.Jar.{lines_of}
-use Rattle.cookie_run.specs.Keeping.{Keeps}
+use Rattle.cookie_client.specs.Jar.{lines_of}
+use Rattle.cookie_client.specs.Keeping.{Keeps}
 use Rattle.cookie_run.specs.Play.{Delivers, OneStep, Plays}
 use Rattle.cookie_run.specs.Strangers.{IsRelatedAt, Concerns, IsOnly, IsNoExchange, IsUntouched}
-use Rattle.cookie_run.specs.declared.step.LineEnd.{LineEnd}
+use Rattle.cookie_client.specs.declared.outcome.LineEnd.{LineEnd}
 use Rattle.cookie_run.specs.declared.step.Reading.{Reading}
 use Rattle.cookie_run.proofs.AloneRuns.{header_too}
 use Rattle.cookie_run.proofs.Longest.{none_longest}
 use Rattle.cookie_run.proofs.Lines.{some_and}
-use Rattle.cookie_run.proofs.OwnRows.{all_rows_map, first_and}
+use Rattle.cookie_run.proofs.OwnRows.{first_and}
 use Rattle.cookie_run.proofs.Picks.{PickedOf, any_picked, live_under, picked_settled, picked_settled_other, picked_kept}
 use Rattle.cookie_run.proofs.Picks.{picked_inner}
-use Rattle.cookie_run.proofs.ReadOnce.{ReadsOnce, kept_once}
-use Rattle.cookie_run.proofs.Received.{at_epoch, all_inserted}
-use Rattle.cookie_run.proofs.Texts.{same_text, texts_differ}
-use Rattle.cookie_run.proofs.Tried.{Does, IsSound, IsWeighed, Stands, line_does, tried_once, tried_stands}
-use Rattle.cookie_run.proofs.Tried.{tried_weighed, stands_sound}
+use Rattle.cookie_client.proofs.ReadOnce.{ReadsOnce, kept_once}
+use Rattle.cookie_run.proofs.Sound.{Sound, keeps_sound, lines_sound}
+use Rattle.cookie_client.proofs.Texts.{same_text, texts_differ}
+use Rattle.cookie_client.proofs.Tried.{Does, line_does, tried_once}
+use Rattle.cookie_run.proofs.Tried.{IsWeighed, Stands, tried_stands, tried_weighed}
 
 -- ---- the texts that matter to a host
 
@@ -115,15 +110,26 @@ near_or list host text named weighed =
     weigh e (inl free) = near_unlisted list host text named e free
     weigh e (inr listed) = inr (λ near. never e listed near)
 
+-- ---- the plays of no act, and of one and those behind it
+
+pub few_none : (list : List Rule) (key : List ℕ) (rest left : List Row) (told : List (List Reading))
+    → Plays list key rest [] told left → left ≡ rest
+few_none list key rest left [] p = p
+few_none list key rest left (t ∷ ts) p = absurd p
+
+pub few_some : (list : List Rule) (key : List ℕ) (rest left : List Row) (act : Act) (acts : List Act)
+    (told : List (List Reading)) → Plays list key rest (act ∷ acts) told left
+    → (said : List Reading) × (later : List (List Reading)) × (mid : List Row) × OneStep list key rest act said mid
+    × Plays list key mid acts later left
+few_some list key rest left act acts [] p = absurd p
+few_some list key rest left act acts (t ∷ ts) p = (t, ts, p.0, p.1, p.2)
+
 module _ (one : ReadsOnce) (list : List Rule) (host : List ℕ) where
   abbrev In : List ℕ → Type 0
   In = Near list host
 
   abbrev Picked : List Row → List Row → Type 0
   Picked rows zs = PickedOf In rows zs
-
-  abbrev Sound : List Row → Type 0
-  Sound rows = AllByRecursion (IsSound list) rows
 
   -- ---- a line of an unrelated host
 
@@ -174,79 +180,6 @@ module _ (one : ReadsOnce) (list : List Rule) (host : List ℕ) where
   other_lines url now (line ∷ lines) rows zs [] new away t p = absurd t
   other_lines url now (line ∷ lines) rows zs (e ∷ ends) new away t p =
       other_lines url now lines t.0 zs ends new away t.2 (other_line url now line rows zs e t.0 away t.1 p)
-
-  -- ---- suffixes stay sound
-
-  epoch_sound : (b : Bool) (r : Row) → IsSound list r → IsSound list (cond b (at_epoch r) r)
-  epoch_sound true r h = h
-  epoch_sound false r h = h
-
-  pick_sound : (b : Bool) (row r : Row) → IsSound list row → IsSound list r → IsSound list (cond b row r)
-  pick_sound true row r h g = h
-  pick_sound false row r h g = g
-
-  settled_sound : (now : ℤ) (row : Row) (rows : List Row) → IsSound list row → Sound rows
-      → Sound (settled rows now row).1
-  settled_sound now row rows h all =
-      ⊎_elim
-      (λ (d : is_dead now row.death ≡ true).
-      ⊎_elim
-      (λ (e : list_any (is_live_of now row) rows ≡ true). rw (d, e)
-      (all_rows_map (IsSound list) (λ r. cond (is_live_of now row r) (at_epoch r) r)
-      (λ r g. epoch_sound (is_live_of now row r) r g) rows all))
-      (λ (e : list_any (is_live_of now row) rows ≡ false). rw (d, e) all)
-      (cases_Bool (list_any (is_live_of now row) rows)))
-      (λ (d : is_dead now row.death ≡ false).
-      ⊎_elim
-      (λ (e : list_any (has_key_of row) rows ≡ true). rw (d, e)
-      (all_rows_map (IsSound list) (λ r. cond (has_key_of row r) row r)
-      (λ r g. pick_sound (has_key_of row r) row r h g) rows all))
-      (λ (e : list_any (has_key_of row) rows ≡ false). rw (d, e) (all_inserted (IsSound list) row rows h all))
-      (cases_Bool (list_any (has_key_of row) rows)))
-      (cases_Bool (is_dead now row.death))
-
-  settles_sound : (url : Parts) (now : ℤ) (row : Row) (rows : List Row) (answer : Result StoreAction CookieError)
-      (new : List Row) → IsSound list row → Settles rows url now row (answer, new) → Sound rows → Sound new
-  settles_sound url now row rows answer new h (inl guarded) all =
-      subst Sound (sym (ap (λ (e : End). e.1) guarded.1)) all
-  settles_sound url now row rows answer new h (inr free) all =
-      subst Sound (sym (ap (λ (e : End). e.1) free.1)) (settled_sound now row rows h all)
-
-  line_sound : (url : Parts) (now : ℤ) (line : List ℕ) (rows : List Row) (end : LineEnd) (new : List Row)
-      → Accepts list rows url now line end new → Sound rows → Sound new
-  line_sound url now line rows end new a all = does (line_does one list url now line rows new end a)
-    where
-      does : Does list rows url now line new → Sound new
-      does (inl same) = subst Sound (sym same.1) all
-      does (inr (row, tried, (answer, settles))) = settles_sound url now row rows answer new
-          (stands_sound list url row.domain (tried_stands list url now line row tried)) settles all
-
-  lines_sound : (url : Parts) (now : ℤ) (lines : List (List ℕ)) (rows : List Row) (ends : List LineEnd)
-      (new : List Row) → AcceptsAll list rows url now lines ends new → Sound rows → Sound new
-  lines_sound url now [] rows ends new t all = subst Sound (sym t.1) all
-  lines_sound url now (line ∷ lines) rows [] new t all = absurd t
-  lines_sound url now (line ∷ lines) rows (e ∷ ends) new t all =
-      lines_sound url now lines t.0 ends new t.2 (line_sound url now line rows e t.0 t.1 all)
-
-  filter_sound : (test : Row → Bool) (rows : List Row) → Sound rows → Sound (filter test rows)
-  filter_sound test [] all = tt
-  filter_sound test (r ∷ rs) all = by (test r) (filter_sound test rs all.1)
-    where
-      by : (b : Bool) → Sound (filter test rs) → Sound (cond b (r ∷ filter test rs) (filter test rs))
-      by true rest = (all.0, rest)
-      by false rest = rest
-
-  reread_sound : (rows read : List Row) → Pairwise IsReread rows read → Sound rows → Sound read
-  reread_sound [] [] p all = tt
-  reread_sound [] (x ∷ xs) p all = absurd p
-  reread_sound (r ∷ rs) [] p all = absurd p
-  reread_sound (r ∷ rs) (x ∷ xs) p all =
-      ((λ text e. all.0 text (sym p.0.domain ∙ e)), reread_sound rs xs p.1 all.1)
-
-  keeps_sound : (saving loading : ℤ) (rows kept : List Row) → Keeps rows saving loading kept → Sound rows → Sound kept
-  keeps_sound saving loading rows kept k all =
-      subst Sound (sym k.lives) (filter_sound (is_live loading) k.read
-      (reread_sound (saved saving rows) k.read k.reread (filter_sound (is_saved saving) rows all)))
 
   -- ---- a line of a related host, in both runs
 
@@ -326,15 +259,15 @@ module _ (one : ReadsOnce) (list : List Rule) (host : List ℕ) where
 
   pub record Runs (rows rest : List Row) : Type 0 where
     pub both : Both rows rest
-    pub sound : Sound rows
-    pub rest_sound : Sound rest
+    pub sound : Sound list rows
+    pub rest_sound : Sound list rest
 
   pub kept_runs : (saving loading : ℤ) (rows rest new left : List Row) → Keeps rows saving loading new
       → Keeps rest saving loading left → Runs rows rest → Runs new left
   kept_runs saving loading rows rest new left a b r = record {
     both = both_kept saving loading rows rest new left a b r.both;
-    sound = keeps_sound saving loading rows new a r.sound;
-    rest_sound = keeps_sound saving loading rest left b r.rest_sound;
+    sound = keeps_sound list saving loading rows new a r.sound;
+    rest_sound = keeps_sound list saving loading rest left b r.rest_sound;
   }
 
   delivered : (rows rest new : List Row) (url : Parts) (jar : Jar) (arrival : Arrival) → ¬ (IsRelatedAt list host url)
@@ -342,7 +275,7 @@ module _ (one : ReadsOnce) (list : List Rule) (host : List ℕ) where
   delivered rows rest new url jar Never away d r = subst (λ x. Runs x rest) (sym d) r
   delivered rows rest new url jar (Arrives at) away d r = record {
     both = (r.both.0, other_lines url at (lines_of d.0) rows r.both.0 d.2.0 new away d.2.1 r.both.1, r.both.2);
-    sound = lines_sound url at (lines_of d.0) rows d.2.0 new d.2.1 r.sound;
+    sound = lines_sound list one url at (lines_of d.0) rows d.2.0 new d.2.1 r.sound;
     rest_sound = r.rest_sound;
   }
 
@@ -353,7 +286,7 @@ module _ (one : ReadsOnce) (list : List Rule) (host : List ℕ) where
       delivered rows rest new url s.2.0.jar arrival away s.2.2 r
   alone_step key (Answers url lines at) rows rest new told away s r = record {
     both = (r.both.0, other_lines url at lines rows r.both.0 s.1.0 new away s.1.1 r.both.1, r.both.2);
-    sound = lines_sound url at lines rows s.1.0 new s.1.1 r.sound;
+    sound = lines_sound list one url at lines rows s.1.0 new s.1.1 r.sound;
     rest_sound = r.rest_sound;
   }
   alone_step key (Asks url at) rows rest new told away s r = absurd (away tt)
@@ -367,8 +300,8 @@ module _ (one : ReadsOnce) (list : List Rule) (host : List ℕ) where
       absurd (none concerns)
   both_step key (Answers url lines at) rows rest new left told said named none concerns s t r = record {
     both = both_lines url at lines rows rest s.1.0 t.1.0 new left named s.1.1 t.1.1 r.both;
-    sound = lines_sound url at lines rows s.1.0 new s.1.1 r.sound;
-    rest_sound = lines_sound url at lines rest t.1.0 left t.1.1 r.rest_sound;
+    sound = lines_sound list one url at lines rows s.1.0 new s.1.1 r.sound;
+    rest_sound = lines_sound list one url at lines rest t.1.0 left t.1.1 r.rest_sound;
   }
   both_step key (Asks url at) rows rest new left told said named none concerns s t r =
       subst (λ x. Runs x left) (sym s.1) (subst (λ x. Runs rows x) (sym t.1) r)
@@ -377,28 +310,16 @@ module _ (one : ReadsOnce) (list : List Rule) (host : List ℕ) where
 
   -- ---- all acts
 
-  few_none : (key : List ℕ) (rest left : List Row) (told : List (List Reading)) → Plays list key rest [] told left
-      → left ≡ rest
-  few_none key rest left [] p = p
-  few_none key rest left (t ∷ ts) p = absurd p
-
-  few_some : (key : List ℕ) (rest left : List Row) (act : Act) (acts : List Act) (told : List (List Reading))
-      → Plays list key rest (act ∷ acts) told left
-      → (said : List Reading) × (later : List (List Reading)) × (mid : List Row) × OneStep list key rest act said mid
-      × Plays list key mid acts later left
-  few_some key rest left act acts [] p = absurd p
-  few_some key rest left act acts (t ∷ ts) p = (t, ts, p.0, p.1, p.2)
-
   both_play : (key : List ℕ) (acts few : List Act) (told said : List (List Reading)) (rows rest new left : List Row)
       → IsNamed host → Each (IsNoExchange list host) acts → IsOnly list host acts few
       → Plays list key rows acts told new → Plays list key rest few said left → Runs rows rest → Runs new left
   both_play key [] few [] said rows rest new left named none only p q r =
       subst (λ x. Runs x left) (sym p) (subst (λ x. Runs rows x)
-      (sym (few_none key rest left said (subst (λ x. Plays list key rest x said left) only q))) r)
+      (sym (few_none list key rest left said (subst (λ x. Plays list key rest x said left) only q))) r)
   both_play key [] few (t ∷ ts) said rows rest new left named none only p q r = absurd p
   both_play key (act ∷ acts) few [] said rows rest new left named none only p q r = absurd p
   both_play key (act ∷ acts) few (t ∷ ts) said rows rest new left named none (later, only, inl is) p q r =
-      let x = few_some key rest left act later said (subst (λ x. Plays list key rest x said left) is.1 q) in
+      let x = few_some list key rest left act later said (subst (λ x. Plays list key rest x said left) is.1 q) in
       both_play key acts later ts x.1 p.0 x.2 new left named none.1 only p.2 x.4
       (both_step key act rows rest p.0 x.2 t x.0 named none.0 is.0 p.1 x.3 r)
   both_play key (act ∷ acts) few (t ∷ ts) said rows rest new left named none (later, only, inr is) p q r =
@@ -414,7 +335,7 @@ module _ (one : ReadsOnce) (list : List Rule) (host : List ℕ) where
   near_of not_present sound covers = absurd covers
   near_of empty sound covers = absurd covers
 
-  all_near : (url : Parts) (at : ℤ) (rows : List Row) → host_of url ≡ Some host → Sound rows
+  all_near : (url : Parts) (at : ℤ) (rows : List Row) → host_of url ≡ Some host → Sound list rows
       → AllByRecursion (λ r. IsGiven r url at → In (domain_text r)) rows
   all_near url at [] is all = tt
   all_near url at (r ∷ rs) is all = (

@@ -5,7 +5,7 @@ use Rattle.publicsuffix.specs.Rules.{Rule}
 use Rattle.cookie_store.specs.Laws.{GivenOnce, OneOrder}
 use Rattle.cookie_store.specs.Rows.{Row}
 use Rattle.cookie_run.specs.Acts.{Act, Visits, Answers, Asks, Restarts, Arrival, Arrives, Never, arrival_in}
-use Rattle.cookie_run.specs.Jar.{Keyed}
+use Rattle.cookie_client.specs.Jar.{Keyed}
 use Rattle.cookie_run.specs.Play.{GetTells, CommandTells, Tells, ServesAll, ServesFront, OneStep, Plays, ReadsAll}
 use Rattle.cookie_run.specs.Play.{ReadsFront}
 use Rattle.cookie_run.specs.Readings.{all_told}
@@ -16,8 +16,8 @@ use Rattle.cookie_run.specs.declared.step.Command.{Command}
 use Rattle.cookie_run.specs.declared.step.Command.TheVariants.{Set, Remove, Get}
 use Rattle.cookie_run.specs.declared.step.FaultKind.{FaultKind}
 use Rattle.cookie_run.specs.declared.step.Reading.{Reading}
-use Rattle.cookie_run.specs.declared.step.Way.{Way}
-use Rattle.cookie_run.proofs.ReadOnce.{ReadsOnce}
+use Rattle.cookie_client.specs.declared.way.Way.{Way}
+use Rattle.cookie_client.proofs.ReadOnce.{ReadsOnce}
 use Rattle.cookie_run.proofs.Strangers.{untouched}
 
 -- ---- commands read no header

@@ -11,17 +11,18 @@ use Rattle.cookie_run.specs.Acts.{Act, Visits, Restarts, Arrival, Arrives, Never
 use Rattle.cookie_run.specs.Headline.{IsSite, IsApartFrom, AnswersApart, AnswersBySessions, ReadsOn, EachReadsOn}
 use Rattle.cookie_run.specs.Headline.{SitesReadTheirOwn}
 use Rattle.cookie_run.specs.Readings.{all_told, AnswersEach}
-use Rattle.cookie_run.specs.Site as kinds
-use Rattle.cookie_run.specs.Site.{Site, View, nothing, live_view, after_arrival, restarted, Refuses, SetOn, IsReadAt}
+use Rattle.cookie_client.specs.Ways as kinds
+use Rattle.cookie_run.specs.Site.{Site, View, nothing, live_view, after_arrival, restarted, SetOn, IsReadAt}
+use Rattle.cookie_client.specs.Ways.{Refuses}
 use Rattle.cookie_run.specs.declared.step.Command.{Command}
 use Rattle.cookie_run.specs.declared.step.Command.TheVariants.{Set, Get}
 use Rattle.cookie_run.specs.declared.step.Reading.{Reading}
 use Rattle.cookie_run.specs.declared.step.Reading.TheVariants.{Value}
-use Rattle.cookie_run.specs.declared.step.SessionError.{SessionError}
-use Rattle.cookie_run.specs.declared.step.SessionError.TheVariants.{EmptyName, Year, TooLong, Rng, OutOfMemory}
-use Rattle.cookie_run.specs.declared.step.Way.TheVariants.{Plain}
+use Rattle.cookie_client.specs.declared.outcome.SessionError.{SessionError}
+use Rattle.cookie_client.specs.declared.outcome.SessionError.TheVariants.{EmptyName, Year, TooLong, Rng, OutOfMemory}
+use Rattle.cookie_client.specs.declared.way.Way.TheVariants.{Plain}
 use Rattle.cookie_run.proofs.Example.{shop, list, own_form, no_empty_label}
-use Rattle.cookie_run.proofs.Texts.{some_is_not_none}
+use Rattle.cookie_client.proofs.Texts.{some_is_not_none}
 
 -- seconds of 1971
 abbrev at : ℕ → ℤ

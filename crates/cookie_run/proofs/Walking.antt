@@ -18,28 +18,31 @@ use Rattle.cookie.specs.declared.delta.DeltaCookie.TheVariants.{Added, Removed}
 use Rattle.cookie.specs.ByName.{ByName}
 use Rattle.cookie.specs.Jar.{Jar, view}
 use Rattle.store_parts.specs.Expiry.{death}
-use Rattle.cookie_run.specs.Jar.{Keyed, IsOpened, IsKeptAs, Sets, sent, value_in, record_in, last_in}
-use Rattle.cookie_run.specs.Play.{any_nonce}
-use Rattle.cookie_run.specs.Site.{kind_of, stored_name, is_too_long}
-use Rattle.cookie_run.specs.declared.step.Way.{Way}
-use Rattle.cookie_run.specs.declared.step.Way.TheVariants as ways
-use Rattle.cookie_run.proofs.ReadBack.{IsGood}
-use Rattle.cookie_run.proofs.ReadCode.{cookies_are}
-use Rattle.cookie_run.proofs.Sessions.{IsReadableJar, none_at, get_insert, then_none, kept_readable, changed_each}
-use Rattle.cookie_run.proofs.Sessions.{opened_each}
+use Rattle.cookie_client.specs.Jar.{Keyed, IsOpened, IsKeptAs, Sets, sent, value_in, record_in, last_in}
+use Rattle.cookie_client.specs.PlainSets.{any_nonce}
+use Rattle.cookie_client.specs.Ways.{kind_of, stored_name, is_too_long}
+use Rattle.cookie_client.specs.declared.way.Way.{Way}
+use Rattle.cookie_client.specs.declared.way.Way.TheVariants as ways
+use Rattle.cookie_client.proofs.ReadBack.{IsGood}
+use Rattle.cookie_client.proofs.ReadCode.{cookies_are}
+use Rattle.cookie_client.proofs.Sessions.{IsReadableJar, none_at, get_insert, then_none, kept_readable, changed_each}
+use Rattle.cookie_client.proofs.Sessions.{opened_each}
 use Rattle.cookie_run.specs.Brought.{StandsAs, Matches}
-use Rattle.cookie_run.proofs.Showing.{OnlyOne, Shows, set_shows, kept_named, kept_stands, kept_text}
-use Rattle.cookie_run.proofs.Showing.{named_text, not_nil, utf8_bytes, last_named, seen_named, view_original}
-use Rattle.cookie_run.proofs.Texts.{same_text, some_is_not_none}
+use Rattle.cookie_run.proofs.Showing.{OnlyOne, Shows, set_shows, kept_stands}
+use Rattle.cookie_client.proofs.SessionTexts.{kept_named, kept_text}
+use Rattle.cookie_client.proofs.SessionTexts.{named_text, not_nil, utf8_bytes, last_named, view_original}
+use Rattle.cookie_run.proofs.Showing.{seen_named}
+use Rattle.cookie_client.proofs.Texts.{same_text, some_is_not_none}
 use Rattle.store_parts.specs.Expiry.{is_dead}
 use Rattle.cookie_run.specs.declared.step.Command.TheVariants.{Set}
 use Rattle.cookie_run.specs.Site.{Held, Site, View, with_at, live_at, entry_in, live_view, entry_of, held_from, left_by}
-use Rattle.cookie_run.specs.Reading.{Gives, Give}
-use Rattle.cookie_run.proofs.HeaderCookies.{cookies_of}
+use Rattle.cookie_client.specs.Reading.{Gives, Give}
+use Rattle.cookie_client.proofs.HeaderCookies.{cookies_of}
 use Rattle.cookie_run.proofs.Kepts.{Kept, found_in, AreApart, apart_filter}
-use Rattle.cookie_run.proofs.OwnRows.{Counts}
+use Rattle.cookie_client.proofs.CountedRows.{Counts}
 use Rattle.cookie_run.proofs.Received.{alive}
-use Rattle.cookie_run.proofs.Lines.{IsSent, kept_of}
+use Rattle.cookie_client.proofs.Lines.{IsSent}
+use Rattle.cookie_run.proofs.Lines.{kept_of}
 use Rattle.cookie_run.proofs.GivenRows.{lives, record_of, last_kept, found_live}
 
 -- ---- what stands for what is held

@@ -14,9 +14,10 @@ use Rattle.cookie_text.specs.declared.error.ParseError.{ParseError}
 use Rattle.store_parts.specs.DomainMatch.{host_only}
 use Rattle.url.specs.Parts.{Parts}
 use Rattle.cookie_store.specs.Rows.{Row, domain_text, is_live}
-use Rattle.cookie_run.specs.Header.{IsHeader}
-use Rattle.cookie_run.specs.Hosts.{secure_host}
-use Rattle.cookie_run.specs.Site.{Kind, Plain, Signed, Sealed, Entry, View}
+use Rattle.cookie_client.specs.Header.{IsHeader}
+use Rattle.cookie_client.specs.Hosts.{secure_host}
+use Rattle.cookie_client.specs.Ways.{Kind, Plain, Signed, Sealed}
+use Rattle.cookie_run.specs.Site.{Entry, View}
 
 -- what stands for a value under a stored name: itself, its signing, or a sealing of it under that name
 abbrev pub StandsAs : List ℕ → List ℕ → Kind → List ℕ → List ℕ → Type 0

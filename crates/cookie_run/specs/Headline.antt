@@ -10,14 +10,13 @@ use Rattle.store_parts.specs.DomainMatch.{DomainMatches}
 use Rattle.store_parts.specs.DomainText.{idna_form}
 use Rattle.url.specs.Parts.{Parts}
 use Rattle.store_parts.specs.Schemes.{host_of}
-use Rattle.cookie_run.specs.Hosts.{secure_host}
+use Rattle.cookie_client.specs.Hosts.{secure_host}
 use Rattle.cookie_run.specs.Moments.{last_of, the_beginning}
-use Rattle.cookie_run.specs.Readings.{all_told}
+use Rattle.cookie_run.specs.Readings.{all_told, AnswersEach}
 use Rattle.cookie_run.specs.declared.step.FaultKind.{FaultKind}
 use Rattle.cookie_run.specs.declared.step.Reading.{Reading}
 use Rattle.cookie_run.specs.Acts.{Act, Visits, Answers, Asks, Restarts, Arrives, Never, moments_of}
 use Rattle.cookie_run.specs.declared.step.Command.{Command}
-use Rattle.cookie_run.specs.Readings.{AnswersEach}
 use Rattle.cookie_run.specs.Site.{Site, View, nothing, live_view, CommandsOn, ExchangeOn, restarted}
 use Rattle.cookie_run.specs.Stops.{StopsFrom}
 

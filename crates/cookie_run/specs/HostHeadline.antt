@@ -9,17 +9,17 @@ use Rattle.cookie.specs.Prefix.{host_text}
 use Rattle.store_parts.specs.DomainText.{idna_form}
 use Rattle.cookie_run.specs.Acts.{Act, Visits, Answers, Asks, Restarts, Arrival, moments_of}
 use Rattle.cookie_run.specs.Headline.{Each}
-use Rattle.cookie_run.specs.Hosts.{secure_host}
+use Rattle.cookie_client.specs.Hosts.{secure_host}
 use Rattle.cookie_run.specs.Moments.{last_of, the_beginning}
 use Rattle.cookie_run.specs.Readings.{IsAnswer, AnswersEach, all_told}
-use Rattle.cookie_run.specs.Site.{Site, View, nothing, live_view, stored_name, SetOn, RemoveOn, GetOn, after_arrival}
-use Rattle.cookie_run.specs.Site.{restarted}
+use Rattle.cookie_run.specs.Site.{Site, View, nothing, live_view, SetOn, RemoveOn, GetOn, after_arrival, restarted}
+use Rattle.cookie_client.specs.Ways.{stored_name}
 use Rattle.cookie_run.specs.Stops.{StopsFrom}
 use Rattle.cookie_run.specs.declared.step.Command.{Command}
 use Rattle.cookie_run.specs.declared.step.Command.TheVariants.{Set, Remove, Get}
 use Rattle.cookie_run.specs.declared.step.FaultKind.{FaultKind}
 use Rattle.cookie_run.specs.declared.step.Reading.{Reading}
-use Rattle.cookie_run.specs.declared.step.Way.{Way}
+use Rattle.cookie_client.specs.declared.way.Way.{Way}
 
 -- ---- the premises
 

@@ -11,7 +11,7 @@ use Rattle.store_parts.specs.DomainText.{idna_form}
 use Rattle.cookie_run.specs.Acts.{Act, Visits, Answers, Asks, Restarts, moments_of}
 use Rattle.cookie_run.specs.Headline.{Each}
 use Rattle.cookie_run.specs.HostHeadline.{HasHostPrefix, EachReadsByHost, ReadsUntilByHost}
-use Rattle.cookie_run.specs.Hosts.{secure_host}
+use Rattle.cookie_client.specs.Hosts.{secure_host}
 use Rattle.cookie_run.specs.Moments.{last_of, the_beginning}
 use Rattle.cookie_run.specs.Readings.{AnswersEach, all_told}
 use Rattle.cookie_run.specs.Site.{Site, nothing}

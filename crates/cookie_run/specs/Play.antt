@@ -1,6 +1,6 @@
 -- A play on the rows of a client, step by step, whatever the nonces and the order of a session's lines
 -- (own: docs/DEFINITIONS.md).
-use Rattle.std.specs.Prelude.{ℕ, ℤ, ◌+◌, length, List, [], ◌∷◌, ◌++◌, Option, Some, ◌≡◌, ◌⊎◌, ⊤}
+use Rattle.std.specs.Prelude.{ℕ, ℤ, ◌+◌, length, List, [], ◌∷◌, ◌++◌, Option, Some, ◌≡◌, ◌⊎◌}
 use Rattle.jiff.specs.Types.{DateTime}
 use Rattle.jiff.specs.Words.{civil_nanos}
 use Rattle.cookie.specs.ByName.{Lists}
@@ -9,28 +9,24 @@ use Rattle.cookie_text.specs.Record.{Seen}
 use Rattle.publicsuffix.specs.Rules.{Rule}
 use Rattle.url.specs.Parts.{Parts}
 use Rattle.cookie_store.specs.Rows.{Row}
-use Rattle.cookie_run.specs.Jar.{Keyed, IsOpened, ReadsIn, Sets, TakesOut, IsRemovalRefusal, lines_of}
+use Rattle.cookie_client.specs.Jar.{Keyed, IsOpened, ReadsIn, Sets, TakesOut, IsRemovalRefusal, lines_of}
 use Rattle.cookie_run.specs.Moments.{AllFollow, last_of, the_beginning}
 use Rattle.cookie_run.specs.Readings.{all_told}
-use Rattle.cookie_run.specs.Site.{Refuses}
+use Rattle.cookie_client.specs.Ways.{Refuses}
 use Rattle.cookie_run.specs.declared.step.Command.{Command}
 use Rattle.cookie_run.specs.declared.step.Command.TheVariants.{Set, Remove, Get}
 use Rattle.cookie_run.specs.declared.step.FaultKind.{FaultKind}
 use Rattle.cookie_run.specs.declared.step.Reading.{Reading}
 use Rattle.cookie_run.specs.declared.step.Reading.TheVariants.{Value, Refused, Header}
-use Rattle.cookie_run.specs.declared.step.SessionError.{SessionError}
-use Rattle.cookie_run.specs.declared.step.SessionError.TheVariants.{EmptyName}
-use Rattle.cookie_run.specs.declared.step.Way.{Way}
-use Rattle.cookie_run.specs.Accept.{Takes}
+use Rattle.cookie_client.specs.declared.outcome.SessionError.{SessionError}
+use Rattle.cookie_client.specs.declared.outcome.SessionError.TheVariants.{EmptyName}
+use Rattle.cookie_client.specs.declared.way.Way.{Way}
+use Rattle.cookie_client.specs.Accept.{Takes}
 use Rattle.cookie_run.specs.Acts.{Act, Visits, Answers, Asks, Restarts, Arrival, Arrives, Never, moments_of}
-use Rattle.cookie_run.specs.Header.{IsHeader}
-use Rattle.cookie_run.specs.Keeping.{Keeps}
+use Rattle.cookie_client.specs.Header.{IsHeader}
+use Rattle.cookie_client.specs.Keeping.{Keeps}
 use Rattle.cookie_run.specs.Stops.{StopsFrom}
-
--- ---- a session
-
-abbrev pub any_nonce : List ℕ → Type 0
-any_nonce nonce = ⊤
+use Rattle.cookie_client.specs.PlainSets.{any_nonce}
 
 -- what a command of a request reads, and the session that it leaves
 abbrev pub SetTells : Keyed → Way → Seen → List Reading → Keyed → Type 0

@@ -22,12 +22,12 @@ use Rattle.cookie_store.specs.Placing.{saved}
 use Rattle.cookie_store.specs.Rows.{Row, Store}
 use Rattle.cookie_store.specs.SavedTexts.{Saves, Loads, IsAnyBeforeYears, IsRonRefusal}
 use Rattle.cookie_run.specs.Drawn.{Draw, DrawsSo}
-use Rattle.cookie_run.specs.HostPrefix.{IsHeldRightly}
+use Rattle.cookie_client.specs.HostPrefix.{IsHeldRightly}
 use Rattle.cookie_run.specs.ScriptDrawn.{IsScriptBy}
 use Rattle.cookie_run.specs.ScriptLine.{seed_of}
 use Rattle.cookie_run.specs.ScriptMoment.{moment_of}
 use Rattle.cookie_run.specs.ScriptText.{Runs}
-use Rattle.cookie_run.specs.Version.{version_line}
+use Rattle.cookie_client.specs.Version.{version_line}
 use Rattle.cookie_run.specs.declared.program.failure.Failure.{Failure}
 use Rattle.cookie_run.specs.declared.program.failure.Failure.TheVariants.{Arguments, Seed, Moment, SuffixFile}
 use Rattle.cookie_run.specs.declared.program.failure.Failure.TheVariants.{SuffixList, StoreInUse, LockFile, StoreFile}
@@ -123,14 +123,24 @@ stream = stream_of (steps_u32 (next_word 10))
 abbrev pub IsFill : ChaCha → List ℕ → ChaCha → Type 0
 IsFill old bytes new = (bytes, stream new) ≡ fill_bytes (length bytes) (stream old)
 
--- What is known of a reader and a writer, before and behind a call: what was left to read, how many reads were made and
--- how many calls of the reader failed, what was written, and how many calls of the writer failed.
+-- what is known of a reader and a writer, before and behind a call: what was left, how many reads, how many failed calls
 pub record Devices : Type 0 where
   pub left : Option (List ℕ)
   pub reads : ℕ
   pub unread : ℕ × ℕ
   pub written : Option (List ℕ) × Option (List ℕ)
   pub unwritten : ℕ × ℕ
+
+-- that of a reader which was `old` and is `new`, by what it has left, its reads and its failures, and so of a writer
+abbrev pub devices_by : {R W : Type 0} → (R → Option (List ℕ)) → (R → ℕ) → (R → ℕ) → R → R
+    → (W → Option (List ℕ)) → (W → ℕ) → W → W → Devices
+devices_by left reads unread old new written unwritten before behind = record {
+  left = left old;
+  reads = reads new;
+  unread = (unread old, unread new);
+  written = (written before, written behind);
+  unwritten = (unwritten before, unwritten behind);
+}
 
 -- The draws of the generator that comes from the seed are so: twelve bytes of its stream for each, one behind another.
 abbrev pub SeedDraws : List ℕ → (List Draw → Type 0) → Type 0

@@ -3,15 +3,15 @@ use Rattle.std.specs.Prelude.{ℕ, List, [], ◌∷◌, ◌++◌, None, ◌≡�
 use Rattle.std.specs.List.{AllByRecursion}
 use Rattle.cookie_text.specs.Record.{Record}
 use Rattle.cookie_run.specs.Acts.{Act, Visits, Answers, Asks, Restarts}
-use Rattle.cookie_run.specs.Site.{set_refusal, Refuses}
+use Rattle.cookie_client.specs.Ways.{set_refusal, Refuses}
 use Rattle.cookie_run.specs.declared.step.Command.{Command}
 use Rattle.cookie_run.specs.declared.step.Command.TheVariants.{Set, Remove, Get}
 use Rattle.cookie_run.specs.declared.step.Reading.{Reading}
 use Rattle.cookie_run.specs.declared.step.Reading.TheVariants.{Value, Refused, Header}
-use Rattle.cookie_run.specs.declared.step.SessionError.{SessionError}
-use Rattle.cookie_run.specs.declared.step.SessionError.TheVariants.{EmptyName, Rng}
-use Rattle.cookie_run.specs.declared.step.Way.{Way}
-use Rattle.cookie_run.specs.declared.step.Way.TheVariants.{Sealed}
+use Rattle.cookie_client.specs.declared.outcome.SessionError.{SessionError}
+use Rattle.cookie_client.specs.declared.outcome.SessionError.TheVariants.{EmptyName, Rng}
+use Rattle.cookie_client.specs.declared.way.Way.{Way}
+use Rattle.cookie_client.specs.declared.way.Way.TheVariants.{Sealed}
 
 -- what all the acts read, in order
 abbrev pub all_told : List (List Reading) → List Reading

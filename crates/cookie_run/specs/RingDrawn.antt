@@ -9,19 +9,19 @@ use Rattle.cookie_text.specs.Record.{Seen}
 use Rattle.publicsuffix.specs.Rules.{Rule}
 use Rattle.cookie_store.specs.Rows.{Row}
 use Rattle.cookie_run.specs.Drawn.{Draw, drawn_at}
-use Rattle.cookie_run.specs.Header.{IsHeader}
-use Rattle.cookie_run.specs.Jar.{Sets}
+use Rattle.cookie_client.specs.Header.{IsHeader}
+use Rattle.cookie_client.specs.Jar.{Sets}
 use Rattle.cookie_run.specs.Play.{Delivers}
 use Rattle.cookie_run.specs.RingPlay.{Answers, Asks, Restarts, RingAct, RingCommand, RingCommandTells, RingReading}
 use Rattle.cookie_run.specs.RingPlay.{Refused, RingStep, Rotates, Visits, Set, SetUntil, Remove, Get, GetUntil}
-use Rattle.cookie_run.specs.RingSession.{IsOpenedOn, KeepsRing, RefusesUntil, Ringed, SetsUntil, keyed}
-use Rattle.cookie_run.specs.Site.{Refuses}
-use Rattle.cookie_run.specs.declared.ending.EndingWay.{EndingWay}
-use Rattle.cookie_run.specs.declared.ending.EndingWay.TheVariants as ends
-use Rattle.cookie_run.specs.declared.step.SessionError.{SessionError}
-use Rattle.cookie_run.specs.declared.step.SessionError.TheVariants.{OutOfMemory}
-use Rattle.cookie_run.specs.declared.step.Way.{Way}
-use Rattle.cookie_run.specs.declared.step.Way.TheVariants.{Sealed}
+use Rattle.cookie_client.specs.RingSession.{IsOpenedOn, KeepsRing, RefusesUntil, Ringed, SetsUntil, keyed}
+use Rattle.cookie_client.specs.Ways.{Refuses}
+use Rattle.cookie_client.specs.declared.ending.EndingWay.{EndingWay}
+use Rattle.cookie_client.specs.declared.ending.EndingWay.TheVariants as ends
+use Rattle.cookie_client.specs.declared.outcome.SessionError.{SessionError}
+use Rattle.cookie_client.specs.declared.outcome.SessionError.TheVariants.{OutOfMemory}
+use Rattle.cookie_client.specs.declared.way.Way.{Way}
+use Rattle.cookie_client.specs.declared.way.Way.TheVariants.{Sealed}
 
 -- ---- a session
 

@@ -18,11 +18,11 @@ use Rattle.cookie_run.specs.Acts.{Act}
 use Rattle.cookie_run.specs.Headline.{IsSite}
 use Rattle.cookie_run.specs.HostHeadline.{HasHostPrefix, IsHostSite}
 use Rattle.cookie_run.specs.HostLines.{IsHostSetter}
-use Rattle.cookie_run.specs.Hosts.{secure_host}
+use Rattle.cookie_client.specs.Hosts.{secure_host}
 use Rattle.cookie_run.specs.Moments.{AllFollow, the_beginning}
 use Rattle.cookie_run.specs.RingPlay.{Answers, Asks, Restarts, RingAct, RingCommand, RingPlays, RingReading}
 use Rattle.cookie_run.specs.RingPlay.{Rotates, Visits, Set, SetUntil, Remove, Get, GetUntil, ring_moments_of}
-use Rattle.cookie_run.specs.RingSession.{EndsAt}
+use Rattle.cookie_client.specs.RingSession.{EndsAt}
 use Rattle.cookie_run.specs.RingSite.{RingExchangeOn, RingSite, no_entry, ring_restarted}
 
 -- ---- the premises

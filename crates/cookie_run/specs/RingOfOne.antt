@@ -10,7 +10,7 @@ use Rattle.cookie_run.specs.Acts.{Act}
 use Rattle.cookie_run.specs.Play.{Plays}
 use Rattle.cookie_run.specs.RingPlay.{Answers, Asks, Restarts, RingAct, RingCommand, RingPlays, RingReading}
 use Rattle.cookie_run.specs.RingPlay.{Get, GetUntil, Header, Read, Refused, Remove, Rotates, Set, SetUntil, Visits}
-use Rattle.cookie_run.specs.RingSession.{at_0}
+use Rattle.cookie_client.specs.RingSession.{at_0}
 use Rattle.cookie_run.specs.declared.step.Command.{Command}
 use Rattle.cookie_run.specs.declared.step.Command.TheVariants as commands
 use Rattle.cookie_run.specs.declared.step.Reading.{Reading}

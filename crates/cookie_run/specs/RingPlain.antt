@@ -10,11 +10,11 @@ use Rattle.cookie_run.specs.Acts.{Act}
 use Rattle.cookie_run.specs.Play.{Plays, Tells}
 use Rattle.cookie_run.specs.RingPlay.{Answers, Asks, Restarts, RingAct, RingCommand, RingPlays, RingReading, RingTells}
 use Rattle.cookie_run.specs.RingPlay.{Rotates, Visits}
-use Rattle.cookie_run.specs.RingSession.{KeepsRing, Ringed, keyed}
+use Rattle.cookie_client.specs.RingSession.{KeepsRing, Ringed, keyed}
 use Rattle.cookie_run.specs.declared.step.Command.{Command}
 use Rattle.cookie_run.specs.declared.step.Command.TheVariants.{Set, Remove, Get}
 use Rattle.cookie_run.specs.declared.step.Reading.{Reading}
-use Rattle.cookie_run.specs.declared.step.Way.TheVariants.{Signed, Sealed}
+use Rattle.cookie_client.specs.declared.way.Way.TheVariants.{Signed, Sealed}
 
 -- it sets and gets in no way that signs or seals
 abbrev pub IsPlainCommand : Command → Type 0

@@ -8,19 +8,20 @@ use Rattle.cookie_text.specs.Record.{Seen}
 use Rattle.publicsuffix.specs.Rules.{Rule}
 use Rattle.url.specs.Parts.{Parts}
 use Rattle.cookie_store.specs.Rows.{Row}
-use Rattle.cookie_run.specs.Accept.{Takes}
+use Rattle.cookie_client.specs.Accept.{Takes}
 use Rattle.cookie_run.specs.Acts.{Arrival, arrival_moments}
-use Rattle.cookie_run.specs.Header.{IsHeader}
-use Rattle.cookie_run.specs.Jar.{Sets, TakesOut, IsRemovalRefusal}
-use Rattle.cookie_run.specs.Keeping.{Keeps}
-use Rattle.cookie_run.specs.Play.{any_nonce, Delivers}
-use Rattle.cookie_run.specs.RingSession.{IsOpenedOn, KeepsRing, ReadsEnding, RefusesUntil, RingReadsIn, Ringed}
-use Rattle.cookie_run.specs.RingSession.{SetsUntil, keyed}
-use Rattle.cookie_run.specs.Site.{Refuses}
-use Rattle.cookie_run.specs.declared.ending.EndingWay.{EndingWay}
-use Rattle.cookie_run.specs.declared.step.SessionError.{SessionError}
-use Rattle.cookie_run.specs.declared.step.SessionError.TheVariants.{EmptyName, OutOfMemory}
-use Rattle.cookie_run.specs.declared.step.Way.{Way}
+use Rattle.cookie_client.specs.Header.{IsHeader}
+use Rattle.cookie_client.specs.Jar.{Sets, TakesOut, IsRemovalRefusal}
+use Rattle.cookie_client.specs.Keeping.{Keeps}
+use Rattle.cookie_client.specs.PlainSets.{any_nonce}
+use Rattle.cookie_run.specs.Play.{Delivers}
+use Rattle.cookie_client.specs.RingSession.{IsOpenedOn, KeepsRing, ReadsEnding, RefusesUntil, RingReadsIn, Ringed}
+use Rattle.cookie_client.specs.RingSession.{SetsUntil, keyed}
+use Rattle.cookie_client.specs.Ways.{Refuses}
+use Rattle.cookie_client.specs.declared.ending.EndingWay.{EndingWay}
+use Rattle.cookie_client.specs.declared.outcome.SessionError.{SessionError}
+use Rattle.cookie_client.specs.declared.outcome.SessionError.TheVariants.{EmptyName, OutOfMemory}
+use Rattle.cookie_client.specs.declared.way.Way.{Way}
 
 -- what a site tells its session
 pub data RingCommand : Type 0 where
@@ -126,6 +127,6 @@ RingPlays list ring rows [] (told ∷ later) left new = ⊥
 RingPlays list ring rows (step ∷ steps) [] left new = ⊥
 
 -- what all the steps read, in order
-abbrev pub all_told : List (List RingReading) → List RingReading
-all_told [] = []
-all_told (told ∷ later) = told ++ all_told later
+abbrev pub all_read : List (List RingReading) → List RingReading
+all_read [] = []
+all_read (told ∷ later) = told ++ all_read later

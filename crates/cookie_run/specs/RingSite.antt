@@ -12,18 +12,19 @@ use Rattle.cookie.specs.Sealing.{IsSealing}
 use Rattle.cookie.specs.Signing.{signing}
 use Rattle.store_parts.specs.Expiry.{death, is_dead}
 use Rattle.cookie_run.specs.Acts.{Arrival, Arrives, Never}
-use Rattle.cookie_run.specs.Ending.{IsReadBefore, StandsFor, dated_text}
-use Rattle.cookie_run.specs.EndingLaws.{IsReadTill}
+use Rattle.cookie_client.specs.Ending.{IsReadBefore, StandsFor, dated_text}
+use Rattle.cookie_client.specs.EndingLaws.{IsReadTill}
 use Rattle.cookie_run.specs.RingPlay.{RingCommand, RingReading, Set, SetUntil, Remove, Get, GetUntil, Read, Refused}
 use Rattle.cookie_run.specs.RingPlay.{ReadUntil}
-use Rattle.cookie_run.specs.RingSession.{EndsAt, RefusesUntil, until_refusal}
-use Rattle.cookie_run.specs.Site.{Refuses, is_lasting, set_refusal, stored_name, with_at}
-use Rattle.cookie_run.specs.declared.ending.EndingWay.{EndingWay}
-use Rattle.cookie_run.specs.declared.ending.EndingWay.TheVariants as ends
-use Rattle.cookie_run.specs.declared.step.SessionError.{SessionError}
-use Rattle.cookie_run.specs.declared.step.SessionError.TheVariants.{EmptyName, OutOfMemory}
-use Rattle.cookie_run.specs.declared.step.Way.{Way}
-use Rattle.cookie_run.specs.declared.step.Way.TheVariants as ways
+use Rattle.cookie_client.specs.RingSession.{EndsAt, RefusesUntil, until_refusal}
+use Rattle.cookie_client.specs.Ways.{Refuses, set_refusal, stored_name}
+use Rattle.cookie_run.specs.Site.{is_lasting, with_at}
+use Rattle.cookie_client.specs.declared.ending.EndingWay.{EndingWay}
+use Rattle.cookie_client.specs.declared.ending.EndingWay.TheVariants as ends
+use Rattle.cookie_client.specs.declared.outcome.SessionError.{SessionError}
+use Rattle.cookie_client.specs.declared.outcome.SessionError.TheVariants.{EmptyName, OutOfMemory}
+use Rattle.cookie_client.specs.declared.way.Way.{Way}
+use Rattle.cookie_client.specs.declared.way.Way.TheVariants as ways
 
 -- ---- what is held
 
@@ -57,20 +58,20 @@ ShowsContent (Until ends.Signed) = ⊤
 ShowsContent (Until ends.Sealed) = ⊥
 
 -- no text is of both forms: one of a value until a moment, and a signing or a sealing without one
-abbrev pub AreApart : Form → Form → Type 0
-AreApart Plain other = ⊥
-AreApart Signed (Until way) = ⊤
-AreApart Signed Plain = ⊥
-AreApart Signed Signed = ⊥
-AreApart Signed Sealed = ⊥
-AreApart Sealed (Until way) = ⊤
-AreApart Sealed Plain = ⊥
-AreApart Sealed Signed = ⊥
-AreApart Sealed Sealed = ⊥
-AreApart (Until way) Signed = ⊤
-AreApart (Until way) Sealed = ⊤
-AreApart (Until way) Plain = ⊥
-AreApart (Until way) (Until other) = ⊥
+abbrev pub AreFormsApart : Form → Form → Type 0
+AreFormsApart Plain other = ⊥
+AreFormsApart Signed (Until way) = ⊤
+AreFormsApart Signed Plain = ⊥
+AreFormsApart Signed Signed = ⊥
+AreFormsApart Signed Sealed = ⊥
+AreFormsApart Sealed (Until way) = ⊤
+AreFormsApart Sealed Plain = ⊥
+AreFormsApart Sealed Signed = ⊥
+AreFormsApart Sealed Sealed = ⊥
+AreFormsApart (Until way) Signed = ⊤
+AreFormsApart (Until way) Sealed = ⊤
+AreFormsApart (Until way) Plain = ⊥
+AreFormsApart (Until way) (Until other) = ⊥
 
 -- how something is kept, the key that was the current one then, and what: a value, or one until a moment as its dated
 -- text
@@ -134,7 +135,7 @@ pub record IsGivenOf (now : DateTime) (ring : Ring) (form : Form) (name : List �
       → ((p : ℕ) (k content : List ℕ) → p < place → key_at now ring p ≡ Some k → ¬ (StandsBy form name text k content))
       → given ≡ Some (entry.content, place)
   pub shown : entry.form ≡ form → ShowsContent form → MatchOption given ⊤ (λ g. g.0 ≡ entry.content)
-  pub apart : AreApart entry.form form → given ≡ None
+  pub apart : AreFormsApart entry.form form → given ≡ None
 
 -- the same of what there may be
 abbrev pub IsReadOf : DateTime → Ring → Form → List ℕ → Option RingEntry → Option (List ℕ × ℕ) → Type 0

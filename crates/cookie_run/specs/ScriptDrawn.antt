@@ -14,11 +14,11 @@ use Rattle.publicsuffix.specs.Rules.{Rule}
 use Rattle.cookie_store.specs.Rows.{Row}
 use Rattle.cookie_run.specs.Acts.{Arrives, Never}
 use Rattle.cookie_run.specs.Drawn.{Draw}
-use Rattle.cookie_run.specs.Header.{IsHeader}
-use Rattle.cookie_run.specs.Jar.{lines_of}
+use Rattle.cookie_client.specs.Header.{IsHeader}
+use Rattle.cookie_client.specs.Jar.{lines_of}
 use Rattle.cookie_run.specs.RingDrawn.{RingCommandsDraw, RingPlaysBy}
-use Rattle.cookie_run.specs.RingPlay.{RingAct, RingReading, Visits, Answers, Asks, Restarts, Rotates, all_told}
-use Rattle.cookie_run.specs.RingSession.{IsOpenedOn, Ringed}
+use Rattle.cookie_run.specs.RingPlay.{RingAct, RingReading, Visits, Answers, Asks, Restarts, Rotates, all_read}
+use Rattle.cookie_client.specs.RingSession.{IsOpenedOn, Ringed}
 use Rattle.cookie_run.specs.ScriptText.{Reached, begun, LeadsTo, after_line, AddsSealed, IsAnswered, readings_text}
 use Rattle.cookie_run.specs.ScriptText.{all_acts, fault_text, TakesFront}
 use Rattle.cookie_run.specs.declared.script.cause.Cause.{Cause}
@@ -32,8 +32,8 @@ use Rattle.cookie_run.specs.declared.script.ended.RunError.{RunError}
 -- the steps, begun on this ring and played by these draws, print this and leave those rows
 abbrev pub PrintsBy : List Draw → List Rule → Ring → List Row → Reached → List ℕ → List Row → Type 0
 PrintsBy drawn list ring rows r output new = (told : List (List RingReading))
-    × RingPlaysBy drawn list ring rows (all_acts r) told r.ring new × AllByRecursion IsAnswered (all_told told)
-    × (output ≡ readings_text (all_told told))
+    × RingPlaysBy drawn list ring rows (all_acts r) told r.ring new × AllByRecursion IsAnswered (all_read told)
+    × (output ≡ readings_text (all_read told))
 
 -- the step reads so by these draws, and its answer is taken up to a line
 abbrev pub HalfStepBy : List Draw → List Rule → Ring → List Row → RingAct → List RingReading → List Row → Type 0
@@ -57,8 +57,8 @@ abbrev pub PrintsHalfBy : List Draw → List Rule → Ring → List Row → List
 PrintsHalfBy drawn list ring rows acts turned act output new =
     (told : List (List RingReading)) × (mid : List Row) × (more : List RingReading) × (done : List Draw)
     × (here : List Draw) × (drawn ≡ done ++ here) × RingPlaysBy done list ring rows acts told turned mid
-    × HalfStepBy here list turned mid act more new × AllByRecursion IsAnswered (all_told told ++ more)
-    × (output ≡ readings_text (all_told told ++ more))
+    × HalfStepBy here list turned mid act more new × AllByRecursion IsAnswered (all_read told ++ more)
+    × (output ≡ readings_text (all_read told ++ more))
 
 -- a line that isn't done: what the lines before it print and leave, or the step that it ends is half taken
 abbrev pub PrintsUntilBy : List Draw → List Rule → Ring → List Row → Reached → Result Reached Cause → List ℕ

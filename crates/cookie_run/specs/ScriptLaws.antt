@@ -3,7 +3,7 @@ use Rattle.std.specs.Prelude.{◌≡◌, ◌*◌, ◌≤ℤ◌, pos, ℕ, ℤ, L
 use Rattle.std.specs.Option.{option_to_list}
 use Rattle.jiff.specs.Types.{DateTime}
 use Rattle.jiff.specs.Words.{civil_nanos}
-use Rattle.cookie_run.specs.Jar.{IsRemovalRefusal}
+use Rattle.cookie_client.specs.Jar.{IsRemovalRefusal}
 use Rattle.cookie_run.specs.Moments.{IsMoment, IsWrong, Follows, second_1971}
 use Rattle.cookie_run.specs.Readings.{IsRemovalAnswer}
 use Rattle.cookie_run.specs.RingPlay.{Remove}
@@ -11,8 +11,8 @@ use Rattle.cookie_run.specs.ScriptText.{command_refusal, is_before}
 use Rattle.cookie_run.specs.declared.step.FaultKind.TheVariants.{Back}
 use Rattle.cookie_run.specs.declared.step.Reading.{Reading}
 use Rattle.cookie_run.specs.declared.step.Reading.TheVariants.{Refused}
-use Rattle.cookie_run.specs.declared.step.SessionError.{SessionError}
-use Rattle.cookie_run.specs.declared.step.Way.{Way}
+use Rattle.cookie_client.specs.declared.outcome.SessionError.{SessionError}
+use Rattle.cookie_client.specs.declared.way.Way.{Way}
 
 -- a line whose moment is before the last has what a play calls `Back`, and else its moment follows
 abbrev pub LinesGoBack : Type 0

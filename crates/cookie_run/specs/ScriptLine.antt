@@ -16,10 +16,10 @@ use Rattle.cookie_text.specs.Record.{Record, bare, unsliced}
 use Rattle.cookie_text.specs.declared.expiration.Expiration.TheVariants.{DateTime as At}
 use Rattle.cookie_run.specs.RingPlay.{RingCommand, Set, SetUntil, Remove, Get, GetUntil}
 use Rattle.cookie_run.specs.ScriptMoment.{date_of, moment_date, moment_of}
-use Rattle.cookie_run.specs.declared.ending.EndingWay.{EndingWay}
-use Rattle.cookie_run.specs.declared.ending.EndingWay.TheVariants as ends
-use Rattle.cookie_run.specs.declared.step.Way.{Way}
-use Rattle.cookie_run.specs.declared.step.Way.TheVariants.{Plain, Host, Secure, Signed, Sealed}
+use Rattle.cookie_client.specs.declared.ending.EndingWay.{EndingWay}
+use Rattle.cookie_client.specs.declared.ending.EndingWay.TheVariants as ends
+use Rattle.cookie_client.specs.declared.way.Way.{Way}
+use Rattle.cookie_client.specs.declared.way.Way.TheVariants.{Plain, Host, Secure, Signed, Sealed}
 use Rattle.cookie_run.specs.declared.script.cause.Cause.{Cause}
 use Rattle.cookie_run.specs.declared.script.cause.Cause.TheVariants.{Word, Text, Fields, Url, Moment}
 

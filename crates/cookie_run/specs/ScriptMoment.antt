@@ -1,14 +1,14 @@
 -- The dates of a script, `YYYY-MM-DDThh:mm:ssZ`: the form of RFC 3339 without fractions and in UTC alone. A moment of a
 -- script is a date of the years 1971 to 9998.
 use Rattle.std.specs.Prelude.{ℕ, ℤ, pos, List, map, Bool, true, false, T, ◌&&◌, nat_lt, nat_le, int_le, codes}
-use Rattle.std.specs.Prelude.{slice_range, Option, Some, None, option_map, option_and_then, if◌then◌else◌}
+use Rattle.std.specs.Prelude.{Option, Some, None, option_map, option_and_then, if◌then◌else◌}
 use Rattle.std.specs.Str.{bytes_eq}
-use Rattle.std.specs.Str.Parse.{digits_value}
 use Rattle.std.specs.Char.{is_ascii_digit}
 use Rattle.std.proofs.Common.{leb→le, ltb→lt, lit<}
 use Rattle.jiff.specs.Types.{Date, Time, DateTime}
 use Rattle.jiff.specs.Words.{civil_nanos}
 use Rattle.jiff_core.specs.Calendar.{days_in_month}
+use Rattle.saved_text.specs.DateReading.{number_at}
 
 -- `0` for a digit, and every other byte as it is
 abbrev pub blanked : ℕ → ℕ
@@ -17,10 +17,6 @@ blanked b = if is_ascii_digit b then 48 else b
 -- digits and signs stand in their places
 abbrev pub has_shape : List ℕ → Bool
 has_shape text = bytes_eq (map blanked text) (codes "0000-00-00T00:00:00Z")
-
--- the number that the digits from one place to another spell
-abbrev pub number_at : List ℕ → ℕ → ℕ → ℕ
-number_at text start end = digits_value 10 (slice_range text start end)
 
 -- ---- a date
 

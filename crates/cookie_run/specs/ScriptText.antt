@@ -17,24 +17,24 @@ use Rattle.cookie.specs.Jar.{delta, under_names}
 use Rattle.cookie.specs.KeyRing.{Ring, kept, rotated}
 use Rattle.publicsuffix.specs.Rules.{Rule}
 use Rattle.cookie_store.specs.Rows.{Row}
-use Rattle.cookie_run.specs.Accept.{IsStopped}
-use Rattle.cookie_run.specs.Header.{IsHeader}
-use Rattle.cookie_run.specs.Jar.{lines_of}
-use Rattle.cookie_run.specs.Site.{set_refusal}
+use Rattle.cookie_client.specs.Accept.{IsStopped}
+use Rattle.cookie_client.specs.Header.{IsHeader}
+use Rattle.cookie_client.specs.Jar.{lines_of}
+use Rattle.cookie_client.specs.Ways.{set_refusal}
 use Rattle.cookie_run.specs.Acts.{Arrives, Never}
 use Rattle.cookie_run.specs.RingPlay as steps
-use Rattle.cookie_run.specs.RingPlay.{RingAct, RingCommand, RingPlays, RingReading, RingTells, all_told}
+use Rattle.cookie_run.specs.RingPlay.{RingAct, RingCommand, RingPlays, RingReading, RingTells, all_read}
 use Rattle.cookie_run.specs.RingPlay.{Visits, Answers, Asks, Set, SetUntil, Remove, Get, GetUntil}
 use Rattle.cookie_run.specs.RingPlay.{Read, ReadUntil, Refused, Header}
-use Rattle.cookie_run.specs.RingSession.{IsOpenedOn, Ringed, until_refusal}
+use Rattle.cookie_client.specs.RingSession.{IsOpenedOn, Ringed, until_refusal}
 use Rattle.cookie_run.specs.ScriptLine.{Line, Opens, Commands, Delivers, Loses, Receives, Heads, Restarts, Rotates}
 use Rattle.cookie_run.specs.ScriptLine.{read_line}
-use Rattle.cookie_run.specs.declared.ending.EndingWay.{EndingWay}
-use Rattle.cookie_run.specs.declared.ending.EndingWay.TheVariants as ends
-use Rattle.cookie_run.specs.declared.step.Way.{Way}
-use Rattle.cookie_run.specs.declared.step.Way.TheVariants.{Plain, Host, Secure, Signed, Sealed}
-use Rattle.cookie_run.specs.declared.step.SessionError.{SessionError}
-use Rattle.cookie_run.specs.declared.step.SessionError.TheVariants as refusals
+use Rattle.cookie_client.specs.declared.ending.EndingWay.{EndingWay}
+use Rattle.cookie_client.specs.declared.ending.EndingWay.TheVariants as ends
+use Rattle.cookie_client.specs.declared.way.Way.{Way}
+use Rattle.cookie_client.specs.declared.way.Way.TheVariants.{Plain, Host, Secure, Signed, Sealed}
+use Rattle.cookie_client.specs.declared.outcome.SessionError.{SessionError}
+use Rattle.cookie_client.specs.declared.outcome.SessionError.TheVariants as refusals
 use Rattle.cookie_run.specs.declared.script.ended.Ended.{Ended}
 use Rattle.cookie_run.specs.declared.script.ended.Ended.TheVariants.{Whole, Faulty}
 use Rattle.cookie_run.specs.declared.script.ended.RunError.{RunError}
@@ -286,8 +286,8 @@ all_acts r = r.acts ++ left_open r.now
 -- rows
 abbrev pub Prints : List Rule → Ring → List Row → Reached → List ℕ → List Row → Type 0
 Prints list ring rows r output new = (told : List (List RingReading))
-    × RingPlays list ring rows (all_acts r) told r.ring new × AllByRecursion IsAnswered (all_told told)
-    × (output ≡ readings_text (all_told told))
+    × RingPlays list ring rows (all_acts r) told r.ring new × AllByRecursion IsAnswered (all_read told)
+    × (output ≡ readings_text (all_read told))
 
 -- where line n stands in a text, counted from 1
 pub record IsLine (all : List (List ℕ)) (n : ℕ) (before : List (List ℕ)) (line : List ℕ) : Type 0 where
@@ -351,7 +351,7 @@ abbrev pub PrintsHalf : List Rule → Ring → List Row → List RingAct → Rin
 PrintsHalf list ring rows acts turned act output new =
     (told : List (List RingReading)) × (mid : List Row) × (more : List RingReading)
     × RingPlays list ring rows acts told turned mid × HalfStep list turned mid act more new
-    × AllByRecursion IsAnswered (all_told told ++ more) × (output ≡ readings_text (all_told told ++ more))
+    × AllByRecursion IsAnswered (all_read told ++ more) × (output ≡ readings_text (all_read told ++ more))
 
 -- a line that isn't done: the lines before it print this and leave those rows, or the step that it ends is half taken,
 -- and is the one that was printed

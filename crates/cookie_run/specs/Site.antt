@@ -1,11 +1,8 @@
 -- A site as its own delivered commands leave it. Nothing here knows a header, a line, a row, a signing or a sealing.
-use Rattle.std.specs.Prelude.{◌≡◌, ◌⊎◌, ℕ, ℤ, List, [], ◌∷◌, ◌++◌, Bool, false, not, ◌&&◌, Option, Some, None, is_some}
+use Rattle.std.specs.Prelude.{◌≡◌, ◌⊎◌, ℕ, ℤ, List, [], ◌∷◌, ◌++◌, Bool, not, ◌&&◌, Option, Some, None, is_some}
 use Rattle.std.specs.Prelude.{if◌then◌else◌}
 use Rattle.std.specs.Str.{bytes_eq}
-use Rattle.cookie.specs.Prefix.{host_text, secure_text}
-use Rattle.cookie.specs.Sealing.{is_sealable}
-use Rattle.cookie_text.specs.declared.expiration.Expiration.{Expiration}
-use Rattle.cookie_text.specs.Normal.{normal, is_short_year}
+use Rattle.cookie_text.specs.Normal.{normal}
 use Rattle.cookie_text.specs.Record.{Record}
 use Rattle.store_parts.specs.Expiry.{death, is_dead}
 use Rattle.cookie_run.specs.Acts.{Arrival, Arrives, Never}
@@ -13,35 +10,15 @@ use Rattle.cookie_run.specs.declared.step.Command.{Command}
 use Rattle.cookie_run.specs.declared.step.Command.TheVariants.{Set, Remove, Get}
 use Rattle.cookie_run.specs.declared.step.Reading.{Reading}
 use Rattle.cookie_run.specs.declared.step.Reading.TheVariants.{Value, Refused}
-use Rattle.cookie_run.specs.declared.step.SessionError.{SessionError}
-use Rattle.cookie_run.specs.declared.step.SessionError.TheVariants.{EmptyName, Year, TooLong, Rng, OutOfMemory}
-use Rattle.cookie_run.specs.declared.step.Way.{Way}
-use Rattle.cookie_run.specs.declared.step.Way.TheVariants as ways
+use Rattle.cookie_client.specs.declared.outcome.SessionError.{SessionError}
+use Rattle.cookie_client.specs.declared.outcome.SessionError.TheVariants.{EmptyName}
+use Rattle.cookie_client.specs.declared.way.Way.{Way}
+use Rattle.cookie_client.specs.Ways.{Kind, kind_of, stored_name, set_refusal, Refuses}
 
--- how a value is kept
-pub data Kind : Type 0 where
-  Plain : Kind
-  Signed : Kind
-  Sealed : Kind
-
+-- what is held under a name: a value, and how it is kept
 pub record Entry : Type 0 where
   pub kind : Kind
   pub value : List ℕ
-
--- the kind of a way, and the name under which it keeps
-abbrev pub kind_of : Way → Kind
-kind_of ways.Plain = Plain
-kind_of ways.Host = Plain
-kind_of ways.Secure = Plain
-kind_of ways.Signed = Signed
-kind_of ways.Sealed = Sealed
-
-abbrev pub stored_name : Way → List ℕ → List ℕ
-stored_name ways.Plain name = name
-stored_name ways.Host name = host_text ++ name
-stored_name ways.Secure name = secure_text ++ name
-stored_name ways.Signed name = name
-stored_name ways.Sealed name = name
 
 -- an entry, and its death, where it has one
 pub record Held : Type 0 where
@@ -62,37 +39,6 @@ View = List ℕ → Option Entry
 -- with this under a name
 abbrev pub with_at : {A : Type 0} → (List ℕ → Option A) → List ℕ → Option A → List ℕ → Option A
 with_at old name here = λ other. if bytes_eq other name then here else old other
-
--- ---- why a command is refused
-
--- the name is empty, or the expiry is of a year below 100
-abbrev pub refusal_of : List ℕ → Option Expiration → Option SessionError
-refusal_of [] end = Some EmptyName
-refusal_of (b ∷ bs) end = if is_short_year end then Some Year else None
-
--- a value or a name too long to be sealed
-abbrev pub is_too_long : Way → List ℕ → List ℕ → Bool
-is_too_long ways.Plain name value = false
-is_too_long ways.Host name value = false
-is_too_long ways.Secure name value = false
-is_too_long ways.Signed name value = false
-is_too_long ways.Sealed name value = not (is_sealable name value)
-
-abbrev pub then_long : Option SessionError → Bool → Option SessionError
-then_long (Some error) long = Some error
-then_long None long = if long then Some TooLong else None
-
--- why a set is refused for its name, its expiry and its lengths: the first of these that there is
-abbrev pub set_refusal : Way → Record → Option SessionError
-set_refusal way c = then_long (refusal_of c.name c.expires) (is_too_long way c.name c.value)
-
--- a set may be refused so: where nothing else stands against it, and it has to be sealed, its generator may fail
-abbrev pub Refuses : Way → Record → SessionError → Type 0
-Refuses way c EmptyName = set_refusal way c ≡ Some EmptyName
-Refuses way c Year = set_refusal way c ≡ Some Year
-Refuses way c TooLong = set_refusal way c ≡ Some TooLong
-Refuses way c Rng = (way ≡ ways.Sealed) × (set_refusal way c ≡ None)
-Refuses way c OutOfMemory = ⊥
 
 -- ---- what a request reads by its commands
 

@@ -7,10 +7,10 @@ use Rattle.cookie.specs.KeyRing.{Ring}
 use Rattle.publicsuffix.specs.Rules.{Rule}
 use Rattle.cookie_store.specs.Rows.{Row}
 use Rattle.cookie_run.specs.Drawn.{Draw}
-use Rattle.cookie_run.specs.Header.{IsHeader}
+use Rattle.cookie_client.specs.Header.{IsHeader}
 use Rattle.cookie_run.specs.RingDrawn.{RingCommandsDraw, RingPlaysBy}
-use Rattle.cookie_run.specs.RingPlay.{RingReading, all_told}
-use Rattle.cookie_run.specs.RingSession.{IsOpenedOn, Ringed}
+use Rattle.cookie_run.specs.RingPlay.{RingReading, all_read}
+use Rattle.cookie_client.specs.RingSession.{IsOpenedOn, Ringed}
 use Rattle.cookie_run.specs.ScriptDrawn.{LineFails}
 use Rattle.cookie_run.specs.ScriptLine.{Line}
 use Rattle.cookie_run.specs.ScriptText.{Now, Closed, Within, Reached, IsAnswered, readings_text, obeyed}
@@ -44,8 +44,8 @@ pub record Stands (drawn : List Draw) (list : List Rule) (first : Ring) (start :
   pub draws : drawn ≡ done ++ here
   pub plays : RingPlaysBy done list first start r.acts told ring rows
   pub is_open : IsOpen here ring rows r.now visit front
-  pub answered : AllByRecursion IsAnswered (all_told told ++ front)
-  pub prints : output ≡ readings_text (all_told told ++ front)
+  pub answered : AllByRecursion IsAnswered (all_read told ++ front)
+  pub prints : output ≡ readings_text (all_read told ++ front)
   pub turned : r.ring ≡ ring
   pub moment : last ≡ r.last
 

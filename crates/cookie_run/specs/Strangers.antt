@@ -7,7 +7,7 @@ use Rattle.publicsuffix.specs.Rules.{Rule}
 use Rattle.store_parts.specs.Schemes.{host_of}
 use Rattle.url.specs.Parts.{Parts}
 use Rattle.cookie_run.specs.Acts.{Act, Visits, Answers, Asks, Restarts}
-use Rattle.cookie_run.specs.Header.{IsHeader}
+use Rattle.cookie_client.specs.Header.{IsHeader}
 use Rattle.cookie_run.specs.Headline.{AreRelated, Each}
 use Rattle.cookie_run.specs.Play.{Plays, IsRun, IsRunUntil}
 use Rattle.cookie_run.specs.Readings.{all_told}

@@ -1,21 +1,21 @@
 //! What holds of every play on the rows of a store (RFC 6265, sections 5.2 to 5.4).
-ghost use Rattle.cookie_run.specs.EndingLaws as ends;
-ghost use Rattle.cookie_run.specs.HostRows as rows;
+ghost use Rattle.cookie_client.specs.HostRows as rows;
+ghost use Rattle.cookie_run.specs.HostRows.{PlaysHoldRightly};
 ghost use Rattle.cookie_run.specs.KeepingLaws as kept;
-ghost use Rattle.cookie_run.specs.KeptKeys.{RestartsKeepKeys, SavesButForMemory};
 ghost use Rattle.cookie_run.specs.Laws as law;
-ghost use Rattle.cookie_run.specs.Once as once;
 ghost use Rattle.cookie_run.specs.RingHeadline as ring_head;
 ghost use Rattle.cookie_run.specs.RingOfOne as ring_of_one_key;
 ghost use Rattle.cookie_run.specs.RingPlain as ring_plain;
-ghost use Rattle.cookie_run.specs.PlainSets as plain;
-ghost use Rattle.cookie_run.specs.Prefixes as prefix;
-ghost use Rattle.cookie_run.specs.RingSession as ringed;
 ghost use Rattle.cookie_run.specs.ScriptLaws as script;
 ghost use Rattle.cookie_run.specs.Strangers as stranger;
 
-use cookie::laws::{one_value, ring_of_one, texts_are_utf8};
-use cookie::{Key, KeyRing};
+use cookie::Key;
+use cookie::laws::{one_value, texts_are_utf8};
+pub use cookie_client::laws::{
+    answers_are_confined, ending_values_end, forms_are_apart, prefixes_are_seen,
+    refused_lines_change_nothing, restarts_keep_keys, restarts_keep_rows, rows_are_one,
+    saved_rows_are_kept, sent_lines_are_taken, sessions_of_one_key, sets_are_plain,
+};
 use cookie_text::laws::{
     bound_read_again, encoded_records_read_back, joined_pairs_split, one_outcome, pairs_read_again,
 };
@@ -67,37 +67,6 @@ pub fn rows_are_the_sites(key: &Key)
     let _ = key.encryption();
 }
 
-/// The lines of an answer touch rows under the URL's host alone, and under texts that it
-/// domain-matches and that are no public suffix. Each row that they add or change under a public
-/// suffix is of its host alone, whatever rows there were; one that they end stays whose it was. So
-/// rows under public suffixes stay of their hosts alone. Without a host they touch none.
-pub fn answers_are_confined()
-    ensures { law.AnswersAreConfined }
-{
-    cookie_store::laws();
-}
-
-/// Under a name that begins with `__Host-` or `__Secure-` a header brings a session only the cookie of a
-/// piece that begins so as it stands, so that a client which kept it saw the prefix; `%5F_Host-a=1`
-/// brings none.
-pub fn prefixes_are_seen()
-    ensures { prefix.PrefixesAreSeen }
-{}
-
-/// A line that isn't stored changes nothing.
-pub fn refused_lines_change_nothing()
-    ensures { law.RefusedLinesChangeNothing }
-{}
-
-/// The line of a session's cookie, received at an https URL of the host that sent it, becomes a row
-/// of that host alone under the path `/`, or leaves no live row of its key where it is dead then.
-/// Nothing refuses it but `Expired`, and that only where it is dead.
-pub fn sent_lines_are_taken()
-    ensures { law.SentLinesAreTaken }
-{
-    encoded_records_read_back();
-}
-
 /// Every row that a play left comes back where it is saved and loaded again: the printed text of its raw
 /// cookie reads, and domain, path, name, value and death are the same, whatever else of that cookie
 /// changes.
@@ -105,43 +74,6 @@ pub fn rows_come_back(key: &Key)
     ensures { kept.RowsComeBack key.now }
 {
     pairs_read_again();
-}
-
-/// Of rows that come back those with a death that is to come are kept, one by one the same, where they
-/// are saved and loaded again at one moment, and none is added.
-pub fn restarts_keep_rows()
-    ensures { kept.RestartsKeepRows }
-{}
-
-/// What is saved of a client's rows at one moment, and is loaded of that text at another, are the rows
-/// that are kept; and want of memory alone refuses the text, whatever the raw cookies. What it asks of
-/// the rows `Client::store` tells, and of that store `iter_any`; what of the text `Client::save`.
-pub fn saved_rows_are_kept()
-    ensures kept { kept.SavedRowsAreKept }
-    ensures read { kept.SavedTextsAreRead }
-{
-    cookie_store::serde::laws();
-    pairs_read_again();
-}
-
-/// Of rows whose names and values are as texts give them, as a client's are, some of those that are
-/// saved are left where these are loaded again, each with its domain, path, name and value, its death
-/// without a fraction of a second, and none is added. In the year 0 or later no such row lacks a saved
-/// text but for want of memory.
-pub fn restarts_keep_keys()
-    ensures keys { RestartsKeepKeys }
-    ensures memory { SavesButForMemory }
-{
-    pairs_read_again();
-}
-
-/// A line makes one row at most at a URL and a moment, and the rows that are kept where rows are saved
-/// and loaded are determined.
-pub fn rows_are_one()
-    ensures made { once.LinesMakeOneRow }
-    ensures kept { once.KeptOnce }
-{
-    one_outcome();
 }
 
 /// A script says of moments and removals what a play says of them: a line whose moment is before the last
@@ -172,48 +104,11 @@ pub fn host_rows_are_held_rightly()
     ensures answers { rows.AnswersHoldRightly }
     ensures restarts { rows.RestartsHoldRightly }
     ensures saved { rows.SavedRowsHoldRightly }
-    ensures plays { rows.PlaysHoldRightly }
+    ensures plays { PlaysHoldRightly }
 {
     pairs_read_again();
     bound_read_again();
     saved_rows_are_kept();
-}
-
-/// A value that was kept until a moment under the current key of a ring reads back under its name, at place 0, before
-/// that moment without its fraction of a second, and as nothing from then on, whatever the nonce was. What was signed
-/// under any key that counts does so too, with the place of that key or of one before it.
-pub fn ending_values_end(ring: &KeyRing)
-    ensures current { ends.EndsReadBack ring.now }
-    ensures signed { ends.SignedEndsReadBack ring.now }
-{
-    seal::laws::lengths();
-    printed_dates_are_read();
-    dates_are_of_one_moment();
-    one_value();
-}
-
-/// No text of a value that ends is a signing or a sealing of the plain form, whatever keys and names. A text that reads
-/// under two names as signed until a moment has one code under two derived keys.
-pub fn forms_are_apart()
-    ensures forms { ends.FormsAreApart }
-    ensures names { ends.NamesAreSigned }
-{
-    seal::laws::lengths();
-}
-
-/// A session on a ring of one key reads in each way what a session with that key reads, at place 0, and nothing else.
-pub fn sessions_of_one_key()
-    ensures { ringed.IsThatSession }
-{
-    ring_of_one();
-}
-
-/// A signed and a sealed set are plain sets of the cookie with the text of its value in the value's place.
-pub fn sets_are_plain()
-    ensures signed { plain.SignedSetsArePlain }
-    ensures sealed { plain.SealedSetsArePlain }
-{
-    texts_are_utf8();
 }
 
 /// What the commands of a session on a ring leave, some commands of a session with its current key leave that sign and

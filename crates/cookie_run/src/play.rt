@@ -6,8 +6,8 @@ ghost use Rattle.std.specs.Option.{option_to_list};
 ghost use Rattle.jiff.specs.Words.{civil_nanos};
 ghost use Rattle.cookie_run.specs.declared.step.Reading.{Reading};
 ghost use Rattle.cookie_run.specs.Moments.{AllFollow, IsMoment, last_of, the_beginning};
-ghost use Rattle.cookie_run.specs.Keeping.{Keeps};
-ghost use Rattle.cookie_run.specs.Accept.{Takes};
+ghost use Rattle.cookie_client.specs.Keeping.{Keeps};
+ghost use Rattle.cookie_client.specs.Accept.{Takes};
 ghost use Rattle.cookie_run.specs.Acts.{acts_of, act_of, arrival_of, Visits, Arrives, moments_in, moments_of};
 ghost use Rattle.cookie_run.specs.Acts.{arrival_moments};
 ghost use Rattle.cookie_run.specs.Stops.{StopsInside, GoesOnBy};
@@ -16,18 +16,18 @@ ghost use Rattle.cookie_run.specs.Drawn.{DrawsSo, IsRunBy, IsRunUntilBy, StepBy,
 ghost use Rattle.cookie_run.specs.Drawn.{CommandsDraw, CommandDraws, SetDraws, FrontDraws, AllDraw, IsDrawnInVain};
 ghost use Rattle.cookie_run.specs.declared.step.Command.TheVariants.{Set};
 ghost use Rattle.cookie_run.specs.Readings.{MayRead, NeedsNoNonce, ActNeedsNoNonce};
-ghost use Rattle.cookie_run.specs.Site.{set_refusal};
+ghost use Rattle.cookie_client.specs.Ways.{set_refusal};
 ghost use Rattle.cookie_run.specs.Headline.{SitesReadTheirOwn, SitesReadTheirOwnUntil};
 ghost use Rattle.cookie_run.specs.HostHeadline.{HostsReadTheirOwn, HostsReadTheirOwnUntil};
 ghost use Rattle.cookie_run.specs.Strangers.{StrangersDontShow, StrangersDontShowUntil};
 
-use crate::client::Client;
 use crate::laws::{hosts_read_their_own, sites_read_their_own, strangers_dont_show};
 use crate::moment::{beginning, come_to};
-use crate::session::{Session, copy_of};
 use crate::step::{Command, Delivery, Fault, FaultKind, Reading, SessionError, Step, Way};
 use crate::text::{Text, bytes_of, views_of};
 use cookie::{Cookie, Key};
+use cookie_client::Client;
+use cookie_client::session::{Session, copy_of};
 use cookie_store::Error;
 use jiff::civil::DateTime;
 use rand_core::TryRng;
@@ -56,10 +56,9 @@ pub fn play<R: TryRng>(
     rng: &mut R,
 ) -> Result<Vec<Reading>, Fault>
     ensures run { IfOk result (λ readings. IsRun list key.now (acts_of steps.now) readings.items) }
-    ensures sites { IfOk result (λ readings. SitesReadTheirOwn list (acts_of steps.now) readings.items) }
-    ensures moments { OnOk result (AllFollow the_beginning (moments_of (acts_of steps.now))) }
     ensures run_until { IfErr result (λ fault.
         IsRunUntil list key.now (acts_of steps.now) fault.step fault.kind fault.readings.items) }
+    ensures sites { IfOk result (λ readings. SitesReadTheirOwn list (acts_of steps.now) readings.items) }
     ensures sites_until { IfErr result (λ fault.
         SitesReadTheirOwnUntil list (acts_of steps.now) fault.step fault.kind fault.readings.items) }
     ensures hosts { IfOk result (λ readings. HostsReadTheirOwn (acts_of steps.now) readings.items) }
@@ -69,14 +68,15 @@ pub fn play<R: TryRng>(
         StrangersDontShow list key.now (acts_of steps.now) readings.items) }
     ensures strangers_until { IfErr result (λ fault.
         StrangersDontShowUntil list key.now (acts_of steps.now) fault.step fault.readings.items) }
-    ensures failed { MatchResult result (λ readings. AllByRecursion (MayRead R.Error) readings.items)
-        (λ fault. AllByRecursion (MayRead R.Error) fault.readings.items) }
-    ensures unasked { AllByRecursion ActNeedsNoNonce (acts_of steps.now) → rng.new ≡ rng.old }
     ensures draws { IfOk result (λ readings. DrawsSo R.may_fill R.Error rng.old
         (λ drawn. IsRunBy drawn list key.now (acts_of steps.now) readings.items) rng.new) }
     ensures draws_until { IfErr result (λ fault. DrawsSo R.may_fill R.Error rng.old
         (λ drawn. IsRunUntilBy drawn list key.now (acts_of steps.now) fault.step fault.kind fault.readings.items)
         rng.new) }
+    ensures unasked { AllByRecursion ActNeedsNoNonce (acts_of steps.now) → rng.new ≡ rng.old }
+    ensures failed { MatchResult result (λ readings. AllByRecursion (MayRead R.Error) readings.items)
+        (λ fault. AllByRecursion (MayRead R.Error) fault.readings.items) }
+    ensures moments { OnOk result (AllFollow the_beginning (moments_of (acts_of steps.now))) }
 {
     sites_read_their_own(key);
     hosts_read_their_own(key);

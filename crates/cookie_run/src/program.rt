@@ -16,7 +16,7 @@ mod help;
 pub use crate::program::answering::{answer, list_of};
 pub use crate::program::failure::Failure;
 pub use crate::program::help::HELP;
-use crate::release::version_line;
+use cookie_client::version_line;
 use devices::pour::{WriteFailed, write_all};
 use devices::{Sink, Source};
 use kept_file::files::Unread;
@@ -67,25 +67,13 @@ pub fn program<H: Files + AllocGlobal, K: Keeper, R: Source, W: Sink>(
     ensures tells { spec.WordsTell
         (reader.new ≡ reader.old)
         (writer.new ≡ writer.old)
-        (record {
-          left = R.left reader.old;
-          reads = R.reads reader.new;
-          unread = (R.failures reader.old, R.failures reader.new);
-          written = (W.written writer.old, W.written writer.new);
-          unwritten = (W.failures writer.old, W.failures writer.new);
-        })
+        (spec.devices_by R.left R.reads R.failures reader.old reader.new W.written W.failures writer.old writer.new)
         (map (λ word. string_bytes word) words.now) result.0 (option_map (λ said. said.now) result.1) }
     ensures failures { IsNone result.1 → (R.failures reader.new ≡ R.failures reader.old)
         × (W.failures writer.new ≡ W.failures writer.old) }
     ensures keeps { kept_spec.WordsKeep
         ((reader.new ≡ reader.old) × (writer.new ≡ writer.old))
-        (record {
-          left = R.left reader.old;
-          reads = R.reads reader.new;
-          unread = (R.failures reader.old, R.failures reader.new);
-          written = (W.written writer.old, W.written writer.new);
-          unwritten = (W.failures writer.old, W.failures writer.new);
-        })
+        (spec.devices_by R.left R.reads R.failures reader.old reader.new W.written W.failures writer.old writer.new)
         (map (λ word. string_bytes word) words.now) (K.lock kept.old, K.lock kept.new) result.0 }
     ensures unflushed { IsNone result.1 → W.unflushed writer.new ≡ 0 }
 {
@@ -167,25 +155,13 @@ fn run_told<H: Files + AllocGlobal, K: Keeper, R: Source, W: Sink>(
 ) -> (u8, Option<&'static str>)
     ensures tells { spec.ProgramTells
         ((reader.new ≡ reader.old) × (writer.new ≡ writer.old))
-        (record {
-          left = R.left reader.old;
-          reads = R.reads reader.new;
-          unread = (R.failures reader.old, R.failures reader.new);
-          written = (W.written writer.old, W.written writer.new);
-          unwritten = (W.failures writer.old, W.failures writer.new);
-        })
+        (spec.devices_by R.left R.reads R.failures reader.old reader.new W.written W.failures writer.old writer.new)
         (map (λ word. string_bytes word) words.now) result.0 (option_map (λ said. said.now) result.1) }
     ensures failures { IsNone result.1 → (R.failures reader.new ≡ R.failures reader.old)
         × (W.failures writer.new ≡ W.failures writer.old) }
     ensures keeps { kept_spec.KeepsStore
         ((reader.new ≡ reader.old) × (writer.new ≡ writer.old))
-        (record {
-          left = R.left reader.old;
-          reads = R.reads reader.new;
-          unread = (R.failures reader.old, R.failures reader.new);
-          written = (W.written writer.old, W.written writer.new);
-          unwritten = (W.failures writer.old, W.failures writer.new);
-        })
+        (spec.devices_by R.left R.reads R.failures reader.old reader.new W.written W.failures writer.old writer.new)
         (map (λ word. string_bytes word) words.now) (K.lock kept.old, K.lock kept.new) result.0 }
     ensures unflushed { IsNone result.1 → W.unflushed writer.new ≡ 0 }
 {
@@ -205,43 +181,19 @@ fn serve<H: Files + AllocGlobal, K: Keeper, R: Source, W: Sink>(
 ) -> Result<u8, Failure>
     ensures ok { IfOk result (λ status. spec.ProgramTells
         ((reader.new ≡ reader.old) × (writer.new ≡ writer.old))
-        (record {
-          left = R.left reader.old;
-          reads = R.reads reader.new;
-          unread = (R.failures reader.old, R.failures reader.new);
-          written = (W.written writer.old, W.written writer.new);
-          unwritten = (W.failures writer.old, W.failures writer.new);
-        })
+        (spec.devices_by R.left R.reads R.failures reader.old reader.new W.written W.failures writer.old writer.new)
         (map (λ word. string_bytes word) words.now) status None) }
     ensures err { IfErr result (spec.ProgramFails
         ((reader.new ≡ reader.old) × (writer.new ≡ writer.old))
-        (record {
-          left = R.left reader.old;
-          reads = R.reads reader.new;
-          unread = (R.failures reader.old, R.failures reader.new);
-          written = (W.written writer.old, W.written writer.new);
-          unwritten = (W.failures writer.old, W.failures writer.new);
-        })
+        (spec.devices_by R.left R.reads R.failures reader.old reader.new W.written W.failures writer.old writer.new)
         (map (λ word. string_bytes word) words.now)) }
     ensures keeps_ok { IfOk result (kept_spec.KeepsStore
         ((reader.new ≡ reader.old) × (writer.new ≡ writer.old))
-        (record {
-          left = R.left reader.old;
-          reads = R.reads reader.new;
-          unread = (R.failures reader.old, R.failures reader.new);
-          written = (W.written writer.old, W.written writer.new);
-          unwritten = (W.failures writer.old, W.failures writer.new);
-        })
+        (spec.devices_by R.left R.reads R.failures reader.old reader.new W.written W.failures writer.old writer.new)
         (map (λ word. string_bytes word) words.now) (K.lock kept.old, K.lock kept.new)) }
     ensures keeps_err { OnErr result (kept_spec.KeepsStore
         ((reader.new ≡ reader.old) × (writer.new ≡ writer.old))
-        (record {
-          left = R.left reader.old;
-          reads = R.reads reader.new;
-          unread = (R.failures reader.old, R.failures reader.new);
-          written = (W.written writer.old, W.written writer.new);
-          unwritten = (W.failures writer.old, W.failures writer.new);
-        })
+        (spec.devices_by R.left R.reads R.failures reader.old reader.new W.written W.failures writer.old writer.new)
         (map (λ word. string_bytes word) words.now) (K.lock kept.old, K.lock kept.new) 2) }
     ensures failures { OnOk result ((R.failures reader.new ≡ R.failures reader.old)
         × (W.failures writer.new ≡ W.failures writer.old)) }
@@ -314,43 +266,19 @@ fn serve_held<K: Keeper, R: Source, W: Sink>(
 ) -> Result<u8, Failure>
     ensures ok { IfOk result (λ status. spec.ProgramTells
         ((reader.new ≡ reader.old) × (writer.new ≡ writer.old))
-        (record {
-          left = R.left reader.old;
-          reads = R.reads reader.new;
-          unread = (R.failures reader.old, R.failures reader.new);
-          written = (W.written writer.old, W.written writer.new);
-          unwritten = (W.failures writer.old, W.failures writer.new);
-        })
+        (spec.devices_by R.left R.reads R.failures reader.old reader.new W.written W.failures writer.old writer.new)
         (map (λ word. string_bytes word) words.now) status None) }
     ensures err { IfErr result (spec.ProgramFails
         ((reader.new ≡ reader.old) × (writer.new ≡ writer.old))
-        (record {
-          left = R.left reader.old;
-          reads = R.reads reader.new;
-          unread = (R.failures reader.old, R.failures reader.new);
-          written = (W.written writer.old, W.written writer.new);
-          unwritten = (W.failures writer.old, W.failures writer.new);
-        })
+        (spec.devices_by R.left R.reads R.failures reader.old reader.new W.written W.failures writer.old writer.new)
         (map (λ word. string_bytes word) words.now)) }
     ensures keeps_ok { IfOk result (kept_spec.RunKeeps
         ((reader.new ≡ reader.old) × (writer.new ≡ writer.old))
-        (record {
-          left = R.left reader.old;
-          reads = R.reads reader.new;
-          unread = (R.failures reader.old, R.failures reader.new);
-          written = (W.written writer.old, W.written writer.new);
-          unwritten = (W.failures writer.old, W.failures writer.new);
-        })
+        (spec.devices_by R.left R.reads R.failures reader.old reader.new W.written W.failures writer.old writer.new)
         (map (λ word. string_bytes word) words.now) suffixes.now (K.lock kept.old, K.lock kept.new)) }
     ensures keeps_err { OnErr result (kept_spec.RunKeeps
         ((reader.new ≡ reader.old) × (writer.new ≡ writer.old))
-        (record {
-          left = R.left reader.old;
-          reads = R.reads reader.new;
-          unread = (R.failures reader.old, R.failures reader.new);
-          written = (W.written writer.old, W.written writer.new);
-          unwritten = (W.failures writer.old, W.failures writer.new);
-        })
+        (spec.devices_by R.left R.reads R.failures reader.old reader.new W.written W.failures writer.old writer.new)
         (map (λ word. string_bytes word) words.now) suffixes.now (K.lock kept.old, K.lock kept.new) 2) }
     ensures failures { OnOk result ((R.failures reader.new ≡ R.failures reader.old)
         × (W.failures writer.new ≡ W.failures writer.old)) }

@@ -20,14 +20,14 @@ fn main(rt: HostRuntime) -> ExitCode {
 
 // What the program answers, or want of memory.
 fn start(rt: &HostRuntime) -> (u8, Option<&'static str>) {
-    match play(rt) {
+    match answer(rt) {
         Ok(answer) => answer,
         Err(AllocError) => (2, Some("memory")),
     }
 }
 
 // Hands the program its words, standard input and standard output.
-fn play(rt: &HostRuntime) -> Result<(u8, Option<&'static str>), AllocError> {
+fn answer(rt: &HostRuntime) -> Result<(u8, Option<&'static str>), AllocError> {
     let words = with_seed(rt, words(rt)?)?;
     let Ok(reader) = BufReader::new(rt.alloc(), rt.reader()) else {
         return Err(AllocError);

@@ -11,12 +11,12 @@ ghost use Rattle.cookie_store.specs.SavedTexts.{Saves, IsAnyBeforeYears};
 ghost use Rattle.cookie_run.specs.Program as spec;
 ghost use Rattle.cookie_run.specs.ProgramRead.{asked_for};
 
-use crate::client::Client;
 use crate::program::arguments::{self, Asked};
 use crate::program::failure::Failure;
 use crate::script::ended::{Ended, RunError};
 use crate::script::run::run;
 use cookie::Key;
+use cookie_client::Client;
 use cookie_store::Error;
 use devices::{Counting, Sink, Source};
 use jiff::civil::DateTime;
@@ -54,13 +54,7 @@ pub fn answer<R: Source, W: Sink>(
 ) -> Result<Option<Vec<u8>>, Failure>
     ensures gives { spec.RunGives
         ((reader.new ≡ reader.old) × (writer.new ≡ writer.old))
-        (record {
-          left = R.left reader.old;
-          reads = R.reads reader.new;
-          unread = (R.failures reader.old, R.failures reader.new);
-          written = (W.written writer.old, W.written writer.new);
-          unwritten = (W.failures writer.old, W.failures writer.new);
-        })
+        (spec.devices_by R.left R.reads R.failures reader.old reader.new W.written W.failures writer.old writer.new)
         (map (λ word. string_bytes word) words.now) suffixes.now (option_copied stored.entry)
         (result_map_both (option_map (λ text. text.items)) (λ failure. failure) result) }
     ensures failures { OnOk result ((R.failures reader.new ≡ R.failures reader.old)
@@ -72,7 +66,7 @@ pub fn answer<R: Source, W: Sink>(
         Err(failure) => return Err(failure),
     };
     let mut client = client_of(alloc, &asked, suffixes, stored)?;
-    play(alloc, &asked, &mut client, reader, writer)
+    run_script(alloc, &asked, &mut client, reader, writer)
 }
 
 // The client that the script begins with.
@@ -142,7 +136,7 @@ fn unloaded(cause: Error) -> Failure
 }
 
 // Plays the script on the client, and makes the text that is to be saved where it ended whole.
-fn play<R: Source, W: Sink>(
+fn run_script<R: Source, W: Sink>(
     alloc: Global,
     asked: &Asked<'_>,
     client: &mut Client,
@@ -150,13 +144,7 @@ fn play<R: Source, W: Sink>(
     writer: &mut W,
 ) -> Result<Option<Vec<u8>>, Failure>
     ensures gives { spec.ScriptGives
-        (record {
-          left = R.left reader.old;
-          reads = R.reads reader.new;
-          unread = (R.failures reader.old, R.failures reader.new);
-          written = (W.written writer.old, W.written writer.new);
-          unwritten = (W.failures writer.old, W.failures writer.new);
-        })
+        (spec.devices_by R.left R.reads R.failures reader.old reader.new W.written W.failures writer.old writer.new)
         (asked_for asked.now) client.old.suffixes client.old.rows
         (result_map_both (option_map (λ text. text.items)) (λ failure. failure) result) }
     ensures failures { OnOk result ((R.failures reader.new ≡ R.failures reader.old)

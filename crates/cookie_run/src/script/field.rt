@@ -1,13 +1,14 @@
 //! The lines of a script, and the fields of a line.
-ghost use Rattle.std.specs.Prelude.{◌≡◌, ◌⊎◌, ◌∷◌, ◌<◌, ◌==◌, position, true, false, length, map, IfOk, OnOk, IfErr};
+ghost use Rattle.std.specs.Prelude.{◌≡◌, ◌⊎◌, ◌∷◌, ◌<◌, true, false, length, map, IfOk, OnOk, IfErr};
 ghost use Rattle.std.specs.List.{list_all, slice_split};
 ghost use Rattle.std.specs.Str.{is_utf8};
-ghost use Rattle.std.specs.Str.Lines.{lines, strip_carriage_return};
+ghost use Rattle.std.specs.Str.Lines.{lines};
 ghost use Rattle.cookie_run.specs.ScriptLine.{fields_of, is_tab};
 
 use crate::script::cause::Cause;
 use percent_encoding::percent_decode;
 use std::alloc::{AllocError, Global};
+use text_lines::{line_end, without_return};
 
 /// The first line of a text that isn't empty, and what follows it.
 ///
@@ -21,23 +22,6 @@ pub fn cut_line(text: &[u8]) -> (&[u8], &[u8])
     match line_end(text) {
         Some(i) => (without_return(&text[..i]), &text[i + 1..]),
         None => (text, &text[text.len()..]),
-    }
-}
-
-// Where the first line feed stands.
-fn line_end(text: &[u8]) -> Option<usize>
-    ensures { result ≡ position (λ b. b == 10) text.now }
-{
-    text.iter().position(|b| *b == b'\n')
-}
-
-// The line without the carriage return at its end, where it has one.
-fn without_return(line: &[u8]) -> &[u8]
-    ensures { result.now ≡ strip_carriage_return line.now }
-{
-    match line {
-        [front @ .., b'\r'] => front,
-        _ => line,
     }
 }
 

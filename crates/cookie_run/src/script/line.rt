@@ -7,7 +7,6 @@ ghost use Rattle.cookie_run.specs.ScriptMoment as dates;
 ghost use Rattle.cookie_run.specs.ScriptText as text_spec;
 ghost use Rattle.cookie_run.specs.ScriptRead.{ReadsLine, line_of};
 
-use crate::ending::EndingWay;
 use crate::script::cause::Cause;
 use crate::script::field::{fields_of, text_of, texts_of};
 use crate::script::moment::{Moment, date_of, timely};
@@ -15,6 +14,7 @@ use crate::script::seed::seed_of;
 use crate::step::Way;
 use crate::text::Text;
 use cookie::{Cookie, Expiration, Key};
+use cookie_client::EndingWay;
 use jiff::SignedDuration;
 use jiff::civil::DateTime;
 use std::alloc::Global;

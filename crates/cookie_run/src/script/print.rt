@@ -1,12 +1,12 @@
 //! What a script's run prints.
 ghost use Rattle.std.specs.Prelude.{◌≡◌, ◌++◌, IfOk, OnOk, string_bytes};
-ghost use Rattle.cookie_run.specs.Ending.{placed};
+ghost use Rattle.cookie_client.specs.Ending.{placed};
 ghost use Rattle.cookie_run.specs.RingPlay.{Header, Read, ReadUntil};
 ghost use Rattle.cookie_run.specs.ScriptText.{ending_way_text, read_text, reading_text, shown_escaped, shown_place};
 ghost use Rattle.cookie_run.specs.ScriptText.{shown_read, way_text};
 
-use crate::ending::EndingWay;
 use crate::step::Way;
+use cookie_client::EndingWay;
 use percent_encoding::{AsciiSet, CONTROLS, ascii_set, percent_encode};
 use std::alloc::{AllocError, Global};
 
@@ -23,7 +23,7 @@ pub fn value_line(
 ) -> Result<String, AllocError>
     ensures { IfOk result (λ line. string_bytes line ≡ reading_text (Read way name.now (placed read.now))) }
 {
-    read_line(alloc, way_name(way), name, read)
+    got_line(alloc, way_name(way), name, read)
 }
 
 /// The same of a value that ends.
@@ -35,10 +35,10 @@ pub fn ending_line(
 ) -> Result<String, AllocError>
     ensures { IfOk result (λ line. string_bytes line ≡ reading_text (ReadUntil way name.now (placed read.now))) }
 {
-    read_line(alloc, ending_way_name(way), name, read)
+    got_line(alloc, ending_way_name(way), name, read)
 }
 
-fn read_line(
+fn got_line(
     alloc: Global,
     word: &str,
     name: &str,

@@ -8,13 +8,13 @@ ghost use Rattle.cookie_run.specs.Drawn.{DrawsSo};
 ghost use Rattle.cookie_run.specs.ScriptDrawn.{IsScriptBy};
 ghost use Rattle.cookie_run.specs.ScriptText.{Runs, LeavesFront, fault_text};
 
-use crate::client::Client;
 use crate::script::cause::Cause;
 use crate::script::ended::{Ended, RunError};
 use crate::script::field::cut_line;
 use crate::script::visit::{Visit, follow};
-use crate::session::copy_of;
 use cookie::{Key, KeyRing};
+use cookie_client::Client;
+use cookie_client::session::copy_of;
 use devices::pour::{Stop, flush, read_all, write_all, write_number};
 use devices::{Sink, Source};
 use jiff::civil::DateTime;

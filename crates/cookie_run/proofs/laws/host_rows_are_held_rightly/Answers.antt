@@ -1,4 +1,5 @@
-use Rattle.cookie_run.proofs.HostRows.{answers_hold, restarts_hold, saved_hold, plays_hold}
+use Rattle.cookie_client.proofs.HostRows.{answers_hold, restarts_hold, saved_hold}
+use Rattle.cookie_run.proofs.HostRows.{plays_hold}
 use Rattle.cookie_run.proofs.laws.host_rows_are_held_rightly.Goals as goal
 
 pub returns-clause-answers : goal.returns-clause-answers

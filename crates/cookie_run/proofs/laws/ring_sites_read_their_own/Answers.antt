@@ -2,7 +2,8 @@ use Rattle.std.proofs.Common.{◌≡◌, ◌∙◌, ◌-◌, ap, length, length-
 use Rattle.cookie.specs.Key.{encryption_half}
 use Rattle.cookie_run.proofs.EndingDeaths.{ends_are_deaths}
 use Rattle.cookie_run.proofs.Exchange.{Laws}
-use Rattle.cookie_run.proofs.Promises.{ends_late, line_utf8}
+use Rattle.cookie_run.proofs.Promises.{ends_late}
+use Rattle.cookie_client.proofs.Promises.{line_utf8}
 use Rattle.cookie_run.proofs.RingMirrors.{RingLaws}
 use Rattle.cookie_run.proofs.RingSites.{ring_hosts_read, ring_setters_read, ring_sites_read}
 use Rattle.cookie_run.proofs.Showing.{OnlyOne}

@@ -1,7 +1,8 @@
 use Rattle.std.proofs.Common.{ap, length, sym, ◌∙◌}
 use Rattle.cookie_run.proofs.Showing.{OnlyOne}
 use Rattle.cookie_run.proofs.Exchange.{Laws}
-use Rattle.cookie_run.proofs.Promises.{ends_late, line_utf8}
+use Rattle.cookie_run.proofs.Promises.{ends_late}
+use Rattle.cookie_client.proofs.Promises.{line_utf8}
 use Rattle.cookie_run.proofs.Sites.{sites_read, sites_read_until}
 use Rattle.cookie_run.proofs.laws.sites_read_their_own.Goals as goal
 

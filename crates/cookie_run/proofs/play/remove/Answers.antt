@@ -1,6 +1,6 @@
 use Rattle.std.proofs.Common.{rules, ◌≢◌, refl, sym, inl, inr, ⊎_elim, Some}
-use Rattle.cookie_run.specs.Jar.{IsRemovalRefusal}
-use Rattle.cookie_run.specs.declared.step.SessionError.TheVariants.{OutOfMemory}
+use Rattle.cookie_client.specs.Jar.{IsRemovalRefusal}
+use Rattle.cookie_client.specs.declared.outcome.SessionError.TheVariants.{OutOfMemory}
 use Rattle.cookie_run.proofs.Runs.{removal_fills}
 use Rattle.cookie_run.proofs.play.remove.Goals as goal
 

@@ -2,11 +2,11 @@ use Rattle.std.proofs.Common.{◌≡◌, ◌≢◌, ◌⊎◌, [], ◌∷◌, Er
 use Rattle.std.specs.Prelude.{IfErr}
 use Rattle.cookie_text.specs.Record.{Seen}
 use Rattle.cookie_run.specs.Drawn.{DrawsSo, SetDraws, IsDrawnInVain}
-use Rattle.cookie_run.specs.Site.{Refuses, set_refusal}
+use Rattle.cookie_client.specs.Ways.{Refuses, set_refusal}
 use Rattle.cookie_run.specs.declared.step.Command.TheVariants.{Set}
 use Rattle.cookie_run.specs.declared.step.Reading.TheVariants.{Refused}
-use Rattle.cookie_run.specs.declared.step.SessionError.TheVariants.{OutOfMemory}
-use Rattle.cookie_run.specs.declared.step.Way.TheVariants.{Sealed}
+use Rattle.cookie_client.specs.declared.outcome.SessionError.TheVariants.{OutOfMemory}
+use Rattle.cookie_client.specs.declared.way.Way.TheVariants.{Sealed}
 use Rattle.cookie_run.proofs.DrawnRuns.{refused_drawn, set_drawn, vain_drawn}
 use Rattle.cookie_run.proofs.Runs.{on_err_any}
 use Rattle.cookie_run.proofs.play.set.Goals as goal

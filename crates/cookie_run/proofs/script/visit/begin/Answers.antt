@@ -1,7 +1,7 @@
 use Rattle.std.proofs.Common.{◌∙◌, List, ℕ, subst, refl}
 use Rattle.std.specs.Prelude.{string_bytes}
 use Rattle.jiff.specs.Words.{civil_nanos}
-use Rattle.cookie_run.specs.RingSession.{IsOpenedOn}
+use Rattle.cookie_client.specs.RingSession.{IsOpenedOn}
 use Rattle.cookie_run.specs.ScriptLine as spec
 use Rattle.cookie_run.specs.ScriptText.{obeyed}
 use Rattle.cookie_run.proofs.Halting.{no_memory, open_already, open_open}

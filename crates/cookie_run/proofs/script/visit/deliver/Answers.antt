@@ -1,7 +1,7 @@
 use Rattle.std.proofs.Common.{◌∙◌, ap, subst, refl}
 use Rattle.std.specs.Prelude.{string_bytes, map}
 use Rattle.jiff.specs.Words.{civil_nanos}
-use Rattle.cookie_run.specs.Accept.{IsStopped, Takes}
+use Rattle.cookie_client.specs.Accept.{IsStopped, Takes}
 use Rattle.cookie_run.specs.ScriptLine as spec
 use Rattle.cookie_run.specs.ScriptText.{obeyed}
 use Rattle.cookie_run.proofs.Following.{takes_of, stopped_at}

@@ -1,11 +1,11 @@
 use Rattle.std.proofs.Common.{◌≡◌, ◌≢◌, ◌⊎◌, ◌∙◌, [], ℕ, List, ap, false, subst}
 use Rattle.std.specs.Prelude.{string_bytes, is_none}
-use Rattle.cookie_run.specs.Ending.{placed}
+use Rattle.cookie_client.specs.Ending.{placed}
 use Rattle.cookie_run.specs.RingPlay.{GetUntil, ReadUntil}
-use Rattle.cookie_run.specs.RingSession.{ReadsEnding}
+use Rattle.cookie_client.specs.RingSession.{ReadsEnding}
 use Rattle.cookie_run.specs.ScriptLine as spec
 use Rattle.cookie_run.specs.ScriptText.{obeyed, reading_text}
-use Rattle.cookie_run.specs.declared.step.SessionError.TheVariants.{EmptyName, OutOfMemory}
+use Rattle.cookie_client.specs.declared.outcome.SessionError.TheVariants.{EmptyName, OutOfMemory}
 use Rattle.cookie_run.proofs.Halting.{get_until_halts, no_memory}
 use Rattle.cookie_run.proofs.Runs.{err_gives}
 use Rattle.cookie_run.proofs.Standings.{gets_until}

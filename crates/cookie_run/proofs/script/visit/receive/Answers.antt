@@ -1,7 +1,7 @@
 use Rattle.std.proofs.Common.{◌∙◌, sym, ap, subst, refl}
 use Rattle.std.specs.Prelude.{string_bytes, map}
 use Rattle.jiff.specs.Words.{civil_nanos}
-use Rattle.cookie_run.specs.Accept.{Takes}
+use Rattle.cookie_client.specs.Accept.{Takes}
 use Rattle.cookie_run.proofs.Standings.{receives}
 use Rattle.cookie_run.proofs.Following.{takes_of}
 use Rattle.cookie_run.specs.ScriptLine as spec

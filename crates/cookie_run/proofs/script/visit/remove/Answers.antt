@@ -1,9 +1,9 @@
 use Rattle.std.proofs.Common.{◌≡◌, ◌⊎◌, Some, None, ap, false, refl, subst}
 use Rattle.std.specs.Prelude.{string_bytes, is_none}
-use Rattle.cookie_run.specs.Jar.{IsRemovalRefusal, TakesOut}
-use Rattle.cookie_run.specs.RingSession.{keyed}
+use Rattle.cookie_client.specs.Jar.{IsRemovalRefusal, TakesOut}
+use Rattle.cookie_client.specs.RingSession.{keyed}
 use Rattle.cookie_run.specs.declared.script.visit.Visit.{Visit}
-use Rattle.cookie_run.specs.declared.step.SessionError.TheVariants.{OutOfMemory}
+use Rattle.cookie_client.specs.declared.outcome.SessionError.TheVariants.{OutOfMemory}
 use Rattle.cookie_run.proofs.Halting.{remove_halts}
 use Rattle.cookie_run.proofs.Standings.{removes}
 use Rattle.cookie_run.proofs.script.visit.remove.Goals as goal

@@ -1,11 +1,11 @@
 use Rattle.std.proofs.Common.{◌≡◌, ◌⊎◌, Some, None, Result, Err, [], ap, false, inl, inr, refl}
 use Rattle.std.specs.Prelude.{IsErrOf, string_bytes, is_none}
 use Rattle.cookie_run.specs.RingPlay.{SetUntil}
-use Rattle.cookie_run.specs.declared.ending.EndingWay.{EndingWay}
-use Rattle.cookie_run.specs.declared.ending.EndingWay.TheVariants.{Signed}
+use Rattle.cookie_client.specs.declared.ending.EndingWay.{EndingWay}
+use Rattle.cookie_client.specs.declared.ending.EndingWay.TheVariants.{Signed}
 use Rattle.cookie_run.specs.declared.script.visit.Visit.{Visit}
-use Rattle.cookie_run.specs.declared.step.SessionError.{SessionError}
-use Rattle.cookie_run.specs.declared.step.SessionError.TheVariants.{EmptyName, Year, TooLong}
+use Rattle.cookie_client.specs.declared.outcome.SessionError.{SessionError}
+use Rattle.cookie_client.specs.declared.outcome.SessionError.TheVariants.{EmptyName, Year, TooLong}
 use Rattle.cookie_run.proofs.Halting.{closed_command, until_halts}
 use Rattle.cookie_run.proofs.RingDrawnRuns.{until_drawn}
 use Rattle.cookie_run.proofs.Standings.{sets_until}

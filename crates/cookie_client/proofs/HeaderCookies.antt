@@ -1,0 +1,34 @@
+-- The cookies of a header, computed: `ReadCode` shows that they are the ones that its pieces give.
+use Rattle.std.specs.Prelude.{ℕ, List, [], ◌∷◌, ◌&&◌, Option, Some, None, if◌then◌else◌}
+use Rattle.std.specs.List.{filter_map}
+use Rattle.std.specs.Str.{is_utf8}
+use Rattle.percent_encoding.specs.Percent.{percent_decode}
+use Rattle.cookie_text.specs.Pieces.{pieces, name_of, value_of}
+use Rattle.cookie_text.specs.Record.{Record, bare}
+use Rattle.cookie_client.specs.Reading.{is_hidden_prefix}
+
+-- name and value percent-decoded, where both are texts then
+abbrev pub decoded : List ℕ → List ℕ → Option Record
+decoded name value =
+    if is_utf8 (percent_decode name) && is_utf8 (percent_decode value)
+    then Some (bare (percent_decode name) (percent_decode value))
+    else None
+
+-- the same, where there is a value and the name isn't empty
+abbrev pub pair_in : List ℕ → Option (List ℕ) → Option Record
+pair_in name None = None
+pair_in [] (Some value) = None
+pair_in (b ∷ bs) (Some value) = decoded (b ∷ bs) value
+
+-- the cookie of a piece, where that hides no prefix
+abbrev pub shown : List ℕ → Option Record → Option Record
+shown piece None = None
+shown piece (Some cookie) = if is_hidden_prefix piece cookie.name then None else Some cookie
+
+-- a piece of a header, where it is a text and reads
+abbrev pub cookie_of : List ℕ → Option Record
+cookie_of piece = if is_utf8 piece then shown piece (pair_in (name_of piece) (value_of piece)) else None
+
+-- the cookies of a header
+abbrev pub cookies_of : List ℕ → List Record
+cookies_of header = filter_map cookie_of (pieces header)

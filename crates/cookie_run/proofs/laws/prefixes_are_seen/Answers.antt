@@ -1,5 +1,0 @@
-use Rattle.cookie_run.proofs.SeenPrefixes.{prefixes_are_seen}
-use Rattle.cookie_run.proofs.laws.prefixes_are_seen.Goals as goal
-
-pub returns : goal.returns
-returns c = prefixes_are_seen

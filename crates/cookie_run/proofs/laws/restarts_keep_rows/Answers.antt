@@ -1,5 +1,0 @@
-use Rattle.cookie_run.proofs.FromLines.{restart_keeps}
-use Rattle.cookie_run.proofs.laws.restarts_keep_rows.Goals as goal
-
-pub returns : goal.returns
-returns c = λ rows now kept all keeps. restart_keeps rows kept now all keeps

@@ -1,5 +1,0 @@
-use Rattle.cookie_run.proofs.laws.sent_lines_are_taken.Goals as goal
-use Rattle.cookie_run.proofs.SentLines.{sent_taken}
-
-pub returns : goal.returns
-returns c = sent_taken c.encoded_records_read_back.ensures

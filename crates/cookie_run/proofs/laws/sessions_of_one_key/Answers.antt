@@ -1,5 +1,0 @@
-use Rattle.cookie_run.proofs.RingSessions.{that_session}
-use Rattle.cookie_run.proofs.laws.sessions_of_one_key.Goals as goal
-
-pub returns : goal.returns
-returns c = that_session c.ring_of_one.ensures.signed c.ring_of_one.ensures.sealed
