@@ -2,8 +2,8 @@
 use Rattle.std.proofs.Common.{◌≡◌, ◌∙◌, ◌++◌, ℕ, ℤ, BTreeMap, List, [], ◌∷◌, Result, Ok, Err, IfErr, IfOk, ap, inl, inr}
 use Rattle.std.proofs.Common.{append-nil, append_assoc, map, refl, subst, sym}
 use Rattle.std.specs.Global.{Vec}
-use Rattle.cookie_run.specs.Keeping.{Keeps}
-use Rattle.cookie_run.specs.declared.step.Stopped.{Stopped}
+use Rattle.cookie_client.specs.Keeping.{Keeps}
+use Rattle.cookie_client.specs.declared.outcome.Stopped.{Stopped}
 use Rattle.cookie_store.specs.Rows.{Key, Row, Store, key_of}
 use Rattle.publicsuffix.specs.Rules.{Rule}
 use Rattle.url.specs.Parts.{Parts}

@@ -6,7 +6,7 @@ use Rattle.std.proofs.lemmas.Bool.{or_from, or_parts}
 use Rattle.std.proofs.lemmas.List.{length-map}
 use Rattle.publicsuffix.specs.Registrable.{OneIsRegistrable}
 use Rattle.publicsuffix.specs.Rules.{Rule}
-use Rattle.cookie_run.specs.Keeping.{Keeps}
+use Rattle.cookie_client.specs.Keeping.{Keeps}
 use Rattle.cookie_store.specs.Grouped.{IsSublist}
 use Rattle.cookie_store.specs.Rows.{HaveOwnKeys, Key, Row, has_key_of, key_of}
 use Rattle.user_agent.specs.CrossAnswers.{ReceivesFor}

@@ -19,8 +19,8 @@ use Rattle.cookie_store.specs.Rows.{Key, Row, behind_last, ended, expired, found
 use Rattle.cookie_store.specs.Rows.{has_place_of, is_live_of, key_of, put, replaced}
 use Rattle.cookie_store.specs.declared.action.StoreAction.TheVariants.{ExpiredExisting}
 use Rattle.cookie_store.proofs.ApartLemmas.{key_is}
-use Rattle.cookie_run.specs.Accept.{Accepts}
-use Rattle.cookie_run.specs.declared.step.LineEnd.{LineEnd}
+use Rattle.cookie_client.specs.Accept.{Accepts}
+use Rattle.cookie_client.specs.declared.outcome.LineEnd.{LineEnd}
 use Rattle.user_agent.specs.Agent.{IsHandedOn}
 use Rattle.user_agent.specs.CrossAnswers.{ReceivesFor, TakesLineFrom, TakesLinesFrom}
 use Rattle.user_agent.specs.StrictRuns.{Comes, Reloads, StartedStep, TakesAllStarted, TakesStarted}
@@ -33,9 +33,8 @@ use Rattle.bounds.specs.Laws.{HasAtMost, IsNeverFull, WithoutAFullGroupItIsTheAg
 use Rattle.bounds.proofs.BoundLemmas.{TakesAllRows, TakesRows, run_rows, step_sound}
 use Rattle.bounds.proofs.KeyListLemmas.{AreDistinct, IsIn, any_in, distinct_pushed, in_any, in_pushed, no_more}
 use Rattle.bounds.proofs.LineKeyLemmas.{LineLaws, made_in}
-use Rattle.bounds.proofs.SoundLemmas.{anew_sound, counts_keys, own_of}
-use Rattle.bounds.proofs.SoundLemmas.{Sound, accepted_line, counts_key, receives_sound, restart_sound, text_or}
-use Rattle.bounds.proofs.SoundLemmas.{unlisted_then}
+use Rattle.bounds.proofs.SoundLemmas.{anew_sound, counts_keys, own_of, Sound, accepted_line, counts_key, receives_sound}
+use Rattle.bounds.proofs.SoundLemmas.{restart_sound, text_or, unlisted_then}
 use Rattle.bounds.proofs.TrimmingLemmas.{Trims, trims}
 
 -- ---- no line takes a key away

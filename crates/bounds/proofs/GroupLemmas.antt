@@ -1,22 +1,14 @@
 -- The group of a row.
-use Rattle.std.proofs.Common.{◌≡◌, ◌⊎◌, ◌∷◌, ℕ, List, Result, Ok, Err, IfOk, OnErr, OnOk, inl, inr, subst}
-use Rattle.cookie_run.specs.HostPrefix.{BeginsHost}
+use Rattle.std.proofs.Common.{◌≡◌, ◌∷◌, ℕ, List, Result, Ok, Err, IfOk, OnErr, OnOk, inr, subst}
+use Rattle.cookie_client.specs.HostPrefix.{BeginsHost}
 use Rattle.cookie_store.specs.Rows.{Key}
-use Rattle.publicsuffix.specs.Prevailing.{IsName, without_last_dot}
-use Rattle.publicsuffix.specs.Registrable.{IsSuffixItself, NoSuffixHasOne}
 use Rattle.publicsuffix.specs.Rules.{Rule}
-use Rattle.user_agent.specs.Sites.{HasDomain, IsSiteDomain}
+use Rattle.user_agent.specs.Sites.{IsSiteDomain}
 use Rattle.bounds.specs.Groups.{IsGroupOf}
 
 pub map_ok : {A E : Type 0} (r : Result A E) (P Q : A → Type 0) → ((x : A) → P x → Q x) → IfOk r P → IfOk r Q
 map_ok (Ok x) P Q f p = f x p
 map_ok (Err e) P Q f p = p
-
--- a host that is no name or a public suffix itself has no registrable domain
-pub no_domain : NoSuffixHasOne → (list : List Rule) (host other : List ℕ)
-    → ((¬ (IsName (without_last_dot host))) ⊎ IsSuffixItself list host) → ¬ (HasDomain list host other)
-no_domain none list host other (inl no_name) has = no_name has.registrable.is_name
-no_domain none list host other (inr itself) has = none list host other itself has.registrable
 
 pub group_domain : (list : List Rule) (key : Key) (host domain text : List ℕ) → ¬ (BeginsHost key.name)
     → host ≡ key.domain → IsSiteDomain list host domain → text ≡ 0 ∷ domain → IsGroupOf list key text

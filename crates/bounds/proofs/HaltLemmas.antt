@@ -12,9 +12,9 @@ use Rattle.cookie_store.specs.Rows.{Key, Row, found, has_key, is_live, key_of, r
 use Rattle.cookie_store.specs.SavedRows.{IsReread}
 use Rattle.cookie_store.proofs.ApartLemmas.{filter_apart}
 use Rattle.cookie_store.proofs.PlaceLaws.{has_own_key}
-use Rattle.cookie_run.specs.Hosts.{secure_host}
-use Rattle.cookie_run.specs.Keeping.{HasReadPair, HaveReadPairs, Keeps}
-use Rattle.cookie_run.proofs.FromLines.{filter_all}
+use Rattle.cookie_client.specs.Hosts.{secure_host}
+use Rattle.cookie_client.specs.Keeping.{HasReadPair, HaveReadPairs, Keeps}
+use Rattle.cookie_client.proofs.ComingBack.{filter_all}
 use Rattle.user_agent.specs.CrossAnswers.{IsStoppedFor, IsStoppedFrom}
 use Rattle.user_agent.specs.SecureRuns.{Answer}
 use Rattle.user_agent.specs.StrictRuns.{Comes, Reloads, StartedStep}

@@ -1,11 +1,10 @@
 -- What the client gets of a line is one text.
-use Rattle.std.proofs.Common.{◌≡◌, ◌≢◌, ◌∙◌, ◌++◌, ◌+◌, ℕ, zero, suc, ℤ, Bool, true, false, List, [], ◌∷◌}
-use Rattle.std.proofs.Common.{ap, arith, bytes_eq, codes, get_or, inl, inr, map, refl, subst, sym, take}
+use Rattle.std.proofs.Common.{◌≡◌, ◌∙◌, ◌++◌, ◌+◌, ℕ, zero, suc, ℤ, Bool, true, false, List, [], ◌∷◌, ap, arith}
+use Rattle.std.proofs.Common.{bytes_eq, codes, inl, inr, map, refl, subst, sym, take}
 use Rattle.std.specs.Prelude.{filter}
 use Rattle.std.specs.Char.{to_ascii_lowercase}
 use Rattle.std.specs.List.{AllByRecursion, position_or_len}
 use Rattle.std.proofs.lemmas.Option.{same_Some}
-use Rattle.cookie_text.specs.Attribute.{Attribute, Expires, Gives, MaxAge, kind, kind_name}
 use Rattle.cookie_text.specs.Date.{full_year}
 use Rattle.cookie_text.specs.declared.attribute.Kind.TheVariants as kinds
 use Rattle.cookie_text.specs.Reading.{first_piece}
@@ -15,30 +14,14 @@ use Rattle.jiff.specs.Types.{DateTime}
 use Rattle.jiff_core.specs.DateTime.{civil_nanos}
 use Rattle.user_agent.specs.Agent.{IsDoneIf, IsHandedOn}
 use Rattle.user_agent.specs.CutLives.{IsCut, IsCutLine}
-use Rattle.user_agent.specs.Dates.{BeginsWithNumber, Date, IsDay, IsFirst, IsMomentOf, IsMonth, IsTime, IsYear, Shows}
-use Rattle.user_agent.specs.Dates.{behind_digits, date_tokens}
+use Rattle.user_agent.specs.Dates.{Date, IsDay, IsFirst, IsMomentOf, IsMonth, IsTime, IsYear, Shows, date_tokens}
 use Rattle.user_agent.specs.KnownDates.{IsKnown, IsKnownLine, dated_piece, joined_behind}
 use Rattle.user_agent.specs.LongAttributes.{IsShortLine, is_short}
 use Rattle.user_agent.specs.declared.rules.Rules.{Rules}
+use Rattle.user_agent.proofs.CutLemmas.{age_or_end}
+use Rattle.user_agent.proofs.TokenLemmas.{one_number, one_time}
 
 -- ---- each kind of token says one thing
-
-one_number : {least most : ℕ} (token : List ℕ) (x y : ℕ) → BeginsWithNumber least most token x
-    → BeginsWithNumber least most token y → x ≡ y
-one_number token x y a b = sym a.value ∙ b.value
-
-one_time : (token : List ℕ) (x y : ℕ × ℕ × ℕ) → IsTime token x → IsTime token y → x ≡ y
-one_time token (h, m, s) (i, n, t) a b =
-    let minutes : a.minutes ≡ b.minutes = tail_same (sym a.first_colon ∙ b.first_colon) in
-    let hour : h ≡ i = one_number token h i a.hour b.hour in
-    let minute : m ≡ n = one_number b.minutes m n (subst (λ r. BeginsWithNumber 1 2 r m) minutes a.minute) b.minute in
-    let seconds : a.seconds ≡ b.seconds = tail_same
-    (sym a.second_colon ∙ (ap behind_digits minutes ∙ b.second_colon)) in
-    let second : s ≡ t = one_number b.seconds s t (subst (λ r. BeginsWithNumber 1 2 r s) seconds a.second) b.second in
-    cc
-  where
-    tail_same : {x : ℕ} {xs ys : List ℕ} → x ∷ xs ≡ x ∷ ys → xs ≡ ys
-    tail_same e = cc
 
 -- the number of a month by its letters
 abbrev number_of : List ℕ → ℕ
@@ -66,18 +49,6 @@ of_month token (suc (suc (suc (suc (suc (suc (suc (suc (suc (suc (suc (suc (suc 
 
 one_month : (token : List ℕ) (x y : ℕ) → IsMonth token x → IsMonth token y → x ≡ y
 one_month token x y a b = sym (of_month token x a) ∙ of_month token y b
-
-letters : (n m : ℕ) → n ≢ m → (xs ys : List ℕ) → get_or xs 0 0 ≡ n → get_or ys 0 0 ≡ m → xs ≢ ys
-letters n m apart xs ys x y e = apart (sym x ∙ ap (λ t. get_or t 0 0) e ∙ y)
-
-age_end_apart : kind_name kinds.MaxAge ≢ kind_name kinds.Expires
-age_end_apart e = letters 109 101 (λ h. omega (arith, h)) _ _ refl refl e
-
-one_kind : (p : List ℕ) (a b : Attribute) → Gives p a → Gives p b → kind_name (kind a) ≡ kind_name (kind b)
-one_kind p a b g h = sym g.named ∙ h.named
-
-age_or_end : (z : ℤ) (d : DateTime) (p : List ℕ) → Gives p (MaxAge z) → ¬ (Gives p (Expires d))
-age_or_end z d p g h = age_end_apart (one_kind p (MaxAge z) (Expires d) g h)
 
 -- ---- the date that a text shows
 

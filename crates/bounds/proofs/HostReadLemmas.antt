@@ -1,19 +1,17 @@
 -- What a session reads of a header under `__Host-` is of the host's own rows alone.
-use Rattle.std.proofs.Common.{◌≡◌, ◌⊎◌, ◌≤◌, ◌+◌, ◌==◌, ◌&&◌, ◌||◌, ◌∙◌, ◌++◌, ℕ, suc, ℤ, Bool, true, false, cond}
-use Rattle.std.proofs.Common.{not, List, [], ◌∷◌, Option, Some, None, ap, arith, filter, inl, inr, length, map}
-use Rattle.std.proofs.Common.{refl, subst, sym, ⊎_elim}
+use Rattle.std.proofs.Common.{◌≡◌, ◌⊎◌, ◌≤◌, ◌+◌, ◌==◌, ◌&&◌, ◌||◌, ◌∙◌, ◌++◌, ℕ, suc, ℤ, Bool, true, false, cond, not}
+use Rattle.std.proofs.Common.{List, [], ◌∷◌, Option, Some, None, ap, arith, filter, inl, inr, map, refl, subst, sym}
+use Rattle.std.proofs.Common.{⊎_elim}
 use Rattle.std.specs.Prelude.{IfSome, IsSomeAnd}
 use Rattle.std.specs.List.{AllByRecursion, cons_option, filter_map, list_any, position_or_len, starts_with}
 use Rattle.std.specs.Option.{option_or}
-use Rattle.std.specs.Str.{bytes_eq, chars, is_utf8, trim, trim_end, trim_start}
+use Rattle.std.specs.Str.{bytes_eq, chars, is_utf8}
 use lib.Utf8.{encode}
 use Rattle.std.proofs.lemmas.Bool.{both_ways, cases_Bool, cond-false, cond-true}
-use Rattle.std.proofs.lemmas.Bool.Decides.{nat_tests}
 use Rattle.percent_encoding.specs.Percent.{percent_decode}
 use Rattle.cookie.specs.Jar.{view}
 use Rattle.cookie.specs.Prefix.{host_text, secure_text}
-use Rattle.cookie_text.specs.Again.{Lacks}
-use Rattle.cookie_text.specs.Pieces.{equals, name_of, value_of}
+use Rattle.cookie_text.specs.Pieces.{name_of, value_of}
 use Rattle.cookie_text.specs.Printing.{is_set}
 use Rattle.cookie_text.specs.Record.{Record}
 use Rattle.cookie_text.proofs.PrintedPieces.{value_cut}
@@ -27,29 +25,32 @@ use Rattle.cookie_store.specs.Longest.{AreLongestFirst, LengthsFall, has_length,
 use Rattle.cookie_store.specs.Rows.{Row, key_of}
 use Rattle.cookie_store.proofs.EndLemmas.{picked_once}
 use Rattle.cookie_store.proofs.LongestLemmas.{told_by_lengths}
-use Rattle.cookie_run.specs.Header.{header_of, pair_text}
-use Rattle.cookie_run.specs.HostPrefix.{BeginsHost}
-use Rattle.cookie_run.specs.Hosts.{secure_host}
-use Rattle.cookie_run.specs.Jar.{IsOpened, Keyed, ReadsIn, last_in, record_in, value_in}
-use Rattle.cookie_run.specs.Keeping.{HasReadPair}
-use Rattle.cookie_run.specs.Reading.{AreCookiesOf, behind_blanks}
-use Rattle.cookie_run.specs.declared.step.Way.TheVariants.{Host}
-use Rattle.cookie_run.proofs.FromLines.{filter_all}
-use Rattle.cookie_run.proofs.GivenRows.{picked_all}
-use Rattle.cookie_run.proofs.HeaderBack.{IsRead, cookie_named, header_back, passed_over, texts_of}
-use Rattle.cookie_run.proofs.HeaderCookies.{cookie_of, cookies_of, pair_in, shown}
-use Rattle.cookie_run.proofs.HostRows.{picked_all as all_are}
-use Rattle.cookie_run.proofs.Lines.{https_of}
-use Rattle.cookie_run.proofs.Longest.{all_longest}
-use Rattle.cookie_run.proofs.ReadBack.{is_equals, led, led_pair, led_uncut, name_before}
-use Rattle.cookie_run.proofs.ReadCode.{cookies_are}
-use Rattle.cookie_run.proofs.Showing.{view_original}
-use Rattle.cookie_run.proofs.Texts.{same_text}
+use Rattle.cookie_client.specs.Header.{header_of, pair_text}
+use Rattle.cookie_client.specs.HostPrefix.{BeginsHost}
+use Rattle.cookie_client.specs.Hosts.{secure_host}
+use Rattle.cookie_client.specs.Jar.{IsOpened, Keyed, ReadsIn, last_in, record_in, value_in}
+use Rattle.cookie_client.specs.Keeping.{HasReadPair}
+use Rattle.cookie_client.specs.Reading.{AreCookiesOf, behind_blanks}
+use Rattle.cookie_client.specs.declared.way.Way.TheVariants.{Host}
+use Rattle.cookie_client.proofs.ComingBack.{filter_all}
+use Rattle.cookie_client.proofs.RowLists.{picked_all, all_longest}
+use Rattle.cookie_client.proofs.HeaderBack.{IsRead, cookie_named, header_back, passed_over, texts_of, chars_spaced}
+use Rattle.cookie_client.proofs.HeaderBack.{trim_led, uncut}
+use Rattle.cookie_client.proofs.HeaderCookies.{cookie_of, cookies_of, pair_in, shown}
+use Rattle.cookie_client.proofs.HostRows.{picked_all as all_are}
+use Rattle.cookie_client.proofs.Lines.{https_of}
+use Rattle.cookie_client.proofs.ReadBack.{led, led_pair, led_uncut, name_before}
+use Rattle.cookie_client.proofs.ReadCode.{cookies_are}
+use Rattle.cookie_client.proofs.SessionTexts.{view_original}
+use Rattle.cookie_client.proofs.Texts.{same_text}
 use Rattle.user_agent.specs.CrossSite.{IsHeaderFor, is_sent, sent_across}
-use Rattle.user_agent.specs.SecureWins.{IsHeaderIf, decoded_name, is_secure_of, winners, wins}
+use Rattle.user_agent.specs.Headers.{IsHeaderBehind, free_rows, is_free, left_if, shown as rows_shown}
+use Rattle.user_agent.specs.SecureWins.{decoded_name, is_secure_of, winners, wins}
 use Rattle.user_agent.specs.Sites.{is_safe_navigation}
 use Rattle.user_agent.specs.declared.rules.Rules.{Rules}
 use Rattle.user_agent.specs.declared.sites.Initiator.{Initiator}
+use Rattle.user_agent.proofs.SecureReadLemmas.{first_equals, lacks_led, read_pairs}
+use Rattle.user_agent.proofs.StandingLemmas.{filter_same}
 use Rattle.bounds.proofs.HostRowLemmas.{P, is_own_of}
 use Rattle.bounds.specs.Laws.{HostsReadTheSame}
 use Rattle.bounds.proofs.LineKeyLemmas.{LineLaws}
@@ -58,36 +59,9 @@ use Rattle.bounds.proofs.SoundLemmas.{IsOwn, both_each, each}
 
 -- ---- a space in front of a pair changes no cookie
 
-chars_spaced : (bs : List ℕ) → chars (32 ∷ bs) ≡ 32 ∷ chars bs
-unfolding chars
-chars_spaced [] = refl
-chars_spaced (b ∷ bs) = refl
-
-trim_spaced : (bs : List ℕ) → trim (32 ∷ bs) ≡ trim bs
-unfolding trim_start
-trim_spaced bs = ap trim_end (rw (chars_spaced bs) refl)
-
-trim_led : (spaced : Bool) (bs : List ℕ) → trim (led spaced bs) ≡ trim bs
-trim_led false bs = refl
-trim_led true bs = trim_spaced bs
-
 utf8_spaced : (bs : List ℕ) → is_utf8 (32 ∷ bs) ≡ is_utf8 bs
 unfolding is_utf8 chars encode
 utf8_spaced bs = rw (chars_spaced bs) refl
-
-uncut : (n : List ℕ) → Lacks 61 n → AllByRecursion (λ b. is_equals b ≡ false) n
-uncut [] h = tt
-uncut (b ∷ bs) h = (grind (arith, nat_tests, h.0), uncut bs h.1)
-
-lacks_led : (spaced : Bool) (n : List ℕ) → Lacks equals n → Lacks equals (led spaced n)
-lacks_led false n h = h
-lacks_led true n h = ((λ e. omega (arith, e)), h)
-
-first_equals : (n v : List ℕ) → Lacks equals n → position_or_len (λ b. b == equals) (n ++ equals ∷ v) ≡ length n
-first_equals [] v h = refl
-first_equals (b ∷ n) v h =
-    let other : (b == equals) ≡ false = grind (arith, nat_tests, h.0) in
-    rw (other, first_equals n v h.1) (omega arith)
 
 name_is : (spaced : Bool) (p : List ℕ × List ℕ) → IsRead p → name_of (led spaced (pair_text p)) ≡ p.0
 name_is spaced p h =
@@ -139,10 +113,6 @@ of_rows spaced (row ∷ rows) read =
     (cookie_led spaced (pair_of row) read.0)
     ∙ ap (cons_option (cookie_at row)) (of_rows true rows read.1)
 
-read_pairs : (rows : List Row) → AllByRecursion HasReadPair rows → AllByRecursion IsRead (map pair_of rows)
-read_pairs [] h = tt
-read_pairs (row ∷ rows) h = (h.0, read_pairs rows h.1)
-
 -- the last cookie of a name is of the rows of that name
 module _ (text : List ℕ) where
   abbrev pub N : Row → Bool
@@ -190,13 +160,6 @@ module _ (text : List ℕ) where
       ∙ last_of_rows rows read
 
 -- ---- rows in the order of a header
-
-filter_same : (f g : Row → Bool) (rows : List Row) → AllByRecursion (λ y. f y ≡ g y) rows
-    → filter f rows ≡ filter g rows
-filter_same f g [] all = refl
-filter_same f g (y ∷ ys) all =
-    ap (λ b. cond b (y ∷ filter f ys) (filter f ys)) all.0
-    ∙ ap (λ zs. cond (g y) (y ∷ zs) zs) (filter_same f g ys all.1)
 
 filter_both : (f g : Row → Bool) (rows : List Row) → filter (λ y. f y && g y) rows ≡ filter g (filter f rows)
 filter_both f g [] = refl
@@ -292,8 +255,8 @@ module _ (host name : List ℕ) (to : Parts) (now : ℤ) (secure : secure_host t
       and_false true b e = e
       and_false false b e = refl
 
-  -- what a header shows of rows
-  record Shown (rows : List Row) (header : List ℕ) : Type 0 where
+  -- what a header shows of rows, where those with a control character are left out or not
+  record Shown (control : Bool) (rows : List Row) (header : List ℕ) : Type 0 where
     given : List Row
     are_given : AreGiven rows to now given
     ordered : List Row
@@ -301,7 +264,17 @@ module _ (host name : List ℕ) (to : Parts) (now : ℤ) (secure : secure_host t
     shown_rows : List Row
     read : AllByRecursion HasReadPair shown_rows
     printed : header ≡ header_of (map pair_of shown_rows)
-    of_name : filter Of shown_rows ≡ filter Of ordered
+    of_name : filter Of shown_rows ≡ left_if control free_rows (filter Of ordered)
+
+  all_winners : (on : Bool) (rows : List Row) → AllByRecursion HasReadPair rows
+      → AllByRecursion HasReadPair (left_if on winners rows)
+  all_winners true rows read = filter_all HasReadPair (wins rows) rows read
+  all_winners false rows read = read
+
+  all_left : (on : Bool) (rows : List Row) → AllByRecursion HasReadPair rows
+      → AllByRecursion HasReadPair (left_if on free_rows rows)
+  all_left true rows read = filter_all HasReadPair is_free rows read
+  all_left false rows read = read
 
   -- each of them that begins with `__Host-` is Secure, and wins
   win : (all : List Row) (row : Row) → IsOwn row → Of row ≡ true → wins all row ≡ true
@@ -321,52 +294,52 @@ module _ (host name : List ℕ) (to : Parts) (now : ℤ) (secure : secure_host t
       by false e true f rest = absurd (both_ways (wide row) e (all.0 f))
       by false e false f rest = rest
 
-  shows : (rule : Bool) (rows : List Row) (header : List ℕ) → AllByRecursion IsOwn rows
-      → IsHeaderIf rule rows to now header → Shown rows header
-  shows true rows header own is =
+  winners_of_name : (on : Bool) (rows : List Row) → AllByRecursion IsOwn rows
+      → filter Of (left_if on winners rows) ≡ filter Of rows
+  winners_of_name true rows own =
+      filter_within (wins rows) rows
+      (each IsOwn (λ row. Of row ≡ true → wins rows row ≡ true) (λ row h e. win rows row h e) rows own)
+  winners_of_name false rows own = refl
+
+  left_of_name : (on : Bool) (rows : List Row)
+      → filter Of (left_if on free_rows rows) ≡ left_if on free_rows (filter Of rows)
+  left_of_name true rows = filter_swap is_free Of rows
+  left_of_name false rows = refl
+
+  shows : (rules : Rules) (rows : List Row) (header : List ℕ) → AllByRecursion IsOwn rows
+      → IsHeaderBehind rules rows to now header → Shown rules.control rows header
+  shows rules rows header own is =
       let (given, are, first) = is.are_given in
       let held = all_longest IsOwn given is.given first
       (picked_all IsOwn (λ row. IsGiven row to now) rows given own are) in
+      let read = each IsOwn HasReadPair (λ row h. h.0) is.given held in
       record {
         given = given;
         are_given = are;
         ordered = is.given;
         longest = first;
-        shown_rows = winners is.given;
-        read = filter_all HasReadPair (wins is.given) is.given (each IsOwn HasReadPair (λ row h. h.0) is.given held);
+        shown_rows = rows_shown rules is.given;
+        read = all_left rules.control _ (all_winners rules.secure_wins is.given read);
         printed = is.printed;
-        of_name = filter_within (wins is.given) is.given
-            (each IsOwn (λ row. Of row ≡ true → wins is.given row ≡ true) (λ row h e. win is.given row h e) is.given
-            held);
+        of_name = left_of_name rules.control _
+            ∙ ap (left_if rules.control free_rows) (winners_of_name rules.secure_wins is.given held);
       }
-  shows false rows header own is = record {
-    given = is.given;
-    are_given = is.are_given;
-    ordered = is.ordered;
-    longest = is.longest;
-    shown_rows = is.ordered;
-    read = each IsOwn HasReadPair (λ row h. h.0) is.ordered
-        (all_longest IsOwn is.given is.ordered is.longest
-        (picked_all IsOwn (λ row. IsGiven row to now) rows is.given own is.are_given));
-    printed = is.printed;
-    of_name = refl;
-  }
 
   -- the rows of the name, in the order of the header
-  named_rows : (rows : List Row) (header : List ℕ) → AllByRecursion IsOwn rows → (s : Shown rows header)
-      → filter Of s.shown_rows ≡ filter OwnOf s.ordered
-  named_rows rows header own s =
+  named_rows : (control : Bool) (rows : List Row) (header : List ℕ) → AllByRecursion IsOwn rows
+      → (s : Shown control rows header) → filter Of s.shown_rows ≡ left_if control free_rows (filter OwnOf s.ordered)
+  named_rows control rows header own s =
       let held = picked_all IsOwn (λ row. IsGiven row to now) rows s.given own s.are_given in
       let are = all_are (λ row. IsGiven row to now) rows s.given s.are_given in
       s.of_name
-      ∙ filter_same Of OwnOf s.ordered
+      ∙ ap (left_if control free_rows) (filter_same Of OwnOf s.ordered
       (all_longest (λ row. Of row ≡ OwnOf row) s.given s.ordered s.longest
-      (both_each IsOwn (λ row. IsGiven row to now) (λ row. Of row ≡ OwnOf row) same_test s.given held are))
+      (both_each IsOwn (λ row. IsGiven row to now) (λ row. Of row ≡ OwnOf row) same_test s.given held are)))
 
-  rows_same : (a b : List Row) (header other : List ℕ) → AllByRecursion IsOwn a → AllByRecursion IsOwn b
-      → filter (P host) a ≡ filter (P host) b → (s : Shown a header) (t : Shown b other)
-      → filter Of s.shown_rows ≡ filter Of t.shown_rows
-  rows_same a b header other own also same s t =
+  rows_same : (control : Bool) (a b : List Row) (header other : List ℕ) → AllByRecursion IsOwn a
+      → AllByRecursion IsOwn b → filter (P host) a ≡ filter (P host) b → (s : Shown control a header)
+      (t : Shown control b other) → filter Of s.shown_rows ≡ filter Of t.shown_rows
+  rows_same control a b header other own also same s t =
       let rows : filter OwnOf a ≡ filter OwnOf b =
       filter_both (P host) Of a ∙ (ap (filter Of) same ∙ sym (filter_both (P host) Of b)) in
       let given : filter OwnOf s.given ≡ filter OwnOf t.given =
@@ -374,9 +347,10 @@ module _ (host name : List ℕ) (to : Parts) (now : ℤ) (secure : secure_host t
       (subst (λ rs. ArePicked (λ row. IsGiven row to now) rs (filter OwnOf s.given)) rows
       (picked_of_some OwnOf (λ row. IsGiven row to now) a s.given s.are_given))
       (picked_of_some OwnOf (λ row. IsGiven row to now) b t.given t.are_given) in
-      named_rows a header own s
-      ∙ (ordered_once OwnOf s.given t.given s.ordered t.ordered s.longest t.longest given
-      ∙ sym (named_rows b other also t))
+      named_rows control a header own s
+      ∙ (ap (left_if control free_rows)
+      (ordered_once OwnOf s.given t.given s.ordered t.ordered s.longest t.longest given)
+      ∙ sym (named_rows control b other also t))
 
   -- ---- what a session reads
 
@@ -385,17 +359,17 @@ module _ (host name : List ℕ) (to : Parts) (now : ℤ) (secure : secure_host t
   reads_last header key session opened =
       ap record_in (view_original session.jar text opened.holds.changes) ∙ opened.holds.originals text
 
-  behind_same : (rule : Bool) (a b : List Row) (header other : List ℕ) → AllByRecursion IsOwn a
-      → AllByRecursion IsOwn b → filter (P host) a ≡ filter (P host) b → IsHeaderIf rule a to now header
-      → IsHeaderIf rule b to now other → (key : List ℕ) (session also : Keyed) → IsOpened key header session
+  behind_same : (rules : Rules) (a b : List Row) (header other : List ℕ) → AllByRecursion IsOwn a
+      → AllByRecursion IsOwn b → filter (P host) a ≡ filter (P host) b → IsHeaderBehind rules a to now header
+      → IsHeaderBehind rules b to now other → (key : List ℕ) (session also : Keyed) → IsOpened key header session
       → IsOpened key other also → (value : Option (List ℕ)) → ReadsIn session Host name value
       → ReadsIn also Host name value
-  behind_same rule a b header other own too same is is_also key session also opened opened_also value reads =
-      let s = shows rule a header own is in
-      let t = shows rule b other too is_also in
+  behind_same rules a b header other own too same is is_also key session also opened opened_also value reads =
+      let s = shows rules a header own is in
+      let t = shows rules b other too is_also in
       let last : last_in opened.cookies text ≡ last_in opened_also.cookies text =
       last_of_header text header opened.cookies s.shown_rows s.read s.printed opened.read
-      ∙ (ap (λ rs. last_in (filter_map cookie_at rs) text) (rows_same a b header other own too same s t)
+      ∙ (ap (λ rs. last_in (filter_map cookie_at rs) text) (rows_same rules.control a b header other own too same s t)
       ∙ sym (last_of_header text other opened_also.cookies t.shown_rows t.read t.printed opened_also.read)) in
       reads
       ∙ ap value_in
@@ -415,12 +389,12 @@ module _ (host name : List ℕ) (to : Parts) (now : ℤ) (secure : secure_host t
       → ReadsIn session Host name value → ReadsIn also Host name value
   headers_same rules list a b initiator header other own too same (inl is) (inl is_also) =
       let sent = is_sent rules.lax_by_default (is_safe_navigation initiator) in
-      behind_same rules.secure_wins (filter sent a) (filter sent b) header other (filter_all IsOwn sent a own)
+      behind_same rules (filter sent a) (filter sent b) header other (filter_all IsOwn sent a own)
       (filter_all IsOwn sent b too) (sent_same rules.lax_by_default initiator a b same) is.1 is_also.1
   headers_same rules list a b initiator header other own too same (inl is) (inr is_also) = absurd (is_also.0 is.0)
   headers_same rules list a b initiator header other own too same (inr is) (inl is_also) = absurd (is.0 is_also.0)
   headers_same rules list a b initiator header other own too same (inr is) (inr is_also) =
-      behind_same rules.secure_wins a b header other own too same is.1 is_also.1
+      behind_same rules a b header other own too same is.1 is_also.1
 
 pub hosts_read : LineLaws → OneIsRegistrable → HostsReadTheSame
 hosts_read laws sites start bounded steps rows begun runs host names set to initiator now header free secure is is_free

@@ -27,27 +27,25 @@ use Rattle.cookie_store.specs.Rows.{is_live_of, key_of, put, removed}
 use Rattle.cookie_store.specs.declared.action.StoreAction.TheVariants.{ExpiredExisting}
 use Rattle.cookie_store.proofs.ApartLemmas.{key_is}
 use Rattle.cookie_store.proofs.PlaceLaws.{others_stay}
-use Rattle.cookie_run.specs.Accept.{Accepts}
-use Rattle.cookie_run.specs.HostPrefix.{BeginsHost, IsAgainstHost}
-use Rattle.cookie_run.specs.Hosts.{secure_host}
-use Rattle.cookie_run.specs.declared.step.LineEnd.{LineEnd}
-use Rattle.cookie_run.proofs.HostSites.{begins_host}
-use Rattle.cookie_run.proofs.LetIn.{free_conforms}
-use Rattle.cookie_run.proofs.Lines.{some_domain}
-use Rattle.cookie_run.proofs.OwnRows.{rows_map_other}
-use Rattle.cookie_run.proofs.Texts.{same_text, some_is_not_none, text_is}
+use Rattle.cookie_client.specs.Accept.{Accepts}
+use Rattle.cookie_client.specs.HostPrefix.{BeginsHost, IsAgainstHost}
+use Rattle.cookie_client.specs.Hosts.{secure_host}
+use Rattle.cookie_client.specs.declared.outcome.LineEnd.{LineEnd}
+use Rattle.cookie_client.proofs.HostRows.{begins_host}
+use Rattle.cookie_client.proofs.LetIn.{free_conforms}
+use Rattle.cookie_client.proofs.Lines.{some_domain}
+use Rattle.cookie_client.proofs.CountedRows.{rows_map_other}
+use Rattle.cookie_client.proofs.Texts.{same_text, some_is_not_none, text_is}
 use Rattle.user_agent.specs.Agent.{IsHandedOn}
 use Rattle.user_agent.specs.CrossAnswers.{ReceivesFor, TakesLineFrom, TakesLinesFrom}
 use Rattle.user_agent.specs.declared.cross_answer.OutcomeFor.{OutcomeFor}
 use Rattle.user_agent.specs.declared.rules.Rules.{Rules}
 use Rattle.user_agent.specs.declared.sites.Initiator.{Initiator}
-use Rattle.bounds.specs.Bounded.{Counts, CountsKey, CountsKeys, Kept, Order, Rows, is_key}
-use Rattle.bounds.specs.Bounded.{keys_at}
+use Rattle.bounds.specs.Bounded.{Counts, CountsKey, CountsKeys, Kept, Order, Rows, is_key, keys_at}
 use Rattle.bounds.specs.Groups.{IsGroupOf, of_host}
 use Rattle.bounds.specs.Laws.{AreHostsOwn, IsHostsOwn}
 use Rattle.bounds.proofs.KeyListLemmas.{IsIn, any_in, in_pushed, taken_in}
-use Rattle.bounds.proofs.SoundLemmas.{IsListed, Sound, accepted_line, counts_key, not_one, text_or}
-use Rattle.bounds.proofs.SoundLemmas.{unlisted_then}
+use Rattle.bounds.proofs.SoundLemmas.{IsListed, Sound, accepted_line, counts_key, not_one, text_or, unlisted_then}
 use Rattle.bounds.proofs.TrimmingLemmas.{Trims, trims}
 
 -- ---- the test

@@ -1,10 +1,9 @@
 -- The row that an answer's line makes has the key that is counted.
-use Rattle.std.proofs.Common.{◌≡◌, ◌∙◌, ℕ, ℤ, Bool, true, false, List, [], ◌∷◌, Ok, ap, inl, inr}
-use Rattle.std.proofs.Common.{refl, subst, sym}
+use Rattle.std.proofs.Common.{◌≡◌, ◌∙◌, ℕ, ℤ, Bool, true, false, List, [], ◌∷◌, Ok, ap, inl, inr, refl, subst, sym}
 use Rattle.std.specs.Prelude.{IsSomeAnd}
 use Rattle.std.specs.List.{AllByRecursion}
 use Rattle.std.specs.Str.{IsUtf8}
-use Rattle.cookie_run.proofs.ReadOnce.{ReadsOnce, made_once, read_once}
+use Rattle.cookie_client.proofs.ReadOnce.{ReadsOnce, made_once, read_once}
 use Rattle.cookie_store.specs.Making.{IsDomainFor, IsMade, path_at}
 use Rattle.cookie_store.specs.Rows.{Key, Row, key_of}
 use Rattle.cookie_store.proofs.ReadableLemmas.{pair_reads}

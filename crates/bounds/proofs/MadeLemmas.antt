@@ -1,39 +1,27 @@
 -- The keys that lines make.
 use Rattle.std.proofs.Common.{◌≡◌, ◌∙◌, ◌++◌, ℕ, ℤ, Bool, true, false, List, [], ◌∷◌, Option, Some, None, ap, inl, inr}
-use Rattle.std.proofs.Common.{◌+◌, ◌<◌, ◌≤◌, add-one, append_assoc, append-nil, drop, drop-cons}
-use Rattle.std.proofs.Common.{drop_of_length-le, get_or, length}
-use Rattle.std.proofs.Common.{map, refl, subst, sym}
+use Rattle.std.proofs.Common.{◌+◌, ◌<◌, ◌≤◌, add-one, append_assoc, append-nil, drop, drop-cons, drop_of_length-le}
+use Rattle.std.proofs.Common.{get_or, length, map, refl, subst, sym}
 use Rattle.std.proofs.lemmas.List.{drop-map, map-append}
 use Rattle.std.specs.List.{AllByRecursion}
 use Rattle.std.specs.Prelude.{Ok, Err, Result}
 use Rattle.std.specs.Str.{IsUtf8}
-use Rattle.cookie_run.proofs.ReadOnce.{ReadsOnce}
+use Rattle.cookie_client.proofs.ReadOnce.{ReadsOnce}
 use Rattle.cookie_store.specs.Rows.{Key}
-use Rattle.cookie_text.specs.Reading.{ReadsPlain, first_piece}
+use Rattle.cookie_text.specs.Reading.{ReadsPlain}
 use Rattle.cookie_text.specs.Record.{Seen}
 use Rattle.cookie_text.specs.declared.error.ParseError.{ParseError}
 use Rattle.publicsuffix.specs.Rules.{Rule}
 use Rattle.url.specs.Parts.{Parts}
 use Rattle.user_agent.specs.Agent.{IsDoneIf}
-use Rattle.user_agent.specs.LongAttributes.{IsShortLine, is_short}
-use Rattle.user_agent.specs.KnownDates.{joined_behind}
+use Rattle.user_agent.specs.LongAttributes.{IsShortLine}
 use Rattle.user_agent.specs.declared.rules.Rules.{Rules}
-use Rattle.std.specs.Prelude.{filter}
 use Rattle.bounds.specs.Bounded.{MakeKeys, MakesKey}
 use Rattle.bounds.specs.Counting.{CookieMakes, IsMadeOf, IsMember, ReadsKey, keys_of}
 use Rattle.bounds.specs.declared.group.Member.{Member}
+use Rattle.bounds.proofs.HandedLemmas.{short_once}
 
 -- ---- a line
-
-same_rest : (first : List ℕ) (rest other : List (List ℕ)) → first ∷ rest ≡ first ∷ other → rest ≡ other
-same_rest first rest other e = cc
-
-short_once : (line s t : List ℕ) → IsShortLine line s → IsShortLine line t → s ≡ t
-short_once line s t p q =
-    p.joined
-    ∙ (ap (λ rest. joined_behind (first_piece line) (filter is_short rest))
-    (same_rest (first_piece line) p.rest q.rest (sym p.cut ∙ q.cut))
-    ∙ sym q.joined)
 
 done_once : (b : Bool) (line s t : List ℕ) → IsDoneIf b IsShortLine line s → IsDoneIf b IsShortLine line t → s ≡ t
 done_once true line s t p q = short_once line s t p q

@@ -10,12 +10,11 @@ use Rattle.std.specs.Cmp.Lexicographic.{slice_cmp}
 use Rattle.std.specs.Global.{Vec}
 use Rattle.std.specs.Map.{lookup, set_value}
 use Rattle.std.specs.Ordering.{is_eq, match_ordering, nat_cmp}
-use Rattle.std.specs.Prelude.{option_map, unwrap_or}
+use Rattle.std.specs.Prelude.{option_map, unwrap_or, ◌&&◌, is_some, not}
 use Rattle.std.specs.Str.{bytes_eq}
 use Rattle.std.specs.declared.cmp.Ordering.{Ordering}
 use Rattle.std.specs.declared.cmp.Ordering.TheVariants.{Less, Equal, Greater}
 use Rattle.std.specs.List.{list_any}
-use Rattle.std.specs.Prelude.{◌&&◌, is_some, not}
 use Rattle.cookie_store.specs.Rows.{Key, Row, found, removed}
 use Rattle.bounds.specs.Bounded.{Counts, Order, Rows, is_key, is_uncounted, keys_at, trimmed}
 use Rattle.bounds.specs.Counting.{order_of, rows_with, shown}

@@ -24,19 +24,19 @@ use Rattle.cookie_store.specs.Rows.{Key, Row, behind_last, domain_text, ended, e
 use Rattle.cookie_store.specs.Rows.{has_key_of, has_place_of, is_live, is_live_of, key_of, put, replaced}
 use Rattle.cookie_store.specs.SavedRows.{IsReread}
 use Rattle.cookie_store.specs.declared.action.StoreAction.TheVariants.{ExpiredExisting}
-use Rattle.cookie_run.specs.Accept.{Accepts}
-use Rattle.cookie_run.specs.HostPrefix.{BeginsHost, IsAgainstHost, IsHeldRightly}
-use Rattle.cookie_run.specs.Hosts.{secure_host}
-use Rattle.cookie_run.specs.Keeping.{HasReadPair, HaveReadPairs, Keeps}
-use Rattle.cookie_run.specs.declared.step.LineEnd.{LineEnd}
-use Rattle.cookie_run.proofs.FromLines.{filter_all}
-use Rattle.cookie_run.proofs.HostSites.{begins_host}
-use Rattle.cookie_run.proofs.Lines.{https_of}
-use Rattle.cookie_run.proofs.OwnRows.{own_behind, rows_map}
-use Rattle.cookie_run.proofs.ReadOnce.{ReadsOnce, kept_once}
-use Rattle.cookie_run.proofs.Showing.{host_is, is_text, other_host}
-use Rattle.cookie_run.proofs.Texts.{text_is}
-use Rattle.cookie_run.proofs.Tried.{Does, IsAdmitted, IsTried, line_does, tried_once}
+use Rattle.cookie_client.specs.Accept.{Accepts}
+use Rattle.cookie_client.specs.HostPrefix.{BeginsHost, IsAgainstHost, IsHeldRightly}
+use Rattle.cookie_client.specs.Hosts.{secure_host}
+use Rattle.cookie_client.specs.Keeping.{HasReadPair, HaveReadPairs, Keeps}
+use Rattle.cookie_client.specs.declared.outcome.LineEnd.{LineEnd}
+use Rattle.cookie_client.proofs.ComingBack.{filter_all}
+use Rattle.cookie_client.proofs.HostRows.{begins_host}
+use Rattle.cookie_client.proofs.Lines.{https_of}
+use Rattle.cookie_client.proofs.CountedRows.{own_behind, rows_map}
+use Rattle.cookie_client.proofs.ReadOnce.{ReadsOnce, kept_once}
+use Rattle.cookie_client.proofs.SessionTexts.{host_is, is_text, other_host}
+use Rattle.cookie_client.proofs.Texts.{text_is}
+use Rattle.cookie_client.proofs.Tried.{Does, IsAdmitted, IsTried, line_does, tried_once}
 use Rattle.user_agent.specs.Agent.{IsHandedOn}
 use Rattle.user_agent.specs.CrossAnswers.{IsKeptOut, MaySet, ReceivesFor, TakesLineFrom, TakesLinesFrom}
 use Rattle.user_agent.specs.Refusals.{IsLetIn, IsStoppedByControl, Refuses}
@@ -48,9 +48,8 @@ use Rattle.user_agent.specs.declared.rules.Refusal.TheVariants.{Control, HostPre
 use Rattle.user_agent.specs.declared.rules.Refusal.TheVariants.{SecureOverlay, SecurePrefix, TooLong}
 use Rattle.user_agent.specs.declared.rules.Rules.{Rules}
 use Rattle.user_agent.specs.declared.sites.Initiator.{Initiator}
-use Rattle.bounds.specs.Bounded.{CountsAnew}
-use Rattle.bounds.specs.Bounded.{Bounded, Counts, CountsKey, CountsKeys, Kept, Order, Rows, is_key, is_uncounted}
-use Rattle.bounds.specs.Bounded.{keys_at, rows_of}
+use Rattle.bounds.specs.Bounded.{CountsAnew, Bounded, Counts, CountsKey, CountsKeys, Kept, Order, Rows, is_key}
+use Rattle.bounds.specs.Bounded.{is_uncounted, keys_at, rows_of}
 use Rattle.bounds.specs.Groups.{IsGroupOf, of_host}
 use Rattle.bounds.specs.Laws.{AreBothRuns, BoundsDontShowByHost, IsBegun, IsFewNames, IsHostsOwn, NamesAmong, SetsAmong}
 use Rattle.bounds.proofs.BoundLemmas.{TakesAllRows, TakesRows, run_rows}
@@ -59,10 +58,9 @@ use Rattle.bounds.proofs.HostRowLemmas.{P, count_other, group_hosts, is_hosts}
 use Rattle.bounds.proofs.HostRowLemmas.{of_key, own_found, own_is, own_sent, picked, receives_other, settled_other}
 use Rattle.bounds.proofs.KeyListLemmas.{AreDistinct, IsIn, any_in, distinct_pushed, in_pushed, no_more}
 use Rattle.bounds.proofs.LineKeyLemmas.{LineLaws, made_in}
-use Rattle.bounds.proofs.SoundLemmas.{anew_sound, own_of}
-use Rattle.bounds.proofs.SoundLemmas.{IsOwn, Sound, accepted_line, all_accepts, counts_key, counts_keys, each}
-use Rattle.bounds.proofs.SoundLemmas.{line_own, pairs_of}
-use Rattle.bounds.proofs.SoundLemmas.{receives_sound, restart_own, restart_sound, same_key, text_or, unlisted_then}
+use Rattle.bounds.proofs.SoundLemmas.{anew_sound, own_of, IsOwn, Sound, accepted_line, all_accepts, counts_key}
+use Rattle.bounds.proofs.SoundLemmas.{counts_keys, each, line_own, pairs_of, receives_sound, restart_own, restart_sound}
+use Rattle.bounds.proofs.SoundLemmas.{same_key, text_or, unlisted_then}
 use Rattle.bounds.proofs.TrimmingLemmas.{Trims, rows_left, trims}
 
 -- ---- rows that pass a test

@@ -27,13 +27,13 @@ use Rattle.cookie_store.specs.SavedRows.{IsReread}
 use Rattle.cookie_store.proofs.ApartLemmas.{filter_apart}
 use Rattle.cookie_store.proofs.EndLemmas.{inserts_apart}
 use Rattle.cookie_store.proofs.PlaceLaws.{has_own_key}
-use Rattle.cookie_run.specs.Accept.{Accepts}
-use Rattle.cookie_run.specs.HostPrefix.{AreHeldRightly, IsAgainstHost, IsHeldRightly}
-use Rattle.cookie_run.specs.Keeping.{HasReadPair, HaveReadPairs, Keeps}
-use Rattle.cookie_run.specs.declared.step.LineEnd.{LineEnd}
-use Rattle.cookie_run.proofs.ClientRows.{received_pairs}
-use Rattle.cookie_run.proofs.FromLines.{filter_all, inserts_from}
-use Rattle.cookie_run.proofs.HostRows.{kept_held, received_held}
+use Rattle.cookie_client.specs.Accept.{Accepts}
+use Rattle.cookie_client.specs.HostPrefix.{AreHeldRightly, IsAgainstHost, IsHeldRightly}
+use Rattle.cookie_client.specs.Keeping.{HasReadPair, HaveReadPairs, Keeps}
+use Rattle.cookie_client.specs.declared.outcome.LineEnd.{LineEnd}
+use Rattle.cookie_client.proofs.ClientRows.{received_pairs}
+use Rattle.cookie_client.proofs.ComingBack.{filter_all, inserts_from}
+use Rattle.cookie_client.proofs.HostRows.{kept_held, received_held}
 use Rattle.user_agent.specs.Agent.{IsHandedOn}
 use Rattle.user_agent.specs.CrossAnswers.{ReceivesFor, TakesLineFrom, TakesLinesFrom}
 use Rattle.user_agent.specs.Sites.{IsSiteDomain}

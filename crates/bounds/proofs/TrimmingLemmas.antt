@@ -11,7 +11,7 @@ use Rattle.std.proofs.lemmas.List.Quantifiers.{position-Some}
 use Rattle.cookie_store.specs.Rows.{HaveOwnKeys, Key, Row, found, has_key, key_of, removed}
 use Rattle.cookie_store.proofs.ApartLemmas.{filter_apart}
 use Rattle.cookie_store.proofs.PlaceLaws.{has_own_key}
-use Rattle.cookie_run.proofs.FromLines.{filter_all}
+use Rattle.cookie_client.proofs.ComingBack.{filter_all}
 use Rattle.bounds.specs.Bounded.{Kept, goes_at, is_gone, is_unsecured, trimmed, without}
 use Rattle.bounds.proofs.KeyListLemmas.{AreDistinct, IsIn, distinct_left, in_left, still_in}
 

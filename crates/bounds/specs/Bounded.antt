@@ -6,7 +6,7 @@ use Rattle.std.specs.List.{list_any}
 use Rattle.std.specs.Map.{lookup}
 use Rattle.std.specs.Option.{option_or}
 use Rattle.std.specs.Str.{IsUtf8, bytes_eq}
-use Rattle.cookie_run.specs.Keeping.{Keeps}
+use Rattle.cookie_client.specs.Keeping.{Keeps}
 use Rattle.cookie_store.specs.Making.{IsMade}
 use Rattle.cookie_store.specs.Rows.{Key, Row, Store, found, found_live, key_of, removed}
 use Rattle.cookie_text.specs.Printing.{is_set}

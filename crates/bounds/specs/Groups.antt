@@ -1,6 +1,6 @@
 -- Under what the rows of a user agent are counted (own: docs/DEFINITIONS.md).
 use Rattle.std.specs.Prelude.{◌≡◌, ◌⊎◌, ℕ, List, ◌∷◌}
-use Rattle.cookie_run.specs.HostPrefix.{BeginsHost}
+use Rattle.cookie_client.specs.HostPrefix.{BeginsHost}
 use Rattle.cookie_store.specs.Rows.{Key}
 use Rattle.publicsuffix.specs.Rules.{Rule}
 use Rattle.user_agent.specs.Sites.{IsSiteDomain}

@@ -1,6 +1,6 @@
 -- What want of memory leaves: no row is kept that isn't counted.
 use Rattle.std.specs.Prelude.{◌≡◌, ◌⊎◌, ℕ, ℤ, List, [], ◌∷◌, map, if◌then◌else◌}
-use Rattle.cookie_run.specs.Keeping.{Keeps}
+use Rattle.cookie_client.specs.Keeping.{Keeps}
 use Rattle.cookie_store.specs.Rows.{Key, Row, key_of, removed}
 use Rattle.publicsuffix.specs.Rules.{Rule}
 use Rattle.url.specs.Parts.{Parts}

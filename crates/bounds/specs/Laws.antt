@@ -2,11 +2,11 @@
 use Rattle.std.specs.Prelude.{◌≡◌, ◌⊎◌, ◌↔◌, ◌≤◌, ◌++◌, ⊤, ℕ, ℤ, List, [], ◌∷◌, Ok, Option, Some, length}
 use Rattle.std.specs.List.{AllByRecursion}
 use Rattle.std.specs.Str.{IsUtf8}
-use Rattle.cookie_run.specs.HostPrefix.{AreHeldRightly, BeginsHost}
-use Rattle.cookie_run.specs.Hosts.{secure_host}
-use Rattle.cookie_run.specs.Jar.{IsOpened, Keyed, ReadsIn}
-use Rattle.cookie_run.specs.Keeping.{HaveReadPairs}
-use Rattle.cookie_run.specs.declared.step.Way.TheVariants.{Host}
+use Rattle.cookie_client.specs.HostPrefix.{AreHeldRightly, BeginsHost}
+use Rattle.cookie_client.specs.Hosts.{secure_host}
+use Rattle.cookie_client.specs.Jar.{IsOpened, Keyed, ReadsIn}
+use Rattle.cookie_client.specs.Keeping.{HaveReadPairs}
+use Rattle.cookie_client.specs.declared.way.Way.TheVariants.{Host}
 use Rattle.cookie_store.specs.Given.{ArePicked}
 use Rattle.cookie_store.specs.Grouped.{IsSublist}
 use Rattle.cookie_store.specs.Rows.{HaveOwnKeys, Row, domain_text, key_of}

@@ -2,7 +2,6 @@
 ghost use Rattle.std.specs.Prelude.{◌≡◌, ◌≤ℤ◌, IfErr, IfOk, OnErr, OnOk, map, pos, string_bytes};
 ghost use Rattle.jiff.specs.Words.{civil_nanos};
 ghost use Rattle.store_parts.specs.declared.error.Error.TheVariants.{OutOfMemory};
-ghost use Rattle.cookie_run.specs.HostPrefix.{AreHeldRightly};
 ghost use Rattle.cookie_store.specs.Placing.{saved};
 ghost use Rattle.cookie_store.specs.SavedTexts as form;
 ghost use Rattle.user_agent.specs.CrossSite.{IsHeaderFor};
@@ -13,7 +12,7 @@ use crate::counting::count_all;
 use crate::halt::Halt;
 use crate::made::{members_of_lines, members_of_rows};
 use crate::place::Place;
-use cookie_run::{Client, Stopped};
+use cookie_client::{Client, Stopped};
 use cookie_store::Error;
 use jiff::civil::DateTime;
 use std::alloc::AllocError;
@@ -57,7 +56,7 @@ impl Model for BoundedAgent {
 impl BoundedAgent {
     /// The user agent of this client and these rules, with at most so many cookies of a group. The client's cookies are
     /// counted in their order, as after loading: the first is the oldest. No row of the client's is judged by the
-    /// rules.
+    /// rules, but for headers.
     ///
     /// # Errors
     ///

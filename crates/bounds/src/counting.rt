@@ -1,5 +1,5 @@
 //! Rows are counted in their groups.
-ghost use Rattle.std.specs.Prelude.{◌≡◌, ◌++◌, ◌∷◌, [], None, OnErr, OnOk, map, true};
+ghost use Rattle.std.specs.Prelude.{◌≡◌, ◌++◌, ◌∷◌, [], None, OnErr, OnOk, true};
 ghost use Rattle.std.specs.List.{AllByRecursion};
 ghost use Rattle.std.specs.Map.{lookup};
 ghost use Rattle.std.specs.Str.{bytes_eq};
@@ -12,7 +12,7 @@ ghost use Rattle.bounds.specs.Halts as halts;
 use crate::group::Member;
 use crate::place::Place;
 use crate::trim::trim;
-use cookie_run::Client;
+use cookie_client::Client;
 use cookie_store::CookieStore;
 use jiff::civil::DateTime;
 use std::alloc::AllocError;

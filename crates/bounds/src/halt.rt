@@ -1,6 +1,6 @@
 //! Where memory was refused.
 
-use cookie_run::Stopped;
+use cookie_client::Stopped;
 
 /// Where memory was refused while the lines of an answer were taken.
 #[derive(Clone, Copy, Debug, PartialEq, Eq)]

@@ -1,9 +1,7 @@
 //! The keys that the lines of an answer make, and those of the rows that there are.
-ghost use Rattle.std.specs.Prelude.{◌≡◌, IfOk, MatchOption, Ok, map};
-ghost use Rattle.cookie_text.specs.Reading.{ReadsPlain};
+ghost use Rattle.std.specs.Prelude.{◌≡◌, IfOk, Ok, map};
 ghost use Rattle.jiff.specs.Words.{civil_nanos};
-ghost use Rattle.cookie_store.specs.Making.{IsMade};
-ghost use Rattle.cookie_store.specs.Rows.{Key, key_of};
+ghost use Rattle.cookie_store.specs.Rows.{key_of};
 ghost use Rattle.bounds.specs.Bounded as spec;
 ghost use Rattle.bounds.specs.Counting as counting;
 

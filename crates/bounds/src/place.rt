@@ -1,12 +1,12 @@
 //! Under what a row is kept.
-ghost use Rattle.std.specs.Prelude.{◌≡◌, IfOk, not, is_some, map, option_copied, option_map};
+ghost use Rattle.std.specs.Prelude.{◌≡◌, IfOk, is_some};
 ghost use Rattle.std.specs.List.{list_any};
 ghost use Rattle.jiff.specs.Words.{civil_nanos};
 ghost use Rattle.cookie_store.specs.Rows.{found, key_of, removed};
 ghost use Rattle.cookie_store.specs.StoredCookie.{stored_of};
 ghost use Rattle.bounds.specs.Bounded as spec;
 
-use cookie_run::Client;
+use cookie_client::Client;
 use cookie_store::{Cookie, CookieStore};
 use jiff::civil::DateTime;
 use std::alloc::{AllocError, Global};

@@ -1,11 +1,11 @@
 //! Which row goes, where a group has too many.
-ghost use Rattle.std.specs.Prelude.{◌≡◌, ◌<◌, length, map, position};
+ghost use Rattle.std.specs.Prelude.{◌≡◌, ◌<◌, position};
 ghost use Rattle.jiff.specs.Words.{civil_nanos};
 ghost use Rattle.cookie_store.specs.Rows.{found};
 ghost use Rattle.bounds.specs.Bounded as spec;
 
 use crate::place::Place;
-use cookie_run::Client;
+use cookie_client::Client;
 use cookie_store::CookieStore;
 use jiff::civil::DateTime;
 

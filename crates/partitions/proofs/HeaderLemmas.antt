@@ -3,14 +3,15 @@ use Rattle.std.proofs.Common.{◌≡◌, ◌∙◌, ℕ, ℤ, Bool, true, false,
 use Rattle.std.proofs.Common.{Option, Some, None, Result, Ok, Err, sym, arith}
 use Rattle.std.specs.Prelude.{IfErr, IfOk}
 use Rattle.std.proofs.lemmas.List.Sorted.{IsPermutation-refl, length_permutation}
-use Rattle.cookie_run.specs.Header.{header_of}
+use Rattle.cookie_client.specs.Header.{header_of}
 use Rattle.cookie_store.specs.Given.{pair_of}
 use Rattle.cookie_store.specs.Longest.{AreLongestFirst}
 use Rattle.cookie_store.specs.Rows.{Row, Store}
 use Rattle.publicsuffix.specs.Rules.{Rule}
 use Rattle.url.specs.Parts.{Parts}
 use Rattle.user_agent.specs.CrossSite.{IsHeaderFor}
-use Rattle.user_agent.specs.SecureWins.{IsHeaderIf, winners}
+use Rattle.user_agent.specs.Headers.{IsHeaderBehind, free_rows, left_if, shown}
+use Rattle.user_agent.specs.SecureWins.{winners}
 use Rattle.user_agent.specs.declared.rules.Rules.{Rules}
 use Rattle.user_agent.specs.declared.sites.Initiator.{Initiator}
 use Rattle.partitions.specs.Keys.{BySite}
@@ -28,42 +29,40 @@ longest_none : (rows ordered : List Row) → rows ≡ [] → AreLongestFirst row
 longest_none rows ordered none h =
     no_length ordered (length_permutation rows ordered h.permutation ∙ ap length none)
 
+none_left : (on : Bool) (left : List Row → List Row) → left [] ≡ [] → left_if on left [] ≡ []
+none_left true left e = e
+none_left false left e = refl
+
+none_shown : (rules : Rules) → shown rules [] ≡ []
+none_shown rules =
+    ap (left_if rules.control free_rows) (none_left rules.secure_wins winners refl)
+    ∙ none_left rules.control free_rows refl
+
 module _ (url : Parts) (now : ℤ) where
   -- with no row there is a header, and it is empty
-  behind_none : (b : Bool) (rows : List Row) (header : List ℕ) → IsHeaderIf b rows url now header
-      → IsHeaderIf b [] url now []
-  behind_none true rows header h = record {
+  behind_none : (rules : Rules) (rows : List Row) (header : List ℕ) → IsHeaderBehind rules rows url now header
+      → IsHeaderBehind rules [] url now []
+  behind_none rules rows header h = record {
     valid = h.valid;
     given = [];
     are_given = ([], refl, none_longest);
-    printed = refl;
-  }
-  behind_none false rows header h = record {
-    valid = h.valid;
-    given = [];
-    are_given = refl;
-    ordered = [];
-    longest = none_longest;
-    printed = refl;
+    printed = ap (λ rs. header_of (map pair_of rs)) (sym (none_shown rules));
   }
 
-  none_behind : (b : Bool) (header : List ℕ) → IsHeaderIf b [] url now header → header ≡ []
-  none_behind true header h =
-      h.printed
-      ∙ ap (λ rows. header_of (map pair_of (winners rows)))
-      (longest_none h.are_given.0 h.given h.are_given.1 h.are_given.2)
-  none_behind false header h =
-      h.printed ∙ ap (λ rows. header_of (map pair_of rows)) (longest_none h.given h.ordered h.are_given h.longest)
+  none_behind : (rules : Rules) (header : List ℕ) → IsHeaderBehind rules [] url now header → header ≡ []
+  none_behind rules header h =
+      let none = longest_none h.are_given.0 h.given h.are_given.1 h.are_given.2 in
+      h.printed ∙ ap (λ rows. header_of (map pair_of rows)) (ap (shown rules) none ∙ none_shown rules)
 
 module _ (rules : Rules) (list : List Rule) (url : Parts) (initiator : Initiator) (now : ℤ) where
   pub no_rows : (rows : List Row) (header : List ℕ) → IsHeaderFor rules list rows url initiator now header
       → IsHeaderFor rules list [] url initiator now []
-  no_rows rows header (inl h) = inl (h.0, behind_none url now rules.secure_wins _ header h.1)
-  no_rows rows header (inr h) = inr (h.0, behind_none url now rules.secure_wins rows header h.1)
+  no_rows rows header (inl h) = inl (h.0, behind_none url now rules _ header h.1)
+  no_rows rows header (inr h) = inr (h.0, behind_none url now rules rows header h.1)
 
   pub rows_none : (header : List ℕ) → IsHeaderFor rules list [] url initiator now header → header ≡ []
-  rows_none header (inl h) = none_behind url now rules.secure_wins header h.1
-  rows_none header (inr h) = none_behind url now rules.secure_wins header h.1
+  rows_none header (inl h) = none_behind url now rules header h.1
+  rows_none header (inr h) = none_behind url now rules header h.1
 
 pub joined-none : (first : List ℕ) → joined first [] ≡ first
 joined-none [] = refl

@@ -6,8 +6,8 @@ use Rattle.std.proofs.lemmas.Slice.Eq.{bytes_eq-Decides}
 use Rattle.std.specs.List.{AllByRecursion}
 use Rattle.std.specs.Prelude.{unwrap_or}
 use Rattle.std.specs.Str.{bytes_eq}
-use Rattle.cookie_run.proofs.ReadOnce.{ReadsOnce}
-use Rattle.cookie_run.specs.declared.step.Stopped.{Stopped}
+use Rattle.cookie_client.proofs.ReadOnce.{ReadsOnce}
+use Rattle.cookie_client.specs.declared.outcome.Stopped.{Stopped}
 use Rattle.cookie_store.specs.Rows.{Row, Store}
 use Rattle.publicsuffix.specs.Registrable.{OneIsRegistrable}
 use Rattle.publicsuffix.specs.Rules.{Rule}
@@ -17,9 +17,8 @@ use Rattle.user_agent.specs.declared.cross_answer.OutcomeFor.{OutcomeFor}
 use Rattle.user_agent.specs.declared.rules.Rules.{Rules}
 use Rattle.user_agent.specs.declared.sites.Initiator.{Initiator}
 use Rattle.partitions.specs.Keys.{BySite, IsSiteText}
-use Rattle.partitions.specs.Laws.{AgentRuns, AgentSteps, AreSeenFrom, AreUnderOne, HasNonePartitioned, Steps}
-use Rattle.partitions.specs.Laws.{IsWithout, PartitionsDontShow, Runs, WithoutPartitionsItIsTheAgent}
-use Rattle.partitions.specs.Laws.{OthersTouchNothing}
+use Rattle.partitions.specs.Laws.{AgentRuns, AgentSteps, AreSeenFrom, AreUnderOne, HasNonePartitioned, Steps, IsWithout}
+use Rattle.partitions.specs.Laws.{PartitionsDontShow, Runs, WithoutPartitionsItIsTheAgent, OthersTouchNothing}
 use Rattle.partitions.specs.Parted.{ChangesPart, Exchange, HaltsAt, IsHeaderOf, IsHeaderUnder, KeepsRules, Parted}
 use Rattle.partitions.specs.Parted.{Receives, ReceivesUnder, Stops, TakesUnder, found_at, joined, kept_as, made_of}
 use Rattle.partitions.specs.Parted.{part_at, part_of}

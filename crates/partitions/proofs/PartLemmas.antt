@@ -14,7 +14,7 @@ use Rattle.std.specs.Prelude.{Result, Ok, Err, IfErr, IfOk, unwrap_or}
 use Rattle.std.specs.Str.{bytes_eq}
 use Rattle.std.specs.declared.cmp.Ordering.{Ordering}
 use Rattle.std.specs.declared.cmp.Ordering.TheVariants.{Less, Equal, Greater}
-use Rattle.cookie_run.specs.declared.step.Stopped.{Stopped}
+use Rattle.cookie_client.specs.declared.outcome.Stopped.{Stopped}
 use Rattle.cookie_store.specs.Rows.{Row, Store}
 use Rattle.publicsuffix.specs.Rules.{Rule}
 use Rattle.url.specs.Parts.{Parts}
@@ -23,8 +23,7 @@ use Rattle.user_agent.specs.declared.rules.Rules.{Rules}
 use Rattle.user_agent.specs.declared.sites.Initiator.{Initiator}
 use Rattle.partitions.specs.Keys.{GivesText, IsSiteText}
 use Rattle.partitions.specs.Parted.{ChangesPart, FindsPart, Parted, PutsPart, PutsUnder, Receives, Stops, entries_of}
-use Rattle.partitions.specs.Parted.{found_at, kept_as, shown}
-use Rattle.partitions.specs.Parted.{made_of, part_at}
+use Rattle.partitions.specs.Parted.{found_at, kept_as, shown, made_of, part_at}
 
 -- ---- a map by texts
 

@@ -1,6 +1,5 @@
 -- The texts of sites.
-use Rattle.std.proofs.Common.{◌≡◌, ◌⊎◌, ◌∙◌, ◌++◌, ◌∷◌, ℕ, List, None, Option, Some, ap, append_assoc, inl, inr, refl}
-use Rattle.std.proofs.Common.{subst, sym}
+use Rattle.std.proofs.Common.{◌≡◌, ◌∙◌, ◌++◌, ◌∷◌, ℕ, List, None, Option, Some, ap, append_assoc, refl, subst, sym}
 use Rattle.std.specs.Prelude.{IsSomeAnd, codes}
 use Rattle.publicsuffix.specs.Registrable.{OneIsRegistrable}
 use Rattle.publicsuffix.specs.Rules.{Rule}
@@ -10,20 +9,15 @@ use Rattle.url.specs.Scheme.{IsScheme}
 use Rattle.url.specs.Parser.{split_scheme}
 use Rattle.url.proofs.RoundTrip.{split_own_scheme}
 use Rattle.user_agent.specs.Sites.{AreSameSite, IsSiteDomain, IsSiteOf, Site}
+use Rattle.user_agent.proofs.SiteLemmas.{one_domain}
 use Rattle.partitions.specs.Laws.{AreUnderOne, OneTextIsOneSite}
 use Rattle.partitions.specs.Keys.{IsSiteText, site_text}
 
 module _ (once : OneIsRegistrable) (list : List Rule) where
-  one_domain : (host one other : List ℕ) → IsSiteDomain list host one → IsSiteDomain list host other → one ≡ other
-  one_domain host one other (inl a) (inl b) = once list host one other a.registrable b.registrable
-  one_domain host one other (inl a) (inr b) = absurd (b.0 one a)
-  one_domain host one other (inr a) (inl b) = absurd (a.0 other b)
-  one_domain host one other (inr a) (inr b) = a.1 ∙ sym b.1
-
   domains_at : (found : Option (List ℕ)) (one other : List ℕ) → IsSomeAnd found (λ host. IsSiteDomain list host one)
       → IsSomeAnd found (λ host. IsSiteDomain list host other) → one ≡ other
   domains_at None one other a b = absurd a
-  domains_at (Some host) one other a b = one_domain host one other a b
+  domains_at (Some host) one other a b = one_domain once list host one other a b
 
   -- a URL has one site, and so one text of it
   pub one_text : (url : Parts) (one other : List ℕ) → IsSiteText list url one → IsSiteText list url other → one ≡ other

@@ -1,10 +1,9 @@
 -- Lines are sorted one after another.
 use Rattle.std.proofs.Common.{◌≡◌, ◌∙◌, ◌+◌, ◌<◌, ◌++◌, ℕ, Bool, true, false, List, [], ◌∷◌, length, take, get_or, ap}
-use Rattle.std.proofs.Common.{cond, refl}
-use Rattle.std.proofs.Common.{subst, sym}
-use Rattle.std.proofs.lemmas.List.{take_more, take-map, map-append}
+use Rattle.std.proofs.Common.{cond, refl, subst, sym}
 use Rattle.std.specs.Prelude.{map}
 use Rattle.user_agent.specs.declared.rules.Rules.{Rules}
+use Rattle.cookie_client.proofs.Receiving.{map_take}
 use Rattle.partitions.specs.Sorting.{AreSorted, PutsLine}
 use Rattle.partitions.specs.Ways.{AreWays, IsWay, going, is_partitioned, is_unpartitioned}
 use Rattle.partitions.specs.declared.sorting.Sorted.{Sorted}
@@ -49,12 +48,6 @@ module _ (rules : Rules) (line : List ℕ) (way : Way) where
         ∙ (sym (going_push is_partitioned lines old.ways.items are.ways)
         ∙ ap (going is_partitioned (lines ++ line ∷ [])) (sym puts.ways)));
   }
-
-map_take : {A B : Type 0} (f : A → B) (xs : List A) (i : ℕ) (d : A) → i < length xs
-    → take (i + 1) (map f xs) ≡ take i (map f xs) ++ f (get_or xs i d) ∷ []
-map_take f xs i d h =
-    take-map f (i + 1) xs ∙ (ap (map f) (take_more xs i d h) ∙ (map-append f (take i xs) (get_or xs i d ∷ [])
-    ∙ ap (λ ys. ys ++ f (get_or xs i d) ∷ []) (sym (take-map f i xs))))
 
 pub sorted_next : {A : Type 0} (f : A → List ℕ) (rules : Rules) (xs : List A) (i : ℕ) (d : A) (way : Way)
     (old new : Sorted) → i < length xs → AreSorted rules (take i (map f xs)) old

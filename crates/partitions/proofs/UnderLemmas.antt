@@ -2,7 +2,7 @@
 use Rattle.std.proofs.Common.{◌≡◌, ◌∙◌, ℕ, List, Option, Some, None, inl, inr, refl, subst, sym}
 use Rattle.std.specs.Global.{Vec}
 use Rattle.std.specs.Prelude.{IsSomeAnd, map, option_map}
-use Rattle.cookie_run.specs.declared.step.Stopped.{Stopped}
+use Rattle.cookie_client.specs.declared.outcome.Stopped.{Stopped}
 use Rattle.cookie_store.specs.Rows.{Store}
 use Rattle.publicsuffix.specs.Rules.{Rule}
 use Rattle.user_agent.specs.declared.cross_answer.OutcomeFor.{OutcomeFor}

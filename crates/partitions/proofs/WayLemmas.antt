@@ -1,9 +1,8 @@
 -- A line goes one way.
-use Rattle.std.proofs.Common.{◌≡◌, ◌∙◌, ℕ, Bool, true, false, List, [], ◌∷◌, ap, inl, inr, refl}
-use Rattle.std.proofs.Common.{subst, sym}
+use Rattle.std.proofs.Common.{◌≡◌, ◌∙◌, ℕ, Bool, true, false, List, [], ◌∷◌, ap, inl, inr, refl, subst, sym}
 use Rattle.std.specs.Prelude.{filter}
 use Rattle.std.specs.List.{AllByRecursion}
-use Rattle.cookie_run.proofs.ReadOnce.{ReadsOnce}
+use Rattle.cookie_client.proofs.ReadOnce.{ReadsOnce}
 use Rattle.cookie_text.specs.Reading.{first_piece}
 use Rattle.user_agent.specs.Agent.{IsDoneIf}
 use Rattle.user_agent.specs.KnownDates.{joined_behind}

@@ -10,7 +10,7 @@ use Rattle.user_agent.specs.declared.cross_answer.OutcomeFor.{OutcomeFor}
 use Rattle.user_agent.specs.declared.rules.Rules.{Rules}
 use Rattle.user_agent.specs.declared.sites.Initiator.{Initiator}
 use Rattle.partitions.specs.Keys.{IsSiteText}
-use Rattle.cookie_run.specs.declared.step.Stopped.{Stopped}
+use Rattle.cookie_client.specs.declared.outcome.Stopped.{Stopped}
 use Rattle.partitions.specs.Parted.{Exchange, HaltsUnder, IsHeaderUnder, Parted, Receives, ReceivesUnder, Stops}
 use Rattle.partitions.specs.Parted.{found_at}
 use Rattle.partitions.specs.Ways.{AreWays, IsWay, going, is_unpartitioned}

@@ -5,7 +5,7 @@ use Rattle.std.specs.BTreeMap.{BTreeMap}
 use Rattle.std.specs.Global.{Vec}
 use Rattle.std.specs.Map.{lookup}
 use Rattle.std.specs.Str.{bytes_eq}
-use Rattle.cookie_run.specs.declared.step.Stopped.{Stopped}
+use Rattle.cookie_client.specs.declared.outcome.Stopped.{Stopped}
 use Rattle.cookie_store.specs.Rows.{Row, Store}
 use Rattle.publicsuffix.specs.Rules.{Rule}
 use Rattle.url.specs.Parts.{Parts}

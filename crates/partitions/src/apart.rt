@@ -8,7 +8,7 @@ use crate::part::{holds_partitioned, receive_by_site, with_behind};
 use crate::received::{Halt, Received};
 use crate::site::site_text;
 use crate::sorting::sort;
-use cookie_run::Client;
+use cookie_client::Client;
 use jiff::civil::DateTime;
 use publicsuffix::List;
 use std::alloc::{AllocError, Global};

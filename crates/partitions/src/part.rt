@@ -7,7 +7,7 @@ ghost use Rattle.user_agent.specs.Refusals.{HasOne};
 ghost use Rattle.partitions.specs.Parted as spec;
 ghost use Rattle.partitions.specs.Sorting.{TakesBySite};
 
-use cookie_run::{Client, Stopped};
+use cookie_client::{Client, Stopped};
 use cookie_store::{Cookie, CookieStore};
 use jiff::civil::DateTime;
 use publicsuffix::List;

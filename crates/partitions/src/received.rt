@@ -1,7 +1,7 @@
 //! What became of the lines of an answer under a top level.
 
 use crate::way::Way;
-use cookie_run::Stopped;
+use cookie_client::Stopped;
 use user_agent::OutcomeFor;
 
 /// What became of the lines of an answer under a top level.

@@ -1,7 +1,7 @@
 -- A client is the clients of the shards.
 use Rattle.std.proofs.Common.{[], refl}
 use Rattle.cookie_store.specs.Laws.{GivenOnce, OneOrder}
-use Rattle.cookie_run.proofs.ReadOnce.{ReadsOnce}
+use Rattle.cookie_client.proofs.ReadOnce.{ReadsOnce}
 use Rattle.shards.specs.Cut.{ShardsAreTheClient, ShardClient}
 use Rattle.shards.proofs.RunLemmas.{Runs, both_play, same_header}
 use Rattle.shards.proofs.ThereLemmas.{header_there}

@@ -1,8 +1,7 @@
 -- What is in the reach of a host, and of a text in its reach.
 use Rattle.std.proofs.Common.{◌≡◌, ◌⊎◌, ℕ, ◌≤◌, List, [], ◌∷◌, ◌++◌, length, sym, ap, ◌∙◌, subst, inl, inr, arith}
 use Rattle.std.proofs.lemmas.List.{append_assoc}
-use Rattle.store_parts.specs.DomainMatch.{EndsAfterDot}
-use Rattle.store_parts.specs.HostName.{IsHostName}
+use Rattle.store_parts.specs.DomainMatch.{EndsAfterDot, IsHostName}
 use Rattle.cookie_run.specs.Headline.{IsInReach}
 use Rattle.shards.specs.Related.{EndsInNoAddress}
 use Rattle.shards.proofs.BehindLemmas.{behind_shorter}

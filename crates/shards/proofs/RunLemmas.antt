@@ -18,26 +18,28 @@ use Rattle.cookie_store.specs.Laws.{GivenOnce, OneOrder}
 use Rattle.cookie_store.specs.Longest.{AreLongestFirst}
 use Rattle.cookie_store.specs.Rows.{Row, domain_text, is_live_of}
 use Rattle.cookie_store.specs.declared.action.StoreAction.{StoreAction}
-use Rattle.cookie_run.specs.Accept.{Accepts, AcceptsAll}
+use Rattle.cookie_client.specs.Accept.{Accepts, AcceptsAll}
 use Rattle.cookie_run.specs.Acts.{Act, Visits, Answers, Asks, Restarts, Arrival, Arrives, Never}
-use Rattle.cookie_run.specs.Header.{IsHeader, header_of}
+use Rattle.cookie_client.specs.Header.{IsHeader, header_of}
 use Rattle.cookie_run.specs.Headline.{Each}
-use Rattle.cookie_run.specs.Jar.{lines_of}
-use Rattle.cookie_run.specs.Keeping.{Keeps}
+use Rattle.cookie_client.specs.Jar.{lines_of}
+use Rattle.cookie_client.specs.Keeping.{Keeps}
 use Rattle.cookie_run.specs.Play.{Delivers, OneStep, Plays}
-use Rattle.cookie_run.specs.declared.step.LineEnd.{LineEnd}
+use Rattle.cookie_client.specs.declared.outcome.LineEnd.{LineEnd}
 use Rattle.cookie_run.specs.declared.step.Reading.{Reading}
 use Rattle.cookie_run.proofs.Lines.{some_and}
 use Rattle.cookie_run.proofs.OwnRows.{first_and}
 use Rattle.cookie_run.proofs.Picks.{PickedOf, any_picked, live_under, picked_settled, picked_settled_other, picked_kept}
 use Rattle.cookie_run.proofs.Picks.{picked_inner}
-use Rattle.cookie_run.proofs.ReadOnce.{ReadsOnce, kept_once}
-use Rattle.cookie_run.proofs.Tried.{Does, IsSound, Stands, line_does, tried_once, tried_stands}
+use Rattle.cookie_client.proofs.ReadOnce.{ReadsOnce, kept_once}
+use Rattle.cookie_client.proofs.Tried.{Does, line_does, tried_once}
+use Rattle.cookie_run.proofs.Sound.{Sound, keeps_sound, lines_sound}
+use Rattle.cookie_run.proofs.Strangers.{few_none, few_some}
+use Rattle.cookie_run.proofs.Tried.{IsSound, Stands, tried_stands}
 use Rattle.shards.specs.Cut.{IsOfShard, AreOfShard, IsNoExchangeOf, AnswersByName}
 use Rattle.shards.specs.Related.{HasNoAddressBehind}
 use Rattle.shards.specs.Shard.{IsShardOf, IsShardAt}
 use Rattle.shards.proofs.ShardLemmas.{shard_below, shard_above}
-use Rattle.shards.proofs.Sound.{Sound, lines_sound, keeps_sound}
 
 module _ (one : ReadsOnce) (list : List Rule) (shard : List ℕ) where
   abbrev In : List ℕ → Type 0
@@ -213,29 +215,17 @@ module _ (one : ReadsOnce) (list : List Rule) (shard : List ℕ) where
 
   -- ---- all acts
 
-  few_none : (key : List ℕ) (rest left : List Row) (told : List (List Reading)) → Plays list key rest [] told left
-      → left ≡ rest
-  few_none key rest left [] p = p
-  few_none key rest left (t ∷ ts) p = absurd p
-
-  few_some : (key : List ℕ) (rest left : List Row) (act : Act) (acts : List Act) (told : List (List Reading))
-      → Plays list key rest (act ∷ acts) told left
-      → (said : List Reading) × (later : List (List Reading)) × (mid : List Row) × OneStep list key rest act said mid
-      × Plays list key mid acts later left
-  few_some key rest left act acts [] p = absurd p
-  few_some key rest left act acts (t ∷ ts) p = (t, ts, p.0, p.1, p.2)
-
   pub both_play : (key : List ℕ) (acts few : List Act) (told said : List (List Reading))
       (rows rest new left : List Row) → Each AnswersByName acts → Each (IsNoExchangeOf list shard) acts
       → AreOfShard list shard acts few → Plays list key rows acts told new → Plays list key rest few said left
       → Runs rows rest → Runs new left
   both_play key [] few [] said rows rest new left named none only p q r =
       subst (λ x. Runs x left) (sym p) (subst (λ x. Runs rows x)
-      (sym (few_none key rest left said (subst (λ x. Plays list key rest x said left) only q))) r)
+      (sym (few_none list key rest left said (subst (λ x. Plays list key rest x said left) only q))) r)
   both_play key [] few (t ∷ ts) said rows rest new left named none only p q r = absurd p
   both_play key (act ∷ acts) few [] said rows rest new left named none only p q r = absurd p
   both_play key (act ∷ acts) few (t ∷ ts) said rows rest new left named none (later, only, inl is) p q r =
-      let x = few_some key rest left act later said (subst (λ x. Plays list key rest x said left) is.1 q) in
+      let x = few_some list key rest left act later said (subst (λ x. Plays list key rest x said left) is.1 q) in
       both_play key acts later ts x.1 p.0 x.2 new left named.1 none.1 only p.2 x.4
       (both_step key act rows rest p.0 x.2 t x.0 named.0 none.0 is.0 p.1 x.3 r)
   both_play key (act ∷ acts) few (t ∷ ts) said rows rest new left named none (later, only, inr is) p q r =

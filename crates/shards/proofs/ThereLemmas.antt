@@ -1,17 +1,16 @@
 -- That there is no run of the acts of a shard is refuted: the acts that concern the shard, as a host, are those of the
 -- shard and looks at headers, which change nothing.
-use Rattle.std.proofs.Common.{◌≡◌, ◌⊎◌, ℕ, ℤ, List, [], ◌∷◌, length, sym, refl, ap, subst}
-use Rattle.std.proofs.Common.{inl, inr, arith}
+use Rattle.std.proofs.Common.{◌≡◌, ◌⊎◌, ℕ, ℤ, List, [], ◌∷◌, length, sym, refl, ap, subst, inl, inr, arith}
 use Rattle.std.specs.Prelude.{IsSomeAnd}
 use Rattle.publicsuffix.specs.Rules.{Rule}
-use Rattle.store_parts.specs.HostName.{IsHostName}
+use Rattle.store_parts.specs.DomainMatch.{IsHostName}
 use Rattle.store_parts.specs.Schemes.{host_of}
 use Rattle.url.specs.Parts.{Parts}
 use Rattle.cookie_store.specs.Laws.{OneOrder}
 use Rattle.cookie_store.specs.Rows.{Row}
 use Rattle.cookie_store.proofs.ReadableLemmas.{IsUnrefuted}
 use Rattle.cookie_run.specs.Acts.{Act, Visits, Answers, Asks, Restarts}
-use Rattle.cookie_run.specs.Header.{IsHeader}
+use Rattle.cookie_client.specs.Header.{IsHeader}
 use Rattle.cookie_run.specs.Headline.{AreRelated, Each, IsInReach}
 use Rattle.cookie_run.specs.Play.{OneStep, Plays}
 use Rattle.cookie_run.specs.Strangers.{IsRelatedAt, Concerns, IsOnly, IsNoExchange}

@@ -1,7 +1,7 @@
 -- The shard of a host as the code finds it.
 use Rattle.std.proofs.Common.{◌≤◌, ℕ, List, length, refl, ap, inl, inr, arith}
 use Rattle.publicsuffix.specs.Rules.{Rule}
-use Rattle.store_parts.specs.HostName.{IsHostName}
+use Rattle.store_parts.specs.DomainMatch.{IsHostName}
 use Rattle.shards.specs.Shard.{IsShared, IsShardOf, IsBehindDot}
 use Rattle.shards.proofs.BehindLemmas.{behind_shorter}
 

@@ -5,7 +5,7 @@ use Rattle.url.specs.Parts.{Parts}
 use Rattle.cookie_store.specs.Given.{ArePicked}
 use Rattle.cookie_store.specs.Rows.{Row, domain_text}
 use Rattle.cookie_run.specs.Acts.{Act, Visits, Answers, Asks, Restarts}
-use Rattle.cookie_run.specs.Header.{IsHeader}
+use Rattle.cookie_client.specs.Header.{IsHeader}
 use Rattle.cookie_run.specs.Headline.{Each}
 use Rattle.cookie_run.specs.Play.{Plays}
 use Rattle.cookie_run.specs.declared.step.Reading.{Reading}

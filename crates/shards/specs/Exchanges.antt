@@ -1,6 +1,6 @@
 -- Sessions' exchanges as a client makes them: looks at headers, and answers of the lines that are handed to it (own:
 -- docs/DEFINITIONS.md).
-use Rattle.std.specs.Prelude.{◌≡◌, ℕ, ℤ, List, [], ◌∷◌, ◌++◌, map}
+use Rattle.std.specs.Prelude.{◌≡◌, ℕ, List, [], ◌∷◌, ◌++◌, map}
 use Rattle.cookie.specs.ByName.{Lists}
 use Rattle.cookie.specs.Jar.{Jar, delta, under_names}
 use Rattle.cookie_text.specs.Record.{Seen}
@@ -9,7 +9,7 @@ use Rattle.url.specs.Parts.{Parts}
 use Rattle.cookie_store.specs.Rows.{Row}
 use Rattle.cookie_run.specs.Acts.{Act, Visits, Answers, Asks, Restarts, Arrival, Arrives, Never}
 use Rattle.cookie_run.specs.Headline.{Each}
-use Rattle.cookie_run.specs.Jar.{Keyed, lines_of}
+use Rattle.cookie_client.specs.Jar.{Keyed, lines_of}
 use Rattle.cookie_run.specs.Play.{Plays, Serves}
 use Rattle.cookie_run.specs.declared.step.Reading.{Reading}
 use Rattle.cookie_run.specs.declared.step.Reading.TheVariants.{Header}

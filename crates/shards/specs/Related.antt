@@ -1,7 +1,7 @@
 -- Hosts are related where they have one shard (own: docs/DEFINITIONS.md).
 use Rattle.std.specs.Prelude.{◌≡◌, ◌⊎◌, ℕ, List, Some, true}
 use Rattle.publicsuffix.specs.Rules.{Rule}
-use Rattle.store_parts.specs.HostName.{IsHostName}
+use Rattle.store_parts.specs.DomainMatch.{IsHostName}
 use Rattle.store_parts.specs.Schemes.{host_of}
 use Rattle.url.specs.Parts.{Parts, kind_of, IsValid}
 use Rattle.url.specs.Scheme.{is_special}

@@ -8,8 +8,8 @@ use Rattle.std.proofs.lemmas.List.{take_more, take-map, map-append, length-map}
 use Rattle.publicsuffix.specs.Rules.{Rule}
 use Rattle.url.specs.Parts.{Parts}
 use Rattle.cookie_store.specs.Rows.{Row}
-use Rattle.cookie_run.specs.Accept.{Accepts, AcceptsAll}
-use Rattle.cookie_run.specs.declared.step.LineEnd.{LineEnd}
+use Rattle.cookie_client.specs.Accept.{Accepts, AcceptsAll}
+use Rattle.cookie_client.specs.declared.outcome.LineEnd.{LineEnd}
 use Rattle.user_agent.specs.Agent.{AreGiven, AsksForMemory, ClientsTakeTheirs, HandedAsks, IsDoneIf, IsHandedOn}
 use Rattle.user_agent.specs.Agent.{IsHandedText, IsRewritten, rewrites}
 use Rattle.user_agent.specs.Agent.{NoRulesAreTheClient, StopsAtLine, TakesHanded, TakesLine, TakesLines}

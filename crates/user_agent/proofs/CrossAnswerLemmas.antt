@@ -6,7 +6,7 @@ use Rattle.std.specs.List.{AllByRecursion}
 use Rattle.std.specs.Str.{IsUtf8}
 use Rattle.std.proofs.lemmas.Bool.{both_ways, false≢true}
 use Rattle.std.proofs.lemmas.List.{length-map}
-use Rattle.cookie_run.proofs.Texts.{some_is_not_none}
+use Rattle.cookie_client.proofs.Texts.{some_is_not_none}
 use Rattle.cookie_store.specs.Making.{IsMade}
 use Rattle.cookie_store.specs.Rows.{Row, expired}
 use Rattle.cookie_text.specs.Reading.{ReadsPlain}
@@ -14,7 +14,7 @@ use Rattle.cookie_text.specs.Record.{Record, Seen, unsliced}
 use Rattle.cookie_text.specs.declared.error.ParseError.{ParseError}
 use Rattle.publicsuffix.specs.Rules.{Rule}
 use Rattle.url.specs.Parts.{Parts}
-use Rattle.cookie_run.specs.HostPrefix.{IsAgainstHost}
+use Rattle.cookie_client.specs.HostPrefix.{IsAgainstHost}
 use Rattle.user_agent.specs.Agent.{AsksForMemory, IsHandedOn, IsRewritten, TakesLine, TakesLines}
 use Rattle.user_agent.specs.CrossAnswers.{AreJudged, ByRequest, ComesAcross, IsKeptOut, IsOneOf}
 use Rattle.user_agent.specs.CrossAnswers.{JudgedLinesAreReceived, MaySet, NoBoundRowComes}

@@ -6,12 +6,12 @@ use Rattle.std.specs.List.{AllByRecursion}
 use Rattle.std.proofs.lemmas.Bool.{cases_Bool, cond-false, cond-true, false≢true}
 use Rattle.std.proofs.lemmas.List.Elements.{All-from_recursion, recursion_from_All}
 use Rattle.std.proofs.lemmas.List.Sorted.{All-permutation}
-use Rattle.cookie_run.specs.Header.{IsHeader, header_of}
-use Rattle.cookie_run.specs.Keeping.{HasReadPair, HaveReadPairs}
-use Rattle.cookie_run.specs.Reading.{AreCookiesOf}
-use Rattle.cookie_run.proofs.HeaderBack.{header_back}
-use Rattle.cookie_run.proofs.HeaderCookies.{cookies_of}
-use Rattle.cookie_run.proofs.ReadCode.{cookies_are}
+use Rattle.cookie_client.specs.Header.{header_of}
+use Rattle.cookie_client.specs.Keeping.{HasReadPair, HaveReadPairs}
+use Rattle.cookie_client.specs.Reading.{AreCookiesOf}
+use Rattle.cookie_client.proofs.HeaderBack.{header_back}
+use Rattle.cookie_client.proofs.HeaderCookies.{cookies_of}
+use Rattle.cookie_client.proofs.ReadCode.{cookies_are}
 use Rattle.cookie_store.specs.Given.{AreGiven, ArePicked, IsGiven, pair_of}
 use Rattle.cookie_store.specs.Longest.{AreGivenLongest, AreLongestFirst}
 use Rattle.cookie_store.specs.Rows.{Row}
@@ -24,11 +24,13 @@ use Rattle.url.specs.Parts.{Parts}
 use Rattle.user_agent.specs.CrossSite.{CarriedCookiesAreRead, IsCarried, IsHeaderFor, NoLaxCrosses, NoStrictCrosses}
 use Rattle.user_agent.specs.CrossSite.{OwnRequestsStay, is_confined, is_held_back, is_sent, is_strict, sent_across}
 use Rattle.user_agent.specs.CrossSite.{sent_rows, without}
+use Rattle.user_agent.specs.Headers.{IsHeaderBehind, shown}
 use Rattle.user_agent.specs.SecureRuns.{IsAny}
-use Rattle.user_agent.specs.SecureWins.{IsHeaderBehind, IsHeaderIf, decoded_name, winners, wins}
+use Rattle.user_agent.specs.SecureWins.{decoded_name}
 use Rattle.user_agent.specs.Sites.{AreSameSite, IsCrossSite, is_safe_navigation}
 use Rattle.user_agent.specs.declared.rules.Rules.{Rules}
 use Rattle.user_agent.specs.declared.sites.Initiator.{Initiator}
+use Rattle.user_agent.proofs.HeaderLemmas.{all_shown}
 use Rattle.user_agent.proofs.SecureReadLemmas.{each_of, of_rows, read_pairs, some_left}
 
 -- ---- rows that a cross-site request never carries
@@ -174,18 +176,15 @@ module _ (rows : List Row) (by_default is_let : Bool) (url : Parts) (now : ℤ) 
       ∙ header_back (map pair_of shown) (read_pairs shown read))))
       (of_rows Carried false shown read each)
 
-  behind : (rule : Bool) (header : List ℕ) (cookies : List Record) → HaveReadPairs rows
-      → IsHeaderIf rule (sent_rows by_default is_let rows) url now header → AreCookiesOf header cookies
+  behind : (rules : Rules) (header : List ℕ) (cookies : List Record) → HaveReadPairs rows
+      → IsHeaderBehind rules (sent_rows by_default is_let rows) url now header → AreCookiesOf header cookies
       → AllByRecursion Carried cookies
-  behind true header cookies read is of =
+  behind rules header cookies read is of =
       let are = is.are_given in
       let all = in_order Known are.0 is.given are.2 (known read are.0 are.1) in
-      carried (winners is.given) header cookies (some_left (wins is.given) Known is.given all) is.printed of
-  behind false header cookies read is of =
-      carried is.ordered header cookies
-      (in_order Known is.given is.ordered is.longest (known read is.given is.are_given)) is.printed of
+      carried (shown rules is.given) header cookies (all_shown Known rules is.given all) is.printed of
 
 pub carried_cookies_are_read : CarriedCookiesAreRead
 carried_cookies_are_read rules list rows url initiator now header cookies read crosses is of =
-    behind rows rules.lax_by_default (is_safe_navigation initiator) url now rules.secure_wins header cookies read
+    behind rows rules.lax_by_default (is_safe_navigation initiator) url now rules header cookies read
     (across rules list rows url initiator now header crosses is) of

@@ -1,97 +1,35 @@
 -- Of the printed text of a cookie no flag is read that it lacks (RFC 6265, sections 4.1.1 and 5.2).
-use Rattle.std.proofs.Common.{◌≡◌, ℕ, zero, suc, ◌<◌, ◌/◌, ◌%◌, ◌+◌, ◌==◌, Bool, true, false, cond, List, [], ◌∷◌, ◌++◌}
-use Rattle.std.proofs.Common.{Option, Some, None, option_map, ℤ, pos, negsuc, IfSome, sym, refl, ap, ◌∙◌, subst, arith}
+use Rattle.std.proofs.Common.{◌≡◌, ℕ, ◌+◌, ◌==◌, Bool, true, false, cond, List, [], ◌∷◌, ◌++◌}
+use Rattle.std.proofs.Common.{Option, Some, None, option_map, ℤ, IfSome, sym, refl, ap, ◌∙◌, subst, arith}
 use Rattle.std.proofs.Common.{Ok, codes}
 use Rattle.std.specs.Prelude.{◌&&◌, ◌||◌, is_none}
-use Rattle.std.specs.Fmt.{decimal, digits, digits_onto, digit_glyph, signed_decimal}
-use Rattle.std.specs.Int.{IsInRange}
+use Rattle.std.specs.Fmt.{signed_decimal}
 use Rattle.std.specs.List.{All, AllByRecursion}
-use Rattle.std.specs.Str.{IsUtf8, bytes_eq, str_to_ascii_lowercase, trim, trim_start, trim_end, chars}
+use Rattle.std.specs.Str.{IsUtf8, trim, trim_start, trim_end, chars}
 use lib.Utf8.{encode}
-use Rattle.std.proofs.lemmas.Bool.{cond_both, both_ways, true≢false}
+use Rattle.std.proofs.lemmas.Bool.{true≢false}
 use Rattle.std.proofs.lemmas.Bool.Decides.{nat_tests}
 use Rattle.std.proofs.lemmas.List.Elements.{All-nil, All-cons, All-head, All-tail}
 use Rattle.std.proofs.lemmas.Option.{same_Some}
-use Rattle.jiff_core.proofs.CalendarLemmas.{weekday_number_bound}
-use Rattle.jiff_core.specs.Date.{epoch_day}
 use Rattle.jiff.specs.Types.{DateTime}
-use Rattle.jiff.specs.Words.{weekday_of}
-use Rattle.httpdate.specs.Text.{day_name, month_name, two_digits}
 use Rattle.cookie_text.specs.declared.draft.SameSite.{SameSite}
 use Rattle.cookie_text.specs.declared.draft.SameSite.TheVariants.{Strict, Lax, None as Unrestricted}
-use Rattle.cookie_text.specs.Again.{Lacks, IsReadPair}
-use Rattle.cookie_text.specs.Attribute.{Attribute, Gives, HttpOnly, Secure, Partitioned, OfSite, MaxAge, Path, Domain}
-use Rattle.cookie_text.specs.Attribute.{Expires, kind, kind_name}
-use Rattle.cookie_text.specs.Pieces.{full_stop, semicolon, pieces, name_of, value_of, text_after}
+use Rattle.cookie_text.specs.Again.{IsReadPair}
+use Rattle.cookie_text.specs.Attribute.{Attribute, HttpOnly, Secure, Partitioned, OfSite, MaxAge, Path, Domain}
+use Rattle.cookie_text.specs.Attribute.{Expires}
+use Rattle.cookie_text.specs.Pieces.{full_stop, semicolon, pieces, value_of, text_after}
 use Rattle.cookie_text.specs.Printing.{attribute_text, attributes_of, date_text, flag, is_set, is_unrestricted}
 use Rattle.cookie_text.specs.Printing.{printed, prints_secure, stripped, whole_seconds}
 use Rattle.cookie_text.specs.Reading.{GivesDomain, GivesFlag, GivesPath, GivesSite, HasAttributes, HasLast, ReadsPlain}
 use Rattle.cookie_text.specs.Record.{Record, Seen, domain_of, without_dot}
-use Rattle.cookie_text.proofs.DateLemmas.{month_length}
+use Rattle.cookie_text.proofs.BoundAgain.{all_at, clean_text, date_clean, other_name, signed_clean, there_all}
 use Rattle.cookie_text.proofs.NormalLemmas.{pieces_of, printed_pieces}
 use Rattle.cookie_text.proofs.PrintedAttributes.{clean_of, clean_join, reads-SameSite}
 use Rattle.cookie_text.proofs.PrintedCookies.{AllThere, IsClean-pair, all_clean, there_end, there_option}
-use Rattle.cookie_text.proofs.PrintedDates.{quiet_is_clean, quiet_month, quiet_name, quiet_two}
 use Rattle.cookie_text.proofs.PrintedPieces.{IsClean, split-joined, value_cut}
 use Rattle.cookie_text.proofs.ReadsBack.{same_tail}
 use Rattle.user_agent.specs.Refusals.{asks_for_secure}
 use Rattle.user_agent.proofs.WholeLemmas.{IsWhole, after_whole, behind_dot, pieces_whole, trim_whole, whole_clean}
-
--- ---- numbers and dates hold no semicolon
-
-glyph_clean : (d : ℕ) → (digit_glyph false d == semicolon) ≡ false
-glyph_clean d = grind (arith, nat_tests)
-
-onto_clean : (k n : ℕ) (after : List ℕ) → IsClean after → IsClean (digits_onto k 10 false n after)
-onto_clean zero n after h = h
-onto_clean (suc k) n after h =
-    let more = All-cons (λ b. (b == semicolon) ≡ false) (digit_glyph false (n % 10)) after (glyph_clean (n % 10)) h in
-    cond_both (n / 10 == 0) _ _ IsClean (λ e. more) (λ e. onto_clean k (n / 10) _ more)
-
-decimal_clean : (n : ℕ) → IsClean (decimal n)
-unfolding digits
-decimal_clean n = onto_clean 64 n [] (All-nil (λ b. (b == semicolon) ≡ false))
-
-signed_clean : (z : ℤ) → IsClean (signed_decimal z)
-signed_clean (pos n) = decimal_clean n
-signed_clean (negsuc n) = All-cons (λ b. (b == semicolon) ≡ false) 45 (decimal (suc n)) refl (decimal_clean (suc n))
-
--- a text with no semicolon, and two of them joined
-abbrev Clean : Type 0
-Clean = (text : List ℕ) × IsClean text
-
-abbrev joined : Clean → Clean → Clean
-joined a b = (a.0 ++ b.0, clean_join a.0 b.0 a.1 b.1)
-
-abbrev two : (n : ℕ) → n < 100 → Clean
-two n h = (two_digits n, quiet_is_clean (two_digits n) (quiet_two n h))
-
-date_clean : (d : DateTime) → IsClean (date_text d)
-unfolding date_text
-date_clean d =
-    let w = weekday_of d.date + 1 in
-    let bound = weekday_number_bound (epoch_day d.date) in
-    let in_week : IsInRange 1 7 w = (omega arith, omega arith) in
-    let small : d.date.day < 100 = omega (arith, d.date.day_in, month_length d.date.year d.date.month) in
-    let hour = two d.time.hour (omega (arith, d.time.hour_in)) in
-    let minute = two d.time.minute (omega (arith, d.time.minute_in)) in
-    let second = two d.time.second (omega (arith, d.time.second_in)) in
-    let month : Clean =
-    (month_name d.date.month, quiet_is_clean (month_name d.date.month) (quiet_month d.date.month d.date.month_in)) in
-    let weekday : Clean = (day_name w, quiet_is_clean (day_name w) (quiet_name w in_week)) in
-    let year : Clean = (signed_decimal d.date.year, signed_clean d.date.year) in
-    let space : Clean = (codes " ", clean_of (codes " ") refl) in
-    let colon : Clean = (codes ":", clean_of (codes ":") refl) in
-    let comma : Clean = (codes ", ", clean_of (codes ", ") refl) in
-    let zone : Clean = (codes " GMT", clean_of (codes " GMT") refl) in
-    let time : Clean = joined (joined (joined (joined hour colon) minute) colon) second in
-    let day : Clean = joined (joined (joined (joined (two d.date.day small) space) month) space) year in
-    (joined (joined weekday comma) (joined (joined (joined day space) time) zone)).1
-
-clean_text : (text : List ℕ) → Lacks semicolon text → IsClean text
-clean_text [] h = All-nil (λ b. (b == semicolon) ≡ false)
-clean_text (b ∷ bs) h =
-    All-cons (λ b. (b == semicolon) ≡ false) b bs (grind (arith, nat_tests, h.0)) (clean_text bs h.1)
 
 -- ---- what holds of each attribute that is printed
 
@@ -121,38 +59,7 @@ module _ (P : Attribute → Type 0) (r : Record) (http : P HttpOnly)
       (some_so (λ nanos. P (MaxAge (whole_seconds nanos))) r.max_age (λ nanos e. aged (whole_seconds nanos)))
       (there_end P r.expires [] (λ d e. dated d) tt)))))))
 
--- ---- their names
-
-named : (a : Attribute) → str_to_ascii_lowercase (name_of (32 ∷ attribute_text a)) ≡ kind_name (kind a)
-unfolding name_of trim_start trim_end chars encode
-named HttpOnly = refl
-named Secure = refl
-named Partitioned = refl
-named (OfSite s) = refl
-named (MaxAge z) = refl
-named (Path t) = refl
-named (Domain t) = refl
-named (Expires d) = refl
-
--- a piece gives no attribute of another name
-pub other : (a b : Attribute) → bytes_eq (kind_name (kind a)) (kind_name (kind b)) ≡ false
-    → bytes_eq (kind_name (kind b)) (kind_name (kind b)) ≡ true → ¬ (Gives (32 ∷ attribute_text a) b)
-other a b differ same h =
-    let names : kind_name (kind a) ≡ kind_name (kind b) = sym (named a) ∙ h.named in
-    both_ways false refl (sym differ ∙ (ap (λ n. bytes_eq n (kind_name (kind b))) names ∙ same))
-
 -- ---- what the last of the pieces gives
-
-pub there_all : (P : List ℕ → Type 0) (os : List (Option Attribute)) → AllThere (λ a. P (32 ∷ attribute_text a)) os
-    → All P (pieces_of os)
-there_all P [] h = All-nil P
-there_all P (None ∷ os) h = there_all P os h
-there_all P (Some a ∷ os) h = All-cons P (32 ∷ attribute_text a) (pieces_of os) h.0 (there_all P os h.1)
-
-pub all_at : (P : List ℕ → Type 0) (before : List (List ℕ)) (p : List ℕ) (after : List (List ℕ))
-    → All P (before ++ p ∷ after) → P p
-all_at P [] p after h = All-head P p after h
-all_at P (q ∷ before) p after h = all_at P before p after (All-tail P q (before ++ p ∷ after) h)
 
 -- what each value has that a piece gives the last one has
 last_has : {A : Type 0} (gives : List ℕ → A → Type 0) (Q : A → Type 0) (ps : List (List ℕ)) (o : Option A)
@@ -208,24 +115,25 @@ module _ (r : Record) (uncut : IsUncut r) where
   secure_given =
       there_all (λ p. (b : Bool) → GivesFlag Secure p b → prints_secure r ≡ true) (attributes_of r)
       (each_there (λ a. (b : Bool) → GivesFlag Secure (32 ∷ attribute_text a) b → prints_secure r ≡ true) r
-      (λ b g. absurd (other HttpOnly Secure refl refl g.0)) (λ s e b g. absurd (other (OfSite s) Secure refl refl g.0))
-      (λ e b g. absurd (other Partitioned Secure refl refl g.0)) (λ e b g. e)
-      (λ t e b g. absurd (other (Path t) Secure refl refl g.0))
-      (λ t e b g. absurd (other (Domain t) Secure refl refl g.0))
-      (λ z b g. absurd (other (MaxAge z) Secure refl refl g.0))
-      (λ d b g. absurd (other (Expires d) Secure refl refl g.0)))
+      (λ b g. absurd (other_name HttpOnly Secure refl refl g.0))
+      (λ s e b g. absurd (other_name (OfSite s) Secure refl refl g.0))
+      (λ e b g. absurd (other_name Partitioned Secure refl refl g.0)) (λ e b g. e)
+      (λ t e b g. absurd (other_name (Path t) Secure refl refl g.0))
+      (λ t e b g. absurd (other_name (Domain t) Secure refl refl g.0))
+      (λ z b g. absurd (other_name (MaxAge z) Secure refl refl g.0))
+      (λ d b g. absurd (other_name (Expires d) Secure refl refl g.0)))
 
   parted_given : All (λ p. (b : Bool) → GivesFlag Partitioned p b → is_set r.partitioned ≡ true) here
   parted_given =
       there_all (λ p. (b : Bool) → GivesFlag Partitioned p b → is_set r.partitioned ≡ true) (attributes_of r)
       (each_there (λ a. (b : Bool) → GivesFlag Partitioned (32 ∷ attribute_text a) b → is_set r.partitioned ≡ true) r
-      (λ b g. absurd (other HttpOnly Partitioned refl refl g.0))
-      (λ s e b g. absurd (other (OfSite s) Partitioned refl refl g.0)) (λ e b g. e)
-      (λ e b g. absurd (other Secure Partitioned refl refl g.0))
-      (λ t e b g. absurd (other (Path t) Partitioned refl refl g.0))
-      (λ t e b g. absurd (other (Domain t) Partitioned refl refl g.0))
-      (λ z b g. absurd (other (MaxAge z) Partitioned refl refl g.0))
-      (λ d b g. absurd (other (Expires d) Partitioned refl refl g.0)))
+      (λ b g. absurd (other_name HttpOnly Partitioned refl refl g.0))
+      (λ s e b g. absurd (other_name (OfSite s) Partitioned refl refl g.0)) (λ e b g. e)
+      (λ e b g. absurd (other_name Secure Partitioned refl refl g.0))
+      (λ t e b g. absurd (other_name (Path t) Partitioned refl refl g.0))
+      (λ t e b g. absurd (other_name (Domain t) Partitioned refl refl g.0))
+      (λ z b g. absurd (other_name (MaxAge z) Partitioned refl refl g.0))
+      (λ d b g. absurd (other_name (Expires d) Partitioned refl refl g.0)))
 
   -- of a printed SameSite the value is that name
   abbrev IsOpenOnly : SameSite → Type 0
@@ -244,41 +152,43 @@ module _ (r : Record) (uncut : IsUncut r) where
   site_given =
       there_all (λ p. (x : SameSite) → GivesSite p x → IsOpenOnly x) (attributes_of r)
       (each_there (λ a. (x : SameSite) → GivesSite (32 ∷ attribute_text a) x → IsOpenOnly x) r
-      (λ x g. absurd (other HttpOnly (OfSite x) refl refl g)) (λ s e x g. site_given_here s e x g)
-      (λ e x g. absurd (other Partitioned (OfSite x) refl refl g))
-      (λ e x g. absurd (other Secure (OfSite x) refl refl g))
-      (λ t e x g. absurd (other (Path t) (OfSite x) refl refl g))
-      (λ t e x g. absurd (other (Domain t) (OfSite x) refl refl g))
-      (λ z x g. absurd (other (MaxAge z) (OfSite x) refl refl g))
-      (λ d x g. absurd (other (Expires d) (OfSite x) refl refl g)))
+      (λ x g. absurd (other_name HttpOnly (OfSite x) refl refl g)) (λ s e x g. site_given_here s e x g)
+      (λ e x g. absurd (other_name Partitioned (OfSite x) refl refl g))
+      (λ e x g. absurd (other_name Secure (OfSite x) refl refl g))
+      (λ t e x g. absurd (other_name (Path t) (OfSite x) refl refl g))
+      (λ t e x g. absurd (other_name (Domain t) (OfSite x) refl refl g))
+      (λ z x g. absurd (other_name (MaxAge z) (OfSite x) refl refl g))
+      (λ d x g. absurd (other_name (Expires d) (OfSite x) refl refl g)))
 
   path_given : All (λ p. (x : List ℕ) → GivesPath p x → IsWhole x) here
   path_given =
       there_all (λ p. (x : List ℕ) → GivesPath p x → IsWhole x) (attributes_of r)
       (each_there (λ a. (x : List ℕ) → GivesPath (32 ∷ attribute_text a) x → IsWhole x) r
-      (λ x g. absurd (other HttpOnly (Path x) refl refl g)) (λ s e x g. absurd (other (OfSite s) (Path x) refl refl g))
-      (λ e x g. absurd (other Partitioned (Path x) refl refl g)) (λ e x g. absurd (other Secure (Path x) refl refl g))
+      (λ x g. absurd (other_name HttpOnly (Path x) refl refl g))
+      (λ s e x g. absurd (other_name (OfSite s) (Path x) refl refl g))
+      (λ e x g. absurd (other_name Partitioned (Path x) refl refl g))
+      (λ e x g. absurd (other_name Secure (Path x) refl refl g))
       (λ t e x g. subst IsWhole
       (same_Some (trim t) x (sym (value_cut (codes " Path") t (trim t) refl refl) ∙ g.says))
       (trim_whole t (path_is t e)))
-      (λ t e x g. absurd (other (Domain t) (Path x) refl refl g))
-      (λ z x g. absurd (other (MaxAge z) (Path x) refl refl g))
-      (λ d x g. absurd (other (Expires d) (Path x) refl refl g)))
+      (λ t e x g. absurd (other_name (Domain t) (Path x) refl refl g))
+      (λ z x g. absurd (other_name (MaxAge z) (Path x) refl refl g))
+      (λ d x g. absurd (other_name (Expires d) (Path x) refl refl g)))
 
   domain_given : All (λ p. (x : List ℕ) → GivesDomain p x → IsWhole x) here
   domain_given =
       there_all (λ p. (x : List ℕ) → GivesDomain p x → IsWhole x) (attributes_of r)
       (each_there (λ a. (x : List ℕ) → GivesDomain (32 ∷ attribute_text a) x → IsWhole x) r
-      (λ x g. absurd (other HttpOnly (Domain x) refl refl g))
-      (λ s e x g. absurd (other (OfSite s) (Domain x) refl refl g))
-      (λ e x g. absurd (other Partitioned (Domain x) refl refl g))
-      (λ e x g. absurd (other Secure (Domain x) refl refl g))
-      (λ t e x g. absurd (other (Path t) (Domain x) refl refl g))
+      (λ x g. absurd (other_name HttpOnly (Domain x) refl refl g))
+      (λ s e x g. absurd (other_name (OfSite s) (Domain x) refl refl g))
+      (λ e x g. absurd (other_name Partitioned (Domain x) refl refl g))
+      (λ e x g. absurd (other_name Secure (Domain x) refl refl g))
+      (λ t e x g. absurd (other_name (Path t) (Domain x) refl refl g))
       (λ t e x g. subst IsWhole
       (same_Some (trim t) x (sym (value_cut (codes " Domain") t (trim t) refl refl) ∙ g.says.0))
       (trim_whole t (domain_is t e)))
-      (λ z x g. absurd (other (MaxAge z) (Domain x) refl refl g))
-      (λ d x g. absurd (other (Expires d) (Domain x) refl refl g)))
+      (λ z x g. absurd (other_name (MaxAge z) (Domain x) refl refl g))
+      (λ d x g. absurd (other_name (Expires d) (Domain x) refl refl g)))
 
 -- ---- THE FLAGS
 

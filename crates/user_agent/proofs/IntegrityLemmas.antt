@@ -25,8 +25,8 @@ use Rattle.cookie_store.specs.Making.{IsDomainFor, IsMade}
 use Rattle.cookie_store.specs.Rows.{Row, behind_last, domain_text, ended, expired, has_domain_of, has_key_of}
 use Rattle.cookie_store.specs.Rows.{has_place_of, inserted, is_live, is_live_of, put, replaced}
 use Rattle.cookie_store.specs.declared.action.StoreAction.{StoreAction}
-use Rattle.cookie_run.specs.Accept.{Accepts}
-use Rattle.cookie_run.specs.declared.step.LineEnd.{LineEnd}
+use Rattle.cookie_client.specs.Accept.{Accepts}
+use Rattle.cookie_client.specs.declared.outcome.LineEnd.{LineEnd}
 use Rattle.user_agent.specs.Agent.{TakesLine, TakesLines}
 use Rattle.user_agent.specs.Integrity.{ProtectedRowsStay, is_protected}
 use Rattle.user_agent.specs.Refusals.{HasOne, IsLetIn, IsOverlaid, domain_at, new_domain}

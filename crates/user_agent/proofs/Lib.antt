@@ -1,18 +1,18 @@
 mod AgentLemmas
 mod ControlLemmas
 mod ChangeLemmas
-mod CrossAnswerLemmas
+pub mod CrossAnswerLemmas
 mod CrossLemmas
-mod CutLemmas
+pub mod CutLemmas
 mod DatedLemmas
 mod FindingLemmas
 mod FlagLemmas
+mod HeaderLemmas
 mod IntegrityLemmas
 mod JudgingLemmas
 mod KnownLemmas
 mod LeftLemmas
 mod LongLemmas
-mod MatchLemmas
 mod NestedLemmas
 mod OneHeaderLemmas
 mod PairLemmas
@@ -20,16 +20,16 @@ mod PieceLemmas
 mod PlaceLemmas
 mod RelateLemmas
 mod RowLemmas
-mod SecureReadLemmas
+pub mod SecureReadLemmas
 mod SecureRunLemmas
 mod SentLemmas
 mod SessionLemmas
 mod SessionStrictLemmas
-mod SiteLemmas
+pub mod SiteLemmas
 mod SiteReadLemmas
-mod StandingLemmas
+pub mod StandingLemmas
 mod StrictLemmas
 mod StrictRunLemmas
-mod TokenLemmas
+pub mod TokenLemmas
 mod WholeLemmas
 mod WinningLemmas

@@ -30,8 +30,7 @@ use Rattle.url.proofs.HostRoundTrip.{All-decimal}
 use Rattle.url.proofs.InputLemmas.{IsNot, Passes, is_empty_nonempty, list_all_from_All, rsplit_once_at}
 use Rattle.url.proofs.SetLemmas.{All_kept_differs}
 use Rattle.store_parts.specs.DomainMatch.{Domain, host_only, suffix, not_present, empty, text_or_empty, Covers}
-use Rattle.store_parts.specs.DomainMatch.{CoversAt, DomainMatches, EndsAfterDot}
-use Rattle.store_parts.specs.HostName.{IsHostName}
+use Rattle.store_parts.specs.DomainMatch.{CoversAt, DomainMatches, EndsAfterDot, IsHostName}
 use Rattle.store_parts.specs.Schemes.{IsSecure, IsThisHost, host_of}
 use Rattle.user_agent.specs.Refusals.{AreNested}
 

@@ -28,7 +28,7 @@ use Rattle.user_agent.specs.Agent.{AsksForMemory, TakesLine}
 use Rattle.user_agent.specs.Integrity.{is_protected}
 use Rattle.user_agent.specs.Refusals.{HasOne, IsOverlaid}
 use Rattle.user_agent.specs.SecurePlaces.{ArePlacesOf, IsOneReached, IsReached, Places, entries_of, is_named}
-use Rattle.user_agent.specs.SecurePlaces.{ShowPlaces, listed, place_of, places_at, places_of, texts_of}
+use Rattle.user_agent.specs.SecurePlaces.{ShowPlaces, listed, place_of, places_at, secure_places_of, texts_of}
 use Rattle.user_agent.specs.SecureWins.{decoded_name}
 use Rattle.user_agent.specs.declared.rules.Outcome.{Outcome}
 use Rattle.user_agent.specs.declared.rules.Rules.{Rules}
@@ -51,14 +51,15 @@ module _ (now : ℤ) (name : List ℕ) (row : Row) (rows : List Row) where
   rest = filter (is_protected now) rows
 
   pub places-protected : is_protected now row ≡ true
-      → places_of now name (row ∷ rows)
-      ≡ map place_of (filter (is_named name) (row ∷ [])) ++ places_of now name rows
+      → secure_places_of now name (row ∷ rows)
+      ≡ map place_of (filter (is_named name) (row ∷ [])) ++ secure_places_of now name rows
   places-protected e =
       ap (λ rs. map place_of (filter (is_named name) rs)) (cond-true (is_protected now row) (row ∷ rest) rest e)
       ∙ (map_cond (is_named name row) (row ∷ filter (is_named name) rest) (filter (is_named name) rest)
       ∙ append_cond (is_named name row) row (map place_of (filter (is_named name) rest)))
 
-  pub places-other : is_protected now row ≡ false → places_of now name (row ∷ rows) ≡ places_of now name rows
+  pub places-other : is_protected now row ≡ false
+      → secure_places_of now name (row ∷ rows) ≡ secure_places_of now name rows
   places-other e =
       ap (λ rs. map place_of (filter (is_named name) rs)) (cond-false (is_protected now row) (row ∷ rest) rest e)
 
@@ -85,17 +86,18 @@ unprotected now row h =
 module _ (now : ℤ) (name : List ℕ) (all : List (List ℕ × List ℕ)) (row : Row) (left rows : List Row)
     (steps : left ≡ row ∷ rows) where
   pub one_protected : (old new : List (List ℕ × List ℕ)) → is_protected now row ≡ true
-      → new ≡ old ++ map place_of (filter (is_named name) (row ∷ [])) → old ++ places_of now name left ≡ all
-      → new ++ places_of now name rows ≡ all
+      → new ≡ old ++ map place_of (filter (is_named name) (row ∷ [])) → old ++ secure_places_of now name left ≡ all
+      → new ++ secure_places_of now name rows ≡ all
   one_protected old new held is h =
-      ap (λ ps. ps ++ places_of now name rows) is
-      ∙ (append_assoc old (map place_of (filter (is_named name) (row ∷ []))) (places_of now name rows)
-      ∙ (ap (λ ps. old ++ ps) (sym (ap (places_of now name) steps ∙ places-protected now name row rows held)) ∙ h))
+      ap (λ ps. ps ++ secure_places_of now name rows) is
+      ∙ (append_assoc old (map place_of (filter (is_named name) (row ∷ []))) (secure_places_of now name rows)
+      ∙ (ap (λ ps. old ++ ps) (sym (ap (secure_places_of now name) steps
+      ∙ places-protected now name row rows held)) ∙ h))
 
   pub one_other : (old : List (List ℕ × List ℕ)) → is_protected now row ≡ false
-      → old ++ places_of now name left ≡ all → old ++ places_of now name rows ≡ all
+      → old ++ secure_places_of now name left ≡ all → old ++ secure_places_of now name rows ≡ all
   one_other old free h =
-      ap (λ ps. old ++ ps) (sym (ap (places_of now name) steps ∙ places-other now name row rows free)) ∙ h
+      ap (λ ps. old ++ ps) (sym (ap (secure_places_of now name) steps ∙ places-other now name row rows free)) ∙ h
 
 -- ---- rows that are overlaid, by their places
 
@@ -104,7 +106,7 @@ module _ (name domain path : List ℕ) (now : ℤ) where
   Is = IsOverlaid name domain path now
 
   abbrev at : List Row → List (List ℕ × List ℕ)
-  at rows = places_of now (percent_decode name) rows
+  at rows = secure_places_of now (percent_decode name) rows
 
   abbrev counts : Row → Bool
   counts row = is_protected now row && is_named (percent_decode name) row
@@ -348,7 +350,7 @@ has_no_place places name text same none = ap (places_at places) (sym same) ∙ s
 -- ---- what a map shows
 
 pub shows_places : (now : ℤ) (rows : List Row) (places : BTreeMap (Vec ℕ) (Vec Place))
-    → ((name : List ℕ) → places_at places name ≡ places_of now name rows)
+    → ((name : List ℕ) → places_at places name ≡ secure_places_of now name rows)
     → ShowPlaces (Some (entries_of places)) now rows
 shows_places now rows places h name = listed-entries name places.entries ∙ h name
 
@@ -358,7 +360,7 @@ pub overlies_by_places : {E : Type 0} (name domain path : List ℕ) (now : ℤ) 
     → IfOk r (λ over. IsTrue over ↔ HasOne (IsOverlaid name domain path now) rows)
 overlies_by_places name domain path now rows places shows (Err e) h = tt
 overlies_by_places name domain path now rows places shows (Ok over) h =
-    let is : places_at places (percent_decode name) ≡ places_of now (percent_decode name) rows =
+    let is : places_at places (percent_decode name) ≡ secure_places_of now (percent_decode name) rows =
     sym (listed-entries (percent_decode name) places.entries) ∙ shows (percent_decode name) in
     let law = reached name domain path now rows in (
       λ yes. law.0 (subst (IsOneReached domain path) is (h.0 yes)),

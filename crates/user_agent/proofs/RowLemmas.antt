@@ -15,9 +15,9 @@ use Rattle.cookie_store.specs.Making.{IsMade}
 use Rattle.cookie_store.specs.Rows.{Row, behind_last, ended, expired, has_domain_of, has_key_of, has_place_of}
 use Rattle.cookie_store.specs.Rows.{inserted, is_live_of, put, replaced}
 use Rattle.cookie_store.specs.declared.action.StoreAction.TheVariants.{ExpiredExisting}
-use Rattle.cookie_run.specs.Accept.{Accepts}
-use Rattle.cookie_run.specs.HostPrefix.{IsAgainstHost}
-use Rattle.cookie_run.specs.declared.step.LineEnd.{LineEnd}
+use Rattle.cookie_client.specs.Accept.{Accepts}
+use Rattle.cookie_client.specs.HostPrefix.{IsAgainstHost}
+use Rattle.cookie_client.specs.declared.outcome.LineEnd.{LineEnd}
 
 -- M holds of the row that a line makes, and so of that row as its domain's text alone; then P, where that row isn't
 -- dead as it comes. P of a row that is held stays where the row is ended.

@@ -15,23 +15,23 @@ use Rattle.cookie_text.specs.Record.{Record, bare}
 use Rattle.cookie_text.proofs.PrintedPieces.{value_cut}
 use Rattle.cookie_store.specs.Given.{pair_of}
 use Rattle.cookie_store.specs.Rows.{Row}
-use Rattle.cookie_run.specs.Header.{pair_text}
-use Rattle.cookie_run.specs.Keeping.{HasReadPair}
-use Rattle.cookie_run.proofs.HeaderBack.{IsRead, cookie_named, header_back, if_shown, texts_of}
-use Rattle.cookie_run.proofs.HeaderCookies.{cookie_of, cookies_of, pair_in}
-use Rattle.cookie_run.proofs.ReadBack.{led, led_pair}
-use Rattle.cookie_run.proofs.ReadCode.{cookies_are}
+use Rattle.cookie_client.specs.Header.{pair_text}
+use Rattle.cookie_client.specs.Keeping.{HasReadPair}
+use Rattle.cookie_client.proofs.HeaderBack.{IsRead, cookie_named, header_back, if_shown, texts_of}
+use Rattle.cookie_client.proofs.HeaderCookies.{cookie_of, cookies_of, pair_in}
+use Rattle.cookie_client.proofs.ReadBack.{led, led_pair}
+use Rattle.cookie_client.proofs.ReadCode.{cookies_are}
 use Rattle.user_agent.specs.SecureRuns.{IsAny, SecureNamesAreReadSecurely, WasReadSecurely}
 use Rattle.user_agent.specs.SecureWins.{decoded_name, is_secure_of, winners, wins}
 use Rattle.user_agent.proofs.SecureRunLemmas.{have_read_pairs, picked_all, secure_names_are_set_securely}
 
 -- ---- the cookie of a pair
 
-lacks_led : (spaced : Bool) (n : List ℕ) → Lacks equals n → Lacks equals (led spaced n)
+pub lacks_led : (spaced : Bool) (n : List ℕ) → Lacks equals n → Lacks equals (led spaced n)
 lacks_led false n h = h
 lacks_led true n h = ((λ e. omega (arith, e)), h)
 
-first_equals : (n v : List ℕ) → Lacks equals n → position_or_len (λ b. b == equals) (n ++ equals ∷ v) ≡ length n
+pub first_equals : (n v : List ℕ) → Lacks equals n → position_or_len (λ b. b == equals) (n ++ equals ∷ v) ≡ length n
 first_equals [] v h = refl
 first_equals (b ∷ n) v h =
     let other : (b == equals) ≡ false = grind (arith, nat_tests, h.0) in

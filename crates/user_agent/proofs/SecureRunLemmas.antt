@@ -1,11 +1,11 @@
 -- A row that is Secure was set by an answer from a secure URL, and so was what a request is sent under its name.
 use Rattle.std.proofs.Common.{◌≡◌, ◌⊎◌, ℕ, ℤ, List, [], ◌∷◌, ◌||◌, Bool, true, false, not, cond, Option, Some}
-use Rattle.std.proofs.Common.{None, Ok, sym, refl, ap, ◌∙◌, subst, inl, inr, IsTrue, codes, take}
+use Rattle.std.proofs.Common.{None, Ok, sym, refl, ap, ◌∙◌, subst, inl, inr, IsTrue, codes, map, take}
 use Rattle.std.specs.Net.Addr.{ipv4_octets, ipv6_segments}
 use Rattle.std.specs.Prelude.{filter, IsSomeAnd}
 use Rattle.std.specs.List.{AllByRecursion, list_any}
 use Rattle.std.specs.Str.{IsUtf8, bytes_eq}
-use Rattle.std.proofs.lemmas.Bool.{both_ways, true≢false}
+use Rattle.std.proofs.lemmas.Bool.{both_ways}
 use Rattle.std.proofs.lemmas.List.Elements.{All-from_recursion, recursion_from_All}
 use Rattle.std.proofs.lemmas.List.Sorted.{All-permutation}
 use Rattle.std.proofs.lemmas.Slice.Eq.{bytes_eq-Decides}
@@ -21,24 +21,29 @@ use Rattle.cookie_text.specs.Record.{Seen, unsliced}
 use Rattle.cookie_text.proofs.PairsAgain.{pair_of as texts_give_pairs, pair_reads_again}
 use Rattle.store_parts.specs.DomainMatch.{text_or_empty}
 use Rattle.store_parts.specs.Schemes.{IsSecure, IsThisHost}
-use Rattle.cookie_store.specs.Given.{ArePicked}
+use Rattle.cookie_store.specs.Given.{ArePicked, pair_of}
 use Rattle.cookie_store.specs.Insertion.{alone}
 use Rattle.cookie_store.specs.Making.{IsMade}
 use Rattle.cookie_store.specs.Placing.{is_saved, saved}
 use Rattle.cookie_store.specs.Rows.{Key, Row, expired, is_live, key_of}
 use Rattle.cookie_store.specs.SavedRows.{IsReread}
-use Rattle.cookie_run.specs.HostPrefix.{IsAgainstHost}
-use Rattle.cookie_run.specs.Keeping.{HaveReadPairs, Keeps}
-use Rattle.cookie_run.proofs.FromLines.{filter_all}
+use Rattle.cookie_client.specs.Header.{header_of}
+use Rattle.cookie_client.specs.HostPrefix.{IsAgainstHost}
+use Rattle.cookie_client.specs.Keeping.{HaveReadPairs, Keeps}
+use Rattle.cookie_client.proofs.ComingBack.{filter_all}
 use Rattle.user_agent.specs.Agent.{TakesLine, TakesLines}
-use Rattle.user_agent.specs.Refusals.{asks_for_secure}
+use Rattle.user_agent.specs.Controls.{IsFree}
+use Rattle.user_agent.specs.Headers.{left_if, shown}
+use Rattle.user_agent.specs.Refusals.{asks_for_secure, is_control}
 use Rattle.user_agent.specs.SecureRuns.{Answers, IsAny, Restarts, SecureNamesAreSetSecurely, Sets, SetsSecurely, Step}
 use Rattle.user_agent.specs.SecureRuns.{TakesStep, TakesSteps}
-use Rattle.user_agent.specs.SecureWins.{IsHeaderIf, IsWinnersHeader, decoded_name, is_secure_of, wins}
+use Rattle.user_agent.specs.SecureWins.{decoded_name, is_secure_of, winners, wins}
 use Rattle.user_agent.specs.declared.rules.Outcome.{Outcome}
 use Rattle.user_agent.specs.declared.rules.Refusal.TheVariants.{LacksSecure, SecureFromHttp}
 use Rattle.user_agent.specs.declared.rules.Rules.{Rules}
+use Rattle.user_agent.proofs.ControlLemmas.{free_lines_read, free_lines_stay}
 use Rattle.user_agent.proofs.FlagLemmas.{IsUncut, flags_read, line_uncut, may_be_secure}
+use Rattle.user_agent.proofs.HeaderLemmas.{IsFreeRow, all_winners, stay_if}
 use Rattle.user_agent.proofs.IntegrityLemmas.{set_is}
 use Rattle.user_agent.proofs.RowLemmas.{all_accepts}
 
@@ -81,21 +86,27 @@ picked_all P Is (x ∷ xs) picked h (later, are, inr (out, e)) =
 
 -- ---- a Secure row was set over a secure URL
 
--- a row whose name and value are as a text gives them, whose Path and Domain hold no semicolon, and whose value was
--- such under its key where it may be Secure
-pub record IsSafe (Was : Key → List ℕ → Type 0) (row : Row) : Type 0 where
+-- no control character stands in the name and the value
+abbrev IsFreePair : Seen → Type 0
+IsFreePair seen = not (list_any is_control seen.cookie.name || list_any is_control seen.cookie.value) ≡ true
+
+-- a row whose name and value are as a text gives them, and without a control character where that rule is on, whose
+-- Path and Domain hold no semicolon, and whose value was such under its key where it may be Secure
+pub record IsSafe (control : Bool) (Was : Key → List ℕ → Type 0) (row : Row) : Type 0 where
   pub pair : IsReadPair row.raw.cookie.name row.raw.cookie.value
+  pub free : control ≡ true → IsFreeRow row
   pub uncut : IsUncut row.raw.cookie
   pub was : may_be_secure row.raw.cookie ≡ true → Was (key_of row) row.raw.cookie.value
 
 module _ (rules : Rules) (from_http : IsTrue rules.secure_from_http) (on : IsTrue rules.secure_wins)
     (Was : Key → List ℕ → Type 0) where
   abbrev pub Q : Row → Type 0
-  Q = IsSafe Was
+  Q = IsSafe rules.control Was
 
   q_same : (row other : Row) → other.raw ≡ row.raw → key_of other ≡ key_of row → Q row → Q other
   q_same row other e keyed q = record {
     pair = subst (λ (s : Seen). IsReadPair s.cookie.name s.cookie.value) (sym e) q.pair;
+    free = λ control. subst IsFreePair (sym e) (q.free control);
     uncut = subst (λ (s : Seen). IsUncut s.cookie) (sym e) q.uncut;
     was = λ may. subst (λ (k : Key). Was k other.raw.cookie.value) (sym keyed)
         (subst (λ (s : Seen). Was (key_of row) s.cookie.value) (sym e)
@@ -113,12 +124,24 @@ module _ (rules : Rules) (from_http : IsTrue rules.secure_from_http) (on : IsTru
       all_accepts Q Q (λ row. q_same row (expired row) refl refl) (λ row. q_same row (alone row) refl refl) url now
       (λ row lives q. q) handed made list rows new end h accepts
     where
+      line_free : (b : Bool) → list_any is_control line ≡ b → rules.control ≡ true → IsFree line
+      line_free true e control = absurd (free (control, e))
+      line_free false e control = e
+
+      pair_free : (seen : Seen) → IsUtf8 handed → ReadsPlain handed (Ok seen) → rules.control ≡ true
+          → IsFreePair seen
+      pair_free seen utf8 reads control =
+          let whole = free_lines_stay rules now line handed (line_free _ refl control) is_handed in
+          let texts = free_lines_read handed seen whole utf8 reads in
+          λ i. not (texts.name i || texts.value i)
+
       made : (seen : Seen) → ¬ (IsAgainstHost url handed) → IsUtf8 handed → ReadsPlain handed (Ok seen) → (row : Row)
           → IsMade (unsliced seen.cookie) url now row → Q row
       made seen unlike utf8 reads row is_made =
           record {
             pair = subst (λ (s : Seen). IsReadPair s.cookie.name s.cookie.value) (sym is_made.raw)
                 (texts_give_pairs handed seen utf8 reads);
+            free = λ control. subst IsFreePair (sym is_made.raw) (pair_free seen utf8 reads control);
             uncut = subst (λ (s : Seen). IsUncut s.cookie) (sym is_made.raw) (line_uncut handed seen utf8 reads);
             was = λ may. by (subst (λ (s : Seen). may_be_secure s.cookie ≡ true) is_made.raw may) (secure_or_not url);
           }
@@ -185,6 +208,8 @@ module _ (rules : Rules) (from_http : IsTrue rules.secure_from_http) (on : IsTru
         pair = subst (λ (s : Seen). IsReadPair s.cookie.name s.cookie.value) (sym h.raw)
             (subst (λ v. IsReadPair h.seen.cookie.name v) value
             (subst (λ n. IsReadPair n row.raw.cookie.value) name q.pair));
+        free = λ control. subst IsFreePair (sym h.raw)
+            ((λ i. not (list_any is_control (sym name i) || list_any is_control (sym value i))) ∙ q.free control);
         uncut = subst (λ (s : Seen). IsUncut s.cookie) (sym h.raw) flags.1;
         was = λ may. subst (λ (k : Key). Was k read.raw.cookie.value) keyed
             (subst (λ (s : Seen). Was (key_of row) s.cookie.value) (sym h.raw)
@@ -249,11 +274,6 @@ module _ (rules : Rules) (from_http : IsTrue rules.secure_from_http) (on : IsTru
       by true e later = (won given row e h.0, later)
       by false e later = later
 
-header_of_winners : (b : Bool) (rows : List Row) (to : Parts) (now : ℤ) (header : List ℕ) → b ≡ true
-    → IsHeaderIf b rows to now header → IsWinnersHeader rows to now header
-header_of_winners true rows to now header e h = h
-header_of_winners false rows to now header e h = absurd (true≢false (sym e))
-
 -- one of the steps set the value under the key
 abbrev pub WasSet : Rules → List Step → Key → List ℕ → Type 0
 WasSet rules steps key value = IsAny (SetsSecurely rules key value) steps
@@ -265,25 +285,41 @@ pub safe_rows : (rules : Rules) (list : List Rule) (steps : List Step) (rows : L
 safe_rows rules list steps rows from_http on takes =
     steps_set rules from_http on (WasSet rules steps) list [] rows steps (λ key value any. any) tt takes
 
-read_pairs_of : (Was : Key → List ℕ → Type 0) (rows : List Row) → AllByRecursion (IsSafe Was) rows
-    → HaveReadPairs rows
-read_pairs_of Was [] h = tt
-read_pairs_of Was (row ∷ rows) h = (h.0.pair, read_pairs_of Was rows h.1)
+read_pairs_of : (control : Bool) (Was : Key → List ℕ → Type 0) (rows : List Row)
+    → AllByRecursion (IsSafe control Was) rows → HaveReadPairs rows
+read_pairs_of control Was [] h = tt
+read_pairs_of control Was (row ∷ rows) h = (h.0.pair, read_pairs_of control Was rows h.1)
+
+free_of : (control : Bool) (Was : Key → List ℕ → Type 0) (rows : List Row) → control ≡ true
+    → AllByRecursion (IsSafe control Was) rows → AllByRecursion IsFreeRow rows
+free_of control Was [] on h = tt
+free_of control Was (row ∷ rows) on h = (h.0.free on, free_of control Was rows on h.1)
+
+-- where none of them has a control character if that rule is on, a header shows all that win
+winners_shown : (rules : Rules) (given : List Row) → rules.secure_wins ≡ true
+    → (rules.control ≡ true → AllByRecursion IsFreeRow given) → shown rules given ≡ winners given
+winners_shown rules given on free =
+    stay_if rules.control _ (λ control. all_winners rules.secure_wins IsFreeRow given (free control))
+    ∙ ap (λ b. left_if b winners given) on
 
 -- so their names and values are as texts give them
 pub have_read_pairs : (rules : Rules) (list : List Rule) (steps : List Step) (rows : List Row)
     → IsTrue rules.secure_from_http → IsTrue rules.secure_wins → TakesSteps rules list [] steps rows
     → HaveReadPairs rows
 have_read_pairs rules list steps rows from_http on takes =
-    read_pairs_of (WasSet rules steps) rows (safe_rows rules list steps rows from_http on takes)
+    read_pairs_of rules.control (WasSet rules steps) rows (safe_rows rules list steps rows from_http on takes)
 
 pub secure_names_are_set_securely : SecureNamesAreSetSecurely
-secure_names_are_set_securely rules list steps rows from_http on takes to now header is =
-    let h = header_of_winners rules.secure_wins rows to now header on is in
+secure_names_are_set_securely rules list steps rows from_http on takes to now header h =
     let Was : Key → List ℕ → Type 0 = WasSet rules steps in
     let all = safe_rows rules list steps rows from_http on takes in
     let picked = picked_all (Q rules from_http on Was) _ rows h.are_given.0 all h.are_given.1 in
     let longest = recursion_from_All (Q rules from_http on Was) h.given
     (All-permutation (Q rules from_http on Was) h.are_given.0 h.given h.are_given.2.permutation
     (All-from_recursion (Q rules from_http on Was) h.are_given.0 picked)) in
-    (h.given, h.are_given, h.printed, all_won rules from_http on Was h.given h.given longest)
+    let same = winners_shown rules h.given on (λ control. free_of rules.control Was h.given control longest) in (
+      h.given,
+      h.are_given,
+      h.printed ∙ ap (λ rs. header_of (map pair_of rs)) same,
+      all_won rules from_http on Was h.given h.given longest,
+    )

@@ -58,9 +58,9 @@ use Rattle.cookie_text.proofs.PrintedPieces.{trim-graphic, value_cut}
 use Rattle.cookie_text.proofs.ReadsBack.{reads_back}
 use Rattle.cookie_text.proofs.UniqueLemmas.{one_age, one_end}
 use Rattle.cookie_store.specs.Rows.{Row}
-use Rattle.cookie_run.specs.Accept.{Accepts, AcceptsAll}
-use Rattle.cookie_run.specs.Jar.{IsSent, lines_of}
-use Rattle.cookie_run.specs.declared.step.LineEnd.{LineEnd}
+use Rattle.cookie_client.specs.Accept.{Accepts, AcceptsAll}
+use Rattle.cookie_client.specs.Jar.{IsSent, lines_of}
+use Rattle.cookie_client.specs.declared.outcome.LineEnd.{LineEnd}
 use Rattle.store_parts.specs.Expiry.{seconds}
 use Rattle.user_agent.specs.Agent.{IsDoneIf, IsHandedOn, TakesLine, TakesLines}
 use Rattle.user_agent.specs.Controls.{IsFree}

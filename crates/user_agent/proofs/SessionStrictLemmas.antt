@@ -17,9 +17,9 @@ use Rattle.cookie_text.proofs.PrintedCookies.{IsClean-pair, IsClean-plain, name_
 use Rattle.cookie_text.proofs.PrintedPieces.{All-IsPlain-escaped}
 use Rattle.cookie_text.proofs.ReadsBack.{first_joined}
 use Rattle.store_parts.specs.Expiry.{death, is_dead}
-use Rattle.cookie_run.specs.Jar.{IsSent, lines_of}
-use Rattle.cookie_run.proofs.Escaped.{decoded_escaped}
-use Rattle.cookie_run.proofs.Showing.{utf8_bytes}
+use Rattle.cookie_client.specs.Jar.{IsSent, lines_of}
+use Rattle.cookie_client.proofs.Escaped.{decoded_escaped}
+use Rattle.cookie_client.proofs.SessionTexts.{utf8_bytes}
 use Rattle.user_agent.specs.Agent.{IsHandedOn}
 use Rattle.user_agent.specs.Refusals.{CameByHttps}
 use Rattle.user_agent.specs.SessionLines.{IsWithin}

@@ -6,7 +6,7 @@ use Rattle.std.specs.Str.{trim_start, trim_end, chars}
 use lib.Utf8.{encode}
 use Rattle.std.proofs.lemmas.List.Elements.{All-head, All-tail}
 use Rattle.std.proofs.lemmas.Option.{same_Some}
-use Rattle.cookie_run.proofs.Texts.{some_is_not_none}
+use Rattle.cookie_client.proofs.Texts.{some_is_not_none}
 use Rattle.cookie_text.specs.Again.{IsReadPair}
 use Rattle.cookie_text.specs.Attribute.{Attribute, Domain, Expires, HttpOnly, MaxAge, OfSite, Partitioned, Path, Secure}
 use Rattle.cookie_text.specs.Pieces.{text_after, value_of}
@@ -15,9 +15,10 @@ use Rattle.cookie_text.specs.Reading.{GivesSite, HasLast, ReadsPlain}
 use Rattle.cookie_text.specs.Record.{Record, Seen}
 use Rattle.cookie_text.specs.declared.draft.SameSite.{SameSite}
 use Rattle.cookie_text.specs.declared.draft.SameSite.TheVariants.{Strict, Lax, None as Unrestricted}
+use Rattle.cookie_text.proofs.BoundAgain.{all_at, other_name, there_all}
 use Rattle.cookie_text.proofs.NormalLemmas.{pieces_of}
 use Rattle.cookie_text.proofs.PrintedAttributes.{reads-SameSite}
-use Rattle.user_agent.proofs.FlagLemmas.{IsUncut, all_at, attributes_read, each_there, other, there_all}
+use Rattle.user_agent.proofs.FlagLemmas.{IsUncut, attributes_read, each_there}
 
 -- ---- the pieces behind one that may be there
 
@@ -55,13 +56,13 @@ module _ (r : Record) (strict : r.same_site ≡ Some Strict) where
   each_says =
       there_all (λ p. (x : SameSite) → GivesSite p x → x ≡ Strict) (attributes_of r)
       (each_there (λ a. (x : SameSite) → GivesSite (32 ∷ attribute_text a) x → x ≡ Strict) r
-      (λ x g. absurd (other HttpOnly (OfSite x) refl refl g)) says
-      (λ e x g. absurd (other Partitioned (OfSite x) refl refl g))
-      (λ e x g. absurd (other Secure (OfSite x) refl refl g))
-      (λ t e x g. absurd (other (Path t) (OfSite x) refl refl g))
-      (λ t e x g. absurd (other (Domain t) (OfSite x) refl refl g))
-      (λ z x g. absurd (other (MaxAge z) (OfSite x) refl refl g))
-      (λ d x g. absurd (other (Expires d) (OfSite x) refl refl g)))
+      (λ x g. absurd (other_name HttpOnly (OfSite x) refl refl g)) says
+      (λ e x g. absurd (other_name Partitioned (OfSite x) refl refl g))
+      (λ e x g. absurd (other_name Secure (OfSite x) refl refl g))
+      (λ t e x g. absurd (other_name (Path t) (OfSite x) refl refl g))
+      (λ t e x g. absurd (other_name (Domain t) (OfSite x) refl refl g))
+      (λ z x g. absurd (other_name (MaxAge z) (OfSite x) refl refl g))
+      (λ d x g. absurd (other_name (Expires d) (OfSite x) refl refl g)))
 
   one_says : ¬ (All (λ p. (x : SameSite) → ¬ (GivesSite p x)) here)
   one_says none =

@@ -26,8 +26,8 @@ use Rattle.cookie_store.specs.Longest.{AreLongestFirst, LengthsFall, has_length,
 use Rattle.cookie_store.specs.Rows.{Row, behind_last, domain_text, ended, expired, has_domain_of, has_key_of}
 use Rattle.cookie_store.specs.Rows.{has_place_of, is_live, is_live_of, put, replaced}
 use Rattle.cookie_store.proofs.LongestLemmas.{told_by_lengths}
-use Rattle.cookie_run.specs.Accept.{Accepts}
-use Rattle.cookie_run.specs.declared.step.LineEnd.{LineEnd}
+use Rattle.cookie_client.specs.Accept.{Accepts}
+use Rattle.cookie_client.specs.declared.outcome.LineEnd.{LineEnd}
 use Rattle.user_agent.specs.Agent.{TakesLine, TakesLines}
 use Rattle.user_agent.specs.Integrity.{ProtectedRowsStand, StandsAsBefore, has_name_of, is_protected, is_rival_of}
 use Rattle.user_agent.specs.Refusals.{HasOne, IsLetIn, IsOverlaid}
@@ -431,7 +431,7 @@ module _ (test : Row → Bool) where
       ∙ (filter_swap (has_length n) b
       ∙ (ap (filter test) (sym (g.stable n)) ∙ sym (filter_swap (has_length n) y)))))))
 
-filter_same : (f g : Row → Bool) (rows : List Row) → AllByRecursion (λ y. f y ≡ g y) rows
+pub filter_same : (f g : Row → Bool) (rows : List Row) → AllByRecursion (λ y. f y ≡ g y) rows
     → filter f rows ≡ filter g rows
 filter_same f g [] all = refl
 filter_same f g (y ∷ ys) all =

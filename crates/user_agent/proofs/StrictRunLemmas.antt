@@ -29,16 +29,16 @@ use Rattle.cookie_store.specs.Making.{IsDomainFor, IsMade}
 use Rattle.cookie_store.specs.Placing.{is_saved, saved}
 use Rattle.cookie_store.specs.Rows.{Row, domain_text, expired, is_live}
 use Rattle.cookie_store.specs.SavedRows.{IsReread}
-use Rattle.cookie_run.specs.HostPrefix.{IsAgainstHost}
-use Rattle.cookie_run.specs.Hosts.{secure_host}
-use Rattle.cookie_run.specs.Jar.{last_in, record_in, value_in}
-use Rattle.cookie_run.specs.Keeping.{HasReadPair, HaveReadPairs, Keeps}
-use Rattle.cookie_run.proofs.FromLines.{filter_all}
-use Rattle.cookie_run.proofs.LetIn.{free_conforms}
-use Rattle.cookie_run.proofs.Lines.{https_of, some_domain}
-use Rattle.cookie_run.proofs.Sessions.{none_at}
-use Rattle.cookie_run.proofs.Showing.{last_named}
-use Rattle.cookie_run.proofs.Texts.{some_is_not_none}
+use Rattle.cookie_client.specs.HostPrefix.{IsAgainstHost}
+use Rattle.cookie_client.specs.Hosts.{secure_host}
+use Rattle.cookie_client.specs.Jar.{last_in, record_in, value_in}
+use Rattle.cookie_client.specs.Keeping.{HasReadPair, HaveReadPairs, Keeps}
+use Rattle.cookie_client.proofs.ComingBack.{filter_all}
+use Rattle.cookie_client.proofs.LetIn.{free_conforms}
+use Rattle.cookie_client.proofs.Lines.{https_of, some_domain}
+use Rattle.cookie_client.proofs.Sessions.{none_at}
+use Rattle.cookie_client.proofs.SessionTexts.{last_named}
+use Rattle.cookie_client.proofs.Texts.{some_is_not_none}
 use Rattle.user_agent.specs.CrossAnswers.{TakesLineFrom, TakesLinesFrom}
 use Rattle.user_agent.specs.CrossSite.{IsCarried, is_held_back}
 use Rattle.user_agent.specs.SecureRuns.{IsAny}

@@ -1,18 +1,19 @@
 -- Texts without a semicolon: the pieces of a line, and what is cut and trimmed of them.
-use Rattle.std.proofs.Common.{◌≡◌, ◌≢◌, ℕ, suc, ◌+◌, ◌<◌, ◌==◌, ltb, true, false, Bool, List, [], ◌∷◌, ◌++◌}
+use Rattle.std.proofs.Common.{◌≡◌, ◌≢◌, ℕ, suc, ◌+◌, ◌==◌, true, false, Bool, List, [], ◌∷◌, ◌++◌}
 use Rattle.std.proofs.Common.{length, drop, sym, refl, ap, ◌∙◌, subst, arith, add-one}
 use lib.Utf8.{scalar, scalars, encode, encodes}
 use Rattle.std.specs.Prelude.{◌&&◌}
-use Rattle.std.specs.Char.{is_whitespace}
 use Rattle.std.specs.Cmp.{first_so, second_so}
 use Rattle.std.specs.List.{AllByRecursion, after_first, onto_first, position_or_len}
 use Rattle.std.specs.Str.{IsUtf8, trim, trim_start, trim_end, chars, skip_leading_whitespace, drop_trailing_whitespace}
-use Rattle.std.proofs.lemmas.Bool.{cond-true, cond_both}
 use Rattle.std.proofs.lemmas.Bool.Decides.{nat_tests}
 use Rattle.std.proofs.lemmas.List.Elements.{All-nil, All-cons}
 use Rattle.std.proofs.lemmas.List.Splits.{slice_split-cons_yes, slice_split-cons_no}
 use Rattle.std.proofs.lemmas.Str.{chars-encodes, char_from_byte}
 use Rattle.cookie_text.specs.Pieces.{equals, full_stop, semicolon, pieces}
+use Rattle.cookie_text.specs.Again.{Lacks}
+pub use Rattle.cookie_text.proofs.PairsAgain.{drop_all, skip_all}
+use Rattle.cookie_text.proofs.PairsAgain.{encode-byte, encode_lacks}
 use Rattle.user_agent.proofs.PieceLemmas.{IsClean}
 
 -- a character other than a semicolon
@@ -26,28 +27,6 @@ IsWhole text = (cs : List ℕ) × AllByRecursion IsOther cs × (encodes cs ≡ t
 pub are_scalars : (cs : List ℕ) → AllByRecursion IsOther cs → scalars cs ≡ true
 are_scalars [] h = refl
 are_scalars (c ∷ cs) h = λ i. h.0.0 i && are_scalars cs h.1 i
-
--- ---- the bytes of a character
-
-one_byte : (k : ℕ) → k < 128 → encode k ≡ k ∷ []
-unfolding encode
-one_byte k small = let e : ltb k 128 ≡ true = grind (arith, nat_tests, small) in cond-true _ _ _ e
-
-abbrev Lacks : ℕ → List ℕ → Type 0
-Lacks k bytes = AllByRecursion (λ b. b ≢ k) bytes
-
-encode_lacks : (k c : ℕ) → k < 128 → c ≢ k → Lacks k (encode c)
-unfolding encode
-encode_lacks k c small other =
-    cond_both (ltb c 128) _ _ (Lacks k) (λ e. (other, tt)) (λ e.
-    cond_both (ltb c 2048) _ _ (Lacks k) (λ e. ((λ s. omega (arith, s, small)), ((λ s. omega (arith, s, small)), tt)))
-    (λ e.
-    cond_both (ltb c 65536) _ _ (Lacks k)
-    (λ e. ((λ s. omega (arith, s, small)), ((λ s. omega (arith, s, small)), ((λ s. omega (arith, s, small)), tt))))
-    (λ e. (
-      (λ s. omega (arith, s, small)),
-      ((λ s. omega (arith, s, small)), ((λ s. omega (arith, s, small)), ((λ s. omega (arith, s, small)), tt))),
-    ))))
 
 differs : (k b : ℕ) → b ≢ k → (b == k) ≡ false
 differs k b other = grind (arith, nat_tests, other)
@@ -119,7 +98,7 @@ whole_pieces (c ∷ cs) h =
     by true e later =
         let is : c ≡ semicolon = grind (arith, nat_tests, e) in
         subst (λ bs. AllByRecursion IsWhole (pieces (bs ++ encodes cs)))
-        (sym (ap encode is ∙ one_byte semicolon (omega arith)))
+        (sym (ap encode is ∙ encode-byte semicolon (omega arith)))
         (subst (AllByRecursion IsWhole)
         (sym (slice_split-cons_yes (λ b. b == semicolon) semicolon (encodes cs) refl)) (([], tt, refl), later))
     by false e later =
@@ -159,7 +138,7 @@ whole_after (c ∷ cs) h = by (c == equals) refl (whole_after cs h.1)
     by true e later =
         let is : c ≡ equals = grind (arith, nat_tests, e) in
         subst (λ bs. IsWhole (after_first (λ b. b == equals) (bs ++ encodes cs)))
-        (sym (ap encode is ∙ one_byte equals (omega arith)))
+        (sym (ap encode is ∙ encode-byte equals (omega arith)))
         (subst IsWhole (sym (after_here (encodes cs))) (cs, h.1, refl))
     by false e later =
         let other : c ≢ equals = λ is. grind (arith, nat_tests, e, is) in
@@ -170,17 +149,6 @@ pub after_whole : (text : List ℕ) → IsWhole text → IsWhole (after_first (�
 after_whole text (cs, all, e) = subst (λ t. IsWhole (after_first (λ b. b == equals) t)) e (whole_after cs all)
 
 -- ---- what is trimmed
-
-pub skip_all : (P : ℕ → Type 0) (cs : List ℕ) → AllByRecursion P cs → AllByRecursion P (skip_leading_whitespace cs)
-skip_all P [] h = tt
-skip_all P (c ∷ cs) h =
-    cond_both (is_whitespace c) _ _ (AllByRecursion P) (λ e. skip_all P cs h.1) (λ e. h)
-
-pub drop_all : (P : ℕ → Type 0) (cs : List ℕ) → AllByRecursion P cs → AllByRecursion P (drop_trailing_whitespace cs)
-drop_all P [] h = tt
-drop_all P (c ∷ cs) h =
-    cond_both (is_whitespace c && length (drop_trailing_whitespace cs) == 0) _ _ (AllByRecursion P) (λ e. tt)
-    (λ e. (h.0, drop_all P cs h.1))
 
 pub trim_whole : (text : List ℕ) → IsWhole text → IsWhole (trim text)
 unfolding trim_start trim_end
@@ -207,5 +175,5 @@ behind_dot bs (c ∷ cs, all, e) =
       cs,
       all.1,
       same_rest full_stop full_stop (encodes cs) bs
-          (ap (λ k. k ++ encodes cs) (sym (ap encode is ∙ one_byte full_stop (omega arith))) ∙ e),
+          (ap (λ k. k ++ encodes cs) (sym (ap encode is ∙ encode-byte full_stop (omega arith))) ∙ e),
     )

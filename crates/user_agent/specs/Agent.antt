@@ -6,8 +6,8 @@ use Rattle.cookie_text.specs.Reading.{first_piece}
 use Rattle.publicsuffix.specs.Rules.{Rule}
 use Rattle.url.specs.Parts.{Parts}
 use Rattle.cookie_store.specs.Rows.{Row, Store}
-use Rattle.cookie_run.specs.Accept.{Accepts, AcceptsAll, AsksForMemory as ClientAsks}
-use Rattle.cookie_run.specs.declared.step.LineEnd.{LineEnd}
+use Rattle.cookie_client.specs.Accept.{Accepts, AcceptsAll, AsksForMemory as ClientAsks}
+use Rattle.cookie_client.specs.declared.outcome.LineEnd.{LineEnd}
 use Rattle.user_agent.specs.CutLives.{IsCutLine}
 use Rattle.user_agent.specs.KnownDates.{IsKnownLine}
 use Rattle.user_agent.specs.LongAttributes.{IsShortLine}

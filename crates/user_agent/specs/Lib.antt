@@ -6,6 +6,7 @@ pub mod CrossSite
 pub mod CutLives
 pub mod Dates
 pub mod Fields
+pub mod Headers
 pub mod Integrity
 pub mod KnownDates
 pub mod LeftAlone

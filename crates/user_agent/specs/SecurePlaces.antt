@@ -27,8 +27,8 @@ abbrev pub is_named : List ℕ → Row → Bool
 is_named name row = bytes_eq name (decoded_name row)
 
 -- the places of the protected rows of this decoded name, in their order
-abbrev pub places_of : ℤ → List ℕ → List Row → List (List ℕ × List ℕ)
-places_of now name rows = map place_of (filter (is_named name) (filter (is_protected now) rows))
+abbrev pub secure_places_of : ℤ → List ℕ → List Row → List (List ℕ × List ℕ)
+secure_places_of now name rows = map place_of (filter (is_named name) (filter (is_protected now) rows))
 
 -- decoded names with their places; or none are kept, and the rule on overlays looks at each row
 abbrev pub Places : Type 0
@@ -41,7 +41,7 @@ listed entries name = unwrap_or (lookup (bytes_eq name) entries) []
 -- they are those of the rows
 abbrev pub ShowPlaces : Places → ℤ → List Row → Type 0
 ShowPlaces places now rows =
-    IfSome places (λ entries. (name : List ℕ) → listed entries name ≡ places_of now name rows)
+    IfSome places (λ entries. (name : List ℕ) → listed entries name ≡ secure_places_of now name rows)
 
 -- and stay so, whatever lines come from the URL: the rules are on by which it changes no protected row
 pub record ArePlacesOf (places : Places) (rules : Rules) (url : Parts) (now : ℤ) (rows : List Row) : Type 0 where

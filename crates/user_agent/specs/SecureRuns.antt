@@ -11,11 +11,12 @@ use Rattle.cookie_store.specs.Given.{pair_of}
 use Rattle.cookie_store.specs.Longest.{AreGivenLongest}
 use Rattle.cookie_store.specs.Making.{IsMade}
 use Rattle.cookie_store.specs.Rows.{Key, Row, key_of}
-use Rattle.cookie_run.specs.Header.{header_of}
-use Rattle.cookie_run.specs.Keeping.{Keeps}
-use Rattle.cookie_run.specs.Reading.{AreCookiesOf}
+use Rattle.cookie_client.specs.Header.{header_of}
+use Rattle.cookie_client.specs.Keeping.{Keeps}
+use Rattle.cookie_client.specs.Reading.{AreCookiesOf}
 use Rattle.user_agent.specs.Agent.{IsHandedOn, TakesLines}
-use Rattle.user_agent.specs.SecureWins.{IsHeaderBehind, decoded_name, is_secure_of, winners}
+use Rattle.user_agent.specs.Headers.{IsHeaderBehind}
+use Rattle.user_agent.specs.SecureWins.{decoded_name, is_secure_of, winners}
 use Rattle.user_agent.specs.declared.rules.Outcome.{Outcome}
 use Rattle.user_agent.specs.declared.rules.Rules.{Rules}
 

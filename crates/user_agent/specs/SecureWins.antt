@@ -1,5 +1,5 @@
--- The header of a request where Secure rows win (own: docs/DEFINITIONS.md).
-use Rattle.std.specs.Prelude.{◌≡◌, ◌&&◌, ◌||◌, ℕ, ℤ, Bool, true, false, not, List, filter, map}
+-- The rows that win, where Secure ones do (own: docs/DEFINITIONS.md).
+use Rattle.std.specs.Prelude.{◌&&◌, ◌||◌, ℕ, Bool, not, List, filter}
 use Rattle.std.specs.BTreeSet.{BTreeSet, contains_by}
 use Rattle.std.specs.Cmp.Lexicographic.{slice_cmp}
 use Rattle.std.specs.Global.{Vec}
@@ -7,13 +7,8 @@ use Rattle.std.specs.List.{list_any}
 use Rattle.std.specs.Ordering.{nat_cmp}
 use Rattle.std.specs.Str.{bytes_eq}
 use Rattle.percent_encoding.specs.Percent.{percent_decode}
-use Rattle.url.specs.Parts.{Parts, IsValid}
 use Rattle.cookie_text.specs.Printing.{is_set}
-use Rattle.cookie_store.specs.Given.{pair_of}
-use Rattle.cookie_store.specs.Longest.{AreGivenLongest}
 use Rattle.cookie_store.specs.Rows.{Row}
-use Rattle.cookie_run.specs.Header.{IsHeader, header_of}
-use Rattle.user_agent.specs.declared.rules.Rules.{Rules}
 
 -- the row's name, decoded
 abbrev pub decoded_name : Row → List ℕ
@@ -34,23 +29,6 @@ wins rows row = wins_beside (λ name. list_any (is_secure_of name) rows) row
 -- those that win, in their order
 abbrev pub winners : List Row → List Row
 winners rows = filter (wins rows) rows
-
--- the header of a request to the URL at the moment: the pairs of the rows that win among those that it is given, longer
--- paths first; the URL is one that was parsed
-pub record IsWinnersHeader (rows : List Row) (url : Parts) (now : ℤ) (header : List ℕ) : Type 0 where
-  pub valid : IsValid url
-  pub given : List Row
-  pub are_given : AreGivenLongest rows url now given
-  pub printed : header ≡ header_of (map pair_of (winners given))
-
--- where the rule is on; else that of a client
-abbrev pub IsHeaderIf : Bool → List Row → Parts → ℤ → List ℕ → Type 0
-IsHeaderIf true rows url now header = IsWinnersHeader rows url now header
-IsHeaderIf false rows url now header = IsHeader rows url now header
-
--- the header behind the rules
-abbrev pub IsHeaderBehind : Rules → List Row → Parts → ℤ → List ℕ → Type 0
-IsHeaderBehind rules rows url now header = IsHeaderIf rules.secure_wins rows url now header
 
 -- ---- a step of the code, for private contracts alone
 

@@ -7,9 +7,9 @@ use Rattle.cookie.specs.Jar.{Jar, delta}
 use Rattle.cookie_text.specs.Printing.{encoded, escaped, whole_seconds}
 use Rattle.cookie_text.specs.Record.{Record, Seen, moment_of}
 use Rattle.cookie_store.specs.Rows.{Row}
-use Rattle.cookie_run.specs.Accept.{AcceptsAll}
-use Rattle.cookie_run.specs.Jar.{ClosesWith, IsSent}
-use Rattle.cookie_run.specs.declared.step.LineEnd.{LineEnd}
+use Rattle.cookie_client.specs.Accept.{AcceptsAll}
+use Rattle.cookie_client.specs.Jar.{ClosesWith, IsSent}
+use Rattle.cookie_client.specs.declared.outcome.LineEnd.{LineEnd}
 use Rattle.store_parts.specs.Expiry.{seconds}
 use Rattle.user_agent.specs.Agent.{IsHandedOn, TakesLines}
 use Rattle.user_agent.specs.CutLives.{longest}

@@ -1,7 +1,7 @@
 -- Sites, and requests that a page of another site starts (the draft that follows RFC 6265, version 15, section 5.2).
 use Rattle.std.specs.Prelude.{◌≡◌, ◌⊎◌, ◌&&◌, ℕ, Bool, List, IsSomeAnd}
 use Rattle.publicsuffix.specs.Rules.{Rule}
-use Rattle.store_parts.specs.HostName.{IsHostName}
+use Rattle.store_parts.specs.DomainMatch.{IsHostName}
 use Rattle.store_parts.specs.Schemes.{host_of}
 use Rattle.url.specs.Parts.{Parts}
 use Rattle.publicsuffix.specs.Registrable.{IsRegistrable}

@@ -11,11 +11,11 @@ use Rattle.cookie_text.specs.Record.{Record, Seen}
 use Rattle.cookie_text.specs.declared.draft.SameSite.TheVariants.{Strict}
 use Rattle.store_parts.specs.Expiry.{death, is_dead}
 use Rattle.cookie_store.specs.Rows.{Row}
-use Rattle.cookie_run.specs.Hosts.{secure_host}
-use Rattle.cookie_run.specs.Jar.{ClosesWith, IsOpened, Keyed, ReadsIn}
-use Rattle.cookie_run.specs.Keeping.{Keeps}
-use Rattle.cookie_run.specs.Site.{stored_name}
-use Rattle.cookie_run.specs.declared.step.Way.TheVariants.{Host}
+use Rattle.cookie_client.specs.Hosts.{secure_host}
+use Rattle.cookie_client.specs.Jar.{ClosesWith, IsOpened, Keyed, ReadsIn}
+use Rattle.cookie_client.specs.Keeping.{Keeps}
+use Rattle.cookie_client.specs.Ways.{stored_name}
+use Rattle.cookie_client.specs.declared.way.Way.TheVariants.{Host}
 use Rattle.user_agent.specs.Agent.{IsHandedOn}
 use Rattle.user_agent.specs.CrossAnswers.{ReceivesFor}
 use Rattle.user_agent.specs.CrossSite.{IsHeaderFor}

@@ -13,7 +13,7 @@ use crate::judging::refusal;
 use crate::rules::{Outcome, Refusal, Rules};
 use crate::secure_places::SecurePlaces;
 use cookie::Cookie as RawCookie;
-use cookie_run::client;
+use cookie_client::client;
 use cookie_store::CookieStore;
 use cookie_text::laws::one_outcome;
 use jiff::civil::DateTime;

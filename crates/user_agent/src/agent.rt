@@ -14,32 +14,30 @@ ghost use Rattle.cookie_store.specs.Placing.{saved};
 ghost use Rattle.cookie_store.specs.Rows.{Store};
 ghost use Rattle.cookie_store.specs.SavedLaws.{IsOfBytes};
 ghost use Rattle.cookie_store.specs.SavedTexts as form;
-ghost use Rattle.cookie_run.specs.HostPrefix.{AreHeldRightly, IsHeldRightly};
-ghost use Rattle.cookie_run.specs.Keeping.{HaveReadPairs, Keeps};
-ghost use Rattle.cookie_run.specs.KeptKeys.{KeepsKeys};
+ghost use Rattle.cookie_client.specs.HostPrefix.{AreHeldRightly, IsHeldRightly};
+ghost use Rattle.cookie_client.specs.Keeping.{HaveReadPairs, Keeps};
+ghost use Rattle.cookie_client.specs.KeptKeys.{KeepsKeys};
 ghost use Rattle.user_agent.specs.Agent as spec;
 ghost use Rattle.user_agent.specs.CrossAnswers.{IsStoppedFor, ReceivesFor};
 ghost use Rattle.user_agent.specs.CutLives.{IsCutLine};
+ghost use Rattle.user_agent.specs.Headers.{IsHeaderBehind, OtherHeadersAreTheClients};
 ghost use Rattle.user_agent.specs.Integrity.{ProtectedRowsStay};
 ghost use Rattle.user_agent.specs.KnownDates.{IsKnownLine};
-ghost use Rattle.user_agent.specs.LongAttributes.{IsShortLine};
 ghost use Rattle.user_agent.specs.Refusals.{IsLetIn, IsStoppedByControl};
 ghost use Rattle.user_agent.specs.SecurePlaces.{ArePlacesOf, ShowPlaces};
-ghost use Rattle.user_agent.specs.SecureWins.{IsHeaderBehind, IsWinnersHeader};
 
+use crate::changes::shortened;
 use crate::cross_answer::{OutcomeFor, receive_for};
 use crate::cut_life::with_cut_life;
+use crate::headers::header_at;
 use crate::judging::{has_control, refusal};
 use crate::known_date::with_known_date;
 use crate::left_alone::left_alone;
-use crate::long_attributes::without_long_attributes;
 use crate::rules::{Outcome, Refusal, Rules};
 use crate::secure_places::SecurePlaces;
-use crate::secure_wins::winners;
 use crate::sites::Initiator;
 use cookie::Cookie as RawCookie;
-use cookie_run::client::header_of as header_text;
-use cookie_run::{Client, Stopped};
+use cookie_client::{Client, Stopped};
 use cookie_store::{Error, Sink, Source};
 use cookie_text::laws::one_outcome;
 use jiff::civil::DateTime;
@@ -66,7 +64,8 @@ impl Model for UserAgent {
 }
 
 impl UserAgent {
-    /// The user agent of this client and these rules. No row of the client's is judged by them.
+    /// The user agent of this client and these rules. No row of the client's is judged by them, but for headers
+    /// ([`UserAgent::header`]).
     pub fn new(client: Client, rules: Rules) -> UserAgent
         ensures { result ≡ record { store = client; rules = rules } }
     {
@@ -88,13 +87,17 @@ impl UserAgent {
     }
 
     /// The `Cookie` header of a request to this URL at `now`: the client's, but where `secure_wins` is on without the
-    /// rows that aren't `Secure` and whose name, percent-decoded, is that of a `Secure` row which the request is given.
+    /// rows that aren't `Secure` and whose name, percent-decoded, is that of a `Secure` row which the request is given;
+    /// and where `control` is on without those in whose name or value a control character other than a tab stands, so
+    /// that it has none ([`crate::laws::headers_have_no_control`]).
     ///
-    /// A request to a URL that isn't secure is given no `Secure` row, so its header stays.
+    /// A request to a URL that isn't secure is given no `Secure` row, so `secure_wins` leaves its header as it is. No
+    /// line gives a row with a control character where `control` was on: such a row was loaded, imported or there
+    /// before.
     ///
     /// # Errors
     ///
-    /// `AllocError` where there is no memory for the text, or for the names of the rows.
+    /// `AllocError` where there is no memory for the text, or, where one of these rules is on, to tell what it shows.
     pub fn header(&self, url: &Url, now: DateTime) -> Result<String, AllocError>
         ensures { IfOk result (λ header.
             IsHeaderBehind self.now.rules self.now.store.rows url.now (civil_nanos now) (string_bytes header)) }
@@ -193,7 +196,7 @@ impl UserAgent {
     }
 
     /// A user agent of these rules with the client that `Client::load` gives. No row that is loaded is judged by the
-    /// rules.
+    /// rules, but for headers ([`UserAgent::header`]).
     ///
     /// # Errors
     ///
@@ -259,22 +262,7 @@ pub fn header_of(
     ensures { IfOk result (λ header.
         IsHeaderBehind rules.now client.now.rows url.now (civil_nanos now) (string_bytes header)) }
 {
-    if rules.secure_wins {
-        winners_header(client, url, now)
-    } else {
-        client.header(url, now)
-    }
-}
-
-// The header of the rows that win.
-fn winners_header(client: &Client, url: &Url, now: DateTime) -> Result<String, AllocError>
-    ensures { IfOk result (λ header. IsWinnersHeader client.now.rows url.now (civil_nanos now) (string_bytes header)) }
-{
-    // A URL that was parsed is valid, whatever is done with it.
-    let _path = url.path();
-    let given = client.store().matches_longest(url, now)?;
-    let left = winners(client.alloc(), given)?;
-    header_text(client.alloc(), left)
+    header_at(client.alloc(), client.store(), rules, url, now)
 }
 
 /// Takes the `Set-Cookie` lines of an answer from this URL at `now` into a client behind these rules, one after
@@ -446,24 +434,12 @@ fn handed_text(
         spec.IsHandedText rules.now (civil_nanos now) line.now (string_bytes handed)) }
 {
     let short = shortened(alloc, rules, line)?;
-    let known = dated(alloc, rules, short)?;
-    cut(alloc, rules, known, now)
-}
-
-// The line without its long attributes, where that rule is on.
-fn shortened(alloc: Global, rules: &Rules, line: &str) -> Result<String, AllocError>
-    ensures { IfOk result (λ short.
-        spec.IsDoneIf rules.now.long_attributes IsShortLine line.now (string_bytes short)) }
-{
-    if rules.long_attributes {
-        without_long_attributes(alloc, line)
-    } else {
-        Ok(String::from_str(alloc, line)?)
-    }
+    let known = dated_text(alloc, rules, short)?;
+    cut_text(alloc, rules, known, now)
 }
 
 // The line with its dates known, where that rule is on.
-fn dated(alloc: Global, rules: &Rules, line: String) -> Result<String, AllocError>
+fn dated_text(alloc: Global, rules: &Rules, line: String) -> Result<String, AllocError>
     ensures { IfOk result (λ known.
         spec.IsDoneIf rules.now.dates IsKnownLine (string_bytes line) (string_bytes known)) }
 {
@@ -475,7 +451,7 @@ fn dated(alloc: Global, rules: &Rules, line: String) -> Result<String, AllocErro
 }
 
 // The line with its life cut, where that rule is on.
-fn cut(alloc: Global, rules: &Rules, line: String, now: DateTime) -> Result<String, AllocError>
+fn cut_text(alloc: Global, rules: &Rules, line: String, now: DateTime) -> Result<String, AllocError>
     ensures { IfOk result (λ cut.
         spec.IsDoneIf rules.now.long_lives (IsCutLine (civil_nanos now)) (string_bytes line) (string_bytes cut)) }
 {
@@ -554,9 +530,11 @@ pub(crate) fn take_read(
     Ok(Outcome::Taken(end))
 }
 
-/// With no rule on, a user agent takes lines exactly as its client does.
+/// With no rule on, a user agent takes lines exactly as its client does; and where neither `secure_wins` nor `control`
+/// is, it sends the client's headers.
 pub fn no_rules_are_the_client()
-    ensures { spec.NoRulesAreTheClient }
+    ensures lines { spec.NoRulesAreTheClient }
+    ensures headers { OtherHeadersAreTheClients }
 {}
 
 /// Where the rules `secure_from_http` and `secure_overlay` are on, whatever lines come from a URL that isn't secure:

@@ -1,4 +1,4 @@
-//! Which rules change a line.
+//! Which rules change a line, and what each of them makes of it.
 ghost use Rattle.std.specs.Prelude.{◌≡◌, IfOk, IsTrue, None, OnErr, option_map, string_bytes};
 ghost use Rattle.std.specs.Str.{IsUtf8};
 ghost use Rattle.jiff.specs.Words.{civil_nanos};
@@ -220,8 +220,12 @@ fn left_of<'a>(text: &'a Option<String>, line: &'a [u8]) -> &'a [u8]
     }
 }
 
-// The line without its long attributes, where that rule is on.
-fn shortened(alloc: Global, rules: &Rules, line: &str) -> Result<String, AllocError>
+/// The line without its long attributes, where that rule is on; else the line.
+///
+/// # Errors
+///
+/// `AllocError`, for want of memory.
+pub fn shortened(alloc: Global, rules: &Rules, line: &str) -> Result<String, AllocError>
     ensures { IfOk result (λ short.
         IsDoneIf rules.now.long_attributes IsShortLine line.now (string_bytes short)) }
 {
@@ -232,8 +236,12 @@ fn shortened(alloc: Global, rules: &Rules, line: &str) -> Result<String, AllocEr
     }
 }
 
-// The line with its dates known, where that rule is on.
-fn dated(alloc: Global, rules: &Rules, line: &str) -> Result<String, AllocError>
+/// The line with its dates known, where that rule is on; else the line.
+///
+/// # Errors
+///
+/// `AllocError`, for want of memory.
+pub fn dated(alloc: Global, rules: &Rules, line: &str) -> Result<String, AllocError>
     ensures { IfOk result (λ known. IsDoneIf rules.now.dates IsKnownLine line.now (string_bytes known)) }
 {
     if rules.dates {
@@ -243,8 +251,12 @@ fn dated(alloc: Global, rules: &Rules, line: &str) -> Result<String, AllocError>
     }
 }
 
-// The line with its life cut, where that rule is on.
-fn cut(alloc: Global, rules: &Rules, line: &str, now: DateTime) -> Result<String, AllocError>
+/// The line with its life cut, where that rule is on; else the line.
+///
+/// # Errors
+///
+/// `AllocError`, for want of memory.
+pub fn cut(alloc: Global, rules: &Rules, line: &str, now: DateTime) -> Result<String, AllocError>
     ensures { IfOk result (λ cut.
         IsDoneIf rules.now.long_lives (IsCutLine (civil_nanos now)) line.now (string_bytes cut)) }
 {

@@ -12,7 +12,7 @@ use crate::rules::{Outcome, Refusal, Rules};
 use crate::secure_places::SecurePlaces;
 use crate::sites::{Initiator, is_cross_site};
 use cookie::{Cookie as RawCookie, SameSite};
-use cookie_run::{Client, Stopped};
+use cookie_client::{Client, Stopped};
 use cookie_store::CookieStore;
 use cookie_text::laws::one_outcome;
 use jiff::civil::DateTime;

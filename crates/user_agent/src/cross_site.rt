@@ -5,17 +5,16 @@ ghost use Rattle.jiff.specs.Words.{civil_nanos};
 ghost use Rattle.cookie_store.specs.Given.{lent_row};
 ghost use Rattle.cookie_store.specs.Longest.{AreGivenLongest};
 ghost use Rattle.user_agent.specs.CrossSite as spec;
-ghost use Rattle.user_agent.specs.SecureWins.{IsHeaderBehind};
+ghost use Rattle.user_agent.specs.Headers.{IsHeaderBehind};
 ghost use Rattle.user_agent.specs.StrictRuns.{SessionsSetStrictly, StrictNamesAreReadAtHome};
 
 use crate::UserAgent;
 use crate::agent::header_of;
+use crate::headers::{header_at, header_text};
 use crate::rules::Rules;
-use crate::secure_wins::winners;
 use crate::sites::{Initiator, is_cross_site, is_safe_navigation};
 use cookie::SameSite;
-use cookie_run::Client;
-use cookie_run::client::header_of as header_text;
+use cookie_client::Client;
 use cookie_store::{Cookie, CookieStore};
 use jiff::civil::DateTime;
 use std::alloc::{AllocError, Global};
@@ -87,7 +86,7 @@ pub fn store_header_for(
     if is_cross_site(store, url, initiator) {
         header_across(alloc, store, rules, url, initiator, now)
     } else {
-        header_within(alloc, store, rules, url, now)
+        header_at(alloc, store, rules, url, now)
     }
 }
 
@@ -107,32 +106,7 @@ fn header_across(
     // A URL that was parsed is valid, whatever is done with it.
     let _path = url.path();
     let given = given_across(alloc, store, rules, url, initiator, now)?;
-    if rules.secure_wins {
-        header_text(alloc, winners(alloc, given)?)
-    } else {
-        header_text(alloc, given)
-    }
-}
-
-// The header of a request that isn't.
-fn header_within(
-    alloc: Global,
-    store: &CookieStore,
-    rules: &Rules,
-    url: &Url,
-    now: DateTime,
-) -> Result<String, AllocError>
-    ensures { IfOk result (λ header.
-        IsHeaderBehind rules.now store.now.rows url.now (civil_nanos now) (string_bytes header)) }
-{
-    // A URL that was parsed is valid, whatever is done with it.
-    let _path = url.path();
-    let given = store.matches_longest(url, now)?;
-    if rules.secure_wins {
-        header_text(alloc, winners(alloc, given)?)
-    } else {
-        header_text(alloc, given)
-    }
+    header_text(alloc, rules, given)
 }
 
 // The cookies that a cross-site request is given, longer paths first.

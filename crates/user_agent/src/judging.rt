@@ -6,8 +6,7 @@ ghost use Rattle.std.specs.List.{list_any};
 ghost use Rattle.percent_encoding.specs.Percent.{percent_decode};
 ghost use Rattle.cookie_text.specs.Reading.{ReadsPlain};
 ghost use Rattle.jiff.specs.Words.{civil_nanos};
-ghost use Rattle.store_parts.specs.DomainMatch.{DomainMatches, EndsAfterDot, domain_of};
-ghost use Rattle.store_parts.specs.PathMatch.{MeetAtSlash, PathMatches, path_of};
+ghost use Rattle.store_parts.specs.PathMatch.{PathMatches, path_of};
 ghost use Rattle.cookie_store.specs.Making.{path_at};
 ghost use Rattle.store_parts.specs.Expiry.{is_dead};
 ghost use Rattle.cookie_store.specs.Rows.{domain_text};
@@ -18,10 +17,11 @@ ghost use Rattle.user_agent.specs.SecurePlaces.{ShowPlaces};
 use crate::rules::{Refusal, Rules};
 use crate::secure_places::SecurePlaces;
 use cookie::{Cookie as RawCookie, Host, Prefix, SameSite};
-use cookie_store::utils::{is_host_name, is_secure};
+use cookie_store::utils::is_secure;
 use cookie_store::{Cookie, CookieDomain, CookiePath, CookieStore, Error};
 use cookie_text::laws::one_outcome;
 use jiff::civil::DateTime;
+use matching::{domain_matches, path_matches};
 use percent_encoding::percent_decode;
 use std::alloc::{AllocError, Global};
 use url::Url;
@@ -306,39 +306,4 @@ pub fn are_nested(a: &str, b: &str) -> bool
     ensures { IsTrue result ↔ spec.AreNested a.now b.now }
 {
     domain_matches(a, b) || domain_matches(b, a)
-}
-
-// Whether the host domain-matches the domain string (RFC 6265, section 5.1.3).
-fn domain_matches(host: &str, domain: &str) -> bool
-    ensures { IsTrue result ↔ DomainMatches host.now domain.now }
-{
-    host == domain || (is_host_name(host) && ends_after_dot(host, domain))
-}
-
-// Whether the host ends with a dot and the domain string.
-fn ends_after_dot(host: &str, domain: &str) -> bool
-    ensures { IsTrue result ↔ EndsAfterDot host.now domain.now }
-{
-    match host.as_bytes().strip_suffix(domain.as_bytes()) {
-        Some(before) => before.ends_with(b"."),
-        None => false,
-    }
-}
-
-/// Whether the request-path path-matches the cookie-path (RFC 6265, section 5.1.4).
-pub fn path_matches(cookie_path: &str, request_path: &str) -> bool
-    ensures { IsTrue result ↔ PathMatches cookie_path.now request_path.now }
-{
-    let cookie_path = cookie_path.as_bytes();
-    match request_path.as_bytes().strip_prefix(cookie_path) {
-        Some(rest) => rest.is_empty() || meet_at_slash(cookie_path, rest),
-        None => false,
-    }
-}
-
-// Whether the first text ends with `/` or the second begins with it.
-fn meet_at_slash(before: &[u8], after: &[u8]) -> bool
-    ensures { IsTrue result ↔ MeetAtSlash before.now after.now }
-{
-    matches!(before, [.., b'/']) || matches!(after, [b'/', ..])
 }

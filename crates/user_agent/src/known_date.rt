@@ -7,10 +7,9 @@ ghost use Rattle.cookie_text.specs.Pieces.{semicolon};
 ghost use Rattle.jiff.specs.Types.{DateTime as Moment};
 ghost use Rattle.user_agent.specs.KnownDates as spec;
 
-use crate::date_text::DateText;
 use crate::dates;
 use cookie_text::laws::{one_date, one_outcome};
-use cookie_text::{Cookie, ParseError};
+use cookie_text::{Cookie, ParseError, PrintedDate};
 use jiff::civil::DateTime;
 use std::alloc::{AllocError, Global};
 
@@ -68,7 +67,7 @@ fn push_known(alloc: Global, known: &mut String, piece: &str) -> Result<(), Allo
 pub(crate) fn dated_piece(alloc: Global, moment: DateTime) -> Result<String, AllocError>
     ensures { IfOk result (λ piece. string_bytes piece ≡ spec.dated_piece moment) }
 {
-    let date = DateText(moment);
+    let date = PrintedDate(moment);
     format!(in alloc; " Expires={date}")
 }
 

@@ -1,6 +1,6 @@
 //! Laws of answers that a user agent takes. Each function changes nothing: its contract is the law.
 ghost use Rattle.user_agent.specs.Agent.{ClientsTakeTheirs, PairsStay};
-ghost use Rattle.user_agent.specs.Controls.{FreeLinesRead, FreeLinesStay};
+ghost use Rattle.user_agent.specs.Controls as control;
 ghost use Rattle.user_agent.specs.SessionLines as spec;
 
 /// Whatever lines come, the rows are those after the client took the lines that it gets: of those that no rule refused,
@@ -18,8 +18,15 @@ pub fn pairs_stay()
 /// Where no control character stands in a line, none does in what the client gets of it, whatever rules are on, and
 /// none in the name, the value and the path of the cookie that a line reads as.
 pub fn no_control_comes()
-    ensures stay { FreeLinesStay }
-    ensures read { FreeLinesRead }
+    ensures stay { control.FreeLinesStay }
+    ensures read { control.FreeLinesRead }
+{}
+
+/// Where the rule `control` is on, no control character stands in the header of a request, whatever starts it and
+/// whatever rows there are: loaded, imported or there before the rule. So it is one line.
+pub fn headers_have_no_control()
+    ensures behind { control.HeadersAreFree }
+    ensures started { control.StartedHeadersAreFree }
 {}
 
 /// The line of a session's cookie from an https URL is refused by no rule, whatever rows there are, and the client gets

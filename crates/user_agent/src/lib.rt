@@ -7,12 +7,12 @@
 
 mod accepting;
 pub mod agent;
-mod changes;
+pub mod changes;
 pub mod cross_answer;
 pub mod cross_site;
 pub mod cut_life;
-mod date_text;
 pub mod dates;
+mod headers;
 pub mod integrity;
 mod judging;
 pub mod known_date;

@@ -3,7 +3,7 @@
 ghost use Rattle.std.specs.Prelude.{◌≡◌, ◌↔◌, IsTrue};
 ghost use Rattle.user_agent.specs.Refusals as spec;
 
-use cookie_run::LineEnd;
+use cookie_client::LineEnd;
 
 /// Why a user agent refuses a line, in the order in which the rules are tried.
 #[derive(Clone, Copy, Debug, PartialEq, Eq)]
@@ -37,6 +37,8 @@ pub struct Rules {
     pub dates: bool,
     /// Lives of over 400 days are cut at that (sections 5.5, 5.6.1 and 5.6.2).
     pub long_lives: bool,
+    /// [`Refusal::Control`] is a rule; and a header leaves out each row in whose name or value such a character stands,
+    /// as a text that is loaded may bring it ([`UserAgent::header`](crate::UserAgent::header)).
     pub control: bool,
     pub too_long: bool,
     pub secure_prefix: bool,

@@ -7,12 +7,13 @@ ghost use Rattle.cookie_store.specs.StoredCookie.{stored_of};
 ghost use Rattle.user_agent.specs.Refusals.{HasOne, IsOverlaid};
 ghost use Rattle.user_agent.specs.SecurePlaces as spec;
 
-use crate::judging::{are_nested, is_secure_and_live, overlies_one, path_matches, row_domain};
+use crate::judging::{are_nested, is_secure_and_live, overlies_one, row_domain};
 use crate::rules::Rules;
 use crate::secure_wins::decoded;
 use cookie_store::utils::is_secure;
 use cookie_store::{Cookie, CookieStore};
 use jiff::civil::DateTime;
+use matching::path_matches;
 use std::alloc::{AllocError, Global};
 use std::collections::BTreeMap;
 use std::marker::Model;
@@ -106,7 +107,7 @@ fn places_by_name(
     now: DateTime,
 ) -> Result<BTreeMap<Vec<u8>, Vec<Place>>, AllocError>
     ensures { IfOk result (λ places. (name : List ℕ)
-        → spec.places_at places name ≡ spec.places_of (civil_nanos now) name store.now.rows) }
+        → spec.places_at places name ≡ spec.secure_places_of (civil_nanos now) name store.now.rows) }
 {
     let mut places = BTreeMap::new(alloc);
     for row in store.iter_any() {

@@ -3,8 +3,9 @@ ghost use Rattle.std.specs.Prelude.{◌≡◌, ◌∷◌, ◌≤◌, ◌<◌, �
 ghost use Rattle.std.specs.List.{list_all};
 ghost use Rattle.std.specs.Char.{is_ascii_digit};
 ghost use Rattle.std.specs.Str.Parse.{digits_value};
-ghost use Rattle.httpdate.specs.Text as names;
 ghost use Rattle.user_agent.specs.Dates as spec;
+
+use cookie_text::month_name;
 
 /// Whether the byte parts the tokens of a date.
 #[tactic(auto, unfolding(crate::specs::Dates::is_delimiter))]
@@ -114,26 +115,4 @@ fn number_of(digits: &[u8]) -> u16
         number = number * 10 + (*digit - b'0') as u16;
     }
     number
-}
-
-/// The three letters of a month, of which January is 1.
-pub fn month_name(month: u8) -> &'static str
-    requires low { 1 ≤ month }
-    requires high { month ≤ 12 }
-    ensures { result.now ≡ names.month_name month }
-{
-    match month {
-        1 => "Jan",
-        2 => "Feb",
-        3 => "Mar",
-        4 => "Apr",
-        5 => "May",
-        6 => "Jun",
-        7 => "Jul",
-        8 => "Aug",
-        9 => "Sep",
-        10 => "Oct",
-        11 => "Nov",
-        _ => "Dec",
-    }
 }

@@ -2,8 +2,7 @@ use Rattle.std.proofs.Common.{◌∙◌, false, refl, rules, subst}
 use Rattle.std.specs.Vec.Iter.{into_iter_items, into_iter_len}
 use Rattle.jiff.specs.Words.{civil_nanos}
 use Rattle.bounds.specs.Counting.{StepsAll, keys_of, rows_with}
-use Rattle.bounds.proofs.CountLemmas.{counted_all, halted_at, left_next, left_none, length_next, member_in}
-use Rattle.bounds.proofs.CountLemmas.{steps_next}
+use Rattle.bounds.proofs.CountLemmas.{counted_all, halted_at, left_next, left_none, length_next, member_in, steps_next}
 use Rattle.bounds.proofs.counting.count_all.Goals as goal
 
 pub loop-member-init : goal.loop-member-init
