@@ -1,6 +1,6 @@
 -- No text of a row that a line leaves has a control character.
-use Rattle.std.proofs.Common.{◌≡◌, ◌∙◌, ◌-◌, ◌∷◌, [], ◌++◌, ℕ, ℤ, Bool, true, false, zero, suc, List, length, take, sym}
-use Rattle.std.proofs.Common.{refl, subst, inl, inr, arith, Option, Some, None}
+use Rattle.std.proofs.Common.{◌≡◌, ◌∙◌, ◌-◌, ◌∷◌, [], ℕ, ℤ, Bool, true, false, zero, suc, List, length, take, sym, refl}
+use Rattle.std.proofs.Common.{subst, inl, inr, arith, Option, Some, None}
 use Rattle.std.specs.Prelude.{◌==◌, ◌||◌, not, slice_index, IfSome, IsSomeAnd, MatchOption, option_and_then}
 use Rattle.std.specs.Prelude.{option_map, unwrap_or, if◌then◌else◌}
 use Rattle.std.specs.List.{before_last, suffix_len}
@@ -27,16 +27,13 @@ use Rattle.store_parts.specs.Schemes.{host_of}
 use Rattle.cookie_store.specs.Making.{IsDomainFor, IsMade, asked_domain}
 use Rattle.cookie_store.specs.Rows.{Row, domain_text}
 use Rattle.user_agent.specs.Controls.{IsFreeCookie}
+use Rattle.cookie_client.proofs.ReadPairs.{not_so}
 use Rattle.cookie_jar.specs.Keeping.{IsClean, has_control, is_control}
 
 abbrev pub IsFree : List ℕ → Type 0
 IsFree text = has_control text ≡ false
 
 -- ---- a URL's host and path
-
-not_so : (b : Bool) → not b ≡ true → b ≡ false
-not_so false h = refl
-not_so true h = absurd (cc)
 
 host_byte : (b : ℕ) → IsHostByte b → is_control b ≡ false
 host_byte b h = grind (arith, nat_tests, h.above, h.below)

@@ -1,7 +1,6 @@
 -- What is told of one line, and what a writer of JSON has written.
-use Rattle.std.proofs.Common.{◌≡◌, ◌∙◌, ◌++◌, ◌∷◌, [], ℕ, ℤ, List, Result, Ok, Err, Option, Some, None, OnOk, ap}
-use Rattle.std.proofs.Common.{ap₂, append_assoc}
-use Rattle.std.proofs.Common.{inl, inr, refl, subst, sym}
+use Rattle.std.proofs.Common.{◌≡◌, ◌∙◌, ◌++◌, ◌∷◌, [], ℕ, ℤ, List, Result, Ok, Err, Option, Some, None, OnOk, ap, ap₂}
+use Rattle.std.proofs.Common.{append_assoc, inl, inr, refl, subst, sym}
 use Rattle.std.specs.Prelude.{MatchResult}
 use Rattle.std.specs.Borrow.{Bor}
 use Rattle.std.specs.Str.{IsUtf8}
@@ -17,6 +16,7 @@ use Rattle.cookie_store.specs.Rows.{Row, Store, found, key_of}
 use Rattle.line_report.specs.Pair.{HasNoPair, IsPairOf}
 use Rattle.line_report.specs.Pieces.{AreJudged, PieceText}
 use Rattle.line_report.specs.declared.pairing.PairFault.{PairFault}
+use Rattle.user_agent.specs.Changes.{left_of}
 use Rattle.user_agent.specs.Agent.{IsDoneIf}
 use Rattle.user_agent.specs.CutLives.{IsCutLine}
 use Rattle.user_agent.specs.KnownDates.{IsKnownLine}
@@ -28,7 +28,7 @@ use Rattle.cookie_jar.specs.Explaining.{IsExplained, IsSent, IsUntil, Says, Says
 use Rattle.cookie_jar.specs.Explaining.{TellsRequests, TellsRow, pair_lines, piece_lines, request_lines, rule_text}
 use Rattle.cookie_jar.specs.Listing.{moment_text}
 use Rattle.cookie_jar.specs.Rows.{until_line}
-use Rattle.cookie_jar.specs.Steps.{Appends, SaysLeft, WritesMore, left_of, pair_of}
+use Rattle.cookie_jar.specs.Steps.{Appends, SaysLeft, WritesMore, pair_of}
 use Rattle.cookie_jar.specs.Taking.{TakesLine}
 use Rattle.cookie_jar.specs.Told.{end_text}
 use Rattle.cookie_jar.specs.declared.form.Form.{Form}

@@ -1,7 +1,6 @@
 -- What an import takes of lines and of items.
-use Rattle.std.proofs.Common.{◌≡◌, ◌≤◌, ◌+◌, ◌∙◌, ℕ, ℤ, Bool, true, false, List, [], ◌∷◌, ◌++◌, length, map}
-use Rattle.std.proofs.Common.{Option, Some, Result, Ok, Err, refl, sym, subst, ap, inl, inr, arith, ◌<◌, get_or}
-use Rattle.std.proofs.Common.{suc, take}
+use Rattle.std.proofs.Common.{◌≡◌, ◌≤◌, ◌+◌, ◌∙◌, ℕ, ℤ, Bool, true, false, List, [], ◌∷◌, ◌++◌, length, map, Option}
+use Rattle.std.proofs.Common.{Some, Result, Ok, Err, refl, sym, subst, ap, inl, inr, arith, ◌<◌, get_or, suc, take}
 use Rattle.std.specs.Prelude.{◌&&◌, IfOk, IfSome, OnErr, not, option_map, if◌then◌else◌}
 use Rattle.std.specs.List.{AllByRecursion, list_any}
 use Rattle.std.proofs.lemmas.Grind.{flat_map-append}
@@ -13,6 +12,7 @@ use Rattle.cookie_store.specs.Rows.{Row, Store, behind_last, has_domain_of, has_
 use Rattle.cookie_store.specs.Rows.{is_live, live, put, replaced}
 use Rattle.cookie_store.specs.StoredCookie.{stored_of}
 use Rattle.cookie_store.specs.declared.stored_cookie.Cookie.{Cookie}
+use Rattle.cookie_client.proofs.PutCookies.{picked_whole}
 use Rattle.cookie_jar.specs.Entries.{Entry, entry_text}
 use Rattle.cookie_jar.specs.Importing.{AreRefused, ImportText, Imports, ImportsEntries, IsUntaken, cause_of}
 use Rattle.cookie_jar.specs.Importing.{expired_of, import_text, lone, refused_pair, row_in, rows_in}
@@ -45,14 +45,6 @@ picked_one Is x h = ([], refl, inl (h, refl))
 
 pub picked_none : {A : Type 0} (Is : A → Type 0) (x : A) → ¬ (Is x) → ArePicked Is (x ∷ []) []
 picked_none Is x h = ([], refl, inr (h, refl))
-
--- of a list of which all are so, all are picked
-pub picked_whole : {A : Type 0} (Is : A → Type 0) (xs picked : List A) → AllByRecursion Is xs → ArePicked Is xs picked
-    → picked ≡ xs
-picked_whole Is [] picked all p = p
-picked_whole Is (x ∷ xs) picked all (later, rest, inl h) =
-    h.1 ∙ ap (λ l. x ∷ l) (picked_whole Is xs later all.1 rest)
-picked_whole Is (x ∷ xs) picked all (later, rest, inr h) = absurd (h.0 all.0)
 
 -- ---- refused lines
 

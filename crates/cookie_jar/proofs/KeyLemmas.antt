@@ -1,12 +1,12 @@
 -- Rows whose keys are those of grouped rows are grouped, and stand as they do where they are loaded.
-use Rattle.std.proofs.Common.{◌≡◌, ◌∙◌, ◌∷◌, [], ◌++◌, ◌&&◌, ◌||◌, ℤ, Bool, true, false, List, ap, sym, refl, subst}
+use Rattle.std.proofs.Common.{◌≡◌, ◌∙◌, ◌∷◌, [], ◌++◌, ◌&&◌, ◌||◌, ℤ, Bool, true, false, List, ap, refl, subst}
 use Rattle.std.specs.List.{AllByRecursion, list_any}
 use Rattle.std.specs.Str.{bytes_eq}
 use Rattle.std.proofs.lemmas.Bool.{or_from, or_parts}
 use Rattle.cookie_text.specs.ReadingBack.{Pairwise}
 use Rattle.cookie_store.specs.Grouped.{AreGrouped, PartsStay, StandTogether}
 use Rattle.cookie_store.specs.Placing.{loaded}
-use Rattle.cookie_store.specs.Rows.{HaveOwnKeys, Key, Row, has_domain, has_key, has_place, key_of, live}
+use Rattle.cookie_store.specs.Rows.{HaveOwnKeys, Key, Row, has_key, key_of, live}
 use Rattle.cookie_jar.proofs.RowLemmas.{live_part}
 
 module _ (P : Row → Row → Type 0) (same : (r o : Row) → P r o → key_of o ≡ key_of r) where

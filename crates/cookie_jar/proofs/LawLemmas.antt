@@ -19,11 +19,11 @@ use Rattle.cookies_txt.specs.Laws.{WrittenRowsAreSaid, WrittenRowsComeBack}
 use Rattle.cookies_txt.specs.Layout.{CookieLine, cookies_txt}
 use Rattle.cookies_txt.specs.Reading.{GivesRows, IsFine, IsFirstFault, SaysLines}
 use Rattle.cookies_txt.specs.Writing.{IsThroughCookiesTxt, flag_of, held, is_suffix, line_of_row}
-use Rattle.cookie_run.specs.HostPrefix.{BeginsHost, IsHeldRightly, IsHostRow}
-use Rattle.cookie_run.specs.KeptKeys.{IsRowKept}
+use Rattle.cookie_client.specs.HostPrefix.{BeginsHost, IsHeldRightly, IsHostRow}
+use Rattle.cookie_client.specs.KeptKeys.{IsRowKept}
 use Rattle.cookies_txt.specs.declared.error.LineFault.{LineFault}
-use Rattle.cookie_run.proofs.ClientRows.{all_print}
-use Rattle.cookie_run.proofs.HostRows.{reread_held}
+use Rattle.cookie_client.proofs.ClientRows.{all_print}
+use Rattle.cookie_client.proofs.HostRows.{reread_held}
 use Rattle.cookie_jar.specs.Keeping.{AreKept, IsKept, has_control}
 use Rattle.cookie_jar.specs.Laws.{IsSameIn, SavedRowsAreLoaded, SavedTextsAreRead}
 use Rattle.cookie_jar.specs.declared.form.Form.{Form}

@@ -1,7 +1,6 @@
 -- The items of a list, up to the first that is no row.
-use Rattle.std.proofs.Common.{◌≡◌, ◌+◌, ◌++◌, ◌<◌, ◌∙◌, ℕ, List, [], ◌∷◌, ap, arith, drop, get_or, length, map}
-use Rattle.std.proofs.Common.{subst, suc}
-use Rattle.std.proofs.Common.{sym, take}
+use Rattle.std.proofs.Common.{◌≡◌, ◌+◌, ◌++◌, ◌<◌, ◌∙◌, ℕ, List, [], ◌∷◌, ap, arith, drop, get_or, length, map, subst}
+use Rattle.std.proofs.Common.{suc, sym, take}
 use Rattle.std.proofs.Math.Seq.{split_at}
 use Rattle.std.proofs.lemmas.List.{length-map, length-take-le, map-append, map_more}
 use Rattle.std.specs.List.{AllByRecursion}

@@ -1,9 +1,9 @@
 -- Rows that are lent, copied and picked.
 use Rattle.std.proofs.Common.{◌≡◌, ◌≤◌, ℤ, Bool, true, false, List, [], ◌∷◌, ◌++◌, map, length}
-use Rattle.std.proofs.Common.{Option, None, Result, Ok, Err, sym, refl, ap, ◌∙◌, subst, inl, inr, append_assoc, arith}
+use Rattle.std.proofs.Common.{Option, Result, Ok, Err, sym, refl, ap, ◌∙◌, subst, inl, inr, append_assoc, arith}
 use Rattle.std.specs.Prelude.{◌&&◌, cond, not, filter, if◌then◌else◌, IfOk}
 use Rattle.std.specs.Borrow.{Bor}
-use Rattle.std.specs.Iterator.{AlwaysYields, Drains}
+use Rattle.std.specs.Iterator.{AlwaysYields}
 use Rattle.std.specs.List.{AllByRecursion, list_all, list_any}
 use Rattle.std.proofs.lemmas.List.{append-nil, map-append}
 use Rattle.store_parts.specs.declared.error.Error.{Error}
@@ -15,6 +15,8 @@ use Rattle.cookie_store.specs.Rows.{Row, Store, behind_last, has_domain_of, has_
 use Rattle.cookie_store.specs.Rows.{live, put, put_in_place, replaced}
 use Rattle.cookie_store.specs.StoredCookie.{stored_of}
 use Rattle.cookie_store.specs.declared.stored_cookie.Cookie.{Cookie}
+use Rattle.cookie_client.proofs.HeldCopies.{drained, ok_of, picked_part, same_cookies}
+use Rattle.cookie_client.proofs.RowsKept.{later}
 use Rattle.cookie_jar.specs.Keeping.{AreKept, IsTaken}
 use Rattle.cookie_jar.specs.Rows.{AreCopies, lent_rows}
 use Rattle.cookie_jar.specs.declared.form.Form.{Form}
@@ -101,31 +103,6 @@ picks_alone Is others lent left none far =
     subst (ArePicked Is others) (sym same) picked
 
 -- ---- what an iterator gives
-
--- what it gives to its end is what it always yields
-drained : {S A : Type 0} (steps : S → Option A → S → Type 0) (s : S) (xs ys : List A)
-    → AlwaysYields steps (λ x. x) s ys → Drains steps s xs → xs ≡ ys
-drained steps s [] [] always d = refl
-drained steps s (x ∷ xs) [] always (u, (t, (j, first, rest), last)) = absurd (always x j first)
-drained steps s [] (y ∷ ys) always (u, (t, same, last)) =
-    absurd (always.0 u (subst (λ v. steps v None u) (sym same) last))
-drained steps s (x ∷ xs) (y ∷ ys) always (u, (t, (j, first, rest), last)) =
-    let next = always.1 x j first in
-    let tails : xs ≡ ys = drained steps j xs ys next.1 (u, (t, rest, last)) in
-    λ i. next.0 i ∷ tails i
-
-abbrev pub ok_of : Cookie → Result Cookie Error
-ok_of c = Ok c
-
-same_cookies : (xs ys : List Cookie) → map ok_of xs ≡ map ok_of ys → xs ≡ ys
-same_cookies [] [] e = refl
-same_cookies [] (y ∷ ys) e = absurd (cc)
-same_cookies (x ∷ xs) [] e = absurd (cc)
-same_cookies (x ∷ xs) (y ∷ ys) e =
-    let first : x ≡ y = cc in
-    let rest : map ok_of xs ≡ map ok_of ys = cc in
-    let tails = same_cookies xs ys rest in
-    λ i. first i ∷ tails i
 
 -- the store of cookies that an iterator gives
 pub store_of : {S : Type 0} (steps : S → Option (Result Cookie Error) → S → Type 0) (iter : S) (expired : Bool)
@@ -222,10 +199,6 @@ taken_kept form (r ∷ rs) all = (all.0.kept, taken_kept form rs all.1)
 
 -- ---- live rows
 
-later : (part rows : List Row) (r : Row) → IsSublist part rows → IsSublist part (r ∷ rows)
-later [] rows r h = tt
-later (p ∷ ps) rows r h = inr h
-
 pub live_part : (now : ℤ) (rows : List Row) → IsSublist (live now rows) rows
 live_part now [] = tt
 live_part now (r ∷ rs) = by (is_live now r) (live_part now rs)
@@ -234,14 +207,6 @@ live_part now (r ∷ rs) = by (is_live now r) (live_part now rs)
         → IsSublist (if b then r ∷ live now rs else live now rs) (r ∷ rs)
     by true rest = inl (refl, rest)
     by false rest = later (live now rs) rs r rest
-
--- what is picked of a store's rows, put where there was none, stands as it did
-picked_part : (Is : Row → Type 0) (rows picked : List Row) → ArePicked Is rows picked → IsSublist picked rows
-picked_part Is [] picked p = subst (λ xs. IsSublist xs []) (sym p) tt
-picked_part Is (r ∷ rs) picked (rest, p, inl is) =
-    subst (λ xs. IsSublist xs (r ∷ rs)) (sym is.1) (inl (refl, picked_part Is rs rest p))
-picked_part Is (r ∷ rs) picked (rest, p, inr is) =
-    subst (λ xs. IsSublist xs (r ∷ rs)) (sym is.1) (later rest rs r (picked_part Is rs rest p))
 
 picked_stay : (Is : Row → Type 0) (parts : PartsStay) (now : ℤ) (rows picked : List Row) (left : Store)
     → AreGrouped rows → ArePicked Is rows picked → left ≡ loaded_store true now picked → ArePicked Is rows left.rows

@@ -1,12 +1,11 @@
 -- What a jar does with lines one after another.
-use Rattle.std.proofs.Common.{◌≡◌, ◌↔◌, ◌∙◌, ◌+◌, ◌<◌, ◌∷◌, [], ◌++◌, ℕ, ℤ, Bool, true, false, zero, suc, List}
-use Rattle.std.proofs.Common.{Option, Some, None, length, take, get_or, sym, refl, ap, subst, inl, inr, Result, Ok, Err}
-use Rattle.std.proofs.Common.{⊎_elim, arith}
-use Rattle.std.specs.Prelude.{map, IfOk, IfErr, IsTrue}
+use Rattle.std.proofs.Common.{◌≡◌, ◌+◌, ◌<◌, ◌∷◌, [], ◌++◌, ℕ, ℤ, Bool, true, false, List, Option, Some, None, length}
+use Rattle.std.proofs.Common.{take, get_or, sym, refl, ap, subst, inl, inr, Result, Ok, Err, ⊎_elim}
+use Rattle.std.specs.Prelude.{map, IfOk, IfErr}
 use Rattle.std.specs.List.{AllByRecursion}
 use Rattle.std.specs.Str.{IsUtf8}
-use Rattle.std.proofs.lemmas.Bool.{cases_Bool, false≢true}
-use Rattle.std.proofs.lemmas.List.{take_more, take-map, map-append, length-map}
+use Rattle.std.proofs.lemmas.Bool.{cases_Bool}
+use Rattle.std.proofs.lemmas.List.{length-map}
 use Rattle.cookie_text.specs.Reading.{ReadsPlain}
 use Rattle.cookie_text.specs.Record.{Seen}
 use Rattle.cookie_text.specs.declared.error.ParseError.{ParseError}
@@ -16,15 +15,15 @@ use Rattle.url.specs.Parts.{IsValid, Parts}
 use Rattle.cookie_store.specs.Insertion.{InsertsRead}
 use Rattle.cookie_store.specs.Rows.{Row}
 use Rattle.cookie_store.specs.declared.action.StoreAction.{StoreAction}
-use Rattle.cookie_run.specs.Accept.{Accepts, AcceptsAll}
-use Rattle.cookie_run.specs.HostRows.{AnswersHoldRightly}
-use Rattle.cookie_run.specs.declared.step.LineEnd.{LineEnd}
-use Rattle.cookie_run.proofs.ClientRows.{received_pairs}
-use Rattle.cookie_run.proofs.FromLines.{inserts_from}
-use Rattle.user_agent.specs.Agent.{AsksForMemory, IsHandedOn, NoRulesAreTheClient, TakesHanded}
-use Rattle.user_agent.specs.Agent.{TakesLine as AgentTakes}
+use Rattle.cookie_client.specs.Accept.{Accepts, AcceptsAll}
+use Rattle.cookie_client.specs.HostRows.{AnswersHoldRightly}
+use Rattle.cookie_client.specs.declared.outcome.LineEnd.{LineEnd}
+use Rattle.cookie_client.proofs.ClientRows.{received_pairs}
+use Rattle.cookie_client.proofs.ComingBack.{inserts_from}
+use Rattle.cookie_client.proofs.Receiving.{map_at, map_take}
+use Rattle.user_agent.specs.Agent.{AsksForMemory, IsHandedOn, NoRulesAreTheClient, TakesHanded, TakesLine as AgentTakes}
 use Rattle.user_agent.specs.Controls.{FreeLinesRead, FreeLinesStay}
-use Rattle.user_agent.specs.CrossAnswers.{ByRequest, ComesAcross, TakesLineFrom}
+use Rattle.user_agent.specs.CrossAnswers.{TakesLineFrom}
 use Rattle.user_agent.specs.declared.cross_answer.OutcomeFor.{OutcomeFor}
 use Rattle.user_agent.specs.declared.cross_answer.OutcomeFor.TheVariants.{Judged, KeptOut as IsKeptOut}
 use Rattle.user_agent.specs.declared.rules.Outcome.{Outcome}
@@ -33,8 +32,8 @@ use Rattle.user_agent.specs.declared.rules.Rules.{Rules}
 use Rattle.user_agent.specs.declared.sites.Initiator.{Initiator}
 use Rattle.cookie_jar.specs.Keeping.{AreKept, IsClean, has_control}
 use Rattle.cookie_jar.specs.Laws.{WithoutRules}
-use Rattle.cookie_jar.specs.Taking.{AgentTakesFrom, HasControl, IsStopped, IsStoppedFor, StopsAt, TakesAll, TakesFor}
-use Rattle.cookie_jar.specs.Taking.{TakesLine}
+use Rattle.cookie_jar.specs.Taking.{AgentTakesFrom, HasControl, IsStopped, IsStoppedFor, StopsAtLine, TakesAll}
+use Rattle.cookie_jar.specs.Taking.{TakesFor, TakesLine}
 use Rattle.cookie_jar.specs.declared.form.Form.{Form}
 use Rattle.cookie_jar.specs.declared.taking.End.{End}
 use Rattle.cookie_jar.specs.declared.taking.End.TheVariants.{Line, KeptOut, Control, Tab}
@@ -59,18 +58,6 @@ all_push form rules across list rows mid new url now (l ∷ lines) [] line end h
 all_push form rules across list rows mid new url now (l ∷ lines) (e ∷ ends) line end h a =
     (h.0, h.1, all_push form rules across list h.0 mid new url now lines ends line end h.2 a)
 
-map_take : {A : Type 0} (f : A → List ℕ) (xs : List A) (i : ℕ) (d : A) → i < length xs
-    → take (i + 1) (map f xs) ≡ take i (map f xs) ++ f (get_or xs i d) ∷ []
-map_take f xs i d h =
-    take-map f (i + 1) xs ∙ (ap (map f) (take_more xs i d h) ∙ (map-append f (take i xs) (get_or xs i d ∷ [])
-    ∙ ap (λ ys. ys ++ f (get_or xs i d) ∷ []) (sym (take-map f i xs))))
-
-map_at : {A : Type 0} (f : A → List ℕ) (xs : List A) (i : ℕ) (d : A) → i < length xs
-    → get_or (map f xs) i [] ≡ f (get_or xs i d)
-map_at f [] i d h = absurd (omega (arith, h))
-map_at f (x ∷ xs) zero d h = refl
-map_at f (x ∷ xs) (suc i) d h = map_at f xs i d (omega arith)
-
 pub next_line : {A : Type 0} (f : A → List ℕ) (form : Form) (rules : Rules) (across : Option Bool) (list : List Rule)
     (start mid new : List Row) (old ends : List End) (end : End) (url : Parts) (now : ℤ) (xs : List A) (i : ℕ)
     (d : A) → i < length xs → TakesAll form rules across list start url now (take i (map f xs)) old mid
@@ -87,7 +74,7 @@ pub stopped_line : {A : Type 0} (f : A → List ℕ) (form : Form) (rules : Rule
     (start mid new : List Row) (old : List End) (url : Parts) (now : ℤ) (xs : List A) (i : ℕ) (d : A) → i < length xs
     → TakesAll form rules across list start url now (take i (map f xs)) old mid → new ≡ mid
     → AsksForMemory rules url (f (get_or xs i d))
-    → StopsAt form rules across list start url now (map f xs) (i + 1) new
+    → StopsAtLine form rules across list start url now (map f xs) (i + 1) new
 stopped_line f form rules across list start mid new old url now xs i d h all same asks = record {
   before = i;
   number = refl;
@@ -213,22 +200,6 @@ module _ (law : AnswersHoldRightly) (stay : FreeLinesStay) (read : FreeLinesRead
       stopped_kept law stay read form rules (Some true) list url valid now lines rows (at stopped) new kept stops.1
   received_kept_for (Err stopped) all at lines rows new kept h (inr stops) =
       stopped_kept law stay read form rules (Some false) list url valid now lines rows (at stopped) new kept stops.1
-
-module _ (across : Bool) (list : List Rule) (url : Parts) (initiator : Initiator)
-    (is : IsTrue across ↔ ComesAcross list url initiator) where
-  by_request : (b : Bool) → across ≡ b → (Holds : Bool → Type 0) → Holds b → ByRequest list url initiator Holds
-  by_request true e Holds h = inl (is.0 e, h)
-  by_request false e Holds h = inr ((λ comes. false≢true (sym e ∙ is.1 comes)), h)
-
-  pub ok_by_request : {A E : Type 0} (r : Result A E) (Holds : Bool → A → Type 0) → IfOk r (Holds across)
-      → IfOk r (λ x. ByRequest list url initiator (λ b. Holds b x))
-  ok_by_request (Ok x) Holds h = by_request across refl (λ b. Holds b x) h
-  ok_by_request (Err e) Holds h = tt
-
-  pub err_by_request : {A E : Type 0} (r : Result A E) (Holds : Bool → E → Type 0) → IfErr r (Holds across)
-      → IfErr r (λ x. ByRequest list url initiator (λ b. Holds b x))
-  err_by_request (Ok x) Holds h = tt
-  err_by_request (Err e) Holds h = by_request across refl (λ b. Holds b e) h
 
 -- ---- without rules
 

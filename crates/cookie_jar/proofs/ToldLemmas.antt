@@ -1,6 +1,5 @@
 -- Lines that are told.
-use Rattle.std.proofs.Common.{◌≡◌, ◌∙◌, ◌++◌, ℕ, List, [], ◌∷◌, Option, Some, Result, OnOk, ap, codes, refl, subst}
-use Rattle.std.proofs.Common.{sym}
+use Rattle.std.proofs.Common.{◌≡◌, ◌∙◌, ◌++◌, ℕ, List, [], ◌∷◌, Option, Some, Result, OnOk, ap, codes, refl, subst, sym}
 use Rattle.cookie_store.specs.Rows.{Row}
 use Rattle.cookies_txt.specs.Writing.{row_fault}
 use Rattle.cookies_txt.specs.declared.error.RowFault.{RowFault}

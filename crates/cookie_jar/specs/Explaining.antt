@@ -19,8 +19,8 @@ use Rattle.line_report.specs.declared.pairing.PairFault.{PairFault}
 use Rattle.line_report.specs.declared.pairing.PairFault.TheVariants.{NoEquals, EmptyName}
 use Rattle.cookies_txt.specs.Layout.{when}
 use Rattle.cookies_txt.specs.Writing.{is_suffix}
-use Rattle.cookie_run.specs.declared.step.LineEnd.{LineEnd}
-use Rattle.cookie_run.specs.declared.step.LineEnd.TheVariants.{Stored, Refused, NotText, HostPrefix}
+use Rattle.cookie_client.specs.declared.outcome.LineEnd.{LineEnd}
+use Rattle.cookie_client.specs.declared.outcome.LineEnd.TheVariants.{Stored, Refused, NotText, HostPrefix}
 use Rattle.user_agent.specs.declared.cross_answer.SiteRefusal.{SiteRefusal}
 use Rattle.user_agent.specs.declared.cross_answer.SiteRefusal.TheVariants.{CrossSite, NoneLacksSecure}
 use Rattle.user_agent.specs.declared.rules.Outcome.{Outcome}

@@ -1,25 +1,24 @@
 -- What an import takes of the lines of a `cookies.txt`, or of the items of a list of RON or JSON, each read by itself
 -- (this repository's own).
-use Rattle.std.specs.Prelude.{◌≡◌, ◌+◌, ◌++◌, ℕ, ℤ, true, false, not, List, [], ◌∷◌, length, map}
-use Rattle.std.specs.Prelude.{Option, Some, None, Result, Ok, Err, ⊤, codes, filter}
-use Rattle.std.specs.Prelude.{if◌then◌else◌}
+use Rattle.std.specs.Prelude.{◌≡◌, ◌+◌, ◌++◌, ℕ, ℤ, true, false, not, List, [], ◌∷◌, length, map, Option, Some, None}
+use Rattle.std.specs.Prelude.{Result, Ok, Err, ⊤, codes, filter, if◌then◌else◌}
 use Rattle.std.specs.Fmt.{decimal}
 use Rattle.std.specs.List.{flat_map}
 use Rattle.cookie_store.specs.Given.{ArePicked}
 use Rattle.cookie_store.specs.Placing.{loaded}
 use Rattle.cookie_store.specs.Rows.{Row, is_live, live}
+use Rattle.cookie_client.specs.Pair.{is_read_pair}
 use Rattle.cookies_txt.specs.declared.error.LineFault.{LineFault}
 use Rattle.cookies_txt.specs.declared.error.LineFault.TheVariants.{NotText, Fields, EmptyDomain, Flag, NoSlash}
 use Rattle.cookies_txt.specs.declared.error.LineFault.TheVariants.{Number, EmptyName, Domain}
 use Rattle.cookies_txt.specs.declared.error.RowFault.{RowFault}
 use Rattle.cookies_txt.specs.declared.error.RowFault.TheVariants as row
 use Rattle.cookie_jar.specs.Entries.{Entry, GivesEntries}
-use Rattle.cookie_jar.specs.Keeping.{IsTaken, fault_in, have_control, is_read_pair}
+use Rattle.cookie_jar.specs.Keeping.{IsTaken, fault_in, have_control}
 use Rattle.cookie_jar.specs.declared.form.Form.{Form}
 use Rattle.cookie_jar.specs.declared.form.Form.TheVariants.{Ron, Json, Txt}
 use Rattle.cookie_jar.specs.declared.importing.Cause.{Cause}
-use Rattle.cookie_jar.specs.declared.importing.Cause.TheVariants.{Faulty, NoRow, Control, Pair, Unfit}
-use Rattle.cookie_jar.specs.declared.importing.Cause.TheVariants.{HostPrefix}
+use Rattle.cookie_jar.specs.declared.importing.Cause.TheVariants.{Faulty, NoRow, Control, Pair, Unfit, HostPrefix}
 use Rattle.cookie_jar.specs.declared.importing.Imported.{Imported}
 use Rattle.cookie_jar.specs.declared.importing.Refused.{Refused}
 

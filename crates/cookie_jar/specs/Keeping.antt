@@ -1,11 +1,9 @@
 -- Which rows a jar keeps (RFC 6265, 5.2; draft-ietf-httpbis-rfc6265bis, 4.1.3.2 and 5.6).
-use Rattle.std.specs.Prelude.{◌≡◌, ◌==◌, ◌||◌, ◌&&◌, ℕ, Bool, false, not, List, length, nat_lt, Option, None}
+use Rattle.std.specs.Prelude.{◌≡◌, ◌==◌, ◌||◌, ◌&&◌, ℕ, Bool, false, not, List, nat_lt, Option, None}
 use Rattle.std.specs.List.{AllByRecursion, list_any}
-use Rattle.std.specs.Str.{bytes_eq, trim}
-use Rattle.cookie_text.specs.Pieces.{equals, semicolon}
 use Rattle.cookie_store.specs.Rows.{Row, domain_text}
-use Rattle.cookie_run.specs.HostPrefix.{IsHeldRightly}
-use Rattle.cookie_run.specs.Keeping.{HasReadPair}
+use Rattle.cookie_client.specs.HostPrefix.{IsHeldRightly}
+use Rattle.cookie_client.specs.Keeping.{HasReadPair}
 use Rattle.cookies_txt.specs.Layout.{tab}
 use Rattle.cookies_txt.specs.Writing.{row_fault}
 use Rattle.cookies_txt.specs.declared.error.RowFault.{RowFault}
@@ -30,26 +28,6 @@ have_control row =
 -- none of them has one
 abbrev pub IsClean : Row → Type 0
 IsClean row = have_control row ≡ false
-
--- ---- names and values that a text gives
-
-abbrev pub has_semicolon : List ℕ → Bool
-has_semicolon text = list_any (λ b. b == semicolon) text
-
-abbrev pub has_equals : List ℕ → Bool
-has_equals text = list_any (λ b. b == equals) text
-
--- no semicolon, and no white space at an end
-abbrev pub is_whole : List ℕ → Bool
-is_whole text = not (has_semicolon text) && bytes_eq (trim text) text
-
--- so, not empty and without `=`
-abbrev pub is_name : List ℕ → Bool
-is_name text = (not (length text == 0) && not (has_equals text)) && is_whole text
-
--- such a name and such a value: what a printed cookie reads as again
-abbrev pub is_read_pair : List ℕ → List ℕ → Bool
-is_read_pair name value = is_name name && is_whole value
 
 -- ---- the rows of a jar
 

@@ -1,5 +1,5 @@
 -- What a jar's text is read as again, and what a jar is without rules (this repository's own).
-use Rattle.std.specs.Prelude.{◌≡◌, ℕ, ℤ, List, None, false}
+use Rattle.std.specs.Prelude.{◌≡◌, ℕ, ℤ, List, None}
 use Rattle.std.specs.Str.{IsUtf8}
 use Rattle.publicsuffix.specs.Rules.{Rule}
 use Rattle.url.specs.Parts.{Parts}
@@ -8,9 +8,9 @@ use Rattle.cookie_store.specs.Given.{ArePicked}
 use Rattle.cookie_store.specs.Grouped.{AreGrouped}
 use Rattle.cookie_store.specs.Rows.{Row, Store, live}
 use Rattle.cookies_txt.specs.Writing.{IsThroughCookiesTxt}
-use Rattle.cookie_run.specs.Accept.{Accepts}
-use Rattle.cookie_run.specs.KeptKeys.{IsRowKept}
-use Rattle.cookie_run.specs.declared.step.LineEnd.{LineEnd}
+use Rattle.cookie_client.specs.Accept.{Accepts}
+use Rattle.cookie_client.specs.KeptKeys.{IsRowKept}
+use Rattle.cookie_client.specs.declared.outcome.LineEnd.{LineEnd}
 use Rattle.user_agent.specs.Refusals.{no_rules}
 use Rattle.user_agent.specs.declared.changes.Changes.{Changes}
 use Rattle.user_agent.specs.declared.rules.Outcome.{Outcome}

@@ -23,13 +23,13 @@ abbrev pub IsRefused : Row → Type 0
 IsRefused row = ¬ (IsKept row)
 
 -- why a row isn't taken into a jar that is saved in this form, and which it is
-unfoldable pub refused_line : Form → Row → List ℕ
-refused_line form row = codes "refused: " ++ left_out_line (cause_words (refusal_of form row)) row
+unfoldable pub refused_row_line : Form → Row → List ℕ
+refused_row_line form row = codes "refused: " ++ left_out_line (cause_words (refusal_of form row)) row
 
 -- a line of each of them, in their order
 abbrev pub TellsRefused : Form → List Row → List ℕ → Type 0
 TellsRefused form rows told =
-    (left : List Row) × ArePicked IsRefused rows left × (told ≡ flat_map (refused_line form) left)
+    (left : List Row) × ArePicked IsRefused rows left × (told ≡ flat_map (refused_row_line form) left)
 
 -- ---- rows that a line of `cookies.txt` can't hold
 

@@ -8,7 +8,7 @@ use Rattle.serde_json.specs.Read.{read}
 use Rattle.serde_json.specs.View.{items_of}
 use Rattle.saved_text.specs.JsonReading.{IsNoRow, ShowsRow}
 use Rattle.saved_text.specs.Position.{IsPosition, position_text}
-use Rattle.saved_text.specs.RonReading.{IsRonFaultAt, ShowsRows}
+use Rattle.saved_text.specs.RonReading.{IsRonFaultAt, ShowsRowsInRon}
 use Rattle.saved_text.specs.declared.position.TextPosition.{TextPosition}
 use Rattle.saved_text.specs.declared.row.SavedRow.{SavedRow}
 use Rattle.cookie_store.specs.Rows.{Row}
@@ -32,7 +32,7 @@ place_text (Line number fault) = codes "line " ++ (decimal number ++ (codes ": "
 
 -- where the text shows no rows, or the rows that it shows
 abbrev pub StopsInRon : List ℕ → Option Place → Type 0
-StopsInRon text None = (rows : List SavedRow) × ShowsRows text rows
+StopsInRon text None = (rows : List SavedRow) × ShowsRowsInRon text rows
 StopsInRon text (Some (At position)) = (n : ℕ) × IsRonFaultAt text n × IsPosition text n position
 StopsInRon text (Some (at_row number)) = ⊥
 StopsInRon text (Some (Line number fault)) = ⊥

@@ -13,17 +13,17 @@ abbrev pub unless_dotted : List ℕ → Result (List ℕ) Cause
 unless_dotted form = if slice_index form 0 == dot then Err (Faulty NoForm) else Ok form
 
 -- the form of a domain's text, by what the text reads as
-abbrev pub form_of : Option Domain → Result (List ℕ) Cause
-form_of None = Err (Faulty NoForm)
-form_of (Some (suffix form)) = unless_dotted form
-form_of (Some (host_only form)) = Err (Faulty NoForm)
-form_of (Some not_present) = Err (Faulty NoForm)
-form_of (Some empty) = Err (Faulty EmptyDomain)
+abbrev pub form_or_cause : Option Domain → Result (List ℕ) Cause
+form_or_cause None = Err (Faulty NoForm)
+form_or_cause (Some (suffix form)) = unless_dotted form
+form_or_cause (Some (host_only form)) = Err (Faulty NoForm)
+form_or_cause (Some not_present) = Err (Faulty NoForm)
+form_or_cause (Some empty) = Err (Faulty EmptyDomain)
 
 -- the domain in that form, or why it has none
 abbrev pub domain_in_form : Domain → Result Domain Cause
-domain_in_form (host_only text) = result_map_both host_only (λ cause. cause) (form_of (read_domain text))
-domain_in_form (suffix text) = result_map_both suffix (λ cause. cause) (form_of (read_domain text))
+domain_in_form (host_only text) = result_map_both host_only (λ cause. cause) (form_or_cause (read_domain text))
+domain_in_form (suffix text) = result_map_both suffix (λ cause. cause) (form_or_cause (read_domain text))
 domain_in_form not_present = Err (Faulty EmptyDomain)
 domain_in_form empty = Err (Faulty EmptyDomain)
 

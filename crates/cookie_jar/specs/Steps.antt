@@ -17,11 +17,6 @@ abbrev pub pair_of : Result (Bor (List ℕ) × Bor (List ℕ)) PairFault → Res
 pair_of (Ok pair) = Ok (pair.0.now, pair.1.now)
 pair_of (Err fault) = Err fault
 
--- what rules leave of a line: all, where it is no text
-abbrev pub left_of : Option (List ℕ) → List ℕ → List ℕ
-left_of None line = line
-left_of (Some handed) line = handed
-
 -- what is told of a line, of which the rules leave this
 abbrev pub SaysLeft : Rules → ℤ → List ℕ → Option (List ℕ) → List ℕ → Type 0
 SaysLeft rules now line None text = (¬ (IsUtf8 line)) × (text ≡ [])

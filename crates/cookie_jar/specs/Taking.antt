@@ -67,7 +67,7 @@ TakesAll form rules across list rows url now (line ∷ lines) (end ∷ ends) new
     × TakesAll form rules across list mid url now lines ends new
 
 -- memory was refused at line n, counted from 1, once those before it were taken
-pub record StopsAt (form : Form) (rules : Rules) (across : Option Bool) (list : List Rule) (rows : List Row)
+pub record StopsAtLine (form : Form) (rules : Rules) (across : Option Bool) (list : List Rule) (rows : List Row)
     (url : Parts) (now : ℤ) (lines : List (List ℕ)) (n : ℕ) (new : List Row) : Type 0 where
   pub before : ℕ
   pub number : n ≡ before + 1
@@ -80,7 +80,7 @@ pub record StopsAt (form : Form) (rules : Rules) (across : Option Bool) (list : 
 abbrev pub IsStopped : Form → Rules → Option Bool → List Rule → List Row → Parts → ℤ → List (List ℕ) → ℕ → List Row
     → Type 0
 IsStopped form rules across list rows url now lines n new =
-    ((n ≡ 0) × (new ≡ rows)) ⊎ StopsAt form rules across list rows url now lines n new
+    ((n ≡ 0) × (new ≡ rows)) ⊎ StopsAtLine form rules across list rows url now lines n new
 
 -- so of an answer to a request that is started so
 abbrev pub TakesFor : Form → Rules → List Rule → List Row → Parts → Initiator → ℤ → List (List ℕ) → List End

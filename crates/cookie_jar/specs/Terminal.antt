@@ -6,8 +6,8 @@ use Rattle.std.specs.List.{flat_map}
 use Rattle.std.specs.Str.{chars}
 
 -- C0, DEL and C1 (ISO/IEC 6429)
-abbrev pub is_control : ℕ → Bool
-is_control c = nat_lt c 32 || (nat_le 127 c && nat_le c 159)
+abbrev pub is_control_code : ℕ → Bool
+is_control_code c = nat_lt c 32 || (nat_le 127 c && nat_le c 159)
 
 -- a mark of bidirectional text (UAX #9, section 2): U+061C, U+200E, U+200F, U+202A to U+202E, U+2066 to U+2069
 abbrev pub is_mark : ℕ → Bool
@@ -19,7 +19,7 @@ is_mark c =
     || (nat_le 8294 c && nat_le c 8297))))
 
 abbrev pub is_acted_on : ℕ → Bool
-is_acted_on c = is_control c || is_mark c
+is_acted_on c = is_control_code c || is_mark c
 
 -- a digit of base 16
 abbrev pub digit : ℕ → List ℕ

@@ -7,8 +7,8 @@ use Rattle.cookie_store.specs.declared.action.StoreAction.{StoreAction}
 use Rattle.cookie_store.specs.declared.action.StoreAction.TheVariants.{Inserted, ExpiredExisting, UpdatedExisting}
 use Rattle.store_parts.specs.declared.error.CookieError.{CookieError}
 use Rattle.store_parts.specs.declared.error.CookieError.TheVariants as cause
-use Rattle.cookie_run.specs.declared.step.LineEnd.{LineEnd}
-use Rattle.cookie_run.specs.declared.step.LineEnd.TheVariants.{Stored, Refused, NotText, HostPrefix}
+use Rattle.cookie_client.specs.declared.outcome.LineEnd.{LineEnd}
+use Rattle.cookie_client.specs.declared.outcome.LineEnd.TheVariants.{Stored, Refused, NotText, HostPrefix}
 use Rattle.user_agent.specs.declared.changes.Changes.{Changes}
 use Rattle.user_agent.specs.declared.cross_answer.SiteRefusal.{SiteRefusal}
 use Rattle.user_agent.specs.declared.cross_answer.SiteRefusal.TheVariants.{CrossSite, NoneLacksSecure}

@@ -1,9 +1,9 @@
 //! Rows that are asked for by a domain, by a name, or as they are printed.
-ghost use Rattle.std.specs.Prelude.{◌≡◌, ◌↔◌, ◌++◌, IfOk, IsTrue, OnOk, option_copied, option_map, string_bytes};
+ghost use Rattle.std.specs.Prelude.{◌≡◌, IfOk, option_copied, option_map, string_bytes};
 ghost use Rattle.std.specs.List.{find};
 ghost use Rattle.std.specs.Str.{bytes_eq};
 ghost use Rattle.jiff.specs.Words.{civil_nanos};
-ghost use Rattle.store_parts.specs.DomainMatch.{DomainMatches, EndsAfterDot, domain_of, text_of};
+ghost use Rattle.store_parts.specs.DomainMatch.{DomainMatches, domain_of, text_of};
 ghost use Rattle.cookie_store.specs.Given.{ArePicked};
 ghost use Rattle.cookie_store.specs.Rows.{domain_text, key, key_of, live};
 ghost use Rattle.cookie_store.specs.StoredCookie.{stored_of};
@@ -15,8 +15,8 @@ use crate::listing::push_domain;
 use crate::told::push_shown;
 use cookie_store::{Cookie, CookieDomain, CookieStore, Error};
 use jiff::civil::DateTime;
+use matching::domain_matches;
 use std::alloc::{AllocError, Global};
-use store_parts::utils::is_host_name;
 
 /// The rows that aren't expired at `now` and whose domain domain-matches that of the text, in their order. A text
 /// without an IDNA form has none.
@@ -41,13 +41,13 @@ fn domain_form(alloc: Global, text: &str) -> Result<Option<String>, AllocError>
     ensures { IfOk result (λ form. option_map string_bytes form ≡ spec.domain_form text.now) }
 {
     match CookieDomain::from_text(alloc, text) {
-        Ok(domain) => text_of(alloc, &domain),
+        Ok(domain) => domain_text(alloc, &domain),
         Err(Error::OutOfMemory) => Err(AllocError),
         Err(_) => Ok(None),
     }
 }
 
-fn text_of(alloc: Global, domain: &CookieDomain) -> Result<Option<String>, AllocError>
+fn domain_text(alloc: Global, domain: &CookieDomain) -> Result<Option<String>, AllocError>
     ensures { IfOk result (λ text. option_map string_bytes text ≡ text_of (domain_of domain.now)) }
 {
     match domain.as_cow() {
@@ -79,22 +79,6 @@ fn text_of_domain<'c>(cookie: &'c Cookie<'static>) -> &'c str
     ensures { result.now ≡ domain_text (stored_of cookie.now) }
 {
     cookie.domain.as_cow().unwrap_or("")
-}
-
-// Whether the text domain-matches the domain string (RFC 6265, section 5.1.3).
-fn domain_matches(text: &str, domain: &str) -> bool
-    ensures { IsTrue result ↔ DomainMatches text.now domain.now }
-{
-    text == domain || (ends_after_dot(text, domain) && is_host_name(text))
-}
-
-fn ends_after_dot(text: &str, domain: &str) -> bool
-    ensures { IsTrue result ↔ EndsAfterDot text.now domain.now }
-{
-    match text.as_bytes().strip_suffix(domain.as_bytes()) {
-        Some(before) => before.ends_with(b"."),
-        None => false,
-    }
 }
 
 /// The value of the first of the cookies that has this name.

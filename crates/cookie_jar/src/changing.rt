@@ -1,17 +1,14 @@
 //! What the rules of user agents make of a line before it is taken.
 ghost use Rattle.std.specs.Prelude.{◌≡◌, ◌++◌, IfOk, OnOk, string_bytes};
 ghost use Rattle.jiff.specs.Words.{civil_nanos};
-ghost use Rattle.user_agent.specs.Agent.{IsDoneIf};
-ghost use Rattle.user_agent.specs.CutLives.{IsCutLine};
-ghost use Rattle.user_agent.specs.KnownDates.{IsKnownLine};
-ghost use Rattle.user_agent.specs.LongAttributes.{IsShortLine};
 ghost use Rattle.cookie_jar.specs.Changing as spec;
 ghost use Rattle.cookie_jar.specs.Steps as steps;
 
 use crate::told::push_shown;
 use jiff::civil::DateTime;
 use std::alloc::{AllocError, Global};
-use user_agent::{Rules, with_cut_life, with_known_date, without_long_attributes};
+use user_agent::Rules;
+use user_agent::changes::{cut, dated, shortened};
 
 // A rule that changes lines.
 #[derive(Clone, Copy, Debug, PartialEq, Eq)]
@@ -44,41 +41,6 @@ pub(crate) fn push_changes(
     let handed = cut(alloc, rules, known.as_str(), now)?;
     push_change(text, Change::LongLives, known.as_str(), handed.as_str())?;
     Ok(handed)
-}
-
-// The line without its long attributes, where that rule is on.
-fn shortened(alloc: Global, rules: &Rules, line: &str) -> Result<String, AllocError>
-    ensures { IfOk result (λ short.
-        IsDoneIf rules.now.long_attributes IsShortLine line.now (string_bytes short)) }
-{
-    if rules.long_attributes {
-        without_long_attributes(alloc, line)
-    } else {
-        String::from_str(alloc, line)
-    }
-}
-
-// The line with its dates known, where that rule is on.
-fn dated(alloc: Global, rules: &Rules, line: &str) -> Result<String, AllocError>
-    ensures { IfOk result (λ known. IsDoneIf rules.now.dates IsKnownLine line.now (string_bytes known)) }
-{
-    if rules.dates {
-        with_known_date(alloc, line)
-    } else {
-        String::from_str(alloc, line)
-    }
-}
-
-// The line with its life cut, where that rule is on.
-fn cut(alloc: Global, rules: &Rules, line: &str, now: DateTime) -> Result<String, AllocError>
-    ensures { IfOk result (λ cut.
-        IsDoneIf rules.now.long_lives (IsCutLine (civil_nanos now)) line.now (string_bytes cut)) }
-{
-    if rules.long_lives {
-        with_cut_life(alloc, line, now)
-    } else {
-        String::from_str(alloc, line)
-    }
 }
 
 // Tells what the rule made of the line, where it changed it.

@@ -2,11 +2,11 @@
 ghost use Rattle.std.specs.Prelude.{◌≡◌, ◌++◌, IfOk, OnOk, Result, map, option_copied, option_map, string_bytes};
 ghost use Rattle.jiff.specs.Words.{civil_nanos};
 ghost use Rattle.cookie_store.specs.StoredCookie.{stored_of};
-ghost use Rattle.line_report.specs.Pair.{HasNoPair, IsPairOf};
 ghost use Rattle.line_report.specs.Pieces.{piece_text};
 ghost use Rattle.cookies_txt.specs.Layout.{when};
 ghost use Rattle.cookie_text.specs.Printing.{is_set};
 ghost use Rattle.cookie_store.specs.Rows.{found, key_of};
+ghost use Rattle.user_agent.specs.Changes as changes;
 ghost use Rattle.cookie_jar.specs.Told as told;
 ghost use Rattle.cookie_jar.specs.Explaining as spec;
 ghost use Rattle.cookie_jar.specs.Steps as steps;
@@ -17,7 +17,7 @@ use crate::form::Form;
 use crate::listing::is_suffix;
 use crate::taking::{End, take_line};
 use crate::told::{end_text, push_shown};
-use cookie_run::LineEnd;
+use cookie_client::LineEnd;
 use cookie_store::{Cookie, CookieError, CookieStore, StoreAction};
 use jiff::civil::DateTime;
 use line_report::{Judgement, PairFault, Piece, pair, pieces};
@@ -56,7 +56,7 @@ pub(crate) fn explained(
 
 // What the rules leave of the line: all, where it is no text.
 fn left_of<'a>(handed: &'a Option<String>, line: &'a [u8]) -> &'a [u8]
-    ensures { result.now ≡ steps.left_of (option_map string_bytes handed.now) line.now }
+    ensures { result.now ≡ changes.left_of (option_map string_bytes handed.now) line.now }
 {
     match handed {
         Some(text) => text.as_bytes(),

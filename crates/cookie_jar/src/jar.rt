@@ -8,7 +8,7 @@ ghost use Rattle.cookie_store.specs.Given.{ArePicked};
 ghost use Rattle.cookie_store.specs.Longest.{AreGivenLongest};
 ghost use Rattle.cookie_store.specs.Placing.{loaded};
 ghost use Rattle.cookie_store.specs.Rows.{Store, found, is_live, key, live, removed};
-ghost use Rattle.cookie_run.specs.Header.{IsHeader};
+ghost use Rattle.cookie_client.specs.Header.{IsHeader};
 ghost use Rattle.user_agent.specs.CrossSite.{IsHeaderFor};
 ghost use Rattle.cookies_txt.specs.Layout.{text_for};
 ghost use Rattle.cookies_txt.specs.Writing.{held, line_of_row};
@@ -39,9 +39,9 @@ use crate::rows::{live_rows, placed, rows_of, rows_with};
 use crate::saving::{Exported, lines_for, text_of};
 use crate::taking::{End, take_all, take_for};
 use crate::told::header_line;
-use cookie_run::Stopped;
-use cookie_run::client::header_of;
-use cookie_run::laws::host_rows_are_held_rightly;
+use cookie_client::Stopped;
+use cookie_client::client::store_header;
+use cookie_client::laws::host_rows_are_held_rightly;
 use cookie_store::CookieStore;
 use cookies_txt::Reader;
 use jiff::civil::DateTime;
@@ -55,10 +55,10 @@ use user_agent::{Initiator, Rules};
 
 /// A jar, which contracts see as its store: the rows in their order, and the list of public suffixes.
 ///
-/// It enforces the prefix `__Host-` as a [`cookie_run::Client`] does. No control character stands in the names, values,
-/// domains and paths of its rows, and names and values are as a text gives them: so its texts are read again as these
-/// rows ([`crate::laws::saved_rows_are_loaded`]). Unlike a client, it keeps cookies without an expiry where it is saved
-/// and loaded again, as curl does.
+/// It enforces the prefix `__Host-` as a [`cookie_client::Client`] does. No control character stands in the names,
+/// values, domains and paths of its rows, and names and values are as a text gives them: so its texts are read again as
+/// these rows ([`crate::laws::saved_rows_are_loaded`]). Unlike a client, it keeps cookies without an expiry where it is
+/// saved and loaded again, as curl does.
 #[derive(Drop, Debug)]
 pub struct Jar {
     alloc: Global,
@@ -250,7 +250,7 @@ impl Jar {
         ensures { IfOk result (λ line. (header : _) × IsHeader self.now.rows url.now (civil_nanos now) header
             × (string_bytes line ≡ told.header_line header) × (has_control header ≡ false)) }
     {
-        let header = header_text(self.alloc, self.store(), url, now)?;
+        let header = store_header(self.store(), url, now)?;
         header_line(self.alloc, header.as_str())
     }
 
@@ -535,22 +535,6 @@ impl Jar {
     {
         &self.store
     }
-}
-
-// The header of a request to the URL, with longer paths first.
-fn header_text(
-    alloc: Global,
-    store: &CookieStore,
-    url: &Url,
-    now: DateTime,
-) -> Result<String, AllocError>
-    ensures { IfOk result (λ header.
-        IsHeader store.now.rows url.now (civil_nanos now) (string_bytes header)) }
-{
-    // A URL that was parsed is valid, whatever is done with it.
-    let _path = url.path();
-    let cookies = store.matches_longest(url, now)?;
-    header_of(alloc, cookies)
 }
 
 // Whether none of the rows is expired at `now`.

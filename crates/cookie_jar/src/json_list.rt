@@ -1,5 +1,5 @@
 //! Rows in JSON.
-ghost use Rattle.std.specs.Prelude.{◌≡◌, ◌++◌, ◌∷◌, [], IfOk, OnOk, codes, string_bytes};
+ghost use Rattle.std.specs.Prelude.{◌≡◌, ◌∷◌, [], IfOk, OnOk, codes, string_bytes};
 ghost use Rattle.json.specs.Print.{print};
 ghost use Rattle.json.specs.Token.{boolean, key, string};
 ghost use Rattle.cookie_text.specs.Printing.{is_set};

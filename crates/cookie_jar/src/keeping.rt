@@ -1,14 +1,15 @@
 //! Which rows a jar keeps.
 ghost use Rattle.std.specs.Prelude.{◌≡◌, ◌↔◌, ◌||◌, IfOk, IsTrue};
-ghost use Rattle.jiff.specs.Words.{civil_nanos};
 ghost use Rattle.cookie_store.specs.Given.{ArePicked};
 ghost use Rattle.cookie_store.specs.StoredCookie.{stored_of};
 ghost use Rattle.cookie_text.specs.Again.{IsReadPair};
+ghost use Rattle.cookie_client.specs.Pair as pair_spec;
 ghost use Rattle.cookie_jar.specs.Keeping as spec;
 
 use crate::form::Form;
 use crate::rows::{kept_rows, placed};
-use cookie_run::client::is_held;
+use cookie_client::client::is_held;
+use cookie_client::pair;
 use cookie_store::{Cookie, CookieStore};
 use cookies_txt::{RowFault, row_fault};
 use jiff::civil::DateTime;
@@ -63,42 +64,10 @@ pub(crate) fn has_control(text: &[u8]) -> bool
 
 // Whether what is printed of the name and the value reads as these again.
 pub(crate) fn is_read_pair(name: &str, value: &str) -> bool
-    ensures is { result ≡ spec.is_read_pair name.now value.now }
+    ensures is { result ≡ pair_spec.is_read_pair name.now value.now }
     ensures pair { IsTrue result ↔ IsReadPair name.now value.now }
 {
-    are_read(name, value)
-}
-
-fn are_read(name: &str, value: &str) -> bool
-    ensures { result ≡ spec.is_read_pair name.now value.now }
-{
-    is_name(name) && is_whole(value)
-}
-
-// Whether the text isn't empty, has no `=` and no semicolon, and no white space at an end.
-fn is_name(text: &str) -> bool
-    ensures { result ≡ spec.is_name text.now }
-{
-    !text.is_empty() && !has_equals(text) && is_whole(text)
-}
-
-// Whether the text has no semicolon, and no white space at an end.
-fn is_whole(text: &str) -> bool
-    ensures { result ≡ spec.is_whole text.now }
-{
-    !has_semicolon(text) && text.trim() == text
-}
-
-fn has_semicolon(text: &str) -> bool
-    ensures { result ≡ spec.has_semicolon text.now }
-{
-    text.as_bytes().iter().any(|b| *b == b';')
-}
-
-fn has_equals(text: &str) -> bool
-    ensures { result ≡ spec.has_equals text.now }
-{
-    text.as_bytes().iter().any(|b| *b == b'=')
+    pair::is_read_pair(name, value)
 }
 
 /// The store without the rows that a jar doesn't keep, and then without a list of public suffixes. Memory is taken only

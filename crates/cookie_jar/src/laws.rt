@@ -21,7 +21,7 @@ pub fn saved_rows_are_loaded()
 }
 
 /// With no rule on, [`crate::Jar::receive`] takes a line that the jar itself doesn't refuse, for a control character or
-/// a tab, exactly as a [`cookie_run::Client`] does.
+/// a tab, exactly as a [`cookie_client::Client`] does.
 pub fn no_rules_are_a_client()
     ensures { law.WithoutRules }
 {

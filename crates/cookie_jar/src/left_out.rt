@@ -23,7 +23,7 @@ pub(crate) fn refused_lines(
     cookies: Vec<&Cookie<'static>>,
 ) -> Result<String, AllocError>
     ensures { IfOk result (λ text. string_bytes text
-        ≡ flat_map (spec.refused_line form) (lent_rows cookies.entry.items)) }
+        ≡ flat_map (spec.refused_row_line form) (lent_rows cookies.entry.items)) }
 {
     let mut text = String::new(alloc);
     for cookie in cookies {
@@ -51,10 +51,10 @@ pub(crate) fn passed_over_lines(
     Ok(text)
 }
 
-#[tactic(auto, unfolding(crate::specs::LeftOut::refused_line))]
+#[tactic(auto, unfolding(crate::specs::LeftOut::refused_row_line))]
 fn push_refused(text: &mut String, form: Form, cookie: &Cookie<'static>) -> Result<(), AllocError>
     ensures { OnOk result (string_bytes text.new
-        ≡ string_bytes text.old ++ spec.refused_line form (stored_of cookie.now)) }
+        ≡ string_bytes text.old ++ spec.refused_row_line form (stored_of cookie.now)) }
 {
     push_marked(
         text,

@@ -1,5 +1,5 @@
 //! The items of a list of RON, each as it stands.
-ghost use Rattle.std.specs.Prelude.{◌≡◌, ◌<◌, ◌^◌, ◌-◌, [], IfOk, IfSome, map, option_map};
+ghost use Rattle.std.specs.Prelude.{◌≡◌, ◌<◌, ◌^◌, ◌-◌, [], IfOk, map, option_map};
 ghost use Rattle.cookie_jar.specs.RonItems as spec;
 
 use std::alloc::{AllocError, Global};

@@ -46,11 +46,11 @@ fn domain_in_form(
         result_map_both domain_of (λ cause. cause) found ≡ spec.domain_in_form (domain_of domain.now)) }
 {
     match domain {
-        CookieDomain::HostOnly(host) => match form_of(alloc, host.as_str())? {
+        CookieDomain::HostOnly(host) => match form_or_cause(alloc, host.as_str())? {
             Ok(form) => Ok(Ok(CookieDomain::HostOnly(form))),
             Err(cause) => Ok(Err(cause)),
         },
-        CookieDomain::Suffix(text) => match form_of(alloc, text.as_str())? {
+        CookieDomain::Suffix(text) => match form_or_cause(alloc, text.as_str())? {
             Ok(form) => Ok(Ok(CookieDomain::Suffix(form))),
             Err(cause) => Ok(Err(cause)),
         },
@@ -61,9 +61,9 @@ fn domain_in_form(
 }
 
 // The form of a domain's text.
-fn form_of(alloc: Global, text: &str) -> Result<Result<String, Cause>, AllocError>
+fn form_or_cause(alloc: Global, text: &str) -> Result<Result<String, Cause>, AllocError>
     ensures { IfOk result (λ form.
-        result_map_both string_bytes (λ cause. cause) form ≡ spec.form_of (read_domain text.now)) }
+        result_map_both string_bytes (λ cause. cause) form ≡ spec.form_or_cause (read_domain text.now)) }
 {
     match CookieDomain::from_text(alloc, text) {
         Ok(CookieDomain::Suffix(form)) => Ok(unless_dotted(form)),

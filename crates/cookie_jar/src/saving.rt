@@ -7,7 +7,7 @@ ghost use Rattle.saved_text.specs.RonLayout.{ron_layout};
 ghost use Rattle.cookie_store.specs.SavedLaws.{IsOfBytes};
 ghost use Rattle.cookie_store.specs.SavedTexts.{IsAnyBeforeYears, Saves};
 ghost use Rattle.cookies_txt.specs.Layout.{text_for};
-ghost use Rattle.cookies_txt.specs.Writing.{IsWriteRefusal, held, line_of_row};
+ghost use Rattle.cookies_txt.specs.Writing.{held, line_of_row};
 ghost use Rattle.cookie_jar.specs.LeftOut.{passed_lines};
 ghost use Rattle.cookie_jar.specs.Rows.{lent_rows};
 ghost use Rattle.cookie_jar.specs.Saving as spec;
@@ -16,10 +16,10 @@ use crate::error::SaveError;
 use crate::form::Form;
 use crate::left_out::passed_over_lines;
 use crate::rows::rows_of;
-use cookie_run::program::draft::Draft;
 use cookie_store::serde::{json, ron};
 use cookie_store::{Cookie, CookieStore, Error};
 use cookies_txt::{Reader, WriteError};
+use kept_file::draft::Draft;
 use std::alloc::{AllocError, Global};
 
 /// A jar's text in a form.

@@ -8,7 +8,7 @@ ghost use Rattle.cookie_jar.specs.Taking as spec;
 
 use crate::form::Form;
 use crate::keeping::has_control;
-use cookie_run::Stopped;
+use cookie_client::Stopped;
 use cookie_store::CookieStore;
 use jiff::civil::DateTime;
 use std::alloc::{AllocError, Global};

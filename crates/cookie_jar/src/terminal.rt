@@ -51,11 +51,11 @@ fn push_digit(to: &mut String, digit: u32) -> Result<(), AllocError>
 fn is_acted_on(code: u32) -> bool
     ensures { result ≡ spec.is_acted_on code }
 {
-    is_control(code) || is_mark(code)
+    is_control_code(code) || is_mark(code)
 }
 
-fn is_control(code: u32) -> bool
-    ensures { result ≡ spec.is_control code }
+fn is_control_code(code: u32) -> bool
+    ensures { result ≡ spec.is_control_code code }
 {
     code < 32 || (127 <= code && code <= 159)
 }

@@ -3,7 +3,7 @@ ghost use Rattle.std.specs.Prelude.{◌≡◌, ◌++◌, IfOk, OnOk, map, string
 ghost use Rattle.cookie_jar.specs.Told as spec;
 
 use crate::taking::End;
-use cookie_run::LineEnd;
+use cookie_client::LineEnd;
 use cookie_store::{CookieError, StoreAction};
 use percent_encoding::{AsciiSet, CONTROLS, ascii_set, percent_encode};
 use std::alloc::{AllocError, Global};

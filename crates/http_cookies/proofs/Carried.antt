@@ -13,10 +13,10 @@ use Rattle.cookie.specs.ByName.{Lists}
 use Rattle.cookie.specs.Jar.{Jar, delta, under_names}
 use Rattle.cookie_text.specs.Printing.{encoded}
 use Rattle.cookie_text.specs.Record.{Seen}
-use Rattle.cookie_run.specs.Accept.{AcceptsAll}
+use Rattle.cookie_client.specs.Accept.{AcceptsAll}
 use Rattle.cookie_run.specs.Acts.{Visits, Arrives}
-use Rattle.cookie_run.specs.Header.{IsHeader}
-use Rattle.cookie_run.specs.Jar.{ClosesWith, IsOpened, IsSent, lines_of}
+use Rattle.cookie_client.specs.Header.{IsHeader}
+use Rattle.cookie_client.specs.Jar.{ClosesWith, IsOpened, IsSent, lines_of}
 use Rattle.cookie_run.specs.Play.{OneStep}
 use Rattle.cookie_run.specs.declared.step.Command.{Command}
 use Rattle.cookie_run.specs.declared.step.Reading.{Reading}

@@ -1,9 +1,9 @@
 -- What a store does with lines one after another.
-use Rattle.std.proofs.Common.{◌≡◌, ◌≢◌, ℕ, ℤ, ◌+◌, ◌<◌, List, [], ◌∷◌, ◌++◌, length, take, get_or, sym, refl, ap, ◌∙◌}
-use Rattle.std.proofs.Common.{subst, inl, inr, Result, Ok, Err, zero, suc, arith}
+use Rattle.std.proofs.Common.{◌≡◌, ◌≢◌, ℕ, ℤ, ◌+◌, ◌<◌, List, [], ◌∷◌, ◌++◌, length, take, get_or, sym, refl, ap, subst}
+use Rattle.std.proofs.Common.{inl, inr, Result, Ok, Err}
 use Rattle.std.specs.Prelude.{map, IfOk, OnErr}
 use Rattle.std.specs.Str.{IsUtf8}
-use Rattle.std.proofs.lemmas.List.{take_more, take-map, map-append, length-map}
+use Rattle.std.proofs.lemmas.List.{length-map}
 use Rattle.cookie_text.specs.Record.{Seen}
 use Rattle.cookie_text.specs.declared.error.ParseError.{ParseError}
 use Rattle.publicsuffix.specs.Rules.{Rule}
@@ -13,8 +13,9 @@ use Rattle.url.specs.Parts.{Parts}
 use Rattle.cookie_store.specs.Insertion.{End, InsertsRead, ReceivesText, Receives}
 use Rattle.cookie_store.specs.Rows.{Row}
 use Rattle.cookie_store.specs.declared.action.StoreAction.{StoreAction}
-use Rattle.cookie_run.specs.declared.step.LineEnd.{LineEnd}
-use Rattle.cookie_run.specs.Accept.{Stores, text_end}
+use Rattle.cookie_client.specs.declared.outcome.LineEnd.{LineEnd}
+use Rattle.cookie_client.specs.Accept.{Stores, text_end}
+use Rattle.cookie_client.proofs.Receiving.{map_at, map_take}
 use Rattle.http_cookies.specs.Storing.{StoresEach, StoresText, StopsStoringAt}
 
 -- ---- line by line
@@ -33,12 +34,6 @@ each_push list rows mid new url now (l ∷ lines) [] line end h a = absurd h
 each_push list rows mid new url now (l ∷ lines) (e ∷ ends) line end h a =
     (h.0, h.1, each_push list h.0 mid new url now lines ends line end h.2 a)
 
-map_take : {A B : Type 0} (f : A → B) (xs : List A) (i : ℕ) (d : A) → i < length xs
-    → take (i + 1) (map f xs) ≡ take i (map f xs) ++ f (get_or xs i d) ∷ []
-map_take f xs i d h =
-    take-map f (i + 1) xs ∙ (ap (map f) (take_more xs i d h) ∙ (map-append f (take i xs) (get_or xs i d ∷ [])
-    ∙ ap (λ ys. ys ++ f (get_or xs i d) ∷ []) (sym (take-map f i xs))))
-
 pub next_line : {A : Type 0} (f : A → List ℕ) (list : List Rule) (start mid new : List Row) (old ends : List LineEnd)
     (end : LineEnd) (url : Parts) (now : ℤ) (xs : List A) (i : ℕ) (d : A) → i < length xs
     → StoresEach list start url now (take i (map f xs)) old mid → (here : List Rule) → here ≡ list
@@ -49,12 +44,6 @@ next_line f list start mid new old ends end url now xs i d h all here same one i
     (subst (λ ls. StoresEach list start url now ls (old ++ end ∷ []) new) (sym (map_take f xs i d h))
     (each_push list start mid new url now (take i (map f xs)) old (f (get_or xs i d)) end all
     (subst (λ l. Stores l mid url now (f (get_or xs i d)) end new) same one)))
-
-map_at : {A : Type 0} (f : A → List ℕ) (xs : List A) (i : ℕ) (d : A) → i < length xs
-    → get_or (map f xs) i [] ≡ f (get_or xs i d)
-map_at f [] i d h = absurd (omega (arith, h))
-map_at f (x ∷ xs) zero d h = refl
-map_at f (x ∷ xs) (suc i) d h = map_at f xs i d (omega arith)
 
 pub stopped_line : {A : Type 0} (f : A → List ℕ) (list : List Rule) (start mid new : List Row) (old : List LineEnd)
     (url : Parts) (now : ℤ) (xs : List A) (i : ℕ) (d : A) → i < length xs

@@ -1,10 +1,10 @@
 -- The line of a cookie of the path `/` without a domain is a field's value.
 use Rattle.std.proofs.Common.{◌≡◌, ℕ, zero, suc, ◌+◌, ◌<◌, ◌/◌, ◌%◌, ◌==◌, Bool, true, false, List, [], ◌∷◌, ◌++◌}
 use Rattle.std.proofs.Common.{Option, Some, None, option_map, ℤ, pos, negsuc, refl, sym, ap, subst, ◌∙◌, arith, codes}
-use Rattle.std.specs.Prelude.{◌||◌, ◌&&◌, is_none, nat_lt, nat_le}
+use Rattle.std.specs.Prelude.{◌||◌, ◌&&◌, nat_lt, nat_le}
 use Rattle.std.specs.Fmt.{decimal, digits, digits_onto, digit_glyph, signed_decimal}
 use Rattle.std.specs.Int.{IsInRange}
-use Rattle.std.specs.List.{flat_map, list_all, list_any}
+use Rattle.std.specs.List.{flat_map, list_all}
 use Rattle.std.proofs.lemmas.Bool.{agree_below_at, cond_both}
 use Rattle.std.proofs.lemmas.Bool.Decides.{nat_tests}
 use Rattle.std.proofs.lemmas.List.Folds.{list_all-append}
@@ -24,10 +24,9 @@ use Rattle.cookie_text.specs.declared.expiration.Expiration.{Expiration}
 use Rattle.cookie_text.specs.declared.expiration.Expiration.TheVariants.{DateTime as At, Session}
 use Rattle.cookie_text.specs.Attribute.{Attribute, HttpOnly, Secure, Partitioned, OfSite, MaxAge, Path, Domain, Expires}
 use Rattle.cookie_text.specs.Pieces.{equals}
-use Rattle.cookie_text.specs.Printing.{attribute_text, attributes_of, date_text, encoded, encoded_pair, end_of, escaped}
-use Rattle.cookie_text.specs.Printing.{escaped_byte, flag, is_escaped, is_set, piece_text, printed_attributes}
-use Rattle.cookie_text.specs.Printing.{prints_secure, site_name}
-use Rattle.cookie_text.specs.Printing.{whole_seconds}
+use Rattle.cookie_text.specs.Printing.{attribute_text, date_text, encoded, encoded_pair, end_of, escaped, escaped_byte}
+use Rattle.cookie_text.specs.Printing.{flag, is_escaped, is_set, piece_text, printed_attributes, prints_secure}
+use Rattle.cookie_text.specs.Printing.{site_name, whole_seconds}
 use Rattle.cookie_text.specs.Record.{Record, domain_of, without_dot}
 
 -- a text of bytes that a field's value may have

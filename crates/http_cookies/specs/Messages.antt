@@ -1,19 +1,17 @@
 -- What a server and a client read from the fields of messages and put into them, and an exchange through messages.
-use Rattle.std.specs.Prelude.{◌≡◌, ◌≢◌, ◌⊎◌, ◌++◌, ℕ, ℤ, List, [], ◌∷◌}
-use Rattle.std.specs.List.{All}
+use Rattle.std.specs.Prelude.{◌≡◌, ◌≢◌, ◌⊎◌, ◌++◌, ℕ, ℤ, List, []}
 use Rattle.cookie.specs.ByName.{Lists}
 use Rattle.cookie.specs.Jar.{Jar, delta, under_names}
-use Rattle.cookie_run.specs.Accept.{AcceptsAll}
+use Rattle.cookie_client.specs.Accept.{AcceptsAll}
 use Rattle.cookie_run.specs.Acts.{Visits, Arrives}
-use Rattle.cookie_run.specs.Header.{IsHeader}
-use Rattle.cookie_run.specs.Jar.{ClosesWith, IsOpened, Keyed, lines_of}
+use Rattle.cookie_client.specs.Header.{IsHeader}
+use Rattle.cookie_client.specs.Jar.{ClosesWith, IsOpened, Keyed, lines_of}
 use Rattle.cookie_run.specs.Play.{OneStep, Tells}
 use Rattle.cookie_run.specs.declared.step.Command.{Command}
-use Rattle.cookie_run.specs.declared.step.LineEnd.{LineEnd}
+use Rattle.cookie_client.specs.declared.outcome.LineEnd.{LineEnd}
 use Rattle.cookie_run.specs.declared.step.Reading.{Reading}
 use Rattle.cookie_store.specs.Rows.{Row}
 use Rattle.cookie_text.specs.Record.{Seen}
-use Rattle.http_header.specs.FieldValue.{FieldValue, plain_value}
 use Rattle.http_header.specs.HeaderMap.{IsHeaderMap, get_all}
 use Rattle.publicsuffix.specs.Rules.{Rule}
 use Rattle.url.specs.Parts.{Parts}

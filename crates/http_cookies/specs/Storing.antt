@@ -8,8 +8,8 @@ use Rattle.publicsuffix.specs.Rules.{Rule}
 use Rattle.store_parts.specs.declared.error.CookieError.{CookieError}
 use Rattle.store_parts.specs.declared.error.CookieError.TheVariants.{OutOfMemory}
 use Rattle.url.specs.Parts.{Parts}
-use Rattle.cookie_run.specs.Accept.{Stores, text_end}
-use Rattle.cookie_run.specs.declared.step.LineEnd.{LineEnd}
+use Rattle.cookie_client.specs.Accept.{Stores, text_end}
+use Rattle.cookie_client.specs.declared.outcome.LineEnd.{LineEnd}
 use Rattle.cookie_store.specs.Insertion.{InsertsRead, ReceivesText}
 use Rattle.cookie_store.specs.Rows.{Row}
 use Rattle.cookie_store.specs.declared.action.StoreAction.{StoreAction}

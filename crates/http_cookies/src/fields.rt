@@ -1,6 +1,6 @@
 //! The fields that carry cookies in a map of HTTP fields: reading and putting them.
-ghost use Rattle.std.specs.Prelude.{◌≡◌, ◌≢◌, ◌⊎◌, map, string_bytes, IfOk, OnOk, OnErr, IfErr};
-ghost use Rattle.http_header.specs.FieldValue.{plain_value, IsFieldValue};
+ghost use Rattle.std.specs.Prelude.{◌≡◌, ◌⊎◌, map, string_bytes, IfOk, OnOk, OnErr, IfErr};
+ghost use Rattle.http_header.specs.FieldValue.{plain_value};
 ghost use Rattle.http_cookies.specs.Fields as spec;
 
 use crate::error::PutError;

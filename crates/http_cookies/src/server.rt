@@ -2,16 +2,16 @@
 ghost use Rattle.std.specs.Prelude.{◌≡◌, List, map, string_bytes, IfOk, OnOk, OnErr, IfErr};
 ghost use Rattle.cookie_text.specs.Printing.{encoded};
 ghost use Rattle.cookie_text.specs.Record.{Record};
-ghost use Rattle.cookie_run.specs.Jar.{Holds, IsOpened, lines_of};
-ghost use Rattle.cookie_run.specs.Reading.{AreCookiesOf};
+ghost use Rattle.cookie_client.specs.Jar.{Holds, IsOpened, lines_of};
+ghost use Rattle.cookie_client.specs.Reading.{AreCookiesOf};
 ghost use Rattle.http_cookies.specs.Fields.{header_in};
 ghost use Rattle.http_cookies.specs.Messages.{AreNoLines, IsNoDelta, PutsDelta, PutsLines};
 
 use crate::error::PutError;
 use crate::fields::{header_in, put_line_texts};
 use cookie::{Cookie, CookieJar, Delta, Key};
-use cookie_run::Session;
-use cookie_run::reading::header_jar;
+use cookie_client::Session;
+use cookie_client::reading::header_jar;
 use http::{HeaderMap, HeaderValue};
 use std::alloc::{AllocError, Global};
 

@@ -3,13 +3,13 @@ ghost use Rattle.std.specs.Prelude.{◌≡◌, map, Err, IfOk, OnErr, IfErr};
 ghost use Rattle.std.specs.Str.{IsUtf8};
 ghost use Rattle.jiff.specs.Words.{civil_nanos};
 ghost use Rattle.store_parts.specs.declared.error.CookieError.TheVariants as causes;
-ghost use Rattle.cookie_run.specs.Accept.{Stores};
+ghost use Rattle.cookie_client.specs.Accept.{Stores};
 ghost use Rattle.cookie_store.specs.Insertion.{ReceivesText};
 ghost use Rattle.http_cookies.specs.Fields.{lines_in};
 ghost use Rattle.http_cookies.specs.Storing.{StopsStoring, StoresEach, StoresText};
 
 use crate::fields::lines_in;
-use cookie_run::{LineEnd, Stopped};
+use cookie_client::{LineEnd, Stopped};
 use cookie_store::{CookieError, CookieStore};
 use http::{HeaderMap, HeaderValue};
 use jiff::civil::DateTime;

@@ -5,14 +5,15 @@ use Rattle.std.specs.Prelude.{IfOk, IfErr, OnErr, option_map, string_bytes}
 use Rattle.std.specs.Option.{option_copied}
 use Rattle.std.specs.Result.{result_map_both}
 use Rattle.kept_file.specs.Locks.{Held, Lock, bytes_of, given_back}
+use Rattle.cookie_run.specs.ProgramKept.{kept_so}
 use Rattle.jar_words.specs.declared.asked.Asked.{Asked}
 use Rattle.jar_commands.specs.KeptSteps.{GivesKept, IsBut, PerformsHeld, put_of}
 use Rattle.jar_commands.specs.Outcomes.{OutcomeText, outcome_text}
 use Rattle.jar_commands.specs.Performing.{AnswersTexts, Brings, BringsNothing, Reader, UnreadBut}
 use Rattle.jar_commands.specs.Plans.{PlanText, plan_of}
-use Rattle.jar_commands.specs.Program.{Ends, Fails, FilesGive, IsOfFiles, IsUnwritten, Printed, Unprinted, Writer}
+use Rattle.jar_commands.specs.Program.{Ends, FilesGive, IsOfFiles, IsUnwritten, Printed, RunFails, Unprinted, Writer}
 use Rattle.jar_commands.specs.Program.{counted, counted_by, output, output_by, prints_text, reads_input, text_in}
-use Rattle.jar_commands.specs.ProgramKept.{KeepsJar, Leaves, changes, kept_so}
+use Rattle.jar_commands.specs.ProgramKept.{KeepsJar, changes}
 use Rattle.jar_commands.specs.Waiting.{IsWait}
 use Rattle.jar_commands.specs.declared.failure.Failure.{Failure}
 use Rattle.jar_commands.specs.declared.failure.Failure.TheVariants.{Output}
@@ -107,7 +108,7 @@ pub not_brought : (Unread Unwritten : Type 0) (reader : Reader) (writer : Writer
     (plan : PlanText) (failure : Failure) → plan_of asked clock ≡ Ok plan
     → BringsNothing reader (reads_input asked.command) failure
     ⊎ (IsOfFiles failure × UnreadBut Unread (reads_input asked.command))
-    → Unwritten → Fails Unread Unwritten reader writer asked clock failure
+    → Unwritten → RunFails Unread Unwritten reader writer asked clock failure
 not_brought Unread Unwritten reader writer asked clock plan failure is (inl nothing) unwritten = inl (
   files_give Unread reader asked clock plan [] None None (Err failure) is (inl (failure, refl, nothing)),
   unwritten,
@@ -126,9 +127,9 @@ pub first_not_brought : (Unread Unwritten : Type 0) (reader : Reader) (writer : 
     (clock : Option ℤ) (plan : PlanText) (failure first : Failure) → plan_of asked clock ≡ Ok plan
     → BringsNothing reader (reads_input asked.command) failure
     ⊎ (IsOfFiles failure × UnreadBut Unread (reads_input asked.command))
-    → (first ≡ failure) ⊎ IsOfFiles first → Unwritten → Fails Unread Unwritten reader writer asked clock first
+    → (first ≡ failure) ⊎ IsOfFiles first → Unwritten → RunFails Unread Unwritten reader writer asked clock first
 first_not_brought Unread Unwritten reader writer asked clock plan failure first is why (inl same) unwritten =
-    subst (Fails Unread Unwritten reader writer asked clock) (sym same)
+    subst (RunFails Unread Unwritten reader writer asked clock) (sym same)
     (not_brought Unread Unwritten reader writer asked clock plan failure is why unwritten)
 first_not_brought Unread Unwritten reader writer asked clock plan failure first is why (inr of) unwritten =
     inr (inl (plan, is, inr of, unread_too Unread reader (reads_input asked.command) failure why, unwritten))
@@ -141,7 +142,7 @@ pub list_not_read : {V : Type 0} (Unread Unwritten : Type 0) (reader : Reader) (
     × Brings Unread reader (reads_input asked.command) given (bytes_in x))
     → IfErr brought (λ stopped. BringsNothing reader (reads_input asked.command) stopped.failure
     ⊎ (IsOfFiles stopped.failure × UnreadBut Unread (reads_input asked.command)))
-    → IsOfFiles failure → Unwritten → Fails Unread Unwritten reader writer asked clock failure
+    → IsOfFiles failure → Unwritten → RunFails Unread Unwritten reader writer asked clock failure
 list_not_read Unread Unwritten reader writer asked clock plan bytes_in (Ok x) failure is ok err of unwritten = inr
     (inl (
       plan,
@@ -170,7 +171,7 @@ brought_as Unread reader b given lent brought is brings =
 pub not_read : (Unread Unwritten : Type 0) (reader : Reader) (writer : Writer) (asked : Asked) (clock : Option ℤ)
     (plan : PlanText) (given brought : Option (List ℕ)) (failure : Failure) → plan_of asked clock ≡ Ok plan
     → Brings Unread reader (reads_input asked.command) given brought → IsOfFiles failure → Unwritten
-    → Fails Unread Unwritten reader writer asked clock failure
+    → RunFails Unread Unwritten reader writer asked clock failure
 not_read Unread Unwritten reader writer asked clock plan given brought failure is brings of unwritten =
     inr (inl (plan, is, inr of, brought_but Unread reader (reads_input asked.command) given brought brings, unwritten))
 
@@ -186,7 +187,7 @@ pub serves_not : (Unread Unwritten : Type 0) (reader : Reader) (writer : Writer)
     (plan : PlanText) (path suffixes : List ℕ) (given brought : Option (List ℕ)) (lock : Lock × Lock) (b : Bool)
     (failure : Failure) → plan_of asked clock ≡ Ok plan → Brings Unread reader (reads_input asked.command) given brought
     → GivesKept b plan path suffixes brought lock (Err failure) → Unwritten
-    → Fails Unread Unwritten reader writer asked clock failure
+    → RunFails Unread Unwritten reader writer asked clock failure
 serves_not Unread Unwritten reader writer asked clock plan path suffixes given brought lock b failure is brings (inl of)
     unwritten = not_read Unread Unwritten reader writer asked clock plan given brought failure is brings of.0 unwritten
 serves_not Unread Unwritten reader writer asked clock plan path suffixes given brought lock b failure is brings
@@ -278,7 +279,7 @@ unfinished : (Unread Unwritten : Type 0) (reader : Reader) (writer : Writer) (as
     → IsBut whole outcome
     → (IsUnwritten failure × Unwritten)
     ⊎ ((failure ≡ Output) × Unprinted writer (output asked.command outcome))
-    → Fails Unread Unwritten reader writer asked clock failure
+    → RunFails Unread Unwritten reader writer asked clock failure
 unfinished Unread Unwritten reader writer asked clock whole outcome failure files but (inl kept) =
     inr (inr (inl (whole, files, kept.0, kept.1)))
 unfinished Unread Unwritten reader writer asked clock whole outcome failure files but (inr unprinted) =
@@ -296,7 +297,7 @@ pub serves_err : (Unread Unwritten : Type 0) (reader : Reader) (writer : Writer)
     → GivesKept b plan path suffixes brought lock (Ok outcome)
     → IfErr result (λ stopped. (IsUnwritten stopped.failure × Unwritten)
     ⊎ ((stopped.failure ≡ Output) × Unprinted writer (output asked.command outcome)))
-    → IfErr result (λ stopped. Fails Unread Unwritten reader writer asked clock stopped.failure)
+    → IfErr result (λ stopped. RunFails Unread Unwritten reader writer asked clock stopped.failure)
 serves_err Unread Unwritten reader writer asked clock plan path suffixes given brought lock b outcome (Ok done) is
     brings
     does err = tt

@@ -3,7 +3,6 @@ pub mod KeepLemmas
 mod KeptLemmas
 pub mod NameLemmas
 pub mod PlanLemmas
-pub mod PrintLemmas
 pub mod RuleLemmas
 pub mod ServeLemmas
 pub mod StartedLemmas

@@ -7,10 +7,10 @@ use Rattle.jar_commands.specs.Plans.{PlanText}
 use Rattle.jar_commands.specs.declared.failure.Failure.{Failure}
 use Rattle.jar_commands.specs.declared.failure.Failure.TheVariants.{Memory}
 
-not_both : (plan : PlanText) (failure : Failure) → Ok plan ≡ Err failure → ⊥
+pub not_both : (plan : PlanText) (failure : Failure) → Ok plan ≡ Err failure → ⊥
 not_both plan failure same = cc
 
-one_cause : (cause failure : Failure) → (let made : Result PlanText Failure = Err cause in made ≡ Err failure)
+pub one_cause : (cause failure : Failure) → (let made : Result PlanText Failure = Err cause in made ≡ Err failure)
     → failure ≡ cause
 one_cause cause failure same = cc
 

@@ -3,18 +3,12 @@ use Rattle.std.proofs.Common.{◌≡◌, ◌⊎◌, ℕ, ℤ, Bool, true, false,
 use Rattle.std.proofs.Common.{refl, subst, sym}
 use Rattle.jar_words.specs.declared.asked.Asked.{Asked}
 use Rattle.jar_commands.specs.Outcomes.{OutcomeText}
-use Rattle.jar_commands.specs.Performing.{AnswersTexts, Brings, BringsNothing, Reader}
+use Rattle.jar_commands.specs.Performing.{Reader}
 use Rattle.jar_commands.specs.Plans.{PlanText, plan_of}
-use Rattle.jar_commands.specs.Program.{Fails, FilesGive, GivesPlan, Writer, reads_input}
+use Rattle.jar_commands.specs.Program.{FilesGive, GivesPlan, RunFails, Writer, reads_input}
 use Rattle.jar_commands.specs.declared.failure.Failure.{Failure}
 use Rattle.jar_commands.specs.declared.failure.Failure.TheVariants.{Memory}
-
-not_both : (plan : PlanText) (failure : Failure) → Ok plan ≡ Err failure → ⊥
-not_both plan failure same = cc
-
-one_cause : (cause failure : Failure) → (let made : Result PlanText Failure = Err cause in made ≡ Err failure)
-    → failure ≡ cause
-one_cause cause failure same = cc
+use Rattle.jar_commands.proofs.PlanLemmas.{not_both, one_cause}
 
 -- memory was refused before anything was read
 at_memory : (Unread : Type 0) (reader : Reader) (is_read : Bool) (plan : PlanText) (suffixes : List ℕ)
@@ -37,9 +31,9 @@ refused Unread reader is_read (Ok plan) failure (inr same) unread = absurd (not_
 -- what is asked is refused, before a file is read
 pub unplanned : (Unread Unwritten : Type 0) (reader : Reader) (writer : Writer) (asked : Asked) (clock : Option ℤ)
     (cause failure : Failure) → failure ≡ cause → (cause ≡ Memory) ⊎ (plan_of asked clock ≡ Err cause) → Unread
-    → Unwritten → Fails Unread Unwritten reader writer asked clock failure
+    → Unwritten → RunFails Unread Unwritten reader writer asked clock failure
 unplanned Unread Unwritten reader writer asked clock cause failure is why unread unwritten =
-    subst (Fails Unread Unwritten reader writer asked clock) (sym is) (inl (
+    subst (RunFails Unread Unwritten reader writer asked clock) (sym is) (inl (
       ([], None, None, refused Unread reader (reads_input asked.command) (plan_of asked clock) cause why unread),
       unwritten,
     ))

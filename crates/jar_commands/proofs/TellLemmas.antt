@@ -1,7 +1,6 @@
 -- What is told beside a failure.
 use Rattle.std.proofs.Common.{◌≡◌, ◌++◌, ℕ, Bool, true, false, List, Option, Some, None, Result, Ok, Err, ap}
-use Rattle.std.proofs.Common.{option_map}
-use Rattle.std.proofs.Common.{subst, sym}
+use Rattle.std.proofs.Common.{option_map, subst, sym}
 use Rattle.std.specs.Prelude.{IfSome, OnOk, if◌then◌else◌}
 use Rattle.jar_commands.specs.About.{IsDetail, TellsDetail}
 use Rattle.jar_commands.specs.Instead.{IsInstead}

@@ -2,13 +2,14 @@
 use Rattle.std.proofs.Common.{◌≡◌, ◌+◌, ◌<◌, ℕ, ℤ, Bool, false, List, [], ◌∷◌, ◌++◌, ◌||◌, ◌∙◌}
 use Rattle.std.proofs.Common.{ap, sym, subst, refl, get_or, length, take, append_assoc}
 use Rattle.std.specs.Prelude.{map}
-use Rattle.std.proofs.lemmas.List.{append-nil, map-append, take-map, take_more}
+use Rattle.std.proofs.lemmas.List.{append-nil}
 use Rattle.std.proofs.Math.Bool.{false-or, or-false, or_assoc}
 use Rattle.publicsuffix.specs.Rules.{Rule}
-use Rattle.response_heads.specs.Visits.{VisitText, set_cookie_lines}
+use Rattle.response_heads.specs.Visits.{VisitText, visit_lines}
 use Rattle.cookie_store.specs.Rows.{Row}
 use Rattle.cookie_jar.specs.declared.form.Form.{Form}
 use Rattle.user_agent.specs.declared.rules.Rules.{Rules}
+use Rattle.cookie_client.proofs.Receiving.{map_take}
 use Rattle.jar_commands.specs.Receiving.{TakesVisits, refuses, visit_told}
 use Rattle.jar_commands.specs.Started.{TakesFrom}
 use Rattle.jar_commands.specs.Steps.{TakesVisit}
@@ -22,7 +23,7 @@ pub takes_behind : (is_verbose : Bool) (form : Form) (rules : Rules) (start : St
     → TakesVisit is_verbose form rules start list mid now visit told refused more more_refused new
     → TakesVisits is_verbose form rules start list rows now (visits ++ visit ∷ []) more more_refused new
 takes_behind is_verbose form rules start list rows now [] visit told more refused more_refused mid new takes one =
-    let lines = set_cookie_lines visit in
+    let lines = visit_lines visit in
     let behind = visit_told is_verbose visit one.0 in (
       one.0,
       new,
@@ -48,12 +49,6 @@ takes_behind is_verbose form rules start list rows now (v ∷ visits) visit told
       one.3 ∙ (ap (λ b. b || refuses visit one.0) takes.7
           ∙ or_assoc (refuses v takes.0) takes.3 (refuses visit one.0)),
     )
-
-map_take : {A B : Type 0} (f : A → B) (xs : List A) (i : ℕ) (d : A) → i < length xs
-    → take (i + 1) (map f xs) ≡ take i (map f xs) ++ f (get_or xs i d) ∷ []
-map_take f xs i d h =
-    take-map f (i + 1) xs ∙ (ap (map f) (take_more xs i d h) ∙ (map-append f (take i xs) (get_or xs i d ∷ [])
-    ∙ ap (λ ys. ys ++ f (get_or xs i d) ∷ []) (sym (take-map f i xs))))
 
 -- so with the first of some visits, and then one more of them; the list of public suffixes stays
 pub takes_next : {A : Type 0} (is_verbose : Bool) (f : A → VisitText) (form : Form) (rules : Rules) (start : Start)

@@ -1,5 +1,5 @@
 -- What is told of the rows that a jar drops as it is loaded (this repository's own).
-use Rattle.std.specs.Prelude.{◌≡◌, ℤ, true, List, ℕ, Option, Result, Ok, Err, IfSome}
+use Rattle.std.specs.Prelude.{◌≡◌, ℤ, true, List, ℕ, Option, Result, Ok, Err}
 use Rattle.cookie_jar.specs.Reading.{TellsDropped}
 use Rattle.jar_words.specs.declared.asked.Asked.{Asked}
 use Rattle.jar_words.specs.declared.refusal.Refusal.{Refusal}

@@ -7,8 +7,7 @@ use Rattle.cookies_txt.specs.declared.error.LineFault.TheVariants.{Number, Empty
 use Rattle.cookies_txt.specs.declared.error.RowFault.{RowFault}
 use Rattle.cookies_txt.specs.declared.error.RowFault.TheVariants as row
 use Rattle.cookie_jar.specs.declared.importing.Cause.{Cause}
-use Rattle.cookie_jar.specs.declared.importing.Cause.TheVariants.{Faulty, NoRow, Control, Pair, Unfit}
-use Rattle.cookie_jar.specs.declared.importing.Cause.TheVariants.{HostPrefix}
+use Rattle.cookie_jar.specs.declared.importing.Cause.TheVariants.{Faulty, NoRow, Control, Pair, Unfit, HostPrefix}
 use Rattle.jar_words.specs.Refusing.{kind_text}
 use Rattle.jar_commands.specs.declared.failure.Failure.{Failure}
 use Rattle.jar_commands.specs.declared.failure.Failure.TheVariants.{Words, Moment, Format, FileFormat, Url, SuffixFile}

@@ -21,10 +21,10 @@ IsPlainInstead text plain = IsPlainFor text plain × IsPlain plain
 -- ---- beside a refusal
 
 -- the URL of those that are listed
-abbrev pub url_of : Which → Option (List ℕ)
-url_of All = None
-url_of (For url) = Some url.now
-url_of (Under domain) = None
+abbrev pub asked_url : Which → Option (List ℕ)
+asked_url All = None
+asked_url (For url) = Some url.now
+asked_url (Under domain) = None
 
 -- the URL of a command
 abbrev pub url_in : Command → Option (List ℕ)
@@ -32,8 +32,8 @@ url_in (command.Receive url start) = Some url.now
 url_in (command.Header url start) = Some url.now
 url_in (command.Get url name) = Some url.now
 url_in (command.Set url line) = Some url.now
-url_in (command.List which) = url_of which
-url_in (command.ListJson which) = url_of which
+url_in (command.List which) = asked_url which
+url_in (command.ListJson which) = asked_url which
 url_in (command.Explain url line) = Some url.now
 url_in other = None
 

@@ -1,11 +1,12 @@
 -- What private functions answer of a jar's file. No public contract names a word of this file.
 use Rattle.std.specs.Prelude.{◌≡◌, ◌⊎◌, ℕ, Bool, List, Option, Some, None, Result, Ok, Err}
 use Rattle.kept_file.specs.Locks.{Lock, bytes_of, with_put}
+use Rattle.cookie_run.specs.ProgramKept.{IsUnread}
 use Rattle.jar_commands.specs.Outcomes.{OutcomeText}
 use Rattle.jar_commands.specs.Performing.{AnswersTexts}
 use Rattle.jar_commands.specs.Plans.{PlanText}
 use Rattle.jar_commands.specs.Program.{IsOfFiles, IsUnwritten}
-use Rattle.jar_commands.specs.ProgramKept.{IsUnread, Leaves}
+use Rattle.jar_commands.specs.ProgramKept.{Leaves}
 use Rattle.jar_commands.specs.declared.failure.Failure.{Failure}
 
 -- an outcome, but for the text that the jar is to hold

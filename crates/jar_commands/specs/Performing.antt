@@ -18,18 +18,20 @@ use Rattle.jar_commands.specs.Plans.{PlanText, plan_of}
 use Rattle.jar_commands.specs.Receiving.{IsNoHeads, TakesHeads}
 use Rattle.jar_commands.specs.Setting.{TakesSet}
 use Rattle.jar_commands.specs.declared.failure.Failure.{Failure}
-use Rattle.jar_commands.specs.declared.failure.Failure.TheVariants.{File, FileRow, FileText, Input, JarRow}
-use Rattle.jar_commands.specs.declared.failure.Failure.TheVariants.{Memory}
+use Rattle.jar_commands.specs.declared.failure.Failure.TheVariants.{File, FileRow, FileText, Input, JarRow, Memory}
 use Rattle.jar_commands.specs.declared.plan.Start.{Start}
 use Rattle.jar_commands.specs.declared.plan.Task.{Task}
 use Rattle.jar_commands.specs.declared.plan.Task.TheVariants as task
 
--- What is known of a reader, before and behind a call: what was left to read, how many reads were made, and how many
--- calls failed.
+-- what is known of a reader, before and behind a call: what was left to read, how many reads and how many failed calls
 pub record Reader : Type 0 where
   pub left : Option (List ℕ)
   pub reads : ℕ
   pub unread : ℕ × ℕ
+
+-- that of a reader which was `old` and is `new`, by what it has left, its reads and its failures
+abbrev pub read_by : {R : Type 0} → (R → Option (List ℕ)) → (R → ℕ) → (R → ℕ) → R → R → Reader
+read_by left reads failed old new = record { left = left old; reads = reads new; unread = (failed old, failed new) }
 
 -- only `receive` reads
 abbrev pub reads : Task → Bool
@@ -140,31 +142,31 @@ FailsToExport plan jar form failure =
     (failure ≡ Memory) ⊎ ((failure ≡ FileRow) × HaveNoText form true (live plan.now jar.rows))
 
 -- a task fails so
-abbrev pub Fails : PlanText → Store → Option (List ℕ) → Task → Failure → Type 0
-Fails plan jar brought (task.Receive url start) failure = FailsToReceive plan jar url start brought failure
-Fails plan jar brought (task.Header url start) failure = failure ≡ Memory
-Fails plan jar brought (task.Get url name) failure = failure ≡ Memory
-Fails plan jar brought (task.Set url line) failure = FailsToSet plan jar url line.now failure
-Fails plan jar brought task.List failure = failure ≡ Memory
-Fails plan jar brought (task.ListOf url) failure = failure ≡ Memory
-Fails plan jar brought (task.ListUnder domain) failure = failure ≡ Memory
-Fails plan jar brought task.ListJson failure = failure ≡ Memory
-Fails plan jar brought (task.ListJsonOf url) failure = failure ≡ Memory
-Fails plan jar brought (task.ListJsonUnder domain) failure = failure ≡ Memory
-Fails plan jar brought (task.Explain url line) failure = failure ≡ Memory
-Fails plan jar brought (task.Remove domain path name) failure =
+abbrev pub PlanFails : PlanText → Store → Option (List ℕ) → Task → Failure → Type 0
+PlanFails plan jar brought (task.Receive url start) failure = FailsToReceive plan jar url start brought failure
+PlanFails plan jar brought (task.Header url start) failure = failure ≡ Memory
+PlanFails plan jar brought (task.Get url name) failure = failure ≡ Memory
+PlanFails plan jar brought (task.Set url line) failure = FailsToSet plan jar url line.now failure
+PlanFails plan jar brought task.List failure = failure ≡ Memory
+PlanFails plan jar brought (task.ListOf url) failure = failure ≡ Memory
+PlanFails plan jar brought (task.ListUnder domain) failure = failure ≡ Memory
+PlanFails plan jar brought task.ListJson failure = failure ≡ Memory
+PlanFails plan jar brought (task.ListJsonOf url) failure = failure ≡ Memory
+PlanFails plan jar brought (task.ListJsonUnder domain) failure = failure ≡ Memory
+PlanFails plan jar brought (task.Explain url line) failure = failure ≡ Memory
+PlanFails plan jar brought (task.Remove domain path name) failure =
     FailsToRemove plan jar (meant domain.now path.now name.now jar.rows) failure
-Fails plan jar brought task.Clear failure = (failure ≡ Memory) ⊎ Unkept plan [] failure
-Fails plan jar brought (task.Import form is_strict) failure = FailsToImport plan jar form is_strict brought failure
-Fails plan jar brought (task.Export form) failure = FailsToExport plan jar form failure
-Fails plan jar brought (task.ExportFor reader) failure = failure ≡ Memory
+PlanFails plan jar brought task.Clear failure = (failure ≡ Memory) ⊎ Unkept plan [] failure
+PlanFails plan jar brought (task.Import form is_strict) failure = FailsToImport plan jar form is_strict brought failure
+PlanFails plan jar brought (task.Export form) failure = FailsToExport plan jar form failure
+PlanFails plan jar brought (task.ExportFor reader) failure = failure ≡ Memory
 
 -- ---- all
 
 -- what a task gives, or why nothing
 abbrev pub Performs : PlanText → Store → Option (List ℕ) → Result OutcomeText Failure → Type 0
 Performs plan jar brought (Ok outcome) = Gives plan jar brought plan.task outcome
-Performs plan jar brought (Err failure) = Fails plan jar brought plan.task failure
+Performs plan jar brought (Err failure) = PlanFails plan jar brought plan.task failure
 
 -- What a plan gives for the texts of the suffix list, of the jar, or none, and what is brought: the texts make no jar,
 -- or the task is done with the jar.

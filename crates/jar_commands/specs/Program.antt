@@ -1,10 +1,10 @@
 -- What the program tells (this repository's own).
 use Rattle.std.specs.Prelude.{◌≡◌, ◌⊎◌, ℕ, ℤ, Bool, true, false, List, [], Option, Some, None, Result, Ok, Err}
-use Rattle.std.specs.Prelude.{Contains, IfSome, codes, is_some, option_map, string_bytes}
+use Rattle.std.specs.Prelude.{Contains, IfSome, codes, is_some, option_map}
 use Rattle.std.specs.Io.KnownBytes.{Appends}
 use Rattle.std.specs.Str.{bytes_eq}
 use Rattle.devices.specs.Device.{AppendsFront, Rose}
-use Rattle.cookie_run.specs.Version.{version_line}
+use Rattle.cookie_client.specs.Version.{version_line}
 use Rattle.jar_words.specs.declared.asked.Asked.{Asked}
 use Rattle.jar_words.specs.declared.asked.Command.{Command}
 use Rattle.jar_words.specs.declared.asked.Command.TheVariants as command
@@ -24,6 +24,10 @@ use Rattle.jar_commands.specs.declared.failure.Failure.TheVariants.{JarFile, Fil
 pub record Writer : Type 0 where
   pub written : Option (List ℕ) × Option (List ℕ)
   pub unwritten : ℕ × ℕ
+
+-- that of a writer which was `old` and is `new`, by what it has written and its failures
+abbrev pub written_by : {W : Type 0} → (W → Option (List ℕ)) → (W → ℕ) → W → W → Writer
+written_by written fails old new = record { written = (written old, written new); unwritten = (fails old, fails new) }
 
 -- the text was printed whole
 abbrev pub Printed : Writer → List ℕ → Type 0
@@ -107,8 +111,8 @@ IsUnwritten failure = (failure ≡ JarFile) ⊎ ((failure ≡ File) ⊎ ((failur
 
 -- Why a command ends with status 2, in order: what is asked is refused, before a file is read; a file isn't read; the
 -- texts give nothing; a file isn't written; or the files are, and the writer fails. Up to there it is as it was.
-abbrev pub Fails : Type 0 → Type 0 → Reader → Writer → Asked → Option ℤ → Failure → Type 0
-Fails Unread Unwritten reader writer asked clock failure =
+abbrev pub RunFails : Type 0 → Type 0 → Reader → Writer → Asked → Option ℤ → Failure → Type 0
+RunFails Unread Unwritten reader writer asked clock failure =
     (FilesGive Unread reader asked clock (Err failure) × Unwritten)
     ⊎ (((plan : PlanText) × (plan_of asked clock ≡ Ok plan) × IsBefore asked failure
     × UnreadBut Unread (reads_input asked.command) × Unwritten)
@@ -126,7 +130,7 @@ Ends Unread reader writer asked clock status told =
 abbrev pub Serves : Type 0 → Type 0 → Reader → Writer → Asked → Option ℤ → Option (List ℕ) → Result ℕ Failure → Type 0
 Serves Unread Unwritten reader writer asked clock told (Ok status) = Ends Unread reader writer asked clock status told
 Serves Unread Unwritten reader writer asked clock told (Err failure) =
-    Fails Unread Unwritten reader writer asked clock failure × (told ≡ None)
+    RunFails Unread Unwritten reader writer asked clock failure × (told ≡ None)
 
 -- `cookie-jar`, a space, the version and a line feed
 abbrev pub program_version : List ℕ

@@ -1,6 +1,7 @@
 -- What becomes of the jar's file in a run, under its lock (this repository's own).
-use Rattle.std.specs.Prelude.{◌≡◌, ◌⊎◌, ℕ, ℤ, Bool, true, false, List, Option, Some, None, Result, Ok, Err, option_map}
-use Rattle.kept_file.specs.Locks.{Lock, Given}
+use Rattle.std.specs.Prelude.{◌≡◌, ◌⊎◌, ℕ, ℤ, Bool, true, false, List, Option, None, Result, Ok, Err, option_map}
+use Rattle.kept_file.specs.Locks.{Lock}
+use Rattle.cookie_run.specs.ProgramKept.{IsUnread, kept_so}
 use Rattle.jar_words.specs.declared.asked.Asked.{Asked}
 use Rattle.jar_words.specs.declared.refusal.Refusal.{Refusal}
 use Rattle.jar_commands.specs.Outcomes.{OutcomeText}
@@ -40,16 +41,6 @@ jar_of (Err failure) = None
 abbrev pub EndsWith : Result OutcomeText Failure → ℕ → Type 0
 EndsWith (Ok outcome) status = (status ≡ outcome.status) ⊎ (status ≡ 2)
 EndsWith (Err failure) status = status ≡ 2
-
--- The lock of a file, given back: these bytes were read while it was held, and then this text was to take the file's
--- place, or none.
-abbrev pub kept_so : List ℕ → Option (List ℕ) → Option (List ℕ) → Lock
-kept_so path stored put = Given (record { path = path; seen = Some stored; put = put })
-
--- the file wasn't read under its lock, and nothing was to take its place
-abbrev pub IsUnread : Lock × Lock → Type 0
-IsUnread lock =
-    (lock.1 ≡ lock.0) ⊎ ((path : List ℕ) × (lock.1 ≡ Given (record { path = path; seen = None; put = None })))
 
 -- a command that changes the jar leaves its lock so, behind what was read and what is put; any other leaves it alone
 abbrev pub Leaves : Bool → List ℕ → Option (List ℕ) → Option (List ℕ) → Lock × Lock → Type 0

@@ -3,7 +3,7 @@ use Rattle.std.specs.Prelude.{◌≡◌, ◌++◌, ◌||◌, ℕ, ℤ, Bool, fal
 use Rattle.std.specs.Fmt.{decimal}
 use Rattle.std.specs.List.{list_any}
 use Rattle.publicsuffix.specs.Rules.{Rule}
-use Rattle.response_heads.specs.Visits.{GivesVisits, IsVisitRefusal, VisitText, set_cookie_lines}
+use Rattle.response_heads.specs.Visits.{GivesVisits, IsVisitRefusal, VisitText, visit_lines}
 use Rattle.response_heads.specs.declared.error.LineFault.{LineFault}
 use Rattle.response_heads.specs.declared.error.LineFault.TheVariants.{Status}
 use Rattle.response_heads.specs.declared.error.LocationFault.{LocationFault}
@@ -40,7 +40,7 @@ stop_told (Some (number, fault)) = line_told (stop_words fault) number
 -- at which reading stopped.
 abbrev pub visit_told : Bool → VisitText → List End → List ℕ
 visit_told is_verbose visit ends =
-    passed_over is_verbose visit ++ (told_lines (set_cookie_lines visit) ends ++ stop_told visit.stop)
+    passed_over is_verbose visit ++ (told_lines (visit_lines visit) ends ++ stop_told visit.stop)
 
 -- one of its lines wasn't stored, or heads behind it are left out
 abbrev pub refuses : VisitText → List End → Bool
@@ -55,7 +55,7 @@ TakesVisits is_verbose form rules start list rows now [] told refused new =
     (told ≡ []) × (refused ≡ false) × (new ≡ rows)
 TakesVisits is_verbose form rules start list rows now (visit ∷ visits) told refused new =
     (ends : List End) × (mid : List Row) × (rest : List ℕ) × (others : Bool)
-    × TakesFrom start form rules list rows visit.url now (set_cookie_lines visit) ends mid
+    × TakesFrom start form rules list rows visit.url now (visit_lines visit) ends mid
     × TakesVisits is_verbose form rules start list mid now visits rest others new
     × (told ≡ visit_told is_verbose visit ends ++ rest)
     × (refused ≡ (refuses visit ends || others))

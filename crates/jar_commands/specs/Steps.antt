@@ -1,7 +1,7 @@
 -- What private functions answer. No public contract names a word of this file.
 use Rattle.std.specs.Prelude.{◌≡◌, ◌⊎◌, ◌++◌, ◌||◌, ℕ, ℤ, List, Bool}
 use Rattle.publicsuffix.specs.Rules.{Rule}
-use Rattle.response_heads.specs.Visits.{VisitText, set_cookie_lines}
+use Rattle.response_heads.specs.Visits.{VisitText, visit_lines}
 use Rattle.url.specs.Parts.{Parts}
 use Rattle.cookie_store.specs.Rows.{Row, Store}
 use Rattle.cookie_jar.specs.declared.form.Form.{Form}
@@ -28,6 +28,6 @@ FailsToTake plan jar url start text failure =
 abbrev pub TakesVisit : Bool → Form → Rules → Start → List Rule → List Row → ℤ → VisitText → List ℕ → Bool → List ℕ
     → Bool → List Row → Type 0
 TakesVisit is_verbose form rules start list rows now visit told refused more more_refused new =
-    (ends : List End) × TakesFrom start form rules list rows visit.url now (set_cookie_lines visit) ends new
+    (ends : List End) × TakesFrom start form rules list rows visit.url now (visit_lines visit) ends new
     × (more ≡ told ++ visit_told is_verbose visit ends)
     × (more_refused ≡ (refused || refuses visit ends))

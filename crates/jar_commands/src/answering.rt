@@ -53,11 +53,7 @@ pub fn answer<R: Source>(
     reader: &mut R,
 ) -> Result<Outcome, Failure>
     ensures gives { spec.Answers (reader.new ≡ reader.old)
-        (record {
-          left = R.left reader.old;
-          reads = R.reads reader.new;
-          unread = (R.failures reader.old, R.failures reader.new);
-        })
+        (spec.read_by R.left R.reads R.failures reader.old reader.new)
         asked.entry.now (option_map civil_nanos clock) suffixes.now (option_copied stored.entry)
         (option_copied given.entry) (result_map_both outcome_text (λ failure. failure) result) }
     ensures failures { OnOk result (R.failures reader.new ≡ R.failures reader.old) }
@@ -78,11 +74,7 @@ pub(crate) fn answer_plan<R: Source>(
     reader: &mut R,
 ) -> Result<Outcome, Failure>
     ensures gives { spec.AnswersPlan (reader.new ≡ reader.old)
-        (record {
-          left = R.left reader.old;
-          reads = R.reads reader.new;
-          unread = (R.failures reader.old, R.failures reader.new);
-        })
+        (spec.read_by R.left R.reads R.failures reader.old reader.new)
         (Ok (plan_text plan.now)) suffixes.now (option_copied stored.entry)
         (option_copied given.entry) (result_map_both outcome_text (λ failure. failure) result) }
     ensures failures { OnOk result (R.failures reader.new ≡ R.failures reader.old) }
@@ -114,11 +106,7 @@ pub(crate) fn reads(task: &Task<'_>) -> bool
 pub(crate) fn read_input<R: Source>(alloc: Global, reader: &mut R) -> Result<Vec<u8>, Failure>
     ensures ok { IfOk result (λ text. IfSome (R.left reader.old) (λ whole. text.items ≡ whole)) }
     ensures err { IfErr result (spec.BringsNothing
-        (record {
-          left = R.left reader.old;
-          reads = R.reads reader.new;
-          unread = (R.failures reader.old, R.failures reader.new);
-        })
+        (spec.read_by R.left R.reads R.failures reader.old reader.new)
         true) }
     ensures failures { OnOk result (R.failures reader.new ≡ R.failures reader.old) }
 {

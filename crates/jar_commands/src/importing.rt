@@ -1,6 +1,6 @@
 //! The command that takes rows of another file in.
-ghost use Rattle.std.specs.Prelude.{◌≡◌, ◌⊎◌, ◌<◌, ◌++◌, IfErr, IfOk, IfSome, IsNone, IsSomeAnd, IsTrue, OnOk, Some};
-ghost use Rattle.std.specs.Prelude.{false, map, string_bytes, true};
+ghost use Rattle.std.specs.Prelude.{◌≡◌, ◌⊎◌, ◌<◌, ◌++◌, IfErr, IfOk, IfSome, IsNone, IsSomeAnd, OnOk, Some, map};
+ghost use Rattle.std.specs.Prelude.{string_bytes, true};
 ghost use Rattle.std.specs.Option.{option_copied};
 ghost use Rattle.jiff.specs.Words.{civil_nanos};
 ghost use Rattle.cookie_jar.specs.Entries.{HasNoItems};

@@ -1,6 +1,5 @@
 //! What to ask instead of a URL that isn't plain, and the command `url TEXT`, which has no jar.
-ghost use Rattle.std.specs.Prelude.{◌≡◌, ◌⊎◌, IfOk, option_map, string_bytes};
-ghost use Rattle.std.specs.Prelude.{MatchOption, ◌++◌, ◌∷◌, []};
+ghost use Rattle.std.specs.Prelude.{◌≡◌, IfOk, option_map, string_bytes, MatchOption, ◌++◌, ◌∷◌, []};
 ghost use Rattle.plain_url.specs.Plain.{HasNoPlain};
 ghost use Rattle.jar_commands.specs.Instead as spec;
 
@@ -52,7 +51,7 @@ pub(crate) fn url_in(command: Command<'_>) -> Option<&str>
     match command {
         Command::Receive(url, _) | Command::Header(url, _) => Some(url),
         Command::Get(url, _) | Command::Set(url, _) | Command::Explain(url, _) => Some(url),
-        Command::List(which) | Command::ListJson(which) => url_of(which),
+        Command::List(which) | Command::ListJson(which) => asked_url(which),
         Command::Remove(_, _, _) | Command::Clear => None,
         Command::Import(_, _, _) | Command::Export(_, _, _) => None,
     }
@@ -77,8 +76,8 @@ fn page_of(start: Start<'_>) -> Option<&str>
 }
 
 // The URL of those that are listed.
-fn url_of(which: Which<'_>) -> Option<&str>
-    ensures { option_map (λ text. text.now) result ≡ spec.url_of which.entry }
+fn asked_url(which: Which<'_>) -> Option<&str>
+    ensures { option_map (λ text. text.now) result ≡ spec.asked_url which.entry }
 {
     match which {
         Which::For(url) => Some(url),

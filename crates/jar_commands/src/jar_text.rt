@@ -30,7 +30,7 @@ pub(crate) fn jar_of(
         (option_copied stored.entry)) }
     ensures err { IfErr result (spec.MakesNoJar plan.now.form suffixes.now (option_copied stored.entry)) }
 {
-    let list = list_of(alloc, suffixes)?;
+    let list = suffix_list_of(alloc, suffixes)?;
     let Some(text) = stored else {
         return Ok(Jar::new(alloc, list));
     };
@@ -42,7 +42,7 @@ pub(crate) fn jar_of(
 }
 
 // The suffix list of a text, which has a rule.
-fn list_of(alloc: Global, text: &[u8]) -> Result<List, Failure>
+fn suffix_list_of(alloc: Global, text: &[u8]) -> Result<List, Failure>
     ensures ok { IfOk result (spec.IsListOf text.now) }
     ensures err { IfErr result (λ failure. (failure ≡ Failure.Memory)
         ⊎ ((failure ≡ Failure.SuffixList) × (IsNoSuffixList text.now ⊎ spec.IsRuleless text.now))) }

@@ -1,9 +1,10 @@
 //! A command over the jar's file, under its lock where it changes the jar.
-ghost use Rattle.std.specs.Prelude.{◌≡◌, ◌⊎◌, IfErr, IfOk, IfSome, IsNone, List, None, OnOk, Option};
-ghost use Rattle.std.specs.Prelude.{Some, ℕ, option_map, true};
+ghost use Rattle.std.specs.Prelude.{◌≡◌, IfErr, IfOk, IfSome, IsNone, List, None, OnOk, Option, Some, ℕ, option_map};
+ghost use Rattle.std.specs.Prelude.{true};
 ghost use Rattle.std.specs.Option.{option_copied};
 ghost use Rattle.std.specs.Result.{result_map_both};
 ghost use Rattle.kept_file.specs.Locks.{Held, with_put};
+ghost use Rattle.cookie_run.specs.ProgramKept.{IsUnread};
 ghost use Rattle.jar_commands.specs.KeptSteps as steps;
 ghost use Rattle.jar_commands.specs.Outcomes.{outcome_text};
 ghost use Rattle.jar_commands.specs.Performing.{AnswersTexts};
@@ -122,7 +123,7 @@ fn begin<K: Keeper>(kept: &mut K, path: &str, wait: u64) -> Result<(), Stopped>
     ensures ok { OnOk result ((stored : Option (List ℕ))
         × (K.lock kept.new ≡ Held (record { path = path.now; seen = Some stored; put = None }))) }
     ensures err { IfErr result (λ stopped. IsOfFiles stopped.failure
-        × spec.IsUnread (K.lock kept.old, K.lock kept.new)) }
+        × IsUnread (K.lock kept.old, K.lock kept.new)) }
 {
     if let Err(untaken) = kept.take(path, Duration::from_secs(wait)) {
         return Err(Stopped::untaken(untaken));

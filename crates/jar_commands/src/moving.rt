@@ -1,8 +1,5 @@
 //! The command that gives rows to another file.
-ghost use Rattle.std.specs.Prelude.{◌≡◌, ◌⊎◌, ◌++◌, IfOk, IfErr, None, Some, length, string_bytes};
-ghost use Rattle.cookie_store.specs.Rows.{live};
-ghost use Rattle.cookie_jar.specs.LeftOut.{passed_lines};
-ghost use Rattle.cookie_jar.specs.Saving.{IsText, fitting};
+ghost use Rattle.std.specs.Prelude.{◌≡◌, ◌++◌, IfOk, IfErr, None, Some, string_bytes};
 ghost use Rattle.jar_commands.specs.Outcomes as spec;
 ghost use Rattle.jar_commands.specs.Performing.{FailsToExport};
 ghost use Rattle.jar_commands.specs.Plans.{plan_text};

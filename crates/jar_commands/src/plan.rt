@@ -1,6 +1,5 @@
 //! What is asked, with its moment, its form and its URL read.
 ghost use Rattle.std.specs.Prelude.{◌≡◌, ◌==◌, ◌⊎◌, IfOk, IfErr, option_map};
-ghost use Rattle.std.specs.List.{after_last};
 ghost use Rattle.jiff.specs.Words.{civil_nanos};
 ghost use Rattle.jar_commands.specs.Plans as spec;
 ghost use Rattle.jar_commands.specs.Started as started;

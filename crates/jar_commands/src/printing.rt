@@ -40,18 +40,12 @@ pub(crate) fn finish<H: Files + AllocGlobal, W: Sink>(
     writer: &mut W,
 ) -> Result<Done, Stopped>
     ensures ok { IfOk result (λ done. (done.status ≡ outcome.status) × spec.Printed
-        (record {
-          written = (W.written writer.old, W.written writer.new);
-          unwritten = (W.failures writer.old, W.failures writer.new);
-        })
+        (spec.written_by W.written W.failures writer.old writer.new)
         (spec.output command.entry (outcome_text outcome))
         × (option_map string_bytes done.counted ≡ spec.counted command.entry (outcome_text outcome))) }
     ensures err { IfErr result (λ stopped. (spec.IsUnwritten stopped.failure × (writer.new ≡ writer.old))
         ⊎ ((stopped.failure ≡ Failure.Output) × spec.Unprinted
-        (record {
-          written = (W.written writer.old, W.written writer.new);
-          unwritten = (W.failures writer.old, W.failures writer.new);
-        })
+        (spec.written_by W.written W.failures writer.old writer.new)
         (spec.output command.entry (outcome_text outcome)))) }
 {
     if prints_text(command) {
@@ -80,17 +74,11 @@ fn prints_text(command: Command<'_>) -> bool
 // Prints the text of an export. What it tells of its rows is told beside it.
 fn print_text<W: Sink>(outcome: Outcome, writer: &mut W) -> Result<Done, Stopped>
     ensures ok { IfOk result (λ done. (done.status ≡ outcome.status) × spec.Printed
-        (record {
-          written = (W.written writer.old, W.written writer.new);
-          unwritten = (W.failures writer.old, W.failures writer.new);
-        })
+        (spec.written_by W.written W.failures writer.old writer.new)
         (spec.output_by true (outcome_text outcome))
         × (option_map string_bytes done.counted ≡ spec.counted_by true (outcome_text outcome))) }
     ensures err { IfErr result (λ stopped. (stopped.failure ≡ Failure.Output) × spec.Unprinted
-        (record {
-          written = (W.written writer.old, W.written writer.new);
-          unwritten = (W.failures writer.old, W.failures writer.new);
-        })
+        (spec.written_by W.written W.failures writer.old writer.new)
         (spec.output_by true (outcome_text outcome))) }
 {
     match print(writer, text_in(&outcome.file), outcome.status) {
@@ -115,16 +103,10 @@ fn text_in(file: &Option<Vec<u8>>) -> &[u8]
 /// Prints the help.
 pub(crate) fn print_help<W: Sink>(writer: &mut W) -> Result<u8, Failure>
     ensures ok { IfOk result (λ status. (status ≡ 0) × spec.Printed
-        (record {
-          written = (W.written writer.old, W.written writer.new);
-          unwritten = (W.failures writer.old, W.failures writer.new);
-        })
+        (spec.written_by W.written W.failures writer.old writer.new)
         spec.help_text) }
     ensures err { IfErr result (λ failure. (failure ≡ Failure.Output) × spec.Unprinted
-        (record {
-          written = (W.written writer.old, W.written writer.new);
-          unwritten = (W.failures writer.old, W.failures writer.new);
-        })
+        (spec.written_by W.written W.failures writer.old writer.new)
         spec.help_text) }
 {
     print(writer, HELP.as_bytes(), 0)
@@ -133,16 +115,10 @@ pub(crate) fn print_help<W: Sink>(writer: &mut W) -> Result<u8, Failure>
 /// Prints the line of the version.
 pub(crate) fn print_version<W: Sink>(alloc: Global, writer: &mut W) -> Result<u8, Failure>
     ensures ok { IfOk result (λ status. (status ≡ 0) × spec.Printed
-        (record {
-          written = (W.written writer.old, W.written writer.new);
-          unwritten = (W.failures writer.old, W.failures writer.new);
-        })
+        (spec.written_by W.written W.failures writer.old writer.new)
         spec.program_version) }
     ensures err { IfErr result (λ failure. ((failure ≡ Failure.Output) × spec.Unprinted
-        (record {
-          written = (W.written writer.old, W.written writer.new);
-          unwritten = (W.failures writer.old, W.failures writer.new);
-        })
+        (spec.written_by W.written W.failures writer.old writer.new)
         spec.program_version)
         ⊎ ((failure ≡ Failure.Memory) × (writer.new ≡ writer.old))) }
 {
@@ -174,19 +150,13 @@ fn keep<H: Files + AllocGlobal>(
 }
 
 /// Prints the text whole. Gives the status then.
-#[tactic(auto, using(crate::proofs::PrintLemmas::appends_kept, crate::proofs::PrintLemmas::front_kept))]
+#[tactic(auto, using(cookie_run::proofs::ProgramFacts::appends_kept, cookie_run::proofs::ProgramFacts::front_kept))]
 pub(crate) fn print<W: Sink>(writer: &mut W, text: &[u8], status: u8) -> Result<u8, Failure>
     ensures ok { IfOk result (λ given. (given ≡ status) × spec.Printed
-        (record {
-          written = (W.written writer.old, W.written writer.new);
-          unwritten = (W.failures writer.old, W.failures writer.new);
-        })
+        (spec.written_by W.written W.failures writer.old writer.new)
         text.now) }
     ensures err { IfErr result (λ failure. (failure ≡ Failure.Output) × spec.Unprinted
-        (record {
-          written = (W.written writer.old, W.written writer.new);
-          unwritten = (W.failures writer.old, W.failures writer.new);
-        })
+        (spec.written_by W.written W.failures writer.old writer.new)
         text.now) }
     ensures failures { OnOk result (W.failures writer.new ≡ W.failures writer.old) }
     ensures unflushed { OnOk result (W.unflushed writer.new ≡ 0) }

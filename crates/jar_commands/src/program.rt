@@ -10,7 +10,7 @@ ghost use Rattle.jar_commands.specs.About as abouts;
 ghost use Rattle.jar_commands.specs.Dropped as rows;
 ghost use Rattle.jar_commands.specs.Failures.{spot_of};
 ghost use Rattle.jar_commands.specs.Instead as urls;
-ghost use Rattle.jar_commands.specs.Performing.{Brings, BringsNothing, UnreadBut};
+ghost use Rattle.jar_commands.specs.Performing.{Brings, BringsNothing, UnreadBut, read_by};
 ghost use Rattle.jar_commands.specs.Program as spec;
 ghost use Rattle.jar_commands.specs.ProgramKept as kept_spec;
 ghost use Rattle.jar_commands.specs.declared.failure.Failure.{Failure};
@@ -63,10 +63,7 @@ pub fn program<'a, H: Files + AllocGlobal, K: Keeper, R: Source, W: Sink>(
 ) -> Ended<'a>
     ensures url { IfSome (url_asked (map (λ word. string_bytes word) words.entry.now)) (λ text.
         (given : Result ℕ Failure) × urls.GivesPlain (writer.new ≡ writer.old)
-        (record {
-          written = (W.written writer.old, W.written writer.new);
-          unwritten = (W.failures writer.old, W.failures writer.new);
-        })
+        (spec.written_by W.written W.failures writer.old writer.new)
         text given
         × spec.IsToldBy given result.status (option_map (λ said. said.now) result.failure)
         × abouts.TellsUrl text given (option_map string_bytes result.about)
@@ -76,15 +73,8 @@ pub fn program<'a, H: Files + AllocGlobal, K: Keeper, R: Source, W: Sink>(
     ensures tells { url_asked (map (λ word. string_bytes word) words.entry.now) ≡ None
         → (read : Result Asked Refusal) × ReadsWords (map (λ word. string_bytes word) words.entry.now) read
         × ((given : Result ℕ Failure) × spec.Runs (reader.new ≡ reader.old) (writer.new ≡ writer.old)
-        (record {
-          left = R.left reader.old;
-          reads = R.reads reader.new;
-          unread = (R.failures reader.old, R.failures reader.new);
-        })
-        (record {
-          written = (W.written writer.old, W.written writer.new);
-          unwritten = (W.failures writer.old, W.failures writer.new);
-        })
+        (read_by R.left R.reads R.failures reader.old reader.new)
+        (spec.written_by W.written W.failures writer.old writer.new)
         (option_map civil_nanos clock) read (option_map string_bytes result.counted) given
         × spec.IsToldBy given result.status (option_map (λ said. said.now) result.failure)
         × urls.TellsInstead read given (option_map string_bytes result.instead)
@@ -94,11 +84,7 @@ pub fn program<'a, H: Files + AllocGlobal, K: Keeper, R: Source, W: Sink>(
         × IfSome result.dropped (λ told. rows.TellsJar read (option_map civil_nanos clock) (string_bytes told))
         × spec.TellsList read (map (λ path. path.now) lists.now) (option_map (λ path. path.now) result.list)
         × kept_spec.WordsKeep (reader.new ≡ reader.old)
-        (record {
-          left = R.left reader.old;
-          reads = R.reads reader.new;
-          unread = (R.failures reader.old, R.failures reader.new);
-        })
+        (read_by R.left R.reads R.failures reader.old reader.new)
         (option_map civil_nanos clock) (K.lock kept.old, K.lock kept.new) result.status read }
 {
     if let Some(text) = url_asked(words) {
@@ -114,10 +100,7 @@ pub fn program<'a, H: Files + AllocGlobal, K: Keeper, R: Source, W: Sink>(
 // Prints what is asked of the program itself, or tells why the words ask for nothing.
 fn answered<'a, W: Sink>(alloc: Global, refusal: Refusal<'_>, writer: &mut W) -> Ended<'a>
     ensures tells { (given : Result ℕ Failure) × spec.IsRefused (writer.new ≡ writer.old)
-        (record {
-          written = (W.written writer.old, W.written writer.new);
-          unwritten = (W.failures writer.old, W.failures writer.new);
-        })
+        (spec.written_by W.written W.failures writer.old writer.new)
         refusal.entry given
         × spec.IsToldBy given result.status (option_map (λ said. said.now) result.failure)
         × (result.spot ≡ spot_of given) }
@@ -133,10 +116,7 @@ fn answered<'a, W: Sink>(alloc: Global, refusal: Refusal<'_>, writer: &mut W) ->
 // Prints the help or the version, where that is asked.
 fn printed<W: Sink>(alloc: Global, refusal: Refusal<'_>, writer: &mut W) -> Result<u8, Failure>
     ensures { spec.IsRefused (writer.new ≡ writer.old)
-        (record {
-          written = (W.written writer.old, W.written writer.new);
-          unwritten = (W.failures writer.old, W.failures writer.new);
-        })
+        (spec.written_by W.written W.failures writer.old writer.new)
         refusal.entry result }
 {
     match refusal {
@@ -157,15 +137,8 @@ fn run<'a, H: Files + AllocGlobal, K: Keeper, R: Source, W: Sink>(
     writer: &mut W,
 ) -> Ended<'a>
     ensures tells { (given : Result ℕ Failure) × spec.Serves (reader.new ≡ reader.old) (writer.new ≡ writer.old)
-        (record {
-          left = R.left reader.old;
-          reads = R.reads reader.new;
-          unread = (R.failures reader.old, R.failures reader.new);
-        })
-        (record {
-          written = (W.written writer.old, W.written writer.new);
-          unwritten = (W.failures writer.old, W.failures writer.new);
-        })
+        (read_by R.left R.reads R.failures reader.old reader.new)
+        (spec.written_by W.written W.failures writer.old writer.new)
         asked.entry.now (option_map civil_nanos clock) (option_map string_bytes result.counted) given
         × spec.IsToldBy given result.status (option_map (λ said. said.now) result.failure)
         × urls.TellsAskedInstead asked.entry.now given (option_map string_bytes result.instead)
@@ -175,11 +148,7 @@ fn run<'a, H: Files + AllocGlobal, K: Keeper, R: Source, W: Sink>(
     ensures dropped { IfSome result.dropped (λ told.
         rows.IsToldOfJar asked.entry.now (option_map civil_nanos clock) (string_bytes told)) }
     ensures keeps { kept_spec.KeepsJar (reader.new ≡ reader.old)
-        (record {
-          left = R.left reader.old;
-          reads = R.reads reader.new;
-          unread = (R.failures reader.old, R.failures reader.new);
-        })
+        (read_by R.left R.reads R.failures reader.old reader.new)
         asked.entry.now (option_map civil_nanos clock) (K.lock kept.old, K.lock kept.new) result.status }
     ensures list { spec.TellsAskedList asked.entry.now (map (λ path. path.now) lists.now)
         (option_map (λ path. path.now) result.list) }
@@ -260,40 +229,18 @@ fn serve<H: Files + AllocGlobal, K: Keeper, R: Source, W: Sink>(
     writer: &mut W,
 ) -> Result<Done, Stopped>
     ensures serves_ok { IfOk result (λ done. spec.Ends (reader.new ≡ reader.old)
-        (record {
-          left = R.left reader.old;
-          reads = R.reads reader.new;
-          unread = (R.failures reader.old, R.failures reader.new);
-        })
-        (record {
-          written = (W.written writer.old, W.written writer.new);
-          unwritten = (W.failures writer.old, W.failures writer.new);
-        })
+        (read_by R.left R.reads R.failures reader.old reader.new)
+        (spec.written_by W.written W.failures writer.old writer.new)
         asked.entry.now (option_map civil_nanos clock) done.status (option_map string_bytes done.counted)) }
-    ensures serves_err { IfErr result (λ stopped. spec.Fails (reader.new ≡ reader.old) (writer.new ≡ writer.old)
-        (record {
-          left = R.left reader.old;
-          reads = R.reads reader.new;
-          unread = (R.failures reader.old, R.failures reader.new);
-        })
-        (record {
-          written = (W.written writer.old, W.written writer.new);
-          unwritten = (W.failures writer.old, W.failures writer.new);
-        })
+    ensures serves_err { IfErr result (λ stopped. spec.RunFails (reader.new ≡ reader.old) (writer.new ≡ writer.old)
+        (read_by R.left R.reads R.failures reader.old reader.new)
+        (spec.written_by W.written W.failures writer.old writer.new)
         asked.entry.now (option_map civil_nanos clock) stopped.failure) }
     ensures keeps_ok { IfOk result (λ done. kept_spec.KeepsJar (reader.new ≡ reader.old)
-        (record {
-          left = R.left reader.old;
-          reads = R.reads reader.new;
-          unread = (R.failures reader.old, R.failures reader.new);
-        })
+        (read_by R.left R.reads R.failures reader.old reader.new)
         asked.entry.now (option_map civil_nanos clock) (K.lock kept.old, K.lock kept.new) done.status) }
     ensures keeps_err { OnErr result (kept_spec.KeepsJar (reader.new ≡ reader.old)
-        (record {
-          left = R.left reader.old;
-          reads = R.reads reader.new;
-          unread = (R.failures reader.old, R.failures reader.new);
-        })
+        (read_by R.left R.reads R.failures reader.old reader.new)
         asked.entry.now (option_map civil_nanos clock) (K.lock kept.old, K.lock kept.new) 2) }
 {
     let plan = match plan_of(rt.alloc(), asked, clock) {
@@ -334,18 +281,10 @@ fn bring<H: Files + AllocGlobal, R: Source>(
     reader: &mut R,
 ) -> Result<Option<Vec<u8>>, Stopped>
     ensures ok { IfOk result (λ brought. (given : Option (List ℕ)) × Brings (reader.new ≡ reader.old)
-        (record {
-          left = R.left reader.old;
-          reads = R.reads reader.new;
-          unread = (R.failures reader.old, R.failures reader.new);
-        })
+        (read_by R.left R.reads R.failures reader.old reader.new)
         (spec.reads_input command.entry) given (option_map (λ text. text.items) brought)) }
     ensures err { IfErr result (λ stopped. BringsNothing
-        (record {
-          left = R.left reader.old;
-          reads = R.reads reader.new;
-          unread = (R.failures reader.old, R.failures reader.new);
-        })
+        (read_by R.left R.reads R.failures reader.old reader.new)
         (spec.reads_input command.entry) stopped.failure
         ⊎ (spec.IsOfFiles stopped.failure × UnreadBut (reader.new ≡ reader.old) (spec.reads_input command.entry))) }
 {

@@ -3,7 +3,7 @@ ghost use Rattle.std.specs.Prelude.{◌≡◌, ◌⊎◌, ◌++◌, ◌||◌, is
 ghost use Rattle.std.specs.Prelude.{None, if◌then◌else◌};
 ghost use Rattle.std.specs.Option.{option_copied};
 ghost use Rattle.jiff.specs.Words.{civil_nanos};
-ghost use Rattle.response_heads.specs.Visits.{GivesVisits, set_cookie_lines, visit_text};
+ghost use Rattle.response_heads.specs.Visits.{GivesVisits, visit_lines, visit_text};
 ghost use Rattle.cookie_jar.specs.Taking.{TakesAll};
 ghost use Rattle.jar_commands.specs.Outcomes.{GivesReceived, outcome_text};
 ghost use Rattle.jar_commands.specs.Performing.{FailsToReceive};
@@ -247,7 +247,7 @@ fn visit_told(
     lines: &[&[u8]],
     ends: &[End],
 ) -> Result<String, AllocError>
-    ensures { map (λ line. line.now) lines.now ≡ set_cookie_lines (visit_text visit.now)
+    ensures { map (λ line. line.now) lines.now ≡ visit_lines (visit_text visit.now)
         → IfOk result (λ told. string_bytes told ≡ spec.visit_told is_verbose (visit_text visit.now) ends.now) }
 {
     let mut told = String::new(alloc);

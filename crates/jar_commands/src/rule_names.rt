@@ -1,6 +1,5 @@
 //! The rules of user agents that are asked for, by their names.
 ghost use Rattle.std.specs.Prelude.{◌≡◌, ◌==◌, ◌⊎◌, IfErr, IfOk, None, Some, map, option_map};
-ghost use Rattle.std.specs.List.{slice_split};
 ghost use Rattle.std.specs.Str.{bytes_eq};
 ghost use Rattle.jar_commands.specs.RuleNames as spec;
 

@@ -1,5 +1,5 @@
 //! The command that takes a line as if a URL had answered it.
-ghost use Rattle.std.specs.Prelude.{◌≡◌, ◌∷◌, [], IfOk, IfErr};
+ghost use Rattle.std.specs.Prelude.{◌≡◌, IfOk, IfErr};
 ghost use Rattle.jiff.specs.Words.{civil_nanos};
 ghost use Rattle.jar_commands.specs.Outcomes.{GivesSet, outcome_text};
 ghost use Rattle.jar_commands.specs.Performing.{FailsToSet};

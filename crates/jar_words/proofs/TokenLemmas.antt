@@ -1,7 +1,6 @@
 -- The tokens of words, one by one.
 use Rattle.std.proofs.Common.{arith, ◌≡◌, ◌≤◌, ◌<◌, ◌∙◌, ◌-◌, ℕ, suc, zero, Bool, true, false, List, [], ◌∷◌, Some}
-use Rattle.std.proofs.Common.{None, Global, String, ap, refl, sym}
-use Rattle.std.proofs.Common.{drop, length, map, string_bytes, take, take_all}
+use Rattle.std.proofs.Common.{None, Global, String, ap, refl, sym, drop, length, map, string_bytes, take, take_all}
 use Rattle.std.specs.Prelude.{if◌then◌else◌, get_or}
 use Rattle.std.proofs.lemmas.List.{length-map}
 use Rattle.jar_words.specs.Names.{Text}

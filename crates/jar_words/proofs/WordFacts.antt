@@ -5,8 +5,7 @@ use Rattle.jar_words.specs.Asking.{page, receive, remove, under, unsaid}
 use Rattle.jar_words.specs.Names.{Text, option_of, row_of, verb_of}
 use Rattle.jar_words.specs.Reading.{first_wrong, first_wrong_option, order_asked, read}
 use Rattle.jar_words.specs.Refusing.{help, version, words}
-use Rattle.jar_words.specs.Tokens.{behind_equals, is_option, is_value, name_in, token, tokens, value_of}
-use Rattle.jar_words.specs.Tokens.{words_of}
+use Rattle.jar_words.specs.Tokens.{behind_equals, is_option, is_value, name_in, token, tokens, value_of, words_of}
 use Rattle.jar_words.specs.declared.asked.Format.TheVariants.{Json, Txt}
 use Rattle.jar_words.specs.declared.asked.Reader.TheVariants.{Wget}
 use Rattle.jar_words.specs.declared.refusal.Kind.TheVariants as kind

@@ -1,7 +1,6 @@
 -- What is read of words: what they ask for, or the first thing that is wrong with them (own: docs/DEFINITIONS.md).
-use Rattle.std.specs.Prelude.{◌≡◌, ◌==◌, ◌||◌, ◌++◌, ℕ, Bool, true, false, List, [], ◌∷◌, Option, Some, None}
-use Rattle.std.specs.Prelude.{Result, Ok, Err, codes}
-use Rattle.std.specs.Prelude.{if◌then◌else◌, is_some, length, nat_le, ok_or, option_map, slice_get}
+use Rattle.std.specs.Prelude.{◌≡◌, ◌==◌, ◌||◌, ◌++◌, ℕ, Bool, true, false, List, [], ◌∷◌, Option, Some, None, Result}
+use Rattle.std.specs.Prelude.{Ok, Err, codes, if◌then◌else◌, is_some, length, nat_le, ok_or, option_map, slice_get}
 use Rattle.std.specs.Option.{option_and_then, option_or}
 use Rattle.std.specs.Result.{result_map_both}
 use Rattle.jar_words.specs.Asking.{Listed, Order, Request, Started, format_of, reader_of, request_of}

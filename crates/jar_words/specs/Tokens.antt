@@ -1,7 +1,6 @@
 -- Words as options, their values, and words that are neither (own: docs/DEFINITIONS.md).
 use Rattle.std.specs.Prelude.{ℕ, ◌==◌, ◌&&◌, ◌||◌, Bool, true, false, not, List, [], ◌∷◌, Option, Some, None, codes}
-use Rattle.std.specs.Prelude.{length}
-use Rattle.std.specs.Prelude.{if◌then◌else◌, is_some, map, nat_lt}
+use Rattle.std.specs.Prelude.{length, if◌then◌else◌, is_some, map, nat_lt}
 use Rattle.std.specs.Option.{option_or}
 use Rattle.std.specs.Char.{is_ascii_digit}
 use Rattle.std.specs.List.{before_first, after_first, position_or_len}

@@ -6,8 +6,8 @@ use Rattle.jar_words.specs.Names.{Text}
 use Rattle.jar_words.specs.Tokens.{dash}
 
 -- it begins with a dash
-abbrev pub is_option : Text → Bool
-is_option text = slice_index text 0 == dash
+abbrev pub begins_with_dash : Text → Bool
+begins_with_dash text = slice_index text 0 == dash
 
 -- the command
 abbrev pub is_url : Text → Bool
@@ -15,7 +15,7 @@ is_url word = bytes_eq word (codes "url")
 
 -- the text behind it
 abbrev pub text_behind : Text → Text → Option Text
-text_behind command text = if is_url command && not (is_option text) then Some text else None
+text_behind command text = if is_url command && not (begins_with_dash text) then Some text else None
 
 -- the text of `url TEXT`
 abbrev pub url_asked : List Text → Option Text

@@ -1,5 +1,5 @@
 //! A command with its words.
-ghost use Rattle.std.specs.Prelude.{◌≡◌, option_map, slice_get};
+ghost use Rattle.std.specs.Prelude.{◌≡◌, slice_get};
 ghost use Rattle.std.specs.Option.{option_and_then};
 ghost use Rattle.std.specs.Result.{result_map_both};
 ghost use Rattle.jar_words.specs.Asking as to;

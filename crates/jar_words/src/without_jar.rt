@@ -17,7 +17,7 @@ pub fn url_asked(words: &[String]) -> Option<&str>
 fn text_behind<'a>(command: &str, text: &'a str) -> Option<&'a str>
     ensures { option_map (λ text. text.now) result ≡ spec.text_behind command.now text.entry.now }
 {
-    if is_url(command) && !is_option(text.as_bytes()) {
+    if is_url(command) && !begins_with_dash(text.as_bytes()) {
         Some(text)
     } else {
         None
@@ -31,8 +31,8 @@ pub(crate) fn is_url(word: &str) -> bool
     word == "url"
 }
 
-fn is_option(text: &[u8]) -> bool
-    ensures { result ≡ spec.is_option text.now }
+fn begins_with_dash(text: &[u8]) -> bool
+    ensures { result ≡ spec.begins_with_dash text.now }
 {
     matches!(text, [b'-', ..])
 }

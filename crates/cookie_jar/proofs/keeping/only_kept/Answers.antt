@@ -1,5 +1,5 @@
 use Rattle.jiff.specs.Words.{civil_nanos}
-use Rattle.cookie_run.proofs.HostRows.{all_picked}
+use Rattle.cookie_client.proofs.HostRows.{all_picked}
 use Rattle.cookie_jar.specs.Keeping.{IsKept}
 use Rattle.cookie_jar.specs.Rows.{lent_rows}
 use Rattle.cookie_jar.proofs.RowLemmas.{only_picked}

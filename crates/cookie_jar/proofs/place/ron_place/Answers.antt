@@ -1,6 +1,6 @@
 use Rattle.std.proofs.Common.{subst, sym}
 use Rattle.std.specs.Prelude.{IfOk}
-use Rattle.saved_text.specs.RonReading.{IsRonFaultAt, ShowsRows}
+use Rattle.saved_text.specs.RonReading.{IsRonFaultAt, ShowsRowsInRon}
 use Rattle.cookie_jar.specs.Places.{StopsInRon}
 use Rattle.cookie_jar.proofs.place.ron_place.Goals as goal
 use Rattle.cookie_jar.proofs.place.ron_place.Goals.{in-Ok, in-Err-Ron, in-Err}
@@ -11,7 +11,7 @@ returns c =
     let same = c.as_bytes.ensures.value in
     elim c.match-rows_from_ron.branch [
       | in-Ok w ↦ subst (λ r. IfOk r (StopsInRon text)) (sym w.result-is)
-          (w.in-Ok.field-0.items, subst (λ t. ShowsRows t w.in-Ok.field-0.items) same w.in-Ok.ensures.ok)
+          (w.in-Ok.field-0.items, subst (λ t. ShowsRowsInRon t w.in-Ok.field-0.items) same w.in-Ok.ensures.ok)
       | in-Err-Ron w ↦ subst (λ r. IfOk r (StopsInRon text)) (sym w.result-is) (
         w.in-Err-Ron.offset,
         subst (λ t. IsRonFaultAt t w.in-Err-Ron.offset) same

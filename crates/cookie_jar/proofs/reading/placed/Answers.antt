@@ -4,7 +4,8 @@ use Rattle.std.proofs.lemmas.Iterator.Consumers.{YieldsList-end}
 use Rattle.std.proofs.lemmas.List.{map-append, map-id}
 use Rattle.std.specs.Vec.Iter.{into_iter_steps}
 use Rattle.jiff.specs.Words.{civil_nanos}
-use Rattle.cookie_jar.proofs.RowLemmas.{ok_of, store_of}
+use Rattle.cookie_client.proofs.HeldCopies.{ok_of}
+use Rattle.cookie_jar.proofs.RowLemmas.{store_of}
 use Rattle.cookie_jar.proofs.reading.placed.Goals as goal
 
 pub loop-cookie-preserved : goal.loop-cookie-preserved

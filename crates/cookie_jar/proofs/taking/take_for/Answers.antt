@@ -1,7 +1,7 @@
 use Rattle.std.proofs.Common.{Some, map}
 use Rattle.jiff.specs.Words.{civil_nanos}
 use Rattle.cookie_jar.specs.Taking.{IsStopped, TakesAll}
-use Rattle.cookie_jar.proofs.TakeLemmas.{err_by_request, ok_by_request}
+use Rattle.user_agent.proofs.CrossAnswerLemmas.{err_by_request, ok_by_request}
 use Rattle.cookie_jar.proofs.taking.take_for.Goals as goal
 
 pub returns-clause-all : goal.returns-clause-all

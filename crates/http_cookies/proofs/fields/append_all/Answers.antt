@@ -1,4 +1,4 @@
-use Rattle.std.proofs.Common.{rules, refl, inl, inr, ◌+◌, ◌∷◌, ◌≡◌}
+use Rattle.std.proofs.Common.{rules, refl, inl, inr, ◌≡◌}
 use Rattle.http_header.specs.HeaderMap.{RefusesAppend}
 use Rattle.http_cookies.specs.Fields.{set_cookie_name}
 use Rattle.http_cookies.proofs.Putting.{appending_none, appending_next, appending_refused, appending_all, map_exits}

@@ -1,6 +1,6 @@
 use Rattle.std.proofs.Common.{rules, map, refl, inl, inr, ap}
 use Rattle.std.specs.Prelude.{string_bytes}
-use Rattle.http_cookies.proofs.Putting.{is_value, making_none, making_next, making_refused, value_exits}
+use Rattle.http_cookies.proofs.Putting.{is_value, making_next, making_refused, value_exits}
 use Rattle.http_cookies.proofs.fields.values_of.Goals as goal
 
 pub loop-line-preserved : goal.loop-line-preserved

@@ -1,6 +1,6 @@
 use Rattle.std.proofs.Common.{◌≡◌, ◌++◌}
 use Rattle.std.specs.Prelude.{map, string_bytes}
-use Rattle.cookie_run.specs.Jar.{lines_of}
+use Rattle.cookie_client.specs.Jar.{lines_of}
 use Rattle.http_cookies.proofs.server.lines_of.Given as goal
 
 abbrev pub invariant-loop-cookie : goal.invariant-loop-cookie

@@ -1,5 +1,5 @@
-use Rattle.std.proofs.Common.{rules, ◌≡◌, ◌≢◌, ap, refl, subst}
-use Rattle.std.specs.Prelude.{Ok, Err, Result}
+use Rattle.std.proofs.Common.{rules, ◌≡◌, ◌≢◌, refl}
+use Rattle.std.specs.Prelude.{Ok, Err}
 use Rattle.jiff.specs.Words.{civil_nanos}
 use Rattle.store_parts.specs.declared.error.CookieError.TheVariants.{OutOfMemory}
 use Rattle.http_cookies.proofs.Lined.{text_stored}

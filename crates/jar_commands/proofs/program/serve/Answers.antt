@@ -1,8 +1,8 @@
-use Rattle.std.proofs.Common.{◌≡◌, Option, List, ℕ, Err, Ok, inl, inr, option_map, refl, subst, sym, ◌∙◌}
+use Rattle.std.proofs.Common.{◌≡◌, inl, inr, option_map, refl}
 use Rattle.std.specs.Option.{option_copied}
 use Rattle.jiff.specs.Words.{civil_nanos}
 use Rattle.jar_commands.specs.Outcomes.{outcome_text}
-use Rattle.jar_commands.specs.Performing.{Brings, Reader}
+use Rattle.jar_commands.specs.Performing.{Reader}
 use Rattle.jar_commands.specs.Plans.{plan_text}
 use Rattle.jar_commands.specs.Program.{Writer, reads_input}
 use Rattle.jar_commands.specs.ProgramKept.{changes}
