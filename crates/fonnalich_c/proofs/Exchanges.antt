@@ -2,9 +2,11 @@
 use Rattle.std.proofs.Common.{◌≡◌, ◌⊎◌, ℕ, ℤ, ◌+◌, ◌<◌, List, [], ◌∷◌, ◌++◌, length, map, take, drop, get_or}
 use Rattle.std.proofs.Common.{inl, inr, refl, sym, ap, subst, ◌∙◌, append_assoc, Result, Ok, Err}
 use Rattle.std.proofs.lemmas.List.{append-nil, drop_more, map-append, take-append-drop, take_more}
-use Rattle.std.specs.Prelude.{IfErr, IfOk, IsErr, IsErrAnd}
+use Rattle.std.specs.Prelude.{IfErr}
 use Rattle.jiff.specs.Types.{DateTime}
-use Rattle.cookie_run.specs.Jar.{Keyed}
+use Rattle.cookie_client.specs.Jar.{Keyed}
+pub use Rattle.cookie_run.proofs.DrawnRuns.{ok_gives}
+pub use Rattle.cookie_run.proofs.Runs.{err_gives}
 use Rattle.fonnalich_c.specs.Exchange.{AllTell, IsNoExchange, LineTells, Opens, RefusesLine, StopsAt}
 use Rattle.fonnalich_c.specs.Given.{lines_of}
 use Rattle.fonnalich_c.specs.Numbers.{refusal_number}
@@ -13,15 +15,6 @@ use Rattle.fonnalich_c.specs.declared.refusal.Refusal.{Refusal}
 use Rattle.fonnalich_c.specs.declared.refusal.Refusal.TheVariants.{Memory}
 
 -- ---- outcomes
-
-pub ok_gives : {A E : Type 0} (r : Result A E) (P Q : A → Type 0) → ((x : A) → P x → Q x) → IfOk r P → IfOk r Q
-ok_gives (Ok x) P Q f h = f x h
-ok_gives (Err e) P Q f h = tt
-
-pub err_gives : {A E : Type 0} (r : Result A E) (Q P : E → Type 0) → IsErr r × IsErrAnd r Q → ((e : E) → Q e → P e)
-    → IfErr r P
-err_gives (Ok x) Q P h f = tt
-err_gives (Err e) Q P h f = f e h.1
 
 pub fault_gives : {A E : Type 0} (r : Result A E) (P Q : E → Type 0) → ((e : E) → P e → Q e) → IfErr r P → IfErr r Q
 fault_gives (Ok x) P Q f h = tt

@@ -1,6 +1,6 @@
 -- Of several faults the first is told.
-use Rattle.std.proofs.Common.{◌≡◌, ◌⊎◌, ◌≤◌, ◌<◌, ◌≤ℤ◌, ℕ, ℤ, Bool, true, false, true≢false, List, []}
-use Rattle.std.proofs.Common.{length, Option, Some, None, Result, Ok, Err, inl, inr, refl, sym, subst}
+use Rattle.std.proofs.Common.{◌≡◌, ◌⊎◌, ◌≤◌, ◌<◌, ◌≤ℤ◌, ℕ, ℤ, Bool, true, false, true≢false, List, length, Option, Some}
+use Rattle.std.proofs.Common.{None, Result, Ok, Err, inl, inr, refl, sym, subst}
 use Rattle.std.proofs.Math.Nat.{lt_of_not-le}
 use Rattle.std.specs.Prelude.{option_map, IsOk, ◌↔◌}
 use Rattle.std.specs.Int.Signed.{≤ℤ_refl}
@@ -19,7 +19,7 @@ use Rattle.fonnalich_c.specs.Faults.{IsFirst, IsTold}
 use Rattle.fonnalich_c.specs.Given.{IsNoMoment, IsNoUrl, IsUrl, nanos_of}
 use Rattle.fonnalich_c.specs.Numbers.{refusal_number}
 use Rattle.fonnalich_c.specs.One.{IsKeyText, IsPickFault}
-use Rattle.fonnalich_c.specs.Parts.{AreTexts, IsNoEnd, IsUnmade, Texts, counted}
+use Rattle.fonnalich_c.specs.Parts.{AreTexts, EndsAtNoMoment, IsUnmade, Texts, counted}
 use Rattle.fonnalich_c.specs.Started.{IsNoPageOf, IsReceiptFault, Receipt}
 use Rattle.fonnalich_c.specs.Tasks.{IsBroken, IsBrokenFrom, IsHeaderFault, IsNoLoadBy, IsRequestFault}
 use Rattle.fonnalich_c.specs.Tasks.{IsSavingFault, IsStartedFault}
@@ -285,15 +285,15 @@ is_end true second (Some at) same none = is_moment at second (some_is (civil_nan
     some_is a b e = cc
 
 pub text_unmade : (a : Attributes) (texts : Texts) (refused : Refusal)
-    → ¬ IsNoEnd a → refused ≡ refusal.Text → ¬ AreTexts a texts
+    → ¬ EndsAtNoMoment a → refused ≡ refusal.Text → ¬ AreTexts a texts
     → IsFirst (IsUnmade a texts) refused
 text_unmade a texts refused ends told none =
-    second_of_three refusal.Moment refusal.Text refusal.Site (IsNoEnd a) (¬ AreTexts a texts) (3 < a.same_site)
+    second_of_three refusal.Moment refusal.Text refusal.Site (EndsAtNoMoment a) (¬ AreTexts a texts) (3 < a.same_site)
     refused (record { le = tt }) ends (told, none)
 
 pub site_unmade : (a : Attributes) (texts : Texts) (refused : Refusal)
-    → ¬ IsNoEnd a → AreTexts a texts → (refused ≡ refusal.Site) × (3 < a.same_site)
+    → ¬ EndsAtNoMoment a → AreTexts a texts → (refused ≡ refusal.Site) × (3 < a.same_site)
     → IsFirst (IsUnmade a texts) refused
 site_unmade a texts refused ends are why =
-    third_of_three refusal.Moment refusal.Text refusal.Site (IsNoEnd a) (¬ AreTexts a texts) (3 < a.same_site)
+    third_of_three refusal.Moment refusal.Text refusal.Site (EndsAtNoMoment a) (¬ AreTexts a texts) (3 < a.same_site)
     refused ends (λ none. none are) why

@@ -6,12 +6,11 @@ use Rattle.std.specs.List.{flat_map}
 use Rattle.std.proofs.lemmas.Grind.{flat_map-append}
 use Rattle.std.proofs.lemmas.List.{append-nil, map-append}
 use Rattle.std.specs.Result.{result_map_both}
-use Rattle.cookie_text.specs.ReadingBack.{Pairwise}
 use Rattle.cookie_store.specs.Rows.{Row}
 use Rattle.cookie_store.specs.StoredCookie.{stored_of}
 use Rattle.cookie_store.specs.declared.stored_cookie.Cookie.{Cookie}
-use Rattle.cookie_run.specs.HostPrefix.{AreHeldRightly}
-use Rattle.cookie_run.specs.Keeping.{HaveReadPairs}
+use Rattle.cookie_client.specs.HostPrefix.{AreHeldRightly}
+use Rattle.cookie_client.specs.Keeping.{HaveReadPairs}
 use Rattle.cookies_txt.specs.Entries.{entry_text}
 use Rattle.cookies_txt.specs.declared.entries.Entry.{Entry}
 use Rattle.cookies_txt.specs.declared.error.LineFault.{LineFault}

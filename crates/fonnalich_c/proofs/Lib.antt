@@ -9,4 +9,5 @@ pub mod Parting
 pub mod Receiving
 pub mod Refusals
 pub mod Steps
+pub mod Stays
 mod Shards

@@ -3,8 +3,8 @@ use Rattle.std.proofs.Common.{◌≡◌, ℕ, ℤ, Bool, true, false, List, [], 
 use Rattle.publicsuffix.specs.Rules.{Rule}
 use Rattle.url.specs.Parts.{Parts}
 use Rattle.cookie_store.specs.Rows.{Row}
-use Rattle.cookie_run.specs.Accept.{AcceptsAll}
-use Rattle.cookie_run.specs.declared.step.LineEnd.{LineEnd}
+use Rattle.cookie_client.specs.Accept.{AcceptsAll}
+use Rattle.cookie_client.specs.declared.outcome.LineEnd.{LineEnd}
 use Rattle.user_agent.specs.Agent.{TakesLines}
 use Rattle.user_agent.specs.CrossAnswers.{ReceivesFor, TakesLinesFrom}
 use Rattle.user_agent.specs.declared.cross_answer.OutcomeFor.{OutcomeFor}

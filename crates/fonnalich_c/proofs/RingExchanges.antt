@@ -6,10 +6,10 @@ use Rattle.std.specs.Prelude.{OnOk}
 use Rattle.std.specs.Int.{to_le_bytes, w64}
 use Rattle.jiff.specs.Types.{DateTime}
 use Rattle.cookie_text.specs.Record.{Seen}
-use Rattle.cookie_run.specs.Ending.{IsKeptUntil}
-use Rattle.cookie_run.specs.RingSession.{Ringed, SetsUntil}
-use Rattle.cookie_run.specs.declared.ending.EndingWay.{EndingWay}
-use Rattle.cookie_run.specs.declared.ending.EndingWay.TheVariants as ends
+use Rattle.cookie_client.specs.Ending.{IsKeptUntil}
+use Rattle.cookie_client.specs.RingSession.{Ringed, SetsUntil}
+use Rattle.cookie_client.specs.declared.ending.EndingWay.{EndingWay}
+use Rattle.cookie_client.specs.declared.ending.EndingWay.TheVariants as ends
 use Rattle.fonnalich_c.specs.Given.{lines_of}
 use Rattle.fonnalich_c.specs.Items.{item, placed_text}
 use Rattle.fonnalich_c.specs.RingExchange.{AllTellOnRing, IsNoRingExchange, OpensOnRing, SetsUntilBy}

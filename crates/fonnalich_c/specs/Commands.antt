@@ -1,6 +1,5 @@
 -- The commands of a site's exchange, a line each (own: docs/DEFINITIONS.md).
-use Rattle.std.specs.Prelude.{ℕ, ◌≡◌, ◌≢◌, ◌⊎◌, ◌==◌, List, [], ◌∷◌, Option, Some, None, Ok, Err, ⊤}
-use Rattle.std.specs.Prelude.{if◌then◌else◌}
+use Rattle.std.specs.Prelude.{ℕ, ◌≡◌, ◌≢◌, ◌⊎◌, ◌==◌, List, [], ◌∷◌, Option, Some, None, Ok, Err, ⊤, if◌then◌else◌}
 use Rattle.std.specs.Str.{IsUtf8}
 use Rattle.percent_encoding.specs.Percent.{percent_decode}
 use Rattle.cookie_text.specs.Decoding.{ReadsEncoded}
@@ -9,8 +8,8 @@ use Rattle.cookie_text.specs.declared.error.ParseError.{ParseError}
 use Rattle.cookie_text.specs.declared.error.ParseError.TheVariants.{OutOfMemory}
 use Rattle.cookie_run.specs.declared.step.Command.{Command}
 use Rattle.cookie_run.specs.declared.step.Command.TheVariants as commands
-use Rattle.cookie_run.specs.declared.step.Way.{Way}
-use Rattle.cookie_run.specs.declared.step.Way.TheVariants.{Plain, Host, Secure, Signed, Sealed}
+use Rattle.cookie_client.specs.declared.way.Way.{Way}
+use Rattle.cookie_client.specs.declared.way.Way.TheVariants.{Plain, Host, Secure, Signed, Sealed}
 use Rattle.fonnalich_c.specs.declared.command.Verb.{Verb}
 use Rattle.fonnalich_c.specs.declared.command.Verb.TheVariants.{Set, Remove, Get}
 

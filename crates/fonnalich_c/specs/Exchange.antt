@@ -5,13 +5,13 @@ use Rattle.std.specs.List.{flat_map}
 use Rattle.jiff.specs.Types.{DateTime}
 use Rattle.jiff.specs.Words.{civil_nanos}
 use Rattle.cookie_text.specs.Record.{Seen}
-use Rattle.cookie_run.specs.Jar.{Keyed, IsOpened, ReadsIn, Sets, TakesOut, IsRemovalRefusal, ClosesWith}
-use Rattle.cookie_run.specs.Site.{set_refusal}
+use Rattle.cookie_client.specs.Jar.{Keyed, IsOpened, ReadsIn, Sets, TakesOut, IsRemovalRefusal, ClosesWith}
+use Rattle.cookie_client.specs.Ways.{set_refusal}
 use Rattle.cookie_run.specs.declared.step.Command.{Command}
 use Rattle.cookie_run.specs.declared.step.Command.TheVariants.{Set, Remove, Get}
-use Rattle.cookie_run.specs.declared.step.SessionError.{SessionError}
-use Rattle.cookie_run.specs.declared.step.Way.{Way}
-use Rattle.cookie_run.specs.declared.step.Way.TheVariants.{Plain, Host, Secure, Signed, Sealed}
+use Rattle.cookie_client.specs.declared.outcome.SessionError.{SessionError}
+use Rattle.cookie_client.specs.declared.way.Way.{Way}
+use Rattle.cookie_client.specs.declared.way.Way.TheVariants.{Plain, Host, Secure, Signed, Sealed}
 use Rattle.fonnalich_c.specs.Commands.{IsCommand, IsNoCommand}
 use Rattle.fonnalich_c.specs.Faults.{IsTold}
 use Rattle.fonnalich_c.specs.Given.{IsNoMoment, nanos_of, lines_of}
@@ -35,12 +35,12 @@ abbrev pub SetsBy : Keyed → Way → Seen → List ℕ → Keyed → Type 0
 SetsBy old way cookie nonces new = Sets (λ nonce. nonce ≡ take (nonce_length way) nonces) old way cookie new
 
 -- what a command tells, the session that it leaves, and the nonces
-abbrev pub Tells : Keyed → DateTime → List ℕ → Command → List ℕ → Keyed → List ℕ → Type 0
-Tells old now nonces (Set way cookie) told new left =
+abbrev pub CommandTells : Keyed → DateTime → List ℕ → Command → List ℕ → Keyed → List ℕ → Type 0
+CommandTells old now nonces (Set way cookie) told new left =
     (told ≡ []) × SetsBy old way cookie nonces new × (left ≡ drop (nonce_length way) nonces)
-Tells old now nonces (Remove way name) told new left =
+CommandTells old now nonces (Remove way name) told new left =
     (told ≡ []) × TakesOut old way name now new × (left ≡ nonces)
-Tells old now nonces (Get way name) told new left = (new ≡ old) × (left ≡ nonces)
+CommandTells old now nonces (Get way name) told new left = (new ≡ old) × (left ≡ nonces)
     × ((value : Option (List ℕ)) × (name ≢ []) × ReadsIn old way name value × (told ≡ reading_text value))
 
 -- why one is refused: too few nonces, and else what the session refuses it for
@@ -54,21 +54,21 @@ abbrev pub RefusesRemoval : List ℕ → DateTime → Refusal → Type 0
 RefusesRemoval name now refused =
     (error : SessionError) × IsRemovalRefusal name now (Some error) × (refused ≡ told_as error)
 
-abbrev pub Refuses : DateTime → List ℕ → Command → Refusal → Type 0
-Refuses now nonces (Set way cookie) refused = RefusesSet way cookie nonces refused
-Refuses now nonces (Remove way name) refused = RefusesRemoval name now refused
-Refuses now nonces (Get way name) refused = (refused ≡ refusal.EmptyName) × (name ≡ [])
+abbrev pub RefusesCommand : DateTime → List ℕ → Command → Refusal → Type 0
+RefusesCommand now nonces (Set way cookie) refused = RefusesSet way cookie nonces refused
+RefusesCommand now nonces (Remove way name) refused = RefusesRemoval name now refused
+RefusesCommand now nonces (Get way name) refused = (refused ≡ refusal.EmptyName) × (name ≡ [])
 
 -- ---- the lines of commands
 
 abbrev pub LineTells : Keyed → DateTime → List ℕ → List ℕ → List ℕ → Keyed → List ℕ → Type 0
 LineTells old now nonces line told new left =
-    (command : Command) × IsCommand line command × Tells old now nonces command told new left
+    (command : Command) × IsCommand line command × CommandTells old now nonces command told new left
 
 abbrev pub RefusesLine : DateTime → List ℕ → List ℕ → Refusal → Type 0
 RefusesLine now nonces line refused =
     ((refused ≡ refusal.Command) × IsNoCommand line)
-    ⊎ ((command : Command) × IsCommand line command × Refuses now nonces command refused)
+    ⊎ ((command : Command) × IsCommand line command × RefusesCommand now nonces command refused)
 
 -- one line after another, each with the nonces that those before it leave
 abbrev pub AllTell : Keyed → DateTime → List ℕ → List (List ℕ) → List ℕ → Keyed → List ℕ → Type 0

@@ -14,11 +14,7 @@ use Rattle.fonnalich_c.specs.declared.refusal.Refusal.TheVariants as refusal
 
 -- ---- a moment
 
--- 1970-01-01T00:00:00, in nanoseconds since then
-abbrev pub epoch : ℤ
-epoch = pos 0
-
--- the nanoseconds of so many seconds since then
+-- the nanoseconds of so many seconds since 1970-01-01T00:00:00
 abbrev pub nanos_of : ℤ → ℤ
 nanos_of second = second *ℤ pos 1_000_000_000
 

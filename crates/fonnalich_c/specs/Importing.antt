@@ -6,8 +6,8 @@ use Rattle.std.specs.List.{flat_map}
 use Rattle.cookie_text.specs.ReadingBack.{Pairwise}
 use Rattle.cookie_store.specs.Placing.{put_all}
 use Rattle.cookie_store.specs.Rows.{Row, Store, domain_text, is_live}
-use Rattle.cookie_run.specs.HostPrefix.{IsHeldRightly}
-use Rattle.cookie_run.specs.Keeping.{HasReadPair}
+use Rattle.cookie_client.specs.HostPrefix.{IsHeldRightly}
+use Rattle.cookie_client.specs.Keeping.{HasReadPair}
 use Rattle.cookies_txt.specs.Entries.{GivesEntries}
 use Rattle.cookies_txt.specs.declared.error.LineFault.{LineFault}
 use Rattle.cookies_txt.specs.declared.error.LineFault.TheVariants.{NotText, Fields, EmptyDomain, Flag, NoSlash}

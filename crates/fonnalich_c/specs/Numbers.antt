@@ -1,22 +1,20 @@
 -- The numbers by which words, outcomes and refusals cross to C (own: docs/DEFINITIONS.md).
-use Rattle.std.specs.Prelude.{ℕ, ℤ, pos, ◌+◌, ◌^◌, ◌-ℤ◌, ◌==◌, if◌then◌else◌, Option, Some, None, min}
-use Rattle.std.specs.Prelude.{false, true}
+use Rattle.std.specs.Prelude.{ℕ, ℤ, pos, ◌+◌, ◌^◌, ◌-ℤ◌, ◌==◌, if◌then◌else◌, Option, Some, None, min, false, true}
 use Rattle.store_parts.specs.declared.error.CookieError.{CookieError}
 use Rattle.store_parts.specs.declared.error.CookieError.TheVariants as cause
 use Rattle.cookie_store.specs.declared.action.StoreAction.{StoreAction}
 use Rattle.cookie_store.specs.declared.action.StoreAction.TheVariants as action
-use Rattle.cookie_run.specs.declared.step.LineEnd.{LineEnd}
-use Rattle.cookie_run.specs.declared.step.LineEnd.TheVariants as end
-use Rattle.cookie_run.specs.declared.step.SessionError.{SessionError}
-use Rattle.cookie_run.specs.declared.step.SessionError.TheVariants as session
+use Rattle.cookie_client.specs.declared.outcome.LineEnd.{LineEnd}
+use Rattle.cookie_client.specs.declared.outcome.LineEnd.TheVariants as end
+use Rattle.cookie_client.specs.declared.outcome.SessionError.{SessionError}
+use Rattle.cookie_client.specs.declared.outcome.SessionError.TheVariants as session
 use Rattle.cookies_txt.specs.declared.readers.Reader.TheVariants as reader
 use Rattle.fonnalich_c.specs.declared.refusal.Refusal.{Refusal}
 use Rattle.fonnalich_c.specs.declared.refusal.Refusal.TheVariants as refusal
 use Rattle.fonnalich_c.specs.declared.word.Word.{Word}
 use Rattle.fonnalich_c.specs.declared.word.Word.TheVariants.{List, Load, Rules, Ask, Keep, By}
-use Rattle.fonnalich_c.specs.declared.word.Task.TheVariants.{Receive, Header, Save, Restart, SaveAll, Reload}
-use Rattle.fonnalich_c.specs.declared.word.Task.TheVariants.{Count, List as Listing, Clear}
-use Rattle.fonnalich_c.specs.declared.word.Task.TheVariants.{Fetch, Navigate, Import, Export}
+use Rattle.fonnalich_c.specs.declared.word.Task.TheVariants.{Receive, Header, Save, Restart, SaveAll, Reload, Count}
+use Rattle.fonnalich_c.specs.declared.word.Task.TheVariants.{List as Listing, Clear, Fetch, Navigate, Import, Export}
 use Rattle.fonnalich_c.specs.declared.word.ByList.TheVariants as by
 
 -- the word that hands out the answer that had no room
@@ -62,21 +60,21 @@ action_number action.Inserted = 0
 action_number action.ExpiredExisting = 1
 action_number action.UpdatedExisting = 2
 
-abbrev pub cause_number : CookieError → ℕ
-cause_number cause.NonHttpScheme = 10
-cause_number cause.NonRelativeScheme = 11
-cause_number cause.DomainMismatch = 12
-cause_number cause.Expired = 13
-cause_number cause.Parse = 14
-cause_number cause.PublicSuffix = 15
-cause_number cause.UnspecifiedDomain = 16
-cause_number cause.OutOfMemory = 17
+abbrev pub error_number : CookieError → ℕ
+error_number cause.NonHttpScheme = 10
+error_number cause.NonRelativeScheme = 11
+error_number cause.DomainMismatch = 12
+error_number cause.Expired = 13
+error_number cause.Parse = 14
+error_number cause.PublicSuffix = 15
+error_number cause.UnspecifiedDomain = 16
+error_number cause.OutOfMemory = 17
 
 abbrev pub end_number : LineEnd → ℕ
 end_number (end.Stored action) = action_number action
 end_number end.NotText = 3
 end_number end.HostPrefix = 4
-end_number (end.Refused cause) = cause_number cause
+end_number (end.Refused cause) = error_number cause
 
 -- ---- why a call answers no text
 

@@ -78,8 +78,8 @@ IsUnread is_decoded text refused =
     ((refused ≡ refusal.Text) × (¬ IsUtf8 text))
     ⊎ (IsUtf8 text × ((error : ParseError) × Reads is_decoded text (Err error) × (refused ≡ unread_as error)))
 
-abbrev pub IsNoCookie : Bool → List ℕ → Refusal → Type 0
-IsNoCookie is_decoded text refused = (refused ≡ refusal.Memory) ⊎ IsUnread is_decoded text refused
+abbrev pub IsNoParts : Bool → List ℕ → Refusal → Type 0
+IsNoParts is_decoded text refused = (refused ≡ refusal.Memory) ⊎ IsUnread is_decoded text refused
 
 abbrev pub AreParts : Bool → List ℕ → List ℕ → Attributes → Type 0
 AreParts is_decoded text answer attributes = (cookie : Seen) × IsCookie is_decoded text cookie
@@ -91,7 +91,7 @@ GivesParts is_decoded text old out new written number =
     ((answer : List ℕ) × (read : Attributes) × AreParts is_decoded text answer read
     × IsWritten answer out written number
     × (((length answer ≤ length out) × (new ≡ read)) ⊎ ((length out < length answer) × (new ≡ old))))
-    ⊎ ((refused : Refusal) × IsNoCookie is_decoded text refused × (new ≡ old) × (written ≡ out)
+    ⊎ ((refused : Refusal) × IsNoParts is_decoded text refused × (new ≡ old) × (written ≡ out)
     × (number ≡ refusal_number refused))
 
 -- ---- together
@@ -155,13 +155,13 @@ abbrev pub IsPrinted : Bool → Attributes → Texts → List ℕ → Type 0
 IsPrinted is_encoded a texts line = (cookie : Record) × IsMade a texts cookie × (line ≡ line_of is_encoded cookie)
 
 -- the second counts, and is none of the calendar
-abbrev pub IsNoEnd : Attributes → Type 0
-IsNoEnd a = (a.has_expires ≡ true) × IsNoMoment a.expires
+abbrev pub EndsAtNoMoment : Attributes → Type 0
+EndsAtNoMoment a = (a.has_expires ≡ true) × IsNoMoment a.expires
 
 -- the second is none of the calendar, a text isn't UTF-8, or the number is none of an attribute `SameSite`
 abbrev pub IsUnmade : Attributes → Texts → Refusal → Type 0
 IsUnmade a texts refused =
-    ((refused ≡ refusal.Moment) × IsNoEnd a)
+    ((refused ≡ refusal.Moment) × EndsAtNoMoment a)
     ⊎ ((refused ≡ refusal.Text) × (¬ AreTexts a texts))
     ⊎ ((refused ≡ refusal.Site) × (3 < a.same_site))
 

@@ -2,21 +2,17 @@
 use Rattle.std.specs.Prelude.{ℕ, ◌≡◌, ◌⊎◌, ◌==◌, List, [], ◌∷◌, Option, Some, None, ⊤, if◌then◌else◌}
 use Rattle.jiff.specs.Types.{DateTime}
 use Rattle.cookie_text.specs.Record.{Seen, moment_of}
-use Rattle.cookie_run.specs.declared.ending.EndingWay.{EndingWay}
-use Rattle.cookie_run.specs.declared.ending.EndingWay.TheVariants as ends
+use Rattle.cookie_client.specs.declared.ending.EndingWay.{EndingWay}
+use Rattle.cookie_client.specs.declared.ending.EndingWay.TheVariants as ends
 use Rattle.cookie_run.specs.declared.step.Command.{Command}
 use Rattle.cookie_run.specs.declared.step.Command.TheVariants as commands
-use Rattle.cookie_run.specs.declared.step.Way.{Way}
-use Rattle.cookie_run.specs.declared.step.Way.TheVariants as ways
-use Rattle.fonnalich_c.specs.Commands as one
-use Rattle.fonnalich_c.specs.Commands.{IsCommand, IsCookieOf, IsNamed, IsNoCommand, IsNoCookie, IsNoName}
+use Rattle.cookie_client.specs.declared.way.Way.{Way}
+use Rattle.cookie_client.specs.declared.way.Way.TheVariants as ways
+use Rattle.fonnalich_c.specs.Commands.{IsCommand, IsCookieOf, IsNamed, IsNoCommand, IsNoCookie, IsNoName, verb_of}
 use Rattle.fonnalich_c.specs.declared.command.Verb.{Verb}
 use Rattle.fonnalich_c.specs.declared.command.Verb.TheVariants.{Set, Remove, Get}
 use Rattle.fonnalich_c.specs.declared.ring_command.RingCommand.{RingCommand}
 use Rattle.fonnalich_c.specs.declared.ring_command.RingCommand.TheVariants.{Kept, SetUntil, GetUntil}
-
-abbrev pub verb_of : ℕ → Option Verb
-verb_of letter = one.verb_of letter
 
 -- `5` and `6`
 abbrev pub ending_way_of : ℕ → Option EndingWay

@@ -7,15 +7,15 @@ use Rattle.jiff.specs.Types.{DateTime}
 use Rattle.jiff.specs.Words.{civil_nanos}
 use Rattle.cookie.specs.KeyRing.{Ring}
 use Rattle.cookie_text.specs.Record.{Seen}
-use Rattle.cookie_run.specs.Jar.{TakesOut, ClosesWith}
-use Rattle.cookie_run.specs.RingSession.{EndsAt, IsOpenedOn, KeepsRing, ReadsEnding, RingReadsIn, Ringed, SetsUntil}
-use Rattle.cookie_run.specs.RingSession.{keyed, until_refusal}
-use Rattle.cookie_run.specs.declared.ending.EndingWay.{EndingWay}
-use Rattle.cookie_run.specs.declared.ending.EndingWay.TheVariants as ends
+use Rattle.cookie_client.specs.Jar.{TakesOut, ClosesWith}
+use Rattle.cookie_client.specs.RingSession.{EndsAt, IsOpenedOn, KeepsRing, ReadsEnding, RingReadsIn, Ringed, SetsUntil}
+use Rattle.cookie_client.specs.RingSession.{keyed, until_refusal}
+use Rattle.cookie_client.specs.declared.ending.EndingWay.{EndingWay}
+use Rattle.cookie_client.specs.declared.ending.EndingWay.TheVariants as ends
 use Rattle.cookie_run.specs.declared.step.Command.{Command}
 use Rattle.cookie_run.specs.declared.step.Command.TheVariants.{Set, Remove, Get}
-use Rattle.cookie_run.specs.declared.step.SessionError.{SessionError}
-use Rattle.fonnalich_c.specs.Exchange.{Refuses, SetsBy, nonce_length}
+use Rattle.cookie_client.specs.declared.outcome.SessionError.{SessionError}
+use Rattle.fonnalich_c.specs.Exchange.{RefusesCommand, SetsBy, nonce_length}
 use Rattle.fonnalich_c.specs.Faults.{IsTold}
 use Rattle.fonnalich_c.specs.Given.{IsNoMoment, nanos_of, lines_of}
 use Rattle.fonnalich_c.specs.Items.{item, placed_text}
@@ -64,7 +64,7 @@ RefusesSetUntil way cookie until nonces refused =
     × EndsAt cookie until ending × (until_refusal way ending.cookie ≡ Some error) × (refused ≡ told_as error))
 
 abbrev pub RingRefuses : DateTime → List ℕ → RingCommand → Refusal → Type 0
-RingRefuses now nonces (Kept command) refused = Refuses now nonces command refused
+RingRefuses now nonces (Kept command) refused = RefusesCommand now nonces command refused
 RingRefuses now nonces (SetUntil way cookie until) refused = RefusesSetUntil way cookie until nonces refused
 RingRefuses now nonces (GetUntil way name) refused = (refused ≡ refusal.EmptyName) × (name ≡ [])
 

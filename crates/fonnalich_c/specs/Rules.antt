@@ -63,11 +63,11 @@ abbrev pub outcome_number : Outcome → ℕ
 outcome_number (Taken end) = end_number end
 outcome_number (Refused rule) = rule_number rule
 
-abbrev pub site_number : SiteRefusal → ℕ
-site_number CrossSite = 27
-site_number NoneLacksSecure = 28
+abbrev pub site_refusal_number : SiteRefusal → ℕ
+site_refusal_number CrossSite = 27
+site_refusal_number NoneLacksSecure = 28
 
 -- where it is said what started the request
 abbrev pub outcome_for_number : OutcomeFor → ℕ
 outcome_for_number (Judged outcome) = outcome_number outcome
-outcome_for_number (KeptOut cause) = site_number cause
+outcome_for_number (KeptOut cause) = site_refusal_number cause

@@ -1,6 +1,5 @@
 -- What the words of a call make of a client (own: docs/DEFINITIONS.md).
-use Rattle.std.specs.Prelude.{ℕ, ℤ, pos, Bool, ◌≡◌, ◌≢◌, ◌⊎◌, List, [], Option, Some, None, map, false, true}
-use Rattle.std.specs.Prelude.{IsSomeAnd}
+use Rattle.std.specs.Prelude.{ℕ, ℤ, pos, Bool, ◌≡◌, ◌≢◌, ◌⊎◌, List, [], Option, Some, None, map, false, true, IsSomeAnd}
 use Rattle.std.specs.Str.{IsUtf8}
 use Rattle.publicsuffix.specs.Rules.{Rule}
 use Rattle.saved_text.specs.RonLayout.{ron_layout}
@@ -12,16 +11,16 @@ use Rattle.cookie_store.specs.Given.{ArePicked}
 use Rattle.cookie_store.specs.Placing.{saved}
 use Rattle.cookie_store.specs.Rows.{Row, Store}
 use Rattle.cookie_store.specs.SavedTexts.{Loads, Saves, IsAnyBeforeYears}
-use Rattle.cookie_run.specs.Accept.{AcceptsAll, IsStopped}
-use Rattle.cookie_run.specs.Header.{IsHeader}
-use Rattle.cookie_run.specs.Keeping.{Keeps}
-use Rattle.cookie_run.specs.KeptKeys.{KeepsKeys}
-use Rattle.cookie_run.specs.HostPrefix.{IsHeldRightly}
+use Rattle.cookie_client.specs.Accept.{AcceptsAll, IsStopped}
+use Rattle.cookie_client.specs.Header.{IsHeader}
+use Rattle.cookie_client.specs.Keeping.{Keeps}
+use Rattle.cookie_client.specs.KeptKeys.{KeepsKeys}
+use Rattle.cookie_client.specs.HostPrefix.{IsHeldRightly}
 use Rattle.cookie_run.specs.Program.{IsNoSavedText}
-use Rattle.cookie_run.specs.declared.step.LineEnd.{LineEnd}
+use Rattle.cookie_client.specs.declared.outcome.LineEnd.{LineEnd}
 use Rattle.user_agent.specs.Agent as agent
 use Rattle.user_agent.specs.CrossSite.{IsHeaderFor}
-use Rattle.user_agent.specs.SecureWins.{IsHeaderBehind}
+use Rattle.user_agent.specs.Headers.{IsHeaderBehind}
 use Rattle.user_agent.specs.Sites.{is_safe_navigation}
 use Rattle.user_agent.specs.declared.rules.Outcome.{Outcome}
 use Rattle.user_agent.specs.declared.rules.Rules.{Rules}

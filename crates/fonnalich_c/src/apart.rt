@@ -17,7 +17,7 @@ pub(crate) fn apart(
     text: &[u8],
 ) -> Result<(Vec<u8>, Attributes), Refusal>
     ensures ok { IfOk result (λ parts. spec.AreParts decode text.now parts.0.items parts.1) }
-    ensures err { IfErr result (spec.IsNoCookie decode text.now) }
+    ensures err { IfErr result (spec.IsNoParts decode text.now) }
 {
     let cookie = cookie_of(alloc, decode, text)?;
     let texts = texts_of(alloc, &cookie)?;

@@ -2,7 +2,7 @@
 ghost use Rattle.std.specs.Prelude.{◌≡◌, ◌≢◌, ◌⊎◌, ◌++◌, ℕ, List, [], map, drop, string_bytes, option_map};
 ghost use Rattle.std.specs.Prelude.{Option, IfOk, IfErr, OnOk};
 ghost use Rattle.std.specs.List.{flat_map};
-ghost use Rattle.cookie_run.specs.Jar.{ReadsIn, TakesOut};
+ghost use Rattle.cookie_client.specs.Jar.{ReadsIn, TakesOut};
 ghost use Rattle.fonnalich_c.specs.Exchange as spec;
 ghost use Rattle.fonnalich_c.specs.Items.{item, reading_text};
 

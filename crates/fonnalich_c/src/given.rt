@@ -1,8 +1,9 @@
 //! What a call is given: a moment, a URL, a list, lines.
-ghost use Rattle.std.specs.Prelude.{◌≡◌, ◌≢◌, ◌⊎◌, [], map, IfOk, IfErr, Some, None};
+ghost use Rattle.std.specs.Prelude.{◌≡◌, ◌≢◌, ◌⊎◌, ◌∷◌, [], map, IfOk, IfErr, Some, None};
 ghost use Rattle.std.specs.List.{slice_split};
 ghost use Rattle.jiff.specs.Words.{civil_nanos};
 ghost use Rattle.cookie_text.specs.Printing.{whole_seconds};
+ghost use Rattle.store_parts.specs.Expiry.{epoch};
 ghost use Rattle.cookie_run.specs.ScriptLine.{url_of};
 ghost use Rattle.fonnalich_c.specs.Given as spec;
 
@@ -32,7 +33,7 @@ pub fn second_of(at: DateTime) -> i64
 }
 
 fn epoch() -> DateTime
-    ensures { civil_nanos result ≡ spec.epoch }
+    ensures { civil_nanos result ≡ epoch }
 {
     datetime(1970, 1, 1, 0, 0, 0, 0)
 }
@@ -110,5 +111,17 @@ pub fn lines(alloc: Global, text: &[u8]) -> Result<Vec<&[u8]>, AllocError>
 fn parts(alloc: Global, text: &[u8]) -> Result<Vec<&[u8]>, AllocError>
     ensures { IfOk result (λ parts. map (λ part. part.now) parts.items ≡ slice_split spec.is_line_feed text.now) }
 {
+    if !text.contains(&b'\n') {
+        return one(alloc, text);
+    }
     text.split(|b| *b == b'\n').collect(alloc)
+}
+
+// A text by itself.
+fn one(alloc: Global, text: &[u8]) -> Result<Vec<&[u8]>, AllocError>
+    ensures { IfOk result (λ parts. map (λ part. part.now) parts.items ≡ text.now ∷ []) }
+{
+    let mut parts = Vec::with_capacity(alloc, 1)?;
+    parts.push_reserved(text);
+    Ok(parts)
 }

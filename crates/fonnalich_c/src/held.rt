@@ -7,8 +7,8 @@ ghost use Rattle.fonnalich_c.specs.Started.{ActsOnReceipt};
 
 use crate::one::{Key, Pick, told};
 use crate::refusal::Refusal;
-use crate::started::{Start, Texts, received};
-use crate::task::{Habits, answer};
+use crate::started::{AnswerTexts, Start, received};
+use crate::task::{Browsing, answer};
 use crate::word::{ANSWER, Word};
 use cookie_run::Client;
 use publicsuffix::List;
@@ -22,7 +22,7 @@ pub struct Held {
     /// The list that it keeps for clients of this handle and of others.
     pub list: Option<List>,
     /// What it knows beside.
-    pub habits: Habits,
+    pub browsing: Browsing,
     /// The answer that had no room.
     pub kept: Vec<u8>,
 }
@@ -32,16 +32,17 @@ pub(crate) fn fresh(alloc: Global) -> Held
     ensures { spec.IsFresh (record {
       client = result.client;
       list = result.list;
-      rules = result.habits.rules;
+      rules = result.browsing.rules;
       kept = result.kept.items;
     }) }
 {
     Held {
         client: None,
         list: None,
-        habits: Habits {
+        browsing: Browsing {
             rules: None,
             page: None,
+            second: None,
         },
         kept: Vec::new(alloc),
     }
@@ -66,13 +67,13 @@ pub(crate) fn work(
         (record {
           client = held.old.client;
           list = held.old.list;
-          rules = held.old.habits.rules;
+          rules = held.old.browsing.rules;
           kept = held.old.kept.items;
         }) out.old
         (record {
           client = held.new.client;
           list = held.new.list;
-          rules = held.new.habits.rules;
+          rules = held.new.browsing.rules;
           kept = held.new.kept.items;
         }) out.new
         result }
@@ -84,7 +85,7 @@ pub(crate) fn work(
         alloc,
         &mut held.client,
         &mut held.list,
-        &mut held.habits,
+        &mut held.browsing,
         Word::of(word),
         number,
         subject,
@@ -104,13 +105,13 @@ pub(crate) fn share(held: &mut Held, other: &mut Held) -> isize
         (record {
           client = held.old.client;
           list = held.old.list;
-          rules = held.old.habits.rules;
+          rules = held.old.browsing.rules;
           kept = held.old.kept.items;
         })
         (record {
           client = held.new.client;
           list = held.new.list;
-          rules = held.new.habits.rules;
+          rules = held.new.browsing.rules;
           kept = held.new.kept.items;
         }) result × (other.new ≡ other.old) }
 {
@@ -149,13 +150,13 @@ pub(crate) fn pick_one(
         (record {
           client = held.old.client;
           list = held.old.list;
-          rules = held.old.habits.rules;
+          rules = held.old.browsing.rules;
           kept = held.old.kept.items;
         }) out.old
         (record {
           client = held.new.client;
           list = held.new.list;
-          rules = held.new.habits.rules;
+          rules = held.new.browsing.rules;
           kept = held.new.kept.items;
         }) out.new
         result }
@@ -186,22 +187,22 @@ pub(crate) fn receive_for(
         (record {
           client = held.old.client;
           list = held.old.list;
-          rules = held.old.habits.rules;
+          rules = held.old.browsing.rules;
           kept = held.old.kept.items;
         }) out.old
         (record {
           client = held.new.client;
           list = held.new.list;
-          rules = held.new.habits.rules;
+          rules = held.new.browsing.rules;
           kept = held.new.kept.items;
         }) out.new
         result }
 {
-    let texts = Texts { url, page, lines };
+    let texts = AnswerTexts { url, page, lines };
     match received(
         alloc,
         &mut held.client,
-        &mut held.habits,
+        &mut held.browsing,
         Start::of(started),
         second,
         texts,

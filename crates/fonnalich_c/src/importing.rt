@@ -73,7 +73,7 @@ fn import_at(
     let entries = read_entries(alloc, text)?;
     let lines = entries.len();
     let sorted = sorted_lines(alloc, entries, now)?;
-    let answer = told(alloc, lines, &sorted)?;
+    let answer = told_of(alloc, lines, &sorted)?;
     client.put_all(sorted.rows)?;
     Ok(answer)
 }
@@ -153,7 +153,7 @@ fn push_refused(refused: &mut Vec<u8>, number: usize, cause: Cause) -> Result<()
 }
 
 // What is told of so many lines.
-fn told(alloc: Global, lines: usize, sorted: &Sorted) -> Result<Vec<u8>, AllocError>
+fn told_of(alloc: Global, lines: usize, sorted: &Sorted) -> Result<Vec<u8>, AllocError>
     ensures { IfOk result (λ answer. answer.items
         ≡ spec.answer_of lines (map stored_of sorted.now.rows.items) sorted.now.refused.items) }
 {

@@ -14,7 +14,7 @@ ghost use Rattle.fonnalich_c.specs.Handle.{IsFresh, Acts, Shares};
 ghost use Rattle.fonnalich_c.specs.One.{ActsOnOne};
 ghost use Rattle.fonnalich_c.specs.Plain.{TellsPlain};
 ghost use Rattle.fonnalich_c.specs.Parts.{GivesParts, IsPrinted, IsUnprinted};
-ghost use Rattle.cookie_run.specs.Version.{version};
+ghost use Rattle.cookie_client.specs.Version.{version};
 ghost use Rattle.fonnalich_c.specs.RingExchange.{IsRingExchange, IsNoRingExchange};
 ghost use Rattle.fonnalich_c.specs.Room.{Gives, IsWritten};
 ghost use Rattle.fonnalich_c.specs.Started.{ActsOnReceipt};
@@ -35,7 +35,6 @@ mod held;
 mod importing;
 mod item;
 mod listing;
-mod memory;
 mod nonce;
 mod one;
 mod page;
@@ -46,6 +45,7 @@ mod ring_command;
 mod ring_exchange;
 mod room;
 mod rule;
+mod second;
 mod shard;
 mod started;
 mod suffix;
@@ -104,7 +104,7 @@ pub extern "C" fn fonnalich_text(number: i64, out: &mut [u8]) -> isize
 pub unsafe extern "C" fn fonnalich_place(alloc: Global, at: *mut u8)
     requires* { sem 𝓛 (room_at held.the_row at) }
     ensures* { sem 𝓛 (fex held.the_row.Denot (λ w. fsep
-        (fex (IsFresh (record { client = w.client; list = w.list; rules = w.habits.rules; kept = w.kept.items }))
+        (fex (IsFresh (record { client = w.client; list = w.list; rules = w.browsing.rules; kept = w.kept.items }))
         (λ _. ftrue))
         (points_to held.the_row at w))) }
 {
@@ -127,8 +127,8 @@ pub unsafe extern "C" fn fonnalich_act(
     requires* { sem 𝓛 (points_to held.the_row at value) }
     ensures* { sem 𝓛 (fex held.the_row.Denot (λ w. fsep
         (fex (Acts word (record { number = number; subject = subject.now; text = text.now })
-        (record { client = value.client; list = value.list; rules = value.habits.rules; kept = value.kept.items })
-        out.old (record { client = w.client; list = w.list; rules = w.habits.rules; kept = w.kept.items }) out.new
+        (record { client = value.client; list = value.list; rules = value.browsing.rules; kept = value.kept.items })
+        out.old (record { client = w.client; list = w.list; rules = w.browsing.rules; kept = w.kept.items }) out.new
         result) (λ _. ftrue))
         (points_to held.the_row at w))) }
 {
@@ -160,8 +160,8 @@ pub unsafe extern "C" fn fonnalich_one(
     requires* { sem 𝓛 (points_to held.the_row at value) }
     ensures* { sem 𝓛 (fex held.the_row.Denot (λ w. fsep
         (fex (ActsOnOne word second (key domain.now path.now name.now)
-        (record { client = value.client; list = value.list; rules = value.habits.rules; kept = value.kept.items })
-        out.old (record { client = w.client; list = w.list; rules = w.habits.rules; kept = w.kept.items }) out.new
+        (record { client = value.client; list = value.list; rules = value.browsing.rules; kept = value.kept.items })
+        out.old (record { client = w.client; list = w.list; rules = w.browsing.rules; kept = w.kept.items }) out.new
         result) (λ _. ftrue))
         (points_to held.the_row at w))) }
 {
@@ -199,8 +199,8 @@ pub unsafe extern "C" fn fonnalich_receive_for(
     ensures* { sem 𝓛 (fex held.the_row.Denot (λ w. fsep
         (fex (ActsOnReceipt started
         (record { second = second; url = url.now; page = page.now; lines = lines.now })
-        (record { client = value.client; list = value.list; rules = value.habits.rules; kept = value.kept.items })
-        out.old (record { client = w.client; list = w.list; rules = w.habits.rules; kept = w.kept.items }) out.new
+        (record { client = value.client; list = value.list; rules = value.browsing.rules; kept = value.kept.items })
+        out.old (record { client = w.client; list = w.list; rules = w.browsing.rules; kept = w.kept.items }) out.new
         result) (λ _. ftrue))
         (points_to held.the_row at w))) }
 {
@@ -227,10 +227,11 @@ pub unsafe extern "C" fn fonnalich_share(at: *mut u8, other: *mut u8) -> isize
         (record {
           client = values.0.client;
           list = values.0.list;
-          rules = values.0.habits.rules;
+          rules = values.0.browsing.rules;
           kept = values.0.kept.items;
         })
-        (record { client = w.client; list = w.list; rules = w.habits.rules; kept = w.kept.items }) result) (λ _. ftrue))
+        (record { client = w.client; list = w.list; rules = w.browsing.rules; kept = w.kept.items }) result)
+        (λ _. ftrue))
         (fsep (points_to held.the_row at w) (points_to held.the_row other values.1)))) }
 {
     share(&mut *(at as *mut Held), &mut *(other as *mut Held))

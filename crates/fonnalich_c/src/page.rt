@@ -1,5 +1,5 @@
 //! The URL that was asked for last, which isn't parsed again.
-ghost use Rattle.std.specs.Prelude.{◌≡◌, ◌↔◌, ◌⊎◌, IfOk, IfErr, IfSome, OnOk, IsSomeAnd, IsTrue};
+ghost use Rattle.std.specs.Prelude.{◌≡◌, ◌↔◌, ◌⊎◌, IfOk, IfErr, OnOk, IsSomeAnd, IsTrue};
 ghost use Rattle.fonnalich_c.specs.Given as spec;
 
 use crate::given::url;

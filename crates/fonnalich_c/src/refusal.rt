@@ -1,5 +1,5 @@
 //! The numbers by which outcomes and refusals cross to C.
-ghost use Rattle.std.specs.Prelude.{◌≡◌, ◌*◌, pos};
+ghost use Rattle.std.specs.Prelude.{◌≡◌};
 ghost use Rattle.fonnalich_c.specs.Numbers as spec;
 
 use cookie_run::{LineEnd, SessionError};
@@ -144,7 +144,7 @@ pub fn end_number(end: LineEnd) -> u8
         LineEnd::Stored(action) => action_number(action),
         LineEnd::NotText => 3,
         LineEnd::HostPrefix => 4,
-        LineEnd::Refused(cause) => cause_number(cause),
+        LineEnd::Refused(cause) => error_number(cause),
     }
 }
 
@@ -158,8 +158,8 @@ fn action_number(action: StoreAction) -> u8
     }
 }
 
-fn cause_number(cause: CookieError) -> u8
-    ensures { result ≡ spec.cause_number cause }
+fn error_number(cause: CookieError) -> u8
+    ensures { result ≡ spec.error_number cause }
 {
     match cause {
         CookieError::NonHttpScheme => 10,

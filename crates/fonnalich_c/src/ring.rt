@@ -1,6 +1,5 @@
 //! A ring of keys, which stand one behind another, with the ends of the earlier ones.
-ghost use Rattle.std.specs.Prelude.{◌≡◌, ◌≤◌, ◌⊎◌, ◌*◌, ◌++◌, ◌∷◌, [], length, take};
-ghost use Rattle.std.specs.Prelude.{IfOk, IfErr, OnOk};
+ghost use Rattle.std.specs.Prelude.{◌≡◌, ◌≤◌, ◌⊎◌, ◌*◌, ◌++◌, ◌∷◌, [], length, take, IfOk, IfErr, OnOk};
 ghost use Rattle.fonnalich_c.specs.Faults.{IsTold};
 ghost use Rattle.fonnalich_c.specs.Ring as spec;
 

@@ -1,5 +1,6 @@
 //! The commands of a site's exchange on a ring of keys, a line each.
 ghost use Rattle.std.specs.Prelude.{◌≡◌, ◌⊎◌, IfOk, IfErr};
+ghost use Rattle.fonnalich_c.specs.Commands as one;
 ghost use Rattle.fonnalich_c.specs.RingCommands as spec;
 
 use crate::command::{Verb, command, cookie, name, verb_of};
@@ -54,9 +55,9 @@ fn ending_command(
     way: EndingWay,
     text: &[u8],
 ) -> Result<RingCommand, Refusal>
-    ensures ok { IfOk result (spec.AsksEnding (spec.verb_of verb) way text.now) }
+    ensures ok { IfOk result (spec.AsksEnding (one.verb_of verb) way text.now) }
     ensures err { IfErr result (λ refused. (refused ≡ Refusal.Memory)
-        ⊎ ((refused ≡ Refusal.Command) × spec.AsksNoEnding (spec.verb_of verb) text.now)) }
+        ⊎ ((refused ≡ Refusal.Command) × spec.AsksNoEnding (one.verb_of verb) text.now)) }
 {
     let Some(verb) = verb_of(verb) else {
         return Err(Refusal::Command);

@@ -1,9 +1,8 @@
 //! One exchange of a site on a ring of keys.
-ghost use Rattle.std.specs.Prelude.{◌≡◌, ◌≢◌, ◌⊎◌, ◌++◌, ℕ, List, [], map, drop};
-ghost use Rattle.std.specs.Prelude.{Option, Some, IfOk, IfErr, OnOk};
-ghost use Rattle.cookie_run.specs.Ending.{placed};
-ghost use Rattle.cookie_run.specs.Jar.{TakesOut};
-ghost use Rattle.cookie_run.specs.RingSession.{KeepsRing, ReadsEnding, RingReadsIn, keyed};
+ghost use Rattle.std.specs.Prelude.{◌≡◌, ◌≢◌, ◌⊎◌, ◌++◌, ℕ, List, [], map, drop, Option, Some, IfOk, IfErr, OnOk};
+ghost use Rattle.cookie_client.specs.Ending.{placed};
+ghost use Rattle.cookie_client.specs.Jar.{TakesOut};
+ghost use Rattle.cookie_client.specs.RingSession.{KeepsRing, ReadsEnding, RingReadsIn, keyed};
 ghost use Rattle.fonnalich_c.specs.Exchange as one;
 ghost use Rattle.fonnalich_c.specs.Items.{placed_text};
 ghost use Rattle.fonnalich_c.specs.RingExchange as spec;
@@ -120,7 +119,7 @@ fn obey<'n>(
     ensures ok { IfOk result (λ left. (text : List ℕ) × (told.new.items ≡ told.old.items ++ text)
         × spec.Obeys session.old now nonces.now command text session.new left.now) }
     ensures err { IfErr result (λ refused. (refused ≡ Refusal.Memory)
-        ⊎ one.Refuses now nonces.now command refused) }
+        ⊎ one.RefusesCommand now nonces.now command refused) }
 {
     match command {
         Command::Set(way, cookie) => set(session, way, cookie, nonces),

@@ -45,12 +45,12 @@ pub fn outcome_for_number(outcome: OutcomeFor) -> u8
 {
     match outcome {
         OutcomeFor::Judged(outcome) => outcome_number(outcome),
-        OutcomeFor::KeptOut(cause) => site_number(cause),
+        OutcomeFor::KeptOut(cause) => site_refusal_number(cause),
     }
 }
 
-fn site_number(cause: SiteRefusal) -> u8
-    ensures { result ≡ spec.site_number cause }
+fn site_refusal_number(cause: SiteRefusal) -> u8
+    ensures { result ≡ spec.site_refusal_number cause }
 {
     match cause {
         SiteRefusal::CrossSite => 27,

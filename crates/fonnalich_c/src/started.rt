@@ -7,11 +7,12 @@ ghost use Rattle.fonnalich_c.specs.Given.{lines_of};
 ghost use Rattle.fonnalich_c.specs.Rules.{outcome_for_number};
 ghost use Rattle.fonnalich_c.specs.Started as spec;
 
-use crate::given::{lines, moment, url};
+use crate::given::{lines, url};
 use crate::page::url_at;
 use crate::refusal::Refusal;
 use crate::rule::outcome_for_number;
-use crate::task::{Habits, rules_on};
+use crate::second::date_at;
+use crate::task::{Browsing, rules_on};
 use cookie_run::Client;
 use jiff::civil::DateTime;
 use std::alloc::Global;
@@ -46,7 +47,7 @@ impl Start {
 
 /// The texts of a receipt.
 #[derive(Clone, Copy)]
-pub(crate) struct Texts<'t> {
+pub(crate) struct AnswerTexts<'t> {
     /// The URL of the request.
     pub url: &'t [u8],
     /// That of the page that starts it, as [`user_agent::Initiator`] has it.
@@ -59,27 +60,27 @@ pub(crate) struct Texts<'t> {
 pub(crate) fn received(
     alloc: Global,
     client: &mut Option<Client>,
-    habits: &mut Habits,
+    browsing: &mut Browsing,
     start: Option<Start>,
     second: i64,
-    texts: Texts<'_>,
+    texts: AnswerTexts<'_>,
 ) -> Result<Vec<u8>, Refusal>
-    ensures ok { IfOk result (λ answer. spec.ReceivesOf start habits.old.rules (record {
+    ensures ok { IfOk result (λ answer. spec.ReceivesOf start browsing.old.rules (record {
       second = second;
       url = texts.entry.url.now;
       page = texts.entry.page.now;
       lines = texts.entry.lines.now;
     }) client.old answer.items client.new) }
-    ensures err { IfErr result (λ refused. spec.IsNoReceipt start habits.old.rules (record {
+    ensures err { IfErr result (λ refused. spec.IsNoReceipt start browsing.old.rules (record {
       second = second;
       url = texts.entry.url.now;
       page = texts.entry.page.now;
       lines = texts.entry.lines.now;
     }) client.old refused client.new) }
-    ensures rules { habits.new.rules ≡ habits.old.rules }
+    ensures rules { browsing.new.rules ≡ browsing.old.rules }
 {
     match start {
-        Some(start) => receive_of(alloc, client, habits, start, second, texts),
+        Some(start) => receive_of(alloc, client, browsing, start, second, texts),
         None => Err(Refusal::Word),
     }
 }
@@ -88,27 +89,27 @@ pub(crate) fn received(
 fn receive_of(
     alloc: Global,
     client: &mut Option<Client>,
-    habits: &mut Habits,
+    browsing: &mut Browsing,
     start: Start,
     second: i64,
-    texts: Texts<'_>,
+    texts: AnswerTexts<'_>,
 ) -> Result<Vec<u8>, Refusal>
-    ensures ok { IfOk result (λ answer. spec.ReceivesOf (Some start) habits.old.rules (record {
+    ensures ok { IfOk result (λ answer. spec.ReceivesOf (Some start) browsing.old.rules (record {
       second = second;
       url = texts.entry.url.now;
       page = texts.entry.page.now;
       lines = texts.entry.lines.now;
     }) client.old answer.items client.new) }
-    ensures err { IfErr result (λ refused. spec.IsNoReceipt (Some start) habits.old.rules (record {
+    ensures err { IfErr result (λ refused. spec.IsNoReceipt (Some start) browsing.old.rules (record {
       second = second;
       url = texts.entry.url.now;
       page = texts.entry.page.now;
       lines = texts.entry.lines.now;
     }) client.old refused client.new) }
-    ensures rules { habits.new.rules ≡ habits.old.rules }
+    ensures rules { browsing.new.rules ≡ browsing.old.rules }
 {
     match client {
-        Some(client) => receive_so(alloc, client, habits, start, second, texts),
+        Some(client) => receive_so(alloc, client, browsing, start, second, texts),
         None => Err(Refusal::NoClient),
     }
 }
@@ -117,34 +118,34 @@ fn receive_of(
 fn receive_so(
     alloc: Global,
     client: &mut Client,
-    habits: &mut Habits,
+    browsing: &mut Browsing,
     start: Start,
     second: i64,
-    texts: Texts<'_>,
+    texts: AnswerTexts<'_>,
 ) -> Result<Vec<u8>, Refusal>
-    ensures ok { IfOk result (λ answer. spec.ReceivesSo habits.old.rules start (record {
+    ensures ok { IfOk result (λ answer. spec.ReceivesSo browsing.old.rules start (record {
       second = second;
       url = texts.entry.url.now;
       page = texts.entry.page.now;
       lines = texts.entry.lines.now;
     }) client.old answer.items client.new) }
-    ensures err { IfErr result (λ refused. spec.RefusesSo habits.old.rules start (record {
+    ensures err { IfErr result (λ refused. spec.RefusesSo browsing.old.rules start (record {
       second = second;
       url = texts.entry.url.now;
       page = texts.entry.page.now;
       lines = texts.entry.lines.now;
     }) client.old refused client.new) }
-    ensures rules { habits.new.rules ≡ habits.old.rules }
+    ensures rules { browsing.new.rules ≡ browsing.old.rules }
 {
-    let now = moment(second)?;
+    let now = date_at(&mut browsing.second, second)?;
     let page = page_of(alloc, start, texts.page)?;
-    let url = url_at(alloc, &mut habits.page, texts.url)?;
+    let url = url_at(alloc, &mut browsing.page, texts.url)?;
     let initiator = Initiator {
         page: page.as_ref(),
         is_navigation: navigates(start),
         is_safe: false,
     };
-    let rules = rules_on(habits.rules);
+    let rules = rules_on(browsing.rules);
     take(alloc, client, &rules, url, &initiator, texts.lines, now)
 }
 

@@ -1,8 +1,7 @@
 //! What the words make of a client.
-ghost use Rattle.std.specs.Prelude.{◌≡◌, ◌⊎◌, ◌≤◌, [], length, map, vec_capacity, IfOk, IfErr, OnOk, OnErr, Some};
-ghost use Rattle.std.specs.Prelude.{false, string_bytes, true};
+ghost use Rattle.std.specs.Prelude.{◌≡◌, ◌≤◌, [], length, map, vec_capacity, IfOk, IfErr, OnErr, Some, false};
+ghost use Rattle.std.specs.Prelude.{string_bytes, true};
 ghost use Rattle.jiff.specs.Words.{civil_nanos};
-ghost use Rattle.cookie_store.specs.SavedTexts.{IsAnyBeforeYears};
 ghost use Rattle.fonnalich_c.specs.Control as control;
 ghost use Rattle.fonnalich_c.specs.Faults.{IsTold};
 ghost use Rattle.fonnalich_c.specs.Given.{IsNoListOf};
@@ -17,15 +16,16 @@ use crate::exporting::export;
 use crate::given::{lines, list, moment, url};
 use crate::importing::import;
 use crate::listing::{count_of, listing};
-use crate::memory::Memory;
 use crate::page::{Page, url_at};
 use crate::refusal::{Refusal, end_number};
 use crate::rule::{outcome_number, ruled, rules_of};
+use crate::second::{Second, date_at};
 use crate::word::{Task, Word};
 use cookie_run::{Client, LineEnd};
 use cookie_store::serde::ron::save_incl_expired_and_nonpersistent;
 use cookie_store::{Counting, Error};
 use jiff::civil::DateTime;
+use kept_file::draft::Draft;
 use publicsuffix::List;
 use std::alloc::{AllocError, Global};
 use url::Url;
@@ -33,13 +33,15 @@ use user_agent::agent::{header_of, receive_all};
 use user_agent::cross_site::header_for;
 use user_agent::{Initiator, Outcome, Rules};
 
-/// What a handle knows beside its client.
+/// How a handle browses, which it knows beside its client.
 #[derive(Drop)]
-pub struct Habits {
+pub struct Browsing {
     /// The rules of its lines and headers, or none.
     pub rules: Option<Rules>,
     /// The URL that was asked for last.
     pub page: Option<Page>,
+    /// The second that was asked for last.
+    pub second: Option<Second>,
 }
 
 /// The answer of a word, by the client and the list where they are there.
@@ -47,7 +49,7 @@ pub(crate) fn answer(
     alloc: Global,
     client: &mut Option<Client>,
     shelf: &mut Option<List>,
-    habits: &mut Habits,
+    browsing: &mut Browsing,
     word: Option<Word>,
     number: i64,
     subject: &[u8],
@@ -55,12 +57,12 @@ pub(crate) fn answer(
 ) -> Result<Vec<u8>, Refusal>
     ensures ok { IfOk result (λ answer. spec.Makes word
         (record { number = number; subject = subject.now; text = text.now })
-        (record { list = shelf.old; rules = habits.old.rules; client = client.old }) answer.items
-        (record { list = shelf.new; rules = habits.new.rules; client = client.new })) }
+        (record { list = shelf.old; rules = browsing.old.rules; client = client.old }) answer.items
+        (record { list = shelf.new; rules = browsing.new.rules; client = client.new })) }
     ensures err { IfErr result (λ refused. spec.Fails word
         (record { number = number; subject = subject.now; text = text.now })
-        (record { list = shelf.old; rules = habits.old.rules; client = client.old }) refused client.new) }
-    ensures same { OnErr result ((shelf.new ≡ shelf.old) × (habits.new.rules ≡ habits.old.rules)) }
+        (record { list = shelf.old; rules = browsing.old.rules; client = client.old }) refused client.new) }
+    ensures same { OnErr result ((shelf.new ≡ shelf.old) × (browsing.new.rules ≡ browsing.old.rules)) }
 {
     match word {
         Some(Word::List) => {
@@ -74,7 +76,7 @@ pub(crate) fn answer(
             Ok(Vec::new(alloc))
         }
         Some(Word::Rules) => {
-            habits.rules = rules_of(number)?;
+            browsing.rules = rules_of(number)?;
             Ok(Vec::new(alloc))
         }
         Some(Word::Keep) => {
@@ -82,7 +84,7 @@ pub(crate) fn answer(
             *shelf = Some(list);
             Ok(Vec::new(alloc))
         }
-        Some(Word::Ask(task)) => asked(alloc, client, habits, task, number, subject, text),
+        Some(Word::Ask(task)) => asked(alloc, client, browsing, task, number, subject, text),
         Some(Word::By(by)) => by_shelf(alloc, shelf, client, by, number, subject),
         None => Err(Refusal::Word),
     }
@@ -92,22 +94,22 @@ pub(crate) fn answer(
 fn asked(
     alloc: Global,
     client: &mut Option<Client>,
-    habits: &mut Habits,
+    browsing: &mut Browsing,
     task: Task,
     number: i64,
     subject: &[u8],
     text: &[u8],
 ) -> Result<Vec<u8>, Refusal>
     ensures ok { IfOk result (λ answer. spec.DoesOf task
-        (record { number = number; subject = subject.now; text = text.now }) habits.old.rules client.old answer.items
+        (record { number = number; subject = subject.now; text = text.now }) browsing.old.rules client.old answer.items
         client.new) }
     ensures err { IfErr result (λ refused. spec.RefusesOf task
-        (record { number = number; subject = subject.now; text = text.now }) habits.old.rules client.old refused
+        (record { number = number; subject = subject.now; text = text.now }) browsing.old.rules client.old refused
         client.new) }
-    ensures rules { habits.new.rules ≡ habits.old.rules }
+    ensures rules { browsing.new.rules ≡ browsing.old.rules }
 {
     match client {
-        Some(client) => ask(alloc, client, habits, task, number, subject, text),
+        Some(client) => ask(alloc, client, browsing, task, number, subject, text),
         None => Err(Refusal::NoClient),
     }
 }
@@ -162,31 +164,31 @@ fn unloaded(cause: Error) -> Refusal
 fn ask(
     alloc: Global,
     client: &mut Client,
-    habits: &mut Habits,
+    browsing: &mut Browsing,
     task: Task,
     second: i64,
     subject: &[u8],
     text: &[u8],
 ) -> Result<Vec<u8>, Refusal>
     ensures ok { IfOk result (λ answer. spec.Does task
-        (record { number = second; subject = subject.now; text = text.now }) habits.old.rules client.old
+        (record { number = second; subject = subject.now; text = text.now }) browsing.old.rules client.old
         answer.items client.new) }
     ensures err { IfErr result (λ refused. spec.Refuses task
-        (record { number = second; subject = subject.now; text = text.now }) habits.old.rules client.old
+        (record { number = second; subject = subject.now; text = text.now }) browsing.old.rules client.old
         refused client.new) }
-    ensures rules { habits.new.rules ≡ habits.old.rules }
+    ensures rules { browsing.new.rules ≡ browsing.old.rules }
 {
     match task {
-        Task::Receive => receive(alloc, client, habits, second, subject, text),
-        Task::Header => header(alloc, client, habits, second, subject),
+        Task::Receive => receive(alloc, client, browsing, second, subject, text),
+        Task::Header => header(alloc, client, browsing, second, subject),
         Task::Save => save(alloc, client, second),
         Task::Restart => restart(alloc, client, second),
         Task::SaveAll => save_all(alloc, client),
         Task::Reload => reload(alloc, client, subject),
         Task::Count => count(alloc, client, second),
         Task::List => list_all(alloc, client, second),
-        Task::Fetch => header_from(alloc, client, habits, second, subject, text, false),
-        Task::Navigate => header_from(alloc, client, habits, second, subject, text, true),
+        Task::Fetch => header_from(alloc, client, browsing, second, subject, text, false),
+        Task::Navigate => header_from(alloc, client, browsing, second, subject, text, true),
         Task::Clear => {
             client.clear();
             Ok(Vec::new(alloc))
@@ -200,26 +202,26 @@ fn ask(
 fn receive(
     alloc: Global,
     client: &mut Client,
-    habits: &mut Habits,
+    browsing: &mut Browsing,
     second: i64,
     subject: &[u8],
     text: &[u8],
 ) -> Result<Vec<u8>, Refusal>
-    ensures ok { IfOk result (λ answer. spec.Receives habits.old.rules second subject.now text.now client.old
+    ensures ok { IfOk result (λ answer. spec.Receives browsing.old.rules second subject.now text.now client.old
         answer.items client.new) }
-    ensures err { IfErr result (λ refused. spec.RefusesLines habits.old.rules second subject.now text.now client.old
+    ensures err { IfErr result (λ refused. spec.RefusesLines browsing.old.rules second subject.now text.now client.old
         refused client.new) }
-    ensures rules { habits.new.rules ≡ habits.old.rules }
+    ensures rules { browsing.new.rules ≡ browsing.old.rules }
 {
-    let now = moment(second)?;
-    let url = url_at(alloc, &mut habits.page, subject)?;
+    let now = date_at(&mut browsing.second, second)?;
+    let url = url_at(alloc, &mut browsing.page, subject)?;
     let Ok(lines) = lines(alloc, text) else {
         return Err(Refusal::Memory);
     };
     let Ok(room) = Vec::with_capacity(alloc, lines.len()) else {
         return Err(Refusal::Memory);
     };
-    match habits.rules {
+    match browsing.rules {
         Some(rules) => match receive_all(client, &rules, url, &lines, now) {
             Ok(outcomes) => Ok(outcomes_numbered(room, &outcomes)),
             Err(stopped) => Err(Refusal::Stopped(stopped.0)),
@@ -261,19 +263,19 @@ fn outcomes_numbered(room: Vec<u8>, outcomes: &[Outcome]) -> Vec<u8>
 fn header(
     alloc: Global,
     client: &Client,
-    habits: &mut Habits,
+    browsing: &mut Browsing,
     second: i64,
     subject: &[u8],
 ) -> Result<Vec<u8>, Refusal>
     ensures ok { IfOk result (λ answer.
-        spec.Heads habits.old.rules second subject.now client.now.rows answer.items) }
+        spec.Heads browsing.old.rules second subject.now client.now.rows answer.items) }
     ensures err { IfErr result
-        (IsTold (spec.IsHeaderFault habits.old.rules second subject.now client.now.rows)) }
-    ensures rules { habits.new.rules ≡ habits.old.rules }
+        (IsTold (spec.IsHeaderFault browsing.old.rules second subject.now client.now.rows)) }
+    ensures rules { browsing.new.rules ≡ browsing.old.rules }
 {
-    let now = moment(second)?;
-    let url = url_at(alloc, &mut habits.page, subject)?;
-    match sent(client, habits.rules, url, now) {
+    let now = date_at(&mut browsing.second, second)?;
+    let url = url_at(alloc, &mut browsing.page, subject)?;
+    match sent(client, browsing.rules, url, now) {
         Ok(header) => one_line(header),
         Err(_) => Err(Refusal::Memory),
     }
@@ -299,22 +301,22 @@ fn sent(
 fn header_from(
     alloc: Global,
     client: &Client,
-    habits: &mut Habits,
+    browsing: &mut Browsing,
     second: i64,
     subject: &[u8],
     text: &[u8],
     is_let: bool,
 ) -> Result<Vec<u8>, Refusal>
     ensures ok { IfOk result (λ answer.
-        spec.HeadsFrom habits.old.rules is_let second subject.now text.now client.now answer.items) }
+        spec.HeadsFrom browsing.old.rules is_let second subject.now text.now client.now answer.items) }
     ensures err { IfErr result
-        (IsTold (spec.IsStartedFault habits.old.rules is_let second subject.now text.now client.now)) }
-    ensures rules { habits.new.rules ≡ habits.old.rules }
+        (IsTold (spec.IsStartedFault browsing.old.rules is_let second subject.now text.now client.now)) }
+    ensures rules { browsing.new.rules ≡ browsing.old.rules }
 {
-    let now = moment(second)?;
+    let now = date_at(&mut browsing.second, second)?;
     let page = url(alloc, text)?;
-    let url = url_at(alloc, &mut habits.page, subject)?;
-    match sent_from(client, habits.rules, url, &page, is_let, now) {
+    let url = url_at(alloc, &mut browsing.page, subject)?;
+    match sent_from(client, browsing.rules, url, &page, is_let, now) {
         Ok(header) => one_line(header),
         Err(_) => Err(Refusal::Memory),
     }
@@ -370,9 +372,9 @@ fn save(alloc: Global, client: &Client, second: i64) -> Result<Vec<u8>, Refusal>
     ensures err { IfErr result (IsTold (spec.IsSavingFault second client.now.rows)) }
 {
     let now = moment(second)?;
-    let mut memory = Memory::new(alloc);
-    match client.save(&mut memory, now) {
-        Ok(()) => Ok(memory.text),
+    let mut draft = Draft::new(alloc);
+    match client.save(&mut draft, now) {
+        Ok(()) => Ok(draft.text),
         Err(Error::Year) => Err(Refusal::Year),
         Err(_) => Err(Refusal::Memory),
     }
@@ -383,9 +385,9 @@ fn save_all(alloc: Global, client: &Client) -> Result<Vec<u8>, Refusal>
     ensures ok { IfOk result (λ answer. spec.IsWholeText client.now.rows answer.items) }
     ensures err { IfErr result (spec.IsNoWholeText client.now.rows) }
 {
-    let mut memory = Memory::new(alloc);
-    match save_incl_expired_and_nonpersistent(client.store(), &mut memory) {
-        Ok(()) => Ok(memory.text),
+    let mut draft = Draft::new(alloc);
+    match save_incl_expired_and_nonpersistent(client.store(), &mut draft) {
+        Ok(()) => Ok(draft.text),
         Err(Error::Year) => Err(Refusal::Year),
         Err(_) => Err(Refusal::Memory),
     }

@@ -172,7 +172,7 @@ fn site(number: u8) -> Result<Option<SameSite>, Refusal>
 fn end(attributes: &Attributes) -> Result<Option<DateTime>, Refusal>
     ensures ok { IfOk result (λ at. option_map civil_nanos at
         ≡ option_map nanos_of (spec.counted attributes.now.has_expires attributes.now.expires)) }
-    ensures err { IfErr result (λ refused. (refused ≡ Refusal.Moment) × spec.IsNoEnd attributes.now) }
+    ensures err { IfErr result (λ refused. (refused ≡ Refusal.Moment) × spec.EndsAtNoMoment attributes.now) }
 {
     if attributes.has_expires {
         Ok(Some(moment(attributes.expires)?))

@@ -27,12 +27,9 @@ use types.SemTy.{Body}
 use denote.Lend.{lends_ref, ref_back}
 use base.Fml.{Fml, GName, fex, flent, fsep}
 use mir.Val.{vptr}
-use denote.Plain.{uint_Lawful}
-use denote.Signed.{sint_Lawful}
-use denote.Slice.{shr_slice_Lawful, mut_slice_Lawful}
-use denote.Slice.{shr_slice_vals, mut_slice_vals, shr_slice_Tells, mut_slice_Tells}
-use denote.Plain.{uint_vals, uint_Tells}
-use denote.Signed.{sint_vals, sint_Tells}
+use denote.Plain.{uint_Lawful, uint_vals, uint_Tells}
+use denote.Signed.{sint_Lawful, sint_vals, sint_Tells}
+use denote.Slice.{shr_slice_Lawful, mut_slice_Lawful, shr_slice_vals, mut_slice_vals, shr_slice_Tells, mut_slice_Tells}
 use base.Fraction.{full_share}
 use denote.Struct.Laws as Laws
 use denote.Struct.Loose as Loose
@@ -149,8 +146,8 @@ fonnalich_act_spec {M} 𝓤 𝓛 𝓜 𝓡 wired =
       subject =
           a.1.1.1.1.0.now;
       text = a.1.1.1.1.1.0.now;
-    }) (record { client = n.client; list = n.list; rules = n.habits.rules; kept = n.kept.items })
-    a.1.1.1.1.1.1.0.now (record { client = w.client; list = w.list; rules = w.habits.rules; kept = w.kept.items })
+    }) (record { client = n.client; list = n.list; rules = n.browsing.rules; kept = n.kept.items })
+    a.1.1.1.1.1.1.0.now (record { client = w.client; list = w.list; rules = w.browsing.rules; kept = w.kept.items })
     o r in
     let Held : ℕ → ℕ × ℕ → GName → R.Denot → Fml = λ α p γ x. (MutRef (named 0) (α ∷ []) R).own_val (record {
       ref_ptr = p;

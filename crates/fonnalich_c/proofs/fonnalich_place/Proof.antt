@@ -76,7 +76,7 @@ fonnalich_place_spec {M} 𝓤 𝓛 𝓜 𝓡 wired =
     some (λ (ws : Lasts g.ended κs (a.0, tt)). ‵ (lasts g.ended κs (a.0, tt) ws) ⊛ raw (fact 𝓤 (IsFresh (record {
       client = r.client;
       list = r.list;
-      rules = r.habits.rules;
+      rules = r.browsing.rules;
       kept = r.kept.items;
     }))))))) (id⊢ 𝓤 _) $
     await ! tt $ pick ! (λ r. split ! $ split ! $ move ! (2 ∷ []) $ pick ! (λ ws. split ! $ drop ! $ heard ! _ (λ
@@ -92,11 +92,11 @@ fonnalich_place_spec {M} 𝓤 𝓛 𝓜 𝓡 wired =
     vunit tt (tt, (tt, tt)) (tt, (tt, tt))) $
     move ! (2 ∷ 0 ∷ []) $ use2 𝓛 (‵ (points_to R (block_ptr b o) r)) (part_in_at 𝓛 R refl full_share r b o _ refl v) $
     nothing ! $
-    fpack ! (IsFresh (record { client = r.client; list = r.list; rules = r.habits.rules; kept = r.kept.items }))
+    fpack ! (IsFresh (record { client = r.client; list = r.list; rules = r.browsing.rules; kept = r.kept.items }))
     (λ _. ftrue) is_fresh $ fjoin ! $
     fpack ! R.Denot
     (λ w. fsep
-    (fex (IsFresh (record { client = w.client; list = w.list; rules = w.habits.rules; kept = w.kept.items }))
+    (fex (IsFresh (record { client = w.client; list = w.list; rules = w.browsing.rules; kept = w.kept.items }))
     (λ _. ftrue)) (points_to R (block_ptr b o) w)) r $
     -- [what lies at the pointer; the token]
     feq_i ! _ (vunit ∷ []) _ refl $ nothing ! $ nothing ! $ fjoin ! $ nothing ! $ fjoin ! $

@@ -1,10 +1,9 @@
 use Rattle.fonnalich_c.proofs.Steps.{[], ℕ, ℤ, ◌∷◌, List, refl, proved, tables, ‵, raw, ◌$◌, ◌∵◌, !, qed, drop, split}
-use Rattle.fonnalich_c.proofs.Steps.{fsplit, move, use1, use2, use3, id⊢, flft, ftrue, fact, owns, join, fjoin}
-use Rattle.fonnalich_c.proofs.Steps.{nothing, ◌⊛◌, enter, of_opd, get, sets, alloc_all, pass_all, rawptr_vals}
-use Rattle.fonnalich_c.proofs.Steps.{rawptr_Tells, RawPtr, yes, plain, Stays, stay_dropped, Goes-dropped, on_entry}
-use Rattle.fonnalich_c.proofs.Steps.{triple_of, calls_at, framed, and_then, no_more, later, some, await, pick, heard}
-use Rattle.fonnalich_c.proofs.Steps.{peeks, shows, lands_as, returns, look_at, free_all, suffices, ends_at, done}
-use Rattle.fonnalich_c.proofs.Steps.{lasts, prop, regoal, block_ptr, Ptr}
+use Rattle.fonnalich_c.proofs.Steps.{fsplit, move, use1, use2, use3, id⊢, flft, ftrue, fact, owns, join, fjoin, nothing}
+use Rattle.fonnalich_c.proofs.Steps.{◌⊛◌, enter, of_opd, get, sets, alloc_all, pass_all, rawptr_vals, rawptr_Tells}
+use Rattle.fonnalich_c.proofs.Steps.{RawPtr, yes, plain, Goes-dropped, on_entry, triple_of, calls_at, framed, and_then}
+use Rattle.fonnalich_c.proofs.Steps.{no_more, later, some, await, pick, heard, peeks, shows, lands_as, returns, look_at}
+use Rattle.fonnalich_c.proofs.Steps.{free_all, suffices, ends_at, done, lasts, prop, regoal, block_ptr, Ptr}
 use mir.Syntax.{named, w32, w64}
 use prog.Wp.{WpFn}
 use types.Run.{addr, stop, from, fld, hop}
@@ -14,12 +13,11 @@ use types.Kit.{fpack, group}
 use types.Tokens.{lft_new, lft_end}
 use contract.Lifetimes.{Lfts}
 use denote.Builtin.{u8, u32, i64}
-use denote.Signature.{shr_slice_of, mut_slice_of, types_at}
+use denote.Signature.{shr_slice_of, types_at}
 use denote.RattleType.{Valss, flat}
 use denote.Triple.Entry.{Args}
 use denote.Triple.Clauses.{Lasts}
 use denote.Triple.Walked.{walk_of}
-use denote.Exit.{left}
 use denote.RawPtr.{in_a_block}
 use denote.Memory.{mem}
 use denote.Ref.{MutRef, MutBor}
@@ -27,12 +25,9 @@ use types.SemTy.{Body}
 use denote.Lend.{lends_ref, ref_back}
 use base.Fml.{Fml, GName, fex, flent, fsep}
 use mir.Val.{vptr}
-use denote.Plain.{uint_Lawful}
-use denote.Signed.{sint_Lawful}
-use denote.Slice.{shr_slice_Lawful, mut_slice_Lawful}
-use denote.Slice.{shr_slice_vals, mut_slice_vals, shr_slice_Tells, mut_slice_Tells}
-use denote.Plain.{uint_vals, uint_Tells}
-use denote.Signed.{sint_vals, sint_Tells}
+use denote.Plain.{uint_Lawful, uint_vals, uint_Tells}
+use denote.Signed.{sint_Lawful, sint_vals, sint_Tells}
+use denote.Slice.{shr_slice_Lawful, mut_slice_Lawful, shr_slice_vals, mut_slice_vals, shr_slice_Tells, mut_slice_Tells}
 use base.Fraction.{full_share}
 use denote.Struct.Laws as Laws
 use denote.Struct.Loose as Loose
@@ -44,39 +39,9 @@ use Rattle.fonnalich_c.specs.contracts.held.Held as held
 use Rattle.fonnalich_c.specs.contracts.fonnalich_receive_for as f
 use Rattle.fonnalich_c.specs.contracts.held.receive_for as g
 use Rattle.fonnalich_c.proofs.held.receive_for.Met.{met}
+use Rattle.fonnalich_c.proofs.Stays.{stayed}
 use Rattle.fonnalich_c.proofs.fonnalich_receive_for.Statement.{statement}
 use Rattle.fonnalich_c.proofs.fonnalich_receive_for.Code as code
-
-abbrev stayed : Stays f.ended.signature.params f.ended.kept
-stayed = (
-  stay_dropped _ yes,
-  (
-    stay_dropped _ yes,
-    (
-      stay_dropped _ yes,
-      (
-        stay_dropped _ yes,
-        (
-          stay_dropped _ yes,
-          (
-            stay_dropped _ yes,
-            (
-              stay_dropped _ yes,
-              (
-                record {
-                  fit = λ κs x w. Unit {0};
-                  has = λ κs x w vs. left (((mut_slice_of {n = 4} (3 ∷
-                      []) tt (plain (λ _. u8))).row κs).exit yes) x w;
-                },
-                tt,
-              ),
-            ),
-          ),
-        ),
-      ),
-    ),
-  ),
-)
 
 pub fonnalich_receive_for_spec : {M : Type 1} → statement M
 fonnalich_receive_for_spec {M} 𝓤 𝓛 𝓜 𝓡 wired =
@@ -160,8 +125,8 @@ fonnalich_receive_for_spec {M} 𝓤 𝓛 𝓜 𝓡 wired =
       page = a.1.1.1.1.1.0.now;
       lines = a.1.1.1.1.1.1.0.now;
     })
-    (record { client = n.client; list = n.list; rules = n.habits.rules; kept = n.kept.items })
-    a.1.1.1.1.1.1.1.0.now (record { client = w.client; list = w.list; rules = w.habits.rules; kept = w.kept.items })
+    (record { client = n.client; list = n.list; rules = n.browsing.rules; kept = n.kept.items })
+    a.1.1.1.1.1.1.1.0.now (record { client = w.client; list = w.list; rules = w.browsing.rules; kept = w.kept.items })
     o r in
     let Held : ℕ → ℕ × ℕ → GName → R.Denot → Fml = λ α p γ x. (MutRef (named 0) (α ∷ []) R).own_val (record {
       ref_ptr = p;

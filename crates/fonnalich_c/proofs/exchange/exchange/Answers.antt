@@ -1,7 +1,7 @@
 use Rattle.std.proofs.Common.{◌≡◌, ◌∙◌, ap, map, refl, subst, take, FitsSigned, w64}
 use Rattle.std.proofs.lemmas.Int.{to_z-of_z}
 use Rattle.jiff.specs.Words.{civil_nanos}
-use Rattle.cookie_run.specs.Jar.{IsOpened}
+use Rattle.cookie_client.specs.Jar.{IsOpened}
 use Rattle.fonnalich_c.specs.Exchange.{Answers}
 use Rattle.fonnalich_c.specs.Given.{lines_of, nanos_of}
 use Rattle.fonnalich_c.proofs.Exchanges.{fault_gives, ok_gives, stopped}

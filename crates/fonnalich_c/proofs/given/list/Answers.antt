@@ -1,8 +1,9 @@
 use Rattle.std.proofs.Common.{inr, refl, sym, subst}
 use Rattle.cookie_run.specs.Program.{IsSuffixList}
 use Rattle.fonnalich_c.specs.Given.{IsListOf, IsNoListOf}
+use Rattle.cookie_run.proofs.ProgramFacts.{listed}
 use Rattle.fonnalich_c.proofs.Exchanges.{fault_gives, ok_gives}
-use Rattle.fonnalich_c.proofs.Refusals.{listed, not_listed}
+use Rattle.fonnalich_c.proofs.Refusals.{not_listed}
 use Rattle.fonnalich_c.proofs.given.list.Goals as goal
 
 pub returns-in-Ok-clause-ok : goal.returns-in-Ok-clause-ok

@@ -3,8 +3,8 @@ use Rattle.std.proofs.lemmas.List.{length-map}
 use Rattle.jiff.specs.Words.{civil_nanos}
 use Rattle.cookie_store.specs.Placing.{put_all}
 use Rattle.cookie_store.specs.StoredCookie.{stored_of}
-use Rattle.cookie_run.specs.HostPrefix.{AreHeldRightly}
-use Rattle.cookie_run.specs.Keeping.{HaveReadPairs}
+use Rattle.cookie_client.specs.HostPrefix.{AreHeldRightly}
+use Rattle.cookie_client.specs.Keeping.{HaveReadPairs}
 use Rattle.cookies_txt.specs.Entries.{entry_text}
 use Rattle.fonnalich_c.specs.Importing.{answer_of, taken_of}
 use Rattle.fonnalich_c.proofs.Imports.{as_many, taken_held, taken_pairs}

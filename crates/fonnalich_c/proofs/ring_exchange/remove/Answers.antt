@@ -1,5 +1,5 @@
 use Rattle.std.proofs.Common.{◌∙◌, Some, ap, inl, inr, ⊎_elim, subst}
-use Rattle.cookie_run.specs.Jar.{IsRemovalRefusal}
+use Rattle.cookie_client.specs.Jar.{IsRemovalRefusal}
 use Rattle.fonnalich_c.specs.Numbers.{told_as}
 use Rattle.fonnalich_c.proofs.ring_exchange.remove.Goals as goal
 

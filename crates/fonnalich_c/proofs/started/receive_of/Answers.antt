@@ -13,11 +13,11 @@ returns-in-Some-clause-ok c =
       page = c.args.texts.page.now;
       lines = c.args.texts.lines.now;
     } in
-    let done : IfOk c.receive_so.result (λ answer. ReceivesSo c.args.habits.now.rules c.args.start given
+    let done : IfOk c.receive_so.result (λ answer. ReceivesSo c.args.browsing.now.rules c.args.start given
     c.in-Some.client answer.items c.receive_so.new.client) = simp to_z-of_z at c.receive_so.ensures.ok in
-    subst (λ held. IfOk c.receive_so.result (λ answer. ReceivesOf (Some c.args.start) c.args.habits.now.rules given held
-    answer.items (Some c.receive_so.new.client))) (sym c.in-Some.is)
-    (ok_gives c.receive_so.result _ (λ answer. ReceivesOf (Some c.args.start) c.args.habits.now.rules given
+    subst (λ held. IfOk c.receive_so.result (λ answer. ReceivesOf (Some c.args.start) c.args.browsing.now.rules given
+    held answer.items (Some c.receive_so.new.client))) (sym c.in-Some.is)
+    (ok_gives c.receive_so.result _ (λ answer. ReceivesOf (Some c.args.start) c.args.browsing.now.rules given
     (Some c.in-Some.client) answer.items (Some c.receive_so.new.client))
     (λ answer is. (c.receive_so.new.client, refl, is)) done)
 
@@ -30,10 +30,10 @@ returns-in-Some-clause-err c =
       page = c.args.texts.page.now;
       lines = c.args.texts.lines.now;
     } in
-    let done : IfErr c.receive_so.result (λ refused. RefusesSo c.args.habits.now.rules c.args.start given
+    let done : IfErr c.receive_so.result (λ refused. RefusesSo c.args.browsing.now.rules c.args.start given
     c.in-Some.client refused c.receive_so.new.client) = simp to_z-of_z at c.receive_so.ensures.err in
-    subst (λ held. IfErr c.receive_so.result (λ refused. IsNoReceipt (Some c.args.start) c.args.habits.now.rules given
+    subst (λ held. IfErr c.receive_so.result (λ refused. IsNoReceipt (Some c.args.start) c.args.browsing.now.rules given
     held refused (Some c.receive_so.new.client))) (sym c.in-Some.is)
-    (fault_gives c.receive_so.result _ (λ refused. IsNoReceipt (Some c.args.start) c.args.habits.now.rules given
+    (fault_gives c.receive_so.result _ (λ refused. IsNoReceipt (Some c.args.start) c.args.browsing.now.rules given
     (Some c.in-Some.client) refused (Some c.receive_so.new.client))
     (λ refused is. (c.receive_so.new.client, refl, is)) done)

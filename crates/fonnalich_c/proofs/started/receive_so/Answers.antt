@@ -68,7 +68,7 @@ returns-clause-ok c =
       is_safe = false;
     } in
     ok_gives c.take.result _
-    (λ answer. ReceivesSo c.args.habits.now.rules c.args.start given old answer.items c.take.new.client)
+    (λ answer. ReceivesSo c.args.browsing.now.rules c.args.start given old answer.items c.take.new.client)
     (λ answer is. (
       c.take.ensures.list,
       (
@@ -105,7 +105,7 @@ returns-clause-err c =
       is_navigation = c.navigates.result;
       is_safe = false;
     } in
-    fault_gives c.take.result _ (λ refused. RefusesSo c.args.habits.now.rules c.args.start given old refused
+    fault_gives c.take.result _ (λ refused. RefusesSo c.args.browsing.now.rules c.args.start given old refused
     c.take.new.client) (λ refused why. elim why [
       | inl memory ↦ inl (memory.1, inl memory.0)
       | inr stops ↦ inr (

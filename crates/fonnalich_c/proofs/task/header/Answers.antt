@@ -17,15 +17,15 @@ returns-in_err-url-clause-err c =
     let moment : civil_nanos c.in_ok-now.now ≡ nanos_of c.args.second = simp to_z-of_z at c.in_ok-now.ensures.ok in
     err_gives c.from_residual-in_err-url.result _ _ c.from_residual-in_err-url.ensures (λ refused is.
     subst (λ r. IsTold
-    (IsHeaderFault c.args.habits.now.rules c.args.second c.args.subject.now c.args.client.now.rows) r) (sym is)
-    (url_unsent c.args.habits.now.rules c.args.second c.args.subject.now c.args.client.now.rows c.in_err-url.field-0.0
+    (IsHeaderFault c.args.browsing.now.rules c.args.second c.args.subject.now c.args.client.now.rows) r) (sym is)
+    (url_unsent c.args.browsing.now.rules c.args.second c.args.subject.now c.args.client.now.rows c.in_err-url.field-0.0
     (is_moment c.in_ok-now.now c.args.second moment) c.in_err-url.ensures.err))
 
 pub returns-in-Ok-clause-err : goal.returns-in-Ok-clause-err
 returns-in-Ok-clause-err c =
     let fits : FitsSigned w64 c.args.second = c.ranges.second in
     let moment : civil_nanos c.in_ok-now.now ≡ nanos_of c.args.second = simp to_z-of_z at c.in_ok-now.ensures.ok in
-    let rules = c.args.habits.now.rules in
+    let rules = c.args.browsing.now.rules in
     let rows = c.args.client.now.rows in
     let header = string_bytes c.in-Ok.header in
     let url = c.in_ok-url.url.now in

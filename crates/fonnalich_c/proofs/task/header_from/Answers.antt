@@ -16,7 +16,7 @@ returns-in_err-now-clause-err c =
     let fits : FitsSigned w64 c.args.second = c.ranges.second in
     let none : (c.in_err-now.field-0.0 ≡ refusal.Moment) × IsNoMoment c.args.second =
     simp to_z-of_z at c.in_err-now.ensures.err in
-    let rules = c.args.habits.now.rules in
+    let rules = c.args.browsing.now.rules in
     let subject = c.args.subject.now in
     let text = c.args.text.now in
     let store = c.args.client.now in
@@ -28,7 +28,7 @@ pub returns-in_err-page-clause-err : goal.returns-in_err-page-clause-err
 returns-in_err-page-clause-err c =
     let fits : FitsSigned w64 c.args.second = c.ranges.second in
     let moment : civil_nanos c.in_ok-now.now ≡ nanos_of c.args.second = simp to_z-of_z at c.in_ok-now.ensures.ok in
-    let rules = c.args.habits.now.rules in
+    let rules = c.args.browsing.now.rules in
     let subject = c.args.subject.now in
     let text = c.args.text.now in
     let store = c.args.client.now in
@@ -44,7 +44,7 @@ pub returns-in_err-url-clause-err : goal.returns-in_err-url-clause-err
 returns-in_err-url-clause-err c =
     let fits : FitsSigned w64 c.args.second = c.ranges.second in
     let moment : civil_nanos c.in_ok-now.now ≡ nanos_of c.args.second = simp to_z-of_z at c.in_ok-now.ensures.ok in
-    let rules = c.args.habits.now.rules in
+    let rules = c.args.browsing.now.rules in
     let subject = c.args.subject.now in
     let text = c.args.text.now in
     let store = c.args.client.now in
@@ -61,7 +61,7 @@ unfolding HeadsFrom
 returns-in-Ok-clause-ok c =
     let fits : FitsSigned w64 c.args.second = c.ranges.second in
     let moment : civil_nanos c.in_ok-now.now ≡ nanos_of c.args.second = simp to_z-of_z at c.in_ok-now.ensures.ok in
-    let rules = c.args.habits.now.rules in
+    let rules = c.args.browsing.now.rules in
     let store = c.args.client.now in
     let header = string_bytes c.in-Ok.header in
     let url = c.in_ok-url.url.now in
@@ -85,7 +85,7 @@ pub returns-in-Ok-clause-err : goal.returns-in-Ok-clause-err
 returns-in-Ok-clause-err c =
     let fits : FitsSigned w64 c.args.second = c.ranges.second in
     let moment : civil_nanos c.in_ok-now.now ≡ nanos_of c.args.second = simp to_z-of_z at c.in_ok-now.ensures.ok in
-    let rules = c.args.habits.now.rules in
+    let rules = c.args.browsing.now.rules in
     let subject = c.args.subject.now in
     let text = c.args.text.now in
     let store = c.args.client.now in
