@@ -6,10 +6,23 @@ use std::path::{Path, PathBuf};
 
 const NAME: &str = "libfonnalich.a";
 
+/// The folder that FONNALICH_DIR names, if it is set. Cargo runs this in the crate's folder, and doesn't say where it
+/// was called, so that folder's path has to be an absolute one.
+fn folder_set() -> Option<PathBuf> {
+    let folder = PathBuf::from(env::var_os("FONNALICH_DIR").filter(|it| !it.is_empty())?);
+    if !folder.is_absolute() {
+        panic!("fonnalich: FONNALICH_DIR: {} is no absolute path", folder.display());
+    }
+    if !folder.join(NAME).is_file() {
+        panic!("fonnalich: FONNALICH_DIR: no {NAME} in {}", folder.display());
+    }
+    Some(folder)
+}
+
 /// The folder of the library for a target, if there is one.
 fn folder_for(target: &str) -> Option<PathBuf> {
-    if let Ok(folder) = env::var("FONNALICH_DIR") {
-        return Some(PathBuf::from(folder));
+    if let Some(folder) = folder_set() {
+        return Some(folder);
     }
     let home = env::var("CARGO_MANIFEST_DIR").unwrap();
     let home = Path::new(&home);

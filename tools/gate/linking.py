@@ -11,7 +11,7 @@ sys.dont_write_bytecode = True
 sys.path.insert(0, os.path.dirname(os.path.dirname(os.path.abspath(__file__))))
 
 from gate import library, program as programs
-from gate.kit import CC, load_rt
+from gate.kit import CC, place
 
 TOP = programs.TOP
 # The number in the shared library's name, which changes with what it exports.
@@ -19,9 +19,9 @@ SONAME = "libfonnalich.so.0"
 # A compiler for aarch64, which links the programs for it with its C library.
 ARM_CC = os.environ.get("ARM_CC") or "aarch64-linux-gnu-gcc"
 EXPORTS = "FONNALICH_0 { global: fonnalich_*; local: *; };\n"
-# What the library takes of the C library for aarch64, all of it since glibc's first version for that processor.
+# What the library takes of the C library, all of it since glibc's first version for each processor.
 TAKEN = ("malloc", "realloc", "free", "memcpy", "memmove", "memset")
-LEAST = "GLIBC_2.17 { global: *; };\n"
+LEAST = {"x86_64": "GLIBC_2.2.5 { global: *; };\n", "aarch64": "GLIBC_2.17 { global: *; };\n"}
 PACKAGING = f"{TOP}/tools/packaging"
 # What stands for the toolchain's functions in C in a program for aarch64.
 FOR_ARM = (f"{TOP}/bindings/c/heap.c", f"{PACKAGING}/os.c")
@@ -44,25 +44,23 @@ def run(*words):
 
 
 def shared(processor, archive):
-    """The shared library of an archive, which exports the calls of the header and nothing else."""
+    """The shared library of an archive, which exports the calls of the header and nothing else. The toolchain links it,
+    so that it has the same bytes on each machine."""
     with tempfile.TemporaryDirectory() as room:
         exports, made = written(f"{room}/exports", EXPORTS), f"{room}/made"
         words = ["-shared", "-soname", SONAME, f"--version-script={exports}", *PLAIN]
         whole = ["--whole-archive", archive, "--no-whole-archive"]
-        if processor == "x86_64":
-            run(*CC, "-o", made, *(f"-Wl,{it}" for it in [*words[1:], *whole]), "-shared")
-        else:
-            linker = f"{load_rt().rtlib.KIT}/toolchain/bin/ld.lld"
-            run(linker, "-o", made, *words, *whole, *stubs(room, linker))
+        linker = place("ld.lld")
+        run(linker, "-o", made, *words, *whole, *stubs(room, linker, processor))
         return read(made)
 
 
-def stubs(room, linker):
-    """What stands for the libraries of C and of the compiler for aarch64 at a link: a library of the names that are
-    taken of the one, and the division of the other."""
-    build, target = library.load_build(TOP), "aarch64-unknown-linux-gnu"
+def stubs(room, linker, processor):
+    """What stands for the libraries of C and of the compiler at a link: a library of the names that are taken of the
+    one, and the division of the other."""
+    build, target = library.load_build(TOP), f"{processor}-unknown-linux-gnu"
     names = written(f"{room}/names.c", "".join(f"void {it}(void) {{}}\n" for it in TAKEN))
-    words = ["-shared", "-soname", "libc.so.6", f"--version-script={written(f'{room}/least', LEAST)}"]
+    words = ["-shared", "-soname", "libc.so.6", f"--version-script={written(f'{room}/least', LEAST[processor])}"]
     run(linker, "-o", f"{room}/libc.so", *words, build.in_c(room, names, target))
     return [build.in_c(room, f"{PACKAGING}/division.c", target), "--as-needed", f"{room}/libc.so"]
 
@@ -91,6 +89,16 @@ def program(processor, command):
     return read(programs.built(command))
 
 
+def linker_of(processor):
+    """The compiler and the C library that a processor's programs are linked by, as they name themselves."""
+    words = CC if processor == "x86_64" else shlex.split(ARM_CC)
+    how = {"stdout": subprocess.PIPE, "text": True, "check": True}
+    compiler = subprocess.run([*words, "--version"], **how).stdout.splitlines()[0]
+    asked = "#include <features.h>\n__GLIBC__.__GLIBC_MINOR__\n"
+    told = subprocess.run([*words, "-E", "-P", "-x", "c", "-"], input=asked, **how).stdout.strip().splitlines()[-1]
+    return f"{compiler}, {'a C library without a number' if '__' in told else 'glibc ' + told.replace(' ', '')}"
+
+
 @functools.cache
 def links_for_arm():
     """Whether a compiler for aarch64 is there, with a C library that links static files."""
@@ -117,8 +125,7 @@ def static(words, parts):
 
 def objects_of(command):
     """What a program is linked of, as the toolchain left it."""
-    kit = load_rt().rtlib.KIT
-    return [f"{programs.built(command)}.o", f"{kit}/c/libos_c.a", f"{kit}/c/liblibc_c.a"]
+    return [f"{programs.built(command)}.o", place("os"), place("libc")]
 
 
 def objects_for_arm(command):

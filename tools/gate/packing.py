@@ -1,18 +1,31 @@
 """Archives whose bytes depend on nothing but what lies in them: of each file its path, its bytes and its rights."""
 import base64
-import gzip
 import hashlib
 import io
 import os
+import pathlib
+import re
 import subprocess
 import tarfile
 import tempfile
 import zipfile
+import zlib
 
 # The moment that each file of an archive has: the first that a zip can say.
 YEAR = 1980
 MOMENT = 315532800
 PROGRAM, FILE = 0o755, 0o644
+# What a gzip file begins with: deflated, of no name and no moment, by the slowest way, on no system that is told.
+GZIP = b"\x1f\x8b\x08\0\0\0\0\0\x02\xff"
+# A link of a page to another file.
+LINK = re.compile(r"\[([^]]+)\]\((?:\.\./|\w+\.md)[^)]*\)")
+# What a page begins with in a package.
+HEAD = """# Fonnalich from C, Rust and Python
+
+The cookies of a client and of a site (RFC 6265), by a library that is proved where `PROVENANCE.json` says so. This page
+is that of the sources: commands of `bindings/` and `tools/` are run there, and files that it names lie there.
+
+"""
 
 
 class Tree:
@@ -59,7 +72,29 @@ def tar(tree, top):
             data, entry.mode = tree.files[path]
             entry.size = len(data)
             archive.addfile(entry, io.BytesIO(data))
-    return gzip.compress(made.getvalue(), mtime=0)
+    return gzipped(made.getvalue())
+
+
+def gzipped(data):
+    """These bytes as a gzip file. (What Python itself makes of them differs from one version to the next.)"""
+    packer = zlib.compressobj(9, zlib.DEFLATED, -15)
+    ends = zlib.crc32(data), len(data) % 2**32
+    return GZIP + packer.compress(data) + packer.flush() + b"".join(it.to_bytes(4, "little") for it in ends)
+
+
+def page(text):
+    """The page of bindings/ as packages have it: with a beginning of theirs, and without links to files that they lack.
+    """
+    _, heading, below = text.partition("## Packages\n")
+    if not heading:
+        raise ValueError("the page has no '## Packages'")
+    return HEAD + heading + LINK.sub(r"\1", below)
+
+
+def installed_size(tree):
+    """The KiB that Debian says of a tree: each file's, whole, and one for each link and each folder."""
+    folders = {at for path in (*tree.files, *tree.links) for at in pathlib.PurePath(path).parents}
+    return sum(-(-len(data) // 1024) for data, _ in tree.files.values()) + len(tree.links) + len(folders)
 
 
 def wheel(tree, info):

@@ -3,6 +3,8 @@
 typedef unsigned __int128 wide;
 
 wide __udivti3(wide number, wide by) {
+    if (number >> 64 == 0 && by >> 64 == 0)
+        return (unsigned long)number / (unsigned long)by;
     wide quotient = 0, rest = 0;
     for (int i = 128; i-- > 0;) {
         int is_long = (int)(rest >> 127);
