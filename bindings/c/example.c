@@ -12,7 +12,8 @@ int main(void) {
         fputs("this processor lacks SSE 4.2\n", stderr);
         return 1;
     }
-    fonnalich_begin(&client);
+    if (fonnalich_begin(&client) < 0)
+        return 1;
     if (fonnalich_list(&client, list, strlen(list)) < 0)
         return 1;
     ptrdiff_t count = fonnalich_receive(&client, 1700000000, url, strlen(url), lines, strlen(lines), ends, sizeof ends);

@@ -133,7 +133,8 @@ enum {
 enum {
     FONNALICH_NO_RULES = 0,
     /* these refuse, the first of them that is against a line: */
-    FONNALICH_RULE_CONTROL = 1,          /* one with a control character other than a tab */
+    FONNALICH_RULE_CONTROL = 1,          /* one with a control character other than a tab; a header leaves out a cookie
+                                            that has one in its name or value */
     FONNALICH_RULE_TOO_LONG = 2,         /* one whose name and value have over 4,096 bytes together */
     FONNALICH_RULE_SECURE_PREFIX = 4,    /* __Secure- in any case, decoded, not Secure or not from https */
     FONNALICH_RULE_HOST_PREFIX = 8,      /* __Host- in any case, decoded, not as that prefix asks, or not from https */
@@ -457,9 +458,36 @@ ptrdiff_t fonnalich_share(fonnalich *at, fonnalich *other);
 /* Ends a handle and gives all memory back, but for a list that another shares. */
 void fonnalich_end(fonnalich *at);
 
-/* A client without a cookie, by the bytes of a public suffix list, in place of the one that was there. Answers 0. */
+/* Whether a text is the name of a file, as suffixes.dat, which could be a rule: one line of letters, digits, dots and
+   hyphens that ends in .dat or .txt, the case of letters and white space around it aside. */
+FONNALICH_FORM int fonnalich_names_file(const char *text, size_t length) {
+    while (length > 0 && (*text == ' ' || (*text >= '\t' && *text <= '\r')))
+        text++, length--;
+    while (length > 0 && (text[length - 1] == ' ' || (text[length - 1] >= '\t' && text[length - 1] <= '\r')))
+        length--;
+    if (length < 4)
+        return 0;
+    for (size_t i = 0; i < length - 4; i++) {
+        char it = text[i];
+        int is_letter = (it >= 'a' && it <= 'z') || (it >= 'A' && it <= 'Z');
+        if (!is_letter && !(it >= '0' && it <= '9') && it != '.' && it != '-')
+            return 0;
+    }
+    /* (0x20 is what a small letter has beside its capital) */
+    char end[3] = {(char)(text[length - 3] | 0x20), (char)(text[length - 2] | 0x20), (char)(text[length - 1] | 0x20)};
+    return text[length - 4] == '.' && ((end[0] == 'd' && end[1] == 'a' && end[2] == 't') ||
+                                       (end[0] == 't' && end[1] == 'x' && end[2] == 't'));
+}
+
+/* A client without a cookie, by the bytes of a public suffix list, in place of the one that was there. Answers 0. The
+   list is the text of a file, and not its name: suffixes.dat would be a rule, by which a site sets cookies for
+   Domain=com. So a text of one line that ends in .dat or .txt is FONNALICH_NO_RULE here, by fonnalich_load and by
+   fonnalich_keep_list, and one with a slash is FONNALICH_LIST. To the words of fonnalich_act the first is a rule, and
+   to fonnalich_suffix and fonnalich_shard, which keep nothing. */
 FONNALICH_FORM ptrdiff_t fonnalich_list(fonnalich *at, const char *list, size_t list_length) {
     char none;
+    if (fonnalich_names_file(list, list_length))
+        return FONNALICH_NO_RULE;
     return fonnalich_act(at, FONNALICH_DO_LIST, 0, "", 0, list, list_length, &none, 0);
 }
 
@@ -467,6 +495,8 @@ FONNALICH_FORM ptrdiff_t fonnalich_list(fonnalich *at, const char *list, size_t 
 FONNALICH_FORM ptrdiff_t fonnalich_load(fonnalich *at, int64_t second, const char *saved, size_t saved_length,
                                        const char *list, size_t list_length) {
     char none;
+    if (fonnalich_names_file(list, list_length))
+        return FONNALICH_NO_RULE;
     return fonnalich_act(at, FONNALICH_DO_LOAD, second, saved, saved_length, list, list_length, &none, 0);
 }
 
@@ -475,6 +505,8 @@ FONNALICH_FORM ptrdiff_t fonnalich_load(fonnalich *at, int64_t second, const cha
    once, however many clients have it. What client the handle has stays as it is. */
 FONNALICH_FORM ptrdiff_t fonnalich_keep_list(fonnalich *at, const char *list, size_t list_length) {
     char none;
+    if (fonnalich_names_file(list, list_length))
+        return FONNALICH_NO_RULE;
     return fonnalich_act(at, FONNALICH_DO_KEEP_LIST, 0, "", 0, list, list_length, &none, 0);
 }
 
@@ -511,7 +543,8 @@ FONNALICH_FORM ptrdiff_t fonnalich_shard_of_url_by(fonnalich *list, const char *
 }
 
 /* Puts lines that come later behind these rules, a sum of FONNALICH_RULE_.., or behind none. A handle begins without,
-   and keeps them whatever client it gets. They judge no cookie that is there, or is loaded. Answers 0. */
+   and keeps them whatever client it gets. They judge no cookie that is there, or is loaded, but in headers. Answers 0.
+   */
 FONNALICH_FORM ptrdiff_t fonnalich_rules(fonnalich *at, int64_t rules) {
     char none;
     return fonnalich_act(at, FONNALICH_DO_RULES, rules, "", 0, "", 0, &none, 0);
@@ -529,7 +562,8 @@ FONNALICH_FORM ptrdiff_t fonnalich_receive(fonnalich *at, int64_t second, const 
 }
 
 /* Writes the Cookie header of a request to this URL; where the answer is 0, the request has none. It is one line: it
-   has no byte below 32 but the tab, and no 127. FONNALICH_LINE where a cookie of a saved text would put one there. */
+   has no byte below 32 but the tab, and no 127. Behind FONNALICH_RULE_CONTROL a cookie of a saved text that would put
+   one there is left out; without it FONNALICH_LINE. */
 FONNALICH_FORM ptrdiff_t fonnalich_header(fonnalich *at, int64_t second, const char *url, size_t url_length, char *out,
                                          size_t out_length) {
     return fonnalich_act(at, FONNALICH_DO_HEADER, second, url, url_length, "", 0, out, out_length);
@@ -545,10 +579,13 @@ FONNALICH_FORM ptrdiff_t fonnalich_header(fonnalich *at, int64_t second, const c
 FONNALICH_FORM ptrdiff_t fonnalich_header_for(fonnalich *at, int64_t second, const char *url, size_t url_length,
                                              uint32_t started, const char *page, size_t page_length, char *out,
                                              size_t out_length) {
-    uint32_t word = started == FONNALICH_BY_USER         ? FONNALICH_DO_HEADER
-                    : started == FONNALICH_BY_PAGE       ? FONNALICH_DO_HEADER_BY_PAGE
-                    : started == FONNALICH_BY_NAVIGATION ? FONNALICH_DO_HEADER_BY_NAVIGATION
-                                                         : UINT32_MAX;
+    uint32_t word = UINT32_MAX;
+    if (started == FONNALICH_BY_USER)
+        word = FONNALICH_DO_HEADER;
+    else if (started == FONNALICH_BY_PAGE)
+        word = FONNALICH_DO_HEADER_BY_PAGE;
+    else if (started == FONNALICH_BY_NAVIGATION)
+        word = FONNALICH_DO_HEADER_BY_NAVIGATION;
     return fonnalich_act(at, word, second, url, url_length, page, page_length, out, out_length);
 }
 

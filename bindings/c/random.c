@@ -72,7 +72,8 @@ enum { HANDLES = 4, ROOM = 8192, LINES = 2048, TEXT = 1 << 17, GROWTHS = 24, EAR
 enum word {
     LIST, LOAD, RECEIVE, HEADER, SAVE, RESTART, RULES, SAVE_ALL, RELOAD, COUNT, COOKIES, CLEAR, HEADER_FOR, KEEP_LIST,
     SHARE, CLIENT, LOAD_BY, SUFFIX_BY, SHARD_BY, SHARD_OF_URL_BY, GET, REMOVE, RECEIVE_FOR, IMPORT, EXPORT, ANSWER,
-    ACT, ONE, BEGIN, EXCHANGE, ON_RING, SUFFIX, SHARD, SHARD_OF_URL, PARSE, PRINT, IS_PLAIN_URL, TELL, VERSION, ALL
+    ACT, ONE, BEGIN, EXCHANGE, ON_RING, SUFFIX, SHARD, SHARD_OF_URL, PARSE, PRINT, IS_PLAIN_URL, NAMES_FILE,
+    TELL, VERSION, ALL
 };
 
 /* What calls are drawn of: some more often, so that handles have clients with cookies. */
@@ -268,6 +269,7 @@ static ptrdiff_t made_alone(const struct call *it, struct side *on) {
         return fonnalich_print(it->decodes, &it->parts, T(it->name), T(it->value), T(it->path), T(it->domain), out,
                                room);
     case IS_PLAIN_URL: return fonnalich_is_plain_url(T(it->url));
+    case NAMES_FILE: return fonnalich_names_file(T(it->list));
     case TELL: return fonnalich_text(-(it->number & 63), out, room);
     default: return fonnalich_version(out, room);
     }

@@ -243,7 +243,6 @@ static void keeps_an_answer(void) {
 
 /* ---- saved and loaded */
 
-/* A saved text of another hand, whose cookie has this value in the place of 1xxxx2: a line break or not. */
 static ptrdiff_t header_for(fonnalich *at, uint32_t started, const char *page, char *out, size_t room) {
     return fonnalich_header_for(at, NOW, T(URL), started, T(page), out, room);
 }
@@ -363,8 +362,20 @@ static void refuses_a_list_without_a_rule(void) {
         ask(gives(fonnalich_shard(T(none[i]), T(""), out, sizeof out), FONNALICH_NO_RULE), "list, host");
         ask(gives(fonnalich_shard_of_url(T(none[i]), T("a"), out, sizeof out), FONNALICH_NO_RULE), "list, URL");
     }
+    static const char *names[] = {"suffixes.dat", "public-list.txt", "x.dat", ".dat", "SUFFIXES.DAT", "List.Txt",
+                                  "x.dat\n", " \r\nx.dat \t"};
+    for (size_t i = 0; i < sizeof names / sizeof names[0]; i++) {
+        ask(gives(fonnalich_list(&at, T(names[i])), FONNALICH_NO_RULE), names[i]);
+        ask(gives(fonnalich_load(&at, NOW, T("[]"), T(names[i])), FONNALICH_NO_RULE), names[i]);
+        ask(gives(fonnalich_keep_list(&at, T(names[i])), FONNALICH_NO_RULE), names[i]);
+        ask(fonnalich_names_file(T(names[i])) == 1, names[i]);
+    }
     ask(gives(fonnalich_list(&at, T("examples/suffixes.dat")), FONNALICH_LIST), "a path");
+    ask(gives(fonnalich_list(&at, T("public_suffixes.dat")), FONNALICH_LIST), "a path with another character");
     ask(gives(fonnalich_count(&at, NOW), FONNALICH_NO_CLIENT), "no client was made");
+    static const char *rules[] = {"dat", "x.dat\ncom", "txt\nx.dat", "xdat"};
+    for (size_t i = 0; i < sizeof rules / sizeof rules[0]; i++)
+        ask(gives(fonnalich_list(&at, T(rules[i])), 0), rules[i]);
     fonnalich_free(&at);
 }
 
@@ -419,12 +430,19 @@ static void asks_a_list_that_is_kept(void) {
     fonnalich_free(&at);
 }
 
-static void is_one_line(const char *value, ptrdiff_t wanted) {
+/* A saved text of another hand, whose first cookie has this value in the place of 1xxxx2, with a control character.
+   Behind rules the header is that of the other one, or it is refused. */
+static void is_one_line(const char *value) {
+    static const struct { int64_t rules; const char *wanted; } rows[] = {
+        {0, NULL}, {FONNALICH_BROWSER - FONNALICH_RULE_CONTROL, NULL}, {FONNALICH_RULE_CONTROL, "b=2"},
+        {FONNALICH_BROWSER, "b=2"}, {FONNALICH_BROWSER + FONNALICH_RULE_SECURE_WINS, "b=2"},
+    };
     char saved[2048], out[256];
     fonnalich at;
     fonnalich_begin(&at);
     fonnalich_list(&at, T(LIST));
-    fonnalich_receive(&at, NOW, T(URL), T("a=1xxxx2; Max-Age=60; Path=/"), out, sizeof out);
+    const char *lines = "a=1xxxx2; Max-Age=60; Path=/\nb=2; Max-Age=60; Path=/";
+    fonnalich_receive(&at, NOW, T(URL), T(lines), out, sizeof out);
     ptrdiff_t length = fonnalich_save(&at, NOW, saved, sizeof saved - 1);
     ask(length > 0 && length < (ptrdiff_t)sizeof saved, "a saved text");
     saved[length] = 0;
@@ -432,12 +450,16 @@ static void is_one_line(const char *value, ptrdiff_t wanted) {
     ask(pair != NULL, "its cookie");
     memcpy(pair + 2, value, strlen(value));
     ask(gives(fonnalich_load(&at, NOW, saved, length, T(LIST)), 0), "another's is loaded");
-    for (int64_t rules = 0; rules <= FONNALICH_BROWSER; rules += FONNALICH_BROWSER) {
-        ask(gives(fonnalich_rules(&at, rules), 0), "rules");
-        ask(gives(fonnalich_header(&at, NOW, T(URL), out, sizeof out), wanted), value);
+    for (size_t i = 0; i < sizeof rows / sizeof *rows; i++) {
+        ask(gives(fonnalich_rules(&at, rows[i].rules), 0), "rules");
+        const char *wanted = rows[i].wanted;
+        length = fonnalich_header(&at, NOW, T(URL), out, sizeof out);
+        ask(wanted ? is(out, length, wanted) : gives(length, FONNALICH_LINE), value);
         ask(gives(fonnalich_header(&at, NOW, T("https://example.org/"), out, sizeof out), 0), "another site's");
-        for (uint32_t started = FONNALICH_BY_USER; started <= FONNALICH_BY_NAVIGATION; started++)
-            ask(gives(header_for(&at, started, "https://evil.org/", out, sizeof out), wanted), "by a page");
+        for (uint32_t started = FONNALICH_BY_USER; started <= FONNALICH_BY_NAVIGATION; started++) {
+            length = header_for(&at, started, "https://evil.org/", out, sizeof out);
+            ask(wanted ? is(out, length, wanted) : gives(length, FONNALICH_LINE), "by a page");
+        }
     }
     fonnalich_free(&at);
 }
@@ -1436,8 +1458,8 @@ int main(int count, char **words) {
     refuses_a_list_without_a_rule();
     shares_a_list();
     asks_a_list_that_is_kept();
-    is_one_line("1\\r\\n2", FONNALICH_LINE);
-    is_one_line("\\u{7f}", FONNALICH_LINE);
+    is_one_line("1\\r\\n2");
+    is_one_line("\\u{7f}");
     for (int i = 0; i < FONNALICH_KEY_LENGTH; i++)
         key[i] = i;
     for (int i = 0; i < 2 * FONNALICH_NONCE_LENGTH; i++)

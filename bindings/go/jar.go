@@ -46,7 +46,7 @@ func New(list []byte, options *Options) (*Jar, error) {
 		return nil, err
 	}
 	_, err = jar.act(C.FONNALICH_DO_LIST, 0, nil, list)
-	return jar.orNone(err)
+	return jar.orNone(noFile(list, err))
 }
 
 // NewWith is New with a list that was read before, which the jar shares.
@@ -80,7 +80,7 @@ func Load(list, saved []byte, options *Options) (*Jar, error) {
 		return nil, err
 	}
 	_, err = jar.act(C.FONNALICH_DO_LOAD, jar.second(), saved, list)
-	return jar.orNone(err)
+	return jar.orNone(noFile(list, err))
 }
 
 func begin(options *Options) (*Jar, error) {

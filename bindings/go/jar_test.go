@@ -159,6 +159,28 @@ func TestRulesAreThoseOfBrowsersUnlessOthersAreNamed(t *testing.T) {
 	}
 }
 
+// A saved text of another hand: the cookie's value has a line break and a further field of the request.
+func TestAHeaderIsOneLine(t *testing.T) {
+	jar := made(t, list, at(1000))
+	receive(t, jar, shop, "a=1; Max-Age=60", "b=2; Max-Age=60")
+	saved, err := jar.Save()
+	if err != nil {
+		t.Fatal(err)
+	}
+	saved = []byte(strings.Replace(string(saved), "a=1", `a=1\r\nX-Evil: 1`, 1))
+	line := Refused(-21)
+	for rules, wanted := range map[Rules]error{0: nil, Control: nil, NoRules: line, Browser &^ Control: line} {
+		loaded, err := Load([]byte(list), saved, &Options{Rules: rules, Now: at(1001).Now})
+		if err != nil {
+			t.Fatal(err)
+		}
+		header, err := loaded.Header(shop)
+		if err != wanted || err == nil && header != "b=2" {
+			t.Errorf("%d: %q, %v", rules, header, err)
+		}
+	}
+}
+
 func TestASavedTextHasWhatLivesOn(t *testing.T) {
 	jar := made(t, list, at(1000))
 	receive(t, jar, shop, "a=1; Max-Age=60", "b=2")
@@ -193,11 +215,15 @@ func TestRefusals(t *testing.T) {
 	_, noRule := New([]byte("// com\n"), nil)
 	_, isNoList := NewList([]byte("lists/suffixes.dat"))
 	_, hasNoRule := NewList(nil)
+	_, isName := NewList([]byte(" SUFFIXES.dat\r\n"))
+	_, isThere := New([]byte("go.mod"), nil)
+	_, isNamed := Load([]byte("suffixes.dat"), []byte("[]"), nil)
 	_, noText := made(t, list, nil).Get("shop.com", "/", "\xff")
 	for _, it := range []struct{ found, wanted error }{
 		{noList, Refused(-4)}, {noMoment, Refused(-5)}, {noURL, Refused(-6)}, {noJar, Refused(-7)},
 		{noRules, Refused(-20)}, {isClosed, ErrClosed}, {noRule, Refused(-24)}, {isNoList, Refused(-4)},
-		{hasNoRule, Refused(-24)}, {noText, Refused(-17)},
+		{hasNoRule, Refused(-24)}, {isName, Refused(-24)}, {isThere, Refused(-24)}, {isNamed, Refused(-24)},
+		{noText, Refused(-17)},
 	} {
 		if !errors.Is(it.found, it.wanted) {
 			t.Errorf("%v, and not %v", it.found, it.wanted)

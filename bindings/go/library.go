@@ -20,14 +20,17 @@ var (
 	ErrClosed = errors.New("fonnalich: the jar or the list is closed")
 )
 
+var errProcessor = errors.New("fonnalich: this processor lacks SSE 4.2, which the library needs")
+
 // Refused is the number of a refusal, as the header file has it. The jar is as it was.
 type Refused int
 
 var refusals = map[Refused]string{
-	-4: "the text is no public suffix list", -5: "the moment is outside the years -9999 to 9999",
+	-4: "the text is no public suffix list: hand in what the file holds, as by os.ReadFile",
+	-5: "the moment is outside the years -9999 to 9999",
 	-6: "the text is no URL", -7: "the text is no saved jar", -8: "a cookie ends in a year below 0",
 	-17: "a text isn't UTF-8", -20: "the number is none of rules", -21: "a loaded cookie has a control character",
-	-24: "the suffix list has no rule",
+	-24: "the suffix list has no rule: hand in what the file holds, as by os.ReadFile",
 }
 
 func (refused Refused) Error() string {
@@ -97,6 +100,9 @@ func (it *LineError) Error() string {
 }
 
 // Rules is a sum of rules of browsers (the draft that follows RFC 6265, sections 5.5 to 5.7), or NoRules.
+//
+// With Control a header leaves out a cookie in whose name or value a control character stands, as one of a saved text
+// may have it. Without it such a header is refused.
 type Rules int64
 
 // SecureWins is no browser's: a header leaves out what has the name of a Secure cookie in it and isn't Secure. Some
@@ -128,6 +134,9 @@ func Version() string {
 // IsPlainURL says whether each program reads a text as the same web address. Ask it of a URL before you hand it to
 // another program, as curl, a browser or a proxy.
 func IsPlainURL(text string) (bool, error) {
+	if C.fonnalich_processor() < 0 {
+		return false, errProcessor
+	}
 	given := []byte(text)
 	number := C.fonnalich_is_plain_url(start(given), C.size_t(len(given)))
 	return number == 1, refusal(number)
@@ -141,7 +150,7 @@ var living int64
 
 func newHandle() (handle, error) {
 	if C.fonnalich_processor() < 0 {
-		return nil, errors.New("fonnalich: this processor lacks SSE 4.2, which the library needs")
+		return nil, errProcessor
 	}
 	at := handle(C.malloc(C.size_t(unsafe.Sizeof(C.fonnalich{}))))
 	if at == nil {

@@ -4,6 +4,8 @@ package fonnalich
 import "C"
 
 import (
+	"bytes"
+	"os"
 	"runtime"
 	"sync"
 )
@@ -23,13 +25,37 @@ func NewList(text []byte) (*List, error) {
 	if err != nil {
 		return nil, err
 	}
-	if _, err = act(at, C.FONNALICH_DO_KEEP_LIST, 0, nil, text); err != nil {
+	_, err = act(at, C.FONNALICH_DO_KEEP_LIST, 0, nil, text)
+	if err = noFile(text, err); err != nil {
 		freeHandle(at)
 		return nil, err
 	}
 	list := &List{at: at}
 	runtime.SetFinalizer(list, (*List).Close)
 	return list, nil
+}
+
+// noFile is what a list of this text was refused for; else that it is no list, where it names a file.
+func noFile(text []byte, err error) error {
+	if err == nil && isFile(text) {
+		return Refused(C.FONNALICH_NO_RULE)
+	}
+	return err
+}
+
+// isFile says whether a text is of one line and names a file, which could be a rule: one that is there, or any that
+// ends in .dat or .txt, in any case and with white space around it.
+func isFile(text []byte) bool {
+	name := bytes.ToLower(bytes.TrimSpace(text))
+	if bytes.HasSuffix(name, []byte(".dat")) || bytes.HasSuffix(name, []byte(".txt")) {
+		return !bytes.ContainsAny(name, "\n\x00")
+	}
+	// (before a line feed it is a rule, whatever is there)
+	if bytes.ContainsAny(text, "\n\x00") {
+		return false
+	}
+	found, err := os.Stat(string(text))
+	return err == nil && found.Mode().IsRegular()
 }
 
 // Close lets go of the list. Jars that have it keep it; no other can begin with it.

@@ -32,6 +32,8 @@ const REFUSALS = {
     '-2': 'Word', '-3': 'NoClient', '-4': 'List', '-5': 'Moment', '-6': 'Url', '-7': 'Saved', '-8': 'Year',
     '-9': 'Read', '-17': 'Text', '-20': 'Rules', '-21': 'Line', '-24': 'NoRule', '-25': 'NoList',
 };
+const [NO_LIST, NO_RULE] = [-4, -24];
+const HINT = 'a list is the text of one: hand in what the file holds, fs.readFileSync(path)';
 const ENDS = {
     0: 'Inserted', 1: 'ExpiredExisting', 2: 'UpdatedExisting', 3: 'NotText', 4: 'HostPrefix', 10: 'NonHttpScheme',
     11: 'NonRelativeScheme', 12: 'DomainMismatch', 13: 'Expired', 14: 'Parse', 15: 'PublicSuffix', 20: 'ByControl',
@@ -57,7 +59,8 @@ class FonnalichError extends Error {
 /* A call was refused; `number` is that of the header file, and `code` its name. The jar is as it was. */
 class Refused extends FonnalichError {
     constructor(number) {
-        super(REFUSALS[number] ?? String(number), `refused: ${REFUSALS[number] ?? number}`);
+        const hint = number === NO_LIST || number === NO_RULE ? `: ${HINT}` : '';
+        super(REFUSALS[number] ?? String(number), `refused: ${REFUSALS[number] ?? number}${hint}`);
         this.number = number;
     }
 }
@@ -159,6 +162,16 @@ function answered(answer) {
     throw new Refused(answer);
 }
 
+/* Refuses a list's text of one line that names a file, and could be a rule: a file that is there, or a name that ends
+   in .dat or .txt, in any case and with white space around it. */
+function refuseFile(bytes) {
+    const name = bytes.toString();
+    const isNamed = /^[^\n\0]*\.(dat|txt)$/i.test(name.trim());
+    // (before a line feed it is a rule, whatever is there)
+    const isThere = () => !/[\n\0]/.test(name) && fs.statSync(name, { throwIfNoEntry: false })?.isFile();
+    if (isNamed || isThere()) throw new Refused(NO_RULE);
+}
+
 let handleOf;
 
 /* A public suffix list, by its text: jars that are given it share it. It is read once, and lies in memory once. */
@@ -170,7 +183,9 @@ class List {
     }
 
     constructor(text) {
-        answered(this.#handle.act(KEEP_LIST, 0, NONE, bytesOf(text, 'the text of a public suffix list')));
+        const bytes = bytesOf(text, 'the text of a public suffix list');
+        answered(this.#handle.act(KEEP_LIST, 0, NONE, bytes));
+        refuseFile(bytes);
     }
 
     /* Gives its memory back, once no jar has it either. No jar may be given it then. */
@@ -354,7 +369,9 @@ class CookieJar {
         if (suffixes instanceof List) {
             answered(this.#handle.share(handleOf(suffixes)));
         } else {
-            this.#act(KEEP_LIST, 0, NONE, bytesOf(suffixes, 'options.suffixes, the text of a public suffix list,'));
+            const bytes = bytesOf(suffixes, 'options.suffixes, the text of a public suffix list,');
+            this.#act(KEEP_LIST, 0, NONE, bytes);
+            refuseFile(bytes);
         }
         this.#act(RULES, rules ?? Rules.BROWSER, NONE, NONE);
     }

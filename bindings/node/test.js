@@ -249,6 +249,20 @@ test('a saved text has what lives on', () => {
     assert.equal(jar.getCookieStringSync(URL_ASKED, { now: THEN }), 'a=1');
 });
 
+// A saved text of another hand: the cookie's value has a line break and a further field of the request.
+test('a header is one line', () => {
+    const jar = jarOf();
+    for (const line of ['a=1; Max-Age=60', 'b=2; Max-Age=60']) jar.setCookieSync(line, URL_ASKED, { now: THEN });
+    const saved = jar.serializeSync({ now: THEN }).replace('a=1', String.raw`a=1\r\nX-Evil: 1`);
+    const { NONE, BROWSER, CONTROL } = Rules;
+    for (const rules of [BROWSER, CONTROL, NONE, BROWSER & ~CONTROL]) {
+        const loaded = CookieJar.fromJSON(saved, null, { suffixes: SUFFIXES, now: THEN, rules });
+        const header = () => loaded.getCookieStringSync(URL_ASKED, { now: THEN });
+        if (rules & CONTROL) assert.equal(header(), 'b=2');
+        else assert.throws(header, { name: 'Refused', code: 'Line' });
+    }
+});
+
 test('a header longer than the room of a call', () => {
     const jar = jarOf();
     const pairs = Array.from({ length: 9 }, (_, i) => `n${i}=${String(i).repeat(1000)}`);
@@ -399,9 +413,17 @@ test('a list that jars share', () => {
         jar.close();
     }
     assert.throws(() => new CookieJar(null, { suffixes }), TypeError);
-    for (const text of ['', '// com\n']) {
-        assert.throws(() => new fonnalich.List(text), { name: 'Refused', code: 'NoRule' });
+    const HINT = /readFileSync\(path\)$/;
+    // (of a file that is there the name has to be a rule: Node's own program, in its folder)
+    const before = process.cwd();
+    process.chdir(path.dirname(process.execPath));
+    assert.throws(() => new fonnalich.List(path.basename(process.execPath)), { code: 'NoRule', message: HINT });
+    process.chdir(before);
+    for (const text of ['', '// com\n', 'suffixes.dat', 'list.txt', 'LIST.DAT']) {
+        assert.throws(() => new fonnalich.List(text), { name: 'Refused', code: 'NoRule', message: HINT });
         assert.throws(() => jarOf({ suffixes: text }), { code: 'NoRule' });
     }
-    assert.throws(() => new fonnalich.List('lists/suffixes.dat'), { code: 'List' });
+    assert.throws(() => new fonnalich.List('lists/suffixes.dat'), { code: 'List', message: HINT });
+    assert.throws(() => new fonnalich.List(' suffixes.dat\n'), { code: 'NoRule' });
+    new fonnalich.List('suffixes.dat\ncom\n').close();
 });

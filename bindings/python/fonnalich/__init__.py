@@ -17,11 +17,11 @@ import threading
 import time
 import urllib.parse
 import weakref
-from typing import Callable, Iterable, Iterator, NoReturn, Optional, Tuple, Union
+from typing import Any, Callable, Iterable, Iterator, NoReturn, Optional, Tuple, Union
 
-__all__ = ["Adapter", "Client", "Cookie", "End", "HeldCookie", "Imported", "Jar", "List", "NoList", "NoRules", "Reader",
-           "Refused", "RefusedLine", "Rules", "Session", "Stopped", "Way", "is_plain_url", "shard", "shard_of_url",
-           "suffix"]
+__all__ = ["Adapter", "Client", "Cookie", "End", "HeldCookie", "Imported", "Jar", "List", "NoList", "NoRules",
+           "NotSent", "Reader", "Refused", "RefusedLine", "Rules", "Session", "Stopped", "Way", "is_plain_url", "shard",
+           "shard_of_url", "suffix"]
 
 _HERE = os.path.dirname(os.path.abspath(__file__))
 
@@ -53,7 +53,7 @@ Moment = Union[int, float, datetime.datetime]
 RingKey = Union[Bytes, Tuple[Bytes, Optional[Moment]]]
 """A key of 64 bytes, or, behind the current one, such a key with the moment from which it counts no more, or none."""
 Life = Union[int, float, datetime.timedelta]
-"""How long a cookie lives: seconds, of which the whole part counts, or a `timedelta`."""
+"""How long a cookie lives: seconds, of which the whole part counts, or a `timedelta`. One below 0 is 0."""
 
 _LIB = ctypes.CDLL(os.environ.get("FONNALICH_LIB") or _path())
 _TEXT = [ctypes.c_char_p, ctypes.c_size_t]
@@ -112,7 +112,7 @@ _STOPPED = -100
 _ROOM = 4096
 _KEY_LENGTH, _NONCE_LENGTH = 64, 12
 _EARLIER_KEYS, _NO_END = 16, (1 << 63) - 1
-_URL_NUMBER, _SAVED_NUMBER, _EXPIRY, _HOST_NUMBER, _NO_RULE = -6, -7, -13, -16, -24
+_LIST_NUMBER, _URL_NUMBER, _SAVED_NUMBER, _EXPIRY, _HOST_NUMBER, _NO_RULE = -4, -6, -7, -13, -16, -24
 _YEAR_100 = -59011459200
 _EPOCH = datetime.datetime(1970, 1, 1, tzinfo=datetime.timezone.utc)
 
@@ -150,6 +150,8 @@ class Rules(enum.IntFlag):
     The first six refuse a line: with a control character, with over 4,096 bytes of name and value, against a prefix in
     any case, Secure from a URL that isn't secure, over a Secure cookie from such a URL. The others change it:
     attributes of over 1,024 bytes are passed over, dates are read as servers send them, lives are cut at 400 days.
+    With `CONTROL` a header leaves out each cookie in whose name or value such a character stands, as one of a saved
+    text may have it.
     No browser has `SECURE_WINS`: a header leaves out what isn't Secure and has the name, decoded, of a Secure cookie in
     it, and one of `SameSite=None` or `Partitioned` that isn't Secure is refused from a URL that isn't secure. It rests
     on `SECURE_FROM_HTTP`.
@@ -174,7 +176,22 @@ class Rules(enum.IntFlag):
     NONE_NEEDS_SECURE = 2048
 
 
-class Refused(ValueError):
+def _made(kind: type[BaseException], *args: Any) -> BaseException:
+    """An error of these args, whatever its constructor asks for."""
+    return kind.__new__(kind, *args)
+
+
+class _Passed:
+    """An error that is copied and pickled as it is, so that it passes between processes: Python by itself would hand
+    its text to its constructor."""
+
+    args: tuple[Any, ...]
+
+    def __reduce__(self) -> tuple[Any, ...]:
+        return _made, (type(self), *self.args), vars(self)
+
+
+class Refused(_Passed, ValueError):
     """A call was refused; `number` is that of the header file. Of several causes the number nearest to 0 is told."""
 
     NAMES = {-2: "Word", -3: "NoClient", -4: "List", -5: "Moment", -6: "Url", -7: "Saved", -8: "Year", -9: "Read",
@@ -183,7 +200,9 @@ class Refused(ValueError):
              -26: "ManyKeys", -27: "Keys", -28: "KeyEnd"}
 
     def __init__(self, number: int):
-        super().__init__(self.NAMES.get(number, str(number)))
+        name, told = self.NAMES.get(number, str(number)), _told(number)
+        more = ": hand in what the file holds, or List.from_file(path)" if number == _LIST_NUMBER else ""
+        super().__init__(f"{name}: {told}{more}" if told else name)
         self.number = number
 
     @property
@@ -210,7 +229,7 @@ class NoList(FileNotFoundError):
     """The system has no public suffix list."""
 
 
-class Stopped(MemoryError):
+class Stopped(_Passed, MemoryError):
     """Memory was refused at a line, counted from 1: those before it were taken. At 0 none was."""
 
     def __init__(self, line: int):
@@ -228,7 +247,8 @@ def _bytes(text: Text) -> bytes:
 def _counted(number: int) -> int:
     """The number, where 64 bits hold it: ctypes would cut it."""
     if not -1 << 63 <= number < 1 << 63:
-        raise OverflowError(f"{number} has over 64 bits")
+        # (it isn't told, since it may have thousands of digits)
+        raise OverflowError("a number has over 64 bits")
     return number
 
 
@@ -242,17 +262,28 @@ def _second_of(moment: Moment) -> int:
 
 
 def _seconds_of(life: Life) -> int:
-    """The whole seconds of a life."""
-    return _counted(life // datetime.timedelta(seconds=1) if isinstance(life, datetime.timedelta) else math.floor(life))
+    """The whole seconds of a life. One below 0 has none, as it is read (RFC 6265, section 5.2.2)."""
+    if isinstance(life, datetime.timedelta):
+        life = life // datetime.timedelta(seconds=1)
+    return max(_counted(math.floor(life)), 0)
 
 
 def _second(now: Optional[Moment]) -> int:
     return _second_of(time.time() if now is None else now)
 
 
+def _has_bytes(it: Any) -> bool:
+    """Whether this is bytes of any kind, as an `array` and a `mmap` are too."""
+    try:
+        with memoryview(it):
+            return True
+    except TypeError:
+        return False
+
+
 def _lines(lines: Iterable[Text]) -> list[bytes]:
     """The bytes of each line. A single text is no list of lines, though each of its characters would be one."""
-    if isinstance(lines, (str, bytes, bytearray, memoryview)):
+    if isinstance(lines, str) or _has_bytes(lines):
         raise TypeError("lines are a list: hand in [line]")
     each = [_bytes(line) for line in lines]
     if any(b"\n" in line for line in each):
@@ -297,17 +328,44 @@ def _items(answer: bytes) -> list[Optional[str]]:
 
 __version__ = _answered(_LIB.fonnalich_version).decode()
 
-class _Handle:
-    """A handle of the library. Calls of one wait for one another, so threads may share it."""
+
+class _Locked:
+    """What has a lock, so that threads may share it. It is torn in a process that was forked while another thread had
+    the lock."""
 
     def __init__(self) -> None:
         self._lock = threading.Lock()
         self._is_torn = False
+        _LOCKED.add(self)
+
+    def _refuse_torn(self) -> None:
+        if self._is_torn:
+            raise RuntimeError("this was in a call of another thread as this process was forked")
+
+
+_LOCKED: weakref.WeakSet[_Locked] = weakref.WeakSet()
+
+
+def _after_fork() -> None:
+    """Gives each a lock again whose own no thread of this process will open, and marks it."""
+    for it in list(_LOCKED):
+        if it._lock.locked():
+            it._lock, it._is_torn = threading.Lock(), True
+
+
+if hasattr(os, "register_at_fork"):
+    os.register_at_fork(after_in_child=_after_fork)
+
+
+class _Handle(_Locked):
+    """A handle of the library. Calls of one wait for one another, so threads may share it."""
+
+    def __init__(self) -> None:
+        super().__init__()
         self._room = ctypes.create_string_buffer(_ROOM)
         self._at = ctypes.create_string_buffer(_LIB.fonnalich_size() + 16)
         self._place: Optional[int] = -(-ctypes.addressof(self._at) // 16) * 16
         _LIB.fonnalich_place(self._place)
-        _HANDLES.add(self)
 
     def _call(self, word: int, number: int, subject: bytes, text: bytes) -> bytes:
         return self._answer(_LIB.fonnalich_act, word, number, subject, text)
@@ -329,8 +387,7 @@ class _Handle:
             _raise(_LIB.fonnalich_share(self._usable(), other._usable()))
 
     def _usable(self) -> int:
-        if self._is_torn:
-            raise RuntimeError("this was in a call of another thread as this process was forked")
+        self._refuse_torn()
         if self._place is None:
             raise ValueError("this is closed")
         return self._place
@@ -346,26 +403,14 @@ class _Handle:
             self._end()
 
 
-_HANDLES: weakref.WeakSet[_Handle] = weakref.WeakSet()
-
-
-def _after_fork() -> None:
-    """Gives each handle a lock again whose own no thread of this process will open, and marks it."""
-    for handle in list(_HANDLES):
-        if handle._lock.locked():
-            handle._lock, handle._is_torn = threading.Lock(), True
-
-
-if hasattr(os, "register_at_fork"):
-    os.register_at_fork(after_in_child=_after_fork)
-
-
 class List(_Handle):
     """A public suffix list, by its text as publicsuffix.org publishes it. `text` has it in bytes.
 
     It is read once, and its rules lie in memory once, however many clients have it. What is no list, as a path, is
     refused as `List`, and one without a rule, or the name of a file, as `NoRules`: by it a site could set cookies for
     `Domain=com`. That it has all rules isn't looked at.
+    Threads may share it. In a process that was forked while another thread was in a call of the list, each call of it
+    raises `RuntimeError`, and so does a `Client` that begins by it.
     """
 
     SYSTEM = "/usr/share/publicsuffix/public_suffix_list.dat"
@@ -379,7 +424,7 @@ class List(_Handle):
 
     def _ask(self, word: int, text: Text) -> str:
         """What is asked of it for a host or a URL."""
-        return self._call(word, 0, _bytes(text), b"").decode()
+        return self._call(word, 0, _bytes(text), b"").decode("utf-8", "surrogateescape")
 
     def __reduce__(self) -> tuple[type[List], tuple[bytes]]:
         """Another of the same text."""
@@ -403,7 +448,13 @@ class List(_Handle):
 
 
 def _is_path(text: bytes) -> bool:
-    """Whether a text of one line names a file, as `suffixes.dat`, which could be a rule."""
+    """Whether a text is of one line and names a file, which could be a rule: one that is there, or any that ends in
+    `.dat` or `.txt`, in any case and with white space around it."""
+    # (Unicode's white space ends a rule too)
+    name = text.decode("utf-8", "surrogateescape").strip().lower()
+    if name.endswith((".dat", ".txt")):
+        return "\n" not in name and "\0" not in name
+    # Before a line feed it is a rule, whatever is there.
     return b"\n" not in text and b"\0" not in text and os.path.isfile(text)
 
 
@@ -617,7 +668,8 @@ class Way(enum.Enum):
 
 WayOrName = Union[Way, str]
 """A way, or its name."""
-_PREFIXES = {Way.HOST: b"__Host-", Way.SECURE: b"__Secure-"}
+_WAYS = ", ".join(Way.__members__).lower()
+_PREFIXES = {Way.HOST.value: b"__Host-", Way.SECURE.value: b"__Secure-"}
 # How values that end are kept in a way.
 _ENDING = {Way.SIGNED: b"5", Way.SEALED: b"6"}
 
@@ -625,9 +677,11 @@ _ENDING = {Way.SIGNED: b"5", Way.SEALED: b"6"}
 def _way(way: WayOrName) -> Way:
     if isinstance(way, Way):
         return way
+    if not isinstance(way, str):
+        raise TypeError(f"a way is a Way or the name of one, not {type(way).__name__}: the names are {_WAYS}")
     found = Way.__members__.get(way.upper())
     if found is None:
-        raise ValueError(f"no way is named {way!r}")
+        raise ValueError(f"no way is named {way!r}: the names are {_WAYS}")
     return found
 
 
@@ -649,24 +703,36 @@ def _value(read: Optional[tuple[str, int]]) -> Optional[str]:
     return read[0] if read else None
 
 
+_KEYS = "keys are a list, as [new, old, (older, end)]"
+
+
 def _key_bytes(key: Bytes) -> bytes:
-    if isinstance(key, str):
-        raise TypeError("a key is of bytes")
+    if not _has_bytes(key):
+        raise TypeError(f"a key is of bytes, not {type(key).__name__}; {_KEYS}")
     key = _bytes(key)
     if len(key) != _KEY_LENGTH:
         raise ValueError(f"a key of {len(key)} bytes")
     return key
 
 
+def _with_end(key: RingKey) -> tuple[bytes, Optional[Moment]]:
+    """The bytes of a key, and its end where it has one."""
+    if not isinstance(key, tuple):
+        return _key_bytes(key), None
+    if len(key) != 2:
+        raise ValueError(f"a tuple of {len(key)} is no key; {_KEYS}")
+    return _key_bytes(key[0]), key[1]
+
+
 def _ring(keys: Iterable[RingKey]) -> tuple[bytes, list[int]]:
     """The keys one behind another, and the ends of the earlier ones."""
-    each = [(key[0], key[1]) if isinstance(key, tuple) else (key, None) for key in keys]
+    each = [_with_end(key) for key in keys]
     if not each or each[0][1] is not None:
         raise ValueError("a ring begins with its current key, which has no end")
     if len(each) > _EARLIER_KEYS + 1:
         raise ValueError(f"{len(each) - 1} earlier keys")
     ends = [_NO_END if end is None else min(_second_of(end), _NO_END - 1) for _, end in each[1:]]
-    return b"".join(_key_bytes(key) for key, _ in each), ends
+    return b"".join(key for key, _ in each), ends
 
 
 def _escaped(text: str) -> bytes:
@@ -675,13 +741,14 @@ def _escaped(text: str) -> bytes:
 
 def _whole(way: Way, name: str) -> bytes:
     """The name of a cookie with the prefix of its way."""
-    return _PREFIXES.get(way, b"") + _bytes(name)
+    return _PREFIXES.get(way.value, b"") + _bytes(name)
 
 
-def _guessed(header: bytes) -> set[bytes]:
-    """The names that a header seems to have, escaped."""
+def _guessed(header: bytes, prefix: bytes) -> set[bytes]:
+    """The names that a header seems to have behind a prefix, escaped."""
     names = {urllib.parse.unquote_to_bytes(pair.partition(b"=")[0].strip()) for pair in header.split(b";")}
-    return {urllib.parse.quote_from_bytes(name, safe="").encode() for name in names if name and _is_utf8(name)}
+    behind = {name[len(prefix):] for name in names if name.startswith(prefix) and _is_utf8(name)} - {b""}
+    return {urllib.parse.quote_from_bytes(name, safe="").encode() for name in behind}
 
 
 def _is_utf8(text: bytes) -> bool:
@@ -769,7 +836,8 @@ class Session:
             return
         if len(self._read) >= _FEW and way not in self._ahead:
             self._ahead.add(way)
-            self._keep(self._header, [b"G" + way + name for name in _guessed(self._header)])
+            names = _guessed(self._header, _PREFIXES.get(way, b""))
+            self._keep(self._header, [b"G" + way + name for name in names])
         if asked not in self._read:
             self._keep(self._header, [asked])
 
@@ -802,6 +870,7 @@ class Session:
             raise ValueError("a value with an end has no other expiry")
         kept = way.value if until is None else _ending(way)
         expires = expires if until is None else until
+        self._refuse_name(kept, name)
         line = b"S" + kept + _escaped(name) + b"=" + _escaped(value)
         line += b"; HttpOnly" if http_only else b""
         line += f"; SameSite={same_site}".encode() if same_site else b""
@@ -809,6 +878,11 @@ class Session:
         line += b"; Max-Age=%d" % _seconds_of(max_age) if max_age is not None else b""
         line += b"; Expires=" + _date(_second_of(expires)) if expires is not None else b""
         self._add(_whole(way, name), line, os.urandom(_NONCE_LENGTH) if way is Way.SEALED else b"")
+
+    def _refuse_name(self, kept: bytes, name: str) -> None:
+        """Refuses a name that can't be read, as a reading of it does: what sets it would be no command."""
+        if not name or not _is_utf8(_bytes(name)):
+            self._exchange(b"", [b"G" + kept + _escaped(name)], b"")
 
     def remove(self, way: WayOrName, name: str) -> None:
         """Removes the cookie of a name that was set in a way."""
@@ -848,7 +922,7 @@ class Client(_Handle):
     bytes; one without a rule is refused as `NoRules`. Where `saved` is given, the client begins with the cookies of
     that text that aren't expired now. A moment is in seconds since 1970, of which the whole part counts, or a
     `datetime` with a zone; none is now.
-    Lines come behind `rules`, which judge none of the cookies that are there.
+    Lines come behind `rules`, which judge none of the cookies that are there, but in headers.
     Calls of one client wait for one another, so threads may share it. In a process that was forked while another thread
     was in a call of the client, each call of it raises `RuntimeError`.
     """
@@ -870,7 +944,7 @@ class Client(_Handle):
         return self._rules
 
     @rules.setter
-    def rules(self, rules: Rules) -> None:
+    def rules(self, rules: int) -> None:
         self._put(rules)
 
     def _put(self, rules: int) -> None:
@@ -904,7 +978,8 @@ class Client(_Handle):
                navigates: bool = False) -> str:
         """The Cookie header of a request to this URL; empty where it gets none.
 
-        It is one line: it is refused as `Line` where a cookie of a saved text would put a control character there.
+        It is one line: behind the rule `CONTROL` a cookie of a saved text that would put a control character there is
+        left out, and without that rule the header is refused as `Line`.
         `initiator` is the URL of the document at the top of the frames, where the one that starts the request and each
         above it are of one site with it; else `data:,`, as for a frame of ads.com in a page of shop.com. Without it the
         user does. Where it is of another site, cookies are left out whose `SameSite` is `Strict`, and unless the
@@ -989,5 +1064,5 @@ class Client(_Handle):
 
 
 # (these stand on what is above)
-from .http.cookiejar import Jar
+from .http.cookiejar import Jar, NotSent
 from .requests import Adapter

@@ -15,14 +15,26 @@ from . import (_KEY_LENGTH, _LIB, _NONCE_LENGTH, _ROOM, Life, RingKey, Way, _ans
 
 _LENGTH = struct.Struct("<q")
 _SIZE = _LENGTH.size
-_Size = ctypes.c_size_t
-_Second = ctypes.c_int64
-# It gets its numbers as C's types, of which those that stay are made once: what `argtypes` make of all at each call
-# takes as long as the sealing.
+# It gets its numbers as C's types, of which each is made once: what `argtypes` make of all at each call takes as long
+# as the sealing.
 _EXCHANGE = _LIB["fonnalich_exchange"]
-_EXCHANGE.restype = ctypes.c_ssize_t
-_NO_SIZE, _KEY_SIZE, _NONCE_SIZE, _ROOM_SIZE = map(_Size, (0, _KEY_LENGTH, _NONCE_LENGTH, _ROOM))
+# The same, during which no other thread of Python runs: to let them takes up to 3 µs, a fifth of a call of few bytes.
+# Python's own `hashlib` lets them from as many bytes on.
+_SHORT_EXCHANGE = ctypes.PyDLL(_LIB._name, handle=_LIB._handle)["fonnalich_exchange"]
+_SHORT = 2047
+_EXCHANGE.restype = _SHORT_EXCHANGE.restype = ctypes.c_ssize_t
+_NO_SIZE, _KEY_SIZE, _NONCE_SIZE, _ROOM_SIZE = map(ctypes.c_size_t, (0, _KEY_LENGTH, _NONCE_LENGTH, _ROOM))
 _SAME_SITES = {it: f"; SameSite={it}".encode() for it in ("Strict", "Lax", "None")}
+
+
+class _Room:
+    """What a call has to itself: where it is answered, and numbers of its own."""
+
+    __slots__ = ("answer", "second", "header_size", "command_size")
+
+    def __init__(self) -> None:
+        self.answer: Any = ctypes.create_string_buffer(_ROOM)
+        self.second, self.header_size, self.command_size = ctypes.c_int64(), ctypes.c_size_t(), ctypes.c_size_t()
 
 
 class SealedCookie:
@@ -35,9 +47,8 @@ class SealedCookie:
         self._name, escaped = name.encode(), _escaped(name)
         way = Way.SEALED.value
         self._get, self._set, self._remove = b"G" + way + escaped, b"S" + way + escaped + b"=", b"R" + way + escaped
-        self._get_size = _Size(len(self._get))
         # The rooms that no call has now: each takes one out, whatever runs meanwhile.
-        self._rooms: list[Any] = []
+        self._rooms: list[_Room] = []
         # An end that is none is refused here, and not at the first reading.
         self._read_by_ring(b"", 0, b"")
 
@@ -45,7 +56,7 @@ class SealedCookie:
         """The text that the cookie of a header has at this second, as `Session.get` reads it."""
         if self._name not in header and b"%" not in header:
             return None
-        text = self._told(header, _Size(len(header)), now, self._get, self._get_size)
+        text = self._told(header, now, self._get)
         # (the current key is the first of the ring, and the others are seldom asked)
         return self._read_by_ring(header, now, self._get) if text is None and self._earlier else text
 
@@ -55,31 +66,35 @@ class SealedCookie:
         command = self._set + _quoted(text) + attributes
         if max_age is not None:
             command += b"; Max-Age=%d" % _seconds_of(max_age)
-        line = self._told(b"", _NO_SIZE, now, command, _Size(len(command)), os.urandom(_NONCE_LENGTH), _NONCE_SIZE)
+        line = self._told(b"", now, command, os.urandom(_NONCE_LENGTH), _NONCE_SIZE)
         assert line is not None
         return line
 
     def removal(self, header: bytes, now: int) -> Optional[str]:
         """The line that removes the cookie of a header, where it has one."""
-        return self._told(header, _Size(len(header)), now, self._remove, _Size(len(self._remove)))
+        return self._told(header, now, self._remove)
 
-    def _told(self, header: bytes, header_size: _Size, now: int, command: bytes, command_size: _Size,
-              nonce: bytes = b"", nonce_size: _Size = _NO_SIZE) -> Optional[str]:
+    def _told(self, header: bytes, now: int, command: bytes, nonce: bytes = b"",
+              nonce_size: ctypes.c_size_t = _NO_SIZE) -> Optional[str]:
         """The one item of an exchange's answer by the current key, where it has one with a text."""
         try:
             room = self._rooms.pop()
         except IndexError:
-            room = ctypes.create_string_buffer(_ROOM)
-        length = _EXCHANGE(self._key, _KEY_SIZE, header, header_size, _Second(now), command, command_size, nonce,
-                           nonce_size, room, _ROOM_SIZE)
+            room = _Room()
+        room.second.value = now
+        room.header_size.value = header_length = len(header)
+        room.command_size.value = command_length = len(command)
+        exchange = _SHORT_EXCHANGE if header_length + command_length < _SHORT else _EXCHANGE
+        length = exchange(self._key, _KEY_SIZE, header, room.header_size, room.second, command, room.command_size,
+                          nonce, nonce_size, room.answer, _ROOM_SIZE)
         if length > _ROOM:
             # (nothing was written)
             text = _item(_answered(_LIB.fonnalich_exchange, self._key, header, now, command, nonce))
         elif length > _SIZE:
-            text = room[_SIZE:length].decode()
+            text = room.answer[_SIZE:length].decode()
         else:
             _raise(length)
-            text = _item(room[:length])
+            text = _item(room.answer[:length])
         self._rooms.append(room)
         return text
 

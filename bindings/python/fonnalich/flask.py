@@ -6,6 +6,8 @@ by http at `localhost` name it `session`.
 """
 from __future__ import annotations
 
+import datetime
+import functools
 import json
 import time
 import warnings
@@ -27,7 +29,8 @@ _LONGEST = 4096
 _ENCODER = json.JSONEncoder(separators=(",", ":"))
 _text: Callable[[str], str] = getattr(json.encoder, "encode_basestring_ascii", json.encoder.py_encode_basestring_ascii)
 _WRITERS: dict[type, Callable[[Any], str]] = {str: _text, int: repr, bool: {False: "false", True: "true"}.__getitem__}
-_DECODER = json.JSONDecoder()
+# The value at a place of a JSON, and where it ends; `StopIteration` where there is none.
+_scan: Callable[[str, int], tuple[Any, int]] = getattr(json.JSONDecoder(), "scan_once")
 # What Flask asks of each value that it writes, where nobody added to that.
 _TAGS = [*session_json_serializer.order]
 # How Flask begins what stands for a value that JSON hasn't, as a date.
@@ -57,10 +60,20 @@ class SealedSession(SecureCookieSession):
     # That of its request.
     _header = b""
 
+    def __init__(self, initial: Any = None):
+        # (Flask's own makes a function for each session)
+        dict.__init__(self, initial or ())
+        self.on_update = _mark
+
     def __setitem__(self, name: str, value: Any) -> None:
         # (Flask's own does the same, and takes six times as long)
         dict.__setitem__(self, name, value)
         self.modified = self.accessed = True
+
+
+def _mark(session: Any) -> None:
+    """Has a session be one that was changed."""
+    session.modified = session.accessed = True
 
 
 class Sessions(SessionInterface):
@@ -112,15 +125,16 @@ class Sessions(SessionInterface):
 
 def _written(second: int, content: dict[str, Any]) -> str:
     """The JSON that Flask writes of a second and what a session holds."""
-    text = _plain(content)
-    if text is not None:
-        return f"[{second},{text}]"
+    plain = _plain(content)
+    if plain is not None:
+        return f"[{second},{plain}]"
     value = [second, dict(content)]
     try:
         return _ENCODER.encode(session_json_serializer.tag(value))
     except TypeError:
         # (the application's own JSON may have more)
-        return session_json_serializer.dumps(value)
+        text: str = session_json_serializer.dumps(value)
+        return text
 
 
 def _plain(content: dict[str, Any]) -> Optional[str]:
@@ -138,10 +152,15 @@ def _plain(content: dict[str, Any]) -> Optional[str]:
 def _content(app: Flask, text: str, now: int) -> Optional[dict[str, Any]]:
     """What a cookie holds, where it isn't past its lifetime, which Flask counts for a session of the browser too."""
     try:
-        value, end = (None, -1) if _TAGGED in text or text[:1] != "[" else _DECODER.raw_decode(text)
+        value, end = (None, -1) if _TAGGED in text or text[:1] != "[" else _scan(text, 0)
         second, content = value if end == len(text) else session_json_serializer.loads(text)
-        is_over = second + int(app.permanent_session_lifetime.total_seconds()) < now
-        return None if is_over else dict(content)
-    except (TypeError, ValueError):
+        return None if second + _seconds_of(app.permanent_session_lifetime) < now else dict(content)
+    except (StopIteration, TypeError, ValueError):
         # (another program's text under this key)
         return None
+
+
+@functools.lru_cache(maxsize=8)
+def _seconds_of(lifetime: datetime.timedelta) -> int:
+    """The whole seconds of a lifetime, as Flask counts them."""
+    return int(lifetime.total_seconds())

@@ -19,12 +19,12 @@ import hashlib
 import itertools
 import os
 import random
-import threading
 import time
 from typing import Any, Callable, Iterable, Iterator, Optional, Protocol, TypeVar
 
 from . import (_HOST_NUMBER, _LOAD_BY, _RELOAD, _SAVE_ALL, _SAVED_NUMBER, Client, End, Life, Moment, Refused, Rules,
-               Suffixes, Text, _bytes, _counted, _lines, _list, _second, _seconds_of, is_plain_url, shard_of_url)
+               Suffixes, Text, _bytes, _counted, _lines, _list, _Locked, _Passed, _second, _seconds_of, is_plain_url,
+               shard_of_url)
 
 __all__ = ["BadShard", "Conflict", "Fleet", "MemoryStore", "PostgresStore", "RedisStore", "Store"]
 
@@ -40,7 +40,7 @@ _SCHEMES = {b"http", b"https", b"ws", b"wss", b"ftp"}
 _Told = TypeVar("_Told")
 
 
-class Conflict(RuntimeError):
+class Conflict(_Passed, RuntimeError):
     """A shard was changed by others at each try to put it back: nothing was put. `key` is where it lies."""
 
     def __init__(self, key: str):
@@ -195,11 +195,12 @@ def _text(client: Client) -> bytes:
     return client._call(_SAVE_ALL, 0, b"", b"")
 
 
-class MemoryStore:
-    """Shards in this process, for tests."""
+class MemoryStore(_Locked):
+    """Shards in this process, for tests. A process that was forked has its own, of what was put before."""
 
     def __init__(self) -> None:
-        self._lock, self._count = threading.Lock(), itertools.count(1)
+        super().__init__()
+        self._count = itertools.count(1)
         self._texts: dict[str, tuple[bytes, int]] = {}
 
     def get(self, key: str) -> tuple[Optional[bytes], int]:
@@ -277,12 +278,14 @@ def _is_sent_again(redis: Any) -> bool:
     return pool is not None and pool.connection_class(**pool.connection_kwargs).retry._retries != 0
 
 
-class PostgresStore:
+class PostgresStore(_Locked):
     """Shards in PostgreSQL, by a connection of `psycopg2`, in the table `fonnalich`, which `create` makes.
 
     The connection is the store's alone, at any level of isolation, with `autocommit` or without: each call is one
     statement, and a transaction of it. One that PostgreSQL refuses since others came between (`pgcode` 40001) did
-    nothing, and is made again. Where the connection is lost each call raises: make a new store then.
+    nothing, and is made again. Where the connection is lost each call raises: make a new store then, and in a process
+    that was forked, since two can't share a connection. Where it was forked while another thread was in a call of the
+    store, each call of it there raises `RuntimeError`.
     A row's `changed` is when it was put, so `DELETE FROM fonnalich WHERE changed < now() - interval '90 days'` drops
     what nobody changed since then.
     """
@@ -298,7 +301,8 @@ class PostgresStore:
     SERIALIZATION_FAILURE = "40001"
 
     def __init__(self, connection: Any):
-        self.connection, self._lock = connection, threading.Lock()
+        super().__init__()
+        self.connection = connection
 
     def create(self) -> None:
         """Makes the table where it isn't there."""
@@ -321,6 +325,7 @@ class PostgresStore:
     def _asked(self, words: str, *values: Any) -> tuple[int, Any]:
         """How many rows a statement found, and the first one that it selects."""
         with self._lock:
+            self._refuse_torn()
             for _ in range(_TRIES):
                 try:
                     return self._run(words, values)

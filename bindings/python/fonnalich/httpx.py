@@ -17,6 +17,7 @@ from typing import TYPE_CHECKING, Any, Optional, Type, Union
 import httpx
 
 from . import _URL_NUMBER, Client, Refused, is_plain_url
+from .http.cookiejar import _begin_sending, _mark_as_sent
 
 if TYPE_CHECKING:
     from .fleet import Fleet
@@ -38,6 +39,7 @@ class Transport(httpx.BaseTransport):
     def __init__(self, client: Union[Client, Fleet], over: Optional[httpx.BaseTransport] = None, **how: Any):
         self.client = client
         self.over = httpx.HTTPTransport(**how) if over is None else over
+        _begin_sending(client)
 
     def handle_request(self, request: httpx.Request) -> httpx.Response:
         """Sends a request with the client's header, and has the client take the lines of the answer."""
@@ -65,6 +67,7 @@ class AsyncTransport(httpx.AsyncBaseTransport):
     def __init__(self, client: Union[Client, Fleet], over: Optional[httpx.AsyncBaseTransport] = None, **how: Any):
         self.client = client
         self.over = httpx.AsyncHTTPTransport(**how) if over is None else over
+        _begin_sending(client)
 
     async def handle_async_request(self, request: httpx.Request) -> httpx.Response:
         """Sends a request with the client's header, and has the client take the lines of the answer."""
@@ -106,6 +109,7 @@ def _put(client: Union[Client, Fleet], request: httpx.Request) -> str:
     header = client.header(url).encode("utf-8", "surrogateescape")
     others = [(name, value) for name, value in request.headers.raw if name.lower() != b"cookie"]
     request.headers = httpx.Headers([*others, *([(b"Cookie", header)] if header else [])])
+    _mark_as_sent(request, client)
     return url
 
 

@@ -9,7 +9,7 @@ from __future__ import annotations
 from typing import TYPE_CHECKING, Any, Union
 
 from . import Client
-from .http.cookiejar import Jar, _Sendable, _Shown
+from .http.cookiejar import Jar, _begin_sending, _mark_as_sent, _Sendable, _Shown
 
 if TYPE_CHECKING:
     from .fleet import Fleet
@@ -38,12 +38,14 @@ class Adapter:
         from requests.adapters import HTTPAdapter
         self.client = client
         self.over = HTTPAdapter(**how) if over is None else over
+        _begin_sending(client)
 
     def send(self, request: Any, *words: Any, **how: Any) -> Any:
         """Sends a request with the client's header, but where the caller put one."""
         given = request.headers.get("Cookie")
         if given is None or isinstance(given, _Sendable) or _has_others(request):
             self._put(request)
+        _mark_as_sent(request, self.client)
         return self.over.send(request, *words, **how)
 
     def close(self) -> None:

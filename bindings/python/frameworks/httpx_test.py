@@ -1,5 +1,6 @@
 """Tests `fonnalich.httpx`, and what `fonnalich.requests` hands on where that is there, against a site on loopback."""
 import asyncio
+import contextlib
 import importlib.util
 import unittest
 
@@ -96,20 +97,26 @@ class Transports(unittest.TestCase):
         self.client = Client("test\n")
         self.addCleanup(self.client.close)
 
-    # Of the first `httpx` asks shop.test for a path without a slash, and a text of both would have the host evil.test.
+    # Of the first `httpx` 0.23 asks shop.test for a path without a slash, and a text of both would have the host
+    # evil.test: it is refused. 0.28 asks evil.test, as the client then reads it too.
     def test_ask_no_odd_url(self):
         asked = []
 
         def answer(request):
-            asked.append(str(request.url))
+            asked.append((request.url.host, request.headers.get("Cookie")))
             return httpx.Response(200, headers=[("Set-Cookie", "b=2; Path=/")])
 
         self.client.receive("https://shop.test/", ["a=1; Path=/"])
         with httpx.Client(transport=Transport(self.client, over=httpx.MockTransport(answer))) as its:
-            for url in ["https://shop.test\\@evil.test/x", "https://127.1/", "https://shop.test.\\evil.test/"]:
+            for url in ["https://127.1/", "https://shop.test.\\evil.test/"]:
                 with self.assertRaises((Refused, httpx.InvalidURL), msg=url):
                     its.get(url)
-            self.assertEqual(asked, [])
+            with contextlib.suppress(Refused):
+                its.get("https://shop.test\\@evil.test/x")
+            self.assertIn(asked, [[], [("evil.test", None)]])
+            headers = [self.client.header(f"https://{host}/") for host in ("shop.test", "evil.test")]
+            self.assertEqual(headers, ["a=1", "b=2" if asked else ""])
+            asked.clear()
             for url in ["https://shop.test/a/../b", "https://u:p@shop.test/", "https://SHOP.test:443/?a=b#c",
                         "https://shop.test/\u00e9"]:
                 self.assertEqual(its.get(url).request.headers["Cookie"][:3], "a=1", url)

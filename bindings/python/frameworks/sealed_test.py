@@ -38,6 +38,14 @@ class Sealed(unittest.TestCase):
             self.assertEqual(session(pair(line)).get("sealed", NAME), text)
             self.assertEqual(line.partition("; ")[2], "Secure; Path=/")
 
+    # A call for few bytes lets no other thread run, and one for many does.
+    def test_seals_and_opens_each_length(self):
+        for length in [*range(0, 9000, 61), *range(_sealed._SHORT - 80, _sealed._SHORT + 20)]:
+            text = "x" * length
+            header = pair(self.cookie.line(text, NOW))
+            self.assertEqual(self.cookie.opened(header.encode(), NOW), text)
+            self.assertEqual(session(header).get("sealed", NAME), text)
+
     def test_has_the_attributes_of_a_session(self):
         for words, max_age in [((False, None, False), None), ((True, None, False), None),
                                ((False, "Strict", False), None), ((False, "None", True), 0),
@@ -108,7 +116,7 @@ class Sealed(unittest.TestCase):
             it.join()
         self.assertEqual(wrong, [])
         self.assertLessEqual(len(self.cookie._rooms), 8)
-        self.assertEqual({len(it) for it in self.cookie._rooms}, {_sealed._ROOM})
+        self.assertEqual({len(it.answer) for it in self.cookie._rooms}, {_sealed._ROOM})
 
 
 if __name__ == "__main__":

@@ -268,7 +268,7 @@ impl fmt::Display for Error {
     fn fmt(&self, to: &mut fmt::Formatter<'_>) -> fmt::Result {
         match self {
             Error::OutOfMemory => to.write_str("memory was refused"),
-            Error::List => to.write_str("the text is no public suffix list"),
+            Error::List => to.write_str("the text is no public suffix list: List::from_file reads a path"),
             Error::NoRule => to.write_str("the text of the list has no rule: List::from_file reads a path"),
             Error::Moment => to.write_str("the moment is out of the years -9999 to 9999"),
             Error::Url => to.write_str("the text is no URL"),
@@ -400,7 +400,7 @@ impl Client {
         Ok(client)
     }
 
-    /// Puts the lines that come later behind these rules. No cookie that is there is judged by them.
+    /// Puts the lines that come later behind these rules. No cookie that is there is judged by them, but in headers.
     pub fn set_rules(&mut self, rules: Rules) {
         // Each sum of flags is one of rules, and the call takes no memory.
         self.act(Word::Rules, rules.flags(), b"", b"").expect("flags of rules");
@@ -460,8 +460,8 @@ impl Client {
         Ok(ends_of(lines.len(), &text, ends))
     }
 
-    /// The Cookie header of a request to this URL; empty where it gets none. It is one line: `Line` where a cookie of a
-    /// saved text would put a control character there.
+    /// The Cookie header of a request to this URL; empty where it gets none. It is one line: behind the rule `control` a
+    /// cookie of a saved text that would put a control character there is left out, and without it that is `Line`.
     pub fn header(&mut self, url: &str, now: i64) -> Result<Vec<u8>, Error> {
         self.act(Word::Header, now, url.as_bytes(), b"").map(<[u8]>::to_vec)
     }
@@ -758,22 +758,26 @@ mod tests {
     fn hands_out_no_header_of_two_lines() {
         let client = |pair: &str| {
             let mut client = Client::new(LIST).unwrap();
-            client.receive(URL, &["a=1; Max-Age=60; Path=/"], NOW).unwrap();
+            client.receive(URL, &["a=1; Max-Age=60; Path=/", "b=2; Max-Age=60; Path=/"], NOW).unwrap();
             let saved = String::from_utf8(client.save(NOW).unwrap()).unwrap();
             Client::load(LIST, saved.replace("a=1", pair).as_bytes(), NOW).unwrap()
         };
-        for rules in [Rules::none(), Rules::browser()] {
+        let without = Rules { control: false, ..Rules::browser() };
+        for rules in [Rules::none(), without, Rules::browser()] {
+            let wanted = if rules.control { Ok(b"b=2".to_vec()) } else { Err(Error::Line) };
             for pair in [r"a=1\r\nX-Evil: 1", r"a=1\n2", r"a\u{1}=1", r"a=\u{7f}"] {
                 let mut client = client(pair);
                 client.set_rules(rules);
-                assert_eq!(client.header(URL, NOW), Err(Error::Line), "{pair} {rules:?}");
+                assert_eq!(client.header(URL, NOW), wanted, "{pair} {rules:?}");
+                let by_link = Initiator::Navigation("https://evil.org/");
+                assert_eq!(client.header_for(URL, by_link, NOW), wanted, "{pair} {rules:?}");
                 assert_eq!(client.header(URL, i64::MAX), Err(Error::Moment));
                 assert_eq!(client.header("no url", NOW), Err(Error::Url));
                 assert_eq!(client.header("https://example.org/", NOW).unwrap(), b"");
             }
             let mut client = client(r"a=1\t2");
             client.set_rules(rules);
-            assert_eq!(client.header(URL, NOW).unwrap(), b"a=1\t2");
+            assert_eq!(client.header(URL, NOW).unwrap(), b"a=1\t2; b=2");
         }
     }
 

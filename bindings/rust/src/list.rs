@@ -28,7 +28,7 @@ pub struct List {
 
 impl List {
     /// The list of a text. `List` where it is none, as a path in its place, `NoRule` where it has no rule, or is of one
-    /// line and names a file.
+    /// line and names a file: one that is there, or any that ends in `.dat` or `.txt`.
     pub fn new(text: impl AsRef<[u8]>) -> Result<List, Error> {
         let mut held = Held::begun();
         held.act(Word::KeepList, 0, b"", text.as_ref())?;
@@ -131,8 +131,14 @@ pub(crate) fn refuse_file(text: &[u8]) -> Result<(), Error> {
     (!is_file(text)).then_some(()).ok_or(Error::NoRule)
 }
 
-// Whether a text of one line names a file, as `suffixes.dat`, which could be a rule.
+// Whether a text is of one line and names a file, which could be a rule: one that is there, or any that ends in `.dat`
+// or `.txt`, in any case and with white space around it.
 fn is_file(text: &[u8]) -> bool {
+    let name = text.trim_ascii().to_ascii_lowercase();
+    if name.ends_with(b".dat") || name.ends_with(b".txt") {
+        return !name.contains(&b'\n');
+    }
+    // Before a line feed it is a rule, whatever is there.
     !text.contains(&b'\n') && std::str::from_utf8(text).is_ok_and(|name| Path::new(name).is_file())
 }
 
@@ -156,6 +162,10 @@ mod tests {
             ("a/b\n*.ck\n!www.ck\n", Error::List),
             ("a..b\n", Error::List),
             ("Cargo.toml", Error::NoRule),
+            ("not-there.dat", Error::NoRule),
+            ("list.txt", Error::NoRule),
+            ("LIST.DAT", Error::NoRule),
+            (" x.dat\r\n", Error::NoRule),
             ("", Error::NoRule),
             ("\n\n", Error::NoRule),
             ("\u{feff}", Error::NoRule),
@@ -177,7 +187,7 @@ mod tests {
     #[test]
     fn has_a_rule() {
         let odd = ["\u{feff}com\r\n", "// x\n\n*\n", "a.b\ncom rest", "рф\n", "xn--p1ai\n", "*.ck\n!www.ck\n"];
-        for text in ["com", "github.io", "Cargo.toml\n", "a.*.ck\n"].into_iter().chain(odd) {
+        for text in ["com", "github.io", "x.dat\ncom", "Cargo.toml\n", "a.*.ck\n"].into_iter().chain(odd) {
             assert!(List::new(text).is_ok() && Client::new(text).is_ok(), "{text:?}");
         }
     }

@@ -9,7 +9,8 @@
 #[derive(Clone, Copy, Debug, PartialEq, Eq)]
 #[non_exhaustive]
 pub struct Rules {
-    /// Refuses a line with a control character other than a tab.
+    /// Refuses a line with a control character other than a tab; and a header leaves out each cookie that has one in its
+    /// name or value, as one of a saved text may.
     pub control: bool,
     /// Refuses one whose name and value have over 4,096 bytes together.
     pub too_long: bool,

@@ -8,6 +8,7 @@ import dataclasses
 import http.cookiejar
 import math
 import urllib.request
+import weakref
 from typing import TYPE_CHECKING, Any, Iterable, Iterator, NoReturn, Optional, Union
 
 from .. import _COOKIES, Client, Cookie, End, HeldCookie, _bytes, _held_of, _parts, _records, _second
@@ -15,7 +16,72 @@ from .. import _COOKIES, Client, Cookie, End, HeldCookie, _bytes, _held_of, _par
 if TYPE_CHECKING:
     from ..fleet import Fleet
 
-__all__ = ["Jar"]
+__all__ = ["Jar", "NotSent"]
+
+
+class NotSent(RuntimeError):
+    """A request would go out, or went out, without the cookies of a `Jar`: `requests` and `httpx` copy what a jar lists
+    into one of their own, which sends none of it. The text says what to write instead."""
+
+
+_INSTEAD = {
+    "httpx": "transport=fonnalich.httpx.Transport(client), cookies=fonnalich.httpx.EmptyJar()",
+    "requests": 'session.mount("https://", fonnalich.Adapter(client)), and the same for "http://"',
+}
+# The clients of which something puts the header: an `Adapter`, or a transport of `httpx`.
+_SENDERS: weakref.WeakSet[Union[Client, Fleet]] = weakref.WeakSet()
+_SENT = "_fonnalich_client"
+
+
+def _refuse_other(client: object) -> None:
+    """Raises where this has neither the calls of a client nor those of a fleet."""
+    if not all(callable(getattr(client, name, None)) for name in ("receive", "header")):
+        raise TypeError(f"a Client or a Fleet is wanted, not {type(client).__name__}")
+
+
+def _begin_sending(client: Union[Client, Fleet]) -> None:
+    """Keeps that an adapter or a transport puts this client's header."""
+    _refuse_other(client)
+    _SENDERS.add(client)
+
+
+def _mark_as_sent(request: Any, client: Union[Client, Fleet]) -> None:
+    """Keeps, at a request of `requests` or `httpx`, whose header was put."""
+    setattr(request, _SENT, client)
+
+
+def _refuse_unsent(request: Any, client: Union[Client, Fleet]) -> None:
+    """Raises where `requests` or `httpx` sent a request without the client's header. Theirs lies in what they make look
+    like one of `urllib`."""
+    library = type(request).__module__.partition(".")[0]
+    inner = getattr(request, {"httpx": "request", "requests": "_r"}.get(library, ""), None)
+    if inner is not None and getattr(inner, _SENT, None) is not client:
+        raise NotSent(f"{library} sends no cookie of a Jar by itself: {_INSTEAD[library]}")
+
+
+class _Version(int):
+    """The version 1 of a client's cookie. `http.cookiejar` asks whether it is above 0 to tell whether a jar sends the
+    cookie, which it then doesn't: that is an error, `NotSent`, unless something puts the client's header. As a copy and
+    in a file it is 1."""
+
+    _client: weakref.ref[Union[Client, Fleet]]
+
+    @classmethod
+    def of(cls, client: Union[Client, Fleet]) -> _Version:
+        """That of the cookies of a client."""
+        made = cls(1)
+        made._client = weakref.ref(client)
+        return made
+
+    def __gt__(self, other: int) -> bool:
+        client = self._client()
+        if client is not None and client not in _SENDERS:
+            told = " or ".join(f"by {library}, {instead}" for library, instead in _INSTEAD.items())
+            raise NotSent(f"no other jar sends a client's cookie: {told}")
+        return int(self) > other
+
+    def __reduce__(self) -> tuple[type[int], tuple[int]]:
+        return int, (int(self),)
 
 
 def _received(line: str) -> bytes:
@@ -32,7 +98,7 @@ class _Sendable(str):
 
 class _Shown(http.cookiejar.Cookie):
     """A cookie of a client as `http.cookiejar` has one. Its version is 1, so that a jar into which somebody copies it
-    sends it nowhere: what a request gets is the client's to say."""
+    sends it nowhere: what a request gets is the client's to say. Where nothing asks the client, that is `NotSent`."""
 
     _rest: dict[str, Any]
 
@@ -47,11 +113,14 @@ class _Shown(http.cookiejar.Cookie):
         self._rest = {**self._rest, name: value}
 
 
-def _shown(held: HeldCookie) -> _Shown:
+def _shown(held: HeldCookie, version: _Version) -> _Shown:
     has_dot = not held.host_only
     rest = {**({"HttpOnly": ""} if held.http_only else {}), **({"SameSite": held.same_site} if held.same_site else {})}
-    return _Shown(1, held.name, held.value, None, False, "." * has_dot + held.domain, has_dot, has_dot, held.path, True,
-                  held.secure, held.expires, held.expires is None, None, None, rest)
+    shown = _Shown(1, held.name, held.value, None, False, "." * has_dot + held.domain, has_dot, has_dot, held.path,
+                   True, held.secure, held.expires, held.expires is None, None, None, rest)
+    # (which makes another number of it)
+    shown.version = version
+    return shown
 
 
 def _line_of(cookie: Any) -> tuple[str, str]:
@@ -81,18 +150,24 @@ class Jar(http.cookiejar.CookieJar):
     fleet it lists none, and the other calls raise `NotImplementedError`. A cookie that is set has a domain. One that is
     read, as by `list`, says of itself that its version is 1, so other jars send it nowhere. `bool(jar)` is True, with
     cookies and without. There is no `set_policy`. A WebSocket (ws, wss) gets the cookies of its handshake.
+    `requests` and `httpx` send by jars of their own: without an `Adapter` or a transport of `fonnalich.httpx` they
+    would send nothing of it, which is told as `NotSent`, by a request or by its answer.
     """
 
     def __init__(self, client: Union[Client, Fleet]):
+        _refuse_other(client)
         super().__init__()
         self.client = client
+        self._version = _Version.of(client)
         # What the client last answered, and the cookie that was made of each of its records.
         self._listing: tuple[bytes, dict[bytes, _Shown]] = b"", {}
 
     def extract_cookies(self, response: Any, request: urllib.request.Request) -> None:
-        """Has the client take the `Set-Cookie` lines of an answer, byte for byte."""
+        """Has the client take the `Set-Cookie` lines of an answer, byte for byte. `NotSent` where the request went out
+        by `requests` or `httpx` without its header; the lines are taken even so."""
         lines = response.info().get_all("Set-Cookie", [])
         self.client.receive(_site_of(request.get_full_url()), [_received(line) for line in lines])
+        _refuse_unsent(request, self.client)
 
     def add_cookie_header(self, request: urllib.request.Request) -> None:
         """Gives a request the client's header, byte for byte, where it has no `Cookie` header of its own."""
@@ -120,9 +195,12 @@ class Jar(http.cookiejar.CookieJar):
         answer, made = self._listing
         now = self._listed()._call(_COOKIES, _second(None), b"", b"")
         if now != answer:
-            made = {it: made[it] if it in made else _shown(_held_of(*_parts(it))) for it in _records(now)}
+            made = {it: made[it] if it in made else self._made(it) for it in _records(now)}
             self._listing = now, made
         return made.values()
+
+    def _made(self, record: bytes) -> _Shown:
+        return _shown(_held_of(*_parts(record)), self._version)
 
     def __len__(self) -> int:
         return len(self.client) if isinstance(self.client, Client) else 0
