@@ -7,7 +7,8 @@
 #include "../time.h"
 
 size_t bench_client(const char *list, size_t list_length, const char *url, size_t url_length, const char *lines,
-                    size_t lines_length, const char *line, size_t line_length, uint64_t receives, uint64_t headers);
+                    size_t lines_length, const char *line, size_t line_length, int64_t second, uint64_t receives,
+                    uint64_t headers);
 
 #define T(text) (text), strlen(text)
 #define TIMES 1000
@@ -51,15 +52,15 @@ static void header_elsewhere(void) {
 }
 
 static void none(void) {
-    some(bench_client(T(LIST), T(URL), T(lines), T(LINE), 1, 1));
+    some(bench_client(T(LIST), T(URL), T(lines), T(LINE), NOW, 1, 1));
 }
 
 static void own_receives(void) {
-    some(bench_client(T(LIST), T(URL), T(lines), T(LINE), TIMES + 1, 1));
+    some(bench_client(T(LIST), T(URL), T(lines), T(LINE), NOW, TIMES + 1, 1));
 }
 
 static void own_headers(void) {
-    some(bench_client(T(LIST), T(URL), T(lines), T(LINE), 1, TIMES + 1));
+    some(bench_client(T(LIST), T(URL), T(lines), T(LINE), NOW, 1, TIMES + 1));
 }
 
 // What a call of many takes, by what one of a single call takes.

@@ -12,7 +12,7 @@ sys.dont_write_bytecode = True
 sys.path.insert(0, os.path.dirname(os.path.dirname(os.path.abspath(__file__))))
 
 from gate import compiler, firefox
-from gate.kit import CC, demand, guarded, load_rt
+from gate.kit import CC, demand, guarded, load_rt, place
 from gate.progress import Progress
 
 TOP = os.path.dirname(os.path.dirname(os.path.dirname(os.path.abspath(__file__))))
@@ -176,7 +176,7 @@ def build_for(command, processor):
     rtlib, to, began = load_rt().rtlib, built_for(command, processor), time.time()
     crate = next(it for it in rtlib.crates_below(TOP) if it.name == crate_of(command))
     words = crate.words(["--jobs", "1", f"--target={processor}-unknown-linux-gnu", "--backend", "llvm"])
-    words += ["--toolchain", f"{rtlib.KIT}/toolchain", "--incremental", "out/incremental"]
+    words += ["--toolchain", place("toolchain"), "--incremental", "out/incremental"]
     os.makedirs(os.path.dirname(to), exist_ok=True)
     with open(log_of("build"), "ab") as log:
         how = {"cwd": crate.folder, "stdin": subprocess.DEVNULL, "stdout": log, "stderr": log}
@@ -225,7 +225,7 @@ def put_compiled(command, room, path, log):
         return False
     rtlib = load_rt().rtlib
     crate = next(it for it in rtlib.crates_below(TOP) if it.name == crate_of(command))
-    links = [f"{rtlib.KIT}/c/libos_c.a", f"{rtlib.KIT}/c/liblibc_c.a", f"{room}/keep.o"]
+    links = [place("os"), place("libc"), f"{room}/keep.o"]
     compiler.compiled(crate, room, CLANG, log, [word for it in links for word in ("--link", it)])
     if not os.path.isfile(f"{made}.program"):
         return False
@@ -241,7 +241,7 @@ def put_compiled(command, room, path, log):
 def put_words(made, path):
     """Puts a file where the program is made that runs it at the path where both will be, by the toolchain's C
     library."""
-    lib = f"{load_rt().rtlib.KIT}/toolchain/lib"
+    lib = place("lib")
     words = f'"{lib}/ld-linux-x86-64.so.2" --inhibit-cache --library-path "{lib}" "{path}.program" "$@"'
     with open(made, "w", encoding="utf-8") as to:
         to.write(f"#!/bin/sh\nexec {words}\n")

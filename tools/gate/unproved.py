@@ -11,7 +11,7 @@ from concurrent.futures import ThreadPoolExecutor
 sys.dont_write_bytecode = True
 sys.path.insert(0, os.path.dirname(os.path.dirname(os.path.abspath(__file__))))
 
-from gate.kit import CC, demand, load_rt
+from gate.kit import CC, demand, load_rt, place
 
 HERE = os.path.dirname(os.path.abspath(__file__))
 CRATE = "unproved_tests"
@@ -158,7 +158,7 @@ def command(top):
 
 
 def command_of(path):
-    lib = f"{load_rt().rtlib.KIT}/toolchain/lib"
+    lib = place("lib")
     return [f"{lib}/ld-linux-x86-64.so.2", "--inhibit-cache", "--library-path", lib, path]
 
 
