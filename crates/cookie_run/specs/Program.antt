@@ -123,7 +123,7 @@ stream = stream_of (steps_u32 (next_word 10))
 abbrev pub IsFill : ChaCha → List ℕ → ChaCha → Type 0
 IsFill old bytes new = (bytes, stream new) ≡ fill_bytes (length bytes) (stream old)
 
--- what is known of a reader and a writer, before and behind a call: what was left, how many reads, how many failed calls
+-- what is known of a reader and a writer, before and behind a call: what is left, reads, what is written, failed calls
 pub record Devices : Type 0 where
   pub left : Option (List ℕ)
   pub reads : ℕ
