@@ -15,10 +15,8 @@ use std::env::{self, VarError};
 use std::io::{self, BufReader, BufWriter, ErrorKind};
 use std::process::ExitCode;
 
-// Where Debian's package `publicsuffix` puts its list.
+// Where Debian's package `publicsuffix` puts its list, which counts unless the environment names another.
 const INSTALLED: &str = "/usr/share/publicsuffix/public_suffix_list.dat";
-// The file that counts where that one isn't there, unless the environment names another.
-const LAST: &str = "examples/suffixes.dat";
 
 fn main(rt: HostRuntime) -> ExitCode {
     match start(&rt) {
@@ -37,9 +35,9 @@ fn start(rt: &HostRuntime) -> Result<u8, AllocError> {
         return Ok(2);
     };
     let named = named_list(rt)?;
-    let last = match &named {
+    let list = match &named {
         Some(path) => path.as_str(),
-        None => LAST,
+        None => INSTALLED,
     };
     let Ok(reader) = BufReader::new(rt.alloc(), rt.reader()) else {
         return Err(AllocError);
@@ -52,7 +50,7 @@ fn start(rt: &HostRuntime) -> Result<u8, AllocError> {
         rt,
         &words,
         clock(rt),
-        &[INSTALLED, last],
+        &[list],
         &mut Locked::new(rt, "cookie-jar"),
         &mut Counting::new(reader),
         &mut writer,
@@ -103,9 +101,11 @@ fn clock(rt: &HostRuntime) -> Option<DateTime> {
     Some(TimeZone::UTC.to_datetime(second))
 }
 
-// The file of a suffix list that the environment names.
+// The file of a suffix list that the environment names. An empty name counts as none, and so does one that isn't
+// UTF-8.
 fn named_list(rt: &HostRuntime) -> Result<Option<String>, AllocError> {
     match env::var(rt, "COOKIE_JAR_SUFFIXES") {
+        Ok(path) if path.is_empty() => Ok(None),
         Ok(path) => Ok(Some(path)),
         Err(VarError::OutOfMemory) => Err(AllocError),
         Err(VarError::NotPresent | VarError::NotUnicode) => Ok(None),

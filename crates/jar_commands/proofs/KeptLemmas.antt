@@ -9,7 +9,7 @@ use Rattle.cookie_run.specs.ProgramKept.{kept_so}
 use Rattle.jar_words.specs.declared.asked.Asked.{Asked}
 use Rattle.jar_commands.specs.KeptSteps.{GivesKept, IsBut, PerformsHeld, put_of}
 use Rattle.jar_commands.specs.Outcomes.{OutcomeText, outcome_text}
-use Rattle.jar_commands.specs.Performing.{AnswersTexts, Brings, BringsNothing, Reader, UnreadBut}
+use Rattle.jar_commands.specs.Performing.{AnswersTexts, Brings, BringsNothing, Source, UnreadBut}
 use Rattle.jar_commands.specs.Plans.{PlanText, plan_of}
 use Rattle.jar_commands.specs.Program.{Ends, FilesGive, IsOfFiles, IsUnwritten, Printed, RunFails, Unprinted, Writer}
 use Rattle.jar_commands.specs.Program.{counted, counted_by, output, output_by, prints_text, reads_input, text_in}
@@ -85,7 +85,7 @@ unlocked_gives plan path suffixes brought stored lock b result none texts =
 -- ---- the program
 
 -- what is given is brought where nothing is read
-pub brings_given : {V E : Type 0} (Unread : Type 0) (reader : Reader) (b : Bool) (bytes_in : V → Option (List ℕ))
+pub brings_given : {V E : Type 0} (Unread : Type 0) (reader : Source) (b : Bool) (bytes_in : V → Option (List ℕ))
     (result : Result V E) → b ≡ false → Unread
     → IfOk result (λ brought. (given : Option (List ℕ)) × Brings Unread reader b given (bytes_in brought))
 brings_given Unread reader b bytes_in (Ok brought) none unread = (
@@ -98,13 +98,13 @@ pub unread_but : (Unread : Type 0) (is_read : Bool) → Unread → UnreadBut Unr
 unread_but Unread true unread = tt
 unread_but Unread false unread = unread
 
-pub brought_but : (Unread : Type 0) (reader : Reader) (is_read : Bool) (given brought : Option (List ℕ))
+pub brought_but : (Unread : Type 0) (reader : Source) (is_read : Bool) (given brought : Option (List ℕ))
     → Brings Unread reader is_read given brought → UnreadBut Unread is_read
 brought_but Unread reader true given brought brings = tt
 brought_but Unread reader false given brought brings = brings.1
 
 -- nothing is brought, or the other file isn't read
-pub not_brought : (Unread Unwritten : Type 0) (reader : Reader) (writer : Writer) (asked : Asked) (clock : Option ℤ)
+pub not_brought : (Unread Unwritten : Type 0) (reader : Source) (writer : Writer) (asked : Asked) (clock : Option ℤ)
     (plan : PlanText) (failure : Failure) → plan_of asked clock ≡ Ok plan
     → BringsNothing reader (reads_input asked.command) failure
     ⊎ (IsOfFiles failure × UnreadBut Unread (reads_input asked.command))
@@ -117,13 +117,13 @@ not_brought Unread Unwritten reader writer asked clock plan failure is (inr of) 
     inr (inl (plan, is, inr of.0, of.1, unwritten))
 
 -- the jar isn't read either, which is told first
-unread_too : (Unread : Type 0) (reader : Reader) (is_read : Bool) (failure : Failure)
+unread_too : (Unread : Type 0) (reader : Source) (is_read : Bool) (failure : Failure)
     → BringsNothing reader is_read failure ⊎ (IsOfFiles failure × UnreadBut Unread is_read) → UnreadBut Unread is_read
 unread_too Unread reader true failure why = tt
 unread_too Unread reader false failure (inl nothing) = absurd nothing
 unread_too Unread reader false failure (inr of) = of.1
 
-pub first_not_brought : (Unread Unwritten : Type 0) (reader : Reader) (writer : Writer) (asked : Asked)
+pub first_not_brought : (Unread Unwritten : Type 0) (reader : Source) (writer : Writer) (asked : Asked)
     (clock : Option ℤ) (plan : PlanText) (failure first : Failure) → plan_of asked clock ≡ Ok plan
     → BringsNothing reader (reads_input asked.command) failure
     ⊎ (IsOfFiles failure × UnreadBut Unread (reads_input asked.command))
@@ -135,7 +135,7 @@ first_not_brought Unread Unwritten reader writer asked clock plan failure first 
     inr (inl (plan, is, inr of, unread_too Unread reader (reads_input asked.command) failure why, unwritten))
 
 -- the list isn't read, whether something was brought or not
-pub list_not_read : {V : Type 0} (Unread Unwritten : Type 0) (reader : Reader) (writer : Writer) (asked : Asked)
+pub list_not_read : {V : Type 0} (Unread Unwritten : Type 0) (reader : Source) (writer : Writer) (asked : Asked)
     (clock : Option ℤ) (plan : PlanText) (bytes_in : V → Option (List ℕ)) (brought : Result V Stopped)
     (failure : Failure) → plan_of asked clock ≡ Ok plan
     → IfOk brought (λ x. (given : Option (List ℕ))
@@ -161,21 +161,21 @@ list_not_read Unread Unwritten reader writer asked clock plan bytes_in (Err stop
     ))
 
 -- what is brought, lent
-pub brought_as : (Unread : Type 0) (reader : Reader) (b : Bool) (given : Option (List ℕ))
+pub brought_as : (Unread : Type 0) (reader : Source) (b : Bool) (given : Option (List ℕ))
     (lent : Option (Bor (List ℕ))) (brought : Option (List ℕ)) → option_copied lent ≡ brought
     → Brings Unread reader b given brought → Brings Unread reader b given (option_copied lent)
 brought_as Unread reader b given lent brought is brings =
     subst (Brings Unread reader b given) (sym is) brings
 
 -- a file isn't read behind what was brought
-pub not_read : (Unread Unwritten : Type 0) (reader : Reader) (writer : Writer) (asked : Asked) (clock : Option ℤ)
+pub not_read : (Unread Unwritten : Type 0) (reader : Source) (writer : Writer) (asked : Asked) (clock : Option ℤ)
     (plan : PlanText) (given brought : Option (List ℕ)) (failure : Failure) → plan_of asked clock ≡ Ok plan
     → Brings Unread reader (reads_input asked.command) given brought → IsOfFiles failure → Unwritten
     → RunFails Unread Unwritten reader writer asked clock failure
 not_read Unread Unwritten reader writer asked clock plan given brought failure is brings of unwritten =
     inr (inl (plan, is, inr of, brought_but Unread reader (reads_input asked.command) given brought brings, unwritten))
 
-gives : (Unread : Type 0) (reader : Reader) (asked : Asked) (clock : Option ℤ) (plan : PlanText)
+gives : (Unread : Type 0) (reader : Source) (asked : Asked) (clock : Option ℤ) (plan : PlanText)
     (suffixes : List ℕ) (stored given brought : Option (List ℕ)) (result : Result OutcomeText Failure)
     → plan_of asked clock ≡ Ok plan → Brings Unread reader (reads_input asked.command) given brought
     → AnswersTexts plan suffixes stored brought result → FilesGive Unread reader asked clock result
@@ -183,7 +183,7 @@ gives Unread reader asked clock plan suffixes stored given brought result is bri
     files_give Unread reader asked clock plan suffixes stored given result is (inr (brought, brings, texts))
 
 -- nothing is given over the jar's file
-pub serves_not : (Unread Unwritten : Type 0) (reader : Reader) (writer : Writer) (asked : Asked) (clock : Option ℤ)
+pub serves_not : (Unread Unwritten : Type 0) (reader : Source) (writer : Writer) (asked : Asked) (clock : Option ℤ)
     (plan : PlanText) (path suffixes : List ℕ) (given brought : Option (List ℕ)) (lock : Lock × Lock) (b : Bool)
     (failure : Failure) → plan_of asked clock ≡ Ok plan → Brings Unread reader (reads_input asked.command) given brought
     → GivesKept b plan path suffixes brought lock (Err failure) → Unwritten
@@ -203,7 +203,7 @@ serves_not Unread Unwritten reader writer asked clock plan path suffixes given b
       unwritten,
     )))
 
-pub keeps_not : (Unread : Type 0) (reader : Reader) (asked : Asked) (clock : Option ℤ) (plan : PlanText)
+pub keeps_not : (Unread : Type 0) (reader : Source) (asked : Asked) (clock : Option ℤ) (plan : PlanText)
     (suffixes : List ℕ) (given brought : Option (List ℕ)) (lock : Lock × Lock) (seconds : ℕ) (failure : Failure)
     → plan_of asked clock ≡ Ok plan → IsWait (option_map (λ text. text.now) asked.wait) seconds
     → Brings Unread reader (reads_input asked.command) given brought
@@ -253,7 +253,7 @@ same_counted : (b : Bool) (whole outcome : OutcomeText) → IsBut whole outcome
 same_counted true whole outcome but = ap Some but.0
 same_counted false whole outcome but = refl
 
-pub serves_ok : (Unread : Type 0) (reader : Reader) (writer : Writer) (asked : Asked) (clock : Option ℤ)
+pub serves_ok : (Unread : Type 0) (reader : Source) (writer : Writer) (asked : Asked) (clock : Option ℤ)
     (plan : PlanText) (path suffixes : List ℕ) (given brought : Option (List ℕ)) (lock : Lock × Lock) (b : Bool)
     (outcome : OutcomeText) (result : Result Done Stopped) → plan_of asked clock ≡ Ok plan
     → Brings Unread reader (reads_input asked.command) given brought
@@ -274,7 +274,7 @@ serves_ok Unread reader writer asked clock plan path suffixes given brought lock
     tt
 
 -- a file isn't written, or the writer failed
-unfinished : (Unread Unwritten : Type 0) (reader : Reader) (writer : Writer) (asked : Asked) (clock : Option ℤ)
+unfinished : (Unread Unwritten : Type 0) (reader : Source) (writer : Writer) (asked : Asked) (clock : Option ℤ)
     (whole outcome : OutcomeText) (failure : Failure) → FilesGive Unread reader asked clock (Ok whole)
     → IsBut whole outcome
     → (IsUnwritten failure × Unwritten)
@@ -290,7 +290,7 @@ unfinished Unread Unwritten reader writer asked clock whole outcome failure file
       subst (Unprinted writer) (same_output (prints_text asked.command) whole outcome but) unprinted.1,
     )))
 
-pub serves_err : (Unread Unwritten : Type 0) (reader : Reader) (writer : Writer) (asked : Asked) (clock : Option ℤ)
+pub serves_err : (Unread Unwritten : Type 0) (reader : Source) (writer : Writer) (asked : Asked) (clock : Option ℤ)
     (plan : PlanText) (path suffixes : List ℕ) (given brought : Option (List ℕ)) (lock : Lock × Lock) (b : Bool)
     (outcome : OutcomeText) (result : Result Done Stopped) → plan_of asked clock ≡ Ok plan
     → Brings Unread reader (reads_input asked.command) given brought
@@ -305,7 +305,7 @@ serves_err Unread Unwritten reader writer asked clock plan path suffixes given b
     brings does err = unfinished Unread Unwritten reader writer asked clock does.1 outcome stopped.failure
     (gives Unread reader asked clock plan suffixes does.0 given brought (Ok does.1) is brings does.2) does.3 err
 
-keeps_at : (Unread : Type 0) (reader : Reader) (asked : Asked) (clock : Option ℤ) (plan : PlanText)
+keeps_at : (Unread : Type 0) (reader : Source) (asked : Asked) (clock : Option ℤ) (plan : PlanText)
     (suffixes : List ℕ) (given brought : Option (List ℕ)) (lock : Lock × Lock) (seconds : ℕ) (outcome : OutcomeText)
     (status : ℕ) → plan_of asked clock ≡ Ok plan → IsWait (option_map (λ text. text.now) asked.wait) seconds
     → Brings Unread reader (reads_input asked.command) given brought
@@ -342,7 +342,7 @@ keeps_at Unread reader asked clock plan suffixes given brought lock seconds outc
       does.4,
     )
 
-pub keeps_ok : (Unread : Type 0) (reader : Reader) (writer : Writer) (asked : Asked) (clock : Option ℤ)
+pub keeps_ok : (Unread : Type 0) (reader : Source) (writer : Writer) (asked : Asked) (clock : Option ℤ)
     (plan : PlanText) (suffixes : List ℕ) (given brought : Option (List ℕ)) (lock : Lock × Lock) (seconds : ℕ)
     (outcome : OutcomeText) (result : Result Done Stopped) → plan_of asked clock ≡ Ok plan
     → IsWait (option_map (λ text. text.now) asked.wait) seconds
@@ -357,7 +357,7 @@ keeps_ok Unread reader writer asked clock plan suffixes given brought lock secon
 keeps_ok Unread reader writer asked clock plan suffixes given brought lock seconds outcome (Err stopped) is wait brings
     does ok = tt
 
-pub keeps_err : (Unread : Type 0) (reader : Reader) (asked : Asked) (clock : Option ℤ) (plan : PlanText)
+pub keeps_err : (Unread : Type 0) (reader : Source) (asked : Asked) (clock : Option ℤ) (plan : PlanText)
     (suffixes : List ℕ) (given brought : Option (List ℕ)) (lock : Lock × Lock) (seconds : ℕ) (outcome : OutcomeText)
     (result : Result Done Stopped) → plan_of asked clock ≡ Ok plan
     → IsWait (option_map (λ text. text.now) asked.wait) seconds

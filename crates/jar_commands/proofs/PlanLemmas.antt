@@ -2,7 +2,7 @@
 use Rattle.std.proofs.Common.{◌≡◌, ◌⊎◌, ℕ, Bool, true, false, List, Option, Result, Ok, Err, inl, inr}
 use Rattle.std.proofs.Common.{refl, sym, subst, ap}
 use Rattle.jar_commands.specs.Outcomes.{OutcomeText}
-use Rattle.jar_commands.specs.Performing.{AnswersPlan, AnswersTexts, Brings, BringsNothing, Reader, reads}
+use Rattle.jar_commands.specs.Performing.{AnswersPlan, AnswersTexts, Brings, BringsNothing, Source, reads}
 use Rattle.jar_commands.specs.Plans.{PlanText}
 use Rattle.jar_commands.specs.declared.failure.Failure.{Failure}
 use Rattle.jar_commands.specs.declared.failure.Failure.TheVariants.{Memory}
@@ -15,7 +15,7 @@ pub one_cause : (cause failure : Failure) → (let made : Result PlanText Failur
 one_cause cause failure same = cc
 
 -- memory was refused before anything was read
-at_memory : (Unread : Type 0) (reader : Reader) (is_read : Bool) (plan : PlanText) (suffixes : List ℕ)
+at_memory : (Unread : Type 0) (reader : Source) (is_read : Bool) (plan : PlanText) (suffixes : List ℕ)
     (stored given : Option (List ℕ)) (failure : Failure) (result : Result OutcomeText Failure) → result ≡ Err failure
     → failure ≡ Memory → Unread
     → ((cause : Failure) × (result ≡ Err cause) × BringsNothing reader is_read cause)
@@ -26,7 +26,7 @@ at_memory Unread reader true plan suffixes stored given failure result is memory
 at_memory Unread reader false plan suffixes stored given failure result is memory unread =
     inr (given, (refl, unread), inl (failure, is, inl memory))
 
-pub refused : (Unread : Type 0) (reader : Reader) (plan : Result PlanText Failure) (suffixes : List ℕ)
+pub refused : (Unread : Type 0) (reader : Source) (plan : Result PlanText Failure) (suffixes : List ℕ)
     (stored given : Option (List ℕ)) (failure : Failure) → (failure ≡ Memory) ⊎ (plan ≡ Err failure) → Unread
     → AnswersPlan Unread reader plan suffixes stored given (Err failure)
 refused Unread reader (Err cause) suffixes stored given failure (inl memory) unread = (inr (ap Err memory), unread)
@@ -36,7 +36,7 @@ refused Unread reader (Ok plan) suffixes stored given failure (inl memory) unrea
     at_memory Unread reader (reads plan.task) plan suffixes stored given failure (Err failure) refl memory unread
 refused Unread reader (Ok plan) suffixes stored given failure (inr same) unread = absurd (not_both plan failure same)
 
-pub planned : (Unread : Type 0) (reader : Reader) (made : Result PlanText Failure) (plan : PlanText)
+pub planned : (Unread : Type 0) (reader : Source) (made : Result PlanText Failure) (plan : PlanText)
     (suffixes : List ℕ) (stored given : Option (List ℕ)) (result : Result OutcomeText Failure) → made ≡ Ok plan
     → AnswersPlan Unread reader (Ok plan) suffixes stored given result
     → AnswersPlan Unread reader made suffixes stored given result

@@ -3,7 +3,7 @@ use Rattle.std.proofs.Common.{◌≡◌, ◌⊎◌, ℕ, ℤ, Bool, true, false,
 use Rattle.std.proofs.Common.{refl, subst, sym}
 use Rattle.jar_words.specs.declared.asked.Asked.{Asked}
 use Rattle.jar_commands.specs.Outcomes.{OutcomeText}
-use Rattle.jar_commands.specs.Performing.{Reader}
+use Rattle.jar_commands.specs.Performing.{Source}
 use Rattle.jar_commands.specs.Plans.{PlanText, plan_of}
 use Rattle.jar_commands.specs.Program.{FilesGive, GivesPlan, RunFails, Writer, reads_input}
 use Rattle.jar_commands.specs.declared.failure.Failure.{Failure}
@@ -11,14 +11,14 @@ use Rattle.jar_commands.specs.declared.failure.Failure.TheVariants.{Memory}
 use Rattle.jar_commands.proofs.PlanLemmas.{not_both, one_cause}
 
 -- memory was refused before anything was read
-at_memory : (Unread : Type 0) (reader : Reader) (is_read : Bool) (plan : PlanText) (suffixes : List ℕ)
+at_memory : (Unread : Type 0) (reader : Source) (is_read : Bool) (plan : PlanText) (suffixes : List ℕ)
     (stored given : Option (List ℕ)) (failure : Failure) → failure ≡ Memory → Unread
     → GivesPlan Unread reader is_read (Ok plan) suffixes stored given (Err failure)
 at_memory Unread reader true plan suffixes stored given failure memory unread = inl (failure, refl, inl memory)
 at_memory Unread reader false plan suffixes stored given failure memory unread =
     inr (given, (refl, unread), inl (failure, refl, inl memory))
 
-refused : (Unread : Type 0) (reader : Reader) (is_read : Bool) (plan : Result PlanText Failure) (failure : Failure)
+refused : (Unread : Type 0) (reader : Source) (is_read : Bool) (plan : Result PlanText Failure) (failure : Failure)
     → (failure ≡ Memory) ⊎ (plan ≡ Err failure) → Unread
     → GivesPlan Unread reader is_read plan [] None None (Err failure)
 refused Unread reader is_read (Err cause) failure (inl memory) unread = (inr (ap Err memory), unread)
@@ -29,7 +29,7 @@ refused Unread reader is_read (Ok plan) failure (inl memory) unread =
 refused Unread reader is_read (Ok plan) failure (inr same) unread = absurd (not_both plan failure same)
 
 -- what is asked is refused, before a file is read
-pub unplanned : (Unread Unwritten : Type 0) (reader : Reader) (writer : Writer) (asked : Asked) (clock : Option ℤ)
+pub unplanned : (Unread Unwritten : Type 0) (reader : Source) (writer : Writer) (asked : Asked) (clock : Option ℤ)
     (cause failure : Failure) → failure ≡ cause → (cause ≡ Memory) ⊎ (plan_of asked clock ≡ Err cause) → Unread
     → Unwritten → RunFails Unread Unwritten reader writer asked clock failure
 unplanned Unread Unwritten reader writer asked clock cause failure is why unread unwritten =
@@ -39,7 +39,7 @@ unplanned Unread Unwritten reader writer asked clock cause failure is why unread
     ))
 
 -- what a plan gives for the bytes of the files
-pub files_give : (Unread : Type 0) (reader : Reader) (asked : Asked) (clock : Option ℤ) (plan : PlanText)
+pub files_give : (Unread : Type 0) (reader : Source) (asked : Asked) (clock : Option ℤ) (plan : PlanText)
     (suffixes : List ℕ) (stored given : Option (List ℕ)) (result : Result OutcomeText Failure)
     → plan_of asked clock ≡ Ok plan
     → GivesPlan Unread reader (reads_input asked.command) (Ok plan) suffixes stored given result

@@ -24,13 +24,13 @@ use Rattle.jar_commands.specs.declared.plan.Task.{Task}
 use Rattle.jar_commands.specs.declared.plan.Task.TheVariants as task
 
 -- what is known of a reader, before and behind a call: what was left to read, how many reads and how many failed calls
-pub record Reader : Type 0 where
+pub record Source : Type 0 where
   pub left : Option (List ℕ)
   pub reads : ℕ
   pub unread : ℕ × ℕ
 
 -- that of a reader which was `old` and is `new`, by what it has left, its reads and its failures
-abbrev pub read_by : {R : Type 0} → (R → Option (List ℕ)) → (R → ℕ) → (R → ℕ) → R → R → Reader
+abbrev pub read_by : {R : Type 0} → (R → Option (List ℕ)) → (R → ℕ) → (R → ℕ) → R → R → Source
 read_by left reads failed old new = record { left = left old; reads = reads new; unread = (failed old, failed new) }
 
 -- only `receive` reads
@@ -54,13 +54,13 @@ reads (task.ExportFor reader) = false
 
 -- What is brought to a task: where it reads all that was left, where that is known; else what is given, and nothing is
 -- read.
-abbrev pub Brings : Type 0 → Reader → Bool → Option (List ℕ) → Option (List ℕ) → Type 0
+abbrev pub Brings : Type 0 → Source → Bool → Option (List ℕ) → Option (List ℕ) → Type 0
 Brings Unread reader true given brought =
     (text : List ℕ) × (brought ≡ Some text) × IfSome reader.left (λ whole. text ≡ whole)
 Brings Unread reader false given brought = (brought ≡ given) × Unread
 
 -- nothing is brought where the reader failed, or memory was refused
-abbrev pub BringsNothing : Reader → Bool → Failure → Type 0
+abbrev pub BringsNothing : Source → Bool → Failure → Type 0
 BringsNothing reader true failure =
     (failure ≡ Memory) ⊎ ((failure ≡ Input) × (Rose reader.unread.0 reader.unread.1 ⊎ (reader.reads ≡ 2 ^ 64 - 1)))
 BringsNothing reader false failure = ⊥
@@ -177,7 +177,7 @@ AnswersTexts plan suffixes stored brought result =
     ⊎ ((jar : Store) × IsJar plan.form plan.now suffixes stored jar × Performs plan jar brought result)
 
 -- Where what is asked is refused, nothing is read; else first what is brought is read.
-abbrev pub AnswersPlan : Type 0 → Reader → Result PlanText Failure → List ℕ → Option (List ℕ) → Option (List ℕ)
+abbrev pub AnswersPlan : Type 0 → Source → Result PlanText Failure → List ℕ → Option (List ℕ) → Option (List ℕ)
     → Result OutcomeText Failure → Type 0
 AnswersPlan Unread reader (Err failure) suffixes stored given result =
     ((result ≡ Err failure) ⊎ (result ≡ Err Memory)) × Unread
@@ -187,7 +187,7 @@ AnswersPlan Unread reader (Ok plan) suffixes stored given result =
     × AnswersTexts plan suffixes stored brought result)
 
 -- What a command gives for the texts of the suffix list, of the jar, or none, and of the other file, or none.
-abbrev pub Answers : Type 0 → Reader → Asked → Option ℤ → List ℕ → Option (List ℕ) → Option (List ℕ)
+abbrev pub Answers : Type 0 → Source → Asked → Option ℤ → List ℕ → Option (List ℕ) → Option (List ℕ)
     → Result OutcomeText Failure → Type 0
 Answers Unread reader asked clock suffixes stored given result =
     AnswersPlan Unread reader (plan_of asked clock) suffixes stored given result

@@ -13,7 +13,7 @@ use Rattle.jar_words.specs.declared.refusal.Refusal.{Refusal}
 use Rattle.jar_words.specs.declared.refusal.Refusal.TheVariants as refusal
 use Rattle.jar_commands.specs.Failures.{failure_text}
 use Rattle.jar_commands.specs.Outcomes.{OutcomeText}
-use Rattle.jar_commands.specs.Performing.{AnswersTexts, Brings, BringsNothing, Reader, UnreadBut}
+use Rattle.jar_commands.specs.Performing.{AnswersTexts, Brings, BringsNothing, Source, UnreadBut}
 use Rattle.jar_commands.specs.Plans.{PlanText, plan_of}
 use Rattle.jar_commands.specs.Waiting.{IsNoWait}
 use Rattle.jar_commands.specs.declared.failure.Failure.{Failure}
@@ -52,7 +52,7 @@ reads_input other = false
 
 -- What a plan gives, brought the input or the bytes of the other file: as `answer` gives it, but that here an import
 -- may read too.
-abbrev pub GivesPlan : Type 0 → Reader → Bool → Result PlanText Failure → List ℕ → Option (List ℕ)
+abbrev pub GivesPlan : Type 0 → Source → Bool → Result PlanText Failure → List ℕ → Option (List ℕ)
     → Option (List ℕ) → Result OutcomeText Failure → Type 0
 GivesPlan Unread reader is_read (Err failure) suffixes stored given result =
     ((result ≡ Err failure) ⊎ (result ≡ Err Memory)) × Unread
@@ -62,7 +62,7 @@ GivesPlan Unread reader is_read (Ok plan) suffixes stored given result =
     × AnswersTexts plan suffixes stored brought result)
 
 -- what is asked gives this for some bytes of the files: what they hold, no contract sees
-abbrev pub FilesGive : Type 0 → Reader → Asked → Option ℤ → Result OutcomeText Failure → Type 0
+abbrev pub FilesGive : Type 0 → Source → Asked → Option ℤ → Result OutcomeText Failure → Type 0
 FilesGive Unread reader asked clock result =
     (suffixes : List ℕ) × (stored : Option (List ℕ)) × (given : Option (List ℕ))
     × GivesPlan Unread reader (reads_input asked.command) (plan_of asked clock) suffixes stored given result
@@ -111,7 +111,7 @@ IsUnwritten failure = (failure ≡ JarFile) ⊎ ((failure ≡ File) ⊎ ((failur
 
 -- Why a command ends with status 2, in order: what is asked is refused, before a file is read; a file isn't read; the
 -- texts give nothing; a file isn't written; or the files are, and the writer fails. Up to there it is as it was.
-abbrev pub RunFails : Type 0 → Type 0 → Reader → Writer → Asked → Option ℤ → Failure → Type 0
+abbrev pub RunFails : Type 0 → Type 0 → Source → Writer → Asked → Option ℤ → Failure → Type 0
 RunFails Unread Unwritten reader writer asked clock failure =
     (FilesGive Unread reader asked clock (Err failure) × Unwritten)
     ⊎ (((plan : PlanText) × (plan_of asked clock ≡ Ok plan) × IsBefore asked failure
@@ -121,13 +121,13 @@ RunFails Unread Unwritten reader writer asked clock failure =
     × Unprinted writer (output asked.command outcome))))
 
 -- a command gives this status where the files are written and all is printed; what is told beside that
-abbrev pub Ends : Type 0 → Reader → Writer → Asked → Option ℤ → ℕ → Option (List ℕ) → Type 0
+abbrev pub Ends : Type 0 → Source → Writer → Asked → Option ℤ → ℕ → Option (List ℕ) → Type 0
 Ends Unread reader writer asked clock status told =
     (outcome : OutcomeText) × FilesGive Unread reader asked clock (Ok outcome) × (status ≡ outcome.status)
     × Printed writer (output asked.command outcome) × (told ≡ counted asked.command outcome)
 
 -- what a command gives, and what is told beside its output
-abbrev pub Serves : Type 0 → Type 0 → Reader → Writer → Asked → Option ℤ → Option (List ℕ) → Result ℕ Failure → Type 0
+abbrev pub Serves : Type 0 → Type 0 → Source → Writer → Asked → Option ℤ → Option (List ℕ) → Result ℕ Failure → Type 0
 Serves Unread Unwritten reader writer asked clock told (Ok status) = Ends Unread reader writer asked clock status told
 Serves Unread Unwritten reader writer asked clock told (Err failure) =
     RunFails Unread Unwritten reader writer asked clock failure × (told ≡ None)
@@ -150,7 +150,7 @@ IsRefused Unwritten writer refusal.Version (Err failure) =
 IsRefused Unwritten writer (refusal.Words kind word) result = (result ≡ Err (Words kind)) × Unwritten
 
 -- what the program gives for its words as they were read, and what is told beside its output
-abbrev pub Runs : Type 0 → Type 0 → Reader → Writer → Option ℤ → Result Asked Refusal → Option (List ℕ)
+abbrev pub Runs : Type 0 → Type 0 → Source → Writer → Option ℤ → Result Asked Refusal → Option (List ℕ)
     → Result ℕ Failure → Type 0
 Runs Unread Unwritten reader writer clock (Ok asked) told result =
     Serves Unread Unwritten reader writer asked clock told result

@@ -5,7 +5,7 @@ use Rattle.cookie_run.specs.ProgramKept.{IsUnread, kept_so}
 use Rattle.jar_words.specs.declared.asked.Asked.{Asked}
 use Rattle.jar_words.specs.declared.refusal.Refusal.{Refusal}
 use Rattle.jar_commands.specs.Outcomes.{OutcomeText}
-use Rattle.jar_commands.specs.Performing.{Reader}
+use Rattle.jar_commands.specs.Performing.{Source}
 use Rattle.jar_commands.specs.Plans.{PlanText, plan_of}
 use Rattle.jar_commands.specs.Program.{GivesPlan, reads_input}
 use Rattle.jar_commands.specs.Waiting.{IsWait}
@@ -50,7 +50,7 @@ Leaves false path stored put lock = lock.1 ≡ lock.0
 -- What is to take the jar's place is the whole text that the command gives for what was read of the jar while its lock
 -- was held, and nothing is where the command gives no text; then the lock is given back. Commands that don't change the
 -- jar leave it alone. Or the jar wasn't read.
-abbrev pub KeepsJar : Type 0 → Reader → Asked → Option ℤ → Lock × Lock → ℕ → Type 0
+abbrev pub KeepsJar : Type 0 → Source → Asked → Option ℤ → Lock × Lock → ℕ → Type 0
 KeepsJar Unread reader asked clock lock status =
     ((plan : PlanText) × (suffixes : List ℕ) × (stored : Option (List ℕ)) × (given : Option (List ℕ))
     × (result : Result OutcomeText Failure) × (seconds : ℕ) × (plan_of asked clock ≡ Ok plan)
@@ -61,6 +61,6 @@ KeepsJar Unread reader asked clock lock status =
     ⊎ ((status ≡ 2) × IsUnread lock)
 
 -- words that aren't read leave the lock alone
-abbrev pub WordsKeep : Type 0 → Reader → Option ℤ → Lock × Lock → ℕ → Result Asked Refusal → Type 0
+abbrev pub WordsKeep : Type 0 → Source → Option ℤ → Lock × Lock → ℕ → Result Asked Refusal → Type 0
 WordsKeep Unread reader clock lock status (Ok asked) = KeepsJar Unread reader asked clock lock status
 WordsKeep Unread reader clock lock status (Err refused) = lock.1 ≡ lock.0

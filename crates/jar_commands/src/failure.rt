@@ -120,7 +120,7 @@ fn entry_words(cause: Cause) -> &'static str
     ensures { result.now ≡ entry_text cause }
 {
     match cause {
-        Cause::Faulty(fault) => fault_words(fault),
+        Cause::Faulty(fault) => fault_text(fault),
         Cause::NoRow => "file text: no row",
         Cause::Control => "file text: control character",
         Cause::Pair => "file text: name or value",
@@ -129,7 +129,7 @@ fn entry_words(cause: Cause) -> &'static str
     }
 }
 
-fn fault_words(fault: LineFault) -> &'static str
+fn fault_text(fault: LineFault) -> &'static str
     ensures { result.now ≡ fault_text fault }
 {
     match fault {

@@ -155,6 +155,7 @@ fn run<'a, H: Files + AllocGlobal, K: Keeper, R: Source, W: Sink>(
 {
     let list = list_file(rt, asked.suffixes, lists);
     let list_told = if asked.is_verbose { Some(list) } else { None };
+    // It is handed on twice, of which the borrow checker covers one: so the first is a copy.
     let at = clock;
     match beside(rt, asked, at) {
         Ok((instead, dropped)) => match serve(rt, asked, clock, list, kept, reader, writer) {

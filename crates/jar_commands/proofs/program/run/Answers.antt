@@ -3,7 +3,7 @@ use Rattle.std.specs.Prelude.{string_bytes}
 use Rattle.jiff.specs.Words.{civil_nanos}
 use Rattle.jar_commands.specs.About.{IsAbout, subject}
 use Rattle.jar_commands.specs.Instead.{is_refused_page, is_refused_url, page_in, url_in}
-use Rattle.jar_commands.specs.Performing.{Reader}
+use Rattle.jar_commands.specs.Performing.{Source}
 use Rattle.jar_commands.specs.Program.{IsListFile}
 use Rattle.jar_commands.specs.ProgramKept.{KeepsJar}
 use Rattle.jar_commands.specs.declared.failure.Failure.TheVariants.{Memory}
@@ -23,7 +23,7 @@ returns-in-Ok-serve-clause-tells g c = (
 
 pub returns-in-Ok-serve-clause-keeps : goal.returns-in-Ok-serve-clause-keeps
 returns-in-Ok-serve-clause-keeps g c =
-    let reader : Reader = record {
+    let reader : Source = record {
       left = g.R.Source.left c.args.reader.now;
       reads = g.R.Source.reads c.serve.new.reader;
       unread = (g.R.Failing.failures c.args.reader.now, g.R.Failing.failures c.serve.new.reader);
@@ -53,7 +53,7 @@ returns-in-Err-serve-clause-tells g c =
 
 pub returns-in-Err-serve-clause-keeps : goal.returns-in-Err-serve-clause-keeps
 returns-in-Err-serve-clause-keeps g c =
-    let reader : Reader = record {
+    let reader : Source = record {
       left = g.R.Source.left c.args.reader.now;
       reads = g.R.Source.reads c.serve.new.reader;
       unread = (g.R.Failing.failures c.args.reader.now, g.R.Failing.failures c.serve.new.reader);

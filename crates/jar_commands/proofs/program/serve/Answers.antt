@@ -2,7 +2,7 @@ use Rattle.std.proofs.Common.{◌≡◌, inl, inr, option_map, refl}
 use Rattle.std.specs.Option.{option_copied}
 use Rattle.jiff.specs.Words.{civil_nanos}
 use Rattle.jar_commands.specs.Outcomes.{outcome_text}
-use Rattle.jar_commands.specs.Performing.{Reader}
+use Rattle.jar_commands.specs.Performing.{Source}
 use Rattle.jar_commands.specs.Plans.{plan_text}
 use Rattle.jar_commands.specs.Program.{Writer, reads_input}
 use Rattle.jar_commands.specs.ProgramKept.{changes}
@@ -13,7 +13,7 @@ use Rattle.jar_commands.proofs.program.serve.Goals as goal
 
 pub returns-in-Err-clause-serves_err : goal.returns-in-Err-clause-serves_err
 returns-in-Err-clause-serves_err g c =
-    let reader : Reader = record {
+    let reader : Source = record {
       left = g.R.Source.left c.args.reader.now;
       reads = g.R.Source.reads c.args.reader.now;
       unread = (g.R.Failing.failures c.args.reader.now, g.R.Failing.failures c.args.reader.now);
@@ -37,7 +37,7 @@ returns-in-None-clause-serves_err g c = inr (inl (
 
 pub returns-in-Err-read_suffixes-clause-serves_err : goal.returns-in-Err-read_suffixes-clause-serves_err
 returns-in-Err-read_suffixes-clause-serves_err g c =
-    let reader : Reader = record {
+    let reader : Source = record {
       left = g.R.Source.left c.args.reader.now;
       reads = g.R.Source.reads c.bring-given.new.reader;
       unread = (g.R.Failing.failures c.args.reader.now, g.R.Failing.failures c.bring-given.new.reader);
@@ -54,7 +54,7 @@ returns-in-Err-read_suffixes-clause-serves_err g c =
 
 pub returns-in-Err-given-clause-serves_err : goal.returns-in-Err-given-clause-serves_err
 returns-in-Err-given-clause-serves_err g c =
-    let reader : Reader = record {
+    let reader : Source = record {
       left = g.R.Source.left c.args.reader.now;
       reads = g.R.Source.reads c.bring-given.new.reader;
       unread = (g.R.Failing.failures c.args.reader.now, g.R.Failing.failures c.bring-given.new.reader);
@@ -70,7 +70,7 @@ returns-in-Err-given-clause-serves_err g c =
 
 pub returns-in-Ok-outcome_of-clause-serves_ok : goal.returns-in-Ok-outcome_of-clause-serves_ok
 returns-in-Ok-outcome_of-clause-serves_ok g c =
-    let reader : Reader = record {
+    let reader : Source = record {
       left = g.R.Source.left c.args.reader.now;
       reads = g.R.Source.reads c.bring-given.new.reader;
       unread = (g.R.Failing.failures c.args.reader.now, g.R.Failing.failures c.bring-given.new.reader);
@@ -91,7 +91,7 @@ returns-in-Ok-outcome_of-clause-serves_ok g c =
 
 pub returns-in-Ok-outcome_of-clause-serves_err : goal.returns-in-Ok-outcome_of-clause-serves_err
 returns-in-Ok-outcome_of-clause-serves_err g c =
-    let reader : Reader = record {
+    let reader : Source = record {
       left = g.R.Source.left c.args.reader.now;
       reads = g.R.Source.reads c.bring-given.new.reader;
       unread = (g.R.Failing.failures c.args.reader.now, g.R.Failing.failures c.bring-given.new.reader);
@@ -112,7 +112,7 @@ returns-in-Ok-outcome_of-clause-serves_err g c =
 
 pub returns-in-Ok-outcome_of-clause-keeps_ok : goal.returns-in-Ok-outcome_of-clause-keeps_ok
 returns-in-Ok-outcome_of-clause-keeps_ok g c =
-    let reader : Reader = record {
+    let reader : Source = record {
       left = g.R.Source.left c.args.reader.now;
       reads = g.R.Source.reads c.bring-given.new.reader;
       unread = (g.R.Failing.failures c.args.reader.now, g.R.Failing.failures c.bring-given.new.reader);
@@ -133,7 +133,7 @@ returns-in-Ok-outcome_of-clause-keeps_ok g c =
 
 pub returns-in-Ok-outcome_of-clause-keeps_err : goal.returns-in-Ok-outcome_of-clause-keeps_err
 returns-in-Ok-outcome_of-clause-keeps_err g c =
-    let reader : Reader = record {
+    let reader : Source = record {
       left = g.R.Source.left c.args.reader.now;
       reads = g.R.Source.reads c.bring-given.new.reader;
       unread = (g.R.Failing.failures c.args.reader.now, g.R.Failing.failures c.bring-given.new.reader);
@@ -150,7 +150,7 @@ returns-in-Ok-outcome_of-clause-keeps_err g c =
 
 pub returns-clause-serves_err : goal.returns-clause-serves_err
 returns-clause-serves_err g c =
-    let reader : Reader = record {
+    let reader : Source = record {
       left = g.R.Source.left c.args.reader.now;
       reads = g.R.Source.reads c.bring-given.new.reader;
       unread = (g.R.Failing.failures c.args.reader.now, g.R.Failing.failures c.bring-given.new.reader);
@@ -171,7 +171,7 @@ returns-clause-serves_err g c =
 
 pub returns-clause-keeps_err : goal.returns-clause-keeps_err
 returns-clause-keeps_err g c =
-    let reader : Reader = record {
+    let reader : Source = record {
       left = g.R.Source.left c.args.reader.now;
       reads = g.R.Source.reads c.bring-given.new.reader;
       unread = (g.R.Failing.failures c.args.reader.now, g.R.Failing.failures c.bring-given.new.reader);
