@@ -254,8 +254,11 @@ enum { FONNALICH_EARLIER_KEYS = 16 };
 extern "C" {
 #endif
 
-/* Answers 0, or FONNALICH_PROCESSOR on a processor of x86-64 that lacks SSE 4.2. Ask it before a call that takes no
-   handle, which would end the process there by an illegal instruction. */
+/* What fonnalich_text says of FONNALICH_PROCESSOR. On such a processor print this: that call may end the process. */
+#define FONNALICH_PROCESSOR_TEXT "this processor lacks SSE 4.2"
+
+/* Answers 0, or FONNALICH_PROCESSOR on a processor of x86-64 that lacks SSE 4.2, which stands for all of x86-64-v2. Ask
+   it before a call that takes no handle, which would end the process there by an illegal instruction. */
 FONNALICH_FORM ptrdiff_t fonnalich_processor(void) {
 #if defined(__x86_64__) && defined(__GNUC__)
     uint32_t a = 1, b, c = 0, d;

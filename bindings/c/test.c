@@ -749,6 +749,7 @@ static void is_told_in_words(void) {
             ask(!(fonnalich_text(other, again, sizeof again) == length && memcmp(out, again, length) == 0), "its own");
     }
     ask(is(out, fonnalich_text(FONNALICH_URL, out, sizeof out), "the text is no URL"), "no URL in words");
+    ask(is(out, fonnalich_text(FONNALICH_PROCESSOR, out, sizeof out), FONNALICH_PROCESSOR_TEXT), "no SSE 4.2 in words");
     ask(is(out, fonnalich_text(FONNALICH_STOPPED - 3, out, sizeof out), "memory was refused at a line"), "a stop");
     static const int64_t none[] = {0, 1, INT64_MAX, FONNALICH_KEY_END - 1, FONNALICH_STOPPED + 1};
     for (size_t i = 0; i < sizeof none / sizeof none[0]; i++)

@@ -416,6 +416,9 @@ class List(_Handle):
     SYSTEM = "/usr/share/publicsuffix/public_suffix_list.dat"
 
     def __init__(self, text: Text):
+        if not isinstance(text, str) and not _has_bytes(text):
+            kind = type(text).__name__
+            raise TypeError(f"a list's text is wanted, in str or bytes, or List.from_file(path), not {kind}")
         super().__init__()
         self.text = _bytes(text)
         self._call(_KEEP_LIST, 0, b"", self.text)
