@@ -70,23 +70,20 @@ class Unlinked(Exception):
 
 
 def program(processor, command):
-    """A proved program as a static file. Where it can't be linked so here, it is as it was built for x86-64. Raises
-    Unlinked where there is none."""
+    """A proved program as a static file. Raises Unlinked where there is none, or no static file can be linked."""
     is_arm = processor != "x86_64"
     words = shlex.split(ARM_CC) if is_arm else CC
     if not programs.is_built(command):
         raise Unlinked("it isn't proved and built")
-    if is_arm and not links_for_arm():
-        raise Unlinked(f"'{ARM_CC}' isn't there, or links no static file")
+    if not links_static(processor):
+        raise Unlinked(f"'{shlex.join(words)}' isn't there, or links no static file: the C library's are wanted, as of "
+                       f"Debian's package {'libc6-dev-arm64-cross' if is_arm else 'libc6-dev'}")
     if not programs.is_built_for(command, processor):
-        raise Unlinked(f"it isn't proved and built for {processor}")
+        raise Unlinked(f"there is no object of it for {processor} of these sources by this toolchain")
     try:
         return static(words, objects_for_arm(command) if is_arm else objects_of(command))
     except subprocess.CalledProcessError:
-        if is_arm:
-            sys.exit(f"package: '{ARM_CC}' doesn't link {command}, as stands above")
-    print(f"package: {command} is no static file, since what it is linked of isn't there", file=sys.stderr)
-    return read(programs.built(command))
+        sys.exit(f"package: '{shlex.join(words)}' doesn't link {command}, as stands above")
 
 
 def linker_of(processor):
@@ -99,13 +96,14 @@ def linker_of(processor):
     return f"{compiler}, {'a C library without a number' if '__' in told else 'glibc ' + told.replace(' ', '')}"
 
 
-@functools.cache
-def links_for_arm():
-    """Whether a compiler for aarch64 is there, with a C library that links static files."""
-    if not shutil.which(shlex.split(ARM_CC)[0]):
+@functools.lru_cache(None)
+def links_static(processor):
+    """Whether a compiler for a processor is there, with a C library that links static files."""
+    words = CC if processor == "x86_64" else shlex.split(ARM_CC)
+    if not shutil.which(words[0]):
         return False
     with tempfile.TemporaryDirectory() as room:
-        words = [*shlex.split(ARM_CC), "-static", written(f"{room}/it.c", "int main(void) {}\n"), "-o", f"{room}/it"]
+        words = [*words, "-static", written(f"{room}/it.c", "int main(void) {}\n"), "-o", f"{room}/it"]
         return subprocess.run(words, stderr=subprocess.DEVNULL, check=False).returncode == 0
 
 
@@ -125,7 +123,7 @@ def static(words, parts):
 
 def objects_of(command):
     """What a program is linked of, as the toolchain left it."""
-    return [f"{programs.built(command)}.o", place("os"), place("libc")]
+    return [programs.built_for(command, "x86_64"), place("os"), place("libc")]
 
 
 def objects_for_arm(command):

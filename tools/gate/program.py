@@ -1,4 +1,5 @@
 """The repository's programs: their proved builds, and those that are compiled from the sources without a proof."""
+import contextlib
 import hashlib
 import os
 import shutil
@@ -11,14 +12,17 @@ import time
 sys.dont_write_bytecode = True
 sys.path.insert(0, os.path.dirname(os.path.dirname(os.path.abspath(__file__))))
 
-from gate import compiler, firefox
+from gate import compiler
 from gate.kit import CC, demand, guarded, load_rt, place
 from gate.progress import Progress
+from gate.sources import sum_of_files, walked
 
 TOP = os.path.dirname(os.path.dirname(os.path.dirname(os.path.abspath(__file__))))
 # Their names in the shell.
 NAMES = ("cookie-run", "cookie-jar", "cookie-import-firefox")
 COMPILED = f"{TOP}/out/compiled"
+# The folders of a crate that a build reads.
+PARTS = ("src", "specs", "proofs")
 SUFFIXES = f"{TOP}/examples/suffixes.dat"
 SEED = "00" * 32
 BEGIN = "2024-01-01T00:00:00Z"
@@ -85,10 +89,40 @@ def is_fresh(crate, path, *more):
     """Whether no file of a crate and of those below it, and none of `more`, is younger than this one."""
     files = [f"{TOP}/crates.txt", *more]
     for name in crates_to(crate):
-        for part in ("src", "specs", "proofs"):
+        for part in PARTS:
             for at, _, names in os.walk(f"{TOP}/crates/{name}/{part}"):
                 files += [at, *(f"{at}/{it}" for it in names)]
     return max(map(os.path.getmtime, files)) <= os.path.getmtime(path)
+
+
+def made_of(crate, *more, top=TOP):
+    """What a build tells that it is made of and by: the toolchain, and one sum of the files of a crate of a tree, of
+    those below it, and of `more`, whether git knows them or not."""
+    demand("rt")
+    ran = subprocess.run(["rt", "version"], stdout=subprocess.PIPE, text=True, check=True)
+    parts = [f"crates/{name}/{part}" for name in crates_to(crate) for part in PARTS]
+    names = walked(top, "crates.txt", "HANDLES", *parts, *more)
+    return f"toolchain={ran.stdout.strip()}\nsources={sum_of_files(top, names)}\n"
+
+
+def put_note(path, made):
+    """Tells beside a built file what it is made of, and its sum."""
+    with open(f"{path}.made", "w", encoding="utf-8") as to:
+        to.write(f"{made}sha256={digest_of(path)}\n")
+
+
+def noted(path):
+    """What is told so of a file, or None where no note tells of its bytes."""
+    if not os.path.isfile(f"{path}.made"):
+        return None
+    with open(f"{path}.made", encoding="utf-8") as file:
+        made, _, its_sum = file.read().partition("sha256=")
+    return made if its_sum.strip() == digest_of(path) else None
+
+
+def digest_of(path):
+    with open(path, "rb") as file:
+        return hashlib.sha256(file.read()).hexdigest()
 
 
 def sources(command):
@@ -127,6 +161,8 @@ def log_of(name):
 def words_of(command, store):
     """Words with which a program ends with 0, over a file where it keeps its cookies, or one that is made of such."""
     if command == "cookie-import-firefox":
+        # (which alone needs sqlite3)
+        from gate import firefox
         firefox.put(f"{store}.sqlite", firefox.EXAMPLE)
         return [f"{store}.sqlite"]
     if command == "cookie-jar":
@@ -140,8 +176,10 @@ def run_words(command, store):
 
 
 def build(command):
-    """Proves and builds the program, one crate after the other."""
+    """Proves and builds the program anew over what its proof has kept, one crate after the other."""
     demand("rt", CC[0])
+    made = made_of(crate_of(command))
+    clear(command)
     progress, log, names, began = Progress(command), log_of("build"), crates(command), time.time()
     with open(log, "wb") as to, tempfile.TemporaryDirectory() as room:
         for number, name in enumerate(names, 1):
@@ -157,23 +195,38 @@ def build(command):
         sys.exit(126)
     # (a source that was changed meanwhile is younger)
     os.utime(built(command), (began, began))
+    put_note(f"{built(command)}.o", made)
+
+
+def clear(command):
+    """Removes what a build made, so that none of it is taken for the next one's."""
+    for ending in ("", ".o", ".o.made", ".stamp"):
+        with contextlib.suppress(FileNotFoundError):
+            os.remove(f"{built(command)}{ending}")
 
 
 def built_for(command, processor):
-    """Where the object of a proved program for another processor stands."""
-    return f"{TOP}/out/{processor}/{crate_of(command)}.o"
+    """Where the object of a proved program for a processor stands."""
+    return f"{built(command)}.o" if processor == "x86_64" else f"{TOP}/out/{processor}/{crate_of(command)}.o"
 
 
 def is_built_for(command, processor):
-    """Whether a program is built for a processor, and nothing that it is made of is younger."""
-    made = built_for(command, processor)
-    is_here = processor == "x86_64" or os.path.exists(made) and is_fresh(crate_of(command), made)
-    return is_here and is_built(command)
+    """Whether a program is built for a processor, of the sources and by the toolchain that are here. Where no note
+    tells of one for x86-64, as where `rt` alone built it, its time alone tells that."""
+    made, crate = built_for(command, processor), crate_of(command)
+    if not (is_built(command) and os.path.exists(made) and is_fresh(crate, made)):
+        return False
+    return noted(made) in (made_of(crate), *[None] * (processor == "x86_64"))
 
 
 def build_for(command, processor):
-    """Proves and builds a program's object for another processor, over what its own build has kept."""
+    """Proves and builds a program for a processor: for another than x86-64 its object alone, over what its own build
+    has kept."""
+    if processor == "x86_64":
+        build(command)
+        return
     rtlib, to, began = load_rt().rtlib, built_for(command, processor), time.time()
+    made = made_of(crate_of(command))
     crate = next(it for it in rtlib.crates_below(TOP) if it.name == crate_of(command))
     words = crate.words(["--jobs", "1", f"--target={processor}-unknown-linux-gnu", "--backend", "llvm"])
     words += ["--toolchain", place("toolchain"), "--incremental", "out/incremental"]
@@ -185,6 +238,7 @@ def build_for(command, processor):
         sys.exit(f"{command}: it was not built for {processor}: {os.path.relpath(log.name)} tells why")
     # (a source that was changed meanwhile is younger)
     os.utime(to, (began, began))
+    put_note(to, made)
 
 
 def compile_sources(command, is_shown=True):
@@ -261,7 +315,7 @@ def start(command, usage):
     compiler.end_by_exception()
     try:
         if sys.argv[1:] == ["--prove"]:
-            if not is_built(command):
+            if not is_built_for(command, "x86_64"):
                 build(command)
             sys.exit()
         path = ready(command)

@@ -1,36 +1,54 @@
 """The files of a tree, the sums of them that packages tell, and its commit."""
 import hashlib
 import os
+import re
 import subprocess
+import sys
 
 # What the library and the programs are made of, and what else is packed with them and packs them.
 MADE_OF = ("crates", "crates.txt", "HANDLES", "bindings/c/fonnalich.h")
-PACKED = ("LICENSE-APACHE", "LICENSE-MIT", "bindings", "examples/suffixes.dat", "tools/gate", "tools/package",
-          "tools/packaging")
-# Folders of what is built.
-BUILT = ("out", "target", "__pycache__")
+PACKED = ("CHANGELOG.md", "LICENSE-APACHE", "LICENSE-MIT", "bindings", "examples/suffixes.dat", "tools/gate",
+          "tools/package", "tools/packaging")
+# What the library's archive is made of beside its crates.
+BESIDE = ("bindings/build", "bindings/c/fonnalich.h", "bindings/c/forms.c", "bindings/c/heap.c")
+# Folders that hold no source.
+PASSED_OVER = ("out", "target", "__pycache__", ".git")
 
 
 def git(top, *words):
-    """What git says of a tree, or None where it isn't the top of one of git's."""
-    def said(*words):
-        how = {"cwd": top, "stdout": subprocess.PIPE, "stderr": subprocess.DEVNULL, "check": False}
-        try:
-            ran = subprocess.run(["git", *words], **how)
-        except OSError:
-            return None
-        return None if ran.returncode else ran.stdout.decode(errors="surrogateescape")
+    """What git says of a tree, or None of one without git. Ends where git fails in a tree of its own, since what it
+    doesn't know isn't told from what it does then."""
+    if not has_git(top):
+        return None
+    if said_by_git(top, "rev-parse", "--show-prefix") != "\n":
+        sys.exit(f"git: {top} has a .git, and git takes it for no top of a tree")
+    return said_by_git(top, *words)
 
-    # (a tree without git may lie within another one's)
-    return said(*words) if said("rev-parse", "--show-prefix") == "\n" else None
+
+def said_by_git(top, *words):
+    try:
+        ran = subprocess.run(["git", *words], cwd=top, capture_output=True, check=False)
+    except OSError as why:
+        sys.exit(f"git: {top} has a .git, and git doesn't run: {why}")
+    if ran.returncode:
+        why = ran.stderr.decode(errors="replace").strip().partition("\n")[0]
+        sys.exit(f"git: {top} has a .git, and git says: {why}")
+    return ran.stdout.decode(errors="surrogateescape")
+
+
+def has_git(top):
+    """Whether a tree is one of git's, and not only within another one. (A folder without a HEAD marks the top of a
+    copy; `rt ci` puts its lock there.)"""
+    path = f"{top}/.git"
+    return os.path.lexists(f"{path}/HEAD") if os.path.isdir(path) else os.path.lexists(path)
 
 
 def walked(top, *parts):
-    """The files of these files and folders of a tree, but for what is built."""
+    """The files of these files and folders of a tree, but for what is built, and git's own."""
     names = [it for it in parts if os.path.isfile(f"{top}/{it}")]
     for part in parts:
         for at, folders, found in os.walk(f"{top}/{part}"):
-            folders[:] = [it for it in folders if it not in BUILT]
+            folders[:] = [it for it in folders if it not in PASSED_OVER]
             names += [os.path.relpath(f"{at}/{it}", top) for it in found]
     return sorted(names, key=os.fsencode)
 
@@ -48,14 +66,23 @@ def line_of(*parts):
 
 def sum_of(top, *parts):
     """One sum of the files' sums and names: what `line_of` prints where git is."""
+    return sum_of_files(top, listed(top, *parts))
+
+
+def sum_of_files(top, names):
     total = hashlib.sha256()
-    for name in listed(top, *parts):
+    for name in names:
         with open(f"{top}/{name}", "rb") as file:
             total.update(f"{hashlib.sha256(file.read()).hexdigest()}  ".encode() + os.fsencode(name) + b"\n")
     return total.hexdigest()
 
 
 def commit(top):
-    """The commit of the tree, `+` behind it where files differ from it or are unknown to it, or None without git."""
-    name, changed = git(top, "rev-parse", "HEAD"), git(top, "status", "--porcelain")
-    return f"{name.strip()}{'+' if changed else ''}" if name else None
+    """The commit of a tree, `+` behind it where files differ from it or are unknown to it, or None where there is none
+    or no git."""
+    told = git(top, "status", "--porcelain=v2", "--branch")
+    if told is None:
+        return None
+    name = re.search(r"^# branch\.oid ([0-9a-f]+)$", told, re.M)
+    is_changed = any(not it.startswith("# ") for it in told.splitlines())
+    return f"{name[1]}{'+' if is_changed else ''}" if name else None

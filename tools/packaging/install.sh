@@ -20,14 +20,15 @@ fail() {
 # Installs the files of a folder. Each takes its place by a rename, so that what runs keeps the file that it has.
 put() {
     for it in "$here/$1"/*; do
-        at=$to/$1/${it##*/} new=$to/$1/.fonnalich.new mode=644
+        at=$to/$1/${it##*/} new=$to/$1/.fonnalich.new
+        # (where this lies, all files may run, or none)
+        case $1/${it##*/} in bin/* | lib/*.so.*) mode=755 ;; *) mode=644 ;; esac
         if [ -d "$it" ]; then
             put "$1/${it##*/}"
             continue
         fi
         mkdir -p "$to/$1"
         [ ! -d "$at" ] || fail "$at is a folder" 1
-        [ ! -x "$it" ] || mode=755
         rm -f "$new"
         { cp -P "$it" "$new" && { [ -L "$it" ] || chmod "$mode" "$new"; } && mv -f "$new" "$at"; } || {
             rm -f "$new"
@@ -45,6 +46,8 @@ if [ $# != 1 ] || [ -z "$1" ]; then
     echo "$usage" >&2
     exit 2
 fi
+[ -z "${DESTDIR-}" ] ||
+    fail "DESTDIR isn't read: say install.sh \$DESTDIR/usr, since fonnalich.pc tells of the folder where it lies" 2
 case $0 in /*) self=$0 ;; *) self=./$0 ;; esac
 while [ -L "$self" ]; do
     link=$(readlink "$self")
