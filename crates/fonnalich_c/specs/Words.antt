@@ -24,7 +24,7 @@ words_of size =
     else if size == 18 then codes "the text has no = before its first semicolon"
     else if size == 19 then codes "the number is none of SameSite"
     else if size == 20 then codes "the number is none of rules"
-    else if size == 21 then codes "the header has a control character of a loaded cookie"
+    else if size == 21 then codes "the header has a control character"
     else if size == 22 then codes "this processor lacks SSE 4.2"
     else if size == 23 then codes "the library's handle is larger than the header file's"
     else if size == 24 then codes "the suffix list has no rule"

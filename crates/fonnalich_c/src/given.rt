@@ -1,5 +1,5 @@
 //! What a call is given: a moment, a URL, a list, lines.
-ghost use Rattle.std.specs.Prelude.{◌≡◌, ◌≢◌, ◌⊎◌, ◌∷◌, [], map, IfOk, IfErr, Some, None};
+ghost use Rattle.std.specs.Prelude.{◌≡◌, ◌≢◌, ◌⊎◌, ◌∷◌, [], map, IfOk, IfErr, IsTrue, Some, None};
 ghost use Rattle.std.specs.List.{slice_split};
 ghost use Rattle.jiff.specs.Words.{civil_nanos};
 ghost use Rattle.cookie_text.specs.Printing.{whole_seconds};
@@ -111,14 +111,28 @@ pub fn lines(alloc: Global, text: &[u8]) -> Result<Vec<&[u8]>, AllocError>
 fn parts(alloc: Global, text: &[u8]) -> Result<Vec<&[u8]>, AllocError>
     ensures { IfOk result (λ parts. map (λ part. part.now) parts.items ≡ slice_split spec.is_line_feed text.now) }
 {
-    if !text.contains(&b'\n') {
-        return one(alloc, text);
+    if is_one_part(text) {
+        return single(alloc, text);
     }
     text.split(|b| *b == b'\n').collect(alloc)
 }
 
+/// Whether a text is a line by itself.
+pub fn is_one_line(text: &[u8]) -> bool
+    ensures { IsTrue result → spec.lines_of text.now ≡ text.now ∷ [] }
+{
+    !text.is_empty() && is_one_part(text)
+}
+
+// Whether a text is all that stands between its line feeds.
+fn is_one_part(text: &[u8]) -> bool
+    ensures { IsTrue result → slice_split spec.is_line_feed text.now ≡ text.now ∷ [] }
+{
+    !text.contains(&b'\n')
+}
+
 // A text by itself.
-fn one(alloc: Global, text: &[u8]) -> Result<Vec<&[u8]>, AllocError>
+fn single(alloc: Global, text: &[u8]) -> Result<Vec<&[u8]>, AllocError>
     ensures { IfOk result (λ parts. map (λ part. part.now) parts.items ≡ text.now ∷ []) }
 {
     let mut parts = Vec::with_capacity(alloc, 1)?;

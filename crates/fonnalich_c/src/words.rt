@@ -38,7 +38,7 @@ fn words_of(size: u64) -> &'static str
         18 => "the text has no = before its first semicolon",
         19 => "the number is none of SameSite",
         20 => "the number is none of rules",
-        21 => "the header has a control character of a loaded cookie",
+        21 => "the header has a control character",
         22 => "this processor lacks SSE 4.2",
         23 => "the library's handle is larger than the header file's",
         24 => "the suffix list has no rule",
