@@ -9,6 +9,10 @@ int main(void) {
     const char *text[4];
     ptrdiff_t length[4];
     fonnalich_attributes attributes = {0};
+    if (fonnalich_processor() < 0) {
+        fputs("this processor lacks SSE 4.2\n", stderr);
+        return 1;
+    }
     ptrdiff_t all = fonnalich_parse(true, line, strlen(line), &attributes, out, sizeof out);
     if (all < 0 || all > (ptrdiff_t)sizeof out)
         return 1;

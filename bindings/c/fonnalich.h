@@ -37,20 +37,21 @@ typedef struct fonnalich {
 #endif
 
 /* ---- why a call answers no text. Of several causes the first of this table is told: the one with the number nearest
-   to 0. But where the second and the keys of an exchange are right, the first of its commands that is refused is told,
-   and of one that sets, first that nonces are too few, then the expiry, then the length. Want of memory may be told in
-   the place of any cause. */
+   to 0. But FONNALICH_NO_RULE is told where FONNALICH_LIST would be, and FONNALICH_NO_LIST before what is wrong with a
+   second or a text. Where the second and the keys of an exchange are right, the first of its commands that is refused
+   is told, and of one that sets, first that nonces are too few, then the expiry, then the length. Want of memory may
+   be told in the place of any cause. */
 enum {
     FONNALICH_MEMORY = -1,    /* memory was refused; what the handle holds is as it was */
     FONNALICH_WORD = -2,      /* no word of fonnalich_act */
-    FONNALICH_NO_CLIENT = -3, /* neither fonnalich_list nor fonnalich_load was called with success */
+    FONNALICH_NO_CLIENT = -3, /* none of fonnalich_list, _load, _client and _load_by was called with success */
     FONNALICH_LIST = -4,      /* the text is no public suffix list */
     FONNALICH_MOMENT = -5,    /* the second is before the year -9999 or after 9999 */
     FONNALICH_URL = -6,       /* the text is no URL */
     FONNALICH_SAVED = -7,     /* the text is no saved client */
     FONNALICH_YEAR = -8,      /* a cookie that is to be saved ends in a year below 0 */
     FONNALICH_READ = -9,      /* the saved text wasn't read to its end: no run was seen to answer this, but the
-                                 contract lets fonnalich_load */
+                                 contract lets fonnalich_load, _load_by and _reload */
     FONNALICH_KEY = -10,      /* the key has under 64 bytes */
     FONNALICH_COMMAND = -11,  /* a line is no command: the letter or the digit is none, or the text behind them is no
                                  cookie that could be set, as without a name, or no UTF-8 */
@@ -63,11 +64,10 @@ enum {
     FONNALICH_PAIR = -18,     /* the text before the first semicolon has no '=' */
     FONNALICH_SITE = -19,     /* the number is none of an attribute SameSite */
     FONNALICH_RULES = -20,    /* the number is none of FONNALICH_RULE_.. */
-    FONNALICH_LINE = -21,     /* the header has a control character, as a line break, of a loaded cookie */
+    FONNALICH_LINE = -21,     /* the header has a control character, as a line break */
     FONNALICH_PROCESSOR = -22, /* this processor lacks what the library needs: from fonnalich_processor and _begin */
     FONNALICH_HANDLE = -23,   /* the library's handle is larger than this file's: from fonnalich_begin alone */
-    FONNALICH_NO_RULE = -24,  /* the suffix list has no rule, as a page that is empty: told as FONNALICH_LIST is, before
-                                 what is wrong with the second or another text */
+    FONNALICH_NO_RULE = -24,  /* the suffix list has no rule, as a page that is empty */
     FONNALICH_NO_LIST = -25,  /* the handle keeps no list: neither fonnalich_keep_list nor fonnalich_share was called
                                  with success */
     /* from fonnalich_exchange_on_ring alone: */
@@ -462,7 +462,8 @@ ptrdiff_t fonnalich_share(fonnalich *at, fonnalich *other);
 void fonnalich_end(fonnalich *at);
 
 /* Whether a text is the name of a file, as suffixes.dat, which could be a rule: one line of letters, digits, dots and
-   hyphens that ends in .dat or .txt, the case of letters and white space around it aside. */
+   hyphens that ends in .dat or .txt, the case of letters and white space around it aside. Each byte past ASCII counts
+   as a letter. */
 FONNALICH_FORM int fonnalich_names_file(const char *text, size_t length) {
     while (length > 0 && (*text == ' ' || (*text >= '\t' && *text <= '\r')))
         text++, length--;
@@ -472,7 +473,7 @@ FONNALICH_FORM int fonnalich_names_file(const char *text, size_t length) {
         return 0;
     for (size_t i = 0; i < length - 4; i++) {
         char it = text[i];
-        int is_letter = (it >= 'a' && it <= 'z') || (it >= 'A' && it <= 'Z');
+        int is_letter = (it >= 'a' && it <= 'z') || (it >= 'A' && it <= 'Z') || (unsigned char)it >= 0x80;
         if (!is_letter && !(it >= '0' && it <= '9') && it != '.' && it != '-')
             return 0;
     }
@@ -484,9 +485,9 @@ FONNALICH_FORM int fonnalich_names_file(const char *text, size_t length) {
 
 /* A client without a cookie, by the bytes of a public suffix list, in place of the one that was there. Answers 0. The
    list is the text of a file, and not its name: suffixes.dat would be a rule, by which a site sets cookies for
-   Domain=com. So a text of one line that ends in .dat or .txt is FONNALICH_NO_RULE here, by fonnalich_load and by
-   fonnalich_keep_list, and one with a slash is FONNALICH_LIST. To the words of fonnalich_act the first is a rule, and
-   to fonnalich_suffix and fonnalich_shard, which keep nothing. */
+   Domain=com. So what fonnalich_names_file takes for one is FONNALICH_NO_RULE here, by fonnalich_load and by
+   fonnalich_keep_list; one with a slash or an underscore is no list, so FONNALICH_LIST. To the words of fonnalich_act
+   the first is a rule, and to fonnalich_suffix and fonnalich_shard, which keep nothing. */
 FONNALICH_FORM ptrdiff_t fonnalich_list(fonnalich *at, const char *list, size_t list_length) {
     char none;
     if (fonnalich_names_file(list, list_length))
@@ -520,7 +521,8 @@ FONNALICH_FORM ptrdiff_t fonnalich_client(fonnalich *at, fonnalich *list) {
     return number < 0 ? number : fonnalich_act(at, FONNALICH_DO_CLIENT, 0, "", 0, "", 0, &none, 0);
 }
 
-/* The same with the cookies of a saved text that aren't expired at this second. Answers 0. */
+/* The same with the cookies of a saved text that aren't expired at this second. Answers 0. Where the second or that
+   text is refused, the handle keeps the list all the same. */
 FONNALICH_FORM ptrdiff_t fonnalich_load_by(fonnalich *at, fonnalich *list, int64_t second, const char *saved,
                                           size_t saved_length) {
     char none;
@@ -565,8 +567,8 @@ FONNALICH_FORM ptrdiff_t fonnalich_receive(fonnalich *at, int64_t second, const 
 }
 
 /* Writes the Cookie header of a request to this URL; where the answer is 0, the request has none. It is one line: it
-   has no byte below 32 but the tab, and no 127. Behind FONNALICH_RULE_CONTROL a cookie of a saved text that would put
-   one there is left out; without it FONNALICH_LINE. */
+   has no byte below 32 but the tab, and no 127. Behind FONNALICH_RULE_CONTROL a cookie that would put one there is left
+   out. Without that rule it is FONNALICH_LINE, which a neighbour's line can bring about, as x=^A; Domain=shop.com. */
 FONNALICH_FORM ptrdiff_t fonnalich_header(fonnalich *at, int64_t second, const char *url, size_t url_length, char *out,
                                          size_t out_length) {
     return fonnalich_act(at, FONNALICH_DO_HEADER, second, url, url_length, "", 0, out, out_length);
@@ -662,7 +664,7 @@ FONNALICH_FORM ptrdiff_t fonnalich_get(fonnalich *at, int64_t second, const char
 }
 
 /* Takes the cookie of this domain, path and name out of the client. Answers 1, or 0 where it holds none. An expired one
-   that it still keeps counts too. */
+   that it still keeps counts too. What it took out fonnalich_answer then hands out, for fonnalich_next_cookie. */
 FONNALICH_FORM ptrdiff_t fonnalich_remove(fonnalich *at, const char *domain, size_t domain_length, const char *path,
                                           size_t path_length, const char *name, size_t name_length) {
     char none;
@@ -705,8 +707,9 @@ FONNALICH_FORM ptrdiff_t fonnalich_restart(fonnalich *at, int64_t second) {
 }
 
 /* Hands out the last answer that had no room, without doing the work again; 0 where there is none. It is kept until it
-   is handed out with room for all of it, or another call by the handle isn't refused: fonnalich_list, _load, _rules,
-   _restart, _clear, _remove, _keep_list and _client drop it too. */
+   is handed out with room for all of it, or another call by the handle but fonnalich_share isn't refused:
+   fonnalich_list, _load, _rules, _restart, _clear, _keep_list and _client drop it too, and so does _remove, which keeps
+   what it takes out. */
 FONNALICH_FORM ptrdiff_t fonnalich_answer(fonnalich *at, char *out, size_t out_length) {
     return fonnalich_act(at, FONNALICH_DO_ANSWER, 0, "", 0, "", 0, out, out_length);
 }

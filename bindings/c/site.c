@@ -24,6 +24,10 @@ int main(void) {
                        FONNALICH_GET FONNALICH_SIGNED "theme";
     const char *text;
     ptrdiff_t length;
+    if (fonnalich_processor() < 0) {
+        fputs("this processor lacks SSE 4.2\n", stderr);
+        return 1;
+    }
     if (getrandom(key, sizeof key, 0) != sizeof key)
         return 1;
     ptrdiff_t all = serve("", sets, out, sizeof out);

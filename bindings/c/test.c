@@ -363,7 +363,7 @@ static void refuses_a_list_without_a_rule(void) {
         ask(gives(fonnalich_shard_of_url(T(none[i]), T("a"), out, sizeof out), FONNALICH_NO_RULE), "list, URL");
     }
     static const char *names[] = {"suffixes.dat", "public-list.txt", "x.dat", ".dat", "SUFFIXES.DAT", "List.Txt",
-                                  "x.dat\n", " \r\nx.dat \t"};
+                                  "x.dat\n", " \r\nx.dat \t", "\xd1\x80\xd1\x84.dat"};
     for (size_t i = 0; i < sizeof names / sizeof names[0]; i++) {
         ask(gives(fonnalich_list(&at, T(names[i])), FONNALICH_NO_RULE), names[i]);
         ask(gives(fonnalich_load(&at, NOW, T("[]"), T(names[i])), FONNALICH_NO_RULE), names[i]);
@@ -381,10 +381,11 @@ static void refuses_a_list_without_a_rule(void) {
 
 static void shares_a_list(void) {
     char out[256], saved[2048];
-    fonnalich list, at, other;
+    fonnalich list, at, other, third;
     fonnalich_begin(&list);
     fonnalich_begin(&at);
     fonnalich_begin(&other);
+    fonnalich_begin(&third);
     ask(gives(fonnalich_client(&at, &list), FONNALICH_NO_LIST), "it keeps none yet");
     ask(gives(fonnalich_suffix_by(&list, T("a..b"), out, sizeof out), FONNALICH_NO_LIST), "list, host");
     ask(gives(fonnalich_keep_list(&list, T("a..b")), FONNALICH_LIST), "no list");
@@ -401,6 +402,10 @@ static void shares_a_list(void) {
     ask(gives(fonnalich_load_by(&other, &at, NOW, T("[(")), FONNALICH_SAVED), "no saved text");
     ask(gives(fonnalich_load_by(&other, &at, INT64_MAX, T("[(")), FONNALICH_MOMENT), "second, saved text");
     ask(is(out, fonnalich_header(&other, NOW, T(URL), out, sizeof out), "b=2"), "it stays");
+    ask(gives(fonnalich_load_by(&third, &at, INT64_MAX, T("[]")), FONNALICH_MOMENT), "no second");
+    ask(gives(fonnalich_count(&third, NOW), FONNALICH_NO_CLIENT), "so no client");
+    ask(is(out, fonnalich_suffix_by(&third, T("a.com"), out, sizeof out), "com"), "but the list");
+    fonnalich_free(&third);
     ask(gives(fonnalich_keep_list(&at, T("org\n")), 0), "another list");
     count = fonnalich_receive(&at, NOW, T(URL), T("a=1; Domain=com"), out, sizeof out);
     ask(gives(count, 1) && out[0] == FONNALICH_PUBLIC_SUFFIX, "a client keeps its own");
@@ -596,6 +601,7 @@ static void finds_and_removes(void) {
     ask(gives(fonnalich_remove(&at, T("a.example.com"), T("/"), T("a")), 0), "another domain");
     ask(gives(fonnalich_count(&at, NOW), 2), "nothing was removed");
     ask(gives(fonnalich_remove(&at, T("example.com"), T("/"), T("a")), 1), "it is removed");
+    ask(lists(out, fonnalich_answer(&at, out, sizeof out), a, 1), "and handed out");
     ask(gives(fonnalich_remove(&at, T("example.com"), T("/"), T("a")), 0), "once");
     ask(is(out, fonnalich_header(&at, NOW, T("https://example.com/x"), out, sizeof out), "a=2"), "it alone");
     ask(gives(fonnalich_remove(&at, T("example.com"), T("/x"), T("a")), 1), "the other one");

@@ -29,7 +29,7 @@ var refusals = map[Refused]string{
 	-4: "the text is no public suffix list: hand in what the file holds, as by os.ReadFile",
 	-5: "the moment is outside the years -9999 to 9999",
 	-6: "the text is no URL", -7: "the text is no saved jar", -8: "a cookie ends in a year below 0",
-	-17: "a text isn't UTF-8", -20: "the number is none of rules", -21: "a loaded cookie has a control character",
+	-17: "a text isn't UTF-8", -20: "the number is none of rules", -21: "the header has a control character",
 	-24: "the suffix list has no rule: hand in what the file holds, as by os.ReadFile",
 }
 
@@ -101,8 +101,8 @@ func (it *LineError) Error() string {
 
 // Rules is a sum of rules of browsers (the draft that follows RFC 6265, sections 5.5 to 5.7), or NoRules.
 //
-// With Control a header leaves out a cookie in whose name or value a control character stands, as one of a saved text
-// may have it. Without it such a header is refused.
+// With Control a header leaves out a cookie in whose name or value a control character stands. Without it such a header
+// is refused, and a neighbour's line can bring that about.
 type Rules int64
 
 // SecureWins is no browser's: a header leaves out what has the name of a Secure cookie in it and isn't Secure. Some

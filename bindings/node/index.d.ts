@@ -21,10 +21,10 @@ export type Callback<T> = (error: Error | null, value?: T) => void;
 
 /**
  * The rules of browsers, of which a jar takes a sum. With `CONTROL` a header leaves out a cookie in whose name or value
- * a control character stands, as one of a saved text may have it; without it such a header is refused as `Line`.
- * Some browsers have `LAX_BY_DEFAULT`: where a page of another site starts a request, a cookie without `SameSite` is one
- * with `SameSite=Lax`. Some have `NONE_NEEDS_SECURE`: one with `SameSite=None` that isn't Secure is refused. `BROWSER`
- * has neither. No browser has `SECURE_WINS`.
+ * a control character stands; without it such a header is refused as `Line`, and a neighbour's line can bring that
+ * about. Some browsers have `LAX_BY_DEFAULT`: where a page of another site starts a request, a cookie without
+ * `SameSite` is one with `SameSite=Lax`. Some have `NONE_NEEDS_SECURE`: one with `SameSite=None` that isn't Secure is
+ * refused. `BROWSER` has neither. No browser has `SECURE_WINS`.
  */
 export declare const Rules: Readonly<{
     NONE: 0; CONTROL: 1; TOO_LONG: 2; SECURE_PREFIX: 4; HOST_PREFIX: 8; SECURE_FROM_HTTP: 16; SECURE_OVERLAY: 32;

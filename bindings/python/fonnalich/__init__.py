@@ -981,8 +981,8 @@ class Client(_Handle):
                navigates: bool = False) -> str:
         """The Cookie header of a request to this URL; empty where it gets none.
 
-        It is one line: behind the rule `CONTROL` a cookie of a saved text that would put a control character there is
-        left out, and without that rule the header is refused as `Line`.
+        It is one line: behind the rule `CONTROL` a cookie that would put a control character there is left out. Without
+        that rule the header is refused as `Line`, which a neighbour's line can bring about.
         `initiator` is the URL of the document at the top of the frames, where the one that starts the request and each
         above it are of one site with it; else `data:,`, as for a frame of ads.com in a page of shop.com. Without it the
         user does. Where it is of another site, cookies are left out whose `SameSite` is `Strict`, and unless the

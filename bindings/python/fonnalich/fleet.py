@@ -112,20 +112,27 @@ class Fleet:
         with Client(self._suffixes, rules=rules) as client:
             self._rules, self._empty = client.rules, _text(client)
 
-    def receive(self, url: str, lines: Iterable[Text], now: Optional[Moment] = None) -> list[End]:
-        """Takes the Set-Cookie lines of an answer from this URL, and says what became of each.
+    def receive(self, url: str, lines: Iterable[Text], now: Optional[Moment] = None, *,
+                initiator: Optional[str] = None, navigates: bool = False) -> list[End]:
+        """Takes the Set-Cookie lines of an answer from this URL as `Client.receive` does, and says what became of each.
 
         They are in the store once it returns. It raises `Conflict` where others came between too often; nothing is put
         then, nor where it raises `Refused` or `Stopped`."""
         each, second = _lines(lines), _second(now)
-        return self._change(url, lambda client: client.receive(url, each, second)) if each else []
 
-    def header(self, url: str, now: Optional[Moment] = None) -> str:
-        """The Cookie header of a request to this URL; empty where it gets none. Nothing is put into the store."""
+        def change(client: Client) -> list[End]:
+            return client.receive(url, each, second, initiator=initiator, navigates=navigates)
+
+        return self._change(url, change) if each else []
+
+    def header(self, url: str, now: Optional[Moment] = None, *, initiator: Optional[str] = None,
+               navigates: bool = False) -> str:
+        """The Cookie header of a request to this URL, as `Client.header` tells it; empty where it gets none. Nothing is
+        put into the store."""
         second, key = _second(now), self._key(url)
         text, _ = self.store.get(key)
         with self._loaded(key, text) as client:
-            return client.header(url, second)
+            return client.header(url, second, initiator=initiator, navigates=navigates)
 
     def drop_expired(self, url: str, now: Optional[Moment] = None) -> None:
         """Drops the cookies of the URL's shard that are expired, and keeps all others, those without an expiry too.

@@ -227,7 +227,7 @@ pub enum Error {
     Utf8Error,
     /// The text before the first `;` has no `=`.
     MissingPair,
-    /// The header has a control character, as a line break, of a loaded cookie.
+    /// The header has a control character, as a line break.
     Line,
     /// The system gave no random bytes for a nonce.
     Random,
@@ -460,8 +460,9 @@ impl Client {
         Ok(ends_of(lines.len(), &text, ends))
     }
 
-    /// The Cookie header of a request to this URL; empty where it gets none. It is one line: behind the rule `control` a
-    /// cookie of a saved text that would put a control character there is left out, and without it that is `Line`.
+    /// The Cookie header of a request to this URL; empty where it gets none. It is one line: behind the rule `control`
+    /// a cookie that would put a control character there is left out. Without that rule it is `Line`, which a
+    /// neighbour's line can bring about.
     pub fn header(&mut self, url: &str, now: i64) -> Result<Vec<u8>, Error> {
         self.act(Word::Header, now, url.as_bytes(), b"").map(<[u8]>::to_vec)
     }
