@@ -3,6 +3,8 @@
 set -eu
 unset CDPATH
 umask 022
+# (where ldconfig is, which not every PATH names)
+PATH=$PATH:/usr/sbin:/sbin
 usage="usage: install.sh PREFIX, as /usr/local"
 line_break='
 '
