@@ -1,6 +1,6 @@
 //! What a call is given: a moment, a URL, a list, lines.
-ghost use Rattle.std.specs.Prelude.{◌≡◌, ◌≢◌, ◌⊎◌, ◌∷◌, [], map, IfOk, IfErr, IsTrue, Some, None};
-ghost use Rattle.std.specs.List.{slice_split};
+ghost use Rattle.std.specs.Prelude.{◌≡◌, ◌≢◌, ◌↔◌, ◌⊎◌, ◌∷◌, [], map, IfOk, IfErr, IsTrue, Some, None, false};
+ghost use Rattle.std.specs.List.{list_any, slice_split};
 ghost use Rattle.jiff.specs.Words.{civil_nanos};
 ghost use Rattle.cookie_text.specs.Printing.{whole_seconds};
 ghost use Rattle.store_parts.specs.Expiry.{epoch};
@@ -117,16 +117,18 @@ fn parts(alloc: Global, text: &[u8]) -> Result<Vec<&[u8]>, AllocError>
     text.split(|b| *b == b'\n').collect(alloc)
 }
 
-/// Whether a text is a line by itself.
+/// Whether a text is a line by itself: it has a byte, and none that is a line feed.
 pub fn is_one_line(text: &[u8]) -> bool
-    ensures { IsTrue result → spec.lines_of text.now ≡ text.now ∷ [] }
+    ensures value { IsTrue result ↔ ((text.now ≢ []) × (list_any spec.is_line_feed text.now ≡ false)) }
+    ensures line { IsTrue result → spec.lines_of text.now ≡ text.now ∷ [] }
 {
     !text.is_empty() && is_one_part(text)
 }
 
-// Whether a text is all that stands between its line feeds.
+// Whether a text is all that stands between its line feeds: it has none.
 fn is_one_part(text: &[u8]) -> bool
-    ensures { IsTrue result → slice_split spec.is_line_feed text.now ≡ text.now ∷ [] }
+    ensures value { IsTrue result ↔ (list_any spec.is_line_feed text.now ≡ false) }
+    ensures part { IsTrue result → slice_split spec.is_line_feed text.now ≡ text.now ∷ [] }
 {
     !text.contains(&b'\n')
 }

@@ -6,7 +6,7 @@ use Rattle.fonnalich_c.proofs.given.parts.Goals as goal
 
 pub returns-then-is_one_part : goal.returns-then-is_one_part
 returns-then-is_one_part c = subst (λ whole. IfOk c.single.result (λ parts. map (λ part. part.now) parts.items ≡ whole))
-    (sym (c.if-is_one_part.ensures refl)) c.single.ensures
+    (sym (c.if-is_one_part.ensures.part refl)) c.single.ensures
 
 pub returns : goal.returns
 returns c = map_from_collect _ c.collect.ensures.ran (YieldsList-from_slice_split _ _ c.args.text.now

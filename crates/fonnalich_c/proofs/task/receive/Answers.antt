@@ -56,4 +56,4 @@ returns-then-is_one_line-clause-err c =
     fault_gives c.receive_one.result _ _ (λ refused told. one_line_refused c.args.browsing.now.rules c.args.second
     (civil_nanos c.in_ok-now.now) c.args.subject.now c.args.text.now c.args.client.now c.receive_one.new.client
     c.in_ok-url.url.now refused none moment c.in_ok-url.ensures.ok
-    (c.if-is_one_line.ensures refl) c.receive_one.ensures.list told) c.receive_one.ensures.err
+    (c.if-is_one_line.ensures.line refl) c.receive_one.ensures.list told) c.receive_one.ensures.err
