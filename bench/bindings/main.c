@@ -16,6 +16,7 @@ size_t bench_client(const char *list, size_t list_length, const char *url, size_
 static const char *LIST = "com\norg\n*.ck\n", *URL = "https://www.shop.com/cart/list";
 static const char *OTHER = "https://www.shop.com/cart/last";
 static const char *LINE = "user=ann; Path=/; Secure; HttpOnly; Max-Age=3600";
+static const char *NO_COOKIE = "user";
 static const int64_t NOW = 1700000000;
 static char lines[100 * 64], out[8192];
 static fonnalich at;
@@ -29,6 +30,11 @@ static void some(ptrdiff_t answer) {
 
 static void receive_once(void) {
     some(fonnalich_receive(&at, NOW, T(URL), T(LINE), out, sizeof out));
+}
+
+// What a handle does beside its client: the client's own part is least here.
+static void refuse_once(void) {
+    some(fonnalich_receive(&at, NOW, T(URL), T(NO_COOKIE), out, sizeof out));
 }
 
 static void header_once(void) {
@@ -57,6 +63,10 @@ static void none(void) {
 
 static void own_receives(void) {
     some(bench_client(T(LIST), T(URL), T(lines), T(LINE), NOW, TIMES + 1, 1));
+}
+
+static void own_refusals(void) {
+    some(bench_client(T(LIST), T(URL), T(lines), T(NO_COOKIE), NOW, TIMES + 1, 1));
 }
 
 static void own_headers(void) {
@@ -94,6 +104,8 @@ static void time_client(int rows) {
     snprintf(name, sizeof name, "the client's own: %.2f times", receive / own_receive);
     report(name, 0, own_receive);
     report("at another URL each time", 0, least_time(receive_elsewhere));
+    report("a line that is no cookie", 0, least_time(refuse_once));
+    report("the client's own", 0, each(own_refusals));
     snprintf(name, sizeof name, "header, %d rows", rows);
     report(name, 0, header);
     snprintf(name, sizeof name, "the client's own: %.2f times", header / own_header);

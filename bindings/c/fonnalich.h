@@ -55,7 +55,8 @@ enum {
     FONNALICH_KEY = -10,      /* the key has under 64 bytes */
     FONNALICH_COMMAND = -11,  /* a line is no command: the letter or the digit is none, or the text behind them is no
                                  cookie that could be set, as without a name, or no UTF-8 */
-    FONNALICH_EMPTY_NAME = -12, /* the name to be read or removed is empty, or that of fonnalich_parse's text */
+    FONNALICH_EMPTY_NAME = -12, /* the name that a command reads or removes is empty, or that of the text of
+                                   fonnalich_parse */
     FONNALICH_EXPIRY = -13,   /* the expiry of a cookie is of a year below 100 */
     FONNALICH_TOO_LONG = -14, /* the value or the name of a cookie is too long to be sealed */
     FONNALICH_NONCES = -15,   /* a cookie is to be sealed, and fewer than twelve bytes of nonces are left */
@@ -556,9 +557,9 @@ FONNALICH_FORM ptrdiff_t fonnalich_rules(fonnalich *at, int64_t rules) {
 }
 
 /* Takes the Set-Cookie lines of an answer from this URL, joined by '\n', and writes a byte for each: what became of it.
-   An empty text has no line: so one empty line alone, which is no cookie, is told 0 outcomes. A '\r' before the '\n' is
-   one of the line's bytes: it is trimmed as white space, but FONNALICH_RULE_CONTROL refuses the line. So join lines by
-   '\n' alone.
+   An empty text has no line: so one empty line alone, which is no cookie, is told 0 outcomes. Behind a last '\n' stands
+   one more line, which is empty: FONNALICH_PARSE. A '\r' before the '\n' is one of the line's bytes: it is trimmed as
+   white space, but FONNALICH_RULE_CONTROL refuses the line. So join lines by '\n' alone, and end none by it.
    FONNALICH_STOPPED - n says that memory was refused at line n, counted from 1: those before it were taken, and no
    later one; at 0 none was. */
 FONNALICH_FORM ptrdiff_t fonnalich_receive(fonnalich *at, int64_t second, const char *url, size_t url_length,

@@ -241,6 +241,25 @@ static void keeps_an_answer(void) {
     fonnalich_free(&at);
 }
 
+/* A line by itself goes another way where there is room for what became of it. */
+static void keeps_the_answer_of_a_line(void) {
+    char out[256];
+    fonnalich at;
+    fonnalich_begin(&at);
+    memset(out, '#', sizeof out);
+    ask(gives(fonnalich_receive(&at, NOW, T(URL), T("a=1"), out, sizeof out), FONNALICH_NO_CLIENT), "no client");
+    fonnalich_list(&at, T(LIST));
+    ask(gives(fonnalich_receive(&at, NOW, T(URL), T("a=1"), out, 0), 1) && out[0] == '#', "no room for one");
+    ask(gives(fonnalich_receive(&at, NOW, T("no url"), T("a=2"), out, 1), FONNALICH_URL), "a refusal");
+    ask(gives(fonnalich_receive(&at, INT64_MAX, T(URL), T("a=2"), out, 1), FONNALICH_MOMENT), "another");
+    ask(gives(fonnalich_answer(&at, out, 0), 1) && out[0] == '#', "it is still kept");
+    ask(gives(fonnalich_receive(&at, NOW, T(URL), T("a=2"), out, 1), 1), "the next line has room");
+    ask(out[0] == FONNALICH_UPDATED_EXISTING && out[1] == '#', "what became of it, and no more");
+    ask(gives(fonnalich_answer(&at, out, sizeof out), 0), "what was kept is dropped");
+    ask(is(out, fonnalich_header(&at, NOW, T(URL), out, sizeof out), "a=2"), "both lines came");
+    fonnalich_free(&at);
+}
+
 /* ---- saved and loaded */
 
 static ptrdiff_t header_for(fonnalich *at, uint32_t started, const char *page, char *out, size_t room) {
@@ -1453,6 +1472,7 @@ int main(int count, char **words) {
     tells_rules_apart();
     goes_from_page_to_page();
     keeps_an_answer();
+    keeps_the_answer_of_a_line();
     comes_back();
     hands_all_over();
     tells_what_it_holds();

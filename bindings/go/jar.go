@@ -1,4 +1,4 @@
-// Package fonnalich is a jar of cookies for net/http (RFC 6265), by the proved library fonnalich.
+// Package fonnalich is a jar of cookies for net/http (RFC 6265), by the library fonnalich, whose sources are proved.
 //
 // The library is that of out/, which bindings/build makes, or of the folder that CGO_CFLAGS=-I.. and CGO_LDFLAGS=-L..
 // name. With the tag pkgconfig it is the one that pkg-config finds.

@@ -1,5 +1,6 @@
 'use strict';
-/* Cookies of an HTTP client (RFC 6265), by the proved library fonnalich: a jar of tough-cookie's shape.
+/* Cookies of an HTTP client (RFC 6265), by the library fonnalich, whose sources are proved: a jar of tough-cookie's
+   shape.
 
    The addon is fonnalich.node beside this file, else that of out/, or the file FONNALICH_NODE. */
 const fs = require('node:fs');

@@ -60,8 +60,8 @@ for it in include/fonnalich.h lib/libfonnalich.a share/doc/fonnalich/PROVENANCE.
     [ -f "$here/$it" ] || fail "there is no $it in $here, where it looks for what it installs" 1
 done
 if [ "$(uname -m)" != "@PROCESSOR@" ]; then
-    say "this machine is a $(uname -m), and the library for @PROCESSOR@" >&2
-elif [ "@PROCESSOR@" = x86_64 ] && ! grep -qs '\bsse4_2\b' /proc/cpuinfo; then
+    say "this machine's processor is $(uname -m), and the library is for @PROCESSOR@" >&2
+elif [ "@PROCESSOR@" = x86_64 ] && [ -r /proc/cpuinfo ] && ! grep -qs '\bsse4_2\b' /proc/cpuinfo; then
     say "this machine lacks SSE 4.2, which the library needs" >&2
 fi
 mkdir -p "$1"

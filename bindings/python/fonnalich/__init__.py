@@ -1,4 +1,4 @@
-"""Cookies of an HTTP client and of a site (RFC 6265), by the proved library fonnalich.
+"""Cookies of an HTTP client and of a site (RFC 6265), by the library fonnalich, whose sources are proved.
 
 `Session` is what a site reads and sets within one request, `Cookie` a cookie by itself. `Client` is a client, by a
 public suffix `List`; `Jar` is one for `urllib`, and `Adapter` one for `requests`. The modules `flask`, `django`,
@@ -55,7 +55,18 @@ RingKey = Union[Bytes, Tuple[Bytes, Optional[Moment]]]
 Life = Union[int, float, datetime.timedelta]
 """How long a cookie lives: seconds, of which the whole part counts, or a `timedelta`. One below 0 is 0."""
 
-_LIB = ctypes.CDLL(os.environ.get("FONNALICH_LIB") or _path())
+
+
+def _loaded() -> ctypes.CDLL:
+    """The shared library."""
+    try:
+        return ctypes.CDLL(os.environ.get("FONNALICH_LIB") or _path())
+    except OSError as why:
+        places = f"beside this module, in {_HERE}, or where FONNALICH_LIB says, for this machine's processor"
+        raise ImportError(f"fonnalich: the library libfonnalich.so has to lie {places}: {why}") from None
+
+
+_LIB = _loaded()
 _TEXT = [ctypes.c_char_p, ctypes.c_size_t]
 _LIB.fonnalich_size.restype = ctypes.c_size_t
 _LIB.fonnalich_version.argtypes = [ctypes.c_void_p, ctypes.c_size_t]
@@ -437,7 +448,13 @@ class List(_Handle):
     def from_file(cls, path: Union[str, os.PathLike[str]]) -> List:
         """The list of a file."""
         with open(path, "rb") as file:
-            return cls(file.read())
+            text = file.read()
+        try:
+            # (as a line that is ended one rule alone isn't looked for as a file)
+            return cls(text if text.endswith(b"\n") else text + b"\n")
+        except Refused as why:
+            why.args = (f"{os.fspath(path)}: {why.text}",)
+            raise
 
     @classmethod
     def system(cls) -> List:
@@ -548,7 +565,7 @@ class Cookie:
 
     def _printed(self, encode: bool) -> str:
         if self.same_site not in _SITES:
-            raise ValueError(f"same_site is {self.same_site!r}")
+            raise ValueError(f"same_site is {self.same_site!r}, none of 'Strict', 'Lax' and 'None'")
         attributes = _Attributes(
             _seconds_of(self.max_age or 0), _second_of(self.expires or 0), self.max_age is not None,
             self.expires is not None, self.path is not None, self.domain is not None, self.http_only, self.secure,
@@ -867,7 +884,7 @@ class Session:
         With `until` the value ends: from that moment on no session reads it, whatever the client kept. It is signed or
         sealed with the moment and the name in it, `get_until` reads it, and the moment is the cookie's expiry."""
         if same_site not in (None, "Strict", "Lax", "None"):
-            raise ValueError(f"same_site is {same_site!r}")
+            raise ValueError(f"same_site is {same_site!r}, none of 'Strict', 'Lax' and 'None'")
         way = _way(way)
         if until is not None and (max_age, expires) != (None, None):
             raise ValueError("a value with an end has no other expiry")
@@ -951,6 +968,8 @@ class Client(_Handle):
         self._put(rules)
 
     def _put(self, rules: int) -> None:
+        if not isinstance(rules, int):
+            raise TypeError(f"rules are Rules, as Rules.BROWSER, not {type(rules).__name__}")
         self._call(_RULES, _counted(rules), b"", b"")
         self._rules = Rules(rules)
 

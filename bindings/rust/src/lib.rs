@@ -1,4 +1,4 @@
-//! Cookies of an HTTP client and of a site (RFC 6265), by the proved library fonnalich.
+//! Cookies of an HTTP client and of a site (RFC 6265), by the library fonnalich, whose sources are proved.
 //!
 //! A client keeps what it is sent:
 //!
@@ -24,6 +24,10 @@
 //! assert_eq!(session.get(Way::Signed, "user")?.as_deref(), Some("7"));
 //! # Ok::<(), fonnalich::Error>(())
 //! ```
+//!
+//! # Panics
+//!
+//! On a processor of x86-64 without SSE 4.2 the first call panics, and says so.
 
 mod cookie;
 mod cookies_txt;
@@ -221,7 +225,7 @@ pub enum Error {
     Expiry,
     /// The value or the name of a cookie is too long to be sealed.
     TooLong,
-    /// The host has no byte, or an empty label.
+    /// The host has no byte or an empty label, or the URL has none.
     Host,
     /// The name or the value, percent-decoded, isn't UTF-8.
     Utf8Error,
@@ -282,7 +286,7 @@ impl fmt::Display for Error {
             Error::EmptyName => to.write_str("the name is empty"),
             Error::Expiry => to.write_str("the expiry is of a year below 100"),
             Error::TooLong => to.write_str("the cookie is too long to be sealed"),
-            Error::Host => to.write_str("the host has no byte, or an empty label"),
+            Error::Host => to.write_str("the host has no byte or an empty label, or the URL has none"),
             Error::Utf8Error => to.write_str("the name or the value, percent-decoded, isn't UTF-8"),
             Error::MissingPair => to.write_str("the text has no = before its first ;"),
             Error::Line => to.write_str("the header has a control character"),

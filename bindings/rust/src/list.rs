@@ -39,11 +39,13 @@ impl List {
     /// The list of a file.
     pub fn from_file(path: impl AsRef<Path>) -> Result<List, ListError> {
         let path = path.as_ref();
-        let text = fs::read(path).map_err(|why| ListError::File(path.to_owned(), why))?;
+        let mut text = fs::read(path).map_err(|why| ListError::File(path.to_owned(), why))?;
+        // (as a line that is ended one rule alone isn't looked for as a file)
+        text.push(b'\n');
         List::new(text).map_err(|why| ListError::Text(path.to_owned(), why))
     }
 
-    /// The list of Debian's package `publicsuffix`.
+    /// The list of Debian's package `publicsuffix`: `File` where it isn't installed.
     pub fn system() -> Result<List, ListError> {
         List::from_file(SYSTEM)
     }
@@ -118,6 +120,8 @@ impl fmt::Display for ListError {
     fn fmt(&self, to: &mut fmt::Formatter<'_>) -> fmt::Result {
         match self {
             ListError::File(path, why) => write!(to, "{}: {why}", path.display()),
+            ListError::Text(path, Error::List) => write!(to, "{}: the text is no public suffix list", path.display()),
+            ListError::Text(path, Error::NoRule) => write!(to, "{}: the suffix list has no rule", path.display()),
             ListError::Text(path, why) => write!(to, "{}: {why}", path.display()),
         }
     }
@@ -245,7 +249,14 @@ mod tests {
         assert_eq!((suffix(&list, "a.com").as_deref(), format!("{list:?}").as_str()), (Ok("com"), "List { .. }"));
         fs::write(&path, "list/list").unwrap();
         let told = List::from_file(&path).unwrap_err().to_string();
-        assert_eq!(told, format!("{}: {}", path.display(), Error::List));
+        assert_eq!(told, format!("{}: the text is no public suffix list", path.display()));
+        fs::write(&path, "// com").unwrap();
+        let told = List::from_file(&path).unwrap_err().to_string();
+        assert_eq!(told, format!("{}: the suffix list has no rule", path.display()));
+        // (of one rule, which is the name of a file that is there)
+        fs::write(&path, "Cargo.toml").unwrap();
+        assert_eq!(suffix(&List::from_file(&path).unwrap(), "a.cargo.toml").as_deref(), Ok("cargo.toml"));
+        assert_eq!(List::new("Cargo.toml").err(), Some(Error::NoRule));
         fs::remove_file(&path).unwrap();
         let told = List::from_file(&path).unwrap_err().to_string();
         assert_eq!(told, format!("{}: No such file or directory (os error 2)", path.display()));

@@ -1,10 +1,10 @@
 -- The outcomes of lines.
-use Rattle.std.proofs.Common.{◌≡◌, ◌⊎◌, ℕ, ℤ, Bool, true, false, List, [], ◌∷◌, length, Option, None, ap, arith, inl}
-use Rattle.std.proofs.Common.{inr, subst, sym}
+use Rattle.std.proofs.Common.{◌≡◌, ◌≢◌, ◌<◌, ℕ, ℤ, Bool, true, false, List, [], ◌∷◌, length, None, ap, arith, inl}
+use Rattle.std.proofs.Common.{inr, refl, subst, sym}
 use Rattle.publicsuffix.specs.Rules.{Rule}
 use Rattle.url.specs.Parts.{Parts}
 use Rattle.cookie_store.specs.Rows.{Row, Store}
-use Rattle.cookie_client.specs.Accept.{AcceptsAll}
+use Rattle.cookie_client.specs.Accept.{Accepts, AcceptsAll, AsksForMemory, IsStopped}
 use Rattle.cookie_client.specs.declared.outcome.LineEnd.{LineEnd}
 use Rattle.user_agent.specs.Agent.{TakesLines}
 use Rattle.user_agent.specs.CrossAnswers.{ReceivesFor, TakesLinesFrom}
@@ -13,8 +13,10 @@ use Rattle.user_agent.specs.declared.rules.Outcome.{Outcome}
 use Rattle.user_agent.specs.declared.rules.Rules.{Rules}
 use Rattle.user_agent.specs.declared.sites.Initiator.{Initiator}
 use Rattle.fonnalich_c.specs.Given.{IsUrl, lines_of, nanos_of}
-use Rattle.fonnalich_c.specs.Tasks.{RefusesLines, Stops}
-use Rattle.fonnalich_c.specs.declared.refusal.Refusal.{Refusal}
+use Rattle.fonnalich_c.specs.Handle.{IsHandedOut}
+use Rattle.fonnalich_c.specs.Numbers.{end_number}
+use Rattle.fonnalich_c.specs.Room.{IsWritten}
+use Rattle.fonnalich_c.specs.Tasks.{Receives, RefusesLines}
 use Rattle.fonnalich_c.specs.declared.refusal.Refusal.TheVariants as refusal
 
 -- there is one for each line
@@ -51,20 +53,40 @@ as_many_for rules list rows url initiator now lines outcomes new (inl (comes, ta
 as_many_for rules list rows url initiator now lines outcomes new (inr (isnt, taken)) =
     as_many_from rules false list rows url now lines outcomes new taken
 
--- ---- a line without rules
+-- ---- a line by itself, without rules
 
--- a refusal of it is one of its text
-pub one_line_refused : (rules : Option Rules) (second now : ℤ) (subject text : List ℕ) (old new : Store) (url : Parts)
-    (refused : Refusal) → rules ≡ None → now ≡ nanos_of second → IsUrl subject url → lines_of text ≡ text ∷ []
-    → new.suffixes ≡ old.suffixes
-    → ((refused ≡ refusal.Memory) × (new ≡ old))
-    ⊎ ((refused ≡ refusal.Stopped 1) × Stops None old.suffixes old.rows url now (text ∷ []) 1 new.rows)
-    → RefusesLines rules second subject text old refused new
-one_line_refused rules second now subject text old new url refused none moment is_url one same (inl (is, stays)) =
-    inl (stays, inl is)
-one_line_refused rules second now subject text old new url refused none moment is_url one same (inr (is, stops)) =
-    let by_lines = subst (λ lines. Stops None old.suffixes old.rows url now lines 1 new.rows) (sym one) stops in
-    let by_moment = subst (λ n. Stops None old.suffixes old.rows url n (lines_of text) 1 new.rows) moment by_lines in
-    let StopsBy : Option Rules → Type 0 =
-    λ r. Stops r old.suffixes old.rows url (nanos_of second) (lines_of text) 1 new.rows in
-    inr (1, is, (same, (url, is_url, subst StopsBy (sym none) by_moment)))
+-- what becomes of it is told by its number
+pub one_line_told : (second now : ℤ) (subject text : List ℕ) (old new : Store) (url : Parts) (end : LineEnd)
+    (number : ℕ) → now ≡ nanos_of second → IsUrl subject url → lines_of text ≡ text ∷ []
+    → new.suffixes ≡ old.suffixes → Accepts old.suffixes old.rows url now text end new.rows → number ≡ end_number end
+    → Receives None second subject text old (number ∷ []) new
+one_line_told second now subject text old new url end number moment is_url one same taken told =
+    let by_line : AcceptsAll old.suffixes old.rows url now (text ∷ []) (end ∷ []) new.rows =
+    (new.rows, taken, (refl, refl)) in
+    let by_lines = subst (λ lines. AcceptsAll old.suffixes old.rows url now lines (end ∷ []) new.rows) (sym one)
+    by_line in
+    let by_moment = subst (λ n. AcceptsAll old.suffixes old.rows url n (lines_of text) (end ∷ []) new.rows) moment
+    by_lines in (same, (url, is_url, (end ∷ [], by_moment, ap (λ n. n ∷ []) told)))
+
+-- memory was refused at it
+pub one_line_stopped : (second : ℤ) (subject text : List ℕ) (old new : Store) (url : Parts) → IsUrl subject url
+    → lines_of text ≡ text ∷ [] → new.suffixes ≡ old.suffixes → new.rows ≡ old.rows → AsksForMemory url text
+    → RefusesLines None second subject text old (refusal.Stopped 1) new
+one_line_stopped second subject text old new url is_url one same rows asks =
+    let stops : IsStopped old.suffixes old.rows url (nanos_of second) (text ∷ []) 1 new.rows = inr (record {
+      before = 0;
+      number = refl;
+      within = omega arith;
+      taken = ([], (refl, rows));
+      asks = asks;
+    }) in
+    let by_lines = subst (λ lines. IsStopped old.suffixes old.rows url (nanos_of second) lines 1 new.rows) (sym one)
+    stops in inr (1, refl, (same, (url, is_url, by_lines)))
+
+-- the one byte of its answer has room where there is some
+pub one_byte_handed_out : (byte : ℕ) (out kept written : List ℕ) (number : ℤ) → out ≢ [] → kept ≡ []
+    → IsWritten (byte ∷ []) out written number → IsHandedOut (byte ∷ []) out kept written number
+one_byte_handed_out byte out kept written number some none (is, inl (fits, stands)) = (is, inl (fits, stands, none))
+one_byte_handed_out byte [] kept written number some none (is, inr (less, same)) = absurd (some refl)
+one_byte_handed_out byte (b ∷ out) kept written number some none (is, inr (less, same)) =
+    let never : length (b ∷ out) < 1 = less in absurd (omega arith)

@@ -21,6 +21,10 @@ use Rattle.fonnalich_c.specs.declared.word.ByList.TheVariants as by
 abbrev pub answer_word : ℕ
 answer_word = 0
 
+-- the word that takes the lines of an answer
+abbrev pub receive_word : ℕ
+receive_word = 3
+
 -- what the other words do
 abbrev pub word_of : ℕ → Option Word
 word_of number =

@@ -19,7 +19,7 @@ words_of size =
     else if size == 13 then codes "the expiry is of a year below 100"
     else if size == 14 then codes "the cookie is too long to be sealed"
     else if size == 15 then codes "there are too few nonces"
-    else if size == 16 then codes "the host has no byte, or an empty label"
+    else if size == 16 then codes "the host has no byte or an empty label, or the URL has none"
     else if size == 17 then codes "a text isn't UTF-8"
     else if size == 18 then codes "the text has no = before its first semicolon"
     else if size == 19 then codes "the number is none of SameSite"

@@ -1,15 +1,20 @@
 //! What a handle holds, and what a call does with it.
-ghost use Rattle.std.specs.Prelude.{◌≡◌, length, IfOk, IfErr, Some};
+ghost use Rattle.std.specs.Prelude.{◌≡◌, ◌≢◌, ◌∷◌, [], length, IfOk, IfErr, None, Some};
 ghost use Rattle.cookie_store.specs.Rows.{key};
+ghost use Rattle.fonnalich_c.specs.Given.{lines_of};
 ghost use Rattle.fonnalich_c.specs.Handle as spec;
+ghost use Rattle.fonnalich_c.specs.Numbers.{receive_word};
 ghost use Rattle.fonnalich_c.specs.One.{ActsOnOne};
 ghost use Rattle.fonnalich_c.specs.Started.{ActsOnReceipt};
 
+use crate::given::is_one_line;
+use crate::line::line_end;
 use crate::one::{Key, Pick, told};
 use crate::refusal::Refusal;
+use crate::room::write;
 use crate::started::{AnswerTexts, Start, received};
 use crate::task::{Browsing, answer};
-use crate::word::{ANSWER, Word};
+use crate::word::{ANSWER, RECEIVE, Word};
 use cookie_run::Client;
 use publicsuffix::List;
 use std::alloc::Global;
@@ -81,6 +86,9 @@ pub(crate) fn work(
     if word == ANSWER {
         return hand_out(&mut held.kept, out);
     }
+    if word == RECEIVE && !out.is_empty() && held.browsing.rules.is_none() && is_one_line(text) {
+        return take_line(alloc, held, number, subject, text, out);
+    }
     match answer(
         alloc,
         &mut held.client,
@@ -94,6 +102,49 @@ pub(crate) fn work(
         Ok(answer) => {
             held.kept = answer;
             hand_out(&mut held.kept, out)
+        }
+        Err(refusal) => refusal.number(),
+    }
+}
+
+// Takes a line by itself without rules, and writes the number of what became of it.
+fn take_line(
+    alloc: Global,
+    held: &mut Held,
+    second: i64,
+    subject: &[u8],
+    line: &[u8],
+    out: &mut [u8],
+) -> isize
+    requires none { held.old.browsing.rules ≡ None }
+    requires one { lines_of line.now ≡ line.now ∷ [] }
+    requires room { out.old ≢ [] }
+    ensures { spec.Acts receive_word (record { number = second; subject = subject.now; text = line.now })
+        (record {
+          client = held.old.client;
+          list = held.old.list;
+          rules = held.old.browsing.rules;
+          kept = held.old.kept.items;
+        }) out.old
+        (record {
+          client = held.new.client;
+          list = held.new.list;
+          rules = held.new.browsing.rules;
+          kept = held.new.kept.items;
+        }) out.new
+        result }
+{
+    match line_end(
+        alloc,
+        &mut held.client,
+        &mut held.browsing,
+        second,
+        subject,
+        line,
+    ) {
+        Ok(number) => {
+            held.kept.clear();
+            write(&[number], out)
         }
         Err(refusal) => refusal.number(),
     }

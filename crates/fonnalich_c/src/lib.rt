@@ -34,6 +34,7 @@ mod given;
 mod held;
 mod importing;
 mod item;
+mod line;
 mod listing;
 mod nonce;
 mod one;

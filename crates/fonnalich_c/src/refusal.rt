@@ -42,7 +42,7 @@ pub enum Refusal {
     TooLong,
     /// A cookie is to be sealed, and fewer than twelve bytes of nonces are left.
     Nonces,
-    /// The host has no byte, or an empty label.
+    /// The host has no byte or an empty label, or the URL has none.
     Host,
     /// A text isn't UTF-8, as it stands or percent-decoded.
     Text,

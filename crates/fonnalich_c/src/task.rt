@@ -13,7 +13,7 @@ ghost use Rattle.fonnalich_c.specs.Tasks as spec;
 use crate::by_list::by_shelf;
 use crate::control::has_control;
 use crate::exporting::export;
-use crate::given::{is_one_line, lines, list, moment, url};
+use crate::given::{lines, list, moment, url};
 use crate::importing::import;
 use crate::listing::{count_of, listing};
 use crate::page::{Page, url_at};
@@ -215,9 +215,6 @@ fn receive(
 {
     let now = date_at(&mut browsing.second, second)?;
     let url = url_at(alloc, &mut browsing.page, subject)?;
-    if browsing.rules.is_none() && is_one_line(text) {
-        return receive_one(alloc, client, url, text, now);
-    }
     let Ok(lines) = lines(alloc, text) else {
         return Err(Refusal::Memory);
     };
@@ -233,33 +230,6 @@ fn receive(
             Ok(ends) => Ok(numbered(room, &ends)),
             Err(stopped) => Err(Refusal::Stopped(stopped.0)),
         },
-    }
-}
-
-// Takes a line without rules, for which no list of lines and none of ends is made.
-fn receive_one(
-    alloc: Global,
-    client: &mut Client,
-    url: &Url,
-    line: &[u8],
-    now: DateTime,
-) -> Result<Vec<u8>, Refusal>
-    ensures ok { IfOk result (λ answer. spec.Tells None client.old.suffixes client.old.rows url.now (civil_nanos now)
-        (line.now ∷ []) answer.items client.new.rows) }
-    ensures err { IfErr result (λ refused. ((refused ≡ Refusal.Memory) × (client.new ≡ client.old))
-        ⊎ ((refused ≡ Refusal.Stopped 1) × spec.Stops None client.old.suffixes client.old.rows url.now
-        (civil_nanos now) (line.now ∷ []) 1 client.new.rows)) }
-    ensures list { client.new.suffixes ≡ client.old.suffixes }
-{
-    let Ok(mut answer) = Vec::with_capacity(alloc, 1) else {
-        return Err(Refusal::Memory);
-    };
-    match client.receive_line(url, line, now) {
-        Ok(end) => {
-            answer.push_reserved(end_number(end));
-            Ok(answer)
-        }
-        Err(_) => Err(Refusal::Stopped(1)),
     }
 }
 

@@ -7,6 +7,9 @@ use cookies_txt::Reader;
 /// Hands out the answer that had no room.
 pub const ANSWER: u32 = 0;
 
+/// Takes the lines of an answer, as [`Task::Receive`].
+pub const RECEIVE: u32 = 3;
+
 /// What a word asks a client for.
 #[derive(Clone, Copy, Debug, PartialEq, Eq)]
 pub enum Task {

@@ -33,7 +33,7 @@ fn words_of(size: u64) -> &'static str
         13 => "the expiry is of a year below 100",
         14 => "the cookie is too long to be sealed",
         15 => "there are too few nonces",
-        16 => "the host has no byte, or an empty label",
+        16 => "the host has no byte or an empty label, or the URL has none",
         17 => "a text isn't UTF-8",
         18 => "the text has no = before its first semicolon",
         19 => "the number is none of SameSite",

@@ -1,4 +1,4 @@
-use Rattle.std.proofs.Common.{◌≡◌, ◌∙◌, T, ap, nat_abs, pos, subst, sym, ◌<ℤ◌, w64}
+use Rattle.std.proofs.Common.{◌∙◌, T, ap, nat_abs, pos, subst, sym, ◌<ℤ◌, w64}
 use lib.Signed.{lt_z}
 use Rattle.std.proofs.lemmas.Int.{to_z-of_z}
 use Rattle.fonnalich_c.specs.Rules.{ruled}

@@ -1,4 +1,4 @@
-use Rattle.std.proofs.Common.{◌≡◌, Some, FitsSigned, IfErr, IfOk, refl, subst, sym, w64}
+use Rattle.std.proofs.Common.{Some, FitsSigned, IfErr, IfOk, refl, subst, sym, w64}
 use Rattle.std.proofs.lemmas.Int.{to_z-of_z}
 use Rattle.fonnalich_c.specs.Started.{IsNoReceipt, Receipt, ReceivesOf, ReceivesSo, RefusesSo}
 use Rattle.fonnalich_c.proofs.Exchanges.{fault_gives, ok_gives}

@@ -1,4 +1,4 @@
-use Rattle.std.proofs.Common.{◌≡◌, None, ap, arith, inl, length, map, refl, rules, subst, sym, vec_capacity, vec_len}
+use Rattle.std.proofs.Common.{◌≡◌, ap, arith, inl, length, map, refl, subst, sym, vec_capacity, vec_len}
 use Rattle.std.proofs.Common.{FitsSigned, w64}
 use Rattle.std.proofs.lemmas.Int.{to_z-of_z}
 use Rattle.std.proofs.lemmas.List.{length-map}
@@ -6,9 +6,9 @@ use Rattle.jiff.specs.Words.{civil_nanos}
 use Rattle.fonnalich_c.specs.Faults.{IsTold}
 use Rattle.fonnalich_c.specs.Given.{nanos_of}
 use Rattle.fonnalich_c.specs.Tasks.{IsRequestFault}
-use Rattle.fonnalich_c.proofs.Exchanges.{err_gives, fault_gives}
+use Rattle.fonnalich_c.proofs.Exchanges.{err_gives}
 use Rattle.fonnalich_c.proofs.Faults.{is_moment, url_second}
-use Rattle.fonnalich_c.proofs.Receiving.{as_many_ends, as_many_outcomes, one_line_refused}
+use Rattle.fonnalich_c.proofs.Receiving.{as_many_ends, as_many_outcomes}
 use Rattle.fonnalich_c.proofs.task.receive.Goals as goal
 
 pub outcomes_numbered-requires-clause-fits : goal.outcomes_numbered-requires-clause-fits
@@ -47,13 +47,3 @@ returns-in_err-url-clause-err c =
           (url_second c.args.second c.args.subject.now c.in_err-url.field-0.0
           (is_moment c.in_ok-now.now c.args.second moment) c.in_err-url.ensures.err),
     ))
-
-pub returns-then-is_one_line-clause-err : goal.returns-then-is_one_line-clause-err
-returns-then-is_one_line-clause-err c =
-    let fits : FitsSigned w64 c.args.second = c.ranges.second in
-    let moment : civil_nanos c.in_ok-now.now ≡ nanos_of c.args.second = simp to_z-of_z at c.in_ok-now.ensures.ok in
-    let none : c.args.browsing.now.rules ≡ None = search rules in
-    fault_gives c.receive_one.result _ _ (λ refused told. one_line_refused c.args.browsing.now.rules c.args.second
-    (civil_nanos c.in_ok-now.now) c.args.subject.now c.args.text.now c.args.client.now c.receive_one.new.client
-    c.in_ok-url.url.now refused none moment c.in_ok-url.ensures.ok
-    (c.if-is_one_line.ensures.line refl) c.receive_one.ensures.list told) c.receive_one.ensures.err
