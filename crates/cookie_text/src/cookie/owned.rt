@@ -12,6 +12,7 @@ impl<'c> Cookie<'c> {
     /// # Errors
     ///
     /// Want of memory.
+    #[inline(always)]
     pub fn into_owned(self, alloc: Global) -> Result<Cookie<'static>, AllocError>
         ensures { IfOk result (λ cookie. cookie ≡ unsliced self.entry.cookie) }
     {
@@ -51,6 +52,7 @@ impl<'c> Cookie<'c> {
     /// # Errors
     ///
     /// Want of memory.
+    #[inline(always)]
     pub fn clone(&self, alloc: Global) -> Result<Cookie<'c>, AllocError>
         ensures { IfOk result (λ cookie. cookie ≡ self.now) }
     {
