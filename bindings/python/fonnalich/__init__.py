@@ -56,7 +56,6 @@ Life = Union[int, float, datetime.timedelta]
 """How long a cookie lives: seconds, of which the whole part counts, or a `timedelta`. One below 0 is 0."""
 
 
-
 def _loaded() -> ctypes.CDLL:
     """The shared library."""
     try:

@@ -11,5 +11,5 @@ not_so false so = refl
 not_so true so = absurd (false≢true so)
 
 pub returns-clause-part : goal.returns-clause-part
-returns-clause-part c = λ so. slice_split_none is_line_feed c.args.text.now (none_from_list_any is_line_feed c.args.text.now
-    (sym c.contains.ensures.value ∙ not_so c.contains.result so))
+returns-clause-part c = λ so. slice_split_none is_line_feed c.args.text.now
+    (none_from_list_any is_line_feed c.args.text.now (sym c.contains.ensures.value ∙ not_so c.contains.result so))

@@ -14,7 +14,8 @@ returns-in-Some-clause-err c =
       text = c.args.line.now;
     } in
     let done : IfErr c.receive_line.result (λ refused. RefusesLines None c.args.second c.args.subject.now
-    c.args.line.now c.in-Some.client refused c.receive_line.new.client) = simp to_z-of_z at c.receive_line.ensures.err in
+    c.args.line.now c.in-Some.client refused c.receive_line.new.client) =
+    simp to_z-of_z at c.receive_line.ensures.err in
     subst (λ held. IfErr c.receive_line.result (λ refused. RefusesOf Receive given None held refused
     (Some c.receive_line.new.client))) (sym c.in-Some.is)
     (fault_gives c.receive_line.result _ (λ refused. RefusesOf Receive given None (Some c.in-Some.client) refused
