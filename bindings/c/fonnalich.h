@@ -43,7 +43,8 @@ typedef struct fonnalich {
    be told in the place of any cause. */
 enum {
     FONNALICH_MEMORY = -1,    /* memory was refused; what the handle holds is as it was */
-    FONNALICH_WORD = -2,      /* no word of fonnalich_act */
+    FONNALICH_WORD = -2,      /* no word of fonnalich_act or _one, none of FONNALICH_BY_.. that starts a request, or
+                                 none of FONNALICH_FOR_.. that reads a cookies.txt */
     FONNALICH_NO_CLIENT = -3, /* none of fonnalich_list, _load, _client and _load_by was called with success */
     FONNALICH_LIST = -4,      /* the text is no public suffix list */
     FONNALICH_MOMENT = -5,    /* the second is before the year -9999 or after 9999 */
@@ -462,8 +463,9 @@ ptrdiff_t fonnalich_share(fonnalich *at, fonnalich *other);
 /* Ends a handle and gives all memory back, but for a list that another shares. */
 void fonnalich_end(fonnalich *at);
 
-/* Whether a text is the name of a file, as suffixes.dat, which could be a rule: one line of letters, digits, dots and
-   hyphens that ends in .dat or .txt, the case of letters and white space around it aside. Each byte past ASCII counts
+/* Whether a text is the name of a file, as suffixes.dat or My Lists/suffixes.dat, which could be a rule: one line that
+   ends in .dat or .txt, the case of letters and white space around it aside, and up to its first white space, where a
+   rule ends, has letters, digits, dots and hyphens alone. White space is that of ASCII, and each byte past ASCII counts
    as a letter. */
 FONNALICH_FORM int fonnalich_names_file(const char *text, size_t length) {
     while (length > 0 && (*text == ' ' || (*text >= '\t' && *text <= '\r')))
@@ -472,10 +474,13 @@ FONNALICH_FORM int fonnalich_names_file(const char *text, size_t length) {
         length--;
     if (length < 4)
         return 0;
+    int is_behind = 0;
     for (size_t i = 0; i < length - 4; i++) {
         char it = text[i];
         int is_letter = (it >= 'a' && it <= 'z') || (it >= 'A' && it <= 'Z') || (unsigned char)it >= 0x80;
-        if (!is_letter && !(it >= '0' && it <= '9') && it != '.' && it != '-')
+        int is_of_rule = is_letter || (it >= '0' && it <= '9') || it == '.' || it == '-';
+        is_behind = is_behind || it == ' ' || (it >= '\t' && it <= '\r');
+        if (it == '\n' || it == '\0' || !(is_of_rule || is_behind))
             return 0;
     }
     /* (0x20 is what a small letter has beside its capital) */
@@ -487,8 +492,8 @@ FONNALICH_FORM int fonnalich_names_file(const char *text, size_t length) {
 /* A client without a cookie, by the bytes of a public suffix list, in place of the one that was there. Answers 0. The
    list is the text of a file, and not its name: suffixes.dat would be a rule, by which a site sets cookies for
    Domain=com. So what fonnalich_names_file takes for one is FONNALICH_NO_RULE here, by fonnalich_load and by
-   fonnalich_keep_list; one with a slash or an underscore is no list, so FONNALICH_LIST. To the words of fonnalich_act
-   the first is a rule, and to fonnalich_suffix and fonnalich_shard, which keep nothing. */
+   fonnalich_keep_list; another with a slash or an underscore is no list, so FONNALICH_LIST. To the words of
+   fonnalich_act the first is a rule, and to fonnalich_suffix and fonnalich_shard, which keep nothing. */
 FONNALICH_FORM ptrdiff_t fonnalich_list(fonnalich *at, const char *list, size_t list_length) {
     char none;
     if (fonnalich_names_file(list, list_length))
@@ -515,10 +520,11 @@ FONNALICH_FORM ptrdiff_t fonnalich_keep_list(fonnalich *at, const char *list, si
     return fonnalich_act(at, FONNALICH_DO_KEEP_LIST, 0, "", 0, list, list_length, &none, 0);
 }
 
-/* A client without a cookie, by the list that another handle keeps, in place of the one that was there. Answers 0. */
+/* A client without a cookie, by the list that another handle keeps, or this one, in place of the one that was there.
+   Answers 0. */
 FONNALICH_FORM ptrdiff_t fonnalich_client(fonnalich *at, fonnalich *list) {
     char none;
-    ptrdiff_t number = fonnalich_share(at, list);
+    ptrdiff_t number = at == list ? 0 : fonnalich_share(at, list);
     return number < 0 ? number : fonnalich_act(at, FONNALICH_DO_CLIENT, 0, "", 0, "", 0, &none, 0);
 }
 
@@ -527,7 +533,7 @@ FONNALICH_FORM ptrdiff_t fonnalich_client(fonnalich *at, fonnalich *list) {
 FONNALICH_FORM ptrdiff_t fonnalich_load_by(fonnalich *at, fonnalich *list, int64_t second, const char *saved,
                                           size_t saved_length) {
     char none;
-    ptrdiff_t number = fonnalich_share(at, list);
+    ptrdiff_t number = at == list ? 0 : fonnalich_share(at, list);
     return number < 0 ? number : fonnalich_act(at, FONNALICH_DO_LOAD_BY, second, saved, saved_length, "", 0, &none, 0);
 }
 

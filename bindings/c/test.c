@@ -20,6 +20,16 @@ void *__wrap_realloc(void *old, size_t size) {
     return ++growths == refused_at ? NULL : __real_realloc(old, size);
 }
 
+/* ---- a library with larger handles */
+
+static size_t more;
+
+size_t __real_fonnalich_size(void);
+
+size_t __wrap_fonnalich_size(void) {
+    return __real_fonnalich_size() + more;
+}
+
 /* ---- what is asked */
 
 #define T(text) (text), strlen(text)
@@ -382,7 +392,8 @@ static void refuses_a_list_without_a_rule(void) {
         ask(gives(fonnalich_shard_of_url(T(none[i]), T("a"), out, sizeof out), FONNALICH_NO_RULE), "list, URL");
     }
     static const char *names[] = {"suffixes.dat", "public-list.txt", "x.dat", ".dat", "SUFFIXES.DAT", "List.Txt",
-                                  "x.dat\n", " \r\nx.dat \t", "\xd1\x80\xd1\x84.dat"};
+                                  "x.dat\n", " \r\nx.dat \t", "\xd1\x80\xd1\x84.dat", "suffixes (1).dat",
+                                  "My Lists/public_suffix_list.dat\n", "a\tb.txt"};
     for (size_t i = 0; i < sizeof names / sizeof names[0]; i++) {
         ask(gives(fonnalich_list(&at, T(names[i])), FONNALICH_NO_RULE), names[i]);
         ask(gives(fonnalich_load(&at, NOW, T("[]"), T(names[i])), FONNALICH_NO_RULE), names[i]);
@@ -392,7 +403,7 @@ static void refuses_a_list_without_a_rule(void) {
     ask(gives(fonnalich_list(&at, T("examples/suffixes.dat")), FONNALICH_LIST), "a path");
     ask(gives(fonnalich_list(&at, T("public_suffixes.dat")), FONNALICH_LIST), "a path with another character");
     ask(gives(fonnalich_count(&at, NOW), FONNALICH_NO_CLIENT), "no client was made");
-    static const char *rules[] = {"dat", "x.dat\ncom", "txt\nx.dat", "xdat"};
+    static const char *rules[] = {"dat", "x.dat\ncom", "txt\nx.dat", "xdat", "com x\nx.dat", "x.dat com"};
     for (size_t i = 0; i < sizeof rules / sizeof rules[0]; i++)
         ask(gives(fonnalich_list(&at, T(rules[i])), 0), rules[i]);
     fonnalich_free(&at);
@@ -406,17 +417,24 @@ static void shares_a_list(void) {
     fonnalich_begin(&other);
     fonnalich_begin(&third);
     ask(gives(fonnalich_client(&at, &list), FONNALICH_NO_LIST), "it keeps none yet");
+    ask(gives(fonnalich_client(&at, &at), FONNALICH_NO_LIST), "by its own");
+    ask(gives(fonnalich_load_by(&at, &at, INT64_MAX, T("[(")), FONNALICH_NO_LIST), "list, second, saved text");
     ask(gives(fonnalich_suffix_by(&list, T("a..b"), out, sizeof out), FONNALICH_NO_LIST), "list, host");
     ask(gives(fonnalich_keep_list(&list, T("a..b")), FONNALICH_LIST), "no list");
     ask(gives(fonnalich_keep_list(&list, T(LIST)), 0), "a list");
     ask(gives(fonnalich_header(&list, NOW, T(URL), out, sizeof out), FONNALICH_NO_CLIENT), "which is no client");
     ask(gives(fonnalich_client(&at, &list), 0) && gives(fonnalich_client(&other, &list), 0), "two clients");
+    ask(gives(fonnalich_client(&list, &list), 0), "a third by its own list");
+    ask(gives(fonnalich_receive(&list, NOW, T(URL), T("a=1; Domain=com"), out, sizeof out), 1), "it takes lines");
+    ask(out[0] == FONNALICH_PUBLIC_SUFFIX, "by the list's rules");
     fonnalich_free(&list);
     ptrdiff_t count = fonnalich_receive(&at, NOW, T(URL), T("a=1; Domain=com\nb=2; Max-Age=60"), out, sizeof out);
     ask(gives(count, 2) && out[0] == FONNALICH_PUBLIC_SUFFIX && out[1] == FONNALICH_INSERTED, "by the list's rules");
     ask(is(out, fonnalich_header(&other, NOW, T(URL), out, sizeof out), ""), "the other has no cookie of it");
     ptrdiff_t length = fonnalich_save(&at, NOW, saved, sizeof saved);
     ask(gives(fonnalich_load_by(&other, &at, NOW, saved, length), 0), "loaded, by the list of a client");
+    ask(is(out, fonnalich_header(&other, NOW, T(URL), out, sizeof out), "b=2"), "its cookie");
+    ask(gives(fonnalich_load_by(&other, &other, NOW, saved, length), 0), "loaded, by its own list");
     ask(is(out, fonnalich_header(&other, NOW, T(URL), out, sizeof out), "b=2"), "its cookie");
     ask(gives(fonnalich_load_by(&other, &at, NOW, T("[(")), FONNALICH_SAVED), "no saved text");
     ask(gives(fonnalich_load_by(&other, &at, INT64_MAX, T("[(")), FONNALICH_MOMENT), "second, saved text");
@@ -1460,6 +1478,9 @@ int main(int count, char **words) {
     ask(fonnalich_size() == 1024 && sizeof place == 1024, "a handle has room");
     ask(fonnalich_begin(&place) == 0, "it is begun");
     fonnalich_free(&place);
+    more = 1;
+    ask(fonnalich_begin(&place) == FONNALICH_HANDLE, "a handle has no room");
+    more = 0;
     ask(fonnalich_processor() == 0, "the processor");
     char version[16] = "";
     ask(fonnalich_version(version, sizeof version) == 5 && strcmp(version, FONNALICH_VERSION) == 0, "the version");

@@ -183,20 +183,24 @@ func (jar *Jar) ReceiveFor(u *url.URL, by Initiator, lines []string) ([]LineEnd,
 
 // receive takes a line. The library takes lines that line feeds join, and of an empty text none.
 func (jar *Jar) receive(u *url.URL, by Initiator, line string) (LineEnd, error) {
-	if strings.Contains(line, "\n") {
-		return ByControl, nil
-	}
-	if line == "" {
-		return NoCookie, nil
+	isMany := strings.Contains(line, "\n")
+	text := []byte(line)
+	if isMany {
+		text = nil
 	}
 	jar.lock.Lock()
 	defer jar.lock.Unlock()
 	if jar.at == nil {
 		return NoCookie, ErrClosed
 	}
-	told, err := receiveFor(jar.at, by, jar.second(), textOf(u), []byte(line))
-	if err != nil {
+	told, err := receiveFor(jar.at, by, jar.second(), textOf(u), text)
+	switch {
+	case err != nil:
 		return NoCookie, err
+	case isMany:
+		return ByControl, nil
+	case line == "":
+		return NoCookie, nil
 	}
 	return LineEnd(told[0]), nil
 }

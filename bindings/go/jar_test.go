@@ -142,6 +142,11 @@ func TestAnAnswerIsToldWhatStartedItsRequest(t *testing.T) {
 		t.Error(err)
 	}
 	jar.Close()
+	for _, line := range []string{"", "a=1\nb=2"} {
+		if _, err := jar.Receive(shop, []string{line}); !errors.Is(err, ErrClosed) {
+			t.Errorf("%q: %v", line, err)
+		}
+	}
 	if _, err := jar.ReceiveFor(shop, Initiator{}, lines); !errors.Is(err, ErrClosed) {
 		t.Error(err)
 	}
@@ -222,7 +227,7 @@ func TestRefusals(t *testing.T) {
 	for _, it := range []struct{ found, wanted error }{
 		{noList, Refused(-4)}, {noMoment, Refused(-5)}, {noURL, Refused(-6)}, {noJar, Refused(-7)},
 		{noRules, Refused(-20)}, {isClosed, ErrClosed}, {noRule, Refused(-24)}, {isNoList, Refused(-4)},
-		{hasNoRule, Refused(-24)}, {isName, Refused(-24)}, {isThere, Refused(-24)}, {isNamed, Refused(-24)},
+		{hasNoRule, Refused(-24)}, {isName, ErrNoRule}, {isThere, ErrNoRule}, {isNamed, ErrNoRule},
 		{noText, Refused(-17)},
 	} {
 		if !errors.Is(it.found, it.wanted) {
@@ -522,7 +527,7 @@ func TestJarsShareAList(t *testing.T) {
 		}(i)
 	}
 	waits.Wait()
-	if _, err := LoadWith(shared, []byte("no"), nil); !errors.Is(err, Refused(-7)) {
+	if _, err := LoadWith(shared, []byte("no"), nil); !errors.Is(err, ErrSaved) {
 		t.Error(err)
 	}
 	shared.Close()

@@ -22,15 +22,33 @@ var (
 
 var errProcessor = errors.New("fonnalich: this processor lacks SSE 4.2, which the library needs")
 
-// Refused is the number of a refusal, as the header file has it. The jar is as it was.
+// Refused is the number of a refusal, as the header file has it. The jar is as it was. By errors.Is it is one of the
+// names below.
 type Refused int
 
+// What a call is refused as.
+const (
+	ErrList   Refused = C.FONNALICH_LIST
+	ErrMoment Refused = C.FONNALICH_MOMENT
+	ErrURL    Refused = C.FONNALICH_URL
+	ErrSaved  Refused = C.FONNALICH_SAVED
+	ErrYear   Refused = C.FONNALICH_YEAR
+	ErrText   Refused = C.FONNALICH_TEXT
+	ErrRules  Refused = C.FONNALICH_RULES
+	ErrLine   Refused = C.FONNALICH_LINE
+	ErrNoRule Refused = C.FONNALICH_NO_RULE
+)
+
 var refusals = map[Refused]string{
-	-4: "the text is no public suffix list: hand in what the file holds, as by os.ReadFile",
-	-5: "the moment is outside the years -9999 to 9999",
-	-6: "the text is no URL", -7: "the text is no saved jar", -8: "a cookie ends in a year below 0",
-	-17: "a text isn't UTF-8", -20: "the number is none of rules", -21: "the header has a control character",
-	-24: "the suffix list has no rule: hand in what the file holds, as by os.ReadFile",
+	ErrList:   "the text is no public suffix list: hand in what the file holds, as by os.ReadFile",
+	ErrMoment: "the moment is outside the years -9999 to 9999",
+	ErrURL:    "the text is no URL",
+	ErrSaved:  "the text is no saved jar",
+	ErrYear:   "a cookie ends in a year below 0",
+	ErrText:   "a text isn't UTF-8",
+	ErrRules:  "the number is none of rules",
+	ErrLine:   "the header has a control character",
+	ErrNoRule: "the suffix list has no rule: hand in what the file holds, as by os.ReadFile",
 }
 
 func (refused Refused) Error() string {

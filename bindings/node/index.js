@@ -366,6 +366,9 @@ class CookieJar {
         if (![undefined, 'silent', 'strict'].includes(prefixSecurity)) {
             throw new NotThere(`options.prefixSecurity = ${prefixSecurity}`, 'leave rules out of options.rules');
         }
+        if (rules != null && !Number.isInteger(rules)) {
+            throw new TypeError('options.rules is a number, as Rules.BROWSER, or several joined by |');
+        }
         this.#isStrict = prefixSecurity === 'strict';
         if (suffixes instanceof List) {
             answered(this.#handle.share(handleOf(suffixes)));
@@ -379,9 +382,10 @@ class CookieJar {
 
     #received([started, page], line, url, second) {
         // (the library takes lines that line feeds join, and of an empty text none)
-        if (line.includes('\n')) return 'ByControl';
-        if (line === '') return 'Parse';
-        return ENDS[answered(this.#handle.receive(started, second, url, page, Buffer.from(line)))[0]];
+        const isMany = line.includes('\n');
+        const told = answered(this.#handle.receive(started, second, url, page, Buffer.from(isMany ? '' : line)));
+        if (isMany) return 'ByControl';
+        return line === '' ? 'Parse' : ENDS[told[0]];
     }
 
     #act(word, number, subject, text) {

@@ -104,11 +104,16 @@ test('errors by name', () => {
     refused('__secure-a=1', URL_ASKED, 'BySecurePrefix');
     refused('__host-a=1; Secure', `${URL_ASKED}x/y`, 'ByHostPrefix');
     refused('a=1; Domain=com', URL_ASKED, 'PublicSuffix');
-    assert.throws(() => jar.setCookieSync('a=1', 'shop.com'), { name: 'Refused', code: 'Url' });
+    for (const line of ['a=1', '', 'a=1\nb=2']) {
+        assert.throws(() => jar.setCookieSync(line, 'shop.com'), { name: 'Refused', code: 'Url' });
+    }
     assert.throws(() => jar.getCookieStringSync(URL_ASKED, { now: 1e15 }), { name: 'Refused', code: 'Moment' });
     assert.throws(() => jar.getCookieStringSync(URL_ASKED, { now: 'noon' }), TypeError);
     assert.throws(() => jar.getCookieStringSync(undefined), TypeError);
     assert.throws(() => jarOf({ rules: 1 << 20 }), { name: 'Refused', code: 'Rules' });
+    for (const rules of ['browser', 5.5, NaN, true]) {
+        assert.throws(() => jarOf({ rules }), { name: 'TypeError', message: /^options\.rules is a number/ });
+    }
     assert.throws(() => jarOf({ suffixes: undefined }), TypeError);
     assert.throws(() => CookieJar.deserializeSync('no', null, { suffixes: SUFFIXES }), { code: 'Saved' });
     assert.ok(new Refused(-6) instanceof fonnalich.FonnalichError);
@@ -280,6 +285,9 @@ test('a jar that is closed', () => {
     const jar = jarOf();
     jar.close();
     assert.throws(() => jar.getCookieStringSync(URL_ASKED), TypeError);
+    for (const line of ['a=1', '', 'a=1\nb=2']) {
+        assert.throws(() => jar.setCookieSync(line, URL_ASKED), TypeError);
+    }
     assert.throws(() => jar.close(), TypeError);
 });
 

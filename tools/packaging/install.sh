@@ -59,7 +59,9 @@ here=$(cd "$(dirname "$self")" >/dev/null && pwd)
 for it in include/fonnalich.h lib/libfonnalich.a share/doc/fonnalich/PROVENANCE.json; do
     [ -f "$here/$it" ] || fail "there is no $it in $here, where it looks for what it installs" 1
 done
-if [ "$(uname -m)" != "@PROCESSOR@" ]; then
+if [ "$(uname -s)" != Linux ]; then
+    say "this machine has $(uname -s), and the library is for Linux" >&2
+elif [ "$(uname -m)" != "@PROCESSOR@" ]; then
     say "this machine's processor is $(uname -m), and the library is for @PROCESSOR@" >&2
 elif [ "@PROCESSOR@" = x86_64 ] && [ -r /proc/cpuinfo ] && ! grep -qs '\bsse4_2\b' /proc/cpuinfo; then
     say "this machine lacks SSE 4.2, which the library needs" >&2

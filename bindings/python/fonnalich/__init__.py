@@ -17,7 +17,7 @@ import threading
 import time
 import urllib.parse
 import weakref
-from typing import Any, Callable, Iterable, Iterator, NoReturn, Optional, Tuple, Union
+from typing import Any, Callable, Iterable, Iterator, NoReturn, Optional, Tuple, TypeVar, Union
 
 __all__ = ["Adapter", "Client", "Cookie", "End", "HeldCookie", "Imported", "Jar", "List", "NoList", "NoRules",
            "NotSent", "Reader", "Refused", "RefusedLine", "Rules", "Session", "Stopped", "Way", "is_plain_url", "shard",
@@ -26,24 +26,12 @@ __all__ = ["Adapter", "Client", "Cookie", "End", "HeldCookie", "Imported", "Jar"
 _HERE = os.path.dirname(os.path.abspath(__file__))
 
 
-def _lacks_sse() -> bool:
-    """Whether this is a processor of x86-64 that lacks SSE 4.2, as far as the system tells."""
-    try:
-        with open("/proc/cpuinfo", encoding="ascii", errors="replace") as file:
-            flags = next((line.split() for line in file if line.startswith("flags")), None)
-    except OSError:
-        return False
-    return flags is not None and "sse4_2" not in flags
-
-
 def _path() -> str:
     """Where the shared library is: in a package beside this module, in the repository in out/."""
     beside = os.path.join(_HERE, "libfonnalich.so")
     return beside if os.path.exists(beside) else os.path.join(_HERE, "..", "..", "..", "out", "libfonnalich.so")
 
 
-if _lacks_sse():
-    raise ImportError("fonnalich: this processor lacks SSE 4.2, which the library needs")
 Bytes = Union[bytes, bytearray, memoryview]
 """What a call takes as bytes."""
 Text = Union[str, Bytes]
@@ -66,6 +54,9 @@ def _loaded() -> ctypes.CDLL:
 
 
 _LIB = _loaded()
+# (the system may tell nothing of the processor, or tell of another one)
+if _LIB.fonnalich_processor() < 0:
+    raise ImportError("fonnalich: this processor lacks SSE 4.2, which the library needs")
 _TEXT = [ctypes.c_char_p, ctypes.c_size_t]
 _LIB.fonnalich_size.restype = ctypes.c_size_t
 _LIB.fonnalich_version.argtypes = [ctypes.c_void_p, ctypes.c_size_t]
@@ -243,15 +234,19 @@ class Stopped(_Passed, MemoryError):
     """Memory was refused at a line, counted from 1: those before it were taken. At 0 none was."""
 
     def __init__(self, line: int):
-        super().__init__(f"at line {line}")
+        super().__init__(f"at line {line}" if line else "before the first line")
         self.line = line
 
 
 def _bytes(text: Text) -> bytes:
     if isinstance(text, str):
         return text.encode("utf-8", "surrogateescape")
+    if isinstance(text, bytes):
+        return text
+    if not _has_bytes(text):
+        raise TypeError(f"a text is wanted, in str or bytes, not {type(text).__name__}")
     # By way of a view, since `bytes` makes something of a number too.
-    return text if isinstance(text, bytes) else bytes(memoryview(text))
+    return bytes(memoryview(text))
 
 
 def _counted(number: int) -> int:
@@ -339,14 +334,31 @@ def _items(answer: bytes) -> list[Optional[str]]:
 __version__ = _answered(_LIB.fonnalich_version).decode()
 
 
+_Result = TypeVar("_Result")
+
+
 class _Locked:
-    """What has a lock, so that threads may share it. It is torn in a process that was forked while another thread had
-    the lock."""
+    """What has a lock, so that threads may share it. A thread in a call of it makes no other, for which it would wait
+    for itself. It is torn in a process that was forked while another thread had the lock."""
 
     def __init__(self) -> None:
         self._lock = threading.Lock()
+        # The threads that have the lock, or wait for it.
+        self._callers: set[int] = set()
         self._is_torn = False
         _LOCKED.add(self)
+
+    def _alone(self, call: Callable[..., _Result], *words: Any) -> _Result:
+        """What a call answers, during which no other is made of this."""
+        caller = threading.get_ident()
+        if caller in self._callers:
+            raise RuntimeError("this thread is in a call of this already, as where a signal's handler makes another")
+        try:
+            self._callers.add(caller)
+            with self._lock:
+                return call(*words)
+        finally:
+            self._callers.discard(caller)
 
     def _refuse_torn(self) -> None:
         if self._is_torn:
@@ -357,10 +369,12 @@ _LOCKED: weakref.WeakSet[_Locked] = weakref.WeakSet()
 
 
 def _after_fork() -> None:
-    """Gives each a lock again whose own no thread of this process will open, and marks it."""
+    """Gives each a lock again, and marks those whose own no thread of this process will open."""
     for it in list(_LOCKED):
-        if it._lock.locked():
-            it._lock, it._is_torn = threading.Lock(), True
+        # (`locked` may say no of a lock that a thread which waited was just given)
+        if not it._lock.acquire(blocking=False):
+            it._is_torn = True
+        it._lock, it._callers = threading.Lock(), set()
 
 
 if hasattr(os, "register_at_fork"):
@@ -381,20 +395,22 @@ class _Handle(_Locked):
         return self._answer(_LIB.fonnalich_act, word, number, subject, text)
 
     def _answer(self, call: Callable[..., int], word: int, number: int, *texts: bytes) -> bytes:
-        with self._lock:
-            place = self._usable()
-            given = [it for text in texts for it in (text, len(text))]
-            length = call(place, word, number, *given, self._room, len(self._room))
-            if length > len(self._room):
-                self._room = ctypes.create_string_buffer(length)
-                length = _LIB.fonnalich_act(place, _ANSWER, 0, b"", 0, b"", 0, self._room, length)
-            _raise(length)
-            return ctypes.string_at(self._room, length)
+        return self._alone(self._asked, call, word, number, texts)
+
+    def _asked(self, call: Callable[..., int], word: int, number: int, texts: tuple[bytes, ...]) -> bytes:
+        """The same for who is alone."""
+        place = self._usable()
+        given = [it for text in texts for it in (text, len(text))]
+        length = call(place, word, number, *given, self._room, len(self._room))
+        if length > len(self._room):
+            self._room = ctypes.create_string_buffer(length)
+            length = _LIB.fonnalich_act(place, _ANSWER, 0, b"", 0, b"", 0, self._room, length)
+        _raise(length)
+        return ctypes.string_at(self._room, length)
 
     def _share(self, other: _Handle) -> None:
         """Keeps the list that another keeps. Nobody else has this handle yet."""
-        with other._lock:
-            _raise(_LIB.fonnalich_share(self._usable(), other._usable()))
+        _raise(other._alone(lambda: int(_LIB.fonnalich_share(self._usable(), other._usable()))))
 
     def _usable(self) -> int:
         self._refuse_torn()
@@ -403,10 +419,13 @@ class _Handle(_Locked):
         return self._place
 
     def _end(self) -> None:
-        with self._lock:
-            if self._place is not None and not self._is_torn:
-                _LIB.fonnalich_end(self._place)
-            self._place = None
+        self._alone(self._ended)
+
+    def _ended(self) -> None:
+        """The same for who is alone."""
+        if self._place is not None and not self._is_torn:
+            _LIB.fonnalich_end(self._place)
+        self._place = None
 
     def __del__(self) -> None:
         if getattr(self, "_place", None) is not None:
@@ -420,7 +439,7 @@ class List(_Handle):
     refused as `List`, and one without a rule, or the name of a file, as `NoRules`: by it a site could set cookies for
     `Domain=com`. That it has all rules isn't looked at.
     Threads may share it. In a process that was forked while another thread was in a call of the list, each call of it
-    raises `RuntimeError`, and so does a `Client` that begins by it.
+    raises `RuntimeError`, and so does a `Client` that begins by it. So does a call within another of the same thread.
     """
 
     SYSTEM = "/usr/share/publicsuffix/public_suffix_list.dat"
@@ -518,6 +537,13 @@ def is_plain_url(url: Text) -> bool:
 _SITES = [None, "Strict", "Lax", "None"]
 
 
+def _site(told: Optional[str]) -> int:
+    """The number of a word of `SameSite`, or of none."""
+    if told not in _SITES:
+        raise ValueError(f"same_site is {told!r}, none of 'Strict', 'Lax' and 'None'")
+    return _SITES.index(told)
+
+
 @dataclasses.dataclass
 class Cookie:
     """A cookie: a name, a value and attributes. `str` gives its `Set-Cookie` line, in which nothing is escaped.
@@ -563,12 +589,11 @@ class Cookie:
                    _SITES[read.same_site])
 
     def _printed(self, encode: bool) -> str:
-        if self.same_site not in _SITES:
-            raise ValueError(f"same_site is {self.same_site!r}, none of 'Strict', 'Lax' and 'None'")
         attributes = _Attributes(
-            _seconds_of(self.max_age or 0), _second_of(self.expires or 0), self.max_age is not None,
+            0 if self.max_age is None else _seconds_of(self.max_age),
+            0 if self.expires is None else _second_of(self.expires), self.max_age is not None,
             self.expires is not None, self.path is not None, self.domain is not None, self.http_only, self.secure,
-            self.partitioned, _SITES.index(self.same_site))
+            self.partitioned, _site(self.same_site))
         texts = [_bytes(text) for text in (self.name, self.value, self.path or "", self.domain or "")]
         return _answered(_LIB.fonnalich_print, encode, attributes, *texts).decode()
 
@@ -754,7 +779,7 @@ def _ring(keys: Iterable[RingKey]) -> tuple[bytes, list[int]]:
     return b"".join(key for key, _ in each), ends
 
 
-def _escaped(text: str) -> bytes:
+def _escaped(text: Text) -> bytes:
     return urllib.parse.quote_from_bytes(_bytes(text), safe="").encode()
 
 
@@ -763,11 +788,16 @@ def _whole(way: Way, name: str) -> bytes:
     return _PREFIXES.get(way.value, b"") + _bytes(name)
 
 
-def _guessed(header: bytes, prefix: bytes) -> set[bytes]:
-    """The names that a header seems to have behind a prefix, escaped."""
-    names = {urllib.parse.unquote_to_bytes(pair.partition(b"=")[0].strip()) for pair in header.split(b";")}
-    behind = {name[len(prefix):] for name in names if name.startswith(prefix) and _is_utf8(name)} - {b""}
-    return {urllib.parse.quote_from_bytes(name, safe="").encode() for name in behind}
+# Unicode's white space, of which none around a name is a part of it.
+_WHITE = "\t\n\v\f\r \x85\xa0\u1680" + "".join(map(chr, range(0x2000, 0x200B))) + "\u2028\u2029\u202f\u205f\u3000"
+
+
+def _possible(header: bytes) -> set[bytes]:
+    """What may be a name in a header: what stands before the first `=` of each pair, as it stands and decoded."""
+    names = {pair.partition(b"=")[0].strip() for pair in header.split(b";")}
+    names |= {name.decode("utf-8", "surrogateescape").strip(_WHITE).encode("utf-8", "surrogateescape")
+              for name in names if not name.isascii()}
+    return names | {urllib.parse.unquote_to_bytes(name) for name in names if b"%" in name}
 
 
 def _is_utf8(text: bytes) -> bool:
@@ -811,10 +841,10 @@ class Session:
         self._nonces = b""
         # The lines of the last command alone.
         self._lines: list[str] = []
-        # The last command of each cookie with its nonce; the header decoded, what was read of it, and the ways in which
-        # all was.
+        # The last command of each cookie with its nonce; what may be a name in the header, what was read of it, and the
+        # ways in which all was.
         self._last: dict[bytes, tuple[bytes, bytes]] = {}
-        self._decoded: Optional[bytes] = None
+        self._names: Optional[set[bytes]] = None
         self._read: dict[bytes, Optional[tuple[str, int]]] = {}
         self._ahead: set[bytes] = set()
 
@@ -849,21 +879,19 @@ class Session:
 
     def _read_header(self, way: bytes, whole: bytes, asked: bytes) -> None:
         """Keeps what the header has of this name, and of all its names in this way once many were asked."""
-        if whole not in self._header and whole not in self._decoded_header():
+        if self._names is None:
+            self._names = _possible(self._header)
+        if whole not in self._names:
             # (so it isn't read for a name that it can't have)
             self._keep(b"", [asked])
             return
         if len(self._read) >= _FEW and way not in self._ahead:
             self._ahead.add(way)
-            names = _guessed(self._header, _PREFIXES.get(way, b""))
-            self._keep(self._header, [b"G" + way + name for name in names])
+            prefix = _PREFIXES.get(way, b"")
+            names = {it[len(prefix):] for it in self._names if it.startswith(prefix) and _is_utf8(it)} - {b""}
+            self._keep(self._header, [b"G" + way + _escaped(name) for name in names])
         if asked not in self._read:
             self._keep(self._header, [asked])
-
-    def _decoded_header(self) -> bytes:
-        if self._decoded is None:
-            self._decoded = urllib.parse.unquote_to_bytes(self._header)
-        return self._decoded
 
     def _keep(self, header: bytes, asked: list[bytes]) -> None:
         self._read.update(zip(asked, _readings(self._exchange(header, asked, b""), len(asked))))
@@ -882,8 +910,7 @@ class Session:
 
         With `until` the value ends: from that moment on no session reads it, whatever the client kept. It is signed or
         sealed with the moment and the name in it, `get_until` reads it, and the moment is the cookie's expiry."""
-        if same_site not in (None, "Strict", "Lax", "None"):
-            raise ValueError(f"same_site is {same_site!r}, none of 'Strict', 'Lax' and 'None'")
+        _site(same_site)
         way = _way(way)
         if until is not None and (max_age, expires) != (None, None):
             raise ValueError("a value with an end has no other expiry")
@@ -943,7 +970,8 @@ class Client(_Handle):
     `datetime` with a zone; none is now.
     Lines come behind `rules`, which judge none of the cookies that are there, but in headers.
     Calls of one client wait for one another, so threads may share it. In a process that was forked while another thread
-    was in a call of the client, each call of it raises `RuntimeError`.
+    was in a call of the client, each call of it raises `RuntimeError`. So does a call within another of the same
+    thread, as a signal's handler may make it.
     """
 
     def __init__(self, suffixes: Suffixes, saved: Optional[Bytes] = None, now: Optional[Moment] = None,
@@ -986,14 +1014,11 @@ class Client(_Handle):
         the request `navigates` the top level, by whatever method, so by a form's POST too, of which `header` isn't told
         so (the draft that follows RFC 6265, section 5.7)."""
         each = _lines(lines)
-        if not each:
-            return []
-        # One empty line is no text, and no cookie.
-        if each == [b""]:
-            return [End.PARSE]
         started = _BY_USER if initiator is None else _BY_NAVIGATION if navigates else _BY_PAGE
         texts = _bytes(url), _bytes(initiator or ""), b"\n".join(each)
-        return [End(number) for number in self._answer(_LIB.fonnalich_receive_for, started, _second(now), *texts)]
+        answer = self._answer(_LIB.fonnalich_receive_for, started, _second(now), *texts)
+        # One empty line is no text, of which nothing is told, and no cookie.
+        return [End.PARSE] if each == [b""] else [End(number) for number in answer]
 
     def header(self, url: str, now: Optional[Moment] = None, *, initiator: Optional[str] = None,
                navigates: bool = False) -> str:

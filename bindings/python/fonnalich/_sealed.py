@@ -11,7 +11,7 @@ import struct
 from typing import Any, Iterable, Optional
 
 from . import (_KEY_LENGTH, _LIB, _NONCE_LENGTH, _ROOM, Life, RingKey, Way, _answered, _escaped, _raise, _ring,
-               _seconds_of)
+               _seconds_of, _site)
 
 _LENGTH = struct.Struct("<q")
 _SIZE = _LENGTH.size
@@ -115,8 +115,7 @@ def _item(answer: bytes) -> Optional[str]:
 @functools.lru_cache(maxsize=None)
 def attributes_of(http_only: bool, same_site: Optional[str], partitioned: bool) -> bytes:
     """The attributes of a line that a site sets by these words of `Session.set`."""
-    if same_site is not None and same_site not in _SAME_SITES:
-        raise ValueError(f"same_site is {same_site!r}")
+    _site(same_site)
     return (b"; HttpOnly" * http_only + (b"" if same_site is None else _SAME_SITES[same_site])
             + b"; Partitioned" * partitioned)
 

@@ -216,16 +216,17 @@ class MemoryStore(_Locked):
 
     def put_if(self, key: str, version: int, text: bytes) -> bool:
         """Puts a text where the version still is this one."""
-        with self._lock:
-            if self.get(key)[1] != version:
-                return False
-            self._texts[key] = text, next(self._count)
-            return True
+        return self._alone(self._put, key, version, text)
+
+    def _put(self, key: str, version: int, text: bytes) -> bool:
+        if self.get(key)[1] != version:
+            return False
+        self._texts[key] = text, next(self._count)
+        return True
 
     def expire(self, key: str, version: int) -> bool:
         """Lets go of a text where the version still is this one."""
-        with self._lock:
-            return self.get(key)[1] == version and self._texts.pop(key, None) is not None
+        return self._alone(lambda: self.get(key)[1] == version and self._texts.pop(key, None) is not None)
 
 
 class RedisStore:
@@ -331,16 +332,19 @@ class PostgresStore(_Locked):
 
     def _asked(self, words: str, *values: Any) -> tuple[int, Any]:
         """How many rows a statement found, and the first one that it selects."""
-        with self._lock:
-            self._refuse_torn()
-            for _ in range(_TRIES):
-                try:
-                    return self._run(words, values)
-                except Exception as why:
-                    told = why
-                    if getattr(why, "pgcode", None) != self.SERIALIZATION_FAILURE:
-                        raise
-            raise told
+        return self._alone(self._tried, words, values)
+
+    def _tried(self, words: str, values: tuple[Any, ...]) -> tuple[int, Any]:
+        """The same for who is alone."""
+        self._refuse_torn()
+        for _ in range(_TRIES):
+            try:
+                return self._run(words, values)
+            except Exception as why:
+                told = why
+                if getattr(why, "pgcode", None) != self.SERIALIZATION_FAILURE:
+                    raise
+        raise told
 
     def _run(self, words: str, values: tuple[Any, ...]) -> tuple[int, Any]:
         """The same by one transaction."""

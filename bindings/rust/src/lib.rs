@@ -291,6 +291,7 @@ impl fmt::Display for Error {
             Error::MissingPair => to.write_str("the text has no = before its first ;"),
             Error::Line => to.write_str("the header has a control character"),
             Error::Random => to.write_str("the system gave no random bytes"),
+            Error::Stopped(0) => to.write_str("memory was refused before the first line"),
             Error::Stopped(line) => write!(to, "memory was refused at line {line}"),
             Error::Other(number) => write!(to, "the library answered {number}"),
         }

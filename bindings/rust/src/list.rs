@@ -138,9 +138,10 @@ pub(crate) fn refuse_file(text: &[u8]) -> Result<(), Error> {
 // Whether a text is of one line and names a file, which could be a rule: one that is there, or any that ends in `.dat`
 // or `.txt`, in any case and with white space around it.
 fn is_file(text: &[u8]) -> bool {
-    let name = text.trim_ascii().to_ascii_lowercase();
-    if name.ends_with(b".dat") || name.ends_with(b".txt") {
-        return !name.contains(&b'\n');
+    // (Unicode's white space ends a rule too)
+    let name = String::from_utf8_lossy(text).trim().to_ascii_lowercase();
+    if name.ends_with(".dat") || name.ends_with(".txt") {
+        return !name.contains(['\n', '\0']);
     }
     // Before a line feed it is a rule, whatever is there.
     !text.contains(&b'\n') && std::str::from_utf8(text).is_ok_and(|name| Path::new(name).is_file())
@@ -170,6 +171,8 @@ mod tests {
             ("list.txt", Error::NoRule),
             ("LIST.DAT", Error::NoRule),
             (" x.dat\r\n", Error::NoRule),
+            ("x.dat\u{a0}", Error::NoRule),
+            ("My Lists/x.dat", Error::NoRule),
             ("", Error::NoRule),
             ("\n\n", Error::NoRule),
             ("\u{feff}", Error::NoRule),

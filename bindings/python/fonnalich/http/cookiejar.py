@@ -286,7 +286,7 @@ class Jar(http.cookiejar.CookieJar):
 
     def set_cookie(self, cookie: Any, *_: object, **__: object) -> None:
         """Has the client take a cookie, by its line from its own host over https. `ValueError` where it is refused, as
-        for a public suffix."""
+        by a rule of the client. One for a public suffix is that host's alone (RFC 6265, section 5.3, step 5)."""
         url, line = _line_of(cookie)
         end = self._listed().receive(url, [line])[0]
         if end not in (End.INSERTED, End.UPDATED_EXISTING, End.EXPIRED_EXISTING, End.EXPIRED):
