@@ -352,13 +352,15 @@ ptrdiff_t fonnalich_print(bool encode, const fonnalich_attributes *attributes, c
 
 /* Takes the first item out of an answer that lies from *at to `end`: its text, and its length, or -1 where the text
    isn't there, as of a cookie that the header hasn't, or that isn't by this key: *text has no byte then. Answers 0
-   where no item is left. */
+   where no item is left, and where one is cut off. */
 FONNALICH_FORM int fonnalich_next(const char **at, const char *end, const char **text, ptrdiff_t *length) {
     uint64_t bytes = 0;
     if (end - *at < 8)
         return 0;
     for (int i = 8; i-- > 0;)
         bytes = bytes << 8 | (unsigned char)(*at)[i];
+    if (bytes != UINT64_MAX && bytes > (uint64_t)(end - *at - 8))
+        return 0;
     *text = *at + 8;
     *length = bytes == UINT64_MAX ? -1 : (ptrdiff_t)bytes;
     *at = *text + (*length < 0 ? 0 : *length);
@@ -694,6 +696,8 @@ FONNALICH_FORM int fonnalich_next_cookie(const char **at, const char *end, fonna
     for (int i = 0; i < 6; i++)
         if (!fonnalich_next(at, end, &text[i], &length[i]) || length[i] < 0)
             return 0;
+    if (length[4] != 8 || length[5] < 6)
+        return 0;
     const char *flags = text[5];
     for (int i = 8; i-- > 0;)
         second = second << 8 | (unsigned char)text[4][i];

@@ -618,6 +618,34 @@ static void tells_what_it_holds(void) {
     fonnalich_free(&at);
 }
 
+/* How many items, cookies or values an answer has that is cut off at each length, in memory of that length. */
+static void reads_what_is_cut_off(void) {
+    char out[1024];
+    fonnalich at;
+    fonnalich_begin(&at);
+    fonnalich_list(&at, T(LIST));
+    fonnalich_receive(&at, NOW, T(URL), T("a=1; Max-Age=60\nbc=23"), out, sizeof out);
+    ptrdiff_t all = fonnalich_cookies(&at, NOW, out, sizeof out);
+    for (ptrdiff_t length = 0; length <= all; length++) {
+        char *cut = __real_malloc(length ? length : 1);
+        memcpy(cut, out, length);
+        const char *next = cut, *text;
+        ptrdiff_t bytes;
+        size_t place, items = 0, cookies = 0;
+        fonnalich_cookie cookie;
+        while (fonnalich_next(&next, cut + length, &text, &bytes))
+            items++;
+        ask((items == 12) == (length == all), "items that are whole");
+        for (next = cut; fonnalich_next_cookie(&next, cut + length, &cookie);)
+            cookies++;
+        ask((cookies == 2) == (length == all), "cookies that are whole");
+        for (next = cut; fonnalich_next_placed(&next, cut + length, &text, &bytes, &place);)
+            ask(text + bytes <= cut + length, "values");
+        free(cut);
+    }
+    fonnalich_free(&at);
+}
+
 static void finds_and_removes(void) {
     static const char *a[] = {"example.com / a=1 - h0"}, *b[] = {"example.com /x a=2 1700000060 0"};
     char out[256];
@@ -1497,6 +1525,7 @@ int main(int count, char **words) {
     comes_back();
     hands_all_over();
     tells_what_it_holds();
+    reads_what_is_cut_off();
     finds_and_removes();
     takes_what_others_wrote();
     tells_refused_lines();

@@ -16,14 +16,18 @@ type Initiator struct {
 }
 
 // started is how it is told to the library, and the text of the page.
-func (by Initiator) started() (C.uint32_t, []byte) {
+func (by Initiator) started() (C.uint32_t, []byte, error) {
 	if by.Page == nil {
-		return C.FONNALICH_BY_USER, nil
+		return C.FONNALICH_BY_USER, nil, nil
+	}
+	page, err := []byte(by.Page.String()), error(nil)
+	if isWeb(by.Page) {
+		page, err = askedOf(by.Page)
 	}
 	if by.Navigates {
-		return C.FONNALICH_BY_NAVIGATION, []byte(by.Page.String())
+		return C.FONNALICH_BY_NAVIGATION, page, err
 	}
-	return C.FONNALICH_BY_PAGE, []byte(by.Page.String())
+	return C.FONNALICH_BY_PAGE, page, err
 }
 
 // headers are the words for the header of a request that is started so.
@@ -33,8 +37,7 @@ var headers = map[C.uint32_t]C.uint32_t{
 }
 
 // receiveFor takes lines of an answer whose request was started so, and answers a byte for each.
-func receiveFor(at handle, by Initiator, second int64, u, lines []byte) ([]byte, error) {
-	started, page := by.started()
+func receiveFor(at handle, started C.uint32_t, second int64, u, page, lines []byte) ([]byte, error) {
 	out := make([]byte, room)
 	length := C.fonnalich_receive_for(at, started, C.int64_t(second), start(u), C.size_t(len(u)), start(page),
 		C.size_t(len(page)), start(lines), C.size_t(len(lines)), start(out), C.size_t(len(out)))

@@ -8,12 +8,16 @@ package fonnalich
 import "C"
 
 import (
+	"context"
+	"errors"
+	"net"
 	"net/http"
 	"net/url"
 	"runtime"
 	"strings"
 	"sync"
 	"time"
+	"unicode"
 )
 
 // Options are what a jar goes by. None given is the zero value.
@@ -28,7 +32,11 @@ type Options struct {
 }
 
 // A Jar keeps what sites set, and gives each request what it holds for it. It is an http.CookieJar, which goroutines
-// may share: one call waits for another.
+// may share: one call waits for another. The zero Jar is closed, so an http.Client with it sends no cookie: make one by
+// New, NewWith, Load or LoadWith, and don't copy it.
+//
+// The host of a URL is the one that net/http connects to. A URL whose host isn't plain then, as of http://127.1/, is
+// refused as ErrURL: the library may read another one in it.
 //
 // Its memory is C's. It goes with the jar, by a finalizer; Close gives it back at once.
 type Jar struct {
@@ -121,8 +129,8 @@ func (jar *Jar) Close() {
 	if jar.at != nil {
 		freeHandle(jar.at)
 		jar.at = nil
+		runtime.SetFinalizer(jar, nil)
 	}
-	runtime.SetFinalizer(jar, nil)
 }
 
 // SetCookies takes the lines of an answer from a URL: of each cookie the line that it was read of, which is its Raw, or
@@ -188,12 +196,20 @@ func (jar *Jar) receive(u *url.URL, by Initiator, line string) (LineEnd, error) 
 	if isMany {
 		text = nil
 	}
+	asked, err := askedOf(u)
+	if err != nil {
+		return NoCookie, err
+	}
+	started, page, err := by.started()
+	if err != nil {
+		return NoCookie, err
+	}
 	jar.lock.Lock()
 	defer jar.lock.Unlock()
 	if jar.at == nil {
 		return NoCookie, ErrClosed
 	}
-	told, err := receiveFor(jar.at, by, jar.second(), textOf(u), text)
+	told, err := receiveFor(jar.at, started, jar.second(), asked, page, text)
 	switch {
 	case err != nil:
 		return NoCookie, err
@@ -214,11 +230,18 @@ func (jar *Jar) Header(u *url.URL) (string, error) {
 // cookies whose SameSite is Strict, and unless the request navigates those whose is Lax (the draft that follows RFC
 // 6265, section 5.8.3).
 func (jar *Jar) HeaderFor(u *url.URL, by Initiator) (string, error) {
-	if !isWeb(u) {
+	if u != nil && !isWeb(u) {
 		return "", nil
 	}
-	started, page := by.started()
-	header, err := jar.act(headers[started], jar.second(), textOf(u), page)
+	asked, err := askedOf(u)
+	if err != nil {
+		return "", err
+	}
+	started, page, err := by.started()
+	if err != nil {
+		return "", err
+	}
+	header, err := jar.act(headers[started], jar.second(), asked, page)
 	return string(header), err
 }
 
@@ -271,7 +294,7 @@ func (jar *Jar) one(word C.uint32_t, second int64, domain, path, name string) (*
 
 // take has a line after the other taken, and tells what is refused.
 func (jar *Jar) take(u *url.URL, lines []string) {
-	if !isWeb(u) {
+	if u != nil && !isWeb(u) {
 		return
 	}
 	for _, line := range lines {
@@ -311,8 +334,53 @@ func isWeb(u *url.URL) bool {
 	return u.Scheme == "http" || u.Scheme == "https"
 }
 
-// textOf is the URL of the host that net/http connects to: the String of one that has an Opaque may have another.
-func textOf(u *url.URL) []byte {
+// askedOf is the URL of the host that net/http connects to, and of the path that it asks for there. It is ErrURL where
+// the library could read another host.
+func askedOf(u *url.URL) ([]byte, error) {
+	if u == nil {
+		return nil, ErrURL
+	}
+	// (the String of one that has an Opaque may have another host)
 	its := url.URL{Scheme: u.Scheme, Host: u.Host, Path: u.Path, RawPath: u.RawPath}
-	return []byte(its.String())
+	if !isWeb(u) {
+		return []byte(its.String()), nil
+	}
+	its.Host = u.Hostname()
+	if strings.IndexFunc(its.Host, func(it rune) bool { return it > unicode.MaxASCII }) >= 0 {
+		its.Host = connected(its.Host)
+	}
+	if strings.Contains(its.Host, ":") {
+		its.Host = "[" + its.Host + "]"
+	}
+	port := strings.TrimLeft(u.Port(), "0")
+	if port != "" && port != ports[u.Scheme] {
+		its.Host += ":" + port
+	}
+	// (one of these would end the host)
+	isPlain, err := IsPlainURL(u.Scheme + "://" + its.Host + "/")
+	if err == nil && (!isPlain || strings.ContainsAny(its.Host, "/?#")) {
+		err = ErrURL
+	}
+	return []byte(its.String()), err
 }
+
+// connected is the host that net/http connects to for one that isn't ASCII, which it tells to nothing else: of
+// fa\u1E9E.de it makes fass.de, and the library xn--fa-hia.de.
+func connected(host string) string {
+	var address string
+	probe := &http.Transport{DialContext: func(_ context.Context, _, to string) (net.Conn, error) {
+		address = to
+		return nil, errProbe
+	}}
+	asked := &http.Request{URL: &url.URL{Scheme: "http", Host: host, Path: "/"}, Header: http.Header{}}
+	if answer, err := probe.RoundTrip(asked); err == nil {
+		answer.Body.Close()
+	}
+	name, _, _ := net.SplitHostPort(address)
+	return name
+}
+
+var errProbe = errors.New("fonnalich: nothing is connected to")
+
+// ports are those of a URL that names none.
+var ports = map[string]string{"http": "80", "https": "443"}

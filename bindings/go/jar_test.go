@@ -1,9 +1,11 @@
 package fonnalich
 
 import (
+	"context"
 	"errors"
 	"fmt"
 	"io"
+	"net"
 	"net/http"
 	"net/http/httptest"
 	"net/url"
@@ -540,5 +542,70 @@ func TestJarsShareAList(t *testing.T) {
 			t.Error(end)
 		}
 		jar.Close()
+	}
+}
+
+// What IDNA makes of U+1E9E differs from one version of Unicode to the next, so the host is the one of net/http's.
+func TestTheHostIsTheOneThatIsConnectedTo(t *testing.T) {
+	jar := made(t, list, nil)
+	for _, host := range []string{"fass.de", "xn--fa-hia.de", "xn--bcher-kva.de", "shop.com"} {
+		receive(t, jar, parsed("http://"+host+"/"), "at="+host)
+	}
+	dialed := ""
+	client := &http.Client{Jar: jar, Transport: &http.Transport{
+		DialContext: func(_ context.Context, _, address string) (net.Conn, error) {
+			dialed, _, _ = net.SplitHostPort(address)
+			return nil, errors.New("nobody is there")
+		}}}
+	for _, text := range []string{"http://fa\u1e9e.de/", "http://fa%E1%BA%9E.de:8080/x", "http://FA\u00df.de/",
+		"http://b\u00fccher.de", "http://B%C3%9Ccher.de:080/", "http://Shop.com:80?x"} {
+		u := parsed(text)
+		if _, err := client.Do(&http.Request{URL: u, Header: http.Header{}}); err == nil {
+			t.Fatal("somebody is there")
+		}
+		if got := headerOf(t, jar, u); got != "at="+strings.ToLower(dialed) {
+			t.Errorf("%s: %q, and it connects to %s", text, got, dialed)
+		}
+	}
+	odd := []*url.URL{nil, {Scheme: "http", Host: "shop.com/x.evil.org"}, {Scheme: "http", Host: "shop.com\\x.evil.org"},
+		{Scheme: "http", Host: "shop.com?.evil.org"}, {Scheme: "http", Host: "shop.com#.evil.org"},
+		{Scheme: "http", Host: "127.1"}, {Scheme: "http", Host: "a@shop.com"}, {Scheme: "http"},
+		{Scheme: "http", Host: "shop.com:99999999"}, {Scheme: "http", Host: "\u00fc\u200d.de"}}
+	for _, u := range odd {
+		if _, err := jar.Header(u); !errors.Is(err, ErrURL) {
+			t.Errorf("%v: %v", u, err)
+		}
+		if _, err := jar.Receive(u, []string{"a=1; Domain=shop.com"}); !errors.Is(err, ErrURL) {
+			t.Errorf("%v: %v", u, err)
+		}
+		if u != nil {
+			if _, err := jar.HeaderFor(shop, Initiator{Page: u}); !errors.Is(err, ErrURL) {
+				t.Errorf("a page %v: %v", u, err)
+			}
+		}
+	}
+}
+
+func TestATransportRefusesWhatItCantSend(t *testing.T) {
+	jar := made(t, list, nil)
+	receive(t, jar, shop, "a=1")
+	for _, it := range []struct {
+		transport *Transport
+		request   *http.Request
+	}{{&Transport{Jar: jar}, &http.Request{URL: shop}}, {&Transport{Jar: jar}, &http.Request{Header: http.Header{}}},
+		{&Transport{}, &http.Request{URL: shop, Header: http.Header{}}}} {
+		if _, err := it.transport.RoundTrip(it.request); err == nil {
+			t.Error("it is sent")
+		}
+	}
+	zero := struct {
+		name string
+		jar  Jar
+		list List
+	}{}
+	zero.jar.Close()
+	zero.list.Close()
+	if _, err := zero.jar.Header(shop); !errors.Is(err, ErrClosed) {
+		t.Error(err)
 	}
 }

@@ -11,7 +11,7 @@ import (
 )
 
 // A List is a public suffix list. Jars that begin with it share it: it is read once, and lies in memory once.
-// Goroutines may share one.
+// Goroutines may share one. The zero List is closed: make one by NewList.
 //
 // Its memory goes with the list and the last jar that has it, by a finalizer; Close lets go of it at once.
 type List struct {
@@ -65,8 +65,8 @@ func (list *List) Close() {
 	if list.at != nil {
 		freeHandle(list.at)
 		list.at = nil
+		runtime.SetFinalizer(list, nil)
 	}
-	runtime.SetFinalizer(list, nil)
 }
 
 // share has a handle keep the list.

@@ -33,7 +33,7 @@ const REFUSALS = {
     '-2': 'Word', '-3': 'NoClient', '-4': 'List', '-5': 'Moment', '-6': 'Url', '-7': 'Saved', '-8': 'Year',
     '-9': 'Read', '-17': 'Text', '-20': 'Rules', '-21': 'Line', '-24': 'NoRule', '-25': 'NoList',
 };
-const [NO_LIST, NO_RULE] = [-4, -24];
+const [NO_LIST, URL_NUMBER, NO_RULE] = [-4, -6, -24];
 const HINT = 'a list is the text of one: hand in what the file holds, fs.readFileSync(path)';
 const ENDS = {
     0: 'Inserted', 1: 'ExpiredExisting', 2: 'UpdatedExisting', 3: 'NotText', 4: 'HostPrefix', 10: 'NonHttpScheme',
@@ -107,6 +107,8 @@ function optionsOf(given, absent) {
 
 function bytesOf(text, what) {
     if (typeof text === 'string') return Buffer.from(text);
+    // (other threads may write to what is shared while the library reads it)
+    if (text instanceof Uint8Array && text.buffer instanceof SharedArrayBuffer) return Buffer.from(text);
     if (text instanceof Uint8Array) return Buffer.from(text.buffer, text.byteOffset, text.byteLength);
     throw new TypeError(`${what} is neither a string nor bytes`);
 }
@@ -118,13 +120,24 @@ function secondOf(moment) {
     return second;
 }
 
+/* The text of a URL as Node reads it, so that the library reads the host that Node connects to: of `https://faẞ.de/`
+   some read fass.de, and some xn--fa-hia.de. */
+function readByNode(url) {
+    if (url instanceof URL) return url.href;
+    if (typeof url !== 'string') throw new TypeError('the URL is neither a string nor a URL');
+    try {
+        return new URL(url).href;
+    } catch {
+        throw new Refused(URL_NUMBER);
+    }
+}
+
 /* The URL that the library is given. What isn't HTTP, as a page's script, asks by a scheme that isn't. */
 function urlOf(url, http) {
-    if (typeof url !== 'string' && !(url instanceof URL)) throw new TypeError('the URL is neither a string nor a URL');
-    const text = String(url);
+    const text = readByNode(url);
     if (http ?? true) return Buffer.from(text);
-    if (!/^https?:/i.test(text)) throw new Refused(-6);
-    return Buffer.from(text.replace(/^https?/i, 'ws'));
+    if (!/^https?:/.test(text)) throw new Refused(URL_NUMBER);
+    return Buffer.from(text.replace(/^https?/, 'ws'));
 }
 
 /* What starts a request by a call's options, and the URL of the page that does. */
@@ -138,7 +151,7 @@ function startOf({ initiator, navigates, sameSiteContext }) {
     if (typeof initiator !== 'string' && !(initiator instanceof URL)) {
         throw new TypeError('options.initiator is neither a string nor a URL');
     }
-    return [navigates ? BY_NAVIGATION : BY_PAGE, Buffer.from(String(initiator))];
+    return [navigates ? BY_NAVIGATION : BY_PAGE, Buffer.from(readByNode(initiator))];
 }
 
 function callbackOf(options, callback) {

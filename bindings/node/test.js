@@ -281,6 +281,32 @@ test('rules', () => {
     assert.equal(jarOf({ rules: Rules.NONE }).setCookieSync('a=1; Secure', 'http://shop.com/'), 'Inserted');
 });
 
+// IDNA maps U+1E9E to ss, and since Unicode 15.1 to U+00DF: whichever Node goes by, it connects there.
+test('the host is the one that Node reads', () => {
+    const jar = jarOf();
+    for (const host of ['fass.de', 'xn--fa-hia.de']) jar.setCookieSync(`at=${host}; Secure`, `https://${host}/`);
+    for (const url of ['https://fa\u1e9e.de/', 'https://FA\u00df.de/', 'https://fass.de\\x.evil.org/']) {
+        assert.equal(jar.getCookieStringSync(url), `at=${new URL(url).hostname}`, url);
+        assert.equal(jar.getCookieStringSync(new URL(url)), `at=${new URL(url).hostname}`, url);
+    }
+    for (const host of ['fass.de', 'xn--fa-hia.de']) {
+        const initiator = 'https://fa\u1e9e.de/';
+        jar.setCookieSync(`strict=${host}; Secure; SameSite=Strict`, `https://${host}/`);
+        const header = jar.getCookieStringSync(`https://${host}/`, { initiator });
+        assert.equal(header.includes('strict'), new URL(initiator).hostname === host, host);
+    }
+});
+
+// Another thread may write there meanwhile.
+test('bytes that threads share are copied', () => {
+    const shared = new Uint8Array(new SharedArrayBuffer(64)).fill(35);
+    const row = Buffer.from('shop.com\tFALSE\t/\tFALSE\t0\ta\t1\n');
+    shared.set(row);
+    const jar = jarOf();
+    assert.equal(jar.importCookiesTxt(shared.subarray(0, row.length)).taken, 1);
+    assert.equal(jar.getCookieStringSync('http://shop.com/'), 'a=1');
+});
+
 test('a jar that is closed', () => {
     const jar = jarOf();
     jar.close();

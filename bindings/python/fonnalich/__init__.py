@@ -241,12 +241,13 @@ class Stopped(_Passed, MemoryError):
 def _bytes(text: Text) -> bytes:
     if isinstance(text, str):
         return text.encode("utf-8", "surrogateescape")
-    if isinstance(text, bytes):
+    # (a class of its own may tell another length than its own)
+    if type(text) is bytes:
         return text
     if not _has_bytes(text):
         raise TypeError(f"a text is wanted, in str or bytes, not {type(text).__name__}")
     # By way of a view, since `bytes` makes something of a number too.
-    return bytes(memoryview(text))
+    return memoryview(text).tobytes()
 
 
 def _counted(number: int) -> int:
@@ -352,7 +353,8 @@ class _Locked:
         """What a call answers, during which no other is made of this."""
         caller = threading.get_ident()
         if caller in self._callers:
-            raise RuntimeError("this thread is in a call of this already, as where a signal's handler makes another")
+            raise RuntimeError("this thread is in a call of this already, as where a signal's handler makes another "
+                               "one, or such a call was cut off")
         try:
             self._callers.add(caller)
             with self._lock:

@@ -9,7 +9,7 @@ from __future__ import annotations
 from typing import TYPE_CHECKING, Any, Union
 
 from . import Client
-from .http.cookiejar import Jar, _begin_sending, _mark_as_sent, _Sendable, _Shown
+from .http.cookiejar import Jar, _asked, _begin_sending, _mark_as_sent, _Sendable, _Shown
 
 if TYPE_CHECKING:
     from .fleet import Fleet
@@ -30,7 +30,8 @@ class Adapter:
     It puts the header of each request, at a redirect anew. A `Cookie` header of the caller's own goes out instead, up
     to a redirect. `cookies=` of a request is passed over, and so is an own header beside it. What a request gets goes
     by its URL, whatever its `Host` header says, while `requests` has the lines of the answer taken as from that host.
-    Requests go out by `over`, else by an `HTTPAdapter` of `requests` that is made of the other words.
+    A URL whose host isn't plain is refused as `Url`. Requests go out by `over`, else by an `HTTPAdapter` of `requests`
+    that is made of the other words.
     """
 
     def __init__(self, client: Union[Client, Fleet], over: Any = None, **how: Any):
@@ -53,7 +54,7 @@ class Adapter:
         self.over.close()
 
     def _put(self, request: Any) -> None:
-        header = self.client.header(request.url)
+        header = self.client.header(_asked(request.url))
         if header:
             request.headers["Cookie"] = _Sendable(header)
         else:

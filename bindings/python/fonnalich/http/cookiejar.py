@@ -11,7 +11,8 @@ import urllib.request
 import weakref
 from typing import TYPE_CHECKING, Any, Iterable, Iterator, NoReturn, Optional, Union
 
-from .. import _COOKIES, Client, Cookie, End, HeldCookie, _bytes, _held_of, _parts, _records, _second
+from .. import (_COOKIES, _URL_NUMBER, Client, Cookie, End, HeldCookie, Refused, _bytes, _held_of, _parts, _records,
+                _second, is_plain_url)
 
 if TYPE_CHECKING:
     from ..fleet import Fleet
@@ -143,13 +144,39 @@ def _site_of(url: str) -> str:
     return f"http{url[2:]}" if url[:4].lower() == "wss:" or url[:3].lower() == "ws:" else url
 
 
+_PORTS = {"http": 80, "https": 443}
+
+
+def _asked(url: str) -> str:
+    """The URL of what `urllib` connects to, and `requests` of a URL that it prepared, and of what they ask there. It is
+    refused where the client could read another host: of `http://shop.com\\x.evil.test/` it reads shop.com, and
+    `urllib` asks for a host below evil.test."""
+    asked = urllib.request.Request(_site_of(url))
+    if asked.type not in _PORTS:
+        return url
+    try:
+        # (as a socket reads it; user and password are none of the host)
+        host = (asked.host or "").rpartition("@")[2].encode("idna").decode("ascii")
+    except UnicodeError:
+        raise Refused(_URL_NUMBER) from None
+    name, colon, port = host.rpartition(":")
+    if colon and len(port) < 6 and (not port or port.isdigit()):
+        host = name if not port or int(port) == _PORTS[asked.type] else f"{name}:{int(port)}"
+    site = f"{asked.type}://{host}"
+    # (one of these would end the host)
+    if any(it in host for it in "/?#") or not is_plain_url(f"{site}/"):
+        raise Refused(_URL_NUMBER)
+    return site + (asked.selector if asked.selector.startswith("/") else f"/{asked.selector}")
+
+
 class Jar(http.cookiejar.CookieJar):
     """A jar for `urllib.request.HTTPCookieProcessor` over a client, or over a `Fleet` of the module `fleet`.
 
     It reads, lists, sets and removes the client's cookies as `http.cookiejar` and the jar of `requests` do. Over a
     fleet it lists none, and the other calls raise `NotImplementedError`. A cookie that is set has a domain. One that is
     read, as by `list`, says of itself that its version is 1, so other jars send it nowhere. `bool(jar)` is True, with
-    cookies and without. There is no `set_policy`. A WebSocket (ws, wss) gets the cookies of its handshake.
+    cookies and without. There is no `set_policy`. A WebSocket (ws, wss) gets the cookies of its handshake. A URL whose
+    host isn't plain is refused as `Url`, since `urllib` may read another one in it than the client.
     `requests` and `httpx` send by jars of their own: without an `Adapter` or a transport of `fonnalich.httpx` they
     would send nothing of it, which is told as `NotSent`, by a request or by its answer.
     """
@@ -166,12 +193,12 @@ class Jar(http.cookiejar.CookieJar):
         """Has the client take the `Set-Cookie` lines of an answer, byte for byte. `NotSent` where the request went out
         by `requests` or `httpx` without its header; the lines are taken even so."""
         lines = response.info().get_all("Set-Cookie", [])
-        self.client.receive(_site_of(request.get_full_url()), [_received(line) for line in lines])
+        self.client.receive(_asked(request.get_full_url()), [_received(line) for line in lines])
         _refuse_unsent(request, self.client)
 
     def add_cookie_header(self, request: urllib.request.Request) -> None:
         """Gives a request the client's header, byte for byte, where it has no `Cookie` header of its own."""
-        header = self.client.header(_site_of(request.get_full_url()))
+        header = self.client.header(_asked(request.get_full_url()))
         if header and not request.has_header("Cookie"):
             request.add_unredirected_header("Cookie", _Sendable(header))
 
