@@ -154,9 +154,11 @@ def _asked(url: str) -> str:
     asked = urllib.request.Request(_site_of(url))
     if asked.type not in _PORTS:
         return url
+    # (user and password are none of the host)
+    host = (asked.host or "").rpartition("@")[2]
     try:
-        # (as a socket reads it; user and password are none of the host)
-        host = (asked.host or "").rpartition("@")[2].encode("idna").decode("ascii")
+        # (as a socket reads it)
+        host = host if host.isascii() else host.encode("idna").decode("ascii")
     except UnicodeError:
         raise Refused(_URL_NUMBER) from None
     name, colon, port = host.rpartition(":")
