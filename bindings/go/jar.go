@@ -36,7 +36,8 @@ type Options struct {
 // New, NewWith, Load or LoadWith, and don't copy it.
 //
 // The host of a URL is the one that net/http connects to. A URL whose host isn't plain then, as of http://127.1/, is
-// refused as ErrURL: the library may read another one in it.
+// refused as ErrURL: the library may read another one in it. A request with a Host of its own goes by its URL, and a
+// proxy is asked for that Host.
 //
 // Its memory is C's. It goes with the jar, by a finalizer; Close gives it back at once.
 type Jar struct {
@@ -345,8 +346,15 @@ func askedOf(u *url.URL) ([]byte, error) {
 	if !isWeb(u) {
 		return []byte(its.String()), nil
 	}
+	// (it asks a proxy for the host of such an Opaque)
+	if strings.HasPrefix(u.Opaque, "//") {
+		return nil, ErrURL
+	}
 	its.Host = u.Hostname()
 	if strings.IndexFunc(its.Host, func(it rune) bool { return it > unicode.MaxASCII }) >= 0 {
+		if strings.Contains(its.Host, ":") {
+			return nil, ErrURL
+		}
 		its.Host = connected(its.Host)
 	}
 	if strings.Contains(its.Host, ":") {

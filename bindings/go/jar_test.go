@@ -254,12 +254,18 @@ func TestWhatIsRefusedIsTold(t *testing.T) {
 	}
 }
 
-// net/http connects to the Host, whatever the Opaque has it send.
+// net/http connects to the Host, whatever the Opaque has it send, and asks a proxy for the host of one that has it.
 func TestAHostIsThatWhichIsConnectedTo(t *testing.T) {
 	jar := made(t, list, nil)
 	receive(t, jar, shop, "a=1")
-	if found := headerOf(t, jar, &url.URL{Scheme: "https", Host: "evil.com", Opaque: "//shop.com/"}); found != "" {
+	if found := headerOf(t, jar, &url.URL{Scheme: "https", Host: "evil.com", Opaque: "/x"}); found != "" {
 		t.Error(found)
+	}
+	for _, hosts := range [][]string{{"evil.com", "shop.com"}, {"shop.com", "evil.com"}} {
+		u := &url.URL{Scheme: "https", Host: hosts[0], Opaque: "//" + hosts[1] + "/"}
+		if header, err := jar.Header(u); !errors.Is(err, ErrURL) {
+			t.Error(u, header, err)
+		}
 	}
 }
 
@@ -570,7 +576,8 @@ func TestTheHostIsTheOneThatIsConnectedTo(t *testing.T) {
 	odd := []*url.URL{nil, {Scheme: "http", Host: "shop.com/x.evil.org"}, {Scheme: "http", Host: "shop.com\\x.evil.org"},
 		{Scheme: "http", Host: "shop.com?.evil.org"}, {Scheme: "http", Host: "shop.com#.evil.org"},
 		{Scheme: "http", Host: "127.1"}, {Scheme: "http", Host: "a@shop.com"}, {Scheme: "http"},
-		{Scheme: "http", Host: "shop.com:99999999"}, {Scheme: "http", Host: "\u00fc\u200d.de"}}
+		{Scheme: "http", Host: "shop.com:99999999"}, {Scheme: "http", Host: "shop.com", Opaque: "//evil.org/"},
+		{Scheme: "http", Host: "[\u1e9e:]:1"}, {Scheme: "http", Host: "\u00fc\u200d.de"}}
 	for _, u := range odd {
 		if _, err := jar.Header(u); !errors.Is(err, ErrURL) {
 			t.Errorf("%v: %v", u, err)

@@ -17,7 +17,7 @@ from typing import TYPE_CHECKING, Any, Optional, Type, Union
 import httpx
 
 from . import _URL_NUMBER, Client, Refused, is_plain_url
-from .http.cookiejar import _begin_sending, _mark_as_sent
+from .http.cookiejar import _begin_sending, _mark_as_sent, _refuse_unsent
 
 if TYPE_CHECKING:
     from .fleet import Fleet
@@ -28,8 +28,10 @@ __all__ = ["AsyncTransport", "EmptyJar", "Transport"]
 class EmptyJar(http.cookiejar.CookieJar):
     """A jar that takes nothing, so that `httpx` keeps no cookies beside the client's."""
 
-    def extract_cookies(self, *_: object) -> None:
-        """Takes nothing."""
+    def extract_cookies(self, response: object, request: object) -> None:
+        """Takes nothing. `NotSent` where the request went out by none of these transports, as by one that `httpx` made
+        for a proxy: a `Transport` is given that, `Transport(client, proxy=..)`."""
+        _refuse_unsent(request, None)
 
 
 class Transport(httpx.BaseTransport):
@@ -45,7 +47,12 @@ class Transport(httpx.BaseTransport):
         """Sends a request with the client's header, and has the client take the lines of the answer."""
         url = _put(self.client, request)
         response = self.over.handle_request(request)
-        _take(self.client, url, response)
+        try:
+            _take(self.client, url, response)
+        except BaseException:
+            # (nobody else gives its connection back)
+            response.close()
+            raise
         return response
 
     def close(self) -> None:
@@ -73,7 +80,11 @@ class AsyncTransport(httpx.AsyncBaseTransport):
         """Sends a request with the client's header, and has the client take the lines of the answer."""
         url = _put(self.client, request)
         response = await self.over.handle_async_request(request)
-        _take(self.client, url, response)
+        try:
+            _take(self.client, url, response)
+        except BaseException:
+            await response.aclose()
+            raise
         return response
 
     async def aclose(self) -> None:
@@ -114,4 +125,6 @@ def _put(client: Union[Client, Fleet], request: httpx.Request) -> str:
 
 
 def _take(client: Union[Client, Fleet], url: str, response: httpx.Response) -> None:
-    client.receive(url, [value for name, value in response.headers.raw if name.lower() == b"set-cookie"])
+    lines = [value for name, value in response.headers.raw if name.lower() == b"set-cookie"]
+    # (a line feed, which HTTP/2 could bring, would make two of one)
+    client.receive(url, [line for line in lines if b"\n" not in line])

@@ -54,7 +54,7 @@ class Adapter:
         self.over.close()
 
     def _put(self, request: Any) -> None:
-        header = self.client.header(_asked(request.url))
+        header = self.client.header(_asked(request.url, False))
         if header:
             request.headers["Cookie"] = _Sendable(header)
         else:

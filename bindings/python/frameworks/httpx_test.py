@@ -2,12 +2,14 @@
 import asyncio
 import contextlib
 import importlib.util
+import pickle
 import unittest
+import unittest.mock
 
 import httpx
 
 import fonnalich.httpx
-from fonnalich import Client, End, Refused
+from fonnalich import Client, End, NotSent, Refused
 from fonnalich.httpx import AsyncTransport, EmptyJar, Transport
 
 from frameworks.kit import Site, blocks
@@ -159,6 +161,50 @@ class Transports(unittest.TestCase):
             over = Over()
             run(over)
             self.assertEqual(over.closed, 1)
+
+    # Nobody else would give its connection back.
+    def test_close_an_answer_that_is_not_taken(self):
+        class Body(httpx.SyncByteStream, httpx.AsyncByteStream):
+            closed = 0
+
+            def close(self):
+                self.closed += 1
+
+            async def aclose(self):
+                self.closed += 1
+
+        async def task(over):
+            async with httpx.AsyncClient(transport=AsyncTransport(down, over=over), cookies=EmptyJar()) as asked:
+                await asked.get("https://shop.test/")
+
+        down, body = unittest.mock.Mock(), Body()
+        down.header.return_value, down.receive.side_effect = "", ConnectionError
+        over = httpx.MockTransport(lambda request: httpx.Response(200, stream=body))
+        with httpx.Client(transport=Transport(down, over=over), cookies=EmptyJar()) as asked:
+            self.assertRaises(ConnectionError, asked.get, "https://shop.test/")
+            self.assertEqual(body.closed, 1)
+        self.assertRaises(ConnectionError, asyncio.run, task(over))
+        self.assertEqual(body.closed, 2)
+
+    def test_pass_over_a_line_of_two(self):
+        headers = [("Set-Cookie", "a=1\nb=2"), ("Set-Cookie", "c=3")]
+        over = httpx.MockTransport(lambda request: httpx.Response(200, headers=headers))
+        with httpx.Client(transport=Transport(self.client, over=over), cookies=EmptyJar()) as asked:
+            asked.get("https://shop.test/")
+        self.assertEqual(self.client.header("https://shop.test/"), "c=3")
+
+    # As `httpx` makes one for each proxy.
+    def test_tell_where_another_one_sent(self):
+        over = httpx.MockTransport(lambda request: httpx.Response(200))
+        with httpx.Client(transport=Transport(self.client, over=over), mounts={"http://": over},
+                          cookies=EmptyJar()) as asked:
+            asked.get("https://shop.test/")
+            self.assertRaises(NotSent, asked.get, "http://shop.test/")
+
+    def test_leave_answers_that_can_be_kept(self):
+        over = httpx.MockTransport(lambda request: httpx.Response(200, text="b"))
+        with httpx.Client(transport=Transport(self.client, over=over), cookies=EmptyJar()) as asked:
+            self.assertEqual(pickle.loads(pickle.dumps(asked.get("https://shop.test/"))).text, "b")
 
     def test_are_made_of_other_words(self):
         with self.assertRaises(TypeError):

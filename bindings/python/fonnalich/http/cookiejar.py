@@ -7,6 +7,8 @@ from __future__ import annotations
 import dataclasses
 import http.cookiejar
 import math
+import re
+import urllib.parse
 import urllib.request
 import weakref
 from typing import TYPE_CHECKING, Any, Iterable, Iterator, NoReturn, Optional, Union
@@ -46,17 +48,28 @@ def _begin_sending(client: Union[Client, Fleet]) -> None:
     _SENDERS.add(client)
 
 
+class _Mark:
+    """Whose header a request has. A copy of a request, and one in a file, has nobody's."""
+
+    def __init__(self, client: Union[Client, Fleet]):
+        self.client = weakref.ref(client)
+
+    def __reduce__(self) -> tuple[type[None], tuple[()]]:
+        return type(None), ()
+
+
 def _mark_as_sent(request: Any, client: Union[Client, Fleet]) -> None:
     """Keeps, at a request of `requests` or `httpx`, whose header was put."""
-    setattr(request, _SENT, client)
+    setattr(request, _SENT, _Mark(client))
 
 
-def _refuse_unsent(request: Any, client: Union[Client, Fleet]) -> None:
-    """Raises where `requests` or `httpx` sent a request without the client's header. Theirs lies in what they make look
-    like one of `urllib`."""
+def _refuse_unsent(request: Any, client: Union[Client, Fleet, None]) -> None:
+    """Raises where `requests` or `httpx` sent a request without the client's header, or without anybody's. Theirs lies
+    in what they make look like one of `urllib`."""
     library = type(request).__module__.partition(".")[0]
     inner = getattr(request, {"httpx": "request", "requests": "_r"}.get(library, ""), None)
-    if inner is not None and getattr(inner, _SENT, None) is not client:
+    mark = getattr(inner, _SENT, None)
+    if inner is not None and (mark is None or client is not None and mark.client() is not client):
         raise NotSent(f"{library} sends no cookie of a Jar by itself: {_INSTEAD[library]}")
 
 
@@ -145,30 +158,46 @@ def _site_of(url: str) -> str:
 
 
 _PORTS = {"http": 80, "https": 443}
+# What stands behind a URL's scheme (RFC 3986, section 3.2): user and password, host and port, up to one of `/?#`.
+_AUTHORITY = re.compile(r"//(?:[\w.~!$&'()*+,;=:%-]*@)?(\[[^][@/?#]*\]|[^][:@/?#]*)(?::([0-9]{0,5}))?(?![^/?#])",
+                        re.ASCII)
+_HOST = re.compile(r"\[[0-9A-Fa-f:.]+\]|[\w.~-]+", re.ASCII)
 
 
-def _asked(url: str) -> str:
-    """The URL of what `urllib` connects to, and `requests` of a URL that it prepared, and of what they ask there. It is
-    refused where the client could read another host: of `http://shop.com\\x.evil.test/` it reads shop.com, and
-    `urllib` asks for a host below evil.test."""
-    asked = urllib.request.Request(_site_of(url))
+def _asked(url: str, by_urllib: bool) -> str:
+    """The URL of what `urllib`, or else `requests`, connects to, and of what it asks there. It is refused where the
+    client could read another host: of `http://shop.com\\x.evil.test/` it reads shop.com, and `urllib` asks for a host
+    below evil.test."""
+    try:
+        asked = urllib.request.Request(_site_of(url))
+    except ValueError:
+        raise Refused(_URL_NUMBER) from None
     if asked.type not in _PORTS:
         return url
-    # (user and password are none of the host)
-    host = (asked.host or "").rpartition("@")[2]
-    try:
-        # (as a socket reads it)
-        host = host if host.isascii() else host.encode("idna").decode("ascii")
-    except UnicodeError:
-        raise Refused(_URL_NUMBER) from None
-    name, colon, port = host.rpartition(":")
-    if colon and len(port) < 6 and (not port or port.isdigit()):
-        host = name if not port or int(port) == _PORTS[asked.type] else f"{name}:{int(port)}"
-    site = f"{asked.type}://{host}"
-    # (one of these would end the host)
-    if any(it in host for it in "/?#") or not is_plain_url(f"{site}/"):
+    # (the host of a `Request` is decoded already, and so may have what would end it here)
+    parts = _AUTHORITY.match(asked.full_url.partition(":")[2])
+    if parts is None:
+        raise Refused(_URL_NUMBER)
+    host = _connected(parts[1]) if by_urllib else parts[1]
+    port = int(parts[2] or _PORTS[asked.type])
+    site = f"{asked.type}://{host}" + (f":{port}" if port != _PORTS[asked.type] else "")
+    if not _HOST.fullmatch(host) or not is_plain_url(f"{site}/"):
         raise Refused(_URL_NUMBER)
     return site + (asked.selector if asked.selector.startswith("/") else f"/{asked.selector}")
+
+
+def _asked_by(request: Any) -> str:
+    """The same of a request of `urllib`, or of one that another library makes look like it."""
+    return _asked(request.get_full_url(), isinstance(request, urllib.request.Request))
+
+
+def _connected(host: str) -> str:
+    """The host that `urllib` connects to: it decodes it, and a socket reads it by IDNA. Empty where that fails."""
+    host = urllib.parse.unquote(host)
+    try:
+        return host if host.isascii() else host.encode("idna").decode("ascii")
+    except UnicodeError:
+        return ""
 
 
 class Jar(http.cookiejar.CookieJar):
@@ -195,12 +224,12 @@ class Jar(http.cookiejar.CookieJar):
         """Has the client take the `Set-Cookie` lines of an answer, byte for byte. `NotSent` where the request went out
         by `requests` or `httpx` without its header; the lines are taken even so."""
         lines = response.info().get_all("Set-Cookie", [])
-        self.client.receive(_asked(request.get_full_url()), [_received(line) for line in lines])
+        self.client.receive(_asked_by(request), [_received(line) for line in lines])
         _refuse_unsent(request, self.client)
 
     def add_cookie_header(self, request: urllib.request.Request) -> None:
         """Gives a request the client's header, byte for byte, where it has no `Cookie` header of its own."""
-        header = self.client.header(_asked(request.get_full_url()))
+        header = self.client.header(_asked_by(request))
         if header and not request.has_header("Cookie"):
             request.add_unredirected_header("Cookie", _Sendable(header))
 
