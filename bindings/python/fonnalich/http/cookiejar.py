@@ -174,8 +174,9 @@ def _asked(url: str, by_urllib: bool) -> str:
         raise Refused(_URL_NUMBER) from None
     if asked.type not in _PORTS:
         return url
-    # (the host of a `Request` is decoded already, and so may have what would end it here)
-    parts = _AUTHORITY.match(asked.full_url.partition(":")[2])
+    # (the host of a `Request` is decoded already, and so may have what would end it here; its URL is without the blanks
+    # around it)
+    parts = _AUTHORITY.match((asked.full_url if by_urllib else _site_of(url)).partition(":")[2])
     if parts is None:
         raise Refused(_URL_NUMBER)
     host = _connected(parts[1]) if by_urllib else parts[1]
