@@ -346,28 +346,32 @@ func askedOf(u *url.URL) ([]byte, error) {
 	if !isWeb(u) {
 		return []byte(its.String()), nil
 	}
-	// (it asks a proxy for the host of such an Opaque)
-	if strings.HasPrefix(u.Opaque, "//") {
+	// (an Opaque that is no path is what it asks a proxy for)
+	if u.Opaque != "" && (u.Opaque[0] != '/' || strings.HasPrefix(u.Opaque, "//")) {
 		return nil, ErrURL
 	}
 	its.Host = u.Hostname()
-	if strings.IndexFunc(its.Host, func(it rune) bool { return it > unicode.MaxASCII }) >= 0 {
-		if strings.Contains(its.Host, ":") {
+	isAddress := strings.Contains(its.Host, ":")
+	if isAddress {
+		if net.ParseIP(its.Host) == nil {
 			return nil, ErrURL
 		}
-		its.Host = connected(its.Host)
-	}
-	if strings.Contains(its.Host, ":") {
 		its.Host = "[" + its.Host + "]"
+	} else if strings.IndexFunc(its.Host, func(it rune) bool { return it > unicode.MaxASCII }) >= 0 {
+		its.Host = connected(its.Host)
 	}
 	port := strings.TrimLeft(u.Port(), "0")
 	if port != "" && port != ports[u.Scheme] {
 		its.Host += ":" + port
 	}
-	// (one of these would end the host)
+	// (one of these would end the host, and an address in brackets is read alike in each of its forms)
 	isPlain, err := IsPlainURL(u.Scheme + "://" + its.Host + "/")
-	if err == nil && (!isPlain || strings.ContainsAny(its.Host, "/?#")) {
+	if err == nil && (!isPlain && !isAddress || strings.ContainsAny(its.Host, "/?#")) {
 		err = ErrURL
+	}
+	if u.Opaque != "" {
+		its.Path, its.RawPath = "", ""
+		return []byte(its.String() + u.Opaque), err
 	}
 	return []byte(its.String()), err
 }

@@ -261,8 +261,13 @@ func TestAHostIsThatWhichIsConnectedTo(t *testing.T) {
 	if found := headerOf(t, jar, &url.URL{Scheme: "https", Host: "evil.com", Opaque: "/x"}); found != "" {
 		t.Error(found)
 	}
-	for _, hosts := range [][]string{{"evil.com", "shop.com"}, {"shop.com", "evil.com"}} {
-		u := &url.URL{Scheme: "https", Host: hosts[0], Opaque: "//" + hosts[1] + "/"}
+	receive(t, jar, parsed("https://shop.com/x"), "b=2; Path=/x")
+	u := &url.URL{Scheme: "https", Host: "shop.com", Path: "/y", Opaque: "/x/z?q"}
+	if found := headerOf(t, jar, u); found != "b=2; a=1" {
+		t.Error(found)
+	}
+	for _, opaque := range []string{"//evil.com/", "http://evil.com/", "evil.com/", "*"} {
+		u := &url.URL{Scheme: "https", Host: "shop.com", Opaque: opaque}
 		if header, err := jar.Header(u); !errors.Is(err, ErrURL) {
 			t.Error(u, header, err)
 		}

@@ -352,9 +352,9 @@ class _Locked:
     def _alone(self, call: Callable[..., _Result], *words: Any) -> _Result:
         """What a call answers, during which no other is made of this."""
         caller = threading.get_ident()
-        if caller in self._callers:
-            raise RuntimeError("this thread is in a call of this already, as where a signal's handler makes another "
-                               "one, or such a call was cut off")
+        # (before Python 3.10 a call that an exception of a handler cut off may be left there)
+        if caller in self._callers and self._lock.locked():
+            raise RuntimeError("this thread is in a call of this already, as where a signal's handler makes another")
         try:
             self._callers.add(caller)
             with self._lock:

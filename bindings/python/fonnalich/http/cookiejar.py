@@ -159,9 +159,9 @@ def _site_of(url: str) -> str:
 
 _PORTS = {"http": 80, "https": 443}
 # What stands behind a URL's scheme (RFC 3986, section 3.2): user and password, host and port, up to one of `/?#`.
-_AUTHORITY = re.compile(r"//(?:[\w.~!$&'()*+,;=:%-]*@)?(\[[^][@/?#]*\]|[^][:@/?#]*)(?::([0-9]{0,5}))?(?![^/?#])",
+_AUTHORITY = re.compile(r"//(?:([\w.~!$&'()*+,;=:%-]*)@)?(\[[0-9A-Fa-f:.]+\]|[^][:@/?#]+)(?::([0-9]{0,5}))?(?![^/?#])",
                         re.ASCII)
-_HOST = re.compile(r"\[[0-9A-Fa-f:.]+\]|[\w.~-]+", re.ASCII)
+_NAME = re.compile(r"[\w.~-]+", re.ASCII)
 
 
 def _asked(url: str, by_urllib: bool) -> str:
@@ -177,12 +177,14 @@ def _asked(url: str, by_urllib: bool) -> str:
     # (the host of a `Request` is decoded already, and so may have what would end it here; its URL is without the blanks
     # around it)
     parts = _AUTHORITY.match((asked.full_url if by_urllib else _site_of(url)).partition(":")[2])
-    if parts is None:
+    # (`urllib` decodes the user with the host, and connects to what both are)
+    if parts is None or by_urllib and "%" in (parts[1] or ""):
         raise Refused(_URL_NUMBER)
-    host = _connected(parts[1]) if by_urllib else parts[1]
-    port = int(parts[2] or _PORTS[asked.type])
+    host = _connected(parts[2]) if by_urllib else parts[2]
+    port = int(parts[3] or _PORTS[asked.type])
     site = f"{asked.type}://{host}" + (f":{port}" if port != _PORTS[asked.type] else "")
-    if not _HOST.fullmatch(host) or not is_plain_url(f"{site}/"):
+    # (an address in brackets is read alike in each of its forms)
+    if not host.startswith("[") and not (_NAME.fullmatch(host) and is_plain_url(f"{site}/")):
         raise Refused(_URL_NUMBER)
     return site + (asked.selector if asked.selector.startswith("/") else f"/{asked.selector}")
 
