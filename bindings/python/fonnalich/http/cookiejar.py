@@ -49,7 +49,7 @@ def _begin_sending(client: Union[Client, Fleet]) -> None:
 
 
 class _Mark:
-    """Whose header a request has. A copy of a request, and one in a file, has nobody's."""
+    """Whose header a request has. A deep copy of a request, and one in a file, has nobody's."""
 
     def __init__(self, client: Union[Client, Fleet]):
         self.client = weakref.ref(client)
