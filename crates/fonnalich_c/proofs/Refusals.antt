@@ -1,9 +1,10 @@
 -- What refusals are told as.
-use Rattle.std.proofs.Common.{◌≡◌, ◌⊎◌, ℕ, List, Result, Err, Some, inl, inr, refl, subst}
+use Rattle.std.proofs.Common.{◌≡◌, ◌⊎◌, ℕ, List, Result, Err, Some, inl, inr, refl, subst, ⊎_elim}
 use Rattle.std.specs.Prelude.{IsErrOf, ◌↔◌}
 use Rattle.std.specs.Str.{IsUtf8}
 use Rattle.publicsuffix.specs.declared.error.ListError.{ListError}
 use Rattle.publicsuffix.specs.declared.error.ListError.TheVariants as list
+use Rattle.publicsuffix.specs.Looks.{IsStrange}
 use Rattle.publicsuffix.specs.Rules.{HasFirstFault}
 use Rattle.store_parts.specs.declared.error.Error.{Error}
 use Rattle.store_parts.specs.declared.error.Error.TheVariants.{OutOfMemory, Year}
@@ -19,12 +20,13 @@ use Rattle.fonnalich_c.specs.declared.refusal.Refusal.TheVariants as refusal
 -- why a text is no list
 pub not_listed : {L : Type 0} (r : Result L ListError) (text : List ℕ) (cause : ListError) (told : Refusal)
     → r ≡ Err cause → IsListToldAs cause told → (IsErrOf r list.NotText ↔ (¬ IsUtf8 text))
-    → ((number : ℕ) → r ≡ Err (list.Rule number) → HasFirstFault text number)
+    → ((number : ℕ) → r ≡ Err (list.Rule number) → HasFirstFault text number ⊎ IsStrange text number)
     → IsNoListOf text told
 not_listed r text cause told is (inl memory) not_text fault = inl memory.1
-not_listed r text list.NotText told is (inr other) not_text fault = inr (inl (other.1, inl (not_text.0 is)))
+not_listed r text list.NotText told is (inr other) not_text fault = inr (inl (other.1, inl (inl (not_text.0 is))))
 not_listed r text (list.Rule number) told is (inr other) not_text fault =
-    inr (inl (other.1, inr (number, fault number is)))
+    ⊎_elim (λ (first : HasFirstFault text number). inr (inl (other.1, inl (inr (number, first)))))
+    (λ (strange : IsStrange text number). inr (inl (other.1, inr (number, strange)))) (fault number is)
 not_listed r text list.OutOfMemory told is (inr other) not_text fault = absurd (other.0 refl)
 
 -- why a client isn't loaded from a text

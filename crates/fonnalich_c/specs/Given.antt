@@ -5,6 +5,7 @@ use Rattle.std.specs.Str.{IsUtf8}
 use Rattle.jiff.specs.Words.{IsCivilNanos}
 use Rattle.publicsuffix.specs.declared.error.ListError.{ListError}
 use Rattle.publicsuffix.specs.declared.error.ListError.TheVariants as list
+use Rattle.publicsuffix.specs.Looks.{IsNotStrange, IsStrange}
 use Rattle.publicsuffix.specs.Rules.{Rule}
 use Rattle.url.specs.Parts.{Parts}
 use Rattle.cookie_run.specs.Program.{IsSuffixList, IsNoSuffixList}
@@ -43,13 +44,17 @@ abbrev pub IsListToldAs : ListError → Refusal → Type 0
 IsListToldAs cause told =
     ((cause ≡ list.OutOfMemory) × (told ≡ refusal.Memory)) ⊎ ((cause ≢ list.OutOfMemory) × (told ≡ refusal.List))
 
--- the rules of the text's list, which has one
+-- the rules of the text's list, which has one, and whose first stands in a line of the characters of host names
 abbrev pub IsListOf : List ℕ → List Rule → Type 0
-IsListOf text rules = IsSuffixList text rules × (rules ≢ [])
+IsListOf text rules = (IsSuffixList text rules × IsNotStrange text) × (rules ≢ [])
+
+-- the text is no list, or its first line that isn't passed over is of other characters
+abbrev pub IsNoListOfHosts : List ℕ → Type 0
+IsNoListOfHosts text = IsNoSuffixList text ⊎ ((number : ℕ) × IsStrange text number)
 
 -- the text is no list, or one without a rule, or memory was refused
 abbrev pub IsNoListOf : List ℕ → Refusal → Type 0
-IsNoListOf text refused = (refused ≡ refusal.Memory) ⊎ ((refused ≡ refusal.List) × IsNoSuffixList text)
+IsNoListOf text refused = (refused ≡ refusal.Memory) ⊎ ((refused ≡ refusal.List) × IsNoListOfHosts text)
     ⊎ ((refused ≡ refusal.NoRule) × IsSuffixList text [])
 
 -- ---- lines

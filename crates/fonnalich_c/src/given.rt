@@ -64,12 +64,12 @@ fn url_of(alloc: Global, text: &str) -> Result<Url, Refusal>
     }
 }
 
-/// The public suffix list of a text, which has a rule.
+/// The public suffix list of a text, which has a rule, the first of host names.
 pub fn list(alloc: Global, text: &[u8]) -> Result<List, Refusal>
     ensures ok { IfOk result (spec.IsListOf text.now) }
     ensures err { IfErr result (spec.IsNoListOf text.now) }
 {
-    match List::parse(alloc, text) {
+    match List::parse_hosts(alloc, text) {
         Ok(list) => with_rule(list),
         Err(cause) => Err(unlisted(cause)),
     }

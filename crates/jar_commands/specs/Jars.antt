@@ -1,6 +1,7 @@
 -- The jar that a command begins with, and the text that it ends with (this repository's own).
 use Rattle.std.specs.Prelude.{◌≡◌, ◌≢◌, ◌⊎◌, ℕ, ℤ, Bool, true, false, List, [], Option, Some, None, IsSomeAnd, length}
 use Rattle.std.specs.Prelude.{nat_lt}
+use Rattle.publicsuffix.specs.Looks.{IsNotStrange, IsStrange}
 use Rattle.publicsuffix.specs.Rules.{Rule}
 use Rattle.cookie_store.specs.Given.{ArePicked}
 use Rattle.cookie_store.specs.Rows.{Row, Store}
@@ -34,9 +35,14 @@ AreRows form now (Some text) rows =
 abbrev pub has_rule : List Rule → Bool
 has_rule list = nat_lt 0 (length list)
 
--- the text is a suffix list, of these rules, of which there is one at least
+-- the text is a suffix list, of these rules, of which there is one at least, and the first stands in a line of the
+-- characters of host names
 abbrev pub IsListOf : List ℕ → List Rule → Type 0
-IsListOf text list = IsSuffixList text list × (has_rule list ≡ true)
+IsListOf text list = (IsSuffixList text list × IsNotStrange text) × (has_rule list ≡ true)
+
+-- the text is no suffix list, or its first line that isn't passed over is of other characters
+abbrev pub IsNoListOfHosts : List ℕ → Type 0
+IsNoListOfHosts text = IsNoSuffixList text ⊎ ((number : ℕ) × IsStrange text number)
 
 -- it is one without a rule
 abbrev pub IsRuleless : List ℕ → Type 0
@@ -51,6 +57,6 @@ IsJar form now suffixes stored jar = IsListOf suffixes jar.suffixes × AreRows f
 abbrev pub MakesNoJar : Form → List ℕ → Option (List ℕ) → Failure → Type 0
 MakesNoJar form suffixes stored failure =
     (failure ≡ Memory)
-    ⊎ (((failure ≡ SuffixList) × (IsNoSuffixList suffixes ⊎ IsRuleless suffixes))
+    ⊎ (((failure ≡ SuffixList) × (IsNoListOfHosts suffixes ⊎ IsRuleless suffixes))
     ⊎ ((failure ≡ JarText) × ((list : List Rule) × IsListOf suffixes list)
     × IsSomeAnd stored (IsNoTextOf form)))

@@ -1,6 +1,7 @@
 -- Where the text stops that a failure tells of. No public contract names a word of this file.
-use Rattle.std.specs.Prelude.{◌≡◌, ℕ, false, List, Option, Some, IsSomeAnd}
+use Rattle.std.specs.Prelude.{◌≡◌, ◌⊎◌, ℕ, false, List, Option, Some, IsSomeAnd}
 use Rattle.std.specs.Str.{IsUtf8}
+use Rattle.publicsuffix.specs.Looks.{IsStrange}
 use Rattle.publicsuffix.specs.Rules.{HasFirstFault, HasRules, Rule}
 use Rattle.cookie_jar.specs.Places.{StopsAt}
 use Rattle.cookie_jar.specs.declared.form.Form.{Form}
@@ -29,9 +30,10 @@ IsPlaceIn plan stored brought JarText place = IsPlaceOf plan.form stored place
 IsPlaceIn plan stored brought FileText place = IsPlaceOfTask plan.task brought place
 IsPlaceIn plan stored brought other place = ⊥
 
--- why a text is no suffix list that a jar takes: its first line that is no rule, it isn't UTF-8, or it has no rule
+-- why a text is no suffix list that a jar takes: its first line that is no rule, or none of host names, it isn't UTF-8,
+-- or it has no rule
 abbrev pub IsDetailOfList : List ℕ → Detail → Type 0
-IsDetailOfList suffixes (detail.Rule number) = HasFirstFault suffixes number
+IsDetailOfList suffixes (detail.Rule number) = HasFirstFault suffixes number ⊎ IsStrange suffixes number
 IsDetailOfList suffixes detail.NotText = ¬ (IsUtf8 suffixes)
 IsDetailOfList suffixes detail.NoRule = (list : List Rule) × HasRules suffixes list × (has_rule list ≡ false)
 IsDetailOfList suffixes (detail.Place place) = ⊥

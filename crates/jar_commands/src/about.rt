@@ -134,7 +134,7 @@ impl Stopped {
 fn list_detail(alloc: Global, text: &[u8]) -> Option<Detail>
     ensures { IfSome result (places.IsDetailOfList text.now) }
 {
-    match List::parse(alloc, text) {
+    match List::parse_hosts(alloc, text) {
         Err(ListError::Rule(number)) => Some(Detail::Rule(number)),
         Err(ListError::NotText) => Some(Detail::NotText),
         Ok(list) if !list.has_rule() => Some(Detail::NoRule),

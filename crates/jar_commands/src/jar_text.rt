@@ -3,15 +3,13 @@ ghost use Rattle.std.specs.Prelude.{◌≡◌, ◌⊎◌, IfOk, IfErr, false};
 ghost use Rattle.std.specs.Option.{option_copied};
 ghost use Rattle.jiff.specs.Words.{civil_nanos};
 ghost use Rattle.cookie_store.specs.Rows.{live};
-ghost use Rattle.cookie_run.specs.Program.{IsNoSuffixList};
 ghost use Rattle.cookie_jar.specs.Saving.{IsText};
 ghost use Rattle.jar_commands.specs.Jars as spec;
 
 use crate::failure::Failure;
 use crate::plan::Plan;
 use cookie_jar::{Jar, ReadError, SaveError};
-use cookie_run::program;
-use publicsuffix::List;
+use publicsuffix::{List, ListError};
 use std::alloc::Global;
 
 /// The jar of a text of the plan's form, or one without a row where there is none, with the list of a text.
@@ -45,13 +43,13 @@ pub(crate) fn jar_of(
 fn suffix_list_of(alloc: Global, text: &[u8]) -> Result<List, Failure>
     ensures ok { IfOk result (spec.IsListOf text.now) }
     ensures err { IfErr result (λ failure. (failure ≡ Failure.Memory)
-        ⊎ ((failure ≡ Failure.SuffixList) × (IsNoSuffixList text.now ⊎ spec.IsRuleless text.now))) }
+        ⊎ ((failure ≡ Failure.SuffixList) × (spec.IsNoListOfHosts text.now ⊎ spec.IsRuleless text.now))) }
 {
-    match program::list_of(alloc, text) {
+    match List::parse_hosts(alloc, text) {
         Ok(list) if list.has_rule() => Ok(list),
         Ok(_) => Err(Failure::SuffixList),
-        Err(program::Failure::Memory) => Err(Failure::Memory),
-        Err(_) => Err(Failure::SuffixList),
+        Err(ListError::OutOfMemory) => Err(Failure::Memory),
+        Err(ListError::NotText | ListError::Rule(_)) => Err(Failure::SuffixList),
     }
 }
 

@@ -15,6 +15,7 @@ mod label;
 pub mod laws;
 mod line;
 mod list;
+mod look;
 mod name;
 mod rule;
 mod suffix;

@@ -10,15 +10,15 @@ pub returns-in-Ok-clause-ok : goal.returns-in-Ok-clause-ok
 returns-in-Ok-clause-ok c =
     let text = c.args.text.now in
     let is : IsSuffixList text c.in-Ok.list =
-    (listed text c.in-Ok.list c.in-Ok.ensures.not_text, c.in-Ok.ensures.rules) in
-    ok_gives c.with_rule.result _ (IsListOf text) (λ given same. (subst (IsSuffixList text) (sym same.0) is, same.1))
+    (listed text c.in-Ok.list c.in-Ok.ensures.not_text, c.in-Ok.ensures.rules.0) in
+    ok_gives c.with_rule.result _ (IsListOf text) (λ given same. ((subst (IsSuffixList text) (sym same.0) is, c.in-Ok.ensures.rules.1), same.1))
     c.with_rule.ensures.ok
 
 pub returns-in-Ok-clause-err : goal.returns-in-Ok-clause-err
 returns-in-Ok-clause-err c =
     let text = c.args.text.now in
     let is : IsSuffixList text c.in-Ok.list =
-    (listed text c.in-Ok.list c.in-Ok.ensures.not_text, c.in-Ok.ensures.rules) in
+    (listed text c.in-Ok.list c.in-Ok.ensures.not_text, c.in-Ok.ensures.rules.0) in
     fault_gives c.with_rule.result _ (IsNoListOf text)
     (λ refused why. inr (inr (why.0, subst (IsSuffixList text) why.1 is))) c.with_rule.ensures.err
 
