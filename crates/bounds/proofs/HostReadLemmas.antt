@@ -30,7 +30,7 @@ use Rattle.cookie_client.specs.HostPrefix.{BeginsHost}
 use Rattle.cookie_client.specs.Hosts.{secure_host}
 use Rattle.cookie_client.specs.Jar.{IsOpened, Keyed, ReadsIn, last_in, record_in, value_in}
 use Rattle.cookie_client.specs.Keeping.{HasReadPair}
-use Rattle.cookie_client.specs.Reading.{AreCookiesOf, behind_blanks}
+use Rattle.cookie_client.specs.Reading.{AreCookiesOf}
 use Rattle.cookie_client.specs.declared.way.Way.TheVariants.{Host}
 use Rattle.cookie_client.proofs.ComingBack.{filter_all}
 use Rattle.cookie_client.proofs.RowLists.{picked_all, all_longest}
@@ -75,18 +75,9 @@ value_is spaced p h =
     ∙ value_cut (led spaced p.0) p.1 p.1 (first_equals (led spaced p.0) p.1 (lacks_led spaced p.0 h.name_uncut))
     h.value_trimmed
 
-blanks_spaced : (bs : List ℕ) → behind_blanks (32 ∷ bs) ≡ behind_blanks bs
-blanks_spaced bs =
-    let n = position_or_len (λ b. not (b == 32 || b == 9)) bs in
-    let one : 1 + n ≡ suc n = omega arith in
-    rw one refl
-
 shown_spaced : (text : List ℕ) (o : Option Record) → shown (32 ∷ text) o ≡ shown text o
 shown_spaced text None = refl
-shown_spaced text (Some c) =
-    ap (λ x. cond ((starts_with ◌==◌ c.name host_text && not (starts_with ◌==◌ x host_text))
-    || (starts_with ◌==◌ c.name secure_text && not (starts_with ◌==◌ x secure_text))) None (Some c))
-    (blanks_spaced text)
+shown_spaced text (Some c) = refl
 
 cookie_led : (spaced : Bool) (p : List ℕ × List ℕ) → IsRead p
     → cookie_of (led spaced (pair_text p)) ≡ cookie_of (pair_text p)

@@ -15,8 +15,8 @@ use Rattle.cookie_text.specs.Printing.{escaped}
 use Rattle.cookie_text.specs.Record.{Record, bare}
 use Rattle.cookie_client.specs.Header.{header_of, pair_text}
 use Rattle.cookie_client.specs.Jar.{last_in}
-use Rattle.cookie_client.specs.Reading.{is_hidden_prefix}
-use Rattle.cookie_client.proofs.HeaderCookies.{cookie_of, cookies_of, pair_in, shown}
+use Rattle.cookie_client.specs.Reading.{passes_over}
+use Rattle.cookie_client.proofs.HeaderCookies.{cookie_of, cookies_of, pair_in, shown, shown_by}
 use Rattle.cookie_client.proofs.ReadBack.{is_semicolon, is_equals, led, led_whole, led_uncut, led_pair, name_before}
 use Rattle.cookie_client.proofs.SessionTexts.{or_none}
 
@@ -106,13 +106,17 @@ if_named true o n h = h
 if_named false o n h = tt
 
 -- what holds of the cookie of a pair holds where it is passed over for a prefix
-pub if_shown : (piece : List ℕ) (o : Option Record) (P : Record → Type 0) → IfSome o P → IfSome (shown piece o) P
-if_shown piece None P h = tt
-if_shown piece (Some c) P h = at (is_hidden_prefix piece c.name)
+pub if_shown_by : (b : Bool) (piece : List ℕ) (o : Option Record) (P : Record → Type 0) → IfSome o P
+    → IfSome (shown_by b piece o) P
+if_shown_by b piece None P h = tt
+if_shown_by b piece (Some c) P h = at (passes_over b piece c.name)
   where
     at : (b : Bool) → IfSome (cond b None (Some c)) P
     at true = tt
     at false = h
+
+pub if_shown : (piece : List ℕ) (o : Option Record) (P : Record → Type 0) → IfSome o P → IfSome (shown piece o) P
+if_shown piece o P h = if_shown_by false piece o P h
 
 pub cookie_named : (spaced : Bool) (p : List ℕ × List ℕ) → IsRead p
     → IfSome (cookie_of (led spaced (pair_text p))) (λ c. c.name ≡ percent_decode p.0)

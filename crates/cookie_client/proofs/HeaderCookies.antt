@@ -1,11 +1,11 @@
 -- The cookies of a header, computed: `ReadCode` shows that they are the ones that its pieces give.
-use Rattle.std.specs.Prelude.{ℕ, List, [], ◌∷◌, ◌&&◌, Option, Some, None, if◌then◌else◌}
+use Rattle.std.specs.Prelude.{ℕ, List, [], ◌∷◌, Bool, true, false, ◌&&◌, Option, Some, None, if◌then◌else◌}
 use Rattle.std.specs.List.{filter_map}
 use Rattle.std.specs.Str.{is_utf8}
 use Rattle.percent_encoding.specs.Percent.{percent_decode}
 use Rattle.cookie_text.specs.Pieces.{pieces, name_of, value_of}
 use Rattle.cookie_text.specs.Record.{Record, bare}
-use Rattle.cookie_client.specs.Reading.{is_hidden_prefix}
+use Rattle.cookie_client.specs.Reading.{passes_over}
 
 -- name and value percent-decoded, where both are texts then
 abbrev pub decoded : List ℕ → List ℕ → Option Record
@@ -20,15 +20,26 @@ pair_in name None = None
 pair_in [] (Some value) = None
 pair_in (b ∷ bs) (Some value) = decoded (b ∷ bs) value
 
--- the cookie of a piece, where that hides no prefix
-abbrev pub shown : List ℕ → Option Record → Option Record
-shown piece None = None
-shown piece (Some cookie) = if is_hidden_prefix piece cookie.name then None else Some cookie
+-- the cookie of a piece by a reading, where that doesn't pass it over for its prefix
+abbrev pub shown_by : Bool → List ℕ → Option Record → Option Record
+shown_by shown piece None = None
+shown_by shown piece (Some cookie) = if passes_over shown piece cookie.name then None else Some cookie
 
 -- a piece of a header, where it is a text and reads
-abbrev pub cookie_of : List ℕ → Option Record
-cookie_of piece = if is_utf8 piece then shown piece (pair_in (name_of piece) (value_of piece)) else None
+abbrev pub cookie_by : Bool → List ℕ → Option Record
+cookie_by shown piece =
+    if is_utf8 piece then shown_by shown piece (pair_in (name_of piece) (value_of piece)) else None
 
 -- the cookies of a header
+abbrev pub cookies_by : Bool → List ℕ → List Record
+cookies_by shown header = filter_map (cookie_by shown) (pieces header)
+
+-- by the reading that reads each pair
+abbrev pub shown : List ℕ → Option Record → Option Record
+shown piece cookie = shown_by false piece cookie
+
+abbrev pub cookie_of : List ℕ → Option Record
+cookie_of piece = cookie_by false piece
+
 abbrev pub cookies_of : List ℕ → List Record
-cookies_of header = filter_map cookie_of (pieces header)
+cookies_of header = cookies_by false header

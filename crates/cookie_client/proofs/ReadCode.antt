@@ -20,8 +20,8 @@ use Rattle.cookie_text.specs.Decoding.{ReadsEncoded, AreUtf8}
 use Rattle.cookie_text.specs.Pieces.{semicolon, equals, pieces, HasEquals, name_of, text_after, value_of}
 use Rattle.cookie_text.specs.Reading.{HasAttributes, HasLast, IsPair, first_piece}
 use Rattle.cookie_text.specs.Record.{Record, Seen, bare}
-use Rattle.cookie_client.specs.Reading.{Gives, Give, AreCookiesOf, Reads, is_hidden_prefix}
-use Rattle.cookie_client.proofs.HeaderCookies.{cookie_of, cookies_of, decoded, pair_in, shown}
+use Rattle.cookie_client.specs.Reading.{GivesBy, GiveBy, AreCookiesBy, AreCookiesOf, Reads, passes_over}
+use Rattle.cookie_client.proofs.HeaderCookies.{cookie_by, cookies_by, cookies_of, decoded, pair_in, shown_by}
 
 -- ---- a text without a semicolon
 
@@ -142,14 +142,14 @@ pair_none text h =
     unread [] v h = refl
     unread (b ∷ bs) v h = undecoded (b ∷ bs) v (h (omega arith))
 
-piece_unread : (text : List ℕ) (e : ParseError) → e ≢ OutOfMemory → IsClean text → IsUtf8 text
-    → ReadsEncoded text (Err e) → None ≡ cookie_of text
-piece_unread text e other clean utf8 reads =
+piece_unread : (b : Bool) (text : List ℕ) (e : ParseError) → e ≢ OutOfMemory → IsClean text → IsUtf8 text
+    → ReadsEncoded text (Err e) → None ≡ cookie_by b text
+piece_unread b text e other clean utf8 reads =
     let first = first_is text clean in
     let unfit : ¬ (IsPair text × AreUtf8 (name_of text) (text_after text)) = λ p.
     other (error_is e (reads.owed (subst IsPair (sym first) p.0)
     (subst (λ t. AreUtf8 (name_of t) (text_after t)) (sym first) p.1))) in
-    sym (cond-true _ _ _ (is_utf8-from_IsUtf8 text utf8) ∙ ap (shown text) (pair_none text unfit))
+    sym (cond-true _ _ _ (is_utf8-from_IsUtf8 text utf8) ∙ ap (shown_by b text) (pair_none text unfit))
   where
     error_is : (e : ParseError) → IsOkUnless {T = Seen} (Err e) OutOfMemory → e ≡ OutOfMemory
     error_is e h = h
@@ -177,65 +177,69 @@ all_clean [] h = tt
 all_clean (t ∷ ts) h = (All-from_recursion (λ b. (b == semicolon) ≡ false) t h.0, all_clean ts h.1)
 
 -- what is computed of a piece that reads
-piece_shown : (piece : List ℕ) (c : Record) → IsClean piece → IsUtf8 piece → Reads piece c
-    → cookie_of piece ≡ shown piece (Some c)
-piece_shown piece c clean utf8 r =
+piece_shown : (b : Bool) (piece : List ℕ) (c : Record) → IsClean piece → IsUtf8 piece → Reads piece c
+    → cookie_by b piece ≡ shown_by b piece (Some c)
+piece_shown b piece c clean utf8 r =
     cond-true _ _ _ (is_utf8-from_IsUtf8 piece utf8)
-    ∙ ap (shown piece) (piece_read piece r.0 clean r.1 ∙ ap Some r.2)
+    ∙ ap (shown_by b piece) (piece_read piece r.0 clean r.1 ∙ ap Some r.2)
 
 -- a piece that gives something gives what is computed
-gives_is : (piece : List ℕ) (o : Option Record) → IsClean piece → Gives piece o → o ≡ cookie_of piece
-gives_is piece (Some c) clean g = sym (piece_shown piece c clean g.0 g.1 ∙ cond-false _ _ _ g.2)
-gives_is piece None clean g =
+gives_is : (b : Bool) (piece : List ℕ) (o : Option Record) → IsClean piece → GivesBy b piece o → o ≡ cookie_by b piece
+gives_is b piece (Some c) clean g = sym (piece_shown b piece c clean g.0 g.1 ∙ cond-false _ _ _ g.2)
+gives_is b piece None clean g =
     ⊎_elim
     (λ (yes : is_utf8 piece ≡ true).
     let utf8 = IsUtf8-from_is_utf8 piece yes in
     ⊎_elim
     (λ (refused : (e : ParseError) × (e ≢ OutOfMemory) × ReadsEncoded piece (Err e)).
-    piece_unread piece refused.0 refused.1 clean utf8 refused.2)
-    (λ (hidden : (c : Record) × Reads piece c × IsTrue (is_hidden_prefix piece c.name)).
-    sym (piece_shown piece hidden.0 clean utf8 hidden.1 ∙ cond-true _ _ _ hidden.2))
+    piece_unread b piece refused.0 refused.1 clean utf8 refused.2)
+    (λ (hidden : (c : Record) × Reads piece c × IsTrue (passes_over b piece c.name)).
+    sym (piece_shown b piece hidden.0 clean utf8 hidden.1 ∙ cond-true _ _ _ hidden.2))
     (g utf8))
     (λ (no : is_utf8 piece ≡ false). sym (cond-false _ _ _ no))
     (cases_Bool (is_utf8 piece))
 
-first_given : (o : Option Record) (piece : List ℕ) (rest : List (List ℕ)) → o ≡ cookie_of piece
-    → option_to_list o ++ filter_map cookie_of rest ≡ filter_map cookie_of (piece ∷ rest)
-first_given None piece rest e = rw (sym e) refl
-first_given (Some c) piece rest e = rw (sym e) refl
+first_given : (b : Bool) (o : Option Record) (piece : List ℕ) (rest : List (List ℕ)) → o ≡ cookie_by b piece
+    → option_to_list o ++ filter_map (cookie_by b) rest ≡ filter_map (cookie_by b) (piece ∷ rest)
+first_given b None piece rest e = rw (sym e) refl
+first_given b (Some c) piece rest e = rw (sym e) refl
 
-give_are : (ps : List (List ℕ)) (cs : List Record) → AllByRecursion IsClean ps → Give ps cs
-    → cs ≡ filter_map cookie_of ps
-give_are [] cs clean g = g
-give_are (p ∷ ps) cs clean g =
-    g.4 ∙ (ap (λ x. option_to_list g.0 ++ x) (give_are ps g.1 clean.1 g.3)
-    ∙ first_given g.0 p ps (gives_is p g.0 clean.0 g.2))
+give_are : (b : Bool) (ps : List (List ℕ)) (cs : List Record) → AllByRecursion IsClean ps → GiveBy b ps cs
+    → cs ≡ filter_map (cookie_by b) ps
+give_are b [] cs clean g = g
+give_are b (p ∷ ps) cs clean g =
+    g.4 ∙ (ap (λ x. option_to_list g.0 ++ x) (give_are b ps g.1 clean.1 g.3)
+    ∙ first_given b g.0 p ps (gives_is b p g.0 clean.0 g.2))
 
 -- the cookies of a header are those that are computed
-pub cookies_are : (header : List ℕ) (cs : List Record) → AreCookiesOf header cs → cs ≡ cookies_of header
-cookies_are header cs g = give_are (pieces header) cs (all_clean (pieces header)
+pub cookies_are_by : (b : Bool) (header : List ℕ) (cs : List Record) → AreCookiesBy b header cs
+    → cs ≡ cookies_by b header
+cookies_are_by b header cs g = give_are b (pieces header) cs (all_clean (pieces header)
     (parts_clean (λ b. b == semicolon) header)) g
+
+pub cookies_are : (header : List ℕ) (cs : List Record) → AreCookiesOf header cs → cs ≡ cookies_of header
+cookies_are header cs g = cookies_are_by false header cs g
 
 -- ---- the pieces in turn
 
-pub give_none : Give [] []
-give_none = refl
+pub give_none : (b : Bool) → GiveBy b [] []
+give_none b = refl
 
-give_push : (ps : List (List ℕ)) (p : List ℕ) (cs : List Record) (o : Option Record) → Give ps cs → Gives p o
-    → Give (ps ++ p ∷ []) (cs ++ option_to_list o)
-give_push [] p cs o g h = (o, [], h, refl, ap (λ x. x ++ option_to_list o) g ∙ sym (append-nil (option_to_list o)))
-give_push (q ∷ qs) p cs o g h = (
+give_push : (b : Bool) (ps : List (List ℕ)) (p : List ℕ) (cs : List Record) (o : Option Record) → GiveBy b ps cs
+    → GivesBy b p o → GiveBy b (ps ++ p ∷ []) (cs ++ option_to_list o)
+give_push b [] p cs o g h = (o, [], h, refl, ap (λ x. x ++ option_to_list o) g ∙ sym (append-nil (option_to_list o)))
+give_push b (q ∷ qs) p cs o g h = (
   g.0,
   g.1 ++ option_to_list o,
   g.2,
-  give_push qs p g.1 o g.3 h,
+  give_push b qs p g.1 o g.3 h,
   ap (λ x. x ++ option_to_list o) g.4
       ∙ append_assoc (option_to_list g.0) g.1 (option_to_list o),
 )
 
-pub give_more : (xs : List (Bor (List ℕ))) (i : ℕ) (d : Bor (List ℕ)) (cs : List Record) (o : Option Record)
-    → i < length xs → Give (map (λ x. x.now) (take i xs)) cs → Gives (get_or xs i d).now o
-    → Give (map (λ x. x.now) (take (i + 1) xs)) (cs ++ option_to_list o)
-give_more xs i d cs o h g one =
-    subst (λ ps. Give ps (cs ++ option_to_list o)) (sym (map_more (λ x. x.now) xs i d h))
-    (give_push (map (λ x. x.now) (take i xs)) (get_or xs i d).now cs o g one)
+pub give_more : (b : Bool) (xs : List (Bor (List ℕ))) (i : ℕ) (d : Bor (List ℕ)) (cs : List Record)
+    (o : Option Record) → i < length xs → GiveBy b (map (λ x. x.now) (take i xs)) cs → GivesBy b (get_or xs i d).now o
+    → GiveBy b (map (λ x. x.now) (take (i + 1) xs)) (cs ++ option_to_list o)
+give_more b xs i d cs o h g one =
+    subst (λ ps. GiveBy b ps (cs ++ option_to_list o)) (sym (map_more (λ x. x.now) xs i d h))
+    (give_push b (map (λ x. x.now) (take i xs)) (get_or xs i d).now cs o g one)

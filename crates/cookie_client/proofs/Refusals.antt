@@ -1,6 +1,6 @@
 -- What leaves the rows as they were.
 use Rattle.std.proofs.Common.{◌≡◌, ◌≢◌, ℕ, ℤ, List, sym, ap, ◌∙◌, subst, inl, inr, true, false, Option, None, Result}
-use Rattle.std.proofs.Common.{Ok, Err, Some, ⊎_elim, refl}
+use Rattle.std.proofs.Common.{Ok, Err, Some, ⊎_elim, refl, Bool}
 use Rattle.std.specs.Prelude.{IfOk, OnOk}
 use Rattle.std.specs.Str.{IsUtf8}
 use Rattle.std.specs.List.{list_any}
@@ -19,7 +19,7 @@ use Rattle.cookie_store.specs.declared.action.StoreAction.{StoreAction}
 use Rattle.cookie_client.specs.Accept.{text_end}
 use Rattle.cookie_client.specs.Jar.{record_in}
 use Rattle.cookie_client.specs.Laws.{IsStored, RefusedLinesChangeNothing}
-use Rattle.cookie_client.specs.Reading.{Gives, is_hidden_prefix}
+use Rattle.cookie_client.specs.Reading.{GivesBy, passes_over}
 
 -- ---- a line
 
@@ -98,26 +98,26 @@ lines_same list rows url now line end new (inr (free, inr text)) stays =
 
 -- ---- a piece of a header that is no cookie, for another cause than want of memory
 
-pub gives_none : {E : Type 0} (r : Result (Option Seen) E) (piece text : List ℕ) (error : ParseError) → text ≡ piece
+pub gives_none : {E : Type 0} (b : Bool) (r : Result (Option Seen) E) (piece text : List ℕ) (error : ParseError) → text ≡ piece
     → ReadsEncoded text (Err error) → IfOk r (λ cookie. cookie ≡ None) → OnOk r (error ≢ OutOfMemory)
-    → IfOk r (λ cookie. Gives piece (record_in cookie))
-gives_none (Ok cookie) piece text error same reads none other =
-    subst (λ o. Gives piece (record_in o)) (sym none)
+    → IfOk r (λ cookie. GivesBy b piece (record_in cookie))
+gives_none b (Ok cookie) piece text error same reads none other =
+    subst (λ o. GivesBy b piece (record_in o)) (sym none)
     (λ utf8. inl (error, other, subst (λ t. ReadsEncoded t (Err error)) same reads))
-gives_none (Err e) piece text error same reads none other = tt
+gives_none b (Err e) piece text error same reads none other = tt
 
 -- ---- a piece that reads
 
-pub gives_shown : {E : Type 0} (r : Result (Option Seen) E) (piece : List ℕ) (s : Seen) → IsUtf8 piece
+pub gives_shown : {E : Type 0} (b : Bool) (r : Result (Option Seen) E) (piece : List ℕ) (s : Seen) → IsUtf8 piece
     → ReadsEncoded piece (Ok s)
-    → IfOk r (λ shown. is_hidden_prefix piece s.cookie.name ≡ true → shown ≡ None)
-    → IfOk r (λ shown. is_hidden_prefix piece s.cookie.name ≡ false → record_in shown ≡ Some s.cookie)
-    → IfOk r (λ cookie. Gives piece (record_in cookie))
-gives_shown (Err e) piece s utf8 reads hidden seen = tt
-gives_shown (Ok cookie) piece s utf8 reads hidden seen =
+    → IfOk r (λ shown. passes_over b piece s.cookie.name ≡ true → shown ≡ None)
+    → IfOk r (λ shown. passes_over b piece s.cookie.name ≡ false → record_in shown ≡ Some s.cookie)
+    → IfOk r (λ cookie. GivesBy b piece (record_in cookie))
+gives_shown b (Err e) piece s utf8 reads hidden seen = tt
+gives_shown b (Ok cookie) piece s utf8 reads hidden seen =
     ⊎_elim
-    (λ (hides : is_hidden_prefix piece s.cookie.name ≡ true).
-    subst (λ o. Gives piece (record_in o)) (sym (hidden hides)) (λ text. inr (s.cookie, (s, reads, refl), hides)))
-    (λ (shows : is_hidden_prefix piece s.cookie.name ≡ false). subst (Gives piece) (sym (seen shows))
+    (λ (hides : passes_over b piece s.cookie.name ≡ true).
+    subst (λ o. GivesBy b piece (record_in o)) (sym (hidden hides)) (λ text. inr (s.cookie, (s, reads, refl), hides)))
+    (λ (shows : passes_over b piece s.cookie.name ≡ false). subst (GivesBy b piece) (sym (seen shows))
     (utf8, (s, reads, refl), shows))
-    (cases_Bool (is_hidden_prefix piece s.cookie.name))
+    (cases_Bool (passes_over b piece s.cookie.name))

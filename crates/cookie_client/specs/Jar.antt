@@ -1,6 +1,6 @@
 -- A session's cookies: what its header brought (RFC 6265, section 4.2.1), what was set and removed since, and the
 -- `Set-Cookie` lines of it (section 4.1.1). Names, signings and sealings by way are own: docs/DEFINITIONS.md.
-use Rattle.std.specs.Prelude.{◌≡◌, ℕ, List, [], ◌∷◌, codes, map, Option, Some, None, option_map, IfSome, Result, true}
+use Rattle.std.specs.Prelude.{◌≡◌, ℕ, List, [], ◌∷◌, codes, map, Option, Some, None, option_map, IfSome, Result, Bool, true, false}
 use Rattle.std.specs.Prelude.{if◌then◌else◌}
 use Rattle.std.specs.Option.{option_or}
 use Rattle.std.specs.List.{AllByRecursion}
@@ -26,7 +26,7 @@ use Rattle.cookie.specs.Signing.{signing}
 use Rattle.cookie_client.specs.declared.way.Way.{Way}
 use Rattle.cookie_client.specs.declared.way.Way.TheVariants.{Plain, Host, Secure, Signed, Sealed}
 use Rattle.cookie_client.specs.declared.outcome.SessionError.{SessionError}
-use Rattle.cookie_client.specs.Reading.{AreCookiesOf}
+use Rattle.cookie_client.specs.Reading.{AreCookiesBy}
 use Rattle.cookie_client.specs.Ways as site
 use Rattle.cookie_client.specs.Ways.{Kind, kind_of, stored_name, set_refusal, refusal_of}
 
@@ -54,12 +54,20 @@ pub record Holds (cookies : List Record) (jar : Jar) : Type 0 where
   pub originals : (name : List ℕ) → record_in (finmap.get jar.originals name) ≡ last_in cookies name
   pub changes : jar.changes ≡ finmap.empty
 
--- a session with this key on this header
-pub record IsOpened (key header : List ℕ) (session : Keyed) : Type 0 where
+-- a session with this key on this header, by a reading
+pub record IsOpenedBy (shown : Bool) (key header : List ℕ) (session : Keyed) : Type 0 where
   pub cookies : List Record
-  pub read : AreCookiesOf header cookies
+  pub read : AreCookiesBy shown header cookies
   pub key_is : session.key ≡ key
   pub holds : Holds cookies session.jar
+
+-- by the one that reads each pair
+abbrev pub IsOpened : List ℕ → List ℕ → Keyed → Type 0
+IsOpened key header session = IsOpenedBy false key header session
+
+-- by the one that passes over a pair which hides a prefix
+abbrev pub IsOpenedShown : List ℕ → List ℕ → Keyed → Type 0
+IsOpenedShown key header session = IsOpenedBy true key header session
 
 -- ---- getting
 

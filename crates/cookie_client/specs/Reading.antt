@@ -1,7 +1,7 @@
 -- The cookies of a request's header (RFC 6265, section 4.2.1).
 use Rattle.std.specs.Prelude.{◌≡◌, ◌≢◌, ◌⊎◌, ℕ, ◌==◌, List, [], ◌∷◌, ◌++◌, Option, Some, None, Ok, Err, drop}
-use Rattle.std.specs.Prelude.{Bool, false, not, ◌&&◌, ◌||◌, IsTrue}
-use Rattle.std.specs.List.{position_or_len, starts_with}
+use Rattle.std.specs.Prelude.{Bool, true, false, not, ◌&&◌, ◌||◌, IsTrue}
+use Rattle.std.specs.List.{AllByRecursion, position_or_len, starts_with}
 use Rattle.std.specs.Option.{option_to_list}
 use Rattle.std.specs.Str.{IsUtf8}
 use Rattle.cookie.specs.Prefix.{host_text, secure_text}
@@ -25,28 +25,48 @@ is_hidden prefix piece name = starts_with ◌==◌ name prefix && not (starts_wi
 abbrev pub is_hidden_prefix : List ℕ → List ℕ → Bool
 is_hidden_prefix piece name = is_hidden host_text piece name || is_hidden secure_text piece name
 
+-- A reading passes a pair over for its prefix: the reading is the one that does, and the pair hides one. `true` is the
+-- reading for sites whose users have browsers, and `false` the one that reads each pair.
+abbrev pub passes_over : Bool → List ℕ → List ℕ → Bool
+passes_over shown piece name = shown && is_hidden_prefix piece name
+
 -- ---- the cookies
 
 -- the piece reads as this cookie, but for want of memory
 abbrev pub Reads : List ℕ → Record → Type 0
 Reads piece cookie = (s : Seen) × ReadsEncoded piece (Ok s) × (s.cookie ≡ cookie)
 
--- what a piece of a header gives: the cookie as which it is read, or none where it is no text, is refused or hides a
--- prefix
-abbrev pub Gives : List ℕ → Option Record → Type 0
-Gives piece (Some cookie) = IsUtf8 piece × Reads piece cookie × (is_hidden_prefix piece cookie.name ≡ false)
-Gives piece None =
+-- what a piece of a header gives by a reading: the cookie as which it is read, or none where it is no text, is refused
+-- or is passed over for its prefix
+abbrev pub GivesBy : Bool → List ℕ → Option Record → Type 0
+GivesBy shown piece (Some cookie) =
+    IsUtf8 piece × Reads piece cookie × (passes_over shown piece cookie.name ≡ false)
+GivesBy shown piece None =
     IsUtf8 piece
     → ((error : ParseError) × (error ≢ OutOfMemory) × ReadsEncoded piece (Err error))
-    ⊎ ((cookie : Record) × Reads piece cookie × IsTrue (is_hidden_prefix piece cookie.name))
+    ⊎ ((cookie : Record) × Reads piece cookie × IsTrue (passes_over shown piece cookie.name))
 
 -- the cookies that the pieces give, in order
-abbrev pub Give : List (List ℕ) → List Record → Type 0
-Give [] cookies = cookies ≡ []
-Give (piece ∷ later) cookies =
-    (first : Option Record) × (rest : List Record) × Gives piece first × Give later rest
+abbrev pub GiveBy : Bool → List (List ℕ) → List Record → Type 0
+GiveBy shown [] cookies = cookies ≡ []
+GiveBy shown (piece ∷ later) cookies =
+    (first : Option Record) × (rest : List Record) × GivesBy shown piece first × GiveBy shown later rest
     × (cookies ≡ option_to_list first ++ rest)
 
--- the cookies of a header: a piece that gives none is passed over
+-- the cookies of a header by a reading: a piece that gives none is passed over
+abbrev pub AreCookiesBy : Bool → List ℕ → List Record → Type 0
+AreCookiesBy shown header cookies = GiveBy shown (pieces header) cookies
+
+-- the cookies of a header
 abbrev pub AreCookiesOf : List ℕ → List Record → Type 0
-AreCookiesOf header cookies = Give (pieces header) cookies
+AreCookiesOf header cookies = AreCookiesBy false header cookies
+
+-- those of them that hide no prefix
+abbrev pub AreCookiesShown : List ℕ → List Record → Type 0
+AreCookiesShown header cookies = AreCookiesBy true header cookies
+
+-- no piece of the header hides a prefix
+abbrev pub ShowsAll : List ℕ → Type 0
+ShowsAll header =
+    AllByRecursion (λ piece. (cookie : Record) → Reads piece cookie → is_hidden_prefix piece cookie.name ≡ false)
+    (pieces header)

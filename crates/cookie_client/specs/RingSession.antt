@@ -1,6 +1,6 @@
 -- A session on a ring of keys: its cookies, and what it reads of them as its keys count at its moment; values that end
 -- (own: docs/DEFINITIONS.md).
-use Rattle.std.specs.Prelude.{◌≡◌, ◌↔◌, ℕ, List, Bool, false, not, Option, Some, None, MatchOption}
+use Rattle.std.specs.Prelude.{◌≡◌, ◌↔◌, ℕ, List, Bool, true, false, not, Option, Some, None, MatchOption}
 use Rattle.std.specs.Option.{option_map}
 use Rattle.jiff.specs.Types.{DateTime}
 use Rattle.cookie_text.specs.Record.{Record, Seen}
@@ -16,7 +16,7 @@ use Rattle.cookie_client.specs.declared.outcome.SessionError.TheVariants.{EmptyN
 use Rattle.cookie_client.specs.declared.way.Way.{Way}
 use Rattle.cookie_client.specs.Ending.{IsKeptUntil, ReadsUntil, is_sealable_until}
 use Rattle.cookie_client.specs.declared.way.Way.TheVariants as ways
-use Rattle.cookie_client.specs.Jar.{Keyed, IsOpened, ReadsIn, Sets, record_in, value_in}
+use Rattle.cookie_client.specs.Jar.{Keyed, IsOpenedBy, ReadsIn, Sets, record_in, value_in}
 use Rattle.cookie_client.specs.Ways.{Kind, Plain, Signed, Sealed, kind_of, refusal_of, stored_name, then_long}
 
 -- a session: its ring, the moment at which its keys count, and its jar
@@ -33,11 +33,20 @@ keyed s = record { key = s.ring.current; jar = s.jar }
 abbrev pub KeepsRing : Ringed → Ringed → Type 0
 KeepsRing old new = (new.ring ≡ old.ring) × (new.moment ≡ old.moment)
 
--- a session with this ring and this moment on this header
-pub record IsOpenedOn (ring : Ring) (now : DateTime) (header : List ℕ) (session : Ringed) : Type 0 where
+-- a session with this ring and this moment on this header, by a reading
+pub record IsOpenedOnBy (shown : Bool) (ring : Ring) (now : DateTime) (header : List ℕ) (session : Ringed)
+    : Type 0 where
   pub ring_is : session.ring ≡ ring
   pub moment_is : session.moment ≡ now
-  pub opened : IsOpened ring.current header (keyed session)
+  pub opened : IsOpenedBy shown ring.current header (keyed session)
+
+-- by the one that reads each pair
+abbrev pub IsOpenedOn : Ring → DateTime → List ℕ → Ringed → Type 0
+IsOpenedOn ring now header session = IsOpenedOnBy false ring now header session
+
+-- by the one that passes over a pair which hides a prefix
+abbrev pub IsOpenedOnShown : Ring → DateTime → List ℕ → Ringed → Type 0
+IsOpenedOnShown ring now header session = IsOpenedOnBy true ring now header session
 
 -- ---- getting
 

@@ -19,7 +19,7 @@ use Rattle.cookie_text.specs.Printing.{encoded_pair, escaped, is_escaped, stripp
 use Rattle.cookie_text.specs.Record.{Record, bare}
 use Rattle.cookie_text.specs.Again.{Lacks, IsReadPair}
 use Rattle.cookie_client.specs.Reading.{behind_blanks, is_hidden, is_hidden_prefix}
-use Rattle.cookie_client.proofs.HeaderCookies.{pair_in, decoded, cookie_of, shown}
+use Rattle.cookie_client.proofs.HeaderCookies.{pair_in, decoded, cookie_by, cookie_of, shown_by}
 use Rattle.cookie_client.proofs.Escaped.{IsPlain, escaped_plain, decoded_escaped}
 use Rattle.cookie_client.proofs.ReadBack.{IsGraphic, skip_graphic, graphic_ascii, ascii, end_trimmed, trim_graphic}
 use Rattle.cookie_client.proofs.ReadBack.{is_semicolon, is_equals, plain_graphic, first_equals, led, led_whole}
@@ -186,6 +186,11 @@ shows_prefix name spaced v =
     secure_kept : AreKept secure_text
     secure_kept = (refl, (refl, (refl, (refl, (refl, (refl, (refl, (refl, (refl, tt)))))))))
 
+-- so no reading passes over it
+unhidden : (b hides : Bool) → hides ≡ false → (b && hides) ≡ false
+unhidden true hides none = none
+unhidden false hides none = refl
+
 -- the pair decoded
 decodes_pair : (c : Record) → IsGood c → decoded (escaped c.name) (escaped c.value) ≡ Some (bare_of c)
 decodes_pair c good =
@@ -193,9 +198,9 @@ decodes_pair c good =
     (rw (is_utf8-from_IsUtf8 c.name good.name, is_utf8-from_IsUtf8 c.value good.value) refl)
 
 -- THE PAIR: what is escaped reads back
-pub cookie_of_led : (spaced : Bool) (c : Record) → IsGood c → cookie_of (led spaced (stripped (encoded_pair c))) ≡ Some
-    (bare_of c)
-cookie_of_led spaced c good =
+pub cookie_by_led : (b spaced : Bool) (c : Record) → IsGood c
+    → cookie_by b (led spaced (stripped (encoded_pair c))) ≡ Some (bare_of c)
+cookie_by_led b spaced c good =
     let n = escaped c.name in
     let v = escaped c.value in
     let uncut = led_uncut spaced n (plain_uncut n (escaped_plain c.name)) in
@@ -205,6 +210,10 @@ cookie_of_led spaced c good =
     let value : value_of (led spaced (n ++ 61 ∷ v)) ≡ Some v =
     ap value_of (led_pair spaced n v) ∙ value_behind (led spaced n) v uncut (plain_graphic v (escaped_plain c.value)) in
     cond-true _ _ _ (ascii_is_utf8 _ (led_ascii spaced _ (graphic_of c)))
-    ∙ (ap (shown (led spaced (n ++ 61 ∷ v)))
+    ∙ (ap (shown_by b (led spaced (n ++ 61 ∷ v)))
     ((λ i. pair_in (name i) (value i)) ∙ (pair_named n v (escaped_nonempty c.name good.named good.name_bytes)
-    ∙ decodes_pair c good)) ∙ cond-false _ _ _ (shows_prefix c.name spaced v))
+    ∙ decodes_pair c good)) ∙ cond-false _ _ _ (unhidden b _ (shows_prefix c.name spaced v)))
+
+pub cookie_of_led : (spaced : Bool) (c : Record) → IsGood c → cookie_of (led spaced (stripped (encoded_pair c))) ≡ Some
+    (bare_of c)
+cookie_of_led spaced c good = cookie_by_led false spaced c good

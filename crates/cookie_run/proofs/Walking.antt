@@ -36,7 +36,7 @@ use Rattle.cookie_client.proofs.Texts.{same_text, some_is_not_none}
 use Rattle.store_parts.specs.Expiry.{is_dead}
 use Rattle.cookie_run.specs.declared.step.Command.TheVariants.{Set}
 use Rattle.cookie_run.specs.Site.{Held, Site, View, with_at, live_at, entry_in, live_view, entry_of, held_from, left_by}
-use Rattle.cookie_client.specs.Reading.{Gives, Give}
+use Rattle.cookie_client.specs.Reading.{GivesBy, GiveBy}
 use Rattle.cookie_client.proofs.HeaderCookies.{cookies_of}
 use Rattle.cookie_run.proofs.Kepts.{Kept, found_in, AreApart, apart_filter}
 use Rattle.cookie_client.proofs.CountedRows.{Counts}
@@ -172,9 +172,9 @@ AreTexts session = (q : List ℕ) (s : Seen) → finmap.get session.jar.original
 abbrev IsTextNamed : Record → Type 0
 IsTextNamed c = IsUtf8 c.name
 
-text_given : (piece : List ℕ) (o : Option Record) → Gives piece o → IfSome o IsTextNamed
-text_given piece None g = tt
-text_given piece (Some c) g =
+text_given : (b : Bool) (piece : List ℕ) (o : Option Record) → GivesBy b piece o → IfSome o IsTextNamed
+text_given b piece None g = tt
+text_given b piece (Some c) g =
     subst (λ (r : Record). IsUtf8 r.name) g.1.2
     (subst IsUtf8 (sym g.1.1.decoded.name) (g.1.1.accepted refl).1.0)
 
@@ -183,11 +183,12 @@ text_front : (o : Option Record) (rest : List Record) → IfSome o IsTextNamed �
 text_front None rest h all = all
 text_front (Some c) rest h all = (h, all)
 
-texts_given : (pieces : List (List ℕ)) (cs : List Record) → Give pieces cs → AllByRecursion IsTextNamed cs
-texts_given [] cs g = subst (AllByRecursion IsTextNamed) (sym g) tt
-texts_given (piece ∷ later) cs g =
+texts_given : (b : Bool) (pieces : List (List ℕ)) (cs : List Record) → GiveBy b pieces cs
+    → AllByRecursion IsTextNamed cs
+texts_given b [] cs g = subst (AllByRecursion IsTextNamed) (sym g) tt
+texts_given b (piece ∷ later) cs g =
     subst (AllByRecursion IsTextNamed) (sym g.4)
-    (text_front g.0 g.1 (text_given piece g.0 g.2) (texts_given later g.1 g.3))
+    (text_front g.0 g.1 (text_given b piece g.0 g.2) (texts_given b later g.1 g.3))
 
 last_text : (cs : List Record) (q : List ℕ) → AllByRecursion IsTextNamed cs
     → IfSome (last_in cs q) IsTextNamed
@@ -205,7 +206,7 @@ opened_texts key header session opened q s is =
     let last : last_in opened.cookies q ≡ Some s.cookie = sym (opened.holds.originals q) ∙ ap record_in is in
     subst IsUtf8 (subst (λ (o : Option Record). IfSome o (λ c. c.name ≡ q)) last (last_named opened.cookies q))
     (subst (λ (o : Option Record). IfSome o IsTextNamed) last
-    (last_text opened.cookies q (texts_given _ opened.cookies opened.read)))
+    (last_text opened.cookies q (texts_given false _ opened.cookies opened.read)))
 
 -- A session at its commands: it shows what the request reads, and would leave the site so, were its answer delivered
 -- at d.

@@ -5,7 +5,7 @@ use Rattle.std.specs.List.{flat_map}
 use Rattle.jiff.specs.Types.{DateTime}
 use Rattle.jiff.specs.Words.{civil_nanos}
 use Rattle.cookie_text.specs.Record.{Seen}
-use Rattle.cookie_client.specs.Jar.{Keyed, IsOpened, ReadsIn, Sets, TakesOut, IsRemovalRefusal, ClosesWith}
+use Rattle.cookie_client.specs.Jar.{Keyed, IsOpenedShown, ReadsIn, Sets, TakesOut, IsRemovalRefusal, ClosesWith}
 use Rattle.cookie_client.specs.Ways.{set_refusal}
 use Rattle.cookie_run.specs.declared.step.Command.{Command}
 use Rattle.cookie_run.specs.declared.step.Command.TheVariants.{Set, Remove, Get}
@@ -102,7 +102,7 @@ Answers opened now lines nonces answer =
 -- the session has the key of the first 64 bytes, is opened on the header, and removes at this second
 abbrev pub Opens : List ℕ → List ℕ → ℤ → Keyed → DateTime → Type 0
 Opens key header second opened now =
-    (64 ≤ length key) × IsOpened (take 64 key) header opened × (civil_nanos now ≡ nanos_of second)
+    (64 ≤ length key) × IsOpenedShown (take 64 key) header opened × (civil_nanos now ≡ nanos_of second)
 
 abbrev pub IsExchange : List ℕ → List ℕ → ℤ → List ℕ → List ℕ → List ℕ → Type 0
 IsExchange key header second commands nonces answer =

@@ -8,7 +8,7 @@ use Rattle.jiff.specs.Words.{civil_nanos}
 use Rattle.cookie.specs.KeyRing.{Ring}
 use Rattle.cookie_text.specs.Record.{Seen}
 use Rattle.cookie_client.specs.Jar.{TakesOut, ClosesWith}
-use Rattle.cookie_client.specs.RingSession.{EndsAt, IsOpenedOn, KeepsRing, ReadsEnding, RingReadsIn, Ringed, SetsUntil}
+use Rattle.cookie_client.specs.RingSession.{EndsAt, IsOpenedOnShown, KeepsRing, ReadsEnding, RingReadsIn, Ringed, SetsUntil}
 use Rattle.cookie_client.specs.RingSession.{keyed, until_refusal}
 use Rattle.cookie_client.specs.declared.ending.EndingWay.{EndingWay}
 use Rattle.cookie_client.specs.declared.ending.EndingWay.TheVariants as ends
@@ -111,7 +111,7 @@ RingAnswers opened now lines nonces answer =
 -- the session has the ring of these keys and ends, is opened on the header, and its keys count at this second
 abbrev pub OpensOnRing : List ℕ → List ℤ → List ℕ → ℤ → Ringed → DateTime → Type 0
 OpensOnRing keys ends header second opened now = (ring : Ring) × IsRing keys ends ring
-    × IsOpenedOn ring now header opened × (civil_nanos now ≡ nanos_of second)
+    × IsOpenedOnShown ring now header opened × (civil_nanos now ≡ nanos_of second)
 
 abbrev pub IsRingExchange : List ℕ → List ℤ → List ℕ → ℤ → List ℕ → List ℕ → List ℕ → Type 0
 IsRingExchange keys ends header second commands nonces answer =

@@ -38,7 +38,7 @@ pub(crate) fn exchange(
         return Err(Refusal::Key);
     };
     let lines = lines(alloc, commands)?;
-    let mut session = Session::open(alloc, header, key)?;
+    let mut session = Session::open_shown(alloc, header, key)?;
     converse(alloc, &mut session, now, &lines, nonces)
 }
 

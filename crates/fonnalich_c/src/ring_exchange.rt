@@ -38,7 +38,7 @@ pub(crate) fn ring_exchange(
     let now = moment(second)?;
     let ring = ring_of(alloc, keys, ends)?;
     let lines = lines(alloc, commands)?;
-    let mut session = RingSession::open(alloc, header, ring, now)?;
+    let mut session = RingSession::open_shown(alloc, header, ring, now)?;
     converse(alloc, &mut session, now, &lines, nonces)
 }
 

@@ -31,6 +31,7 @@ use Rattle.http_cookies.specs.Messages.{PutsDelta, PutsHeader, PutsLines}
 use Rattle.http_cookies.specs.declared.error.PutError.{PutError}
 use Rattle.http_cookies.specs.declared.error.PutError.TheVariants.{OutOfMemory}
 use Rattle.http_cookies.proofs.Values.{line_fits}
+use Rattle.cookie_client.proofs.Readings.{readings_agree}
 
 -- ---- a session's lines
 
@@ -103,7 +104,12 @@ played list key rows url at commands told arrival new e =
       e.asked.is_header,
       (
         e.session,
-        (e.opened, subst (λ (h : List ℕ). IsOpened key h e.opened) header e.opens, e.tells),
+        (
+          e.opened,
+          subst (λ (h : List ℕ). IsOpened key h e.opened) header
+              ((readings_agree key (header_in e.request) e.opened e.shows).0 e.opens),
+          e.tells,
+        ),
         (
           e.answered.closes.cookies,
           e.answered.closes.lists,

@@ -5,7 +5,8 @@ use Rattle.cookie.specs.Jar.{Jar, delta, under_names}
 use Rattle.cookie_client.specs.Accept.{AcceptsAll}
 use Rattle.cookie_run.specs.Acts.{Visits, Arrives}
 use Rattle.cookie_client.specs.Header.{IsHeader}
-use Rattle.cookie_client.specs.Jar.{ClosesWith, IsOpened, Keyed, lines_of}
+use Rattle.cookie_client.specs.Jar.{ClosesWith, IsOpenedShown, Keyed, lines_of}
+use Rattle.cookie_client.specs.Reading.{ShowsAll}
 use Rattle.cookie_run.specs.Play.{OneStep, Tells}
 use Rattle.cookie_run.specs.declared.step.Command.{Command}
 use Rattle.cookie_client.specs.declared.outcome.LineEnd.{LineEnd}
@@ -89,8 +90,8 @@ HeaderIsOpened =
     → (header_in (with_header fields header) ≡ header)
     × KeepsOthers cookie_name fields (with_header fields header)
 
--- An exchange through messages: the client's header is put into a request's fields, a session is opened on them, reads
--- and sets by commands, and puts its lines into the fields of an answer that had none, which the client receives.
+-- An exchange through messages: the client's header is put into a request's fields, and no piece of it hides a prefix; a
+-- session is opened on them, reads and sets by commands, and puts its lines into the fields of an answer that had none, which the client receives.
 pub record ExchangesBy (list : List Rule) (key : List ℕ) (rows : List Row) (url : Parts) (at : ℤ)
     (commands : List Command) (told : List Reading) (arrival : ℤ) (new : List Row) : Type 0 where
   pub blank : Fields
@@ -98,7 +99,8 @@ pub record ExchangesBy (list : List Rule) (key : List ℕ) (rows : List Row) (ur
   pub request : Fields
   pub asked : PutsHeader rows url at blank request
   pub opened : Keyed
-  pub opens : IsOpened key (header_in request) opened
+  pub shows : ShowsAll (header_in request)
+  pub opens : IsOpenedShown key (header_in request) opened
   pub session : Keyed
   pub tells : Tells opened at commands told session
   pub empty : Fields

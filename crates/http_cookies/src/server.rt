@@ -2,8 +2,8 @@
 ghost use Rattle.std.specs.Prelude.{◌≡◌, List, map, string_bytes, IfOk, OnOk, OnErr, IfErr};
 ghost use Rattle.cookie_text.specs.Printing.{encoded};
 ghost use Rattle.cookie_text.specs.Record.{Record};
-ghost use Rattle.cookie_client.specs.Jar.{Holds, IsOpened, lines_of};
-ghost use Rattle.cookie_client.specs.Reading.{AreCookiesOf};
+ghost use Rattle.cookie_client.specs.Jar.{Holds, IsOpenedShown, lines_of};
+ghost use Rattle.cookie_client.specs.Reading.{AreCookiesShown};
 ghost use Rattle.http_cookies.specs.Fields.{header_in};
 ghost use Rattle.http_cookies.specs.Messages.{AreNoLines, IsNoDelta, PutsDelta, PutsLines};
 
@@ -11,7 +11,7 @@ use crate::error::PutError;
 use crate::fields::{header_in, put_line_texts};
 use cookie::{Cookie, CookieJar, Delta, Key};
 use cookie_client::Session;
-use cookie_client::reading::header_jar;
+use cookie_client::reading::header_jar_shown;
 use http::{HeaderMap, HeaderValue};
 use std::alloc::{AllocError, Global};
 
@@ -20,18 +20,18 @@ use std::alloc::{AllocError, Global};
 ///
 /// The fields are read in their order, as one header, joined by `; ` (RFC 9113, section 8.2.3). That
 /// is cut at each `;`. A piece is read as a pair whose name and value are percent-decoded; one that
-/// isn't UTF-8 or doesn't read is passed over, and a later cookie takes the place of an earlier one
-/// of its name.
+/// isn't UTF-8, doesn't read or hides a prefix is passed over, and a later cookie takes the place of an
+/// earlier one of its name.
 ///
 /// # Errors
 ///
 /// `AllocError` where there is no memory for the jar.
 pub fn jar_of(alloc: Global, request: &HeaderMap<HeaderValue>) -> Result<CookieJar, AllocError>
     ensures { IfOk result (λ jar. (cookies : List Record)
-        × AreCookiesOf (header_in request.now) cookies × Holds cookies jar) }
+        × AreCookiesShown (header_in request.now) cookies × Holds cookies jar) }
 {
     let header = header_in(alloc, request)?;
-    header_jar(alloc, &header)
+    header_jar_shown(alloc, &header)
 }
 
 /// Appends a `set-cookie` field for each cookie that was added to the jar or removed from it, in no
@@ -58,7 +58,7 @@ pub fn put_delta(
 /// A session on a request's `cookie` fields, with the key that signs and seals.
 ///
 /// The fields are read in their order, as one header, joined by `; ` (RFC 9113, section 8.2.3), as
-/// [`Session::open`] reads it.
+/// [`Session::open_shown`] reads it.
 ///
 /// # Errors
 ///
@@ -68,10 +68,10 @@ pub fn session_of(
     request: &HeaderMap<HeaderValue>,
     key: Key,
 ) -> Result<Session, AllocError>
-    ensures { IfOk result (IsOpened key (header_in request.now)) }
+    ensures { IfOk result (IsOpenedShown key (header_in request.now)) }
 {
     let header = header_in(alloc, request)?;
-    Session::open(alloc, &header, key)
+    Session::open_shown(alloc, &header, key)
 }
 
 /// Appends the lines of [`Session::close`] as `set-cookie` fields, behind those that are there.

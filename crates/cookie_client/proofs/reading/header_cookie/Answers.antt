@@ -8,11 +8,11 @@ returns-in_default c = λ utf8. absurd (c.in_default.ensures.cases.0 utf8)
 
 pub returns-in-Ok-parse_encoded : goal.returns-in-Ok-parse_encoded
 returns-in-Ok-parse_encoded c =
-    gives_shown c.shown.result c.args.piece.now c.in-Ok-parse_encoded.cookie c.in-Ok.ensures.cases.1
+    gives_shown c.args.shown c.given.result c.args.piece.now c.in-Ok-parse_encoded.cookie c.in-Ok.ensures.cases.1
     (subst (λ t. ReadsEncoded t (Ok c.in-Ok-parse_encoded.cookie)) c.in-Ok.ensures.cases.0
-    c.in-Ok-parse_encoded.ensures) c.shown.ensures.hidden c.shown.ensures.seen
+    c.in-Ok-parse_encoded.ensures) c.given.ensures.hidden c.given.ensures.seen
 
 pub returns-in-Err : goal.returns-in-Err
 returns-in-Err c =
-    gives_none c.unread.result c.args.piece.now c.in-Ok.text.now c.in-Err.error c.in-Ok.ensures.cases.0
+    gives_none c.args.shown c.unread.result c.args.piece.now c.in-Ok.text.now c.in-Err.error c.in-Ok.ensures.cases.0
     c.in-Err.ensures c.unread.ensures.none c.unread.ensures.other

@@ -7,13 +7,13 @@ use Rattle.cookie_client.proofs.reading.read_all.Goals as goal
 use Rattle.cookie_client.proofs.reading.read_all.Goals.{in-Some+in_ok-add_original, in_default}
 
 pub loop-piece-init : goal.loop-piece-init
-loop-piece-init c = ([], give_none, holds_none c.new-jar.result c.new-jar.ensures)
+loop-piece-init c = ([], give_none c.args.shown, holds_none c.new-jar.result c.new-jar.ensures)
 
 pub loop-piece-preserved : goal.loop-piece-preserved
 loop-piece-preserved c =
     let old = c.loop-piece.invariant in
     let read = record_in c.in_ok-cookie.field-0 in
-    let give = give_more c.args.pieces.now c.loop-piece.piece-index _ old.0 read c.loop-piece-test.true old.1
+    let give = give_more c.args.shown c.args.pieces.now c.loop-piece.piece-index _ old.0 read c.loop-piece-test.true old.1
     c.in_ok-cookie.ensures in
     elim c.match-branch-2.branch [
       | in-Some+in_ok-add_original w ↦ (

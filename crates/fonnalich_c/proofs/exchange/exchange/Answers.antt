@@ -1,7 +1,7 @@
 use Rattle.std.proofs.Common.{◌≡◌, ◌∙◌, ap, map, refl, subst, take, FitsSigned, w64}
 use Rattle.std.proofs.lemmas.Int.{to_z-of_z}
 use Rattle.jiff.specs.Words.{civil_nanos}
-use Rattle.cookie_client.specs.Jar.{IsOpened}
+use Rattle.cookie_client.specs.Jar.{IsOpenedShown}
 use Rattle.fonnalich_c.specs.Exchange.{Answers}
 use Rattle.fonnalich_c.specs.Given.{lines_of, nanos_of}
 use Rattle.fonnalich_c.proofs.Exchanges.{fault_gives, ok_gives, stopped}
@@ -14,8 +14,8 @@ returns-clause-ok c =
     let moment : civil_nanos c.in_ok-now.now ≡ nanos_of c.args.second = simp to_z-of_z at c.in_ok-now.ensures.ok in
     let lines : map (λ line. line.now) c.deref.result.now ≡ lines_of c.args.commands.now =
     ap (map (λ line. line.now)) c.deref.ensures.value ∙ c.in_ok-lines.ensures in
-    let opened : IsOpened (take 64 c.args.key.now) c.args.header.now c.in_ok-session.session =
-    subst (λ key. IsOpened key c.args.header.now c.in_ok-session.session) c.in-Ok.ensures.key c.in_ok-session.ensures in
+    let opened : IsOpenedShown (take 64 c.args.key.now) c.args.header.now c.in_ok-session.session =
+    subst (λ key. IsOpenedShown key c.args.header.now c.in_ok-session.session) c.in-Ok.ensures.key c.in_ok-session.ensures in
     ok_gives c.converse.result _ _ (λ answer so. (
       c.in_ok-session.session,
       c.in_ok-now.now,
@@ -29,8 +29,8 @@ returns-clause-err c =
     let moment : civil_nanos c.in_ok-now.now ≡ nanos_of c.args.second = simp to_z-of_z at c.in_ok-now.ensures.ok in
     let lines : map (λ line. line.now) c.deref.result.now ≡ lines_of c.args.commands.now =
     ap (map (λ line. line.now)) c.deref.ensures.value ∙ c.in_ok-lines.ensures in
-    let opened : IsOpened (take 64 c.args.key.now) c.args.header.now c.in_ok-session.session =
-    subst (λ key. IsOpened key c.args.header.now c.in_ok-session.session) c.in-Ok.ensures.key c.in_ok-session.ensures in
+    let opened : IsOpenedShown (take 64 c.args.key.now) c.args.header.now c.in_ok-session.session =
+    subst (λ key. IsOpenedShown key c.args.header.now c.in_ok-session.session) c.in-Ok.ensures.key c.in_ok-session.ensures in
     fault_gives c.converse.result _ _ (λ refused so. stopped c.args.key.now c.args.header.now c.args.second
     c.args.commands.now c.args.nonces.now c.in_ok-session.session c.in_ok-now.now _ refused
     (c.in-Ok.ensures.accepted.0 refl, opened, moment) lines so) c.converse.ensures.err
