@@ -7,6 +7,7 @@ use cookie_run::program::program;
 use kept_file::Locked;
 use std::alloc::AllocError;
 use std::env;
+use std::fs::File;
 use std::io::{self, BufReader, BufWriter, ErrorKind};
 use std::process::ExitCode;
 
@@ -28,6 +29,7 @@ fn start(rt: &HostRuntime) -> (u8, Option<&'static str>) {
 
 // Hands the program its words, standard input and standard output.
 fn answer(rt: &HostRuntime) -> Result<(u8, Option<&'static str>), AllocError> {
+    let _taken = closed_taken(rt);
     let words = with_seed(rt, words(rt)?)?;
     let Ok(reader) = BufReader::new(rt.alloc(), rt.reader()) else {
         return Err(AllocError);
@@ -38,10 +40,20 @@ fn answer(rt: &HostRuntime) -> Result<(u8, Option<&'static str>), AllocError> {
     Ok(program(
         rt,
         &words,
-        &mut Locked::new(rt, "cookie-run"),
+        &mut Locked::or_only_read(rt, "cookie-run"),
         &mut Counting::new(reader),
         &mut Counting::new(writer),
     ))
+}
+
+// Files that take the numbers of what is closed of standard input, output and error, so that no file that is opened
+// later is written to or read in its place. A folder can be neither.
+fn closed_taken(rt: &HostRuntime) -> [io::Result<File>; 3] {
+    [
+        File::open(rt, "/"),
+        File::open(rt, "/"),
+        File::open(rt, "/"),
+    ]
 }
 
 // The words behind the program's name. One that isn't UTF-8 is no text, so there aren't four then.

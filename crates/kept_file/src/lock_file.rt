@@ -14,12 +14,14 @@ use std::time::{Duration, Instant};
 // How long it is waited between two tries, in milliseconds.
 const PAUSE: u64 = 10;
 
-/// The lock file of a place, locked. It stays where it is: who took it away would have two hold the lock.
+/// The lock file of a place, locked. It stays where it is: who took it away would have two hold the lock. None where it
+/// can be neither made nor opened, if `without` is said.
 pub(crate) fn locked<H: Files<File = File> + AllocGlobal + Clock>(
     rt: &H,
     place: &Place,
     wait: Duration,
-) -> Result<File, Untaken> {
+    without: bool,
+) -> Result<Option<File>, Untaken> {
     let (path, lock) = match place.with_lock(rt) {
         Ok(names) => names,
         Err(Unread::Memory) => return Err(Untaken::Memory),
@@ -28,10 +30,11 @@ pub(crate) fn locked<H: Files<File = File> + AllocGlobal + Clock>(
     };
     let file = match opened(rt, path.as_path(), lock.as_path()) {
         Ok(file) => file,
+        Err(error) if without && error.kind() != ErrorKind::OutOfMemory => return Ok(None),
         Err(error) => return Err(untaken(error)),
     };
     match try_for(rt, &file, wait) {
-        Ok(true) => Ok(file),
+        Ok(true) => Ok(Some(file)),
         Ok(false) => Err(Untaken::InUse),
         Err(error) => Err(untaken(error)),
     }

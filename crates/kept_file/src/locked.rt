@@ -22,7 +22,9 @@ const UNHELD: &str = "its lock isn't held";
 pub struct Locked<'a, H> {
     rt: &'a H,
     stem: &'static str,
-    held: Option<(Place, File)>,
+    // Whether the file is read where it has no lock file.
+    without: bool,
+    held: Option<(Place, Option<File>)>,
     lock: Lock,
 }
 
@@ -35,6 +37,21 @@ impl<'a, H> Locked<'a, H> {
         Locked {
             rt,
             stem,
+            without: false,
+            held: None,
+            lock: Lock::Free,
+        }
+    }
+
+    /// The same, but where a lock file can be neither made nor opened beside the file, as in a folder that isn't there,
+    /// the file is read without one, and replacing it is refused.
+    pub fn or_only_read(rt: &'a H, stem: &'static str) -> Locked<'a, H>
+        ensures { lock_in result ≡ Free }
+    {
+        Locked {
+            rt,
+            stem,
+            without: true,
             held: None,
             lock: Lock::Free,
         }
@@ -52,7 +69,7 @@ impl<'a, H: Files<File = File> + AllocGlobal + Clock> Keeper for Locked<'a, H> {
             return Err(Untaken::Memory);
         };
         let place = Place::of(self.rt, path, self.stem);
-        let file = locked(self.rt, &place, wait)?;
+        let file = locked(self.rt, &place, wait, self.without)?;
         self.held = Some((place, file));
         self.lock = Lock::Held(Holding {
             path: named,
@@ -92,15 +109,15 @@ impl<'a, H: Files<File = File> + AllocGlobal + Clock> Keeper for Locked<'a, H> {
             return Err(Unwritten::Failed(UNHELD));
         };
         let done = match &self.held {
-            Some((place, _)) => place.replace_alone(self.rt, &text),
-            None => Err(Unwritten::Failed(UNHELD)),
+            Some((place, Some(_))) => place.replace_alone(self.rt, &text),
+            Some((_, None)) | None => Err(Unwritten::Failed(UNHELD)),
         };
         holding.put = Some(text);
         done
     }
 
     fn give(&mut self) {
-        if let Some((_, file)) = self.held.take() {
+        if let Some((_, Some(file))) = self.held.take() {
             let _ = file.unlock();
         }
         self.lock = mem::replace(&mut self.lock, Lock::Free).given();
