@@ -22,7 +22,7 @@ call costs_parse, costs_keep, costs_print, costs_sign, costs_verify, costs_seal,
     costs_verify_until, costs_open_until, costs_list, costs_look_up, costs_clone_list, costs_visit, costs_make_ready,
     costs_insert, costs_put, costs_remove, costs_clear, costs_save_json, costs_load_json, costs_save_ron,
     costs_load_ron, costs_save_lines, costs_load_lines, costs_import, costs_begin_client, costs_add_client,
-    costs_put_behind_rules, costs_put_within_bounds, costs_receive, costs_header, costs_open_session, costs_get,
+    costs_put_behind_rules, costs_receive, costs_header, costs_open_session, costs_get,
     costs_get_plain, costs_set, costs_set_plain, costs_close, costs_send_both, costs_exchange;
 
 static uint64_t kept[1024];
@@ -388,29 +388,6 @@ static void receives_behind_rules(int n) {
     fill(costs_receive, n, PATH_COUNT);
     does(costs_visit, URL, "");
     counts(costs_receive, LINE, "");
-}
-
-static void receives_within_bounds(int n) {
-    begin_client(false, URL);
-    does(costs_put_within_bounds, "180", "");
-    fill(costs_receive, n, PATH_COUNT);
-    does(costs_visit, URL, "");
-    counts(costs_receive, LINE, "");
-}
-
-/* One more than the domain may have, each of them Secure. */
-static void receives_at_bound(int n) {
-    (void)n;
-    begin_client(false, URL);
-    does(costs_put_within_bounds, "180", "");
-    does(costs_receive, lines_of("s", "=1; Path=/; Secure", 180), "");
-    counts(costs_receive, LINE, "");
-}
-
-static void receives_over_bound(int n) {
-    begin_client(false, URL);
-    does(costs_put_within_bounds, "2", "");
-    counts(costs_receive, lines_of("s", "=1; Path=/; Secure", n), "");
 }
 
 static void receives_date(int n) {
@@ -821,9 +798,6 @@ static const struct {
     {"n lines of new paths behind the rules", receives_paths, 500},
     {"n lines that are expired behind the rules", receives_expired, 500},
     {"n lines that take the place of n rows behind the rules", receives_replacing, 500},
-    {"a line within bounds beside n rows", receives_within_bounds, 1000},
-    {"a line at the bound of 180", receives_at_bound, 0},
-    {"n lines of new names where two are kept", receives_over_bound, 500},
     {"the header of 4 cookies among n", heads, 1000},
     {"the header of n cookies", heads_all, 1000},
     {"the header for a host of n labels", heads_host, 1000},

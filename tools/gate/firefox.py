@@ -10,6 +10,8 @@ value TEXT, host TEXT, path TEXT, expiry INTEGER, lastAccessed INTEGER, creation
 isHttpOnly INTEGER, inBrowserElement INTEGER DEFAULT 0, sameSite INTEGER DEFAULT 0, rawSameSite INTEGER DEFAULT 0,
 schemeMap INTEGER DEFAULT 0, isPartitionedAttributeSet INTEGER DEFAULT 0,
 CONSTRAINT moz_uniqueid UNIQUE (name, host, path, originAttributes))"""
+VIEW = """CREATE TABLE z AS SELECT 1; CREATE VIEW moz_cookies AS SELECT 1 AS id, '' AS originAttributes, 'n' AS name,
+'v' AS value, 'shop.com' AS host, '/' AS path, 1893456000000 AS expiry, 0 AS isSecure, 0 AS isHttpOnly"""
 COLUMNS = ("host", "path", "name", "value", "expiry", "isSecure", "isHttpOnly", "originAttributes")
 # 2030-01-01T00:00:00Z, in milliseconds.
 FAR = 1_893_456_000_000

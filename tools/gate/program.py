@@ -19,7 +19,7 @@ from gate.sources import sum_of_files, walked
 
 TOP = os.path.dirname(os.path.dirname(os.path.dirname(os.path.abspath(__file__))))
 # Their names in the shell.
-NAMES = ("cookie-run", "cookie-jar", "cookie-import-firefox")
+NAMES = ("cookie-run", "cookie-jar")
 COMPILED = f"{TOP}/out/compiled"
 # The folders of a crate that a build reads.
 PARTS = ("src", "specs", "proofs")
@@ -27,7 +27,7 @@ SUFFIXES = f"{TOP}/examples/suffixes.dat"
 SEED = "00" * 32
 BEGIN = "2024-01-01T00:00:00Z"
 # Seconds of a first compile, on four calm cores at 2.5 GHz.
-SECONDS = {"cookie-run": 55, "cookie-jar": 70, "cookie-import-firefox": 100}
+SECONDS = {"cookie-run": 55, "cookie-jar": 70}
 # Drops what the program doesn't reach, optimises the rest in little time, puts the checks of memory in, and makes code
 # in four parts at once. (The parts are of a shared object, since an executable's would be of what is called from
 # outside alone.)
@@ -160,11 +160,6 @@ def log_of(name):
 
 def words_of(command, store):
     """Words with which a program ends with 0, over a file where it keeps its cookies, or one that is made of such."""
-    if command == "cookie-import-firefox":
-        # (which alone needs sqlite3)
-        from gate import firefox
-        firefox.put(f"{store}.sqlite", firefox.EXAMPLE)
-        return [f"{store}.sqlite"]
     if command == "cookie-jar":
         return ["--now", BEGIN, "--suffixes", SUFFIXES, "--format", "ron", store, "list"]
     return [SUFFIXES, SEED, store, BEGIN]

@@ -1,5 +1,0 @@
-pub mod Keys
-pub mod Laws
-pub mod Parted
-pub mod Sorting
-pub mod Ways
