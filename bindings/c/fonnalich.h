@@ -556,9 +556,9 @@ FONNALICH_FORM ptrdiff_t fonnalich_shard_of_url_by(fonnalich *list, const char *
     return fonnalich_act(list, FONNALICH_DO_SHARD_OF_URL_BY, 0, url, url_length, "", 0, out, out_length);
 }
 
-/* Puts lines that come later behind these rules, a sum of FONNALICH_RULE_.., or behind none. A handle begins without,
-   and keeps them whatever client it gets. They judge no cookie that is there, or is loaded, but in headers. Answers 0.
-   */
+/* Puts lines that come later behind these rules, a sum of FONNALICH_RULE_.., or behind none. A handle begins behind
+   FONNALICH_BROWSER, and keeps its rules whatever client it gets. They judge no cookie that is there, or is loaded, but
+   in headers. Answers 0. */
 FONNALICH_FORM ptrdiff_t fonnalich_rules(fonnalich *at, int64_t rules) {
     char none;
     return fonnalich_act(at, FONNALICH_DO_RULES, rules, "", 0, "", 0, &none, 0);

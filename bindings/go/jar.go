@@ -103,10 +103,11 @@ func begin(options *Options) (*Jar, error) {
 		jar.options = *options
 	}
 	rules := jar.options.Rules
-	switch rules {
-	case 0:
-		rules = Browser
-	case NoRules:
+	if rules == 0 {
+		// (a handle begins behind Browser)
+		return jar, nil
+	}
+	if rules == NoRules {
 		rules = 0
 	}
 	_, err = jar.act(C.FONNALICH_DO_RULES, int64(rules), nil, nil)

@@ -970,14 +970,15 @@ class Client(_Handle):
     bytes; one without a rule is refused as `NoRules`. Where `saved` is given, the client begins with the cookies of
     that text that aren't expired now. A moment is in seconds since 1970, of which the whole part counts, or a
     `datetime` with a zone; none is now.
-    Lines come behind `rules`, which judge none of the cookies that are there, but in headers.
+    Lines come behind `rules`, by default those of browsers; `Rules.NONE` asks for none. They judge none of the cookies
+    that are there, but in headers.
     Calls of one client wait for one another, so threads may share it. In a process that was forked while another thread
     was in a call of the client, each call of it raises `RuntimeError`. So does a call within another of the same
     thread, as a signal's handler may make it.
     """
 
     def __init__(self, suffixes: Suffixes, saved: Optional[Bytes] = None, now: Optional[Moment] = None,
-                 rules: int = Rules.NONE):
+                 rules: int = Rules.BROWSER):
         shared = _list(suffixes)
         super().__init__()
         self._share(shared)

@@ -382,7 +382,8 @@ const _: () = {
 };
 
 impl Client {
-    /// A client without a cookie, by a public suffix list, which it shares, or by its text.
+    /// A client without a cookie, by a public suffix list, which it shares, or by its text. Its lines come behind the
+    /// rules of browsers.
     pub fn new(list: impl Suffixes) -> Result<Client, Error> {
         let mut held = Held::begun();
         match list.given() {
@@ -398,7 +399,7 @@ impl Client {
         Ok(Client { held })
     }
 
-    /// A client without a cookie, whose lines come behind these rules.
+    /// A client without a cookie, whose lines come behind these rules: [`Rules::none`] asks for none.
     pub fn with_rules(list: impl Suffixes, rules: Rules) -> Result<Client, Error> {
         let mut client = Client::new(list)?;
         client.set_rules(rules);
@@ -411,7 +412,8 @@ impl Client {
         self.act(Word::Rules, rules.flags(), b"", b"").expect("flags of rules");
     }
 
-    /// A client of a saved text's cookies that aren't expired at this moment.
+    /// A client of a saved text's cookies that aren't expired at this moment. Its lines come behind the rules of
+    /// browsers.
     pub fn load(list: impl Suffixes, saved: &[u8], now: i64) -> Result<Client, Error> {
         let mut held = Held::begun();
         match list.given() {
@@ -693,7 +695,7 @@ mod tests {
     #[test]
     fn keeps_rules() {
         let http = "http://example.com/";
-        let mut client = Client::with_rules(LIST, Rules::browser()).unwrap();
+        let mut client = Client::new(LIST).unwrap();
         let long = format!("long={}", "x".repeat(4093));
         let lines = ["a=\x01", &long, "__secure-a=1", "__HOST-a=1; Secure; Path=/x", "sid=1; Secure; Path=/"];
         let rules = [Rule::Control, Rule::TooLong, Rule::SecurePrefix, Rule::HostPrefix].map(LineEnd::Ruled);
@@ -707,6 +709,8 @@ mod tests {
         assert_eq!(ends, [LineEnd::Inserted, LineEnd::Ruled(Rule::SecureOverlay)]);
         client.set_rules(Rules::none());
         assert_eq!(client.receive(http, &["sid=3"], NOW), Ok(vec![LineEnd::UpdatedExisting]));
+        let mut client = Client::load(LIST, &client.save(NOW).unwrap(), NOW).unwrap();
+        assert_eq!(client.receive(http, &["b=2; Secure"], NOW).unwrap(), wanted[..1]);
     }
 
     // A neighbour sets its cookie over http first, the name escaped; then the site sets its own.
