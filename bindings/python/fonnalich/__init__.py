@@ -57,7 +57,7 @@ _LIB = _loaded()
 # (the system may tell nothing of the processor, or tell of another one)
 if _LIB.fonnalich_processor() < 0:
     raise ImportError("fonnalich: this processor lacks SSE 4.2, which the library needs")
-_TEXT = [ctypes.c_char_p, ctypes.c_size_t]
+_TEXT: list[Any] = [ctypes.c_char_p, ctypes.c_size_t]
 _LIB.fonnalich_size.restype = ctypes.c_size_t
 _LIB.fonnalich_version.argtypes = [ctypes.c_void_p, ctypes.c_size_t]
 _LIB.fonnalich_version.restype = ctypes.c_ssize_t

@@ -175,6 +175,7 @@ def _plain(content: dict[str, Any]) -> Optional[str]:
 
 def _content(app: Flask, text: str, now: int) -> Optional[dict[str, Any]]:
     """What a cookie holds, where it isn't past its lifetime, which Flask counts for a session of the browser too."""
+    value: Any
     try:
         value, end = (None, -1) if _TAGGED in text or text[:1] != "[" else _scan(text, 0)
         second, content = value if end == len(text) else session_json_serializer.loads(text)
