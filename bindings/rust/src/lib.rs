@@ -221,6 +221,8 @@ pub enum Error {
     Command,
     /// The name that is to be read or removed, or that of a text, is empty.
     EmptyName,
+    /// A cookie that is to be set in a session has a domain, or another path than `/`.
+    Place,
     /// The expiry of a cookie is of a year below 100.
     Expiry,
     /// The value or the name of a cookie is too long to be sealed.
@@ -284,6 +286,7 @@ impl fmt::Display for Error {
             Error::KeyEnd => to.write_str("the end of a key is out of the years -9999 to 9999"),
             Error::Command => to.write_str("the cookie has no name"),
             Error::EmptyName => to.write_str("the name is empty"),
+            Error::Place => to.write_str("a session's cookie is its host's, for all paths: leave out domain and path"),
             Error::Expiry => to.write_str("the expiry is of a year below 100"),
             Error::TooLong => to.write_str("the cookie is too long to be sealed"),
             Error::Host => to.write_str("the host has no byte or an empty label, or the URL has none"),
