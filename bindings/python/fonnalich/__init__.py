@@ -202,7 +202,7 @@ class Refused(_Passed, ValueError):
 
     def __init__(self, number: int):
         name, told = self.NAMES.get(number, str(number)), _told(number)
-        more = ": hand in what the file holds, or List.from_file(path)" if number == _LIST_NUMBER else ""
+        more = f": {_INSTEAD_OF_NO_LIST}" if number == _LIST_NUMBER else ""
         super().__init__(f"{name}: {told}{more}" if told else name)
         self.number = number
 
@@ -218,12 +218,16 @@ def _told(number: int) -> str:
     return ctypes.string_at(room, _LIB.fonnalich_text(number, room, len(room))).decode()
 
 
+_INSTEAD_OF_NO_LIST = "hand in what the file holds, or List.from_file(path)"
+_WHOLE_LIST = "put there the whole one, of publicsuffix.org, or take List.system()"
+
+
 class NoRules(Refused):
     """A public suffix list was refused that has no rule: by it no suffix would be public. So is the name of a file."""
 
     def __init__(self) -> None:
         super().__init__(_NO_RULE)
-        self.args = ("the text of the list has no rule: hand in what the file holds, or List.from_file(path)",)
+        self.args = (f"the text of the list has no rule: {_INSTEAD_OF_NO_LIST}",)
 
 
 class NoList(FileNotFoundError):
@@ -417,7 +421,7 @@ class _Handle(_Locked):
     def _usable(self) -> int:
         self._refuse_torn()
         if self._place is None:
-            raise ValueError("this is closed")
+            raise ValueError(f"this {type(self).__name__} is closed: begin another, as with what save() gave before")
         return self._place
 
     def _end(self) -> None:
@@ -473,7 +477,7 @@ class List(_Handle):
             # (as a line that is ended one rule alone isn't looked for as a file)
             return cls(text if text.endswith(b"\n") else text + b"\n")
         except Refused as why:
-            why.args = (f"{os.fspath(path)}: {why.text}",)
+            why.args = (f"{os.fspath(path)}: {why.text}: {_WHOLE_LIST}",)
             raise
 
     @classmethod
@@ -750,14 +754,15 @@ def _value(read: Optional[tuple[str, int]]) -> Optional[str]:
 
 
 _KEYS = "keys are a list, as [new, old, (older, end)]"
+_KEY_MADE = "os.urandom(64) makes one, which the site keeps"
 
 
 def _key_bytes(key: Bytes) -> bytes:
     if not _has_bytes(key):
-        raise TypeError(f"a key is of bytes, not {type(key).__name__}; {_KEYS}")
+        raise TypeError(f"a key is of 64 bytes, not {type(key).__name__}: {_KEY_MADE}; {_KEYS}")
     key = _bytes(key)
     if len(key) != _KEY_LENGTH:
-        raise ValueError(f"a key of {len(key)} bytes")
+        raise ValueError(f"a key of {len(key)} bytes, and not of 64: {_KEY_MADE}")
     return key
 
 

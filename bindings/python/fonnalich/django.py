@@ -46,7 +46,7 @@ def _cookie() -> SealedCookie:
         wrong.append("SESSION_COOKIE_SECURE has to be True, SESSION_COOKIE_DOMAIN None and SESSION_COOKIE_PATH /")
     key = getattr(settings, "FONNALICH_KEY", None)
     if not isinstance(key, bytes) or len(key) != 64:
-        wrong.append("FONNALICH_KEY has to be 64 secret bytes")
+        wrong.append("FONNALICH_KEY has to be 64 secret bytes: os.urandom(64) makes one, which the site keeps")
     if wrong:
         raise ImproperlyConfigured("; ".join(wrong))
     keys: list[RingKey] = [bytes(key or b""), *getattr(settings, "FONNALICH_KEY_FALLBACKS", ())]

@@ -10,14 +10,15 @@ stand in the client's place.
 """
 from __future__ import annotations
 
+import contextlib
 from types import TracebackType
-from typing import TYPE_CHECKING, Any, Callable, Optional, Type, TypeVar, Union
+from typing import TYPE_CHECKING, Any, Callable, Iterator, Optional, Type, TypeVar, Union
 
 import anyio.to_thread
 import httpx
 
 from . import _URL_NUMBER, Client, Refused, is_plain_url
-from .http.cookiejar import EmptyJar, _begin_sending, _mark_as_sent
+from .http.cookiejar import EmptyJar, _begin_sending, _mark_as_sent, _tell_of_proxy
 
 if TYPE_CHECKING:
     from .fleet import Fleet
@@ -25,6 +26,15 @@ if TYPE_CHECKING:
 __all__ = ["AsyncTransport", "EmptyJar", "Transport"]
 
 _Told = TypeVar("_Told")
+
+
+@contextlib.contextmanager
+def _telling_of_proxies() -> Iterator[None]:
+    try:
+        yield
+    except httpx.ProxyError as why:
+        _tell_of_proxy(why)
+        raise
 
 
 class Transport(httpx.BaseTransport):
@@ -39,7 +49,8 @@ class Transport(httpx.BaseTransport):
     def handle_request(self, request: httpx.Request) -> httpx.Response:
         """Sends a request with the client's header, and has the client take the lines of the answer."""
         url = _put(self.client, request)
-        response = self.over.handle_request(request)
+        with _telling_of_proxies():
+            response = self.over.handle_request(request)
         try:
             _take(self.client, url, response)
         except BaseException:
@@ -73,7 +84,8 @@ class AsyncTransport(httpx.AsyncBaseTransport):
     async def handle_async_request(self, request: httpx.Request) -> httpx.Response:
         """Sends a request with the client's header, and has the client take the lines of the answer."""
         url = await self._called(_put, request)
-        response = await self.over.handle_async_request(request)
+        with _telling_of_proxies():
+            response = await self.over.handle_async_request(request)
         try:
             await self._called(_take, url, response)
         except BaseException:

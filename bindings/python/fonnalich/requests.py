@@ -9,7 +9,7 @@ from __future__ import annotations
 from typing import TYPE_CHECKING, Any, Union
 
 from . import Client
-from .http.cookiejar import EmptyJar, Jar, NotSent, _asked, _begin_sending, _mark_as_sent, _Sendable, _Shown
+from .http.cookiejar import EmptyJar, Jar, NotSent, _asked, _begin_sending, _mark_as_sent, _Sendable, _Shown, _tell_of_proxy
 
 if TYPE_CHECKING:
     from .fleet import Fleet
@@ -52,7 +52,12 @@ class Adapter:
         if given is None or isinstance(given, _Sendable):
             self._put(request)
         _mark_as_sent(request, self.client)
-        return self.over.send(request, *words, **how)
+        from requests.exceptions import ProxyError
+        try:
+            return self.over.send(request, *words, **how)
+        except ProxyError as why:
+            _tell_of_proxy(why)
+            raise
 
     def close(self) -> None:
         """Closes what requests go out by."""

@@ -96,6 +96,20 @@ class Hops(Loopback):
             self.assertEqual(get("/", headers={"Host": "shop.test"}), b"a=1")
 
 
+class Proxies(Loopback):
+    def test_that_open_no_tunnel_are_told(self):
+        async def task(transport):
+            async with httpx.AsyncClient(transport=transport, cookies=EmptyJar()) as asked:
+                await asked.get("https://shop.test/")
+
+        proxy, told = httpx.Proxy(self.site.url), "501 .*: where the proxy asks who you are, name it as http://USER"
+        with httpx.Client(transport=Transport(self.client, proxy=proxy), cookies=EmptyJar()) as asked:
+            with self.assertRaisesRegex(httpx.ProxyError, told):
+                asked.get("https://shop.test/")
+        with self.assertRaisesRegex(httpx.ProxyError, told):
+            asyncio.run(task(AsyncTransport(self.client, proxy=proxy)))
+
+
 class Slow(MemoryStore):
     """A store whose server answers once something else was done meanwhile."""
 

@@ -281,7 +281,7 @@ impl fmt::Display for Error {
             Error::Saved => to.write_str("the text is no saved client"),
             Error::Year => to.write_str("a cookie that is to be saved ends in a year below 0"),
             Error::LineFeed => to.write_str("a line has a line feed"),
-            Error::Key => to.write_str("the key has under 64 bytes"),
+            Error::Key => to.write_str("the key has under 64 bytes: Key::generate makes one, and a site keeps 64"),
             Error::ManyKeys => to.write_str("there are over 16 earlier keys"),
             Error::KeyEnd => to.write_str("the end of a key is out of the years -9999 to 9999"),
             Error::Command => to.write_str("the cookie has no name"),
