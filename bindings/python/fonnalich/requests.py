@@ -9,7 +9,8 @@ from __future__ import annotations
 from typing import TYPE_CHECKING, Any, Union
 
 from . import Client
-from .http.cookiejar import EmptyJar, Jar, NotSent, _asked, _begin_sending, _mark_as_sent, _Sendable, _Shown, _tell_of_proxy
+from .http.cookiejar import (EmptyJar, Jar, NotSent, _asked, _begin_sending, _mark_as_sent, _Sendable, _Shown,
+                             _tell_of_proxy)
 
 if TYPE_CHECKING:
     from .fleet import Fleet
@@ -21,7 +22,7 @@ def _refuse_others(request: Any) -> None:
     """Raises where a request has other cookies than the client's, which `requests` copies. Behind that its table stays
     empty, into which `requests` would put the lines of a redirect too."""
     if any(not isinstance(it, _Shown) for it in request._cookies or ()):
-        raise NotSent("cookies= of a request isn't sent, and session.cookies has to be a Jar(client): put a cookie there "
+        raise NotSent("cookies= of a request isn't sent, and session.cookies has to be a Jar(client): put a cookie in "
                       "by session.cookies.set(name, value, domain=host), or send a header, headers={'Cookie': ..}")
     if not isinstance(request._cookies, Jar):
         request._cookies = EmptyJar()

@@ -94,7 +94,7 @@ class EmptyJar(http.cookiejar.CookieJar):
 
 
 def _conflict(name: str) -> RuntimeError:
-    """That several cookies have a name: `requests` has an error of its own, which is looked for where that is loaded."""
+    """That several cookies have a name, by the error of `requests` where that is loaded."""
     kind: type[RuntimeError] = getattr(sys.modules.get("requests.cookies"), "CookieConflictError", RuntimeError)
     return kind(f"several cookies have the name {name!r}: say a domain and a path")
 
