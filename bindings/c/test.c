@@ -68,6 +68,7 @@ static void tells_refusals(void) {
     char out[256];
     fonnalich at;
     fonnalich_begin(&at);
+    ask(gives(fonnalich_rules(&at, FONNALICH_NO_RULES), 0), "no rules before a client");
     ask(gives(fonnalich_header(&at, NOW, T(URL), out, sizeof out), FONNALICH_NO_CLIENT), "no client");
     ask(gives(fonnalich_list(&at, "a..b\n", 5), FONNALICH_LIST), "no list");
     ask(gives(fonnalich_act(&at, 28, NOW, "", 0, "", 0, out, sizeof out), FONNALICH_WORD), "no word");
@@ -123,7 +124,6 @@ static void keeps_rules(void) {
     char out[256], lines[8192];
     fonnalich at;
     fonnalich_begin(&at);
-    ask(gives(fonnalich_rules(&at, FONNALICH_BROWSER), 0), "rules before a client");
     ask(gives(fonnalich_rules(&at, 2 * FONNALICH_RULE_NONE_NEEDS_SECURE), FONNALICH_RULES), "no flags");
     ask(gives(fonnalich_rules(&at, -1), FONNALICH_RULES), "nor below 0");
     ask(gives(fonnalich_list(&at, T(LIST)), 0), "a list");
@@ -146,6 +146,7 @@ static void keeps_rules(void) {
     count = fonnalich_header(&at, NOW + 34560000, T(URL), out, sizeof out);
     ask(is(out, count, "c=4; e=6"), "400 days end a life");
     ask(gives(fonnalich_rules(&at, FONNALICH_NO_RULES), 0), "no rules");
+    ask(gives(fonnalich_list(&at, T(LIST)), 0), "they stay behind a list");
     count = fonnalich_receive(&at, NOW, T(HTTP), T("b=2; Secure"), out, sizeof out);
     ask(gives(count, 1) && out[0] == FONNALICH_INSERTED, "none refuses");
     fonnalich_free(&at);
@@ -256,6 +257,7 @@ static void keeps_the_answer_of_a_line(void) {
     char out[256];
     fonnalich at;
     fonnalich_begin(&at);
+    fonnalich_rules(&at, FONNALICH_NO_RULES);
     memset(out, '#', sizeof out);
     ask(gives(fonnalich_receive(&at, NOW, T(URL), T("a=1"), out, sizeof out), FONNALICH_NO_CLIENT), "no client");
     fonnalich_list(&at, T(LIST));
@@ -1304,6 +1306,7 @@ static void goes_on(long rounds) {
     char out[256], line[64];
     fonnalich at;
     fonnalich_begin(&at);
+    fonnalich_rules(&at, FONNALICH_NO_RULES);
     fonnalich_list(&at, T(LIST));
     fonnalich_receive(&at, NOW, T(URL), T(SID), out, sizeof out);
     for (long i = 0; i < rounds; i++) {
@@ -1419,6 +1422,7 @@ static void bears_a_refusal(long growth) {
     refused_at = growth;
     bears_a_refusal_of_a_ring();
     fonnalich_begin(&at);
+    fonnalich_rules(&at, FONNALICH_NO_RULES);
     if (again(number = fonnalich_list(&at, T(LIST))))
         number = fonnalich_list(&at, T(LIST));
     ask(gives(number, 0), "a list");
