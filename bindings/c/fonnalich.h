@@ -279,9 +279,9 @@ ptrdiff_t fonnalich_version(char *out, size_t out_length);
 ptrdiff_t fonnalich_text(int64_t number, char *out, size_t out_length);
 
 /* One exchange of a site: a session with this key on a request's Cookie header obeys the commands, lines joined by
-   '\n', as FONNALICH_SET FONNALICH_SEALED "cart=3; Max-Age=60; HttpOnly". A set cookie gets Secure and Path=/, and
-   a Path and a Domain of its own are dropped; a later set of its name takes its place. The second is the moment of
-   removals.
+   '\n', as FONNALICH_SET FONNALICH_SEALED "cart=3; Max-Age=60; HttpOnly". A set cookie gets Secure and Path=/;
+   with a Domain, or another Path, it is refused as FONNALICH_COMMAND. A later set of its name takes its place. The
+   second is the moment of removals.
 
    The answer has an item for each value that was read, in their order, and behind these one for each Set-Cookie line,
    in no promised order: fonnalich_next takes them out. A command that is refused refuses the call.

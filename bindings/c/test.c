@@ -867,6 +867,7 @@ static int serves(const char *header, const char *commands, const char *wanted) 
 static void is_a_site(void) {
     ask(serves("", "S0a=1\nS0a=2; HttpOnly; Max-Age=60", "|a=2; HttpOnly; Secure; Path=/; Max-Age=60"), "the last set");
     ask(serves("", "S1a=1", "|__Host-a=1; Secure; Path=/"), "a set by Host");
+    ask(serves("", "S1a=1; Path=/", "|__Host-a=1; Secure; Path=/"), "and for all paths");
     ask(serves("", "S2a=1", "|__Secure-a=1; Secure; Path=/"), "a set by Secure");
     ask(serves("", "S0a%3Bb=%0A%20\nG0a%3Bb", "|\n |a%3Bb=%0A%20; Secure; Path=/"), "an escaped name and value");
     ask(serves("a=1; b=2", "G0a\nG0b\nG0c\nG1a", "|1|2|-|-"), "values of the header");
@@ -899,7 +900,8 @@ static void is_told_its_room(void) {
 static void refuses_a_site(void) {
     char out[64] = "#";
     static const char *none[] = {"S",   "x",    "S5a=1",    "s0a=1",   "X0a",   "S0",
-                                 "S0a", "S0=1", "S0\xff=1", "S0%ff=1", "G0%ff", "\n"};
+                                 "S0a", "S0=1", "S0\xff=1", "S0%ff=1", "G0%ff", "\n",
+                                 "S0a=1; Path=/x", "S4a=1; Domain=shop.com", "S1a=1; Path=/; Domain=.shop.com"};
     for (size_t i = 0; i < sizeof none / sizeof *none; i++)
         ask(gives(serve("", none[i], 0, out, sizeof out), FONNALICH_COMMAND), none[i]);
     ask(gives(serve("", "S0a=1\nG0", 0, out, sizeof out), FONNALICH_EMPTY_NAME), "no name is read");
@@ -1055,7 +1057,7 @@ static void refuses_a_ring(void) {
     ask(gives(off(192, 2, NOW, "x"), FONNALICH_KEY_END), "no end, no command");
     make_ring();
     static const char *none[] = {"S5a=1", "S6a=1; Max-Age=60", "S5a; " IN_30_MINUTES, "S7a=1", "X5a", "G5%ff", "G",
-                                 "G7a"};
+                                 "G7a", "S5a=1; Path=/x; " IN_30_MINUTES, "S3a=1; Domain=shop.com"};
     for (size_t i = 0; i < sizeof none / sizeof *none; i++)
         ask(gives(off(64, 0, NOW, none[i]), FONNALICH_COMMAND), none[i]);
     static const char *nameless[] = {FONNALICH_GET FONNALICH_SIGNED_UNTIL, FONNALICH_REMOVE FONNALICH_SEALED_UNTIL};
