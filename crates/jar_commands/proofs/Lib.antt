@@ -1,5 +1,6 @@
 pub mod InsteadLemmas
 pub mod KeepLemmas
+mod ListLemmas
 mod KeptLemmas
 pub mod NameLemmas
 pub mod PlanLemmas
