@@ -44,6 +44,9 @@ def put(top, room, layers=()):
     shutil.copytree(f"{top}/crates", f"{room}/crates", ignore=shutil.ignore_patterns("out", "must-fail", "proofs"))
     folder = f"{room}/crates/{CRATE}"
     for path in sources(top):
+        # (a file that no `mod` names is refused)
+        if layers and re.split(r"[/.]", path)[0] not in ("lib", *layers):
+            continue
         to = f"{folder}/src/{path.removesuffix('.txt')}"
         os.makedirs(os.path.dirname(to), exist_ok=True)
         shutil.copyfile(f"{top}/tests/{path}", to)
