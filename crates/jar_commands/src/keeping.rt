@@ -16,6 +16,7 @@ ghost use Rattle.jar_commands.specs.declared.failure.Failure.{Failure};
 
 use crate::about::Stopped;
 use crate::answering::answer_texts;
+use crate::dropped::dropped_in;
 use crate::failure::Failure;
 use crate::outcome::Outcome;
 use crate::plan::{Plan, Task};
@@ -60,7 +61,8 @@ pub(crate) fn changes(task: &Task<'_>) -> bool
     }
 }
 
-/// What a plan gives over the jar's file, which is replaced where the plan changes the jar.
+/// What a plan gives over the jar's file, which is replaced where the plan changes the jar; and what is told of the
+/// rows of the same bytes that the jar drops.
 pub(crate) fn outcome_of<H: Files + AllocGlobal, K: Keeper>(
     rt: &H,
     plan: &Plan<'_>,
@@ -69,10 +71,10 @@ pub(crate) fn outcome_of<H: Files + AllocGlobal, K: Keeper>(
     suffixes: &[u8],
     brought: Option<&[u8]>,
     kept: &mut K,
-) -> Result<Outcome, Stopped>
+) -> Result<(Outcome, Option<String>), Stopped>
     ensures { steps.GivesKept (spec.changes plan.now.task) (plan_text plan.now) jar.now suffixes.now
         (option_copied brought.entry) (K.lock kept.old, K.lock kept.new)
-        (result_map_both outcome_text (λ stopped. stopped.failure) result) }
+        (result_map_both (λ given. outcome_text given.0) (λ stopped. stopped.failure) result) }
 {
     if changes(&plan.task) {
         return held(rt.alloc(), plan, jar, wait, suffixes, brought, kept);
@@ -81,19 +83,24 @@ pub(crate) fn outcome_of<H: Files + AllocGlobal, K: Keeper>(
     answer_placed(rt.alloc(), plan, suffixes, stored.as_deref(), brought)
 }
 
-// What a plan gives for texts; where one isn't read, with the place where it stops.
+// What a plan gives for texts, and what is told of the rows that the jar drops; where one isn't read, with the place
+// where it stops.
 fn answer_placed(
     alloc: Global,
     plan: &Plan<'_>,
     suffixes: &[u8],
     stored: Option<&[u8]>,
     brought: Option<&[u8]>,
-) -> Result<Outcome, Stopped>
+) -> Result<(Outcome, Option<String>), Stopped>
     ensures { AnswersTexts (plan_text plan.now) suffixes.now (option_copied stored.entry)
-        (option_copied brought.entry) (result_map_both outcome_text (λ stopped. stopped.failure) result) }
+        (option_copied brought.entry)
+        (result_map_both (λ given. outcome_text given.0) (λ stopped. stopped.failure) result) }
 {
     match answer_texts(alloc, plan, suffixes, stored, brought) {
-        Ok(outcome) => Ok(outcome),
+        Ok(outcome) => match dropped_in(alloc, plan, stored) {
+            Ok(dropped) => Ok((outcome, dropped)),
+            Err(_) => Err(Stopped::of(Failure::Memory)),
+        },
         Err(failure) => Err(Stopped::in_texts(alloc, plan, suffixes, stored, brought, failure)),
     }
 }
@@ -107,10 +114,10 @@ fn held<K: Keeper>(
     suffixes: &[u8],
     brought: Option<&[u8]>,
     kept: &mut K,
-) -> Result<Outcome, Stopped>
+) -> Result<(Outcome, Option<String>), Stopped>
     ensures { steps.GivesKept true (plan_text plan.now) jar.now suffixes.now
         (option_copied brought.entry) (K.lock kept.old, K.lock kept.new)
-        (result_map_both outcome_text (λ stopped. stopped.failure) result) }
+        (result_map_both (λ given. outcome_text given.0) (λ stopped. stopped.failure) result) }
 {
     begin(kept, jar, wait)?;
     let given = perform_held(alloc, plan, suffixes, brought, kept);
@@ -144,12 +151,13 @@ fn perform_held<K: Keeper>(
     suffixes: &[u8],
     brought: Option<&[u8]>,
     kept: &mut K,
-) -> Result<Outcome, Stopped>
+) -> Result<(Outcome, Option<String>), Stopped>
     ensures { steps.PerformsHeld (plan_text plan.now) suffixes.now (option_copied brought.entry)
-        (K.lock kept.old, K.lock kept.new) (result_map_both outcome_text (λ stopped. stopped.failure) result) }
+        (K.lock kept.old, K.lock kept.new)
+        (result_map_both (λ given. outcome_text given.0) (λ stopped. stopped.failure) result) }
 {
     match answer_placed(alloc, plan, suffixes, kept.bytes(), brought) {
-        Ok(outcome) => replaced(outcome, kept),
+        Ok((outcome, dropped)) => Ok((replaced(outcome, kept)?, dropped)),
         Err(stopped) => Err(stopped),
     }
 }

@@ -24,9 +24,11 @@ pub(crate) fn push_passed_over(
     if !is_verbose {
         return Ok(());
     }
+    let number = visit.head.number as u128;
     if visit.is_proxys() {
-        let number = visit.head.number as u128;
         push_line(told, "passed over: answer of a proxy\tline ", number)?;
+    } else if visit.is_interim() {
+        push_line(told, "passed over: interim answer\tline ", number)?;
     }
     push_lines(told, visit)
 }
@@ -104,7 +106,5 @@ fn fault_words(is_behind_field: bool, fault: LineFault) -> &'static str
         LineFault::NoColon => "passed over: no colon\tline ",
         LineFault::Name => "passed over: no field name\tline ",
         LineFault::Control => "passed over: control character\tline ",
-        LineFault::Status => "passed over: no status line\tline ",
-        LineFault::Unended => "passed over: head without an end\tline ",
     }
 }

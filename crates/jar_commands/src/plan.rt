@@ -99,6 +99,8 @@ pub struct Plan<'a> {
     pub rules: Rules,
     /// Whether `receive` tells of what it passes over.
     pub is_verbose: bool,
+    /// Whether `receive` takes the last head alone, since no `Location` was followed.
+    pub is_one: bool,
     /// What is to be done.
     pub task: Task<'a>,
 }
@@ -133,6 +135,7 @@ pub fn plan_of<'a>(
             form,
             rules,
             is_verbose: asked.is_verbose,
+            is_one: asked.is_one,
             task,
         }),
         Err(failure) => Err(failure),

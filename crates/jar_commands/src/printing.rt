@@ -29,6 +29,8 @@ pub(crate) struct Done {
     pub(crate) status: u8,
     /// What an export tells of its rows, where it printed their text.
     pub(crate) counted: Option<String>,
+    /// What is told of the rows that the jar drops.
+    pub(crate) dropped: Option<String>,
 }
 
 /// Writes the other file of an export, unless that is the jar, and prints; or prints the text of that file.
@@ -56,6 +58,7 @@ pub(crate) fn finish<H: Files + AllocGlobal, W: Sink>(
         Ok(status) => Ok(Done {
             status,
             counted: None,
+            dropped: None,
         }),
         Err(failure) => Err(Stopped::of(failure)),
     }
@@ -85,6 +88,7 @@ fn print_text<W: Sink>(outcome: Outcome, writer: &mut W) -> Result<Done, Stopped
         Ok(status) => Ok(Done {
             status,
             counted: Some(outcome.printed),
+            dropped: None,
         }),
         Err(failure) => Err(Stopped::of(failure)),
     }

@@ -17,19 +17,18 @@ ghost use Rattle.jar_commands.specs.declared.failure.Failure.{Failure};
 
 use crate::about::Stopped;
 use crate::answering::read_input;
-use crate::dropped::dropped_of;
 pub use crate::ended::Ended;
 use crate::ended::{about_words, failed, told, url_told};
 use crate::failure::Failure;
-use crate::instead::{Instead, instead_of, print_plain};
-use crate::keeping::{NAME, outcome_of, read_jar, wait_of};
+use crate::instead::{instead_of, print_plain};
+use crate::keeping::{outcome_of, read_jar, wait_of};
 use crate::plan::plan_of;
 use crate::printing::{DASH, Done, finish, print_help, print_version};
 use devices::{Sink, Source};
 use jar_words::{Asked, Command, Refusal, url_asked};
 use jiff::civil::DateTime;
 use kept_file::{Keeper, files};
-use std::alloc::{AllocError, Global};
+use std::alloc::Global;
 use std::fs::{self, Files};
 use std::io::ErrorKind;
 
@@ -155,42 +154,22 @@ fn run<'a, H: Files + AllocGlobal, K: Keeper, R: Source, W: Sink>(
 {
     let list = list_file(rt, asked.suffixes, lists);
     let list_told = if asked.is_verbose { Some(list) } else { None };
-    // It is handed on twice, of which the borrow checker covers one: so the first is a copy.
-    let at = clock;
-    match beside(rt, asked, at) {
-        Ok((instead, dropped)) => match serve(rt, asked, clock, list, kept, reader, writer) {
+    match instead_of(rt.alloc(), asked.command) {
+        Ok(instead) => match serve(rt, asked, clock, list, kept, reader, writer) {
             Ok(done) => {
                 let mut ended = told(list_told, Ok(done.status));
                 ended.counted = done.counted;
-                ended.dropped = dropped;
+                ended.dropped = done.dropped;
                 ended
             }
             Err(stopped) => {
                 let mut ended = failed(rt.alloc(), asked, list, stopped, instead);
                 ended.list = list_told;
-                ended.dropped = dropped;
                 ended
             }
         },
         Err(_) => told(list_told, Err(Failure::Memory)),
     }
-}
-
-// What may be told beside a failure, and of the rows that the jar drops.
-fn beside<H: Files + AllocGlobal>(
-    rt: &H,
-    asked: &Asked<'_>,
-    clock: Option<DateTime>,
-) -> Result<(Instead, Option<String>), AllocError>
-    ensures { IfOk result (λ found.
-        urls.IsInstead (urls.url_in asked.entry.now.command) (option_map string_bytes found.0.url)
-        × urls.IsInstead (urls.page_in asked.entry.now.command) (option_map string_bytes found.0.page)
-        × IfSome found.1 (λ told.
-        rows.IsToldOfJar asked.entry.now (option_map civil_nanos clock) (string_bytes told))) }
-{
-    let instead = instead_of(rt.alloc(), asked.command)?;
-    let dropped = dropped_of(rt, asked, clock, NAME)?;
-    Ok((instead, dropped))
 }
 
 // The file of the suffix list that counts: the one that is asked, else the first of these that is
@@ -270,7 +249,11 @@ fn serve<H: Files + AllocGlobal, K: Keeper, R: Source, W: Sink>(
         brought.as_deref(),
         kept,
     ) {
-        Ok(outcome) => finish(rt, asked.command, asked.jar, outcome, writer),
+        Ok((outcome, dropped)) => {
+            let mut done = finish(rt, asked.command, asked.jar, outcome, writer)?;
+            done.dropped = dropped;
+            Ok(done)
+        }
         Err(stopped) => Err(stopped),
     }
 }

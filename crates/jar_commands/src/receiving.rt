@@ -19,7 +19,7 @@ use crate::passed_over::{push_line, push_passed_over};
 use crate::plan::{Plan, Start};
 use cookie_jar::{End, Form, Jar, is_refused, told_lines};
 use jiff::civil::DateTime;
-use response_heads::{LineFault, LocationFault, Lost, ReadError, Visit, Visited, visits};
+use response_heads::{LocationFault, Lost, ReadError, StopFault, Visit, Visited, answer, visits};
 use std::alloc::{AllocError, Global};
 use url::Url;
 
@@ -94,18 +94,29 @@ fn receive_heads(
         jar.new.rows) }
     ensures err { IfErr result (λ failure. (failure ≡ Failure.Memory) ⊎ spec.IsNoHeads text.now failure) }
 {
-    let Visited { visits, lost } = visits_of(alloc, url, text)?;
+    let Visited { visits, lost, stop } = visits_of(alloc, plan.is_one, url, text)?;
     let received = receive_visits(alloc, plan, jar, start, &visits)?;
-    Ok(with_lost(alloc, received, lost)?)
+    let received = with_lost(alloc, received, lost)?;
+    Ok(with_stop(received, stop)?)
 }
 
-// The heads of a text, each with the URL that answered it.
-fn visits_of<'a>(alloc: Global, url: &Url, text: &'a [u8]) -> Result<Visited<'a>, Failure>
+// The heads of a text, each with the URL that answered it, or the last of them, where this URL alone was asked.
+fn visits_of<'a>(
+    alloc: Global,
+    is_one: bool,
+    url: &Url,
+    text: &'a [u8],
+) -> Result<Visited<'a>, Failure>
     ensures ok { IfOk result (λ given.
         GivesVisits url.now text.now (map visit_text given.visits.items) given.lost) }
     ensures err { IfErr result (λ failure. (failure ≡ Failure.Memory) ⊎ spec.IsNoHeads text.now failure) }
 {
-    match visits(alloc, url, text) {
+    let read = if is_one {
+        answer(alloc, url, text)
+    } else {
+        visits(alloc, url, text)
+    };
+    match read {
         Ok(given) => Ok(given),
         Err(ReadError::OutOfMemory) => Err(Failure::Memory),
         Err(ReadError::Line(line, _)) => Err(Failure::Heads(line)),
@@ -129,6 +140,37 @@ fn with_lost(alloc: Global, received: Received, lost: Option<Lost>) -> Result<Re
         told,
         is_any_refused: true,
     })
+}
+
+// What is told where heads are left out from a line on, behind what was told.
+fn with_stop(
+    received: Received,
+    stop: Option<(usize, StopFault)>,
+) -> Result<Received, AllocError>
+    ensures { IfOk result (λ more.
+        (string_bytes more.told ≡ string_bytes received.told ++ spec.stop_told stop)
+        × (more.is_any_refused ≡ (received.is_any_refused || is_some stop))) }
+{
+    let Some((number, fault)) = stop else {
+        return Ok(received);
+    };
+    let mut told = received.told;
+    push_line(&mut told, stop_words(fault), number as u128)?;
+    Ok(Received {
+        told,
+        is_any_refused: true,
+    })
+}
+
+// Why nothing is read from a line on.
+fn stop_words(fault: StopFault) -> &'static str
+    ensures { result.now ≡ spec.stop_words fault }
+{
+    match fault {
+        StopFault::Status => "refused: no status line\theads from line ",
+        StopFault::Between => "refused: text between heads\theads from line ",
+        StopFault::Unended => "refused: head without an end\theads from line ",
+    }
 }
 
 // Why a line leads to no URL, and what is left out for that.
@@ -185,7 +227,7 @@ fn receive_visit(
     let ends = take_answer(plan, jar, start, &visit.url, &lines)?;
     let told = visit_told(alloc, plan.is_verbose, visit, &lines, &ends)?;
     received.told.push_str(told.as_str())?;
-    received.is_any_refused = received.is_any_refused || refuses(visit, &ends);
+    received.is_any_refused = received.is_any_refused || is_any_refused(&ends);
     Ok(())
 }
 
@@ -254,35 +296,7 @@ fn visit_told(
     push_passed_over(&mut told, is_verbose, visit)?;
     let lines = told_lines(alloc, lines, ends)?;
     told.push_str(lines.as_str())?;
-    push_stop(&mut told, visit.stop)?;
     Ok(told)
-}
-
-// Tells of the heads that are left out from a line on, if one stopped all reading.
-fn push_stop(told: &mut String, stop: Option<(usize, LineFault)>) -> Result<(), AllocError>
-    ensures { OnOk result (string_bytes told.new ≡ string_bytes told.old ++ spec.stop_told stop) }
-{
-    match stop {
-        Some((number, fault)) => push_line(told, stop_words(fault), number as u128),
-        None => Ok(()),
-    }
-}
-
-// Why nothing is read from a line on.
-fn stop_words(fault: LineFault) -> &'static str
-    ensures { result.now ≡ spec.stop_words fault }
-{
-    match fault {
-        LineFault::Status => "refused: no status line\theads from line ",
-        _ => "refused: head without an end\theads from line ",
-    }
-}
-
-// Whether a line of a visit wasn't stored, or heads behind it are left out.
-fn refuses(visit: &Visit<'_>, ends: &[End]) -> bool
-    ensures { result ≡ spec.refuses (visit_text visit.now) ends.now }
-{
-    is_any_refused(ends) || visit.stop.is_some()
 }
 
 /// Whether a line wasn't stored.

@@ -95,6 +95,8 @@ pub struct Asked<'a> {
     pub rules: Option<&'a str>,
     /// Whether `-v` was given.
     pub is_verbose: bool,
+    /// Whether `--one` was given, to `receive`.
+    pub is_one: bool,
     /// The jar's file.
     pub jar: &'a str,
     /// What to do with it.
@@ -104,7 +106,7 @@ pub struct Asked<'a> {
 /// A command, with its words as they are written.
 #[derive(Clone, Copy, Debug, PartialEq, Eq)]
 pub enum Command<'a> {
-    /// `receive URL [--from PAGE [--navigate]]`.
+    /// `receive [--one] URL [--from PAGE [--navigate]]`.
     Receive(&'a str, Start<'a>),
     /// `header URL [--from PAGE [--navigate]]`.
     Header(&'a str, Start<'a>),

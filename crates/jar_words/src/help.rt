@@ -15,6 +15,7 @@ A name without an ending is of JSON.
 commands:
   receive URL          Takes the Set-Cookie lines of answers' heads, from standard input, and tells
                        of each. URL was requested; a Location that curl followed moves it.
+      --one            No Location was followed: takes the lines of the last head alone.
   header URL           Prints the line Cookie: .. of a request to URL, or nothing.
       --from PAGE      Of receive and header: the page at the URL PAGE started the request; a
                        cookie goes to another site, or is set by it, as its SameSite lets it.

@@ -20,10 +20,11 @@ pub(crate) enum Name {
     For,
     From,
     Navigate,
+    One,
 }
 
 // How each option is written, and whether it has a value.
-const OPTIONS: [(&str, (Name, bool)); 18] = [
+const OPTIONS: [(&str, (Name, bool)); 19] = [
     ("--now", (Name::Now, true)),
     ("--suffixes", (Name::Suffixes, true)),
     ("--format", (Name::Format, true)),
@@ -42,6 +43,7 @@ const OPTIONS: [(&str, (Name, bool)); 18] = [
     ("--for", (Name::For, true)),
     ("--from", (Name::From, true)),
     ("--navigate", (Name::Navigate, false)),
+    ("--one", (Name::One, false)),
 ];
 
 impl Name {
@@ -66,7 +68,7 @@ impl Name {
     {
         match self {
             Name::Json | Name::Domain | Name::Strict | Name::FileFormat | Name::For => false,
-            Name::From | Name::Navigate => false,
+            Name::From | Name::Navigate | Name::One => false,
             _ => true,
         }
     }
@@ -116,6 +118,7 @@ impl Verb {
     {
         match (self, option) {
             (Verb::Receive | Verb::Header, Name::From | Name::Navigate) => true,
+            (Verb::Receive, Name::One) => true,
             (Verb::List, Name::Json | Name::Domain) => true,
             (Verb::Import, Name::Strict | Name::FileFormat) => true,
             (Verb::Export, Name::For | Name::FileFormat) => true,

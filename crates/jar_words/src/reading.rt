@@ -183,6 +183,7 @@ fn asked_with<'a>(tokens: Tokens<'a>, jar: &'a str) -> Result<Asked<'a>, Refusal
         wait: tokens.value(Name::Wait),
         rules: tokens.value(Name::Rules),
         is_verbose: tokens.has(Name::Verbose),
+        is_one: tokens.has(Name::One),
         jar,
         command,
     })
