@@ -51,6 +51,7 @@ def site(kind):
     if kind.startswith("Flask's"):
         app.secret_key = "k" * 32
     elif kind.startswith("sealed"):
+        app.config["SESSION_COOKIE_SECURE"] = True
         fonnalich.flask.init_app(app, bytes(range(64)))
 
     @app.route("/in")

@@ -279,8 +279,9 @@ ptrdiff_t fonnalich_version(char *out, size_t out_length);
 ptrdiff_t fonnalich_text(int64_t number, char *out, size_t out_length);
 
 /* One exchange of a site: a session with this key on a request's Cookie header obeys the commands, lines joined by
-   '\n', as FONNALICH_SET FONNALICH_SEALED "cart=3; Max-Age=60; HttpOnly". A set cookie gets Secure and Path=/ and loses
-   its Domain; a later set of its name takes its place. The second is the moment of removals.
+   '\n', as FONNALICH_SET FONNALICH_SEALED "cart=3; Max-Age=60; HttpOnly". A set cookie gets Secure and Path=/;
+   with a Domain, or another Path, it is refused as FONNALICH_COMMAND. A later set of its name takes its place. The
+   second is the moment of removals.
 
    The answer has an item for each value that was read, in their order, and behind these one for each Set-Cookie line,
    in no promised order: fonnalich_next takes them out. A command that is refused refuses the call.
@@ -556,9 +557,9 @@ FONNALICH_FORM ptrdiff_t fonnalich_shard_of_url_by(fonnalich *list, const char *
     return fonnalich_act(list, FONNALICH_DO_SHARD_OF_URL_BY, 0, url, url_length, "", 0, out, out_length);
 }
 
-/* Puts lines that come later behind these rules, a sum of FONNALICH_RULE_.., or behind none. A handle begins without,
-   and keeps them whatever client it gets. They judge no cookie that is there, or is loaded, but in headers. Answers 0.
-   */
+/* Puts lines that come later behind these rules, a sum of FONNALICH_RULE_.., or behind none. A handle begins behind
+   FONNALICH_BROWSER, and keeps its rules whatever client it gets. They judge no cookie that is there, or is loaded, but
+   in headers. Answers 0. */
 FONNALICH_FORM ptrdiff_t fonnalich_rules(fonnalich *at, int64_t rules) {
     char none;
     return fonnalich_act(at, FONNALICH_DO_RULES, rules, "", 0, "", 0, &none, 0);

@@ -68,6 +68,7 @@ static void tells_refusals(void) {
     char out[256];
     fonnalich at;
     fonnalich_begin(&at);
+    ask(gives(fonnalich_rules(&at, FONNALICH_NO_RULES), 0), "no rules before a client");
     ask(gives(fonnalich_header(&at, NOW, T(URL), out, sizeof out), FONNALICH_NO_CLIENT), "no client");
     ask(gives(fonnalich_list(&at, "a..b\n", 5), FONNALICH_LIST), "no list");
     ask(gives(fonnalich_act(&at, 28, NOW, "", 0, "", 0, out, sizeof out), FONNALICH_WORD), "no word");
@@ -123,7 +124,6 @@ static void keeps_rules(void) {
     char out[256], lines[8192];
     fonnalich at;
     fonnalich_begin(&at);
-    ask(gives(fonnalich_rules(&at, FONNALICH_BROWSER), 0), "rules before a client");
     ask(gives(fonnalich_rules(&at, 2 * FONNALICH_RULE_NONE_NEEDS_SECURE), FONNALICH_RULES), "no flags");
     ask(gives(fonnalich_rules(&at, -1), FONNALICH_RULES), "nor below 0");
     ask(gives(fonnalich_list(&at, T(LIST)), 0), "a list");
@@ -146,6 +146,7 @@ static void keeps_rules(void) {
     count = fonnalich_header(&at, NOW + 34560000, T(URL), out, sizeof out);
     ask(is(out, count, "c=4; e=6"), "400 days end a life");
     ask(gives(fonnalich_rules(&at, FONNALICH_NO_RULES), 0), "no rules");
+    ask(gives(fonnalich_list(&at, T(LIST)), 0), "they stay behind a list");
     count = fonnalich_receive(&at, NOW, T(HTTP), T("b=2; Secure"), out, sizeof out);
     ask(gives(count, 1) && out[0] == FONNALICH_INSERTED, "none refuses");
     fonnalich_free(&at);
@@ -256,6 +257,7 @@ static void keeps_the_answer_of_a_line(void) {
     char out[256];
     fonnalich at;
     fonnalich_begin(&at);
+    fonnalich_rules(&at, FONNALICH_NO_RULES);
     memset(out, '#', sizeof out);
     ask(gives(fonnalich_receive(&at, NOW, T(URL), T("a=1"), out, sizeof out), FONNALICH_NO_CLIENT), "no client");
     fonnalich_list(&at, T(LIST));
@@ -865,6 +867,7 @@ static int serves(const char *header, const char *commands, const char *wanted) 
 static void is_a_site(void) {
     ask(serves("", "S0a=1\nS0a=2; HttpOnly; Max-Age=60", "|a=2; HttpOnly; Secure; Path=/; Max-Age=60"), "the last set");
     ask(serves("", "S1a=1", "|__Host-a=1; Secure; Path=/"), "a set by Host");
+    ask(serves("", "S1a=1; Path=/", "|__Host-a=1; Secure; Path=/"), "and for all paths");
     ask(serves("", "S2a=1", "|__Secure-a=1; Secure; Path=/"), "a set by Secure");
     ask(serves("", "S0a%3Bb=%0A%20\nG0a%3Bb", "|\n |a%3Bb=%0A%20; Secure; Path=/"), "an escaped name and value");
     ask(serves("a=1; b=2", "G0a\nG0b\nG0c\nG1a", "|1|2|-|-"), "values of the header");
@@ -897,7 +900,8 @@ static void is_told_its_room(void) {
 static void refuses_a_site(void) {
     char out[64] = "#";
     static const char *none[] = {"S",   "x",    "S5a=1",    "s0a=1",   "X0a",   "S0",
-                                 "S0a", "S0=1", "S0\xff=1", "S0%ff=1", "G0%ff", "\n"};
+                                 "S0a", "S0=1", "S0\xff=1", "S0%ff=1", "G0%ff", "\n",
+                                 "S0a=1; Path=/x", "S4a=1; Domain=shop.com", "S1a=1; Path=/; Domain=.shop.com"};
     for (size_t i = 0; i < sizeof none / sizeof *none; i++)
         ask(gives(serve("", none[i], 0, out, sizeof out), FONNALICH_COMMAND), none[i]);
     ask(gives(serve("", "S0a=1\nG0", 0, out, sizeof out), FONNALICH_EMPTY_NAME), "no name is read");
@@ -1053,7 +1057,7 @@ static void refuses_a_ring(void) {
     ask(gives(off(192, 2, NOW, "x"), FONNALICH_KEY_END), "no end, no command");
     make_ring();
     static const char *none[] = {"S5a=1", "S6a=1; Max-Age=60", "S5a; " IN_30_MINUTES, "S7a=1", "X5a", "G5%ff", "G",
-                                 "G7a"};
+                                 "G7a", "S5a=1; Path=/x; " IN_30_MINUTES, "S3a=1; Domain=shop.com"};
     for (size_t i = 0; i < sizeof none / sizeof *none; i++)
         ask(gives(off(64, 0, NOW, none[i]), FONNALICH_COMMAND), none[i]);
     static const char *nameless[] = {FONNALICH_GET FONNALICH_SIGNED_UNTIL, FONNALICH_REMOVE FONNALICH_SEALED_UNTIL};
@@ -1304,6 +1308,7 @@ static void goes_on(long rounds) {
     char out[256], line[64];
     fonnalich at;
     fonnalich_begin(&at);
+    fonnalich_rules(&at, FONNALICH_NO_RULES);
     fonnalich_list(&at, T(LIST));
     fonnalich_receive(&at, NOW, T(URL), T(SID), out, sizeof out);
     for (long i = 0; i < rounds; i++) {
@@ -1419,6 +1424,7 @@ static void bears_a_refusal(long growth) {
     refused_at = growth;
     bears_a_refusal_of_a_ring();
     fonnalich_begin(&at);
+    fonnalich_rules(&at, FONNALICH_NO_RULES);
     if (again(number = fonnalich_list(&at, T(LIST))))
         number = fonnalich_list(&at, T(LIST));
     ask(gives(number, 0), "a list");

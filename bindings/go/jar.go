@@ -103,10 +103,11 @@ func begin(options *Options) (*Jar, error) {
 		jar.options = *options
 	}
 	rules := jar.options.Rules
-	switch rules {
-	case 0:
-		rules = Browser
-	case NoRules:
+	if rules == 0 {
+		// (a handle begins behind Browser)
+		return jar, nil
+	}
+	if rules == NoRules {
 		rules = 0
 	}
 	_, err = jar.act(C.FONNALICH_DO_RULES, int64(rules), nil, nil)
@@ -147,8 +148,9 @@ func (jar *Jar) SetCookies(u *url.URL, cookies []*http.Cookie) {
 	jar.take(u, lines)
 }
 
-// Cookies are those of the header of a request to a URL: names and values alone, without the quotes round a value,
-// which net/http takes off what it reads too. None where the header is refused, which the options' Refused hears.
+// Cookies are those of the header of a request to a URL: names and values alone. Quotes round a value are told by
+// Quoted, from Go 1.23 on, as net/http tells them of what it reads; before they are lost. None where the header is
+// refused, which the options' Refused hears.
 func (jar *Jar) Cookies(u *url.URL) []*http.Cookie {
 	header, err := jar.Header(u)
 	if err != nil {
@@ -161,12 +163,16 @@ func (jar *Jar) Cookies(u *url.URL) []*http.Cookie {
 	cookies := make([]*http.Cookie, len(pairs))
 	for i, pair := range pairs {
 		name, value, _ := strings.Cut(pair, "=")
-		if len(value) > 1 && strings.HasPrefix(value, `"`) && strings.HasSuffix(value, `"`) {
-			value = value[1 : len(value)-1]
-		}
-		cookies[i] = &http.Cookie{Name: name, Value: value}
+		cookies[i] = cookieOf(name, value)
 	}
 	return cookies
+}
+
+func withoutQuotes(value string) (bare string, isQuoted bool) {
+	if len(value) > 1 && strings.HasPrefix(value, `"`) && strings.HasSuffix(value, `"`) {
+		return value[1 : len(value)-1], true
+	}
+	return value, false
 }
 
 // Receive takes the Set-Cookie lines of an answer from a URL, byte for byte, and says what became of each. At an error

@@ -17,7 +17,7 @@ const room = 4096
 // ErrMemory says that memory was refused, and ErrClosed that the jar or the list is closed.
 var (
 	ErrMemory = errors.New("fonnalich: memory was refused")
-	ErrClosed = errors.New("fonnalich: the jar or the list is closed")
+	ErrClosed = errors.New("fonnalich: the jar or the list is closed: begin another by New, Load or NewList")
 )
 
 var errProcessor = errors.New("fonnalich: this processor lacks SSE 4.2, which the library needs")

@@ -214,9 +214,14 @@ func (its *player) play(t *testing.T, it row) {
 		its.now = began.Add(time.Duration(i+2) * 1001 * time.Millisecond)
 		found := []string{}
 		for _, cookie := range its.jar.Cookies(parsed(asked[0])) {
-			found = append(found, cookie.Name+"="+cookie.Value)
+			text := cookie.Name + "=" + cookie.Value
+			if tellsQuotes {
+				text = cookie.String()
+			}
+			found = append(found, text)
 		}
-		wanted := strings.Fields(asked[1])
+		// (a blank before a value is no part of it: RFC 6265, section 5.2, step 4)
+		wanted := strings.Fields(strings.ReplaceAll(asked[1], `=" `, `="`))
 		if parsed(asked[0]).Host == parsed(it.from).Host {
 			wanted = append(wanted, it.moreThanTheirs()...)
 		}

@@ -13,9 +13,9 @@ var errNoJar = errors.New("fonnalich: a Transport has no Jar")
 //	client := &http.Client{Transport: &fonnalich.Transport{Jar: jar}}
 //
 // As an http.CookieJar the jar loses what net/http leaves out: lines whose name or value has bytes that it doesn't
-// like, and of a header's value each byte that isn't ASCII and each '"', ';' and '\'. One with a blank or a comma it
-// puts into quotes. A request that has a Cookie header keeps its own. One whose header is refused isn't sent, and so is
-// none without a Jar.
+// like, and of a header's value each byte that isn't ASCII and each '"', ';' and '\'. But from Go 1.23 on quotes round
+// a value stay, unless it is empty. One with a blank or a comma it puts into quotes. A request that has a Cookie header
+// keeps its own. One whose header is refused isn't sent, and so is none without a Jar.
 type Transport struct {
 	Jar *Jar
 	// Base sends the requests; nil is http.DefaultTransport.

@@ -112,7 +112,7 @@ static handle *of(napi_env env, napi_value self) {
     handle *its = NULL;
     if (napi_check_object_type_tag(env, self, &HANDLE, &is_handle) != napi_ok || !is_handle ||
         napi_unwrap(env, self, (void **)&its) != napi_ok || its->has_ended) {
-        napi_throw_type_error(env, NULL, "fonnalich: the handle has ended, or isn't one");
+        napi_throw_type_error(env, NULL, "fonnalich: this is closed, or no jar or list: begin another by `new`");
         return NULL;
     }
     return its;

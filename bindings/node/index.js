@@ -390,7 +390,9 @@ class CookieJar {
             this.#act(KEEP_LIST, 0, NONE, bytes);
             refuseFile(bytes);
         }
-        this.#act(RULES, rules ?? Rules.BROWSER, NONE, NONE);
+        if (rules != null) {
+            this.#act(RULES, rules, NONE, NONE);
+        }
     }
 
     #received([started, page], line, url, second) {

@@ -310,7 +310,7 @@ test('bytes that threads share are copied', () => {
 test('a jar that is closed', () => {
     const jar = jarOf();
     jar.close();
-    assert.throws(() => jar.getCookieStringSync(URL_ASKED), TypeError);
+    assert.throws(() => jar.getCookieStringSync(URL_ASKED), { name: 'TypeError', message: /closed.*begin another/ });
     for (const line of ['a=1', '', 'a=1\nb=2']) {
         assert.throws(() => jar.setCookieSync(line, URL_ASKED), TypeError);
     }

@@ -25,6 +25,7 @@ def key_of(path):
 
 
 app = Flask(__name__)
+app.config["SESSION_COOKIE_SECURE"] = True
 fonnalich.flask.init_app(app, key_of(os.environ.get("KEY_FILE", "key")))
 
 

@@ -21,7 +21,7 @@ import urllib.request
 from datetime import timedelta
 
 import redis
-from fonnalich import Jar, List, Rules
+from fonnalich import Jar, List
 from fonnalich.fleet import Fleet, RedisStore
 from redis.backoff import NoBackoff
 from redis.retry import Retry
@@ -37,7 +37,7 @@ MEMORY = 2 << 30
 def fleet_of(server):
     """The client that all workers are."""
     suffixes = List.from_file(os.environ["LIST"]) if "LIST" in os.environ else List.system()
-    return Fleet(suffixes, RedisStore(server, life=LIFE), rules=Rules.BROWSER)
+    return Fleet(suffixes, RedisStore(server, life=LIFE))
 
 
 def visited(opener, url):

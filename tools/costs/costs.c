@@ -618,6 +618,8 @@ static char out[1 << 16];
 static void begin_handle(int n) {
     char url[64];
     fonnalich_place(&handle);
+    /* (as the clients above, which have none) */
+    fonnalich_rules(&handle, FONNALICH_NO_RULES);
     demand(fonnalich_list(&handle, LIST, strlen(LIST)) == 0, "a list");
     for (int host = 0; host * PATH_COUNT < n; host++) {
         snprintf(url, sizeof url, "https://h%d.example.com/a/x", host);

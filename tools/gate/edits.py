@@ -16,6 +16,8 @@ class Edit:
         self.is_global = False
         # The units of functions with which it is not tried at once.
         self.apart = set()
+        # Of a planted body the layers of tests/ that are compiled for it; none are all.
+        self.layers = []
         file = old = None
         with open(path, encoding="utf-8") as it:
             self.text = it.read()
@@ -25,6 +27,8 @@ class Edit:
                 file = text.strip()
             elif key == "in":
                 self.named.append(text.strip())
+            elif key == "tests":
+                self.layers = text.split()
             elif key == "old":
                 old = text[1:]
             elif key == "new" and old is not None:

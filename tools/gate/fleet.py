@@ -99,6 +99,8 @@ def work(mine, hosts, ports, log, plant):
     of its lines once it is told. Each note has the moments at which the call began and ended."""
     import redis
     from fonnalich import fleet
+    from redis.backoff import NoBackoff
+    from redis.retry import Retry
 
     class Noted(fleet.RedisStore):
         """A store that keeps the version of what was got last, and numbers what it puts."""
@@ -114,7 +116,7 @@ def work(mine, hosts, ports, log, plant):
             self.made = struct.pack(">QQ", self.number, os.getpid() << 32 | self.tries)
             return self.made
 
-    store = Noted(redis.Redis(port=ports[0], socket_timeout=60))
+    store = Noted(redis.Redis(port=ports[0], socket_timeout=60, retry=Retry(NoBackoff(), 0)))
     shared, site = fleet.Fleet(LIST, store), http.client.HTTPConnection("127.0.0.1", ports[1])
     PLANTS.get(plant, lambda *_: None)(fleet, store)
 

@@ -42,7 +42,9 @@ def tell(what, figure):
 def fleet_over(server):
     import redis
     from fonnalich.fleet import Fleet, RedisStore
-    return Fleet(LIST, RedisStore(redis.Redis(port=server.port)))
+    from redis.backoff import NoBackoff
+    from redis.retry import Retry
+    return Fleet(LIST, RedisStore(redis.Redis(port=server.port, retry=Retry(NoBackoff(), 0))))
 
 
 def lines_of(number):

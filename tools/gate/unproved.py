@@ -38,8 +38,9 @@ def program(top):
     return f"{top}/out/tests/{CRATE}"
 
 
-def put(top, room):
-    """Copies the crates to a folder, with the tests as one more crate, and returns that one's folder."""
+def put(top, room, layers=()):
+    """Copies the crates to a folder, with the tests as one more crate, all of them or those of some layers alone, and
+    returns that one's folder."""
     shutil.copytree(f"{top}/crates", f"{room}/crates", ignore=shutil.ignore_patterns("out", "must-fail", "proofs"))
     folder = f"{room}/crates/{CRATE}"
     for path in sources(top):
@@ -50,6 +51,9 @@ def put(top, room):
         for path in ("crates.txt", "tests/crate.txt"):
             with open(f"{top}/{path}", encoding="utf-8") as file:
                 to.write(file.read())
+    if layers:
+        with open(f"{folder}/src/lib.rt", "w", encoding="utf-8") as to:
+            to.write("#![tactic(auto)]\n\n" + "".join(f"mod {it};\n" for it in sorted(layers)))
     return folder
 
 
@@ -78,7 +82,7 @@ def run(top, planted=None):
             os.remove(to)
     # (a program is linked to its place, so it is made on the same file system)
     with tempfile.TemporaryDirectory(prefix="try-", dir=None if planted else os.path.dirname(to)) as room:
-        put(top, room)
+        put(top, room, planted.layers if planted else ())
         if planted:
             plant(planted, room)
         kept = f"{room}/kept" if planted else to

@@ -57,7 +57,7 @@ _LIB = _loaded()
 # (the system may tell nothing of the processor, or tell of another one)
 if _LIB.fonnalich_processor() < 0:
     raise ImportError("fonnalich: this processor lacks SSE 4.2, which the library needs")
-_TEXT = [ctypes.c_char_p, ctypes.c_size_t]
+_TEXT: list[Any] = [ctypes.c_char_p, ctypes.c_size_t]
 _LIB.fonnalich_size.restype = ctypes.c_size_t
 _LIB.fonnalich_version.argtypes = [ctypes.c_void_p, ctypes.c_size_t]
 _LIB.fonnalich_version.restype = ctypes.c_ssize_t
@@ -202,7 +202,7 @@ class Refused(_Passed, ValueError):
 
     def __init__(self, number: int):
         name, told = self.NAMES.get(number, str(number)), _told(number)
-        more = ": hand in what the file holds, or List.from_file(path)" if number == _LIST_NUMBER else ""
+        more = f": {_INSTEAD_OF_NO_LIST}" if number == _LIST_NUMBER else ""
         super().__init__(f"{name}: {told}{more}" if told else name)
         self.number = number
 
@@ -218,12 +218,16 @@ def _told(number: int) -> str:
     return ctypes.string_at(room, _LIB.fonnalich_text(number, room, len(room))).decode()
 
 
+_INSTEAD_OF_NO_LIST = "hand in what the file holds, or List.from_file(path)"
+_WHOLE_LIST = "put there the whole one, of publicsuffix.org, or take List.system()"
+
+
 class NoRules(Refused):
     """A public suffix list was refused that has no rule: by it no suffix would be public. So is the name of a file."""
 
     def __init__(self) -> None:
         super().__init__(_NO_RULE)
-        self.args = ("the text of the list has no rule: hand in what the file holds, or List.from_file(path)",)
+        self.args = (f"the text of the list has no rule: {_INSTEAD_OF_NO_LIST}",)
 
 
 class NoList(FileNotFoundError):
@@ -417,7 +421,7 @@ class _Handle(_Locked):
     def _usable(self) -> int:
         self._refuse_torn()
         if self._place is None:
-            raise ValueError("this is closed")
+            raise ValueError(f"this {type(self).__name__} is closed: begin another, as with what save() gave before")
         return self._place
 
     def _end(self) -> None:
@@ -473,7 +477,7 @@ class List(_Handle):
             # (as a line that is ended one rule alone isn't looked for as a file)
             return cls(text if text.endswith(b"\n") else text + b"\n")
         except Refused as why:
-            why.args = (f"{os.fspath(path)}: {why.text}",)
+            why.args = (f"{os.fspath(path)}: {why.text}: {_WHOLE_LIST}",)
             raise
 
     @classmethod
@@ -750,14 +754,15 @@ def _value(read: Optional[tuple[str, int]]) -> Optional[str]:
 
 
 _KEYS = "keys are a list, as [new, old, (older, end)]"
+_KEY_MADE = "os.urandom(64) makes one, which the site keeps"
 
 
 def _key_bytes(key: Bytes) -> bytes:
     if not _has_bytes(key):
-        raise TypeError(f"a key is of bytes, not {type(key).__name__}; {_KEYS}")
+        raise TypeError(f"a key is of 64 bytes, not {type(key).__name__}: {_KEY_MADE}; {_KEYS}")
     key = _bytes(key)
     if len(key) != _KEY_LENGTH:
-        raise ValueError(f"a key of {len(key)} bytes")
+        raise ValueError(f"a key of {len(key)} bytes, and not of 64: {_KEY_MADE}")
     return key
 
 
@@ -970,14 +975,15 @@ class Client(_Handle):
     bytes; one without a rule is refused as `NoRules`. Where `saved` is given, the client begins with the cookies of
     that text that aren't expired now. A moment is in seconds since 1970, of which the whole part counts, or a
     `datetime` with a zone; none is now.
-    Lines come behind `rules`, which judge none of the cookies that are there, but in headers.
+    Lines come behind `rules`, by default those of browsers; `Rules.NONE` asks for none. They judge none of the cookies
+    that are there, but in headers.
     Calls of one client wait for one another, so threads may share it. In a process that was forked while another thread
     was in a call of the client, each call of it raises `RuntimeError`. So does a call within another of the same
     thread, as a signal's handler may make it.
     """
 
     def __init__(self, suffixes: Suffixes, saved: Optional[Bytes] = None, now: Optional[Moment] = None,
-                 rules: int = Rules.NONE):
+                 rules: int = Rules.BROWSER):
         shared = _list(suffixes)
         super().__init__()
         self._share(shared)

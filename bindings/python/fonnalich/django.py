@@ -9,14 +9,17 @@ alone or with the moment from which it counts no more. And in MIDDLEWARE "fonnal
 place of Django's, which reads a neighbour's `\\u00a0__Host-session` as the site's.
 
 It is as `django.contrib.sessions.backends.signed_cookies`, but encrypted, so that its user can't read it; and no
-neighbour site can set, shadow or expire it. As there, a cookie that was stolen holds until `SESSION_COOKIE_AGE` is
-over, whatever was logged out since.
+neighbour site can set, shadow or expire it. As there, a cookie that was stolen holds until its end, whatever was logged
+out since. That is `SESSION_COOKIE_AGE` from when it was set, or what `set_expiry` says, which the other backend tells
+to the browser alone.
 """
 from __future__ import annotations
 
+import datetime
 import time
 from typing import Any, Optional
 
+import django
 from django.conf import settings
 from django.contrib.sessions import middleware
 from django.contrib.sessions.backends.base import SessionBase
@@ -28,6 +31,10 @@ from ._sealed import SealedCookie
 __all__ = ["SessionMiddleware", "SessionStore"]
 
 _PREFIXES = ("__Host-", "__Secure-")
+_OLDEST = (3, 2)
+
+if django.VERSION < _OLDEST:
+    raise ImproperlyConfigured(f"fonnalich.django asks for Django 3.2 or later, and this is {django.get_version()}")
 
 
 def _cookie() -> SealedCookie:
@@ -39,7 +46,7 @@ def _cookie() -> SealedCookie:
         wrong.append("SESSION_COOKIE_SECURE has to be True, SESSION_COOKIE_DOMAIN None and SESSION_COOKIE_PATH /")
     key = getattr(settings, "FONNALICH_KEY", None)
     if not isinstance(key, bytes) or len(key) != 64:
-        wrong.append("FONNALICH_KEY has to be 64 secret bytes")
+        wrong.append("FONNALICH_KEY has to be 64 secret bytes: os.urandom(64) makes one, which the site keeps")
     if wrong:
         raise ImproperlyConfigured("; ".join(wrong))
     keys: list[RingKey] = [bytes(key or b""), *getattr(settings, "FONNALICH_KEY_FALLBACKS", ())]
@@ -57,13 +64,15 @@ class SessionStore(SessionBase):
         super().__init__(session_key)
 
     def load(self) -> dict[str, Any]:
-        """What the cookie holds; a new session where it holds nothing by this key, or is past its age."""
+        """What the cookie holds; a new session where it holds nothing by this key, or is past its age or its expiry."""
         now, header = time.time(), f"{settings.SESSION_COOKIE_NAME}={self.session_key}"
         text = self._cookie.opened(header.encode("utf-8", "surrogateescape"), int(now))
         try:
             second, _, content = (text or "").partition(" ")
-            if int(second) + self.get_session_cookie_age() >= now:
-                found: dict[str, Any] = self.serializer().loads(content.encode("latin-1"))
+            found: dict[str, Any] = self.serializer().loads(content.encode("latin-1"))
+            began = datetime.datetime.fromtimestamp(int(second), datetime.timezone.utc if settings.USE_TZ else None)
+            age = self.get_expiry_age(modification=began, expiry=found.get("_session_expiry"))
+            if int(second) + age >= now:
                 return found
         except Exception:  # (whatever a serializer of the settings raises)
             pass

@@ -1,8 +1,8 @@
 """Flask's session as a sealed cookie: `init_app(app, key)`.
 
 What `flask.session` holds is JSON, as Flask writes it, in the cookie `__Host-session`. It is encrypted, so that its
-user can't read it, and no neighbour site can set, shadow or expire it. A client takes it over https alone: for a trial
-by http at `localhost` name it `session`.
+user can't read it, and under that prefix no neighbour site can set, shadow or expire it. A client takes it over https
+alone: for a trial by http at `localhost` name it `session`.
 """
 from __future__ import annotations
 
@@ -15,7 +15,7 @@ from typing import TYPE_CHECKING, Any, Callable, Iterable, Optional
 
 from flask.sessions import SecureCookieSession, SessionInterface, session_json_serializer
 
-from . import Bytes, RingKey
+from . import Bytes, RingKey, _site
 from ._sealed import SealedCookie, attributes_of
 
 if TYPE_CHECKING:
@@ -35,23 +35,47 @@ _scan: Callable[[str, int], tuple[Any, int]] = getattr(json.JSONDecoder(), "scan
 _TAGS = [*session_json_serializer.order]
 # How Flask begins what stands for a value that JSON hasn't, as a date.
 _TAGGED = '{" '
-# What a cookie under `__Host-` can't have.
-_OTHERS = ("SESSION_COOKIE_DOMAIN", "SESSION_COOKIE_PATH")
+# The name that Flask's own settings have.
+_FLASK_NAME = "session"
 
 
-def init_app(app: Flask, key: Bytes, name: str = "__Host-session", fallbacks: Iterable[RingKey] = ()) -> None:
+def init_app(app: Flask, key: Bytes, name: Optional[str] = None, fallbacks: Iterable[RingKey] = ()) -> None:
     """Has the sessions of an application be sealed by this key of 64 bytes.
 
     `fallbacks` are keys that were the key before, as Flask's `SECRET_KEY_FALLBACKS`, each alone or with the moment from
     which it counts no more: sessions are opened by them too, and sealed by the key.
 
-    `SESSION_COOKIE_HTTPONLY`, `SESSION_COOKIE_SAMESITE` (none is `Lax`), `SESSION_REFRESH_EACH_REQUEST` and
-    `PERMANENT_SESSION_LIFETIME` count as Flask says. A domain and a path are refused, since the cookie is its host's.
+    `SESSION_COOKIE_HTTPONLY`, `SESSION_COOKIE_SAMESITE` (none is `Lax`), `SESSION_COOKIE_PARTITIONED`,
+    `SESSION_REFRESH_EACH_REQUEST` and `PERMANENT_SESSION_LIFETIME` count as Flask says. The cookie has the name of
+    `SESSION_COOKIE_NAME`, which is `__Host-session` where that is Flask's own `session`; another `name` beside it is
+    refused as `ValueError`. So are a domain and a path, since the cookie is its host's, and `SESSION_COOKIE_SECURE`
+    where it isn't True, as Flask has it by default.
     """
-    for it in _OTHERS:
-        if app.config.get(it) not in (None, False, "/"):
-            raise ValueError(f"{it}: the cookie is of its host and of all paths")
-    app.session_interface = Sessions(key, name, fallbacks)
+    config, set_name = app.config, app.config["SESSION_COOKIE_NAME"]
+    wrong = []
+    if not config["SESSION_COOKIE_SECURE"]:
+        wrong.append("SESSION_COOKIE_SECURE has to be True: the cookie goes by https alone")
+    if config["SESSION_COOKIE_DOMAIN"]:
+        wrong.append("SESSION_COOKIE_DOMAIN has to be None: the cookie is of its host alone")
+    if (config["SESSION_COOKIE_PATH"] or config["APPLICATION_ROOT"]) != "/":
+        wrong.append("SESSION_COOKIE_PATH has to be /: the cookie is of all paths, also beside an APPLICATION_ROOT")
+    if name is not None and set_name not in (_FLASK_NAME, name):
+        wrong.append(f"SESSION_COOKIE_NAME is {set_name!r}, and init_app is given the name {name!r}: say one")
+    try:
+        _same_site_of(config["SESSION_COOKIE_SAMESITE"])
+    except ValueError as why:
+        wrong.append(f"SESSION_COOKIE_SAMESITE: {why}")
+    if wrong:
+        raise ValueError("; ".join(wrong))
+    name = name or (set_name if set_name != _FLASK_NAME else "__Host-session")
+    app.session_interface, config["SESSION_COOKIE_NAME"] = Sessions(key, name, fallbacks), name
+
+
+def _same_site_of(told: Optional[str]) -> str:
+    """The word of `SameSite` that a setting has, which may have it in any case, as in Flask."""
+    word = "Lax" if told is None else str(told).title()
+    _site(word)
+    return word
 
 
 class SealedSession(SecureCookieSession):
@@ -117,7 +141,7 @@ class Sessions(SessionInterface):
 
     def _sealed(self, app: Flask, session: SealedSession) -> str:
         now = int(time.time())
-        attributes = attributes_of(bool(self.get_cookie_httponly(app)), self.get_cookie_samesite(app) or "Lax",
+        attributes = attributes_of(bool(self.get_cookie_httponly(app)), _same_site_of(self.get_cookie_samesite(app)),
                                    bool(app.config.get("SESSION_COOKIE_PARTITIONED")))
         return self._cookie.line(_written(now, session), now, attributes,
                                  app.permanent_session_lifetime if session.permanent else None)
@@ -151,6 +175,7 @@ def _plain(content: dict[str, Any]) -> Optional[str]:
 
 def _content(app: Flask, text: str, now: int) -> Optional[dict[str, Any]]:
     """What a cookie holds, where it isn't past its lifetime, which Flask counts for a session of the browser too."""
+    value: Any
     try:
         value, end = (None, -1) if _TAGGED in text or text[:1] != "[" else _scan(text, 0)
         second, content = value if end == len(text) else session_json_serializer.loads(text)

@@ -1,6 +1,6 @@
 """One client on many machines: cut into shards, which lie in a store that all workers share.
 
-    fleet = Fleet(List.system(), RedisStore(redis.Redis()))
+    fleet = Fleet(List.system(), RedisStore(redis.Redis(retry=Retry(NoBackoff(), 0))))
     ends = fleet.receive("https://shop.com/", lines)
     header = fleet.header("https://shop.com/cart")
 
@@ -22,9 +22,9 @@ import random
 import time
 from typing import Any, Callable, Iterable, Iterator, Optional, Protocol, TypeVar
 
-from . import (_HOST_NUMBER, _LOAD_BY, _RELOAD, _SAVE_ALL, _SAVED_NUMBER, Client, End, Life, Moment, Refused, Rules,
-               Suffixes, Text, _bytes, _counted, _lines, _list, _Locked, _Passed, _second, _seconds_of, is_plain_url,
-               shard_of_url)
+from . import (_HOST_NUMBER, _LOAD_BY, _RELOAD, _SAVE_ALL, _SAVED_NUMBER, Client, End, HeldCookie, Life, Moment,
+               Refused, Rules, Suffixes, Text, _bytes, _counted, _lines, _list, _Locked, _Passed, _second, _seconds_of,
+               is_plain_url, shard, shard_of_url)
 
 __all__ = ["BadShard", "Conflict", "Fleet", "MemoryStore", "PostgresStore", "RedisStore", "Store"]
 
@@ -80,7 +80,8 @@ class Fleet:
 
     Its calls are those of a `Client`, with the same words, outcomes and errors, and `BadShard` and `Conflict` beside
     them. A URL without a host is refused as `Host`, and so is one whose scheme isn't http, https, ws, wss or ftp. Lines
-    come behind `rules`, which each worker has of its own. Threads may share a fleet where the store lets them.
+    come behind `rules`, by default those of browsers, which each worker has of its own. Threads may share a fleet where
+    the store lets them. A store doesn't list its keys: so `cookies`, `clear` and `drop_expired` are of one URL's shard.
 
     It differs from a `Client` in three things, which come of the saved text that a shard is between two calls, and of
     the cut:
@@ -94,7 +95,7 @@ class Fleet:
     `drop_expired` is for a site whose shard grows by them.
     """
 
-    def __init__(self, suffixes: Suffixes, store: Store, rules: int = Rules.NONE):
+    def __init__(self, suffixes: Suffixes, store: Store, rules: int = Rules.BROWSER):
         self.store, self._suffixes = store, _list(suffixes)
         self._sum = hashlib.sha256(self._suffixes.text).hexdigest()[:16]
         self._key_of = functools.lru_cache(_URLS)(self._read_key)
@@ -123,16 +124,28 @@ class Fleet:
         def change(client: Client) -> list[End]:
             return client.receive(url, each, second, initiator=initiator, navigates=navigates)
 
-        return self._change(url, change) if each else []
+        return self._change(self._key(url), change) if each else []
 
     def header(self, url: str, now: Optional[Moment] = None, *, initiator: Optional[str] = None,
                navigates: bool = False) -> str:
         """The Cookie header of a request to this URL, as `Client.header` tells it; empty where it gets none. Nothing is
         put into the store."""
-        second, key = _second(now), self._key(url)
-        text, _ = self.store.get(key)
-        with self._loaded(key, text) as client:
-            return client.header(url, second, initiator=initiator, navigates=navigates)
+        second = _second(now)
+        return self._read(url, lambda client: client.header(url, second, initiator=initiator, navigates=navigates))
+
+    def cookies(self, url: str, now: Optional[Moment] = None) -> list[HeldCookie]:
+        """The cookies of the URL's shard that aren't expired: those of all hosts that can share one with it."""
+        second = _second(now)
+        return self._read(url, lambda client: client.cookies(second))
+
+    def remove(self, domain: str, path: str, name: str) -> Optional[HeldCookie]:
+        """Takes the cookie of this domain, path and name out, as `Client.remove` does. It raises as `receive` does."""
+        key = self._key_of_shard(shard(self._suffixes, domain))
+        return self._change(key, lambda client: client.remove(domain, path, name))
+
+    def clear(self, url: str) -> None:
+        """Takes all cookies of the URL's shard out. It raises as `receive` does."""
+        self._change(self._key(url), Client.clear)
 
     def drop_expired(self, url: str, now: Optional[Moment] = None) -> None:
         """Drops the cookies of the URL's shard that are expired, and keeps all others, those without an expiry too.
@@ -140,11 +153,17 @@ class Fleet:
         No `Client` has such a call: a cookie that is set anew behind it comes last among its like in a header, where
         one client would give it the place of the expired one. It raises as `receive` does."""
         second = _second(now)
-        self._change(url, lambda client: client._call(_LOAD_BY, second, _text(client), b""))
+        self._change(self._key(url), lambda client: client._call(_LOAD_BY, second, _text(client), b""))
 
-    def _change(self, url: str, change: Callable[[Client], _Told]) -> _Told:
-        """What a change of the shard of a URL tells, once it is in the store."""
+    def _read(self, url: str, told: Callable[[Client], _Told]) -> _Told:
+        """What is told of a URL's shard."""
         key = self._key(url)
+        text, _ = self.store.get(key)
+        with self._loaded(key, text) as client:
+            return told(client)
+
+    def _change(self, key: str, change: Callable[[Client], _Told]) -> _Told:
+        """What a change of the shard under a key tells, once it is in the store."""
         for tried in range(_TRIES):
             text, version = self.store.get(key)
             with self._loaded(key, text) as client:
@@ -171,7 +190,10 @@ class Fleet:
         name = shard_of_url(self._suffixes, url)
         if not _is_web(url):
             raise Refused(_HOST_NUMBER)
-        # (the host of such a URL has no colon but between brackets)
+        return self._key_of_shard(name)
+
+    def _key_of_shard(self, name: str) -> str:
+        # (a host has no colon but between brackets)
         digits = hashlib.sha256(name.encode()).hexdigest() if len(name.encode()) > _LONGEST_SHARD else None
         return f"fonnalich:{self._sum}:{f'sha256:{digits}' if digits else name}"
 

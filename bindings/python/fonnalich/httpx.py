@@ -10,28 +10,31 @@ stand in the client's place.
 """
 from __future__ import annotations
 
-import http.cookiejar
+import contextlib
 from types import TracebackType
-from typing import TYPE_CHECKING, Any, Optional, Type, Union
+from typing import TYPE_CHECKING, Any, Callable, Iterator, Optional, Type, TypeVar, Union
 
+import anyio.to_thread
 import httpx
 
 from . import _URL_NUMBER, Client, Refused, is_plain_url
-from .http.cookiejar import _begin_sending, _mark_as_sent, _refuse_unsent
+from .http.cookiejar import EmptyJar, _begin_sending, _mark_as_sent, _tell_of_proxy
 
 if TYPE_CHECKING:
     from .fleet import Fleet
 
 __all__ = ["AsyncTransport", "EmptyJar", "Transport"]
 
+_Told = TypeVar("_Told")
 
-class EmptyJar(http.cookiejar.CookieJar):
-    """A jar that takes nothing, so that `httpx` keeps no cookies beside the client's."""
 
-    def extract_cookies(self, response: object, request: object) -> None:
-        """Takes nothing. `NotSent` where the request went out by none of these transports, as by one that `httpx` made
-        for a proxy: a `Transport` is given that, `Transport(client, proxy=..)`."""
-        _refuse_unsent(request, None)
+@contextlib.contextmanager
+def _telling_of_proxies() -> Iterator[None]:
+    try:
+        yield
+    except httpx.ProxyError as why:
+        _tell_of_proxy(why)
+        raise
 
 
 class Transport(httpx.BaseTransport):
@@ -46,7 +49,8 @@ class Transport(httpx.BaseTransport):
     def handle_request(self, request: httpx.Request) -> httpx.Response:
         """Sends a request with the client's header, and has the client take the lines of the answer."""
         url = _put(self.client, request)
-        response = self.over.handle_request(request)
+        with _telling_of_proxies():
+            response = self.over.handle_request(request)
         try:
             _take(self.client, url, response)
         except BaseException:
@@ -69,7 +73,8 @@ class Transport(httpx.BaseTransport):
 
 
 class AsyncTransport(httpx.AsyncBaseTransport):
-    """The same for tasks, over an `AsyncHTTPTransport` where no other one is given."""
+    """The same for tasks, over an `AsyncHTTPTransport` where no other one is given. A fleet's store may wait for a
+    server: so its calls are made by a thread, and other tasks go on meanwhile."""
 
     def __init__(self, client: Union[Client, Fleet], over: Optional[httpx.AsyncBaseTransport] = None, **how: Any):
         self.client = client
@@ -78,14 +83,21 @@ class AsyncTransport(httpx.AsyncBaseTransport):
 
     async def handle_async_request(self, request: httpx.Request) -> httpx.Response:
         """Sends a request with the client's header, and has the client take the lines of the answer."""
-        url = _put(self.client, request)
-        response = await self.over.handle_async_request(request)
+        url = await self._called(_put, request)
+        with _telling_of_proxies():
+            response = await self.over.handle_async_request(request)
         try:
-            _take(self.client, url, response)
+            await self._called(_take, url, response)
         except BaseException:
             await response.aclose()
             raise
         return response
+
+    async def _called(self, call: Callable[..., _Told], *words: Any) -> _Told:
+        """What a call by the client tells."""
+        if isinstance(self.client, Client):
+            return call(self.client, *words)
+        return await anyio.to_thread.run_sync(call, self.client, *words)
 
     async def aclose(self) -> None:
         """Closes what requests go out by."""

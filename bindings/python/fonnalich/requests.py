@@ -9,7 +9,8 @@ from __future__ import annotations
 from typing import TYPE_CHECKING, Any, Union
 
 from . import Client
-from .http.cookiejar import Jar, _asked, _begin_sending, _mark_as_sent, _Sendable, _Shown
+from .http.cookiejar import (EmptyJar, Jar, NotSent, _asked, _begin_sending, _mark_as_sent, _Sendable, _Shown,
+                             _tell_of_proxy)
 
 if TYPE_CHECKING:
     from .fleet import Fleet
@@ -17,10 +18,14 @@ if TYPE_CHECKING:
 __all__ = ["Adapter", "Jar"]
 
 
-def _has_others(request: Any) -> bool:
-    """Whether `requests` may have made the header itself: it does so of the cookies of this table alone, but for the
-    client's, which it copies."""
-    return request._cookies is not None and any(not isinstance(it, _Shown) for it in request._cookies)
+def _refuse_others(request: Any) -> None:
+    """Raises where a request has other cookies than the client's, which `requests` copies. Behind that its table stays
+    empty, into which `requests` would put the lines of a redirect too."""
+    if any(not isinstance(it, _Shown) for it in request._cookies or ()):
+        raise NotSent("cookies= of a request isn't sent, and session.cookies has to be a Jar(client): put a cookie in "
+                      "by session.cookies.set(name, value, domain=host), or send a header, headers={'Cookie': ..}")
+    if not isinstance(request._cookies, Jar):
+        request._cookies = EmptyJar()
 
 
 class Adapter:
@@ -28,8 +33,8 @@ class Adapter:
     A `Fleet` may stand in the client's place.
 
     It puts the header of each request, at a redirect anew. A `Cookie` header of the caller's own goes out instead, up
-    to a redirect. `cookies=` of a request is passed over, and so is an own header beside it. What a request gets goes
-    by its URL, whatever its `Host` header says, while `requests` has the lines of the answer taken as from that host.
+    to a redirect. `cookies=` of a request raises `NotSent`. What a request gets goes by its URL, whatever its `Host`
+    header says, while `requests` has the lines of the answer taken as from that host.
     A URL whose host isn't plain is refused as `Url`. Requests go out by `over`, else by an `HTTPAdapter` of `requests`
     that is made of the other words.
     """
@@ -43,11 +48,17 @@ class Adapter:
 
     def send(self, request: Any, *words: Any, **how: Any) -> Any:
         """Sends a request with the client's header, but where the caller put one."""
+        _refuse_others(request)
         given = request.headers.get("Cookie")
-        if given is None or isinstance(given, _Sendable) or _has_others(request):
+        if given is None or isinstance(given, _Sendable):
             self._put(request)
         _mark_as_sent(request, self.client)
-        return self.over.send(request, *words, **how)
+        from requests.exceptions import ProxyError
+        try:
+            return self.over.send(request, *words, **how)
+        except ProxyError as why:
+            _tell_of_proxy(why)
+            raise
 
     def close(self) -> None:
         """Closes what requests go out by."""

@@ -1,4 +1,6 @@
 """Tests `fonnalich.django` by Django, beside its own backend of signed cookies."""
+import datetime
+import importlib
 import json
 import random
 import time
@@ -54,12 +56,20 @@ def browser_s(request):
     return told(request)
 
 
+def expiry(request, seconds):
+    end = int(time.time()) + seconds
+    is_moment = "moment" in request.GET
+    request.session.set_expiry(datetime.datetime.fromtimestamp(end, datetime.timezone.utc) if is_moment else seconds)
+    return told(request)
+
+
 def page(request):
     return HttpResponse("page")
 
 
 urlpatterns = [path("", told), path("set/<name>/<value>", put), path("pop/<name>", pop), path("flush", flush),
-               path("cycle", cycle), path("browser", browser_s), path("static", page)]
+               path("cycle", cycle), path("browser", browser_s), path("expiry/<int:seconds>", expiry),
+               path("static", page)]
 settings.configure(ALLOWED_HOSTS=["*"], ROOT_URLCONF=__name__, SECRET_KEY="a secret", USE_TZ=True,
                    **SETTINGS)
 django.setup()
@@ -96,6 +106,20 @@ class Sessions(unittest.TestCase):
         cookie = Cookie.parse(self.browser.get("/flush").lines()[0])
         self.assertEqual((cookie.name, cookie.max_age), ("__Host-session", 0))
         self.assertEqual(self.browser.client.header(HOST), "")
+
+    # Whatever the browser kept: shorter and longer than the age of the settings. (Before 4.1 JSON has no moment.)
+    def test_end_at_the_site_as_they_were_told_to(self):
+        for seconds in [30, 90]:
+            for moment in ["", "?moment"][:1 + (django.VERSION >= (4, 1))]:
+                for later, held in [(seconds - 1, True), (seconds + 1, False)]:
+                    its, now = Browser(WSGIHandler()), NOW
+                    with override_settings(SESSION_COOKIE_AGE=60), \
+                            unittest.mock.patch("time.time", lambda: now + 0.25):
+                        its.get("/set/user/ann")
+                        # (Django counts a moment's Max-Age from the true time)
+                        header = its.get(f"/expiry/{seconds}{moment}").lines()[0].partition(";")[0]
+                        now += later
+                        self.assertEqual("ann" in its.get("/", header).text, held, (seconds, moment, later))
 
     def test_outlive_their_key(self):
         self.browser.get("/set/user/ann")
@@ -145,6 +169,12 @@ class Settings(unittest.TestCase):
             for begin in [SessionStore, WSGIHandler]:
                 with override_settings(**wrong), self.assertRaisesRegex(ImproperlyConfigured, [*wrong][0], msg=begin):
                     begin()
+
+    def test_of_an_older_django_are_told(self):
+        import fonnalich.django as module
+        with unittest.mock.patch("django.VERSION", (2, 2, 28, "final", 0)):
+            with self.assertRaisesRegex(ImproperlyConfigured, r"Django 3\.2 or later, and this is 2\.2\.28"):
+                importlib.reload(module)
 
     def test_of_another_engine_need_no_key(self):
         site = browser(SESSION_ENGINE=OWN["SESSION_ENGINE"], FONNALICH_KEY=None)

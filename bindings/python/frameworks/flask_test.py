@@ -25,7 +25,7 @@ HOST, NEIGHBOUR = "https://shop.test/", "https://sub.shop.test/"
 def shop(**settings):
     """An application that does to its session what is asked, and tells what it holds."""
     app = Flask("shop")
-    app.config.update(SECRET_KEY="a secret", **settings)
+    app.config.update({"SECRET_KEY": "a secret", "SESSION_COOKIE_SECURE": True, **settings})
 
     @app.route("/set/<name>/<value>")
     def put(name, value):
@@ -193,18 +193,40 @@ class Settings(unittest.TestCase):
         cookie = Cookie.parse(Browser(app).get("/set/user/ann").lines()[0])
         self.assertEqual((cookie.http_only, cookie.same_site), (False, "Strict"))
 
+    def test_of_same_site_count_in_any_case(self):
+        for told in ["strict", "LAX", "none", "Strict", None]:
+            line, = Browser(sealed(SESSION_COOKIE_SAMESITE=told)).get("/set/user/ann").lines()
+            self.assertEqual(Cookie.parse(line).same_site, (told or "lax").title())
+
+    def test_name_the_cookie(self):
+        for told, name, wanted in [("session", None, "__Host-session"), ("__Host-sid", None, "__Host-sid"),
+                                   ("sid", None, "sid"), ("session", "session", "session"), ("sid", "sid", "sid")]:
+            app = shop(SESSION_COOKIE_NAME=told)
+            fonnalich.flask.init_app(app, KEY, name)
+            line, = Browser(app).get("/set/user/ann").lines()
+            self.assertEqual((Cookie.parse(line).name, app.config["SESSION_COOKIE_NAME"]), (wanted, wanted))
+        with self.assertRaisesRegex(ValueError, "SESSION_COOKIE_NAME is 'sid'"):
+            fonnalich.flask.init_app(shop(SESSION_COOKIE_NAME="sid"), KEY, "__Host-sid")
+
     def test_that_can_not_be_are_refused(self):
-        for wrong in [{"SESSION_COOKIE_DOMAIN": "shop.test"}, {"SESSION_COOKIE_PATH": "/shop"}]:
-            with self.assertRaisesRegex(ValueError, [*wrong][0]):
+        for wrong in [{"SESSION_COOKIE_DOMAIN": "shop.test"}, {"SESSION_COOKIE_PATH": "/shop"},
+                      {"SESSION_COOKIE_SECURE": False}, {"SESSION_COOKIE_SAMESITE": "no"},
+                      {"SESSION_COOKIE_SAMESITE": ""}]:
+            with self.assertRaisesRegex(ValueError, f"^{[*wrong][0]}[^;]*$"):
                 sealed(**wrong)
+        with self.assertRaisesRegex(ValueError, "^SESSION_COOKIE_PATH .*APPLICATION_ROOT"):
+            sealed(APPLICATION_ROOT="/shop")
+        sealed(APPLICATION_ROOT="/shop", SESSION_COOKIE_PATH="/")
+        with self.assertRaisesRegex(ValueError, "SECURE.*; .*DOMAIN.*; .*PATH"):
+            sealed(SESSION_COOKIE_SECURE=False, SESSION_COOKIE_DOMAIN="shop.test", SESSION_COOKIE_PATH="/shop")
         for key, error in [(bytes(63), ValueError), ("x" * 64, TypeError)]:
             with self.assertRaises(error):
-                fonnalich.flask.init_app(Flask("shop"), key)
+                sealed(key)
         with self.assertRaisesRegex(Refused, "KeyEnd"):
             sealed(KEY, [(KEY, NOW * 1000)])
 
     def test_of_the_page_run(self):
-        names = {"app": shop(), "key": KEY}
+        names = {"app": shop(SESSION_COOKIE_SECURE=False), "key": KEY}
         exec(blocks("Flask")[0], names)
         browser = Browser(names["app"])
         browser.get("/set/user/ann")

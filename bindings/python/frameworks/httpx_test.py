@@ -3,6 +3,7 @@ import asyncio
 import contextlib
 import importlib.util
 import pickle
+import threading
 import unittest
 import unittest.mock
 
@@ -10,6 +11,7 @@ import httpx
 
 import fonnalich.httpx
 from fonnalich import Client, End, NotSent, Refused
+from fonnalich.fleet import Fleet, MemoryStore
 from fonnalich.httpx import AsyncTransport, EmptyJar, Transport
 
 from frameworks.kit import Site, blocks
@@ -92,6 +94,56 @@ class Hops(Loopback):
             self.client.receive(self.site.url, ["a=1"])
             self.client.receive("http://shop.test/", ["b=2"])
             self.assertEqual(get("/", headers={"Host": "shop.test"}), b"a=1")
+
+
+class Proxies(Loopback):
+    def test_that_open_no_tunnel_are_told(self):
+        async def task(transport):
+            async with httpx.AsyncClient(transport=transport, cookies=EmptyJar()) as asked:
+                await asked.get("https://shop.test/")
+
+        proxy, told = httpx.Proxy(self.site.url), "501 .*: where the proxy asks who you are, name it as http://USER"
+        with httpx.Client(transport=Transport(self.client, proxy=proxy), cookies=EmptyJar()) as asked:
+            with self.assertRaisesRegex(httpx.ProxyError, told):
+                asked.get("https://shop.test/")
+        with self.assertRaisesRegex(httpx.ProxyError, told):
+            asyncio.run(task(AsyncTransport(self.client, proxy=proxy)))
+
+
+class Slow(MemoryStore):
+    """A store whose server answers once something else was done meanwhile."""
+
+    def __init__(self):
+        super().__init__()
+        self.is_asked, self.is_free = threading.Event(), threading.Event()
+
+    def get(self, key):
+        self.is_asked.set()
+        if not self.is_free.wait(5):
+            raise TimeoutError
+        return super().get(key)
+
+
+class Fleets(Loopback):
+    def test_let_other_tasks_go_on(self):
+        self.site.lines["/"] = [b"a=1; Path=/"]
+
+        async def again(store):
+            store.is_asked.clear()
+            while not store.is_asked.is_set():
+                await asyncio.sleep(0.01)
+            store.is_free.set()
+
+        async def play():
+            store = Slow()
+            transport = AsyncTransport(Fleet("test\n", store))
+            async with httpx.AsyncClient(transport=transport, cookies=EmptyJar(), timeout=60) as asked:
+                for wanted in [b"", b"a=1"]:
+                    answer, _ = await asyncio.gather(asked.get(self.site.url), again(store))
+                    self.assertEqual(answer.content, wanted)
+                    store.is_free.clear()
+
+        asyncio.run(play())
 
 
 class Transports(unittest.TestCase):
@@ -236,7 +288,7 @@ class Page(Loopback):
                 self.assertEqual(session.get(self.site.url, timeout=60).content, wanted)
 
     def test_of_httpx_runs(self):
-        names = {"httpx": httpx, "client": self.client}
+        names = {"client": self.client}
         exec(blocks("requests and httpx")[1], names)
         self.site.lines["/"] = [b"a=1; Path=/"]
         with names["browser"] as browser:

@@ -18,7 +18,7 @@ NOW = 1700000000
 def blocks(heading):
     """The blocks in Python of a section of the page."""
     with open(f"{TOP}/bindings/README.md", encoding="utf-8") as page:
-        section = re.split(r"^#+ ", page.read().partition(f"\n### {heading}\n")[2], flags=re.M)[0]
+        section = re.split(r"^#+ ", page.read().partition(f"# {heading}\n")[2], flags=re.M)[0]
     found = re.findall(r"^```python\n(.*?)^```", section, re.M | re.S)
     if not found:
         raise ValueError(f"the page has no block under {heading}")

@@ -2,20 +2,24 @@
 import concurrent.futures
 import contextlib
 import datetime
+import functools
 import importlib.util
 import os
 import shutil
 import sys
 import tempfile
 import unittest
+import unittest.mock
 
-from fonnalich import Client
+from fonnalich import Client, End, List
 from fonnalich.fleet import Fleet, MemoryStore, PostgresStore, RedisStore
 
 TOP = os.path.dirname(os.path.dirname(os.path.dirname(os.path.dirname(os.path.abspath(__file__)))))
 sys.path.append(f"{TOP}/tools")
 
 from gate import servers
+
+from frameworks.kit import blocks
 
 LIST, URL, NOW = "com\n", "https://example.com/", 1700000000
 KEY, BYTES = "fonnalich:00:example.com", bytes(range(256))
@@ -105,8 +109,11 @@ class Redis(Served, unittest.TestCase):
         return RedisStore(self.redis(), **how)
 
     def redis(self, **how):
+        """One that sends nothing again, in any version, unless it is told how."""
         import redis
-        asked = redis.Redis(port=self.server.port, **how)
+        from redis.backoff import NoBackoff
+        from redis.retry import Retry
+        asked = redis.Redis(port=self.server.port, **{"retry": Retry(NoBackoff(), 0), **how})
         self.addCleanup(asked.close)
         self.addCleanup(asked.flushall)
         return asked
@@ -129,6 +136,15 @@ class Redis(Served, unittest.TestCase):
         self.assertTrue(self.one.put_if(KEY, self.one.get(KEY)[1], b"2"))
         self.assertEqual(self.one.redis.ttl(KEY), -1)
 
+    # (the server of the page lies at Redis's own port)
+    def test_of_the_page_runs(self):
+        import redis
+        port, names = functools.partial(redis.Redis, port=self.server.port), {}
+        with unittest.mock.patch("redis.Redis", port), unittest.mock.patch.object(List, "system", lambda: List(LIST)):
+            exec(blocks("Many machines")[0], names)
+        self.addCleanup(self.redis)
+        self.assertEqual((names["ends"], names["header"]), ([End.INSERTED], "cart=3"))
+
     def test_refuses_what_decodes(self):
         self.assertRaisesRegex(TypeError, "decode", RedisStore, self.redis(decode_responses=True))
 
@@ -140,7 +156,8 @@ class Redis(Served, unittest.TestCase):
         for how in [{"retry_on_timeout": True}, {"retry_on_error": lost},
                     {"retry_on_error": lost, "retry": Retry(NoBackoff(), 3)},
                     {"retry_on_error": lost, "retry": Retry(NoBackoff(), -1)}]:
-            self.assertRaisesRegex(ValueError, "sends again", RedisStore, self.redis(**how))
+            asked = redis.Redis(port=self.server.port, **how)
+            self.assertRaisesRegex(ValueError, "sends again", RedisStore, asked)
         url = f"redis://127.0.0.1:{self.server.port}?retry_on_timeout=true"
         self.assertRaisesRegex(ValueError, "sends again", RedisStore, redis.Redis.from_url(url))
         for how in [{}, {"retry": Retry(NoBackoff(), 0)}, {"retry_on_error": [], "retry_on_timeout": False}]:

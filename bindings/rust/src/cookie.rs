@@ -174,9 +174,12 @@ impl Cookie {
         })
     }
 
-    /// The same without a path and a domain.
-    pub(crate) fn everywhere(self) -> Cookie {
-        Cookie { path: None, domain: None, ..self }
+    /// The same without its path. `Place` where it has a domain, or another path than `/`.
+    pub(crate) fn everywhere(self) -> Result<Cookie, Error> {
+        if self.domain.is_some() || self.path.as_ref().is_some_and(|path| path != "/") {
+            return Err(Error::Place);
+        }
+        Ok(Cookie { path: None, ..self })
     }
 
     /// The same with this end alone.

@@ -221,6 +221,8 @@ pub enum Error {
     Command,
     /// The name that is to be read or removed, or that of a text, is empty.
     EmptyName,
+    /// A cookie that is to be set in a session has a domain, or another path than `/`.
+    Place,
     /// The expiry of a cookie is of a year below 100.
     Expiry,
     /// The value or the name of a cookie is too long to be sealed.
@@ -279,11 +281,12 @@ impl fmt::Display for Error {
             Error::Saved => to.write_str("the text is no saved client"),
             Error::Year => to.write_str("a cookie that is to be saved ends in a year below 0"),
             Error::LineFeed => to.write_str("a line has a line feed"),
-            Error::Key => to.write_str("the key has under 64 bytes"),
+            Error::Key => to.write_str("the key has under 64 bytes: Key::generate makes one, and a site keeps 64"),
             Error::ManyKeys => to.write_str("there are over 16 earlier keys"),
             Error::KeyEnd => to.write_str("the end of a key is out of the years -9999 to 9999"),
             Error::Command => to.write_str("the cookie has no name"),
             Error::EmptyName => to.write_str("the name is empty"),
+            Error::Place => to.write_str("a session's cookie is its host's, for all paths: leave out domain and path"),
             Error::Expiry => to.write_str("the expiry is of a year below 100"),
             Error::TooLong => to.write_str("the cookie is too long to be sealed"),
             Error::Host => to.write_str("the host has no byte or an empty label, or the URL has none"),
@@ -382,7 +385,8 @@ const _: () = {
 };
 
 impl Client {
-    /// A client without a cookie, by a public suffix list, which it shares, or by its text.
+    /// A client without a cookie, by a public suffix list, which it shares, or by its text. Its lines come behind the
+    /// rules of browsers.
     pub fn new(list: impl Suffixes) -> Result<Client, Error> {
         let mut held = Held::begun();
         match list.given() {
@@ -398,7 +402,7 @@ impl Client {
         Ok(Client { held })
     }
 
-    /// A client without a cookie, whose lines come behind these rules.
+    /// A client without a cookie, whose lines come behind these rules: [`Rules::none`] asks for none.
     pub fn with_rules(list: impl Suffixes, rules: Rules) -> Result<Client, Error> {
         let mut client = Client::new(list)?;
         client.set_rules(rules);
@@ -411,7 +415,8 @@ impl Client {
         self.act(Word::Rules, rules.flags(), b"", b"").expect("flags of rules");
     }
 
-    /// A client of a saved text's cookies that aren't expired at this moment.
+    /// A client of a saved text's cookies that aren't expired at this moment. Its lines come behind the rules of
+    /// browsers.
     pub fn load(list: impl Suffixes, saved: &[u8], now: i64) -> Result<Client, Error> {
         let mut held = Held::begun();
         match list.given() {
@@ -693,7 +698,7 @@ mod tests {
     #[test]
     fn keeps_rules() {
         let http = "http://example.com/";
-        let mut client = Client::with_rules(LIST, Rules::browser()).unwrap();
+        let mut client = Client::new(LIST).unwrap();
         let long = format!("long={}", "x".repeat(4093));
         let lines = ["a=\x01", &long, "__secure-a=1", "__HOST-a=1; Secure; Path=/x", "sid=1; Secure; Path=/"];
         let rules = [Rule::Control, Rule::TooLong, Rule::SecurePrefix, Rule::HostPrefix].map(LineEnd::Ruled);
@@ -707,6 +712,8 @@ mod tests {
         assert_eq!(ends, [LineEnd::Inserted, LineEnd::Ruled(Rule::SecureOverlay)]);
         client.set_rules(Rules::none());
         assert_eq!(client.receive(http, &["sid=3"], NOW), Ok(vec![LineEnd::UpdatedExisting]));
+        let mut client = Client::load(LIST, &client.save(NOW).unwrap(), NOW).unwrap();
+        assert_eq!(client.receive(http, &["b=2; Secure"], NOW).unwrap(), wanted[..1]);
     }
 
     // A neighbour sets its cookie over http first, the name escaped; then the site sets its own.

@@ -106,6 +106,9 @@ impl<T: AsRef<[u8]>> Suffixes for T {
     }
 }
 
+// What stands behind a file's refusal.
+const WHOLE: &str = "put there the whole one, of publicsuffix.org, or take List::system";
+
 /// Why a file gives no list.
 #[derive(Debug)]
 #[non_exhaustive]
@@ -120,8 +123,12 @@ impl fmt::Display for ListError {
     fn fmt(&self, to: &mut fmt::Formatter<'_>) -> fmt::Result {
         match self {
             ListError::File(path, why) => write!(to, "{}: {why}", path.display()),
-            ListError::Text(path, Error::List) => write!(to, "{}: the text is no public suffix list", path.display()),
-            ListError::Text(path, Error::NoRule) => write!(to, "{}: the suffix list has no rule", path.display()),
+            ListError::Text(path, Error::List) => {
+                write!(to, "{}: the text is no public suffix list: {WHOLE}", path.display())
+            }
+            ListError::Text(path, Error::NoRule) => {
+                write!(to, "{}: the suffix list has no rule: {WHOLE}", path.display())
+            }
             ListError::Text(path, why) => write!(to, "{}: {why}", path.display()),
         }
     }
@@ -252,10 +259,10 @@ mod tests {
         assert_eq!((suffix(&list, "a.com").as_deref(), format!("{list:?}").as_str()), (Ok("com"), "List { .. }"));
         fs::write(&path, "list/list").unwrap();
         let told = List::from_file(&path).unwrap_err().to_string();
-        assert_eq!(told, format!("{}: the text is no public suffix list", path.display()));
+        assert_eq!(told, format!("{}: the text is no public suffix list: {WHOLE}", path.display()));
         fs::write(&path, "// com").unwrap();
         let told = List::from_file(&path).unwrap_err().to_string();
-        assert_eq!(told, format!("{}: the suffix list has no rule", path.display()));
+        assert_eq!(told, format!("{}: the suffix list has no rule: {WHOLE}", path.display()));
         // (of one rule, which is the name of a file that is there)
         fs::write(&path, "Cargo.toml").unwrap();
         assert_eq!(suffix(&List::from_file(&path).unwrap(), "a.cargo.toml").as_deref(), Ok("cargo.toml"));

@@ -16,7 +16,7 @@ use Rattle.cookie_text.specs.Record.{Record, bare}
 use Rattle.cookie_client.specs.Header.{header_of, pair_text}
 use Rattle.cookie_client.specs.Jar.{last_in}
 use Rattle.cookie_client.specs.Reading.{passes_over}
-use Rattle.cookie_client.proofs.HeaderCookies.{cookie_of, cookies_of, pair_in, shown, shown_by}
+use Rattle.cookie_client.proofs.HeaderCookies.{cookie_by, cookies_by, pair_in, shown_by}
 use Rattle.cookie_client.proofs.ReadBack.{is_semicolon, is_equals, led, led_whole, led_uncut, led_pair, name_before}
 use Rattle.cookie_client.proofs.SessionTexts.{or_none}
 
@@ -77,16 +77,16 @@ cut spaced p (q ∷ ps) h =
     ∙ ap (λ x. led spaced (pair_text p) ∷ x) (cut true q ps h.1))
 
 -- the cookies of an empty header are none
-no_header : cookies_of [] ≡ []
+no_header : (b : Bool) → cookies_by b [] ≡ []
 unfolding is_utf8 chars trim_start Rattle.std.specs.Str.trim_end Rattle.cookie_text.specs.Pieces.name_of
     Rattle.cookie_text.specs.Pieces.value_of
-no_header = refl
+no_header b = refl
 
 -- the cookies of a header are those of the texts of its pairs
-pub header_back : (ps : List (List ℕ × List ℕ)) → AllByRecursion IsRead ps
-    → cookies_of (header_of ps) ≡ filter_map cookie_of (texts_of false ps)
-header_back [] h = no_header
-header_back (p ∷ ps) h = ap (filter_map cookie_of) (cut false p ps h)
+pub header_back : (b : Bool) (ps : List (List ℕ × List ℕ)) → AllByRecursion IsRead ps
+    → cookies_by b (header_of ps) ≡ filter_map (cookie_by b) (texts_of false ps)
+header_back b [] h = no_header b
+header_back b (p ∷ ps) h = ap (filter_map (cookie_by b)) (cut false p ps h)
 
 -- ---- the cookie of a pair, if there is one, is of its decoded name
 
@@ -106,27 +106,24 @@ if_named true o n h = h
 if_named false o n h = tt
 
 -- what holds of the cookie of a pair holds where it is passed over for a prefix
-pub if_shown_by : (b : Bool) (piece : List ℕ) (o : Option Record) (P : Record → Type 0) → IfSome o P
+pub if_shown : (b : Bool) (piece : List ℕ) (o : Option Record) (P : Record → Type 0) → IfSome o P
     → IfSome (shown_by b piece o) P
-if_shown_by b piece None P h = tt
-if_shown_by b piece (Some c) P h = at (passes_over b piece c.name)
+if_shown b piece None P h = tt
+if_shown b piece (Some c) P h = at (passes_over b piece c.name)
   where
     at : (b : Bool) → IfSome (cond b None (Some c)) P
     at true = tt
     at false = h
 
-pub if_shown : (piece : List ℕ) (o : Option Record) (P : Record → Type 0) → IfSome o P → IfSome (shown piece o) P
-if_shown piece o P h = if_shown_by false piece o P h
-
-pub cookie_named : (spaced : Bool) (p : List ℕ × List ℕ) → IsRead p
-    → IfSome (cookie_of (led spaced (pair_text p))) (λ c. c.name ≡ percent_decode p.0)
-cookie_named spaced p h =
+pub cookie_named : (b spaced : Bool) (p : List ℕ × List ℕ) → IsRead p
+    → IfSome (cookie_by b (led spaced (pair_text p))) (λ c. c.name ≡ percent_decode p.0)
+cookie_named b spaced p h =
     let name : name_of (led spaced (pair_text p)) ≡ p.0 =
     ap name_of (led_pair spaced p.0 p.1)
     ∙ (name_before (led spaced p.0) p.1 (led_uncut spaced p.0 (uncut p.0 h.name_uncut))
     ∙ (trim_led spaced p.0 ∙ h.name_trimmed)) in
     if_named (is_utf8 (led spaced (pair_text p))) _ _
-    (if_shown (led spaced (pair_text p)) _ (λ c. c.name ≡ percent_decode p.0)
+    (if_shown b (led spaced (pair_text p)) _ (λ c. c.name ≡ percent_decode p.0)
     (subst (λ n. IfSome (pair_in (name_of (led spaced (pair_text p)))
     (Rattle.cookie_text.specs.Pieces.value_of (led spaced (pair_text p)))) (λ c. c.name ≡ percent_decode n)) name
     (pair_named (name_of (led spaced (pair_text p))) _)))

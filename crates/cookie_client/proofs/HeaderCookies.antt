@@ -1,5 +1,5 @@
 -- The cookies of a header, computed: `ReadCode` shows that they are the ones that its pieces give.
-use Rattle.std.specs.Prelude.{ℕ, List, [], ◌∷◌, Bool, true, false, ◌&&◌, Option, Some, None, if◌then◌else◌}
+use Rattle.std.specs.Prelude.{ℕ, List, [], ◌∷◌, Bool, ◌&&◌, Option, Some, None, if◌then◌else◌}
 use Rattle.std.specs.List.{filter_map}
 use Rattle.std.specs.Str.{is_utf8}
 use Rattle.percent_encoding.specs.Percent.{percent_decode}
@@ -25,21 +25,11 @@ abbrev pub shown_by : Bool → List ℕ → Option Record → Option Record
 shown_by shown piece None = None
 shown_by shown piece (Some cookie) = if passes_over shown piece cookie.name then None else Some cookie
 
--- a piece of a header, where it is a text and reads
+-- a piece of a header by a reading, where it is a text and reads
 abbrev pub cookie_by : Bool → List ℕ → Option Record
 cookie_by shown piece =
     if is_utf8 piece then shown_by shown piece (pair_in (name_of piece) (value_of piece)) else None
 
--- the cookies of a header
+-- the cookies of a header by a reading
 abbrev pub cookies_by : Bool → List ℕ → List Record
 cookies_by shown header = filter_map (cookie_by shown) (pieces header)
-
--- by the reading that reads each pair
-abbrev pub shown : List ℕ → Option Record → Option Record
-shown piece cookie = shown_by false piece cookie
-
-abbrev pub cookie_of : List ℕ → Option Record
-cookie_of piece = cookie_by false piece
-
-abbrev pub cookies_of : List ℕ → List Record
-cookies_of header = cookies_by false header

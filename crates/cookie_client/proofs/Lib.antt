@@ -28,7 +28,6 @@ pub mod Refusals
 pub mod SeenPrefixes
 pub mod Headers
 pub mod ReadCode
-pub mod Readings
 pub mod ReadOnce
 pub mod Tried
 pub mod ClientRows

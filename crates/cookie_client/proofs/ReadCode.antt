@@ -20,8 +20,8 @@ use Rattle.cookie_text.specs.Decoding.{ReadsEncoded, AreUtf8}
 use Rattle.cookie_text.specs.Pieces.{semicolon, equals, pieces, HasEquals, name_of, text_after, value_of}
 use Rattle.cookie_text.specs.Reading.{HasAttributes, HasLast, IsPair, first_piece}
 use Rattle.cookie_text.specs.Record.{Record, Seen, bare}
-use Rattle.cookie_client.specs.Reading.{GivesBy, GiveBy, AreCookiesBy, AreCookiesOf, Reads, passes_over}
-use Rattle.cookie_client.proofs.HeaderCookies.{cookie_by, cookies_by, cookies_of, decoded, pair_in, shown_by}
+use Rattle.cookie_client.specs.Reading.{GivesBy, GiveBy, AreCookiesBy, Reads, passes_over}
+use Rattle.cookie_client.proofs.HeaderCookies.{cookie_by, cookies_by, decoded, pair_in, shown_by}
 
 -- ---- a text without a semicolon
 
@@ -212,13 +212,10 @@ give_are b (p ∷ ps) cs clean g =
     ∙ first_given b g.0 p ps (gives_is b p g.0 clean.0 g.2))
 
 -- the cookies of a header are those that are computed
-pub cookies_are_by : (b : Bool) (header : List ℕ) (cs : List Record) → AreCookiesBy b header cs
+pub cookies_are : (b : Bool) (header : List ℕ) (cs : List Record) → AreCookiesBy b header cs
     → cs ≡ cookies_by b header
-cookies_are_by b header cs g = give_are b (pieces header) cs (all_clean (pieces header)
+cookies_are b header cs g = give_are b (pieces header) cs (all_clean (pieces header)
     (parts_clean (λ b. b == semicolon) header)) g
-
-pub cookies_are : (header : List ℕ) (cs : List Record) → AreCookiesOf header cs → cs ≡ cookies_of header
-cookies_are header cs g = cookies_are_by false header cs g
 
 -- ---- the pieces in turn
 

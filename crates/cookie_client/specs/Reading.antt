@@ -1,7 +1,7 @@
 -- The cookies of a request's header (RFC 6265, section 4.2.1).
 use Rattle.std.specs.Prelude.{◌≡◌, ◌≢◌, ◌⊎◌, ℕ, ◌==◌, List, [], ◌∷◌, ◌++◌, Option, Some, None, Ok, Err, drop}
 use Rattle.std.specs.Prelude.{Bool, true, false, not, ◌&&◌, ◌||◌, IsTrue}
-use Rattle.std.specs.List.{AllByRecursion, position_or_len, starts_with}
+use Rattle.std.specs.List.{position_or_len, starts_with}
 use Rattle.std.specs.Option.{option_to_list}
 use Rattle.std.specs.Str.{IsUtf8}
 use Rattle.cookie.specs.Prefix.{host_text, secure_text}
@@ -56,17 +56,3 @@ GiveBy shown (piece ∷ later) cookies =
 -- the cookies of a header by a reading: a piece that gives none is passed over
 abbrev pub AreCookiesBy : Bool → List ℕ → List Record → Type 0
 AreCookiesBy shown header cookies = GiveBy shown (pieces header) cookies
-
--- the cookies of a header
-abbrev pub AreCookiesOf : List ℕ → List Record → Type 0
-AreCookiesOf header cookies = AreCookiesBy false header cookies
-
--- those of them that hide no prefix
-abbrev pub AreCookiesShown : List ℕ → List Record → Type 0
-AreCookiesShown header cookies = AreCookiesBy true header cookies
-
--- no piece of the header hides a prefix
-abbrev pub ShowsAll : List ℕ → Type 0
-ShowsAll header =
-    AllByRecursion (λ piece. (cookie : Record) → Reads piece cookie → is_hidden_prefix piece cookie.name ≡ false)
-    (pieces header)

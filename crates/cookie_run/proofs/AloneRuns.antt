@@ -1,6 +1,6 @@
 -- Nothing refutes that there is a run of the acts that concern a host: each line that was taken is taken beside other
 -- rows too, each header is there, and each row that is saved is read back as one.
-use Rattle.std.proofs.Common.{◌⊎◌, ℕ, ℤ, pos, ◌*ℤ◌, List, [], ◌∷◌, sym, refl, subst, inl, inr, Option}
+use Rattle.std.proofs.Common.{Bool, false, ◌⊎◌, ℕ, ℤ, pos, ◌*ℤ◌, List, [], ◌∷◌, sym, refl, subst, inl, inr, Option}
 use Rattle.std.proofs.Common.{Some, None, Result, Ok, Err, arith}
 use Rattle.std.specs.Prelude.{map}
 use Rattle.jiff.proofs.SpanFacts.{signed_arith}
@@ -169,49 +169,49 @@ some_kept rows now own refuted =
 module _ (order : OneOrder) (list : List Rule) (host key : List ℕ) where
   abbrev StepsOn : List Row → Act → Type 0
   StepsOn rest act =
-      (said : List Reading) × (left : List Row) × OneStep list key rest act said left × HaveReadPairs left
+      (said : List Reading) × (left : List Row) × OneStep false list key rest act said left × HaveReadPairs left
 
-  step_too : (act : Act) (rows mid rest : List Row) (told : List Reading) → IsNoExchange list host act
-      → Concerns list host act → OneStep list key rows act told mid → HaveReadPairs rest
+  step_too : (b : Bool) (act : Act) (rows mid rest : List Row) (told : List Reading) → IsNoExchange list host act
+      → Concerns list host act → OneStep b list key rows act told mid → HaveReadPairs rest
       → IsUnrefuted (StepsOn rest act)
-  step_too (Visits url at commands arrival) rows mid rest told none concerns s own refuted = none concerns
-  step_too (Answers url lines at) rows mid rest told none concerns s own refuted =
+  step_too b (Visits url at commands arrival) rows mid rest told none concerns s own refuted = none concerns
+  step_too b (Answers url lines at) rows mid rest told none concerns s own refuted =
       lines_too list url at lines rows rest s.1.0 mid s.1.1 (λ x. refuted (
         [],
         x.1,
         (refl, (x.0, x.2)),
         received_pairs list url at lines rest x.0 x.1 own x.2,
       ))
-  step_too (Asks url at) rows mid rest told none concerns s own refuted =
+  step_too b (Asks url at) rows mid rest told none concerns s own refuted =
       some_header order rest url at s.0.1.valid (λ x. refuted (Header x.0 ∷ [], rest, ((x.0, x.1, refl), refl), own))
-  step_too (Restarts at) rows mid rest told none concerns s own refuted =
+  step_too b (Restarts at) rows mid rest told none concerns s own refuted =
       some_kept rest at own (λ x. refuted ([], x.0, (refl, x.1), kept_pairs rest at own x.0 x.1))
 
-  play_too : (acts few : List Act) (told : List (List Reading)) (rows new rest : List Row)
-      → Each (IsNoExchange list host) acts → IsOnly list host acts few → Plays list key rows acts told new
+  play_too : (b : Bool) (acts few : List Act) (told : List (List Reading)) (rows new rest : List Row)
+      → Each (IsNoExchange list host) acts → IsOnly list host acts few → Plays b list key rows acts told new
       → HaveReadPairs rest
-      → IsUnrefuted ((said : List (List Reading)) × (left : List Row) × Plays list key rest few said left)
-  play_too [] few told rows new rest none only p own refuted =
-      refuted ([], rest, subst (λ x. Plays list key rest x [] rest) (sym only) refl)
-  play_too (act ∷ acts) few [] rows new rest none only p own refuted = absurd p
-  play_too (act ∷ acts) few (t ∷ told) rows new rest none (later, only, inl is) p own refuted =
-      step_too act rows p.0 rest t none.0 is.0 p.1 own
-      (λ x. play_too acts later told p.0 new x.1 none.1 only p.2 x.3
+      → IsUnrefuted ((said : List (List Reading)) × (left : List Row) × Plays false list key rest few said left)
+  play_too b [] few told rows new rest none only p own refuted =
+      refuted ([], rest, subst (λ x. Plays false list key rest x [] rest) (sym only) refl)
+  play_too b (act ∷ acts) few [] rows new rest none only p own refuted = absurd p
+  play_too b (act ∷ acts) few (t ∷ told) rows new rest none (later, only, inl is) p own refuted =
+      step_too b act rows p.0 rest t none.0 is.0 p.1 own
+      (λ x. play_too b acts later told p.0 new x.1 none.1 only p.2 x.3
       (λ y. refuted (
         x.0 ∷ y.0,
         y.1,
-        subst (λ f. Plays list key rest f (x.0 ∷ y.0) y.1) (sym is.1) (x.1, x.2, y.2),
+        subst (λ f. Plays false list key rest f (x.0 ∷ y.0) y.1) (sym is.1) (x.1, x.2, y.2),
       )))
-  play_too (act ∷ acts) few (t ∷ told) rows new rest none (later, only, inr is) p own refuted =
-      play_too acts later told p.0 new rest none.1 only p.2 own
-      (λ y. refuted (y.0, y.1, subst (λ f. Plays list key rest f y.0 y.1) (sym is.1) y.2))
+  play_too b (act ∷ acts) few (t ∷ told) rows new rest none (later, only, inr is) p own refuted =
+      play_too b acts later told p.0 new rest none.1 only p.2 own
+      (λ y. refuted (y.0, y.1, subst (λ f. Plays false list key rest f y.0 y.1) (sym is.1) y.2))
 
-  pub header_too : (before : List Act) (told : List (List Reading)) (rows : List Row) (url : Parts) (at : ℤ)
-      → Plays list key [] before told rows → IsValid url → Each (IsNoExchange list host) before
+  pub header_too : (b : Bool) (before : List Act) (told : List (List Reading)) (rows : List Row) (url : Parts) (at : ℤ)
+      → Plays b list key [] before told rows → IsValid url → Each (IsNoExchange list host) before
       → IsUnrefuted (HeaderAlone list key host before url at)
-  header_too before told rows url at p valid none refuted =
+  header_too b before told rows url at p valid none refuted =
       some_picked (Concerns list host) before
-      (λ few. play_too before few.0 told [] rows [] none few.1 p tt
+      (λ few. play_too b before few.0 told [] rows [] none few.1 p tt
       (λ run. some_header order run.1 url at valid
       (λ header. refuted (record {
         few = few.0;

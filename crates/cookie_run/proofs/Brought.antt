@@ -156,9 +156,9 @@ brings_site splits key host rows now site reads a =
 
 pub sites_brought : (key : List ℕ) (laws : Laws key) (late : (n : ℤ) → IsMoment n → EndsLate n) → SplittingBack
     → RowsAreTheSites key
-sites_brought key laws late splits list acts told rows follows plays host site =
+sites_brought key laws late splits b list acts told rows follows plays host site =
     let reads = reads_back host site.own_form site.no_empty_label in
-    let led = site_leads key laws late list host acts told rows site follows plays in (
+    let led = site_leads b key laws late list host acts told rows site follows plays in (
       led.0,
       led.1,
       λ now after. brings_site splits key host rows now led.0 reads

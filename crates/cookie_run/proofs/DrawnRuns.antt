@@ -1,5 +1,6 @@
 -- A play by its draws goes on by one step, and is a play whatever the nonces.
-use Rattle.std.proofs.Common.{◌≡◌, ◌≢◌, ◌⊎◌, ℕ, ℤ, ◌+◌, ◌<◌, ◌≤◌, length, take, drop, get_or, inl, inr, Result, Ok, Err}
+use Rattle.std.proofs.Common.{false, ◌≡◌, ◌≢◌, ◌⊎◌, ℕ, ℤ, ◌+◌, ◌<◌, ◌≤◌, length, take, drop, get_or, inl, inr}
+use Rattle.std.proofs.Common.{Result, Ok, Err}
 use Rattle.std.proofs.Common.{List, [], ◌∷◌, ◌++◌, sym, refl, ap, ◌∙◌, subst, append_assoc, Option, Some, None}
 use Rattle.std.specs.Prelude.{IfOk}
 use Rattle.std.proofs.lemmas.List.{take_more, take_all, take-append-drop, drop_more}
@@ -206,7 +207,7 @@ commands_any ds old at (c ∷ cs) told new h = (
 )
 
 step_any : (ds : List Draw) (list : List Rule) (key : List ℕ) (rows : List Row) (act : Act) (told : List Reading)
-    (new : List Row) → StepBy ds list key rows act told new → OneStep list key rows act told new
+    (new : List Row) → StepBy ds list key rows act told new → OneStep false list key rows act told new
 step_any ds list key rows (Visits url at cs arrival) told new h = (
   h.0,
   h.1,
@@ -218,7 +219,7 @@ step_any ds list key rows (Restarts at) told new h = h.0
 
 pub plays_any : (ds : List Draw) (list : List Rule) (key : List ℕ) (rows : List Row) (acts : List Act)
     (told : List (List Reading)) (new : List Row) → PlaysBy ds list key rows acts told new
-    → Plays list key rows acts told new
+    → Plays false list key rows acts told new
 plays_any ds list key rows [] [] new h = h.0
 plays_any ds list key rows [] (t ∷ told) new h = absurd h
 plays_any ds list key rows (a ∷ acts) [] new h = absurd h
@@ -226,7 +227,7 @@ plays_any ds list key rows (a ∷ acts) (t ∷ told) new h =
     (h.0, step_any h.1 list key rows a t h.0 h.3, plays_any h.2 list key h.0 acts told new h.4)
 
 front_any : (ds : List Draw) (key : List ℕ) (rows : List Row) (act : Act) (told : List Reading)
-    → ReadsFrontBy ds key rows act told → ReadsFront key rows act told
+    → ReadsFrontBy ds key rows act told → ReadsFront false key rows act told
 front_any ds key rows (Visits url at cs arrival) told (inl h) = inl h.0
 front_any ds key rows (Visits url at cs arrival) told (inr h) =
     let f = h.2.2 in
@@ -236,7 +237,7 @@ front_any ds key rows (Asks url at) told h = h.0
 front_any ds key rows (Restarts at) told h = h.0
 
 all_any : (ds : List Draw) (key : List ℕ) (rows : List Row) (act : Act) (told : List Reading)
-    → ReadsAllBy ds key rows act told → ReadsAll key rows act told
+    → ReadsAllBy ds key rows act told → ReadsAll false key rows act told
 all_any ds key rows (Visits url at cs arrival) told h =
     (h.0, h.1, (h.2.2.0, (h.2.0, h.2.1, commands_any ds h.2.0 at cs told h.2.2.0 h.2.2.1)))
 all_any ds key rows (Answers url lines at) told h = h.0
@@ -246,7 +247,7 @@ all_any ds key rows (Restarts at) told h = h.0
 pub stops_any : (ds : List Draw) (key : List ℕ) (rows : List Row) (kind : FaultKind) (last : ℤ) (arrival : Arrival)
     (act : Act) (old readings : List Reading)
     → StopsInside kind last arrival old (ReadsFrontBy ds key rows act) (ReadsAllBy ds key rows act) readings
-    → StopsInside kind last arrival old (ReadsFront key rows act) (ReadsAll key rows act) readings
+    → StopsInside kind last arrival old (ReadsFront false key rows act) (ReadsAll false key rows act) readings
 stops_any ds key rows kind last arrival act old readings (inl (e, g)) =
     inl (e, (g.0, front_any ds key rows act g.0 g.1, g.2))
 stops_any ds key rows kind last arrival act old readings (inr (e, g)) =

@@ -1,5 +1,5 @@
 -- A play that goes on by one step, stops in it, or comes to its end.
-use Rattle.std.proofs.Common.{◌≡◌, ℕ, ℤ, ◌+◌, ◌<◌, ◌≤◌, zero, suc, length, take, drop, get_or, List, [], ◌∷◌}
+use Rattle.std.proofs.Common.{false, ◌≡◌, ℕ, ℤ, ◌+◌, ◌<◌, ◌≤◌, zero, suc, length, take, drop, get_or, List, [], ◌∷◌}
 use Rattle.std.proofs.Common.{inl, inr, ◌++◌, sym, refl, ap, ◌∙◌, subst, arith, append_assoc}
 use Rattle.std.proofs.lemmas.List.{take_all}
 use Rattle.cookie_run.specs.declared.step.Step.{Step}
@@ -73,14 +73,15 @@ before_count (x ∷ xs) (suc i) h = let rest = before_count xs i (omega arith) i
 -- what the loop knows before a step
 pub record Before (list : List Rule) (key : List ℕ) (steps : List Step) (i : ℕ) (rows : List Row) (now : List Reading)
     (moment : ℤ) : Type 0 where
-  pub run : (told : List (List Reading)) × (now ≡ all_told told) × Plays list key [] (acts_of (take i steps)) told rows
+  pub run : (told : List (List Reading)) × (now ≡ all_told told) × Plays false list key []
+      (acts_of (take i steps)) told rows
   pub moments : AllFollow the_beginning (moments_of (acts_of (take i steps)))
   pub last : moment ≡ last_of the_beginning (moments_of (acts_of (take i steps)))
 
 -- the step stops so
 abbrev pub Stops : List ℕ → List Row → FaultKind → ℤ → Act → List Reading → List Reading → Type 0
-Stops key rows kind last act old readings = StopsFrom kind last act old (ReadsFront key rows act)
-    (ReadsAll key rows act) readings
+Stops key rows kind last act old readings = StopsFrom kind last act old (ReadsFront false key rows act)
+    (ReadsAll false key rows act) readings
 
 stops_there : (list : List Rule) (key : List ℕ) (steps : List Step) (i : ℕ) (s : Step) (rows : List Row)
     (now later : List Reading) (last : ℤ) (kind : FaultKind) → (b : Before list key steps i rows now last) →
@@ -114,7 +115,7 @@ pub run_all : (list : List Rule) (key : List ℕ) (steps : List Step) (i : ℕ) 
 run_all list key steps i rows now moment h b = record {
   told = b.run.0;
   rows = rows;
-  ran = subst (λ ss. Plays list key [] (acts_of ss) b.run.0 rows) (take_all i steps h) b.run.2;
+  ran = subst (λ ss. Plays false list key [] (acts_of ss) b.run.0 rows) (take_all i steps h) b.run.2;
   read = b.run.1;
 }
 

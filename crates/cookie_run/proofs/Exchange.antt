@@ -1,5 +1,5 @@
 -- One act, and all acts: the rows under a host go on to stand for what is live of its site.
-use Rattle.std.proofs.Common.{◌≡◌, ℕ, ℤ, ◌≤ℤ◌, pos, true, false, cond, List, [], ◌∷◌, sym, refl, ap, ◌∙◌, subst}
+use Rattle.std.proofs.Common.{Bool, ◌≡◌, ℕ, ℤ, ◌≤ℤ◌, pos, true, false, cond, List, [], ◌∷◌, sym, refl, ap, ◌∙◌, subst}
 use Rattle.std.proofs.Common.{⊎_elim, Option, Some, None, arith}
 use Rattle.std.specs.Prelude.{map, option_map, IfSome, ⊤}
 use Rattle.std.specs.List.{AllByRecursion}
@@ -186,17 +186,17 @@ abbrev pub IsArrival : ℤ → Arrival → Type 0
 IsArrival now (Arrives at) = IsTime at × (now ≤ℤ at)
 IsArrival now Never = ⊤
 
-pub walked : (counts : Counts) (Read : Gets) → Told counts Read
+pub walked : {b : Bool} (counts : Counts) (Read : Gets) → Told counts Read
     → (key : List ℕ) (laws : Laws key) (host : List ℕ) (rows : List Row) (url : Parts) (now d : ℤ) (site : Site)
     (cs : List Command) (told : List Reading) (session : Keyed) (header : List ℕ)
     (a : SiteAgrees counts key host rows now site) → secure_host url ≡ Some host → IsReadBack host → now ≤ℤ d
-    → EndsLate now → HaveReadPairs rows → IsHeader rows url now header → Serves key header now cs told session
+    → EndsLate now → HaveReadPairs rows → IsHeader rows url now header → Serves b key header now cs told session
     → (noted : List Command) × (after : View) × CommandsIn Read (live_view site now) cs told noted after
     × Walks counts key now d (found_in a.cookies) session after (left_by_all d site noted)
-walked counts Read tell key laws host rows url now d site cs told session header a secure reads after late pairs is
+walked {b} counts Read tell key laws host rows url now d site cs told session header a secure reads after late pairs is
     serves =
     let brought = brings counts key now a.cookies header serves.0 a.agrees.apart
-    (header_last counts host url now rows a.cookies header secure reads pairs a.agrees is) serves.1 in
+    (header_last b counts host url now rows a.cookies header secure reads pairs a.agrees is) serves.1 in
     all_go counts Read tell key now d (found_in a.cookies) serves.0 session (live_view site now) site cs told laws.only
     after late (opened_walks counts key now d a.cookies header serves.0 site after brought serves.1 a.each) serves.2
 
@@ -206,12 +206,12 @@ ExchangeIn Read site now commands arrival told new =
     (noted : List Command) × (after : View) × CommandsIn Read (live_view site now) commands told noted after
     × (new ≡ after_arrival arrival site noted)
 
-pub exchanged : (counts : Counts) (Read : Gets) → Told counts Read
+pub exchanged : {b : Bool} (counts : Counts) (Read : Gets) → Told counts Read
     → (key : List ℕ) (laws : Laws key) (list : List Rule) (host : List ℕ) (rows new : List Row) (url : Parts)
     (now : ℤ) (site : Site) (cs : List Command) (arrival : Arrival) (told : List Reading) (header : List ℕ)
     (session : Keyed) → secure_host url ≡ Some host → IsReadBack host → EndsLate now → IsArrival now arrival
     → SiteAgrees counts key host rows now site → HaveReadPairs rows → IsHeader rows url now header
-    → Serves key header now cs told session → Delivers list rows url session.jar arrival new
+    → Serves b key header now cs told session → Delivers list rows url session.jar arrival new
     → (after : Site) × ExchangeIn Read site now cs arrival told after
     × SiteAgrees counts key host new (end_moment now arrival)
     after

@@ -9,7 +9,7 @@ use Rattle.cookie_text.specs.Pieces.{name_of, text_after, value_of}
 use Rattle.cookie_text.specs.Printing.{encoded, escaped}
 use Rattle.cookie_text.specs.Record.{Record, bare, unsliced}
 use Rattle.cookie_client.specs.Jar.{sent}
-use Rattle.cookie_client.proofs.HeaderCookies.{cookies_of}
+use Rattle.cookie_client.proofs.HeaderCookies.{cookies_by}
 use Rattle.cookie_client.specs.Header.{header_of}
 use Rattle.cookie_client.specs.declared.way.Way.TheVariants.{Plain, Host, Sealed}
 use Rattle.cookie_run.specs.declared.step.Reading.{Reading}
@@ -46,7 +46,7 @@ sent_attributes = refl
 
 -- ---- what is read
 
-a_header : cookies_of (codes "a=1; b = %32 ;=x; c;a==") ≡ bare (codes "a") (codes "1") ∷ bare (codes "b")
+a_header : cookies_by false (codes "a=1; b = %32 ;=x; c;a==") ≡ bare (codes "a") (codes "1") ∷ bare (codes "b")
     (codes "2") ∷ bare (codes "a") (codes "=") ∷ []
 unfolding trim_start trim_end chars lib.Utf8.encode is_utf8 name_of value_of text_after percent_decode
 a_header = refl

@@ -1,5 +1,5 @@
 -- The rows that a play leaves came from lines: they are saved and come back, whatever their raw cookies.
-use Rattle.std.proofs.Common.{◌≡◌, ℕ, ℤ, pos, true, List, [], ◌∷◌, sym, refl, ap, ◌∙◌}
+use Rattle.std.proofs.Common.{Bool, ◌≡◌, ℕ, ℤ, pos, true, List, [], ◌∷◌, sym, refl, ap, ◌∙◌}
 use Rattle.std.proofs.Common.{◌*◌, ◌≤ℤ◌, ◌<ℤ◌, subst, inl, inr, Option, Some, None, arith, Ok}
 use Rattle.std.specs.Prelude.{not, option_map, IfSome}
 use Rattle.std.specs.Str.{IsUtf8}
@@ -149,39 +149,40 @@ delivered_from give list url jar now rows Never new f all d = same_rows rows new
 delivered_from give list url jar now rows (Arrives at) new f all d =
     from_lines give list url at _ rows d.2.0 new (whole_moment at f.0.is_moment) all d.2.1
 
-pub step_from : (give : TextsGivePairs) (law : PairsReadAgain) (list : List Rule) (key : List ℕ) (last : ℤ)
+pub step_from : (b : Bool) (give : TextsGivePairs) (law : PairsReadAgain) (list : List Rule) (key : List ℕ) (last : ℤ)
     (rows new : List Row) (act : Act) (told : List Reading)
-    → AllFollow last (moments_in act) → AreFromLines rows → OneStep list key rows act told new → AreFromLines new
-step_from give law list key last rows new (Visits url at commands arrival) told f all s =
+    → AllFollow last (moments_in act) → AreFromLines rows → OneStep b list key rows act told new → AreFromLines new
+step_from b give law list key last rows new (Visits url at commands arrival) told f all s =
     delivered_from give list url s.2.0.jar at rows arrival new f.1 all s.2.2
-step_from give law list key last rows new (Answers url lines at) told f all s =
+step_from b give law list key last rows new (Answers url lines at) told f all s =
     from_lines give list url at lines rows s.1.0 new (whole_moment at f.0.is_moment) all s.1.1
-step_from give law list key last rows new (Asks url at) told f all s = same_rows rows new s.1 all
-step_from give law list key last rows new (Restarts at) told f all s = kept_from law at rows new all s.1
+step_from b give law list key last rows new (Asks url at) told f all s = same_rows rows new s.1 all
+step_from b give law list key last rows new (Restarts at) told f all s = kept_from law at rows new all s.1
 
-pub plays_from : (give : TextsGivePairs) (law : PairsReadAgain) (list : List Rule) (key : List ℕ) (last : ℤ)
+pub plays_from : (b : Bool) (give : TextsGivePairs) (law : PairsReadAgain) (list : List Rule) (key : List ℕ) (last : ℤ)
     (rows new : List Row) (acts : List Act)
     (told : List (List Reading)) → AllFollow last (moments_of acts) → AreFromLines rows
-    → Plays list key rows acts told new → AreFromLines new
-plays_from give law list key last rows new [] [] f all p = same_rows rows new p all
-plays_from give law list key last rows new [] (t ∷ ts) f all p = absurd p
-plays_from give law list key last rows new (a ∷ acts) [] f all p = absurd p
-plays_from give law list key last rows new (a ∷ acts) (t ∷ ts) f all p =
+    → Plays b list key rows acts told new → AreFromLines new
+plays_from b give law list key last rows new [] [] f all p = same_rows rows new p all
+plays_from b give law list key last rows new [] (t ∷ ts) f all p = absurd p
+plays_from b give law list key last rows new (a ∷ acts) [] f all p = absurd p
+plays_from b give law list key last rows new (a ∷ acts) (t ∷ ts) f all p =
     let moments = front_follows last a (moments_of acts) f in
-    plays_from give law list key (ends_at a) p.0 new acts ts moments.1
-    (step_from give law list key last rows p.0 a t moments.0 all p.1)
+    plays_from b give law list key (ends_at a) p.0 new acts ts moments.1
+    (step_from b give law list key last rows p.0 a t moments.0 all p.1)
     p.2
 
 all_back : (law : PairsReadAgain) (rows : List Row) → AreFromLines rows → AllByRecursion ComesBack rows
 all_back law [] all = tt
 all_back law (r ∷ rs) all = (comes_back law r all.0, all_back law rs all.1)
 
-pub plays_come_back : (give : TextsGivePairs) (law : PairsReadAgain) (list : List Rule) (key : List ℕ) (last : ℤ)
+pub plays_come_back : (b : Bool) (give : TextsGivePairs) (law : PairsReadAgain) (list : List Rule) (key : List ℕ)
+    (last : ℤ)
     (rows : List Row) (acts : List Act)
-    (told : List (List Reading)) → AllFollow last (moments_of acts) → Plays list key [] acts told rows
+    (told : List (List Reading)) → AllFollow last (moments_of acts) → Plays b list key [] acts told rows
     → AllByRecursion ComesBack rows
-plays_come_back give law list key last rows acts told f p = all_back law rows
-    (plays_from give law list key last [] rows acts told f tt p)
+plays_come_back b give law list key last rows acts told f p = all_back law rows
+    (plays_from b give law list key last [] rows acts told f tt p)
 
 -- what is kept after a moment from 1971 on isn't of a year below 0
 not_before : (now : ℤ) (row : Row) → pos (second_1971 * 1_000_000_000) ≤ℤ now → is_live now row ≡ true

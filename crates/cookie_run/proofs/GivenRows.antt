@@ -20,10 +20,10 @@ use Rattle.cookie_client.specs.Hosts.{secure_host}
 use Rattle.store_parts.specs.Schemes.{host_of}
 use Rattle.cookie_client.specs.Jar.{last_in}
 use Rattle.cookie_client.specs.Keeping.{HasReadPair, HaveReadPairs}
-use Rattle.cookie_client.proofs.HeaderCookies.{cookie_of, cookies_of}
+use Rattle.cookie_client.proofs.HeaderCookies.{cookie_by, cookies_by}
 use Rattle.cookie_client.proofs.HeaderBack.{pair_at, IsRead, texts_of, header_back, cookie_named, passed_over}
 use Rattle.cookie_client.proofs.ReadBack.{led}
-use Rattle.cookie_run.proofs.ReadBack.{cookie_of_led}
+use Rattle.cookie_run.proofs.ReadBack.{cookie_by_led}
 use Rattle.cookie_client.proofs.SessionTexts.{or_none}
 use Rattle.cookie_client.proofs.Texts.{same_text, other_text, some_is_not_none}
 use Rattle.cookie_store.specs.Rows.{Row}
@@ -204,25 +204,25 @@ pairs_same host (k ∷ ks) [] p = absurd p
 pairs_same host (k ∷ ks) (r ∷ rs) p = λ i. (p.0.name i, p.0.value i) ∷ pairs_same host ks rs p.1 i
 
 -- the last cookie of a name that counts is that of the last row of the host
-abbrev LastAs : Counts → List ℕ → List ℕ → List Kept → List Row → Type 0
-LastAs counts host q ks rows = HaveReadPairs rows → AllByRecursion (IsUncounted counts host) rows → (spaced : Bool)
-    → last_in (filter_map cookie_of (texts_of spaced (map pair_of rows))) q ≡ last_in (map record_of ks) q
+abbrev LastAs : Bool → Counts → List ℕ → List ℕ → List Kept → List Row → Type 0
+LastAs b counts host q ks rows = HaveReadPairs rows → AllByRecursion (IsUncounted counts host) rows → (spaced : Bool)
+    → last_in (filter_map (cookie_by b) (texts_of spaced (map pair_of rows))) q ≡ last_in (map record_of ks) q
 
-last_own : (counts : Counts) (host q : List ℕ) (d : Kept) (r : Row) (ds : List Kept) (rs : List Row)
-    → IsRowOf host d r → IsGoodKept d → LastAs counts host q ds rs → LastAs counts host q (d ∷ ds) (r ∷ rs)
-last_own counts host q d r ds rs h good rest pairs others spaced =
-    let tail : List Record = filter_map cookie_of (texts_of true (map pair_of rs)) in
+last_own : (b : Bool) (counts : Counts) (host q : List ℕ) (d : Kept) (r : Row) (ds : List Kept) (rs : List Row)
+    → IsRowOf host d r → IsGoodKept d → LastAs b counts host q ds rs → LastAs b counts host q (d ∷ ds) (r ∷ rs)
+last_own b counts host q d r ds rs h good rest pairs others spaced =
+    let tail : List Record = filter_map (cookie_by b) (texts_of true (map pair_of rs)) in
     let same : pair_of r ≡ pair_at (record_of d) = λ i. (h.name i, h.value i) in
-    let one : cookie_of (led spaced (pair_text (pair_of r))) ≡ Some (record_of d) =
-    ap (λ p. cookie_of (led spaced (pair_text p))) same ∙ cookie_of_led spaced (record_of d) good in
+    let one : cookie_by b (led spaced (pair_text (pair_of r))) ≡ Some (record_of d) =
+    ap (λ p. cookie_by b (led spaced (pair_text p))) same ∙ cookie_by_led b spaced (record_of d) good in
     ap (λ o. last_in (cons_option o tail) q) one
     ∙ ap (λ x. option_or x (cond (bytes_eq q d.name) (Some (record_of d)) None)) (rest pairs.1 others.1 true)
 
-last_other : (counts : Counts) (host q : List ℕ) (r : Row) (ds : List Kept) (rs : List Row) → counts q ≡ true
-    → is_own counts host r ≡ false → LastAs counts host q ds rs → LastAs counts host q ds (r ∷ rs)
-last_other counts host q r ds rs c other rest pairs others spaced =
-    passed_over q (cookie_of (led spaced (pair_text (pair_of r)))) _
-    (differs _ (cookie_named spaced (pair_of r) pairs.0)) ∙ rest pairs.1 others.1 true
+last_other : (b : Bool) (counts : Counts) (host q : List ℕ) (r : Row) (ds : List Kept) (rs : List Row) → counts q ≡ true
+    → is_own counts host r ≡ false → LastAs b counts host q ds rs → LastAs b counts host q ds (r ∷ rs)
+last_other b counts host q r ds rs c other rest pairs others spaced =
+    passed_over q (cookie_by b (led spaced (pair_text (pair_of r)))) _
+    (differs _ (cookie_named b spaced (pair_of r) pairs.0)) ∙ rest pairs.1 others.1 true
   where
     away : (n : List ℕ) → n ≡ percent_decode r.raw.cookie.name → bytes_eq q n ≡ false
     away n is = other_text q n (λ same. both_ways _ (others.0 other) (ap counts (sym is ∙ sym same) ∙ c))
@@ -232,11 +232,12 @@ last_other counts host q r ds rs c other rest pairs others spaced =
     differs None h = tt
     differs (Some x) h = away x.name h
 
-pub header_last : (counts : Counts) (host : List ℕ) (url : Parts) (now : ℤ) (rows : List Row) (ks : List Kept)
+pub header_last : (b : Bool) (counts : Counts) (host : List ℕ) (url : Parts) (now : ℤ) (rows : List Row)
+    (ks : List Kept)
     (header : List ℕ) → secure_host url ≡ Some host → read_domain host ≡ Some (suffix host) → HaveReadPairs rows
     → Agrees counts host rows ks → IsHeader rows url now header → (q : List ℕ) → counts q ≡ true
-    → last_in (cookies_of header) q ≡ last_in (map record_of (filter (lives now) ks)) q
-header_last counts host url now rows ks header secure reads pairs a is q c =
+    → last_in (cookies_by b header) q ≡ last_in (map record_of (filter (lives now) ks)) q
+header_last b counts host url now rows ks header secure reads pairs a is q c =
     let given = given_rows counts host url now rows is.given ks secure (rooted url host secure is.valid) reads a
     is.are_given in
     let live = all_filter IsGoodKept (lives now) ks a.good in
@@ -246,11 +247,11 @@ header_last counts host url now rows ks header secure reads pairs a is q c =
     (own_short counts host (filter (lives now) ks) is.given live given.0))) given.0 in
     let own_pairs : HaveReadPairs is.ordered = all_longest HasReadPair is.given is.ordered is.longest
     (picked_all HasReadPair _ rows is.given pairs is.are_given) in
-    ap (λ h. last_in (cookies_of h) q) is.printed
-    ∙ (ap (λ cs. last_in cs q) (header_back (map pair_of is.ordered) (readable is.ordered own_pairs))
-    ∙ walk counts host (LastAs counts host q) (λ _ _ _. refl)
-    (λ d r ds rs own h good rest. last_own counts host q d r ds rs h good rest)
-    (λ r ds rs other rest. last_other counts host q r ds rs c other rest)
+    ap (λ h. last_in (cookies_by b h) q) is.printed
+    ∙ (ap (λ cs. last_in cs q) (header_back b (map pair_of is.ordered) (readable is.ordered own_pairs))
+    ∙ walk counts host (LastAs b counts host q) (λ _ _ _. refl)
+    (λ d r ds rs own h good rest. last_own b counts host q d r ds rs h good rest)
+    (λ r ds rs other rest. last_other b counts host q r ds rs c other rest)
     is.ordered (filter (lives now) ks) live own own_pairs
     (all_longest (IsUncounted counts host) is.given is.ordered is.longest given.1) false)
   where

@@ -1,5 +1,5 @@
 -- The rows of every play are held rightly.
-use Rattle.std.proofs.Common.{ℕ, ℤ, List, [], ◌∷◌, sym, subst}
+use Rattle.std.proofs.Common.{Bool, ℕ, ℤ, List, [], ◌∷◌, sym, subst}
 use Rattle.std.specs.List.{AllByRecursion}
 use Rattle.cookie.specs.Jar.{Jar}
 use Rattle.cookie_text.specs.Again.{BoundReadAgain, PairsReadAgain, TextsGivePairs}
@@ -51,24 +51,24 @@ module _ (give : TextsGivePairs) (law : PairsReadAgain) (bound : BoundReadAgain)
   delivered_clients url jar Never rows new all d = subst (AllByRecursion IsClients) (sym d) all
   delivered_clients url jar (Arrives at) rows new all d = lines_clients url at _ rows d.2.0 new all d.2.1
 
-  step_clients : (act : Act) (told : List Reading) (rows new : List Row) → AllByRecursion IsClients rows
-      → OneStep list key rows act told new → AllByRecursion IsClients new
-  step_clients (Visits url at commands arrival) told rows new all s =
+  step_clients : (b : Bool) (act : Act) (told : List Reading) (rows new : List Row) → AllByRecursion IsClients rows
+      → OneStep b list key rows act told new → AllByRecursion IsClients new
+  step_clients b (Visits url at commands arrival) told rows new all s =
       delivered_clients url s.2.0.jar arrival rows new all s.2.2
-  step_clients (Answers url lines at) told rows new all s = lines_clients url at lines rows s.1.0 new all s.1.1
-  step_clients (Asks url at) told rows new all s = subst (AllByRecursion IsClients) (sym s.1) all
-  step_clients (Restarts at) told rows new all s =
+  step_clients b (Answers url lines at) told rows new all s = lines_clients url at lines rows s.1.0 new all s.1.1
+  step_clients b (Asks url at) told rows new all s = subst (AllByRecursion IsClients) (sym s.1) all
+  step_clients b (Restarts at) told rows new all s =
       both_of new (kept_pairs rows at (pairs_of rows all) new s.1)
       (kept_held law bound rows at at new (pairs_of rows all) (held_of rows all) s.1)
 
-  plays_clients : (acts : List Act) (told : List (List Reading)) (rows new : List Row)
-      → AllByRecursion IsClients rows → Plays list key rows acts told new → AllByRecursion IsClients new
-  plays_clients [] [] rows new all p = subst (AllByRecursion IsClients) (sym p) all
-  plays_clients [] (t ∷ ts) rows new all p = absurd p
-  plays_clients (a ∷ acts) [] rows new all p = absurd p
-  plays_clients (a ∷ acts) (t ∷ ts) rows new all p =
-      plays_clients acts ts p.0 new (step_clients a t rows p.0 all p.1) p.2
+  plays_clients : (b : Bool) (acts : List Act) (told : List (List Reading)) (rows new : List Row)
+      → AllByRecursion IsClients rows → Plays b list key rows acts told new → AllByRecursion IsClients new
+  plays_clients b [] [] rows new all p = subst (AllByRecursion IsClients) (sym p) all
+  plays_clients b [] (t ∷ ts) rows new all p = absurd p
+  plays_clients b (a ∷ acts) [] rows new all p = absurd p
+  plays_clients b (a ∷ acts) (t ∷ ts) rows new all p =
+      plays_clients b acts ts p.0 new (step_clients b a t rows p.0 all p.1) p.2
 
 pub plays_hold : (give : TextsGivePairs) (law : PairsReadAgain) (bound : BoundReadAgain) → PlaysHoldRightly
-plays_hold give law bound list key acts told rows p =
-    held_of rows (plays_clients give law bound list key acts told [] rows tt p)
+plays_hold give law bound b list key acts told rows p =
+    held_of rows (plays_clients give law bound list key b acts told [] rows tt p)

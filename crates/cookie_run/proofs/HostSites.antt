@@ -1,5 +1,6 @@
 -- The headline by `__Host-`: where the names count that begin so.
-use Rattle.std.proofs.Common.{◌≡◌, ◌⊎◌, ℕ, ℤ, true, false, List, [], ◌∷◌, ◌++◌, take, drop, sym, ap, ◌∙◌, inl, inr}
+use Rattle.std.proofs.Common.{Bool, ◌≡◌, ◌⊎◌, ℕ, ℤ, true, false, List, [], ◌∷◌, ◌++◌, take, drop, sym, ap, ◌∙◌, inl}
+use Rattle.std.proofs.Common.{inr}
 use Rattle.std.proofs.Common.{Some, ⊎_elim}
 use Rattle.std.specs.List.{AllByRecursion}
 use Rattle.std.proofs.lemmas.Bool.{cases_Bool}
@@ -85,32 +86,34 @@ all_away list host (Restarts at ∷ acts) s = (tt, all_away list host acts s.1)
 
 -- ---- THE HEADLINE BY `__Host-`, first for a host that sets its `__Host-` cookies alone by sessions
 
-pub host_leads : (key : List ℕ) (laws : Laws key) (late : (n : ℤ) → IsMoment n → EndsLate n) (list : List Rule)
+pub host_leads : (b : Bool) (key : List ℕ) (laws : Laws key) (late : (n : ℤ) → IsMoment n → EndsLate n)
+    (list : List Rule)
     (host : List ℕ) (acts : List Act) (told : List (List Reading)) (rows : List Row) → IsHostSetter host acts
-    → AllFollow the_beginning (moments_of acts) → Plays list key [] acts told rows
+    → AllFollow the_beginning (moments_of acts) → Plays b list key [] acts told rows
     → (end : Site) × EachReadsByHost host nothing acts told end
     × SiteAgrees begins_host key host rows (last_of the_beginning (moments_of acts)) end
-host_leads key laws late list host acts told rows site follows plays =
-    each_leads begins_host GetByHost told_by key laws late list host acts nothing the_beginning [] told rows
+host_leads b key laws late list host acts told rows site follows plays =
+    each_leads b begins_host GetByHost told_by key laws late list host acts nothing the_beginning [] told rows
     (reads_back host site.own_form site.no_empty_label) (all_away list host acts site.sessions) follows tt
     (begins begins_host key host) plays
 
 pub setters_read : (key : List ℕ) (laws : Laws key) (late : (n : ℤ) → IsMoment n → EndsLate n)
     → EachPlayIsReadBySetters key
-setters_read key laws late list acts readings follows run = record {
+setters_read key laws late b list acts readings follows run = record {
   told = run.told;
   read = run.read;
-  own = plays_answer late list key the_beginning [] run.rows acts run.told follows run.ran;
+  own = plays_answer b late list key the_beginning [] run.rows acts run.told follows run.ran;
   sites = λ host site.
-      let led = host_leads key laws late list host acts run.told run.rows site follows run.ran in
+      let led = host_leads b key laws late list host acts run.told run.rows site follows run.ran in
       (led.0, led.1);
 }
 
 pub setters_read_until : (key : List ℕ) (laws : Laws key) (late : (n : ℤ) → IsMoment n → EndsLate n)
     → EachStoppedPlayIsReadBySetters key
-setters_read_until key laws late list acts step kind readings run =
-    let front = front_inside key run.rows (all_told run.told) readings kind _ run.act run.stops in
-    let lines = plays_from laws.given laws.again list key the_beginning [] run.rows run.before run.told run.in_order tt
+setters_read_until key laws late b list acts step kind readings run =
+    let front = front_inside b key run.rows (all_told run.told) readings kind _ run.act run.stops in
+    let lines = plays_from b laws.given laws.again list key the_beginning
+    [] run.rows run.before run.told run.in_order tt
     run.ran in
     record {
       before = run.before;
@@ -121,12 +124,13 @@ setters_read_until key laws late list acts step kind readings run =
       told = run.told;
       front = front.0;
       read = front.1;
-      own = plays_answer late list key the_beginning [] run.rows run.before run.told run.in_order run.ran;
+      own = plays_answer b late list key the_beginning [] run.rows run.before run.told run.in_order run.ran;
       sites = λ host site.
-          let led = host_leads key laws late list host run.before run.told run.rows site run.in_order run.ran in (
+          let led = host_leads b key laws late list host run.before run.told run.rows site run.in_order run.ran in (
             led.0,
             led.1,
-            act_stops begins_host GetByHost told_by key laws late host run.act led.0 run.rows kind _ (all_told run.told)
+            act_stops b begins_host GetByHost told_by key laws late host run.act led.0 run.rows kind _
+                (all_told run.told)
                 readings (reads_back host site.own_form site.no_empty_label) (line_pairs run.rows lines) led.2
                 run.stops,
           );
@@ -175,8 +179,9 @@ as_sites_until acts step kind readings h = record {
 }
 
 pub hosts_read : (key : List ℕ) → EachPlayIsReadBySetters key → EachPlayIsReadByHost key
-hosts_read key setters list acts readings follows run = as_sites acts readings (setters list acts readings follows run)
+hosts_read key setters b list acts readings follows run =
+    as_sites acts readings (setters b list acts readings follows run)
 
 pub hosts_read_until : (key : List ℕ) → EachStoppedPlayIsReadBySetters key → EachStoppedPlayIsReadByHost key
-hosts_read_until key setters list acts step kind readings run =
-    as_sites_until acts step kind readings (setters list acts step kind readings run)
+hosts_read_until key setters b list acts step kind readings run =
+    as_sites_until acts step kind readings (setters b list acts step kind readings run)

@@ -19,7 +19,7 @@ use Rattle.cookie_text.specs.Printing.{encoded_pair, escaped, is_escaped, stripp
 use Rattle.cookie_text.specs.Record.{Record, bare}
 use Rattle.cookie_text.specs.Again.{Lacks, IsReadPair}
 use Rattle.cookie_client.specs.Reading.{behind_blanks, is_hidden, is_hidden_prefix}
-use Rattle.cookie_client.proofs.HeaderCookies.{pair_in, decoded, cookie_by, cookie_of, shown_by}
+use Rattle.cookie_client.proofs.HeaderCookies.{pair_in, decoded, cookie_by, shown_by}
 use Rattle.cookie_client.proofs.Escaped.{IsPlain, escaped_plain, decoded_escaped}
 use Rattle.cookie_client.proofs.ReadBack.{IsGraphic, skip_graphic, graphic_ascii, ascii, end_trimmed, trim_graphic}
 use Rattle.cookie_client.proofs.ReadBack.{is_semicolon, is_equals, plain_graphic, first_equals, led, led_whole}
@@ -213,7 +213,3 @@ cookie_by_led b spaced c good =
     ∙ (ap (shown_by b (led spaced (n ++ 61 ∷ v)))
     ((λ i. pair_in (name i) (value i)) ∙ (pair_named n v (escaped_nonempty c.name good.named good.name_bytes)
     ∙ decodes_pair c good)) ∙ cond-false _ _ _ (unhidden b _ (shows_prefix c.name spaced v)))
-
-pub cookie_of_led : (spaced : Bool) (c : Record) → IsGood c → cookie_of (led spaced (stripped (encoded_pair c))) ≡ Some
-    (bare_of c)
-cookie_of_led spaced c good = cookie_by_led false spaced c good

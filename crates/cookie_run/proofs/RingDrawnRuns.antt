@@ -1,5 +1,5 @@
 -- A play on a ring by its draws goes on by one step, and is a play whatever the nonces.
-use Rattle.std.proofs.Common.{◌≡◌, ◌≢◌, ◌⊎◌, ℕ, inl, inr, List, [], ◌∷◌, ◌++◌, sym, refl, ap, ◌∙◌, subst}
+use Rattle.std.proofs.Common.{false, ◌≡◌, ◌≢◌, ◌⊎◌, ℕ, inl, inr, List, [], ◌∷◌, ◌++◌, sym, refl, ap, ◌∙◌, subst}
 use Rattle.std.proofs.Common.{append_assoc, Some, None}
 use Rattle.jiff.specs.Types.{DateTime}
 use Rattle.cookie.specs.KeyRing.{Ring}
@@ -144,7 +144,7 @@ commands_any ds old (c ∷ cs) told new h =
 
 step_any : (ds : List Draw) (list : List Rule) (ring : Ring) (rows : List Row) (act : RingAct)
     (told : List RingReading) (left : Ring) (new : List Row) → RingStepBy ds list ring rows act told left new
-    → RingStep list ring rows act told left new
+    → RingStep false list ring rows act told left new
 step_any ds list ring rows (Visits url at cs arrival) told left new h = (
   h.0,
   h.1,
@@ -158,7 +158,7 @@ step_any ds list ring rows (Rotates key at keep_until) told left new h = h.0
 
 pub plays_any : (ds : List Draw) (list : List Rule) (ring : Ring) (rows : List Row) (acts : List RingAct)
     (told : List (List RingReading)) (left : Ring) (new : List Row)
-    → RingPlaysBy ds list ring rows acts told left new → RingPlays list ring rows acts told left new
+    → RingPlaysBy ds list ring rows acts told left new → RingPlays false list ring rows acts told left new
 plays_any ds list ring rows [] [] left new h = (h.0, h.1)
 plays_any ds list ring rows [] (t ∷ told) left new h = absurd h
 plays_any ds list ring rows (a ∷ acts) [] left new h = absurd h

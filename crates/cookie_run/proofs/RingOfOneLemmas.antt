@@ -1,5 +1,5 @@
 -- A play on a ring of one key is a play with that key.
-use Rattle.std.proofs.Common.{◌≡◌, ◌∙◌, inl, inr, ℕ, List, [], ◌∷◌, ◌++◌, map, Option, Some, None, MatchOption}
+use Rattle.std.proofs.Common.{Bool, ◌≡◌, ◌∙◌, inl, inr, ℕ, List, [], ◌∷◌, ◌++◌, map, Option, Some, None, MatchOption}
 use Rattle.std.proofs.Common.{refl, ap, sym, subst}
 use Rattle.std.specs.List.{AllByRecursion}
 use Rattle.std.proofs.lemmas.List.{map-append}
@@ -11,14 +11,14 @@ use Rattle.cookie.specs.KeyRing.{Ring, alone}
 use Rattle.cookie_text.specs.Record.{Seen}
 use Rattle.cookie_store.specs.Rows.{Row}
 use Rattle.publicsuffix.specs.Rules.{Rule}
-use Rattle.cookie_client.specs.Jar.{IsOpened, Keyed, ReadsIn, TakesOut}
+use Rattle.cookie_client.specs.Jar.{IsOpenedBy, Keyed, ReadsIn, TakesOut}
 use Rattle.cookie_run.specs.Play.{GetTells, RemoveTells, SetTells, Tells}
 use Rattle.cookie_run.specs.RingOfOne.{AreThatPlay, HasNoEnd, IsSuchAPlay, all_placed}
 use Rattle.cookie_run.specs.RingOfOne.{commands_of, placed_at_0}
 use Rattle.cookie_run.specs.RingPlay as ring
 use Rattle.cookie_run.specs.RingPlay.{RingAct, RingCommand, RingGetTells, RingPlays, RingReading, RingRemoveTells}
 use Rattle.cookie_run.specs.RingPlay.{RingSetTells, RingTells}
-use Rattle.cookie_client.specs.RingSession.{IsOpenedOn, IsThatSession, Ringed, at_0, keyed, value_alone}
+use Rattle.cookie_client.specs.RingSession.{IsOpenedOnBy, IsThatSession, Ringed, at_0, keyed, value_alone}
 use Rattle.cookie_run.specs.declared.step.Reading.{Reading}
 use Rattle.cookie_run.specs.declared.step.Reading.TheVariants.{Header, Refused, Value}
 use Rattle.cookie_client.specs.declared.outcome.SessionError.TheVariants.{EmptyName}
@@ -238,18 +238,19 @@ module _ (that : IsThatSession) (key : List ℕ) (now : DateTime) where
 
 -- ---- all acts
 
-opened_there : (key : List ℕ) (now : DateTime) (header : List ℕ) (s : Ringed)
-    → IsOpenedOn (alone key) now header s → Stays key now s
+opened_there : {b : Bool} (key : List ℕ) (now : DateTime) (header : List ℕ) (s : Ringed)
+    → IsOpenedOnBy b (alone key) now header s → Stays key now s
 opened_there key now header s h = stays_of key now s.jar s h.ring_is h.moment_is
 
-opened_back : (key : List ℕ) (header : List ℕ) (s : Keyed) → IsOpened key header s → s ≡ with_key key s.jar
+opened_back : {b : Bool} (key : List ℕ) (header : List ℕ) (s : Keyed) → IsOpenedBy b key header s
+    → s ≡ with_key key s.jar
 opened_back key header s h = λ i. record { key = h.key_is i; jar = s.jar }
 
-same_ring : (list : List Rule) (key : List ℕ) (turned : Ring) (rows : List Row) (steps : List RingAct)
+same_ring : (b : Bool) (list : List Rule) (key : List ℕ) (turned : Ring) (rows : List Row) (steps : List RingAct)
     (told : List (List RingReading)) (left : Ring) (new : List Row) → turned ≡ alone key
-    → RingPlays list turned rows steps told left new → RingPlays list (alone key) rows steps told left new
-same_ring list key turned rows steps told left new is h =
-    subst (λ (q : Ring). RingPlays list q rows steps told left new) is h
+    → RingPlays b list turned rows steps told left new → RingPlays b list (alone key) rows steps told left new
+same_ring b list key turned rows steps told left new is h =
+    subst (λ (q : Ring). RingPlays b list q rows steps told left new) is h
 
 both : (first : List RingReading) (later : List (List RingReading)) (read : List Reading)
     (more : List (List Reading)) → first ≡ map placed_at_0 read → later ≡ all_placed more
@@ -257,84 +258,84 @@ both : (first : List RingReading) (later : List (List RingReading)) (read : List
 both first later read more a b = λ i. a i ∷ b i
 
 pub are_that_play : IsThatSession → AreThatPlay
-are_that_play that list key rows [] [] left new plain h = ([], h.1, refl, h.0)
-are_that_play that list key rows [] (t ∷ ts) left new plain h = absurd h
-are_that_play that list key rows (a ∷ rest) [] left new plain h = absurd h
-are_that_play that list key rows (ring.Visits url at cs arrival ∷ rest) (t ∷ ts) left new plain h =
+are_that_play that b list key rows [] [] left new plain h = ([], h.1, refl, h.0)
+are_that_play that b list key rows [] (t ∷ ts) left new plain h = absurd h
+are_that_play that b list key rows (a ∷ rest) [] left new plain h = absurd h
+are_that_play that b list key rows (ring.Visits url at cs arrival ∷ rest) (t ∷ ts) left new plain h =
     let step = h.2 in
     let opened : Ringed = step.2.0 in
     let is : Stays key at opened = opened_there key at step.0 opened step.2.1 in
     let s = tells_there that key at opened.jar step.2.2.0 cs t plain.0
     (subst (λ (m : Ringed). RingTells m cs t step.2.2.0) is step.2.2.1) in
-    let start : IsOpened key step.0 (with_key key opened.jar) =
-    subst (λ (m : Ringed). IsOpened key step.0 (keyed m)) is step.2.1.opened in
-    let later = are_that_play that list key h.1 rest ts left new plain.1
-    (same_ring list key h.0 h.1 rest ts left new step.3 h.3) in (
+    let start : IsOpenedBy b key step.0 (with_key key opened.jar) =
+    subst (λ (m : Ringed). IsOpenedBy b key step.0 (keyed m)) is step.2.1.opened in
+    let later = are_that_play that b list key h.1 rest ts left new plain.1
+    (same_ring b list key h.0 h.1 rest ts left new step.3 h.3) in (
       s.0 ∷ later.0,
       (h.1, (step.0, step.1, (keyed step.2.2.0, (with_key key opened.jar, start, s.1), step.2.2.2)), later.1),
       both t ts s.0 later.0 s.2 later.2,
       later.3,
     )
-are_that_play that list key rows (ring.Answers url lines at ∷ rest) (t ∷ ts) left new plain h =
-    let later = are_that_play that list key h.1 rest ts left new plain
-    (same_ring list key h.0 h.1 rest ts left new h.2.2 h.3) in
+are_that_play that b list key rows (ring.Answers url lines at ∷ rest) (t ∷ ts) left new plain h =
+    let later = are_that_play that b list key h.1 rest ts left new plain
+    (same_ring b list key h.0 h.1 rest ts left new h.2.2 h.3) in
     ([] ∷ later.0, (h.1, (refl, h.2.1), later.1), both t ts [] later.0 h.2.0 later.2, later.3)
-are_that_play that list key rows (ring.Asks url at ∷ rest) (t ∷ ts) left new plain h =
-    let later = are_that_play that list key h.1 rest ts left new plain
-    (same_ring list key h.0 h.1 rest ts left new h.2.2 h.3) in (
+are_that_play that b list key rows (ring.Asks url at ∷ rest) (t ∷ ts) left new plain h =
+    let later = are_that_play that b list key h.1 rest ts left new plain
+    (same_ring b list key h.0 h.1 rest ts left new h.2.2 h.3) in (
       (Header h.2.0.0 ∷ []) ∷ later.0,
       (h.1, ((h.2.0.0, h.2.0.1, refl), h.2.1), later.1),
       both t ts (Header h.2.0.0 ∷ []) later.0 h.2.0.2 later.2,
       later.3,
     )
-are_that_play that list key rows (ring.Restarts at ∷ rest) (t ∷ ts) left new plain h =
-    let later = are_that_play that list key h.1 rest ts left new plain
-    (same_ring list key h.0 h.1 rest ts left new h.2.2 h.3) in
+are_that_play that b list key rows (ring.Restarts at ∷ rest) (t ∷ ts) left new plain h =
+    let later = are_that_play that b list key h.1 rest ts left new plain
+    (same_ring b list key h.0 h.1 rest ts left new h.2.2 h.3) in
     ([] ∷ later.0, (h.1, (refl, h.2.1), later.1), both t ts [] later.0 h.2.0 later.2, later.3)
-are_that_play that list key rows (ring.Rotates k at keep ∷ rest) (t ∷ ts) left new plain h = absurd plain
+are_that_play that b list key rows (ring.Rotates k at keep ∷ rest) (t ∷ ts) left new plain h = absurd plain
 
 pub is_such_a_play : IsThatSession → IsSuchAPlay
-is_such_a_play that list key rows [] [] new plain h = (refl, h)
-is_such_a_play that list key rows [] (t ∷ ts) new plain h = absurd h
-is_such_a_play that list key rows (ring.Visits url at cs arrival ∷ rest) [] new plain h = absurd h
-is_such_a_play that list key rows (ring.Answers url lines at ∷ rest) [] new plain h = absurd h
-is_such_a_play that list key rows (ring.Asks url at ∷ rest) [] new plain h = absurd h
-is_such_a_play that list key rows (ring.Restarts at ∷ rest) [] new plain h = absurd h
-is_such_a_play that list key rows (ring.Rotates k at keep ∷ rest) read new plain h = absurd plain
-is_such_a_play that list key rows (ring.Visits url at cs arrival ∷ rest) (t ∷ ts) new plain h =
+is_such_a_play that b list key rows [] [] new plain h = (refl, h)
+is_such_a_play that b list key rows [] (t ∷ ts) new plain h = absurd h
+is_such_a_play that b list key rows (ring.Visits url at cs arrival ∷ rest) [] new plain h = absurd h
+is_such_a_play that b list key rows (ring.Answers url lines at ∷ rest) [] new plain h = absurd h
+is_such_a_play that b list key rows (ring.Asks url at ∷ rest) [] new plain h = absurd h
+is_such_a_play that b list key rows (ring.Restarts at ∷ rest) [] new plain h = absurd h
+is_such_a_play that b list key rows (ring.Rotates k at keep ∷ rest) read new plain h = absurd plain
+is_such_a_play that b list key rows (ring.Visits url at cs arrival ∷ rest) (t ∷ ts) new plain h =
     let step = h.1 in
     let session : Keyed = step.2.0 in
     let opened : Keyed = step.2.1.0 in
     let is = opened_back key step.0 opened step.2.1.1 in
     let on_ring : Ringed = on key at opened.jar in
-    let start : IsOpenedOn (alone key) at step.0 on_ring =
+    let start : IsOpenedOnBy b (alone key) at step.0 on_ring =
     record {
       ring_is = refl;
       moment_is = refl;
-      opened = subst (λ (m : Keyed). IsOpened key step.0 m) is step.2.1.1;
+      opened = subst (λ (m : Keyed). IsOpenedBy b key step.0 m) is step.2.1.1;
     } in
     let tells = tells_back that key at opened.jar session cs t plain.0
     (subst (λ (m : Keyed). Tells m (civil_nanos at) (commands_of cs) t session) is step.2.1.2) in (
       alone key,
       h.0,
       (step.0, step.1, (on_ring, start, (on key at session.jar, tells, step.2.2)), refl),
-      is_such_a_play that list key h.0 rest ts new plain.1 h.2,
+      is_such_a_play that b list key h.0 rest ts new plain.1 h.2,
     )
-is_such_a_play that list key rows (ring.Answers url lines at ∷ rest) (t ∷ ts) new plain h = (
+is_such_a_play that b list key rows (ring.Answers url lines at ∷ rest) (t ∷ ts) new plain h = (
   alone key,
   h.0,
   (ap (map placed_at_0) h.1.0, h.1.1, refl),
-  is_such_a_play that list key h.0 rest ts new plain h.2,
+  is_such_a_play that b list key h.0 rest ts new plain h.2,
 )
-is_such_a_play that list key rows (ring.Asks url at ∷ rest) (t ∷ ts) new plain h = (
+is_such_a_play that b list key rows (ring.Asks url at ∷ rest) (t ∷ ts) new plain h = (
   alone key,
   h.0,
   ((h.1.0.0, h.1.0.1, ap (map placed_at_0) h.1.0.2), h.1.1, refl),
-  is_such_a_play that list key h.0 rest ts new plain h.2,
+  is_such_a_play that b list key h.0 rest ts new plain h.2,
 )
-is_such_a_play that list key rows (ring.Restarts at ∷ rest) (t ∷ ts) new plain h = (
+is_such_a_play that b list key rows (ring.Restarts at ∷ rest) (t ∷ ts) new plain h = (
   alone key,
   h.0,
   (ap (map placed_at_0) h.1.0, h.1.1, refl),
-  is_such_a_play that list key h.0 rest ts new plain h.2,
+  is_such_a_play that b list key h.0 rest ts new plain h.2,
 )

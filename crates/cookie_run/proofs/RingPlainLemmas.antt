@@ -1,5 +1,5 @@
 -- The commands of a session on a ring as commands of a session that signs and seals nothing.
-use Rattle.std.proofs.Common.{◌≡◌, ◌≢◌, ◌∙◌, inl, inr, ℕ, ℤ, List, [], ◌∷◌, ◌++◌, refl, ap, sym, subst}
+use Rattle.std.proofs.Common.{Bool, ◌≡◌, ◌≢◌, ◌∙◌, inl, inr, ℕ, ℤ, List, [], ◌∷◌, ◌++◌, refl, ap, sym, subst}
 use Rattle.std.proofs.Common.{append_assoc}
 use Rattle.std.specs.List.{AllByRecursion}
 use Rattle.std.specs.Str.{IsUtf8}
@@ -12,13 +12,13 @@ use Rattle.jiff.specs.Types.{DateTime}
 use Rattle.cookie_store.specs.Rows.{Row}
 use Rattle.cookie.specs.KeyRing.{Ring}
 use Rattle.cookie_run.specs.Acts as acts
-use Rattle.cookie_client.specs.Jar.{IsOpened, Keyed, Sets}
+use Rattle.cookie_client.specs.Jar.{IsOpenedBy, Keyed, Sets}
 use Rattle.cookie_run.specs.Play.{CommandTells, GetTells, Plays, RemoveTells, Serves, Tells}
 use Rattle.cookie_client.specs.PlainSets.{any_nonce}
 use Rattle.cookie_run.specs.RingPlain.{IsPlainCommand, RingCommandsArePlain, RingPlaysArePlain}
 use Rattle.cookie_run.specs.RingPlay as ring
 use Rattle.cookie_run.specs.RingPlay.{RingCommand, RingCommandTells, RingReading, RingTells}
-use Rattle.cookie_client.specs.RingSession.{IsOpenedOn, KeepsRing, Ringed, keyed}
+use Rattle.cookie_client.specs.RingSession.{IsOpenedOnBy, KeepsRing, Ringed, keyed}
 use Rattle.cookie_run.specs.declared.step.Command.{Command}
 use Rattle.cookie_run.specs.declared.step.Command.TheVariants.{Set, Remove, Get}
 use Rattle.cookie_run.specs.declared.step.Reading.{Reading}
@@ -201,16 +201,18 @@ rekeyed_all key old new at (c ∷ cs) told is h = (
 
 -- ---- a play
 
-pub rekeyed_opening : (key own header : List ℕ) (s : Keyed) → IsOpened own header s → IsOpened key header (rekey key s)
+pub rekeyed_opening : {b : Bool} (key own header : List ℕ) (s : Keyed) → IsOpenedBy b own header s
+    → IsOpenedBy b key header (rekey key s)
 rekeyed_opening key own header s h =
     record { cookies = h.cookies; read = h.read; key_is = refl; holds = h.holds }
 
 module _ (signed : (k value : List ℕ) → IsUtf8 value → IsUtf8 (signing k value))
     (sealed : (k name value text : List ℕ) → IsSealing k name value text → IsUtf8 text) where
-  serves : (key header : List ℕ) (r : Ring) (at : DateTime) (commands : List RingCommand) (told : List RingReading)
-      (opened session : Ringed) → IsOpenedOn r at header opened → RingTells opened commands told session
+  serves : {b : Bool} (key header : List ℕ) (r : Ring) (at : DateTime) (commands : List RingCommand)
+      (told : List RingReading)
+      (opened session : Ringed) → IsOpenedOnBy b r at header opened → RingTells opened commands told session
       → (cs : List Command) × (read : List Reading) × AllByRecursion IsPlainCommand cs
-      × Serves key header (civil_nanos at) cs read (rekey key (keyed session))
+      × Serves b key header (civil_nanos at) cs read (rekey key (keyed session))
   serves key header r at commands told opened session is tells =
       let d = commands_plain signed sealed opened session commands told tells in
       let moved =
@@ -226,43 +228,43 @@ module _ (signed : (k value : List ℕ) → IsUtf8 value → IsUtf8 (signing k v
       )
 
   pub plays_plain : RingPlaysArePlain
-  plays_plain key list r rows [] [] left new h = ([], [], refl, h.1)
-  plays_plain key list r rows [] (t ∷ ts) left new h = absurd h
-  plays_plain key list r rows (a ∷ rest) [] left new h = absurd h
-  plays_plain key list r rows (ring.Visits url at cs arrival ∷ rest) (t ∷ ts) left new h =
+  plays_plain b key list r rows [] [] left new h = ([], [], refl, h.1)
+  plays_plain b key list r rows [] (t ∷ ts) left new h = absurd h
+  plays_plain b key list r rows (a ∷ rest) [] left new h = absurd h
+  plays_plain b key list r rows (ring.Visits url at cs arrival ∷ rest) (t ∷ ts) left new h =
       let step = h.2 in
       let s = serves key step.0 r at cs t step.2.0 step.2.2.0 step.2.1 step.2.2.1 in
-      let later = plays_plain key list h.0 h.1 rest ts left new h.3 in (
+      let later = plays_plain b key list h.0 h.1 rest ts left new h.3 in (
         acts.Visits url (civil_nanos at) s.0 arrival ∷ later.0,
         s.1 ∷ later.1,
         (s.0, later.0, refl, s.2, later.2),
         (h.1, (step.0, step.1, (rekey key (keyed step.2.2.0), s.3, step.2.2.2)), later.3),
       )
-  plays_plain key list r rows (ring.Answers url lines at ∷ rest) (t ∷ ts) left new h =
-      let later = plays_plain key list h.0 h.1 rest ts left new h.3 in (
+  plays_plain b key list r rows (ring.Answers url lines at ∷ rest) (t ∷ ts) left new h =
+      let later = plays_plain b key list h.0 h.1 rest ts left new h.3 in (
         acts.Answers url lines at ∷ later.0,
         [] ∷ later.1,
         (later.0, refl, later.2),
         (h.1, (refl, h.2.1), later.3),
       )
-  plays_plain key list r rows (ring.Asks url at ∷ rest) (t ∷ ts) left new h =
-      let later = plays_plain key list h.0 h.1 rest ts left new h.3 in (
+  plays_plain b key list r rows (ring.Asks url at ∷ rest) (t ∷ ts) left new h =
+      let later = plays_plain b key list h.0 h.1 rest ts left new h.3 in (
         acts.Asks url at ∷ later.0,
         (Header h.2.0.0 ∷ []) ∷ later.1,
         (later.0, refl, later.2),
         (h.1, ((h.2.0.0, h.2.0.1, refl), h.2.1), later.3),
       )
-  plays_plain key list r rows (ring.Restarts at ∷ rest) (t ∷ ts) left new h =
-      let later = plays_plain key list h.0 h.1 rest ts left new h.3 in (
+  plays_plain b key list r rows (ring.Restarts at ∷ rest) (t ∷ ts) left new h =
+      let later = plays_plain b key list h.0 h.1 rest ts left new h.3 in (
         acts.Restarts at ∷ later.0,
         [] ∷ later.1,
         (later.0, refl, later.2),
         (h.1, (refl, h.2.1), later.3),
       )
-  plays_plain key list r rows (ring.Rotates k at keep ∷ rest) (t ∷ ts) left new h =
-      let later = plays_plain key list h.0 h.1 rest ts left new h.3 in (
+  plays_plain b key list r rows (ring.Rotates k at keep ∷ rest) (t ∷ ts) left new h =
+      let later = plays_plain b key list h.0 h.1 rest ts left new h.3 in (
         later.0,
         later.1,
         later.2,
-        subst (λ (q : List Row). Plays list key q later.0 later.1 new) h.2.1 later.3,
+        subst (λ (q : List Row). Plays b list key q later.0 later.1 new) h.2.1 later.3,
       )

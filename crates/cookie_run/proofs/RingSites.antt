@@ -1,5 +1,6 @@
 -- The headline on a ring, over the definitions: by the headline of plain acts that leave what those on the ring leave.
-use Rattle.std.proofs.Common.{◌≡◌, ◌∙◌, ℕ, ℤ, ◌≤ℤ◌, List, [], ◌∷◌, ◌++◌, length, Some, refl, ap, sym, subst, arith}
+use Rattle.std.proofs.Common.{Bool, ◌≡◌, ◌∙◌, ℕ, ℤ, ◌≤ℤ◌, List, [], ◌∷◌, ◌++◌, length, Some, refl, ap, sym, subst}
+use Rattle.std.proofs.Common.{arith}
 use Rattle.std.proofs.Common.{⊎_elim, true, false, Option}
 use Rattle.std.proofs.lemmas.Bool.{cases_Bool}
 use Rattle.std.specs.Prelude.{⊤}
@@ -25,7 +26,7 @@ use Rattle.cookie_run.specs.RingHeadline.{HasText, every_name, without_commands}
 use Rattle.cookie_run.specs.Readings.{IsAnswer}
 use Rattle.cookie_run.specs.RingPlay as ring
 use Rattle.cookie_run.specs.RingPlay.{RingAct, RingCommand, RingPlays, RingReading, RingTells, ring_moments_of}
-use Rattle.cookie_client.specs.RingSession.{IsOpenedOn, Ringed, keyed}
+use Rattle.cookie_client.specs.RingSession.{IsOpenedOnBy, Ringed, keyed}
 use Rattle.cookie_run.specs.RingSite.{Change, RingExchangeOn, RingSite, no_entry, ring_after_arrival, ring_restarted}
 use Rattle.cookie_run.specs.Site.{GetOn, IsReadAt, Site, after_arrival, nothing, restarted}
 use Rattle.cookie_client.specs.Ways.{Plain}
@@ -136,11 +137,11 @@ ReadAlike Counts Read r steps told plain read = (host : List ℕ) (held end : Si
     → AlikeSites held ringed → EachReadsIn Read host held plain read end
     → (ringed_end : RingSite) × EachRingReadsOn Counts host r ringed steps told ringed_end × AlikeSites end ringed_end
 
-pub record MirrorActs (Counts : List ℕ → Type 0) (Read : Gets) (key : List ℕ) (list : List Rule) (r : Ring)
+pub record MirrorActs (b : Bool) (Counts : List ℕ → Type 0) (Read : Gets) (key : List ℕ) (list : List Rule) (r : Ring)
     (rows : List Row) (steps : List RingAct) (told : List (List RingReading)) (new : List Row) : Type 0 where
   pub plain : List Act
   pub read : List (List Reading)
-  pub plays : Plays list key rows plain read new
+  pub plays : Plays b list key rows plain read new
   pub follow : Follow (ring_moments_of steps) (moments_of plain)
   pub premises : KeepsPremises list (without_commands steps) plain
   pub alike : ReadAlike Counts Read r steps told plain read
@@ -181,11 +182,12 @@ visit_alike Counts Read host r url at commands arrival t cs p steps told plain r
 
 module _ (Counts : List ℕ → Type 0) (Read : Gets) (tell : TellsPlain Counts Read) (laws : RingLaws) (key : List ℕ)
     (list : List Rule) where
-  serves : (header : List ℕ) (r : Ring) (at : DateTime) (commands : List RingCommand) (told : List RingReading)
+  serves : {b : Bool} (header : List ℕ) (r : Ring) (at : DateTime) (commands : List RingCommand)
+      (told : List RingReading)
       (opened session : Ringed) → AllByRecursion HasText commands → EndsLate (civil_nanos at)
-      → length r.current ≡ 64 → IsOpenedOn r at header opened → RingTells opened commands told session
+      → length r.current ≡ 64 → IsOpenedOnBy b r at header opened → RingTells opened commands told session
       → (cs : List Command) × (read : List Reading)
-      × Serves key header (civil_nanos at) cs read (rekey key (keyed session))
+      × Serves b key header (civil_nanos at) cs read (rekey key (keyed session))
       × AllDo Counts Read r at commands told cs read
   serves header r at commands told opened session text late long is tells =
       let m = all_mirror Counts Read tell laws opened session commands told text
@@ -206,11 +208,12 @@ module _ (Counts : List ℕ → Type 0) (Read : Gets) (tell : TellsPlain Counts 
         doing,
       )
 
-  pub acts_mirror : (r : Ring) (rows : List Row) (steps : List RingAct) (told : List (List RingReading)) (left : Ring)
+  pub acts_mirror : (b : Bool) (r : Ring) (rows : List Row) (steps : List RingAct) (told : List (List RingReading))
+      (left : Ring)
       (new : List Row) → length r.current ≡ 64 → AreFit steps → OpenLate steps
-      → RingPlays list r rows steps told left new
-      → MirrorActs Counts Read key list r rows steps told new
-  acts_mirror r rows [] [] left new long fit late h = record {
+      → RingPlays b list r rows steps told left new
+      → MirrorActs b Counts Read key list r rows steps told new
+  acts_mirror b r rows [] [] left new long fit late h = record {
     plain = [];
     read = [];
     plays = h.1;
@@ -219,13 +222,13 @@ module _ (Counts : List ℕ → Type 0) (Read : Gets) (tell : TellsPlain Counts 
     alike = λ host held end ringed a reads.
         (ringed, refl, subst (λ (s : Site). AlikeSites s ringed) (sym reads) a);
   }
-  acts_mirror r rows [] (t ∷ ts) left new long fit late h = absurd h
-  acts_mirror r rows (a ∷ rest) [] left new long fit late h = absurd h
-  acts_mirror r rows (ring.Visits url at cs arrival ∷ rest) (t ∷ ts) left new long fit late h =
+  acts_mirror b r rows [] (t ∷ ts) left new long fit late h = absurd h
+  acts_mirror b r rows (a ∷ rest) [] left new long fit late h = absurd h
+  acts_mirror b r rows (ring.Visits url at cs arrival ∷ rest) (t ∷ ts) left new long fit late h =
       let step = h.2 in
       let s = serves step.0 r at cs t step.2.0 step.2.2.0 fit.0 late.0 long step.2.1 step.2.2.1 in
-      let later = acts_mirror r h.1 rest ts left new long fit.1 late.1
-      (subst (λ (q : Ring). RingPlays list q h.1 rest ts left new) step.3 h.3) in
+      let later = acts_mirror b r h.1 rest ts left new long fit.1 late.1
+      (subst (λ (q : Ring). RingPlays b list q h.1 rest ts left new) step.3 h.3) in
       record {
         plain = acts.Visits url (civil_nanos at) s.0 arrival ∷ later.plain;
         read = s.1 ∷ later.read;
@@ -247,9 +250,9 @@ module _ (Counts : List ℕ → Type 0) (Read : Gets) (tell : TellsPlain Counts 
             a reads s.3
             later.alike;
       }
-  acts_mirror r rows (ring.Answers url lines at ∷ rest) (t ∷ ts) left new long fit late h =
-      let later = acts_mirror r h.1 rest ts left new long fit late
-      (subst (λ (q : Ring). RingPlays list q h.1 rest ts left new) h.2.2 h.3) in
+  acts_mirror b r rows (ring.Answers url lines at ∷ rest) (t ∷ ts) left new long fit late h =
+      let later = acts_mirror b r h.1 rest ts left new long fit late
+      (subst (λ (q : Ring). RingPlays b list q h.1 rest ts left new) h.2.2 h.3) in
       record {
         plain = acts.Answers url lines at ∷ later.plain;
         read = [] ∷ later.read;
@@ -265,9 +268,9 @@ module _ (Counts : List ℕ → Type 0) (Read : Gets) (tell : TellsPlain Counts 
             reads.2 in
             (on.0, (ringed, refl, on.1), on.2);
       }
-  acts_mirror r rows (ring.Asks url at ∷ rest) (t ∷ ts) left new long fit late h =
-      let later = acts_mirror r h.1 rest ts left new long fit late
-      (subst (λ (q : Ring). RingPlays list q h.1 rest ts left new) h.2.2 h.3) in
+  acts_mirror b r rows (ring.Asks url at ∷ rest) (t ∷ ts) left new long fit late h =
+      let later = acts_mirror b r h.1 rest ts left new long fit late
+      (subst (λ (q : Ring). RingPlays b list q h.1 rest ts left new) h.2.2 h.3) in
       record {
         plain = acts.Asks url at ∷ later.plain;
         read = (Header h.2.0.0 ∷ []) ∷ later.read;
@@ -283,9 +286,9 @@ module _ (Counts : List ℕ → Type 0) (Read : Gets) (tell : TellsPlain Counts 
             reads.2 in
             (on.0, (ringed, refl, on.1), on.2);
       }
-  acts_mirror r rows (ring.Restarts at ∷ rest) (t ∷ ts) left new long fit late h =
-      let later = acts_mirror r h.1 rest ts left new long fit late
-      (subst (λ (q : Ring). RingPlays list q h.1 rest ts left new) h.2.2 h.3) in
+  acts_mirror b r rows (ring.Restarts at ∷ rest) (t ∷ ts) left new long fit late h =
+      let later = acts_mirror b r h.1 rest ts left new long fit late
+      (subst (λ (q : Ring). RingPlays b list q h.1 rest ts left new) h.2.2 h.3) in
       record {
         plain = acts.Restarts at ∷ later.plain;
         read = [] ∷ later.read;
@@ -300,14 +303,14 @@ module _ (Counts : List ℕ → Type 0) (Read : Gets) (tell : TellsPlain Counts 
             (ring_restarted ringed at) reads.1 (alike_restarted held ringed at a) later.alike reads.2 in
             (on.0, (ring_restarted ringed at, refl, on.1), on.2);
       }
-  acts_mirror r rows (ring.Rotates k at keep ∷ rest) (t ∷ ts) left new long fit late h =
+  acts_mirror b r rows (ring.Rotates k at keep ∷ rest) (t ∷ ts) left new long fit late h =
       let next : Ring = rotated k at keep r in
-      let turned = subst (λ (q : Ring). RingPlays list q h.1 rest ts left new) h.2.2 h.3 in
-      let later = acts_mirror next h.1 rest ts left new fit.0 fit.1 late turned in
+      let turned = subst (λ (q : Ring). RingPlays b list q h.1 rest ts left new) h.2.2 h.3 in
+      let later = acts_mirror b next h.1 rest ts left new fit.0 fit.1 late turned in
       record {
         plain = later.plain;
         read = later.read;
-        plays = subst (λ (q : List Row). Plays list key q later.plain later.read new) h.2.1 later.plays;
+        plays = subst (λ (q : List Row). Plays b list key q later.plain later.read new) h.2.1 later.plays;
         follow = λ last f. follow_earlier last (civil_nanos at) (moments_of later.plain) f.0.in_order
             (later.follow (civil_nanos at) f.1);
         premises = later.premises;
@@ -326,8 +329,8 @@ abbrev pub EachKey : Type 0
 EachKey = (key : List ℕ) → length key ≡ 64 → Laws key
 
 pub ring_sites_read : RingLaws → EachKey → ((n : ℤ) → IsMoment n → EndsLate n) → EachRingPlayIsRead
-ring_sites_read laws each late list r steps told left rows play host site =
-    let m = acts_mirror every_name GetOn plain_on laws r.current list r [] steps told left rows play.is_key play.fit
+ring_sites_read laws each late b list r steps told left rows play host site =
+    let m = acts_mirror every_name GetOn plain_on laws r.current list b r [] steps told left rows play.is_key play.fit
     (open_late late steps the_beginning play.in_order) play.plays in
     let premises = m.premises host in
     let plain : IsSite list host m.plain =
@@ -337,7 +340,7 @@ ring_sites_read laws each late list r steps told left rows play host site =
       sessions = premises.0 site.sessions;
       apart = premises.1.0 site.apart;
     } in
-    let led = site_leads r.current (each r.current play.is_key) late list host m.plain m.read rows plain
+    let led = site_leads b r.current (each r.current play.is_key) late list host m.plain m.read rows plain
     (m.follow the_beginning play.in_order) m.plays in
     let on = m.alike host nothing led.0 no_entry (λ name. tt) led.1 in
     (on.0, on.1)
@@ -366,8 +369,8 @@ plain_by view (b ∷ bs) told some h = answered h.1.0 h.1.1 h.1.2 h.0
     answered (Header header) is for on = absurd for
 
 pub ring_setters_read : RingLaws → EachKey → ((n : ℤ) → IsMoment n → EndsLate n) → EachRingPlayIsReadBySetters
-ring_setters_read laws each late list r steps told left rows play host site =
-    let m = acts_mirror HasHostPrefix GetByHost plain_by laws r.current list r [] steps told left rows play.is_key
+ring_setters_read laws each late b list r steps told left rows play host site =
+    let m = acts_mirror HasHostPrefix GetByHost plain_by laws r.current list b r [] steps told left rows play.is_key
     play.fit (open_late late steps the_beginning play.in_order) play.plays in
     let premises = m.premises host in
     let plain : IsHostSetter host m.plain =
@@ -376,11 +379,11 @@ ring_setters_read laws each late list r steps told left rows play host site =
       no_empty_label = site.no_empty_label;
       sessions = premises.1.1 site.sessions;
     } in
-    let led = host_leads r.current (each r.current play.is_key) late list host m.plain m.read rows plain
+    let led = host_leads b r.current (each r.current play.is_key) late list host m.plain m.read rows plain
     (m.follow the_beginning play.in_order) m.plays in
     let on = m.alike host nothing led.0 no_entry (λ name. tt) led.1 in
     (on.0, on.1)
 
 pub ring_hosts_read : EachRingPlayIsReadBySetters → EachRingPlayIsReadByHost
-ring_hosts_read setters list r steps told left rows play host site =
-    setters list r steps told left rows play host (setter host (without_commands steps) site)
+ring_hosts_read setters b list r steps told left rows play host site =
+    setters b list r steps told left rows play host (setter host (without_commands steps) site)

@@ -1,5 +1,5 @@
 -- What a session on a ring reads of a stored name, by the text that it has there.
-use Rattle.std.proofs.Common.{◌≡◌, ◌∙◌, ℕ, List, Option, Some, None, MatchOption, refl, ap, sym, subst, arith}
+use Rattle.std.proofs.Common.{Bool, ◌≡◌, ◌∙◌, ℕ, List, Option, Some, None, MatchOption, refl, ap, sym, subst, arith}
 use Rattle.std.specs.Prelude.{IfSome}
 use Rattle.std.specs.FinMap as finmap
 use Rattle.std.specs.Str.{bytes_eq}
@@ -14,7 +14,7 @@ use Rattle.cookie.specs.Reading.{IsSigned, IsSealed}
 use Rattle.cookie.specs.Sealing.{IsSealing}
 use Rattle.cookie_client.specs.Ending.{IsReadBefore}
 use Rattle.jiff.specs.Words.{civil_nanos}
-use Rattle.cookie_client.specs.Jar.{IsOpened, Keyed, Sets, TakesOut, record_in, taken, value_in}
+use Rattle.cookie_client.specs.Jar.{IsOpenedBy, Keyed, Sets, TakesOut, record_in, taken, value_in}
 use Rattle.cookie_client.specs.RingSession.{ReadsEnding, RingReadsIn, Ringed, at_0, value_placed}
 use Rattle.cookie_run.specs.RingSite.{Form, Plain, Signed, Sealed, Until, StandsBy, form_of}
 use Rattle.cookie_client.specs.Ways.{stored_name}
@@ -32,7 +32,7 @@ use Rattle.cookie_client.proofs.Texts.{same_text}
 abbrev pub IsNamed : Jar → Type 0
 IsNamed jar = (q : List ℕ) → IfSome (view jar q) (λ s. s.cookie.name ≡ q)
 
-pub opened_named : (key header : List ℕ) (s : Keyed) → IsOpened key header s → IsNamed s.jar
+pub opened_named : {b : Bool} (key header : List ℕ) (s : Keyed) → IsOpenedBy b key header s → IsNamed s.jar
 opened_named key header s h q =
     let brought =
     subst (λ o. IfSome o (λ c. c.name ≡ q)) (sym (h.holds.originals q)) (last_named h.cookies q) in

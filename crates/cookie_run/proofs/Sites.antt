@@ -1,5 +1,6 @@
 -- The headline, over the definitions.
-use Rattle.std.proofs.Common.{◌≡◌, ◌≢◌, ℕ, ℤ, ◌≤ℤ◌, pos, true, false, cond, All, List, [], ◌∷◌, ◌++◌, sym, refl, ap}
+use Rattle.std.proofs.Common.{Bool, ◌≡◌, ◌≢◌, ℕ, ℤ, ◌≤ℤ◌, pos, true, false, cond, All, List, [], ◌∷◌, ◌++◌, sym}
+use Rattle.std.proofs.Common.{refl, ap}
 use Rattle.std.proofs.Common.{◌∙◌, subst, ⊎_elim, inl, inr, Some, None, arith, append-nil}
 use Rattle.std.specs.Prelude.{option_map, ◌==◌, ◌⊎◌, ⊤}
 use Rattle.std.proofs.lemmas.Bool.{cases_Bool, cond-false}
@@ -126,13 +127,13 @@ abbrev pub Leads : Counts → Gets → List ℕ → List ℕ → Site → Act �
 Leads counts Read key host site act told new = (after : Site) × ReadsIn Read host site act told after
     × SiteAgrees counts key host new (ends_at act) after
 
-act_leads : (counts : Counts) (Read : Gets) → Told counts Read → (key : List ℕ) (laws : Laws key)
+act_leads : (b : Bool) (counts : Counts) (Read : Gets) → Told counts Read → (key : List ℕ) (laws : Laws key)
     (late : (n : ℤ) → IsMoment n → EndsLate n) (list : List Rule) (host : List ℕ) (act : Act) (site : Site) (last : ℤ)
     (rows new : List Row) (told : List Reading) → IsReadBack host
     → AnswersAway counts list host act → AllFollow last (moments_in act) → HaveReadPairs rows
-    → SiteAgrees counts key host rows last site → OneStep list key rows act told new
+    → SiteAgrees counts key host rows last site → OneStep b list key rows act told new
     → Leads counts Read key host site act told new
-act_leads counts Read tell key laws late list host (Visits url at commands arrival) site last rows new told reads
+act_leads b counts Read tell key laws late list host (Visits url at commands arrival) site last rows new told reads
     away follows pairs a p =
     let now = agrees_later counts key host rows last at site follows.0.in_order a in
     ⊎_elim
@@ -152,7 +153,7 @@ act_leads counts Read tell key laws late list host (Visits url at commands arriv
           arrival new now.cookies other away now.agrees p.2.2)),
     ))
     (cases_Bool (is_text host (secure_host url)))
-act_leads counts Read tell key laws late list host (Answers url lines at) site last rows new told reads away
+act_leads b counts Read tell key laws late list host (Answers url lines at) site last rows new told reads away
     follows pairs a p =
     let now = agrees_later counts key host rows last at site follows.0.in_order a in (
       site,
@@ -160,14 +161,14 @@ act_leads counts Read tell key laws late list host (Answers url lines at) site l
       with_rows counts key host rows new at site now (other_lines counts list host url at lines rows now.cookies p.1.0
           new away now.agrees p.1.1),
     )
-act_leads counts Read tell key laws late list host (Asks url at) site last rows new told reads away follows pairs
+act_leads b counts Read tell key laws late list host (Asks url at) site last rows new told reads away follows pairs
     a p = (
       site,
       refl,
       subst (λ rs. SiteAgrees counts key host rs at site) (sym p.1) (agrees_later counts key host rows last at site
           follows.0.in_order a),
     )
-act_leads counts Read tell key laws late list host (Restarts at) site last rows new told reads away follows pairs
+act_leads b counts Read tell key laws late list host (Restarts at) site last rows new told reads away follows pairs
     a p = (
       restarted site at,
       refl,
@@ -184,28 +185,28 @@ EachReadsIn Read host site (act ∷ acts) [] end = ⊥
 EachReadsIn Read host site (act ∷ acts) (told ∷ later) end =
     (mid : Site) × ReadsIn Read host site act told mid × EachReadsIn Read host mid acts later end
 
-pub each_leads : (counts : Counts) (Read : Gets) → Told counts Read → (key : List ℕ) (laws : Laws key)
+pub each_leads : (b : Bool) (counts : Counts) (Read : Gets) → Told counts Read → (key : List ℕ) (laws : Laws key)
     (late : (n : ℤ) → IsMoment n → EndsLate n) (list : List Rule) (host : List ℕ) (acts : List Act) (site : Site)
     (last : ℤ) (rows : List Row) (told : List (List Reading)) (new : List Row) → IsReadBack host
     → Each (AnswersAway counts list host) acts
     → AllFollow last (moments_of acts) → AreFromLines rows → SiteAgrees counts key host rows last site
-    → Plays list key rows acts told new
+    → Plays b list key rows acts told new
     → (end : Site) × EachReadsIn Read host site acts told end
     × SiteAgrees counts key host new (last_of last (moments_of acts)) end
-each_leads counts Read tell key laws late list host [] site last rows [] new reads away follows lines a p =
+each_leads b counts Read tell key laws late list host [] site last rows [] new reads away follows lines a p =
     (site, refl, subst (λ rs. SiteAgrees counts key host rs last site) (sym p) a)
-each_leads counts Read tell key laws late list host [] site last rows (told ∷ later) new reads away follows lines
+each_leads b counts Read tell key laws late list host [] site last rows (told ∷ later) new reads away follows lines
     a p = absurd p
-each_leads counts Read tell key laws late list host (act ∷ acts) site last rows [] new reads away follows lines a
+each_leads b counts Read tell key laws late list host (act ∷ acts) site last rows [] new reads away follows lines a
     p = absurd p
-each_leads counts Read tell key laws late list host (act ∷ acts) site last rows (told ∷ later) new reads away
+each_leads b counts Read tell key laws late list host (act ∷ acts) site last rows (told ∷ later) new reads away
     follows lines a p =
     let moments = front_follows last act (moments_of acts) follows in
-    let first = act_leads counts Read tell key laws late list host act site last rows p.0 told reads away.0
+    let first = act_leads b counts Read tell key laws late list host act site last rows p.0 told reads away.0
     moments.0 (line_pairs rows lines) a p.1 in
-    let rest = each_leads counts Read tell key laws late list host acts first.0 (ends_at act) p.0 later new reads
+    let rest = each_leads b counts Read tell key laws late list host acts first.0 (ends_at act) p.0 later new reads
     away.1 moments.1
-    (step_from laws.given laws.again list key last rows p.0 act told moments.0 lines p.1) first.2 p.2 in (
+    (step_from b laws.given laws.again list key last rows p.0 act told moments.0 lines p.1) first.2 p.2 in (
       rest.0,
       (first.0, first.1, rest.1),
       subst (λ m. SiteAgrees counts key host new m rest.0) (ap (λ m. last_of m (moments_of acts)) (ends_last last act)
@@ -259,28 +260,28 @@ answers_to old new at (Get way name ∷ cs) told late t =
     let g = got old way name t.0 t.3.0 in
     (g.0, t.1, t.5 ∙ ap (λ x. x ++ t.1) g.1, g.2, answers_to t.2 new at cs t.1 late t.4)
 
-one_answers : (list : List Rule) (key : List ℕ) (rows new : List Row) (act : Act) (told : List Reading)
-    → EndsLate (opening_of act) → OneStep list key rows act told new → AnswersAct act told
-one_answers list key rows new (Visits url at commands arrival) told late s = answers_to s.2.1.0 s.2.0 at commands told
+one_answers : (b : Bool) (list : List Rule) (key : List ℕ) (rows new : List Row) (act : Act) (told : List Reading)
+    → EndsLate (opening_of act) → OneStep b list key rows act told new → AnswersAct act told
+one_answers b list key rows new (Visits url at commands arrival) told late s = answers_to s.2.1.0 s.2.0 at commands told
     late s.2.1.2
-one_answers list key rows new (Answers url lines at) told late s = s.0
-one_answers list key rows new (Asks url at) told late s = (s.0.0, s.0.2)
-one_answers list key rows new (Restarts at) told late s = s.0
+one_answers b list key rows new (Answers url lines at) told late s = s.0
+one_answers b list key rows new (Asks url at) told late s = (s.0.0, s.0.2)
+one_answers b list key rows new (Restarts at) told late s = s.0
 
 opens_late : (late : (n : ℤ) → IsMoment n → EndsLate n) (last : ℤ) (act : Act) → AllFollow last (moments_in act)
     → EndsLate (opening_of act)
 opens_late late last act f = late (opening_of act) f.0.is_moment
 
-pub plays_answer : (late : (n : ℤ) → IsMoment n → EndsLate n) (list : List Rule) (key : List ℕ) (last : ℤ)
+pub plays_answer : (b : Bool) (late : (n : ℤ) → IsMoment n → EndsLate n) (list : List Rule) (key : List ℕ) (last : ℤ)
     (rows new : List Row) (acts : List Act) (told : List (List Reading)) → AllFollow last (moments_of acts)
-    → Plays list key rows acts told new → AnswersEach acts told
-plays_answer late list key last rows new [] [] f p = tt
-plays_answer late list key last rows new [] (t ∷ ts) f p = absurd p
-plays_answer late list key last rows new (a ∷ acts) [] f p = absurd p
-plays_answer late list key last rows new (a ∷ acts) (t ∷ ts) f p =
+    → Plays b list key rows acts told new → AnswersEach acts told
+plays_answer b late list key last rows new [] [] f p = tt
+plays_answer b late list key last rows new [] (t ∷ ts) f p = absurd p
+plays_answer b late list key last rows new (a ∷ acts) [] f p = absurd p
+plays_answer b late list key last rows new (a ∷ acts) (t ∷ ts) f p =
     let moments = front_follows last a (moments_of acts) f in (
-      one_answers list key rows p.0 a t (opens_late late last a moments.0) p.1,
-      plays_answer late list key (ends_at a)
+      one_answers b list key rows p.0 a t (opens_late late last a moments.0) p.1,
+      plays_answer b late list key (ends_at a)
           p.0 new acts ts moments.1 p.2,
     )
 
@@ -305,10 +306,11 @@ StopsIn Read host site kind last (Answers url lines at) old readings = ⊤
 StopsIn Read host site kind last (Asks url at) old readings = ⊤
 StopsIn Read host site kind last (Restarts at) old readings = ⊤
 
-all_on : (counts : Counts) (Read : Gets) → Told counts Read → (key : List ℕ) (laws : Laws key) (host : List ℕ)
+all_on : {b : Bool} (counts : Counts) (Read : Gets) → Told counts Read → (key : List ℕ) (laws : Laws key)
+    (host : List ℕ)
     (rows : List Row) (url : Parts) (now : ℤ) (site : Site) (cs : List Command) (told : List Reading) (header : List ℕ)
     → secure_host url ≡ Some host → IsReadBack host → EndsLate now → HaveReadPairs rows
-    → SiteAgrees counts key host rows now site → IsHeader rows url now header → ServesAll key header now cs told
+    → SiteAgrees counts key host rows now site → IsHeader rows url now header → ServesAll b key header now cs told
     → AllIn Read site now cs told
 all_on counts Read tell key laws host rows url now site cs told header secure reads late pairs a is serves =
     let w = walked counts Read tell key laws host rows url now now site cs told serves.0 header a secure reads
@@ -319,11 +321,12 @@ all_on counts Read tell key laws host rows url now site cs told header secure re
     same : (n : ℤ) → n ≤ℤ n
     same n = omega (arith, signed_arith)
 
-front_on : (counts : Counts) (Read : Gets) → Told counts Read → (key : List ℕ) (laws : Laws key) (host : List ℕ)
+front_on : {b : Bool} (counts : Counts) (Read : Gets) → Told counts Read → (key : List ℕ) (laws : Laws key)
+    (host : List ℕ)
     (rows : List Row) (url : Parts) (now : ℤ) (site : Site) (cs : List Command) (told : List Reading)
     → secure_host url ≡ Some host → IsReadBack host → EndsLate now → HaveReadPairs rows
     → SiteAgrees counts key host rows now site
-    → ((told ≡ []) ⊎ ((header : List ℕ) × IsHeader rows url now header × ServesFront key header now cs told))
+    → ((told ≡ []) ⊎ ((header : List ℕ) × IsHeader rows url now header × ServesFront b key header now cs told))
     → FrontIn Read site now cs told
 front_on counts Read tell key laws host rows url now site cs told secure reads late pairs a (inl none) =
     ([], cs, refl, ([], live_view site now, (none, refl, refl)))
@@ -349,14 +352,14 @@ inside_on : (kind : FaultKind) (last : ℤ) (arrival : Arrival) (old readings : 
 inside_on kind last arrival old readings F G A B f g (inl memory) = inl (memory.0, goes_on old readings F G f memory.1)
 inside_on kind last arrival old readings F G A B f g (inr moment) = inr (moment.0, goes_on old readings A B g moment.1)
 
-pub act_stops : (counts : Counts) (Read : Gets) → Told counts Read → (key : List ℕ) (laws : Laws key)
+pub act_stops : (b : Bool) (counts : Counts) (Read : Gets) → Told counts Read → (key : List ℕ) (laws : Laws key)
     (late : (n : ℤ) → IsMoment n → EndsLate n) (host : List ℕ) (act : Act) (site : Site) (rows : List Row)
     (kind : FaultKind) (last : ℤ) (old readings : List Reading) → IsReadBack host → HaveReadPairs rows
-    → SiteAgrees counts key host rows last site → StopsFrom kind last act old (ReadsFront key rows act)
-    (ReadsAll key rows act) readings → StopsIn Read host site kind last act old readings
-act_stops counts Read tell key laws late host (Visits url at commands arrival) site rows kind last old readings reads
+    → SiteAgrees counts key host rows last site → StopsFrom kind last act old (ReadsFront b key rows act)
+    (ReadsAll b key rows act) readings → StopsIn Read host site kind last act old readings
+act_stops b counts Read tell key laws late host (Visits url at commands arrival) site rows kind last old readings reads
     pairs a (inl opening) = λ here. inl opening
-act_stops counts Read tell key laws late host (Visits url at commands arrival) site rows kind last old readings reads
+act_stops b counts Read tell key laws late host (Visits url at commands arrival) site rows kind last old readings reads
     pairs a (inr past) =
     λ here.
     let now = agrees_later counts key host rows last at site past.0.in_order a in
@@ -368,16 +371,18 @@ act_stops counts Read tell key laws late host (Visits url at commands arrival) s
           (λ told all. all_on counts Read tell key laws host rows url at site commands told all.0 here reads
           (late at past.0.is_moment) pairs now all.1 all.2) past.1,
     )
-act_stops counts Read tell key laws late host (Answers url lines at) site rows kind last old readings reads pairs a
+act_stops b counts Read tell key laws late host (Answers url lines at) site rows kind last old readings reads pairs a
     s = tt
-act_stops counts Read tell key laws late host (Asks url at) site rows kind last old readings reads pairs a s = tt
-act_stops counts Read tell key laws late host (Restarts at) site rows kind last old readings reads pairs a s = tt
+act_stops b counts Read tell key laws late host (Asks url at) site rows kind last old readings reads pairs a s = tt
+act_stops b counts Read tell key laws late host (Restarts at) site rows kind last old readings reads pairs a s = tt
 
-pub front_inside : (key : List ℕ) (rows : List Row) (old readings : List Reading) (kind : FaultKind) (last : ℤ)
+pub front_inside : (b : Bool) (key : List ℕ) (rows : List Row) (old readings : List Reading) (kind : FaultKind)
+    (last : ℤ)
     (act : Act)
-    → StopsFrom kind last act old (ReadsFront key rows act) (ReadsAll key rows act) readings → (front : List Reading)
+    → StopsFrom kind last act old (ReadsFront b key rows act) (ReadsAll b key rows act) readings
+    → (front : List Reading)
     × (readings ≡ old ++ front)
-front_inside key rows old readings kind last act stops =
+front_inside b key rows old readings kind last act stops =
     elim stops [
       | inl opening ↦ ([], opening.1 ∙ sym (append-nil old))
       | inr past ↦ elim (past.1) [
@@ -404,31 +409,33 @@ apart_away list host (Answers url lines at ∷ acts) s h = (inl (inl (s.0, h.0))
 apart_away list host (Asks url at ∷ acts) s h = (tt, apart_away list host acts s.1 h.1)
 apart_away list host (Restarts at ∷ acts) s h = (tt, apart_away list host acts s.1 h.1)
 
-pub site_leads : (key : List ℕ) (laws : Laws key) (late : (n : ℤ) → IsMoment n → EndsLate n) (list : List Rule)
+pub site_leads : (b : Bool) (key : List ℕ) (laws : Laws key) (late : (n : ℤ) → IsMoment n → EndsLate n)
+    (list : List Rule)
     (host : List ℕ) (acts : List Act) (told : List (List Reading)) (rows : List Row) → IsSite list host acts
-    → AllFollow the_beginning (moments_of acts) → Plays list key [] acts told rows
+    → AllFollow the_beginning (moments_of acts) → Plays b list key [] acts told rows
     → (end : Site) × EachReadsOn host nothing acts told end
     × SiteAgrees every key host rows (last_of the_beginning (moments_of acts)) end
-site_leads key laws late list host acts told rows site follows plays =
-    each_leads every GetOn told_on key laws late list host acts nothing the_beginning [] told rows
+site_leads b key laws late list host acts told rows site follows plays =
+    each_leads b every GetOn told_on key laws late list host acts nothing the_beginning [] told rows
     (reads_back host site.own_form site.no_empty_label) (apart_away list host acts site.sessions site.apart) follows tt
     (begins every key host) plays
 
 pub sites_read : (key : List ℕ) (laws : Laws key) (late : (n : ℤ) → IsMoment n → EndsLate n) → EachPlayIsRead key
-sites_read key laws late list acts readings follows run = record {
+sites_read key laws late b list acts readings follows run = record {
   told = run.told;
   read = run.read;
-  own = plays_answer late list key the_beginning [] run.rows acts run.told follows run.ran;
+  own = plays_answer b late list key the_beginning [] run.rows acts run.told follows run.ran;
   sites = λ host site.
-      let led = site_leads key laws late list host acts run.told run.rows site follows run.ran in
+      let led = site_leads b key laws late list host acts run.told run.rows site follows run.ran in
       (led.0, led.1);
 }
 
 pub sites_read_until : (key : List ℕ) (laws : Laws key) (late : (n : ℤ) → IsMoment n → EndsLate n)
     → EachStoppedPlayIsRead key
-sites_read_until key laws late list acts step kind readings run =
-    let front = front_inside key run.rows (all_told run.told) readings kind _ run.act run.stops in
-    let lines = plays_from laws.given laws.again list key the_beginning [] run.rows run.before run.told run.in_order tt
+sites_read_until key laws late b list acts step kind readings run =
+    let front = front_inside b key run.rows (all_told run.told) readings kind _ run.act run.stops in
+    let lines = plays_from b laws.given laws.again list key the_beginning
+    [] run.rows run.before run.told run.in_order tt
     run.ran in
     record {
       before = run.before;
@@ -439,12 +446,13 @@ sites_read_until key laws late list acts step kind readings run =
       told = run.told;
       front = front.0;
       read = front.1;
-      own = plays_answer late list key the_beginning [] run.rows run.before run.told run.in_order run.ran;
+      own = plays_answer b late list key the_beginning [] run.rows run.before run.told run.in_order run.ran;
       sites = λ host site.
-          let led = site_leads key laws late list host run.before run.told run.rows site run.in_order run.ran in (
+          let led = site_leads b key laws late list host run.before run.told run.rows site run.in_order run.ran in (
             led.0,
             led.1,
-            act_stops every GetOn told_on key laws late host run.act led.0 run.rows kind _ (all_told run.told) readings
+            act_stops b every GetOn told_on key laws late host run.act led.0 run.rows kind _
+                (all_told run.told) readings
                 (reads_back host site.own_form site.no_empty_label) (line_pairs run.rows lines) led.2 run.stops,
           );
     }

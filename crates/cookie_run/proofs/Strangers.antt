@@ -112,17 +112,17 @@ near_or list host text named weighed =
 
 -- ---- the plays of no act, and of one and those behind it
 
-pub few_none : (list : List Rule) (key : List ℕ) (rest left : List Row) (told : List (List Reading))
-    → Plays list key rest [] told left → left ≡ rest
-few_none list key rest left [] p = p
-few_none list key rest left (t ∷ ts) p = absurd p
+pub few_none : (b : Bool) (list : List Rule) (key : List ℕ) (rest left : List Row) (told : List (List Reading))
+    → Plays b list key rest [] told left → left ≡ rest
+few_none b list key rest left [] p = p
+few_none b list key rest left (t ∷ ts) p = absurd p
 
-pub few_some : (list : List Rule) (key : List ℕ) (rest left : List Row) (act : Act) (acts : List Act)
-    (told : List (List Reading)) → Plays list key rest (act ∷ acts) told left
-    → (said : List Reading) × (later : List (List Reading)) × (mid : List Row) × OneStep list key rest act said mid
-    × Plays list key mid acts later left
-few_some list key rest left act acts [] p = absurd p
-few_some list key rest left act acts (t ∷ ts) p = (t, ts, p.0, p.1, p.2)
+pub few_some : (b : Bool) (list : List Rule) (key : List ℕ) (rest left : List Row) (act : Act) (acts : List Act)
+    (told : List (List Reading)) → Plays b list key rest (act ∷ acts) told left
+    → (said : List Reading) × (later : List (List Reading)) × (mid : List Row) × OneStep b list key rest act said mid
+    × Plays b list key mid acts later left
+few_some b list key rest left act acts [] p = absurd p
+few_some b list key rest left act acts (t ∷ ts) p = (t, ts, p.0, p.1, p.2)
 
 module _ (one : ReadsOnce) (list : List Rule) (host : List ℕ) where
   abbrev In : List ℕ → Type 0
@@ -280,51 +280,54 @@ module _ (one : ReadsOnce) (list : List Rule) (host : List ℕ) where
   }
 
   -- one that doesn't concern the host is in the first run alone
-  alone_step : (key : List ℕ) (act : Act) (rows rest new : List Row) (told : List Reading)
-      → ¬ (Concerns list host act) → OneStep list key rows act told new → Runs rows rest → Runs new rest
-  alone_step key (Visits url at commands arrival) rows rest new told away s r =
+  alone_step : (b : Bool) (key : List ℕ) (act : Act) (rows rest new : List Row) (told : List Reading)
+      → ¬ (Concerns list host act) → OneStep b list key rows act told new → Runs rows rest → Runs new rest
+  alone_step b key (Visits url at commands arrival) rows rest new told away s r =
       delivered rows rest new url s.2.0.jar arrival away s.2.2 r
-  alone_step key (Answers url lines at) rows rest new told away s r = record {
+  alone_step b key (Answers url lines at) rows rest new told away s r = record {
     both = (r.both.0, other_lines url at lines rows r.both.0 s.1.0 new away s.1.1 r.both.1, r.both.2);
     sound = lines_sound list one url at lines rows s.1.0 new s.1.1 r.sound;
     rest_sound = r.rest_sound;
   }
-  alone_step key (Asks url at) rows rest new told away s r = absurd (away tt)
-  alone_step key (Restarts at) rows rest new told away s r = absurd (away tt)
+  alone_step b key (Asks url at) rows rest new told away s r = absurd (away tt)
+  alone_step b key (Restarts at) rows rest new told away s r = absurd (away tt)
 
   -- one that does is in both
-  both_step : (key : List ℕ) (act : Act) (rows rest new left : List Row) (told said : List Reading) → IsNamed host
-      → IsNoExchange list host act → Concerns list host act → OneStep list key rows act told new
-      → OneStep list key rest act said left → Runs rows rest → Runs new left
-  both_step key (Visits url at commands arrival) rows rest new left told said named none concerns s t r =
+  both_step : (b : Bool) (key : List ℕ) (act : Act) (rows rest new left : List Row) (told said : List Reading)
+      → IsNamed host
+      → IsNoExchange list host act → Concerns list host act → OneStep b list key rows act told new
+      → OneStep false list key rest act said left → Runs rows rest → Runs new left
+  both_step b key (Visits url at commands arrival) rows rest new left told said named none concerns s t r =
       absurd (none concerns)
-  both_step key (Answers url lines at) rows rest new left told said named none concerns s t r = record {
+  both_step b key (Answers url lines at) rows rest new left told said named none concerns s t r = record {
     both = both_lines url at lines rows rest s.1.0 t.1.0 new left named s.1.1 t.1.1 r.both;
     sound = lines_sound list one url at lines rows s.1.0 new s.1.1 r.sound;
     rest_sound = lines_sound list one url at lines rest t.1.0 left t.1.1 r.rest_sound;
   }
-  both_step key (Asks url at) rows rest new left told said named none concerns s t r =
+  both_step b key (Asks url at) rows rest new left told said named none concerns s t r =
       subst (λ x. Runs x left) (sym s.1) (subst (λ x. Runs rows x) (sym t.1) r)
-  both_step key (Restarts at) rows rest new left told said named none concerns s t r =
+  both_step b key (Restarts at) rows rest new left told said named none concerns s t r =
       kept_runs at at rows rest new left s.1 t.1 r
 
   -- ---- all acts
 
-  both_play : (key : List ℕ) (acts few : List Act) (told said : List (List Reading)) (rows rest new left : List Row)
+  both_play : (b : Bool) (key : List ℕ) (acts few : List Act) (told said : List (List Reading))
+      (rows rest new left : List Row)
       → IsNamed host → Each (IsNoExchange list host) acts → IsOnly list host acts few
-      → Plays list key rows acts told new → Plays list key rest few said left → Runs rows rest → Runs new left
-  both_play key [] few [] said rows rest new left named none only p q r =
+      → Plays b list key rows acts told new → Plays false list key rest few said left → Runs rows rest → Runs new left
+  both_play b key [] few [] said rows rest new left named none only p q r =
       subst (λ x. Runs x left) (sym p) (subst (λ x. Runs rows x)
-      (sym (few_none list key rest left said (subst (λ x. Plays list key rest x said left) only q))) r)
-  both_play key [] few (t ∷ ts) said rows rest new left named none only p q r = absurd p
-  both_play key (act ∷ acts) few [] said rows rest new left named none only p q r = absurd p
-  both_play key (act ∷ acts) few (t ∷ ts) said rows rest new left named none (later, only, inl is) p q r =
-      let x = few_some list key rest left act later said (subst (λ x. Plays list key rest x said left) is.1 q) in
-      both_play key acts later ts x.1 p.0 x.2 new left named none.1 only p.2 x.4
-      (both_step key act rows rest p.0 x.2 t x.0 named none.0 is.0 p.1 x.3 r)
-  both_play key (act ∷ acts) few (t ∷ ts) said rows rest new left named none (later, only, inr is) p q r =
-      both_play key acts later ts said p.0 rest new left named none.1 only p.2
-      (subst (λ x. Plays list key rest x said left) is.1 q) (alone_step key act rows rest p.0 t is.0 p.1 r)
+      (sym (few_none false list key rest left said (subst (λ x. Plays false list key rest x said left) only q))) r)
+  both_play b key [] few (t ∷ ts) said rows rest new left named none only p q r = absurd p
+  both_play b key (act ∷ acts) few [] said rows rest new left named none only p q r = absurd p
+  both_play b key (act ∷ acts) few (t ∷ ts) said rows rest new left named none (later, only, inl is) p q r =
+      let x = few_some false list key rest left act later said
+      (subst (λ x. Plays false list key rest x said left) is.1 q) in
+      both_play b key acts later ts x.1 p.0 x.2 new left named none.1 only p.2 x.4
+      (both_step b key act rows rest p.0 x.2 t x.0 named none.0 is.0 p.1 x.3 r)
+  both_play b key (act ∷ acts) few (t ∷ ts) said rows rest new left named none (later, only, inr is) p q r =
+      both_play b key acts later ts said p.0 rest new left named none.1 only p.2
+      (subst (λ x. Plays false list key rest x said left) is.1 q) (alone_step b key act rows rest p.0 t is.0 p.1 r)
 
   -- ---- a header
 
@@ -373,17 +376,18 @@ none_given Is [] given none g = g
 none_given Is (r ∷ rs) given none (l, h, inl is) = absurd (none r is.0)
 none_given Is (r ∷ rs) given none (l, h, inr is) = is.1 ∙ none_given Is rs l none h
 
-pub untouched : (one : ReadsOnce) (given_once : GivenOnce) (order : OneOrder) (list : List Rule) (key : List ℕ)
+pub untouched : (b : Bool) (one : ReadsOnce) (given_once : GivenOnce) (order : OneOrder) (list : List Rule)
+    (key : List ℕ)
     (before : List Act) (told : List (List Reading)) (rows : List Row) (url : Parts) (at : ℤ) (header : List ℕ)
-    → Plays list key [] before told rows → IsHeader rows url at header → IsUntouched list key before url at header
-untouched one given_once order list key before told rows url at header p h = record {
+    → Plays b list key [] before told rows → IsHeader rows url at header → IsUntouched list key before url at header
+untouched b one given_once order list key before told rows url at header p h = record {
   hostless = λ none. h.printed ∙ ap (λ rows. header_of (map pair_of rows))
       (none_longest order h.given h.ordered (none_given (λ r. IsGiven r url at) rows h.given
       (λ r g. subst (λ o. IsSomeAnd o (Covers r.domain)) none g.goes.domain) h.are_given) h.longest);
   same = λ host is none other.
       by_cases (IsHostName host) header other.header
       (λ named. same_header one list host given_once order url at rows other.rows header other.header is
-      (both_play one list host key before other.few told other.told [] [] rows other.rows named none other.only p
+      (both_play one list host b key before other.few told other.told [] [] rows other.rows named none other.only p
       other.ran (record { both = ([], refl, refl); sound = tt; rest_sound = tt })) h other.is_header);
-  there = λ host is none. header_too order list host key before told rows url at p h.valid none;
+  there = λ host is none. header_too order list host key b before told rows url at p h.valid none;
 }

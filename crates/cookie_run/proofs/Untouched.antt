@@ -1,5 +1,5 @@
 -- Each header of a play is the one after those acts alone that concern its host.
-use Rattle.std.proofs.Common.{◌≡◌, ℕ, ℤ, List, [], ◌∷◌, ◌++◌, sym, refl, ◌∙◌, subst, inl, inr, append-nil}
+use Rattle.std.proofs.Common.{Bool, ◌≡◌, ℕ, ℤ, List, [], ◌∷◌, ◌++◌, sym, refl, ◌∙◌, subst, inl, inr, append-nil}
 use Rattle.std.specs.List.{AllByRecursion}
 use Rattle.publicsuffix.specs.Rules.{Rule}
 use Rattle.cookie_store.specs.Laws.{GivenOnce, OneOrder}
@@ -49,47 +49,47 @@ commands_headless old new at (c ∷ cs) told t =
     subst AreHeadless (sym t.5) (headless_append t.0 t.1 (command_headless old t.2 at c t.0 t.3)
     (commands_headless t.2 new at cs t.1 t.4))
 
-all_headless : (key header : List ℕ) (at : ℤ) (cs : List Command) (told : List Reading)
-    → ServesAll key header at cs told → AreHeadless told
+all_headless : {b : Bool} (key header : List ℕ) (at : ℤ) (cs : List Command) (told : List Reading)
+    → ServesAll b key header at cs told → AreHeadless told
 all_headless key header at cs told s = commands_headless s.1.0 s.0 at cs told s.1.2
 
-front_headless : (key header : List ℕ) (at : ℤ) (cs : List Command) (told : List Reading)
-    → ServesFront key header at cs told → AreHeadless told
+front_headless : {b : Bool} (key header : List ℕ) (at : ℤ) (cs : List Command) (told : List Reading)
+    → ServesFront b key header at cs told → AreHeadless told
 front_headless key header at cs told (inl none) = subst AreHeadless (sym none) tt
 front_headless key header at cs told (inr front) = all_headless key header at front.0 told front.3
 
 -- ---- a play
 
-plays_more : (list : List Rule) (key : List ℕ) (start rows mid : List Row) (before : List Act) (act : Act)
-    (told : List (List Reading)) (t : List Reading) → Plays list key start before told rows
-    → OneStep list key rows act t mid → Plays list key start (before ++ act ∷ []) (told ++ t ∷ []) mid
-plays_more list key start rows mid [] act [] t p s = (mid, subst (λ x. OneStep list key x act t mid) p s, refl)
-plays_more list key start rows mid [] act (x ∷ xs) t p s = absurd p
-plays_more list key start rows mid (b ∷ bs) act [] t p s = absurd p
-plays_more list key start rows mid (b ∷ bs) act (x ∷ xs) t p s =
-    (p.0, p.1, plays_more list key p.0 rows mid bs act xs t p.2 s)
+plays_more : (b : Bool) (list : List Rule) (key : List ℕ) (start rows mid : List Row) (before : List Act) (act : Act)
+    (told : List (List Reading)) (t : List Reading) → Plays b list key start before told rows
+    → OneStep b list key rows act t mid → Plays b list key start (before ++ act ∷ []) (told ++ t ∷ []) mid
+plays_more b list key start rows mid [] act [] t p s = (mid, subst (λ x. OneStep b list key x act t mid) p s, refl)
+plays_more b list key start rows mid [] act (x ∷ xs) t p s = absurd p
+plays_more b list key start rows mid (c ∷ cs) act [] t p s = absurd p
+plays_more b list key start rows mid (c ∷ cs) act (x ∷ xs) t p s =
+    (p.0, p.1, plays_more b list key p.0 rows mid cs act xs t p.2 s)
 
 module _ (one : ReadsOnce) (given_once : GivenOnce) (order : OneOrder) (list : List Rule) (key : List ℕ) where
-  act_untouched : (before : List Act) (act : Act) (told : List (List Reading)) (t : List Reading)
-      (rows mid : List Row) → Plays list key [] before told rows → OneStep list key rows act t mid
+  act_untouched : (b : Bool) (before : List Act) (act : Act) (told : List (List Reading)) (t : List Reading)
+      (rows mid : List Row) → Plays b list key [] before told rows → OneStep b list key rows act t mid
       → ReadsUntouched list key before act t
-  act_untouched before (Visits url at commands arrival) told t rows mid p s =
+  act_untouched b before (Visits url at commands arrival) told t rows mid p s =
       commands_headless s.2.1.0 s.2.0 at commands t s.2.1.2
-  act_untouched before (Answers url lines at) told t rows mid p s = s.0
-  act_untouched before (Asks url at) told t rows mid p s =
-      (s.0.0, s.0.2, untouched one given_once order list key before told rows url at s.0.0 p s.0.1)
-  act_untouched before (Restarts at) told t rows mid p s = s.0
+  act_untouched b before (Answers url lines at) told t rows mid p s = s.0
+  act_untouched b before (Asks url at) told t rows mid p s =
+      (s.0.0, s.0.2, untouched b one given_once order list key before told rows url at s.0.0 p s.0.1)
+  act_untouched b before (Restarts at) told t rows mid p s = s.0
 
-  each_untouched : (before acts : List Act) (told later : List (List Reading)) (rows new : List Row)
-      → Plays list key [] before told rows → Plays list key rows acts later new
+  each_untouched : (b : Bool) (before acts : List Act) (told later : List (List Reading)) (rows new : List Row)
+      → Plays b list key [] before told rows → Plays b list key rows acts later new
       → EachReadsUntouched list key before acts later
-  each_untouched before [] told [] rows new p q = refl
-  each_untouched before [] told (t ∷ later) rows new p q = absurd q
-  each_untouched before (act ∷ acts) told [] rows new p q = absurd q
-  each_untouched before (act ∷ acts) told (t ∷ later) rows new p q = (
-    act_untouched before act told t rows q.0 p q.1,
-    each_untouched (before ++ act ∷ []) acts (told ++ t ∷ []) later q.0 new
-        (plays_more list key [] rows q.0 before act told t p q.1) q.2,
+  each_untouched b before [] told [] rows new p q = refl
+  each_untouched b before [] told (t ∷ later) rows new p q = absurd q
+  each_untouched b before (act ∷ acts) told [] rows new p q = absurd q
+  each_untouched b before (act ∷ acts) told (t ∷ later) rows new p q = (
+    act_untouched b before act told t rows q.0 p q.1,
+    each_untouched b (before ++ act ∷ []) acts (told ++ t ∷ []) later q.0 new
+        (plays_more b list key [] rows q.0 before act told t p q.1) q.2,
   )
 
 -- ---- an act that the play stopped in
@@ -107,47 +107,49 @@ inside_headless kind last (Arrives at) old readings Front All f g (inr delivery)
     (delivery.1.0, delivery.1.2, g delivery.1.0 at refl delivery.1.1)
 inside_headless kind last Never old readings Front All f g (inr delivery) = absurd delivery.0
 
-past_headless : (key : List ℕ) (rows : List Row) (act : Act) (kind : FaultKind) (last : ℤ)
-    (old readings : List Reading) → StopsInside kind last (arrival_in act) old (ReadsFront key rows act)
-    (ReadsAll key rows act) readings → HasFront old readings
-past_headless key rows (Visits url at commands arrival) kind last old readings s =
+past_headless : (b : Bool) (key : List ℕ) (rows : List Row) (act : Act) (kind : FaultKind) (last : ℤ)
+    (old readings : List Reading) → StopsInside kind last (arrival_in act) old (ReadsFront b key rows act)
+    (ReadsAll b key rows act) readings → HasFront old readings
+past_headless b key rows (Visits url at commands arrival) kind last old readings s =
     inside_headless kind last arrival old readings _ _ (λ told front. fronts told front)
     (λ told at is all. all_headless key all.0 _ commands told all.2) s
   where
-    fronts : (told : List Reading) → ReadsFront key rows (Visits url at commands arrival) told → AreHeadless told
+    fronts : {b : Bool} (told : List Reading) → ReadsFront b key rows (Visits url at commands arrival) told
+        → AreHeadless told
     fronts told (inl none) = subst AreHeadless (sym none) tt
     fronts told (inr front) = front_headless key front.0 at commands told front.2
-past_headless key rows (Answers url lines at) kind last old readings s =
+past_headless b key rows (Answers url lines at) kind last old readings s =
     inside_headless kind last Never old readings _ _ (λ told front. subst AreHeadless (sym front) tt)
     (λ told at is all. subst AreHeadless (sym all) tt) s
-past_headless key rows (Restarts at) kind last old readings s =
+past_headless b key rows (Restarts at) kind last old readings s =
     inside_headless kind last Never old readings _ _ (λ told front. subst AreHeadless (sym front) tt)
     (λ told at is all. subst AreHeadless (sym all) tt) s
-past_headless key rows (Asks url at) kind last old readings s =
+past_headless b key rows (Asks url at) kind last old readings s =
     inside_headless kind last Never old readings _ _ (λ told front. subst AreHeadless (sym front) tt)
     (λ told at is all. never at is) s
   where
     never : {A : Type 0} (at : ℤ) → Never ≡ Arrives at → A
     never at e = absurd (cc)
 
-stops_headless : (key : List ℕ) (rows : List Row) (act : Act) (kind : FaultKind) (last : ℤ)
-    (old readings : List Reading) → StopsFrom kind last act old (ReadsFront key rows act) (ReadsAll key rows act)
+stops_headless : (b : Bool) (key : List ℕ) (rows : List Row) (act : Act) (kind : FaultKind) (last : ℤ)
+    (old readings : List Reading) → StopsFrom kind last act old (ReadsFront b key rows act) (ReadsAll b key rows act)
     readings → HasFront old readings
-stops_headless key rows act kind last old readings (inl opening) = ([], opening.1 ∙ sym (append-nil old), tt)
-stops_headless key rows act kind last old readings (inr past) = past_headless key rows act kind _ old readings past.1
+stops_headless b key rows act kind last old readings (inl opening) = ([], opening.1 ∙ sym (append-nil old), tt)
+stops_headless b key rows act kind last old readings (inr past) =
+    past_headless b key rows act kind _ old readings past.1
 
 -- ---- THE LAW
 
 pub plays_untouched : ReadsOnce → GivenOnce → OneOrder → EachPlayIsUntouched
-plays_untouched one given_once order list key acts readings run = record {
+plays_untouched one given_once order b list key acts readings run = record {
   told = run.told;
   read = run.read;
-  headers = each_untouched one given_once order list key [] acts [] run.told [] run.rows refl run.ran;
+  headers = each_untouched one given_once order list key b [] acts [] run.told [] run.rows refl run.ran;
 }
 
 pub stopped_untouched : ReadsOnce → GivenOnce → OneOrder → EachStoppedPlayIsUntouched
-stopped_untouched one given_once order list key acts step kind readings run =
-    let front = stops_headless key run.rows run.act kind _ (all_told run.told) readings run.stops in
+stopped_untouched one given_once order b list key acts step kind readings run =
+    let front = stops_headless b key run.rows run.act kind _ (all_told run.told) readings run.stops in
     record {
       before = run.before;
       act = run.act;
@@ -157,6 +159,6 @@ stopped_untouched one given_once order list key acts step kind readings run =
       told = run.told;
       front = front.0;
       read = front.1;
-      headers = each_untouched one given_once order list key [] run.before [] run.told [] run.rows refl run.ran;
+      headers = each_untouched one given_once order list key b [] run.before [] run.told [] run.rows refl run.ran;
       headless = front.2;
     }

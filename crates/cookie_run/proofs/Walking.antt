@@ -18,7 +18,7 @@ use Rattle.cookie.specs.declared.delta.DeltaCookie.TheVariants.{Added, Removed}
 use Rattle.cookie.specs.ByName.{ByName}
 use Rattle.cookie.specs.Jar.{Jar, view}
 use Rattle.store_parts.specs.Expiry.{death}
-use Rattle.cookie_client.specs.Jar.{Keyed, IsOpened, IsKeptAs, Sets, sent, value_in, record_in, last_in}
+use Rattle.cookie_client.specs.Jar.{Keyed, IsOpenedBy, IsKeptAs, Sets, sent, value_in, record_in, last_in}
 use Rattle.cookie_client.specs.PlainSets.{any_nonce}
 use Rattle.cookie_client.specs.Ways.{kind_of, stored_name, is_too_long}
 use Rattle.cookie_client.specs.declared.way.Way.{Way}
@@ -37,7 +37,7 @@ use Rattle.store_parts.specs.Expiry.{is_dead}
 use Rattle.cookie_run.specs.declared.step.Command.TheVariants.{Set}
 use Rattle.cookie_run.specs.Site.{Held, Site, View, with_at, live_at, entry_in, live_view, entry_of, held_from, left_by}
 use Rattle.cookie_client.specs.Reading.{GivesBy, GiveBy}
-use Rattle.cookie_client.proofs.HeaderCookies.{cookies_of}
+use Rattle.cookie_client.proofs.HeaderCookies.{cookies_by}
 use Rattle.cookie_run.proofs.Kepts.{Kept, found_in, AreApart, apart_filter}
 use Rattle.cookie_client.proofs.CountedRows.{Counts}
 use Rattle.cookie_run.proofs.Received.{alive}
@@ -116,12 +116,12 @@ Brings counts now at session = (q : List ℕ) → counts q ≡ true
     → record_in (finmap.get session.jar.originals q) ≡ option_map record_of
     (alive now (at q))
 
-pub brings : (counts : Counts) (key : List ℕ) (now : ℤ) (ks : List Kept) (header : List ℕ) (session : Keyed)
+pub brings : {b : Bool} (counts : Counts) (key : List ℕ) (now : ℤ) (ks : List Kept) (header : List ℕ) (session : Keyed)
     → AreApart ks → ((q : List ℕ) → counts q ≡ true
-    → last_in (cookies_of header) q ≡ last_in (map record_of (filter (lives now) ks)) q)
-    → IsOpened key header session → Brings counts now (found_in ks) session
-brings counts key now ks header session apart is opened q c =
-    opened.holds.originals q ∙ (ap (λ cs. last_in cs q) (cookies_are header opened.cookies opened.read)
+    → last_in (cookies_by b header) q ≡ last_in (map record_of (filter (lives now) ks)) q)
+    → IsOpenedBy b key header session → Brings counts now (found_in ks) session
+brings {b} counts key now ks header session apart is opened q c =
+    opened.holds.originals q ∙ (ap (λ cs. last_in cs q) (cookies_are b header opened.cookies opened.read)
     ∙ (is q c ∙ (last_kept (filter (lives now) ks) q (apart_filter (lives now) ks apart) ∙ ap (option_map record_of)
     (found_live now ks q apart))))
 
@@ -129,9 +129,9 @@ pub value_record : (o : Option Kept) → value_in (option_map record_of o) ≡ v
 value_record None = refl
 value_record (Some k) = refl
 
-pub opens : (counts : Counts) (key : List ℕ) (now : ℤ) (ks : List Kept) (header : List ℕ) (session : Keyed)
+pub opens : {b : Bool} (counts : Counts) (key : List ℕ) (now : ℤ) (ks : List Kept) (header : List ℕ) (session : Keyed)
     (site : Site)
-    → Brings counts now (found_in ks) session → IsOpened key header session
+    → Brings counts now (found_in ks) session → IsOpenedBy b key header session
     → ((q : List ℕ) → counts q ≡ true → MatchesHeld key q (alive now (found_in ks q)) (live_at now (site q)))
     → Shows counts key session (live_view site now)
 opens counts key now ks header session site brought opened each = record {
@@ -201,12 +201,12 @@ last_text (c ∷ cs) q h = either (last_in cs q) (bytes_eq q c.name) (last_text 
     either None true g = h.0
     either None false g = tt
 
-opened_texts : (key header : List ℕ) (session : Keyed) → IsOpened key header session → AreTexts session
-opened_texts key header session opened q s is =
+opened_texts : {b : Bool} (key header : List ℕ) (session : Keyed) → IsOpenedBy b key header session → AreTexts session
+opened_texts {b} key header session opened q s is =
     let last : last_in opened.cookies q ≡ Some s.cookie = sym (opened.holds.originals q) ∙ ap record_in is in
     subst IsUtf8 (subst (λ (o : Option Record). IfSome o (λ c. c.name ≡ q)) last (last_named opened.cookies q))
     (subst (λ (o : Option Record). IfSome o IsTextNamed) last
-    (last_text opened.cookies q (texts_given false _ opened.cookies opened.read)))
+    (last_text opened.cookies q (texts_given b _ opened.cookies opened.read)))
 
 -- A session at its commands: it shows what the request reads, and would leave the site so, were its answer delivered
 -- at d.
@@ -220,9 +220,10 @@ pub record Walks (counts : Counts) (key : List ℕ) (now d : ℤ) (at : List ℕ
   pub leaves : (q : List ℕ) → counts q ≡ true → MatchesHeld key q (sent_at d (finmap.get session.jar.changes q) (at q))
       (live_at d (left q))
 
-pub opened_walks : (counts : Counts) (key : List ℕ) (now d : ℤ) (ks : List Kept) (header : List ℕ) (session : Keyed)
+pub opened_walks : {b : Bool} (counts : Counts) (key : List ℕ) (now d : ℤ) (ks : List Kept) (header : List ℕ)
+    (session : Keyed)
     (site : Site)
-    → now ≤ℤ d → Brings counts now (found_in ks) session → IsOpened key header session
+    → now ≤ℤ d → Brings counts now (found_in ks) session → IsOpenedBy b key header session
     → ((q : List ℕ) → counts q ≡ true → MatchesHeld key q (alive now (found_in ks q)) (live_at now (site q)))
     → Walks counts key now d (found_in ks) session (live_view site now) site
 opened_walks counts key now d ks header session site after brought opened each =

@@ -1,7 +1,8 @@
 -- A play with what its generator was asked for: one fill of twelve bytes for each set that has to be sealed and that
 -- nothing else stands against, in their order, and its bytes are the nonce of the sealing (own: docs/DEFINITIONS.md).
 -- `Play` says the same whatever the nonces.
-use Rattle.std.specs.Prelude.{ℕ, ℤ, ◌+◌, length, List, [], ◌∷◌, ◌++◌, Option, Some, None, ◌≡◌, ◌≢◌, ◌⊎◌}
+use Rattle.std.specs.Prelude.{ℕ, ℤ, ◌+◌, length, List, [], ◌∷◌, ◌++◌, false, Option, Some, None, ◌≡◌}
+use Rattle.std.specs.Prelude.{◌≢◌, ◌⊎◌}
 use Rattle.cookie_text.specs.Record.{Seen}
 use Rattle.publicsuffix.specs.Rules.{Rule}
 use Rattle.cookie_store.specs.Rows.{Row}
@@ -102,9 +103,9 @@ StepBy drawn list key rows (Visits url at commands arrival) told new =
     × ((opened : Keyed) × IsOpened key header opened × ((session : Keyed)
     × CommandsDraw drawn opened at commands told session × Delivers list rows url session.jar arrival new))
 StepBy drawn list key rows (Answers url lines at) told new =
-    OneStep list key rows (Answers url lines at) told new × (drawn ≡ [])
-StepBy drawn list key rows (Asks url at) told new = OneStep list key rows (Asks url at) told new × (drawn ≡ [])
-StepBy drawn list key rows (Restarts at) told new = OneStep list key rows (Restarts at) told new × (drawn ≡ [])
+    OneStep false list key rows (Answers url lines at) told new × (drawn ≡ [])
+StepBy drawn list key rows (Asks url at) told new = OneStep false list key rows (Asks url at) told new × (drawn ≡ [])
+StepBy drawn list key rows (Restarts at) told new = OneStep false list key rows (Restarts at) told new × (drawn ≡ [])
 
 -- the steps, and their draws in that order
 abbrev pub PlaysBy : List Draw → List Rule → List ℕ → List Row → List Act → List (List Reading) → List Row → Type 0
@@ -121,9 +122,10 @@ abbrev pub ReadsAllBy : List Draw → List ℕ → List Row → Act → List Rea
 ReadsAllBy drawn key rows (Visits url at commands arrival) told =
     (header : List ℕ) × IsHeader rows url at header
     × ((opened : Keyed) × IsOpened key header opened × AllDraw drawn opened at commands told)
-ReadsAllBy drawn key rows (Answers url lines at) told = ReadsAll key rows (Answers url lines at) told × (drawn ≡ [])
-ReadsAllBy drawn key rows (Asks url at) told = ReadsAll key rows (Asks url at) told × (drawn ≡ [])
-ReadsAllBy drawn key rows (Restarts at) told = ReadsAll key rows (Restarts at) told × (drawn ≡ [])
+ReadsAllBy drawn key rows (Answers url lines at) told =
+    ReadsAll false key rows (Answers url lines at) told × (drawn ≡ [])
+ReadsAllBy drawn key rows (Asks url at) told = ReadsAll false key rows (Asks url at) told × (drawn ≡ [])
+ReadsAllBy drawn key rows (Restarts at) told = ReadsAll false key rows (Restarts at) told × (drawn ≡ [])
 
 -- by the first of its commands, or before it has read
 abbrev pub ReadsFrontBy : List Draw → List ℕ → List Row → Act → List Reading → Type 0
@@ -131,9 +133,10 @@ ReadsFrontBy drawn key rows (Visits url at commands arrival) told =
     ((told ≡ []) × (drawn ≡ []))
     ⊎ ((header : List ℕ) × IsHeader rows url at header
     × ((opened : Keyed) × IsOpened key header opened × FrontDraws drawn opened at commands told))
-ReadsFrontBy drawn key rows (Answers url lines at) told = ReadsFront key rows (Answers url lines at) told × (drawn ≡ [])
-ReadsFrontBy drawn key rows (Asks url at) told = ReadsFront key rows (Asks url at) told × (drawn ≡ [])
-ReadsFrontBy drawn key rows (Restarts at) told = ReadsFront key rows (Restarts at) told × (drawn ≡ [])
+ReadsFrontBy drawn key rows (Answers url lines at) told =
+    ReadsFront false key rows (Answers url lines at) told × (drawn ≡ [])
+ReadsFrontBy drawn key rows (Asks url at) told = ReadsFront false key rows (Asks url at) told × (drawn ≡ [])
+ReadsFrontBy drawn key rows (Restarts at) told = ReadsFront false key rows (Restarts at) told × (drawn ≡ [])
 
 -- ---- a play
 

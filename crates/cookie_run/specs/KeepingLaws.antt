@@ -1,5 +1,5 @@
 -- What comes back of the rows of a play where they are saved and loaded again.
-use Rattle.std.specs.Prelude.{ℕ, List, []}
+use Rattle.std.specs.Prelude.{ℕ, Bool, List, []}
 use Rattle.std.specs.List.{AllByRecursion}
 use Rattle.publicsuffix.specs.Rules.{Rule}
 use Rattle.cookie_store.specs.Rows.{Row}
@@ -12,5 +12,5 @@ use Rattle.cookie_run.specs.declared.step.Reading.{Reading}
 -- every row that a play left comes back
 abbrev pub RowsComeBack : List ℕ → Type 0
 RowsComeBack key =
-    (list : List Rule) (acts : List Act) (told : List (List Reading)) (rows : List Row)
-    → AllFollow the_beginning (moments_of acts) → Plays list key [] acts told rows → AllByRecursion ComesBack rows
+    (shown : Bool) (list : List Rule) (acts : List Act) (told : List (List Reading)) (rows : List Row)
+    → AllFollow the_beginning (moments_of acts) → Plays shown list key [] acts told rows → AllByRecursion ComesBack rows

@@ -1,7 +1,7 @@
 -- A play on a ring with what its generator was asked for: one fill of twelve bytes for each set that has to be sealed,
 -- until a moment or not, and that nothing else stands against, in their order, and its bytes are the nonce of the
 -- sealing (own: docs/DEFINITIONS.md). `RingPlay` says the same whatever the nonces.
-use Rattle.std.specs.Prelude.{ℕ, List, [], ◌∷◌, ◌++◌, Some, ◌≡◌, ◌≢◌, ◌⊎◌}
+use Rattle.std.specs.Prelude.{ℕ, false, List, [], ◌∷◌, ◌++◌, Some, ◌≡◌, ◌≢◌, ◌⊎◌}
 use Rattle.jiff.specs.Types.{DateTime}
 use Rattle.jiff.specs.Words.{civil_nanos}
 use Rattle.cookie.specs.KeyRing.{Ring}
@@ -69,13 +69,13 @@ RingStepBy drawn list ring rows (Visits url at commands arrival) told left new =
     × RingCommandsDraw drawn opened commands told session × Delivers list rows url session.jar arrival new))
     × (left ≡ ring)
 RingStepBy drawn list ring rows (Answers url lines at) told left new =
-    RingStep list ring rows (Answers url lines at) told left new × (drawn ≡ [])
+    RingStep false list ring rows (Answers url lines at) told left new × (drawn ≡ [])
 RingStepBy drawn list ring rows (Asks url at) told left new =
-    RingStep list ring rows (Asks url at) told left new × (drawn ≡ [])
+    RingStep false list ring rows (Asks url at) told left new × (drawn ≡ [])
 RingStepBy drawn list ring rows (Restarts at) told left new =
-    RingStep list ring rows (Restarts at) told left new × (drawn ≡ [])
+    RingStep false list ring rows (Restarts at) told left new × (drawn ≡ [])
 RingStepBy drawn list ring rows (Rotates key at keep_until) told left new =
-    RingStep list ring rows (Rotates key at keep_until) told left new × (drawn ≡ [])
+    RingStep false list ring rows (Rotates key at keep_until) told left new × (drawn ≡ [])
 
 -- the steps, and their draws in that order
 abbrev pub RingPlaysBy : List Draw → List Rule → Ring → List Row → List RingAct → List (List RingReading) → Ring

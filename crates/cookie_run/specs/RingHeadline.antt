@@ -1,6 +1,6 @@
 -- At each request a site whose sessions open on a ring reads what its own delivered commands leave, under the ring of
 -- that request: `Headline` with a ring in the place of the key (own: docs/DEFINITIONS.md).
-use Rattle.std.specs.Prelude.{◌≡◌, ◌≢◌, ◌≤ℤ◌, ⊤, ℕ, ℤ, List, [], ◌∷◌, Some, length}
+use Rattle.std.specs.Prelude.{◌≡◌, ◌≢◌, ◌≤ℤ◌, ⊤, ℕ, ℤ, Bool, List, [], ◌∷◌, Some, length}
 use Rattle.std.specs.List.{AllByRecursion}
 use Rattle.std.specs.Str.{IsUtf8}
 use Rattle.jiff.specs.Types.{DateTime}
@@ -93,35 +93,35 @@ EachRingReadsOn Counts host ring site (act ∷ acts) (told ∷ later) end =
 abbrev pub every_name : List ℕ → Type 0
 every_name name = ⊤
 
--- a play that begins with no row and this ring, whose moments are in order
-pub record IsRingPlay (list : List Rule) (ring : Ring) (acts : List RingAct) (told : List (List RingReading))
-    (left : Ring) (rows : List Row) : Type 0 where
+-- a play by a reading that begins with no row and this ring, whose moments are in order
+pub record IsRingPlay (shown : Bool) (list : List Rule) (ring : Ring) (acts : List RingAct)
+    (told : List (List RingReading)) (left : Ring) (rows : List Row) : Type 0 where
   pub is_key : IsKey ring.current
   pub fit : AreFit acts
   pub in_order : AllFollow the_beginning (ring_moments_of acts)
-  pub plays : RingPlays list ring [] acts told left rows
+  pub plays : RingPlays shown list ring [] acts told left rows
 
 -- THE HEADLINE ON A RING: each host that is a site as the headline of one key asks reads at each of its exchanges at
 -- https what its own delivered commands before it leave, after a restart only what had a death, and what its own
 -- commands so far set and removed, under the ring as the rotations before it left it.
 abbrev pub EachRingPlayIsRead : Type 0
-EachRingPlayIsRead = (list : List Rule) (ring : Ring) (acts : List RingAct) (told : List (List RingReading))
-    (left : Ring) (rows : List Row) → IsRingPlay list ring acts told left rows
+EachRingPlayIsRead = (shown : Bool) (list : List Rule) (ring : Ring) (acts : List RingAct)
+    (told : List (List RingReading)) (left : Ring) (rows : List Row) → IsRingPlay shown list ring acts told left rows
     → (host : List ℕ) → IsSite list host (without_commands acts)
     → (end : RingSite) × EachRingReadsOn every_name host ring no_entry acts told end
 
 -- THE SAME BY `__Host-`: so does under the names that are stored with `__Host-` in front each host that is a site by
 -- them, whatever other hosts answer.
 abbrev pub EachRingPlayIsReadByHost : Type 0
-EachRingPlayIsReadByHost = (list : List Rule) (ring : Ring) (acts : List RingAct) (told : List (List RingReading))
-    (left : Ring) (rows : List Row) → IsRingPlay list ring acts told left rows
+EachRingPlayIsReadByHost = (shown : Bool) (list : List Rule) (ring : Ring) (acts : List RingAct)
+    (told : List (List RingReading)) (left : Ring) (rows : List Row) → IsRingPlay shown list ring acts told left rows
     → (host : List ℕ) → IsHostSite host (without_commands acts)
     → (end : RingSite) × EachRingReadsOn HasHostPrefix host ring no_entry acts told end
 
 -- so does each host that sets its `__Host-` cookies alone by sessions
 abbrev pub EachRingPlayIsReadBySetters : Type 0
-EachRingPlayIsReadBySetters = (list : List Rule) (ring : Ring) (acts : List RingAct)
-    (told : List (List RingReading)) (left : Ring) (rows : List Row) → IsRingPlay list ring acts told left rows
+EachRingPlayIsReadBySetters = (shown : Bool) (list : List Rule) (ring : Ring) (acts : List RingAct)
+    (told : List (List RingReading)) (left : Ring) (rows : List Row) → IsRingPlay shown list ring acts told left rows
     → (host : List ℕ) → IsHostSetter host (without_commands acts)
     → (end : RingSite) × EachRingReadsOn HasHostPrefix host ring no_entry acts told end
 

@@ -1,5 +1,5 @@
 -- A play on a ring of one key, without values that end and without rotations, is a play with that key.
-use Rattle.std.specs.Prelude.{◌≡◌, ⊤, ℕ, List, [], ◌∷◌, map}
+use Rattle.std.specs.Prelude.{◌≡◌, ⊤, ℕ, Bool, List, [], ◌∷◌, map}
 use Rattle.std.specs.List.{AllByRecursion}
 use Rattle.jiff.specs.Words.{civil_nanos}
 use Rattle.cookie.specs.KeyRing.{Ring, alone}
@@ -62,15 +62,15 @@ all_placed read = map (map placed_at_0) read
 
 -- such a play on a ring of one key is a play with that key, which leaves the same rows and reads the same
 abbrev pub AreThatPlay : Type 0
-AreThatPlay = (list : List Rule) (key : List ℕ) (rows : List Row) (steps : List RingAct)
+AreThatPlay = (shown : Bool) (list : List Rule) (key : List ℕ) (rows : List Row) (steps : List RingAct)
     (told : List (List RingReading)) (left : Ring) (new : List Row) → AreOfOneKey steps
-    → RingPlays list (alone key) rows steps told left new
-    → (read : List (List Reading)) × Plays list key rows (acts_of_one steps) read new × (told ≡ all_placed read)
+    → RingPlays shown list (alone key) rows steps told left new
+    → (read : List (List Reading)) × Plays shown list key rows (acts_of_one steps) read new × (told ≡ all_placed read)
     × (left ≡ alone key)
 
 -- and each play with the key is one on the ring
 abbrev pub IsSuchAPlay : Type 0
-IsSuchAPlay = (list : List Rule) (key : List ℕ) (rows : List Row) (steps : List RingAct)
+IsSuchAPlay = (shown : Bool) (list : List Rule) (key : List ℕ) (rows : List Row) (steps : List RingAct)
     (read : List (List Reading)) (new : List Row) → AreOfOneKey steps
-    → Plays list key rows (acts_of_one steps) read new
-    → RingPlays list (alone key) rows steps (all_placed read) (alone key) new
+    → Plays shown list key rows (acts_of_one steps) read new
+    → RingPlays shown list (alone key) rows steps (all_placed read) (alone key) new

@@ -1,5 +1,5 @@
 -- The commands of a session on a ring as commands of a session that signs and seals nothing.
-use Rattle.std.specs.Prelude.{◌≡◌, ◌≢◌, ⊤, ℕ, List, [], ◌∷◌}
+use Rattle.std.specs.Prelude.{◌≡◌, ◌≢◌, ⊤, ℕ, Bool, List, [], ◌∷◌}
 use Rattle.std.specs.List.{AllByRecursion}
 use Rattle.jiff.specs.Words.{civil_nanos}
 use Rattle.cookie.specs.KeyRing.{Ring}
@@ -43,6 +43,7 @@ Mirrors (Rotates key at keep_until ∷ later) plain = Mirrors later plain
 
 -- what a play on a ring leaves, a play of such acts leaves, whatever the key
 abbrev pub RingPlaysArePlain : Type 0
-RingPlaysArePlain = (key : List ℕ) (list : List Rule) (ring : Ring) (rows : List Row) (acts : List RingAct)
-    (told : List (List RingReading)) (left : Ring) (new : List Row) → RingPlays list ring rows acts told left new
-    → (plain : List Act) × (read : List (List Reading)) × Mirrors acts plain × Plays list key rows plain read new
+RingPlaysArePlain = (shown : Bool) (key : List ℕ) (list : List Rule) (ring : Ring) (rows : List Row)
+    (acts : List RingAct) (told : List (List RingReading)) (left : Ring) (new : List Row)
+    → RingPlays shown list ring rows acts told left new
+    → (plain : List Act) × (read : List (List Reading)) × Mirrors acts plain × Plays shown list key rows plain read new

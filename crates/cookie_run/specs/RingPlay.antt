@@ -1,6 +1,6 @@
 -- A play whose sessions open on one ring of keys, which is rotated between them: on the rows of a client, step by step,
 -- whatever the nonces and the order of a session's lines. It is `Play` with a ring in the place of the key.
-use Rattle.std.specs.Prelude.{◌≡◌, ◌≢◌, ◌⊎◌, ℕ, ℤ, List, [], ◌∷◌, ◌++◌, Option, Some}
+use Rattle.std.specs.Prelude.{◌≡◌, ◌≢◌, ◌⊎◌, ℕ, ℤ, Bool, List, [], ◌∷◌, ◌++◌, Option, Some}
 use Rattle.jiff.specs.Types.{DateTime}
 use Rattle.jiff.specs.Words.{civil_nanos}
 use Rattle.cookie.specs.KeyRing.{Ring, rotated}
@@ -15,7 +15,7 @@ use Rattle.cookie_client.specs.Jar.{Sets, TakesOut, IsRemovalRefusal}
 use Rattle.cookie_client.specs.Keeping.{Keeps}
 use Rattle.cookie_client.specs.PlainSets.{any_nonce}
 use Rattle.cookie_run.specs.Play.{Delivers}
-use Rattle.cookie_client.specs.RingSession.{IsOpenedOn, KeepsRing, ReadsEnding, RefusesUntil, RingReadsIn, Ringed}
+use Rattle.cookie_client.specs.RingSession.{IsOpenedOnBy, KeepsRing, ReadsEnding, RefusesUntil, RingReadsIn, Ringed}
 use Rattle.cookie_client.specs.RingSession.{SetsUntil, keyed}
 use Rattle.cookie_client.specs.Ways.{Refuses}
 use Rattle.cookie_client.specs.declared.ending.EndingWay.{EndingWay}
@@ -105,26 +105,27 @@ RingTells old (c ∷ cs) told new =
 -- ---- a step
 
 -- from this ring and these rows the step reads this, and leaves that ring and those rows
-abbrev pub RingStep : List Rule → Ring → List Row → RingAct → List RingReading → Ring → List Row → Type 0
-RingStep list ring rows (Visits url at commands arrival) told left new =
+abbrev pub RingStep : Bool → List Rule → Ring → List Row → RingAct → List RingReading → Ring → List Row → Type 0
+RingStep shown list ring rows (Visits url at commands arrival) told left new =
     (header : List ℕ) × IsHeader rows url (civil_nanos at) header
-    × ((opened : Ringed) × IsOpenedOn ring at header opened × ((session : Ringed)
+    × ((opened : Ringed) × IsOpenedOnBy shown ring at header opened × ((session : Ringed)
     × RingTells opened commands told session × Delivers list rows url session.jar arrival new)) × (left ≡ ring)
-RingStep list ring rows (Answers url lines at) told left new =
+RingStep shown list ring rows (Answers url lines at) told left new =
     (told ≡ []) × Takes list rows url at lines new × (left ≡ ring)
-RingStep list ring rows (Asks url at) told left new =
+RingStep shown list ring rows (Asks url at) told left new =
     ((header : List ℕ) × IsHeader rows url at header × (told ≡ Header header ∷ [])) × (new ≡ rows) × (left ≡ ring)
-RingStep list ring rows (Restarts at) told left new = (told ≡ []) × Keeps rows at at new × (left ≡ ring)
-RingStep list ring rows (Rotates key at keep_until) told left new =
+RingStep shown list ring rows (Restarts at) told left new = (told ≡ []) × Keeps rows at at new × (left ≡ ring)
+RingStep shown list ring rows (Rotates key at keep_until) told left new =
     (told ≡ []) × (new ≡ rows) × (left ≡ rotated key at keep_until ring)
 
-abbrev pub RingPlays : List Rule → Ring → List Row → List RingAct → List (List RingReading) → Ring → List Row → Type 0
-RingPlays list ring rows [] [] left new = (left ≡ ring) × (new ≡ rows)
-RingPlays list ring rows (step ∷ steps) (told ∷ later) left new =
-    (turned : Ring) × (mid : List Row) × RingStep list ring rows step told turned mid
-    × RingPlays list turned mid steps later left new
-RingPlays list ring rows [] (told ∷ later) left new = ⊥
-RingPlays list ring rows (step ∷ steps) [] left new = ⊥
+abbrev pub RingPlays : Bool → List Rule → Ring → List Row → List RingAct → List (List RingReading) → Ring → List Row
+    → Type 0
+RingPlays shown list ring rows [] [] left new = (left ≡ ring) × (new ≡ rows)
+RingPlays shown list ring rows (step ∷ steps) (told ∷ later) left new =
+    (turned : Ring) × (mid : List Row) × RingStep shown list ring rows step told turned mid
+    × RingPlays shown list turned mid steps later left new
+RingPlays shown list ring rows [] (told ∷ later) left new = ⊥
+RingPlays shown list ring rows (step ∷ steps) [] left new = ⊥
 
 -- what all the steps read, in order
 abbrev pub all_read : List (List RingReading) → List RingReading

@@ -286,7 +286,7 @@ all_acts r = r.acts ++ left_open r.now
 -- rows
 abbrev pub Prints : List Rule → Ring → List Row → Reached → List ℕ → List Row → Type 0
 Prints list ring rows r output new = (told : List (List RingReading))
-    × RingPlays list ring rows (all_acts r) told r.ring new × AllByRecursion IsAnswered (all_read told)
+    × RingPlays false list ring rows (all_acts r) told r.ring new × AllByRecursion IsAnswered (all_read told)
     × (output ≡ readings_text (all_read told))
 
 -- where line n stands in a text, counted from 1
@@ -350,7 +350,7 @@ HalfStep list ring rows (steps.Rotates key at keep_until) told new = ⊥
 abbrev pub PrintsHalf : List Rule → Ring → List Row → List RingAct → Ring → RingAct → List ℕ → List Row → Type 0
 PrintsHalf list ring rows acts turned act output new =
     (told : List (List RingReading)) × (mid : List Row) × (more : List RingReading)
-    × RingPlays list ring rows acts told turned mid × HalfStep list turned mid act more new
+    × RingPlays false list ring rows acts told turned mid × HalfStep list turned mid act more new
     × AllByRecursion IsAnswered (all_read told ++ more) × (output ≡ readings_text (all_read told ++ more))
 
 -- a line that isn't done: the lines before it print this and leave those rows, or the step that it ends is half taken,

@@ -1,5 +1,5 @@
 -- What a host is sent is the same without the answers of hosts that it isn't related to (own: docs/DEFINITIONS.md).
-use Rattle.std.specs.Prelude.{◌≡◌, ◌++◌, ◌+◌, ⊤, ℕ, ℤ, List, [], ◌∷◌, length, Some, None, IsSomeAnd}
+use Rattle.std.specs.Prelude.{◌≡◌, ◌++◌, ◌+◌, ⊤, ℕ, ℤ, Bool, false, List, [], ◌∷◌, length, Some, None, IsSomeAnd}
 use Rattle.std.specs.List.{AllByRecursion}
 use Rattle.cookie_store.specs.Given.{ArePicked}
 use Rattle.cookie_store.specs.Rows.{Row}
@@ -9,7 +9,7 @@ use Rattle.url.specs.Parts.{Parts}
 use Rattle.cookie_run.specs.Acts.{Act, Visits, Answers, Asks, Restarts}
 use Rattle.cookie_client.specs.Header.{IsHeader}
 use Rattle.cookie_run.specs.Headline.{AreRelated, Each}
-use Rattle.cookie_run.specs.Play.{Plays, IsRun, IsRunUntil}
+use Rattle.cookie_run.specs.Play.{Plays, IsRunOf, IsRunUntilOf}
 use Rattle.cookie_run.specs.Readings.{all_told}
 use Rattle.cookie_run.specs.declared.step.FaultKind.{FaultKind}
 use Rattle.cookie_run.specs.declared.step.Reading.{Reading}
@@ -48,7 +48,7 @@ pub record HeaderAlone (list : List Rule) (key host : List ℕ) (before : List A
   pub only : IsOnly list host before few
   pub told : List (List Reading)
   pub rows : List Row
-  pub ran : Plays list key [] few told rows
+  pub ran : Plays false list key [] few told rows
   pub header : List ℕ
   pub is_header : IsHeader rows url at header
 
@@ -109,14 +109,15 @@ pub record StrangersDontShowUntil (list : List Rule) (key : List ℕ) (acts : Li
 
 -- ---- the law
 
--- so it is in every play, whatever the bytes, the URLs and the moments
+-- so it is in every play, whatever the bytes, the URLs and the moments, by either reading
 abbrev pub EachPlayIsUntouched : Type 0
 EachPlayIsUntouched =
-    (list : List Rule) (key : List ℕ) (acts : List Act) (readings : List Reading) → IsRun list key acts readings
-    → StrangersDontShow list key acts readings
+    (shown : Bool) (list : List Rule) (key : List ℕ) (acts : List Act) (readings : List Reading)
+    → IsRunOf shown list key acts readings → StrangersDontShow list key acts readings
 
 -- and in every play that stops, as far as it came
 abbrev pub EachStoppedPlayIsUntouched : Type 0
 EachStoppedPlayIsUntouched =
-    (list : List Rule) (key : List ℕ) (acts : List Act) (step : ℕ) (kind : FaultKind) (readings : List Reading)
-    → IsRunUntil list key acts step kind readings → StrangersDontShowUntil list key acts step readings
+    (shown : Bool) (list : List Rule) (key : List ℕ) (acts : List Act) (step : ℕ) (kind : FaultKind)
+    (readings : List Reading) → IsRunUntilOf shown list key acts step kind readings
+    → StrangersDontShowUntil list key acts step readings

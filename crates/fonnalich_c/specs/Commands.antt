@@ -1,9 +1,12 @@
 -- The commands of a site's exchange, a line each (own: docs/DEFINITIONS.md).
 use Rattle.std.specs.Prelude.{ℕ, ◌≡◌, ◌≢◌, ◌⊎◌, ◌==◌, List, [], ◌∷◌, Option, Some, None, Ok, Err, ⊤, if◌then◌else◌}
+use Rattle.std.specs.Prelude.{Bool, true, false}
+use Rattle.core.specs.Str.{bytes_eq}
 use Rattle.std.specs.Str.{IsUtf8}
 use Rattle.percent_encoding.specs.Percent.{percent_decode}
+use Rattle.store_parts.specs.PathMatch.{slash}
 use Rattle.cookie_text.specs.Decoding.{ReadsEncoded}
-use Rattle.cookie_text.specs.Record.{Seen, unsliced}
+use Rattle.cookie_text.specs.Record.{Seen, domain_of, unsliced}
 use Rattle.cookie_text.specs.declared.error.ParseError.{ParseError}
 use Rattle.cookie_text.specs.declared.error.ParseError.TheVariants.{OutOfMemory}
 use Rattle.cookie_run.specs.declared.step.Command.{Command}
@@ -38,14 +41,27 @@ IsNamed text name = (name ≡ percent_decode text) × IsUtf8 (percent_decode tex
 abbrev pub IsNoName : List ℕ → Type 0
 IsNoName text = ¬ IsUtf8 (percent_decode text)
 
--- the cookie of a `Set-Cookie` line (RFC 6265, section 5.2), its name and value percent-decoded
+-- by a Domain and a Path: the cookie goes to its host alone, under each path, as a session's does
+abbrev pub is_of_host : Option (List ℕ) → Option (List ℕ) → Bool
+is_of_host None None = true
+is_of_host None (Some path) = bytes_eq path (slash ∷ [])
+is_of_host (Some domain) path = false
+
+-- a `Set-Cookie` line (RFC 6265, section 5.2) reads as this, its name and value percent-decoded
+abbrev pub ReadsAsCookie : List ℕ → Seen → Type 0
+ReadsAsCookie text read = IsUtf8 text × ReadsEncoded text (Ok read)
+
+-- the cookie of a line, where it is of its host
 unfoldable pub IsCookieOf : List ℕ → Seen → Type 0
 IsCookieOf text cookie =
-    IsUtf8 text × ((read : Seen) × ReadsEncoded text (Ok read) × (cookie ≡ unsliced read.cookie))
+    (read : Seen) × ReadsAsCookie text read × (is_of_host (domain_of read.cookie) read.cookie.path ≡ true)
+    × (cookie ≡ unsliced read.cookie)
 
 unfoldable pub IsNoCookie : List ℕ → Type 0
 IsNoCookie text =
-    (¬ IsUtf8 text) ⊎ ((error : ParseError) × (error ≢ OutOfMemory) × ReadsEncoded text (Err error))
+    (¬ IsUtf8 text)
+    ⊎ (((error : ParseError) × (error ≢ OutOfMemory) × ReadsEncoded text (Err error))
+    ⊎ ((read : Seen) × ReadsAsCookie text read × (is_of_host (domain_of read.cookie) read.cookie.path ≡ false)))
 
 -- what a verb, a way and a text ask for, where the first two are there
 abbrev pub Asks : Option Verb → Option Way → List ℕ → Command → Type 0

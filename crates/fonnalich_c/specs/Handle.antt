@@ -3,6 +3,7 @@ use Rattle.std.specs.Prelude.{ℕ, ℤ, pos, ◌≡◌, ◌≢◌, ◌⊎◌, �
 use Rattle.publicsuffix.specs.Rules.{Rule}
 use Rattle.cookie_store.specs.Rows.{Store}
 use Rattle.fonnalich_c.specs.Numbers.{answer_word, word_of, refusal_number}
+use Rattle.user_agent.specs.Refusals.{browser_rules}
 use Rattle.user_agent.specs.declared.rules.Rules.{Rules}
 use Rattle.fonnalich_c.specs.Tasks.{Given, State, Makes, Fails}
 use Rattle.fonnalich_c.specs.declared.refusal.Refusal.{Refusal}
@@ -16,8 +17,10 @@ pub record Held : Type 0 where
   pub rules : Option Rules
   pub kept : List ℕ
 
+-- it begins behind the rules of browsers
 abbrev pub IsFresh : Held → Type 0
-IsFresh held = (held.client ≡ None) × (held.list ≡ None) × (held.rules ≡ None) × (held.kept ≡ [])
+IsFresh held =
+    (held.client ≡ None) × (held.list ≡ None) × (held.rules ≡ Some browser_rules) × (held.kept ≡ [])
 
 abbrev pub state_of : Held → State
 state_of held = record { list = held.list; rules = held.rules; client = held.client }

@@ -1,5 +1,6 @@
 //! The commands of a site's exchange, a line each.
 ghost use Rattle.std.specs.Prelude.{◌≡◌, ◌⊎◌, IfOk, IfErr};
+ghost use Rattle.cookie_text.specs.Record.{domain_of};
 ghost use Rattle.fonnalich_c.specs.Commands as spec;
 
 use crate::refusal::Refusal;
@@ -21,8 +22,8 @@ pub enum Verb {
 
 /// The command of a line: a letter for what it does, a digit for the way, and a text.
 ///
-/// By `S` the text is a `Set-Cookie` line, whose name and value are percent-decoded, by `R` and `G` a name, which is
-/// percent-decoded too.
+/// By `S` the text is a `Set-Cookie` line, whose name and value are percent-decoded. It has no Domain, and no other Path
+/// than `/`, since a session's cookie goes to its host alone. By `R` and `G` it is a name, which is percent-decoded too.
 pub(crate) fn command(alloc: Global, line: &[u8]) -> Result<Command, Refusal>
     ensures ok { IfOk result (spec.IsCommand line.now) }
     ensures err { IfErr result (λ refused. (refused ≡ Refusal.Memory)
@@ -78,9 +79,25 @@ pub(crate) fn cookie(alloc: Global, text: &[u8]) -> Result<Cookie<'static>, Refu
         return Err(Refusal::Command);
     };
     match Cookie::parse_encoded(alloc, text) {
-        Ok(cookie) => Ok(cookie.into_owned(alloc)?),
+        Ok(cookie) => {
+            if !is_of_host(&cookie) {
+                return Err(Refusal::Command);
+            }
+            Ok(cookie.into_owned(alloc)?)
+        }
         Err(ParseError::OutOfMemory) => Err(Refusal::Memory),
         Err(_) => Err(Refusal::Command),
+    }
+}
+
+// Whether it has no Domain, and no other Path than `/`.
+fn is_of_host(cookie: &Cookie<'_>) -> bool
+    ensures { result ≡ spec.is_of_host (domain_of cookie.now.cookie) cookie.now.cookie.path }
+{
+    match (cookie.domain(), cookie.path()) {
+        (None, None) => true,
+        (None, Some(path)) => path == "/",
+        (Some(_), _) => false,
     }
 }
 

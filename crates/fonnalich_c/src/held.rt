@@ -18,6 +18,7 @@ use crate::word::{ANSWER, RECEIVE, Word};
 use cookie_run::Client;
 use publicsuffix::List;
 use std::alloc::Global;
+use user_agent::Rules;
 
 /// What a handle holds.
 #[derive(Drop)]
@@ -32,7 +33,7 @@ pub struct Held {
     pub kept: Vec<u8>,
 }
 
-/// What a new handle holds.
+/// What a new handle holds: the rules of browsers alone.
 pub(crate) fn fresh(alloc: Global) -> Held
     ensures { spec.IsFresh (record {
       client = result.client;
@@ -45,7 +46,7 @@ pub(crate) fn fresh(alloc: Global) -> Held
         client: None,
         list: None,
         browsing: Browsing {
-            rules: None,
+            rules: Some(Rules::browser()),
             page: None,
             second: None,
         },

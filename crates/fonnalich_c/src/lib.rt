@@ -100,7 +100,7 @@ pub extern "C" fn fonnalich_text(number: i64, out: &mut [u8]) -> isize
     write(text_of(number).as_bytes(), out)
 }
 
-/// Begins a handle at this place, without a client. It takes no memory.
+/// Begins a handle at this place, without a client, behind the rules of browsers. It takes no memory.
 #[unsafe(no_mangle)]
 pub unsafe extern "C" fn fonnalich_place(alloc: Global, at: *mut u8)
     requires* { sem 𝓛 (room_at held.the_row at) }

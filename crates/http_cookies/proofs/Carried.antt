@@ -14,24 +14,18 @@ use Rattle.cookie.specs.Jar.{Jar, delta, under_names}
 use Rattle.cookie_text.specs.Printing.{encoded}
 use Rattle.cookie_text.specs.Record.{Seen}
 use Rattle.cookie_client.specs.Accept.{AcceptsAll}
-use Rattle.cookie_run.specs.Acts.{Visits, Arrives}
 use Rattle.cookie_client.specs.Header.{IsHeader}
-use Rattle.cookie_client.specs.Jar.{ClosesWith, IsOpened, IsSent, lines_of}
-use Rattle.cookie_run.specs.Play.{OneStep}
-use Rattle.cookie_run.specs.declared.step.Command.{Command}
-use Rattle.cookie_run.specs.declared.step.Reading.{Reading}
+use Rattle.cookie_client.specs.Jar.{ClosesWith, IsOpenedBy, IsSent, lines_of}
 use Rattle.cookie_store.specs.Rows.{Row}
-use Rattle.publicsuffix.specs.Rules.{Rule}
 use Rattle.url.specs.Parts.{Parts}
 use Rattle.http_cookies.specs.Fields.{Fields, AreFieldValues, AreLinesRefusal, IsHeaderRefusal, TakesHeader, TakesLines}
 use Rattle.http_cookies.specs.Fields.{cookie_name, header_in, joined, lines_in, set_cookie_name}
 use Rattle.http_cookies.specs.Fields.{with_header, with_lines, with_values}
-use Rattle.http_cookies.specs.Messages.{AreNoLines, ExchangesBy, IsNoDelta, IsNoHeader, KeepsOthers}
+use Rattle.http_cookies.specs.Messages.{AreNoLines, ExchangesArePlayed, IsNoDelta, IsNoHeader, KeepsOthers}
 use Rattle.http_cookies.specs.Messages.{PutsDelta, PutsHeader, PutsLines}
 use Rattle.http_cookies.specs.declared.error.PutError.{PutError}
 use Rattle.http_cookies.specs.declared.error.PutError.TheVariants.{OutOfMemory}
 use Rattle.http_cookies.proofs.Values.{line_fits}
-use Rattle.cookie_client.proofs.Readings.{readings_agree}
 
 -- ---- a session's lines
 
@@ -91,10 +85,8 @@ header_opened fields (b ∷ bs) valid = (
 
 -- ---- an exchange
 
-pub played : (list : List Rule) (key : List ℕ) (rows : List Row) (url : Parts) (at : ℤ) (commands : List Command)
-    (told : List Reading) (arrival : ℤ) (new : List Row) → ExchangesBy list key rows url at commands told arrival new
-    → OneStep list key rows (Visits url at commands (Arrives arrival)) told new
-played list key rows url at commands told arrival new e =
+pub played : ExchangesArePlayed
+played b list key rows url at commands told arrival new e =
     let header : header_in e.request ≡ e.asked.header =
     ap header_in e.asked.put ∙ (header_opened e.blank e.asked.header e.blank_is).0 in
     let lines : lines_in e.answer ≡ lines_of e.answered.closes.cookies =
@@ -104,12 +96,7 @@ played list key rows url at commands told arrival new e =
       e.asked.is_header,
       (
         e.session,
-        (
-          e.opened,
-          subst (λ (h : List ℕ). IsOpened key h e.opened) header
-              ((readings_agree key (header_in e.request) e.opened e.shows).0 e.opens),
-          e.tells,
-        ),
+        (e.opened, subst (λ (h : List ℕ). IsOpenedBy b key h e.opened) header e.opens, e.tells),
         (
           e.answered.closes.cookies,
           e.answered.closes.lists,

@@ -1,12 +1,11 @@
 -- What a server and a client read from the fields of messages and put into them, and an exchange through messages.
-use Rattle.std.specs.Prelude.{◌≡◌, ◌≢◌, ◌⊎◌, ◌++◌, ℕ, ℤ, List, []}
+use Rattle.std.specs.Prelude.{◌≡◌, ◌≢◌, ◌⊎◌, ◌++◌, ℕ, ℤ, Bool, List, []}
 use Rattle.cookie.specs.ByName.{Lists}
 use Rattle.cookie.specs.Jar.{Jar, delta, under_names}
 use Rattle.cookie_client.specs.Accept.{AcceptsAll}
 use Rattle.cookie_run.specs.Acts.{Visits, Arrives}
 use Rattle.cookie_client.specs.Header.{IsHeader}
-use Rattle.cookie_client.specs.Jar.{ClosesWith, IsOpenedShown, Keyed, lines_of}
-use Rattle.cookie_client.specs.Reading.{ShowsAll}
+use Rattle.cookie_client.specs.Jar.{ClosesWith, IsOpenedBy, Keyed, lines_of}
 use Rattle.cookie_run.specs.Play.{OneStep, Tells}
 use Rattle.cookie_run.specs.declared.step.Command.{Command}
 use Rattle.cookie_client.specs.declared.outcome.LineEnd.{LineEnd}
@@ -90,17 +89,17 @@ HeaderIsOpened =
     → (header_in (with_header fields header) ≡ header)
     × KeepsOthers cookie_name fields (with_header fields header)
 
--- An exchange through messages: the client's header is put into a request's fields, and no piece of it hides a prefix; a
--- session is opened on them, reads and sets by commands, and puts its lines into the fields of an answer that had none, which the client receives.
-pub record ExchangesBy (list : List Rule) (key : List ℕ) (rows : List Row) (url : Parts) (at : ℤ)
+-- An exchange through messages: the client's header is put into a request's fields, a session is opened on them by a
+-- reading, reads and sets by commands, and puts its lines into the fields of an answer that had none, which the client
+-- receives. `session_of` opens by the one that passes over a pair which hides a prefix.
+pub record ExchangesBy (shown : Bool) (list : List Rule) (key : List ℕ) (rows : List Row) (url : Parts) (at : ℤ)
     (commands : List Command) (told : List Reading) (arrival : ℤ) (new : List Row) : Type 0 where
   pub blank : Fields
   pub blank_is : IsHeaderMap blank
   pub request : Fields
   pub asked : PutsHeader rows url at blank request
   pub opened : Keyed
-  pub shows : ShowsAll (header_in request)
-  pub opens : IsOpenedShown key (header_in request) opened
+  pub opens : IsOpenedBy shown key (header_in request) opened
   pub session : Keyed
   pub tells : Tells opened at commands told session
   pub empty : Fields
@@ -110,9 +109,10 @@ pub record ExchangesBy (list : List Rule) (key : List ℕ) (rows : List Row) (ur
   pub ends : List LineEnd
   pub received : AcceptsAll list rows url arrival (lines_in answer) ends new
 
--- it is the play's
+-- it is the play's, by the same reading
 abbrev pub ExchangesArePlayed : Type 0
 ExchangesArePlayed =
-    (list : List Rule) (key : List ℕ) (rows : List Row) (url : Parts) (at : ℤ) (commands : List Command)
-    (told : List Reading) (arrival : ℤ) (new : List Row) → ExchangesBy list key rows url at commands told arrival new
-    → OneStep list key rows (Visits url at commands (Arrives arrival)) told new
+    (shown : Bool) (list : List Rule) (key : List ℕ) (rows : List Row) (url : Parts) (at : ℤ)
+    (commands : List Command) (told : List Reading) (arrival : ℤ) (new : List Row)
+    → ExchangesBy shown list key rows url at commands told arrival new
+    → OneStep shown list key rows (Visits url at commands (Arrives arrival)) told new

@@ -14,9 +14,9 @@ pub fn what_is_put_is_read()
     ensures header { law.HeaderIsOpened }
 {}
 
-/// An exchange through messages, of whose header no piece hides a prefix, is the play's exchange: so what the play's laws say of what sites read,
-/// they say of exchanges by [`crate::put_header`], [`crate::session_of`], [`crate::put_lines`] and
-/// [`crate::receive`].
+/// An exchange through messages is the play's exchange, by the reading on which its session opens: so what the play's
+/// laws say of what sites read, they say of exchanges by [`crate::put_header`], [`crate::session_of`],
+/// [`crate::put_lines`] and [`crate::receive`].
 pub fn exchanges_are_played()
     ensures { law.ExchangesArePlayed }
 {}

@@ -1,9 +1,9 @@
 //! Cookies in the messages of a server: those of a request, and those of its answer.
-ghost use Rattle.std.specs.Prelude.{◌≡◌, List, map, string_bytes, IfOk, OnOk, OnErr, IfErr};
+ghost use Rattle.std.specs.Prelude.{◌≡◌, List, map, string_bytes, true, IfOk, OnOk, OnErr, IfErr};
 ghost use Rattle.cookie_text.specs.Printing.{encoded};
 ghost use Rattle.cookie_text.specs.Record.{Record};
 ghost use Rattle.cookie_client.specs.Jar.{Holds, IsOpenedShown, lines_of};
-ghost use Rattle.cookie_client.specs.Reading.{AreCookiesShown};
+ghost use Rattle.cookie_client.specs.Reading.{AreCookiesBy};
 ghost use Rattle.http_cookies.specs.Fields.{header_in};
 ghost use Rattle.http_cookies.specs.Messages.{AreNoLines, IsNoDelta, PutsDelta, PutsLines};
 
@@ -11,7 +11,7 @@ use crate::error::PutError;
 use crate::fields::{header_in, put_line_texts};
 use cookie::{Cookie, CookieJar, Delta, Key};
 use cookie_client::Session;
-use cookie_client::reading::header_jar_shown;
+use cookie_client::reading::header_jar;
 use http::{HeaderMap, HeaderValue};
 use std::alloc::{AllocError, Global};
 
@@ -28,10 +28,10 @@ use std::alloc::{AllocError, Global};
 /// `AllocError` where there is no memory for the jar.
 pub fn jar_of(alloc: Global, request: &HeaderMap<HeaderValue>) -> Result<CookieJar, AllocError>
     ensures { IfOk result (λ jar. (cookies : List Record)
-        × AreCookiesShown (header_in request.now) cookies × Holds cookies jar) }
+        × AreCookiesBy true (header_in request.now) cookies × Holds cookies jar) }
 {
     let header = header_in(alloc, request)?;
-    header_jar_shown(alloc, &header)
+    header_jar(alloc, &header, true)
 }
 
 /// Appends a `set-cookie` field for each cookie that was added to the jar or removed from it, in no

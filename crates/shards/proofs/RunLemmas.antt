@@ -1,6 +1,6 @@
 -- Two runs, one of all acts and one of those of a shard: the rows of the second are those of the first that are of the
 -- shard, since a line from a host of the shard puts its row under a text of it, and one from another host doesn't.
-use Rattle.std.proofs.Common.{◌≡◌, ◌≢◌, ℕ, ℤ, Bool, true, ◌&&◌, List, [], ◌∷◌, sym, refl, ap, ◌∙◌}
+use Rattle.std.proofs.Common.{false, ◌≡◌, ◌≢◌, ℕ, ℤ, Bool, true, ◌&&◌, List, [], ◌∷◌, sym, refl, ap, ◌∙◌}
 use Rattle.std.proofs.Common.{subst, inl, inr, Some, Result}
 use Rattle.std.specs.Prelude.{map, IsSomeAnd}
 use Rattle.std.specs.List.{list_any, AllByRecursion}
@@ -183,31 +183,33 @@ module _ (one : ReadsOnce) (list : List Rule) (shard : List ℕ) where
   }
 
   -- one of another shard is in the first run alone
-  alone_step : (key : List ℕ) (act : Act) (rows rest new : List Row) (told : List Reading) → AnswersByName act
-      → ¬ (IsOfShard list shard act) → OneStep list key rows act told new → Runs rows rest → Runs new rest
-  alone_step key (Visits url at commands arrival) rows rest new told named away s r =
+  alone_step : (b : Bool) (key : List ℕ) (act : Act) (rows rest new : List Row) (told : List Reading)
+      → AnswersByName act
+      → ¬ (IsOfShard list shard act) → OneStep b list key rows act told new → Runs rows rest → Runs new rest
+  alone_step b key (Visits url at commands arrival) rows rest new told named away s r =
       delivered rows rest new url s.2.0.jar arrival named away s.2.2 r
-  alone_step key (Answers url lines at) rows rest new told named away s r = record {
+  alone_step b key (Answers url lines at) rows rest new told named away s r = record {
     picked = other_lines url at lines rows rest s.1.0 new named away s.1.1 r.picked;
     sound = lines_sound list one url at lines rows s.1.0 new s.1.1 r.sound;
     rest_sound = r.rest_sound;
   }
-  alone_step key (Asks url at) rows rest new told named away s r = subst (λ x. Runs x rest) (sym s.1) r
-  alone_step key (Restarts at) rows rest new told named away s r = absurd (away tt)
+  alone_step b key (Asks url at) rows rest new told named away s r = subst (λ x. Runs x rest) (sym s.1) r
+  alone_step b key (Restarts at) rows rest new told named away s r = absurd (away tt)
 
   -- one of the shard is in both
-  both_step : (key : List ℕ) (act : Act) (rows rest new left : List Row) (told said : List Reading)
+  both_step : (b : Bool) (key : List ℕ) (act : Act) (rows rest new left : List Row) (told said : List Reading)
       → AnswersByName act → IsNoExchangeOf list shard act → IsOfShard list shard act
-      → OneStep list key rows act told new → OneStep list key rest act said left → Runs rows rest → Runs new left
-  both_step key (Visits url at commands arrival) rows rest new left told said named none is s t r = absurd (none is)
-  both_step key (Answers url lines at) rows rest new left told said named none is s t r = record {
+      → OneStep b list key rows act told new → OneStep false list key rest act said left → Runs rows rest
+      → Runs new left
+  both_step b key (Visits url at commands arrival) rows rest new left told said named none is s t r = absurd (none is)
+  both_step b key (Answers url lines at) rows rest new left told said named none is s t r = record {
     picked = both_lines url at lines rows rest s.1.0 t.1.0 new left named is s.1.1 t.1.1 r.picked;
     sound = lines_sound list one url at lines rows s.1.0 new s.1.1 r.sound;
     rest_sound = lines_sound list one url at lines rest t.1.0 left t.1.1 r.rest_sound;
   }
-  both_step key (Asks url at) rows rest new left told said named none is s t r =
+  both_step b key (Asks url at) rows rest new left told said named none is s t r =
       subst (λ x. Runs x left) (sym s.1) (subst (λ x. Runs rows x) (sym t.1) r)
-  both_step key (Restarts at) rows rest new left told said named none is s t r = record {
+  both_step b key (Restarts at) rows rest new left told said named none is s t r = record {
     picked = both_kept at at rows rest new left s.1 t.1 r.picked;
     sound = keeps_sound list at at rows new s.1 r.sound;
     rest_sound = keeps_sound list at at rest left t.1 r.rest_sound;
@@ -215,23 +217,24 @@ module _ (one : ReadsOnce) (list : List Rule) (shard : List ℕ) where
 
   -- ---- all acts
 
-  pub both_play : (key : List ℕ) (acts few : List Act) (told said : List (List Reading))
+  pub both_play : (b : Bool) (key : List ℕ) (acts few : List Act) (told said : List (List Reading))
       (rows rest new left : List Row) → Each AnswersByName acts → Each (IsNoExchangeOf list shard) acts
-      → AreOfShard list shard acts few → Plays list key rows acts told new → Plays list key rest few said left
+      → AreOfShard list shard acts few → Plays b list key rows acts told new → Plays false list key rest few said left
       → Runs rows rest → Runs new left
-  both_play key [] few [] said rows rest new left named none only p q r =
+  both_play b key [] few [] said rows rest new left named none only p q r =
       subst (λ x. Runs x left) (sym p) (subst (λ x. Runs rows x)
-      (sym (few_none list key rest left said (subst (λ x. Plays list key rest x said left) only q))) r)
-  both_play key [] few (t ∷ ts) said rows rest new left named none only p q r = absurd p
-  both_play key (act ∷ acts) few [] said rows rest new left named none only p q r = absurd p
-  both_play key (act ∷ acts) few (t ∷ ts) said rows rest new left named none (later, only, inl is) p q r =
-      let x = few_some list key rest left act later said (subst (λ x. Plays list key rest x said left) is.1 q) in
-      both_play key acts later ts x.1 p.0 x.2 new left named.1 none.1 only p.2 x.4
-      (both_step key act rows rest p.0 x.2 t x.0 named.0 none.0 is.0 p.1 x.3 r)
-  both_play key (act ∷ acts) few (t ∷ ts) said rows rest new left named none (later, only, inr is) p q r =
-      both_play key acts later ts said p.0 rest new left named.1 none.1 only p.2
-      (subst (λ x. Plays list key rest x said left) is.1 q)
-      (alone_step key act rows rest p.0 t named.0 is.0 p.1 r)
+      (sym (few_none false list key rest left said (subst (λ x. Plays false list key rest x said left) only q))) r)
+  both_play b key [] few (t ∷ ts) said rows rest new left named none only p q r = absurd p
+  both_play b key (act ∷ acts) few [] said rows rest new left named none only p q r = absurd p
+  both_play b key (act ∷ acts) few (t ∷ ts) said rows rest new left named none (later, only, inl is) p q r =
+      let x = few_some false list key rest left act later said
+      (subst (λ x. Plays false list key rest x said left) is.1 q) in
+      both_play b key acts later ts x.1 p.0 x.2 new left named.1 none.1 only p.2 x.4
+      (both_step b key act rows rest p.0 x.2 t x.0 named.0 none.0 is.0 p.1 x.3 r)
+  both_play b key (act ∷ acts) few (t ∷ ts) said rows rest new left named none (later, only, inr is) p q r =
+      both_play b key acts later ts said p.0 rest new left named.1 none.1 only p.2
+      (subst (λ x. Plays false list key rest x said left) is.1 q)
+      (alone_step b key act rows rest p.0 t named.0 is.0 p.1 r)
 
   -- ---- a header
 

@@ -1,6 +1,6 @@
 -- That there is no run of the acts of a shard is refuted: the acts that concern the shard, as a host, are those of the
 -- shard and looks at headers, which change nothing.
-use Rattle.std.proofs.Common.{◌≡◌, ◌⊎◌, ℕ, ℤ, List, [], ◌∷◌, length, sym, refl, ap, subst, inl, inr, arith}
+use Rattle.std.proofs.Common.{false, Bool, ◌≡◌, ◌⊎◌, ℕ, ℤ, List, [], ◌∷◌, length, sym, refl, ap, subst, inl, inr, arith}
 use Rattle.std.specs.Prelude.{IsSomeAnd}
 use Rattle.publicsuffix.specs.Rules.{Rule}
 use Rattle.store_parts.specs.DomainMatch.{IsHostName}
@@ -90,7 +90,7 @@ module _ (list : List Rule) (key shard : List ℕ) (own : IsShardOf list shard s
 
     -- an act that concerns the shard is of it, or changes nothing
     abbrev IsIdle : Act → Type 0
-    IsIdle act = (rows : List Row) (said : List Reading) (mid : List Row) → OneStep list key rows act said mid
+    IsIdle act = (rows : List Row) (said : List Reading) (mid : List Row) → OneStep false list key rows act said mid
         → mid ≡ rows
 
     of_or_idle : (act : Act) → AnswersByName act → Concerns list shard act
@@ -118,51 +118,52 @@ module _ (list : List Rule) (key shard : List ℕ) (own : IsShardOf list shard s
     abbrev RunOf : List Act → List Row → List Row → Type 0
     RunOf acts rows left =
         (few : List Act) × AreOfShard list shard acts few
-        × ((told : List (List Reading)) × Plays list key rows few told left)
+        × ((told : List (List Reading)) × Plays false list key rows few told left)
 
     few_some : (rows left : List Row) (act : Act) (acts : List Act) (told : List (List Reading))
-        → Plays list key rows (act ∷ acts) told left
-        → (said : List Reading) × (later : List (List Reading)) × (mid : List Row) × OneStep list key rows act said mid
-        × Plays list key mid acts later left
+        → Plays false list key rows (act ∷ acts) told left
+        → (said : List Reading) × (later : List (List Reading))
+        × (mid : List Row) × OneStep false list key rows act said mid
+        × Plays false list key mid acts later left
     few_some rows left act acts [] p = absurd p
     few_some rows left act acts (t ∷ ts) p = (t, ts, p.0, p.1, p.2)
 
     one_more : (act : Act) (acts : List Act) (rows mid left : List Row) (said : List Reading)
-        → OneStep list key rows act said mid → RunOf acts mid left
+        → OneStep false list key rows act said mid → RunOf acts mid left
         → IsOfShard list shard act ⊎ ((¬ (IsOfShard list shard act)) × IsIdle act) → RunOf (act ∷ acts) rows left
     one_more act acts rows mid left said s run (inl of_shard) =
         (act ∷ run.0, (run.0, run.1, inl (of_shard, refl)), (said ∷ run.2.0, (mid, s, run.2.1)))
     one_more act acts rows mid left said s run (inr idle) = (
       run.0,
       (run.0, run.1, inr (idle.0, refl)),
-      (run.2.0, subst (λ x. Plays list key x run.0 run.2.0 left) (idle.1 rows said mid s) run.2.1),
+      (run.2.0, subst (λ x. Plays false list key x run.0 run.2.0 left) (idle.1 rows said mid s) run.2.1),
     )
 
     run_of : (acts few : List Act) (told : List (List Reading)) (rows left : List Row) → Each AnswersByName acts
-        → IsOnly list shard acts few → Plays list key rows few told left → IsUnrefuted (RunOf acts rows left)
+        → IsOnly list shard acts few → Plays false list key rows few told left → IsUnrefuted (RunOf acts rows left)
     run_of [] few told rows left named only p refuted =
-        refuted ([], refl, (told, subst (λ x. Plays list key rows x told left) only p))
+        refuted ([], refl, (told, subst (λ x. Plays false list key rows x told left) only p))
     run_of (act ∷ acts) few told rows left named (later, only, inr is) p refuted =
-        run_of acts later told rows left named.1 only (subst (λ x. Plays list key rows x told left) is.1 p)
+        run_of acts later told rows left named.1 only (subst (λ x. Plays false list key rows x told left) is.1 p)
         (λ run. refuted (run.0, (run.0, run.1, inr (not_of act is.0, refl)), run.2))
     run_of (act ∷ acts) few told rows left named (later, only, inl is) p refuted =
-        let x = few_some rows left act later told (subst (λ x. Plays list key rows x told left) is.1 p) in
+        let x = few_some rows left act later told (subst (λ x. Plays false list key rows x told left) is.1 p) in
         run_of acts later x.1 x.2 left named.1 only x.4
         (λ run. of_or_idle act named.0 is.0
         (λ so. refuted (one_more act acts rows x.2 left x.0 x.3 run so)))
 
 -- ---- a header
 
-pub header_there : (order : OneOrder) (list : List Rule) (key : List ℕ) (acts : List Act)
-    (told : List (List Reading)) (rows : List Row) (shard : List ℕ) → Plays list key [] acts told rows
+pub header_there : (b : Bool) (order : OneOrder) (list : List Rule) (key : List ℕ) (acts : List Act)
+    (told : List (List Reading)) (rows : List Row) (shard : List ℕ) → Plays b list key [] acts told rows
     → Each AnswersByName acts → Each (IsNoExchangeOf list shard) acts → (url : Parts) (at : ℤ) (header : List ℕ)
     → IsShardAt list url shard → HasNoAddressBehind url → IsHeader rows url at header
     → IsUnrefuted ((alone : ShardClient list key shard acts) × (other : List ℕ) × IsHeader alone.rows url at other)
-header_there order list key acts told rows shard p named none url at header is plain h refuted =
+header_there b order list key acts told rows shard p named none url at header is plain h refuted =
     let g = some_and (λ host. IsShardOf list host shard) (host_of url) is in
     let own = own_shard list g.0 shard (plain g.0 g.1) g.2 in
     let ends = own_ends list g.0 shard (plain g.0 g.1) g.2 in
-    header_too order list shard key acts told rows url at p h.valid
+    header_too order list shard key b acts told rows url at p h.valid
     (none_related list key shard own ends acts named none)
     (λ alone. run_of list key shard own ends acts alone.few alone.told [] alone.rows named alone.only alone.ran
     (λ run. refuted (

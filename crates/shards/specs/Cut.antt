@@ -1,5 +1,5 @@
 -- A client that is cut into one client for each shard (own: docs/DEFINITIONS.md).
-use Rattle.std.specs.Prelude.{◌≡◌, ℕ, ℤ, List, [], ⊤}
+use Rattle.std.specs.Prelude.{◌≡◌, ℕ, ℤ, Bool, false, List, [], ⊤}
 use Rattle.publicsuffix.specs.Rules.{Rule}
 use Rattle.url.specs.Parts.{Parts}
 use Rattle.cookie_store.specs.Given.{ArePicked}
@@ -47,7 +47,7 @@ pub record ShardClient (list : List Rule) (key shard : List ℕ) (acts : List Ac
   pub only : AreOfShard list shard acts few
   pub told : List (List Reading)
   pub rows : List Row
-  pub ran : Plays list key [] few told rows
+  pub ran : Plays false list key [] few told rows
 
 -- the row is of the shard: that is the shard of its domain's text
 abbrev pub IsRowOf : List Rule → List ℕ → Row → Type 0
@@ -69,9 +69,10 @@ pub record IsCut (list : List Rule) (key : List ℕ) (acts : List Act) (rows : L
 
 -- ---- the law
 
--- THE SHARDS ARE THE CLIENT, after any acts, whatever the bytes, the URLs and the moments
+-- THE SHARDS ARE THE CLIENT, after any acts, whatever the bytes, the URLs and the moments, by either reading of what
+-- sessions open on
 abbrev pub ShardsAreTheClient : Type 0
 ShardsAreTheClient =
-    (list : List Rule) (key : List ℕ) (acts : List Act) (told : List (List Reading)) (rows : List Row)
-    → Plays list key [] acts told rows → Each AnswersByName acts → (shard : List ℕ)
+    (shown : Bool) (list : List Rule) (key : List ℕ) (acts : List Act) (told : List (List Reading)) (rows : List Row)
+    → Plays shown list key [] acts told rows → Each AnswersByName acts → (shard : List ℕ)
     → Each (IsNoExchangeOf list shard) acts → IsCut list key acts rows shard

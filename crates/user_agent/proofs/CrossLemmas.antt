@@ -8,9 +8,9 @@ use Rattle.std.proofs.lemmas.List.Elements.{All-from_recursion, recursion_from_A
 use Rattle.std.proofs.lemmas.List.Sorted.{All-permutation}
 use Rattle.cookie_client.specs.Header.{header_of}
 use Rattle.cookie_client.specs.Keeping.{HasReadPair, HaveReadPairs}
-use Rattle.cookie_client.specs.Reading.{AreCookiesOf}
+use Rattle.cookie_client.specs.Reading.{AreCookiesBy}
 use Rattle.cookie_client.proofs.HeaderBack.{header_back}
-use Rattle.cookie_client.proofs.HeaderCookies.{cookies_of}
+use Rattle.cookie_client.proofs.HeaderCookies.{cookies_by}
 use Rattle.cookie_client.proofs.ReadCode.{cookies_are}
 use Rattle.cookie_store.specs.Given.{AreGiven, ArePicked, IsGiven, pair_of}
 use Rattle.cookie_store.specs.Longest.{AreGivenLongest, AreLongestFirst}
@@ -157,9 +157,9 @@ module _ (rows : List Row) (by_default is_let : Bool) (url : Parts) (now : ℤ) 
   in_order P given ordered first all =
       recursion_from_All P ordered (All-permutation P given ordered first.permutation (All-from_recursion P given all))
 
-  carried : (shown : List Row) (header : List ℕ) (cookies : List Record) → AllByRecursion Known shown
-      → header ≡ header_of (map pair_of shown) → AreCookiesOf header cookies → AllByRecursion Carried cookies
-  carried shown header cookies all printed of =
+  carried : (b : Bool) (shown : List Row) (header : List ℕ) (cookies : List Record) → AllByRecursion Known shown
+      → header ≡ header_of (map pair_of shown) → AreCookiesBy b header cookies → AllByRecursion Carried cookies
+  carried b shown header cookies all printed of =
       let read = each_of Known Known HasReadPair (λ row a b. a.1.1) shown all all in
       let each = each_of Known Known (λ row. (c : Record) → c.name ≡ decoded_name row
       → c.value ≡ percent_decode row.raw.cookie.value → Carried c)
@@ -172,19 +172,19 @@ module _ (rows : List Row) (by_default is_let : Bool) (url : Parts) (now : ℤ) 
         valued = valued;
       }) shown all all in
       subst (AllByRecursion Carried)
-      (sym (cookies_are header cookies of ∙ (ap cookies_of printed
-      ∙ header_back (map pair_of shown) (read_pairs shown read))))
-      (of_rows Carried false shown read each)
+      (sym (cookies_are b header cookies of ∙ (ap (cookies_by b) printed
+      ∙ header_back b (map pair_of shown) (read_pairs shown read))))
+      (of_rows Carried b false shown read each)
 
-  behind : (rules : Rules) (header : List ℕ) (cookies : List Record) → HaveReadPairs rows
-      → IsHeaderBehind rules (sent_rows by_default is_let rows) url now header → AreCookiesOf header cookies
+  behind : (b : Bool) (rules : Rules) (header : List ℕ) (cookies : List Record) → HaveReadPairs rows
+      → IsHeaderBehind rules (sent_rows by_default is_let rows) url now header → AreCookiesBy b header cookies
       → AllByRecursion Carried cookies
-  behind rules header cookies read is of =
+  behind b rules header cookies read is of =
       let are = is.are_given in
       let all = in_order Known are.0 is.given are.2 (known read are.0 are.1) in
-      carried (shown rules is.given) header cookies (all_shown Known rules is.given all) is.printed of
+      carried b (shown rules is.given) header cookies (all_shown Known rules is.given all) is.printed of
 
 pub carried_cookies_are_read : CarriedCookiesAreRead
-carried_cookies_are_read rules list rows url initiator now header cookies read crosses is of =
-    behind rows rules.lax_by_default (is_safe_navigation initiator) url now rules header cookies read
+carried_cookies_are_read rules list rows url initiator now header b cookies read crosses is of =
+    behind rows rules.lax_by_default (is_safe_navigation initiator) url now b rules header cookies read
     (across rules list rows url initiator now header crosses is) of

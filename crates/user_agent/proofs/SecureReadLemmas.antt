@@ -18,7 +18,7 @@ use Rattle.cookie_store.specs.Rows.{Row}
 use Rattle.cookie_client.specs.Header.{pair_text}
 use Rattle.cookie_client.specs.Keeping.{HasReadPair}
 use Rattle.cookie_client.proofs.HeaderBack.{IsRead, cookie_named, header_back, if_shown, texts_of}
-use Rattle.cookie_client.proofs.HeaderCookies.{cookie_of, cookies_of, pair_in}
+use Rattle.cookie_client.proofs.HeaderCookies.{cookie_by, cookies_by, pair_in}
 use Rattle.cookie_client.proofs.ReadBack.{led, led_pair}
 use Rattle.cookie_client.proofs.ReadCode.{cookies_are}
 use Rattle.user_agent.specs.SecureRuns.{IsAny, SecureNamesAreReadSecurely, WasReadSecurely}
@@ -60,11 +60,11 @@ if_text : (b : Bool) (o : Option Record) (P : Record → Type 0) → IfSome o P 
 if_text true o P h = h
 if_text false o P h = tt
 
-cookie_valued : (spaced : Bool) (p : List ℕ × List ℕ) → IsRead p
-    → IfSome (cookie_of (led spaced (pair_text p))) (λ c. c.value ≡ percent_decode p.1)
-cookie_valued spaced p h =
+cookie_valued : (b spaced : Bool) (p : List ℕ × List ℕ) → IsRead p
+    → IfSome (cookie_by b (led spaced (pair_text p))) (λ c. c.value ≡ percent_decode p.1)
+cookie_valued b spaced p h =
     if_text (is_utf8 (led spaced (pair_text p))) _ (λ c. c.value ≡ percent_decode p.1)
-    (if_shown (led spaced (pair_text p)) _ (λ c. c.value ≡ percent_decode p.1)
+    (if_shown b (led spaced (pair_text p)) _ (λ c. c.value ≡ percent_decode p.1)
     (pair_valued (name_of (led spaced (pair_text p))) (value_of (led spaced (pair_text p))) p.1
     (pair_value spaced p h)))
 
@@ -82,17 +82,17 @@ module _ (P : Record → Type 0) where
   of_named (Some c) n v named valued each = each c named valued
 
   -- what holds of a cookie of each row's decoded pair holds of all of them
-  pub of_rows : (spaced : Bool) (rows : List Row) → AllByRecursion HasReadPair rows
+  pub of_rows : (b spaced : Bool) (rows : List Row) → AllByRecursion HasReadPair rows
       → AllByRecursion (λ row. (c : Record) → c.name ≡ decoded_name row
       → c.value ≡ percent_decode row.raw.cookie.value → P c) rows
-      → AllByRecursion P (filter_map cookie_of (texts_of spaced (map pair_of rows)))
-  of_rows spaced [] read each = tt
-  of_rows spaced (row ∷ rows) read each =
-      with_option (cookie_of (led spaced (pair_text (pair_of row)))) _
-      (of_named (cookie_of (led spaced (pair_text (pair_of row)))) (decoded_name row)
-      (percent_decode row.raw.cookie.value) (cookie_named spaced (pair_of row) read.0)
-      (cookie_valued spaced (pair_of row) read.0) each.0)
-      (of_rows true rows read.1 each.1)
+      → AllByRecursion P (filter_map (cookie_by b) (texts_of spaced (map pair_of rows)))
+  of_rows b spaced [] read each = tt
+  of_rows b spaced (row ∷ rows) read each =
+      with_option (cookie_by b (led spaced (pair_text (pair_of row)))) _
+      (of_named (cookie_by b (led spaced (pair_text (pair_of row)))) (decoded_name row)
+      (percent_decode row.raw.cookie.value) (cookie_named b spaced (pair_of row) read.0)
+      (cookie_valued b spaced (pair_of row) read.0) each.0)
+      (of_rows b true rows read.1 each.1)
 
 pub read_pairs : (rows : List Row) → AllByRecursion HasReadPair rows → AllByRecursion IsRead (map pair_of rows)
 read_pairs [] h = tt
@@ -126,7 +126,7 @@ are_members test all (row ∷ rows) within =
     by false later = later
 
 pub secure_names_are_read_securely : SecureNamesAreReadSecurely
-secure_names_are_read_securely rules list steps rows from_http on takes to now header is cookies of =
+secure_names_are_read_securely rules list steps rows from_http on takes to now header is b cookies of =
     let (given, are, printed, won) =
     secure_names_are_set_securely rules list steps rows from_http on takes to now header is in
     let read = have_read_pairs rules list steps rows from_http on takes in
@@ -150,7 +150,7 @@ secure_names_are_read_securely rules list steps rows from_http on takes to now h
       given,
       are,
       subst (AllByRecursion P)
-          (sym (cookies_are header cookies of ∙ (ap cookies_of printed
-          ∙ header_back (map pair_of (winners given)) (read_pairs (winners given) left))))
-          (of_rows P false (winners given) left each),
+          (sym (cookies_are b header cookies of ∙ (ap (cookies_by b) printed
+          ∙ header_back b (map pair_of (winners given)) (read_pairs (winners given) left))))
+          (of_rows P b false (winners given) left each),
     )

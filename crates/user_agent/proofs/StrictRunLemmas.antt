@@ -271,10 +271,10 @@ module _ (host name : List ℕ) where
         by (Some c) h named e = none_carried c named h
 
 pub strict_names_are_read_at_home : StrictNamesAreReadAtHome
-strict_names_are_read_at_home rules list steps rows takes host name set to initiator now header secure is key session
-    opened value reads crosses =
+strict_names_are_read_at_home rules list steps rows takes host name set to initiator now header secure is b key
+    session opened value reads crosses =
     let home = steps_home host name rules list [] rows steps set tt takes in
-    let carried = carried_cookies_are_read rules list rows to initiator now header opened.cookies
+    let carried = carried_cookies_are_read rules list rows to initiator now header b opened.cookies
     (home_pairs host name rows home) crosses is opened.read in
     let text = host_text ++ name in
     let changes : finmap.get session.jar.changes text ≡ None =

@@ -1,5 +1,5 @@
 -- What a request is sent under the name of a Secure row, where Secure rows win (own: docs/DEFINITIONS.md).
-use Rattle.std.specs.Prelude.{◌≡◌, ◌⊎◌, ℕ, ℤ, List, [], ◌∷◌, map, IsTrue, Ok}
+use Rattle.std.specs.Prelude.{◌≡◌, ◌⊎◌, ℕ, ℤ, Bool, List, [], ◌∷◌, map, IsTrue, Ok}
 use Rattle.std.specs.List.{AllByRecursion, list_any}
 use Rattle.publicsuffix.specs.Rules.{Rule}
 use Rattle.percent_encoding.specs.Percent.{percent_decode}
@@ -13,7 +13,7 @@ use Rattle.cookie_store.specs.Making.{IsMade}
 use Rattle.cookie_store.specs.Rows.{Key, Row, key_of}
 use Rattle.cookie_client.specs.Header.{header_of}
 use Rattle.cookie_client.specs.Keeping.{Keeps}
-use Rattle.cookie_client.specs.Reading.{AreCookiesOf}
+use Rattle.cookie_client.specs.Reading.{AreCookiesBy}
 use Rattle.user_agent.specs.Agent.{IsHandedOn, TakesLines}
 use Rattle.user_agent.specs.Headers.{IsHeaderBehind}
 use Rattle.user_agent.specs.SecureWins.{decoded_name, is_secure_of, winners}
@@ -99,13 +99,14 @@ pub record WasReadSecurely (rules : Rules) (steps : List Step) (given : List Row
   pub named : cookie.name ≡ decoded_name row
   pub valued : cookie.value ≡ percent_decode row.raw.cookie.value
 
--- So of the cookies of that header, which a session on it reads, each is that has the name of a Secure row which the
--- request is given.
+-- So of the cookies of that header, which a session on it reads by either reading, each is that has the name of a
+-- Secure row which the request is given.
 abbrev pub SecureNamesAreReadSecurely : Type 0
 SecureNamesAreReadSecurely =
     (rules : Rules) (list : List Rule) (steps : List Step) (rows : List Row) → IsTrue rules.secure_from_http
     → IsTrue rules.secure_wins → TakesSteps rules list [] steps rows
     → (to : Parts) (now : ℤ) (header : List ℕ) → IsHeaderBehind rules rows to now header
-    → (cookies : List Record) → AreCookiesOf header cookies → (given : List Row) × AreGivenLongest rows to now given
+    → (shown : Bool) (cookies : List Record) → AreCookiesBy shown header cookies
+    → (given : List Row) × AreGivenLongest rows to now given
     × AllByRecursion (λ cookie. IsTrue (list_any (is_secure_of cookie.name) given)
     → WasReadSecurely rules steps given cookie) cookies

@@ -1,5 +1,5 @@
 -- What a session reads under a name that its site sets Strict each time (own: docs/DEFINITIONS.md).
-use Rattle.std.specs.Prelude.{◌≡◌, ◌⊎◌, ◌≤ℤ◌, ⊤, ℕ, ℤ, pos, List, [], ◌∷◌, false, Ok, Some}
+use Rattle.std.specs.Prelude.{◌≡◌, ◌⊎◌, ◌≤ℤ◌, ⊤, ℕ, ℤ, pos, Bool, List, [], ◌∷◌, false, Ok, Some}
 use Rattle.std.specs.List.{AllByRecursion}
 use Rattle.std.specs.Str.{IsUtf8}
 use Rattle.percent_encoding.specs.Percent.{percent_decode}
@@ -12,7 +12,7 @@ use Rattle.cookie_text.specs.declared.draft.SameSite.TheVariants.{Strict}
 use Rattle.store_parts.specs.Expiry.{death, is_dead}
 use Rattle.cookie_store.specs.Rows.{Row}
 use Rattle.cookie_client.specs.Hosts.{secure_host}
-use Rattle.cookie_client.specs.Jar.{ClosesWith, IsOpened, Keyed, ReadsIn}
+use Rattle.cookie_client.specs.Jar.{ClosesWith, IsOpenedBy, Keyed, ReadsIn}
 use Rattle.cookie_client.specs.Keeping.{Keeps}
 use Rattle.cookie_client.specs.Ways.{stored_name}
 use Rattle.cookie_client.specs.declared.way.Way.TheVariants.{Host}
@@ -67,8 +67,8 @@ IsSetStrictly rules host name (Reloads saving loading) = ⊤
 -- ---- the law
 
 -- Whatever comes to a user agent that began without a row, whatever starts its requests: where a session on the header
--- of a request to the host at https reads a value by the way `Host` under a name that the host sets Strict each time,
--- no page of another site started the request.
+-- of a request to the host at https, by either reading of it, reads a value by the way `Host` under a name that the
+-- host sets Strict each time, no page of another site started the request.
 abbrev pub StrictNamesAreReadAtHome : Type 0
 StrictNamesAreReadAtHome =
     (rules : Rules) (list : List Rule) (steps : List StartedStep) (rows : List Row)
@@ -76,7 +76,7 @@ StrictNamesAreReadAtHome =
     → AllByRecursion (IsSetStrictly rules host (stored_name Host name)) steps
     → (to : Parts) (initiator : Initiator) (now : ℤ) (header : List ℕ) → secure_host to ≡ Some host
     → IsHeaderFor rules list rows to initiator now header
-    → (key : List ℕ) (session : Keyed) → IsOpened key header session
+    → (shown : Bool) (key : List ℕ) (session : Keyed) → IsOpenedBy shown key header session
     → (value : List ℕ) → ReadsIn session Host name (Some value) → ¬ (IsCrossSite list to initiator)
 
 -- ---- sessions keep the premise

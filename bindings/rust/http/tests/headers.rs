@@ -1,6 +1,6 @@
 //! A session from and into `http::HeaderMap`.
 
-use fonnalich::{Cookie, EndingWay, Error, Key, KeyRing, Session, Way};
+use fonnalich::{EndingWay, Error, Key, KeyRing, Session, Way};
 use fonnalich_http::{now, HttpSession, SharedKeyRing};
 use http::header::{HeaderMap, HeaderValue, COOKIE, SET_COOKIE};
 
@@ -71,7 +71,7 @@ fn writes_a_field_for_each_line() {
     headers.insert(COOKIE, HeaderValue::from_static("theme=dark"));
     let mut session = Session::from_headers(&headers, &key(), NOW);
     session.set(Way::Signed, ("user", "ann")).unwrap();
-    session.set(Way::Host, Cookie::build(("b;", "é\r\n")).path("/x").domain("a.com")).unwrap();
+    session.set(Way::Host, ("b;", "é\r\n")).unwrap();
     session.remove(Way::Plain, "theme").unwrap();
     let mut response = HeaderMap::new();
     response.insert(SET_COOKIE, HeaderValue::from_static("own=1"));

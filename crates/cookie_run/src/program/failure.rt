@@ -17,7 +17,7 @@ pub enum Failure {
     SuffixList,
     /// The lock of the store file was held by another.
     StoreInUse,
-    /// No lock file can be made or opened beside the store file.
+    /// The system refuses the lock of the lock file beside the store file.
     LockFile,
     /// The store file isn't read, or, after the script, not written.
     StoreFile,

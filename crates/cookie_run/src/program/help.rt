@@ -16,7 +16,8 @@ The script is read from standard input, and what it prints goes to standard outp
               ended whole puts the client in its place, with the file's rights, or 600 where it made
               it; any other leaves it as it was. An empty file, as `touch` and `mktemp` make one, is
               no saved client: `store text`. It is locked all the while, by STOREFILE.lock, an empty
-              file that stays: never remove it
+              file that stays: never remove it. Where no such file can be made or opened, the
+              script is played, and then nothing is written: `store file`
   MOMENT      a whole second of the years 1971 to 9998, as 2024-01-01T00:00:00Z: the script's first
 
 A script has a line for each step, its fields parted by tabs and percent-escaped (here by blanks):
@@ -59,7 +60,7 @@ Two more, Rng and Restart, no run of this program prints.
 
 status: 0 where every line was done, 1 after a faulty line, and 2 with one line `cookie-run: WORDS`
 on standard error, WORDS being the first of arguments (not four), seed, moment, suffix file (not
-read), suffix list (none), store in use (another run held its lock for ten seconds), lock file
-(STOREFILE.lock, which can't be made or opened), store file (not read, or not written), store text
-(none; an empty file is none), input, output; or memory, where memory was refused outside the script
+read), suffix list (none), store in use (another run held its lock for ten seconds), lock file (the
+system refuses to lock STOREFILE.lock), store file (not read, or not written), store text (none; an
+empty file is none), input, output; or memory, where memory was refused outside the script
 ";

@@ -3,6 +3,6 @@ use Rattle.cookie_run.proofs.FromLines.{plays_come_back}
 use Rattle.cookie_run.proofs.laws.rows_come_back.Goals as goal
 
 pub returns : goal.returns
-returns c = λ list acts told rows follows plays.
-    plays_come_back c.pairs_read_again.ensures.read c.pairs_read_again.ensures.again list c.args.key.now the_beginning
+returns c = λ b list acts told rows follows plays.
+    plays_come_back b c.pairs_read_again.ensures.read c.pairs_read_again.ensures.again list c.args.key.now the_beginning
     rows acts told follows plays

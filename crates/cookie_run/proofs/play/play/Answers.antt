@@ -1,4 +1,4 @@
-use Rattle.std.proofs.Common.{[], ap, sym, subst, refl, ◌∙◌}
+use Rattle.std.proofs.Common.{false, [], ap, sym, subst, refl, ◌∙◌}
 use Rattle.std.specs.List.{AllByRecursion}
 use Rattle.cookie_run.specs.Acts.{act_of, acts_of}
 use Rattle.cookie_run.specs.Readings.{MayRead, ActNeedsNoNonce}
@@ -37,7 +37,7 @@ returns-in-Err-clause-run_until g c =
 
 pub returns-in-Err-clause-sites_until : goal.returns-in-Err-clause-sites_until
 returns-in-Err-clause-sites_until g c =
-    c.sites_read_their_own.ensures.until c.args.list (acts_of c.args.steps.now) _ _ _
+    c.sites_read_their_own.ensures.until false c.args.list (acts_of c.args.steps.now) _ _ _
     (run_until c.args.list c.args.key.now c.args.steps.now c.loop-i.i c.index-steps-i.result c.loop-i.client.rows
     c.loop-i.readings.items c.act.new.readings.items (civil_nanos c.loop-i.last) c.in-Err.kind
     c.loop-i-test.true c.index-steps-i.is (before_any g.R.TryRng.may_fill g.row.R-Error.Denot c.args.rng.now
@@ -48,7 +48,7 @@ returns-in-Err-clause-sites_until g c =
 
 pub returns-in-Err-clause-hosts_until : goal.returns-in-Err-clause-hosts_until
 returns-in-Err-clause-hosts_until g c =
-    c.hosts_read_their_own.ensures.until c.args.list (acts_of c.args.steps.now) _ _ _
+    c.hosts_read_their_own.ensures.until false c.args.list (acts_of c.args.steps.now) _ _ _
     (run_until c.args.list c.args.key.now c.args.steps.now c.loop-i.i c.index-steps-i.result c.loop-i.client.rows
     c.loop-i.readings.items c.act.new.readings.items (civil_nanos c.loop-i.last) c.in-Err.kind
     c.loop-i-test.true c.index-steps-i.is (before_any g.R.TryRng.may_fill g.row.R-Error.Denot c.args.rng.now
@@ -86,7 +86,7 @@ returns-clause-moments g c = follow_all c.args.list c.args.key.now c.args.steps.
 
 pub returns-clause-sites : goal.returns-clause-sites
 returns-clause-sites g c =
-    c.sites_read_their_own.ensures.whole c.args.list (acts_of c.args.steps.now) _
+    c.sites_read_their_own.ensures.whole false c.args.list (acts_of c.args.steps.now) _
     (follow_all c.args.list c.args.key.now c.args.steps.now c.loop-i.i c.loop-i.client.rows
     c.loop-i.readings.items _ c.loop-i-test.false (before_any g.R.TryRng.may_fill g.row.R-Error.Denot c.args.rng.now
     c.loop-i.rng c.args.list c.args.key.now c.args.steps.now c.loop-i.i c.loop-i.client.rows c.loop-i.readings.items _
@@ -98,7 +98,7 @@ returns-clause-sites g c =
 
 pub returns-clause-hosts : goal.returns-clause-hosts
 returns-clause-hosts g c =
-    c.hosts_read_their_own.ensures.whole c.args.list (acts_of c.args.steps.now) _
+    c.hosts_read_their_own.ensures.whole false c.args.list (acts_of c.args.steps.now) _
     (follow_all c.args.list c.args.key.now c.args.steps.now c.loop-i.i c.loop-i.client.rows
     c.loop-i.readings.items _ c.loop-i-test.false (before_any g.R.TryRng.may_fill g.row.R-Error.Denot c.args.rng.now
     c.loop-i.rng c.args.list c.args.key.now c.args.steps.now c.loop-i.i c.loop-i.client.rows c.loop-i.readings.items _
@@ -116,7 +116,7 @@ returns-in-Err-clause-unasked g c =
 
 pub returns-clause-strangers : goal.returns-clause-strangers
 returns-clause-strangers g c =
-    c.strangers_dont_show.ensures.whole c.args.list c.args.key.now (acts_of c.args.steps.now) _
+    c.strangers_dont_show.ensures.whole false c.args.list c.args.key.now (acts_of c.args.steps.now) _
     (run_all c.args.list c.args.key.now c.args.steps.now c.loop-i.i c.loop-i.client.rows
     c.loop-i.readings.items _ c.loop-i-test.false (before_any g.R.TryRng.may_fill g.row.R-Error.Denot c.args.rng.now
     c.loop-i.rng c.args.list c.args.key.now c.args.steps.now c.loop-i.i c.loop-i.client.rows c.loop-i.readings.items _
@@ -124,7 +124,7 @@ returns-clause-strangers g c =
 
 pub returns-in-Err-clause-strangers_until : goal.returns-in-Err-clause-strangers_until
 returns-in-Err-clause-strangers_until g c =
-    c.strangers_dont_show.ensures.until c.args.list c.args.key.now (acts_of c.args.steps.now) _ _ _
+    c.strangers_dont_show.ensures.until false c.args.list c.args.key.now (acts_of c.args.steps.now) _ _ _
     (run_until c.args.list c.args.key.now c.args.steps.now c.loop-i.i c.index-steps-i.result c.loop-i.client.rows
     c.loop-i.readings.items c.act.new.readings.items (civil_nanos c.loop-i.last) c.in-Err.kind
     c.loop-i-test.true c.index-steps-i.is (before_any g.R.TryRng.may_fill g.row.R-Error.Denot c.args.rng.now
