@@ -14,13 +14,13 @@ use Rattle.jar_commands.specs.declared.failure.Failure.TheVariants.{Memory}
 use Rattle.jar_commands.specs.declared.plan.Start.{Start}
 
 -- behind heads that were taken
-pub heads_unkept : (plan : PlanText) (jar : Store) (url : Parts) (start : Start) (text told : List ℕ) (refused : Bool)
-    (new : List Row) (failure : Failure)
-    → TakesHeads plan.is_verbose plan.form plan.rules start jar plan.now url text told refused new
-    → (failure ≡ Memory) ⊎ Unkept plan new failure → FailsToTake plan jar url start text failure
-heads_unkept plan jar url start text told refused new failure takes (inl memory) = inl memory
-heads_unkept plan jar url start text told refused new failure takes (inr unkept) =
-    inr (inr (told, refused, new, takes, unkept))
+pub heads_unkept : (plan : PlanText) (jar : Store) (url : Parts) (start : Start) (is_one : Bool) (text : List ℕ)
+    (refused : Bool) (new : List Row) (failure : Failure)
+    → TakesHeads is_one plan.form plan.rules start jar plan.now url text refused new
+    → (failure ≡ Memory) ⊎ Unkept plan new failure → FailsToTake plan jar url start is_one text failure
+heads_unkept plan jar url start is_one text refused new failure takes (inl memory) = inl memory
+heads_unkept plan jar url start is_one text refused new failure takes (inr unkept) =
+    inr (inr (refused, new, takes, unkept))
 
 -- behind an import
 pub import_unkept : (plan : PlanText) (jar : Store) (form : Form) (is_strict : Bool) (text : List ℕ) (done : ImportText)

@@ -48,6 +48,11 @@ IsNoListOfHosts text = IsNoSuffixList text ⊎ ((number : ℕ) × IsStrange text
 abbrev pub IsRuleless : List ℕ → Type 0
 IsRuleless text = (list : List Rule) × IsSuffixList text list × (has_rule list ≡ false)
 
+-- the text is no suffix list, or one without a rule, or memory was refused
+abbrev pub MakesNoList : List ℕ → Failure → Type 0
+MakesNoList text failure =
+    (failure ≡ Memory) ⊎ ((failure ≡ SuffixList) × (IsNoListOfHosts text ⊎ IsRuleless text))
+
 -- the jar of a suffix list's text and a jar's text, or none
 abbrev pub IsJar : Form → ℤ → List ℕ → Option (List ℕ) → Store → Type 0
 IsJar form now suffixes stored jar = IsListOf suffixes jar.suffixes × AreRows form now stored jar.rows

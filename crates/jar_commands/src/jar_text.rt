@@ -1,5 +1,5 @@
 //! A jar, of its text and back.
-ghost use Rattle.std.specs.Prelude.{◌≡◌, ◌⊎◌, IfOk, IfErr, false};
+ghost use Rattle.std.specs.Prelude.{◌≡◌, ◌≢◌, ◌⊎◌, IfOk, IfErr, false, true};
 ghost use Rattle.std.specs.Option.{option_copied};
 ghost use Rattle.jiff.specs.Words.{civil_nanos};
 ghost use Rattle.cookie_store.specs.Rows.{live};
@@ -42,14 +42,34 @@ pub(crate) fn jar_of(
 // The suffix list of a text, which has a rule.
 fn suffix_list_of(alloc: Global, text: &[u8]) -> Result<List, Failure>
     ensures ok { IfOk result (spec.IsListOf text.now) }
-    ensures err { IfErr result (λ failure. (failure ≡ Failure.Memory)
-        ⊎ ((failure ≡ Failure.SuffixList) × (spec.IsNoListOfHosts text.now ⊎ spec.IsRuleless text.now))) }
+    ensures err { IfErr result (spec.MakesNoList text.now) }
 {
     match List::parse_hosts(alloc, text) {
-        Ok(list) if list.has_rule() => Ok(list),
-        Ok(_) => Err(Failure::SuffixList),
-        Err(ListError::OutOfMemory) => Err(Failure::Memory),
-        Err(ListError::NotText | ListError::Rule(_)) => Err(Failure::SuffixList),
+        Ok(list) => with_rule(list),
+        Err(cause) => Err(unlisted(cause)),
+    }
+}
+
+// The list, if it has a rule.
+fn with_rule(list: List) -> Result<List, Failure>
+    ensures ok { IfOk result (λ given. (given ≡ list) × (spec.has_rule given ≡ true)) }
+    ensures err { IfErr result (λ failure. (failure ≡ Failure.SuffixList) × (spec.has_rule list ≡ false)) }
+{
+    if list.has_rule() {
+        Ok(list)
+    } else {
+        Err(Failure::SuffixList)
+    }
+}
+
+// What a refusal to read a list is told as.
+fn unlisted(cause: ListError) -> Failure
+    ensures { ((result ≡ Failure.Memory) × (cause ≡ ListError.OutOfMemory))
+        ⊎ ((result ≡ Failure.SuffixList) × (cause ≢ ListError.OutOfMemory)) }
+{
+    match cause {
+        ListError::OutOfMemory => Failure::Memory,
+        ListError::NotText | ListError::Rule(_) => Failure::SuffixList,
     }
 }
 
