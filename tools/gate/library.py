@@ -1,4 +1,5 @@
 """Small libraries of tools/, each of a folder's lib.rt.txt, crate.txt and main.rt.txt, over the repository's crates."""
+import glob
 import importlib.machinery
 import importlib.util
 import os
@@ -46,7 +47,11 @@ def put_tree(top, here, room, is_proved):
             shutil.copytree(f"{top}/crates/{name}", f"{room}/crates/{name}", symlinks=True, ignore=ignored)
     crate, = needs_of(line)
     os.makedirs(f"{room}/crates/{crate}/src")
-    shutil.copyfile(f"{here}/lib.rt.txt", f"{room}/crates/{crate}/src/lib.rt")
+    for path in glob.glob(f"{here}/**/*.rt.txt", recursive=True):
+        to = f"{room}/crates/{crate}/src/{os.path.relpath(path, here)[:-len('.txt')]}"
+        if os.path.basename(path) != "main.rt.txt":
+            os.makedirs(os.path.dirname(to), exist_ok=True)
+            shutil.copyfile(path, to)
     with open(f"{room}/crates.txt", "w", encoding="utf-8") as to:
         to.writelines(f"{it}: {' '.join(needs[it])}\n" for it in sorted(found))
         to.write(line)

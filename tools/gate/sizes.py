@@ -1,0 +1,50 @@
+"""What tools/costs/sizes.txt says of the public calls that take memory, held against the sources."""
+import os
+import re
+
+# A public function, up to its contract or its body; and a type's block.
+HEAD = re.compile(r'^( *)pub (?:extern "C" )?fn (\w+)(.*?)(?=\{$|;$|^ *(?:ensures|requires|ghost)\b)', re.M | re.S)
+BLOCK = re.compile(r"^impl(?:<.*?>)? (?:\w+(?:<.*?>)? for )?(\w+)", re.M)
+EXPORTED = re.compile(r"^pub use (?:[\w:]+::)?(\{[^}]*\}|\w+);", re.M | re.S)
+GIVES_ERROR = re.compile(r"->.*Result\b", re.S)
+
+
+def rows_of(text):
+    """The rows of sizes.txt: each its name, and its calls as (crate, call)."""
+    rows = []
+    for line in text.splitlines():
+        if line.startswith("  "):
+            crate, _, calls = line.strip().partition(": ")
+            rows[-1][1].update((crate, it) for it in calls.split())
+        elif line.strip() and not line.startswith("#"):
+            rows.append((line, set()))
+    return rows
+
+
+def calls_of(top, crate):
+    """The public calls of a crate whose answer may be an error, each as its type and name."""
+    source, texts = f"{top}/crates/{crate}/src", {}
+    for at, _, names in os.walk(source):
+        for name in names:
+            path = os.path.relpath(f"{at}/{name}", source).removesuffix(".rt")
+            with open(f"{at}/{name}", encoding="utf-8") as file:
+                texts[path] = file.read()
+    lists = [names for text in texts.values() for names in EXPORTED.findall(text)]
+    exported = {it for names in lists for it in re.findall(r"\w+", names)}
+    found = set()
+    for path, text in texts.items():
+        is_open = all(re.search(rf"^pub mod {name};", texts.get("/".join(path.split("/")[:i]) or "lib", ""), re.M)
+                      for i, name in enumerate(path.split("/")))
+        for head in HEAD.finditer(text):
+            blocks = [it[1] for it in BLOCK.finditer(text, 0, head.start())] if head[1] else []
+            if GIVES_ERROR.search(head[3]) and (is_open or (blocks or [head[2]])[-1] in exported):
+                found.add("::".join([*blocks[-1:], head[2]]))
+    return found
+
+
+def unlike(top, text):
+    """What of the table isn't as the sources are: calls of its crates that have no row, and names that are none."""
+    told = {it for _, calls in rows_of(text) for it in calls}
+    there = {(crate, it) for crate in {crate for crate, _ in told} for it in calls_of(top, crate)}
+    lacks = [f"{crate} {it} has no row" for crate, it in sorted(there - told)]
+    return lacks + [f"{crate} {it} is no public call that may be refused" for crate, it in sorted(told - there)]
