@@ -1,5 +1,5 @@
 /* Hands the library a thousand times what a visit does: 100,000 lines at once, their header, a saved text of megabytes,
-   and an exchange of as many commands. Each must end as one of a few does. */
+   an exchange of as many commands, and values of a megabyte under 17 keys. Each must end as one of a few does. */
 #include "fonnalich.h"
 #include <stdio.h>
 #include <stdlib.h>
@@ -149,11 +149,40 @@ static void obeys_many_commands(void) {
     free(header), free(commands), free(out);
 }
 
+/* A value of a megabyte in each mode, under a key and sixteen earlier ones: it is set and read. */
+static void obeys_under_many_keys(void) {
+    enum { KEYS = 17, LONG = 1000000, TWELVE = 12 };
+    static char keys[KEYS * FONNALICH_KEY_LENGTH], nonces[TWELVE], commands[2 * LONG];
+    static int64_t ends[KEYS - 1];
+    char *out = room(), *value = malloc(LONG);
+    if (!value)
+        exit(3);
+    memset(value, 'v', LONG);
+    for (int i = 0; i < KEYS; i++)
+        memset(keys + i * FONNALICH_KEY_LENGTH, i, FONNALICH_KEY_LENGTH);
+    for (int i = 0; i < KEYS - 1; i++)
+        ends[i] = FONNALICH_NO_END;
+    for (const char *mode = "0123456"; *mode; mode++) {
+        size_t length = sprintf(commands, "S%ca=%.*s; Expires=Tue, 14 Nov 2023 22:43:20 GMT\nG%ca", *mode, LONG, value,
+                                *mode);
+        ptrdiff_t number = fonnalich_exchange_on_ring(keys, sizeof keys, ends, KEYS - 1, "", 0, NOW, commands, length,
+                                                      nonces, sizeof nonces, out, ROOM);
+        const char *at = out, *text;
+        ptrdiff_t text_length;
+        size_t place;
+        ask(number > LONG && number <= ROOM, "an exchange of a long value under many keys");
+        int is_read = fonnalich_next_placed(&at, out + number, &text, &text_length, &place);
+        ask(is_read && text_length == LONG && !memcmp(text, value, LONG), "it is read");
+    }
+    free(value), free(out);
+}
+
 int main(void) {
     takes_many_lines(FONNALICH_NO_RULES);
     takes_many_lines(FONNALICH_BROWSER);
     takes_many_rows();
     obeys_many_commands();
+    obeys_under_many_keys();
     printf("%s\n", failures ? "not as of a few" : "as of a few");
     return failures != 0;
 }
