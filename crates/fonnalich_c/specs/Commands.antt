@@ -1,8 +1,7 @@
 -- The commands of a site's exchange, a line each (own: docs/DEFINITIONS.md).
 use Rattle.std.specs.Prelude.{ℕ, ◌≡◌, ◌≢◌, ◌⊎◌, ◌==◌, List, [], ◌∷◌, Option, Some, None, Ok, Err, ⊤, if◌then◌else◌}
 use Rattle.std.specs.Prelude.{Bool, true, false}
-use Rattle.core.specs.Str.{bytes_eq}
-use Rattle.std.specs.Str.{IsUtf8}
+use Rattle.std.specs.Str.{IsUtf8, bytes_eq}
 use Rattle.percent_encoding.specs.Percent.{percent_decode}
 use Rattle.store_parts.specs.PathMatch.{slash}
 use Rattle.cookie_text.specs.Decoding.{ReadsEncoded}
