@@ -55,7 +55,8 @@ enum {
                                  contract lets fonnalich_load, _load_by and _reload */
     FONNALICH_KEY = -10,      /* the key has under 64 bytes */
     FONNALICH_COMMAND = -11,  /* a line is no command: the letter or the digit is none, or the text behind them is no
-                                 cookie that could be set, as without a name, or no UTF-8 */
+                                 cookie that could be set, as one without a name, with a Domain, or with another Path
+                                 than /, or no UTF-8 */
     FONNALICH_EMPTY_NAME = -12, /* the name that a command reads or removes is empty, or that of the text of
                                    fonnalich_parse */
     FONNALICH_EXPIRY = -13,   /* the expiry of a cookie is of a year below 100 */

@@ -50,6 +50,7 @@ def _loaded() -> ctypes.CDLL:
         return ctypes.CDLL(os.environ.get("FONNALICH_LIB") or _path())
     except OSError as why:
         places = f"beside this module, in {_HERE}, or where FONNALICH_LIB says, for this machine's processor"
+        places += " (in a clone bindings/build makes it)"
         raise ImportError(f"fonnalich: the library libfonnalich.so has to lie {places}: {why}") from None
 
 

@@ -2,7 +2,7 @@
 
 What `flask.session` holds is JSON, as Flask writes it, in the cookie `__Host-session`. It is encrypted, so that its
 user can't read it, and under that prefix no neighbour site can set, shadow or expire it. A client takes it over https
-alone: for a trial by http at `localhost` name it `session`.
+alone: for a trial by http at `localhost` name it `sid`.
 """
 from __future__ import annotations
 
@@ -49,16 +49,19 @@ def init_app(app: Flask, key: Bytes, name: Optional[str] = None, fallbacks: Iter
     `SESSION_REFRESH_EACH_REQUEST` and `PERMANENT_SESSION_LIFETIME` count as Flask says. The cookie has the name of
     `SESSION_COOKIE_NAME`, which is `__Host-session` where that is Flask's own `session`; another `name` beside it is
     refused as `ValueError`. So are a domain and a path, since the cookie is its host's, and `SESSION_COOKIE_SECURE`
-    where it isn't True, as Flask has it by default.
+    where it isn't True, as Flask has it by default. These are read here: set them before.
     """
     config, set_name = app.config, app.config["SESSION_COOKIE_NAME"]
     wrong = []
     if not config["SESSION_COOKIE_SECURE"]:
-        wrong.append("SESSION_COOKIE_SECURE has to be True: the cookie goes by https alone")
+        wrong.append('SESSION_COOKIE_SECURE has to be True: say app.config["SESSION_COOKIE_SECURE"] = True before this '
+                     "call. The cookie goes by https alone, or from localhost where its name has no __Host-")
     if config["SESSION_COOKIE_DOMAIN"]:
         wrong.append("SESSION_COOKIE_DOMAIN has to be None: the cookie is of its host alone")
     if (config["SESSION_COOKIE_PATH"] or config["APPLICATION_ROOT"]) != "/":
         wrong.append("SESSION_COOKIE_PATH has to be /: the cookie is of all paths, also beside an APPLICATION_ROOT")
+    if not set_name or name == "":
+        wrong.append("SESSION_COOKIE_NAME has to be a name")
     if name is not None and set_name not in (_FLASK_NAME, name):
         wrong.append(f"SESSION_COOKIE_NAME is {set_name!r}, and init_app is given the name {name!r}: say one")
     try:

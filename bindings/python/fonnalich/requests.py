@@ -23,7 +23,8 @@ def _refuse_others(request: Any) -> None:
     empty, into which `requests` would put the lines of a redirect too."""
     if any(not isinstance(it, _Shown) for it in request._cookies or ()):
         raise NotSent("cookies= of a request isn't sent, and session.cookies has to be a Jar(client): put a cookie in "
-                      "by session.cookies.set(name, value, domain=host), or send a header, headers={'Cookie': ..}")
+                      "by session.cookies.set(name, value, domain=host), or by fleet.receive(url, lines), or send a "
+                      "header, headers={'Cookie': ..}")
     if not isinstance(request._cookies, Jar):
         request._cookies = EmptyJar()
 

@@ -214,6 +214,11 @@ class Settings(unittest.TestCase):
                       {"SESSION_COOKIE_SAMESITE": ""}]:
             with self.assertRaisesRegex(ValueError, f"^{[*wrong][0]}[^;]*$"):
                 sealed(**wrong)
+        with self.assertRaisesRegex(ValueError, r'say app\.config\["SESSION_COOKIE_SECURE"\] = True before'):
+            sealed(SESSION_COOKIE_SECURE=False)
+        for told, name in [("", None), (None, None), ("session", "")]:
+            with self.assertRaisesRegex(ValueError, "^SESSION_COOKIE_NAME has to be a name$"):
+                fonnalich.flask.init_app(shop(SESSION_COOKIE_NAME=told), KEY, name)
         with self.assertRaisesRegex(ValueError, "^SESSION_COOKIE_PATH .*APPLICATION_ROOT"):
             sealed(APPLICATION_ROOT="/shop")
         sealed(APPLICATION_ROOT="/shop", SESSION_COOKIE_PATH="/")
