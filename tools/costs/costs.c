@@ -1,7 +1,6 @@
 /* The rows of the table in docs/BUDGET.md: each sets up what its call needs, and counts the call. Writes for each row
    and each size a line of its name, the size, and the bytes that were asked for, or are kept for each cookie; callgrind
-   writes down the instructions beside it. costs [WORD]: the rows whose name has that word. costs --size N: the calls of
-   a row of sizes.txt at their largest; status 0 where none is refused. */
+   writes down the instructions beside it. costs [WORD]: the rows whose name has that word. */
 #include <assert.h>
 #include <stdarg.h>
 #include <stdbool.h>
@@ -17,7 +16,6 @@
 size_t costs_kept_size(void);
 void costs_begin(void *at);
 void costs_end(void *at);
-bool costs_size(size_t number);
 typedef bool call(void *at, const char *, size_t, const char *, size_t);
 call costs_parse, costs_keep, costs_print, costs_sign, costs_verify, costs_seal, costs_open, costs_ring,
     costs_verify_under_ring, costs_open_under_ring, costs_rotate, costs_sign_until, costs_seal_until,
@@ -840,8 +838,6 @@ static void count_row(const char *its_name, void (*make)(int n), int n) {
 }
 
 int main(int count, char **words) {
-    if (count > 2 && !strcmp(words[1], "--size"))
-        return !costs_size((size_t)atoi(words[2]));
     demand(costs_kept_size() <= sizeof kept, "the place is too small");
     for (size_t i = 0; i < sizeof ROWS / sizeof *ROWS; i++) {
         if (count > 1 && !strstr(ROWS[i].name, words[1]))

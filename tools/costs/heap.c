@@ -51,7 +51,7 @@ struct block {
 enum { FRONT = 16, LEAST = 32 };
 
 /* Blocks are taken from here, one behind the other, where none of the length was given back. */
-static _Alignas(16) char arena[(size_t)1 << 30];
+static _Alignas(16) char arena[(size_t)1 << 28];
 static size_t used;
 /* Those given back, by their length in 16 bytes, and the larger ones, whose lengths are powers of two, by its bits. */
 enum { SMALL = 4096 };

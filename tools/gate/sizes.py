@@ -1,4 +1,4 @@
-"""What tools/costs/sizes.txt says of the public calls that take memory, held against the sources."""
+"""What tools/sizes/calls.txt says of the public calls that take memory, held against the sources."""
 import os
 import re
 
@@ -10,7 +10,7 @@ GIVES_ERROR = re.compile(r"->.*Result\b", re.S)
 
 
 def rows_of(text):
-    """The rows of sizes.txt: each its name, and its calls as (crate, call)."""
+    """The rows of calls.txt: each its name, and its calls as (crate, call)."""
     rows = []
     for line in text.splitlines():
         if line.startswith("  "):
