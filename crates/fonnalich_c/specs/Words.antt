@@ -14,7 +14,7 @@ words_of size =
     else if size == 8 then codes "a cookie that is to be saved ends in a year below 0"
     else if size == 9 then codes "the saved text wasn't read to its end"
     else if size == 10 then codes "the key has under 64 bytes"
-    else if size == 11 then codes "a line is no command"
+    else if size == 11 then codes "a line is no command, or sets a cookie with a Domain or a Path of its own"
     else if size == 12 then codes "the name is empty"
     else if size == 13 then codes "the expiry is of a year below 100"
     else if size == 14 then codes "the cookie is too long to be sealed"

@@ -28,7 +28,7 @@ fn words_of(size: u64) -> &'static str
         8 => "a cookie that is to be saved ends in a year below 0",
         9 => "the saved text wasn't read to its end",
         10 => "the key has under 64 bytes",
-        11 => "a line is no command",
+        11 => "a line is no command, or sets a cookie with a Domain or a Path of its own",
         12 => "the name is empty",
         13 => "the expiry is of a year below 100",
         14 => "the cookie is too long to be sealed",

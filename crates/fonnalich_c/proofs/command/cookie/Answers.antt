@@ -9,8 +9,7 @@ pub returns-in_ok-into_owned-in-Ok-parse_encoded-clause-ok : goal.returns-in_ok-
 unfolding IsCookieOf
 returns-in_ok-into_owned-in-Ok-parse_encoded-clause-ok c =
     let read = c.in-Ok-parse_encoded.cookie in
-    let is : is_of_host (domain_of read.cookie) read.cookie.path ≡ true = search rules in
-    (
+    let is : is_of_host (domain_of read.cookie) read.cookie.path ≡ true = search rules in (
       read,
       (
         c.in-Ok.ensures.cases.1,
