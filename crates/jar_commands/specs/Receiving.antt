@@ -49,4 +49,4 @@ TakesHeads is_one form rules start jar now url text refused new =
 -- the text isn't heads of responses, and the failure has the number of the line that isn't
 abbrev pub IsNoHeads : List ℕ → Failure → Type 0
 IsNoHeads text failure =
-    (line : ℕ) × (fault : LineFault) × (failure ≡ Heads line) × IsVisitRefusal text (Line line fault)
+    (line : ℕ) × (fault : StopFault) × (failure ≡ Heads line) × IsVisitRefusal text (Line line fault)

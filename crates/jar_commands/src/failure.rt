@@ -1,4 +1,5 @@
 //! Why the program ends with status 2.
+ghost use Rattle.std.specs.Prelude.{◌≡◌};
 
 use crate::refusal::Kind;
 use cookie_jar::Cause;

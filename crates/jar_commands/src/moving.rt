@@ -1,7 +1,7 @@
 //! The command that gives rows to another file.
 ghost use Rattle.std.specs.Prelude.{◌≡◌, ◌⊎◌, IfOk, IfErr};
 ghost use Rattle.jar_commands.specs.Outcomes as spec;
-ghost use Rattle.jar_commands.specs.Performing.{FailsToExport};
+ghost use Rattle.jar_commands.specs.Performing.{FailsToExport, HasNoText};
 ghost use Rattle.jar_commands.specs.Plans.{plan_text};
 
 use crate::failure::Failure;
@@ -34,7 +34,7 @@ fn export_all(alloc: Global, plan: &Plan<'_>, jar: &Jar, form: Form) -> Result<O
     ensures ok { IfOk result (λ outcome.
         spec.GivesText (plan_text plan.now) jar.now form (spec.outcome_text outcome)) }
     ensures err { IfErr result (λ failure.
-        (failure ≡ Failure.Memory) ⊎ spec.HasNoText (plan_text plan.now) jar.now form failure) }
+        (failure ≡ Failure.Memory) ⊎ HasNoText (plan_text plan.now) jar.now form failure) }
 {
     match jar.export(form, plan.at) {
         Ok(exported) => exported_outcome(alloc, exported),

@@ -3,7 +3,7 @@ ghost use Rattle.std.specs.Prelude.{◌≡◌, ◌⊎◌, ◌||◌, is_some, IfO
 ghost use Rattle.std.specs.Prelude.{None, if◌then◌else◌};
 ghost use Rattle.std.specs.Option.{option_copied};
 ghost use Rattle.jiff.specs.Words.{civil_nanos};
-ghost use Rattle.response_heads.specs.Visits.{visit_text};
+ghost use Rattle.response_heads.specs.Visits.{IsVisitRefusal, visit_text};
 ghost use Rattle.cookie_jar.specs.Taking.{TakesAll};
 ghost use Rattle.cookie_jar.specs.Terminal.{ArePlain};
 ghost use Rattle.jar_commands.specs.Outcomes.{GivesReceived, outcome_text};
@@ -114,15 +114,28 @@ fn visits_of<'a>(
         (map visit_text given.visits.items) given.lost given.stop) }
     ensures err { IfErr result (λ failure. (failure ≡ Failure.Memory) ⊎ spec.IsNoHeads text.now failure) }
 {
-    let read = if is_one {
-        answer(alloc, url, text)
-    } else {
-        visits(alloc, url, text)
-    };
-    match read {
+    match read_visits(alloc, is_one, url, text) {
         Ok(given) => Ok(given),
         Err(ReadError::OutOfMemory) => Err(Failure::Memory),
         Err(ReadError::Line(line, _)) => Err(Failure::Heads(line)),
+    }
+}
+
+// The heads that are read, or the last of them.
+fn read_visits<'a>(
+    alloc: Global,
+    is_one: bool,
+    url: &Url,
+    text: &'a [u8],
+) -> Result<Visited<'a>, ReadError>
+    ensures ok { IfOk result (λ given. spec.AreVisits is_one url.now text.now
+        (map visit_text given.visits.items) given.lost given.stop) }
+    ensures err { IfErr result (IsVisitRefusal text.now) }
+{
+    if is_one {
+        answer(alloc, url, text)
+    } else {
+        visits(alloc, url, text)
     }
 }
 
