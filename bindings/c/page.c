@@ -41,32 +41,12 @@ static void told(size_t row, ptrdiff_t cause) {
 }
 
 static int of_one_client(void) {
-    /* README: bindings/README.md */
-    fonnalich client;
-    if (fonnalich_begin(&client) < 0)
-        return refused();
-    if (fonnalich_list(&client, list, list_length) < 0)
-        return refused();
-    fonnalich_receive(&client, second, url, url_length, lines, lines_length, ends, sizeof ends);
-    ptrdiff_t length = fonnalich_header(&client, second, url, url_length, header, sizeof header);
-    if (length >= 0 && length <= (ptrdiff_t)sizeof header)
-        use(header, length);
-    fonnalich_free(&client);
-    /* README: end */
+    /* README: bindings/README.md c 1 */
     return 0;
 }
 
 static int of_a_shared_list(void) {
-    /* README: bindings/README.md */
-    fonnalich suffixes, client;
-    if (fonnalich_begin(&suffixes) < 0 || fonnalich_begin(&client) < 0)
-        return refused();
-    if (fonnalich_keep_list(&suffixes, list, list_length) < 0)
-        return refused();
-    if (fonnalich_client(&client, &suffixes) < 0)
-        return refused();
-    fonnalich_free(&suffixes);
-    /* README: end */
+    /* README: bindings/README.md c 2 */
     printf("%td cookies\n", fonnalich_count(&client, second));
     fonnalich_free(&client);
     return 0;
@@ -76,18 +56,7 @@ static int of_a_site(void) {
     most = (int)strlen("cart=") + 4 * FONNALICH_NONCE_LENGTH / 3;
     const char *text;
     ptrdiff_t text_length;
-    /* README: bindings/README.md */
-    const char *commands = FONNALICH_GET FONNALICH_SIGNED "user\n" FONNALICH_SET FONNALICH_SEALED "cart=3; HttpOnly";
-    ptrdiff_t length = fonnalich_exchange(key, 64, header, header_length, second, commands, strlen(commands),
-                                          nonces, FONNALICH_NONCE_LENGTH, out, sizeof out);
-    if (length < 0 || length > (ptrdiff_t)sizeof out)
-        return refused();
-    for (const char *at = out; fonnalich_next(&at, out + length, &text, &text_length);)
-        if (text_length < 0)
-            no_such_cookie();
-        else
-            use(text, text_length);
-    /* README: end */
+    /* README: bindings/README.md c 3 */
     most = 1024;
     return 0;
 }
@@ -110,69 +79,28 @@ static int of_a_ring(void) {
     ptrdiff_t text_length;
     size_t place;
     set_by_the_earlier_key();
-    /* README: bindings/README.md */
-    int64_t ends[] = {next_week};
-    const char *commands = FONNALICH_GET FONNALICH_SEALED_UNTIL "user";
-    ptrdiff_t length = fonnalich_exchange_on_ring(keys, 2 * FONNALICH_KEY_LENGTH, ends, 1, header, header_length,
-                                                  second, commands, strlen(commands), "", 0, out, sizeof out);
-    if (length < 0 || length > (ptrdiff_t)sizeof out)
-        return refused();
-    const char *at = out;
-    if (fonnalich_next_placed(&at, out + length, &text, &text_length, &place) && text_length >= 0) {
-        use(text, text_length);
-        if (place > 0)
-            set_anew();
-    }
-    /* README: end */
+    /* README: bindings/README.md c 4 */
     return 0;
 }
 
 static int of_a_cookie(void) {
-    /* README: bindings/README.md */
-    fonnalich_attributes attributes = {0};
-    ptrdiff_t all = fonnalich_parse(true, line, line_length, &attributes, out, sizeof out);
-    if (all < 0 || all > (ptrdiff_t)sizeof out)
-        return refused();
-    const char *at = out, *text[4];
-    ptrdiff_t length[4];
-    /* The name, the value, the path and the domain: of these two, -1 says that there is none. */
-    for (int i = 0; i < 4; i++)
-        fonnalich_next(&at, out + all, &text[i], &length[i]);
-    attributes.max_age = 90;
-    attributes.has_domain = false;
-    all = fonnalich_print(true, &attributes, text[0], length[0], text[1], length[1],
-                          text[2], length[2] < 0 ? 0 : length[2], "", 0, longer, sizeof longer);
-    /* README: end */
+    /* README: bindings/README.md c 5 */
     use(longer, all);
     return 0;
 }
 
 static int of_a_page(void) {
     ptrdiff_t length, count;
-    /* README: bindings/README.md */
-    length = fonnalich_header_for(&client, second, url, url_length, FONNALICH_BY_PAGE, page, page_length, header,
-                                  sizeof header);
-    /* README: end */
+    /* README: bindings/README.md c 6 */
     use(header, length);
-    /* README: bindings/README.md */
-    count = fonnalich_receive_for(&client, FONNALICH_BY_PAGE, second, url, url_length, page, page_length, lines,
-                                  lines_length, ends, sizeof ends);
-    /* README: end */
+    /* README: bindings/README.md c 7 */
     printf("%td lines: %d, %d\n", count, ends[0], ends[1]);
     return 0;
 }
 
 static int of_what_is_held(void) {
     ptrdiff_t length;
-    /* README: bindings/README.md */
-    length = fonnalich_cookies(&client, second, out, sizeof out);
-    if (length < 0 || length > (ptrdiff_t)sizeof out)
-        return refused();
-    fonnalich_cookie cookie;
-    for (const char *at = out; fonnalich_next_cookie(&at, out + length, &cookie);)
-        use(cookie.name, cookie.name_length);
-    fonnalich_remove(&client, "shop.com", 8, "/", 1, "user", 4);
-    /* README: end */
+    /* README: bindings/README.md c 8 */
     printf("%td cookies\n", fonnalich_count(&client, second));
     return fonnalich_clear(&client) < 0;
 }
@@ -181,29 +109,7 @@ static int of_what_is_held(void) {
 static int of_cookies_txt(const char *text, size_t text_length) {
     char out[20];
     ptrdiff_t length;
-    /* README: bindings/README.md */
-    char *answer = out;
-    length = fonnalich_import(&client, second, text, text_length, out, sizeof out);
-    if (length > (ptrdiff_t)sizeof out) {
-        /* The rows are in the client already: its answer alone is asked for again. */
-        answer = malloc(length);
-        if (!answer)
-            return refused();
-        length = fonnalich_answer(&client, answer, length);
-    }
-    if (length < 0)
-        return refused();
-    fonnalich_imported done = {0};
-    const char *next = answer, *end = answer + length;
-    size_t line;
-    ptrdiff_t cause;
-    fonnalich_counts(&next, end, &done);
-    while (fonnalich_next_refused(&next, end, &line, &cause))
-        told(line, cause);
-    if (answer != out)
-        free(answer);
-    length = fonnalich_export(&client, second, FONNALICH_FOR_CURL, true, out, sizeof out);
-    /* README: end */
+    /* README: bindings/README.md c 9 */
     printf("%zu taken, %zu refused\n", done.taken, done.refused);
     if (fonnalich_answer(&client, longer, sizeof longer) != length)
         return refused();

@@ -399,9 +399,14 @@ test('the version is that of the header file', () => {
     assert.deepEqual([fonnalich.version, require('./package.json').version], [version, version]);
 });
 
-test("the page's block", () => {
-    const how = { cwd: path.join(__dirname, '../..'), encoding: 'utf8' };
-    assert.equal(execFileSync(process.execPath, ['bindings/node/visit.js'], how), 'cart=3 cart=3\n');
+// (README: bindings/README.md js 1, which runs at the repository's top)
+test("the page's block", async () => {
+    const [, block] = /```js\n([^]*?)```/.exec(fs.readFileSync(path.join(__dirname, '../README.md'), 'utf8'));
+    const Async = (async () => {}).constructor, before = process.cwd();
+    process.chdir(path.join(__dirname, '../..'));
+    const sent = `${block}\nreturn [header, again.getCookieStringSync('https://shop.com/')];`;
+    assert.deepEqual(await new Async('require', sent)(require), ['cart=3', 'cart=3']);
+    process.chdir(before);
 });
 
 // The lines of RFC 6265, section 3.1, and some more.

@@ -1,7 +1,9 @@
 """Commands with a time that grows with the machine's load."""
+import contextlib
 import os
 import signal
 import subprocess
+import threading
 import time
 
 
@@ -19,13 +21,17 @@ def run(words, seconds, given=None, **how):
     stdin = subprocess.DEVNULL if given is None else subprocess.PIPE
     with subprocess.Popen(words, stdin=stdin, start_new_session=True, **how) as process:
         began = time.monotonic()
+        if given is not None:
+            # (`communicate` gives it no more once its time is over, which a busy machine may see before it gave any)
+            threading.Thread(target=give, args=(process.stdin, given), daemon=True).start()
+            process.stdin = None
         try:
             while True:
                 try:
-                    out, err = communicated(process, given, 5)
+                    out, err = communicated(process, 5)
                     return process.returncode, out, err
                 except subprocess.TimeoutExpired:
-                    given, taken = None, time.monotonic() - began
+                    taken = time.monotonic() - began
                     if taken > patience(seconds):
                         return None, *killed(process, f"it had not ended after {taken:.0f} seconds\n".encode())
         except BaseException:
@@ -33,13 +39,18 @@ def run(words, seconds, given=None, **how):
             raise
 
 
-def communicated(process, given, seconds):
-    out, err = process.communicate(given, timeout=seconds)
+def give(stdin, given):
+    with contextlib.suppress(OSError), stdin:
+        stdin.write(given)
+
+
+def communicated(process, seconds):
+    out, err = process.communicate(timeout=seconds)
     return out or b"", err or b""
 
 
 def killed(process, told):
     """What a process wrote that is killed with all that is in its session's group."""
     os.killpg(process.pid, signal.SIGKILL)
-    out, err = communicated(process, None, None)
+    out, err = communicated(process, None)
     return out, err + told

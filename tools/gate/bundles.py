@@ -5,9 +5,7 @@ import shutil
 import subprocess
 import tempfile
 
-from gate.edits import all_applied
 from gate.kit import guarded
-from gate.stubs import stubbed
 
 HOLE = """use Rattle.{crate}.proofs.{module}.Statement as stated
 
@@ -22,37 +20,23 @@ ANSWERED = re.compile(r"^pub (\S+) :\s+goal\.", re.M)
 # A goal that a call has to meet, of a function or of a member of a cycle.
 OF_A_CALLEE = re.compile(r"(?!returns)\S*-requires(?:-|$)")
 ERROR = re.compile(r"^(?:\./)?((?:src|specs|proofs)/\S+?):\d+:\d+: error: (.*)$")
-BROKEN = re.compile(r"^(?:\./)?(src/\S+?):(\d+):\d+: error", re.M)
 ITEM = re.compile(r"^(?:struct|enum|union|trait|impl) \S+: ")
+# What a verdict rests on, as a call or as a name of the proofs.
 CALLS = re.compile(r"`[\w-]+::([^`]+)`")
 STANDS = re.compile(r"`Rattle\.[\w-]+\.proofs\.([^`]+)`")
-# A hole that has no place there, since the function calls itself.
-MISPLACED = re.compile(r"^(?:\./)?(proofs/\S+)/Proof\.antt: error\[reserved-name\]", re.M)
-UNKNOWN = re.compile(r"^rattle: error: `\S+` has no function `\w+::([^`]+)`", re.M)
 # The words by which antt says that a proof file names what is not there, and that this is a goal.
 GONE = re.compile(r"has no field|is not in scope|has no `")
 GOAL_GONE = re.compile(r"Goals` has no `")
+# A contract that names a private field.
+PRIVATE = re.compile(r"^(?:warning: )?(src/\S+?): (`\w+` is a private field of `[^`]+`)", re.M)
 # What wasn't looked at, since it stands on what failed before it.
 UNSEEN = re.compile(r"\d+ declarations? that depends? on .*\b(?:was|were) not checked")
 FAILS = ("not proved", "no proof")
 PASSES = re.compile(r"no holes$|proved$|depends on a hole in ")
-
-
-class Verdict:
-    """What a check says of an edit: `word` is one of those below, `about` tells of what."""
-
-    OPEN, NAME, PASSES = "an open goal", "only a name is gone", "not refused"
-    # It failed where a call requires something, and at no goal of its own.
-    CALLEE = "only what a callee requires is open"
-    # Its own goals that failed have no answer, and perhaps stand in a branch that the edit made: `goals` are these.
-    BRANCH = "only a search failed"
-    # It failed, and perhaps only because another edit of the same check did.
-    AGAIN = "again"
-    # The check broke off, or tells nothing of its functions.
-    BROKEN = "broken"
-
-    def __init__(self, word, about="", goals=()):
-        self.word, self.about, self.goals = word, about, {*goals}
+# What a check says of an edit: it is refused, in these ways, or not; others' edits hide it; the check broke off, or
+# tells nothing of its function.
+REFUSED, BRANCH, CALLEE, NAME = "open", "a branch's goal", "a callee's", "a name"
+PASSED, AGAIN, BROKEN = "passed", "again", "broken"
 
 
 def place_of(goal):
@@ -61,191 +45,147 @@ def place_of(goal):
 
 
 def goals_in(folder, name, edit):
-    """The places of the goals that the files of this name answer, of the functions of an edit."""
+    """The places of the goals that the files of this name answer, of an edit's function."""
     found = set()
     for at, _, names in os.walk(folder):
-        path = f"proofs{at[len(folder) :]}/{name}"
-        if name in names and any(it.owns_file(path) for it in edit.functions):
+        if name in names and edit.function.owns_file(f"proofs{at[len(folder) :]}/{name}"):
             with open(f"{at}/{name}", encoding="utf-8") as file:
                 found |= {place_of(it) for it in ANSWERED.findall(file.read())}
     return found
 
 
 class Bundle:
-    """One check of a copy of the crate with these edits in it.
+    """One check of a copy of the crate with these edits in it, or of their functions as they stand.
 
-    Each function without an edit has a hole in the place of its proof and no body, but for those that call themselves
-    or are a trait's own, so the others are proved from what the contracts of their callees say.
+    Each other function has a hole in the place of its proof and no body, but for those that call themselves, so these
+    are proved from what the contracts of their callees say. An edit outside bodies has to compile with all bodies.
     """
 
     def __init__(self, rt, crate, functions, texts, edits):
-        self.rt, self.crate, self.edits = rt, crate, edits
-        self.functions, self.texts = functions, texts
-        self.asked = {it.name: it for edit in edits for it in edit.functions}
+        self.rt, self.crate, self.functions, self.texts, self.edits = rt, crate, functions, texts, edits
+        self.asked = {it.function.name: it.function for it in edits}
         self.told, self.opened, self.errors = {}, {}, []
-        self.is_whole, self.unknown, self.output = False, None, ""
+        self.is_whole, self.output = False, ""
 
     def run(self, kept, is_edited=True):
-        """Makes the check, of the functions as they stand where it isn't edited. Afterwards `is_whole` says whether it
-        came to its end."""
-        # (an edit of more than bodies has to compile with all that stands on it)
-        is_global = is_edited and any(it.is_global for it in self.edits)
-        texts = self.texts if is_global else stubbed(self.texts, self.functions, self.asked)
-        texts = all_applied(self.edits, texts) if is_edited else texts
-        if texts is None:
-            self.output = "two edits change one text"
-            return
+        """Makes the check. Afterwards `is_whole` says whether it came to its end."""
         with tempfile.TemporaryDirectory(prefix="wrong-bodies-") as room:
-            self.fill(room, texts)
-            words = [*self.crate.words(["--jobs", "1"], keeps=False), "--allow-holes", "--incremental", kept]
-            for name in self.asked:
-                words += ["--only", f"{self.crate.name}::{name}"]
-            ran = self.check(room, words)
+            self.fill(room, is_edited)
+            words = [it for name in self.asked for it in ("--only", f"{self.crate.name}::{name}")]
+            ran = self.check(room, kept, "--allow-holes", "--private-fields", *words)
         self.output = ran.stdout
-        if self.has_misplaced_holes():
-            self.run(kept, is_edited)
-            return
         self.read()
-        stray = [file for file, _ in self.errors if not any(self.is_of(it, file) for it in self.edits)]
+        is_stray = any(not any(self.is_of(it, file) for it in self.edits) for file, _ in self.errors)
         last = ran.stdout.rstrip("\n").rpartition("\n")[2]
-        self.is_whole = ran.returncode in (0, 1) and last.startswith("only=") and not stray
-        unknown = UNKNOWN.search(ran.stdout)
-        self.unknown = unknown[1] if unknown and ran.returncode == 2 else None
+        self.is_whole = ran.returncode in (0, 1) and last.startswith("only=") and not is_stray
+        return self
 
-    def check(self, room, words):
-        return subprocess.run(
-            [*guarded(self.rt.rtlib), self.rt.rtlib.RATTLE, "check", *words], cwd=room, errors="replace",
-            stdin=subprocess.DEVNULL, stdout=subprocess.PIPE, stderr=subprocess.STDOUT,
-        )
+    def standing(self, kept):
+        """The places of the goals of each edit's function as it stands, by the edit's label."""
+        with tempfile.TemporaryDirectory(prefix="wrong-bodies-") as room:
+            self.fill(room, is_edited=False)
+            words = [it for name in self.asked for it in ("--start", f"{self.crate.name}::{name}")]
+            self.check(room, kept, "--generated", f"{room}/goals", *words)
+            folder = f"{room}/goals/Rattle-{self.crate.name}-proofs"
+            return {it.label: goals_in(folder, "AnswersOffered.antt", it) for it in self.edits}
 
-    def is_of(self, edit, file):
-        """Whether an error in the file is due to the edit: where it is tried alone, so is one in any lemma."""
-        is_lemma = file.startswith("proofs/") and not any(it.owns_file(file) for it in self.functions)
-        return is_lemma and len(self.edits) == 1 or any(it.owns_file(file) for it in edit.functions)
+    def check(self, room, kept, *words):
+        words = [*self.crate.words(["--jobs", "1"], keeps=False), "--incremental", kept, *words]
+        return subprocess.run([*guarded(self.rt.rtlib), self.rt.rtlib.RATTLE, "check", *words], cwd=room, text=True,
+                              errors="replace", stdin=subprocess.DEVNULL, stdout=subprocess.PIPE,
+                              stderr=subprocess.STDOUT)
 
-    def fill(self, room, texts):
+    def fill(self, room, is_edited):
         for part in self.rt.rtlib.PARTS:
             if os.path.isdir(f"{self.crate.folder}/{part}"):
                 shutil.copytree(f"{self.crate.folder}/{part}", f"{room}/{part}")
-        for path, text in texts.items():
-            with open(f"{room}/{path}", "w", encoding="utf-8") as to:
-                to.write(text)
+        files = {file: text.split("\n") for file, text in self.texts.items()}
+        for edit in self.edits if is_edited else ():
+            edit.put(files)
+        keeps_bodies = is_edited and any(it.named for it in self.edits)
         for it in self.functions:
-            if it.name not in self.asked and not it.keeps_proof:
+            if it.name not in self.asked and not it.cycle:
                 self.put_hole(f"{room}/{it.folder}", it)
+                # (each line keeps its number)
+                if not keeps_bodies and it.last - it.opens > 1:
+                    inside = it.last - it.opens - 1
+                    files[it.file][it.opens + 1 : it.last] = ["unreachable!()"] + [""] * (inside - 1)
+        for file, lines in files.items():
+            with open(f"{room}/{file}", "w", encoding="utf-8") as to:
+                to.write("\n".join(lines))
 
     def put_hole(self, folder, function):
-        os.makedirs(folder, exist_ok=True)
-        for file in ("Answers.antt", "Invariants.antt"):
-            if os.path.isfile(f"{folder}/{file}"):
-                os.remove(f"{folder}/{file}")
+        shutil.rmtree(folder, ignore_errors=True)
+        os.makedirs(folder)
         names = [*function.module, *function.inner]
         with open(f"{folder}/Proof.antt", "w", encoding="utf-8") as to:
             to.write(HOLE.format(crate=self.crate.name, module=".".join(names), name=names[-1]))
 
-    def has_misplaced_holes(self):
-        """Whether there were some, which then are made no more."""
-        folders = {*MISPLACED.findall(self.output)}
-        misplaced = [it for it in self.functions if it.folder in folders and not it.keeps_proof]
-        for it in misplaced:
-            it.is_recursive()
-        return bool(misplaced)
-
     def read(self):
         """Takes from the output what is said of each function: its line, the open goals above it, and errors."""
         opened, lines = [], self.output.split("\n")
-        for line, next_line in zip(lines, [*lines[1:], ""]):
-            told, error = TOLD.match(line), ERROR.match(line)
-            goal = OPEN.match(line)
-            if goal:
+        for line, below in zip(lines, [*lines[1:], ""]):
+            if goal := OPEN.match(line):
                 opened.append(goal[1] or "")
-            elif error:
-                # A long message goes on in the line below.
-                more = next_line if next_line.startswith("  ") else ""
-                self.errors.append((error[1], error[2] + more))
-            elif told:
+            elif error := ERROR.match(line):
+                # (a long message goes on in the line below)
+                self.errors.append((error[1], error[2] + (below if below.startswith("  ") else "")))
+            elif told := TOLD.match(line):
                 name = told[1].partition("::")[2]
-                self.told[name], self.opened[name] = told[2], opened
-                opened = []
+                self.told[name], self.opened[name], opened = told[2], opened, []
             elif ITEM.match(line):
                 opened = []
 
-    def suspects(self):
-        """The edits that may have broken it off: those of the functions that its errors tell of."""
-        places = [(file, int(line) - 1) for file, line in BROKEN.findall(self.output)]
-
-        def is_told(function):
-            is_there = any(function.file == file and function.first <= line <= function.last for file, line in places)
-            return is_there or function.name == self.unknown
-
-        return [edit for edit in self.edits if any(map(is_told, edit.functions))]
+    def is_of(self, edit, file):
+        """Whether an error in the file is due to the edit: where it is tried alone, so is one in any lemma."""
+        is_lemma = file.startswith("proofs/") and not any(it.owns_file(file) for it in self.functions)
+        return is_lemma and len(self.edits) == 1 or edit.function.owns_file(file)
 
     def judge(self, edit):
-        """What the check says of one of its edits."""
+        """What the check says of one of its edits: a word of those above, and of what, and the goals of a branch."""
         if not self.is_whole:
-            return Verdict(Verdict.BROKEN, f"its check breaks off: {self.first_error()}")
-        own = [name for name in self.told if any(it.owns(name) for it in edit.functions)]
-        failed = [name for name in own if self.told[name].startswith(FAILS)]
-        errors = [it for it in self.errors if self.is_of(edit, it[0]) and not UNSEEN.match(it[1])]
-        gone = [it for it in errors if GONE.search(it[1])]
-        verdict = self.judge_goals(edit, failed, [it for it in errors if it not in gone], gone) if failed else None
+            return BROKEN, f"its check breaks off: {self.first_error()}", ()
+        own = {name: told for name, told in self.told.items() if edit.function.owns(name)}
+        failed = [name for name, told in own.items() if told.startswith(FAILS)]
+        errors = [text for file, text in self.errors if self.is_of(edit, file) and not UNSEEN.match(text)]
+        gone = [it for it in errors if GONE.search(it)]
+        verdict = self.judge_goals(edit, failed, errors) if failed else None
         if verdict:
             return verdict
         if failed and gone:
-            return Verdict(Verdict.NAME, f"{', '.join(failed)}: {gone[0][1][:160]}")
-        others = self.others_behind(edit, failed)
-        if others:
-            edit.apart |= others
-            return Verdict(Verdict.AGAIN)
-        if {it.name for it in edit.functions} <= {*own} and all(PASSES.match(self.told[name]) for name in own):
-            return Verdict(Verdict.PASSES, ", ".join(own))
-        return Verdict(Verdict.BROKEN, f"its check tells nothing of {', '.join(it.name for it in edit.functions)}")
+            return NAME, f"{', '.join(failed)}: {gone[0][:160]}", ()
+        if self.is_behind(edit, " ".join(own[name] for name in failed)):
+            return AGAIN, "", ()
+        if edit.function.name in own and all(map(PASSES.match, own.values())):
+            return PASSED, ", ".join(own), ()
+        return BROKEN, f"its check tells nothing of {edit.function.name}", ()
 
-    def judge_goals(self, edit, failed, errors, gone):
+    def judge_goals(self, edit, failed, errors):
         """What the goals of these functions say that are open or whose answer is refused, or None where none is."""
-        # A goal can be open only because its answer, or the loop's invariant, went with a name.
-        is_blind = any(file.endswith("/Invariants.antt") or GOAL_GONE.search(text) for file, text in gone)
+        gone = [it for it in errors if GONE.search(it)]
+        # (a goal can be open only because its answer, or the loop's invariant, went with a name)
+        is_blind = any(map(GOAL_GONE.search, gone)) or self.lacks_invariants(edit)
         opened = [] if is_blind else [it for name in failed for it in self.opened[name]]
-        answers = [ANSWER.match(text) for _, text in errors]
+        answers = [ANSWER.match(it) for it in errors if it not in gone]
         refused = [it[1] if it else "" for it in answers]
         own = {place_of(it) for it in opened if not OF_A_CALLEE.match(it)}
-        is_standing = own and not (edit.makes_a_branch() and own.isdisjoint(self.answered(edit)))
-        if is_standing or not all(map(OF_A_CALLEE.match, refused)):
-            return Verdict(Verdict.OPEN, ", ".join(failed))
+        is_new = edit.makes_a_branch() and not own & goals_in(f"{self.crate.folder}/proofs", "Answers.antt", edit)
+        if own and not is_new or not all(map(OF_A_CALLEE.match, refused)):
+            return REFUSED, ", ".join(failed), ()
         if own:
-            return Verdict(Verdict.BRANCH, ", ".join(failed), own)
-        if opened or refused:
-            return Verdict(Verdict.CALLEE, f"{', '.join(failed)}: {', '.join([*opened, *refused])}")
-        return None
+            return BRANCH, ", ".join(failed), own
+        return (CALLEE, f"{', '.join(failed)}: {', '.join([*opened, *refused])}", ()) if opened or refused else None
 
-    def answered(self, edit):
-        """The places of the goals that the proofs of its functions answer."""
-        return goals_in(f"{self.crate.folder}/proofs", "Answers.antt", edit)
+    def lacks_invariants(self, edit):
+        """Whether a name is gone from the invariants of the function's loops."""
+        return any(file.endswith("/Invariants.antt") and self.is_of(edit, file) and GONE.search(text)
+                   for file, text in self.errors)
 
-    def standing(self, kept):
-        """The places of the goals of the functions of each edit as they stand, by its label."""
-        texts = stubbed(self.texts, self.functions, self.asked)
-        with tempfile.TemporaryDirectory(prefix="wrong-bodies-") as room:
-            self.fill(room, texts)
-            words = [*self.crate.words(["--jobs", "1"], keeps=False), "--incremental", kept]
-            words += ["--generated", f"{room}/goals"]
-            for name in self.asked:
-                words += ["--start", f"{self.crate.name}::{name}"]
-            self.check(room, words)
-            folder = f"{room}/goals/Rattle-{self.crate.name}-proofs"
-            return {it.label: goals_in(folder, "AnswersOffered.antt", it) for it in self.edits}
-
-    def passes(self, name):
-        """Whether it tells that the function is proved."""
-        return self.is_whole and bool(PASSES.match(self.told.get(name, "")))
+    def is_behind(self, edit, text):
+        """Whether what is said of the function may rest on another's edit."""
+        named = {*CALLS.findall(text), *(it.replace(".", "::") for it in STANDS.findall(text))}
+        return any(it.is_within(name) for it in self.asked.values() if it.unit != edit.function.unit for name in named)
 
     def first_error(self):
         lines = self.output.rstrip("\n").split("\n")
         return next((it for it in lines if ": error" in it), lines[-1])[:160]
-
-    def others_behind(self, edit, failed):
-        """The units of other edits on which what is said of these functions may rest."""
-        text = " ".join(self.told[name] for name in failed)
-        named = {*CALLS.findall(text), *(it.replace(".", "::") for it in STANDS.findall(text))}
-        others = [it for it in self.asked.values() if it.unit not in edit.units]
-        return {it.unit for it in others if any(it.is_within(name) for name in named)}

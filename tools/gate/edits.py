@@ -1,4 +1,4 @@
-"""The wrong bodies of a crate: the files of its folder must-fail/."""
+"""Edits of a crate's sources: the wrong bodies of its folder must-fail/, and the bodies that tests are planted."""
 import os
 import re
 
@@ -7,92 +7,52 @@ BRANCH = re.compile(r"\b(?:if|else|match|while|for|loop|return|break|continue)\b
 
 
 class Edit:
-    """A wrong body: pairs of texts, and the functions that they change or that the edit names."""
+    """Pairs of texts, each within one line of a file, and what is said of them beside."""
 
     def __init__(self, path):
-        self.path, self.label = path, os.path.basename(path)[: -len(".edit")]
-        self.pairs, self.named, self.functions = [], [], []
-        # Whether it changes more than bodies, and so what others are proved from.
-        self.is_global = False
-        # The units of functions with which it is not tried at once.
-        self.apart = set()
+        self.path, self.label = path, os.path.basename(path).removesuffix(".edit")
+        # The function that an edit outside bodies names, and the function that must be refused.
+        self.pairs, self.named, self.function = [], None, None
         # Of a planted body the layers of tests/ that are compiled for it; none are all.
         self.layers = []
-        file = old = None
+        # How often a check told nothing of it, since others' edits were in it.
+        self.tries = 0
         with open(path, encoding="utf-8") as it:
             self.text = it.read()
+        file = old = None
         for line in self.text.split("\n"):
             key, _, text = line.partition(":")
             if key == "file":
                 file = text.strip()
             elif key == "in":
-                self.named.append(text.strip())
+                self.named = text.strip()
             elif key == "tests":
                 self.layers = text.split()
             elif key == "old":
                 old = text[1:]
             elif key == "new" and old is not None:
-                self.pairs.append((file, old, re.sub(r"\A ", "", text)))
+                self.pairs.append((file, old, text.removeprefix(" ")))
                 old = None
-
-    @property
-    def units(self):
-        return {it.unit for it in self.functions}
 
     def makes_a_branch(self):
         """Whether its new texts have more of such words than what was there."""
         return sum(len(BRANCH.findall(new)) - len(BRANCH.findall(old)) for _, old, new in self.pairs) > 0
 
     def locate(self, functions, texts):
-        """Finds the functions that must be refused, and returns why there are none, if that is so."""
+        """Finds the function that must be refused, and returns why there is none, if that is so."""
         if self.named:
-            self.functions = [it for it in functions if it.name in self.named]
-            lost = {*self.named} - {it.name for it in self.functions}
-            self.is_global = not all(self.is_in_a_body(file, old, texts) for file, old, _ in self.pairs)
-            return f"no function is named {', '.join(sorted(lost))}" if lost else None
-        for file, old, _ in self.pairs:
-            if file not in texts:
-                return f"it changes {file}"
-            at = texts[file].find(old)
-            # (an `old:` text can stand there once only when the pairs before it are applied)
-            self.is_global |= texts[file].count(old) != 1
-            line = texts[file].count("\n", 0, at)
-            holders = [it for it in functions if it.file == file and it.first <= line <= it.last]
-            if at < 0 or not holders:
-                return "it changes a text outside any function, and has no line 'in: module::function'"
-            self.functions += [it for it in holders if it not in self.functions]
-            self.is_global |= not any(it.holds(line) for it in holders)
-        return None
+            found, why = [it for it in functions if it.name == self.named], f"no function is named {self.named}"
+        else:
+            lines = [(file, texts.get(file, "").partition(old)[0].count("\n")) for file, old, _ in self.pairs]
+            found = [it for it in functions if all(it.holds(*at) for at in lines)]
+            why = "it changes more than the body of one function, and has no line 'in: module::function'"
+        self.function = found[0] if found else None
+        return None if found else why
 
-    def is_in_a_body(self, file, old, texts):
-        """Whether the text stands once there, in the body of a function that must be refused."""
-        text = texts.get(file, "")
-        line = text.count("\n", 0, text.find(old))
-        return text.count(old) == 1 and any(it.file == file and it.holds(line) for it in self.functions)
-
-    def places(self, texts):
-        """Where its texts stand in the crate's own, as (file, first, last, new text)."""
+    def put(self, files):
+        """Puts it into the lines of files, in which other edits may stand, each in the body of another function."""
         for file, old, new in self.pairs:
-            at = texts[file].find(old)
-            yield file, at, at + len(old), new
-
-    def applied(self, texts):
-        """These texts with the edit in them, one pair after the other."""
-        texts = dict(texts)
-        for file, old, new in self.pairs:
-            texts[file] = texts[file].replace(old, new)
-        return texts
-
-
-def all_applied(edits, texts):
-    """These texts with the edits in them, of which each changes other places, or None where two change one."""
-    if len(edits) == 1:
-        return edits[0].applied(texts)
-    texts, before = dict(texts), {}
-    places = [it for edit in edits for it in edit.places(texts)]
-    for file, first, last, new in sorted(places, reverse=True):
-        if last > before.get(file, last):
-            return None
-        before[file] = first
-        texts[file] = texts[file][:first] + new + texts[file][last:]
-    return texts
+            lines, its = files[file], self.function
+            inside = range(len(lines)) if self.named else range(its.first, its.last + 1)
+            at = next(it for it in inside if old in lines[it])
+            lines[at] = lines[at].replace(old, new)

@@ -57,6 +57,15 @@ def built(command, top=TOP):
     return f"{top}/crates/{name}/out/{name}"
 
 
+def given(path, command):
+    """The program of a script's option, else the proved build. Ends with a line where that isn't there."""
+    found = os.path.realpath(path or built(command))
+    if os.path.isfile(found) and os.access(found, os.X_OK):
+        return found
+    name = crate_of(command)
+    return sys.exit(f"{os.path.basename(sys.argv[0])}: {found} is no program; `rt run` in crates/{name} builds it")
+
+
 def crates(command):
     """The repository's crates that a program is made of, each after those that it stands on."""
     return crates_to(crate_of(command))
@@ -85,9 +94,9 @@ def is_built(command):
     return os.access(built(command), os.X_OK) and is_fresh(crate_of(command), built(command))
 
 
-def is_fresh(crate, path, *more):
-    """Whether no file of a crate and of those below it, and none of `more`, is younger than this one."""
-    files = [f"{TOP}/crates.txt", *more]
+def is_fresh(crate, path):
+    """Whether no file of a crate and of those below it is younger than this one."""
+    files = [f"{TOP}/crates.txt"]
     for name in crates_to(crate):
         for part in PARTS:
             for at, _, names in os.walk(f"{TOP}/crates/{name}/{part}"):
@@ -125,24 +134,11 @@ def digest_of(path):
         return hashlib.sha256(file.read()).hexdigest()
 
 
-def sources(command):
-    """What a program is compiled from."""
-    files = [f"{TOP}/crates.txt"]
-    for name in crates(command):
-        for part in ("src", "specs"):
-            for at, _, names in os.walk(f"{TOP}/crates/{name}/{part}"):
-                files += [f"{at}/{it}" for it in names]
-    return sorted(files)
-
-
 def compiled(command):
     """Where a program stands that is compiled of the sources as they are, by the toolchain that is here."""
-    rt = load_rt()
-    sums = hashlib.sha256(os.path.realpath(rt.rtlib.KIT).encode())
-    for path in sources(command):
-        with open(path, "rb") as it:
-            sums.update(os.path.relpath(path, TOP).encode() + b"\0" + hashlib.sha256(it.read()).digest())
-    return f"{COMPILED}/{command}/{sums.hexdigest()[:32]}/{command}"
+    parts = [f"crates/{name}/{part}" for name in crates(command) for part in ("src", "specs")]
+    sums = sum_of_files(TOP, walked(TOP, "crates.txt", *parts)) + os.path.realpath(load_rt().rtlib.KIT)
+    return f"{COMPILED}/{command}/{hashlib.sha256(sums.encode()).hexdigest()[:32]}/{command}"
 
 
 def ready(command):

@@ -1,8 +1,11 @@
 """Sites on loopback, by http and by https, and how curl finds them whatever the host and the port."""
+import os
+import shutil
 import socket
 import ssl
 import subprocess
 import threading
+import time
 from collections import defaultdict
 from http.server import BaseHTTPRequestHandler, ThreadingHTTPServer
 from pathlib import Path
@@ -45,6 +48,15 @@ class Site(BaseHTTPRequestHandler):
 
 class Quiet(ThreadingHTTPServer):
     daemon_threads, request_queue_size = True, 64
+    context = None
+
+    def finish_request(self, client, address):
+        """Answers one client in its own thread, where it also shakes hands: one that doesn't keeps no other waiting."""
+        if not self.context:
+            super().finish_request(client, address)
+            return
+        with self.context.wrap_socket(client, server_side=True) as secure:
+            super().finish_request(secure, address)
 
     def handle_error(self, *_):
         """Says nothing of a client that went: what it wasn't told is missed where it is compared."""
@@ -54,16 +66,50 @@ def serve(certificate=None):
     """The port of a server that ends with this process."""
     server = Quiet(("127.0.0.1", 0), Site)
     if certificate:
-        context = ssl.SSLContext(ssl.PROTOCOL_TLS_SERVER)
-        context.load_cert_chain(certificate)
-        server.socket = context.wrap_socket(server.socket, server_side=True)
+        server.context = ssl.SSLContext(ssl.PROTOCOL_TLS_SERVER)
+        server.context.load_cert_chain(certificate)
     threading.Thread(target=server.serve_forever, daemon=True).start()
     return server.server_port
 
 
-def tunnel_to(port, answer):
-    """The port of a proxy that ends with this process: it answers each CONNECT so, and leads to that port, whatever is
-    asked."""
+def asked_of(client):
+    """The head of a request, or what came of it."""
+    asked = b""
+    while b"\r\n\r\n" not in asked:
+        read = client.recv(4096)
+        if not read:
+            break
+        asked += read
+    return asked
+
+
+def strangers(*answers):
+    """The port of a site that ends with this process, and the heads of the requests that it has had so far: it answers
+    one after another with the next of these, each bytes, and seconds to wait between them."""
+    site, had = socket.create_server(("127.0.0.1", 0)), []
+
+    def say(client, parts):
+        with client:
+            had.append(asked_of(client))
+            for part in parts:
+                if isinstance(part, bytes):
+                    client.sendall(part)
+                else:
+                    time.sleep(part)
+
+    def accept():
+        for parts in answers:
+            client, _ = site.accept()
+            each = parts if isinstance(parts, tuple) else (parts,)
+            threading.Thread(target=say, args=(client, each), daemon=True).start()
+
+    threading.Thread(target=accept, daemon=True).start()
+    return site.getsockname()[1], had
+
+
+def tunnel_to(port, *answers):
+    """The port of a proxy that ends with this process: it answers the CONNECTs of a client so, one after another, and
+    leads to that port behind the last, whatever is asked."""
     proxy = socket.create_server(("127.0.0.1", 0))
 
     def pour(one, other):
@@ -75,14 +121,11 @@ def tunnel_to(port, answer):
             pass  # (the other side went)
 
     def lead(client):
-        asked = b""
-        while b"\r\n\r\n" not in asked:
-            read = client.recv(4096)
-            if not read:
+        for answer in answers:
+            if not asked_of(client):
                 return
-            asked += read
-        with socket.create_connection(("127.0.0.1", port)) as site, client:
             client.sendall(answer)
+        with socket.create_connection(("127.0.0.1", port)) as site, client:
             back = threading.Thread(target=pour, args=(site, client), daemon=True)
             back.start()
             pour(client, site)
@@ -112,7 +155,16 @@ def connections(ports):
     return [f":443:127.0.0.1:{secure}", f"::127.0.0.1:{plain}"]
 
 
-def put_curlrc(folder, ports, certificate):
-    """Writes a file for curl, by which it finds the sites and trusts the certificate, where CURL_HOME is its folder."""
-    lines = [*(f'connect-to = "{it}"' for it in connections(ports)), f'cacert = "{certificate}"', 'noproxy = "*"']
-    Path(folder, ".curlrc").write_text("".join(f"{it}\n" for it in lines), encoding="utf-8")
+def put_curl(folder, ports, *more):
+    """Writes a program `curl` for a PATH: it finds the sites, and asks with these words as the visit that VISIT names,
+    or with those of WAY alone. Where a thread forks while a program is written, that can't be run at once: so it is
+    written before threads start any."""
+    path, words = f"{folder}/curl", [word for it in connections(ports) for word in ("--connect-to", it)]
+    here = " ".join(f"'{it}'" for it in (*more, *words))
+    with open(path, "w", encoding="utf-8") as to:
+        to.write(f'''#!/bin/sh
+[ "${{1-}}" != -q ] || shift
+[ -z "${{WAY-}}" ] || exec '{shutil.which("curl")}' -q -k --noproxy 127.0.0.1 $WAY "$@"
+exec '{shutil.which("curl")}' -q {here} ${{VISIT:+-H "X-Visit: $VISIT"}} "$@"
+''')
+    os.chmod(path, 0o755)

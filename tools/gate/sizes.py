@@ -1,7 +1,11 @@
-"""What tools/sizes/calls.txt says of the public calls that take memory, held against the sources."""
+"""The public calls that take memory, as tools/measured tells them above the functions that make them at their largest,
+held against the sources."""
+import glob
 import os
 import re
 
+# A function with the calls that it makes, a line each `// CRATE: CALL..`.
+ROW = re.compile(r"((?:^// \w+: .*\n)+)pub fn (\w+)\(", re.M)
 # A public function, up to its contract or its body; and a type's block.
 HEAD = re.compile(r'^( *)pub (?:extern "C" )?fn (\w+)(.*?)(?=\{$|;$|^ *(?:ensures|requires|ghost)\b)', re.M | re.S)
 BLOCK = re.compile(r"^impl(?:<.*?>)? (?:\w+(?:<.*?>)? for )?(\w+)", re.M)
@@ -9,26 +13,23 @@ EXPORTED = re.compile(r"^pub use (?:[\w:]+::)?(\{[^}]*\}|\w+);", re.M | re.S)
 GIVES_ERROR = re.compile(r"->.*Result\b", re.S)
 
 
-def rows_of(text):
-    """The rows of calls.txt: each its name, and its calls as (crate, call)."""
-    rows = []
-    for line in text.splitlines():
-        if line.startswith("  "):
-            crate, _, calls = line.strip().partition(": ")
-            rows[-1][1].update((crate, it) for it in calls.split())
-        elif line.strip() and not line.startswith("#"):
-            rows.append((line, set()))
-    return rows
+def read(path):
+    with open(path, encoding="utf-8") as file:
+        return file.read()
+
+
+def rows(top):
+    """The functions, each with its calls as (crate, call)."""
+    texts = map(read, sorted(glob.glob(f"{top}/tools/measured/*.rt.txt")))
+    return {name: {(crate, it) for crate, calls in re.findall(r"// (\w+): (.*)", told) for it in calls.split()}
+            for text in texts for told, name in ROW.findall(text)}
 
 
 def calls_of(top, crate):
     """The public calls of a crate whose answer may be an error, each as its type and name."""
-    source, texts = f"{top}/crates/{crate}/src", {}
-    for at, _, names in os.walk(source):
-        for name in names:
-            path = os.path.relpath(f"{at}/{name}", source).removesuffix(".rt")
-            with open(f"{at}/{name}", encoding="utf-8") as file:
-                texts[path] = file.read()
+    source = f"{top}/crates/{crate}/src"
+    paths = glob.glob(f"{source}/**/*.rt", recursive=True)
+    texts = {os.path.relpath(it, source).removesuffix(".rt"): read(it) for it in paths}
     lists = [names for text in texts.values() for names in EXPORTED.findall(text)]
     exported = {it for names in lists for it in re.findall(r"\w+", names)}
     found = set()
@@ -42,9 +43,9 @@ def calls_of(top, crate):
     return found
 
 
-def unlike(top, text):
+def unlike(top):
     """What of the table isn't as the sources are: calls of its crates that have no row, and names that are none."""
-    told = {it for _, calls in rows_of(text) for it in calls}
+    told = {it for calls in rows(top).values() for it in calls}
     there = {(crate, it) for crate in {crate for crate, _ in told} for it in calls_of(top, crate)}
     lacks = [f"{crate} {it} has no row" for crate, it in sorted(there - told)]
     return lacks + [f"{crate} {it} is no public call that may be refused" for crate, it in sorted(told - there)]

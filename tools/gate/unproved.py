@@ -7,10 +7,12 @@ import sys
 import tempfile
 import time
 from concurrent.futures import ThreadPoolExecutor
+from dataclasses import dataclass, field
 
 sys.dont_write_bytecode = True
 sys.path.insert(0, os.path.dirname(os.path.dirname(os.path.abspath(__file__))))
 
+from gate import pages
 from gate.kit import CC, demand, load_rt, place
 
 HERE = os.path.dirname(os.path.abspath(__file__))
@@ -20,7 +22,6 @@ SUFFIX = ".rt.txt"
 # What its program writes where it refuses a growth.
 TOLD = "refuse.c: this growth is refused"
 LISTED = re.compile(r"^(\S+): test$", re.M)
-RESULT = re.compile(r"^test result: (\d+) passed; (\d+) failed$", re.M)
 # Beside proofs a test may wait long for a processor.
 SECONDS = 900
 # What a test writes of the reads, writes, flushes and fills that it made fail.
@@ -38,9 +39,9 @@ def program(top):
     return f"{top}/out/tests/{CRATE}"
 
 
-def put(top, room, layers=()):
+def put(top, room, layers=(), filled=pages.filled):
     """Copies the crates to a folder, with the tests as one more crate, all of them or those of some layers alone, and
-    returns that one's folder."""
+    with the pages' blocks, and returns that one's folder."""
     shutil.copytree(f"{top}/crates", f"{room}/crates", ignore=shutil.ignore_patterns("out", "must-fail", "proofs"))
     folder = f"{room}/crates/{CRATE}"
     for path in sources(top):
@@ -49,7 +50,8 @@ def put(top, room, layers=()):
             continue
         to = f"{folder}/src/{path.removesuffix('.txt')}"
         os.makedirs(os.path.dirname(to), exist_ok=True)
-        shutil.copyfile(f"{top}/tests/{path}", to)
+        with open(f"{top}/tests/{path}", encoding="utf-8") as file, open(to, "w", encoding="utf-8") as out:
+            out.write(filled(file.read()))
     with open(f"{room}/crates.txt", "w", encoding="utf-8") as to:
         for path in ("crates.txt", "tests/crate.txt"):
             with open(f"{top}/{path}", encoding="utf-8") as file:
@@ -63,19 +65,35 @@ def put(top, room, layers=()):
 def format_all(top):
     """Formats its sources as `rt fmt` does."""
     with tempfile.TemporaryDirectory(prefix="tests-") as room:
-        folder = put(top, room)
+        folder = put(top, room, filled=str)
         status = subprocess.run(["rt", "fmt"], cwd=folder).returncode
         for path in sources(top):
             shutil.copyfile(f"{folder}/src/{path.removesuffix('.txt')}", f"{top}/tests/{path}")
     return status
 
 
+@dataclass
+class Ran:
+    """What a compile wrote that failed, and of each test that was run whether it passed, and what it wrote."""
+
+    log: str = ""
+    tests: dict = field(default_factory=dict)
+
+    def failed(self):
+        return [name for name, (is_passed, _) in self.tests.items() if not is_passed]
+
+    def made_to_fail(self):
+        """How many reads, writes, flushes and fills the tests that passed made fail."""
+        told = [map(int, it) for is_passed, wrote in self.tests.values() if is_passed for it in FAILED.findall(wrote)]
+        return [sum(it) for it in zip(*told)] or [0] * 4
+
+
 def run(top, planted=None):
     """Compiles the tests with the crates below from their sources, runs each, and keeps the program.
 
-    Returns the status and what was written. The program is that of `rt try --test`, with one more object file in it,
-    which can refuse a growth of memory. Sources that `rt fmt` would change fail before that. A planted body (an Edit of
-    the crates) is put into the sources, and such a program isn't kept.
+    The program is that of `rt try --test`, with one more object file in it, which can refuse a growth of memory.
+    Sources that `rt fmt` would change fail before that. A planted body (an Edit of the crates) is put into the sources,
+    and such a program isn't kept.
     """
     demand("rt", CC[0])
     to = program(top)
@@ -91,12 +109,12 @@ def run(top, planted=None):
         kept = f"{room}/kept" if planted else to
         words = [*CC, "-O2", "-fPIC", "-c", f'-DKEPT="{kept}"', f'-DTOLD="{TOLD}"']
         subprocess.run([*words, f"{HERE}/refuse.c", "-o", f"{room}/refuse.o"], check=True)
-        status, output = compiled(room, kept)
-        return (status, output) if status else run_each(kept, room)
+        log = compiled(room, kept)
+        return Ran(log) if log else Ran(tests=run_each(kept, room))
 
 
 def compiled(room, kept):
-    """Has the program compiled, up to the place where it is kept. Returns the status, and what was written."""
+    """Has the program compiled, up to the place where it is kept. Returns what was written where it isn't."""
     with open(f"{room}/log", "w+", encoding="utf-8", errors="replace") as log:
         how = {"stdin": subprocess.DEVNULL, "stdout": log, "stderr": subprocess.STDOUT}
         ran = subprocess.Popen([sys.executable, __file__, room], env={**os.environ, "TMPDIR": room}, **how)
@@ -106,23 +124,21 @@ def compiled(room, kept):
         ran.terminate()
         ran.wait()
         log.seek(0)
-        return (0, "") if os.path.exists(kept) else (ran.returncode or 1, log.read())
+        return "" if os.path.exists(kept) else log.read() or f"status {ran.returncode}"
 
 
 def run_each(path, room):
     """Runs each test of the program in a folder of its own, as many at once as there are processors."""
     command = command_of(path)
-    listed = subprocess.run([*command, "--list"], stdout=subprocess.PIPE, text=True, check=True).stdout
     # (those of many rows take longest, and would be run last)
-    names = sorted(LISTED.findall(listed), key=lambda name: "many" not in name)
+    names = sorted(listed(command), key=lambda name: "many" not in name)
     with ThreadPoolExecutor(len(os.sched_getaffinity(0))) as pool:
-        told = [*pool.map(lambda name: run_one(command, name, room), names)]
-    failed = sum(not passed for passed, _ in told)
-    lines = [f"test {name} ... {'ok' if passed else 'FAILED'}" for name, (passed, _) in zip(names, told)]
-    whys = [f"---- {name} ----\n{wrote}" for name, (passed, wrote) in zip(names, told) if not passed]
-    counts = [found[0] for passed, wrote in told if passed for found in FAILED.finditer(wrote)]
-    result = f"test result: {len(names) - failed} passed; {failed} failed"
-    return 1 if failed else 0, "\n".join([*lines, *counts, *whys, result])
+        return dict(zip(names, pool.map(lambda name: run_one(command, name, room), names)))
+
+
+def listed(command):
+    told = subprocess.run([*command, "--list"], stdout=subprocess.PIPE, text=True, check=True).stdout
+    return LISTED.findall(told)
 
 
 def run_one(command, name, room):
@@ -138,25 +154,12 @@ def run_one(command, name, room):
 
 def plant(edit, room):
     """Puts an edit into the sources there."""
-    texts = {}
-    for file, *_ in edit.pairs:
-        with open(f"{room}/{file}", encoding="utf-8") as it:
-            texts[file] = it.read()
-    for file, text in edit.applied(texts).items():
-        with open(f"{room}/{file}", "w", encoding="utf-8") as to:
-            to.write(text)
-
-
-def counts(output):
-    """How many tests passed in a run and how many failed, or None where it broke off."""
-    result = RESULT.search(output)
-    return result and (int(result[1]), int(result[2]))
-
-
-def failures(output):
-    """How many reads, writes, flushes and fills its tests made fail in a run."""
-    told = [[int(it) for it in found] for found in FAILED.findall(output)]
-    return [sum(it[i] for it in told) for i in range(4)]
+    for file, old, new in edit.pairs:
+        with open(f"{room}/{file}", "r+", encoding="utf-8") as it:
+            text = it.read()
+            it.seek(0)
+            it.truncate()
+            it.write(text.replace(old, new))
 
 
 def command(top):

@@ -1,62 +1,37 @@
 """What earlier runs refused, by the sum of all that a trial reads."""
+import contextlib
 import glob
 import hashlib
-import json
 import os
 import tempfile
+from pathlib import Path
 
-TOOLS = os.path.dirname(os.path.dirname(os.path.abspath(__file__)))
+TOOLS = Path(__file__).resolve().parent.parent
 
 
 class Verdicts:
     """A folder with a file for each wrong body that was refused at an open goal.
 
     Its name is the sum of the crate's files, those of the crates below, the toolchain, the wrong body and these tools,
-    so it never goes stale. Without a folder nothing is kept.
+    so it never goes stale. Without a folder, or where it can't be written, nothing is kept.
     """
 
     def __init__(self, folder, crate):
-        self.folder = usable(folder)
-        if self.folder:
-            sums = [crate.stamp(), *(content(it) for it in tool_files())]
-            self.sum = hashlib.sha256(repr(sums).encode()).hexdigest()
+        tools = [TOOLS / "wrong-bodies", *map(Path, sorted(glob.glob(f"{TOOLS}/gate/*.py")))] if folder else []
+        self.folder, self.sums = folder, [crate.stamp() if folder else "", *(it.read_bytes() for it in tools)]
 
     def path(self, edit):
-        name = hashlib.sha256(repr((self.sum, edit.label, edit.text)).encode()).hexdigest()
-        return f"{self.folder}/{name}.json"
+        return f"{self.folder}/{hashlib.sha256(repr((self.sums, edit.label, edit.text)).encode()).hexdigest()}"
 
     def told(self, edit):
-        """What was told of the same wrong body when it was refused, or None."""
-        if not self.folder:
-            return None
-        try:
-            with open(self.path(edit), encoding="utf-8") as file:
-                found = json.load(file)
-            return found["told"] if found["edit"] == edit.label else None
-        except (OSError, ValueError, KeyError, TypeError):
-            return None
+        """What was told of the same wrong body when it was refused, or nothing."""
+        with contextlib.suppress(OSError, ValueError):
+            return Path(self.path(edit)).read_text(encoding="utf-8")
+        return ""
 
     def keep(self, edit, told):
-        if self.folder:
-            how = {"dir": self.folder, "suffix": ".new", "delete": False, "encoding": "utf-8"}
-            with tempfile.NamedTemporaryFile("w", **how) as file:
-                json.dump({"edit": edit.label, "told": told}, file)
+        with contextlib.suppress(OSError):
+            os.makedirs(self.folder or "", exist_ok=True)
+            with tempfile.NamedTemporaryFile("w", dir=self.folder, delete=False, encoding="utf-8") as file:
+                file.write(told)
             os.replace(file.name, self.path(edit))
-
-
-def usable(folder):
-    """The folder, which is made where it is missing, or None where it can't be written to."""
-    try:
-        os.makedirs(folder or "", exist_ok=True)
-    except OSError:
-        return None
-    return folder if os.access(folder, os.W_OK) else None
-
-
-def tool_files():
-    return [f"{TOOLS}/wrong-bodies", *sorted(glob.glob(f"{TOOLS}/gate/*.py"))]
-
-
-def content(path):
-    with open(path, "rb") as file:
-        return hashlib.sha256(file.read()).hexdigest()

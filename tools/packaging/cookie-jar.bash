@@ -44,7 +44,8 @@ _cookie_jar_rules() {
 _cookie_jar_options() {
     found='--now --suffixes --format --wait --rules --verbose --help --version'
     case ${plain[1]-} in
-        receive | header) found+=' --from --navigate' ;;
+        receive) found+=' --from --navigate --one' ;;
+        header) found+=' --from --navigate' ;;
         list) found+=' --json --domain' ;;
         import) found+=' --strict --file-format' ;;
         export) found+=' --for --file-format' ;;

@@ -2,8 +2,6 @@
    write down how many instructions readings take whose codes, or whose sealed texts, are wrong at one place. */
 #include "fonnalich.h"
 #include "secrets.h"
-#include <malloc.h>
-#include <valgrind/callgrind.h>
 
 static const char *VALUES[] = {"3", "a text of 41 bytes, so of two blocks more"};
 enum { VALUES_COUNT = 2 };
@@ -120,14 +118,9 @@ static int is_read(const char *value) {
     return item_length == (ptrdiff_t)strlen(value) && memcmp(item, value, strlen(value)) == 0;
 }
 
-static void sets_signed(void) {
+static void sets(char way) {
     for (int i = 0; i < VALUES_COUNT; i++)
-        set(*FONNALICH_SIGNED, VALUES[i]);
-}
-
-static void sets_sealed(void) {
-    for (int i = 0; i < VALUES_COUNT; i++)
-        set(*FONNALICH_SEALED, VALUES[i]);
+        set(way, VALUES[i]);
 }
 
 static void reads(char way) {
@@ -150,22 +143,6 @@ static const int CODES[] = {0, 21, 42, 44};
 static const int SEALINGS[] = {0, 15, 16, -20, -11, -1};
 #define COUNT(places) (int)(sizeof(places) / sizeof *(places))
 
-static void reads_signed(void) {
-    reads(*FONNALICH_SIGNED);
-}
-
-static void reads_sealed(void) {
-    reads(*FONNALICH_SEALED);
-}
-
-static void reads_wrong_signed(void) {
-    reads_wrong(*FONNALICH_SIGNED, CODES, COUNT(CODES));
-}
-
-static void reads_wrong_sealed(void) {
-    reads_wrong(*FONNALICH_SEALED, SEALINGS, COUNT(SEALINGS));
-}
-
 static void sets_until(char way) {
     for (int i = 0; i < VALUES_COUNT; i++)
         set_until(ring[0], KEYS, way, VALUES[i]);
@@ -183,27 +160,28 @@ static void read_until(char way, size_t place, int64_t second) {
     demand(is_wanted ? is_read(value) : item_length < 0, "a reading of a value that ends");
 }
 
-static void sets_signed_until(void) {
-    sets_until(*FONNALICH_SIGNED_UNTIL);
-}
-
-static void sets_sealed_until(void) {
-    sets_until(*FONNALICH_SEALED_UNTIL);
-}
-
-/* (of one that is right memcheck tells wherever its value goes, since the compiler takes that by the verdict, and not
-   by a branch) */
-static void reads_wrong_signed_until(void) {
-    read_until(*FONNALICH_SIGNED_UNTIL, KEYS, NOW);
-}
-
 /* What each key made, before its end and from then on, and what another one did. */
-static void reads_sealed_until(void) {
+static void reads_until(char way) {
     for (size_t place = 0; place <= KEYS; place++) {
-        read_until(*FONNALICH_SEALED_UNTIL, place, NOW + HOUR - 1);
-        read_until(*FONNALICH_SEALED_UNTIL, place, NOW + HOUR);
+        read_until(way, place, NOW + HOUR - 1);
+        read_until(way, place, NOW + HOUR);
     }
 }
+
+/* (of a reading of a signed value that ends and is right memcheck tells wherever its value goes, since the compiler takes
+   that by the verdict, and not by a branch) */
+#define LOOKS(X) \
+    X(sets_signed, sets(*FONNALICH_SIGNED)) \
+    X(sets_sealed, sets(*FONNALICH_SEALED)) \
+    X(reads_signed, reads(*FONNALICH_SIGNED)) \
+    X(reads_wrong_signed, reads_wrong(*FONNALICH_SIGNED, CODES, COUNT(CODES))) \
+    X(reads_sealed, reads(*FONNALICH_SEALED)) \
+    X(reads_wrong_sealed, reads_wrong(*FONNALICH_SEALED, SEALINGS, COUNT(SEALINGS))) \
+    X(sets_signed_until, sets_until(*FONNALICH_SIGNED_UNTIL)) \
+    X(sets_sealed_until, sets_until(*FONNALICH_SEALED_UNTIL)) \
+    X(reads_wrong_signed_until, read_until(*FONNALICH_SIGNED_UNTIL, KEYS, NOW)) \
+    X(reads_sealed_until, reads_until(*FONNALICH_SEALED_UNTIL))
+LOOKS(DEFINED)
 
 /* Has callgrind write down what a reading takes that is wrong at a place, where it is to be kept. */
 static void count(char way, int place, int is_kept) {
@@ -218,8 +196,6 @@ static void count(char way, int place, int is_kept) {
 }
 
 static void counts(void) {
-    /* What is taken from the system and given back to it hangs on what was asked before. */
-    mallopt(M_TRIM_THRESHOLD, 1 << 30);
     count(*FONNALICH_SIGNED, 1, 0);
     count(*FONNALICH_SEALED, 1, 0);
     for (int place = 0; place < 43; place += 2)
@@ -235,21 +211,11 @@ int main(int count, char **words) {
         memset(ring[i], (int)i + 1, sizeof ring[i]);
     for (int i = 0; i < FONNALICH_NONCE_LENGTH; i++)
         nonces[i] = (char)(11 * i + 3);
-    if (count > 1 && strcmp(words[1], "counts") == 0) {
-        counts();
-        return 0;
+    bool is_look = count > 1 && strcmp(words[1], "counts") != 0;
+    if (is_look) {
+        SECRET(key);
+        SECRET(ring);
     }
-    SECRET(key);
-    SECRET(ring);
-    TAKE(sets_signed);
-    TAKE(sets_sealed);
-    TAKE(reads_signed);
-    TAKE(reads_wrong_signed);
-    TAKE(reads_sealed);
-    TAKE(reads_wrong_sealed);
-    TAKE(sets_signed_until);
-    TAKE(sets_sealed_until);
-    TAKE(reads_wrong_signed_until);
-    TAKE(reads_sealed_until);
+    TAKE_ALL(LOOKS, count, words, counts)
     return 0;
 }

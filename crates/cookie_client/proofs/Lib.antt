@@ -34,3 +34,10 @@ pub mod ClientRows
 pub mod RowsKept
 pub mod HostRows
 pub mod HeldCopies
+mod MomentText
+pub mod MomentDates
+pub mod BehindDots
+mod Shards
+pub mod Loading
+pub mod Outcomes
+pub mod Written

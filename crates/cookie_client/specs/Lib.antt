@@ -20,3 +20,7 @@ pub mod KeptKeys
 pub mod Once
 pub mod HostRows
 pub mod Version
+pub mod Loading
+pub mod Moment
+pub mod Shard
+pub mod Steps

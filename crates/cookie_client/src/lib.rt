@@ -7,21 +7,28 @@
 #![tactic(auto)]
 
 pub mod client;
+mod command;
 pub mod ending;
 pub mod laws;
+pub mod moment;
 mod outcome;
 pub mod pair;
 pub mod reading;
 mod release;
 pub mod ring_session;
 pub mod session;
+pub mod shard;
+pub mod text;
 mod way;
 
 pub use client::Client;
+pub use command::{Command, Reading};
 pub use cookie_store::{Counting, Failing, Sink, Source};
 pub use ending::EndingWay;
 pub use outcome::{LineEnd, SessionError, Stopped};
 pub use release::{version, version_line};
 pub use ring_session::RingSession;
 pub use session::Session;
+pub use shard::{shard_of, shard_of_url};
+pub use text::Text;
 pub use way::Way;

@@ -48,9 +48,6 @@ picked_none Is x h = ([], refl, inr (h, refl))
 
 -- ---- refused lines
 
-pub refused_none : (form : Form) (now : ℤ) → AreRefused form now [] []
-refused_none form now = ([], refl, refl)
-
 -- one more that is refused
 pub refused_more : (form : Form) (now : ℤ) (entries : List Entry) (refused : List (ℕ × Cause)) (entry : Entry)
     → AreRefused form now entries refused → IsUntaken form now entry.1

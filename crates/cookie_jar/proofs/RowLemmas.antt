@@ -1,6 +1,6 @@
 -- Rows that are lent, copied and picked.
-use Rattle.std.proofs.Common.{◌≡◌, ◌≤◌, ℤ, Bool, true, false, List, [], ◌∷◌, ◌++◌, map, length}
-use Rattle.std.proofs.Common.{Option, Result, Ok, Err, sym, refl, ap, ◌∙◌, subst, inl, inr, append_assoc, arith}
+use Rattle.std.proofs.Common.{◌≡◌, ℤ, Bool, true, false, List, [], ◌∷◌, ◌++◌, map}
+use Rattle.std.proofs.Common.{Option, Result, Ok, Err, sym, refl, ap, ◌∙◌, subst, inl, inr, append_assoc}
 use Rattle.std.specs.Prelude.{◌&&◌, cond, not, filter, if◌then◌else◌, IfOk}
 use Rattle.std.specs.Borrow.{Bor}
 use Rattle.std.specs.Iterator.{AlwaysYields}
@@ -47,14 +47,6 @@ picked_all Is (x ∷ xs) picked (later, rest, inl h) =
     subst (AllByRecursion Is) (sym h.1) (h.0, picked_all Is xs later rest)
 picked_all Is (x ∷ xs) picked (later, rest, inr h) =
     subst (AllByRecursion Is) (sym h.1) (picked_all Is xs later rest)
-
-pub picked_fewer : {A : Type 0} (Is : A → Type 0) (xs picked : List A) → ArePicked Is xs picked
-    → length picked ≤ length xs
-picked_fewer Is [] picked p = omega (arith, ap length p)
-picked_fewer Is (x ∷ xs) picked (later, rest, inl h) =
-    omega (arith, picked_fewer Is xs later rest, ap length h.1)
-picked_fewer Is (x ∷ xs) picked (later, rest, inr h) =
-    omega (arith, picked_fewer Is xs later rest, ap length h.1)
 
 -- what is picked of the rows that are left stands behind what was lent
 abbrev pub PicksSoFar : (Row → Type 0) → List Row → List Row → List Row → List Row → Type 0

@@ -1,14 +1,19 @@
 -- Rows that are asked for by a domain, by a name, or as they are printed (this repository's own).
-use Rattle.std.specs.Prelude.{ℕ, ◌&&◌, ◌||◌, Bool, List, Option, Some, None, IsSomeAnd, option_map}
+use Rattle.std.specs.Prelude.{◌≡◌, ◌&&◌, ◌||◌, ◌++◌, ℕ, ℤ, Bool, List, [], ◌∷◌, Option, Some, None, IsSomeAnd}
+use Rattle.std.specs.Prelude.{option_map}
 use Rattle.std.specs.List.{find}
 use Rattle.std.specs.Option.{option_or}
 use Rattle.std.specs.Str.{bytes_eq}
-use Rattle.store_parts.specs.DomainMatch.{Domain, DomainMatches, text_of}
+use Rattle.store_parts.specs.DomainMatch.{Domain, DomainMatches, dot, text_of}
 use Rattle.store_parts.specs.DomainText.{read_domain}
 use Rattle.cookie_store.specs.Given.{ArePicked}
-use Rattle.cookie_store.specs.Rows.{Row, domain_text, found, key, key_of, removed}
-use Rattle.cookie_jar.specs.Listing.{domain_field}
-use Rattle.cookie_jar.specs.Told.{shown}
+use Rattle.cookie_store.specs.Longest.{AreGivenLongest}
+use Rattle.cookie_store.specs.Rows.{Row, domain_text, found, key, key_of, live, removed}
+use Rattle.cookies_txt.specs.Layout.{when}
+use Rattle.cookies_txt.specs.Writing.{is_suffix}
+use Rattle.cookie_jar.specs.Terminal.{shown}
+use Rattle.cookie_jar.specs.declared.asking.Which.{Which}
+use Rattle.cookie_jar.specs.declared.asking.Which.TheVariants.{All, For, Under}
 
 -- ---- those of a domain and of those below it
 
@@ -28,6 +33,14 @@ IsUnder domain row = IsSomeAnd (domain_form domain) (DomainMatches (domain_text 
 abbrev pub AreUnder : List ℕ → List Row → List Row → Type 0
 AreUnder domain rows under = ArePicked (IsUnder domain) rows under
 
+-- ---- those that are listed
+
+-- all that aren't expired at the moment, those that a request to a URL gets, or those of a domain and below it
+abbrev pub AreListed : Which → ℤ → List Row → List Row → Type 0
+AreListed All now rows listed = listed ≡ live now rows
+AreListed (For url) now rows listed = AreGivenLongest rows url now listed
+AreListed (Under domain) now rows listed = AreUnder domain.now (live now rows) listed
+
 -- ---- the first of a name
 
 abbrev pub has_name : List ℕ → Row → Bool
@@ -38,6 +51,10 @@ abbrev pub first_value : List ℕ → List Row → Option (List ℕ)
 first_value name rows = option_map (λ row. row.raw.cookie.value) (find (has_name name) rows)
 
 -- ---- the row that is meant by a domain, a path and a name
+
+-- its domain as it is printed, with a dot in front where the hosts below it count
+abbrev pub domain_field : Row → List ℕ
+domain_field row = when (is_suffix row.domain) (dot ∷ []) ++ shown (domain_text row)
 
 -- its domain is printed so, with its dot in front or without
 abbrev pub has_domain_printed : List ℕ → Row → Bool

@@ -1,24 +1,18 @@
 -- What an import takes of the lines of a `cookies.txt`, or of the items of a list of RON or JSON, each read by itself
 -- (this repository's own).
 use Rattle.std.specs.Prelude.{◌≡◌, ◌+◌, ◌++◌, ℕ, ℤ, true, false, not, List, [], ◌∷◌, length, map, Option, Some, None}
-use Rattle.std.specs.Prelude.{Result, Ok, Err, ⊤, codes, filter, if◌then◌else◌}
-use Rattle.std.specs.Fmt.{decimal}
+use Rattle.std.specs.Prelude.{Result, Ok, Err, ⊤, filter, if◌then◌else◌}
 use Rattle.std.specs.List.{flat_map}
 use Rattle.cookie_store.specs.Given.{ArePicked}
 use Rattle.cookie_store.specs.Placing.{loaded}
 use Rattle.cookie_store.specs.Rows.{Row, is_live, live}
 use Rattle.cookie_client.specs.Pair.{is_read_pair}
-use Rattle.cookies_txt.specs.declared.error.LineFault.{LineFault}
-use Rattle.cookies_txt.specs.declared.error.LineFault.TheVariants.{NotText, Fields, EmptyDomain, Flag, NoSlash}
-use Rattle.cookies_txt.specs.declared.error.LineFault.TheVariants.{Number, EmptyName, Domain}
 use Rattle.cookies_txt.specs.declared.error.RowFault.{RowFault}
-use Rattle.cookies_txt.specs.declared.error.RowFault.TheVariants as row
 use Rattle.cookie_jar.specs.Entries.{Entry, GivesEntries}
 use Rattle.cookie_jar.specs.Keeping.{IsTaken, fault_in, have_control}
 use Rattle.cookie_jar.specs.declared.form.Form.{Form}
-use Rattle.cookie_jar.specs.declared.form.Form.TheVariants.{Ron, Json, Txt}
 use Rattle.cookie_jar.specs.declared.importing.Cause.{Cause}
-use Rattle.cookie_jar.specs.declared.importing.Cause.TheVariants.{Faulty, NoRow, Control, Pair, Unfit, HostPrefix}
+use Rattle.cookie_jar.specs.declared.importing.Cause.TheVariants.{Control, Pair, Unfit, HostPrefix}
 use Rattle.cookie_jar.specs.declared.importing.Imported.{Imported}
 use Rattle.cookie_jar.specs.declared.importing.Refused.{Refused}
 
@@ -94,7 +88,7 @@ abbrev pub Imports : Form → Form → ℤ → List ℕ → List Row → ImportT
 Imports form held now text old told new =
     (entries : List Entry) × GivesEntries form text entries × ImportsEntries held now entries old told new
 
--- ---- what is told
+-- ---- what the code answers
 
 abbrev pub refused_pair : Refused → ℕ × Cause
 refused_pair entry = (entry.number, entry.cause)
@@ -106,49 +100,6 @@ import_text done = record {
   replaced = done.replaced;
   refused = map refused_pair done.refused.items;
 }
-
--- what is told of a line with this fault
-abbrev pub fault_words : LineFault → List ℕ
-fault_words NotText = codes "not UTF-8"
-fault_words Fields = codes "neither six nor seven fields"
-fault_words EmptyDomain = codes "no domain"
-fault_words Flag = codes "flag neither TRUE nor FALSE"
-fault_words NoSlash = codes "path without /"
-fault_words Number = codes "expiry is no number"
-fault_words EmptyName = codes "empty name"
-fault_words Domain = codes "domain without IDNA form"
-
--- what is told of a row that a line of `cookies.txt` can't hold
-abbrev pub unfit_words : RowFault → List ℕ
-unfit_words row.NoDomain = codes "no domain"
-unfit_words row.HostSign = codes "host begins with #, a dot or white space"
-unfit_words row.NoSlash = codes "path without /"
-unfit_words row.EmptyName = codes "empty name"
-unfit_words row.Separator = codes "tab or line feed"
-unfit_words row.CarriageReturn = codes "value ends in a carriage return"
-
-abbrev pub cause_words : Cause → List ℕ
-cause_words (Faulty fault) = fault_words fault
-cause_words NoRow = codes "no row"
-cause_words Control = codes "control character"
-cause_words Pair = codes "name or value"
-cause_words (Unfit fault) = unfit_words fault
-cause_words HostPrefix = codes "__Host-"
-
--- what the entries of a text of this form are
-abbrev pub entry_words : Form → List ℕ
-entry_words Ron = codes "\trow "
-entry_words Json = codes "\trow "
-entry_words Txt = codes "\tline "
-
--- the line that tells of a refused one
-abbrev pub refused_line : Form → ℕ × Cause → List ℕ
-refused_line form entry =
-    codes "refused: " ++ (cause_words entry.1 ++ (entry_words form ++ (decimal entry.0 ++ 10 ∷ [])))
-
--- one for each
-abbrev pub refused_lines : Form → List (ℕ × Cause) → List ℕ
-refused_lines form refused = flat_map (refused_line form) refused
 
 -- a step of the code, for a private contract alone: the row, or none
 abbrev pub lone : Option Row → List Row

@@ -41,6 +41,9 @@ pub record IsKept (row : Row) : Type 0 where
 abbrev pub AreKept : List Row → Type 0
 AreKept rows = AllByRecursion IsKept rows
 
+abbrev pub IsRefused : Row → Type 0
+IsRefused row = ¬ (IsKept row)
+
 -- ---- rows that an import takes
 
 -- why a text of the form can't hold the row, where that is so: RON and JSON hold every row

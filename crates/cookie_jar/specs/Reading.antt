@@ -9,7 +9,6 @@ use Rattle.cookie_store.specs.SavedTexts.{IsJsonOf, IsJsonRefusal, IsRonRefusal,
 use Rattle.cookies_txt.specs.Reading.{GivesRows, IsBytesRefusal}
 use Rattle.cookies_txt.specs.declared.error.ReadError.{ReadError as LinesError}
 use Rattle.cookies_txt.specs.declared.error.ReadError.TheVariants as lines
-use Rattle.cookie_jar.specs.LeftOut.{TellsRefused}
 use Rattle.cookie_jar.specs.declared.error.ReadError.{ReadError}
 use Rattle.cookie_jar.specs.declared.error.ReadError.TheVariants.{Saved, Lines, OutOfMemory}
 use Rattle.cookie_jar.specs.declared.form.Form.{Form}
@@ -29,7 +28,3 @@ IsUnread Json text e = (e ≡ OutOfMemory)
     ⊎ ((cause : Error) × (cause ≢ saved.OutOfMemory) × IsJsonRefusal text cause × (e ≡ Saved cause))
 IsUnread Txt text e = (e ≡ OutOfMemory)
     ⊎ ((cause : LinesError) × (cause ≢ lines.OutOfMemory) × IsBytesRefusal text cause × (e ≡ Lines cause))
-
--- what is told of the rows of a text that a jar drops as it is loaded, since it doesn't keep them
-abbrev pub TellsDropped : Form → ℤ → List ℕ → List ℕ → Type 0
-TellsDropped form now text told = (read : Store) × Reads form now text read × TellsRefused form read.rows told

@@ -1,8 +1,10 @@
--- Characters on which a terminal acts, and JSON without them (RFC 8259, section 7).
-use Rattle.std.specs.Prelude.{◌==◌, ◌||◌, ◌&&◌, ◌++◌, ◌/◌, ◌%◌, ℕ, Bool, List, [], ◌∷◌, codes, nat_le, nat_lt}
+-- Characters on which a terminal acts, and texts without them (this repository's own; JSON by RFC 8259, section 7).
+use Rattle.std.specs.Prelude.{◌≡◌, ◌==◌, ◌||◌, ◌&&◌, ◌++◌, ◌/◌, ◌%◌, ℕ, Bool, List, [], ◌∷◌, codes, nat_le, nat_lt}
+use Rattle.std.specs.Prelude.{not, true}
 use Rattle.std.specs.Prelude.{encode_utf8, if◌then◌else◌}
 use Rattle.std.specs.Char.{digit_char}
-use Rattle.std.specs.List.{flat_map}
+use Rattle.std.specs.List.{flat_map, list_all}
+use Rattle.percent_encoding.specs.Percent.{percent_encode_byte}
 use Rattle.std.specs.Str.{chars}
 
 -- C0, DEL and C1 (ISO/IEC 6429)
@@ -35,3 +37,27 @@ shown_char c = if is_acted_on c then escape c else encode_utf8 c
 -- the text with such an escape for each of them
 abbrev pub shown_text : List ℕ → List ℕ
 shown_text text = flat_map shown_char (chars text)
+
+-- every byte that isn't printable ASCII, and `%`
+abbrev pub is_hidden : ℕ → Bool
+is_hidden b = nat_lt b 32 || nat_lt 126 b || b == 37
+
+-- the text with each such byte as `%` and two upper-case digits
+abbrev pub shown : List ℕ → List ℕ
+shown text = flat_map (λ b. if is_hidden b then percent_encode_byte b else b ∷ []) text
+
+-- printable ASCII, a tab, a line feed
+abbrev pub is_plain : ℕ → Bool
+is_plain b = b == 9 || (b == 10 || (nat_le 32 b && nat_lt b 127))
+
+-- a tab, a line feed, or a character on which no terminal acts
+abbrev pub is_let : ℕ → Bool
+is_let c = c == 9 || (c == 10 || not (is_acted_on c))
+
+-- words of the program's own
+abbrev pub ArePlain : List ℕ → Type 0
+ArePlain words = list_all is_plain words ≡ true
+
+-- no terminal acts on the text
+abbrev pub ShowsNoControl : List ℕ → Type 0
+ShowsNoControl text = list_all is_let (chars text) ≡ true

@@ -9,19 +9,51 @@ ghost use Rattle.cookie_store.specs.Rows.{domain_text, key, key_of, live};
 ghost use Rattle.cookie_store.specs.StoredCookie.{stored_of};
 ghost use Rattle.cookie_jar.specs.Asking as spec;
 ghost use Rattle.cookie_jar.specs.Rows.{lent_rows};
-ghost use Rattle.cookie_jar.specs.Told.{shown};
+ghost use Rattle.cookie_jar.specs.Terminal.{shown};
 
 use crate::listing::push_domain;
-use crate::told::push_shown;
+use crate::rows::live_rows;
+use crate::terminal::Shown;
 use cookie_store::{Cookie, CookieDomain, CookieStore, Error};
 use jiff::civil::DateTime;
 use matching::domain_matches;
 use std::alloc::{AllocError, Global};
+use url::Url;
 
-/// The rows that aren't expired at `now` and whose domain domain-matches that of the text, in their order. A text
-/// without an IDNA form has none.
+/// The rows that are listed.
+#[derive(Debug, Drop)]
+pub enum Which<'a> {
+    /// All that aren't expired.
+    All,
+    /// Those that a request to this URL gets, with longer paths first.
+    For(Url),
+    /// Those that aren't expired and whose domain domain-matches this one (RFC 6265, section 5.1.3): it is the same, or
+    /// ends in it behind a dot. The text is put into its IDNA form, without white space at its ends and without one dot
+    /// in front; one that has none lists no row.
+    Under(&'a str),
+}
+
+/// Which rows of a store are listed at `now`.
+pub(crate) fn rows_listed<'s>(
+    alloc: Global,
+    store: &'s CookieStore,
+    which: &Which<'_>,
+    now: DateTime,
+) -> Result<Vec<&'s Cookie<'static>>, AllocError>
+    ensures { IfOk result (λ rows.
+        spec.AreListed which.now (civil_nanos now) store.now.rows (lent_rows rows.items)) }
+{
+    match which {
+        Which::All => live_rows(alloc, store, now),
+        Which::For(url) => store.matches_longest(url, now),
+        Which::Under(domain) => rows_under(alloc, store, domain, now),
+    }
+}
+
+// The rows that aren't expired at `now` and whose domain domain-matches that of the text, in their order. A text
+// without an IDNA form has none.
 #[tactic(auto, using(crate::proofs::AskingLemmas::under_none))]
-pub(crate) fn rows_under<'a>(
+fn rows_under<'a>(
     alloc: Global,
     store: &'a CookieStore,
     domain: &str,
@@ -187,7 +219,7 @@ fn is_printed_so(
 fn is_domain_shown(alloc: Global, cookie: &Cookie<'static>, word: &str) -> Result<bool, AllocError>
     ensures { IfOk result (λ so. so ≡ spec.has_domain_printed word.now (stored_of cookie.now)) }
 {
-    let mut field = String::new(alloc);
+    let mut field = Shown::new(alloc);
     push_domain(&mut field, cookie)?;
     Ok(field.as_str() == word || is_shown(alloc, text_of_domain(cookie), word)?)
 }
@@ -196,7 +228,7 @@ fn is_domain_shown(alloc: Global, cookie: &Cookie<'static>, word: &str) -> Resul
 fn is_shown(alloc: Global, text: &str, word: &str) -> Result<bool, AllocError>
     ensures { IfOk result (λ so. so ≡ bytes_eq (shown text.now) word.now) }
 {
-    let mut field = String::new(alloc);
-    push_shown(&mut field, text.as_bytes())?;
+    let mut field = Shown::new(alloc);
+    field.bytes(text.as_bytes())?;
     Ok(field.as_str() == word)
 }

@@ -1,10 +1,10 @@
 //! What the rules of user agents make of a line before it is taken.
-ghost use Rattle.std.specs.Prelude.{◌≡◌, ◌++◌, IfOk, OnOk, string_bytes};
+ghost use Rattle.std.specs.Prelude.{IfOk, string_bytes};
 ghost use Rattle.jiff.specs.Words.{civil_nanos};
-ghost use Rattle.cookie_jar.specs.Changing as spec;
-ghost use Rattle.cookie_jar.specs.Steps as steps;
+ghost use Rattle.user_agent.specs.Agent.{IsHandedText};
+ghost use Rattle.cookie_jar.specs.Terminal.{ArePlain};
 
-use crate::told::push_shown;
+use crate::terminal::Shown;
 use jiff::civil::DateTime;
 use std::alloc::{AllocError, Global};
 use user_agent::Rules;
@@ -25,14 +25,12 @@ pub(crate) enum Change {
 /// `AllocError`, for want of memory.
 pub(crate) fn push_changes(
     alloc: Global,
-    text: &mut String,
+    text: &mut Shown,
     rules: &Rules,
     line: &str,
     now: DateTime,
 ) -> Result<String, AllocError>
-    ensures { IfOk result (λ handed. steps.Appends
-        (spec.TellsChanges rules.now (civil_nanos now) line.now (string_bytes handed))
-        (string_bytes text.old) (string_bytes text.new)) }
+    ensures { IfOk result (λ handed. IsHandedText rules.now (civil_nanos now) line.now (string_bytes handed)) }
 {
     let short = shortened(alloc, rules, line)?;
     push_change(text, Change::LongAttributes, line, short.as_str())?;
@@ -45,24 +43,21 @@ pub(crate) fn push_changes(
 
 // Tells what the rule made of the line, where it changed it.
 fn push_change(
-    text: &mut String,
+    text: &mut Shown,
     change: Change,
     line: &str,
     changed: &str,
-) -> Result<(), AllocError>
-    ensures { OnOk result (string_bytes text.new
-        ≡ string_bytes text.old ++ spec.change_line change line.now changed.now) }
-{
+) -> Result<(), AllocError> {
     if line == changed {
         return Ok(());
     }
-    text.push_str(words(change))?;
-    push_shown(text, changed.as_bytes())?;
-    text.push_str(section(change))
+    text.words(words(change))?;
+    text.bytes(changed.as_bytes())?;
+    text.words(section(change))
 }
 
 fn words(change: Change) -> &'static str
-    ensures { result.now ≡ spec.words change }
+    ensures { ArePlain result.now }
 {
     match change {
         Change::LongAttributes => "long-attributes: taken as ",
@@ -72,7 +67,7 @@ fn words(change: Change) -> &'static str
 }
 
 fn section(change: Change) -> &'static str
-    ensures { result.now ≡ spec.section change }
+    ensures { ArePlain result.now }
 {
     match change {
         Change::LongAttributes => " (draft-ietf-httpbis-rfc6265bis, section 5.6)\n",

@@ -1,13 +1,14 @@
 //! What is told of rows that a load drops.
-ghost use Rattle.std.specs.Prelude.{IfErr, IfOk, string_bytes};
-ghost use Rattle.jiff.specs.Words.{civil_nanos};
+ghost use Rattle.std.specs.Prelude.{IfErr, IfOk};
 ghost use Rattle.cookie_jar.specs.Reading as spec;
+ghost use Rattle.cookie_jar.specs.Terminal.{ShowsNoControl};
 
 use crate::error::ReadError;
 use crate::form::Form;
 use crate::left_out::refused_lines;
 use crate::reading::read;
 use crate::rows::refused_rows;
+use crate::terminal::Shown;
 use jiff::civil::DateTime;
 use std::alloc::Global;
 
@@ -23,14 +24,14 @@ pub fn dropped_lines(
     form: Form,
     text: &[u8],
     now: DateTime,
-) -> Result<String, ReadError>
-    ensures ok { IfOk result (λ told. spec.TellsDropped form (civil_nanos now) text.now (string_bytes told)) }
+) -> Result<Shown, ReadError>
+    ensures ok { IfOk result ShowsNoControl }
     ensures err { IfErr result (spec.IsUnread form text.now) }
 {
     match read(alloc, form, text, now) {
         Ok(store) => match refused_rows(alloc, &store) {
             Ok(rows) => match refused_lines(alloc, form, rows) {
-                Ok(told) => Ok(told),
+                Ok(told) => Ok(told.finish()),
                 Err(_) => Err(ReadError::OutOfMemory),
             },
             Err(_) => Err(ReadError::OutOfMemory),

@@ -1,15 +1,11 @@
 //! When a row expires, and in how long.
-ghost use Rattle.std.specs.Prelude.{◌≡◌, ◌++◌, ◌∷◌, ◌-ℤ◌, OnOk, string_bytes};
-ghost use Rattle.cookies_txt.specs.Layout.{tab};
-ghost use Rattle.jiff.specs.Words.{civil_nanos};
-ghost use Rattle.store_parts.specs.Expiry.{death_of};
-ghost use Rattle.cookie_jar.specs.Listing as spec;
-ghost use Rattle.cookie_jar.specs.Rows.{expires_text, until_line};
+ghost use Rattle.cookie_jar.specs.Terminal.{ArePlain};
 
+use crate::terminal::Shown;
 use cookie_store::CookieExpiration;
 use jiff::civil::DateTime;
 use saved_text::SavedDate;
-use std::alloc::AllocError;
+use std::alloc::{AllocError, Global};
 
 const DAY: u64 = 86_400;
 
@@ -17,75 +13,63 @@ const HOUR: u64 = 3_600;
 
 const MINUTE: u64 = 60;
 
-/// Behind a tab the moment in UTC, or `session` for none.
-pub(crate) fn push_expires(text: &mut String, expires: CookieExpiration) -> Result<(), AllocError>
-    ensures { OnOk result (string_bytes text.new ≡ string_bytes text.old ++ tab ∷ expires_text expires) }
-{
-    text.push_str("\t")?;
+/// The moment in UTC, or `session` for none.
+pub(crate) fn push_expires(
+    alloc: Global,
+    text: &mut Shown,
+    expires: CookieExpiration,
+) -> Result<(), AllocError> {
     match expires {
-        CookieExpiration::AtUtc(moment) => push_moment(text, moment),
-        CookieExpiration::SessionEnd => text.push_str("session"),
+        CookieExpiration::AtUtc(moment) => push_moment(alloc, text, moment),
+        CookieExpiration::SessionEnd => text.words("session"),
     }
 }
 
 // The date and the time, a minus before a year below 0.
-fn push_moment(text: &mut String, moment: DateTime) -> Result<(), AllocError>
-    ensures { OnOk result (string_bytes text.new ≡ string_bytes text.old ++ spec.moment_text moment) }
-{
+fn push_moment(alloc: Global, text: &mut Shown, moment: DateTime) -> Result<(), AllocError> {
     if moment.year() < 0 {
-        text.push_str("-")?;
+        text.words("-")?;
     }
     let date = SavedDate(moment);
-    write!(text, "{date}")
+    let date = format!(in alloc; "{date}")?;
+    text.bytes(date.as_bytes())
 }
 
-/// Behind a tab how long it is until then, or `-` for none.
+/// How long it is until then, or `-` for none.
 pub(crate) fn push_left(
-    text: &mut String,
+    text: &mut Shown,
     expires: CookieExpiration,
     now: DateTime,
-) -> Result<(), AllocError>
-    ensures { OnOk result (string_bytes text.new
-        ≡ string_bytes text.old ++ tab ∷ spec.left_field (civil_nanos now) (death_of expires)) }
-{
-    text.push_str("\t")?;
+) -> Result<(), AllocError> {
     match expires {
         CookieExpiration::AtUtc(moment) => push_length(text, seconds_until(now, moment)),
-        CookieExpiration::SessionEnd => text.push_str("-"),
+        CookieExpiration::SessionEnd => text.words("-"),
     }
 }
 
 /// A line of the moment in UTC and of how long it is until then, or of the end of the session.
 pub(crate) fn push_until(
-    text: &mut String,
+    alloc: Global,
+    text: &mut Shown,
     expires: CookieExpiration,
     now: DateTime,
-) -> Result<(), AllocError>
-    ensures { OnOk result (string_bytes text.new
-        ≡ string_bytes text.old ++ until_line (civil_nanos now) expires) }
-{
-    match expires {
-        CookieExpiration::AtUtc(moment) => {
-            text.push_str("until: ")?;
-            push_moment(text, moment)?;
-            text.push_str(", in ")?;
-            push_length(text, seconds_until(now, moment))?;
-            text.push_str("\n")
-        }
-        CookieExpiration::SessionEnd => text.push_str("until: the end of the session\n"),
-    }
+) -> Result<(), AllocError> {
+    let CookieExpiration::AtUtc(moment) = expires else {
+        return text.words("until: the end of the session\n");
+    };
+    text.words("until: ")?;
+    push_moment(alloc, text, moment)?;
+    text.words(", in ")?;
+    push_length(text, seconds_until(now, moment))?;
+    text.words("\n")
 }
 
 // The whole seconds from the one moment to the other, none where that isn't later.
-fn seconds_until(now: DateTime, moment: DateTime) -> u64
-    ensures { result ≡ spec.whole_seconds (civil_nanos moment -ℤ civil_nanos now) }
-{
+fn seconds_until(now: DateTime, moment: DateTime) -> u64 {
     u64::try_from(now.duration_until(moment).as_secs()).unwrap_or(0)
 }
 
-fn push_length(text: &mut String, seconds: u64) -> Result<(), AllocError>
-    ensures { OnOk result (string_bytes text.new ≡ string_bytes text.old ++ spec.length_text seconds) }
-{
+fn push_length(text: &mut Shown, seconds: u64) -> Result<(), AllocError> {
     if DAY <= seconds {
         push_count(text, seconds / DAY, "d")
     } else if HOUR <= seconds {
@@ -97,8 +81,9 @@ fn push_length(text: &mut String, seconds: u64) -> Result<(), AllocError>
     }
 }
 
-fn push_count(text: &mut String, count: u64, unit: &'static str) -> Result<(), AllocError>
-    ensures { OnOk result (string_bytes text.new ≡ string_bytes text.old ++ spec.count_text count unit.now) }
+fn push_count(text: &mut Shown, count: u64, unit: &'static str) -> Result<(), AllocError>
+    requires { ArePlain unit.now }
 {
-    write!(text, "{count}{unit}")
+    text.number(count)?;
+    text.words(unit)
 }

@@ -1,6 +1,5 @@
 //! What an import takes of the lines of a `cookies.txt`, or of the items of a list of RON or JSON, each read by itself.
-ghost use Rattle.std.specs.Prelude.{◌≡◌, ◌++◌, ◌∷◌, [], IfErr, IfOk, IfSome, IsNone, Ok, OnErr, OnOk, map, option_map};
-ghost use Rattle.std.specs.Prelude.{string_bytes};
+ghost use Rattle.std.specs.Prelude.{◌≡◌, ◌∷◌, [], IfErr, IfOk, IfSome, IsNone, Ok, OnErr, map, option_map};
 ghost use Rattle.std.specs.Result.{result_map_both};
 ghost use Rattle.jiff.specs.Words.{civil_nanos};
 ghost use Rattle.cookie_store.specs.Given.{ArePicked};
@@ -9,6 +8,7 @@ ghost use Rattle.cookie_store.specs.StoredCookie.{stored_of};
 ghost use Rattle.cookie_jar.specs.Entries.{IsRefusal, entry_text};
 ghost use Rattle.cookie_jar.specs.Importing as spec;
 ghost use Rattle.cookie_jar.specs.Keeping.{IsTaken};
+ghost use Rattle.cookie_jar.specs.Terminal.{ArePlain, ShowsNoControl};
 
 use crate::entries::{Entry, entries_of};
 use crate::error::ImportError;
@@ -16,6 +16,7 @@ use crate::form::Form;
 use crate::jar::with_rows;
 use crate::keeping::{fault_in, have_control, is_read_pair, is_taken};
 use crate::reading::placed;
+use crate::terminal::Shown;
 use cookie_store::{Cookie, CookieStore};
 use cookies_txt::{LineFault, RowFault};
 use jiff::civil::DateTime;
@@ -239,30 +240,27 @@ fn only_taken(form: Form, cookie: Cookie<'static>, now: DateTime) -> Option<Cook
 /// # Errors
 ///
 /// `AllocError` where there is no memory for the text.
-pub fn refused_text(alloc: Global, form: Form, refused: &[Refused]) -> Result<String, AllocError>
-    ensures { IfOk result (λ text.
-        string_bytes text ≡ spec.refused_lines form (map spec.refused_pair refused.now)) }
+pub fn refused_text(alloc: Global, form: Form, refused: &[Refused]) -> Result<Shown, AllocError>
+    ensures { IfOk result ShowsNoControl }
 {
-    let mut text = String::new(alloc);
+    let mut text = Shown::new(alloc);
     for entry in refused {
         push_refused(&mut text, form, *entry)?;
     }
-    Ok(text)
+    Ok(text.finish())
 }
 
-fn push_refused(text: &mut String, form: Form, entry: Refused) -> Result<(), AllocError>
-    ensures { OnOk result (string_bytes text.new
-        ≡ string_bytes text.old ++ spec.refused_line form (spec.refused_pair entry)) }
-{
-    let number = entry.number;
-    let cause = cause_words(entry.cause);
-    let what = entry_words(form);
-    write!(text, "refused: {cause}{what}{number}\n")
+fn push_refused(text: &mut Shown, form: Form, entry: Refused) -> Result<(), AllocError> {
+    text.words("refused: ")?;
+    text.words(cause_words(entry.cause))?;
+    text.words(entry_words(form))?;
+    text.number(entry.number as u64)?;
+    text.words("\n")
 }
 
 // What the entries of a text of this form are.
 fn entry_words(form: Form) -> &'static str
-    ensures { result.now ≡ spec.entry_words form }
+    ensures { ArePlain result.now }
 {
     match form {
         Form::Ron | Form::Json => "\trow ",
@@ -272,7 +270,7 @@ fn entry_words(form: Form) -> &'static str
 
 /// What is told of a line or a row that isn't taken for this cause.
 pub(crate) fn cause_words(cause: Cause) -> &'static str
-    ensures { result.now ≡ spec.cause_words cause }
+    ensures { ArePlain result.now }
 {
     match cause {
         Cause::Faulty(fault) => fault_words(fault),
@@ -286,7 +284,7 @@ pub(crate) fn cause_words(cause: Cause) -> &'static str
 
 /// What is told of a row that a line of `cookies.txt` can't hold for this fault.
 pub(crate) fn unfit_words(fault: RowFault) -> &'static str
-    ensures { result.now ≡ spec.unfit_words fault }
+    ensures { ArePlain result.now }
 {
     match fault {
         RowFault::NoDomain => "no domain",
@@ -300,7 +298,7 @@ pub(crate) fn unfit_words(fault: RowFault) -> &'static str
 
 /// What is told of a line with this fault.
 pub(crate) fn fault_words(fault: LineFault) -> &'static str
-    ensures { result.now ≡ spec.fault_words fault }
+    ensures { ArePlain result.now }
 {
     match fault {
         LineFault::NotText => "not UTF-8",

@@ -13,36 +13,36 @@ ghost use Rattle.user_agent.specs.CrossSite.{IsHeaderFor};
 ghost use Rattle.cookies_txt.specs.Layout.{text_for};
 ghost use Rattle.cookies_txt.specs.Writing.{held, line_of_row};
 ghost use Rattle.cookie_jar.specs.Asking as asked;
-ghost use Rattle.cookie_jar.specs.Explaining.{IsExplained};
+ghost use Rattle.cookie_jar.specs.Explaining.{Becomes};
 ghost use Rattle.cookie_jar.specs.Entries.{IsRefusal};
 ghost use Rattle.cookie_jar.specs.Importing as entry;
-ghost use Rattle.cookie_jar.specs.Json.{rows_json};
 ghost use Rattle.cookie_jar.specs.Keeping.{AreKept, IsKept, IsTaken, has_control};
-ghost use Rattle.cookie_jar.specs.LeftOut.{passed_lines};
-ghost use Rattle.cookie_jar.specs.Listing as table;
 ghost use Rattle.cookie_jar.specs.Reading as spec;
+ghost use Rattle.cookie_jar.specs.Rows.{lent_rows};
 ghost use Rattle.cookie_jar.specs.Saving as text;
 ghost use Rattle.cookie_jar.specs.Taking as take;
+ghost use Rattle.cookie_jar.specs.Terminal.{ShowsNoControl};
 ghost use Rattle.cookie_jar.specs.Told as told;
 
-use crate::asking::{first_value, key_texts, meant, rows_under};
+use crate::asking::{Which, first_value, key_texts, meant, rows_listed};
 use crate::error::{ImportError, ReadError, SaveError};
-use crate::explaining::explained;
+use crate::explaining::{Explained, explain_line};
 use crate::form::Form;
 use crate::importing::{Imported, import_text};
 use crate::json_list::rows_json;
 use crate::keeping::only_kept;
 use crate::left_out::passed_over_lines;
-use crate::listing::listing;
+use crate::listing::{Layout, listing};
 use crate::reading::read;
 use crate::rows::{live_rows, placed, rows_of, rows_with};
 use crate::saving::{Exported, lines_for, text_of};
 use crate::taking::{End, take_all, take_for};
+use crate::terminal::Shown;
 use crate::told::header_line;
 use cookie_client::Stopped;
 use cookie_client::client::store_header;
 use cookie_client::laws::host_rows_are_held_rightly;
-use cookie_store::CookieStore;
+use cookie_store::{Cookie, CookieStore};
 use cookies_txt::Reader;
 use jiff::civil::DateTime;
 use publicsuffix::List;
@@ -154,8 +154,6 @@ impl Jar {
             ≡ length (text.fitting form (live (civil_nanos now) self.now.rows))) }
         ensures passed_over { IfOk result (λ exported. exported.rows + exported.passed_over
             ≡ length (live (civil_nanos now) self.now.rows)) }
-        ensures told { IfOk result (λ exported. string_bytes exported.told
-            ≡ passed_lines form (live (civil_nanos now) self.now.rows)) }
         ensures err { IfErr result (text.IsUnsaved form true (live (civil_nanos now) self.now.rows)) }
     {
         self.written(form, true, now)
@@ -175,8 +173,6 @@ impl Jar {
             ≡ length (held (live (civil_nanos now) self.now.rows))) }
         ensures passed_over { IfOk result (λ exported. exported.rows + exported.passed_over
             ≡ length (live (civil_nanos now) self.now.rows)) }
-        ensures told { IfOk result (λ exported. string_bytes exported.told
-            ≡ passed_lines Form.Txt (live (civil_nanos now) self.now.rows)) }
     {
         let told = passed_over_lines(self.alloc, live_rows(self.alloc, &self.store, now)?)?;
         lines_for(
@@ -195,8 +191,6 @@ impl Jar {
             ≡ length (text.fitting form (live (civil_nanos now) self.now.rows))) }
         ensures passed_over { IfOk result (λ exported. exported.rows + exported.passed_over
             ≡ length (live (civil_nanos now) self.now.rows)) }
-        ensures told { IfOk result (λ exported. string_bytes exported.told
-            ≡ passed_lines form (live (civil_nanos now) self.now.rows)) }
         ensures all { passing_over ≡ false → IfOk result (λ _.
             text.fitting form (live (civil_nanos now) self.now.rows) ≡ live (civil_nanos now) self.now.rows) }
         ensures bytes { IfOk result (λ _. text.AreBytesIn form (live (civil_nanos now) self.now.rows)) }
@@ -361,94 +355,52 @@ impl Jar {
         first_value(self.alloc, given, name)
     }
 
-    /// The table of its rows that aren't expired at `now`: a line of the columns' names, and a line for each row, in
-    /// their order. Its fields are parted by tabs: domain with a dot in front where the hosts below it count, path,
-    /// name, value, the moment of its expiry in UTC (`2027-01-01T00:00:00Z`) or `session`, in how long that is, in the
-    /// largest whole one of days, hours, minutes and seconds (`35d`, `12h`, `59m`, `7s`) or `-`, `Secure` or `-`,
-    /// `HttpOnly` or `-`. Of the texts each byte that isn't printable ASCII, and `%`, stands as `%` and two digits.
+    /// The rows that are listed at `now`.
     ///
     /// # Errors
     ///
-    /// `AllocError` where there is no memory for the text.
-    #[tactic(auto, using(crate::proofs::ListingLemmas::listed_live))]
-    pub fn list(&self, now: DateTime) -> Result<String, AllocError>
-        ensures { IfOk result (λ list. table.IsListing (civil_nanos now)
-            (live (civil_nanos now) self.now.rows) (string_bytes list)) }
+    /// `AllocError`, for want of memory.
+    pub fn listed(
+        &self,
+        which: &Which<'_>,
+        now: DateTime,
+    ) -> Result<Vec<&Cookie<'static>>, AllocError>
+        ensures { IfOk result (λ rows.
+            asked.AreListed which.now (civil_nanos now) self.now.rows (lent_rows rows.items)) }
     {
-        let rows = live_rows(self.alloc, &self.store, now)?;
-        listing(self.alloc, rows, now)
+        rows_listed(self.alloc, &self.store, which, now)
     }
 
-    /// The table of what a request to this URL gets at `now`, with longer paths first.
+    /// These rows for people or for programs, in their order.
+    ///
+    /// The table has a line of the columns' names, and a line for each row. Its fields are parted by tabs: domain with
+    /// a dot in front where the hosts below it count, path, name, value, the moment of its expiry in UTC
+    /// (`2027-01-01T00:00:00Z`) or `session`, in how long that is, in the largest whole one of days, hours, minutes and
+    /// seconds (`35d`, `12h`, `59m`, `7s`) or `-`, `Secure` or `-`, `HttpOnly` or `-`. Of the texts each byte that
+    /// isn't printable ASCII, and `%`, stands as `%` and two digits.
+    ///
+    /// The JSON is an array in one line (RFC 8259), and a line feed. A row is an object of `domain`, `hosts_below`,
+    /// `path`, `name`, `value`, `expires`, `secure` and `http_only`: texts as the row has them, the expiry in whole
+    /// seconds since 1970 or `null`, and flags. Control characters and marks of bidirectional text, on which a terminal
+    /// acts, stand as `\u` and four digits.
     ///
     /// # Errors
     ///
     /// `AllocError` where there is no memory for the text.
-    pub fn list_of(&self, url: &Url, now: DateTime) -> Result<String, AllocError>
-        ensures { IfOk result (λ list. (rows : _)
-            × AreGivenLongest self.now.rows url.now (civil_nanos now) rows
-            × table.IsListing (civil_nanos now) rows (string_bytes list)) }
+    pub fn list(
+        &self,
+        which: &Which<'_>,
+        layout: Layout,
+        now: DateTime,
+    ) -> Result<Shown, AllocError>
+        ensures { IfOk result ShowsNoControl }
     {
-        let rows = self.store.matches_longest(url, now)?;
-        listing(self.alloc, rows, now)
-    }
-
-    /// The table of its rows that aren't expired at `now` and whose domain domain-matches this one (RFC 6265, section
-    /// 5.1.3): it is the same, or ends in it behind a dot. The text is put into its IDNA form, without white space at
-    /// its ends and without one dot in front; one that has none lists no row.
-    ///
-    /// # Errors
-    ///
-    /// `AllocError` where there is no memory for the text.
-    pub fn list_under(&self, domain: &str, now: DateTime) -> Result<String, AllocError>
-        ensures { IfOk result (λ list. (rows : _)
-            × asked.AreUnder domain.now (live (civil_nanos now) self.now.rows) rows
-            × table.IsListing (civil_nanos now) rows (string_bytes list)) }
-    {
-        let rows = rows_under(self.alloc, &self.store, domain, now)?;
-        listing(self.alloc, rows, now)
-    }
-
-    /// Its rows that aren't expired at `now`, in their order, as an array of JSON in one line (RFC 8259), and a line
-    /// feed. A row is an object of `domain`, `hosts_below`, `path`, `name`, `value`, `expires`, `secure` and
-    /// `http_only`: texts as the row has them, the expiry in whole seconds since 1970 or `null`, and flags. Control
-    /// characters and marks of bidirectional text, on which a terminal acts, stand as `\u` and four digits.
-    ///
-    /// # Errors
-    ///
-    /// `AllocError` where there is no memory for the text.
-    pub fn list_json(&self, now: DateTime) -> Result<String, AllocError>
-        ensures { IfOk result (λ list. string_bytes list ≡ rows_json (live (civil_nanos now) self.now.rows)) }
-    {
-        rows_json(self.alloc, live_rows(self.alloc, &self.store, now)?)
-    }
-
-    /// The same of what a request to this URL gets at `now`, with longer paths first.
-    ///
-    /// # Errors
-    ///
-    /// `AllocError` where there is no memory for the text.
-    pub fn list_json_of(&self, url: &Url, now: DateTime) -> Result<String, AllocError>
-        ensures { IfOk result (λ list. (rows : _)
-            × AreGivenLongest self.now.rows url.now (civil_nanos now) rows × (string_bytes list ≡ rows_json rows)) }
-    {
-        rows_json(self.alloc, self.store.matches_longest(url, now)?)
-    }
-
-    /// The same of the rows that [`Jar::list_under`] lists.
-    ///
-    /// # Errors
-    ///
-    /// `AllocError` where there is no memory for the text.
-    pub fn list_json_under(&self, domain: &str, now: DateTime) -> Result<String, AllocError>
-        ensures { IfOk result (λ list. (rows : _)
-            × asked.AreUnder domain.now (live (civil_nanos now) self.now.rows) rows
-            × (string_bytes list ≡ rows_json rows)) }
-    {
-        rows_json(
-            self.alloc,
-            rows_under(self.alloc, &self.store, domain, now)?,
-        )
+        let rows = self.listed(which, now)?;
+        let shown = match layout {
+            Layout::Table => listing(self.alloc, rows, now)?,
+            Layout::Json => rows_json(self.alloc, rows)?,
+        };
+        Ok(shown.finish())
     }
 
     /// What a `Set-Cookie` line from this URL means: which of these rules change it, and what they leave of it; its
@@ -467,11 +419,12 @@ impl Jar {
         url: &Url,
         line: &[u8],
         now: DateTime,
-    ) -> Result<String, AllocError>
-        ensures { IfOk result (λ text.
-            IsExplained form rules.now self.now url.now (civil_nanos now) line.now (string_bytes text)) }
+    ) -> Result<Explained, AllocError>
+        ensures becomes { IfOk result (λ explained. Becomes form rules.now self.now url.now (civil_nanos now) line.now
+            (option_map string_bytes explained.handed) explained.end explained.rows.rows) }
+        ensures shows { IfOk result (λ explained. ShowsNoControl explained.told) }
     {
-        explained(self.alloc, &self.store, form, rules, url, line, now)
+        explain_line(self.alloc, &self.store, form, rules, url, line, now)
     }
 
     /// Takes the row of the domain's text, which has no dot in front, the path's text and the name out, whether or not

@@ -1,13 +1,10 @@
 //! What is told of rows that are left out of a jar or of a text.
-ghost use Rattle.std.specs.Prelude.{◌≡◌, ◌++◌, IfOk, OnOk, string_bytes};
-ghost use Rattle.std.specs.List.{flat_map};
-ghost use Rattle.cookie_store.specs.StoredCookie.{stored_of};
-ghost use Rattle.cookie_jar.specs.LeftOut as spec;
-ghost use Rattle.cookie_jar.specs.Rows.{lent_rows};
+ghost use Rattle.cookie_jar.specs.Terminal.{ArePlain};
 
 use crate::form::Form;
 use crate::importing::{cause_words, refusal_of, unfit_words};
-use crate::listing::{push_domain, push_field};
+use crate::listing::push_key;
+use crate::terminal::Shown;
 use cookie_store::Cookie;
 use cookies_txt::row_fault;
 use std::alloc::{AllocError, Global};
@@ -21,13 +18,11 @@ pub(crate) fn refused_lines(
     alloc: Global,
     form: Form,
     cookies: Vec<&Cookie<'static>>,
-) -> Result<String, AllocError>
-    ensures { IfOk result (λ text. string_bytes text
-        ≡ flat_map (spec.refused_row_line form) (lent_rows cookies.entry.items)) }
-{
-    let mut text = String::new(alloc);
+) -> Result<Shown, AllocError> {
+    let mut text = Shown::new(alloc);
     for cookie in cookies {
-        push_refused(&mut text, form, cookie)?;
+        let why = cause_words(refusal_of(form, cookie));
+        push_left_out(&mut text, "refused: ", why, cookie)?;
     }
     Ok(text)
 }
@@ -40,63 +35,29 @@ pub(crate) fn refused_lines(
 pub(crate) fn passed_over_lines(
     alloc: Global,
     cookies: Vec<&Cookie<'static>>,
-) -> Result<String, AllocError>
-    ensures { IfOk result (λ text. string_bytes text
-        ≡ flat_map spec.passed_line (lent_rows cookies.entry.items)) }
-{
-    let mut text = String::new(alloc);
+) -> Result<Shown, AllocError> {
+    let mut text = Shown::new(alloc);
     for cookie in cookies {
-        push_passed(&mut text, cookie)?;
+        if let Some(fault) = row_fault(cookie) {
+            push_left_out(&mut text, "passed over: ", unfit_words(fault), cookie)?;
+        }
     }
     Ok(text)
 }
 
-#[tactic(auto, unfolding(crate::specs::LeftOut::refused_row_line))]
-fn push_refused(text: &mut String, form: Form, cookie: &Cookie<'static>) -> Result<(), AllocError>
-    ensures { OnOk result (string_bytes text.new
-        ≡ string_bytes text.old ++ spec.refused_row_line form (stored_of cookie.now)) }
-{
-    push_marked(
-        text,
-        "refused: ",
-        cause_words(refusal_of(form, cookie)),
-        cookie,
-    )
-}
-
-fn push_passed(text: &mut String, cookie: &Cookie<'static>) -> Result<(), AllocError>
-    ensures { OnOk result (string_bytes text.new
-        ≡ string_bytes text.old ++ spec.passed_line (stored_of cookie.now)) }
-{
-    match row_fault(cookie) {
-        Some(fault) => push_marked(text, "passed over: ", unfit_words(fault), cookie),
-        None => Ok(()),
-    }
-}
-
-// A line of the cookie behind a mark.
-fn push_marked(
-    text: &mut String,
-    mark: &str,
-    why: &str,
+// A line of the cookie behind a mark: why it is left out, its domain, its path and its name.
+fn push_left_out(
+    text: &mut Shown,
+    mark: &'static str,
+    why: &'static str,
     cookie: &Cookie<'static>,
 ) -> Result<(), AllocError>
-    ensures { OnOk result (string_bytes text.new
-        ≡ string_bytes text.old ++ (mark.now ++ spec.left_out_line why.now (stored_of cookie.now))) }
+    requires mark { ArePlain mark.now }
+    requires why { ArePlain why.now }
 {
-    text.push_str(mark)?;
-    push_left_out(text, why, cookie)
-}
-
-// A line of the cookie: why it is left out, its domain, its path and its name.
-fn push_left_out(text: &mut String, why: &str, cookie: &Cookie<'static>) -> Result<(), AllocError>
-    ensures { OnOk result (string_bytes text.new
-        ≡ string_bytes text.old ++ spec.left_out_line why.now (stored_of cookie.now)) }
-{
-    text.push_str(why)?;
-    text.push_str("\t")?;
-    push_domain(text, cookie)?;
-    push_field(text, cookie.path.as_str())?;
-    push_field(text, cookie.raw().name())?;
-    text.push_str("\n")
+    text.words(mark)?;
+    text.words(why)?;
+    text.words("\t")?;
+    push_key(text, cookie)?;
+    text.words("\n")
 }

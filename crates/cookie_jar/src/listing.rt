@@ -1,19 +1,23 @@
 //! The table of rows.
-ghost use Rattle.std.specs.Prelude.{◌≡◌, ◌++◌, ◌∷◌, IfOk, OnOk, string_bytes};
-ghost use Rattle.jiff.specs.Words.{civil_nanos};
+ghost use Rattle.std.specs.Prelude.{◌≡◌, ◌++◌, OnOk};
 ghost use Rattle.cookie_store.specs.StoredCookie.{stored_of};
-ghost use Rattle.cookies_txt.specs.Layout.{tab};
-ghost use Rattle.cookies_txt.specs.Writing.{is_suffix};
-ghost use Rattle.store_parts.specs.DomainMatch.{domain_of};
-ghost use Rattle.cookie_jar.specs.Listing as spec;
-ghost use Rattle.cookie_jar.specs.Rows.{expires_text, lent_rows, row_end, row_texts};
-ghost use Rattle.cookie_jar.specs.Told.{shown};
+ghost use Rattle.cookie_jar.specs.Asking.{domain_field};
+ghost use Rattle.cookie_jar.specs.Terminal.{ArePlain};
 
 use crate::expiry::{push_expires, push_left};
-use crate::told::push_shown;
+use crate::terminal::Shown;
 use cookie_store::{Cookie, CookieDomain};
 use jiff::civil::DateTime;
 use std::alloc::{AllocError, Global};
+
+/// How rows are listed.
+#[derive(Clone, Copy, Debug, PartialEq, Eq)]
+pub enum Layout {
+    /// In a table.
+    Table,
+    /// In an array of JSON.
+    Json,
+}
 
 const HEAD: &str = "domain\tpath\tname\tvalue\texpires\tin\tsecure\thttponly\n";
 
@@ -29,75 +33,65 @@ pub(crate) fn listing(
     alloc: Global,
     cookies: Vec<&Cookie<'static>>,
     now: DateTime,
-) -> Result<String, AllocError>
-    ensures { IfOk result (λ text.
-        spec.IsListing (civil_nanos now) (lent_rows cookies.entry.items) (string_bytes text)) }
-{
-    let mut text = String::from_str(alloc, HEAD)?;
+) -> Result<Shown, AllocError> {
+    let mut text = Shown::new(alloc);
+    text.words(HEAD)?;
     for cookie in cookies {
-        push_row(&mut text, cookie, now)?;
+        push_row(alloc, &mut text, cookie, now)?;
     }
     Ok(text)
 }
 
-fn push_row(text: &mut String, cookie: &Cookie<'static>, now: DateTime) -> Result<(), AllocError>
-    ensures { OnOk result (string_bytes text.new ≡ string_bytes text.old
-        ++ spec.row_line (civil_nanos now) (expires_text cookie.now.expires) (stored_of cookie.now)) }
-{
-    push_texts(text, cookie)?;
-    push_end(text, cookie, now)
+fn push_row(
+    alloc: Global,
+    text: &mut Shown,
+    cookie: &Cookie<'static>,
+    now: DateTime,
+) -> Result<(), AllocError> {
+    push_key(text, cookie)?;
+    push_field(text, cookie.raw().value())?;
+    text.words("\t")?;
+    push_expires(alloc, text, cookie.expires)?;
+    text.words("\t")?;
+    push_left(text, cookie.expires, now)?;
+    push_flags(text, cookie)
 }
 
-fn push_texts(text: &mut String, cookie: &Cookie<'static>) -> Result<(), AllocError>
-    ensures { OnOk result (string_bytes text.new
-        ≡ string_bytes text.old ++ row_texts (stored_of cookie.now)) }
-{
+/// Domain, path and name, parted by tabs.
+pub(crate) fn push_key(text: &mut Shown, cookie: &Cookie<'static>) -> Result<(), AllocError> {
     push_domain(text, cookie)?;
     push_field(text, cookie.path.as_str())?;
-    push_field(text, cookie.raw().name())?;
-    push_field(text, cookie.raw().value())
+    push_field(text, cookie.raw().name())
 }
 
-fn push_end(text: &mut String, cookie: &Cookie<'static>, now: DateTime) -> Result<(), AllocError>
-    ensures { OnOk result (string_bytes text.new ≡ string_bytes text.old
-        ++ row_end (civil_nanos now) (expires_text cookie.now.expires) (stored_of cookie.now)) }
-{
+fn push_flags(text: &mut Shown, cookie: &Cookie<'static>) -> Result<(), AllocError> {
     let raw = cookie.raw();
-    let secure = flag_text("Secure", raw.secure().unwrap_or(false));
-    let http_only = flag_text("HttpOnly", raw.http_only().unwrap_or(false));
-    push_expires(text, cookie.expires)?;
-    push_left(text, cookie.expires, now)?;
-    write!(text, "\t{secure}\t{http_only}\n")
+    text.words("\t")?;
+    text.words(flag_text("Secure", raw.secure().unwrap_or(false)))?;
+    text.words("\t")?;
+    text.words(flag_text("HttpOnly", raw.http_only().unwrap_or(false)))?;
+    text.words("\n")
 }
 
-// The domain, with a dot in front where the hosts below it count.
-pub(crate) fn push_domain(text: &mut String, cookie: &Cookie<'static>) -> Result<(), AllocError>
-    ensures { OnOk result (string_bytes text.new
-        ≡ string_bytes text.old ++ spec.domain_field (stored_of cookie.now)) }
+/// The domain, with a dot in front where the hosts below it count.
+pub(crate) fn push_domain(text: &mut Shown, cookie: &Cookie<'static>) -> Result<(), AllocError>
+    ensures { OnOk result (text.new ≡ text.old ++ domain_field (stored_of cookie.now)) }
 {
     if matches!(cookie.domain, CookieDomain::Suffix(_)) {
-        text.push_str(".")?;
+        text.words(".")?;
     }
-    push_shown(text, cookie.domain.as_cow().unwrap_or("").as_bytes())
+    text.bytes(cookie.domain.as_cow().unwrap_or("").as_bytes())
 }
 
 // A field behind a tab.
-pub(crate) fn push_field(text: &mut String, field: &str) -> Result<(), AllocError>
-    ensures { OnOk result (string_bytes text.new ≡ string_bytes text.old ++ tab ∷ shown field.now) }
-{
-    text.push_str("\t")?;
-    push_shown(text, field.as_bytes())
-}
-
-// Whether the hosts below the domain count.
-pub(crate) fn is_suffix(domain: &CookieDomain) -> bool
-    ensures { result ≡ is_suffix (domain_of domain.now) }
-{
-    matches!(domain, CookieDomain::Suffix(_))
+fn push_field(text: &mut Shown, field: &str) -> Result<(), AllocError> {
+    text.words("\t")?;
+    text.bytes(field.as_bytes())
 }
 
 fn flag_text(name: &'static str, flag: bool) -> &'static str
-    ensures { result.now ≡ spec.flag_text name.now flag }
+    requires { ArePlain name.now }
+    ensures { ArePlain result.now }
 {
     if flag { name } else { "-" }
 }

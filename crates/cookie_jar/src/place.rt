@@ -1,21 +1,16 @@
 //! Where a text stops to be read.
-ghost use Rattle.std.specs.Prelude.{IfOk, Some, map, take};
 ghost use Rattle.std.specs.Str.{IsValidUpTo};
-ghost use Rattle.serde_json.specs.View.{view};
-ghost use Rattle.saved_text.specs.Position.{IsPosition};
-ghost use Rattle.cookie_jar.specs.Entries.{IsNoList};
-ghost use Rattle.cookie_jar.specs.Places as spec;
 
 use crate::form::Form;
 use crate::importing::fault_words;
 use crate::json_stop::stop_of;
+use crate::terminal::Shown;
 use cookies_txt::{LineFault, ReadError};
 use saved_text::{SavedTextError, TextPosition, from_value, rows_from_ron};
 use serde_json::Value;
 use std::alloc::{AllocError, Global};
-use std::fmt;
 
-/// Where a text stops to be read, printed as `line 3, column 14`, `row 2` or `line 4: no domain`.
+/// Where a text stops to be read, told as `line 3, column 14`, `row 2` or `line 4: no domain`.
 #[derive(Clone, Copy, Debug, PartialEq, Eq)]
 pub enum Place {
     /// At this position.
@@ -26,16 +21,27 @@ pub enum Place {
     Line(usize, LineFault),
 }
 
-impl fmt::Display for Place {
-    ghost output = { λ place. Some (spec.place_text place) };
-
-    fn fmt<W: fmt::Write>(&self, f: &mut fmt::Formatter<W>) -> fmt::Result {
-        match *self {
-            Place::At(position) => write!(f, "{position}"),
-            Place::Row(number) => write!(f, "row {number}"),
+impl Place {
+    /// Adds it to a text.
+    ///
+    /// # Errors
+    ///
+    /// `AllocError`, for want of memory.
+    pub fn tell(self, alloc: Global, text: &mut Shown) -> Result<(), AllocError> {
+        match self {
+            Place::At(position) => {
+                let position = format!(in alloc; "{position}")?;
+                text.bytes(position.as_bytes())
+            }
+            Place::Row(number) => {
+                text.words("row ")?;
+                text.number(number as u64)
+            }
             Place::Line(number, fault) => {
-                let words = fault_words(fault);
-                write!(f, "line {number}: {words}")
+                text.words("line ")?;
+                text.number(number as u64)?;
+                text.words(": ")?;
+                text.words(fault_words(fault))
             }
         }
     }
@@ -51,9 +57,7 @@ impl fmt::Display for Place {
 /// # Errors
 ///
 /// `AllocError`, for want of memory.
-pub fn place_of(alloc: Global, form: Form, text: &[u8]) -> Result<Option<Place>, AllocError>
-    ensures { IfOk result (spec.StopsAt form text.now) }
-{
+pub fn place_of(alloc: Global, form: Form, text: &[u8]) -> Result<Option<Place>, AllocError> {
     match str::from_utf8(text) {
         Ok(text) => place_in(alloc, form, text),
         Err(error) => Ok(Some(Place::At(position_behind(text, error.valid_up_to())))),
@@ -63,16 +67,13 @@ pub fn place_of(alloc: Global, form: Form, text: &[u8]) -> Result<Option<Place>,
 // The position behind so many bytes, which are the longest text in front.
 fn position_behind(bytes: &[u8], count: usize) -> TextPosition
     requires { IsValidUpTo bytes.now count }
-    ensures { IsPosition (take count bytes.now) count result }
 {
     let front = str::from_utf8(bytes.split_at(count).0).unwrap_or("");
     TextPosition::of(front, count)
 }
 
 // Where a text stops.
-fn place_in(alloc: Global, form: Form, text: &str) -> Result<Option<Place>, AllocError>
-    ensures { IfOk result (spec.TextStopsAt form text.now) }
-{
+fn place_in(alloc: Global, form: Form, text: &str) -> Result<Option<Place>, AllocError> {
     match form {
         Form::Ron => ron_place(alloc, text),
         Form::Json => json_place(alloc, text),
@@ -80,9 +81,7 @@ fn place_in(alloc: Global, form: Form, text: &str) -> Result<Option<Place>, Allo
     }
 }
 
-fn ron_place(alloc: Global, text: &str) -> Result<Option<Place>, AllocError>
-    ensures { IfOk result (spec.TextStopsAt Form.Ron text.now) }
-{
+fn ron_place(alloc: Global, text: &str) -> Result<Option<Place>, AllocError> {
     match rows_from_ron(alloc, text.as_bytes()) {
         Ok(_) => Ok(None),
         Err(SavedTextError::Ron(offset)) => Ok(Some(Place::At(TextPosition::of(text, offset)))),
@@ -91,9 +90,7 @@ fn ron_place(alloc: Global, text: &str) -> Result<Option<Place>, AllocError>
     }
 }
 
-fn json_place(alloc: Global, text: &str) -> Result<Option<Place>, AllocError>
-    ensures { IfOk result (spec.TextStopsAt Form.Json text.now) }
-{
+fn json_place(alloc: Global, text: &str) -> Result<Option<Place>, AllocError> {
     match Value::from_str(alloc, text) {
         Ok(value) => match value.as_array() {
             Some(items) => first_no_row(alloc, items),
@@ -109,18 +106,13 @@ fn json_place(alloc: Global, text: &str) -> Result<Option<Place>, AllocError>
 }
 
 // The place of the first token of a text that is no list of JSON at which that shows.
-fn at_token(alloc: Global, text: &str) -> Result<Option<Place>, AllocError>
-    requires { IsNoList text.now }
-    ensures { IfOk result (spec.TextStopsAt Form.Json text.now) }
-{
+fn at_token(alloc: Global, text: &str) -> Result<Option<Place>, AllocError> {
     let offset = stop_of(alloc, text)?;
     Ok(Some(Place::At(TextPosition::of(text, offset))))
 }
 
 // The first of the items of a list that is no row.
-fn first_no_row(alloc: Global, items: &[Value]) -> Result<Option<Place>, AllocError>
-    ensures { IfOk result (spec.ItemsStopAt (map view items.now)) }
-{
+fn first_no_row(alloc: Global, items: &[Value]) -> Result<Option<Place>, AllocError> {
     for (index, item) in items.iter().enumerate() {
         match from_value(alloc, item) {
             Ok(_) => {}
@@ -132,9 +124,7 @@ fn first_no_row(alloc: Global, items: &[Value]) -> Result<Option<Place>, AllocEr
     Ok(None)
 }
 
-fn line_place(alloc: Global, text: &str) -> Result<Option<Place>, AllocError>
-    ensures { IfOk result (spec.TextStopsAt Form.Txt text.now) }
-{
+fn line_place(alloc: Global, text: &str) -> Result<Option<Place>, AllocError> {
     match cookies_txt::read(alloc, text.as_bytes()) {
         Ok(_) => Ok(None),
         Err(ReadError::Line(number, fault)) => Ok(Some(Place::Line(number, fault))),

@@ -4,8 +4,7 @@ ghost use Rattle.jiff.specs.Words.{civil_nanos};
 ghost use Rattle.cookie_store.specs.Given.{ArePicked};
 ghost use Rattle.cookie_store.specs.Placing.{loaded_store};
 ghost use Rattle.cookie_store.specs.Rows.{Row, live};
-ghost use Rattle.cookie_jar.specs.Keeping.{IsKept, IsTaken};
-ghost use Rattle.cookie_jar.specs.LeftOut.{IsRefused};
+ghost use Rattle.cookie_jar.specs.Keeping.{IsKept, IsRefused, IsTaken};
 ghost use Rattle.cookie_jar.specs.Rows.{AreCopies, lent_rows};
 
 use crate::form::Form;

@@ -8,7 +8,6 @@ ghost use Rattle.cookie_store.specs.SavedLaws.{IsOfBytes};
 ghost use Rattle.cookie_store.specs.SavedTexts.{IsAnyBeforeYears, Saves};
 ghost use Rattle.cookies_txt.specs.Layout.{text_for};
 ghost use Rattle.cookies_txt.specs.Writing.{held, line_of_row};
-ghost use Rattle.cookie_jar.specs.LeftOut.{passed_lines};
 ghost use Rattle.cookie_jar.specs.Rows.{lent_rows};
 ghost use Rattle.cookie_jar.specs.Saving as spec;
 
@@ -16,6 +15,7 @@ use crate::error::SaveError;
 use crate::form::Form;
 use crate::left_out::passed_over_lines;
 use crate::rows::rows_of;
+use crate::terminal::Shown;
 use cookie_store::serde::{json, ron};
 use cookie_store::{Cookie, CookieStore, Error};
 use cookies_txt::{Reader, WriteError};
@@ -33,7 +33,7 @@ pub struct Exported {
     pub passed_over: usize,
     /// A line of each of these: `passed over: ` and why, domain, path and name, parted by tabs. Of the texts each byte
     /// that isn't printable ASCII, and `%`, stands as `%` and two digits.
-    pub told: String,
+    pub told: Shown,
 }
 
 /// The text of a store's rows. A row that a line of `cookies.txt` can't hold is refused, or is passed over where
@@ -49,7 +49,6 @@ pub(crate) fn text_of(
     ensures rows { IfOk result (λ exported. exported.rows ≡ length (spec.fitting form store.now.rows)) }
     ensures passed_over { IfOk result (λ exported.
         exported.rows + exported.passed_over ≡ length store.now.rows) }
-    ensures told { IfOk result (λ exported. string_bytes exported.told ≡ passed_lines form store.now.rows) }
     ensures all { passing_over ≡ false → IfOk result (λ _. spec.fitting form store.now.rows ≡ store.now.rows) }
     ensures bytes { IfOk result (λ _. spec.AreBytesIn form store.now.rows) }
     ensures utf8 { IfOk result (λ exported. IsUtf8 exported.text.items) }
@@ -70,13 +69,12 @@ pub(crate) fn text_of(
 fn whole(alloc: Global, text: Vec<u8>, rows: usize) -> Exported
     ensures text { result.text ≡ text }
     ensures rows { (result.rows ≡ rows) × (result.passed_over ≡ 0) }
-    ensures told { string_bytes result.told ≡ [] }
 {
     Exported {
         text,
         rows,
         passed_over: 0,
-        told: String::new(alloc),
+        told: Shown::new(alloc),
     }
 }
 
@@ -113,7 +111,6 @@ fn txt(alloc: Global, store: &CookieStore, passing_over: bool) -> Result<Exporte
     ensures rows { IfOk result (λ exported. exported.rows ≡ length (spec.fitting Form.Txt store.now.rows)) }
     ensures passed_over { IfOk result (λ exported.
         exported.rows + exported.passed_over ≡ length store.now.rows) }
-    ensures told { IfOk result (λ exported. string_bytes exported.told ≡ passed_lines Form.Txt store.now.rows) }
     ensures all { passing_over ≡ false → IfOk result (λ _. spec.fitting Form.Txt store.now.rows ≡ store.now.rows) }
     ensures utf8 { IfOk result (λ exported. IsUtf8 exported.text.items) }
     ensures err { IfErr result (spec.IsUnsaved Form.Txt passing_over store.now.rows) }
@@ -137,14 +134,13 @@ pub(crate) fn lines_for(
     alloc: Global,
     reader: Reader,
     rows: Vec<&Cookie<'static>>,
-    told: String,
+    told: Shown,
 ) -> Result<Exported, AllocError>
     ensures text { IfOk result (λ exported.
         exported.text.items ≡ text_for reader (map line_of_row (held (lent_rows rows.entry.items)))) }
     ensures rows { IfOk result (λ exported. exported.rows ≡ length (held (lent_rows rows.entry.items))) }
     ensures passed_over { IfOk result (λ exported.
         exported.rows + exported.passed_over ≡ length (lent_rows rows.entry.items)) }
-    ensures told { IfOk result (λ exported. string_bytes exported.told ≡ string_bytes told) }
 {
     let count = rows.len();
     match cookies_txt::write_for(alloc, reader, rows, true) {

@@ -1,16 +1,14 @@
 //! What is printed of a header and of lines that were received.
-ghost use Rattle.std.specs.Prelude.{◌≡◌, ◌++◌, IfOk, OnOk, map, string_bytes};
+ghost use Rattle.std.specs.Prelude.{◌≡◌, IfOk, string_bytes};
+ghost use Rattle.cookie_jar.specs.Terminal.{ArePlain, ShowsNoControl};
 ghost use Rattle.cookie_jar.specs.Told as spec;
 
 use crate::taking::End;
+use crate::terminal::Shown;
 use cookie_client::LineEnd;
 use cookie_store::{CookieError, StoreAction};
-use percent_encoding::{AsciiSet, CONTROLS, ascii_set, percent_encode};
 use std::alloc::{AllocError, Global};
 use user_agent::{Changes, Outcome, Refusal, SiteRefusal};
-
-/// The bytes that are escaped in what is printed: all but printable ASCII, and `%`.
-pub(crate) const HIDDEN: AsciiSet = ascii_set!(CONTROLS.add(b'%'));
 
 /// The line of a header, nothing where it is empty: `Cookie: ` and the header.
 ///
@@ -36,20 +34,19 @@ pub fn header_line(alloc: Global, header: &str) -> Result<String, AllocError>
 /// # Errors
 ///
 /// `AllocError` where there is no memory for the text.
-pub fn told_lines(alloc: Global, lines: &[&[u8]], ends: &[End]) -> Result<String, AllocError>
-    ensures { IfOk result (λ text. string_bytes text
-        ≡ spec.told_lines (map (λ line. line.now) lines.now) ends.now) }
+pub fn told_lines(alloc: Global, lines: &[&[u8]], ends: &[End]) -> Result<Shown, AllocError>
+    ensures { IfOk result ShowsNoControl }
 {
-    let mut text = String::new(alloc);
+    let mut text = Shown::new(alloc);
     let mut left = lines;
     for end in ends {
         let [line, rest @ ..] = left else {
-            return Ok(text);
+            return Ok(text.finish());
         };
         push_told(&mut text, line, *end)?;
         left = rest;
     }
-    Ok(text)
+    Ok(text.finish())
 }
 
 /// Whether a line of this end wasn't stored.
@@ -59,25 +56,16 @@ pub fn is_refused(end: End) -> bool
     !matches!(end, End::Line(Outcome::Taken(LineEnd::Stored(_)), _))
 }
 
-fn push_told(text: &mut String, line: &[u8], end: End) -> Result<(), AllocError>
-    ensures { OnOk result (string_bytes text.new
-        ≡ string_bytes text.old ++ spec.told_line line.now end) }
-{
-    text.push_str(end_text(end))?;
-    text.push_str(rules_text(end))?;
-    text.push_str("\t")?;
-    push_shown(text, line)?;
-    text.push_str("\n")
-}
-
-pub(crate) fn push_shown(text: &mut String, bytes: &[u8]) -> Result<(), AllocError>
-    ensures { OnOk result (string_bytes text.new ≡ string_bytes text.old ++ spec.shown bytes.now) }
-{
-    percent_encode(bytes, HIDDEN).append_to(text)
+fn push_told(text: &mut Shown, line: &[u8], end: End) -> Result<(), AllocError> {
+    text.words(end_text(end))?;
+    text.words(rules_text(end))?;
+    text.words("\t")?;
+    text.bytes(line)?;
+    text.words("\n")
 }
 
 pub(crate) fn end_text(end: End) -> &'static str
-    ensures { result.now ≡ spec.end_text end }
+    ensures { ArePlain result.now }
 {
     match end {
         End::Line(outcome, _) => outcome_text(outcome),
@@ -89,7 +77,7 @@ pub(crate) fn end_text(end: End) -> &'static str
 
 // The rules that changed a line of this end.
 fn rules_text(end: End) -> &'static str
-    ensures { result.now ≡ spec.rules_text end }
+    ensures { ArePlain result.now }
 {
     match end {
         End::Line(_, changes) => changes_text(changes),
@@ -98,7 +86,7 @@ fn rules_text(end: End) -> &'static str
 }
 
 fn changes_text(changes: Changes) -> &'static str
-    ensures { result.now ≡ spec.changes_text changes }
+    ensures { ArePlain result.now }
 {
     match (changes.long_attributes, changes.dates, changes.long_lives) {
         (false, false, false) => "",
@@ -113,7 +101,7 @@ fn changes_text(changes: Changes) -> &'static str
 }
 
 fn outcome_text(outcome: Outcome) -> &'static str
-    ensures { result.now ≡ spec.outcome_text outcome }
+    ensures { ArePlain result.now }
 {
     match outcome {
         Outcome::Taken(end) => line_end_text(end),
@@ -122,7 +110,7 @@ fn outcome_text(outcome: Outcome) -> &'static str
 }
 
 fn site_text(cause: SiteRefusal) -> &'static str
-    ensures { result.now ≡ spec.site_text cause }
+    ensures { ArePlain result.now }
 {
     match cause {
         SiteRefusal::CrossSite => "refused: SameSite",
@@ -131,7 +119,7 @@ fn site_text(cause: SiteRefusal) -> &'static str
 }
 
 fn refusal_text(rule: Refusal) -> &'static str
-    ensures { result.now ≡ spec.refusal_text rule }
+    ensures { ArePlain result.now }
 {
     match rule {
         Refusal::Control => "refused: control character",
@@ -145,7 +133,7 @@ fn refusal_text(rule: Refusal) -> &'static str
 }
 
 fn line_end_text(end: LineEnd) -> &'static str
-    ensures { result.now ≡ spec.line_end_text end }
+    ensures { ArePlain result.now }
 {
     match end {
         LineEnd::Stored(action) => action_text(action),
@@ -156,7 +144,7 @@ fn line_end_text(end: LineEnd) -> &'static str
 }
 
 fn action_text(action: StoreAction) -> &'static str
-    ensures { result.now ≡ spec.action_text action }
+    ensures { ArePlain result.now }
 {
     match action {
         StoreAction::Inserted => "inserted",
@@ -166,7 +154,7 @@ fn action_text(action: StoreAction) -> &'static str
 }
 
 fn cause_text(cause: CookieError) -> &'static str
-    ensures { result.now ≡ spec.cause_text cause }
+    ensures { ArePlain result.now }
 {
     match cause {
         CookieError::NonHttpScheme => "refused: HttpOnly",

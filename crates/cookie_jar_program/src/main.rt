@@ -4,6 +4,7 @@
 mod piped;
 
 use crate::piped::Piped;
+use cookie_jar::Shown;
 use devices::Counting;
 use jar_commands::program::{Ended, program};
 use jiff::Timestamp;
@@ -60,20 +61,20 @@ fn start(rt: &HostRuntime) -> Result<u8, AllocError> {
 }
 
 // Of an output that nobody reads nothing is told.
-fn tell(rt: &HostRuntime, ended: &Ended<'_>, is_closed: bool) {
-    if let Some(path) = ended.list {
-        let _ = eprintln!(rt; "cookie-jar: suffix list of {path}");
+fn tell(rt: &HostRuntime, ended: &Ended, is_closed: bool) {
+    if let Some(path) = &ended.list {
+        let _ = eprintln!(rt; "cookie-jar: suffix list of {}", path.as_str());
     }
     tell_lines(rt, &ended.dropped);
     tell_lines(rt, &ended.counted);
     match ended.failure {
         Some("output") if is_closed => {}
-        Some(words) => tell_failure(rt, words, ended),
+        Some(words) => tell_failure(rt, words, &ended.about),
         None => {}
     }
 }
 
-fn tell_lines(rt: &HostRuntime, text: &Option<String>) {
+fn tell_lines(rt: &HostRuntime, text: &Option<Shown>) {
     if let Some(text) = text {
         for line in text.as_str().lines() {
             let _ = eprintln!(rt; "cookie-jar: {line}");
@@ -81,16 +82,15 @@ fn tell_lines(rt: &HostRuntime, text: &Option<String>) {
     }
 }
 
-// One line of the failure and of what is told behind it.
-fn tell_failure(rt: &HostRuntime, words: &str, ended: &Ended<'_>) {
-    if let Some(plain) = &ended.instead {
-        let _ = eprintln!(rt; "cookie-jar: {words}: ask {} instead", plain.as_str());
-    } else if let Some(spot) = ended.spot {
-        let _ = eprintln!(rt; "cookie-jar: {words}: {spot}");
-    } else if let Some(about) = &ended.about {
-        let _ = eprintln!(rt; "cookie-jar: {words}: {}", about.as_str());
-    } else {
-        let _ = eprintln!(rt; "cookie-jar: {words}");
+// One line of the failure and of what it is about.
+fn tell_failure(rt: &HostRuntime, words: &str, about: &Option<Shown>) {
+    match about {
+        Some(about) => {
+            let _ = eprintln!(rt; "cookie-jar: {words}: {}", about.as_str());
+        }
+        None => {
+            let _ = eprintln!(rt; "cookie-jar: {words}");
+        }
     }
 }
 

@@ -1,7 +1,7 @@
 -- The moments of acts, one after another.
 use Rattle.std.proofs.Common.{◌≡◌, ℤ, List, [], ◌∷◌, ◌++◌, refl}
-use Rattle.cookie_run.specs.Acts.{Act, Visits, Answers, Asks, Restarts, Arrival, Arrives, Never, moments_in, opening_of}
-use Rattle.cookie_run.specs.Acts.{arrival_in}
+use Rattle.cookie_client.specs.Steps.{Act, Visits, Answers, Asks, Restarts, Arrival, Arrives, Never}
+use Rattle.cookie_run.specs.Acts.{moments_in, opening_of, arrival_in}
 use Rattle.cookie_run.specs.Moments.{AllFollow, last_of}
 
 -- the last moment of an exchange

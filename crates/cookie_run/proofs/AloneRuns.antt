@@ -22,17 +22,17 @@ use Rattle.cookie_store.specs.SavedRows.{IsReread, IsWholeDeath}
 use Rattle.cookie_store.specs.declared.action.StoreAction.{StoreAction}
 use Rattle.cookie_store.proofs.ReadableLemmas.{IsUnrefuted, pair_reads}
 use Rattle.cookie_client.specs.Accept.{Accepts, AcceptsAll, text_end}
-use Rattle.cookie_run.specs.Acts.{Act, Visits, Answers, Asks, Restarts}
+use Rattle.cookie_client.specs.Steps.{Act, Visits, Answers, Asks, Restarts, OneStep}
 use Rattle.cookie_store.specs.Laws.{OneOrder}
 use Rattle.cookie_client.specs.Header.{IsHeader, header_of}
 use Rattle.cookie_run.specs.Headline.{Each}
 use Rattle.cookie_client.specs.Keeping.{Keeps, HasReadPair, HaveReadPairs}
-use Rattle.cookie_run.specs.Play.{OneStep, Plays}
+use Rattle.cookie_run.specs.Play.{Plays}
 use Rattle.cookie_run.specs.Strangers.{Concerns, IsOnly, IsNoExchange, HeaderAlone}
 use Rattle.cookie_client.specs.declared.outcome.LineEnd.{LineEnd}
 use Rattle.cookie_client.specs.declared.outcome.LineEnd.TheVariants.{NotText, HostPrefix}
-use Rattle.cookie_run.specs.declared.step.Reading.{Reading}
-use Rattle.cookie_run.specs.declared.step.Reading.TheVariants.{Header}
+use Rattle.cookie_client.specs.declared.command.Reading.{Reading}
+use Rattle.cookie_client.specs.declared.command.Reading.TheVariants.{Header}
 use Rattle.cookie_client.proofs.ClientRows.{kept_pairs, received_pairs}
 use Rattle.cookie_client.proofs.ComingBack.{filter_all}
 use Rattle.cookie_text.proofs.PairsAgain.{prints_pair}

@@ -7,7 +7,8 @@ use Rattle.jiff.specs.Words.{civil_nanos, civil_seconds, IsYmd, IsHms, epoch_day
 use Rattle.jiff.proofs.Family.{civil_nanos-parts, civil_nanos-civil_seconds}
 use Rattle.jiff.proofs.SpanFacts.{signed_arith}
 use Rattle.jiff_core.specs.Calendar.{days_from_civil, day_count, days_of_years, days_of_months}
-use Rattle.cookie_run.specs.Moments.{second_1971, second_9999, IsMoment}
+use Rattle.cookie_client.specs.Moment.{second_1971}
+use Rattle.cookie_run.specs.Moments.{second_9999, IsMoment}
 
 -- the days on which the years begin
 pub days_1970 : days_from_civil (pos 1970) 1 1 ≡ pos 0

@@ -19,8 +19,8 @@ use Rattle.cookie.specs.Jar.{Jar, overlaid, view, with_change, without_change}
 use Rattle.cookie_client.specs.Jar.{Keyed, TakesOut, taken, value_in, record_in}
 use Rattle.cookie_run.specs.Site.{Entry}
 use Rattle.cookie_client.specs.Ways.{stored_name}
-use Rattle.cookie_run.specs.declared.step.Reading.{Reading}
-use Rattle.cookie_run.specs.declared.step.Reading.TheVariants.{Refused}
+use Rattle.cookie_client.specs.declared.command.Reading.{Reading}
+use Rattle.cookie_client.specs.declared.command.Reading.TheVariants.{Refused}
 use Rattle.cookie_client.specs.declared.outcome.SessionError.{SessionError}
 use Rattle.cookie_client.specs.declared.outcome.SessionError.TheVariants.{EmptyName, Year}
 use Rattle.cookie_client.specs.declared.way.Way.{Way}
@@ -30,10 +30,10 @@ use Rattle.cookie_run.specs.Brought.{Matches}
 use Rattle.cookie_run.proofs.Showing.{OnlyOne, Shows, GetIn, get_on}
 use Rattle.cookie_client.proofs.SessionTexts.{utf8_bytes, not_nil}
 use Rattle.cookie_client.proofs.Texts.{same_text, some_is_not_none}
-use Rattle.cookie_run.specs.declared.step.Command.{Command}
-use Rattle.cookie_run.specs.declared.step.Command.TheVariants.{Set, Remove, Get}
+use Rattle.cookie_client.specs.declared.command.Command.{Command}
+use Rattle.cookie_client.specs.declared.command.Command.TheVariants.{Set, Remove, Get}
 use Rattle.cookie_run.specs.Site.{Site, View, with_at, live_at, SetOn, RemoveOn, entry_of, left_by, left_by_all}
-use Rattle.cookie_run.specs.Play.{RemoveTells, CommandTells, Tells}
+use Rattle.cookie_client.specs.Steps.{RemoveTells, CommandTells, Tells}
 use Rattle.cookie_run.proofs.Kepts.{Kept}
 use Rattle.cookie_client.proofs.CountedRows.{Counts}
 use Rattle.cookie_run.proofs.Received.{alive}

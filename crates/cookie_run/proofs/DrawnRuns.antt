@@ -1,26 +1,24 @@
 -- A play by its draws goes on by one step, and is a play whatever the nonces.
 use Rattle.std.proofs.Common.{false, ◌≡◌, ◌≢◌, ◌⊎◌, ℕ, ℤ, ◌+◌, ◌<◌, ◌≤◌, length, take, drop, get_or, inl, inr}
-use Rattle.std.proofs.Common.{Result, Ok, Err}
 use Rattle.std.proofs.Common.{List, [], ◌∷◌, ◌++◌, sym, refl, ap, ◌∙◌, subst, append_assoc, Option, Some, None}
-use Rattle.std.specs.Prelude.{IfOk}
 use Rattle.std.proofs.lemmas.List.{take_more, take_all, take-append-drop, drop_more}
 use Rattle.url.specs.Parts.{Parts}
 use Rattle.cookie_text.specs.Record.{Seen}
 use Rattle.publicsuffix.specs.Rules.{Rule}
 use Rattle.cookie_store.specs.Rows.{Row}
-use Rattle.cookie_run.specs.Acts.{Act, Visits, Answers, Asks, Restarts, Arrival}
+use Rattle.cookie_client.specs.Steps.{Act, Visits, Answers, Asks, Restarts, Arrival, CommandTells, Tells, OneStep}
 use Rattle.cookie_client.specs.Header.{IsHeader}
 use Rattle.cookie_client.specs.Jar.{Keyed, IsOpened, Sets}
-use Rattle.cookie_run.specs.Play.{CommandTells, Tells, OneStep, Plays, ReadsAll, ReadsFront}
+use Rattle.cookie_run.specs.Play.{Plays, ReadsAll, ReadsFront}
 use Rattle.cookie_run.specs.Drawn.{Draw, Fills, DrawsSo, drawn_at, SetDraws, CommandDraws, CommandsDraw, NeedsNonce}
 use Rattle.cookie_run.specs.Drawn.{IsDrawnInVain, AllDraw, FrontDraws, StepBy, PlaysBy, ReadsAllBy, ReadsFrontBy}
 use Rattle.cookie_client.specs.Ways.{Refuses, set_refusal}
 use Rattle.cookie_run.specs.Stops.{GoesOnBy, StopsInside}
-use Rattle.cookie_run.specs.declared.step.Command.{Command}
-use Rattle.cookie_run.specs.declared.step.Command.TheVariants.{Set, Remove, Get}
+use Rattle.cookie_client.specs.declared.command.Command.{Command}
+use Rattle.cookie_client.specs.declared.command.Command.TheVariants.{Set, Remove, Get}
 use Rattle.cookie_run.specs.declared.step.FaultKind.{FaultKind}
-use Rattle.cookie_run.specs.declared.step.Reading.{Reading}
-use Rattle.cookie_run.specs.declared.step.Reading.TheVariants.{Refused}
+use Rattle.cookie_client.specs.declared.command.Reading.{Reading}
+use Rattle.cookie_client.specs.declared.command.Reading.TheVariants.{Refused}
 use Rattle.cookie_client.specs.declared.outcome.SessionError.{SessionError}
 use Rattle.cookie_client.specs.declared.outcome.SessionError.TheVariants.{EmptyName, Year, TooLong, Rng, OutOfMemory}
 use Rattle.cookie_client.specs.declared.way.Way.{Way}
@@ -41,18 +39,10 @@ fills_more May Error old mid new (Some n ∷ ds) es f g =
 fills_more May Error old mid new (None ∷ ds) es f g =
     (f.0, (f.1.0, fills_more May Error f.1.0 mid new ds es f.1.1 g))
 
-pub no_draw : {G : Type 0} (May : G → List ℕ → G → Type 0) (Error : Type 0) (old new : G) (Are : List Draw → Type 0)
-    → new ≡ old → Are [] → DrawsSo May Error old Are new
-no_draw May Error old new Are same are = ([], same, are)
-
 pub draws_so : {G : Type 0} (May : G → List ℕ → G → Type 0) (Error : Type 0) (old new : G)
     (Are Others : List Draw → Type 0) → ((ds : List Draw) → Are ds → Others ds) → DrawsSo May Error old Are new
     → DrawsSo May Error old Others new
 draws_so May Error old new Are Others f d = (d.0, d.1, f d.0 d.2)
-
-pub ok_gives : {A E : Type 0} (r : Result A E) (P Q : A → Type 0) → ((x : A) → P x → Q x) → IfOk r P → IfOk r Q
-ok_gives (Ok x) P Q f h = f x h
-ok_gives (Err e) P Q f h = tt
 
 -- ---- one set
 

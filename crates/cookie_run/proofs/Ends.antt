@@ -3,11 +3,12 @@ use Rattle.std.proofs.Common.{false, ◌≡◌, ℕ, ℤ, ◌+◌, ◌<◌, ◌�
 use Rattle.std.proofs.Common.{inl, inr, ◌++◌, sym, refl, ap, ◌∙◌, subst, arith, append_assoc}
 use Rattle.std.proofs.lemmas.List.{take_all}
 use Rattle.cookie_run.specs.declared.step.Step.{Step}
-use Rattle.cookie_run.specs.declared.step.Reading.{Reading}
+use Rattle.cookie_client.specs.declared.command.Reading.{Reading}
 use Rattle.cookie_run.specs.declared.step.FaultKind.{FaultKind}
 use Rattle.publicsuffix.specs.Rules.{Rule}
 use Rattle.cookie_store.specs.Rows.{Row}
-use Rattle.cookie_run.specs.Acts.{Act, act_of, acts_of, moments_in, moments_of, opening_of, arrival_in}
+use Rattle.cookie_client.specs.Steps.{Act}
+use Rattle.cookie_run.specs.Acts.{act_of, acts_of, moments_in, moments_of, opening_of, arrival_in}
 use Rattle.cookie_run.specs.Moments.{AllFollow, last_of, the_beginning}
 use Rattle.cookie_run.specs.Stops.{StopsFrom}
 use Rattle.cookie_run.specs.Play.{Plays, ReadsAll, ReadsFront, IsRun, IsRunUntil}

@@ -20,10 +20,10 @@ use Rattle.publicsuffix.specs.Rules.{Rule}
 use Rattle.store_parts.specs.DomainMatch.{suffix}
 use Rattle.store_parts.specs.DomainText.{read_domain}
 use Rattle.store_parts.specs.Expiry.{epoch, is_dead}
-use Rattle.cookie_run.specs.Acts.{Arrival, Arrives, Never}
+use Rattle.cookie_client.specs.Steps.{Arrival, Arrives, Never, Serves, Delivers}
 use Rattle.cookie_client.specs.Hosts.{secure_host}
 use Rattle.cookie_client.specs.Jar.{Keyed, record_in}
-use Rattle.cookie_run.specs.declared.step.Reading.{Reading}
+use Rattle.cookie_client.specs.declared.command.Reading.{Reading}
 use Rattle.cookie_run.proofs.Records.{found_in as found_record, lacks as lacks_record, AreApart as RecordsApart}
 use Rattle.cookie_client.proofs.Sessions.{IsReadableJar, each_of_names, of_change}
 use Rattle.cookie_client.proofs.SessionTexts.{ReadingBack}
@@ -35,10 +35,9 @@ use Rattle.cookie_client.specs.Accept.{AcceptsAll}
 use Rattle.cookie_text.specs.Again.{PairsReadAgain, TextsGivePairs}
 use Rattle.cookie_client.specs.declared.outcome.LineEnd.{LineEnd}
 use Rattle.cookie_client.specs.Header.{IsHeader}
-use Rattle.cookie_run.specs.declared.step.Command.{Command}
+use Rattle.cookie_client.specs.declared.command.Command.{Command}
 use Rattle.cookie_run.specs.Site.{Site, View, live_at, live_view, left_by_all, after_arrival}
 use Rattle.cookie_client.specs.Keeping.{HaveReadPairs}
-use Rattle.cookie_run.specs.Play.{Serves, Delivers}
 use Rattle.cookie_run.proofs.ActMoments.{end_moment}
 use Rattle.cookie_run.proofs.Kepts.{Kept, found_in}
 use Rattle.cookie_client.proofs.CountedRows.{Counts}

@@ -12,11 +12,11 @@ use Rattle.cookie_client.specs.Jar.{sent}
 use Rattle.cookie_client.proofs.HeaderCookies.{cookies_by}
 use Rattle.cookie_client.specs.Header.{header_of}
 use Rattle.cookie_client.specs.declared.way.Way.TheVariants.{Plain, Host, Sealed}
-use Rattle.cookie_run.specs.declared.step.Reading.{Reading}
-use Rattle.cookie_run.specs.declared.step.Reading.TheVariants.{Value, Refused}
+use Rattle.cookie_client.specs.declared.command.Reading.{Reading}
+use Rattle.cookie_client.specs.declared.command.Reading.TheVariants.{Value, Refused}
 use Rattle.cookie_client.specs.declared.outcome.SessionError.TheVariants.{EmptyName}
-use Rattle.cookie_run.specs.declared.step.Command.{Command}
-use Rattle.cookie_run.specs.declared.step.Command.TheVariants.{Set}
+use Rattle.cookie_client.specs.declared.command.Command.{Command}
+use Rattle.cookie_client.specs.declared.command.Command.TheVariants.{Set}
 use Rattle.cookie_client.specs.Ways as kinds
 use Rattle.cookie_run.specs.Site.{View, with_at, SetOn, GetOn}
 use Rattle.cookie_client.specs.Ways.{stored_name, set_refusal}

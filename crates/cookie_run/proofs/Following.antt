@@ -1,7 +1,7 @@
 -- A line of a script is read, and then done.
 use Rattle.std.proofs.Common.{Vec, Global, ◌≡◌, ◌≢◌, ◌⊎◌, ℕ, ℤ, ◌<◌, arith, Bool, true, false, List, [], ◌∷◌, ◌++◌}
 use Rattle.std.proofs.Common.{length, Option, Result, Ok, Err, inl, inr, sym, refl, ap, ◌∙◌, subst, append-nil}
-use Rattle.std.specs.Prelude.{if◌then◌else◌, IfOk, IfErr, IsErrOf, is_err, ◌==◌}
+use Rattle.std.specs.Prelude.{if◌then◌else◌, IfOk, IfErr, is_err, ◌==◌}
 use Rattle.std.specs.Str.{bytes_eq}
 use Rattle.std.proofs.lemmas.Bool.Decides.{nat_tests}
 use Rattle.std.proofs.lemmas.Bool.{false≢true}
@@ -21,7 +21,6 @@ use Rattle.cookie_run.specs.declared.script.cause.Cause.{Cause}
 use Rattle.cookie_run.specs.declared.script.cause.Cause.TheVariants.{Back, Memory}
 use Rattle.cookie_run.specs.declared.script.line.Line.{Line}
 use Rattle.cookie_run.specs.declared.script.visit.Visit.{Visit}
-use Rattle.cookie_client.specs.declared.outcome.SessionError.{SessionError}
 use Rattle.cookie_client.specs.declared.outcome.Stopped.{Stopped}
 use Rattle.cookie_run.proofs.DrawnRuns.{draws_nil}
 use Rattle.cookie_run.proofs.Halting.{no_memory, own_fault}
@@ -141,13 +140,6 @@ no_bytes (b ∷ bs) e = absurd (grind (arith, nat_tests))
 
 pub some_bytes : (bs : List ℕ) → false ≡ (length bs == 0) → 0 < length bs
 some_bytes bs e = grind (arith, nat_tests)
-
--- what was accepted isn't refused for its name
-pub accepted_name : {A : Type 0} (x : A) (e : SessionError) (name : List ℕ) → (name ≡ [] → IsErrOf (Ok x) e) → name ≢ []
-accepted_name x e name h empty = ok_err x e (h empty)
-  where
-    ok_err : {A : Type 0} (x : A) (e : SessionError) → Ok x ≡ Err e → ⊥
-    ok_err x e p = cc
 
 -- memory was refused at a line
 pub stopped_at : {A : Type 0} (r : Result A Stopped) (P : Stopped → Type 0) → true ≡ is_err r → IfErr r P

@@ -27,13 +27,15 @@ use Rattle.cookie_store.specs.Rows.{Row, is_live, live}
 use Rattle.cookie_store.specs.SavedRows.{IsReread, IsBeforeYears}
 use Rattle.cookie_store.specs.SavedTexts.{IsAnyBeforeYears, IsSaveFault}
 use Rattle.cookie_client.specs.Accept.{AcceptsAll}
-use Rattle.cookie_run.specs.Acts.{Act, Visits, Answers, Asks, Restarts, Arrival, Arrives, Never, moments_in, moments_of}
+use Rattle.cookie_client.specs.Steps.{Act, Visits, Answers, Asks, Restarts, Arrival, Arrives, Never, Delivers, OneStep}
+use Rattle.cookie_run.specs.Acts.{moments_in, moments_of}
 use Rattle.cookie_client.specs.HostPrefix.{IsAgainstHost}
 use Rattle.cookie_client.specs.Keeping.{Keeps, HasReadPair, HaveReadPairs, IsSameRow, ComesBack}
-use Rattle.cookie_run.specs.Moments.{AllFollow, IsMoment, second_1971}
-use Rattle.cookie_run.specs.Play.{Delivers, OneStep, Plays}
+use Rattle.cookie_run.specs.Moments.{AllFollow, IsMoment}
+use Rattle.cookie_client.specs.Moment.{second_1971}
+use Rattle.cookie_run.specs.Play.{Plays}
 use Rattle.cookie_client.specs.declared.outcome.LineEnd.{LineEnd}
-use Rattle.cookie_run.specs.declared.step.Reading.{Reading}
+use Rattle.cookie_client.specs.declared.command.Reading.{Reading}
 use Rattle.cookie_run.proofs.ActMoments.{ends_at, front_follows}
 use Rattle.cookie_run.proofs.Lines.{age_whole}
 use Rattle.cookie_run.proofs.OwnRows.{IsWholeSecond}

@@ -15,12 +15,12 @@ use Rattle.cookie_client.specs.declared.outcome.SessionError.TheVariants as refu
 use Rattle.cookie.specs.KeyRing.{Ring, kept, rotated}
 use Rattle.cookie_client.specs.Jar.{ClosesWith, IsRemovalRefusal}
 use Rattle.cookie_run.specs.RingDrawn.{RingPlaysBy}
-use Rattle.cookie_run.specs.RingPlay.{Answers, RingAct, RingCommand, RingReading, Rotates, Visits, Set, SetUntil}
+use Rattle.cookie_run.specs.RingPlay.{RingAct, RingCommand, RingReading, Rotates, Visits, Set, SetUntil}
 use Rattle.cookie_run.specs.RingPlay.{Remove, Get, GetUntil, all_read}
 use Rattle.cookie_client.specs.RingSession.{RefusesUntil}
 use Rattle.cookie_client.specs.declared.ending.EndingWay.{EndingWay}
 use Rattle.cookie_client.specs.declared.ending.EndingWay.TheVariants as ends
-use Rattle.cookie_run.specs.Moments.{second_1971}
+use Rattle.cookie_client.specs.Moment.{second_1971}
 use Rattle.jiff.specs.Types.{DateTime}
 use Rattle.jiff.specs.Words.{civil_nanos}
 use Rattle.cookie_text.specs.Record.{bare, unsliced}
@@ -28,7 +28,7 @@ use Rattle.std.proofs.lemmas.Option.{same_Some}
 use Rattle.cookie_run.proofs.Removals.{removal_late}
 use Rattle.cookie_client.specs.Accept.{IsStopped}
 use Rattle.cookie_client.specs.Ways.{Refuses, set_refusal}
-use Rattle.cookie_run.specs.Acts.{Arrives, Never}
+use Rattle.cookie_client.specs.Steps.{Arrives, Never}
 use Rattle.cookie_run.specs.Drawn.{Draw, DrawsSo}
 use Rattle.cookie_run.specs.ScriptLine as spec
 use Rattle.cookie_run.specs.ScriptText.{Now, Closed, Within, Reached, IsAnswered, obeyed, command_refusal}
@@ -146,13 +146,6 @@ closed_command drawn list first start ring rows r last visit output c s none =
     own_fault drawn list first start ring rows r last visit output (obeyed r.acts r.ring r.last r.now (spec.Commands c))
     NoSession s
     (no_command r c (none_open drawn list first start ring rows r last visit output s none))
-
-pub no_delivery : (r : Reached) (at : ℤ) → r.now ≡ Closed → obeyed r.acts r.ring r.last r.now
-    (spec.Delivers at) ≡ Err NoSession
-no_delivery r at e = ap (λ now. obeyed r.acts r.ring r.last now (spec.Delivers at)) e
-
-pub no_loss : (r : Reached) → r.now ≡ Closed → obeyed r.acts r.ring r.last r.now spec.Loses ≡ Err NoSession
-no_loss r e = ap (λ now. obeyed r.acts r.ring r.last now spec.Loses) e
 
 -- a session is open
 pub data IsWithin (now : Now) : Type 0 where
@@ -492,54 +485,6 @@ half_deliver drawn list first start ring rows new r last visit v answer output n
   by_ring drawn list first start ring new r (obeyed r.acts r.ring r.last r.now (spec.Delivers at)) output s.turned
       (half_deliver_at drawn list first start ring rows new r.acts r.ring r.last r.now last v answer output n at
       (subst (λ o. Stands drawn list first start r ring rows last o output) is s) closes stopped),
-)
-
-half_receive_at : (drawn : List Draw) (list : List Rule) (first : Ring) (start : List Row) (ring : Ring)
-    (rows new : List Row) (acts : List RingAct) (turned : Ring) (m : ℤ) (now : Now) (last : ℤ) (visit : Option Visit)
-    (output : List ℕ) (url : Parts) (answer : List (List ℕ)) (n : ℕ) (at : ℤ)
-    → Stands drawn list first start (reached acts turned m now) ring rows last visit output
-    → is_some visit ≡ false → IsStopped list rows url at answer n new
-    → (next : Reached) × (act : RingAct) × (obeyed acts turned m now (spec.Receives url answer at) ≡ Ok next)
-    × (next.acts ≡ acts ++ act ∷ []) × PrintsHalfBy drawn list first start acts ring act output new
-half_receive_at drawn list first start ring rows new acts turned m Closed last None output url answer n at s none
-    stopped = (
-      reached (acts ++ Answers url answer at ∷ []) turned at Closed,
-      Answers url answer at,
-      refl,
-      refl,
-      (
-        s.told,
-        rows,
-        [],
-        s.done,
-        [],
-        s.draws ∙ ap (λ ds. s.done ++ ds) s.is_open.1,
-        s.plays,
-        (refl, (n, stopped), refl),
-        subst (λ f. AllByRecursion IsAnswered (all_read s.told ++ f)) s.is_open.0 s.answered,
-        s.prints ∙ ap (λ f. readings_text (all_read s.told ++ f)) s.is_open.0,
-      ),
-    )
-half_receive_at drawn list first start ring rows new acts turned m Closed last (Some v) output url answer n at s none
-    stopped = absurd s.is_open
-half_receive_at drawn list first start ring rows new acts turned m (Within u a cs) last None output url answer n at s
-    none stopped = absurd s.is_open
-half_receive_at drawn list first start ring rows new acts turned m (Within u a cs) last (Some v) output url answer n at
-    s none stopped = absurd (true_false none)
-
-pub half_receive : (drawn : List Draw) (list : List Rule) (first : Ring) (start : List Row) (ring : Ring)
-    (rows new : List Row) (r : Reached) (last : ℤ) (visit : Option Visit) (output : List ℕ) (url : Parts)
-    (answer : List (List ℕ)) (n : ℕ) (at : ℤ) → Stands drawn list first start r ring rows last visit output
-    → is_some visit ≡ false → IsStopped list rows url at answer n new
-    → LineFails drawn [] list first start r (obeyed r.acts r.ring r.last r.now (spec.Receives url answer at)) Memory
-    output new
-half_receive drawn list first start ring rows new r last visit output url answer n at s none stopped = inr (
-  refl,
-  inl refl,
-  by_ring drawn list first start ring new r (obeyed r.acts r.ring r.last r.now (spec.Receives url answer at)) output
-      s.turned
-      (half_receive_at drawn list first start ring rows new r.acts r.ring r.last r.now last visit output url answer n at
-      s none stopped),
 )
 
 -- ---- a rotation

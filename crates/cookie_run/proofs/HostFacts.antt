@@ -13,13 +13,13 @@ use Rattle.cookie_text.specs.Reading.{ReadsPlain}
 use Rattle.cookie_text.specs.Record.{Record, Seen, bare, domain_of}
 use Rattle.cookie_text.proofs.ReadingLemmas.{HasAttributes-push, not_empty}
 use Rattle.cookie_text.proofs.ReadsBack.{bare_has_none}
-use Rattle.cookie_run.specs.Acts.{Act, Visits, Answers, Asks, Restarts, Arrives}
+use Rattle.cookie_client.specs.Steps.{Act, Visits, Answers, Asks, Restarts, Arrives}
 use Rattle.cookie_run.specs.Headline.{AnswersBySessions, AnswersApart, Each}
 use Rattle.cookie_run.specs.HostHeadline.{IsHostSite, SecureAnswersBySessions}
 use Rattle.cookie_run.specs.HostLines.{IsHostSetter, NamesHost}
 use Rattle.cookie_client.specs.HostPrefix.{IsAgainstHost}
 use Rattle.cookie_client.specs.Hosts.{secure_host}
-use Rattle.cookie_run.specs.declared.step.Command.{Command}
+use Rattle.cookie_client.specs.declared.command.Command.{Command}
 use Rattle.cookie_run.proofs.Example.{shop, list, own_form, no_empty_label}
 use Rattle.cookie_client.proofs.Lines.{https_of}
 use Rattle.cookie_run.proofs.RelatedFacts.{below, at_host, shop_reached, shop_unlisted}

@@ -7,13 +7,13 @@ use Rattle.publicsuffix.specs.Rules.{Rule}
 use Rattle.url.specs.Parts.{Parts}
 use Rattle.cookie_store.specs.Rows.{Row}
 use Rattle.cookie_client.specs.Accept.{AcceptsAll}
-use Rattle.cookie_run.specs.Acts.{Act, Visits, Answers, Asks, Restarts, Arrival, Arrives, Never}
+use Rattle.cookie_client.specs.Steps.{Act, Visits, Answers, Asks, Restarts, Arrival, Arrives, Never, Delivers, OneStep}
 use Rattle.cookie_client.specs.HostPrefix.{IsHeldRightly, AreHeldRightly}
 use Rattle.cookie_run.specs.HostRows.{PlaysHoldRightly}
 use Rattle.cookie_client.specs.Keeping.{HasReadPair, HaveReadPairs}
-use Rattle.cookie_run.specs.Play.{Delivers, OneStep, Plays}
+use Rattle.cookie_run.specs.Play.{Plays}
 use Rattle.cookie_client.specs.declared.outcome.LineEnd.{LineEnd}
-use Rattle.cookie_run.specs.declared.step.Reading.{Reading}
+use Rattle.cookie_client.specs.declared.command.Reading.{Reading}
 use Rattle.cookie_client.proofs.ClientRows.{kept_pairs}
 use Rattle.cookie_client.proofs.ComingBack.{lines_from, pair_made}
 use Rattle.cookie_client.proofs.HostRows.{made_held, expired_held, alone_held, kept_held}

@@ -10,7 +10,8 @@ use Rattle.percent_encoding.specs.Percent.{percent_decode}
 use Rattle.publicsuffix.specs.Rules.{Rule}
 use Rattle.cookie.specs.Prefix.{host_text}
 use Rattle.cookie_store.specs.Rows.{Row}
-use Rattle.cookie_run.specs.Acts.{Act, Visits, Answers, Asks, Restarts, Arrives, Never, moments_of}
+use Rattle.cookie_client.specs.Steps.{Act, Visits, Answers, Asks, Restarts, Arrives, Never}
+use Rattle.cookie_run.specs.Acts.{moments_of}
 use Rattle.cookie_run.specs.Headline.{Each}
 use Rattle.cookie_run.specs.HostHeadline.{IsHostSite, SecureAnswersBySessions, HasHostPrefix, GetByHost}
 use Rattle.cookie_run.specs.HostHeadline.{EachReadsByHost, HostsReadTheirOwn, HostsReadTheirOwnUntil}
@@ -26,7 +27,7 @@ use Rattle.cookie_run.specs.Readings.{all_told}
 use Rattle.cookie_run.specs.Site.{Site, nothing}
 use Rattle.cookie_client.specs.Ways.{stored_name}
 use Rattle.cookie_run.specs.declared.step.FaultKind.{FaultKind}
-use Rattle.cookie_run.specs.declared.step.Reading.{Reading}
+use Rattle.cookie_client.specs.declared.command.Reading.{Reading}
 use Rattle.cookie_run.proofs.Commands.{Told, EndsLate}
 use Rattle.cookie_run.proofs.Exchange.{Laws, SiteAgrees}
 use Rattle.cookie_run.proofs.FromLines.{line_pairs, plays_from}

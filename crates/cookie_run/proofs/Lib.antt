@@ -33,11 +33,8 @@ pub mod ScriptLines
 pub mod ScriptRings
 pub mod ScriptNumbers
 pub mod Shown
-pub mod MomentText
 pub mod Calendar
 pub mod Ends
-pub mod OpenCode
-pub mod ScriptDates
 pub mod ScriptEndings
 pub mod Standings
 pub mod Halting
@@ -57,7 +54,6 @@ mod Example
 mod RingFacts
 mod RelatedFacts
 mod HostFacts
-mod ScriptFacts
 mod VisitFacts
 pub mod HostRows
 pub mod MappedSteps

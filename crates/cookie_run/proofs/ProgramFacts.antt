@@ -1,57 +1,39 @@
 -- What the program answers, put together of what its steps say.
-use Rattle.std.proofs.Common.{◌≡◌, ◌⊎◌, ℕ, Bool, List, [], ◌++◌, Option, Some, None, Result, Ok, Err, inl, inr, refl}
-use Rattle.std.proofs.Common.{sym, subst, ap, ◌∙◌, true, false, true≢false}
+use Rattle.std.proofs.Common.{◌≡◌, ◌⊎◌, ℕ, List, [], ◌++◌, Option, Some, None, Result, Ok, Err, inl, inr, refl}
+use Rattle.std.proofs.Common.{sym, subst, ap, ◌∙◌}
 use Rattle.std.proofs.Common.{ℤ}
-use Rattle.kept_file.specs.Locks.{Held, Lock, bytes_of, given_back}
+use Rattle.kept_file.specs.Locks.{Held, Lock, bytes_of, given_back, kept_so}
 use Rattle.std.specs.Prelude.{IsErrOf, IfSome, OnErr, IsErrAnd, option_map, ◌↔◌}
 use Rattle.std.specs.Result.{result_map_both}
-use Rattle.std.specs.Io.KnownBytes.{Appends, Keeps}
-use Rattle.std.proofs.lemmas.List.{append-nil}
-use Rattle.devices.specs.Device.{AppendsFront}
+use Rattle.std.specs.Io.KnownBytes.{Appends}
 use Rattle.std.specs.declared.convert.Infallible.{Infallible}
 use Rattle.rand_chacha.specs.ChaCha.{ChaCha, of_seed}
 use Rattle.cookie.specs.Key.{derived}
 use Rattle.cookie.specs.KeyRing.{alone}
 use Rattle.publicsuffix.specs.Rules.{Rule}
 use Rattle.cookie_run.specs.Drawn.{DrawsSo}
-use Rattle.cookie_run.specs.Program.{IsFill, ScriptEnds, ScriptFails, ScriptGives}
-use Rattle.cookie_run.specs.ProgramKept.{KeepsStore, RunKeeps, kept_so, put_by, text_of}
+use Rattle.cookie_run.specs.Program.{IsFill, ScriptEnds, ScriptFails, ScriptGives, Asked, AskedGives, Devices}
+use Rattle.cookie_run.specs.Program.{IsListToldAs, IsOfFiles, IsToldAs, MakesNoClient, MakesNoList, ProgramFails}
+use Rattle.cookie_run.specs.Program.{ProgramTells, RunGives, asked_of}
+use Rattle.cookie_run.specs.ProgramKept.{KeepsStore, RunKeeps, put_by, text_of}
 use Rattle.cookie_run.specs.ScriptDrawn.{IsScriptBy}
 use Rattle.cookie_run.specs.ScriptText.{Runs}
 use Rattle.cookie_run.specs.declared.script.ended.Ended.{Ended}
 use Rattle.cookie_run.specs.declared.script.ended.Ended.TheVariants.{Whole}
-use Rattle.std.specs.Str.{IsUtf8, is_utf8}
-use Rattle.std.proofs.lemmas.Str.{IsUtf8-from_is_utf8, is_utf8-from_IsUtf8}
+use Rattle.std.specs.Str.{IsUtf8}
 use Rattle.publicsuffix.specs.declared.error.ListError.{ListError}
 use Rattle.publicsuffix.specs.declared.error.ListError.TheVariants as list
 use Rattle.publicsuffix.specs.Rules.{HasFirstFault}
 use Rattle.cookie_store.specs.Placing.{saved}
 use Rattle.cookie_store.specs.Rows.{Row}
-use Rattle.cookie_store.specs.SavedTexts.{OfText, IsAnyBeforeYears, IsReadFault, IsRonRefusal, IsSaveFault}
-use Rattle.cookie_store.specs.SavedTexts.{IsWriteFault}
+use Rattle.cookie_store.specs.SavedTexts.{OfText, IsAnyBeforeYears, IsReadFault, IsRonRefusal}
 use Rattle.store_parts.specs.declared.error.Error.{Error}
-use Rattle.store_parts.specs.declared.error.Error.TheVariants.{OutOfMemory, Year}
-use Rattle.cookie_run.specs.Program.{Asked, AskedGives, Devices, IsListToldAs, IsNoSavedText, IsOfFiles, IsToldAs}
-use Rattle.cookie_run.specs.Program.{MakesNoClient, MakesNoList, ProgramFails, ProgramTells, RunGives, asked_of}
+use Rattle.store_parts.specs.declared.error.Error.TheVariants.{OutOfMemory}
+use Rattle.cookie_client.specs.Loading.{IsNoSavedText}
 use Rattle.cookie_run.specs.declared.program.failure.Failure.{Failure}
 use Rattle.cookie_run.specs.declared.program.failure.Failure.TheVariants.{StoreFile, StoreText, Memory}
 
 -- ---- the list and the client
-
--- what is a text where that it is none is refuted
-utf8_or : (text : List ℕ) (b : Bool) → is_utf8 text ≡ b → (¬ IsUtf8 text → ⊥) → IsUtf8 text
-utf8_or text true is never = IsUtf8-from_is_utf8 text is
-utf8_or text false is never =
-    absurd (never (λ u. true≢false (sym (is_utf8-from_IsUtf8 text u) ∙ is)))
-
-ok_err : {T E : Type 0} (x : T) (e : E) → Ok x ≡ Err e → ⊥
-ok_err x e same = cc
-
--- a list that was parsed is that of a text
-pub listed : {L : Type 0} (text : List ℕ) (given : L)
-    → (let r : Result L ListError = Ok given in IsErrOf r list.NotText ↔ (¬ IsUtf8 text)) → IsUtf8 text
-listed text given not_text =
-    utf8_or text (is_utf8 text) refl (λ none. ok_err given list.NotText (not_text.1 none))
 
 -- why a text is no list
 pub not_listed : {L : Type 0} (r : Result L ListError) (text : List ℕ) (cause : ListError) (failure : Failure)
@@ -80,18 +62,6 @@ not_loaded text cause failure before after reads (inr told) (inr (inr of)) =
 -- what is put behind nothing
 pub behind_nothing : (old list text : List ℕ) → old ≡ [] → text ≡ old ++ list → text ≡ list
 behind_nothing old list text none is = is ∙ ap (λ front. front ++ list) none
-
--- a client that isn't saved for `Year`
-IsYear : Error → Type 0
-IsYear Year = Unit {0}
-IsYear e = ⊥
-
-pub year_only : {Same : Type 0} (rows : List Row) (before after : ℕ) (e : Error) → e ≡ Year
-    → (IsWriteFault before after e ⊎ (Same × IsSaveFault rows e)) → IsAnyBeforeYears rows
-unfolding IsYear
-year_only rows before after e is (inl wrote) = absurd (subst IsYear (sym is ∙ wrote.0) tt)
-year_only rows before after e is (inr (same, inl year)) = year.1
-year_only rows before after e is (inr (same, inr memory)) = absurd (subst IsYear (sym is ∙ memory) tt)
 
 -- ---- the script that was played
 
@@ -227,17 +197,3 @@ keeps_store Untouched io words asked suffixes stored old held mid new status is 
 pub on_err : {T E : Type 0} {P Q : Type 0} (r : Result T E) → (P → Q) → OnErr r P → OnErr r Q
 on_err (Ok x) f p = tt
 on_err (Err e) f p = f p
-
--- ---- what was written, behind a flush
-
-pub appends_kept : (old mid new : Option (List ℕ)) (text : List ℕ) → Appends old mid text → Keeps mid new
-    → Appends old new text
-appends_kept None mid new text appends keeps = tt
-appends_kept (Some xs) None new text appends keeps = absurd appends
-appends_kept (Some xs) (Some ys) None text appends keeps = absurd keeps
-appends_kept (Some xs) (Some ys) (Some zs) text appends keeps = keeps ∙ appends
-
-pub front_kept : (old mid new : Option (List ℕ)) (text : List ℕ) → Appends old mid text → Keeps mid new
-    → AppendsFront old new text
-front_kept old mid new text appends keeps =
-    (text, [], sym (append-nil text), appends_kept old mid new text appends keeps)

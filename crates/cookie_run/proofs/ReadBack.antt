@@ -112,10 +112,6 @@ ascii_is_utf8 bs h = is_utf8-from_IsUtf8 bs (IsUtf8-from_ascii bs h)
 pub whole_of : (c : Record) → AllByRecursion (λ b. is_semicolon b ≡ false) (stripped (encoded_pair c))
 whole_of c = pair_whole (escaped c.name) (escaped c.value) (escaped_plain c.name) (escaped_plain c.value)
 
-pub led_clean : (spaced : Bool) (c : Record) → All (λ b. is_semicolon b ≡ false)
-    (led spaced (stripped (encoded_pair c)))
-led_clean spaced c = All-from_recursion (λ b. is_semicolon b ≡ false) _ (led_whole spaced _ (whole_of c))
-
 -- ---- it hides no prefix
 
 -- bytes that stay where a text is escaped

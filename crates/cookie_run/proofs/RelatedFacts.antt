@@ -12,10 +12,11 @@ use Rattle.publicsuffix.specs.Rules.{Rule}
 use Rattle.store_parts.specs.DomainMatch.{EndsAfterDot, IsHostName, IsIpv4}
 use Rattle.url.specs.Parts.{Parts}
 use Rattle.url.specs.declared.host.Host.TheVariants.{Domain}
-use Rattle.cookie_run.specs.Acts.{Act, Visits, Answers, Asks, Restarts, Arrival}
-use Rattle.cookie_run.specs.Headline.{IsInReach, AreRelated}
+use Rattle.cookie_client.specs.Steps.{Act, Visits, Answers, Asks, Restarts, Arrival}
+use Rattle.cookie_client.specs.Hosts.{IsInReach}
+use Rattle.cookie_run.specs.Headline.{AreRelated}
 use Rattle.cookie_run.specs.Strangers.{Concerns, IsOnly}
-use Rattle.cookie_run.specs.declared.step.Command.{Command}
+use Rattle.cookie_client.specs.declared.command.Command.{Command}
 use Rattle.cookie_run.proofs.Example.{shop, evil, list, apart, apart_unrelated, only}
 use Rattle.cookie_run.proofs.Example.{step, no_dot, none_after, after_dot}
 

@@ -17,7 +17,7 @@ use Rattle.cookie_text.specs.declared.expiration.Expiration.TheVariants.{DateTim
 use Rattle.cookie_text.specs.Normal.{is_short_year}
 use Rattle.cookie_text.specs.Record.{Seen}
 use Rattle.cookie_text.specs.Setting.{IsKept, MakesRemoval, stopped, last_moment, latest_end, one_year}
-use Rattle.cookie_run.specs.Moments.{second_1971}
+use Rattle.cookie_client.specs.Moment.{second_1971}
 
 stopped_after : (n : ℤ) → pos 0 ≤ℤ n → n ≤ℤ last_moment → stopped n ≡ n
 stopped_after n h g = grind (arith, ints)

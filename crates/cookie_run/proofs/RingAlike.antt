@@ -21,10 +21,10 @@ use Rattle.cookie_client.specs.Ways.{kind_of}
 use Rattle.cookie_run.specs.Site.{live_at, live_view, restarted, with_at}
 use Rattle.cookie_client.specs.Ways.{set_refusal, stored_name}
 use Rattle.cookie_client.specs.Ways as site
-use Rattle.cookie_run.specs.declared.step.Command.{Command}
-use Rattle.cookie_run.specs.declared.step.Command.TheVariants.{Set, Remove, Get}
-use Rattle.cookie_run.specs.declared.step.Reading.{Reading}
-use Rattle.cookie_run.specs.declared.step.Reading.TheVariants.{Value}
+use Rattle.cookie_client.specs.declared.command.Command.{Command}
+use Rattle.cookie_client.specs.declared.command.Command.TheVariants.{Set, Remove, Get}
+use Rattle.cookie_client.specs.declared.command.Reading.{Reading}
+use Rattle.cookie_client.specs.declared.command.Reading.TheVariants.{Value}
 use Rattle.cookie_client.specs.declared.outcome.SessionError.{SessionError}
 use Rattle.cookie_client.specs.declared.outcome.SessionError.TheVariants.{EmptyName, Year, TooLong, Rng, OutOfMemory}
 use Rattle.cookie_client.specs.declared.way.Way.{Way}

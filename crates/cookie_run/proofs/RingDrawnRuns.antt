@@ -20,7 +20,7 @@ use Rattle.cookie_client.specs.RingSession.{KeepsRing, Ringed, SetsUntil, keyed}
 use Rattle.cookie_client.specs.Ways.{set_refusal}
 use Rattle.cookie_client.specs.declared.ending.EndingWay.{EndingWay}
 use Rattle.cookie_client.specs.declared.ending.EndingWay.TheVariants as ends
-use Rattle.cookie_run.specs.declared.step.Reading.TheVariants as readings
+use Rattle.cookie_client.specs.declared.command.Reading.TheVariants as readings
 use Rattle.cookie_client.specs.declared.outcome.SessionError.{SessionError}
 use Rattle.cookie_client.specs.declared.way.Way.{Way}
 use Rattle.cookie_client.specs.declared.way.Way.TheVariants.{Sealed}

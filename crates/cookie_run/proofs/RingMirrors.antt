@@ -17,7 +17,7 @@ use Rattle.saved_text.specs.DateReading.{AreOfOneMoment}
 use Rattle.saved_text.specs.PrintedDates.{PrintedDatesAreRead}
 use Rattle.cookie_client.specs.Ending.{IsKeptUntil, IsReadBefore, dated_text}
 use Rattle.cookie_client.specs.Jar.{Keyed, Sets, record_in, value_in}
-use Rattle.cookie_run.specs.Play.{GetTells, Tells}
+use Rattle.cookie_client.specs.Steps.{GetTells, Tells}
 use Rattle.cookie_client.specs.PlainSets.{any_nonce}
 use Rattle.cookie_run.specs.RingHeadline.{HasText}
 use Rattle.cookie_run.specs.RingPlain.{IsPlainCommand}
@@ -32,10 +32,10 @@ use Rattle.cookie_client.specs.Ways.{is_too_long, kind_of, refusal_of, stored_na
 use Rattle.cookie_run.specs.Site as site
 use Rattle.cookie_client.specs.Ways as kinds
 use Rattle.cookie_client.specs.declared.ending.EndingWay.{EndingWay}
-use Rattle.cookie_run.specs.declared.step.Command.{Command}
-use Rattle.cookie_run.specs.declared.step.Command.TheVariants.{Set, Remove, Get}
-use Rattle.cookie_run.specs.declared.step.Reading.{Reading}
-use Rattle.cookie_run.specs.declared.step.Reading.TheVariants.{Value}
+use Rattle.cookie_client.specs.declared.command.Command.{Command}
+use Rattle.cookie_client.specs.declared.command.Command.TheVariants.{Set, Remove, Get}
+use Rattle.cookie_client.specs.declared.command.Reading.{Reading}
+use Rattle.cookie_client.specs.declared.command.Reading.TheVariants.{Value}
 use Rattle.cookie_client.specs.declared.outcome.SessionError.{SessionError}
 use Rattle.cookie_client.specs.declared.outcome.SessionError.TheVariants.{EmptyName, Year}
 use Rattle.cookie_client.specs.declared.way.Way.{Way}

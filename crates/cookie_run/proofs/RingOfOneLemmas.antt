@@ -12,15 +12,15 @@ use Rattle.cookie_text.specs.Record.{Seen}
 use Rattle.cookie_store.specs.Rows.{Row}
 use Rattle.publicsuffix.specs.Rules.{Rule}
 use Rattle.cookie_client.specs.Jar.{IsOpenedBy, Keyed, ReadsIn, TakesOut}
-use Rattle.cookie_run.specs.Play.{GetTells, RemoveTells, SetTells, Tells}
+use Rattle.cookie_client.specs.Steps.{GetTells, RemoveTells, SetTells, Tells}
 use Rattle.cookie_run.specs.RingOfOne.{AreThatPlay, HasNoEnd, IsSuchAPlay, all_placed}
 use Rattle.cookie_run.specs.RingOfOne.{commands_of, placed_at_0}
 use Rattle.cookie_run.specs.RingPlay as ring
 use Rattle.cookie_run.specs.RingPlay.{RingAct, RingCommand, RingGetTells, RingPlays, RingReading, RingRemoveTells}
 use Rattle.cookie_run.specs.RingPlay.{RingSetTells, RingTells}
 use Rattle.cookie_client.specs.RingSession.{IsOpenedOnBy, IsThatSession, Ringed, at_0, keyed, value_alone}
-use Rattle.cookie_run.specs.declared.step.Reading.{Reading}
-use Rattle.cookie_run.specs.declared.step.Reading.TheVariants.{Header, Refused, Value}
+use Rattle.cookie_client.specs.declared.command.Reading.{Reading}
+use Rattle.cookie_client.specs.declared.command.Reading.TheVariants.{Header, Refused, Value}
 use Rattle.cookie_client.specs.declared.outcome.SessionError.TheVariants.{EmptyName}
 use Rattle.cookie_client.specs.declared.way.Way.{Way}
 

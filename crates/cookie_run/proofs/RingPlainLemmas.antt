@@ -11,18 +11,19 @@ use Rattle.cookie.specs.Signing.{signing}
 use Rattle.jiff.specs.Types.{DateTime}
 use Rattle.cookie_store.specs.Rows.{Row}
 use Rattle.cookie.specs.KeyRing.{Ring}
-use Rattle.cookie_run.specs.Acts as acts
+use Rattle.cookie_client.specs.Steps as acts
 use Rattle.cookie_client.specs.Jar.{IsOpenedBy, Keyed, Sets}
-use Rattle.cookie_run.specs.Play.{CommandTells, GetTells, Plays, RemoveTells, Serves, Tells}
+use Rattle.cookie_client.specs.Steps.{CommandTells, GetTells, RemoveTells, Serves, Tells}
+use Rattle.cookie_run.specs.Play.{Plays}
 use Rattle.cookie_client.specs.PlainSets.{any_nonce}
 use Rattle.cookie_run.specs.RingPlain.{IsPlainCommand, RingCommandsArePlain, RingPlaysArePlain}
 use Rattle.cookie_run.specs.RingPlay as ring
 use Rattle.cookie_run.specs.RingPlay.{RingCommand, RingCommandTells, RingReading, RingTells}
 use Rattle.cookie_client.specs.RingSession.{IsOpenedOnBy, KeepsRing, Ringed, keyed}
-use Rattle.cookie_run.specs.declared.step.Command.{Command}
-use Rattle.cookie_run.specs.declared.step.Command.TheVariants.{Set, Remove, Get}
-use Rattle.cookie_run.specs.declared.step.Reading.{Reading}
-use Rattle.cookie_run.specs.declared.step.Reading.TheVariants.{Header}
+use Rattle.cookie_client.specs.declared.command.Command.{Command}
+use Rattle.cookie_client.specs.declared.command.Command.TheVariants.{Set, Remove, Get}
+use Rattle.cookie_client.specs.declared.command.Reading.{Reading}
+use Rattle.cookie_client.specs.declared.command.Reading.TheVariants.{Header}
 use Rattle.cookie_client.specs.declared.way.Way.{Way}
 use Rattle.cookie_client.specs.declared.way.Way.TheVariants.{Plain, Host, Secure, Signed, Sealed}
 use Rattle.cookie_client.proofs.PlainSetLemmas.{signed_plain, sealed_plain}

@@ -12,14 +12,15 @@ use Rattle.url.specs.Parts.{Parts}
 use Rattle.cookie.specs.KeyRing.{Ring, rotated}
 use Rattle.publicsuffix.specs.Rules.{Rule}
 use Rattle.cookie_store.specs.Rows.{Row}
-use Rattle.cookie_run.specs.Acts as acts
-use Rattle.cookie_run.specs.Acts.{Act, Arrival, Arrives, Never, arrival_moments, moments_of}
+use Rattle.cookie_client.specs.Steps as acts
+use Rattle.cookie_client.specs.Steps.{Act, Arrival, Arrives, Never, Serves}
+use Rattle.cookie_run.specs.Acts.{arrival_moments, moments_of}
 use Rattle.cookie_run.specs.Headline.{AnswersApart, AnswersBySessions, Each, IsSite}
 use Rattle.cookie_run.specs.HostHeadline.{GetByHost, HasHostPrefix}
 use Rattle.cookie_run.specs.HostLines.{IsHostSetter, SetsHostBySessions}
 use Rattle.cookie_client.specs.Hosts.{secure_host}
 use Rattle.cookie_run.specs.Moments.{AllFollow, IsMoment, the_beginning}
-use Rattle.cookie_run.specs.Play.{Plays, Serves}
+use Rattle.cookie_run.specs.Play.{Plays}
 use Rattle.cookie_run.specs.RingHeadline.{AreFit, EachRingPlayIsRead, EachRingPlayIsReadByHost, EachRingReadsOn}
 use Rattle.cookie_run.specs.RingHeadline.{EachRingPlayIsReadBySetters}
 use Rattle.cookie_run.specs.RingHeadline.{HasText, every_name, without_commands}
@@ -30,9 +31,9 @@ use Rattle.cookie_client.specs.RingSession.{IsOpenedOnBy, Ringed, keyed}
 use Rattle.cookie_run.specs.RingSite.{Change, RingExchangeOn, RingSite, no_entry, ring_after_arrival, ring_restarted}
 use Rattle.cookie_run.specs.Site.{GetOn, IsReadAt, Site, after_arrival, nothing, restarted}
 use Rattle.cookie_client.specs.Ways.{Plain}
-use Rattle.cookie_run.specs.declared.step.Command.{Command}
-use Rattle.cookie_run.specs.declared.step.Reading.{Reading}
-use Rattle.cookie_run.specs.declared.step.Reading.TheVariants.{Header, Refused, Value}
+use Rattle.cookie_client.specs.declared.command.Command.{Command}
+use Rattle.cookie_client.specs.declared.command.Reading.{Reading}
+use Rattle.cookie_client.specs.declared.command.Reading.TheVariants.{Header, Refused, Value}
 use Rattle.cookie_client.specs.declared.way.Way.TheVariants as ways
 use Rattle.cookie_run.proofs.Commands.{EndsLate, Gets}
 use Rattle.cookie_run.proofs.Exchange.{ExchangeIn, Laws}
@@ -194,7 +195,7 @@ module _ (Counts : List ℕ → Type 0) (Read : Gets) (tell : TellsPlain Counts 
       (subst (λ (d : DateTime). EndsLate (civil_nanos d)) (sym is.moment_is) late)
       (ap (λ (q : Ring). length q.current) is.ring_is ∙ long)
       (opened_named r.current header (keyed opened) is.opened) tells in
-      let same = subst (λ (d : DateTime). Rattle.cookie_run.specs.Play.Tells (keyed opened) (civil_nanos d) m.plain
+      let same = subst (λ (d : DateTime). Rattle.cookie_client.specs.Steps.Tells (keyed opened) (civil_nanos d) m.plain
       m.read (keyed session)) is.moment_is m.tells in
       let doing = subst (λ (q : Ring). AllDo Counts Read q at commands told m.plain m.read) is.ring_is
       (subst (λ (d : DateTime). AllDo Counts Read opened.ring d commands told m.plain m.read) is.moment_is m.does) in (

@@ -1,21 +1,19 @@
 -- A play goes on by one step.
 use Rattle.std.proofs.lemmas.List.{take_more}
-use Rattle.std.specs.Prelude.{IsErr, IsErrAnd, IfErr}
 use Rattle.cookie_run.specs.declared.step.Step.{Step}
 use Rattle.cookie_run.specs.Acts.{act_of, acts_of}
 use Rattle.std.proofs.Common.{◌≡◌, ℕ, ◌+◌, ◌<◌, length, take, get_or, Result, Ok, Err, OnOk}
 use Rattle.std.proofs.Common.{OnErr}
 use Rattle.std.proofs.Common.{List, [], ◌∷◌, ◌++◌, sym, refl, ap, ◌∙◌, subst, append_assoc, zero, suc, arith}
-use Rattle.cookie_run.specs.Acts.{Act}
-use Rattle.cookie_run.specs.declared.step.Reading.{Reading}
-use Rattle.cookie_run.specs.declared.step.Command.{Command}
+use Rattle.cookie_client.specs.Steps.{Act}
+use Rattle.cookie_client.specs.declared.command.Reading.{Reading}
+use Rattle.cookie_client.specs.declared.command.Command.{Command}
 use Rattle.cookie_text.specs.Record.{Seen}
 use Rattle.cookie_client.specs.declared.way.Way.{Way}
 use Rattle.cookie_client.specs.declared.way.Way.TheVariants.{Plain, Host, Secure, Signed, Sealed}
 use Rattle.cookie_client.specs.Jar.{Keyed, IsKeptAs, IsRemovalRefusal, Sets, sent}
 use Rattle.cookie_client.specs.PlainSets.{any_nonce}
-use Rattle.cookie_run.specs.Play.{GetTells}
-use Rattle.cookie_run.specs.Readings.{all_told, MayRead}
+use Rattle.cookie_run.specs.Readings.{all_told}
 use Rattle.cookie_client.specs.declared.outcome.SessionError.{SessionError}
 use Rattle.cookie_client.specs.declared.outcome.SessionError.TheVariants.{EmptyName, Year, Rng}
 use Rattle.std.specs.List.{AllByRecursion}
@@ -48,12 +46,6 @@ pub on_err_any : {A E : Type 0} (r : Result A E) (P : Type 0) → P → OnErr r 
 on_err_any (Ok x) P p = tt
 on_err_any (Err e) P p = p
 
--- an error of a known kind
-pub err_gives : {A E : Type 0} (r : Result A E) (Q P : E → Type 0) → IsErr r × IsErrAnd r Q → ((e : E) → Q e → P e)
-    → IfErr r P
-err_gives (Ok x) Q P h f = tt
-err_gives (Err e) Q P h f = f e h.1
-
 pub readings_nil : (xs : List Reading) → xs ++ [] ≡ xs
 readings_nil [] = refl
 readings_nil (x ∷ xs) = ap (λ ys. x ∷ ys) (readings_nil xs)
@@ -76,15 +68,6 @@ pub act_at : (P : Act → Type 0) (steps : List Step) (i : ℕ) (s : Step) → i
 act_at P [] i s h is all = absurd (omega arith)
 act_at P (x ∷ xs) zero s h is all = subst (λ y. P (act_of y)) (sym is) all.0
 act_at P (x ∷ xs) (suc i) s h is all = act_at P xs i s (omega arith) is all.1
-
--- a get tells of no generator
-pub get_may : (Error : Type 0) (session : Keyed) (way : Way) (name : List ℕ) (told : List Reading)
-    → GetTells session way name told → AllByRecursion (MayRead Error) told
-get_may Error session way [] told t = subst (AllByRecursion (MayRead Error)) (sym t) (other_refusal, tt)
-  where
-    other_refusal : EmptyName ≡ Rng → Error
-    other_refusal e = cc
-get_may Error session way (b ∷ bs) told t = subst (AllByRecursion (MayRead Error)) (sym t.1) (tt, tt)
 
 -- ---- whatever the nonces
 

@@ -10,7 +10,7 @@ use Rattle.jiff.specs.Types.{DateTime}
 use Rattle.jiff.specs.Words.{civil_nanos}
 use Rattle.cookie_text.specs.Record.{bare, unsliced}
 use Rattle.cookie_client.specs.Jar.{IsRemovalRefusal}
-use Rattle.cookie_run.specs.Moments.{second_1971}
+use Rattle.cookie_client.specs.Moment.{second_1971}
 use Rattle.cookie_run.specs.ScriptLaws.{LinesGoBack, RemovalsAreRefused, RemovalsRead}
 use Rattle.cookie_client.specs.declared.outcome.SessionError.{SessionError}
 use Rattle.cookie_client.specs.declared.outcome.SessionError.TheVariants.{Year}

@@ -19,9 +19,10 @@ use denote.Ref.{Bor}
 use Rattle.url.specs.Parts.{Parts}
 use Rattle.jiff.specs.Types.{DateTime}
 use Rattle.text_lines.proofs.LineLemmas.{cut_some, is_line_feed, missed}
-use Rattle.cookie_run.specs.ScriptMoment.{date_of, moment_of}
-use Rattle.cookie_run.specs.ScriptLine.{url_of, placed, read_header, Heads, read_set, for_way, way_of, with_end}
-use Rattle.cookie_run.specs.ScriptLine.{cookie_line, unless_dash, age_of}
+use Rattle.cookie_client.specs.Moment.{date_of, moment_of}
+use Rattle.cookie_client.specs.Hosts.{url_of}
+use Rattle.cookie_run.specs.ScriptLine.{placed, read_header, Heads, read_set, for_way, way_of, with_end, cookie_line}
+use Rattle.cookie_run.specs.ScriptLine.{unless_dash, age_of}
 use Rattle.cookie_client.specs.declared.way.Way.{Way}
 use Rattle.cookie_run.specs.declared.script.cause.Cause.TheVariants.{Fields}
 

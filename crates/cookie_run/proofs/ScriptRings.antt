@@ -6,7 +6,7 @@ use Rattle.jiff.specs.Types.{DateTime}
 use Rattle.cookie.specs.Key.{derived}
 use Rattle.cookie_run.specs.ScriptLine.{Rotates, ending_line, ending_way_of, for_way, read_rotate, read_set_until}
 use Rattle.cookie_run.specs.ScriptLine.{rotation, seed_of, unless_dash}
-use Rattle.cookie_run.specs.ScriptMoment.{date_of, moment_date}
+use Rattle.cookie_client.specs.Moment.{date_of, moment_date}
 use Rattle.cookie_client.specs.declared.ending.EndingWay.{EndingWay}
 use Rattle.cookie_run.specs.declared.script.cause.Cause.TheVariants.{Fields}
 

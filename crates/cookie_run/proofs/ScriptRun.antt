@@ -1,12 +1,12 @@
 -- The run of a whole text.
 use Rattle.std.proofs.Common.{◌≡◌, ◌⊎◌, ℕ, ℤ, ◌+◌, ◌<◌, List, [], ◌∷◌, ◌++◌, length, Option, None, Result, Ok, Err, inl}
 use Rattle.std.proofs.Common.{inr, sym, refl, ap, ◌∙◌, subst, append_assoc, append-nil, length-append, arith}
-use Rattle.std.specs.Prelude.{IfOk, IfErr, OnOk, IsErrOf, IfSome, Some, IsErrAnd, ⊤}
+use Rattle.std.specs.Prelude.{IfOk, OnOk, IfSome, Some, IsErrAnd, ⊤}
 use Rattle.std.specs.Str.Lines.{lines}
 use Rattle.std.specs.Io.KnownBytes.{Appends}
 use Rattle.std.proofs.KnownBytes.{Appends-trans, Appends-nil}
 use Rattle.cookie.specs.KeyRing.{Ring}
-use Rattle.cookie_run.specs.Acts.{Arrives, Never}
+use Rattle.cookie_client.specs.Steps.{Arrives, Never}
 use Rattle.cookie_run.specs.RingPlay.{RingAct, RingReading, Visits, Answers, Asks, Restarts, Rotates}
 use Rattle.cookie_run.specs.Drawn.{Draw, Fills}
 use Rattle.cookie_run.specs.ScriptDrawn.{EndsBy, LineFails, FaultDraws, NextFails, HalfStepBy, IsScriptBy, PrintsBy}
@@ -22,7 +22,6 @@ use Rattle.cookie_run.specs.declared.script.cause.Cause.TheVariants.{Memory}
 use Rattle.cookie_run.specs.declared.script.ended.Ended.{Ended}
 use Rattle.cookie_run.specs.declared.script.ended.Ended.TheVariants.{Whole, Faulty}
 use Rattle.cookie_run.specs.declared.script.ended.RunError.{RunError}
-use Rattle.cookie_run.specs.declared.script.ended.RunError.TheVariants.{Read, Write}
 use Rattle.cookie_run.proofs.ScriptLines.{lines_some}
 use Rattle.cookie_run.specs.declared.script.visit.Visit.{Visit}
 use Rattle.cookie_run.proofs.DrawnRuns.{draws_nil}
@@ -292,19 +291,6 @@ pub for_one : {A E : Type 0} (r : Result A E) (P : A → Type 0) (R : Type 0) (a
     → (R → P a) → IfOk r P
 for_one (Ok x) P R a h is f = subst P (sym is) (f h)
 for_one (Err e) P R a h is f = tt
-
-pub only_write : {A : Type 0} (r : Result A RunError) (P : Type 0) → IfErr r (λ e. e ≡ Write) → IsErrOf r Read → P
-only_write (Ok x) P only e = absurd (ok_err x e)
-  where
-    ok_err : {A : Type 0} (x : A) → Ok x ≡ Err Read → ⊥
-    ok_err x e = cc
-only_write (Err x) P only e = absurd (read_write (sym only ∙ same x e))
-  where
-    same : {A : Type 0} (x : RunError) → (let r : Result A RunError = Err x in r ≡ Err Read) → x ≡ Read
-    same x e = cc
-
-    read_write : Write ≡ Read → ⊥
-    read_write e = cc
 
 -- ---- what is left, however the run ends
 

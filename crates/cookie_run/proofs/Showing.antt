@@ -18,14 +18,14 @@ use Rattle.cookie.specs.Signing.{signing}
 use Rattle.cookie_client.specs.Jar.{Keyed, IsKeptAs, ReadsIn, Sets, sent, value_in, record_in, lines_of}
 use Rattle.cookie_client.specs.declared.way.Way.{Way}
 use Rattle.cookie_client.specs.declared.way.Way.TheVariants as ways
-use Rattle.cookie_run.specs.declared.step.Reading.{Reading}
-use Rattle.cookie_run.specs.declared.step.Reading.TheVariants.{Value, Refused}
+use Rattle.cookie_client.specs.declared.command.Reading.{Reading}
+use Rattle.cookie_client.specs.declared.command.Reading.TheVariants.{Value, Refused}
 use Rattle.cookie_client.specs.declared.outcome.SessionError.TheVariants.{EmptyName}
 use Rattle.cookie_run.specs.Site.{View, Entry, with_at, entry_of}
 use Rattle.cookie_client.specs.Ways.{Kind, Plain, Signed, Sealed, kind_of, stored_name}
 use Rattle.cookie_run.specs.Site.{IsReadAt, GetOn}
 use Rattle.cookie_run.specs.Brought.{StandsAs, Matches}
-use Rattle.cookie_run.specs.Play.{GetTells}
+use Rattle.cookie_client.specs.Steps.{GetTells}
 use Rattle.cookie_client.specs.PlainSets.{any_nonce}
 use Rattle.cookie_run.specs.Readings.{IsAnswer}
 use Rattle.cookie_client.proofs.Texts.{same_text}

@@ -12,8 +12,8 @@ use Rattle.cookie_store.specs.Insertion.{settled}
 use Rattle.cookie_store.specs.Rows.{Row}
 use Rattle.cookie_run.specs.Site.{Held, nothing, live_view, left_by_all, restarted}
 use Rattle.cookie_store.specs.declared.action.StoreAction.TheVariants.{Inserted, ExpiredExisting, UpdatedExisting}
-use Rattle.cookie_run.specs.declared.step.Command.{Command}
-use Rattle.cookie_run.specs.declared.step.Command.TheVariants.{Set, Remove}
+use Rattle.cookie_client.specs.declared.command.Command.{Command}
+use Rattle.cookie_client.specs.declared.command.Command.TheVariants.{Set, Remove}
 use Rattle.store_parts.specs.declared.error.CookieError.TheVariants.{Expired}
 
 -- a second of 1971 and later ones

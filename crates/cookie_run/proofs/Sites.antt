@@ -12,19 +12,19 @@ use Rattle.url.specs.Parts.{Parts}
 use Rattle.publicsuffix.specs.Rules.{Rule}
 use Rattle.store_parts.specs.DomainText.{idna_form, suffix_or_empty}
 use Rattle.cookie.specs.Jar.{Jar}
-use Rattle.cookie_run.specs.Acts.{Arrival, Arrives, Never}
+use Rattle.cookie_client.specs.Steps.{Arrival, Arrives, Never, GetTells, Act, Visits, Answers, Asks, Restarts, Delivers}
+use Rattle.cookie_client.specs.Steps.{OneStep, RemoveTells, Tells}
 use Rattle.cookie_client.specs.Hosts.{secure_host}
 use Rattle.cookie_client.specs.Jar.{Keyed, lines_of}
 use Rattle.cookie_run.specs.Moments.{IsMoment, AllFollow, last_of, the_beginning}
-use Rattle.cookie_run.specs.Play.{GetTells}
 use Rattle.cookie_run.specs.Readings.{IsAnswer, all_told}
 use Rattle.cookie_run.specs.declared.step.FaultKind.{FaultKind}
-use Rattle.cookie_run.specs.declared.step.Reading.TheVariants.{Value, Refused}
+use Rattle.cookie_client.specs.declared.command.Reading.TheVariants.{Value, Refused}
 use Rattle.cookie_client.specs.declared.outcome.SessionError.{SessionError}
 use Rattle.cookie_client.specs.declared.outcome.SessionError.TheVariants.{EmptyName, Year}
 use Rattle.cookie_client.specs.declared.way.Way.{Way}
 use Rattle.cookie_text.specs.Record.{bare, unsliced, without_dot}
-use Rattle.cookie_run.specs.declared.step.Reading.{Reading}
+use Rattle.cookie_client.specs.declared.command.Reading.{Reading}
 use Rattle.cookie_client.proofs.SessionTexts.{is_text, host_is, other_host}
 use Rattle.cookie_client.proofs.Texts.{some_is_not_none}
 use Rattle.cookie_client.specs.Header.{IsHeader}
@@ -32,14 +32,13 @@ use Rattle.cookie_run.specs.Readings.{IsRemovalAnswer, AnswersTo, AnswersAct, An
 use Rattle.cookie_run.specs.Stops.{StopsFrom, StopsInside, GoesOnBy}
 use Rattle.cookie_run.specs.Laws.{EachPlayIsRead, EachStoppedPlayIsRead}
 use Rattle.cookie_store.specs.Rows.{Row}
-use Rattle.cookie_run.specs.Acts.{Act, Visits, Answers, Asks, Restarts, moments_in, moments_of, opening_of, arrival_in}
-use Rattle.cookie_run.specs.declared.step.Command.{Command}
-use Rattle.cookie_run.specs.declared.step.Command.TheVariants.{Set, Remove, Get}
+use Rattle.cookie_run.specs.Acts.{moments_in, moments_of, opening_of, arrival_in}
+use Rattle.cookie_client.specs.declared.command.Command.{Command}
+use Rattle.cookie_client.specs.declared.command.Command.TheVariants.{Set, Remove, Get}
 use Rattle.cookie_run.specs.Site.{Site, View, GetOn, nothing, live_view, restarted}
 use Rattle.cookie_run.specs.Headline.{AnswersBySessions, AnswersApart, Each, IsSite, EachReadsOn}
 use Rattle.cookie_client.specs.Keeping.{HaveReadPairs}
-use Rattle.cookie_run.specs.Play.{Delivers, OneStep, Plays, RemoveTells, Tells, ServesAll, ServesFront, ReadsAll}
-use Rattle.cookie_run.specs.Play.{ReadsFront}
+use Rattle.cookie_run.specs.Play.{Plays, ServesAll, ServesFront, ReadsAll, ReadsFront}
 use Rattle.cookie_run.proofs.Kepts.{Kept}
 use Rattle.cookie_run.proofs.ActMoments.{end_moment, ends_at, front_follows, ends_last, last_append}
 use Rattle.cookie_client.proofs.CountedRows.{Counts}

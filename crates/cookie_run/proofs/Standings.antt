@@ -19,11 +19,11 @@ use Rattle.cookie_run.specs.RingDrawn.{RingCommandDraws, RingPlaysBy, RingSetDra
 use Rattle.cookie_client.specs.declared.ending.EndingWay.{EndingWay}
 use Rattle.jiff.specs.Types.{DateTime}
 use Rattle.jiff.specs.Words.{civil_nanos}
-use Rattle.cookie_run.specs.declared.script.moment.Moment.{Moment}
+use Rattle.cookie_client.specs.declared.moment.Moment.{Moment}
 use Rattle.cookie_client.specs.Accept.{Takes}
 use Rattle.cookie_client.specs.Header.{IsHeader}
 use Rattle.cookie_client.specs.Keeping.{Keeps}
-use Rattle.cookie_run.specs.Acts.{Arrives, Never}
+use Rattle.cookie_client.specs.Steps.{Arrives, Never}
 use Rattle.cookie_run.specs.Drawn.{Draw}
 use Rattle.cookie_run.specs.ScriptLine as spec
 use Rattle.cookie_run.specs.ScriptText.{Now, Closed, Within, Reached, IsAnswered, obeyed, command_refusal}

@@ -22,15 +22,15 @@ use Rattle.cookie_store.specs.Longest.{AreLongestFirst}
 use Rattle.cookie_store.specs.Rows.{Row, domain_text, is_live_of}
 use Rattle.cookie_store.specs.declared.action.StoreAction.{StoreAction}
 use Rattle.cookie_client.specs.Accept.{Accepts, AcceptsAll}
-use Rattle.cookie_run.specs.Acts.{Act, Visits, Answers, Asks, Restarts, Arrival, Arrives, Never}
+use Rattle.cookie_client.specs.Steps.{Act, Visits, Answers, Asks, Restarts, Arrival, Arrives, Never, Delivers, OneStep}
 use Rattle.cookie_client.specs.Header.{IsHeader, header_of}
 use Rattle.cookie_run.specs.Headline.{AreRelated, Each}
 use Rattle.cookie_client.specs.Jar.{lines_of}
 use Rattle.cookie_client.specs.Keeping.{Keeps}
-use Rattle.cookie_run.specs.Play.{Delivers, OneStep, Plays}
+use Rattle.cookie_run.specs.Play.{Plays}
 use Rattle.cookie_run.specs.Strangers.{IsRelatedAt, Concerns, IsOnly, IsNoExchange, IsUntouched}
 use Rattle.cookie_client.specs.declared.outcome.LineEnd.{LineEnd}
-use Rattle.cookie_run.specs.declared.step.Reading.{Reading}
+use Rattle.cookie_client.specs.declared.command.Reading.{Reading}
 use Rattle.cookie_run.proofs.AloneRuns.{header_too}
 use Rattle.cookie_run.proofs.Longest.{none_longest}
 use Rattle.cookie_run.proofs.Lines.{some_and}

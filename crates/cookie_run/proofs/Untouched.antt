@@ -4,18 +4,19 @@ use Rattle.std.specs.List.{AllByRecursion}
 use Rattle.publicsuffix.specs.Rules.{Rule}
 use Rattle.cookie_store.specs.Laws.{GivenOnce, OneOrder}
 use Rattle.cookie_store.specs.Rows.{Row}
-use Rattle.cookie_run.specs.Acts.{Act, Visits, Answers, Asks, Restarts, Arrival, Arrives, Never, arrival_in}
+use Rattle.cookie_client.specs.Steps.{Act, Visits, Answers, Asks, Restarts, Arrival, Arrives, Never, GetTells}
+use Rattle.cookie_client.specs.Steps.{CommandTells, Tells, OneStep}
+use Rattle.cookie_run.specs.Acts.{arrival_in}
 use Rattle.cookie_client.specs.Jar.{Keyed}
-use Rattle.cookie_run.specs.Play.{GetTells, CommandTells, Tells, ServesAll, ServesFront, OneStep, Plays, ReadsAll}
-use Rattle.cookie_run.specs.Play.{ReadsFront}
+use Rattle.cookie_run.specs.Play.{ServesAll, ServesFront, Plays, ReadsAll, ReadsFront}
 use Rattle.cookie_run.specs.Readings.{all_told}
 use Rattle.cookie_run.specs.Stops.{StopsFrom, StopsInside}
 use Rattle.cookie_run.specs.Strangers.{IsNoHeader, ReadsUntouched, EachReadsUntouched, EachPlayIsUntouched}
 use Rattle.cookie_run.specs.Strangers.{EachStoppedPlayIsUntouched}
-use Rattle.cookie_run.specs.declared.step.Command.{Command}
-use Rattle.cookie_run.specs.declared.step.Command.TheVariants.{Set, Remove, Get}
+use Rattle.cookie_client.specs.declared.command.Command.{Command}
+use Rattle.cookie_client.specs.declared.command.Command.TheVariants.{Set, Remove, Get}
 use Rattle.cookie_run.specs.declared.step.FaultKind.{FaultKind}
-use Rattle.cookie_run.specs.declared.step.Reading.{Reading}
+use Rattle.cookie_client.specs.declared.command.Reading.{Reading}
 use Rattle.cookie_client.specs.declared.way.Way.{Way}
 use Rattle.cookie_client.proofs.ReadOnce.{ReadsOnce}
 use Rattle.cookie_run.proofs.Strangers.{untouched}

@@ -7,17 +7,17 @@ use Rattle.url.specs.Parts.{Parts}
 use Rattle.url.specs.declared.host.Host.TheVariants.{Domain}
 use Rattle.cookie_text.specs.Record.{Record, bare, unsliced}
 use Rattle.store_parts.specs.Schemes.{host_of}
-use Rattle.cookie_run.specs.Acts.{Act, Visits, Restarts, Arrival, Arrives, Never}
+use Rattle.cookie_client.specs.Steps.{Act, Visits, Restarts, Arrival, Arrives, Never}
 use Rattle.cookie_run.specs.Headline.{IsSite, IsApartFrom, AnswersApart, AnswersBySessions, ReadsOn, EachReadsOn}
 use Rattle.cookie_run.specs.Headline.{SitesReadTheirOwn}
 use Rattle.cookie_run.specs.Readings.{all_told, AnswersEach}
 use Rattle.cookie_client.specs.Ways as kinds
 use Rattle.cookie_run.specs.Site.{Site, View, nothing, live_view, after_arrival, restarted, SetOn, IsReadAt}
 use Rattle.cookie_client.specs.Ways.{Refuses}
-use Rattle.cookie_run.specs.declared.step.Command.{Command}
-use Rattle.cookie_run.specs.declared.step.Command.TheVariants.{Set, Get}
-use Rattle.cookie_run.specs.declared.step.Reading.{Reading}
-use Rattle.cookie_run.specs.declared.step.Reading.TheVariants.{Value}
+use Rattle.cookie_client.specs.declared.command.Command.{Command}
+use Rattle.cookie_client.specs.declared.command.Command.TheVariants.{Set, Get}
+use Rattle.cookie_client.specs.declared.command.Reading.{Reading}
+use Rattle.cookie_client.specs.declared.command.Reading.TheVariants.{Value}
 use Rattle.cookie_client.specs.declared.outcome.SessionError.{SessionError}
 use Rattle.cookie_client.specs.declared.outcome.SessionError.TheVariants.{EmptyName, Year, TooLong, Rng, OutOfMemory}
 use Rattle.cookie_client.specs.declared.way.Way.TheVariants.{Plain}

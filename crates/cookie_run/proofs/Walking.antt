@@ -34,7 +34,7 @@ use Rattle.cookie_client.proofs.SessionTexts.{named_text, not_nil, utf8_bytes, l
 use Rattle.cookie_run.proofs.Showing.{seen_named}
 use Rattle.cookie_client.proofs.Texts.{same_text, some_is_not_none}
 use Rattle.store_parts.specs.Expiry.{is_dead}
-use Rattle.cookie_run.specs.declared.step.Command.TheVariants.{Set}
+use Rattle.cookie_client.specs.declared.command.Command.TheVariants.{Set}
 use Rattle.cookie_run.specs.Site.{Held, Site, View, with_at, live_at, entry_in, live_view, entry_of, held_from, left_by}
 use Rattle.cookie_client.specs.Reading.{GivesBy, GiveBy}
 use Rattle.cookie_client.proofs.HeaderCookies.{cookies_by}

@@ -1,24 +1,11 @@
 -- Steps as plain values: moments are nanoseconds since 1970, lists are lists (own: docs/DEFINITIONS.md).
-use Rattle.std.specs.Prelude.{ℕ, ℤ, List, [], ◌∷◌, ◌++◌, map}
-use Rattle.url.specs.Parts.{Parts}
+use Rattle.std.specs.Prelude.{ℤ, List, [], ◌∷◌, ◌++◌, map}
 use Rattle.jiff.specs.Words.{civil_nanos}
-use Rattle.cookie_run.specs.declared.step.Command.{Command}
+use Rattle.cookie_client.specs.Steps.{Act, Visits, Answers, Asks, Restarts, Arrival, Arrives, Never}
 use Rattle.cookie_run.specs.declared.step.Delivery.{Delivery}
 use Rattle.cookie_run.specs.declared.step.Delivery.TheVariants.{At, Lost}
 use Rattle.cookie_run.specs.declared.step.Step.{Step}
 use Rattle.cookie_run.specs.declared.step.Step.TheVariants.{Exchange, Foreign, Header, Restart}
-
--- whether and when the answer of an exchange comes
-pub data Arrival : Type 0 where
-  Arrives : (at : ℤ) → Arrival
-  Never : Arrival
-
--- an exchange by a session; an answer of any lines; a look at a header; a restart of the client
-pub data Act : Type 0 where
-  Visits : (url : Parts) (at : ℤ) (commands : List Command) (arrival : Arrival) → Act
-  Answers : (url : Parts) (lines : List (List ℕ)) (at : ℤ) → Act
-  Asks : (url : Parts) (at : ℤ) → Act
-  Restarts : (at : ℤ) → Act
 
 abbrev pub arrival_of : Delivery → Arrival
 arrival_of (At moment) = Arrives (civil_nanos moment)

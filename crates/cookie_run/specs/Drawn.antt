@@ -6,19 +6,20 @@ use Rattle.std.specs.Prelude.{◌≢◌, ◌⊎◌}
 use Rattle.cookie_text.specs.Record.{Seen}
 use Rattle.publicsuffix.specs.Rules.{Rule}
 use Rattle.cookie_store.specs.Rows.{Row}
-use Rattle.cookie_run.specs.Acts.{Act, Visits, Answers, Asks, Restarts, moments_of, opening_of, arrival_in}
+use Rattle.cookie_client.specs.Steps.{Act, Visits, Answers, Asks, Restarts, CommandTells, Delivers, OneStep}
+use Rattle.cookie_run.specs.Acts.{moments_of, opening_of, arrival_in}
 use Rattle.cookie_client.specs.Header.{IsHeader}
 use Rattle.cookie_client.specs.Jar.{Keyed, IsOpened, Sets}
 use Rattle.cookie_run.specs.Moments.{AllFollow, Follows, IsWrong, last_of, the_beginning}
-use Rattle.cookie_run.specs.Play.{CommandTells, Delivers, OneStep, ReadsAll, ReadsFront}
+use Rattle.cookie_run.specs.Play.{ReadsAll, ReadsFront}
 use Rattle.cookie_run.specs.Readings.{all_told}
 use Rattle.cookie_client.specs.Ways.{Refuses, set_refusal}
 use Rattle.cookie_run.specs.Stops.{StopsInside}
-use Rattle.cookie_run.specs.declared.step.Command.{Command}
-use Rattle.cookie_run.specs.declared.step.Command.TheVariants.{Set, Remove, Get}
+use Rattle.cookie_client.specs.declared.command.Command.{Command}
+use Rattle.cookie_client.specs.declared.command.Command.TheVariants.{Set, Remove, Get}
 use Rattle.cookie_run.specs.declared.step.FaultKind.{FaultKind}
-use Rattle.cookie_run.specs.declared.step.Reading.{Reading}
-use Rattle.cookie_run.specs.declared.step.Reading.TheVariants.{Refused}
+use Rattle.cookie_client.specs.declared.command.Reading.{Reading}
+use Rattle.cookie_client.specs.declared.command.Reading.TheVariants.{Refused}
 use Rattle.cookie_client.specs.declared.outcome.SessionError.{SessionError}
 use Rattle.cookie_client.specs.declared.outcome.SessionError.TheVariants.{EmptyName, Year, TooLong, Rng, OutOfMemory}
 use Rattle.cookie_client.specs.declared.way.Way.{Way}

@@ -6,17 +6,17 @@ use Rattle.std.specs.Prelude.{ℕ, ℤ, ◌+◌, List, [], ◌∷◌, ◌++◌, 
 use Rattle.idna.specs.Labels.{labels_of}
 use Rattle.publicsuffix.specs.Prevailing.{Listed}
 use Rattle.publicsuffix.specs.Rules.{Rule}
-use Rattle.store_parts.specs.DomainMatch.{DomainMatches}
 use Rattle.store_parts.specs.DomainText.{idna_form}
 use Rattle.url.specs.Parts.{Parts}
 use Rattle.store_parts.specs.Schemes.{host_of}
-use Rattle.cookie_client.specs.Hosts.{secure_host}
+use Rattle.cookie_client.specs.Hosts.{IsInReach, secure_host}
 use Rattle.cookie_run.specs.Moments.{last_of, the_beginning}
 use Rattle.cookie_run.specs.Readings.{all_told, AnswersEach}
 use Rattle.cookie_run.specs.declared.step.FaultKind.{FaultKind}
-use Rattle.cookie_run.specs.declared.step.Reading.{Reading}
-use Rattle.cookie_run.specs.Acts.{Act, Visits, Answers, Asks, Restarts, Arrives, Never, moments_of}
-use Rattle.cookie_run.specs.declared.step.Command.{Command}
+use Rattle.cookie_client.specs.declared.command.Reading.{Reading}
+use Rattle.cookie_client.specs.Steps.{Act, Visits, Answers, Asks, Restarts, Arrives, Never}
+use Rattle.cookie_run.specs.Acts.{moments_of}
+use Rattle.cookie_client.specs.declared.command.Command.{Command}
 use Rattle.cookie_run.specs.Site.{Site, View, nothing, live_view, CommandsOn, ExchangeOn, restarted}
 use Rattle.cookie_run.specs.Stops.{StopsFrom}
 
@@ -30,10 +30,6 @@ AnswersBySessions host (Visits url at commands Never) = ⊤
 AnswersBySessions host (Answers url lines at) = host_of url ≢ Some host
 AnswersBySessions host (Asks url at) = ⊤
 AnswersBySessions host (Restarts at) = ⊤
-
--- the reach of a host: the texts that it domain-matches, itself and, of a host name, what stands behind its dots
-abbrev pub IsInReach : List ℕ → List ℕ → Type 0
-IsInReach host text = DomainMatches host text
 
 -- a text in the reach of both is a public suffix of the list: neither can set a cookie for the other
 abbrev pub AreApart : List Rule → List ℕ → List ℕ → Type 0

@@ -7,7 +7,8 @@ use Rattle.std.specs.Prelude.{◌≡◌, ◌≢◌, ◌+◌, ⊤, ℕ, ℤ, List
 use Rattle.idna.specs.Labels.{labels_of}
 use Rattle.cookie.specs.Prefix.{host_text}
 use Rattle.store_parts.specs.DomainText.{idna_form}
-use Rattle.cookie_run.specs.Acts.{Act, Visits, Answers, Asks, Restarts, Arrival, moments_of}
+use Rattle.cookie_client.specs.Steps.{Act, Visits, Answers, Asks, Restarts, Arrival}
+use Rattle.cookie_run.specs.Acts.{moments_of}
 use Rattle.cookie_run.specs.Headline.{Each}
 use Rattle.cookie_client.specs.Hosts.{secure_host}
 use Rattle.cookie_run.specs.Moments.{last_of, the_beginning}
@@ -15,10 +16,10 @@ use Rattle.cookie_run.specs.Readings.{IsAnswer, AnswersEach, all_told}
 use Rattle.cookie_run.specs.Site.{Site, View, nothing, live_view, SetOn, RemoveOn, GetOn, after_arrival, restarted}
 use Rattle.cookie_client.specs.Ways.{stored_name}
 use Rattle.cookie_run.specs.Stops.{StopsFrom}
-use Rattle.cookie_run.specs.declared.step.Command.{Command}
-use Rattle.cookie_run.specs.declared.step.Command.TheVariants.{Set, Remove, Get}
+use Rattle.cookie_client.specs.declared.command.Command.{Command}
+use Rattle.cookie_client.specs.declared.command.Command.TheVariants.{Set, Remove, Get}
 use Rattle.cookie_run.specs.declared.step.FaultKind.{FaultKind}
-use Rattle.cookie_run.specs.declared.step.Reading.{Reading}
+use Rattle.cookie_client.specs.declared.command.Reading.{Reading}
 use Rattle.cookie_client.specs.declared.way.Way.{Way}
 
 -- ---- the premises

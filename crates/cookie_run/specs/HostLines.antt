@@ -8,7 +8,8 @@ use Rattle.percent_encoding.specs.Percent.{percent_decode}
 use Rattle.cookie_text.specs.Reading.{ReadsPlain}
 use Rattle.cookie_text.specs.Record.{Seen}
 use Rattle.store_parts.specs.DomainText.{idna_form}
-use Rattle.cookie_run.specs.Acts.{Act, Visits, Answers, Asks, Restarts, moments_of}
+use Rattle.cookie_client.specs.Steps.{Act, Visits, Answers, Asks, Restarts}
+use Rattle.cookie_run.specs.Acts.{moments_of}
 use Rattle.cookie_run.specs.Headline.{Each}
 use Rattle.cookie_run.specs.HostHeadline.{HasHostPrefix, EachReadsByHost, ReadsUntilByHost}
 use Rattle.cookie_client.specs.Hosts.{secure_host}
@@ -16,7 +17,7 @@ use Rattle.cookie_run.specs.Moments.{last_of, the_beginning}
 use Rattle.cookie_run.specs.Readings.{AnswersEach, all_told}
 use Rattle.cookie_run.specs.Site.{Site, nothing}
 use Rattle.cookie_run.specs.declared.step.FaultKind.{FaultKind}
-use Rattle.cookie_run.specs.declared.step.Reading.{Reading}
+use Rattle.cookie_client.specs.declared.command.Reading.{Reading}
 
 -- the line reads as a cookie whose name, percent-decoded, begins with `__Host-`
 abbrev pub NamesHost : List ℕ → Type 0

@@ -3,11 +3,12 @@ use Rattle.std.specs.Prelude.{ℕ, Bool, List, []}
 use Rattle.std.specs.List.{AllByRecursion}
 use Rattle.publicsuffix.specs.Rules.{Rule}
 use Rattle.cookie_store.specs.Rows.{Row}
-use Rattle.cookie_run.specs.Acts.{Act, moments_of}
+use Rattle.cookie_client.specs.Steps.{Act}
+use Rattle.cookie_run.specs.Acts.{moments_of}
 use Rattle.cookie_client.specs.Keeping.{ComesBack}
 use Rattle.cookie_run.specs.Moments.{AllFollow, the_beginning}
 use Rattle.cookie_run.specs.Play.{Plays}
-use Rattle.cookie_run.specs.declared.step.Reading.{Reading}
+use Rattle.cookie_client.specs.declared.command.Reading.{Reading}
 
 -- every row that a play left comes back
 abbrev pub RowsComeBack : List ℕ → Type 0

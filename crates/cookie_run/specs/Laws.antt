@@ -4,8 +4,9 @@ use Rattle.publicsuffix.specs.Rules.{Rule}
 use Rattle.cookie_store.specs.Rows.{Row}
 use Rattle.cookie_run.specs.Moments.{AllFollow, last_of, the_beginning}
 use Rattle.cookie_run.specs.declared.step.FaultKind.{FaultKind}
-use Rattle.cookie_run.specs.declared.step.Reading.{Reading}
-use Rattle.cookie_run.specs.Acts.{Act, moments_of}
+use Rattle.cookie_client.specs.declared.command.Reading.{Reading}
+use Rattle.cookie_client.specs.Steps.{Act}
+use Rattle.cookie_run.specs.Acts.{moments_of}
 use Rattle.cookie_run.specs.Headline.{IsSite, EachReadsOn, SitesReadTheirOwn, SitesReadTheirOwnUntil}
 use Rattle.cookie_run.specs.HostHeadline.{HostsReadTheirOwn, HostsReadTheirOwnUntil}
 use Rattle.cookie_run.specs.HostLines.{SettersReadTheirOwn, SettersReadTheirOwnUntil}

@@ -19,7 +19,6 @@ pub mod Laws
 pub mod KeepingLaws
 pub mod Strangers
 pub mod HostRows
-pub mod ScriptMoment
 pub mod ScriptLine
 pub mod ScriptText
 pub mod ScriptDrawn

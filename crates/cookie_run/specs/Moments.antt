@@ -1,12 +1,10 @@
 -- The moments of a play: whole seconds of the years 1971 to 9998, which never go back (own: docs/DEFINITIONS.md).
 use Rattle.std.specs.Prelude.{ℕ, ℤ, pos, List, [], ◌∷◌, ◌*◌, ◌≤◌, ◌<◌, ◌≤ℤ◌, ◌<ℤ◌, ◌≡◌, ⊤}
+use Rattle.cookie_client.specs.Moment.{second_1971}
 use Rattle.cookie_run.specs.declared.step.FaultKind.{FaultKind}
 use Rattle.cookie_run.specs.declared.step.FaultKind.TheVariants.{Moment, Back, Restart, Memory}
 
--- the first second of 1971 and of 9999, counted from 1970-01-01T00:00:00
-abbrev pub second_1971 : ℕ
-second_1971 = 31_536_000
-
+-- the first second of 9999, counted from 1970-01-01T00:00:00
 abbrev pub second_9999 : ℕ
 second_9999 = 253_370_764_800
 

@@ -12,7 +12,7 @@ use Rattle.cookie.specs.Key.{derived}
 use Rattle.cookie.specs.KeyRing.{alone}
 use Rattle.publicsuffix.specs.declared.error.ListError.{ListError}
 use Rattle.publicsuffix.specs.declared.error.ListError.TheVariants as list
-use Rattle.publicsuffix.specs.Rules.{Rule, HasRules, HasFirstFault}
+use Rattle.publicsuffix.specs.Rules.{Rule}
 use Rattle.saved_text.specs.RonLayout.{ron_layout}
 use Rattle.saved_text.specs.RonReading.{ShowsOnly}
 use Rattle.store_parts.specs.declared.error.Error.{Error}
@@ -20,12 +20,13 @@ use Rattle.store_parts.specs.declared.error.Error.TheVariants.{Io, OutOfMemory}
 use Rattle.cookie_store.specs.Given.{ArePicked}
 use Rattle.cookie_store.specs.Placing.{saved}
 use Rattle.cookie_store.specs.Rows.{Row, Store}
-use Rattle.cookie_store.specs.SavedTexts.{Saves, Loads, IsAnyBeforeYears, IsRonRefusal}
+use Rattle.cookie_store.specs.SavedTexts.{Saves, Loads, IsAnyBeforeYears}
 use Rattle.cookie_run.specs.Drawn.{Draw, DrawsSo}
 use Rattle.cookie_client.specs.HostPrefix.{IsHeldRightly}
+use Rattle.cookie_client.specs.Loading.{IsNoSavedText, IsNoSuffixList, IsSuffixList}
 use Rattle.cookie_run.specs.ScriptDrawn.{IsScriptBy}
 use Rattle.cookie_run.specs.ScriptLine.{seed_of}
-use Rattle.cookie_run.specs.ScriptMoment.{moment_of}
+use Rattle.cookie_client.specs.Moment.{moment_of}
 use Rattle.cookie_run.specs.ScriptText.{Runs}
 use Rattle.cookie_client.specs.Version.{version_line}
 use Rattle.cookie_run.specs.declared.program.failure.Failure.{Failure}
@@ -74,24 +75,12 @@ failure_text Memory = codes "memory"
 
 -- ---- the client that a run begins with
 
--- the text is a suffix list, of these rules
-abbrev pub IsSuffixList : List ℕ → List Rule → Type 0
-IsSuffixList text list = IsUtf8 text × HasRules text list
-
--- the text is no suffix list
-abbrev pub IsNoSuffixList : List ℕ → Type 0
-IsNoSuffixList text = (¬ IsUtf8 text) ⊎ ((number : ℕ) × HasFirstFault text number)
-
 -- the rows of a saved text that aren't expired at this moment, but for those that aren't held rightly, or none where
 -- there is no store file
 abbrev pub AreLoaded : ℤ → Option (List ℕ) → List Row → Type 0
 AreLoaded at None rows = rows ≡ []
 AreLoaded at (Some text) rows = IsUtf8 text × ((loaded : Store) × Loads ShowsOnly false at text loaded
     × ArePicked IsHeldRightly loaded.rows rows)
-
--- the text is no saved text
-abbrev pub IsNoSavedText : List ℕ → Type 0
-IsNoSavedText text = (cause : Error) × (cause ≢ OutOfMemory) × IsRonRefusal text cause
 
 -- what a refusal to parse a list is told as: want of memory, and every other cause
 abbrev pub IsListToldAs : ListError → Failure → Type 0

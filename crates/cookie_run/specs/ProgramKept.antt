@@ -1,6 +1,6 @@
 -- What becomes of the store file in a run, under its lock (own: docs/DEFINITIONS.md).
 use Rattle.std.specs.Prelude.{ℕ, List, Option, Some, None, Result, Ok, Err, ◌≡◌, ◌⊎◌}
-use Rattle.kept_file.specs.Locks.{Lock, Given, bytes_of, with_put}
+use Rattle.kept_file.specs.Locks.{Lock, IsUnread, bytes_of, kept_so, with_put}
 use Rattle.cookie_run.specs.Program.{Asked, Devices, RunGives, asked_of, help_words, version_words}
 use Rattle.cookie_run.specs.declared.program.failure.Failure.{Failure}
 
@@ -14,16 +14,6 @@ abbrev pub EndsWith : Result (Option (List ℕ)) Failure → ℕ → Type 0
 EndsWith (Ok (Some text)) status = (status ≡ 0) ⊎ (status ≡ 2)
 EndsWith (Ok None) status = status ≡ 1
 EndsWith (Err failure) status = status ≡ 2
-
--- The lock of a file, given back: these bytes were read while it was held, and then this text was to take the file's
--- place, or none.
-abbrev pub kept_so : List ℕ → Option (List ℕ) → Option (List ℕ) → Lock
-kept_so path stored put = Given (record { path = path; seen = Some stored; put = put })
-
--- the store file wasn't read, and nothing was to take its place: its lock wasn't taken, or is given back
-abbrev pub IsUnread : Lock × Lock → Type 0
-IsUnread lock =
-    (lock.1 ≡ lock.0) ⊎ ((path : List ℕ) × (lock.1 ≡ Given (record { path = path; seen = None; put = None })))
 
 -- What is to take the store file's place is the whole text that the run gives for what was read of it while its lock
 -- was held, and nothing is where the run gives no text; then the lock is given back. Or the store file wasn't read.

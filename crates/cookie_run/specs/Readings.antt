@@ -2,12 +2,12 @@
 use Rattle.std.specs.Prelude.{ℕ, List, [], ◌∷◌, ◌++◌, None, ◌≡◌, ◌≢◌, ◌⊎◌, ⊤}
 use Rattle.std.specs.List.{AllByRecursion}
 use Rattle.cookie_text.specs.Record.{Record}
-use Rattle.cookie_run.specs.Acts.{Act, Visits, Answers, Asks, Restarts}
+use Rattle.cookie_client.specs.Steps.{Act, Visits, Answers, Asks, Restarts}
 use Rattle.cookie_client.specs.Ways.{set_refusal, Refuses}
-use Rattle.cookie_run.specs.declared.step.Command.{Command}
-use Rattle.cookie_run.specs.declared.step.Command.TheVariants.{Set, Remove, Get}
-use Rattle.cookie_run.specs.declared.step.Reading.{Reading}
-use Rattle.cookie_run.specs.declared.step.Reading.TheVariants.{Value, Refused, Header}
+use Rattle.cookie_client.specs.declared.command.Command.{Command}
+use Rattle.cookie_client.specs.declared.command.Command.TheVariants.{Set, Remove, Get}
+use Rattle.cookie_client.specs.declared.command.Reading.{Reading}
+use Rattle.cookie_client.specs.declared.command.Reading.TheVariants.{Value, Refused, Header}
 use Rattle.cookie_client.specs.declared.outcome.SessionError.{SessionError}
 use Rattle.cookie_client.specs.declared.outcome.SessionError.TheVariants.{EmptyName, Rng}
 use Rattle.cookie_client.specs.declared.way.Way.{Way}

@@ -11,7 +11,7 @@ use Rattle.cookie_store.specs.Rows.{Row}
 use Rattle.cookie_run.specs.Drawn.{Draw, drawn_at}
 use Rattle.cookie_client.specs.Header.{IsHeader}
 use Rattle.cookie_client.specs.Jar.{Sets}
-use Rattle.cookie_run.specs.Play.{Delivers}
+use Rattle.cookie_client.specs.Steps.{Delivers}
 use Rattle.cookie_run.specs.RingPlay.{Answers, Asks, Restarts, RingAct, RingCommand, RingCommandTells, RingReading}
 use Rattle.cookie_run.specs.RingPlay.{Refused, RingStep, Rotates, Visits, Set, SetUntil, Remove, Get, GetUntil}
 use Rattle.cookie_client.specs.RingSession.{IsOpenedOn, KeepsRing, RefusesUntil, Ringed, SetsUntil, keyed}

@@ -13,8 +13,8 @@ use Rattle.publicsuffix.specs.Rules.{Rule}
 use Rattle.saved_text.specs.PrintedDates.{without_fraction}
 use Rattle.store_parts.specs.Expiry.{death}
 use Rattle.cookie_store.specs.Rows.{Row}
-use Rattle.cookie_run.specs.Acts as acts
-use Rattle.cookie_run.specs.Acts.{Act}
+use Rattle.cookie_client.specs.Steps as acts
+use Rattle.cookie_client.specs.Steps.{Act}
 use Rattle.cookie_run.specs.Headline.{IsSite}
 use Rattle.cookie_run.specs.HostHeadline.{HasHostPrefix, IsHostSite}
 use Rattle.cookie_run.specs.HostLines.{IsHostSetter}

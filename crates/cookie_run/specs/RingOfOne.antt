@@ -5,16 +5,16 @@ use Rattle.jiff.specs.Words.{civil_nanos}
 use Rattle.cookie.specs.KeyRing.{Ring, alone}
 use Rattle.publicsuffix.specs.Rules.{Rule}
 use Rattle.cookie_store.specs.Rows.{Row}
-use Rattle.cookie_run.specs.Acts as acts
-use Rattle.cookie_run.specs.Acts.{Act}
+use Rattle.cookie_client.specs.Steps as acts
+use Rattle.cookie_client.specs.Steps.{Act}
 use Rattle.cookie_run.specs.Play.{Plays}
 use Rattle.cookie_run.specs.RingPlay.{Answers, Asks, Restarts, RingAct, RingCommand, RingPlays, RingReading}
 use Rattle.cookie_run.specs.RingPlay.{Get, GetUntil, Header, Read, Refused, Remove, Rotates, Set, SetUntil, Visits}
 use Rattle.cookie_client.specs.RingSession.{at_0}
-use Rattle.cookie_run.specs.declared.step.Command.{Command}
-use Rattle.cookie_run.specs.declared.step.Command.TheVariants as commands
-use Rattle.cookie_run.specs.declared.step.Reading.{Reading}
-use Rattle.cookie_run.specs.declared.step.Reading.TheVariants as readings
+use Rattle.cookie_client.specs.declared.command.Command.{Command}
+use Rattle.cookie_client.specs.declared.command.Command.TheVariants as commands
+use Rattle.cookie_client.specs.declared.command.Reading.{Reading}
+use Rattle.cookie_client.specs.declared.command.Reading.TheVariants as readings
 
 -- a command that knows no moment
 abbrev pub HasNoEnd : RingCommand → Type 0

@@ -5,15 +5,15 @@ use Rattle.jiff.specs.Words.{civil_nanos}
 use Rattle.cookie.specs.KeyRing.{Ring}
 use Rattle.publicsuffix.specs.Rules.{Rule}
 use Rattle.cookie_store.specs.Rows.{Row}
-use Rattle.cookie_run.specs.Acts as acts
-use Rattle.cookie_run.specs.Acts.{Act}
-use Rattle.cookie_run.specs.Play.{Plays, Tells}
+use Rattle.cookie_client.specs.Steps as acts
+use Rattle.cookie_client.specs.Steps.{Act, Tells}
+use Rattle.cookie_run.specs.Play.{Plays}
 use Rattle.cookie_run.specs.RingPlay.{Answers, Asks, Restarts, RingAct, RingCommand, RingPlays, RingReading, RingTells}
 use Rattle.cookie_run.specs.RingPlay.{Rotates, Visits}
 use Rattle.cookie_client.specs.RingSession.{KeepsRing, Ringed, keyed}
-use Rattle.cookie_run.specs.declared.step.Command.{Command}
-use Rattle.cookie_run.specs.declared.step.Command.TheVariants.{Set, Remove, Get}
-use Rattle.cookie_run.specs.declared.step.Reading.{Reading}
+use Rattle.cookie_client.specs.declared.command.Command.{Command}
+use Rattle.cookie_client.specs.declared.command.Command.TheVariants.{Set, Remove, Get}
+use Rattle.cookie_client.specs.declared.command.Reading.{Reading}
 use Rattle.cookie_client.specs.declared.way.Way.TheVariants.{Signed, Sealed}
 
 -- it sets and gets in no way that signs or seals

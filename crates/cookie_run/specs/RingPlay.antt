@@ -9,12 +9,12 @@ use Rattle.publicsuffix.specs.Rules.{Rule}
 use Rattle.url.specs.Parts.{Parts}
 use Rattle.cookie_store.specs.Rows.{Row}
 use Rattle.cookie_client.specs.Accept.{Takes}
-use Rattle.cookie_run.specs.Acts.{Arrival, arrival_moments}
+use Rattle.cookie_client.specs.Steps.{Arrival, Delivers}
+use Rattle.cookie_run.specs.Acts.{arrival_moments}
 use Rattle.cookie_client.specs.Header.{IsHeader}
 use Rattle.cookie_client.specs.Jar.{Sets, TakesOut, IsRemovalRefusal}
 use Rattle.cookie_client.specs.Keeping.{Keeps}
 use Rattle.cookie_client.specs.PlainSets.{any_nonce}
-use Rattle.cookie_run.specs.Play.{Delivers}
 use Rattle.cookie_client.specs.RingSession.{IsOpenedOnBy, KeepsRing, ReadsEnding, RefusesUntil, RingReadsIn, Ringed}
 use Rattle.cookie_client.specs.RingSession.{SetsUntil, keyed}
 use Rattle.cookie_client.specs.Ways.{Refuses}

@@ -11,7 +11,7 @@ use Rattle.cookie.specs.KeyRing.{Ring, GivesUnder, key_at}
 use Rattle.cookie.specs.Sealing.{IsSealing}
 use Rattle.cookie.specs.Signing.{signing}
 use Rattle.store_parts.specs.Expiry.{death, is_dead}
-use Rattle.cookie_run.specs.Acts.{Arrival, Arrives, Never}
+use Rattle.cookie_client.specs.Steps.{Arrival, Arrives, Never}
 use Rattle.cookie_client.specs.Ending.{IsReadBefore, StandsFor, dated_text}
 use Rattle.cookie_client.specs.EndingLaws.{IsReadTill}
 use Rattle.cookie_run.specs.RingPlay.{RingCommand, RingReading, Set, SetUntil, Remove, Get, GetUntil, Read, Refused}

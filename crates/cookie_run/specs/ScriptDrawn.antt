@@ -12,7 +12,7 @@ use Rattle.cookie.specs.Jar.{delta, under_names}
 use Rattle.cookie.specs.KeyRing.{Ring}
 use Rattle.publicsuffix.specs.Rules.{Rule}
 use Rattle.cookie_store.specs.Rows.{Row}
-use Rattle.cookie_run.specs.Acts.{Arrives, Never}
+use Rattle.cookie_client.specs.Steps.{Arrives, Never}
 use Rattle.cookie_run.specs.Drawn.{Draw}
 use Rattle.cookie_client.specs.Header.{IsHeader}
 use Rattle.cookie_client.specs.Jar.{lines_of}

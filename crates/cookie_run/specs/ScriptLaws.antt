@@ -4,13 +4,14 @@ use Rattle.std.specs.Option.{option_to_list}
 use Rattle.jiff.specs.Types.{DateTime}
 use Rattle.jiff.specs.Words.{civil_nanos}
 use Rattle.cookie_client.specs.Jar.{IsRemovalRefusal}
-use Rattle.cookie_run.specs.Moments.{IsMoment, IsWrong, Follows, second_1971}
+use Rattle.cookie_run.specs.Moments.{IsMoment, IsWrong, Follows}
+use Rattle.cookie_client.specs.Moment.{second_1971}
 use Rattle.cookie_run.specs.Readings.{IsRemovalAnswer}
 use Rattle.cookie_run.specs.RingPlay.{Remove}
 use Rattle.cookie_run.specs.ScriptText.{command_refusal, is_before}
 use Rattle.cookie_run.specs.declared.step.FaultKind.TheVariants.{Back}
-use Rattle.cookie_run.specs.declared.step.Reading.{Reading}
-use Rattle.cookie_run.specs.declared.step.Reading.TheVariants.{Refused}
+use Rattle.cookie_client.specs.declared.command.Reading.{Reading}
+use Rattle.cookie_client.specs.declared.command.Reading.TheVariants.{Refused}
 use Rattle.cookie_client.specs.declared.outcome.SessionError.{SessionError}
 use Rattle.cookie_client.specs.declared.way.Way.{Way}
 

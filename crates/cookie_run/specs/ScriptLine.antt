@@ -10,12 +10,12 @@ use Rattle.hex.specs.Hex.{decode_sized}
 use Rattle.jiff.specs.Types.{DateTime}
 use Rattle.percent_encoding.specs.Percent.{percent_decode}
 use Rattle.url.specs.Parts.{Parts}
-use Rattle.url.specs.Parser.{parse_url}
 use Rattle.cookie.specs.Key.{derived}
 use Rattle.cookie_text.specs.Record.{Record, bare, unsliced}
 use Rattle.cookie_text.specs.declared.expiration.Expiration.TheVariants.{DateTime as At}
+use Rattle.cookie_client.specs.Hosts.{url_of}
 use Rattle.cookie_run.specs.RingPlay.{RingCommand, Set, SetUntil, Remove, Get, GetUntil}
-use Rattle.cookie_run.specs.ScriptMoment.{date_of, moment_date, moment_of}
+use Rattle.cookie_client.specs.Moment.{date_of, moment_date, moment_of}
 use Rattle.cookie_client.specs.declared.ending.EndingWay.{EndingWay}
 use Rattle.cookie_client.specs.declared.ending.EndingWay.TheVariants as ends
 use Rattle.cookie_client.specs.declared.way.Way.{Way}
@@ -40,10 +40,6 @@ is_tab b = b == 9
 
 abbrev pub fields_of : List ℕ → List (List ℕ)
 fields_of line = map percent_decode (slice_split is_tab line)
-
--- the URL of a text, where it parses
-unfoldable pub url_of : List ℕ → Option Parts
-url_of text = result_ok (parse_url None text)
 
 -- a line of a URL and a moment; the URL is tested first
 abbrev pub placed : {A : Type 0} → (Parts → A → Line) → Option Parts → Option A → Result Line Cause

@@ -21,7 +21,7 @@ use Rattle.cookie_client.specs.Accept.{IsStopped}
 use Rattle.cookie_client.specs.Header.{IsHeader}
 use Rattle.cookie_client.specs.Jar.{lines_of}
 use Rattle.cookie_client.specs.Ways.{set_refusal}
-use Rattle.cookie_run.specs.Acts.{Arrives, Never}
+use Rattle.cookie_client.specs.Steps.{Arrives, Never}
 use Rattle.cookie_run.specs.RingPlay as steps
 use Rattle.cookie_run.specs.RingPlay.{RingAct, RingCommand, RingPlays, RingReading, RingTells, all_read}
 use Rattle.cookie_run.specs.RingPlay.{Visits, Answers, Asks, Set, SetUntil, Remove, Get, GetUntil}

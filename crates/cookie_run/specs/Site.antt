@@ -5,11 +5,11 @@ use Rattle.std.specs.Str.{bytes_eq}
 use Rattle.cookie_text.specs.Normal.{normal}
 use Rattle.cookie_text.specs.Record.{Record}
 use Rattle.store_parts.specs.Expiry.{death, is_dead}
-use Rattle.cookie_run.specs.Acts.{Arrival, Arrives, Never}
-use Rattle.cookie_run.specs.declared.step.Command.{Command}
-use Rattle.cookie_run.specs.declared.step.Command.TheVariants.{Set, Remove, Get}
-use Rattle.cookie_run.specs.declared.step.Reading.{Reading}
-use Rattle.cookie_run.specs.declared.step.Reading.TheVariants.{Value, Refused}
+use Rattle.cookie_client.specs.Steps.{Arrival, Arrives, Never}
+use Rattle.cookie_client.specs.declared.command.Command.{Command}
+use Rattle.cookie_client.specs.declared.command.Command.TheVariants.{Set, Remove, Get}
+use Rattle.cookie_client.specs.declared.command.Reading.{Reading}
+use Rattle.cookie_client.specs.declared.command.Reading.TheVariants.{Value, Refused}
 use Rattle.cookie_client.specs.declared.outcome.SessionError.{SessionError}
 use Rattle.cookie_client.specs.declared.outcome.SessionError.TheVariants.{EmptyName}
 use Rattle.cookie_client.specs.declared.way.Way.{Way}

@@ -1,9 +1,10 @@
 -- How a play stops in an act: what is wrong, and how far the act's readings came (own: docs/DEFINITIONS.md).
 use Rattle.std.specs.Prelude.{ℤ, List, ◌++◌, ◌≡◌, ◌⊎◌}
-use Rattle.cookie_run.specs.declared.step.Reading.{Reading}
+use Rattle.cookie_client.specs.declared.command.Reading.{Reading}
 use Rattle.cookie_run.specs.declared.step.FaultKind.{FaultKind}
 use Rattle.cookie_run.specs.declared.step.FaultKind.TheVariants.{Memory}
-use Rattle.cookie_run.specs.Acts.{Act, Arrival, Arrives, Never, opening_of, arrival_in}
+use Rattle.cookie_client.specs.Steps.{Act, Arrival, Arrives, Never}
+use Rattle.cookie_run.specs.Acts.{opening_of, arrival_in}
 use Rattle.cookie_run.specs.Moments.{IsWrong, Follows}
 
 -- the readings go on from the old ones by some that are so

@@ -1,7 +1,8 @@
 //! The moments of a play: whole seconds of the years 1971 to 9998, in order.
 ghost use Rattle.std.specs.Prelude.{◌≡◌, ◌*◌, ◌↔◌, pos, ◌≤ℤ◌, ◌<ℤ◌, IsTrue, IfErr, OnOk};
 ghost use Rattle.jiff.specs.Words.{civil_nanos};
-ghost use Rattle.cookie_run.specs.Moments.{second_1971, second_9999, the_beginning, IsMoment, IsWrong, Follows};
+ghost use Rattle.cookie_client.specs.Moment.{second_1971};
+ghost use Rattle.cookie_run.specs.Moments.{second_9999, the_beginning, IsMoment, IsWrong, Follows};
 
 use crate::step::FaultKind;
 use jiff::civil::{DateTime, datetime};

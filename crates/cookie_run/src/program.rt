@@ -7,6 +7,7 @@ ghost use Rattle.devices.specs.Device.{AppendsFront, Rose};
 ghost use Rattle.kept_file.specs.Locks.{Held, bytes_of};
 ghost use Rattle.cookie_run.specs.Program as spec;
 ghost use Rattle.cookie_run.specs.ProgramKept as kept_spec;
+ghost use Rattle.kept_file.specs.Locks.{IsUnread};
 
 mod answering;
 mod arguments;
@@ -128,7 +129,7 @@ fn print<W: Sink>(writer: &mut W, text: &[u8]) -> (u8, Option<&'static str>)
 }
 
 // Writes the text whole, and flushes.
-#[tactic(auto, using(crate::proofs::ProgramFacts::appends_kept, crate::proofs::ProgramFacts::front_kept))]
+#[tactic(auto, using(cookie_client::proofs::Written::appends_kept, cookie_client::proofs::Written::front_kept))]
 fn write_flushed<W: Sink>(writer: &mut W, text: &[u8]) -> Result<(), WriteFailed>
     ensures ok { OnOk result (Appends (W.written writer.old) (W.written writer.new) text.now) }
     ensures err { OnErr result (Rose (W.failures writer.old) (W.failures writer.new)
@@ -219,7 +220,7 @@ fn begin<K: Keeper>(kept: &mut K, path: &str) -> Result<(), Failure>
     ensures ok { OnOk result ((stored : Option (List ℕ))
         × (K.lock kept.new ≡ Held (record { path = path.now; seen = Some stored; put = None }))) }
     ensures err { IfErr result (λ failure. spec.IsOfFiles failure
-        × kept_spec.IsUnread (K.lock kept.old, K.lock kept.new)) }
+        × IsUnread (K.lock kept.old, K.lock kept.new)) }
 {
     if let Err(untaken) = kept.take(path, Duration::from_secs(WAIT)) {
         return Err(untaken_as(untaken));

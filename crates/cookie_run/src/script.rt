@@ -4,8 +4,9 @@ mod cause;
 pub mod ended;
 mod field;
 mod line;
-pub mod moment;
 mod print;
 pub mod run;
 pub(crate) mod seed;
 mod visit;
+
+pub use cookie_client::moment;

@@ -2,23 +2,10 @@
 ghost use Rattle.std.specs.Prelude.{◌≡◌};
 ghost use Rattle.cookie_run.specs.declared.step.FaultKind.TheVariants.{Memory};
 
-use crate::text::Text;
-use cookie::Cookie;
-pub use cookie_client::{LineEnd, SessionError, Stopped, Way};
+pub use cookie_client::{Command, LineEnd, Reading, SessionError, Stopped, Way};
 use jiff::civil::DateTime;
 use std::alloc::{AllocError, AllocFailed};
 use url::Url;
-
-/// What a site tells its session.
-#[derive(Drop, Debug)]
-pub enum Command {
-    /// Sets a cookie in a way.
-    Set(Way, Cookie<'static>),
-    /// Removes the cookie of a name, as set in a way.
-    Remove(Way, Text),
-    /// Reads the value of a name, as set in a way.
-    Get(Way, Text),
-}
 
 /// Whether and when the answer of an exchange comes.
 #[derive(Clone, Copy, Debug)]
@@ -54,17 +41,6 @@ pub enum Step {
     Restart {
         at: DateTime,
     },
-}
-
-/// What a play reads.
-#[derive(Drop, Debug, PartialEq, Eq)]
-pub enum Reading {
-    /// The value of a name, where the site has one.
-    Value(Way, Text, Option<Text>),
-    /// A command was refused.
-    Refused(SessionError),
-    /// The header of a request.
-    Header(Text),
 }
 
 /// Why a play ends early.

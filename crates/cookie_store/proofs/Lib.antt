@@ -16,7 +16,6 @@ pub mod ReadLemmas
 pub mod ReadableLemmas
 pub mod RefusalLemmas
 pub mod RereadLemmas
-pub mod RowFacts
 pub mod SaveLemmas
 pub mod SavedLemmas
 pub mod ShownLemmas

@@ -16,7 +16,6 @@ pub mod PrintedAttributes
 pub mod PrintedCookies
 pub mod UniqueLemmas
 pub mod ReadsBack
-pub mod ReadingFacts
 pub mod PairsBack
 pub mod OneOutcome
 pub mod PairsAgain

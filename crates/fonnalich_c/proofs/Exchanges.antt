@@ -5,8 +5,7 @@ use Rattle.std.proofs.lemmas.List.{append-nil, drop_more, map-append, take-appen
 use Rattle.std.specs.Prelude.{IfErr}
 use Rattle.jiff.specs.Types.{DateTime}
 use Rattle.cookie_client.specs.Jar.{Keyed}
-pub use Rattle.cookie_run.proofs.DrawnRuns.{ok_gives}
-pub use Rattle.cookie_run.proofs.Runs.{err_gives}
+pub use Rattle.cookie_client.proofs.Outcomes.{ok_gives, err_gives}
 use Rattle.fonnalich_c.specs.Exchange.{AllTell, IsNoExchange, LineTells, Opens, RefusesLine, StopsAt}
 use Rattle.fonnalich_c.specs.Given.{lines_of}
 use Rattle.fonnalich_c.specs.Numbers.{refusal_number}

@@ -12,8 +12,8 @@ use Rattle.user_agent.specs.declared.rules.Rules.{Rules}
 use Rattle.cookie_store.specs.Placing.{saved}
 use Rattle.cookie_store.specs.Rows.{Key, Row, Store}
 use Rattle.cookie_store.specs.SavedTexts.{IsAnyBeforeYears}
-use Rattle.cookie_run.specs.Program.{IsNoSavedText}
-use Rattle.cookie_run.specs.ScriptLine.{url_of}
+use Rattle.cookie_client.specs.Loading.{IsNoSavedText}
+use Rattle.cookie_client.specs.Hosts.{url_of}
 use Rattle.fonnalich_c.specs.Exchange.{IsNoExchange}
 use Rattle.fonnalich_c.specs.Faults.{IsFirst, IsTold}
 use Rattle.fonnalich_c.specs.Given.{IsNoMoment, IsNoUrl, IsUrl, nanos_of}
@@ -99,11 +99,6 @@ is_moment at second same none = none (subst IsCivilNanos same (civil_nanos_range
 
 -- ---- a second and a URL
 
-pub moment_first : (second : ℤ) (subject : List ℕ) (refused : Refusal) → (refused ≡ refusal.Moment) × IsNoMoment second
-    → IsTold (IsRequestFault second subject) refused
-moment_first second subject refused why =
-    inr (first_of_two refusal.Moment refusal.Url (IsNoMoment second) (IsNoUrl subject) refused (record { le = tt }) why)
-
 pub url_second : (second : ℤ) (subject : List ℕ) (refused : Refusal) → ¬ IsNoMoment second
     → (refused ≡ refusal.Memory) ⊎ ((refused ≡ refusal.Url) × IsNoUrl subject)
     → IsTold (IsRequestFault second subject) refused
@@ -119,12 +114,6 @@ is_url subject url is (inr none) = none_some (url_of subject) url none is.1
   where
     none_some : (found : Option Parts) (it : Parts) → found ≡ None → found ≡ Some it → ⊥
     none_some found it none some = cc
-
-pub moment_unsent : (rules : Option Rules) (second : ℤ) (subject : List ℕ) (rows : List Row) (refused : Refusal)
-    → (refused ≡ refusal.Moment) × IsNoMoment second → IsTold (IsHeaderFault rules second subject rows) refused
-moment_unsent rules second subject rows refused why =
-    inr (first_of_three refusal.Moment refusal.Url refusal.Line (IsNoMoment second) (IsNoUrl subject)
-    (IsBroken rules second subject rows) refused (record { le = tt }) (record { le = tt }) why)
 
 pub url_unsent : (rules : Option Rules) (second : ℤ) (subject : List ℕ) (rows : List Row) (refused : Refusal)
     → ¬ IsNoMoment second → (refused ≡ refusal.Memory) ⊎ ((refused ≡ refusal.Url) × IsNoUrl subject)
@@ -176,12 +165,6 @@ line_unstarted rules is_let second subject text store refused is at from why =
 
 -- ---- a second, a URL and that of the page that starts its request
 
-pub moment_unreceived : (start : Start) (given : Receipt) (refused : Refusal)
-    → (refused ≡ refusal.Moment) × IsNoMoment given.second → IsTold (IsReceiptFault start given) refused
-moment_unreceived start given refused why =
-    inr (first_of_two refusal.Moment refusal.Url (IsNoMoment given.second)
-    (IsNoUrl given.url ⊎ IsNoPageOf start given.page) refused (record { le = tt }) why)
-
 pub url_unreceived : (start : Start) (given : Receipt) (refused : Refusal) → ¬ IsNoMoment given.second
     → (refused ≡ refusal.Memory) ⊎ ((refused ≡ refusal.Url) × (IsNoUrl given.url ⊎ IsNoPageOf start given.page))
     → IsTold (IsReceiptFault start given) refused
@@ -192,13 +175,6 @@ url_unreceived start given refused is (inr why) =
 
 -- ---- a second and a key of a cookie
 
-pub moment_unpicked : (second : ℤ) (key : Key) (refused : Refusal) → (refused ≡ refusal.Moment) × IsNoMoment second
-    → IsTold (IsPickFault second key) refused
-moment_unpicked second key refused why =
-    inr (first_of_two refusal.Moment refusal.Text (IsNoMoment second) (¬ IsKeyText key) refused (record {
-      le = tt;
-    }) why)
-
 pub text_unpicked : (second : ℤ) (key : Key) (refused : Refusal) → ¬ IsNoMoment second
     → (refused ≡ refusal.Text) × (¬ IsKeyText key) → IsTold (IsPickFault second key) refused
 text_unpicked second key refused is why =
@@ -208,13 +184,6 @@ text_unpicked second key refused is why =
 
 abbrev BeforeYears : ℤ → List Row → Type 0
 BeforeYears second rows = IsAnyBeforeYears (saved (nanos_of second) rows)
-
-pub moment_unsaved : (second : ℤ) (rows : List Row) (refused : Refusal)
-    → (refused ≡ refusal.Moment) × IsNoMoment second → IsTold (IsSavingFault second rows) refused
-moment_unsaved second rows refused why =
-    inr (first_of_two refusal.Moment refusal.Year (IsNoMoment second) (BeforeYears second rows) refused (record {
-      le = tt;
-    }) why)
 
 pub year_unsaved : (second : ℤ) (rows : List Row) (refused : Refusal) → ¬ IsNoMoment second
     → (refused ≡ refusal.Year) × IsAnyBeforeYears (saved (nanos_of second) rows)
@@ -256,13 +225,6 @@ not_ok (Err e) never is = absurd (cc is)
 pub too_short : {A E : Type 0} (key : List ℕ) (r : Result A E) → ((x : A) → ¬ (r ≡ Ok x))
     → (IsOk r ↔ (64 ≤ length key)) → length key < 64
 too_short key r never accepted = lt_of_not-le (λ long. not_ok r never (accepted.1 long))
-
-pub moment_unopened : (key header : List ℕ) (second : ℤ) (commands nonces : List ℕ) (refused : Refusal)
-    → (refused ≡ refusal.Moment) × IsNoMoment second → IsNoExchange key header second commands nonces refused
-moment_unopened key header second commands nonces refused why =
-    inl (inr (first_of_two refusal.Moment refusal.Key (IsNoMoment second) (length key < 64) refused (record {
-      le = tt;
-    }) why))
 
 pub key_unopened : (key header : List ℕ) (second : ℤ) (commands nonces : List ℕ) (refused : Refusal)
     → ¬ IsNoMoment second → (refused ≡ refusal.Key) × (length key < 64)

@@ -41,9 +41,6 @@ refused_more ends number end =
     flat_map-append (λ (e : ℕ × End). refused_in e.0 e.1) ends ((number, end) ∷ [])
     ∙ ap (λ told. refused_lines ends ++ told) (append-nil (refused_in number end))
 
-pub sorts_none : (now : ℤ) → Sorts now [] [] []
-sorts_none now = ([], tt, refl, refl)
-
 pub sorts_more : (now : ℤ) (lines : List Line) (taken : List Row) (refused : List ℕ) (line : Line) (end : End)
     → Sorts now lines taken refused → IsEnd now line.1 end
     → Sorts now (lines ++ line ∷ []) (taken ++ taken_in end) (refused ++ refused_in line.0 end)

@@ -1,6 +1,5 @@
 -- The items of cookies, one behind the other.
-use Rattle.std.proofs.Common.{◌≡◌, ℕ, List, [], ◌∷◌, ◌++◌, ap, sym, ◌∙◌, append_assoc}
-use Rattle.std.proofs.lemmas.List.{append-nil}
+use Rattle.std.proofs.Common.{◌≡◌, ℕ, List, ◌∷◌, ◌++◌, ap, sym, ◌∙◌, append_assoc}
 use Rattle.cookie_store.specs.Rows.{Row}
 use Rattle.fonnalich_c.specs.Listing.{row_text, rows_text}
 
@@ -9,6 +8,3 @@ pub listed_more : (done later all : List ℕ) (left rest : List Row) (row : Row)
 listed_more done later all left rest row is put far =
     ap (λ t. t ++ rows_text rest) put ∙ append_assoc done (row_text row) (rows_text rest)
     ∙ sym (ap (λ r. done ++ rows_text r) is) ∙ far
-
-pub listed_all : (done all : List ℕ) (left : List Row) → left ≡ [] → done ++ rows_text left ≡ all → done ≡ all
-listed_all done all left is far = sym (append-nil done) ∙ sym (ap (λ r. done ++ rows_text r) is) ∙ far

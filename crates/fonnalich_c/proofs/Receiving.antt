@@ -1,5 +1,5 @@
 -- The outcomes of lines.
-use Rattle.std.proofs.Common.{◌≡◌, ◌≢◌, ◌<◌, ℕ, ℤ, Bool, true, false, List, [], ◌∷◌, length, None, ap, arith, inl}
+use Rattle.std.proofs.Common.{◌≡◌, ℕ, ℤ, Bool, true, false, List, [], ◌∷◌, length, None, ap, arith, inl}
 use Rattle.std.proofs.Common.{inr, refl, subst, sym}
 use Rattle.publicsuffix.specs.Rules.{Rule}
 use Rattle.url.specs.Parts.{Parts}
@@ -13,9 +13,7 @@ use Rattle.user_agent.specs.declared.rules.Outcome.{Outcome}
 use Rattle.user_agent.specs.declared.rules.Rules.{Rules}
 use Rattle.user_agent.specs.declared.sites.Initiator.{Initiator}
 use Rattle.fonnalich_c.specs.Given.{IsUrl, lines_of, nanos_of}
-use Rattle.fonnalich_c.specs.Handle.{IsHandedOut}
 use Rattle.fonnalich_c.specs.Numbers.{end_number}
-use Rattle.fonnalich_c.specs.Room.{IsWritten}
 use Rattle.fonnalich_c.specs.Tasks.{Receives, RefusesLines}
 use Rattle.fonnalich_c.specs.declared.refusal.Refusal.TheVariants as refusal
 
@@ -82,11 +80,3 @@ one_line_stopped second subject text old new url is_url one same rows asks =
     }) in
     let by_lines = subst (λ lines. IsStopped old.suffixes old.rows url (nanos_of second) lines 1 new.rows) (sym one)
     stops in inr (1, refl, (same, (url, is_url, by_lines)))
-
--- the one byte of its answer has room where there is some
-pub one_byte_handed_out : (byte : ℕ) (out kept written : List ℕ) (number : ℤ) → out ≢ [] → kept ≡ []
-    → IsWritten (byte ∷ []) out written number → IsHandedOut (byte ∷ []) out kept written number
-one_byte_handed_out byte out kept written number some none (is, inl (fits, stands)) = (is, inl (fits, stands, none))
-one_byte_handed_out byte [] kept written number some none (is, inr (less, same)) = absurd (some refl)
-one_byte_handed_out byte (b ∷ out) kept written number some none (is, inr (less, same)) =
-    let never : length (b ∷ out) < 1 = less in absurd (omega arith)

@@ -10,8 +10,8 @@ use Rattle.store_parts.specs.declared.error.Error.{Error}
 use Rattle.store_parts.specs.declared.error.Error.TheVariants.{OutOfMemory, Year}
 use Rattle.cookie_store.specs.Rows.{Row}
 use Rattle.cookie_store.specs.SavedTexts.{OfText, IsAnyBeforeYears, IsReadFault, IsRonRefusal, IsSaveFault}
-use Rattle.cookie_run.specs.Program.{IsNoSavedText}
-use Rattle.cookie_run.proofs.ProgramFacts.{year_only}
+use Rattle.cookie_client.specs.Loading.{IsNoSavedText}
+use Rattle.cookie_client.proofs.Loading.{year_only}
 use Rattle.fonnalich_c.specs.Given.{IsListToldAs, IsNoListOf}
 use Rattle.fonnalich_c.specs.Tasks.{IsLoadToldAs}
 use Rattle.fonnalich_c.specs.declared.refusal.Refusal.{Refusal}

@@ -2,7 +2,7 @@
 use Rattle.std.proofs.Common.{◌≡◌, ◌≢◌, ℕ, List, [], sym, subst}
 use Rattle.std.specs.Str.{IsUtf8}
 use Rattle.publicsuffix.specs.Rules.{Rule}
-use Rattle.shards.specs.Shard.{IsShardOf}
+use Rattle.cookie_client.specs.Shard.{IsShardOf}
 use Rattle.fonnalich_c.specs.Shard.{IsShardIn}
 
 pub shard_of_text : (host read shard given : List ℕ) (rules : List Rule) → read ≡ host → IsUtf8 host

@@ -8,8 +8,8 @@ use Rattle.cookie_text.specs.Decoding.{ReadsEncoded}
 use Rattle.cookie_text.specs.Record.{Seen, domain_of, unsliced}
 use Rattle.cookie_text.specs.declared.error.ParseError.{ParseError}
 use Rattle.cookie_text.specs.declared.error.ParseError.TheVariants.{OutOfMemory}
-use Rattle.cookie_run.specs.declared.step.Command.{Command}
-use Rattle.cookie_run.specs.declared.step.Command.TheVariants as commands
+use Rattle.cookie_client.specs.declared.command.Command.{Command}
+use Rattle.cookie_client.specs.declared.command.Command.TheVariants as commands
 use Rattle.cookie_client.specs.declared.way.Way.{Way}
 use Rattle.cookie_client.specs.declared.way.Way.TheVariants.{Plain, Host, Secure, Signed, Sealed}
 use Rattle.fonnalich_c.specs.declared.command.Verb.{Verb}

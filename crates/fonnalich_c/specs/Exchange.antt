@@ -7,8 +7,8 @@ use Rattle.jiff.specs.Words.{civil_nanos}
 use Rattle.cookie_text.specs.Record.{Seen}
 use Rattle.cookie_client.specs.Jar.{Keyed, IsOpenedShown, ReadsIn, Sets, TakesOut, IsRemovalRefusal, ClosesWith}
 use Rattle.cookie_client.specs.Ways.{set_refusal}
-use Rattle.cookie_run.specs.declared.step.Command.{Command}
-use Rattle.cookie_run.specs.declared.step.Command.TheVariants.{Set, Remove, Get}
+use Rattle.cookie_client.specs.declared.command.Command.{Command}
+use Rattle.cookie_client.specs.declared.command.Command.TheVariants.{Set, Remove, Get}
 use Rattle.cookie_client.specs.declared.outcome.SessionError.{SessionError}
 use Rattle.cookie_client.specs.declared.way.Way.{Way}
 use Rattle.cookie_client.specs.declared.way.Way.TheVariants.{Plain, Host, Secure, Signed, Sealed}

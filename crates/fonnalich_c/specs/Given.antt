@@ -8,8 +8,8 @@ use Rattle.publicsuffix.specs.declared.error.ListError.TheVariants as list
 use Rattle.publicsuffix.specs.Looks.{IsNotStrange, IsStrange}
 use Rattle.publicsuffix.specs.Rules.{Rule}
 use Rattle.url.specs.Parts.{Parts}
-use Rattle.cookie_run.specs.Program.{IsSuffixList, IsNoSuffixList}
-use Rattle.cookie_run.specs.ScriptLine.{url_of}
+use Rattle.cookie_client.specs.Loading.{IsSuffixList, IsNoSuffixList}
+use Rattle.cookie_client.specs.Hosts.{url_of}
 use Rattle.fonnalich_c.specs.declared.refusal.Refusal.{Refusal}
 use Rattle.fonnalich_c.specs.declared.refusal.Refusal.TheVariants as refusal
 

@@ -4,8 +4,8 @@ use Rattle.jiff.specs.Types.{DateTime}
 use Rattle.cookie_text.specs.Record.{Seen, moment_of}
 use Rattle.cookie_client.specs.declared.ending.EndingWay.{EndingWay}
 use Rattle.cookie_client.specs.declared.ending.EndingWay.TheVariants as ends
-use Rattle.cookie_run.specs.declared.step.Command.{Command}
-use Rattle.cookie_run.specs.declared.step.Command.TheVariants as commands
+use Rattle.cookie_client.specs.declared.command.Command.{Command}
+use Rattle.cookie_client.specs.declared.command.Command.TheVariants as commands
 use Rattle.cookie_client.specs.declared.way.Way.{Way}
 use Rattle.cookie_client.specs.declared.way.Way.TheVariants as ways
 use Rattle.fonnalich_c.specs.Commands.{IsCommand, IsCookieOf, IsNamed, IsNoCommand, IsNoCookie, IsNoName, verb_of}

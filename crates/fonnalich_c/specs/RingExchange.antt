@@ -8,12 +8,13 @@ use Rattle.jiff.specs.Words.{civil_nanos}
 use Rattle.cookie.specs.KeyRing.{Ring}
 use Rattle.cookie_text.specs.Record.{Seen}
 use Rattle.cookie_client.specs.Jar.{TakesOut, ClosesWith}
-use Rattle.cookie_client.specs.RingSession.{EndsAt, IsOpenedOnShown, KeepsRing, ReadsEnding, RingReadsIn, Ringed, SetsUntil}
+use Rattle.cookie_client.specs.RingSession.{EndsAt, IsOpenedOnShown, KeepsRing, ReadsEnding, RingReadsIn, Ringed}
+use Rattle.cookie_client.specs.RingSession.{SetsUntil}
 use Rattle.cookie_client.specs.RingSession.{keyed, until_refusal}
 use Rattle.cookie_client.specs.declared.ending.EndingWay.{EndingWay}
 use Rattle.cookie_client.specs.declared.ending.EndingWay.TheVariants as ends
-use Rattle.cookie_run.specs.declared.step.Command.{Command}
-use Rattle.cookie_run.specs.declared.step.Command.TheVariants.{Set, Remove, Get}
+use Rattle.cookie_client.specs.declared.command.Command.{Command}
+use Rattle.cookie_client.specs.declared.command.Command.TheVariants.{Set, Remove, Get}
 use Rattle.cookie_client.specs.declared.outcome.SessionError.{SessionError}
 use Rattle.fonnalich_c.specs.Exchange.{RefusesCommand, SetsBy, nonce_length}
 use Rattle.fonnalich_c.specs.Faults.{IsTold}

@@ -4,7 +4,7 @@ use Rattle.std.specs.Str.{IsUtf8}
 use Rattle.publicsuffix.specs.Rules.{Rule}
 use Rattle.store_parts.specs.Schemes.{host_of}
 use Rattle.url.specs.Parts.{Parts}
-use Rattle.shards.specs.Shard.{IsShardOf, IsShardAt}
+use Rattle.cookie_client.specs.Shard.{IsShardOf, IsShardAt}
 use Rattle.fonnalich_c.specs.Given.{IsListOf, IsNoListOf, IsUrl, IsNoUrl}
 use Rattle.fonnalich_c.specs.declared.refusal.Refusal.{Refusal}
 use Rattle.fonnalich_c.specs.declared.refusal.Refusal.TheVariants as refusal

@@ -16,7 +16,7 @@ use Rattle.cookie_client.specs.Header.{IsHeader}
 use Rattle.cookie_client.specs.Keeping.{Keeps}
 use Rattle.cookie_client.specs.KeptKeys.{KeepsKeys}
 use Rattle.cookie_client.specs.HostPrefix.{IsHeldRightly}
-use Rattle.cookie_run.specs.Program.{IsNoSavedText}
+use Rattle.cookie_client.specs.Loading.{IsNoSavedText}
 use Rattle.cookie_client.specs.declared.outcome.LineEnd.{LineEnd}
 use Rattle.user_agent.specs.Agent as agent
 use Rattle.user_agent.specs.CrossSite.{IsHeaderFor}

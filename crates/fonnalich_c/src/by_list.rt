@@ -7,7 +7,7 @@ use crate::shard::{shard_at_by, shard_by};
 use crate::suffix::suffix_by;
 use crate::task::loaded_by;
 use crate::word::ByList;
-use cookie_run::Client;
+use cookie_client::Client;
 use publicsuffix::List;
 use std::alloc::{AllocError, Global};
 

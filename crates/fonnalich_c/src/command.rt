@@ -5,7 +5,7 @@ ghost use Rattle.fonnalich_c.specs.Commands as spec;
 
 use crate::refusal::Refusal;
 use cookie::{Cookie, ParseError};
-use cookie_run::{Command, Text, Way};
+use cookie_client::{Command, Text, Way};
 use percent_encoding::percent_decode;
 use std::alloc::Global;
 
@@ -22,8 +22,9 @@ pub enum Verb {
 
 /// The command of a line: a letter for what it does, a digit for the way, and a text.
 ///
-/// By `S` the text is a `Set-Cookie` line, whose name and value are percent-decoded. It has no Domain, and no other Path
-/// than `/`, since a session's cookie goes to its host alone. By `R` and `G` it is a name, which is percent-decoded too.
+/// By `S` the text is a `Set-Cookie` line, whose name and value are percent-decoded. It has no Domain, and no other
+/// Path than `/`, since a session's cookie goes to its host alone. By `R` and `G` it is a name, which is
+/// percent-decoded too.
 pub(crate) fn command(alloc: Global, line: &[u8]) -> Result<Command, Refusal>
     ensures ok { IfOk result (spec.IsCommand line.now) }
     ensures err { IfErr result (λ refused. (refused ≡ Refusal.Memory)

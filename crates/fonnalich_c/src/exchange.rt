@@ -12,7 +12,7 @@ use crate::item::{push_item, push_none};
 use crate::nonce::Once;
 use crate::refusal::{Refusal, refused};
 use cookie::{Cookie, Key};
-use cookie_run::{Command, Session, Text, Way};
+use cookie_client::{Command, Session, Text, Way};
 use jiff::civil::DateTime;
 use std::alloc::{AllocError, Global};
 

@@ -8,7 +8,7 @@ ghost use Rattle.fonnalich_c.specs.Listing.{IsNoListing};
 
 use crate::given::moment;
 use crate::refusal::Refusal;
-use cookie_run::Client;
+use cookie_client::Client;
 use cookie_store::{Cookie, CookieStore};
 use cookies_txt::{Reader, write_for};
 use jiff::civil::DateTime;

@@ -4,7 +4,7 @@ ghost use Rattle.std.specs.List.{list_any, slice_split};
 ghost use Rattle.jiff.specs.Words.{civil_nanos};
 ghost use Rattle.cookie_text.specs.Printing.{whole_seconds};
 ghost use Rattle.store_parts.specs.Expiry.{epoch};
-ghost use Rattle.cookie_run.specs.ScriptLine.{url_of};
+ghost use Rattle.cookie_client.specs.Hosts.{url_of};
 ghost use Rattle.fonnalich_c.specs.Given as spec;
 
 use crate::refusal::Refusal;
@@ -51,7 +51,7 @@ pub fn url(alloc: Global, text: &[u8]) -> Result<Url, Refusal>
 }
 
 // The URL of a text. A text that is too long for the parser is want of memory.
-#[tactic(auto, unfolding(cookie_run::specs::ScriptLine::url_of))]
+#[tactic(auto, unfolding(cookie_client::specs::Hosts::url_of))]
 fn url_of(alloc: Global, text: &str) -> Result<Url, Refusal>
     ensures ok { IfOk result (λ url. url_of text.now ≡ Some url) }
     ensures err { IfErr result (λ refusal.

@@ -15,7 +15,7 @@ use crate::room::write;
 use crate::started::{AnswerTexts, Start, received};
 use crate::task::{Browsing, answer};
 use crate::word::{ANSWER, RECEIVE, Word};
-use cookie_run::Client;
+use cookie_client::Client;
 use publicsuffix::List;
 use std::alloc::Global;
 use user_agent::Rules;

@@ -66,7 +66,7 @@ use crate::shard::{shard, shard_at};
 use crate::suffix::suffix;
 use crate::together::{Texts, together};
 use crate::words::text_of;
-use cookie_run::version;
+use cookie_client::version;
 use std::alloc::Global;
 
 /// How many bytes the place of a handle has, which stands at a multiple of 8.

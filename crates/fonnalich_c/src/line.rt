@@ -8,7 +8,7 @@ use crate::page::url_at;
 use crate::refusal::{Refusal, end_number};
 use crate::second::date_at;
 use crate::task::Browsing;
-use cookie_run::Client;
+use cookie_client::Client;
 use std::alloc::Global;
 
 /// The number of what became of a line, by the client where there is one.

@@ -11,7 +11,7 @@ ghost use Rattle.fonnalich_c.specs.Parts.{seconds_of};
 use crate::attributes::{is_set, site_number};
 use crate::given::second_of;
 use crate::item::push_item;
-use cookie_run::Client;
+use cookie_client::Client;
 use cookie_store::{Cookie, CookieDomain, CookieExpiration, IterUnexpired};
 use jiff::civil::DateTime;
 use std::alloc::{AllocError, Global};

@@ -7,7 +7,7 @@ ghost use Rattle.fonnalich_c.specs.One as spec;
 use crate::given::moment;
 use crate::listing::found_text;
 use crate::refusal::Refusal;
-use cookie_run::Client;
+use cookie_client::Client;
 use std::alloc::Global;
 
 /// What a word does with one cookie.

@@ -2,7 +2,7 @@
 ghost use Rattle.std.specs.Prelude.{◌≡◌};
 ghost use Rattle.fonnalich_c.specs.Numbers as spec;
 
-use cookie_run::{LineEnd, SessionError};
+use cookie_client::{LineEnd, SessionError};
 use cookie_store::{CookieError, StoreAction};
 use std::alloc::AllocError;
 

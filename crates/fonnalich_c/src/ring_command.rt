@@ -6,7 +6,7 @@ ghost use Rattle.fonnalich_c.specs.RingCommands as spec;
 use crate::command::{Verb, command, cookie, name, verb_of};
 use crate::refusal::Refusal;
 use cookie::Cookie;
-use cookie_run::{Command, EndingWay, Text, Way};
+use cookie_client::{Command, EndingWay, Text, Way};
 use jiff::civil::DateTime;
 use std::alloc::Global;
 

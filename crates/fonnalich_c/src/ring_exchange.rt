@@ -15,7 +15,7 @@ use crate::refusal::{Refusal, refused};
 use crate::ring::ring_of;
 use crate::ring_command::{RingCommand, ring_command};
 use cookie::Cookie;
-use cookie_run::{Command, EndingWay, RingSession, Text, Way};
+use cookie_client::{Command, EndingWay, RingSession, Text, Way};
 use jiff::civil::DateTime;
 use std::alloc::{AllocError, Global};
 

@@ -4,8 +4,8 @@ ghost use Rattle.fonnalich_c.specs.Shard as spec;
 
 use crate::given::{list, url};
 use crate::refusal::Refusal;
+use cookie_client::{shard_of, shard_of_url};
 use publicsuffix::List;
-use shards::{shard_of, shard_of_url};
 use std::alloc::Global;
 
 /// The shard of a host by the list of a text, which is read anew.

@@ -13,7 +13,7 @@ use crate::refusal::Refusal;
 use crate::rule::outcome_for_number;
 use crate::second::date_at;
 use crate::task::{Browsing, rules_on};
-use cookie_run::Client;
+use cookie_client::Client;
 use jiff::civil::DateTime;
 use std::alloc::Global;
 use url::Url;

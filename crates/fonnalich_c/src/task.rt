@@ -21,7 +21,7 @@ use crate::refusal::{Refusal, end_number};
 use crate::rule::{outcome_number, ruled, rules_of};
 use crate::second::{Second, date_at};
 use crate::word::{Task, Word};
-use cookie_run::{Client, LineEnd};
+use cookie_client::{Client, LineEnd};
 use cookie_store::serde::ron::save_incl_expired_and_nonpersistent;
 use cookie_store::{Counting, Error};
 use jiff::civil::DateTime;

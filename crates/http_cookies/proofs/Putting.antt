@@ -8,7 +8,7 @@ use Rattle.std.proofs.lemmas.Bool.{cases_lt}
 use Rattle.std.proofs.Math.Seq.{take-append_seam}
 use Rattle.std.proofs.lemmas.List.{append-nil, map-append, take-append-le}
 use Rattle.std.proofs.lemmas.List.Sums.{fold-append}
-use Rattle.std.proofs.lemmas.List.Elements.{All-nil, All-push, All-contains, Contains-append_right, same_from_all_zip}
+use Rattle.std.proofs.lemmas.List.Elements.{All-push, All-contains, Contains-append_right, same_from_all_zip}
 use Rattle.http_header.specs.FieldValue.{FieldValue, IsFieldValue, plain_value}
 use Rattle.http_header.specs.HeaderMap.{append, IsMapClone, RefusesAppend}
 use Rattle.http_header.specs.declared.map.HeaderMapError.{HeaderMapError}
@@ -197,14 +197,6 @@ put_exits r fields longer values error is e h =
 
 -- ---- lines
 
-pub making_none : (lines left : List (List ℕ)) (n : ℕ) → left ≡ lines → n ≡ length lines → Making lines [] left n
-making_none lines left n e count = record {
-  done = [];
-  so = record { made = refl; are_values = All-nil IsFieldValue };
-  cut = sym e;
-  count = count ∙ ap (λ (ls : List (List ℕ)). length ls) (sym e);
-}
-
 pub making_next : (lines : List (List ℕ)) (line : List ℕ) (values new : List FieldValue) (value : FieldValue)
     (left rest : List (List ℕ)) (n m : ℕ) → Making lines values left n → (left ≡ line ∷ rest) × (m + 1 ≡ n)
     → value ≡ plain_value line → IsFieldValue line → new ≡ values ++ value ∷ [] → Making lines new rest m
@@ -229,13 +221,6 @@ making_refused lines line values left rest n so step bad all =
     bad (All-contains IsFieldValue (so.done ++ line ∷ rest) line
     (subst AreFieldValues (so.cut ∙ ap (λ (ls : List (List ℕ)). so.done ++ ls) step) all)
     (Contains-append_right so.done (line ∷ rest) line (0, omega arith, refl)))
-
-pub making_all : (lines : List (List ℕ)) (values : List FieldValue) (left : List (List ℕ)) (n : ℕ)
-    → Making lines values left n → n ≡ 0 → (values ≡ map plain_value lines) × AreFieldValues lines
-making_all lines values left n so e =
-    subst (λ (ls : List (List ℕ)). (values ≡ map plain_value ls) × AreFieldValues ls)
-    (sym (so.cut ∙ (ap (λ (ls : List (List ℕ)). so.done ++ ls) (none_left left (sym so.count ∙ e))
-    ∙ append-nil so.done))) (so.so.made, so.so.are_values)
 
 pub lines_put : {A : Type 0} (r : Result A PutError) (fields new : Fields) (lines : List (List ℕ))
     (values : List FieldValue) → (values ≡ map plain_value lines) × AreFieldValues lines

@@ -3,13 +3,12 @@ use Rattle.std.specs.Prelude.{◌≡◌, ◌≢◌, ◌⊎◌, ◌++◌, ℕ, �
 use Rattle.cookie.specs.ByName.{Lists}
 use Rattle.cookie.specs.Jar.{Jar, delta, under_names}
 use Rattle.cookie_client.specs.Accept.{AcceptsAll}
-use Rattle.cookie_run.specs.Acts.{Visits, Arrives}
+use Rattle.cookie_client.specs.Steps.{Visits, Arrives, OneStep, Tells}
 use Rattle.cookie_client.specs.Header.{IsHeader}
 use Rattle.cookie_client.specs.Jar.{ClosesWith, IsOpenedBy, Keyed, lines_of}
-use Rattle.cookie_run.specs.Play.{OneStep, Tells}
-use Rattle.cookie_run.specs.declared.step.Command.{Command}
+use Rattle.cookie_client.specs.declared.command.Command.{Command}
 use Rattle.cookie_client.specs.declared.outcome.LineEnd.{LineEnd}
-use Rattle.cookie_run.specs.declared.step.Reading.{Reading}
+use Rattle.cookie_client.specs.declared.command.Reading.{Reading}
 use Rattle.cookie_store.specs.Rows.{Row}
 use Rattle.cookie_text.specs.Record.{Seen}
 use Rattle.http_header.specs.HeaderMap.{IsHeaderMap, get_all}

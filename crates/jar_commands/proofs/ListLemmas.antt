@@ -6,7 +6,7 @@ use Rattle.publicsuffix.specs.Looks.{IsNotStrange, IsStrange}
 use Rattle.publicsuffix.specs.Rules.{HasFirstFault, Rule}
 use Rattle.publicsuffix.specs.declared.error.ListError.{ListError}
 use Rattle.publicsuffix.specs.declared.error.ListError.TheVariants as list
-use Rattle.cookie_run.specs.Program.{IsSuffixList}
+use Rattle.cookie_client.specs.Loading.{IsSuffixList}
 use Rattle.jar_commands.specs.Jars.{IsListOf, MakesNoList, has_rule}
 use Rattle.jar_commands.specs.declared.failure.Failure.{Failure}
 use Rattle.jar_commands.specs.declared.failure.Failure.TheVariants.{Memory, SuffixList}

@@ -5,7 +5,7 @@ use Rattle.publicsuffix.specs.Looks.{IsNotStrange, IsStrange}
 use Rattle.publicsuffix.specs.Rules.{Rule}
 use Rattle.cookie_store.specs.Given.{ArePicked}
 use Rattle.cookie_store.specs.Rows.{Row, Store}
-use Rattle.cookie_run.specs.Program.{IsNoSuffixList, IsSuffixList}
+use Rattle.cookie_client.specs.Loading.{IsNoSuffixList, IsSuffixList}
 use Rattle.cookie_jar.specs.Keeping.{IsKept}
 use Rattle.cookie_jar.specs.Reading.{IsUnread, Reads}
 use Rattle.cookie_jar.specs.Saving.{IsUnsaved}

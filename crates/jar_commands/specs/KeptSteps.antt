@@ -1,7 +1,6 @@
 -- What private functions answer of a jar's file. No public contract names a word of this file.
 use Rattle.std.specs.Prelude.{◌≡◌, ◌⊎◌, ℕ, Bool, List, Option, Some, None, Result, Ok, Err}
-use Rattle.kept_file.specs.Locks.{Lock, bytes_of, with_put}
-use Rattle.cookie_run.specs.ProgramKept.{IsUnread}
+use Rattle.kept_file.specs.Locks.{Lock, bytes_of, with_put, IsUnread}
 use Rattle.jar_commands.specs.Outcomes.{OutcomeText}
 use Rattle.jar_commands.specs.Performing.{AnswersTexts}
 use Rattle.jar_commands.specs.Plans.{PlanText}
@@ -29,16 +28,16 @@ PerformsHeld plan suffixes brought lock (Err failure) =
     ⊎ ((whole : OutcomeText) × AnswersTexts plan suffixes (bytes_of lock.0) brought (Ok whole) × IsUnwritten failure
     × (lock.1 ≡ put_of whole.jar lock.0))
 
--- What a plan gives over the jar's file of this path, which it changes or doesn't: the file isn't read, the texts give
+-- What a plan gives over the jar's file, which it changes or doesn't: the file isn't read, the texts give
 -- nothing, the jar isn't written, or all is done but for what is to be printed and for the other file.
-abbrev pub GivesKept : Bool → PlanText → List ℕ → List ℕ → Option (List ℕ) → Lock × Lock
+abbrev pub GivesKept : Bool → PlanText → List ℕ → Option (List ℕ) → Lock × Lock
     → Result OutcomeText Failure → Type 0
-GivesKept changes plan path suffixes brought lock (Ok outcome) =
+GivesKept changes plan suffixes brought lock (Ok outcome) =
     (stored : Option (List ℕ)) × (whole : OutcomeText) × AnswersTexts plan suffixes stored brought (Ok whole)
-    × IsBut whole outcome × Leaves changes path stored whole.jar lock
-GivesKept changes plan path suffixes brought lock (Err failure) =
+    × IsBut whole outcome × Leaves changes plan.jar stored whole.jar lock
+GivesKept changes plan suffixes brought lock (Err failure) =
     (IsOfFiles failure × IsUnread lock)
     ⊎ (((stored : Option (List ℕ)) × AnswersTexts plan suffixes stored brought (Err failure)
-    × Leaves changes path stored None lock)
+    × Leaves changes plan.jar stored None lock)
     ⊎ ((stored : Option (List ℕ)) × (whole : OutcomeText) × AnswersTexts plan suffixes stored brought (Ok whole)
-    × IsUnwritten failure × Leaves changes path stored whole.jar lock))
+    × IsUnwritten failure × Leaves changes plan.jar stored whole.jar lock))

@@ -1,14 +1,9 @@
-pub mod About
-pub mod Dropped
-pub mod Failures
 pub mod Importing
 pub mod Instead
 pub mod Jars
 pub mod KeptSteps
 pub mod Outcomes
-pub mod PassedOver
 pub mod Performing
-pub mod Places
 pub mod Plans
 pub mod Program
 pub mod ProgramKept
@@ -17,5 +12,4 @@ pub mod RuleNames
 pub mod Setting
 pub mod Started
 pub mod Steps
-pub mod UrlCauses
 pub mod Waiting

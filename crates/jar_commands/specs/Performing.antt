@@ -9,19 +9,19 @@ use Rattle.cookie_jar.specs.Entries.{HasNoItems}
 use Rattle.cookie_jar.specs.Importing.{Imports, ImportText}
 use Rattle.cookie_jar.specs.declared.form.Form.{Form}
 use Rattle.cookie_jar.specs.declared.taking.End.{End}
-use Rattle.jar_words.specs.declared.asked.Asked.{Asked}
+use Rattle.cookies_txt.specs.declared.readers.Reader.{Reader}
 use Rattle.jar_commands.specs.Importing.{AreLet, GivesImported, IsToldOf}
 use Rattle.jar_commands.specs.Jars.{HaveNoText, IsJar, MakesNoJar}
 use Rattle.jar_commands.specs.Outcomes as gives
 use Rattle.jar_commands.specs.Outcomes.{OutcomeText}
-use Rattle.jar_commands.specs.Plans.{PlanText, plan_of}
+use Rattle.jar_commands.specs.Plans.{PlanText}
 use Rattle.jar_commands.specs.Receiving.{IsNoHeads, TakesHeads}
 use Rattle.jar_commands.specs.Setting.{TakesSet}
 use Rattle.jar_commands.specs.declared.failure.Failure.{Failure}
 use Rattle.jar_commands.specs.declared.failure.Failure.TheVariants.{File, FileRow, FileText, Input, JarRow, Memory}
+use Rattle.jar_commands.specs.declared.plan.Command.{Command}
+use Rattle.jar_commands.specs.declared.plan.Command.TheVariants as command
 use Rattle.jar_commands.specs.declared.plan.Start.{Start}
-use Rattle.jar_commands.specs.declared.plan.Task.{Task}
-use Rattle.jar_commands.specs.declared.plan.Task.TheVariants as task
 
 -- what is known of a reader, before and behind a call: what was left to read, how many reads and how many failed calls
 pub record Source : Type 0 where
@@ -33,27 +33,8 @@ pub record Source : Type 0 where
 abbrev pub read_by : {R : Type 0} → (R → Option (List ℕ)) → (R → ℕ) → (R → ℕ) → R → R → Source
 read_by left reads failed old new = record { left = left old; reads = reads new; unread = (failed old, failed new) }
 
--- only `receive` reads
-abbrev pub reads : Task → Bool
-reads (task.Receive url start) = true
-reads (task.Header url start) = false
-reads (task.Get url name) = false
-reads (task.Set url line) = false
-reads task.List = false
-reads (task.ListOf url) = false
-reads (task.ListUnder domain) = false
-reads task.ListJson = false
-reads (task.ListJsonOf url) = false
-reads (task.ListJsonUnder domain) = false
-reads (task.Explain url line) = false
-reads (task.Remove domain path name) = false
-reads task.Clear = false
-reads (task.Import form is_strict) = false
-reads (task.Export form) = false
-reads (task.ExportFor reader) = false
-
--- What is brought to a task: where it reads all that was left, where that is known; else what is given, and nothing is
--- read.
+-- What is brought to a command: where it reads all that was left, where that is known; else what is given, and nothing
+-- is read.
 abbrev pub Brings : Type 0 → Source → Bool → Option (List ℕ) → Option (List ℕ) → Type 0
 Brings Unread reader true given brought =
     (text : List ℕ) × (brought ≡ Some text) × IfSome reader.left (λ whole. text ≡ whole)
@@ -65,34 +46,28 @@ BringsNothing reader true failure =
     (failure ≡ Memory) ⊎ ((failure ≡ Input) × (Rose reader.unread.0 reader.unread.1 ⊎ (reader.reads ≡ 2 ^ 64 - 1)))
 BringsNothing reader false failure = ⊥
 
--- nothing is read by a task that doesn't read
+-- nothing is read by a command that doesn't read
 abbrev pub UnreadBut : Type 0 → Bool → Type 0
 UnreadBut Unread true = ⊤
 UnreadBut Unread false = Unread
 
--- ---- what a task gives
+-- ---- what a command gives
 
--- A task gives this of a jar; `receive` and `import` want what is brought.
-abbrev pub Gives : PlanText → Store → Option (List ℕ) → Task → OutcomeText → Type 0
-Gives plan jar brought (task.Receive url start) outcome =
-    IsSomeAnd brought (λ text. gives.GivesReceived plan jar url start text outcome)
-Gives plan jar brought (task.Header url start) outcome = gives.GivesHeader plan jar url start outcome
-Gives plan jar brought (task.Get url name) outcome = gives.GivesValue plan jar url name.now outcome
-Gives plan jar brought (task.Set url line) outcome = gives.GivesSet plan jar url line.now outcome
-Gives plan jar brought task.List outcome = gives.GivesList plan jar outcome
-Gives plan jar brought (task.ListOf url) outcome = gives.GivesListOf plan jar url outcome
-Gives plan jar brought (task.ListUnder domain) outcome = gives.GivesListUnder plan jar domain.now outcome
-Gives plan jar brought task.ListJson outcome = gives.GivesJson plan jar outcome
-Gives plan jar brought (task.ListJsonOf url) outcome = gives.GivesJsonOf plan jar url outcome
-Gives plan jar brought (task.ListJsonUnder domain) outcome = gives.GivesJsonUnder plan jar domain.now outcome
-Gives plan jar brought (task.Explain url line) outcome = gives.GivesExplained plan jar url line.now outcome
-Gives plan jar brought (task.Remove domain path name) outcome =
+-- A command gives this of a jar; `receive` and `import` want what is brought.
+abbrev pub Gives : PlanText → Store → Option (List ℕ) → Command → OutcomeText → Type 0
+Gives plan jar brought (command.Receive url start is_one) outcome =
+    IsSomeAnd brought (λ text. gives.GivesReceived plan jar url start is_one text outcome)
+Gives plan jar brought (command.Header url start) outcome = gives.GivesHeader plan jar url start outcome
+Gives plan jar brought (command.Get url name) outcome = gives.GivesValue plan jar url name.now outcome
+Gives plan jar brought (command.Set url line) outcome = gives.GivesSet plan jar url line.now outcome
+Gives plan jar brought (command.List which layout) outcome = gives.Shows 0 outcome
+Gives plan jar brought (command.Explain url line) outcome = gives.Shows 0 outcome
+Gives plan jar brought (command.Remove domain path name) outcome =
     gives.GivesRemoved plan jar (meant domain.now path.now name.now jar.rows) outcome
-Gives plan jar brought task.Clear outcome = gives.GivesCleared plan jar outcome
-Gives plan jar brought (task.Import form is_strict) outcome =
+Gives plan jar brought command.Clear outcome = gives.GivesCleared plan jar outcome
+Gives plan jar brought (command.Import file form is_strict) outcome =
     IsSomeAnd brought (λ text. GivesImported plan jar form is_strict text outcome)
-Gives plan jar brought (task.Export form) outcome = gives.GivesExported plan jar form outcome
-Gives plan jar brought (task.ExportFor reader) outcome = gives.GivesExportedFor plan jar reader outcome
+Gives plan jar brought (command.Export file form reader) outcome = gives.GivesExported plan jar form reader outcome
 
 -- ---- why it gives nothing
 
@@ -101,14 +76,13 @@ abbrev pub Unkept : PlanText → List Row → Failure → Type 0
 Unkept plan rows failure = (failure ≡ JarRow) × HaveNoText plan.form false (live plan.now rows)
 
 -- `receive`
-abbrev pub FailsToReceive : PlanText → Store → Parts → Start → Option (List ℕ) → Failure → Type 0
-FailsToReceive plan jar url start None failure = failure ≡ Input
-FailsToReceive plan jar url start (Some text) failure =
+abbrev pub FailsToReceive : PlanText → Store → Parts → Start → Bool → Option (List ℕ) → Failure → Type 0
+FailsToReceive plan jar url start is_one None failure = failure ≡ Input
+FailsToReceive plan jar url start is_one (Some text) failure =
     (failure ≡ Memory)
     ⊎ (IsNoHeads text failure
-    ⊎ ((told : List ℕ) × (refused : Bool) × (new : List Row)
-    × TakesHeads plan.is_verbose plan.form plan.rules start jar plan.now url text told refused new
-    × Unkept plan new failure))
+    ⊎ ((refused : Bool) × (new : List Row)
+    × TakesHeads is_one plan.form plan.rules start jar plan.now url text refused new × Unkept plan new failure))
 
 -- `set`
 abbrev pub FailsToSet : PlanText → Store → Parts → List ℕ → Failure → Type 0
@@ -137,36 +111,35 @@ FailsToImport plan jar form is_strict None failure = failure ≡ File
 FailsToImport plan jar form is_strict (Some text) failure = FailsToImportText plan jar form is_strict text failure
 
 -- `export`
-abbrev pub FailsToExport : PlanText → Store → Form → Failure → Type 0
-FailsToExport plan jar form failure =
-    (failure ≡ Memory) ⊎ ((failure ≡ FileRow) × HaveNoText form true (live plan.now jar.rows))
+abbrev pub HasNoText : PlanText → Store → Form → Failure → Type 0
+HasNoText plan jar form failure = (failure ≡ FileRow) × HaveNoText form true (live plan.now jar.rows)
 
--- a task fails so
-abbrev pub PlanFails : PlanText → Store → Option (List ℕ) → Task → Failure → Type 0
-PlanFails plan jar brought (task.Receive url start) failure = FailsToReceive plan jar url start brought failure
-PlanFails plan jar brought (task.Header url start) failure = failure ≡ Memory
-PlanFails plan jar brought (task.Get url name) failure = failure ≡ Memory
-PlanFails plan jar brought (task.Set url line) failure = FailsToSet plan jar url line.now failure
-PlanFails plan jar brought task.List failure = failure ≡ Memory
-PlanFails plan jar brought (task.ListOf url) failure = failure ≡ Memory
-PlanFails plan jar brought (task.ListUnder domain) failure = failure ≡ Memory
-PlanFails plan jar brought task.ListJson failure = failure ≡ Memory
-PlanFails plan jar brought (task.ListJsonOf url) failure = failure ≡ Memory
-PlanFails plan jar brought (task.ListJsonUnder domain) failure = failure ≡ Memory
-PlanFails plan jar brought (task.Explain url line) failure = failure ≡ Memory
-PlanFails plan jar brought (task.Remove domain path name) failure =
+abbrev pub FailsToExport : PlanText → Store → Form → Option Reader → Failure → Type 0
+FailsToExport plan jar form None failure = (failure ≡ Memory) ⊎ HasNoText plan jar form failure
+FailsToExport plan jar form (Some reader) failure = failure ≡ Memory
+
+-- a command fails so
+abbrev pub PlanFails : PlanText → Store → Option (List ℕ) → Command → Failure → Type 0
+PlanFails plan jar brought (command.Receive url start is_one) failure =
+    FailsToReceive plan jar url start is_one brought failure
+PlanFails plan jar brought (command.Header url start) failure = failure ≡ Memory
+PlanFails plan jar brought (command.Get url name) failure = failure ≡ Memory
+PlanFails plan jar brought (command.Set url line) failure = FailsToSet plan jar url line.now failure
+PlanFails plan jar brought (command.List which layout) failure = failure ≡ Memory
+PlanFails plan jar brought (command.Explain url line) failure = failure ≡ Memory
+PlanFails plan jar brought (command.Remove domain path name) failure =
     FailsToRemove plan jar (meant domain.now path.now name.now jar.rows) failure
-PlanFails plan jar brought task.Clear failure = (failure ≡ Memory) ⊎ Unkept plan [] failure
-PlanFails plan jar brought (task.Import form is_strict) failure = FailsToImport plan jar form is_strict brought failure
-PlanFails plan jar brought (task.Export form) failure = FailsToExport plan jar form failure
-PlanFails plan jar brought (task.ExportFor reader) failure = failure ≡ Memory
+PlanFails plan jar brought command.Clear failure = (failure ≡ Memory) ⊎ Unkept plan [] failure
+PlanFails plan jar brought (command.Import file form is_strict) failure =
+    FailsToImport plan jar form is_strict brought failure
+PlanFails plan jar brought (command.Export file form reader) failure = FailsToExport plan jar form reader failure
 
 -- ---- all
 
--- what a task gives, or why nothing
+-- what a command gives, or why nothing
 abbrev pub Performs : PlanText → Store → Option (List ℕ) → Result OutcomeText Failure → Type 0
-Performs plan jar brought (Ok outcome) = Gives plan jar brought plan.task outcome
-Performs plan jar brought (Err failure) = PlanFails plan jar brought plan.task failure
+Performs plan jar brought (Ok outcome) = Gives plan jar brought plan.command outcome
+Performs plan jar brought (Err failure) = PlanFails plan jar brought plan.command failure
 
 -- What a plan gives for the texts of the suffix list, of the jar, or none, and what is brought: the texts make no jar,
 -- or the task is done with the jar.
@@ -175,19 +148,3 @@ abbrev pub AnswersTexts : PlanText → List ℕ → Option (List ℕ) → Option
 AnswersTexts plan suffixes stored brought result =
     ((failure : Failure) × (result ≡ Err failure) × MakesNoJar plan.form suffixes stored failure)
     ⊎ ((jar : Store) × IsJar plan.form plan.now suffixes stored jar × Performs plan jar brought result)
-
--- Where what is asked is refused, nothing is read; else first what is brought is read.
-abbrev pub AnswersPlan : Type 0 → Source → Result PlanText Failure → List ℕ → Option (List ℕ) → Option (List ℕ)
-    → Result OutcomeText Failure → Type 0
-AnswersPlan Unread reader (Err failure) suffixes stored given result =
-    ((result ≡ Err failure) ⊎ (result ≡ Err Memory)) × Unread
-AnswersPlan Unread reader (Ok plan) suffixes stored given result =
-    ((failure : Failure) × (result ≡ Err failure) × BringsNothing reader (reads plan.task) failure)
-    ⊎ ((brought : Option (List ℕ)) × Brings Unread reader (reads plan.task) given brought
-    × AnswersTexts plan suffixes stored brought result)
-
--- What a command gives for the texts of the suffix list, of the jar, or none, and of the other file, or none.
-abbrev pub Answers : Type 0 → Source → Asked → Option ℤ → List ℕ → Option (List ℕ) → Option (List ℕ)
-    → Result OutcomeText Failure → Type 0
-Answers Unread reader asked clock suffixes stored given result =
-    AnswersPlan Unread reader (plan_of asked clock) suffixes stored given result

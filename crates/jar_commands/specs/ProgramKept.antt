@@ -1,36 +1,26 @@
 -- What becomes of the jar's file in a run, under its lock (this repository's own).
-use Rattle.std.specs.Prelude.{◌≡◌, ◌⊎◌, ℕ, ℤ, Bool, true, false, List, Option, None, Result, Ok, Err, option_map}
-use Rattle.kept_file.specs.Locks.{Lock}
-use Rattle.cookie_run.specs.ProgramKept.{IsUnread, kept_so}
-use Rattle.jar_words.specs.declared.asked.Asked.{Asked}
-use Rattle.jar_words.specs.declared.refusal.Refusal.{Refusal}
+use Rattle.std.specs.Prelude.{◌≡◌, ◌⊎◌, ℕ, Bool, true, false, List, Option, None, Result, Ok, Err}
+use Rattle.kept_file.specs.Locks.{Lock, IsUnread, kept_so}
 use Rattle.jar_commands.specs.Outcomes.{OutcomeText}
 use Rattle.jar_commands.specs.Performing.{Source}
-use Rattle.jar_commands.specs.Plans.{PlanText, plan_of}
-use Rattle.jar_commands.specs.Program.{GivesPlan, reads_input}
-use Rattle.jar_commands.specs.Waiting.{IsWait}
+use Rattle.jar_commands.specs.Plans.{PlanText}
+use Rattle.jar_commands.specs.Program.{GivesPlan, IsToldBy, IsWithoutJar, Serves, Writer}
 use Rattle.jar_commands.specs.declared.failure.Failure.{Failure}
-use Rattle.jar_commands.specs.declared.plan.Task.{Task}
-use Rattle.jar_commands.specs.declared.plan.Task.TheVariants as task
+use Rattle.jar_commands.specs.declared.plan.Command.{Command}
+use Rattle.jar_commands.specs.declared.plan.Command.TheVariants as command
 
 -- the commands that change a jar
-abbrev pub changes : Task → Bool
-changes (task.Receive url start) = true
-changes (task.Header url start) = false
-changes (task.Get url name) = false
-changes (task.Set url line) = true
-changes task.List = false
-changes (task.ListOf url) = false
-changes (task.ListUnder domain) = false
-changes task.ListJson = false
-changes (task.ListJsonOf url) = false
-changes (task.ListJsonUnder domain) = false
-changes (task.Explain url line) = false
-changes (task.Remove domain path name) = true
-changes task.Clear = true
-changes (task.Import form is_strict) = true
-changes (task.Export form) = false
-changes (task.ExportFor reader) = false
+abbrev pub changes : Command → Bool
+changes (command.Receive url start is_one) = true
+changes (command.Header url start) = false
+changes (command.Get url name) = false
+changes (command.Set url line) = true
+changes (command.List which layout) = false
+changes (command.Explain url line) = false
+changes (command.Remove domain path name) = true
+changes command.Clear = true
+changes (command.Import file form is_strict) = true
+changes (command.Export file form reader) = false
 
 -- the text that the jar is to hold, or none
 abbrev pub jar_of : Result OutcomeText Failure → Option (List ℕ)
@@ -50,17 +40,25 @@ Leaves false path stored put lock = lock.1 ≡ lock.0
 -- What is to take the jar's place is the whole text that the command gives for what was read of the jar while its lock
 -- was held, and nothing is where the command gives no text; then the lock is given back. Commands that don't change the
 -- jar leave it alone. Or the jar wasn't read.
-abbrev pub KeepsJar : Type 0 → Source → Asked → Option ℤ → Lock × Lock → ℕ → Type 0
-KeepsJar Unread reader asked clock lock status =
-    ((plan : PlanText) × (suffixes : List ℕ) × (stored : Option (List ℕ)) × (given : Option (List ℕ))
-    × (result : Result OutcomeText Failure) × (seconds : ℕ) × (plan_of asked clock ≡ Ok plan)
-    × IsWait (option_map (λ text. text.now) asked.wait) seconds
-    × GivesPlan Unread reader (reads_input asked.command) (Ok plan) suffixes stored given result
-    × EndsWith result status
-    × Leaves (changes plan.task) asked.jar.now stored (jar_of result) lock)
+abbrev pub KeepsJar : Type 0 → Source → PlanText → Lock × Lock → ℕ → Type 0
+KeepsJar Unread reader plan lock status =
+    ((suffixes : List ℕ) × (stored : Option (List ℕ)) × (given : Option (List ℕ))
+    × (result : Result OutcomeText Failure)
+    × GivesPlan Unread reader plan suffixes stored given result × EndsWith result status
+    × Leaves (changes plan.command) plan.jar stored (jar_of result) lock)
     ⊎ ((status ≡ 2) × IsUnread lock)
 
--- words that aren't read leave the lock alone
-abbrev pub WordsKeep : Type 0 → Source → Option ℤ → Lock × Lock → ℕ → Result Asked Refusal → Type 0
-WordsKeep Unread reader clock lock status (Ok asked) = KeepsJar Unread reader asked clock lock status
-WordsKeep Unread reader clock lock status (Err refused) = lock.1 ≡ lock.0
+-- ---- all
+
+-- what is asked is refused, and nothing is done; or it is done by a plan
+abbrev pub RunsWords : Type 0 → Type 0 → Source → Writer → Lock × Lock → ℕ → Type 0
+RunsWords Unread Unwritten reader writer lock status =
+    ((status ≡ 2) × Unread × Unwritten × (lock.1 ≡ lock.0))
+    ⊎ ((plan : PlanText) × (given : Result ℕ Failure) × Serves Unread Unwritten reader writer plan given
+    × IsToldBy given status × KeepsJar Unread reader plan lock status)
+
+-- what the program does for its words
+abbrev pub Runs : Type 0 → Type 0 → Source → Writer → Lock × Lock → ℕ → Type 0
+Runs Unread Unwritten reader writer lock status =
+    (IsWithoutJar Unwritten writer status × Unread × (lock.1 ≡ lock.0))
+    ⊎ RunsWords Unread Unwritten reader writer lock status

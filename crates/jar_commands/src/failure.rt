@@ -1,31 +1,18 @@
 //! Why the program ends with status 2.
-ghost use Rattle.std.specs.Prelude.{◌≡◌, Some};
-ghost use Rattle.jar_commands.specs.Failures.{entry_text, failure_text, fault_text, spot_of, spot_text, unfit_text};
+ghost use Rattle.std.specs.Prelude.{◌≡◌};
 
+use crate::refusal::Kind;
 use cookie_jar::Cause;
 use cookies_txt::{LineFault, RowFault};
-use jar_words::Kind;
 use std::alloc::AllocError;
-use std::fmt;
 
-/// Where in a text something stands that is refused, printed as `line 3` or `row 2`.
+/// Where in a text something stands that is refused.
 #[derive(Clone, Copy, Debug, PartialEq, Eq)]
 pub enum Spot {
     /// At the line of this number, counted from 1.
     Line(usize),
     /// At the item of this number, counted from 1, of a list of RON or JSON.
     Row(usize),
-}
-
-impl fmt::Display for Spot {
-    ghost output = { λ spot. Some (spot_text spot) };
-
-    fn fmt<W: fmt::Write>(&self, f: &mut fmt::Formatter<W>) -> fmt::Result {
-        match *self {
-            Spot::Line(number) => write!(f, "line {number}"),
-            Spot::Row(number) => write!(f, "row {number}"),
-        }
-    }
 }
 
 /// Why the program ends with status 2, in the order in which it is tested.
@@ -83,9 +70,7 @@ pub enum Failure {
 
 impl Failure {
     /// The words that go to standard error.
-    pub fn words(self) -> &'static str
-        ensures { result.now ≡ failure_text self }
-    {
+    pub fn words(self) -> &'static str {
         match self {
             Failure::Words(kind) => kind.words(),
             Failure::Moment => "moment",
@@ -116,9 +101,7 @@ impl Failure {
 }
 
 // The words of a line or a row that is refused.
-fn entry_words(cause: Cause) -> &'static str
-    ensures { result.now ≡ entry_text cause }
-{
+fn entry_words(cause: Cause) -> &'static str {
     match cause {
         Cause::Faulty(fault) => fault_text(fault),
         Cause::NoRow => "file text: no row",
@@ -129,9 +112,7 @@ fn entry_words(cause: Cause) -> &'static str
     }
 }
 
-fn fault_text(fault: LineFault) -> &'static str
-    ensures { result.now ≡ fault_text fault }
-{
+fn fault_text(fault: LineFault) -> &'static str {
     match fault {
         LineFault::NotText => "file text: not UTF-8",
         LineFault::Fields => "file text: neither six nor seven fields",
@@ -144,9 +125,7 @@ fn fault_text(fault: LineFault) -> &'static str
     }
 }
 
-fn unfit_words(fault: RowFault) -> &'static str
-    ensures { result.now ≡ unfit_text fault }
-{
+fn unfit_words(fault: RowFault) -> &'static str {
     match fault {
         RowFault::NoDomain => "file text: no domain",
         RowFault::HostSign => "file text: host begins with #, a dot or white space",
@@ -154,17 +133,6 @@ fn unfit_words(fault: RowFault) -> &'static str
         RowFault::EmptyName => "file text: empty name",
         RowFault::Separator => "file text: tab or line feed",
         RowFault::CarriageReturn => "file text: value ends in a carriage return",
-    }
-}
-
-// The line or the row that is told with a failure.
-pub(crate) fn spot_of(status: Result<u8, Failure>) -> Option<Spot>
-    ensures { result ≡ spot_of status }
-{
-    match status {
-        Err(Failure::Heads(line)) => Some(Spot::Line(line)),
-        Err(Failure::FileEntry(spot, _)) => Some(spot),
-        _ => None,
     }
 }
 

@@ -1,6 +1,5 @@
 //! The command that takes rows of another file in.
-ghost use Rattle.std.specs.Prelude.{◌≡◌, ◌⊎◌, ◌<◌, ◌++◌, IfErr, IfOk, IfSome, IsNone, IsSomeAnd, OnOk, Some, map};
-ghost use Rattle.std.specs.Prelude.{string_bytes, true};
+ghost use Rattle.std.specs.Prelude.{◌≡◌, ◌⊎◌, IfErr, IfOk, IfSome, IsNone, IsSomeAnd, map, true};
 ghost use Rattle.std.specs.Option.{option_copied};
 ghost use Rattle.jiff.specs.Words.{civil_nanos};
 ghost use Rattle.cookie_jar.specs.Entries.{HasNoItems};
@@ -13,9 +12,10 @@ ghost use Rattle.jar_commands.specs.Plans.{plan_text};
 use crate::failure::{Failure, Spot};
 use crate::jar_text::saved;
 use crate::outcome::Outcome;
+use crate::passed_over::push_line;
 use crate::plan::Plan;
 use crate::removing::count_line;
-use cookie_jar::{Form, ImportError, Imported, Jar, Refused, refused_text};
+use cookie_jar::{Form, ImportError, Imported, Jar, Refused, Shown, refused_text};
 use std::alloc::{AllocError, Global};
 
 /// `import [--strict] FILE`.
@@ -107,23 +107,14 @@ fn import_status(refused: &[Refused]) -> u8
 }
 
 // How many lines or rows were taken, expired and replaced, and each that was refused.
-fn import_told(alloc: Global, form: Form, done: &Imported) -> Result<String, AllocError>
-    ensures { IfOk result (λ text. string_bytes text ≡ spec.import_told form (done_text done.now)) }
-{
+fn import_told(alloc: Global, form: Form, done: &Imported) -> Result<Shown, AllocError> {
     let mut text = count_line(alloc, done.rows)?;
-    push_passed(&mut text, "expired: ", done.expired)?;
-    push_passed(&mut text, "replaced: ", done.replaced)?;
-    let refused = refused_text(alloc, form, &done.refused)?;
-    text.push_str(refused.as_str())?;
-    Ok(text)
-}
-
-fn push_passed(text: &mut String, words: &str, count: usize) -> Result<(), AllocError>
-    ensures { OnOk result (string_bytes text.new
-        ≡ string_bytes text.old ++ spec.passed_line words.now count) }
-{
-    if count == 0 {
-        return Ok(());
+    if done.expired != 0 {
+        push_line(&mut text, "expired: ", done.expired as u64)?;
     }
-    write!(text, "{words}{count}\n")
+    if done.replaced != 0 {
+        push_line(&mut text, "replaced: ", done.replaced as u64)?;
+    }
+    text.add(&refused_text(alloc, form, &done.refused)?)?;
+    Ok(text)
 }

@@ -1,36 +1,40 @@
 //! The command that gives rows to another file.
-ghost use Rattle.std.specs.Prelude.{◌≡◌, ◌++◌, IfOk, IfErr, None, Some, string_bytes};
+ghost use Rattle.std.specs.Prelude.{◌≡◌, ◌⊎◌, IfOk, IfErr};
 ghost use Rattle.jar_commands.specs.Outcomes as spec;
-ghost use Rattle.jar_commands.specs.Performing.{FailsToExport};
+ghost use Rattle.jar_commands.specs.Performing.{FailsToExport, HasNoText};
 ghost use Rattle.jar_commands.specs.Plans.{plan_text};
 
 use crate::failure::Failure;
-use crate::outcome::Outcome;
+use crate::outcome::{Outcome, Printed};
 use crate::plan::Plan;
 use crate::removing::count_line;
 use cookie_jar::{Exported, Form, Jar, SaveError};
 use cookies_txt::Reader;
-use std::alloc::{AllocError, Global};
+use std::alloc::Global;
 
-// How many rows were moved, and what is told of others behind that.
-pub(crate) fn counted(alloc: Global, count: usize, told: &str) -> Result<String, AllocError>
-    ensures { IfOk result (λ text. string_bytes text ≡ spec.rows_line count ++ told.now) }
-{
-    let mut text = count_line(alloc, count)?;
-    text.push_str(told)?;
-    Ok(text)
-}
-
-/// `export FILE`.
+/// `export [--for READER] FILE`.
 pub(crate) fn export(
     alloc: Global,
     plan: &Plan<'_>,
     jar: &Jar,
     form: Form,
+    reader: Option<Reader>,
 ) -> Result<Outcome, Failure>
     ensures ok { IfOk result (λ outcome.
-        spec.GivesExported (plan_text plan.now) jar.now form (spec.outcome_text outcome)) }
-    ensures err { IfErr result (FailsToExport (plan_text plan.now) jar.now form) }
+        spec.GivesExported (plan_text plan.now) jar.now form reader (spec.outcome_text outcome)) }
+    ensures err { IfErr result (FailsToExport (plan_text plan.now) jar.now form reader) }
+{
+    match reader {
+        Some(reader) => export_for(alloc, plan, jar, reader),
+        None => export_all(alloc, plan, jar, form),
+    }
+}
+
+fn export_all(alloc: Global, plan: &Plan<'_>, jar: &Jar, form: Form) -> Result<Outcome, Failure>
+    ensures ok { IfOk result (λ outcome.
+        spec.GivesText (plan_text plan.now) jar.now form (spec.outcome_text outcome)) }
+    ensures err { IfErr result (λ failure.
+        (failure ≡ Failure.Memory) ⊎ HasNoText (plan_text plan.now) jar.now form failure) }
 {
     match jar.export(form, plan.at) {
         Ok(exported) => exported_outcome(alloc, exported),
@@ -39,15 +43,9 @@ pub(crate) fn export(
     }
 }
 
-/// `export --for READER FILE`.
-pub(crate) fn export_for(
-    alloc: Global,
-    plan: &Plan<'_>,
-    jar: &Jar,
-    reader: Reader,
-) -> Result<Outcome, Failure>
+fn export_for(alloc: Global, plan: &Plan<'_>, jar: &Jar, reader: Reader) -> Result<Outcome, Failure>
     ensures ok { IfOk result (λ outcome.
-        spec.GivesExportedFor (plan_text plan.now) jar.now reader (spec.outcome_text outcome)) }
+        spec.GivesTextFor (plan_text plan.now) jar.now reader (spec.outcome_text outcome)) }
     ensures err { IfErr result (λ failure. failure ≡ Failure.Memory) }
 {
     match jar.export_for(reader, plan.at) {
@@ -56,18 +54,15 @@ pub(crate) fn export_for(
     }
 }
 
-// The text of the other file, and what is told of it.
+// The text of the other file, and what is told of it: how many rows it holds, and those that it doesn't.
 fn exported_outcome(alloc: Global, exported: Exported) -> Result<Outcome, Failure>
-    ensures ok { IfOk result (λ outcome. spec.outcome_text outcome ≡ record {
-      printed = spec.rows_line exported.rows ++ string_bytes exported.told;
-      status = 0;
-      jar = None;
-      file = Some exported.text.items;
-    }) }
+    ensures ok { IfOk result (λ outcome. spec.Exports exported.text.items (spec.outcome_text outcome)) }
     ensures err { IfErr result (λ failure. failure ≡ Failure.Memory) }
 {
+    let mut told = count_line(alloc, exported.rows)?;
+    told.add(&exported.told)?;
     Ok(Outcome {
-        printed: counted(alloc, exported.rows, exported.told.as_str())?,
+        printed: Printed::Told(told.finish()),
         status: 0,
         jar: None,
         file: Some(exported.text),

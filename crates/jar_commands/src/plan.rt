@@ -1,20 +1,26 @@
-//! What is asked, with its moment, its form and its URL read.
-ghost use Rattle.std.specs.Prelude.{◌≡◌, ◌==◌, ◌⊎◌, IfOk, IfErr, option_map};
+//! What is asked, read: a moment, forms, rules, a wait, and a command with its URLs.
+ghost use Rattle.std.specs.Prelude.{◌≡◌, ◌⊎◌, IfErr, IfOk, IfSome, IsNone, None, Some, false, option_map};
 ghost use Rattle.jiff.specs.Words.{civil_nanos};
 ghost use Rattle.jar_commands.specs.Plans as spec;
+ghost use Rattle.jar_commands.specs.RuleNames.{rules_asked};
 ghost use Rattle.jar_commands.specs.Started as started;
+ghost use Rattle.jar_commands.specs.Waiting as waiting;
 
+use crate::about::{Stopped, plain_about};
 use crate::failure::Failure;
 use crate::rule_names::rules_of;
-use cookie_jar::Form;
-use cookie_run::script::moment::moment_of;
+use crate::words::{Name, Words, form_named, reader_named};
+use cookie_client::moment::moment_of;
+use cookie_jar::{Form, Layout, Which};
 use cookies_txt::Reader;
-use jar_words::{Asked, Command, Format, Which};
 use jiff::civil::DateTime;
 use plain_url::is_plain_of;
 use std::alloc::Global;
 use url::{ParseError, Url};
 use user_agent::{Initiator, Rules};
+
+// For how many seconds it is waited where none are asked.
+const WAIT: u64 = 10;
 
 /// What starts a request.
 #[derive(Debug, Drop)]
@@ -51,44 +57,34 @@ fn by_page(page: &Url, is_navigation: bool) -> Initiator<'_>
     }
 }
 
-/// What is to be done to a jar.
+/// What is to be done to a jar. Each URL is that of a plain text.
 #[derive(Debug, Drop)]
-pub enum Task<'a> {
-    /// Takes the lines of heads that this URL answered.
-    Receive(Url, Start),
-    /// Prints the header of a request to this URL.
+pub enum Command<'a> {
+    /// `receive [--one] URL [--from PAGE [--navigate]]`: the URL, what started its request, and whether the last head
+    /// alone is taken, since no `Location` was followed.
+    Receive(Url, Start, bool),
+    /// `header URL [--from PAGE [--navigate]]`.
     Header(Url, Start),
-    /// Prints the value that a request to this URL gets of this name.
+    /// `get URL NAME`.
     Get(Url, &'a str),
-    /// Takes a line as one that this URL answered.
+    /// `set URL LINE`.
     Set(Url, &'a str),
-    /// Prints the table of all rows.
-    List,
-    /// Prints the table of what a request to this URL gets.
-    ListOf(Url),
-    /// Prints the table of the rows of this domain and of those below it.
-    ListUnder(&'a str),
-    /// Prints all rows as JSON.
-    ListJson,
-    /// Prints what a request to this URL gets as JSON.
-    ListJsonOf(Url),
-    /// Prints the rows of this domain and of those below it as JSON.
-    ListJsonUnder(&'a str),
-    /// Prints what a line from this URL means.
+    /// `list [--json] [--domain DOMAIN] [URL]`.
+    List(Which<'a>, Layout),
+    /// `explain URL LINE`.
     Explain(Url, &'a str),
-    /// Takes the row of a domain, a path and a name out.
+    /// `remove DOMAIN PATH NAME`.
     Remove(&'a str, &'a str, &'a str),
-    /// Takes all rows out.
+    /// `clear`.
     Clear,
-    /// Takes the rows of a text of this form in, or nothing where this is set and something of it is refused.
-    Import(Form, bool),
-    /// Gives the rows as a text of this form.
-    Export(Form),
-    /// Gives the rows as `cookies.txt` for this reader.
-    ExportFor(Reader),
+    /// `import [--strict] [--file-format FORM] FILE`: the file, its form, and whether nothing is taken where something
+    /// of it is refused.
+    Import(&'a str, Form, bool),
+    /// `export [--for READER] [--file-format FORM] FILE`: the file, its form, and who is to read it where that is said.
+    Export(&'a str, Form, Option<Reader>),
 }
 
-/// A task, with the moment at which it is done and the form of the jar's text.
+/// A command, with the moment at which it is done and what else the words say.
 #[derive(Debug, Drop)]
 pub struct Plan<'a> {
     /// The moment.
@@ -97,81 +93,82 @@ pub struct Plan<'a> {
     pub form: Form,
     /// The rules of user agents for lines.
     pub rules: Rules,
-    /// Whether `receive` tells of what it passes over.
+    /// For how many seconds another may hold the jar.
+    pub wait: u64,
+    /// Whether it is told what is passed over.
     pub is_verbose: bool,
+    /// The jar's file.
+    pub jar: &'a str,
     /// What is to be done.
-    pub task: Task<'a>,
+    pub command: Command<'a>,
 }
 
-/// The plan of what is asked; the moment is the clock's where none is asked.
+/// The plan of what words say; the moment is the clock's where none is asked.
 ///
 /// # Errors
 ///
-/// The first of `Moment`, `Format`, `Rules`, and then `Url`, where a text isn't a plain URL, and `From`, where that of
-/// the page isn't one, `OwnFile`, where an export is to the name of the jar, or `FileFormat`; `Memory` where memory was
+/// The first of `Moment`, `Format`, `Rules`, `OwnFile`, where an export is to the name of the jar, `Url`, where a text
+/// isn't a plain URL, `From`, where that of the page isn't one, `FileFormat`, and `Wait`; `Memory` where memory was
 /// refused for the rules or a URL.
 pub fn plan_of<'a>(
     alloc: Global,
-    asked: &Asked<'a>,
+    words: &Words<'a>,
     clock: Option<DateTime>,
-) -> Result<Plan<'a>, Failure>
-    ensures ok { IfOk result (λ plan.
-        spec.plan_of asked.entry.now (option_map civil_nanos clock) ≡ Ok (spec.plan_text plan)) }
-    ensures err { IfErr result (λ failure. (failure ≡ Failure.Memory)
-        ⊎ (spec.plan_of asked.entry.now (option_map civil_nanos clock) ≡ Err failure)) }
+) -> Result<Plan<'a>, Stopped>
+    ensures { IfOk result (λ plan. spec.is_onto plan.command plan.jar.now ≡ false) }
 {
-    let Some(at) = moment(asked.now, clock) else {
-        return Err(Failure::Moment);
-    };
-    let Some(form) = form_of(asked.format, asked.jar) else {
-        return Err(Failure::Format);
-    };
-    let rules = rules_of(alloc, asked.rules)?;
-    match task_asked(alloc, asked.command, asked.jar) {
-        Ok(task) => Ok(Plan {
-            at,
-            form,
-            rules,
-            is_verbose: asked.is_verbose,
-            task,
-        }),
-        Err(failure) => Err(failure),
-    }
+    let at = moment(alloc, words.value(Name::Now), clock)?;
+    let form = form_asked(alloc, words)?;
+    let rules = rules_for(alloc, words.value(Name::Rules))?;
+    let jar = words.jar();
+    let command = command_of(alloc, words, jar)?;
+    let wait = wait_asked(alloc, words.value(Name::Wait))?;
+    Ok(Plan {
+        at,
+        form,
+        rules,
+        wait,
+        is_verbose: words.has(Name::Verbose),
+        jar,
+        command,
+    })
 }
 
-// The moment that a text names, or the clock's.
-fn moment(text: Option<&str>, clock: Option<DateTime>) -> Option<DateTime>
-    ensures { option_map civil_nanos result
-        ≡ spec.moment_asked (option_map (λ text. text.now) text.entry) (option_map civil_nanos clock) }
+// ---- the moment, the form, the rules and the wait
+
+fn moment(alloc: Global, text: Option<&str>, clock: Option<DateTime>) -> Result<DateTime, Stopped>
+    ensures ok { IfOk result (λ at. Some (civil_nanos at)
+        ≡ spec.moment_asked (option_map (λ text. text.now) text.entry) (option_map civil_nanos clock)) }
+    ensures err { IfErr result (λ stopped. stopped.failure ≡ Failure.Moment) }
 {
-    match text {
-        Some(text) => match moment_of(text) {
-            Some(moment) => Some(moment.date),
-            None => None,
-        },
-        None => clock,
+    let Some(text) = text else {
+        return clock.ok_or(Stopped::of(Failure::Moment));
+    };
+    match moment_of(text) {
+        Some(moment) => Ok(moment.date),
+        None => Err(Stopped::named(
+            alloc,
+            Failure::Moment,
+            text,
+            ": no date and time of 1971 to 9998, as 2027-01-01T00:00:00Z",
+        )),
     }
 }
 
 // The form that is asked, or the one that the jar's name tells.
-fn form_of(format: Option<Format>, jar: &str) -> Option<Form>
-    ensures { result ≡ spec.form_asked format jar.now }
-{
-    match format {
-        Some(format) => Some(form_named(format)),
-        None => form_told(jar),
+fn form_asked(alloc: Global, words: &Words<'_>) -> Result<Form, Stopped> {
+    if let Some(format) = words.value(Name::Format) {
+        if let Some(form) = form_named(format) {
+            return Ok(form);
+        }
+    }
+    match form_told(words.jar()) {
+        Some(form) => Ok(form),
+        None => Err(Stopped::named(alloc, Failure::Format, words.jar(), ENDINGS)),
     }
 }
 
-fn form_named(format: Format) -> Form
-    ensures { result ≡ spec.form_named format }
-{
-    match format {
-        Format::Ron => Form::Ron,
-        Format::Json => Form::Json,
-        Format::Txt => Form::Txt,
-    }
-}
+const ENDINGS: &str = ": ends in neither .json, .ron nor .txt";
 
 // The form that the jar's name ends with, and JSON where its last part has no dot.
 fn form_told(jar: &str) -> Option<Form>
@@ -191,7 +188,7 @@ fn is_dotted(name: &str) -> bool
     last_part(name).iter().any(|b| *b == b'.')
 }
 
-// What stands behind the last slash of a name.
+/// What stands behind the last slash of a name.
 pub(crate) fn last_part(name: &str) -> &[u8]
     ensures { result.now ≡ spec.last_part name.now }
 {
@@ -201,134 +198,203 @@ pub(crate) fn last_part(name: &str) -> &[u8]
     }
 }
 
-// The task of a command over this jar.
-fn task_asked<'a>(alloc: Global, command: Command<'a>, jar: &str) -> Result<Task<'a>, Failure>
-    ensures ok { IfOk result (λ task. spec.task_asked command.entry jar.now ≡ Ok task) }
-    ensures err { IfErr result (λ failure.
-        (failure ≡ Failure.Memory) ⊎ (spec.task_asked command.entry jar.now ≡ Err failure)) }
+fn rules_for(alloc: Global, list: Option<&str>) -> Result<Rules, Stopped>
+    ensures ok { IfOk result (λ rules. rules_asked (option_map (λ text. text.now) list.entry) ≡ Some rules) }
 {
-    if is_onto(command, jar) {
-        return Err(Failure::OwnFile);
-    }
-    task_of(alloc, command)
-}
-
-// Whether it is an export to the name of the jar.
-fn is_onto(command: Command<'_>, jar: &str) -> bool
-    ensures { result ≡ spec.is_onto command.entry jar.now }
-{
-    match command {
-        Command::Export(file, _, _) => file == jar && file != "-",
-        _ => false,
+    match rules_of(alloc, list) {
+        Ok(rules) => Ok(rules),
+        Err(failure) => Err(Stopped::named(
+            alloc,
+            failure,
+            list.unwrap_or(""),
+            ": neither browser, none nor names of rules between commas",
+        )),
     }
 }
 
-// The task of a command.
-fn task_of<'a>(alloc: Global, command: Command<'a>) -> Result<Task<'a>, Failure>
-    ensures ok { IfOk result (λ task. spec.task_of command.entry ≡ Ok task) }
-    ensures err { IfErr result (λ failure.
-        (failure ≡ Failure.Memory) ⊎ (spec.task_of command.entry ≡ Err failure)) }
-{
-    match command {
-        Command::Receive(url, start) => {
-            Ok(Task::Receive(url_of(alloc, url)?, start_of(alloc, start)?))
-        }
-        Command::Header(url, start) => {
-            Ok(Task::Header(url_of(alloc, url)?, start_of(alloc, start)?))
-        }
-        Command::Get(url, name) => Ok(Task::Get(url_of(alloc, url)?, name)),
-        Command::Set(url, line) => Ok(Task::Set(url_of(alloc, url)?, line)),
-        Command::List(which) => list_task(alloc, which),
-        Command::ListJson(which) => json_task(alloc, which),
-        Command::Explain(url, line) => Ok(Task::Explain(url_of(alloc, url)?, line)),
-        Command::Remove(domain, path, name) => Ok(Task::Remove(domain, path, name)),
-        Command::Clear => Ok(Task::Clear),
-        Command::Import(file, format, is_strict) => {
-            Ok(Task::Import(form_of_file(format, file)?, is_strict))
-        }
-        Command::Export(file, format, reader) => export_task(form_of_file(format, file)?, reader),
+fn wait_asked(alloc: Global, text: Option<&str>) -> Result<u64, Stopped> {
+    match wait_of(text) {
+        Some(seconds) => Ok(seconds),
+        None => Err(Stopped::named(
+            alloc,
+            Failure::Wait,
+            text.unwrap_or(""),
+            ": no whole number of seconds",
+        )),
     }
 }
 
-// What starts the request, where the page's text is plain.
-fn start_of(alloc: Global, start: jar_words::Start<'_>) -> Result<Start, Failure>
-    ensures ok { IfOk result (λ started. spec.start_of start.entry ≡ Ok started) }
-    ensures err { IfErr result (λ failure.
-        (failure ≡ Failure.Memory) ⊎ (spec.start_of start.entry ≡ Err failure)) }
+// The seconds that are asked, or ten.
+fn wait_of(text: Option<&str>) -> Option<u64>
+    ensures some { IfSome result (waiting.IsWait (option_map (λ text. text.now) text.entry)) }
+    ensures none { IsNone result → waiting.IsNoWait (option_map (λ text. text.now) text.entry) }
 {
-    match start {
-        jar_words::Start::Unsaid => Ok(Start::Unsaid),
-        jar_words::Start::Page(page) => Ok(Start::Page(page_of(alloc, page)?)),
-        jar_words::Start::Navigation(page) => Ok(Start::Navigation(page_of(alloc, page)?)),
+    match text {
+        Some(text) => match text.parse::<u64>() {
+            Ok(seconds) => Some(seconds),
+            Err(_) => None,
+        },
+        None => Some(WAIT),
     }
 }
+
+// ---- the command
+
+// The command that words name, which has all of its words.
+fn command_of<'a>(alloc: Global, words: &Words<'a>, jar: &str) -> Result<Command<'a>, Stopped>
+    ensures { IfOk result (λ command. spec.is_onto command jar.now ≡ false) }
+{
+    let name = words.command();
+    let first = words.word(2).unwrap_or("");
+    let second = words.word(3).unwrap_or("");
+    if name == "receive" {
+        let url = url_of(alloc, first)?;
+        let start = start_of(alloc, words)?;
+        return Ok(Command::Receive(url, start, words.has(Name::One)));
+    }
+    if name == "header" {
+        let url = url_of(alloc, first)?;
+        return Ok(Command::Header(url, start_of(alloc, words)?));
+    }
+    if name == "get" {
+        return Ok(Command::Get(url_of(alloc, first)?, second));
+    }
+    if name == "set" {
+        return Ok(Command::Set(url_of(alloc, first)?, second));
+    }
+    if name == "explain" {
+        return Ok(Command::Explain(url_of(alloc, first)?, second));
+    }
+    if name == "list" {
+        return Ok(Command::List(which_of(alloc, words)?, layout_of(words)));
+    }
+    if name == "remove" {
+        return Ok(Command::Remove(first, second, words.word(4).unwrap_or("")));
+    }
+    if name == "import" {
+        let form = form_of_file(alloc, words, first, None)?;
+        return Ok(Command::Import(first, form, words.has(Name::Strict)));
+    }
+    if name == "export" {
+        return export_of(alloc, words, first, jar);
+    }
+    Ok(Command::Clear)
+}
+
+// `export`, to another name than the jar's.
+fn export_of<'a>(
+    alloc: Global,
+    words: &Words<'a>,
+    file: &'a str,
+    jar: &str,
+) -> Result<Command<'a>, Stopped>
+    ensures { IfOk result (λ command. spec.is_onto command jar.now ≡ false) }
+{
+    if is_own(file, jar) {
+        return Err(Stopped::named(alloc, Failure::OwnFile, file, ""));
+    }
+    let reader = reader_named(words.value(Name::For).unwrap_or(""));
+    let form = form_of_file(alloc, words, file, reader)?;
+    Ok(Command::Export(file, form, reader))
+}
+
+// Whether a file is the jar's own, by its name: `-` is the output's, and no file's.
+fn is_own(file: &str, jar: &str) -> bool
+    ensures { result ≡ spec.is_own file.now jar.now }
+{
+    file == jar && file != "-"
+}
+
+// What starts the request.
+fn start_of(alloc: Global, words: &Words<'_>) -> Result<Start, Stopped> {
+    let Some(page) = words.value(Name::From) else {
+        return Ok(Start::Unsaid);
+    };
+    let page = page_of(alloc, page)?;
+    if words.has(Name::Navigate) {
+        Ok(Start::Navigation(page))
+    } else {
+        Ok(Start::Page(page))
+    }
+}
+
+// The rows to list, by the URL and the domain.
+fn which_of<'a>(alloc: Global, words: &Words<'a>) -> Result<Which<'a>, Stopped> {
+    match (words.word(2), words.value(Name::Domain)) {
+        (Some(url), _) => Ok(Which::For(url_of(alloc, url)?)),
+        (None, Some(domain)) => Ok(Which::Under(domain)),
+        (None, None) => Ok(Which::All),
+    }
+}
+
+fn layout_of(words: &Words<'_>) -> Layout {
+    if words.has(Name::Json) {
+        Layout::Json
+    } else {
+        Layout::Table
+    }
+}
+
+// The form of the other file that is asked, or the one that its name ends with. `-` has that of `cookies.txt`. Only
+// `cookies.txt` is written for a reader.
+fn form_of_file(
+    alloc: Global,
+    words: &Words<'_>,
+    file: &str,
+    reader: Option<Reader>,
+) -> Result<Form, Stopped> {
+    let form = match words.value(Name::FileFormat) {
+        Some(format) => form_named(format),
+        None if file == "-" => Some(Form::Txt),
+        None => Form::of(file),
+    };
+    match (form, reader) {
+        (Some(Form::Txt), _) => Ok(Form::Txt),
+        (Some(form), None) => Ok(form),
+        (None, None) => Err(Stopped::named(alloc, Failure::FileFormat, file, ENDINGS)),
+        (_, Some(_)) => Err(Stopped::named(
+            alloc,
+            Failure::FileFormat,
+            file,
+            ": its form isn't txt, as --for has it",
+        )),
+    }
+}
+
+// ---- its URLs
 
 // The URL of a page whose text is plain.
-fn page_of(alloc: Global, text: &str) -> Result<Url, Failure>
+fn page_of(alloc: Global, text: &str) -> Result<Url, Stopped>
     ensures ok { IfOk result (λ url. spec.plain_of text.now ≡ Some url) }
-    ensures err { IfErr result (λ failure.
-        ((failure ≡ Failure.From) × (spec.plain_of text.now ≡ None)) ⊎ (failure ≡ Failure.Memory)) }
+    ensures err { IfErr result (λ stopped. ((stopped.failure ≡ Failure.From) × (spec.plain_of text.now ≡ None))
+        ⊎ (stopped.failure ≡ Failure.Memory)) }
 {
-    match url_of(alloc, text) {
+    match plain_url(alloc, text) {
         Ok(url) => Ok(url),
-        Err(Failure::Memory) => Err(Failure::Memory),
-        Err(_) => Err(Failure::From),
+        Err(Failure::Memory) => Err(Stopped::of(Failure::Memory)),
+        Err(_) => Err(Stopped::about(Failure::From, plain_about(alloc, text))),
     }
 }
 
-// The task of `list`.
-fn list_task<'a>(alloc: Global, which: Which<'a>) -> Result<Task<'a>, Failure>
-    ensures ok { IfOk result (λ task. spec.list_task which.entry ≡ Ok task) }
-    ensures err { IfErr result (λ failure.
-        (failure ≡ Failure.Memory) ⊎ (spec.list_task which.entry ≡ Err failure)) }
+// The URL of a plain text.
+fn url_of(alloc: Global, text: &str) -> Result<Url, Stopped>
+    ensures ok { IfOk result (λ url. spec.plain_of text.now ≡ Some url) }
+    ensures err { IfErr result (λ stopped. ((stopped.failure ≡ Failure.Url) × (spec.plain_of text.now ≡ None))
+        ⊎ (stopped.failure ≡ Failure.Memory)) }
 {
-    match which {
-        Which::All => Ok(Task::List),
-        Which::For(url) => Ok(Task::ListOf(url_of(alloc, url)?)),
-        Which::Under(domain) => Ok(Task::ListUnder(domain)),
-    }
-}
-
-// The task of `list --json`.
-fn json_task<'a>(alloc: Global, which: Which<'a>) -> Result<Task<'a>, Failure>
-    ensures ok { IfOk result (λ task. spec.json_task which.entry ≡ Ok task) }
-    ensures err { IfErr result (λ failure.
-        (failure ≡ Failure.Memory) ⊎ (spec.json_task which.entry ≡ Err failure)) }
-{
-    match which {
-        Which::All => Ok(Task::ListJson),
-        Which::For(url) => Ok(Task::ListJsonOf(url_of(alloc, url)?)),
-        Which::Under(domain) => Ok(Task::ListJsonUnder(domain)),
-    }
-}
-
-// The task of `export`, in a form: only `cookies.txt` is written for a reader.
-fn export_task<'a>(form: Form, reader: Option<jar_words::Reader>) -> Result<Task<'a>, Failure>
-    ensures { result ≡ spec.export_task form reader }
-{
-    match (reader, form) {
-        (None, form) => Ok(Task::Export(form)),
-        (Some(reader), Form::Txt) => Ok(Task::ExportFor(reader_named(reader))),
-        (Some(_), Form::Ron | Form::Json) => Err(Failure::FileFormat),
-    }
-}
-
-fn reader_named(reader: jar_words::Reader) -> Reader
-    ensures { result ≡ spec.reader_named reader }
-{
-    match reader {
-        jar_words::Reader::Curl => Reader::Curl,
-        jar_words::Reader::Wget => Reader::Wget,
-        jar_words::Reader::Python => Reader::Python,
+    match plain_url(alloc, text) {
+        Ok(url) => Ok(url),
+        Err(Failure::Memory) => Err(Stopped::of(Failure::Memory)),
+        Err(_) => Err(Stopped::about(Failure::Url, plain_about(alloc, text))),
     }
 }
 
 // The URL of a plain text: of any other, another program may read another one.
-#[tactic(auto, unfolding(cookie_run::specs::ScriptLine::url_of))]
-fn url_of(alloc: Global, text: &str) -> Result<Url, Failure>
+#[tactic(auto, unfolding(cookie_client::specs::Hosts::url_of))]
+fn plain_url(alloc: Global, text: &str) -> Result<Url, Failure>
     ensures ok { IfOk result (λ url. spec.plain_of text.now ≡ Some url) }
-    ensures err { IfErr result (λ failure.
-        ((failure ≡ Failure.Url) × (spec.plain_of text.now ≡ None)) ⊎ (failure ≡ Failure.Memory)) }
+    ensures err { IfErr result (λ failure. ((failure ≡ Failure.Url) × (spec.plain_of text.now ≡ None))
+        ⊎ (failure ≡ Failure.Memory)) }
 {
     match Url::parse(alloc, text) {
         Ok(url) => plain(url, text),
@@ -347,21 +413,5 @@ fn plain(url: Url, text: &str) -> Result<Url, Failure>
         Ok(url)
     } else {
         Err(Failure::Url)
-    }
-}
-
-// The form of the other file that is asked, or the one that its name ends with. `-` has that of `cookies.txt`.
-fn form_of_file(format: Option<Format>, file: &str) -> Result<Form, Failure>
-    ensures { result ≡ spec.form_of_file format file.now }
-{
-    if let Some(format) = format {
-        return Ok(form_named(format));
-    }
-    if file == "-" {
-        return Ok(Form::Txt);
-    }
-    match Form::of(file) {
-        Some(form) => Ok(form),
-        None => Err(Failure::FileFormat),
     }
 }

@@ -1,22 +1,28 @@
 //! What the program prints, and the other file of an export, which it writes before.
-ghost use Rattle.std.specs.Prelude.{◌≡◌, ◌⊎◌, IfErr, IfOk, OnOk, option_map, string_bytes, true};
+ghost use Rattle.std.specs.Prelude.{◌≡◌, ◌⊎◌, IfErr, IfOk, MatchOption, OnOk, [], ◌++◌, ◌∷◌, option_map};
+ghost use Rattle.std.specs.Prelude.{string_bytes, true};
 ghost use Rattle.std.specs.Io.KnownBytes.{Keeps};
 ghost use Rattle.devices.specs.Device.{Rose};
+ghost use Rattle.plain_url.specs.Plain.{HasNoPlain};
+ghost use Rattle.jar_commands.specs.Instead as urls;
 ghost use Rattle.jar_commands.specs.Outcomes.{outcome_text};
 ghost use Rattle.jar_commands.specs.Program as spec;
 ghost use Rattle.jar_commands.specs.declared.failure.Failure.{Failure};
 
 use crate::about::Stopped;
 use crate::failure::Failure;
+use crate::help::HELP;
 use crate::keeping::NAME;
 use crate::outcome::Outcome;
+use crate::plan::{Command, Plan};
 use crate::same_file::are_one_file;
-use cookie_run::version_line;
+use cookie_client::version_line;
+use cookie_jar::Shown;
 use devices::Sink;
 use devices::pour::write_all;
-use jar_words::{Command, HELP};
 use kept_file::place::Place;
-use std::alloc::Global;
+use plain_url::plain_for;
+use std::alloc::{AllocError, Global};
 use std::fs::Files;
 
 /// The name of the program's output, or input, in the place of a file's.
@@ -28,31 +34,29 @@ pub(crate) struct Done {
     /// The exit status, 0 or 1.
     pub(crate) status: u8,
     /// What an export tells of its rows, where it printed their text.
-    pub(crate) counted: Option<String>,
+    pub(crate) counted: Option<Shown>,
 }
 
 /// Writes the other file of an export, unless that is the jar, and prints; or prints the text of that file.
 pub(crate) fn finish<H: Files + AllocGlobal, W: Sink>(
     rt: &H,
-    command: Command<'_>,
-    jar: &str,
+    plan: &Plan<'_>,
     outcome: Outcome,
     writer: &mut W,
 ) -> Result<Done, Stopped>
     ensures ok { IfOk result (λ done. (done.status ≡ outcome.status) × spec.Printed
         (spec.written_by W.written W.failures writer.old writer.new)
-        (spec.output command.entry (outcome_text outcome))
-        × (option_map string_bytes done.counted ≡ spec.counted command.entry (outcome_text outcome))) }
+        (spec.output plan.now.command (outcome_text outcome))) }
     ensures err { IfErr result (λ stopped. (spec.IsUnwritten stopped.failure × (writer.new ≡ writer.old))
         ⊎ ((stopped.failure ≡ Failure.Output) × spec.Unprinted
         (spec.written_by W.written W.failures writer.old writer.new)
-        (spec.output command.entry (outcome_text outcome)))) }
+        (spec.output plan.now.command (outcome_text outcome)))) }
 {
-    if prints_text(command) {
+    if prints_text(&plan.command) {
         return print_text(outcome, writer);
     }
-    keep(rt, command, jar, &outcome)?;
-    match print(writer, outcome.printed.as_bytes(), outcome.status) {
+    keep(rt, plan, &outcome)?;
+    match print(writer, outcome.printed.as_str().as_bytes(), outcome.status) {
         Ok(status) => Ok(Done {
             status,
             counted: None,
@@ -62,11 +66,11 @@ pub(crate) fn finish<H: Files + AllocGlobal, W: Sink>(
 }
 
 // Whether a command prints the text of an export.
-fn prints_text(command: Command<'_>) -> bool
-    ensures { result ≡ spec.prints_text command.entry }
+fn prints_text(command: &Command<'_>) -> bool
+    ensures { result ≡ spec.prints_text command.now }
 {
     match command {
-        Command::Export(file, _, _) => file == DASH,
+        Command::Export(file, _, _) => *file == DASH,
         _ => false,
     }
 }
@@ -75,8 +79,7 @@ fn prints_text(command: Command<'_>) -> bool
 fn print_text<W: Sink>(outcome: Outcome, writer: &mut W) -> Result<Done, Stopped>
     ensures ok { IfOk result (λ done. (done.status ≡ outcome.status) × spec.Printed
         (spec.written_by W.written W.failures writer.old writer.new)
-        (spec.output_by true (outcome_text outcome))
-        × (option_map string_bytes done.counted ≡ spec.counted_by true (outcome_text outcome))) }
+        (spec.output_by true (outcome_text outcome))) }
     ensures err { IfErr result (λ stopped. (stopped.failure ≡ Failure.Output) × spec.Unprinted
         (spec.written_by W.written W.failures writer.old writer.new)
         (spec.output_by true (outcome_text outcome))) }
@@ -84,7 +87,7 @@ fn print_text<W: Sink>(outcome: Outcome, writer: &mut W) -> Result<Done, Stopped
     match print(writer, text_in(&outcome.file), outcome.status) {
         Ok(status) => Ok(Done {
             status,
-            counted: Some(outcome.printed),
+            counted: outcome.printed.told(),
         }),
         Err(failure) => Err(Stopped::of(failure)),
     }
@@ -128,29 +131,57 @@ pub(crate) fn print_version<W: Sink>(alloc: Global, writer: &mut W) -> Result<u8
     }
 }
 
+/// `url TEXT`: prints the plain text for TEXT. Gives the exit status.
+///
+/// # Errors
+///
+/// `Url` where there is none, `Memory`, and `Output` where the writer failed.
+pub(crate) fn print_plain<W: Sink>(alloc: Global, text: &str, writer: &mut W) -> Result<u8, Failure>
+    ensures { urls.GivesPlain (writer.new ≡ writer.old)
+        (record {
+          written = (W.written writer.old, W.written writer.new);
+          unwritten = (W.failures writer.old, W.failures writer.new);
+        })
+        text.now result }
+{
+    match plain_line(alloc, text) {
+        Ok(Some(line)) => print(writer, line.as_bytes(), 0),
+        Ok(None) => Err(Failure::Url),
+        Err(_) => Err(Failure::Memory),
+    }
+}
+
+// The plain text for a text, and a line feed.
+fn plain_line(alloc: Global, text: &str) -> Result<Option<String>, AllocError>
+    ensures { IfOk result (λ found. MatchOption found (HasNoPlain text.now)
+        (λ line. (plain : _) × urls.IsPlainInstead text.now plain × (string_bytes line ≡ plain ++ 10 ∷ []))) }
+{
+    let Some(plain) = plain_for(alloc, text)? else {
+        return Ok(None);
+    };
+    let mut line = plain;
+    line.push_str("\n")?;
+    Ok(Some(line))
+}
+
 // Writes the other file of an export, which isn't the jar itself.
-fn keep<H: Files + AllocGlobal>(
-    rt: &H,
-    command: Command<'_>,
-    jar: &str,
-    outcome: &Outcome,
-) -> Result<(), Stopped>
+fn keep<H: Files + AllocGlobal>(rt: &H, plan: &Plan<'_>, outcome: &Outcome) -> Result<(), Stopped>
     ensures { IfErr result (λ stopped. spec.IsUnwritten stopped.failure) }
 {
-    let (Command::Export(path, _, _), Some(text)) = (command, &outcome.file) else {
+    let (Command::Export(path, _, _), Some(text)) = (&plan.command, &outcome.file) else {
         return Ok(());
     };
-    if are_one_file(rt, path, jar) {
-        return Err(Stopped::of(Failure::OwnFile));
+    if are_one_file(rt, path, plan.jar) {
+        return Err(Stopped::named(rt.alloc(), Failure::OwnFile, path, ""));
     }
     match Place::of(rt, path, NAME).replace(rt, text) {
         Ok(()) => Ok(()),
-        Err(unwritten) => Err(Stopped::unwritten(unwritten, Failure::File)),
+        Err(unwritten) => Err(Stopped::unwritten(rt.alloc(), path, unwritten, Failure::File)),
     }
 }
 
 /// Prints the text whole. Gives the status then.
-#[tactic(auto, using(cookie_run::proofs::ProgramFacts::appends_kept, cookie_run::proofs::ProgramFacts::front_kept))]
+#[tactic(auto, using(cookie_client::proofs::Written::appends_kept, cookie_client::proofs::Written::front_kept))]
 pub(crate) fn print<W: Sink>(writer: &mut W, text: &[u8], status: u8) -> Result<u8, Failure>
     ensures ok { IfOk result (λ given. (given ≡ status) × spec.Printed
         (spec.written_by W.written W.failures writer.old writer.new)

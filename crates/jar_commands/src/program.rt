@@ -1,32 +1,22 @@
 //! The program: a command over the files of a jar.
-ghost use Rattle.std.specs.Prelude.{◌≡◌, ◌⊎◌, ℕ, List, Option, Result, IfErr, IfOk, IfSome, OnErr, None, map};
-ghost use Rattle.std.specs.Prelude.{option_map, string_bytes};
-ghost use Rattle.jiff.specs.Words.{civil_nanos};
-ghost use Rattle.jar_words.specs.Reading.{ReadsWords};
-ghost use Rattle.jar_words.specs.UrlAsked.{url_asked};
-ghost use Rattle.jar_words.specs.declared.asked.Asked.{Asked};
-ghost use Rattle.jar_words.specs.declared.refusal.Refusal.{Refusal};
-ghost use Rattle.jar_commands.specs.About as abouts;
-ghost use Rattle.jar_commands.specs.Dropped as rows;
-ghost use Rattle.jar_commands.specs.Failures.{spot_of};
-ghost use Rattle.jar_commands.specs.Instead as urls;
+ghost use Rattle.std.specs.Prelude.{◌≡◌, ◌⊎◌, ℕ, List, Option, Result, IfErr, IfOk, OnErr, option_map};
 ghost use Rattle.jar_commands.specs.Performing.{Brings, BringsNothing, UnreadBut, read_by};
+ghost use Rattle.jar_commands.specs.Plans.{plan_text};
 ghost use Rattle.jar_commands.specs.Program as spec;
 ghost use Rattle.jar_commands.specs.ProgramKept as kept_spec;
 ghost use Rattle.jar_commands.specs.declared.failure.Failure.{Failure};
 
-use crate::about::Stopped;
+use crate::about::{Stopped, name_text};
 use crate::answering::read_input;
-use crate::dropped::dropped_of;
 pub use crate::ended::Ended;
-use crate::ended::{about_words, failed, told, url_told};
+use crate::ended::{refused, url_told};
 use crate::failure::Failure;
-use crate::instead::{Instead, instead_of, print_plain};
-use crate::keeping::{NAME, outcome_of, read_jar, wait_of};
-use crate::plan::plan_of;
-use crate::printing::{DASH, Done, finish, print_help, print_version};
+use crate::keeping::{outcome_of, read_jar};
+use crate::plan::{Command, Plan, plan_of};
+use crate::printing::{DASH, Done, finish, print_help, print_plain, print_version};
+use crate::words::{Name, Refusal, Words, read, url_asked};
+use cookie_jar::Shown;
 use devices::{Sink, Source};
-use jar_words::{Asked, Command, Refusal, url_asked};
 use jiff::civil::DateTime;
 use kept_file::{Keeper, files};
 use std::alloc::{AllocError, Global};
@@ -52,153 +42,104 @@ use std::io::ErrorKind;
 /// the jar is read, its new text is put in its place, and the lock is given back before anything is printed.
 ///
 /// `url TEXT` has no jar: it prints the plain text for TEXT.
-pub fn program<'a, H: Files + AllocGlobal, K: Keeper, R: Source, W: Sink>(
+#[tactic(auto, using(crate::proofs::ProgramLemmas::plain_without))]
+pub fn program<H: Files + AllocGlobal, K: Keeper, R: Source, W: Sink>(
     rt: &H,
-    words: &'a [String],
+    words: &[String],
     clock: Option<DateTime>,
-    lists: &[&'a str],
+    lists: &[&str],
     kept: &mut K,
     reader: &mut R,
     writer: &mut W,
-) -> Ended<'a>
-    ensures url { IfSome (url_asked (map (λ word. string_bytes word) words.entry.now)) (λ text.
-        (given : Result ℕ Failure) × urls.GivesPlain (writer.new ≡ writer.old)
-        (spec.written_by W.written W.failures writer.old writer.new)
-        text given
-        × spec.IsToldBy given result.status (option_map (λ said. said.now) result.failure)
-        × abouts.TellsUrl text given (option_map string_bytes result.about)
-        × (result.spot ≡ spot_of given) × (reader.new ≡ reader.old) × (K.lock kept.new ≡ K.lock kept.old)
-        × (result.instead ≡ None) × (result.dropped ≡ None) × (result.counted ≡ None)
-        × (option_map (λ path. path.now) result.list ≡ None)) }
-    ensures tells { url_asked (map (λ word. string_bytes word) words.entry.now) ≡ None
-        → (read : Result Asked Refusal) × ReadsWords (map (λ word. string_bytes word) words.entry.now) read
-        × ((given : Result ℕ Failure) × spec.Runs (reader.new ≡ reader.old) (writer.new ≡ writer.old)
+) -> Ended
+    ensures { kept_spec.Runs (reader.new ≡ reader.old) (writer.new ≡ writer.old)
         (read_by R.left R.reads R.failures reader.old reader.new)
         (spec.written_by W.written W.failures writer.old writer.new)
-        (option_map civil_nanos clock) read (option_map string_bytes result.counted) given
-        × spec.IsToldBy given result.status (option_map (λ said. said.now) result.failure)
-        × urls.TellsInstead read given (option_map string_bytes result.instead)
-        × abouts.TellsAbout read (map (λ path. path.now) lists.now) given
-        (option_map string_bytes result.instead) (option_map string_bytes result.about)
-        × (result.spot ≡ spot_of given))
-        × IfSome result.dropped (λ told. rows.TellsJar read (option_map civil_nanos clock) (string_bytes told))
-        × spec.TellsList read (map (λ path. path.now) lists.now) (option_map (λ path. path.now) result.list)
-        × kept_spec.WordsKeep (reader.new ≡ reader.old)
-        (read_by R.left R.reads R.failures reader.old reader.new)
-        (option_map civil_nanos clock) (K.lock kept.old, K.lock kept.new) result.status read }
+        (K.lock kept.old, K.lock kept.new) result.status }
 {
     if let Some(text) = url_asked(words) {
         return url_told(rt.alloc(), text, print_plain(rt.alloc(), text, writer));
     }
-    let asked = match jar_words::read(words) {
-        Ok(asked) => asked,
-        Err(refusal) => return answered(rt.alloc(), refusal, writer),
-    };
-    run(rt, &asked, clock, lists, kept, reader, writer)
+    match read(rt.alloc(), words) {
+        Ok(words) => run_words(rt, &words, clock, lists, kept, reader, writer),
+        Err(refusal) => answered(rt.alloc(), refusal, writer),
+    }
 }
 
 // Prints what is asked of the program itself, or tells why the words ask for nothing.
-fn answered<'a, W: Sink>(alloc: Global, refusal: Refusal<'_>, writer: &mut W) -> Ended<'a>
-    ensures tells { (given : Result ℕ Failure) × spec.IsRefused (writer.new ≡ writer.old)
-        (spec.written_by W.written W.failures writer.old writer.new)
-        refusal.entry given
-        × spec.IsToldBy given result.status (option_map (λ said. said.now) result.failure)
-        × (result.spot ≡ spot_of given) }
-    ensures about { abouts.TellsRefusal refusal.entry (option_map string_bytes result.about) }
-    ensures list { option_map (λ path. path.now) result.list ≡ None }
-    ensures rest { (result.instead ≡ None) × (result.dropped ≡ None) × (result.counted ≡ None) }
-{
-    let mut ended = told(None, printed(alloc, refusal, writer));
-    ended.about = about_words(alloc, refusal);
-    ended
-}
-
-// Prints the help or the version, where that is asked.
-fn printed<W: Sink>(alloc: Global, refusal: Refusal<'_>, writer: &mut W) -> Result<u8, Failure>
-    ensures { spec.IsRefused (writer.new ≡ writer.old)
-        (spec.written_by W.written W.failures writer.old writer.new)
-        refusal.entry result }
+fn answered<W: Sink>(alloc: Global, refusal: Refusal<'_>, writer: &mut W) -> Ended
+    ensures { spec.IsWithoutJar (writer.new ≡ writer.old)
+        (spec.written_by W.written W.failures writer.old writer.new) result.status }
 {
     match refusal {
-        Refusal::Help => print_help(writer),
-        Refusal::Version => print_version(alloc, writer),
-        Refusal::Words(kind, _) => Err(Failure::Words(kind)),
+        Refusal::Help => Ended::of(print_help(writer)),
+        Refusal::Version => Ended::of(print_version(alloc, writer)),
+        refusal => Ended::stopped(refused(alloc, refusal)),
     }
 }
 
-// Runs what is asked.
-fn run<'a, H: Files + AllocGlobal, K: Keeper, R: Source, W: Sink>(
+// Runs what words ask for.
+fn run_words<H: Files + AllocGlobal, K: Keeper, R: Source, W: Sink>(
     rt: &H,
-    asked: &Asked<'a>,
+    words: &Words<'_>,
     clock: Option<DateTime>,
-    lists: &[&'a str],
+    lists: &[&str],
     kept: &mut K,
     reader: &mut R,
     writer: &mut W,
-) -> Ended<'a>
-    ensures tells { (given : Result ℕ Failure) × spec.Serves (reader.new ≡ reader.old) (writer.new ≡ writer.old)
+) -> Ended
+    ensures { kept_spec.RunsWords (reader.new ≡ reader.old) (writer.new ≡ writer.old)
         (read_by R.left R.reads R.failures reader.old reader.new)
         (spec.written_by W.written W.failures writer.old writer.new)
-        asked.entry.now (option_map civil_nanos clock) (option_map string_bytes result.counted) given
-        × spec.IsToldBy given result.status (option_map (λ said. said.now) result.failure)
-        × urls.TellsAskedInstead asked.entry.now given (option_map string_bytes result.instead)
-        × abouts.TellsAskedAbout asked.entry.now (map (λ path. path.now) lists.now) given
-        (option_map string_bytes result.instead) (option_map string_bytes result.about)
-        × (result.spot ≡ spot_of given) }
-    ensures dropped { IfSome result.dropped (λ told.
-        rows.IsToldOfJar asked.entry.now (option_map civil_nanos clock) (string_bytes told)) }
-    ensures keeps { kept_spec.KeepsJar (reader.new ≡ reader.old)
-        (read_by R.left R.reads R.failures reader.old reader.new)
-        asked.entry.now (option_map civil_nanos clock) (K.lock kept.old, K.lock kept.new) result.status }
-    ensures list { spec.TellsAskedList asked.entry.now (map (λ path. path.now) lists.now)
-        (option_map (λ path. path.now) result.list) }
+        (K.lock kept.old, K.lock kept.new) result.status }
 {
-    let list = list_file(rt, asked.suffixes, lists);
-    let list_told = if asked.is_verbose { Some(list) } else { None };
-    // It is handed on twice, of which the borrow checker covers one: so the first is a copy.
-    let at = clock;
-    match beside(rt, asked, at) {
-        Ok((instead, dropped)) => match serve(rt, asked, clock, list, kept, reader, writer) {
-            Ok(done) => {
-                let mut ended = told(list_told, Ok(done.status));
-                ended.counted = done.counted;
-                ended.dropped = dropped;
-                ended
-            }
-            Err(stopped) => {
-                let mut ended = failed(rt.alloc(), asked, list, stopped, instead);
-                ended.list = list_told;
-                ended.dropped = dropped;
-                ended
-            }
-        },
-        Err(_) => told(list_told, Err(Failure::Memory)),
+    let list = list_file(rt, words.value(Name::Suffixes), lists);
+    let told = match list_told(rt.alloc(), words, list) {
+        Ok(told) => told,
+        Err(_) => return Ended::stopped(Stopped::of(Failure::Memory)),
+    };
+    match plan_of(rt.alloc(), words, clock) {
+        Ok(plan) => run(rt, &plan, list, kept, reader, writer).with_list(told),
+        Err(stopped) => Ended::stopped(stopped).with_list(told),
     }
 }
 
-// What may be told beside a failure, and of the rows that the jar drops.
-fn beside<H: Files + AllocGlobal>(
-    rt: &H,
-    asked: &Asked<'_>,
-    clock: Option<DateTime>,
-) -> Result<(Instead, Option<String>), AllocError>
-    ensures { IfOk result (λ found.
-        urls.IsInstead (urls.url_in asked.entry.now.command) (option_map string_bytes found.0.url)
-        × urls.IsInstead (urls.page_in asked.entry.now.command) (option_map string_bytes found.0.page)
-        × IfSome found.1 (λ told.
-        rows.IsToldOfJar asked.entry.now (option_map civil_nanos clock) (string_bytes told))) }
-{
-    let instead = instead_of(rt.alloc(), asked.command)?;
-    let dropped = dropped_of(rt, asked, clock, NAME)?;
-    Ok((instead, dropped))
+// The file of the suffix list, where it is to be told.
+fn list_told(alloc: Global, words: &Words<'_>, list: &str) -> Result<Option<Shown>, AllocError> {
+    if words.has(Name::Verbose) {
+        Ok(Some(name_text(alloc, list)?))
+    } else {
+        Ok(None)
+    }
 }
 
-// The file of the suffix list that counts: the one that is asked, else the first of these that is
-// there, else the last.
-fn list_file<'a, H: Files>(rt: &H, asked: Option<&'a str>, lists: &[&'a str]) -> &'a str
-    ensures { spec.IsListFile (option_map (λ path. path.now) asked.entry)
-        (map (λ path. path.now) lists.now) result.now }
+/// Does what is planned, with the suffix list of this file.
+pub fn run<H: Files + AllocGlobal, K: Keeper, R: Source, W: Sink>(
+    rt: &H,
+    plan: &Plan<'_>,
+    list: &str,
+    kept: &mut K,
+    reader: &mut R,
+    writer: &mut W,
+) -> Ended
+    ensures tells { (given : Result ℕ Failure) × spec.Serves (reader.new ≡ reader.old) (writer.new ≡ writer.old)
+        (read_by R.left R.reads R.failures reader.old reader.new)
+        (spec.written_by W.written W.failures writer.old writer.new)
+        (plan_text plan.now) given
+        × spec.IsToldBy given result.status }
+    ensures keeps { kept_spec.KeepsJar (reader.new ≡ reader.old)
+        (read_by R.left R.reads R.failures reader.old reader.new)
+        (plan_text plan.now) (K.lock kept.old, K.lock kept.new) result.status }
 {
+    let mut dropped = None;
+    match serve(rt, plan, list, &mut dropped, kept, reader, writer) {
+        Ok(done) => Ended::with(done.status).with_rows(dropped, done.counted),
+        Err(stopped) => Ended::stopped(stopped).with_rows(dropped, None),
+    }
+}
+
+// The file of the suffix list that counts: the one that is asked, else the first of these that is there, else the last.
+fn list_file<'a, H: Files>(rt: &H, asked: Option<&'a str>, lists: &[&'a str]) -> &'a str {
     if let Some(asked) = asked {
         return asked;
     }
@@ -222,9 +163,9 @@ fn is_there<H: Files>(rt: &H, path: &str) -> bool {
 // Reads the files, answers for them, writes those that are to change, and prints.
 fn serve<H: Files + AllocGlobal, K: Keeper, R: Source, W: Sink>(
     rt: &H,
-    asked: &Asked<'_>,
-    clock: Option<DateTime>,
+    plan: &Plan<'_>,
     list: &str,
+    dropped: &mut Option<Shown>,
     kept: &mut K,
     reader: &mut R,
     writer: &mut W,
@@ -232,45 +173,29 @@ fn serve<H: Files + AllocGlobal, K: Keeper, R: Source, W: Sink>(
     ensures serves_ok { IfOk result (λ done. spec.Ends (reader.new ≡ reader.old)
         (read_by R.left R.reads R.failures reader.old reader.new)
         (spec.written_by W.written W.failures writer.old writer.new)
-        asked.entry.now (option_map civil_nanos clock) done.status (option_map string_bytes done.counted)) }
+        (plan_text plan.now) done.status) }
     ensures serves_err { IfErr result (λ stopped. spec.RunFails (reader.new ≡ reader.old) (writer.new ≡ writer.old)
         (read_by R.left R.reads R.failures reader.old reader.new)
         (spec.written_by W.written W.failures writer.old writer.new)
-        asked.entry.now (option_map civil_nanos clock) stopped.failure) }
+        (plan_text plan.now) stopped.failure) }
     ensures keeps_ok { IfOk result (λ done. kept_spec.KeepsJar (reader.new ≡ reader.old)
         (read_by R.left R.reads R.failures reader.old reader.new)
-        asked.entry.now (option_map civil_nanos clock) (K.lock kept.old, K.lock kept.new) done.status) }
+        (plan_text plan.now) (K.lock kept.old, K.lock kept.new) done.status) }
     ensures keeps_err { OnErr result (kept_spec.KeepsJar (reader.new ≡ reader.old)
         (read_by R.left R.reads R.failures reader.old reader.new)
-        asked.entry.now (option_map civil_nanos clock) (K.lock kept.old, K.lock kept.new) 2) }
+        (plan_text plan.now) (K.lock kept.old, K.lock kept.new) 2) }
 {
-    let plan = match plan_of(rt.alloc(), asked, clock) {
-        Ok(plan) => plan,
-        Err(failure) => return Err(Stopped::of(failure)),
-    };
-    let wait = match wait_of(asked.wait) {
-        Some(wait) => wait,
-        None => return Err(Stopped::of(Failure::Wait)),
-    };
-    let given = bring(rt, asked.command, reader);
+    let given = bring(rt, &plan.command, reader);
     let suffixes = match read_suffixes(rt, list) {
         Ok(suffixes) => suffixes,
         Err(stopped) => return Err(stopped),
     };
     let brought = match given {
         Ok(brought) => brought,
-        Err(stopped) => return Err(first_of(rt, asked.jar, stopped)),
+        Err(stopped) => return Err(first_of(rt, plan.jar, stopped)),
     };
-    match outcome_of(
-        rt,
-        &plan,
-        asked.jar,
-        wait,
-        &suffixes,
-        brought.as_deref(),
-        kept,
-    ) {
-        Ok(outcome) => finish(rt, asked.command, asked.jar, outcome, writer),
+    match outcome_of(rt, plan, list, &suffixes, brought.as_deref(), dropped, kept) {
+        Ok(outcome) => finish(rt, plan, outcome, writer),
         Err(stopped) => Err(stopped),
     }
 }
@@ -278,16 +203,16 @@ fn serve<H: Files + AllocGlobal, K: Keeper, R: Source, W: Sink>(
 // What is brought to a command: all that the reader has, or the bytes of the other file of an import.
 fn bring<H: Files + AllocGlobal, R: Source>(
     rt: &H,
-    command: Command<'_>,
+    command: &Command<'_>,
     reader: &mut R,
 ) -> Result<Option<Vec<u8>>, Stopped>
     ensures ok { IfOk result (λ brought. (given : Option (List ℕ)) × Brings (reader.new ≡ reader.old)
         (read_by R.left R.reads R.failures reader.old reader.new)
-        (spec.reads_input command.entry) given (option_map (λ text. text.items) brought)) }
+        (spec.reads_input command.now) given (option_map (λ text. text.items) brought)) }
     ensures err { IfErr result (λ stopped. BringsNothing
         (read_by R.left R.reads R.failures reader.old reader.new)
-        (spec.reads_input command.entry) stopped.failure
-        ⊎ (spec.IsOfFiles stopped.failure × UnreadBut (reader.new ≡ reader.old) (spec.reads_input command.entry))) }
+        (spec.reads_input command.now) stopped.failure
+        ⊎ (spec.IsOfFiles stopped.failure × UnreadBut (reader.new ≡ reader.old) (spec.reads_input command.now))) }
 {
     if !reads_input(command) {
         return read_given(rt, command);
@@ -299,12 +224,12 @@ fn bring<H: Files + AllocGlobal, R: Source>(
 }
 
 // Whether a command reads the program's input.
-fn reads_input(command: Command<'_>) -> bool
-    ensures { result ≡ spec.reads_input command.entry }
+fn reads_input(command: &Command<'_>) -> bool
+    ensures { result ≡ spec.reads_input command.now }
 {
     match command {
-        Command::Receive(_, _) => true,
-        Command::Import(file, _, _) => file == DASH,
+        Command::Receive(_, _, _) => true,
+        Command::Import(file, _, _) => *file == DASH,
         _ => false,
     }
 }
@@ -325,14 +250,14 @@ fn read_suffixes<H: Files + AllocGlobal>(rt: &H, path: &str) -> Result<Vec<u8>, 
 {
     match files::read(rt, path) {
         Ok(text) => Ok(text),
-        Err(unread) => Err(Stopped::unread(unread, Failure::SuffixFile)),
+        Err(unread) => Err(Stopped::unread(rt.alloc(), path, unread, Failure::SuffixFile)),
     }
 }
 
 // All that the other file of an import holds.
 fn read_given<H: Files + AllocGlobal>(
     rt: &H,
-    command: Command<'_>,
+    command: &Command<'_>,
 ) -> Result<Option<Vec<u8>>, Stopped>
     ensures { IfErr result (λ stopped. spec.IsOfFiles stopped.failure) }
 {
@@ -341,6 +266,6 @@ fn read_given<H: Files + AllocGlobal>(
     };
     match files::read(rt, path) {
         Ok(text) => Ok(Some(text)),
-        Err(unread) => Err(Stopped::unread(unread, Failure::File)),
+        Err(unread) => Err(Stopped::unread(rt.alloc(), path, unread, Failure::File)),
     }
 }

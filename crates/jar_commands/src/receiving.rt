@@ -1,10 +1,11 @@
 //! The command that takes what URLs answered.
-ghost use Rattle.std.specs.Prelude.{◌≡◌, ◌⊎◌, ◌++◌, ◌||◌, is_some, IfOk, IfErr, IsSomeAnd, OnOk, map, string_bytes};
+ghost use Rattle.std.specs.Prelude.{◌≡◌, ◌⊎◌, ◌||◌, is_some, IfOk, IfErr, IsSomeAnd, OnOk, map};
 ghost use Rattle.std.specs.Prelude.{None, if◌then◌else◌};
 ghost use Rattle.std.specs.Option.{option_copied};
 ghost use Rattle.jiff.specs.Words.{civil_nanos};
-ghost use Rattle.response_heads.specs.Visits.{GivesVisits, visit_lines, visit_text};
+ghost use Rattle.response_heads.specs.Visits.{IsVisitRefusal, visit_text};
 ghost use Rattle.cookie_jar.specs.Taking.{TakesAll};
+ghost use Rattle.cookie_jar.specs.Terminal.{ArePlain};
 ghost use Rattle.jar_commands.specs.Outcomes.{GivesReceived, outcome_text};
 ghost use Rattle.jar_commands.specs.Performing.{FailsToReceive};
 ghost use Rattle.jar_commands.specs.Plans.{plan_text};
@@ -17,16 +18,16 @@ use crate::jar_text::saved;
 use crate::outcome::Outcome;
 use crate::passed_over::{push_line, push_passed_over};
 use crate::plan::{Plan, Start};
-use cookie_jar::{End, Form, Jar, is_refused, told_lines};
+use cookie_jar::{End, Jar, Shown, is_refused, told_lines};
 use jiff::civil::DateTime;
-use response_heads::{LineFault, LocationFault, Lost, ReadError, Visit, Visited, visits};
+use response_heads::{LocationFault, Lost, ReadError, StopFault, Visit, Visited, answer, visits};
 use std::alloc::{AllocError, Global};
 use url::Url;
 
 // What is told of lines, and whether one of them was refused or heads are left out.
 #[derive(Drop)]
 struct Received {
-    told: String,
+    told: Shown,
     is_any_refused: bool,
 }
 
@@ -37,15 +38,16 @@ pub(crate) fn receive(
     jar: &mut Jar,
     url: &Url,
     start: &Start,
+    is_one: bool,
     brought: Option<&[u8]>,
 ) -> Result<Outcome, Failure>
     ensures ok { IfOk result (λ outcome. IsSomeAnd (option_copied brought.entry) (λ text.
-        GivesReceived (plan_text plan.now) jar.old url.now start.now text (outcome_text outcome))) }
+        GivesReceived (plan_text plan.now) jar.old url.now start.now is_one text (outcome_text outcome))) }
     ensures err { IfErr result
-        (FailsToReceive (plan_text plan.now) jar.old url.now start.now (option_copied brought.entry)) }
+        (FailsToReceive (plan_text plan.now) jar.old url.now start.now is_one (option_copied brought.entry)) }
 {
     match brought {
-        Some(text) => receive_text(alloc, plan, jar, url, start, text),
+        Some(text) => receive_text(alloc, plan, jar, url, start, is_one, text),
         None => Err(Failure::Input),
     }
 }
@@ -57,16 +59,17 @@ fn receive_text(
     jar: &mut Jar,
     url: &Url,
     start: &Start,
+    is_one: bool,
     text: &[u8],
 ) -> Result<Outcome, Failure>
     ensures ok { IfOk result (λ outcome.
-        GivesReceived (plan_text plan.now) jar.old url.now start.now text.now (outcome_text outcome)) }
-    ensures err { IfErr result (FailsToTake (plan_text plan.now) jar.old url.now start.now text.now) }
+        GivesReceived (plan_text plan.now) jar.old url.now start.now is_one text.now (outcome_text outcome)) }
+    ensures err { IfErr result (FailsToTake (plan_text plan.now) jar.old url.now start.now is_one text.now) }
 {
     let Received {
         told,
         is_any_refused,
-    } = receive_heads(alloc, plan, jar, url, start, text)?;
+    } = receive_heads(alloc, plan, jar, url, start, is_one, text)?;
     match saved(plan, jar) {
         Ok(text) => Ok(Outcome::kept(told, status_of(is_any_refused), text)),
         Err(failure) => Err(failure),
@@ -87,53 +90,100 @@ fn receive_heads(
     jar: &mut Jar,
     url: &Url,
     start: &Start,
+    is_one: bool,
     text: &[u8],
 ) -> Result<Received, Failure>
-    ensures ok { IfOk result (λ received. spec.TakesHeads plan.now.is_verbose plan.now.form plan.now.rules start.now
-        jar.old (civil_nanos plan.now.at) url.now text.now (string_bytes received.told) received.is_any_refused
-        jar.new.rows) }
+    ensures ok { IfOk result (λ received. spec.TakesHeads is_one plan.now.form plan.now.rules start.now jar.old
+        (civil_nanos plan.now.at) url.now text.now received.is_any_refused jar.new.rows) }
     ensures err { IfErr result (λ failure. (failure ≡ Failure.Memory) ⊎ spec.IsNoHeads text.now failure) }
 {
-    let Visited { visits, lost } = visits_of(alloc, url, text)?;
+    let Visited { visits, lost, stop } = visits_of(alloc, is_one, url, text)?;
     let received = receive_visits(alloc, plan, jar, start, &visits)?;
-    Ok(with_lost(alloc, received, lost)?)
+    let received = with_lost(received, lost)?;
+    Ok(with_stop(received, stop)?)
 }
 
-// The heads of a text, each with the URL that answered it.
-fn visits_of<'a>(alloc: Global, url: &Url, text: &'a [u8]) -> Result<Visited<'a>, Failure>
-    ensures ok { IfOk result (λ given.
-        GivesVisits url.now text.now (map visit_text given.visits.items) given.lost) }
+// The heads of a text, each with the URL that answered it, or the last of them, where this URL alone was asked.
+fn visits_of<'a>(
+    alloc: Global,
+    is_one: bool,
+    url: &Url,
+    text: &'a [u8],
+) -> Result<Visited<'a>, Failure>
+    ensures ok { IfOk result (λ given. spec.AreVisits is_one url.now text.now
+        (map visit_text given.visits.items) given.lost given.stop) }
     ensures err { IfErr result (λ failure. (failure ≡ Failure.Memory) ⊎ spec.IsNoHeads text.now failure) }
 {
-    match visits(alloc, url, text) {
+    match read_visits(alloc, is_one, url, text) {
         Ok(given) => Ok(given),
         Err(ReadError::OutOfMemory) => Err(Failure::Memory),
         Err(ReadError::Line(line, _)) => Err(Failure::Heads(line)),
     }
 }
 
-// What is told where heads are left out, behind what was told.
-fn with_lost(alloc: Global, received: Received, lost: Option<Lost>) -> Result<Received, AllocError>
-    ensures { IfOk result (λ more.
-        (string_bytes more.told ≡ string_bytes received.told ++ spec.lost_line lost)
-        × (more.is_any_refused ≡ (received.is_any_refused || is_some lost))) }
+// The heads that are read, or the last of them.
+fn read_visits<'a>(
+    alloc: Global,
+    is_one: bool,
+    url: &Url,
+    text: &'a [u8],
+) -> Result<Visited<'a>, ReadError>
+    ensures ok { IfOk result (λ given. spec.AreVisits is_one url.now text.now
+        (map visit_text given.visits.items) given.lost given.stop) }
+    ensures err { IfErr result (IsVisitRefusal text.now) }
 {
-    let Some(Lost { line, fault }) = lost else {
+    if is_one {
+        answer(alloc, url, text)
+    } else {
+        visits(alloc, url, text)
+    }
+}
+
+// What is told where heads are left out, behind what was told.
+fn with_lost(received: Received, lost: Option<Lost>) -> Result<Received, AllocError>
+    ensures { IfOk result (λ more. more.is_any_refused ≡ (received.is_any_refused || is_some lost)) }
+{
+    let Some(lost) = lost else {
         return Ok(received);
     };
     let mut told = received.told;
-    let words = location_words(fault);
-    let more = format!(in alloc; "{words}{line}\n")?;
-    told.push_str(more.as_str())?;
+    let line = u64::try_from(lost.line).unwrap_or(u64::MAX);
+    push_line(&mut told, location_words(lost.fault), line)?;
     Ok(Received {
         told,
         is_any_refused: true,
     })
 }
 
+// What is told where heads are left out from a line on, behind what was told.
+fn with_stop(received: Received, stop: Option<(usize, StopFault)>) -> Result<Received, AllocError>
+    ensures { IfOk result (λ more. more.is_any_refused ≡ (received.is_any_refused || is_some stop)) }
+{
+    let Some((number, fault)) = stop else {
+        return Ok(received);
+    };
+    let mut told = received.told;
+    push_line(&mut told, stop_words(fault), number as u64)?;
+    Ok(Received {
+        told,
+        is_any_refused: true,
+    })
+}
+
+// Why nothing is read from a line on.
+fn stop_words(fault: StopFault) -> &'static str
+    ensures { ArePlain result.now }
+{
+    match fault {
+        StopFault::Status => "refused: no status line\theads from line ",
+        StopFault::Between => "refused: text between heads\theads from line ",
+        StopFault::Unended => "refused: head without an end\theads from line ",
+    }
+}
+
 // Why a line leads to no URL, and what is left out for that.
 fn location_words(fault: LocationFault) -> &'static str
-    ensures { result.now ≡ spec.location_words fault }
+    ensures { ArePlain result.now }
 {
     match fault {
         LocationFault::NotPlain => "refused: no plain Location\theads behind line ",
@@ -152,12 +202,11 @@ fn receive_visits(
     start: &Start,
     visits: &[Visit<'_>],
 ) -> Result<Received, AllocError>
-    ensures { IfOk result (λ received. spec.TakesVisits plan.now.is_verbose plan.now.form plan.now.rules start.now
-        jar.old.suffixes jar.old.rows (civil_nanos plan.now.at) (map visit_text visits.now) (string_bytes received.told)
-        received.is_any_refused jar.new.rows) }
+    ensures { IfOk result (λ received. spec.TakesVisits plan.now.form plan.now.rules start.now jar.old.suffixes
+        jar.old.rows (civil_nanos plan.now.at) (map visit_text visits.now) received.is_any_refused jar.new.rows) }
 {
     let mut received = Received {
-        told: String::new(alloc),
+        told: Shown::new(alloc),
         is_any_refused: false,
     };
     for visit in visits {
@@ -175,17 +224,23 @@ fn receive_visit(
     visit: &Visit<'_>,
     received: &mut Received,
 ) -> Result<(), AllocError>
-    ensures ok { OnOk result (TakesVisit plan.now.is_verbose plan.now.form plan.now.rules start.now jar.old.suffixes
-        jar.old.rows (civil_nanos plan.now.at) (visit_text visit.now) (string_bytes received.old.told)
-        received.old.is_any_refused (string_bytes received.new.told) received.new.is_any_refused jar.new.rows) }
+    ensures ok { OnOk result (TakesVisit plan.now.form plan.now.rules start.now jar.old.suffixes jar.old.rows
+        (civil_nanos plan.now.at) (visit_text visit.now) received.old.is_any_refused received.new.is_any_refused
+        jar.new.rows) }
     ensures list { jar.new.suffixes ≡ jar.old.suffixes }
 {
     let read = visit.set_cookie_lines(alloc)?;
     let lines = slices_of(alloc, &read)?;
     let ends = take_answer(plan, jar, start, &visit.url, &lines)?;
-    let told = visit_told(alloc, plan.is_verbose, visit, &lines, &ends)?;
-    received.told.push_str(told.as_str())?;
-    received.is_any_refused = received.is_any_refused || refuses(visit, &ends);
+    push_visit(
+        alloc,
+        &mut received.told,
+        plan.is_verbose,
+        visit,
+        &lines,
+        &ends,
+    )?;
+    received.is_any_refused = received.is_any_refused || is_any_refused(&ends);
     Ok(())
 }
 
@@ -239,50 +294,19 @@ fn slices_of(alloc: Global, lines: &[Vec<u8>]) -> Result<Vec<&[u8]>, AllocError>
     Ok(slices)
 }
 
-// What is told of a visit, of which these are the lines.
-fn visit_told(
+// Tells of a visit, of which these are the lines: of what is passed over, and of the lines.
+fn push_visit(
     alloc: Global,
+    told: &mut Shown,
     is_verbose: bool,
     visit: &Visit<'_>,
     lines: &[&[u8]],
     ends: &[End],
-) -> Result<String, AllocError>
-    ensures { map (λ line. line.now) lines.now ≡ visit_lines (visit_text visit.now)
-        → IfOk result (λ told. string_bytes told ≡ spec.visit_told is_verbose (visit_text visit.now) ends.now) }
-{
-    let mut told = String::new(alloc);
-    push_passed_over(&mut told, is_verbose, visit)?;
-    let lines = told_lines(alloc, lines, ends)?;
-    told.push_str(lines.as_str())?;
-    push_stop(&mut told, visit.stop)?;
-    Ok(told)
-}
-
-// Tells of the heads that are left out from a line on, if one stopped all reading.
-fn push_stop(told: &mut String, stop: Option<(usize, LineFault)>) -> Result<(), AllocError>
-    ensures { OnOk result (string_bytes told.new ≡ string_bytes told.old ++ spec.stop_told stop) }
-{
-    match stop {
-        Some((number, fault)) => push_line(told, stop_words(fault), number as u128),
-        None => Ok(()),
+) -> Result<(), AllocError> {
+    if is_verbose {
+        push_passed_over(told, visit)?;
     }
-}
-
-// Why nothing is read from a line on.
-fn stop_words(fault: LineFault) -> &'static str
-    ensures { result.now ≡ spec.stop_words fault }
-{
-    match fault {
-        LineFault::Status => "refused: no status line\theads from line ",
-        _ => "refused: head without an end\theads from line ",
-    }
-}
-
-// Whether a line of a visit wasn't stored, or heads behind it are left out.
-fn refuses(visit: &Visit<'_>, ends: &[End]) -> bool
-    ensures { result ≡ spec.refuses (visit_text visit.now) ends.now }
-{
-    is_any_refused(ends) || visit.stop.is_some()
+    told.add(&told_lines(alloc, lines, ends)?)
 }
 
 /// Whether a line wasn't stored.

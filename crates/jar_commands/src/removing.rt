@@ -1,5 +1,5 @@
 //! The commands that take rows out of a jar.
-ghost use Rattle.std.specs.Prelude.{◌≡◌, ◌⊎◌, [], IfOk, IfErr, string_bytes};
+ghost use Rattle.std.specs.Prelude.{◌≡◌, ◌⊎◌, [], IfOk, IfErr};
 ghost use Rattle.cookie_jar.specs.Asking.{meant};
 ghost use Rattle.jar_commands.specs.Outcomes as spec;
 ghost use Rattle.jar_commands.specs.Performing.{FailsToRemove, Unkept};
@@ -8,8 +8,9 @@ ghost use Rattle.jar_commands.specs.Plans.{plan_text};
 use crate::failure::Failure;
 use crate::jar_text::saved;
 use crate::outcome::Outcome;
+use crate::passed_over::push_line;
 use crate::plan::Plan;
-use cookie_jar::Jar;
+use cookie_jar::{Jar, Shown};
 use std::alloc::{AllocError, Global};
 
 /// `remove DOMAIN PATH NAME`.
@@ -27,19 +28,10 @@ pub(crate) fn remove(
         (meant domain.now path.now name.now jar.old.rows)) }
 {
     if !jar.remove_named(domain, path, name)? {
-        return Ok(Outcome {
-            printed: count_line(alloc, 0)?,
-            status: 1,
-            jar: None,
-            file: None,
-        });
+        return Ok(Outcome::shown(count_line(alloc, 0)?, 1));
     }
-    Ok(Outcome {
-        printed: count_line(alloc, 1)?,
-        status: 0,
-        jar: Some(saved(plan, jar)?),
-        file: None,
-    })
+    let text = saved(plan, jar)?;
+    Ok(Outcome::kept(count_line(alloc, 1)?, 0, text))
 }
 
 /// `clear`.
@@ -50,17 +42,17 @@ pub(crate) fn clear(alloc: Global, plan: &Plan<'_>, jar: &mut Jar) -> Result<Out
         (failure ≡ Failure.Memory) ⊎ Unkept (plan_text plan.now) [] failure) }
 {
     let count = jar.clear()?;
-    Ok(Outcome {
-        printed: count_line(alloc, count)?,
-        status: 0,
-        jar: Some(saved(plan, jar)?),
-        file: None,
-    })
+    let text = saved(plan, jar)?;
+    Ok(Outcome::kept(count_line(alloc, count)?, 0, text))
 }
 
 /// The line of how many rows were moved or taken out.
-pub(crate) fn count_line(alloc: Global, count: usize) -> Result<String, AllocError>
-    ensures { IfOk result (λ line. string_bytes line ≡ spec.rows_line count) }
-{
-    format!(in alloc; "rows: {count}\n")
+///
+/// # Errors
+///
+/// `AllocError`, for want of memory.
+pub(crate) fn count_line(alloc: Global, count: usize) -> Result<Shown, AllocError> {
+    let mut text = Shown::new(alloc);
+    push_line(&mut text, "rows: ", count as u64)?;
+    Ok(text)
 }

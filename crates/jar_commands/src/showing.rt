@@ -4,9 +4,9 @@ ghost use Rattle.jar_commands.specs.Outcomes as spec;
 ghost use Rattle.jar_commands.specs.Plans.{plan_text};
 
 use crate::failure::Failure;
-use crate::outcome::Outcome;
+use crate::outcome::{Outcome, Printed};
 use crate::plan::{Plan, Start};
-use cookie_jar::Jar;
+use cookie_jar::{Jar, Layout, Which};
 use std::alloc::{AllocError, Global};
 use url::Url;
 
@@ -42,7 +42,7 @@ pub(crate) fn get(
     match jar.get(url, name, plan.at)? {
         Some(value) => Ok(shown(line_of(value)?)),
         None => Ok(Outcome {
-            printed: String::new(alloc),
+            printed: Printed::Exact(String::new(alloc)),
             status: 1,
             jar: None,
             file: None,
@@ -59,68 +59,26 @@ fn line_of(text: String) -> Result<String, AllocError>
     Ok(line)
 }
 
-/// `list`.
-pub(crate) fn list(plan: &Plan<'_>, jar: &Jar) -> Result<Outcome, Failure>
-    ensures ok { IfOk result (λ outcome.
-        spec.GivesList (plan_text plan.now) jar.now (spec.outcome_text outcome)) }
+/// `list [--json] [--domain DOMAIN] [URL]`.
+pub(crate) fn list(
+    plan: &Plan<'_>,
+    jar: &Jar,
+    which: &Which<'_>,
+    layout: Layout,
+) -> Result<Outcome, Failure>
+    ensures ok { IfOk result (λ outcome. spec.Shows 0 (spec.outcome_text outcome)) }
     ensures err { IfErr result (λ failure. failure ≡ Failure.Memory) }
 {
-    Ok(shown(jar.list(plan.at)?))
-}
-
-/// `list URL`.
-pub(crate) fn list_of(plan: &Plan<'_>, jar: &Jar, url: &Url) -> Result<Outcome, Failure>
-    ensures ok { IfOk result (λ outcome.
-        spec.GivesListOf (plan_text plan.now) jar.now url.now (spec.outcome_text outcome)) }
-    ensures err { IfErr result (λ failure. failure ≡ Failure.Memory) }
-{
-    Ok(shown(jar.list_of(url, plan.at)?))
-}
-
-/// `list --domain DOMAIN`.
-pub(crate) fn list_under(plan: &Plan<'_>, jar: &Jar, domain: &str) -> Result<Outcome, Failure>
-    ensures ok { IfOk result (λ outcome.
-        spec.GivesListUnder (plan_text plan.now) jar.now domain.now (spec.outcome_text outcome)) }
-    ensures err { IfErr result (λ failure. failure ≡ Failure.Memory) }
-{
-    Ok(shown(jar.list_under(domain, plan.at)?))
-}
-
-/// `list --json`.
-pub(crate) fn list_json(plan: &Plan<'_>, jar: &Jar) -> Result<Outcome, Failure>
-    ensures ok { IfOk result (λ outcome.
-        spec.GivesJson (plan_text plan.now) jar.now (spec.outcome_text outcome)) }
-    ensures err { IfErr result (λ failure. failure ≡ Failure.Memory) }
-{
-    Ok(shown(jar.list_json(plan.at)?))
-}
-
-/// `list --json URL`.
-pub(crate) fn list_json_of(plan: &Plan<'_>, jar: &Jar, url: &Url) -> Result<Outcome, Failure>
-    ensures ok { IfOk result (λ outcome.
-        spec.GivesJsonOf (plan_text plan.now) jar.now url.now (spec.outcome_text outcome)) }
-    ensures err { IfErr result (λ failure. failure ≡ Failure.Memory) }
-{
-    Ok(shown(jar.list_json_of(url, plan.at)?))
-}
-
-/// `list --json --domain DOMAIN`.
-pub(crate) fn list_json_under(plan: &Plan<'_>, jar: &Jar, domain: &str) -> Result<Outcome, Failure>
-    ensures ok { IfOk result (λ outcome.
-        spec.GivesJsonUnder (plan_text plan.now) jar.now domain.now (spec.outcome_text outcome)) }
-    ensures err { IfErr result (λ failure. failure ≡ Failure.Memory) }
-{
-    Ok(shown(jar.list_json_under(domain, plan.at)?))
+    Ok(Outcome::shown(jar.list(which, layout, plan.at)?, 0))
 }
 
 /// `explain URL LINE`.
 pub(crate) fn explain(plan: &Plan<'_>, jar: &Jar, url: &Url, line: &str) -> Result<Outcome, Failure>
-    ensures ok { IfOk result (λ outcome.
-        spec.GivesExplained (plan_text plan.now) jar.now url.now line.now (spec.outcome_text outcome)) }
+    ensures ok { IfOk result (λ outcome. spec.Shows 0 (spec.outcome_text outcome)) }
     ensures err { IfErr result (λ failure. failure ≡ Failure.Memory) }
 {
-    let text = jar.explain(plan.form, &plan.rules, url, line.as_bytes(), plan.at)?;
-    Ok(shown(text))
+    let explained = jar.explain(plan.form, &plan.rules, url, line.as_bytes(), plan.at)?;
+    Ok(Outcome::shown(explained.told, 0))
 }
 
 // A text that is printed, while each file stays as it was.
@@ -128,7 +86,7 @@ fn shown(printed: String) -> Outcome
     ensures { spec.Prints (string_bytes printed) (spec.outcome_text result) }
 {
     Outcome {
-        printed,
+        printed: Printed::Exact(printed),
         status: 0,
         jar: None,
         file: None,

@@ -1,6 +1,4 @@
 //! Why there is no URL to ask for in the place of a text.
-ghost use Rattle.std.specs.Prelude.{◌≡◌, IfOk};
-ghost use Rattle.jar_commands.specs.UrlCauses as spec;
 
 use std::alloc::{AllocError, Global};
 use url::{ParseError, Url};
@@ -10,9 +8,7 @@ use url::{ParseError, Url};
 /// # Errors
 ///
 /// `AllocError`, for want of memory; a text of more than 4 GB is one too.
-pub(crate) fn url_cause(alloc: Global, text: &str) -> Result<&'static str, AllocError>
-    ensures { IfOk result (λ cause. cause.now ≡ spec.url_cause text.now) }
-{
+pub(crate) fn url_cause(alloc: Global, text: &str) -> Result<&'static str, AllocError> {
     match Url::parse(alloc, text) {
         Ok(url) => Ok(parts_cause(&url)),
         Err(ParseError::OutOfMemory | ParseError::Overflow) => Err(AllocError),
@@ -20,9 +16,7 @@ pub(crate) fn url_cause(alloc: Global, text: &str) -> Result<&'static str, Alloc
     }
 }
 
-fn error_cause(e: ParseError) -> &'static str
-    ensures { result.now ≡ spec.error_cause e }
-{
+fn error_cause(e: ParseError) -> &'static str {
     match e {
         ParseError::RelativeUrlWithoutBase => "no scheme",
         ParseError::InvalidPort => "port is none",
@@ -30,9 +24,7 @@ fn error_cause(e: ParseError) -> &'static str
     }
 }
 
-fn parts_cause(url: &Url) -> &'static str
-    ensures { result.now ≡ spec.parts_cause url.now }
-{
+fn parts_cause(url: &Url) -> &'static str {
     if is_web(url) {
         if has_no_user(url) {
             "host is none"
@@ -44,14 +36,10 @@ fn parts_cause(url: &Url) -> &'static str
     }
 }
 
-fn is_web(url: &Url) -> bool
-    ensures { result ≡ spec.is_web url.now }
-{
+fn is_web(url: &Url) -> bool {
     url.scheme() == "http" || url.scheme() == "https"
 }
 
-fn has_no_user(url: &Url) -> bool
-    ensures { result ≡ spec.has_no_user url.now }
-{
+fn has_no_user(url: &Url) -> bool {
     url.username().is_empty() && url.password().is_none()
 }

@@ -1,5 +1,5 @@
 -- How it stands with the lock of a kept file, and what was done under it (this repository's own).
-use Rattle.std.specs.Prelude.{ℕ, List, Option, Some, None, option_map, string_bytes}
+use Rattle.std.specs.Prelude.{ℕ, List, Option, Some, None, option_map, string_bytes, ◌≡◌, ◌⊎◌}
 use Rattle.kept_file.specs.declared.lock.Holding.{Holding as Record}
 use Rattle.kept_file.specs.declared.lock.Lock.{Lock as Stage}
 use Rattle.kept_file.specs.declared.lock.Lock.TheVariants as stage
@@ -48,6 +48,18 @@ abbrev pub bytes_of : Lock → Option (List ℕ)
 bytes_of Free = None
 bytes_of (Held holding) = bytes_in holding.seen
 bytes_of (Given holding) = bytes_in holding.seen
+
+-- ---- behind a call
+
+-- The lock of a file, given back: these bytes were read while it was held, and then this text was to take the file's
+-- place, or none.
+abbrev pub kept_so : List ℕ → Option (List ℕ) → Option (List ℕ) → Lock
+kept_so path stored put = Given (record { path = path; seen = Some stored; put = put })
+
+-- the file wasn't read, and nothing was to take its place: its lock wasn't taken, or is given back
+abbrev pub IsUnread : Lock × Lock → Type 0
+IsUnread lock =
+    (lock.1 ≡ lock.0) ⊎ ((path : List ℕ) × (lock.1 ≡ Given (record { path = path; seen = None; put = None })))
 
 -- ---- of the values that a device holds
 

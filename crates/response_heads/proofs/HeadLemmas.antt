@@ -1,13 +1,13 @@
 -- What the lines that were read so far gave.
-use Rattle.std.proofs.Common.{◌≡◌, ◌≢◌, ◌+◌, ℕ, true, false, List, [], ◌∷◌, ◌++◌, length, Option, Some, None, refl}
+use Rattle.std.proofs.Common.{◌≡◌, ◌+◌, ℕ, true, false, List, [], ◌∷◌, ◌++◌, length, Option, Some, None, refl}
 use Rattle.std.proofs.Common.{sym, ap, subst, ◌∙◌, arith, append_assoc, append-nil, inl, inr}
 use Rattle.std.specs.Prelude.{if◌then◌else◌}
 use Rattle.std.proofs.lemmas.List.{length-append}
-use Rattle.response_heads.specs.Heads.{AreFields, Begins, Ends, GivesFrom, GivesHeads, HeadText, IsUnended}
-use Rattle.response_heads.specs.Heads.{Stops, cut_fields}
-use Rattle.response_heads.specs.Lines.{FieldText, GivesField, begins_head, breaks_off, cut_end, status_of, whole_lines}
-use Rattle.response_heads.specs.declared.error.LineFault.{LineFault}
-use Rattle.response_heads.specs.declared.error.LineFault.TheVariants.{Status, Unended}
+use Rattle.response_heads.specs.Heads.{AreFields, GivesFrom, GivesHeads, HeadText, IsOver, IsUnended}
+use Rattle.response_heads.specs.Heads.{Stops, StopsBehind}
+use Rattle.response_heads.specs.Lines.{FieldText, GivesField, begins_head, cut_end, status_of, whole_lines}
+use Rattle.response_heads.specs.declared.error.StopFault.{StopFault}
+use Rattle.response_heads.specs.declared.error.StopFault.TheVariants.{Status, Between, Unended}
 
 -- ---- the fields of a head
 
@@ -44,204 +44,128 @@ fields_more old taken rest now fields line more m field far next cut counted is 
   counted = omega (arith, counted, far.counted, length-append far.read (line ∷ []));
 }
 
-pub fields_end : (old : List ℕ) (taken : ℕ) (rest : List ℕ) (now : ℕ) (fields : List FieldText)
-    (line more : List ℕ) (m : ℕ) → FieldsSoFar old taken rest now fields → whole_lines rest ≡ line ∷ whole_lines more
-    → m ≡ now + 1 → line ≡ [] → Ends taken (whole_lines old) fields m (whole_lines more)
-fields_end old taken rest now fields line more m far next counted empty = record {
-  read = far.read;
-  are = far.are;
-  split = next_line (whole_lines old) far.read rest line (whole_lines more) far.split next
-      ∙ ap (λ l. far.read ++ l ∷ whole_lines more) empty;
-  counted = counted ∙ ap (λ n. n + 1) far.counted;
-}
-
-pub fields_broken : (old : List ℕ) (taken : ℕ) (rest : List ℕ) (now : ℕ) (fields : List FieldText)
-    (line more cut : List ℕ) (m : ℕ) → FieldsSoFar old taken rest now fields
-    → whole_lines rest ≡ line ∷ whole_lines more → m ≡ now + 1 → line ≢ [] → breaks_off line ≡ true
-    → IsUnended taken (whole_lines old) cut fields (Some (m, Unended))
-fields_broken old taken rest now fields line more cut m far next counted some is = inr (
-  m,
-  record {
-    read = far.read;
-    are = far.are;
-    line = line;
-    after = whole_lines more;
-    split = next_line (whole_lines old) far.read rest line (whole_lines more) far.split next;
-    some = some;
-    is = is;
-    counted = counted ∙ ap (λ n. n + 1) far.counted;
-  },
-  refl,
-)
-
-pub fields_cut : (old : List ℕ) (taken : ℕ) (rest : List ℕ) (now : ℕ) (fields all : List FieldText)
-    → FieldsSoFar old taken rest now fields → whole_lines rest ≡ [] → cut_end rest ≡ rest
-    → all ≡ fields ++ cut_fields rest → IsUnended taken (whole_lines old) (cut_end old) all None
-fields_cut old taken rest now fields all far none cut is =
-    let read : whole_lines old ≡ far.read = far.split ∙ ap (λ ls. far.read ++ ls) none ∙ append-nil far.read in
-    inl (
-      record {
-        whole = fields;
-        are = subst (λ ls. AreFields ls fields) (sym read) far.are;
-        all = is ∙ ap (λ text. fields ++ cut_fields text) (sym cut ∙ far.cut);
-      },
-      refl,
-    )
-
--- ---- the heads
+-- ---- behind the heads
 
 -- one more line is passed over
-pub gives_passed : (before : ℕ) (line : List ℕ) (lines : List (List ℕ)) (cut : List ℕ) (heads : List HeadText)
-    (stop : Option (ℕ × LineFault)) → begins_head line ≡ false → GivesFrom (before + 1) lines cut heads stop
-    → GivesFrom before (line ∷ lines) cut heads stop
-gives_passed before line lines cut [] stop passed far = record {
+stops_passed : (before : ℕ) (line : List ℕ) (lines : List (List ℕ)) (cut : List ℕ) (stop : Option (ℕ × StopFault))
+    → begins_head line ≡ false → StopsBehind (before + 1) lines cut stop → StopsBehind before (line ∷ lines) cut stop
+stops_passed before line lines cut stop passed far = record {
   front = line ∷ far.front;
   behind = far.behind;
   split = ap (λ ls. line ∷ ls) far.split;
   passed = (passed, far.passed);
-  stops = subst (λ n. Stops n far.behind cut stop) (omega arith) far.stops;
+  stops = subst (λ n. Stops n far.behind cut Between stop) (omega arith) far.stops;
 }
-gives_passed before line lines cut (head ∷ heads) stop passed (behind, begins, rest) = (
-  behind,
-  record {
-    front = line ∷ begins.front;
-    line = begins.line;
-    split = ap (λ ls. line ∷ ls) begins.split;
-    passed = (passed, begins.passed);
-    begins = begins.begins;
-    status = begins.status;
-    number = omega (arith, begins.number);
-  },
-  rest,
-)
 
-pub gives_none : (before : ℕ) (cut : List ℕ)
-    → GivesFrom before [] cut [] (if begins_head cut then Some (before + 1, Status) else None)
-gives_none before cut =
-    let at : before + 1 ≡ before + length {A = List ℕ} [] + 1 = omega arith in
-    record {
+-- What stands behind the lines that are left is what stands behind all.
+pub record StopsSoFar (before : ℕ) (old rest : List ℕ) (taken : ℕ) : Type 0 where
+  pub cut : cut_end rest ≡ cut_end old
+  pub gives : (stop : Option (ℕ × StopFault)) → StopsBehind taken (whole_lines rest) (cut_end old) stop
+      → StopsBehind before (whole_lines old) (cut_end old) stop
+
+-- the next line and what is left behind it
+stops_next : (before : ℕ) (old rest : List ℕ) (taken : ℕ) (line more : List ℕ) (stop : Option (ℕ × StopFault))
+    → StopsSoFar before old rest taken → whole_lines rest ≡ line ∷ whole_lines more
+    → StopsBehind taken (line ∷ whole_lines more) (cut_end old) stop
+    → StopsBehind before (whole_lines old) (cut_end old) stop
+stops_next before old rest taken line more stop far next given =
+    far.gives stop (subst (λ ls. StopsBehind taken ls (cut_end old) stop) (sym next) given)
+
+pub stops_more : (before : ℕ) (old rest : List ℕ) (taken : ℕ) (line more : List ℕ) (m : ℕ)
+    → StopsSoFar before old rest taken → whole_lines rest ≡ line ∷ whole_lines more → cut_end more ≡ cut_end rest
+    → m ≡ taken + 1 → begins_head line ≡ false → StopsSoFar before old more m
+stops_more before old rest taken line more m far next cut counted passed = record {
+  cut = cut ∙ far.cut;
+  gives = λ stop given. stops_next before old rest taken line more stop far next
+      (stops_passed taken line (whole_lines more) (cut_end old) stop passed
+      (subst (λ n. StopsBehind n (whole_lines more) (cut_end old) stop) counted given));
+}
+
+pub stops_here : (before : ℕ) (old rest : List ℕ) (taken : ℕ) (line more : List ℕ) (m : ℕ)
+    → StopsSoFar before old rest taken → whole_lines rest ≡ line ∷ whole_lines more → m ≡ taken + 1
+    → begins_head line ≡ true → StopsBehind before (whole_lines old) (cut_end old) (Some (m, Between))
+stops_here before old rest taken line more m far next counted begins =
+    let at : m ≡ taken + length {A = List ℕ} [] + 1 = omega (arith, counted) in
+    stops_next before old rest taken line more (Some (m, Between)) far next (record {
+      front = [];
+      behind = line ∷ whole_lines more;
+      split = refl;
+      passed = tt;
+      stops = (begins, ap (λ n. Some (n, Between)) at);
+    })
+
+pub stops_nowhere : (before : ℕ) (old rest : List ℕ) (taken : ℕ) (stop : Option (ℕ × StopFault))
+    → StopsSoFar before old rest taken → whole_lines rest ≡ [] → cut_end rest ≡ rest
+    → stop ≡ (if begins_head rest then Some (taken + 1, Between) else None)
+    → StopsBehind before (whole_lines old) (cut_end old) stop
+stops_nowhere before old rest taken stop far none cut is =
+    let same : rest ≡ cut_end old = sym cut ∙ far.cut in
+    let at : taken + 1 ≡ taken + length {A = List ℕ} [] + 1 = omega arith in
+    far.gives stop (subst (λ ls. StopsBehind taken ls (cut_end old) stop) (sym none) (record {
       front = [];
       behind = [];
       split = refl;
       passed = tt;
-      stops = ap (λ n. if begins_head cut then Some (n, Status) else None) at;
-    }
+      stops = is ∙ (ap (λ end. if begins_head end then Some (taken + 1, Between) else None) same
+          ∙ ap (λ n. if begins_head (cut_end old) then Some (n, Between) else None) at);
+    }))
 
-pub gives_stop : (before : ℕ) (line : List ℕ) (lines : List (List ℕ)) (cut : List ℕ) → begins_head line ≡ true
-    → status_of line ≡ None → GivesFrom before (line ∷ lines) cut [] (Some (before + 1, Status))
-gives_stop before line lines cut begins none =
-    let at : before + 1 ≡ before + length {A = List ℕ} [] + 1 = omega arith in
-    record {
-      front = [];
-      behind = line ∷ lines;
-      split = refl;
-      passed = tt;
-      stops = (begins, none, ap (λ n. Some (n, Status)) at);
-    }
-
-begins_now : (before : ℕ) (line : List ℕ) (lines : List (List ℕ)) (head : HeadText) → begins_head line ≡ true
-    → status_of line ≡ Some head.status → head.number ≡ before + 1 → Begins before (line ∷ lines) head lines
-begins_now before line lines head begins is number = record {
-  front = [];
-  line = line;
-  split = refl;
-  passed = tt;
-  begins = begins;
-  status = is;
-  number = omega (arith, number);
-}
+-- ---- the heads
 
 -- What the lines that are left give is what all give behind the heads so far.
 pub record HeadsSoFar (text rest : List ℕ) (taken : ℕ) (heads : List HeadText) : Type 0 where
   pub cut : cut_end rest ≡ cut_end text
-  pub gives : (more : List HeadText) (stop : Option (ℕ × LineFault))
+  pub gives : (more : List HeadText) (stop : Option (ℕ × StopFault))
       → GivesFrom taken (whole_lines rest) (cut_end text) more stop → GivesHeads text (heads ++ more) stop
 
--- the next line and what is left behind it
-at_next : (text rest line more : List ℕ) (taken m : ℕ) (heads all : List HeadText) (stop : Option (ℕ × LineFault))
-    → HeadsSoFar text rest taken heads → whole_lines rest ≡ line ∷ whole_lines more
-    → GivesFrom taken (line ∷ whole_lines more) (cut_end text) all stop → GivesHeads text (heads ++ all) stop
-at_next text rest line more taken m heads all stop far next gives =
-    far.gives all stop (subst (λ ls. GivesFrom taken ls (cut_end text) all stop) (sym next) gives)
+-- no head comes next
+heads_over : (text rest : List ℕ) (taken : ℕ) (heads : List HeadText) (stop : Option (ℕ × StopFault))
+    → HeadsSoFar text rest taken heads → IsOver taken (whole_lines rest) (cut_end text) stop
+    → GivesHeads text heads stop
+heads_over text rest taken heads stop far over =
+    subst (λ all. GivesHeads text all stop) (append-nil heads) (far.gives [] stop over)
 
-pub heads_passed : (text rest : List ℕ) (taken : ℕ) (heads : List HeadText) (line more : List ℕ) (m : ℕ)
-    → HeadsSoFar text rest taken heads → whole_lines rest ≡ line ∷ whole_lines more → cut_end more ≡ cut_end rest
-    → m ≡ taken + 1 → begins_head line ≡ false → HeadsSoFar text more m heads
-heads_passed text rest taken heads line more m far next cut counted passed = record {
-  cut = cut ∙ far.cut;
-  gives = λ all stop gives.
-      at_next text rest line more taken m heads all stop far next (gives_passed taken line (whole_lines more)
-      (cut_end text) all stop passed
-      (subst (λ n. GivesFrom n (whole_lines more) (cut_end text) all stop) counted gives));
-}
+-- the next line begins none
+over_next : (text rest : List ℕ) (taken : ℕ) (heads : List HeadText) (line more : List ℕ)
+    (stop : Option (ℕ × StopFault)) → HeadsSoFar text rest taken heads → whole_lines rest ≡ line ∷ whole_lines more
+    → IsOver taken (line ∷ whole_lines more) (cut_end text) stop → GivesHeads text heads stop
+over_next text rest taken heads line more stop far next over =
+    heads_over text rest taken heads stop far
+    (subst (λ ls. IsOver taken ls (cut_end text) stop) (sym next) over)
 
-pub heads_none : (text rest : List ℕ) (taken : ℕ) (heads : List HeadText) (stop : Option (ℕ × LineFault))
+pub heads_behind : (text rest : List ℕ) (taken : ℕ) (heads : List HeadText) (line more : List ℕ) (m : ℕ)
+    (stop : Option (ℕ × StopFault)) → HeadsSoFar text rest taken heads → whole_lines rest ≡ line ∷ whole_lines more
+    → cut_end more ≡ cut_end rest → m ≡ taken + 1 → begins_head line ≡ false
+    → StopsBehind m (whole_lines more) (cut_end more) stop → GivesHeads text heads stop
+heads_behind text rest taken heads line more m stop far next cut counted passed stops =
+    over_next text rest taken heads line more stop far next (inl (
+      passed,
+      subst (λ n. StopsBehind n (whole_lines more) (cut_end text) stop) counted
+          (subst (λ end. StopsBehind m (whole_lines more) end stop) (cut ∙ far.cut) stops),
+    ))
+
+pub heads_odd : (text rest : List ℕ) (taken : ℕ) (heads : List HeadText) (line more : List ℕ) (m : ℕ)
+    → HeadsSoFar text rest taken heads → whole_lines rest ≡ line ∷ whole_lines more → m ≡ taken + 1
+    → begins_head line ≡ true → status_of line ≡ None → GivesHeads text heads (Some (m, Status))
+heads_odd text rest taken heads line more m far next counted begins none =
+    over_next text rest taken heads line more (Some (m, Status)) far next
+    (inr (begins, inl (none, ap (λ n. Some (n, Status)) counted)))
+
+pub heads_unended : (text rest : List ℕ) (taken : ℕ) (heads : List HeadText) (line more : List ℕ) (m status : ℕ)
+    → HeadsSoFar text rest taken heads → whole_lines rest ≡ line ∷ whole_lines more → m ≡ taken + 1
+    → begins_head line ≡ true → status_of line ≡ Some status → IsUnended (whole_lines more)
+    → GivesHeads text heads (Some (m, Unended))
+heads_unended text rest taken heads line more m status far next counted begins some unended =
+    over_next text rest taken heads line more (Some (m, Unended)) far next
+    (inr (begins, inr (λ none. none_is_some status (sym none ∙ some), unended, ap (λ n. Some (n, Unended)) counted)))
+  where
+    none_is_some : (n : ℕ) → None ≡ Some n → ⊥
+    none_is_some n e = cc
+
+pub heads_none : (text rest : List ℕ) (taken : ℕ) (heads : List HeadText) (stop : Option (ℕ × StopFault))
     → HeadsSoFar text rest taken heads → whole_lines rest ≡ [] → cut_end rest ≡ rest
     → stop ≡ (if begins_head rest then Some (taken + 1, Status) else None) → GivesHeads text heads stop
 heads_none text rest taken heads stop far none cut is =
-    let same : rest ≡ cut_end text = sym cut ∙ far.cut in
-    let told : (if begins_head (cut_end text) then Some (taken + 1, Status) else None) ≡ stop =
-    sym (is ∙ ap (λ end. if begins_head end then Some (taken + 1, Status) else None) same) in
-    subst (λ all. GivesHeads text all stop) (append-nil heads)
-    (far.gives [] stop (subst (λ ls. GivesFrom taken ls (cut_end text) [] stop) (sym none)
-    (subst (GivesFrom taken [] (cut_end text) []) told (gives_none taken (cut_end text)))))
-
-pub heads_stop : (text rest : List ℕ) (taken : ℕ) (heads : List HeadText) (line more : List ℕ) (m : ℕ)
-    → HeadsSoFar text rest taken heads → whole_lines rest ≡ line ∷ whole_lines more → m ≡ taken + 1
-    → begins_head line ≡ true → status_of line ≡ None → GivesHeads text heads (Some (m, Status))
-heads_stop text rest taken heads line more m far next counted begins none =
-    let stop : Option (ℕ × LineFault) = Some (m, Status) in
-    subst (λ all. GivesHeads text all stop) (append-nil heads)
-    (at_next text rest line more taken m heads [] stop far next
-    (subst (λ n. GivesFrom taken (line ∷ whole_lines more) (cut_end text) [] (Some (n, Status))) (sym counted)
-    (gives_stop taken line (whole_lines more) (cut_end text) begins none)))
-
--- the heads so far, the next one, and more behind it
-behind_head : (text : List ℕ) (heads : List HeadText) (head : HeadText) (more : List HeadText)
-    (stop : Option (ℕ × LineFault)) → GivesHeads text (heads ++ head ∷ more) stop
-    → GivesHeads text ((heads ++ head ∷ []) ++ more) stop
-behind_head text heads head more stop gives =
-    subst (λ all. GivesHeads text all stop) (sym (append_assoc heads (head ∷ []) more)) gives
-
-pub heads_more : (text rest : List ℕ) (taken : ℕ) (heads : List HeadText) (line more : List ℕ) (m : ℕ)
-    (head : HeadText) (after : List ℕ) (k : ℕ) → HeadsSoFar text rest taken heads
-    → whole_lines rest ≡ line ∷ whole_lines more → cut_end after ≡ cut_end rest → m ≡ taken + 1
-    → begins_head line ≡ true → status_of line ≡ Some head.status → head.number ≡ m
-    → Ends m (whole_lines more) head.fields k (whole_lines after) → HeadsSoFar text after k (heads ++ head ∷ [])
-heads_more text rest taken heads line more m head after k far next cut counted begins is number ends = record {
-  cut = cut ∙ far.cut;
-  gives = λ all stop gives. behind_head text heads head all stop
-      (at_next text rest line more taken m heads (head ∷ all) stop far next (
-        whole_lines more,
-        begins_now taken line (whole_lines more) head begins is (number ∙ counted),
-        inl (
-          k,
-          whole_lines after,
-          subst (λ n. Ends n (whole_lines more) head.fields k (whole_lines after)) (sym number) ends,
-          gives,
-        ),
-      ));
-}
-
-pub heads_unended : (text rest : List ℕ) (taken : ℕ) (heads : List HeadText) (line more : List ℕ) (m : ℕ)
-    (head : HeadText) (stop : Option (ℕ × LineFault)) → HeadsSoFar text rest taken heads
-    → whole_lines rest ≡ line ∷ whole_lines more → cut_end more ≡ cut_end rest → m ≡ taken + 1
-    → begins_head line ≡ true → status_of line ≡ Some head.status → head.number ≡ m
-    → IsUnended m (whole_lines more) (cut_end more) head.fields stop → GivesHeads text (heads ++ head ∷ []) stop
-heads_unended text rest taken heads line more m head stop far next cut counted begins is number ends =
-    at_next text rest line more taken m heads (head ∷ []) stop far next (
-      whole_lines more,
-      begins_now taken line (whole_lines more) head begins is (number ∙ counted),
-      inr (
-        refl,
-        subst (λ end. IsUnended head.number (whole_lines more) end head.fields stop) (cut ∙ far.cut)
-            (subst (λ n. IsUnended n (whole_lines more) (cut_end more) head.fields stop) (sym number) ends),
-      ),
-    )
-
--- what begins a head is not empty
-pub some_begin : (line : List ℕ) → begins_head line ≡ true → line ≢ []
-some_begin line begins empty = absurd (none (sym begins ∙ ap begins_head empty))
-  where
-    none : true ≡ false → ⊥
-    none e = cc
+    heads_over text rest taken heads stop far
+    (subst (λ ls. IsOver taken ls (cut_end text) stop) (sym none)
+    (is ∙ ap (λ end. if begins_head end then Some (taken + 1, Status) else None) (sym cut ∙ far.cut)))

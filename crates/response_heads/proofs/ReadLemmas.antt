@@ -1,9 +1,8 @@
 -- The fields of a name, and where a head leads.
-use Rattle.std.proofs.Common.{◌≡◌, ◌≤◌, ◌<◌, ◌+◌, ◌++◌, ◌||◌, ◌∷◌, ℕ, Bool, true, false, List, [], length, take, map}
+use Rattle.std.proofs.Common.{◌≡◌, ◌<◌, ◌+◌, ◌++◌, ◌||◌, ◌∷◌, ℕ, Bool, true, false, List, [], length, map}
 use Rattle.std.proofs.Common.{sym, ap, append-nil, arith, refl, ◌∙◌}
 use Rattle.std.specs.Prelude.{filter, if◌then◌else◌}
 use Rattle.std.specs.List.{list_any}
-use Rattle.std.proofs.lemmas.List.{take_all}
 use Rattle.response_heads.specs.Heads.{HeadText}
 use Rattle.response_heads.specs.Lines.{FieldText}
 use Rattle.response_heads.specs.Read.{LocationText, field_text, is_named, is_redirection, located, locations}
@@ -12,10 +11,6 @@ use Rattle.response_heads.specs.declared.head.Field.{Field}
 -- the fields of this name
 abbrev pub named : List ℕ → List Field → List FieldText
 named name fields = filter (is_named name) (map field_text fields)
-
--- a loop over all fields
-pub all_taken : (items fields : List Field) (i : ℕ) → items ≡ fields → length items ≤ i → take i items ≡ fields
-all_taken items fields i e h = take_all i items h ∙ e
 
 pub locations_are : (head : HeadText) (given : List LocationText) → is_redirection head.status ≡ true
     → given ≡ located (head.number + 1) head.fields → given ≡ locations head

@@ -1,15 +1,15 @@
 -- A text gives one list of heads.
-use Rattle.std.proofs.Common.{◌≡◌, ◌⊎◌, ◌+◌, ℕ, Bool, true, false, List, [], ◌∷◌, ◌++◌, length, Option, Some, None}
+use Rattle.std.proofs.Common.{◌≡◌, ◌+◌, ℕ, Bool, true, false, List, [], ◌∷◌, ◌++◌, length, Option, Some, None}
 use Rattle.std.proofs.Common.{inl, inr, refl, sym, ap, subst, ◌∙◌, append-nil}
 use Rattle.std.specs.Prelude.{if◌then◌else◌}
 use Rattle.std.specs.List.{AllByRecursion}
 use Rattle.std.proofs.lemmas.Bool.{false≢true}
-use Rattle.response_heads.specs.Heads.{AreFields, Begins, Ends, GivesFrom, GivesHeads, HeadText, IsPassedOver}
-use Rattle.response_heads.specs.Heads.{IsUnended, Stops, cut_fields}
+use Rattle.response_heads.specs.Heads.{AreFields, Begins, BreaksOff, Ends, GivesFrom, GivesHeads, HeadText, IsNoHead}
+use Rattle.response_heads.specs.Heads.{IsOver, IsPassedOver, IsUnended, Stops}
 use Rattle.response_heads.specs.Lines.{FieldText, GivesField, IsField, IsNoField, begins_head, breaks_off, cut_end}
 use Rattle.response_heads.specs.Lines.{fault_of, status_of, whole_lines}
-use Rattle.response_heads.specs.declared.error.LineFault.{LineFault}
-use Rattle.response_heads.specs.declared.error.LineFault.TheVariants.{Status, Unended}
+use Rattle.response_heads.specs.declared.error.StopFault.{StopFault}
+use Rattle.response_heads.specs.declared.error.StopFault.TheVariants.{Between}
 
 clash : (b : Bool) → b ≡ true → b ≡ false → ⊥
 clash b is isnt = false≢true (sym isnt ∙ is)
@@ -118,48 +118,57 @@ none_begins : (f : List (List ℕ)) (x : List ℕ) (u : List (List ℕ)) → All
 none_begins [] x u h begins = clash (begins_head x) begins h.0
 none_begins (m ∷ f) x u h begins = none_begins f x u h.1 begins
 
+-- ---- what is no head
+
+breaks_are_ends : (lines : List (List ℕ)) → BreaksOff lines → IsEnd lines
+breaks_are_ends [] h = tt
+breaks_are_ends (line ∷ after) h = breaks_so line after h.1
+
+-- a head that ends doesn't break off
+end_apart : (n : ℕ) (behind : List (List ℕ)) (fs : List FieldText) (number : ℕ) (more : List (List ℕ))
+    → Ends n behind fs number more → IsUnended behind → ⊥
+end_apart n behind fs number more a b =
+    let same = same_fields a.read b.read fs b.fields ([] ∷ more) b.behind a.are b.are (ends_so more)
+    (breaks_are_ends b.behind b.breaks) (sym a.split ∙ b.split) in
+    no_break b.behind same.1 b.breaks
+  where
+    no_break : (lines : List (List ℕ)) → [] ∷ more ≡ lines → BreaksOff lines → ⊥
+    no_break [] e h = nil_cons [] more (sym e)
+    no_break (line ∷ after) e h = h.0 (sym (line_first [] line more after e))
+
+one_no_head : (n : ℕ) (line : List ℕ) (behind : List (List ℕ)) (stop other : Option (ℕ × StopFault))
+    → IsNoHead n line behind stop → IsNoHead n line behind other → stop ≡ other
+one_no_head n line behind stop other (inl (a, is)) (inl (b, also)) = is ∙ sym also
+one_no_head n line behind stop other (inl (a, is)) (inr (b, c, also)) = absurd (b a)
+one_no_head n line behind stop other (inr (a, c, is)) (inl (b, also)) = absurd (a b)
+one_no_head n line behind stop other (inr (a, c, is)) (inr (b, d, also)) = is ∙ sym also
+
+one_stop : (n : ℕ) (f g u v : List (List ℕ)) (cut : List ℕ) (stop other : Option (ℕ × StopFault))
+    → AllByRecursion IsPassedOver f → AllByRecursion IsPassedOver g → f ++ u ≡ g ++ v
+    → Stops (n + length f + 1) u cut Between stop → Stops (n + length g + 1) v cut Between other → stop ≡ other
+one_stop n f g [] [] cut stop other hf hg e a b =
+    let front : f ≡ g = sym (append-nil f) ∙ (e ∙ append-nil g) in
+    a ∙ (ap (λ ls. if begins_head cut then Some (n + length ls + 1, Between) else None) front ∙ sym b)
+one_stop n f g [] (y ∷ v) cut stop other hf hg e a b =
+    absurd (none_begins g y v (subst (AllByRecursion IsPassedOver) (sym (append-nil f) ∙ e) hf) b.0)
+one_stop n f g (x ∷ u) [] cut stop other hf hg e a b =
+    absurd (none_begins f x u (subst (AllByRecursion IsPassedOver) (sym (append-nil g) ∙ sym e) hg) a.0)
+one_stop n f g (x ∷ u) (y ∷ v) cut stop other hf hg e a b =
+    let front = (same_begin f g x y u v hf hg a.0 b.0 e).0 in
+    a.1 ∙ (ap (λ ls. Some (n + length ls + 1, Between)) front ∙ sym b.1)
+
+one_over : (n : ℕ) (lines : List (List ℕ)) (cut : List ℕ) (stop other : Option (ℕ × StopFault))
+    → IsOver n lines cut stop → IsOver n lines cut other → stop ≡ other
+one_over n [] cut stop other a b = a ∙ sym b
+one_over n (line ∷ behind) cut stop other (inl (off, a)) (inl (out, b)) =
+    one_stop (n + 1) a.front b.front a.behind b.behind cut stop other a.passed b.passed (sym a.split ∙ b.split) a.stops
+    b.stops
+one_over n (line ∷ behind) cut stop other (inl (off, a)) (inr (on, b)) = absurd (clash (begins_head line) on off)
+one_over n (line ∷ behind) cut stop other (inr (on, a)) (inl (off, b)) = absurd (clash (begins_head line) on off)
+one_over n (line ∷ behind) cut stop other (inr (on, a)) (inr (in_too, b)) =
+    one_no_head (n + 1) line behind stop other a b
+
 -- ---- all heads
-
--- how a head goes on behind its status line
-abbrev GoesOn : HeadText → List (List ℕ) → List ℕ → List HeadText → Option (ℕ × LineFault) → Type 0
-GoesOn head behind cut heads stop =
-    ((number : ℕ) × (more : List (List ℕ)) × Ends head.number behind head.fields number more
-    × GivesFrom number more cut heads stop)
-    ⊎ ((heads ≡ []) × IsUnended head.number behind cut head.fields stop)
-
-end_apart : (n : ℕ) (behind : List (List ℕ)) (cut : List ℕ) (fs gs : List FieldText) (number : ℕ)
-    (more : List (List ℕ)) (stop : Option (ℕ × LineFault)) → Ends n behind fs number more
-    → IsUnended n behind cut gs stop → ⊥
-end_apart n behind cut fs gs number more stop a (inl (b, is)) =
-    let same = same_fields a.read behind fs b.whole ([] ∷ more) [] a.are b.are (ends_so more) tt
-    (sym a.split ∙ sym (append-nil behind)) in
-    nil_cons [] more (sym same.1)
-end_apart n behind cut fs gs number more stop a (inr (m, b, is)) =
-    let same = same_fields a.read b.read fs gs ([] ∷ more) (b.line ∷ b.after) a.are b.are (ends_so more)
-    (breaks_so b.line b.after b.is) (sym a.split ∙ b.split) in
-    b.some (sym (line_first [] b.line more b.after same.1))
-
-one_unended : (n : ℕ) (behind : List (List ℕ)) (cut : List ℕ) (fs gs : List FieldText)
-    (stop other : Option (ℕ × LineFault)) → IsUnended n behind cut fs stop → IsUnended n behind cut gs other
-    → (fs ≡ gs) × (stop ≡ other)
-one_unended n behind cut fs gs stop other (inl (a, is)) (inl (b, also)) =
-    let same = one_fields behind a.whole b.whole a.are b.are in
-    (a.all ∙ (ap (λ whole. whole ++ cut_fields cut) same ∙ sym b.all), is ∙ sym also)
-one_unended n behind cut fs gs stop other (inl (a, is)) (inr (m, b, also)) =
-    let same = same_fields behind b.read a.whole gs [] (b.line ∷ b.after) a.are b.are tt
-    (breaks_so b.line b.after b.is) (append-nil behind ∙ b.split) in
-    absurd (nil_cons b.line b.after same.1)
-one_unended n behind cut fs gs stop other (inr (m, a, is)) (inl (b, also)) =
-    let same = same_fields behind a.read b.whole fs [] (a.line ∷ a.after) b.are a.are tt
-    (breaks_so a.line a.after a.is) (append-nil behind ∙ a.split) in
-    absurd (nil_cons a.line a.after same.1)
-one_unended n behind cut fs gs stop other (inr (m, a, is)) (inr (k, b, also)) =
-    let same = same_fields a.read b.read fs gs (a.line ∷ a.after) (b.line ∷ b.after) a.are b.are
-    (breaks_so a.line a.after a.is) (breaks_so b.line b.after b.is) (sym a.split ∙ b.split) in
-    let number : m ≡ k = a.counted ∙ (ap (λ ls. n + length ls + 1) same.0 ∙ sym b.counted) in (
-      fields_of a.read b.read fs gs a.are b.are same.0,
-      is ∙ (ap (λ at. Some (at, Unended)) number ∙ sym also),
-    )
 
 one_head : (a b : HeadText) → a.number ≡ b.number → a.status ≡ b.status → a.fields ≡ b.fields → a ≡ b
 one_head a b number status fields =
@@ -176,87 +185,50 @@ pub record SameBeginning (a b : HeadText) (u v : List (List ℕ)) : Type 0 where
 one_beginning : (n : ℕ) (lines : List (List ℕ)) (a b : HeadText) (u v : List (List ℕ)) → Begins n lines a u
     → Begins n lines b v → SameBeginning a b u v
 one_beginning n lines a b u v x y =
-    let (front, line, behind) = same_begin x.front y.front x.line y.line u v x.passed y.passed x.begins y.begins
-    (sym x.split ∙ y.split) in
-    let some : Some a.status ≡ Some b.status = sym x.status ∙ (ap status_of line ∙ y.status) in
+    let split = sym x.split ∙ y.split in
+    let some : Some a.status ≡ Some b.status =
+    sym x.status ∙ (ap status_of (line_first x.line y.line u v split) ∙ y.status) in
     record {
-      number = x.number ∙ (ap (λ ls. n + length ls + 1) front ∙ sym y.number);
+      number = x.number ∙ sym y.number;
       status = one_some a.status b.status some;
-      behind = behind;
+      behind = line_rest x.line y.line u v split;
     }
 
-none_apart : (n : ℕ) (lines : List (List ℕ)) (cut : List ℕ) (stop : Option (ℕ × LineFault)) (head : HeadText)
-    (behind left : List (List ℕ)) (front : List (List ℕ)) → AllByRecursion IsPassedOver front → lines ≡ front ++ left
-    → Stops (n + length front + 1) left cut stop → Begins n lines head behind → ⊥
-none_apart n lines cut stop head behind [] front passed split stops x =
-    let all = subst (AllByRecursion IsPassedOver) (sym (append-nil front) ∙ (sym split ∙ x.split)) passed in
-    none_begins x.front x.line behind all x.begins
-none_apart n lines cut stop head behind (line ∷ after) front passed split stops x =
-    let same = same_begin front x.front line x.line after behind passed x.passed stops.0 x.begins
-    (sym split ∙ x.split) in
-    none_some head.status (sym stops.1 ∙ (ap status_of same.1 ∙ x.status))
-
-one_stop : (n : ℕ) (f g u v : List (List ℕ)) (cut : List ℕ) (stop other : Option (ℕ × LineFault))
-    → AllByRecursion IsPassedOver f → AllByRecursion IsPassedOver g → f ++ u ≡ g ++ v
-    → Stops (n + length f + 1) u cut stop → Stops (n + length g + 1) v cut other → stop ≡ other
-one_stop n f g [] [] cut stop other hf hg e a b =
-    let front : f ≡ g = sym (append-nil f) ∙ (e ∙ append-nil g) in
-    a ∙ (ap (λ ls. if begins_head cut then Some (n + length ls + 1, Status) else None) front ∙ sym b)
-one_stop n f g [] (y ∷ v) cut stop other hf hg e a b =
-    absurd (none_begins g y v (subst (AllByRecursion IsPassedOver) (sym (append-nil f) ∙ e) hf) b.0)
-one_stop n f g (x ∷ u) [] cut stop other hf hg e a b =
-    absurd (none_begins f x u (subst (AllByRecursion IsPassedOver) (sym (append-nil g) ∙ sym e) hg) a.0)
-one_stop n f g (x ∷ u) (y ∷ v) cut stop other hf hg e a b =
-    let front = (same_begin f g x y u v hf hg a.0 b.0 e).0 in
-    a.2 ∙ (ap (λ ls. Some (n + length ls + 1, Status)) front ∙ sym b.2)
-
--- heads of one status line, where what is behind them gives one list
-same_rest : (h k : HeadText) (hs ks : List HeadText) (u : List (List ℕ)) (cut : List ℕ)
-    (stop other : Option (ℕ × LineFault)) → h.number ≡ k.number → h.status ≡ k.status → GoesOn h u cut hs stop
-    → GoesOn k u cut ks other
-    → ((n : ℕ) (more : List (List ℕ)) → GivesFrom n more cut hs stop → GivesFrom n more cut ks other
-    → (hs ≡ ks) × (stop ≡ other))
-    → (h ∷ hs ≡ k ∷ ks) × (stop ≡ other)
-same_rest h k hs ks u cut stop other number status (inl (m, more, a, far)) (inl (l, also, b, there)) one =
-    let same = same_fields a.read b.read h.fields k.fields ([] ∷ more) ([] ∷ also) a.are b.are (ends_so more)
-    (ends_so also) (sym a.split ∙ b.split) in
-    let at : m ≡ l =
-    a.counted ∙ (ap (λ n. n + length a.read + 1) number
-    ∙ (ap (λ ls. k.number + length ls + 1) same.0 ∙ sym b.counted)) in
-    let left : more ≡ also = line_rest [] [] more also same.1 in
-    let rest = one l also (subst (λ ls. GivesFrom l ls cut hs stop) left
-    (subst (λ n. GivesFrom n more cut hs stop) at far)) there in
-    let head = one_head h k number status (fields_of a.read b.read h.fields k.fields a.are b.are same.0) in
-    (ap (λ x. x ∷ hs) head ∙ ap (λ xs. k ∷ xs) rest.0, rest.1)
-same_rest h k hs ks u cut stop other number status (inl (m, more, a, far)) (inr (none, b)) one =
-    absurd (end_apart k.number u cut h.fields k.fields m more other (subst (λ n. Ends n u h.fields m more) number a) b)
-same_rest h k hs ks u cut stop other number status (inr (none, a)) (inl (l, also, b, there)) one =
-    absurd (end_apart k.number u cut k.fields h.fields l also stop b
-    (subst (λ n. IsUnended n u cut h.fields stop) number a))
-same_rest h k hs ks u cut stop other number status (inr (none, a)) (inr (nor, b)) one =
-    let same = one_unended k.number u cut h.fields k.fields stop other
-    (subst (λ n. IsUnended n u cut h.fields stop) number a) b in
-    let head = one_head h k number status same.0 in
-    (ap (λ x. x ∷ hs) head ∙ ap (λ xs. k ∷ xs) (none ∙ sym nor), same.1)
+-- where a head begins and ends, one comes next
+over_apart : (n : ℕ) (lines : List (List ℕ)) (cut : List ℕ) (stop : Option (ℕ × StopFault)) (head : HeadText)
+    (behind : List (List ℕ)) (number : ℕ) (more : List (List ℕ)) → IsOver n lines cut stop → Begins n lines head behind
+    → Ends head.number behind head.fields number more → ⊥
+over_apart n [] cut stop head behind number more over x ends = nil_cons x.line behind x.split
+over_apart n (line ∷ after) cut stop head behind number more (inl (off, stops)) x ends =
+    clash (begins_head line) (ap begins_head (line_first line x.line after behind x.split) ∙ x.begins) off
+over_apart n (line ∷ after) cut stop head behind number more (inr (on, inl (none, is))) x ends =
+    none_some head.status (sym none ∙ (ap status_of (line_first line x.line after behind x.split) ∙ x.status))
+over_apart n (line ∷ after) cut stop head behind number more (inr (on, inr (some, unended, is))) x ends =
+    end_apart head.number behind head.fields number more ends
+    (subst IsUnended (line_rest line x.line after behind x.split) unended)
 
 one_list_from : (n : ℕ) (lines : List (List ℕ)) (cut : List ℕ) (hs ks : List HeadText)
-    (stop other : Option (ℕ × LineFault)) → GivesFrom n lines cut hs stop → GivesFrom n lines cut ks other
+    (stop other : Option (ℕ × StopFault)) → GivesFrom n lines cut hs stop → GivesFrom n lines cut ks other
     → (hs ≡ ks) × (stop ≡ other)
-one_list_from n lines cut [] [] stop other a b = (
-  refl,
-  one_stop n a.front b.front a.behind b.behind cut stop other a.passed b.passed (sym a.split ∙ b.split) a.stops b.stops,
-)
-one_list_from n lines cut [] (k ∷ ks) stop other a (v, y, on) =
-    absurd (none_apart n lines cut stop k v a.behind a.front a.passed a.split a.stops y)
-one_list_from n lines cut (h ∷ hs) [] stop other (u, x, on) b =
-    absurd (none_apart n lines cut other h u b.behind b.front b.passed b.split b.stops x)
-one_list_from n lines cut (h ∷ hs) (k ∷ ks) stop other (u, x, on) (v, y, too) =
-    let same = one_beginning n lines h k u v x y in
-    same_rest h k hs ks u cut stop other same.number same.status on
-    (subst (λ ls. GoesOn k ls cut ks other) (sym same.behind) too)
-    (λ m more a b. one_list_from m more cut hs ks stop other a b)
+one_list_from n lines cut [] [] stop other a b = (refl, one_over n lines cut stop other a b)
+one_list_from n lines cut [] (k ∷ ks) stop other a (v, m, more, y, ends, there) =
+    absurd (over_apart n lines cut stop k v m more a y ends)
+one_list_from n lines cut (h ∷ hs) [] stop other (u, m, more, x, ends, far) b =
+    absurd (over_apart n lines cut other h u m more b x ends)
+one_list_from n lines cut (h ∷ hs) (k ∷ ks) stop other (u, m, more, x, a, far) (v, l, also, y, b, there) =
+    let begun = one_beginning n lines h k u v x y in
+    let same = same_fields a.read b.read h.fields k.fields ([] ∷ more) ([] ∷ also) a.are b.are (ends_so more)
+    (ends_so also) (sym a.split ∙ (begun.behind ∙ b.split)) in
+    let at : m ≡ l =
+    a.counted ∙ (ap (λ n. n + length a.read + 1) begun.number
+    ∙ (ap (λ ls. k.number + length ls + 1) same.0 ∙ sym b.counted)) in
+    let left : more ≡ also = line_rest [] [] more also same.1 in
+    let rest = one_list_from l also cut hs ks stop other (subst (λ ls. GivesFrom l ls cut hs stop) left
+    (subst (λ n. GivesFrom n more cut hs stop) at far)) there in
+    let head = one_head h k begun.number begun.status (fields_of a.read b.read h.fields k.fields a.are b.are same.0) in
+    (ap (λ x. x ∷ hs) head ∙ ap (λ xs. k ∷ xs) rest.0, rest.1)
 
-pub one_list : (text : List ℕ) (heads others : List HeadText) (stop other : Option (ℕ × LineFault))
+pub one_list : (text : List ℕ) (heads others : List HeadText) (stop other : Option (ℕ × StopFault))
     → GivesHeads text heads stop → GivesHeads text others other → (heads ≡ others) × (stop ≡ other)
 one_list text heads others stop other a b =
     one_list_from 0 (whole_lines text) (cut_end text) heads others stop other a b

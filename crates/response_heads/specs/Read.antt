@@ -1,5 +1,5 @@
 -- What a caller reads in a head: the fields of a name, and where it leads (RFC 9110, sections 5.1, 10.2.2 and 15.4).
-use Rattle.std.specs.Prelude.{◌&&◌, ◌||◌, ◌==◌, ◌+◌, ◌++◌, ℕ, Bool, not, List, [], ◌∷◌, Option, Some, None, codes}
+use Rattle.std.specs.Prelude.{◌&&◌, ◌||◌, ◌==◌, ◌+◌, ◌++◌, ℕ, Bool, not, List, [], ◌∷◌, Option, None, codes}
 use Rattle.std.specs.Prelude.{filter, map, nat_le, nat_lt, slice_index, take, if◌then◌else◌}
 use Rattle.url.specs.Input.{is_empty}
 use Rattle.std.specs.Char.{to_ascii_lowercase}
@@ -8,7 +8,6 @@ use Rattle.std.specs.Str.{bytes_eq}
 use Rattle.response_heads.specs.Heads.{HeadText}
 use Rattle.response_heads.specs.Lines.{FieldText, fault_of, is_control, is_white, trimmed}
 use Rattle.response_heads.specs.declared.error.LineFault.{LineFault}
-use Rattle.response_heads.specs.declared.error.LineFault.TheVariants.{Unended}
 use Rattle.response_heads.specs.declared.head.Field.{Field}
 use Rattle.response_heads.specs.declared.head.Head.{Head}
 use Rattle.response_heads.specs.declared.head.Location.{Location}
@@ -24,10 +23,9 @@ head_text head = record { number = head.number; status = head.status; fields = m
 abbrev pub is_named : List ℕ → FieldText → Bool
 is_named name field = bytes_eq (map to_ascii_lowercase field.name) name
 
--- why the field's line is no field line; without a value it is one within which the text ends
+-- why the field's line is no field line
 abbrev pub fault : FieldText → Option LineFault
-fault field =
-    if is_empty field.name then (if is_empty field.value then Some Unended else fault_of field.value) else None
+fault field = if is_empty field.name then fault_of field.value else None
 
 -- ---- folded lines
 
@@ -56,6 +54,10 @@ is_value text = not (list_any is_control text)
 -- the Set-Cookie lines (RFC 6265, section 4.1)
 unfoldable pub set_cookie_lines : HeadText → List (List ℕ)
 set_cookie_lines head = filter is_value (values_named (codes "set-cookie") head.fields)
+
+-- an interim response, which another one follows (RFC 9110, section 15.2)
+abbrev pub is_interim : ℕ → Bool
+is_interim status = nat_lt status 200
 
 -- a redirection (RFC 9110, section 15.4)
 abbrev pub is_redirection : ℕ → Bool

@@ -4,13 +4,9 @@ ghost use Rattle.std.specs.Prelude.{◌≡◌};
 use std::alloc::{AllocError, AllocFailed};
 use thiserror::Error;
 
-/// What is wrong with a line of a head.
+/// Why a line of a head is no field line (RFC 9112, section 5).
 #[derive(Clone, Copy, Debug, PartialEq, Eq, Error)]
 pub enum LineFault {
-    /// It begins with `HTTP/`, in any case, where no head has begun, and is no status line (RFC 9112, section 4), or
-    /// not a whole one.
-    #[error("Status")]
-    Status,
     /// It begins with white space: the obsolete way to go on with the field before it (section 5.2). It holds neither a
     /// carriage return nor a zero byte.
     #[error("Folded")]
@@ -24,8 +20,19 @@ pub enum LineFault {
     /// It holds a carriage return that isn't at its end, or a zero byte (RFC 9110, section 5.5).
     #[error("Control")]
     Control,
-    /// No empty line ended the head before it: it begins with `HTTP/`, in any case, or with a carriage return, or the
-    /// text ends within it.
+}
+
+/// Why nothing is read from a line on, which begins with `HTTP/`, in any case.
+#[derive(Clone, Copy, Debug, PartialEq, Eq, Error)]
+pub enum StopFault {
+    /// It is no status line (RFC 9112, section 4), or not a whole one.
+    #[error("Status")]
+    Status,
+    /// Something else stands between the head before it and this line, as trailers (section 7.1.2) or a body.
+    #[error("Between")]
+    Between,
+    /// It is a status line, whose head no empty line ends: the text ends before that, or a line that begins with
+    /// `HTTP/`, in any case, or with a carriage return.
     #[error("Unended")]
     Unended,
 }
@@ -53,9 +60,9 @@ pub enum LocationFault {
 /// Why visits aren't told.
 #[derive(Clone, Copy, Debug, PartialEq, Eq, Error)]
 pub enum ReadError {
-    /// The text has no head: its first line is no status line. It is `Line(1, LineFault::Status)`.
+    /// The text's first line is no status line. It is `Line(1, StopFault::Status)`.
     #[error("line {0}: {1}")]
-    Line(usize, LineFault),
+    Line(usize, StopFault),
     /// Memory was refused, or a URL would have more than 4 GB.
     #[error("OutOfMemory")]
     OutOfMemory,

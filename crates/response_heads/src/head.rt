@@ -1,16 +1,16 @@
 //! Heads, and the heads of a text.
 ghost use Rattle.std.specs.Prelude.{◌≡◌, ◌≤◌, ◌<◌, ◌⊎◌, ◌+◌, ◌++◌, ◌∷◌, [], codes, filter, map, length, take, IfOk};
-ghost use Rattle.std.specs.Prelude.{None, OnOk, Some, false, if◌then◌else◌, true};
+ghost use Rattle.std.specs.Prelude.{MatchOption, None, OnOk, Some, if◌then◌else◌};
 ghost use Rattle.std.specs.List.{list_any};
 ghost use Rattle.std.specs.Str.{bytes_eq};
 ghost use Rattle.std.specs.Char.{to_ascii_lowercase};
 ghost use Rattle.response_heads.specs.Heads as spec;
 ghost use Rattle.response_heads.specs.Lines as spec_lines;
 ghost use Rattle.response_heads.specs.Read.{announces_content, fault, field_text, head_text, is_location, is_named};
-ghost use Rattle.response_heads.specs.Read.{is_fold, is_redirection, is_value, located, location_text, locations};
-ghost use Rattle.response_heads.specs.Read.{requires_proxy_authentication, says_content, set_cookie_lines};
+ghost use Rattle.response_heads.specs.Read.{is_fold, is_redirection, is_value, located, location_text};
+ghost use Rattle.response_heads.specs.Read.{locations, requires_proxy_authentication, says_content, set_cookie_lines};
 
-use crate::error::LineFault;
+use crate::error::{LineFault, StopFault};
 use crate::field::{begins_white, fault_of, has_control, read_field};
 use crate::folds::unfolded;
 use crate::lines::Lines;
@@ -23,8 +23,7 @@ pub struct Field<'a> {
     /// As it stands: the case of its letters doesn't count. Empty where the line is no field line.
     pub name: &'a [u8],
     /// Of its line, without the spaces and tabs at both its ends; any bytes but carriage returns, line feeds and zeros.
-    /// The whole line where it is no field line, as a folded one isn't, which goes on with the field before it. Empty
-    /// where it is one within which the text ends.
+    /// The whole line where it is no field line, as a folded one isn't, which goes on with the field before it.
     pub value: &'a [u8],
 }
 
@@ -83,12 +82,10 @@ impl<'a> Field<'a> {
     pub fn fault(&self) -> Option<LineFault>
         ensures { result ≡ fault (field_text self.now) }
     {
-        if !self.name.is_empty() {
-            None
-        } else if self.value.is_empty() {
-            Some(LineFault::Unended)
-        } else {
+        if self.name.is_empty() {
             fault_of(self.value)
+        } else {
+            None
         }
     }
 }
@@ -211,19 +208,17 @@ fn is_redirection(status: u16) -> bool
 pub struct Found<'a> {
     /// Its heads, in their order.
     pub heads: Vec<Head<'a>>,
-    /// The line at which reading stopped, if one stopped it: its number, counted from 1, and what is wrong with it,
-    /// `Status` or `Unended`.
-    pub stop: Option<(usize, LineFault)>,
+    /// The line at which reading stopped, if one stopped it: its number, counted from 1, and why.
+    pub stop: Option<(usize, StopFault)>,
 }
 
-/// The heads of a text. A head begins at a status line and ends at an empty line; all else is passed over, as bodies
-/// are. A line ends at a line feed, and a carriage return before that is no part of it. Of a head that the text's end
-/// cuts off the whole lines count, and the line that has no end stands for a field without a name and without a value.
+/// The heads of a text, one directly behind another. A head begins at a status line and ends at an empty line; all
+/// that stands behind them is passed over, as trailers and bodies are. A line ends at a line feed, and a carriage
+/// return before that is no part of it.
 ///
-/// A line that begins with `HTTP/`, in any case of its letters, where no head has begun, and is no status line, stops
-/// all reading, and so does one that begins with that or with a carriage return where a head has begun: none can say
-/// whose head would be behind it. Whoever takes something of the heads tells the line of [`Found::stop`], since what
-/// stands behind it is left out.
+/// A line that begins with `HTTP/`, in any case of its letters, and is no whole head's status line, or doesn't stand
+/// directly behind a head, stops all reading: none can say whose head that would be. Whoever takes something of the
+/// heads tells the line of [`Found::stop`], since from it on all is left out.
 ///
 /// # Errors
 ///
@@ -234,42 +229,57 @@ pub fn heads<'a>(alloc: Global, text: &'a [u8]) -> Result<Found<'a>, AllocError>
     let mut heads = Vec::new(alloc);
     let mut lines = Lines::of(text);
     while let Some(line) = lines.next() {
-        if begins_head(line) {
-            let number = lines.taken;
-            let Some(status) = status_of(line) else {
-                return Ok(Found {
-                    heads,
-                    stop: Some((number, LineFault::Status)),
-                });
-            };
-            let Fields {
-                fields,
-                is_ended,
-                stop,
-            } = read_fields(alloc, &mut lines)?;
-            heads.push(Head {
-                number,
-                status,
-                fields,
-            })?;
-            if !is_ended {
-                return Ok(Found { heads, stop });
-            }
+        if !begins_head(line) {
+            return Ok(Found {
+                heads,
+                stop: stop_behind(&mut lines),
+            });
         }
+        let number = lines.taken;
+        let Some(status) = status_of(line) else {
+            return Ok(Found {
+                heads,
+                stop: Some((number, StopFault::Status)),
+            });
+        };
+        let Some(fields) = read_fields(alloc, &mut lines)? else {
+            return Ok(Found {
+                heads,
+                stop: Some((number, StopFault::Unended)),
+            });
+        };
+        heads.push(Head {
+            number,
+            status,
+            fields,
+        })?;
     }
     Ok(Found {
         heads,
-        stop: stop_at_end(&lines),
+        stop: stop_at_end(&lines, StopFault::Status),
     })
 }
 
+// Where reading stops behind a line that is passed over.
+fn stop_behind(lines: &mut Lines<'_>) -> Option<(usize, StopFault)>
+    ensures { spec.StopsBehind lines.old.taken (spec_lines.whole_lines lines.old.rest.now)
+        (spec_lines.cut_end lines.old.rest.now) result }
+{
+    while let Some(line) = lines.next() {
+        if begins_head(line) {
+            return Some((lines.taken, StopFault::Between));
+        }
+    }
+    stop_at_end(lines, StopFault::Between)
+}
+
 // Where reading stops at what is left of a text, which lacks a line end.
-fn stop_at_end(lines: &Lines<'_>) -> Option<(usize, LineFault)>
+fn stop_at_end(lines: &Lines<'_>, fault: StopFault) -> Option<(usize, StopFault)>
     ensures { result ≡ (if spec_lines.begins_head lines.now.rest.now
-        then Some (lines.now.taken + 1, LineFault.Status) else None) }
+        then Some (lines.now.taken + 1, fault) else None) }
 {
     if begins_head(lines.rest) {
-        Some((lines.taken + 1, LineFault::Status))
+        Some((lines.taken + 1, fault))
     } else {
         None
     }
@@ -296,62 +306,27 @@ fn breaks_off(line: &[u8]) -> bool
     begins_head(line) || matches!(line, [b'\r', ..])
 }
 
-// The fields of a head, whether an empty line ends it, and where reading stops, if it does.
-#[derive(Drop)]
-struct Fields<'a> {
-    fields: Vec<Field<'a>>,
-    is_ended: bool,
-    stop: Option<(usize, LineFault)>,
-}
-
-// The fields of a head, whose status line was taken.
-fn read_fields<'a>(alloc: Global, lines: &mut Lines<'a>) -> Result<Fields<'a>, AllocError>
-    ensures ended { IfOk result (λ read. read.is_ended ≡ true → spec.Ends lines.old.taken
-        (spec_lines.whole_lines lines.old.rest.now) (map field_text read.fields.items) lines.new.taken
-        (spec_lines.whole_lines lines.new.rest.now)) }
-    ensures unended { IfOk result (λ read. read.is_ended ≡ false → spec.IsUnended lines.old.taken
-        (spec_lines.whole_lines lines.old.rest.now) (spec_lines.cut_end lines.old.rest.now)
-        (map field_text read.fields.items) read.stop) }
+// The fields of a head, whose status line was taken, up to its empty line, if it has one.
+fn read_fields<'a>(
+    alloc: Global,
+    lines: &mut Lines<'a>,
+) -> Result<Option<Vec<Field<'a>>>, AllocError>
+    ensures ok { IfOk result (λ read. MatchOption read
+        (spec.IsUnended (spec_lines.whole_lines lines.old.rest.now))
+        (λ fields. spec.Ends lines.old.taken (spec_lines.whole_lines lines.old.rest.now) (map field_text fields.items)
+        lines.new.taken (spec_lines.whole_lines lines.new.rest.now))) }
     ensures cut { spec_lines.cut_end lines.new.rest.now ≡ spec_lines.cut_end lines.old.rest.now }
     ensures shorter { length lines.new.rest.now ≤ length lines.old.rest.now }
 {
     let mut fields = Vec::new(alloc);
     while let Some(line) = lines.next() {
         if line.is_empty() {
-            return Ok(Fields {
-                fields,
-                is_ended: true,
-                stop: None,
-            });
+            return Ok(Some(fields));
         }
         if breaks_off(line) {
-            return Ok(Fields {
-                fields,
-                is_ended: false,
-                stop: Some((lines.taken, LineFault::Unended)),
-            });
+            return Ok(None);
         }
         fields.push(field_of(line))?;
     }
-    push_cut(&mut fields, lines.rest)?;
-    Ok(Fields {
-        fields,
-        is_ended: false,
-        stop: None,
-    })
-}
-
-// Adds a field for a line that has no end, if there is one.
-fn push_cut<'a>(fields: &mut Vec<Field<'a>>, cut: &'a [u8]) -> Result<(), AllocError>
-    ensures { OnOk result (map field_text fields.new.items
-        ≡ map field_text fields.old.items ++ spec.cut_fields cut.now) }
-{
-    if cut.is_empty() {
-        return Ok(());
-    }
-    fields.push(Field {
-        name: b"",
-        value: b"",
-    })?;
-    Ok(())
+    Ok(None)
 }

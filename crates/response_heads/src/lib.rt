@@ -16,6 +16,6 @@ mod lines;
 mod redirects;
 mod status;
 
-pub use error::{LineFault, LocationFault, ReadError};
+pub use error::{LineFault, LocationFault, ReadError, StopFault};
 pub use head::{Field, Found, Head, Location, heads};
-pub use redirects::{Lost, Visit, Visited, visits};
+pub use redirects::{Lost, Visit, Visited, answer, visits};

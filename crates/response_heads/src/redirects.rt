@@ -1,11 +1,11 @@
 //! Which URL answered each head.
-ghost use Rattle.std.specs.Prelude.{◌≡◌, Ok, map, IfOk, IfErr, MatchOption, false};
+ghost use Rattle.std.specs.Prelude.{◌≡◌, Ok, map, IfOk, IfErr, MatchOption, None, false};
 ghost use Rattle.url.specs.Parts.{Parts};
 ghost use Rattle.plain_url.specs.Plain.{IsPlainOf};
-ghost use Rattle.response_heads.specs.Read.{field_text, head_text, is_success, location_text};
+ghost use Rattle.response_heads.specs.Read.{field_text, head_text, is_interim, is_success, location_text};
 ghost use Rattle.response_heads.specs.Visits as spec;
 
-use crate::error::{LineFault, LocationFault, ReadError};
+use crate::error::{LocationFault, ReadError, StopFault};
 use crate::head::{Field, Found, Head, Location, heads, requires_proxy_authentication};
 use plain_url::{is_plain_hop, is_plain_of};
 use std::alloc::{AllocError, Global};
@@ -22,8 +22,6 @@ pub struct Visit<'a> {
     /// last head, or behind which reading stopped, where the URL is one of `https`. Behind another success it is one
     /// only without `Content-Length` and `Transfer-Encoding`, since such an answer has no content.
     pub is_tunnel: bool,
-    /// Of the last head, the line behind it at which reading stopped, as [`Found::stop`] tells it.
-    pub stop: Option<(usize, LineFault)>,
 }
 
 impl<'a> Visit<'a> {
@@ -34,8 +32,15 @@ impl<'a> Visit<'a> {
         self.is_tunnel || requires_proxy_authentication(self.head.status)
     }
 
+    /// Whether another response follows (RFC 9110, section 15.2).
+    pub fn is_interim(&self) -> bool
+        ensures { result ≡ is_interim self.now.head.status }
+    {
+        self.head.status < 200
+    }
+
     /// The `Set-Cookie` lines of the URL that answered, as [`Head::set_cookie_lines`] gives them. Where a proxy
-    /// answered there are none.
+    /// answered there are none, and none of an interim response (RFC 6265, section 3).
     ///
     /// # Errors
     ///
@@ -44,7 +49,7 @@ impl<'a> Visit<'a> {
         ensures { IfOk result (λ lines. map (λ line. line.items) lines.items
             ≡ spec.visit_lines (spec.visit_text self.now)) }
     {
-        if self.is_proxys() {
+        if self.is_proxys() || self.is_interim() {
             return Ok(Vec::new(alloc));
         }
         self.head.set_cookie_lines(alloc)
@@ -67,6 +72,8 @@ pub struct Visited<'a> {
     pub visits: Vec<Visit<'a>>,
     /// Behind which line of the last of these heads were left out, if they were.
     pub lost: Option<Lost>,
+    /// Else from which line on they were, as [`Found::stop`] tells it.
+    pub stop: Option<(usize, StopFault)>,
 }
 
 /// The heads of a text, each with the URL that answered it: the first is answered by the given one. Behind a
@@ -76,28 +83,95 @@ pub struct Visited<'a> {
 ///
 /// # Errors
 ///
-/// `Line` of the first line and `Status` where the text has no head, so that this is no status line; `OutOfMemory`.
+/// `Line` of the first line and `Status` where this is no status line; `OutOfMemory`.
 pub fn visits<'a>(alloc: Global, url: &Url, text: &'a [u8]) -> Result<Visited<'a>, ReadError>
     ensures ok { IfOk result (λ given. spec.GivesVisits url.now text.now (map spec.visit_text given.visits.items)
-        given.lost) }
+        given.lost given.stop) }
     ensures err { IfErr result (spec.IsVisitRefusal text.now) }
 {
-    let Found { heads, stop } = heads(alloc, text)?;
-    if heads.is_empty() {
-        return Err(ReadError::Line(1, LineFault::Status));
-    }
-    Ok(walk(alloc, url, heads, stop)?)
+    let Found { heads, stop } = found(alloc, text)?;
+    let (visits, lost) = walk(alloc, url, heads, stop)?;
+    Ok(Visited {
+        visits,
+        lost,
+        stop: stop_behind(lost, stop),
+    })
 }
 
-// The visits of heads, the first of which this URL answered, and behind which reading stopped, if it did.
+/// The head of the answer of this URL, where it alone was asked and no `Location` was followed: the text's last, behind
+/// interim responses, a proxy's answers, and those to earlier tries. Where reading stops there is none.
+///
+/// # Errors
+///
+/// As [`visits`].
+pub fn answer<'a>(alloc: Global, url: &Url, text: &'a [u8]) -> Result<Visited<'a>, ReadError>
+    ensures ok { IfOk result (λ given. (given.lost ≡ None)
+        × spec.GivesAnswer url.now text.now (map spec.visit_text given.visits.items) given.stop) }
+    ensures err { IfErr result (spec.IsVisitRefusal text.now) }
+{
+    let Found { heads, stop } = found(alloc, text)?;
+    Ok(Visited {
+        visits: last(alloc, url, heads, stop.is_some())?,
+        lost: None,
+        stop,
+    })
+}
+
+// The visit of the last of some heads, or none where reading stopped behind them.
+fn last<'a>(
+    alloc: Global,
+    url: &Url,
+    mut heads: Vec<Head<'a>>,
+    is_stopped: bool,
+) -> Result<Vec<Visit<'a>>, AllocError>
+    ensures { IfOk result (λ visits. map spec.visit_text visits.items
+        ≡ spec.last_visits url.now (map head_text heads.entry.items) is_stopped) }
+{
+    let mut visits = Vec::new(alloc);
+    if is_stopped {
+        return Ok(visits);
+    }
+    let Some(head) = heads.pop() else {
+        return Ok(visits);
+    };
+    let url = url.clone()?;
+    visits.push(Visit {
+        url,
+        head,
+        is_tunnel: false,
+    })?;
+    Ok(visits)
+}
+
+// The heads of a text whose first line is a status line.
+fn found<'a>(alloc: Global, text: &'a [u8]) -> Result<Found<'a>, ReadError>
+    ensures ok { IfOk result (λ found. spec.HasHeads text.now (map head_text found.heads.items) found.stop) }
+    ensures err { IfErr result (spec.IsVisitRefusal text.now) }
+{
+    let found = heads(alloc, text)?;
+    if has_begun(&found) {
+        Ok(found)
+    } else {
+        Err(ReadError::Line(1, StopFault::Status))
+    }
+}
+
+fn has_begun(found: &Found<'_>) -> bool
+    ensures { result ≡ spec.has_begun (map head_text found.now.heads.items) found.now.stop }
+{
+    !found.heads.is_empty() || matches!(found.stop, Some((_, StopFault::Unended)))
+}
+
+// The visits of heads, the first of which this URL answered, and behind which reading stopped, if it did; and the line
+// for which heads are left out.
 fn walk<'a>(
     alloc: Global,
     url: &Url,
     heads: Vec<Head<'a>>,
-    stop: Option<(usize, LineFault)>,
-) -> Result<Visited<'a>, AllocError>
+    stop: Option<(usize, StopFault)>,
+) -> Result<(Vec<Visit<'a>>, Option<Lost>), AllocError>
     ensures { IfOk result (λ given. spec.Walks (Ok url.now) false (map head_text heads.entry.items) stop
-        (map spec.visit_text given.visits.items) given.lost) }
+        (map spec.visit_text given.0.items) given.1) }
 {
     let mut visits = Vec::new(alloc);
     let mut here = Ok(url.clone()?);
@@ -107,12 +181,7 @@ fn walk<'a>(
         left -= 1;
         let url = match here {
             Ok(url) => url,
-            Err(by) => {
-                return Ok(Visited {
-                    visits,
-                    lost: Some(by),
-                });
-            }
+            Err(by) => return Ok((visits, Some(by))),
         };
         here = leads_to(alloc, &url, &head)?;
         let is_tunnel = is_tunnel(&url, is_behind_success, &head, is_followed(left, stop));
@@ -121,10 +190,9 @@ fn walk<'a>(
             url,
             head,
             is_tunnel,
-            stop: stop_behind(left, stop),
         })?;
     }
-    Ok(Visited { visits, lost: None })
+    Ok((visits, None))
 }
 
 // Where a head leads from the URL that answered it, or the line for which none can say.
@@ -237,17 +305,17 @@ fn plain(alloc: Global, text: &str) -> Result<Option<Url>, AllocError>
 }
 
 // Whether another head follows one behind which so many are left, or a line that may be one's.
-fn is_followed(left: usize, stop: Option<(usize, LineFault)>) -> bool
+fn is_followed(left: usize, stop: Option<(usize, StopFault)>) -> bool
     ensures { result ≡ spec.is_followed left stop }
 {
     left > 0 || stop.is_some()
 }
 
-// Where reading stopped behind a head, behind which so many are left.
-fn stop_behind(left: usize, stop: Option<(usize, LineFault)>) -> Option<(usize, LineFault)>
-    ensures { result ≡ spec.stop_behind left stop }
+// Where reading stopped, if no head was left out before that.
+fn stop_behind(lost: Option<Lost>, stop: Option<(usize, StopFault)>) -> Option<(usize, StopFault)>
+    ensures { result ≡ spec.stop_behind lost stop }
 {
-    if left > 0 { None } else { stop }
+    if lost.is_some() { None } else { stop }
 }
 
 // Whether a head is that of a proxy's answer to CONNECT.

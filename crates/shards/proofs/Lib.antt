@@ -1,5 +1,3 @@
-mod BehindLemmas
-mod WholeLemmas
 mod ReachLemmas
 mod ShardLemmas
 mod RunLemmas

@@ -1,12 +1,12 @@
 -- A play's exchanges, made as looks and answers, leave the rows that it leaves.
 use Rattle.std.proofs.Common.{◌≡◌, ℕ, Bool, false, List, [], ◌∷◌, ◌++◌, refl, sym, subst}
 use Rattle.cookie_store.specs.Rows.{Row}
-use Rattle.cookie_run.specs.Acts.{Act, Visits, Answers, Asks, Restarts, Arrives, Never}
+use Rattle.cookie_client.specs.Steps.{Act, Visits, Answers, Asks, Restarts, Arrives, Never, OneStep}
 use Rattle.cookie_run.specs.Headline.{Each}
 use Rattle.cookie_client.specs.Jar.{lines_of}
-use Rattle.cookie_run.specs.Play.{Plays, OneStep}
-use Rattle.cookie_run.specs.declared.step.Reading.{Reading}
-use Rattle.cookie_run.specs.declared.step.Reading.TheVariants.{Header}
+use Rattle.cookie_run.specs.Play.{Plays}
+use Rattle.cookie_client.specs.declared.command.Reading.{Reading}
+use Rattle.cookie_client.specs.declared.command.Reading.TheVariants.{Header}
 use Rattle.cookie_store.specs.Laws.{GivenOnce, OneOrder}
 use Rattle.cookie_client.proofs.ReadOnce.{ReadsOnce}
 use Rattle.publicsuffix.specs.Rules.{Rule}

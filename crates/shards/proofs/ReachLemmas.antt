@@ -2,9 +2,9 @@
 use Rattle.std.proofs.Common.{◌≡◌, ◌⊎◌, ℕ, ◌≤◌, List, [], ◌∷◌, ◌++◌, length, sym, ap, ◌∙◌, subst, inl, inr, arith}
 use Rattle.std.proofs.lemmas.List.{append_assoc}
 use Rattle.store_parts.specs.DomainMatch.{EndsAfterDot, IsHostName}
-use Rattle.cookie_run.specs.Headline.{IsInReach}
+use Rattle.cookie_client.specs.Hosts.{IsInReach}
 use Rattle.shards.specs.Related.{EndsInNoAddress}
-use Rattle.shards.proofs.BehindLemmas.{behind_shorter}
+use Rattle.cookie_client.proofs.BehindDots.{behind_shorter}
 
 -- of two texts behind dots of one host the shorter is the longer, or stands behind a dot of it
 pub end_of_end : (before front t s : List ℕ) → before ++ 46 ∷ t ≡ front ++ 46 ∷ s → length s ≤ length t

@@ -19,14 +19,14 @@ use Rattle.cookie_store.specs.Longest.{AreLongestFirst}
 use Rattle.cookie_store.specs.Rows.{Row, domain_text, is_live_of}
 use Rattle.cookie_store.specs.declared.action.StoreAction.{StoreAction}
 use Rattle.cookie_client.specs.Accept.{Accepts, AcceptsAll}
-use Rattle.cookie_run.specs.Acts.{Act, Visits, Answers, Asks, Restarts, Arrival, Arrives, Never}
+use Rattle.cookie_client.specs.Steps.{Act, Visits, Answers, Asks, Restarts, Arrival, Arrives, Never, Delivers, OneStep}
 use Rattle.cookie_client.specs.Header.{IsHeader, header_of}
 use Rattle.cookie_run.specs.Headline.{Each}
 use Rattle.cookie_client.specs.Jar.{lines_of}
 use Rattle.cookie_client.specs.Keeping.{Keeps}
-use Rattle.cookie_run.specs.Play.{Delivers, OneStep, Plays}
+use Rattle.cookie_run.specs.Play.{Plays}
 use Rattle.cookie_client.specs.declared.outcome.LineEnd.{LineEnd}
-use Rattle.cookie_run.specs.declared.step.Reading.{Reading}
+use Rattle.cookie_client.specs.declared.command.Reading.{Reading}
 use Rattle.cookie_run.proofs.Lines.{some_and}
 use Rattle.cookie_run.proofs.OwnRows.{first_and}
 use Rattle.cookie_run.proofs.Picks.{PickedOf, any_picked, live_under, picked_settled, picked_settled_other, picked_kept}
@@ -38,7 +38,7 @@ use Rattle.cookie_run.proofs.Strangers.{few_none, few_some}
 use Rattle.cookie_run.proofs.Tried.{IsSound, Stands, tried_stands}
 use Rattle.shards.specs.Cut.{IsOfShard, AreOfShard, IsNoExchangeOf, AnswersByName}
 use Rattle.shards.specs.Related.{HasNoAddressBehind}
-use Rattle.shards.specs.Shard.{IsShardOf, IsShardAt}
+use Rattle.cookie_client.specs.Shard.{IsShardOf, IsShardAt}
 use Rattle.shards.proofs.ShardLemmas.{shard_below, shard_above}
 
 module _ (one : ReadsOnce) (list : List Rule) (shard : List ℕ) where

@@ -3,7 +3,7 @@ use Rattle.std.proofs.Common.{◌≡◌, ◌⊎◌, ℕ, ◌≤◌, List, length
 use Rattle.std.proofs.lemmas.Bool.{cases_lt}
 use Rattle.publicsuffix.specs.Rules.{Rule}
 use Rattle.shards.specs.Related.{EndsInNoAddress, HostsHaveOneShard, RelatedHostsHaveOneShard, OneShardIsRelated}
-use Rattle.shards.specs.Shard.{IsShared, IsShardOf}
+use Rattle.cookie_client.specs.Shard.{IsShared, IsShardOf}
 use Rattle.shards.proofs.ReachLemmas.{reach_within, reach_further, reach_once, reach_whole}
 
 -- the shard of a host is that of each unlisted text in its reach

@@ -9,18 +9,19 @@ use Rattle.url.specs.Parts.{Parts}
 use Rattle.cookie_store.specs.Laws.{OneOrder}
 use Rattle.cookie_store.specs.Rows.{Row}
 use Rattle.cookie_store.proofs.ReadableLemmas.{IsUnrefuted}
-use Rattle.cookie_run.specs.Acts.{Act, Visits, Answers, Asks, Restarts}
+use Rattle.cookie_client.specs.Steps.{Act, Visits, Answers, Asks, Restarts, OneStep}
 use Rattle.cookie_client.specs.Header.{IsHeader}
-use Rattle.cookie_run.specs.Headline.{AreRelated, Each, IsInReach}
-use Rattle.cookie_run.specs.Play.{OneStep, Plays}
+use Rattle.cookie_run.specs.Headline.{AreRelated, Each}
+use Rattle.cookie_client.specs.Hosts.{IsInReach}
+use Rattle.cookie_run.specs.Play.{Plays}
 use Rattle.cookie_run.specs.Strangers.{IsRelatedAt, Concerns, IsOnly, IsNoExchange}
-use Rattle.cookie_run.specs.declared.step.Reading.{Reading}
+use Rattle.cookie_client.specs.declared.command.Reading.{Reading}
 use Rattle.cookie_run.proofs.AloneRuns.{header_too}
 use Rattle.cookie_run.proofs.Lines.{some_and}
 use Rattle.shards.specs.Cut.{IsOfShard, AreOfShard, IsNoExchangeOf, AnswersByName, ShardClient}
 use Rattle.shards.specs.Related.{EndsInNoAddress, HasNoAddressBehind}
-use Rattle.shards.specs.Shard.{IsShardOf, IsShardAt}
-use Rattle.shards.proofs.BehindLemmas.{behind_shorter}
+use Rattle.cookie_client.specs.Shard.{IsShardOf, IsShardAt}
+use Rattle.cookie_client.proofs.BehindDots.{behind_shorter}
 use Rattle.shards.proofs.ReachLemmas.{reach_further, reach_short}
 use Rattle.shards.proofs.ShardLemmas.{shard_below, shard_above}
 

@@ -4,13 +4,13 @@ use Rattle.publicsuffix.specs.Rules.{Rule}
 use Rattle.url.specs.Parts.{Parts}
 use Rattle.cookie_store.specs.Given.{ArePicked}
 use Rattle.cookie_store.specs.Rows.{Row, domain_text}
-use Rattle.cookie_run.specs.Acts.{Act, Visits, Answers, Asks, Restarts}
+use Rattle.cookie_client.specs.Steps.{Act, Visits, Answers, Asks, Restarts}
 use Rattle.cookie_client.specs.Header.{IsHeader}
 use Rattle.cookie_run.specs.Headline.{Each}
 use Rattle.cookie_run.specs.Play.{Plays}
-use Rattle.cookie_run.specs.declared.step.Reading.{Reading}
+use Rattle.cookie_client.specs.declared.command.Reading.{Reading}
 use Rattle.shards.specs.Related.{HasNoAddressBehind}
-use Rattle.shards.specs.Shard.{IsShardOf, IsShardAt}
+use Rattle.cookie_client.specs.Shard.{IsShardOf, IsShardAt}
 
 -- ---- the steps of a shard
 

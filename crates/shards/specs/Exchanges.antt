@@ -7,12 +7,12 @@ use Rattle.cookie_text.specs.Record.{Seen}
 use Rattle.publicsuffix.specs.Rules.{Rule}
 use Rattle.url.specs.Parts.{Parts}
 use Rattle.cookie_store.specs.Rows.{Row}
-use Rattle.cookie_run.specs.Acts.{Act, Visits, Answers, Asks, Restarts, Arrival, Arrives, Never}
+use Rattle.cookie_client.specs.Steps.{Act, Visits, Answers, Asks, Restarts, Arrival, Arrives, Never, Serves}
 use Rattle.cookie_run.specs.Headline.{Each}
 use Rattle.cookie_client.specs.Jar.{Keyed, lines_of}
-use Rattle.cookie_run.specs.Play.{Plays, Serves}
-use Rattle.cookie_run.specs.declared.step.Reading.{Reading}
-use Rattle.cookie_run.specs.declared.step.Reading.TheVariants.{Header}
+use Rattle.cookie_run.specs.Play.{Plays}
+use Rattle.cookie_client.specs.declared.command.Reading.{Reading}
+use Rattle.cookie_client.specs.declared.command.Reading.TheVariants.{Header}
 use Rattle.shards.specs.Cut.{AnswersByName, IsCut}
 
 -- ---- an act

@@ -1,4 +1,3 @@
-pub mod Shard
 pub mod Related
 pub mod Cut
 pub mod Exchanges

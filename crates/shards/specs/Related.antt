@@ -5,8 +5,9 @@ use Rattle.store_parts.specs.DomainMatch.{IsHostName}
 use Rattle.store_parts.specs.Schemes.{host_of}
 use Rattle.url.specs.Parts.{Parts, kind_of, IsValid}
 use Rattle.url.specs.Scheme.{is_special}
-use Rattle.cookie_run.specs.Headline.{IsInReach, AreRelated}
-use Rattle.shards.specs.Shard.{IsShardOf}
+use Rattle.cookie_client.specs.Hosts.{IsInReach}
+use Rattle.cookie_run.specs.Headline.{AreRelated}
+use Rattle.cookie_client.specs.Shard.{IsShardOf}
 
 -- what stands behind a dot of a host name is a host name: it ends with no address, as `a.127.0.0.1` does, which can
 -- share a cookie with that address and with `b.1`

@@ -8,6 +8,5 @@
 #![tactic(auto)]
 
 pub mod laws;
-mod shard;
 
-pub use shard::{shard_of, shard_of_url};
+pub use cookie_client::{shard_of, shard_of_url};

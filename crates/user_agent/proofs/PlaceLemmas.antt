@@ -379,13 +379,3 @@ places_stay (Some at) rules list rows new url now line outcome h takes = record 
       (sym (line_keeps rules h.stay.0 h.stay.1 list url now h.stay.2 rows new line outcome takes));
   stay = h.stay;
 }
-
--- however the line went
-pub places_behind : {E : Type 0} (r : Result Outcome E) (places : Places) (rules : Rules) (list : List Rule)
-    (rows new : List Row) (url : Parts) (now : ℤ) (line : List ℕ) → ArePlacesOf places rules url now rows
-    → IfOk r (λ outcome. TakesLine rules list rows url now line outcome new)
-    → OnErr r ((new ≡ rows) × AsksForMemory rules url line) → ArePlacesOf places rules url now new
-places_behind (Ok outcome) places rules list rows new url now line h takes asks =
-    places_stay places rules list rows new url now line outcome h takes
-places_behind (Err e) places rules list rows new url now line h takes asks =
-    subst (ArePlacesOf places rules url now) (sym asks.0) h

@@ -53,12 +53,14 @@ impl Changes {
     }
 }
 
-/// The same as [`crate::accept_line_beside`], and which rules changed the line: none where a control character stops it
-/// first of all.
+/// Takes one `Set-Cookie` line of an answer from this URL at `now` into a store behind these rules, as
+/// [`crate::UserAgent::receive`] takes each into its client: for a store that is no client's. The Secure rows stand at
+/// these places: those of the store as the answer's lines began ([`SecurePlaces::of`]). Tells which rules changed the
+/// line: none where a control character stops it first of all.
 ///
 /// # Errors
 ///
-/// Those of [`crate::accept_line`].
+/// `AllocError` where memory was refused. The rows are then as they were.
 pub fn accept_line_told(
     alloc: Global,
     store: &mut CookieStore,
@@ -91,7 +93,7 @@ pub fn accept_line_told(
 ///
 /// # Errors
 ///
-/// Those of [`crate::accept_line`].
+/// Those of [`accept_line_told`].
 pub fn accept_line_from(
     alloc: Global,
     store: &mut CookieStore,

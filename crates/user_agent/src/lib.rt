@@ -26,7 +26,6 @@ mod secure_wins;
 pub mod sites;
 mod token;
 
-pub use accepting::{accept_line, accept_line_beside};
 pub use agent::UserAgent;
 pub use changes::{Changes, accept_line_from, accept_line_told};
 pub use cross_answer::{OutcomeFor, SiteRefusal};

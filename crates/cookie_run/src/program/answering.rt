@@ -8,6 +8,7 @@ ghost use Rattle.saved_text.specs.RonLayout.{ron_layout};
 ghost use Rattle.cookie.specs.Key.{derived};
 ghost use Rattle.cookie_store.specs.Placing.{saved};
 ghost use Rattle.cookie_store.specs.SavedTexts.{Saves, IsAnyBeforeYears};
+ghost use Rattle.cookie_client.specs.Loading.{IsNoSavedText, IsSuffixList};
 ghost use Rattle.cookie_run.specs.Program as spec;
 ghost use Rattle.cookie_run.specs.ProgramRead.{asked_for};
 
@@ -76,7 +77,7 @@ fn client_of(
     suffixes: &[u8],
     stored: Option<&[u8]>,
 ) -> Result<Client, Failure>
-    ensures ok { IfOk result (λ client. spec.IsSuffixList suffixes.now client.suffixes
+    ensures ok { IfOk result (λ client. IsSuffixList suffixes.now client.suffixes
         × spec.AreLoaded (civil_nanos asked.now.at.date) (option_copied stored.entry) client.rows) }
     ensures err { IfErr result (spec.MakesNoClient suffixes.now (option_copied stored.entry)) }
 {
@@ -93,7 +94,7 @@ fn client_of(
 ///
 /// `SuffixList` where the text is none, or `Memory`.
 pub fn list_of(alloc: Global, text: &[u8]) -> Result<List, Failure>
-    ensures ok { IfOk result (spec.IsSuffixList text.now) }
+    ensures ok { IfOk result (IsSuffixList text.now) }
     ensures err { IfErr result (spec.MakesNoList text.now) }
 {
     match List::parse(alloc, text) {
@@ -117,7 +118,7 @@ fn loaded(alloc: Global, list: List, text: &[u8], at: DateTime) -> Result<Client
     ensures ok { IfOk result (λ client. (client.suffixes ≡ list)
         × spec.AreLoaded (civil_nanos at) (Some text.now) client.rows) }
     ensures err { IfErr result (λ failure. (failure ≡ Failure.Memory)
-        ⊎ ((failure ≡ Failure.StoreText) × spec.IsNoSavedText text.now)) }
+        ⊎ ((failure ≡ Failure.StoreText) × IsNoSavedText text.now)) }
 {
     match Client::load(alloc, list, &mut Counting::new(text), at) {
         Ok(client) => Ok(client),

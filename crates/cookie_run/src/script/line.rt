@@ -2,8 +2,9 @@
 ghost use Rattle.std.specs.Prelude.{◌≡◌, ◌⊎◌, map, IfOk, IfErr, IfSome, OnErr, Some, None, option_map};
 ghost use Rattle.jiff.specs.Words.{civil_nanos, signed_nanos};
 ghost use Rattle.cookie_text.specs.Record.{unsliced};
+ghost use Rattle.cookie_client.specs.Hosts.{url_of};
 ghost use Rattle.cookie_run.specs.ScriptLine as spec;
-ghost use Rattle.cookie_run.specs.ScriptMoment as dates;
+ghost use Rattle.cookie_client.specs.Moment as dates;
 ghost use Rattle.cookie_run.specs.ScriptText as text_spec;
 ghost use Rattle.cookie_run.specs.ScriptRead.{ReadsLine, line_of};
 
@@ -411,11 +412,11 @@ fn copies_of(alloc: Global, lines: &[Vec<u8>]) -> Result<Vec<Vec<u8>>, Cause>
 }
 
 // The URL of a text. A text that is too long for the parser is want of memory.
-#[tactic(auto, unfolding(crate::specs::ScriptLine::url_of))]
+#[tactic(auto, unfolding(cookie_client::specs::Hosts::url_of))]
 fn url_of(alloc: Global, text: &str) -> Result<Url, Cause>
-    ensures url { IfOk result (λ url. spec.url_of text.now ≡ Some url) }
+    ensures url { IfOk result (λ url. url_of text.now ≡ Some url) }
     ensures err { IfErr result (λ cause.
-        ((cause ≡ Cause.Url) × (spec.url_of text.now ≡ None)) ⊎ (cause ≡ Cause.Memory)) }
+        ((cause ≡ Cause.Url) × (url_of text.now ≡ None)) ⊎ (cause ≡ Cause.Memory)) }
 {
     match Url::parse(alloc, text) {
         Ok(url) => Ok(url),

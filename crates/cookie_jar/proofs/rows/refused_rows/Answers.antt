@@ -1,7 +1,7 @@
 use Rattle.std.proofs.Common.{[]}
 use Rattle.std.proofs.lemmas.Bool.{both_ways}
 use Rattle.cookie_store.specs.Given.{lent_row}
-use Rattle.cookie_jar.specs.LeftOut.{IsRefused}
+use Rattle.cookie_jar.specs.Keeping.{IsRefused}
 use Rattle.cookie_jar.specs.Rows.{lent_rows}
 use Rattle.cookie_jar.proofs.RowLemmas.{picks_alone, picks_more, picks_same}
 use Rattle.cookie_jar.proofs.rows.refused_rows.Goals as goal

@@ -1,6 +1,6 @@
 use Rattle.std.specs.Prelude.{[]}
 use Rattle.cookie_jar.proofs.RowLemmas.{PicksSoFar}
-use Rattle.cookie_jar.specs.LeftOut.{IsRefused}
+use Rattle.cookie_jar.specs.Keeping.{IsRefused}
 use Rattle.cookie_jar.specs.Rows.{lent_rows}
 use Rattle.cookie_jar.proofs.rows.refused_rows.Given as goal
 

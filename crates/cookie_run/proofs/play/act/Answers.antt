@@ -4,8 +4,9 @@ use Rattle.std.proofs.lemmas.Result.{IfErr-weaker}
 use Rattle.jiff.specs.Words.{civil_nanos}
 use Rattle.cookie_client.specs.Accept.{Takes}
 use Rattle.cookie_client.specs.Header.{IsHeader}
-use Rattle.cookie_run.specs.declared.step.Reading.TheVariants.{Header}
-use Rattle.cookie_run.proofs.Runs.{err_gives, on_ok, readings_nil}
+use Rattle.cookie_client.specs.declared.command.Reading.TheVariants.{Header}
+use Rattle.cookie_client.proofs.Outcomes.{err_gives}
+use Rattle.cookie_run.proofs.Runs.{on_ok, readings_nil}
 use Rattle.cookie_run.proofs.play.act.Goals as goal
 
 pub returns-in_err-lines-in-Foreign-clause-err : goal.returns-in_err-lines-in-Foreign-clause-err

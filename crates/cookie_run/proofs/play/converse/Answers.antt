@@ -3,7 +3,8 @@ use Rattle.jiff.specs.Words.{civil_nanos}
 use Rattle.std.proofs.lemmas.Result.{IfErr-weaker}
 use Rattle.cookie_run.specs.Moments.{IsWrong}
 use Rattle.cookie_run.proofs.DrawnRuns.{draws_all, draws_whole}
-use Rattle.cookie_run.proofs.Runs.{err_gives, on_ok}
+use Rattle.cookie_client.proofs.Outcomes.{err_gives}
+use Rattle.cookie_run.proofs.Runs.{on_ok}
 use Rattle.cookie_run.proofs.play.converse.Goals as goal
 
 pub returns-in_err-obey_all-clause-err : goal.returns-in_err-obey_all-clause-err

@@ -1,10 +1,11 @@
 use Rattle.std.proofs.Common.{[], subst, refl, inl}
 use Rattle.std.proofs.lemmas.Result.{IfErr-weaker}
 use Rattle.std.specs.Prelude.{string_bytes}
-use Rattle.cookie_run.specs.Acts.{Never}
+use Rattle.cookie_client.specs.Steps.{Never}
 use Rattle.cookie_client.specs.Jar.{IsOpened}
 use Rattle.cookie_run.proofs.DrawnRuns.{reads_none_by, stops_opened_by}
-use Rattle.cookie_run.proofs.Runs.{err_gives, on_ok}
+use Rattle.cookie_client.proofs.Outcomes.{err_gives}
+use Rattle.cookie_run.proofs.Runs.{on_ok}
 use Rattle.cookie_run.proofs.play.exchange.Goals as goal
 
 pub returns-in_err-header-clause-err : goal.returns-in_err-header-clause-err

@@ -1,5 +1,5 @@
 use Rattle.std.proofs.Common.{[], refl, inl}
-use Rattle.cookie_run.proofs.DrawnRuns.{ok_gives}
+use Rattle.cookie_client.proofs.Outcomes.{ok_gives}
 use Rattle.cookie_run.proofs.Runs.{on_err_any}
 use Rattle.cookie_run.proofs.play.obey.Goals as goal
 

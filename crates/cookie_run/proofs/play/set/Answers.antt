@@ -3,8 +3,8 @@ use Rattle.std.specs.Prelude.{IfErr}
 use Rattle.cookie_text.specs.Record.{Seen}
 use Rattle.cookie_run.specs.Drawn.{DrawsSo, SetDraws, IsDrawnInVain}
 use Rattle.cookie_client.specs.Ways.{Refuses, set_refusal}
-use Rattle.cookie_run.specs.declared.step.Command.TheVariants.{Set}
-use Rattle.cookie_run.specs.declared.step.Reading.TheVariants.{Refused}
+use Rattle.cookie_client.specs.declared.command.Command.TheVariants.{Set}
+use Rattle.cookie_client.specs.declared.command.Reading.TheVariants.{Refused}
 use Rattle.cookie_client.specs.declared.outcome.SessionError.TheVariants.{OutOfMemory}
 use Rattle.cookie_client.specs.declared.way.Way.TheVariants.{Sealed}
 use Rattle.cookie_run.proofs.DrawnRuns.{refused_drawn, set_drawn, vain_drawn}

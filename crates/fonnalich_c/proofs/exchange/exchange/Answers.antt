@@ -15,7 +15,8 @@ returns-clause-ok c =
     let lines : map (λ line. line.now) c.deref.result.now ≡ lines_of c.args.commands.now =
     ap (map (λ line. line.now)) c.deref.ensures.value ∙ c.in_ok-lines.ensures in
     let opened : IsOpenedShown (take 64 c.args.key.now) c.args.header.now c.in_ok-session.session =
-    subst (λ key. IsOpenedShown key c.args.header.now c.in_ok-session.session) c.in-Ok.ensures.key c.in_ok-session.ensures in
+    subst (λ key. IsOpenedShown key c.args.header.now c.in_ok-session.session)
+    c.in-Ok.ensures.key c.in_ok-session.ensures in
     ok_gives c.converse.result _ _ (λ answer so. (
       c.in_ok-session.session,
       c.in_ok-now.now,
@@ -30,7 +31,8 @@ returns-clause-err c =
     let lines : map (λ line. line.now) c.deref.result.now ≡ lines_of c.args.commands.now =
     ap (map (λ line. line.now)) c.deref.ensures.value ∙ c.in_ok-lines.ensures in
     let opened : IsOpenedShown (take 64 c.args.key.now) c.args.header.now c.in_ok-session.session =
-    subst (λ key. IsOpenedShown key c.args.header.now c.in_ok-session.session) c.in-Ok.ensures.key c.in_ok-session.ensures in
+    subst (λ key. IsOpenedShown key c.args.header.now c.in_ok-session.session)
+    c.in-Ok.ensures.key c.in_ok-session.ensures in
     fault_gives c.converse.result _ _ (λ refused so. stopped c.args.key.now c.args.header.now c.args.second
     c.args.commands.now c.args.nonces.now c.in_ok-session.session c.in_ok-now.now _ refused
     (c.in-Ok.ensures.accepted.0 refl, opened, moment) lines so) c.converse.ensures.err

@@ -1,6 +1,6 @@
 use Rattle.std.proofs.Common.{[], refl, subst, sym}
 use Rattle.std.proofs.lemmas.List.{append-nil}
-use Rattle.cookie_run.specs.declared.step.Command.TheVariants.{Set, Remove}
+use Rattle.cookie_client.specs.declared.command.Command.TheVariants.{Set, Remove}
 use Rattle.fonnalich_c.specs.Commands.{IsCommand}
 use Rattle.fonnalich_c.proofs.Exchanges.{ok_gives}
 use Rattle.fonnalich_c.proofs.exchange.tell.Goals as goal

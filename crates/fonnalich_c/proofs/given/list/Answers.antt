@@ -1,7 +1,7 @@
 use Rattle.std.proofs.Common.{inr, refl, sym, subst}
-use Rattle.cookie_run.specs.Program.{IsSuffixList}
+use Rattle.cookie_client.specs.Loading.{IsSuffixList}
 use Rattle.fonnalich_c.specs.Given.{IsListOf, IsNoListOf}
-use Rattle.cookie_run.proofs.ProgramFacts.{listed}
+use Rattle.cookie_client.proofs.Loading.{listed}
 use Rattle.fonnalich_c.proofs.Exchanges.{fault_gives, ok_gives}
 use Rattle.fonnalich_c.proofs.Refusals.{not_listed}
 use Rattle.fonnalich_c.proofs.given.list.Goals as goal
@@ -11,7 +11,13 @@ returns-in-Ok-clause-ok c =
     let text = c.args.text.now in
     let is : IsSuffixList text c.in-Ok.list =
     (listed text c.in-Ok.list c.in-Ok.ensures.not_text, c.in-Ok.ensures.rules.0) in
-    ok_gives c.with_rule.result _ (IsListOf text) (λ given same. ((subst (IsSuffixList text) (sym same.0) is, c.in-Ok.ensures.rules.1), same.1))
+    ok_gives c.with_rule.result _ (IsListOf text) (λ given same. (
+      (
+        subst (IsSuffixList text) (sym same.0) is,
+        c.in-Ok.ensures.rules.1,
+      ),
+      same.1,
+    ))
     c.with_rule.ensures.ok
 
 pub returns-in-Ok-clause-err : goal.returns-in-Ok-clause-err

@@ -5,7 +5,7 @@ use Rattle.cookie_store.specs.Placing.{saved}
 use Rattle.cookie_store.specs.SavedTexts.{IsAnyBeforeYears}
 use Rattle.fonnalich_c.specs.Given.{nanos_of}
 use Rattle.fonnalich_c.proofs.Faults.{is_moment, year_unsaved}
-use Rattle.cookie_run.proofs.ProgramFacts.{year_only}
+use Rattle.cookie_client.proofs.Loading.{year_only}
 use Rattle.fonnalich_c.proofs.task.save.Goals as goal
 
 pub returns-in-Err-Year-clause-err : goal.returns-in-Err-Year-clause-err

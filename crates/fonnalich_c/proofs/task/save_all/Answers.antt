@@ -1,7 +1,7 @@
 use Rattle.std.proofs.Common.{inr, refl, subst}
 use Rattle.cookie_store.specs.Rows.{Store}
 use Rattle.cookie_store.specs.SavedTexts.{IsAnyBeforeYears}
-use Rattle.cookie_run.proofs.ProgramFacts.{year_only}
+use Rattle.cookie_client.proofs.Loading.{year_only}
 use Rattle.fonnalich_c.proofs.task.save_all.Goals as goal
 
 pub returns-in-Err-Year-clause-err : goal.returns-in-Err-Year-clause-err

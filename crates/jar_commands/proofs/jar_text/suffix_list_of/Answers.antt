@@ -1,6 +1,6 @@
 use Rattle.std.proofs.Common.{refl}
-use Rattle.cookie_run.specs.Program.{IsSuffixList}
-use Rattle.cookie_run.proofs.ProgramFacts.{listed}
+use Rattle.cookie_client.specs.Loading.{IsSuffixList}
+use Rattle.cookie_client.proofs.Loading.{listed}
 use Rattle.jar_commands.proofs.ListLemmas.{list_given, list_ruleless, not_listed}
 use Rattle.jar_commands.proofs.jar_text.suffix_list_of.Goals as goal
 

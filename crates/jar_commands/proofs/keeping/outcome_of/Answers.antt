@@ -6,6 +6,6 @@ use Rattle.jar_commands.proofs.keeping.outcome_of.Goals as goal
 
 pub returns : goal.returns
 returns g c =
-    unlocked_gives (plan_text c.args.plan.now) c.args.jar.now c.args.suffixes.now (option_copied c.args.brought)
+    unlocked_gives (plan_text c.args.plan.now) c.args.suffixes.now (option_copied c.args.brought)
     (option_copied c.as_deref.result) (g.K.Keeper.lock c.args.kept.now) _ _
     (sym c.changes.ensures ∙ c.if-changes.false) c.answer_placed.ensures

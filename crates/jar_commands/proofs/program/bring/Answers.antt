@@ -11,6 +11,6 @@ returns-then-not-reads_input-clause-ok g c =
       reads = g.R.Source.reads c.args.reader.now;
       unread = (g.R.Failing.failures c.args.reader.now, g.R.Failing.failures c.args.reader.now);
     } in
-    brings_given (c.args.reader.now ≡ c.args.reader.now) reader (reads_input c.args.command)
+    brings_given (c.args.reader.now ≡ c.args.reader.now) reader (reads_input c.args.command.now)
     (λ brought. option_map (λ text. text.items) brought) c.read_given.result
     (sym c.reads_input.ensures ∙ c.if-not-reads_input.true) refl

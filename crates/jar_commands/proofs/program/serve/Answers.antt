@@ -1,42 +1,16 @@
-use Rattle.std.proofs.Common.{◌≡◌, inl, inr, option_map, refl}
+use Rattle.std.proofs.Common.{◌≡◌, option_map, refl}
 use Rattle.std.specs.Option.{option_copied}
-use Rattle.jiff.specs.Words.{civil_nanos}
 use Rattle.jar_commands.specs.Outcomes.{outcome_text}
 use Rattle.jar_commands.specs.Performing.{Source}
 use Rattle.jar_commands.specs.Plans.{plan_text}
 use Rattle.jar_commands.specs.Program.{Writer, reads_input}
 use Rattle.jar_commands.specs.ProgramKept.{changes}
 use Rattle.jar_commands.proofs.KeptLemmas.{brought_as, first_not_brought, keeps_err, keeps_not, keeps_ok, list_not_read}
-use Rattle.jar_commands.proofs.KeptLemmas.{serves_err, serves_not, serves_ok, unread_but}
-use Rattle.jar_commands.proofs.ServeLemmas.{unplanned}
+use Rattle.jar_commands.proofs.KeptLemmas.{serves_err, serves_not, serves_ok}
 use Rattle.jar_commands.proofs.program.serve.Goals as goal
 
 pub returns-in-Err-clause-serves_err : goal.returns-in-Err-clause-serves_err
 returns-in-Err-clause-serves_err g c =
-    let reader : Source = record {
-      left = g.R.Source.left c.args.reader.now;
-      reads = g.R.Source.reads c.args.reader.now;
-      unread = (g.R.Failing.failures c.args.reader.now, g.R.Failing.failures c.args.reader.now);
-    } in
-    let writer : Writer = record {
-      written = (g.W.Sink.written c.args.writer.now, g.W.Sink.written c.args.writer.now);
-      unwritten = (g.W.Failing.failures c.args.writer.now, g.W.Failing.failures c.args.writer.now);
-    } in
-    unplanned (c.args.reader.now ≡ c.args.reader.now) (c.args.writer.now ≡ c.args.writer.now) reader writer
-    c.args.asked.now (option_map civil_nanos c.args.clock) c.in-Err.failure c.of.result.failure c.of.ensures
-    c.in-Err.ensures.err refl refl
-
-pub returns-in-None-clause-serves_err : goal.returns-in-None-clause-serves_err
-returns-in-None-clause-serves_err g c = inr (inl (
-  plan_text c.in-Ok.plan,
-  c.in-Ok.ensures.ok,
-  inl (c.of-in-None.ensures, c.in-None.ensures.none refl),
-  unread_but (c.args.reader.now ≡ c.args.reader.now) (reads_input c.args.asked.now.command) refl,
-  refl,
-))
-
-pub returns-in-Err-read_suffixes-clause-serves_err : goal.returns-in-Err-read_suffixes-clause-serves_err
-returns-in-Err-read_suffixes-clause-serves_err g c =
     let reader : Source = record {
       left = g.R.Source.left c.args.reader.now;
       reads = g.R.Source.reads c.bring-given.new.reader;
@@ -47,10 +21,10 @@ returns-in-Err-read_suffixes-clause-serves_err g c =
       unwritten = (g.W.Failing.failures c.args.writer.now, g.W.Failing.failures c.args.writer.now);
     } in
     list_not_read (c.bring-given.new.reader ≡ c.args.reader.now) (c.args.writer.now ≡ c.args.writer.now) reader writer
-    c.args.asked.now (option_map civil_nanos c.args.clock) (plan_text c.in-Ok.plan)
+    (plan_text c.args.plan.now)
     (λ brought. option_map (λ text. text.items) brought)
-    c.bring-given.result c.in-Err-read_suffixes.stopped.failure c.in-Ok.ensures.ok c.bring-given.ensures.ok
-    c.bring-given.ensures.err c.in-Err-read_suffixes.ensures refl
+    c.bring-given.result c.in-Err.stopped.failure c.bring-given.ensures.ok
+    c.bring-given.ensures.err c.in-Err.ensures refl
 
 pub returns-in-Err-given-clause-serves_err : goal.returns-in-Err-given-clause-serves_err
 returns-in-Err-given-clause-serves_err g c =
@@ -64,9 +38,9 @@ returns-in-Err-given-clause-serves_err g c =
       unwritten = (g.W.Failing.failures c.args.writer.now, g.W.Failing.failures c.args.writer.now);
     } in
     first_not_brought (c.bring-given.new.reader ≡ c.args.reader.now) (c.args.writer.now ≡ c.args.writer.now) reader
-    writer c.args.asked.now (option_map civil_nanos c.args.clock) (plan_text c.in-Ok.plan)
+    writer (plan_text c.args.plan.now)
     c.in-Err-given.stopped.failure c.first_of.result.failure
-    c.in-Ok.ensures.ok c.in-Err-given.ensures.err c.first_of.ensures refl
+    c.in-Err-given.ensures.err c.first_of.ensures refl
 
 pub returns-in-Ok-outcome_of-clause-serves_ok : goal.returns-in-Ok-outcome_of-clause-serves_ok
 returns-in-Ok-outcome_of-clause-serves_ok g c =
@@ -80,13 +54,12 @@ returns-in-Ok-outcome_of-clause-serves_ok g c =
       unwritten = (g.W.Failing.failures c.args.writer.now, g.W.Failing.failures c.finish.new.writer);
     } in
     let given = c.in-Ok-given.ensures.ok in
-    serves_ok (c.bring-given.new.reader ≡ c.args.reader.now) reader writer c.args.asked.now
-    (option_map civil_nanos c.args.clock)
-    (plan_text c.in-Ok.plan) c.args.asked.now.jar.now c.deref.result.now given.0 (option_copied c.as_deref.result)
-    (g.K.Keeper.lock c.args.kept.now, g.K.Keeper.lock c.outcome_of.new.kept) (changes c.in-Ok.plan.task)
-    (outcome_text c.in-Ok-outcome_of.outcome) c.finish.result c.in-Ok.ensures.ok
+    serves_ok (c.bring-given.new.reader ≡ c.args.reader.now) reader writer (plan_text c.args.plan.now)
+    c.deref.result.now given.0 (option_copied c.as_deref.result)
+    (g.K.Keeper.lock c.args.kept.now, g.K.Keeper.lock c.outcome_of.new.kept) (changes c.args.plan.now.command)
+    (outcome_text c.in-Ok-outcome_of.outcome) c.finish.result
     (brought_as (c.bring-given.new.reader ≡ c.args.reader.now) reader
-    (reads_input c.args.asked.now.command) given.0 c.as_deref.result _ c.as_deref.ensures.value given.1)
+    (reads_input c.args.plan.now.command) given.0 c.as_deref.result _ c.as_deref.ensures.value given.1)
     c.in-Ok-outcome_of.ensures c.finish.ensures.ok
 
 pub returns-in-Ok-outcome_of-clause-serves_err : goal.returns-in-Ok-outcome_of-clause-serves_err
@@ -102,12 +75,12 @@ returns-in-Ok-outcome_of-clause-serves_err g c =
     } in
     let given = c.in-Ok-given.ensures.ok in
     serves_err (c.bring-given.new.reader ≡ c.args.reader.now) (c.finish.new.writer ≡ c.args.writer.now) reader writer
-    c.args.asked.now (option_map civil_nanos c.args.clock) (plan_text c.in-Ok.plan) c.args.asked.now.jar.now
+    (plan_text c.args.plan.now)
     c.deref.result.now given.0
     (option_copied c.as_deref.result) (g.K.Keeper.lock c.args.kept.now, g.K.Keeper.lock c.outcome_of.new.kept)
-    (changes c.in-Ok.plan.task) (outcome_text c.in-Ok-outcome_of.outcome) c.finish.result c.in-Ok.ensures.ok
+    (changes c.args.plan.now.command) (outcome_text c.in-Ok-outcome_of.outcome) c.finish.result
     (brought_as (c.bring-given.new.reader ≡ c.args.reader.now) reader
-    (reads_input c.args.asked.now.command) given.0 c.as_deref.result _ c.as_deref.ensures.value given.1)
+    (reads_input c.args.plan.now.command) given.0 c.as_deref.result _ c.as_deref.ensures.value given.1)
     c.in-Ok-outcome_of.ensures c.finish.ensures.err
 
 pub returns-in-Ok-outcome_of-clause-keeps_ok : goal.returns-in-Ok-outcome_of-clause-keeps_ok
@@ -122,13 +95,12 @@ returns-in-Ok-outcome_of-clause-keeps_ok g c =
       unwritten = (g.W.Failing.failures c.args.writer.now, g.W.Failing.failures c.finish.new.writer);
     } in
     let given = c.in-Ok-given.ensures.ok in
-    keeps_ok (c.bring-given.new.reader ≡ c.args.reader.now) reader writer c.args.asked.now
-    (option_map civil_nanos c.args.clock)
-    (plan_text c.in-Ok.plan) c.deref.result.now given.0 (option_copied c.as_deref.result)
-    (g.K.Keeper.lock c.args.kept.now, g.K.Keeper.lock c.outcome_of.new.kept) c.in-Some.wait
-    (outcome_text c.in-Ok-outcome_of.outcome) c.finish.result c.in-Ok.ensures.ok c.in-Some.ensures.some
+    keeps_ok (c.bring-given.new.reader ≡ c.args.reader.now) reader writer (plan_text c.args.plan.now)
+    c.deref.result.now given.0 (option_copied c.as_deref.result)
+    (g.K.Keeper.lock c.args.kept.now, g.K.Keeper.lock c.outcome_of.new.kept)
+    (outcome_text c.in-Ok-outcome_of.outcome) c.finish.result
     (brought_as (c.bring-given.new.reader ≡ c.args.reader.now) reader
-    (reads_input c.args.asked.now.command) given.0 c.as_deref.result _ c.as_deref.ensures.value given.1)
+    (reads_input c.args.plan.now.command) given.0 c.as_deref.result _ c.as_deref.ensures.value given.1)
     c.in-Ok-outcome_of.ensures c.finish.ensures.ok
 
 pub returns-in-Ok-outcome_of-clause-keeps_err : goal.returns-in-Ok-outcome_of-clause-keeps_err
@@ -139,13 +111,12 @@ returns-in-Ok-outcome_of-clause-keeps_err g c =
       unread = (g.R.Failing.failures c.args.reader.now, g.R.Failing.failures c.bring-given.new.reader);
     } in
     let given = c.in-Ok-given.ensures.ok in
-    keeps_err (c.bring-given.new.reader ≡ c.args.reader.now) reader c.args.asked.now
-    (option_map civil_nanos c.args.clock)
-    (plan_text c.in-Ok.plan) c.deref.result.now given.0 (option_copied c.as_deref.result)
-    (g.K.Keeper.lock c.args.kept.now, g.K.Keeper.lock c.outcome_of.new.kept) c.in-Some.wait
-    (outcome_text c.in-Ok-outcome_of.outcome) c.finish.result c.in-Ok.ensures.ok c.in-Some.ensures.some
+    keeps_err (c.bring-given.new.reader ≡ c.args.reader.now) reader (plan_text c.args.plan.now)
+    c.deref.result.now given.0 (option_copied c.as_deref.result)
+    (g.K.Keeper.lock c.args.kept.now, g.K.Keeper.lock c.outcome_of.new.kept)
+    (outcome_text c.in-Ok-outcome_of.outcome) c.finish.result
     (brought_as (c.bring-given.new.reader ≡ c.args.reader.now) reader
-    (reads_input c.args.asked.now.command) given.0 c.as_deref.result _ c.as_deref.ensures.value given.1)
+    (reads_input c.args.plan.now.command) given.0 c.as_deref.result _ c.as_deref.ensures.value given.1)
     c.in-Ok-outcome_of.ensures
 
 pub returns-clause-serves_err : goal.returns-clause-serves_err
@@ -161,12 +132,12 @@ returns-clause-serves_err g c =
     } in
     let given = c.in-Ok-given.ensures.ok in
     serves_not (c.bring-given.new.reader ≡ c.args.reader.now) (c.args.writer.now ≡ c.args.writer.now) reader writer
-    c.args.asked.now (option_map civil_nanos c.args.clock) (plan_text c.in-Ok.plan) c.args.asked.now.jar.now
+    (plan_text c.args.plan.now)
     c.deref.result.now given.0
     (option_copied c.as_deref.result) (g.K.Keeper.lock c.args.kept.now, g.K.Keeper.lock c.outcome_of.new.kept)
-    (changes c.in-Ok.plan.task) c.in-Err-outcome_of.stopped.failure c.in-Ok.ensures.ok
+    (changes c.args.plan.now.command) c.in-Err-outcome_of.stopped.failure
     (brought_as (c.bring-given.new.reader ≡ c.args.reader.now) reader
-    (reads_input c.args.asked.now.command) given.0 c.as_deref.result _ c.as_deref.ensures.value given.1)
+    (reads_input c.args.plan.now.command) given.0 c.as_deref.result _ c.as_deref.ensures.value given.1)
     c.in-Err-outcome_of.ensures refl
 
 pub returns-clause-keeps_err : goal.returns-clause-keeps_err
@@ -177,11 +148,10 @@ returns-clause-keeps_err g c =
       unread = (g.R.Failing.failures c.args.reader.now, g.R.Failing.failures c.bring-given.new.reader);
     } in
     let given = c.in-Ok-given.ensures.ok in
-    keeps_not (c.bring-given.new.reader ≡ c.args.reader.now) reader c.args.asked.now
-    (option_map civil_nanos c.args.clock)
-    (plan_text c.in-Ok.plan) c.deref.result.now given.0 (option_copied c.as_deref.result)
-    (g.K.Keeper.lock c.args.kept.now, g.K.Keeper.lock c.outcome_of.new.kept) c.in-Some.wait
-    c.in-Err-outcome_of.stopped.failure c.in-Ok.ensures.ok c.in-Some.ensures.some
+    keeps_not (c.bring-given.new.reader ≡ c.args.reader.now) reader (plan_text c.args.plan.now)
+    c.deref.result.now given.0 (option_copied c.as_deref.result)
+    (g.K.Keeper.lock c.args.kept.now, g.K.Keeper.lock c.outcome_of.new.kept)
+    c.in-Err-outcome_of.stopped.failure
     (brought_as (c.bring-given.new.reader ≡ c.args.reader.now) reader
-    (reads_input c.args.asked.now.command) given.0 c.as_deref.result _ c.as_deref.ensures.value given.1)
+    (reads_input c.args.plan.now.command) given.0 c.as_deref.result _ c.as_deref.ensures.value given.1)
     c.in-Err-outcome_of.ensures

@@ -1,5 +1,4 @@
 use Rattle.std.proofs.Common.{rules, subst}
-use Rattle.std.specs.Prelude.{string_bytes}
 use Rattle.jiff.specs.Words.{civil_nanos}
 use Rattle.response_heads.specs.Visits.{visit_text}
 use Rattle.jar_commands.specs.Steps.{TakesVisit}
@@ -8,20 +7,17 @@ use Rattle.jar_commands.proofs.receiving.receive_visits.Goals as goal
 
 pub loop-visit-preserved : goal.loop-visit-preserved
 loop-visit-preserved c =
-    let verbose = c.args.plan.now.is_verbose in
     let form = c.args.plan.now.form in
     let rules_on = c.args.plan.now.rules in
     let now = civil_nanos c.args.plan.now.at in
     record {
-      takes = takes_next verbose visit_text form rules_on c.args.start.now c.args.jar.now.suffixes
+      takes = takes_next visit_text form rules_on c.args.start.now c.args.jar.now.suffixes
           c.loop-visit.jar.suffixes c.args.jar.now.rows c.loop-visit.jar.rows c.receive_visit.new.jar.rows now
-          c.args.visits.now c.loop-visit.visit-index c.visit-item.result (string_bytes c.loop-visit.received.told)
-          (string_bytes c.receive_visit.new.received.told)
+          c.args.visits.now c.loop-visit.visit-index c.visit-item.result
           c.loop-visit.received.is_any_refused c.receive_visit.new.received.is_any_refused c.loop-visit-test.true
           c.loop-visit.invariant.takes c.loop-visit.invariant.list
-          (subst (λ visit. TakesVisit verbose form rules_on c.args.start.now c.loop-visit.jar.suffixes
-          c.loop-visit.jar.rows now (visit_text visit) (string_bytes c.loop-visit.received.told)
-          c.loop-visit.received.is_any_refused (string_bytes c.receive_visit.new.received.told)
+          (subst (λ visit. TakesVisit form rules_on c.args.start.now c.loop-visit.jar.suffixes
+          c.loop-visit.jar.rows now (visit_text visit) c.loop-visit.received.is_any_refused
           c.receive_visit.new.received.is_any_refused c.receive_visit.new.jar.rows) c.visit-item.is
           c.in_ok-receive_visit.ensures.ok);
       list = search rules;

@@ -1,5 +1,5 @@
 use Rattle.std.proofs.Common.{◌≡◌, take}
-use Rattle.std.specs.Prelude.{map, string_bytes}
+use Rattle.std.specs.Prelude.{map}
 use Rattle.jiff.specs.Words.{civil_nanos}
 use Rattle.response_heads.specs.Visits.{visit_text}
 use Rattle.jar_commands.specs.Receiving.{TakesVisits}
@@ -7,8 +7,7 @@ use Rattle.jar_commands.proofs.receiving.receive_visits.Given as goal
 
 abbrev pub invariant-loop-visit : goal.invariant-loop-visit
 invariant-loop-visit l = record {
-  takes : TakesVisits l.plan.is_verbose l.plan.form l.plan.rules l.start l.fn.jar.suffixes l.fn.jar.rows
-      (civil_nanos l.plan.at) (take l.visit-index (map visit_text l.visits)) (string_bytes l.received.told)
-      l.received.is_any_refused l.jar.rows;
+  takes : TakesVisits l.plan.form l.plan.rules l.start l.fn.jar.suffixes l.fn.jar.rows (civil_nanos l.plan.at)
+      (take l.visit-index (map visit_text l.visits)) l.received.is_any_refused l.jar.rows;
   list : l.jar.suffixes ≡ l.fn.jar.suffixes;
 }

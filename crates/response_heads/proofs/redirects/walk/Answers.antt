@@ -1,9 +1,8 @@
-use Rattle.std.proofs.Common.{◌≡◌, ◌-◌, ◌∙◌, ◌∷◌, [], Bool, Ok, Option, ap, arith, length, map, subst, sym, ℕ}
+use Rattle.std.proofs.Common.{◌≡◌, ◌-◌, ◌∙◌, ◌∷◌, [], Bool, Ok, ap, arith, length, map, subst, sym}
 use Rattle.std.specs.Vec.Iter.{into_iter_items}
 use Rattle.std.proofs.lemmas.List.{length-map}
 use Rattle.response_heads.specs.Read.{head_text}
-use Rattle.response_heads.specs.Visits.{VisitText, is_followed, is_tunnel, stop_behind, visit_text}
-use Rattle.response_heads.specs.declared.error.LineFault.{LineFault}
+use Rattle.response_heads.specs.Visits.{VisitText, is_followed, is_tunnel, visit_text}
 use Rattle.response_heads.proofs.VisitLemmas.{WalksOn, ends, goes_on, leaves_out, none_left}
 use Rattle.response_heads.proofs.redirects.walk.Goals as goal
 
@@ -40,9 +39,7 @@ loop-head-preserved c =
     let tunnel =
     c.is_tunnel-is_tunnel.ensures ∙ ap (is_tunnel here flag (head_text head))
     (c.is_followed.ensures ∙ ap (λ n. is_followed n stop) left) in
-    let stops = c.stop_behind.ensures ∙ ap (λ n. stop_behind n stop) left in
-    let make : Bool → Option (ℕ × LineFault) → VisitText =
-    λ b at. record { url = here; head = head_text head; is_tunnel = b; stop = at } in
+    let make : Bool → VisitText = λ b. record { url = here; head = head_text head; is_tunnel = b } in
     record {
       walks = subst (λ b. WalksOn url heads stop c.in_ok-here.here b (map head_text rest)
           (map visit_text c.push.new.self.items)) (sym c.is_success-is_behind_success.ensures)
@@ -51,10 +48,8 @@ loop-head-preserved c =
             url = here;
             head = head;
             is_tunnel = c.is_tunnel-is_tunnel.result;
-            stop = c.stop_behind.result;
           }) c.push.new.self.items far c.in_ok-here.ensures
-          (ap (λ b. make b c.stop_behind.result) tunnel
-          ∙ ap (make (is_tunnel here flag (head_text head) (is_followed (length (map head_text rest)) stop))) stops)
+          (ap make tunnel)
           c.in_ok-push.ensures.items);
       left = one_less;
       counted =

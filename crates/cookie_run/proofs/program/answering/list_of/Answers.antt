@@ -1,5 +1,6 @@
 use Rattle.std.proofs.Common.{refl}
-use Rattle.cookie_run.proofs.ProgramFacts.{listed, not_listed}
+use Rattle.cookie_client.proofs.Loading.{listed}
+use Rattle.cookie_run.proofs.ProgramFacts.{not_listed}
 use Rattle.cookie_run.proofs.program.answering.list_of.Goals as goal
 
 pub returns-in-Ok-clause-ok : goal.returns-in-Ok-clause-ok

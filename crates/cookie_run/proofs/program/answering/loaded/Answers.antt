@@ -4,7 +4,7 @@ use Rattle.std.specs.Str.{IsUtf8}
 use Rattle.jiff.specs.Words.{civil_nanos}
 use Rattle.saved_text.specs.RonReading.{ShowsOnly}
 use Rattle.cookie_store.specs.SavedTexts.{Loads}
-use Rattle.cookie_run.specs.Program.{IsNoSavedText}
+use Rattle.cookie_client.specs.Loading.{IsNoSavedText}
 use Rattle.cookie_run.specs.declared.program.failure.Failure.TheVariants.{StoreText, Memory}
 use Rattle.cookie_run.proofs.ProgramFacts.{not_loaded}
 use Rattle.cookie_run.proofs.program.answering.loaded.Goals as goal

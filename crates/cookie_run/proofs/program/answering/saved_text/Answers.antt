@@ -1,5 +1,6 @@
 use Rattle.std.proofs.Common.{◌∙◌, inr, refl}
-use Rattle.cookie_run.proofs.ProgramFacts.{behind_nothing, year_only}
+use Rattle.cookie_run.proofs.ProgramFacts.{behind_nothing}
+use Rattle.cookie_client.proofs.Loading.{year_only}
 use Rattle.cookie_run.proofs.program.answering.saved_text.Goals as goal
 
 pub returns-in-Ok-clause-ok : goal.returns-in-Ok-clause-ok

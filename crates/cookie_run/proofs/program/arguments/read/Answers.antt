@@ -3,7 +3,7 @@ use Rattle.std.specs.Prelude.{map, string_bytes}
 use Rattle.jiff.specs.Words.{civil_nanos}
 use Rattle.cookie_run.specs.Program.{asked_of, asked_by}
 use Rattle.cookie_run.specs.ScriptLine.{seed_of}
-use Rattle.cookie_run.specs.ScriptMoment.{moment_of}
+use Rattle.cookie_client.specs.Moment.{moment_of}
 use Rattle.cookie_run.proofs.program.arguments.read.Goals as goal
 
 four_read : {A : Type 0} (view : A → List ℕ) (words : List A) (w x y z : A) (seed : List ℕ) (at : ℤ)

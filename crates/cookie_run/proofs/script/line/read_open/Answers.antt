@@ -3,8 +3,9 @@ use Rattle.std.specs.Prelude.{map}
 use denote.Ref.{Bor}
 use Rattle.jiff.specs.Types.{DateTime}
 use Rattle.url.specs.Parts.{Parts}
-use Rattle.cookie_run.specs.ScriptMoment.{moment_date}
-use Rattle.cookie_run.specs.ScriptLine.{url_of, placed, read_open, Opens}
+use Rattle.cookie_client.specs.Moment.{moment_date}
+use Rattle.cookie_client.specs.Hosts.{url_of}
+use Rattle.cookie_run.specs.ScriptLine.{placed, read_open, Opens}
 use Rattle.cookie_run.proofs.script.line.read_open.Goals as goal
 
 open_read : (fields : List (Bor (List ℕ))) (d e : Bor (List ℕ)) (url : Parts) (at : DateTime) → 2 ≤ length fields

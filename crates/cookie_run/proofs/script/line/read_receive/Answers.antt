@@ -5,8 +5,9 @@ use Rattle.std.specs.Str.{is_utf8}
 use Rattle.std.proofs.lemmas.List.{take_rest}
 use Rattle.jiff.specs.Words.{civil_nanos}
 use Rattle.url.specs.Parts.{Parts}
-use Rattle.cookie_run.specs.ScriptMoment.{moment_of}
-use Rattle.cookie_run.specs.ScriptLine.{url_of, placed, read_receive, Receives}
+use Rattle.cookie_client.specs.Moment.{moment_of}
+use Rattle.cookie_client.specs.Hosts.{url_of}
+use Rattle.cookie_run.specs.ScriptLine.{placed, read_receive, Receives}
 use Rattle.cookie_run.specs.declared.script.cause.Cause.TheVariants.{Text}
 use Rattle.cookie_run.proofs.script.line.read_receive.Goals as goal
 

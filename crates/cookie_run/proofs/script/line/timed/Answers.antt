@@ -1,5 +1,5 @@
 use Rattle.std.proofs.Common.{refl, sym}
-use Rattle.cookie_run.proofs.ScriptDates.{moment_none, moment_some}
+use Rattle.cookie_client.proofs.MomentDates.{moment_none, moment_some}
 use Rattle.cookie_run.proofs.script.line.timed.Goals as goal
 
 pub returns-in-Some-clause-at : goal.returns-in-Some-clause-at

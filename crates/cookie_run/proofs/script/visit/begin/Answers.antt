@@ -5,7 +5,7 @@ use Rattle.cookie_client.specs.RingSession.{IsOpenedOn}
 use Rattle.cookie_run.specs.ScriptLine as spec
 use Rattle.cookie_run.specs.ScriptText.{obeyed}
 use Rattle.cookie_run.proofs.Halting.{no_memory, open_already, open_open}
-use Rattle.cookie_run.proofs.Runs.{err_gives}
+use Rattle.cookie_client.proofs.Outcomes.{err_gives}
 use Rattle.cookie_run.proofs.Standings.{begins}
 use Rattle.cookie_run.proofs.script.visit.begin.Goals as goal
 

@@ -6,7 +6,7 @@ use Rattle.cookie_run.specs.ScriptLine as spec
 use Rattle.cookie_run.specs.ScriptText.{obeyed}
 use Rattle.cookie_run.proofs.Following.{takes_of, stopped_at}
 use Rattle.cookie_run.proofs.Halting.{half_deliver, no_memory}
-use Rattle.cookie_run.proofs.Runs.{err_gives}
+use Rattle.cookie_client.proofs.Outcomes.{err_gives}
 use Rattle.cookie_run.proofs.Standings.{delivers}
 use Rattle.cookie_run.proofs.script.visit.deliver.Goals as goal
 

@@ -7,7 +7,7 @@ use Rattle.cookie_run.specs.ScriptLine as spec
 use Rattle.cookie_run.specs.ScriptText.{obeyed, reading_text}
 use Rattle.cookie_client.specs.declared.outcome.SessionError.TheVariants.{EmptyName, OutOfMemory}
 use Rattle.cookie_run.proofs.Halting.{get_until_halts, no_memory}
-use Rattle.cookie_run.proofs.Runs.{err_gives}
+use Rattle.cookie_client.proofs.Outcomes.{err_gives}
 use Rattle.cookie_run.proofs.Standings.{gets_until}
 use Rattle.cookie_run.proofs.script.visit.get_until.Goals as goal
 

@@ -1,3 +1,0 @@
-pub mod ReadLemmas
-pub mod TokenLemmas
-pub mod WordFacts

@@ -1,5 +1,0 @@
-pub mod Judging
-pub mod Pair
-pub mod Pieces
-pub mod Printing
-pub mod Steps
