@@ -27,8 +27,6 @@ STANDS = re.compile(r"`Rattle\.[\w-]+\.proofs\.([^`]+)`")
 # The words by which antt says that a proof file names what is not there, and that this is a goal.
 GONE = re.compile(r"has no field|is not in scope|has no `")
 GOAL_GONE = re.compile(r"Goals` has no `")
-# A contract that names a private field.
-PRIVATE = re.compile(r"^(?:warning: )?(src/\S+?): (`\w+` is a private field of `[^`]+`)", re.M)
 # What wasn't looked at, since it stands on what failed before it.
 UNSEEN = re.compile(r"\d+ declarations? that depends? on .*\b(?:was|were) not checked")
 FAILS = ("not proved", "no proof")
@@ -72,7 +70,7 @@ class Bundle:
         with tempfile.TemporaryDirectory(prefix="wrong-bodies-") as room:
             self.fill(room, is_edited)
             words = [it for name in self.asked for it in ("--only", f"{self.crate.name}::{name}")]
-            ran = self.check(room, kept, "--allow-holes", "--private-fields", *words)
+            ran = self.check(room, kept, "--allow-holes", *words)
         self.output = ran.stdout
         self.read()
         is_stray = any(not any(self.is_of(it, file) for it in self.edits) for file, _ in self.errors)

@@ -217,8 +217,10 @@ def module():
     with compiler.alone(f"{KEPT}.lock"):
         if program.noted(KEPT) != made:
             who = os.path.relpath(os.path.realpath(sys.argv[0]), TOP)
-            print(f"{who}: compiling the library, with no proof: some {SECONDS} seconds", file=sys.stderr, flush=True)
+            # (who reads the line may interrupt at once, and a folder that is being made would stay)
             with tempfile.TemporaryDirectory(prefix="measured-") as room:
+                told = f"{who}: compiling the library, with no proof: some {SECONDS} seconds"
+                print(told, file=sys.stderr, flush=True)
                 shutil.copyfile(compiled(TOP, room), f"{KEPT}.new")
             os.replace(f"{KEPT}.new", KEPT)
             program.put_note(KEPT, made)
